@@ -12,13 +12,13 @@ use Rattle.link65.specs.declared.evaluation.Mark.{Mark}
 use Rattle.link65.specs.declared.evaluation.Mark.TheVariants.{Untouched, BeingEvaluated, Found}
 use Rattle.link65.specs.declared.evaluation.Stop.{Stop}
 use Rattle.link65.specs.declared.evaluation.Stop.TheVariants.{Fault}
-use Rattle.link65.specs.declared.parts.Giver.{Giver}
-use Rattle.link65.specs.declared.parts.Giver.TheVariants.{ByModule, ByScript, Nobody}
+use Rattle.link65.specs.declared.parts.Provider.{Provider}
+use Rattle.link65.specs.declared.parts.Provider.TheVariants.{ByModule, ByScript, Nobody}
 use Rattle.link65.specs.declared.parts.Resolved.{Resolved}
 use Rattle.link65.specs.declared.parts.ValueFault.{ValueFault}
 use Rattle.link65.specs.declared.parts.ValueFault.TheVariants.{NoValue, Unresolved}
 use Rattle.link65.specs.Placed.{AllFound, AreAllFound, AreSettled, AreUntouched, IsFound, KeepsFound, as_found, as_outcome, import_tried, marked, table_of, tried, IsPassed, IsPlacedPassed}
-use Rattle.link65.specs.Values.{AreExports, ExportComesTo, Linkage, base_of, giver_at, import_value, in_table, value_by, linkage, Exports, linkage_of, resolved, needs_of}
+use Rattle.link65.specs.Values.{AreExports, ExportComesTo, Linkage, base_of, provider_at, import_value, in_table, value_by, linkage, Exports, linkage_of, resolved, needs_of}
 use Rattle.script65.specs.declared.placement.Placement.{Placement}
 use Rattle.script65.specs.declared.script.Script.{Script}
 use Rattle.link65.specs.declared.fault.LinkFault.{LinkFault}
@@ -38,8 +38,8 @@ use Rattle.link65.specs.declared.parts.Asserted.{Asserted}
 use Rattle.link65.specs.declared.parts.Exported.{Exported}
 use Rattle.link65.specs.declared.parts.Member.{Member}
 use Rattle.link65.specs.declared.parts.ValueFault.TheVariants as value
-use Rattle.link65.specs.declared.parts.Waiting.{Waiting}
-use Rattle.link65.specs.Links.{assertion_result, check_assert, check_asserts, check_export, check_waiting, each_passes, fitting, site, value_at, waiting_by_row, IsImaged, IsPlacedLink, IsProgramLink, as_placement, checked, names_given, none_unresolved, placed}
+use Rattle.link65.specs.declared.parts.Fixup.{Fixup}
+use Rattle.link65.specs.Links.{assertion_result, check_assert, check_asserts, check_export, check_fixup, each_passes, fitting, site, value_at, fixups_by_row, IsImaged, IsPlacedLink, IsProgramLink, as_placement, checked, names_given, none_unresolved, placed}
 use Rattle.link65.specs.Names.{unresolved}
 use Rattle.link65.specs.Texts.{assertion_warning}
 
@@ -76,7 +76,7 @@ marked_found marks h x (Some (Found r)) e = rw (table_at marks x r e) refl
 marked_found marks h x (Some Untouched) e = let k : x < length marks = grind (arith, common_steps, gets) in let (r, f) = h x k in absurd cc
 marked_found marks h x (Some BeingEvaluated) e = let k : x < length marks = grind (arith, common_steps, gets) in let (r, f) = h x k in absurd cc
 
-import_found : (marks : List Mark) → AllFound marks → (g : Giver) → import_tried marks g ≡ as_found (import_value (in_table (table_of marks)) g)
+import_found : (marks : List Mark) → AllFound marks → (g : Provider) → import_tried marks g ≡ as_found (import_value (in_table (table_of marks)) g)
 import_found marks h (ByModule x) = marked_found marks h x (slice_get marks x) refl
 import_found marks h (ByScript v) = refl
 import_found marks h Nobody = refl
@@ -98,8 +98,8 @@ form_found base o t h (binary op f g) =
     bind_found (value_in NoValue base o f) (value_in (Fault NoValue) base t f) (λ a. value_in NoValue base o g >>= (λ b. or_none NoValue (value2 op a b))) (λ a. value_in (Fault NoValue) base t g >>= (λ b. or_none (Fault NoValue) (value2 op a b))) (form_found base o t h f)
     (λ a. bind_found (value_in NoValue base o g) (value_in (Fault NoValue) base t g) (λ b. or_none NoValue (value2 op a b)) (λ b. or_none (Fault NoValue) (value2 op a b)) (form_found base o t h g) (λ b. none_found (value2 op a b)))
 
-pub tried_found : (marks : List Mark) → AllFound marks → (m : Option Resolved) (f : Form) → tried m marks f ≡ as_found (value_in NoValue (base_of m) (λ j. import_value (in_table (table_of marks)) (giver_at m j)) f)
-tried_found marks h m f = form_found (base_of m) (λ j. import_value (in_table (table_of marks)) (giver_at m j)) (λ j. import_tried marks (giver_at m j)) (λ j. import_found marks h (giver_at m j)) f
+pub tried_found : (marks : List Mark) → AllFound marks → (m : Option Resolved) (f : Form) → tried m marks f ≡ as_found (value_in NoValue (base_of m) (λ j. import_value (in_table (table_of marks)) (provider_at m j)) f)
+tried_found marks h m f = form_found (base_of m) (λ j. import_value (in_table (table_of marks)) (provider_at m j)) (λ j. import_tried marks (provider_at m j)) (λ j. import_found marks h (provider_at m j)) f
 
 -- what the attempt says of the value
 outcome_found : (r : Result ℤ ValueFault) → as_outcome (as_found r) ≡ r
@@ -227,15 +227,15 @@ each_so : {A : Type 0} (check : A → Result (Unit {0}) LinkFault) → ((x : A) 
 each_so check one [] = tt
 each_so check one (x ∷ xs) = behind (check x) (λ u. each_passes check xs) (one x) (λ u. each_so check one xs)
 
-fitting_so : (s : Site) (w : Waiting) (v : ℤ) → Refused (fitting s w v)
+fitting_so : (s : Site) (w : Fixup) (v : ℤ) → Refused (fitting s w v)
 fitting_so s w v = go (fits_width w.width v)
   where
     go : (b : Bool) → Refused (let fits : Result (Unit {0}) LinkFault = Ok tt in if b then fits else Err (fault.OutOfRange s))
     go true = tt
     go false = refl
 
-waiting_so : (l : Linkage) (members : List Member) (exports : Exports) (w : Waiting) → Refused (check_waiting l members exports w)
-waiting_so l members exports w =
+fixup_so : (l : Linkage) (members : List Member) (exports : Exports) (w : Fixup) → Refused (check_fixup l members exports w)
+fixup_so l members exports w =
     let at = site members w.owner w.origin in
     behind (value_at at (value_by l exports w.owner w.form)) (fitting at w) (value_so at (value_by l exports w.owner w.form)) (fitting_so at w)
 
@@ -268,9 +268,9 @@ asserts_so l members exports (a ∷ rest) =
 
 checked_so : (s : Script) (p : Program) (l : Linkage) (exports : Exports) → Refused (checked s p l exports)
 checked_so s p l exports =
-    let values = each_passes (check_waiting l p.members exports) (waiting_by_row s.rows p.segments) in
+    let values = each_passes (check_fixup l p.members exports) (fixups_by_row s.rows p.segments) in
     behind (values >>= (λ u. each_passes (check_export l p.members exports) p.exports)) (λ u. check_asserts l p.members exports p.asserts)
-    (behind values (λ u. each_passes (check_export l p.members exports) p.exports) (each_so (check_waiting l p.members exports) (waiting_so l p.members exports) (waiting_by_row s.rows p.segments)) (λ u. each_so (check_export l p.members exports) (export_so l p.members exports) p.exports))
+    (behind values (λ u. each_passes (check_export l p.members exports) p.exports) (each_so (check_fixup l p.members exports) (fixup_so l p.members exports) (fixups_by_row s.rows p.segments)) (λ u. each_so (check_export l p.members exports) (export_so l p.members exports) p.exports))
     (λ u. asserts_so l p.members exports p.asserts)
 
 -- ---- The whole.

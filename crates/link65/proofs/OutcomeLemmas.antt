@@ -30,11 +30,11 @@ use Rattle.script65.specs.declared.script.Symbol.{Symbol}
 use Rattle.script65.specs.declared.script.SymbolKind.TheVariants as kind
 use Rattle.link65.specs.declared.parts.Definition.{Definition}
 use Rattle.link65.specs.declared.parts.Exported.{Exported}
-use Rattle.link65.specs.declared.parts.Giver.{Giver}
-use Rattle.link65.specs.declared.parts.Giver.TheVariants.{ByScript, Nobody}
+use Rattle.link65.specs.declared.parts.Provider.{Provider}
+use Rattle.link65.specs.declared.parts.Provider.TheVariants.{ByScript, Nobody}
 use Rattle.link65.specs.declared.parts.Member.{Member}
 use Rattle.link65.specs.declared.parts.Resolved.{Resolved}
-use Rattle.link65.specs.Names.{by_definition, by_export, defined_at, each_once, export_names, exported_at, first_again, given_names, giver_of, is_among, is_given, references, unresolved, areas_definitions, rows_definitions, area_names, row_names, export_definition, import_name, script_definitions, symbol_exports, symbol_imports, weak_definition, weak_symbols, SameImages, is_used, with_weak}
+use Rattle.link65.specs.Names.{by_definition, by_export, defined_at, each_once, export_names, exported_at, first_again, given_names, provider_of, is_among, is_given, references, unresolved, areas_definitions, rows_definitions, area_names, row_names, export_definition, import_name, script_definitions, symbol_exports, symbol_imports, weak_definition, weak_symbols, SameImages, is_used, with_weak}
 use Rattle.link65.specs.Laws.{UnusedWeakLaw, UnusedWeakLinks}
 
 -- ---- A link has one outcome.
@@ -186,7 +186,7 @@ get_before [] more i lt = absurd (omega arith)
 get_before (d ∷ ds) more zero lt = refl
 get_before (d ∷ ds) more (suc i) lt = get_before ds more i (omega arith)
 
-by_same : (ds : List Definition) (d : Definition) (o : Option ℕ) (other : Giver) → ((k : ℕ) → o ≡ Some k → k < length ds) → by_definition (ds ++ d ∷ []) o other ≡ by_definition ds o other
+by_same : (ds : List Definition) (d : Definition) (o : Option ℕ) (other : Provider) → ((k : ℕ) → o ≡ Some k → k < length ds) → by_definition (ds ++ d ∷ []) o other ≡ by_definition ds o other
 by_same ds d None other inside = refl
 by_same ds d (Some i) other inside = ap (λ x. ByScript (option_map_or (λ y. y.value) x (pos 0))) (get_before ds (d ∷ []) i (inside i refl))
 
@@ -204,8 +204,8 @@ at_inside ds n k e =
     let below : k < 0 + length (map (λ y. y.name) ds) = found_inside (λ m. bytes_eq m n) 0 (map (λ y. y.name) ds) k e in
     omega (arith, below, length_names ds)
 
-giver_same : (own : List Definition) (exports : List Exported) (ds : List Definition) (d : Definition) → AgreeBut d.name (giver_of own exports (ds ++ d ∷ [])) (giver_of own exports ds)
-giver_same own exports ds d n e =
+provider_same : (own : List Definition) (exports : List Exported) (ds : List Definition) (d : Definition) → AgreeBut d.name (provider_of own exports (ds ++ d ∷ [])) (provider_of own exports ds)
+provider_same own exports ds d n e =
     ap (λ g. by_definition own (defined_at own n) (by_export (exported_at exports n) g))
     (ap (λ o. by_definition (ds ++ d ∷ []) o Nobody) (at_same ds d n e) ∙ by_same ds d (defined_at ds n) Nobody (at_inside ds n))
 
@@ -243,14 +243,14 @@ unresolved_same s p name value e =
 
 resolved_same : (s : Script) (p : Program) (pl : Placement) (name : List ℕ) (value : ℕ) (m : Member) → is_among m.imports name ≡ false → resolved (with_weak s name value) p pl m ≡ resolved s p pl m
 resolved_same s p pl name value m e =
-    let made : List Giver → Resolved = λ gs. record { bases = map (address_of s.rows pl.rows) m.sections; givers = gs } in
-    ap made (map_same (giver_of (script_definitions (with_weak s name value) pl) p.exports (weak_symbols (s.symbols ++ symbol name value ∷ []))) (giver_of (script_definitions s pl) p.exports (weak_symbols s.symbols)) name agree m.imports e)
+    let made : List Provider → Resolved = λ gs. record { bases = map (address_of s.rows pl.rows) m.sections; providers = gs } in
+    ap made (map_same (provider_of (script_definitions (with_weak s name value) pl) p.exports (weak_symbols (s.symbols ++ symbol name value ∷ []))) (provider_of (script_definitions s pl) p.exports (weak_symbols s.symbols)) name agree m.imports e)
   where
-    agree : AgreeBut name (giver_of (script_definitions (with_weak s name value) pl) p.exports (weak_symbols (s.symbols ++ symbol name value ∷ []))) (giver_of (script_definitions s pl) p.exports (weak_symbols s.symbols))
+    agree : AgreeBut name (provider_of (script_definitions (with_weak s name value) pl) p.exports (weak_symbols (s.symbols ++ symbol name value ∷ []))) (provider_of (script_definitions s pl) p.exports (weak_symbols s.symbols))
     agree n f =
-        ap (λ ds. giver_of ds p.exports (weak_symbols (s.symbols ++ symbol name value ∷ [])) n) (definitions_same s pl name value)
-        ∙ ap (λ ds. giver_of (script_definitions s pl) p.exports ds n) (weak_more s.symbols name value)
-        ∙ giver_same (script_definitions s pl) p.exports (weak_symbols s.symbols) (definition name value) n f
+        ap (λ ds. provider_of ds p.exports (weak_symbols (s.symbols ++ symbol name value ∷ [])) n) (definitions_same s pl name value)
+        ∙ ap (λ ds. provider_of (script_definitions s pl) p.exports ds n) (weak_more s.symbols name value)
+        ∙ provider_same (script_definitions s pl) p.exports (weak_symbols s.symbols) (definition name value) n f
 
 members_same : (f g : Member → Resolved) (name : List ℕ) → ((m : Member) → is_among m.imports name ≡ false → f m ≡ g m) → (members : List Member) → is_among (flat_map (λ m. m.imports) members) name ≡ false → map f members ≡ map g members
 members_same f g name same [] e = refl

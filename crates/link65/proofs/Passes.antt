@@ -7,9 +7,9 @@ use Rattle.link65.specs.declared.fault.LinkFault.{LinkFault}
 use Rattle.std.specs.Prelude.{replicate}
 use Rattle.link65.specs.declared.parts.Piece.{Piece}
 use Rattle.link65.specs.declared.parts.Piece.TheVariants.{Known, Filled, Waits}
-use Rattle.link65.specs.declared.parts.Waiting.{Waiting}
-use Rattle.link65.specs.Links.{each_passes, waiting_in}
-use Rattle.link65.specs.Grounds.{cells_of, piece_cells, piece_waiting}
+use Rattle.link65.specs.declared.parts.Fixup.{Fixup}
+use Rattle.link65.specs.Links.{each_passes, fixups_in}
+use Rattle.link65.specs.Grounds.{cells_of, piece_cells, piece_fixups}
 use Rattle.link65.specs.Programs.{Cell, known, filled}
 use Rattle.link65.specs.Faults.{is_memory}
 use Rattle.link65.specs.Values.{cell_bytes, Exports, Linkage}
@@ -63,29 +63,29 @@ module _ {A B : Type 0} (check : Check B) (f : A → List B) where
 
 -- ---- Values that wait in pieces.
 
-known_waits : (bytes : List ℕ) → flat_map waiting_in (map known bytes) ≡ []
+known_waits : (bytes : List ℕ) → flat_map fixups_in (map known bytes) ≡ []
 known_waits [] = refl
 known_waits (b ∷ bytes) = known_waits bytes
 
-filled_waits : (n : ℕ) → flat_map waiting_in (replicate n filled) ≡ []
+filled_waits : (n : ℕ) → flat_map fixups_in (replicate n filled) ≡ []
 filled_waits zero = refl
 filled_waits (suc n) = filled_waits n
 
-waiting-append : (xs ys : List Cell) → flat_map waiting_in (xs ++ ys) ≡ flat_map waiting_in xs ++ flat_map waiting_in ys
-waiting-append [] ys = refl
-waiting-append (x ∷ xs) ys = ap (λ l. waiting_in x ++ l) (waiting-append xs ys) ∙ sym (append_assoc (waiting_in x) (flat_map waiting_in xs) (flat_map waiting_in ys))
+fixups-append : (xs ys : List Cell) → flat_map fixups_in (xs ++ ys) ≡ flat_map fixups_in xs ++ flat_map fixups_in ys
+fixups-append [] ys = refl
+fixups-append (x ∷ xs) ys = ap (λ l. fixups_in x ++ l) (fixups-append xs ys) ∙ sym (append_assoc (fixups_in x) (flat_map fixups_in xs) (flat_map fixups_in ys))
 
-pub cells_wait : (pieces : List Piece) → flat_map waiting_in (cells_of pieces) ≡ flat_map piece_waiting pieces
+pub cells_wait : (pieces : List Piece) → flat_map fixups_in (cells_of pieces) ≡ flat_map piece_fixups pieces
 cells_wait [] = refl
-cells_wait (p ∷ ps) = waiting-append (piece_cells p) (cells_of ps) ∙ ap (λ l. piece_waiting p ++ l) (cells_wait ps)
+cells_wait (p ∷ ps) = fixups-append (piece_cells p) (cells_of ps) ∙ ap (λ l. piece_fixups p ++ l) (cells_wait ps)
 
-pub known_passes : (check : Check Waiting) (p : Piece) (bytes : List ℕ) → p ≡ Known bytes → each_passes check (piece_waiting p) ≡ Ok tt
+pub known_passes : (check : Check Fixup) (p : Piece) (bytes : List ℕ) → p ≡ Known bytes → each_passes check (piece_fixups p) ≡ Ok tt
 known_passes check p bytes is = rw is (ap (each_passes check) (known_waits bytes))
 
-pub filled_passes : (check : Check Waiting) (p : Piece) (n : ℕ) → p ≡ Filled n → each_passes check (piece_waiting p) ≡ Ok tt
+pub filled_passes : (check : Check Fixup) (p : Piece) (n : ℕ) → p ≡ Filled n → each_passes check (piece_fixups p) ≡ Ok tt
 filled_passes check p n is = rw is (ap (each_passes check) (filled_waits n))
 
-pub one_passes : (check : Check Waiting) (p : Piece) (w : Waiting) → p ≡ Waits w → each_passes check (piece_waiting p) ≡ check w
+pub one_passes : (check : Check Fixup) (p : Piece) (w : Fixup) → p ≡ Waits w → each_passes check (piece_fixups p) ≡ check w
 one_passes check p w is = rw is (go (check w))
   where
     go : (r : Result (Unit {0}) LinkFault) → (r >>= (λ u. Ok tt)) ≡ r

@@ -3,7 +3,7 @@ use Rattle.std.proofs.Common.{◌≡◌, ℕ, zero, suc, ◌+◌, refl, sym, ◌
 use Rattle.std.specs.Prelude.{ℤ, ⊤, ◌+ℤ◌}
 use Rattle.link65.specs.declared.parts.ValueFault.{ValueFault}
 use Rattle.link65.specs.declared.parts.ValueFault.TheVariants.{Circular, NoValue, Unresolved}
-use Rattle.link65.specs.Values.{Settles, ExportComesTo, Exports, Linkage, base_of, export_value, exports_through, giver_at, import_value, value_by}
+use Rattle.link65.specs.Values.{Settles, ExportComesTo, Exports, Linkage, base_of, export_value, exports_through, provider_at, import_value, value_by}
 use Rattle.base65.specs.Outcome.{◌>>=◌}
 use Rattle.base65.specs.Values.{value1, value2, wrapped}
 use Rattle.object65.specs.Form.{Form, lit, sec, imp, prefix, binary}
@@ -13,8 +13,8 @@ use Rattle.link65.specs.declared.evaluation.Mark.TheVariants.{Untouched, BeingEv
 use Rattle.link65.specs.declared.evaluation.Stop.{Stop}
 use Rattle.link65.specs.declared.evaluation.Stop.TheVariants.{Fault, Needs}
 use Rattle.link65.specs.declared.parts.Exported.{Exported}
-use Rattle.link65.specs.declared.parts.Giver.{Giver}
-use Rattle.link65.specs.declared.parts.Giver.TheVariants.{ByModule, ByScript, Nobody}
+use Rattle.link65.specs.declared.parts.Provider.{Provider}
+use Rattle.link65.specs.declared.parts.Provider.TheVariants.{ByModule, ByScript, Nobody}
 use Rattle.link65.specs.Placed.{AreTrue, as_found, import_tried, marked, tried}
 
 -- ---- Answers that are found at some number of exports one inside the other, and stay.
@@ -141,7 +141,7 @@ bind_known (Ok v) s f h e k = rw e (k v)
 bind_known (Err NoValue) s f h e k = rw e refl
 bind_known (Err Unresolved) s f h e k = rw e refl
 
-import_known : (o p : Exports) → ((x : ℕ) → Known (o x) (p x)) → (g : Giver) → Known (import_value o g) (import_value p g)
+import_known : (o p : Exports) → ((x : ℕ) → Known (o x) (p x)) → (g : Provider) → Known (import_value o g) (import_value p g)
 import_known o p h (ByModule x) = h x
 import_known o p h (ByScript v) = refl
 import_known o p h Nobody = refl
@@ -158,7 +158,7 @@ form_known base o p h (binary op f g) =
 
 pub value_known : (l : Linkage) (o p : Exports) → ((x : ℕ) → Known (o x) (p x)) → (owner : ℕ) (f : Form) → Known (value_by l o owner f) (value_by l p owner f)
 value_known l o p h owner f =
-    form_known (base_of (slice_get l.modules owner)) (λ j. import_value o (giver_at (slice_get l.modules owner) j)) (λ j. import_value p (giver_at (slice_get l.modules owner) j)) (λ j. import_known o p h (giver_at (slice_get l.modules owner) j)) f
+    form_known (base_of (slice_get l.modules owner)) (λ j. import_value o (provider_at (slice_get l.modules owner) j)) (λ j. import_value p (provider_at (slice_get l.modules owner) j)) (λ j. import_known o p h (provider_at (slice_get l.modules owner) j)) f
 
 export_known : (l : Linkage) (o p : Exports) → ((x : ℕ) → Known (o x) (p x)) → (e : Option Exported) → Known (export_value l o e) (export_value l p e)
 export_known l o p h None = refl
@@ -214,7 +214,7 @@ marked_tells l marks h long x (Some Untouched) e = (e, λ n c. c)
 marked_tells l marks h long x (Some BeingEvaluated) e = inr (record { export = x; is = e; follows = λ n c. c })
 marked_tells l marks h long x (Some (Found r)) e = found_tells l marks x r (h x r e)
 
-import_tells : (l : Linkage) (marks : List Mark) → AreTrue l marks → AreLong l marks → (g : Giver) → Tells l marks (λ n. import_value (exports_through l n) g) (import_tried marks g)
+import_tells : (l : Linkage) (marks : List Mark) → AreTrue l marks → AreLong l marks → (g : Provider) → Tells l marks (λ n. import_value (exports_through l n) g) (import_tried marks g)
 import_tells l marks h long (ByModule x) = marked_tells l marks h long x (slice_get marks x) refl
 import_tells l marks h long (ByScript v) = at_once (Ok v) (λ s k. k)
 import_tells l marks h long Nobody = at_once (Err Unresolved) (λ s k. k)
@@ -272,7 +272,7 @@ operation_tells l marks None = at_once (Err NoValue) (λ s k. k)
 pub form_tells : (l : Linkage) (marks : List Mark) → AreTrue l marks → AreLong l marks → (owner : ℕ) (f : Form) → Tells l marks (λ n. value_by l (exports_through l n) owner f) (tried (slice_get l.modules owner) marks f)
 form_tells l marks h long owner (lit v) = at_once (Ok v) (λ s k. k)
 form_tells l marks h long owner (sec k a) = at_once (Ok (wrapped (base_of (slice_get l.modules owner) k +ℤ a))) (λ s e. e)
-form_tells l marks h long owner (imp j) = import_tells l marks h long (giver_at (slice_get l.modules owner) j)
+form_tells l marks h long owner (imp j) = import_tells l marks h long (provider_at (slice_get l.modules owner) j)
 form_tells l marks h long owner (prefix op f) =
     bind_tells l marks (λ n. value_by l (exports_through l n) owner f) (λ n a. Ok (value1 op a)) (tried (slice_get l.modules owner) marks f) (λ a. Ok (value1 op a)) (form_grows l owner f) (λ v n. refl) (form_tells l marks h long owner f) (λ v. at_once (Ok (value1 op v)) (λ s e. e))
 form_tells l marks h long owner (binary op f g) =

@@ -4,8 +4,8 @@ use Rattle.std.specs.List.{flat_map}
 use Rattle.link65.specs.declared.parts.Content.{Content}
 use Rattle.link65.specs.declared.parts.Piece.{Piece}
 use Rattle.link65.specs.declared.parts.Piece.TheVariants.{Known, Filled, Waits}
-use Rattle.link65.specs.declared.parts.Waiting.{Waiting}
-use Rattle.link65.specs.Links.{waiting_in}
+use Rattle.link65.specs.declared.parts.Fixup.{Fixup}
+use Rattle.link65.specs.Links.{fixups_in}
 use Rattle.link65.specs.Programs.{Cell, known, filled, waits, Segment, empty_segment, Program}
 use Rattle.std.specs.Str.{bytes_eq}
 use Rattle.object65.specs.declared.record.Item.{Item}
@@ -24,8 +24,8 @@ abbrev pub cells_of : List Piece → List Cell
 cells_of pieces = flat_map piece_cells pieces
 
 -- the values that wait in a piece
-abbrev pub piece_waiting : Piece → List Waiting
-piece_waiting p = flat_map waiting_in (piece_cells p)
+abbrev pub piece_fixups : Piece → List Fixup
+piece_fixups p = flat_map fixups_in (piece_cells p)
 
 abbrev pub segment_from : Content → Segment
 segment_from c = record { name = c.name; size = c.size; align = c.align; cells = cells_of c.pieces }

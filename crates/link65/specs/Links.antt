@@ -17,7 +17,7 @@ use Rattle.link65.specs.declared.parts.Exported.{Exported}
 use Rattle.link65.specs.declared.parts.Member.{Member}
 use Rattle.link65.specs.declared.parts.ValueFault.{ValueFault}
 use Rattle.link65.specs.declared.parts.ValueFault.TheVariants.{Circular, NoValue, Unresolved}
-use Rattle.link65.specs.declared.parts.Waiting.{Waiting}
+use Rattle.link65.specs.declared.parts.Fixup.{Fixup}
 use Rattle.link65.specs.Programs.{Cell, known, filled, waits, Segment, segment_of, Module, Program, program_of}
 use Rattle.link65.specs.Values.{Exports, Linkage, value_by, AreExports, in_table, row_bytes, linkage_of, needs_of}
 use Rattle.link65.specs.Texts.{assertion_warning, warnings_of_rows, map_text}
@@ -59,25 +59,25 @@ value_at s (Err e) = Err (value_fault s e)
 
 -- ---- Data.
 
-abbrev pub waiting_in : Cell → List Waiting
-waiting_in (known b) = []
-waiting_in filled = []
-waiting_in (waits w) = w ∷ []
+abbrev pub fixups_in : Cell → List Fixup
+fixups_in (known b) = []
+fixups_in filled = []
+fixups_in (waits w) = w ∷ []
 
-abbrev pub waiting_of : Option Segment → List Waiting
-waiting_of None = []
-waiting_of (Some g) = flat_map waiting_in g.cells
+abbrev pub fixups_of : Option Segment → List Fixup
+fixups_of None = []
+fixups_of (Some g) = flat_map fixups_in g.cells
 
 -- the values that wait, by row, module and fragment
-abbrev pub waiting_by_row : List Row → List Segment → List Waiting
-waiting_by_row rows segments = flat_map (λ r. waiting_of (segment_of segments r.name)) rows
+abbrev pub fixups_by_row : List Row → List Segment → List Fixup
+fixups_by_row rows segments = flat_map (λ r. fixups_of (segment_of segments r.name)) rows
 
-abbrev pub fitting : Site → Waiting → ℤ → Result (Unit {0}) LinkFault
+abbrev pub fitting : Site → Fixup → ℤ → Result (Unit {0}) LinkFault
 fitting s w v = if fits_width w.width v then Ok tt else Err (fault.OutOfRange s)
 
 -- a value that waits has a value, which fits
-abbrev pub check_waiting : Linkage → List Member → Exports → Waiting → Result (Unit {0}) LinkFault
-check_waiting l members exports w =
+abbrev pub check_fixup : Linkage → List Member → Exports → Fixup → Result (Unit {0}) LinkFault
+check_fixup l members exports w =
     value_at (site members w.owner w.origin) (value_by l exports w.owner w.form) >>= fitting (site members w.owner w.origin) w
 
 -- ---- Exports, each used or not.
@@ -134,7 +134,7 @@ placed s p = names_given s p >>= (λ u. as_placement (place_of s (needs_of p)))
 -- data, exports and assertions pass, in this order: what is warned of assertions
 abbrev pub checked : Script → Program → Linkage → Exports → Result (List ℕ) LinkFault
 checked s p l exports =
-    each_passes (check_waiting l p.members exports) (waiting_by_row s.rows p.segments)
+    each_passes (check_fixup l p.members exports) (fixups_by_row s.rows p.segments)
     >>= (λ u. each_passes (check_export l p.members exports) p.exports)
     >>= (λ u. check_asserts l p.members exports p.asserts)
 

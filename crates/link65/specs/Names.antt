@@ -17,8 +17,8 @@ use Rattle.link65.specs.Programs.{flat_zip, position_in, Program}
 use Rattle.std.specs.Option.{option_map_or}
 use Rattle.std.specs.Str.{bytes_eq}
 use Rattle.link65.specs.declared.parts.Exported.{Exported}
-use Rattle.link65.specs.declared.parts.Giver.{Giver}
-use Rattle.link65.specs.declared.parts.Giver.TheVariants.{ByModule, ByScript, Nobody}
+use Rattle.link65.specs.declared.parts.Provider.{Provider}
+use Rattle.link65.specs.declared.parts.Provider.TheVariants.{ByModule, ByScript, Nobody}
 use Rattle.link65.specs.declared.fault.LinkFault.{LinkFault}
 use Rattle.link65.specs.declared.linking.Linked.{Linked}
 
@@ -131,11 +131,11 @@ open_names s p = filter (λ name. not (is_among (given_names s p) name)) (refere
 
 -- ---- Who gives a name.
 
-abbrev pub by_definition : List Definition → Option ℕ → Giver → Giver
+abbrev pub by_definition : List Definition → Option ℕ → Provider → Provider
 by_definition ds (Some i) other = ByScript (option_map_or (λ d. d.value) (slice_get ds i) (pos 0))
 by_definition ds None other = other
 
-abbrev pub by_export : Option ℕ → Giver → Giver
+abbrev pub by_export : Option ℕ → Provider → Provider
 by_export (Some i) other = ByModule i
 by_export None other = other
 
@@ -148,8 +148,8 @@ exported_at exports name = position_in (map (λ e. e.name) exports) name
 
 -- By the script's own definitions, the exports of modules and the script's weak names; an export is named by its
 -- place. No name is given twice among the first two.
-abbrev pub giver_of : List Definition → List Exported → List Definition → List ℕ → Giver
-giver_of own exports weak name =
+abbrev pub provider_of : List Definition → List Exported → List Definition → List ℕ → Provider
+provider_of own exports weak name =
     by_definition own (defined_at own name) (by_export (exported_at exports name) (by_definition weak (defined_at weak name) Nobody))
 
 -- ---- A script with one more weak name, and links that come to the same images.

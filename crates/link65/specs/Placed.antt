@@ -9,19 +9,19 @@ use Rattle.link65.specs.declared.evaluation.Mark.TheVariants.{Untouched, BeingEv
 use Rattle.link65.specs.declared.evaluation.Stop.{Stop}
 use Rattle.link65.specs.declared.evaluation.Stop.TheVariants.{Fault, Needs}
 use Rattle.link65.specs.declared.parts.Exported.{Exported}
-use Rattle.link65.specs.declared.parts.Giver.{Giver}
-use Rattle.link65.specs.declared.parts.Giver.TheVariants.{ByModule, ByScript, Nobody}
+use Rattle.link65.specs.declared.parts.Provider.{Provider}
+use Rattle.link65.specs.declared.parts.Provider.TheVariants.{ByModule, ByScript, Nobody}
 use Rattle.link65.specs.declared.parts.Resolved.{Resolved}
 use Rattle.link65.specs.declared.parts.ValueFault.{ValueFault}
 use Rattle.link65.specs.declared.parts.ValueFault.TheVariants.{Circular, NoValue, Unresolved}
-use Rattle.link65.specs.Values.{ExportComesTo, Linkage, base_of, giver_at, AreExports, Exports, in_table, linkage, value_by, address_of, linkage_of, cell_bytes, or_zero, row_bytes}
+use Rattle.link65.specs.Values.{ExportComesTo, Linkage, base_of, provider_at, AreExports, Exports, in_table, linkage, value_by, address_of, linkage_of, cell_bytes, or_zero, row_bytes}
 use Rattle.std.specs.Str.{bytes_eq}
 use Rattle.indexmap.specs.IndexMap.{get_by}
 use Rattle.link65.specs.declared.resolving.Addresses.{Addresses}
 use Rattle.link65.specs.declared.resolving.Names.{Names}
 use Rattle.link65.specs.declared.resolving.Places.{Places}
 use Rattle.link65.specs.declared.parts.Member.{Member}
-use Rattle.link65.specs.Names.{giver_of, script_definitions, weak_symbols}
+use Rattle.link65.specs.Names.{provider_of, script_definitions, weak_symbols}
 use Rattle.link65.specs.Programs.{position_in, flat_zip, Program, Cell, Segment}
 use Rattle.std.specs.Int.{w64, cast_unsigned}
 use Rattle.std.specs.List.{flat_map}
@@ -34,9 +34,9 @@ use Rattle.script65.specs.declared.script.Script.{Script}
 use Rattle.link65.specs.declared.fault.LinkFault.{LinkFault}
 use Rattle.link65.specs.declared.finishing.Passed.{Passed}
 use Rattle.link65.specs.declared.parts.Definition.{Definition}
-use Rattle.link65.specs.declared.parts.Waiting.{Waiting}
+use Rattle.link65.specs.declared.parts.Fixup.{Fixup}
 use Rattle.link65.specs.declared.values.Placed.{Placed}
-use Rattle.link65.specs.Links.{check_export, check_waiting, checked}
+use Rattle.link65.specs.Links.{check_export, check_fixup, checked}
 use Rattle.link65.specs.Grounds.{segments_from}
 use Rattle.link65.specs.Texts.{definition_line, map_text, member_lines, row_lines, symbol_line, weak_line, joined, warnings_of_rows}
 
@@ -54,14 +54,14 @@ marked x (Some Untouched) = Err (Needs x)
 marked x (Some BeingEvaluated) = Err (Fault Circular)
 marked x (Some (Found r)) = as_found r
 
-abbrev pub import_tried : List Mark → Giver → Result ℤ Stop
+abbrev pub import_tried : List Mark → Provider → Result ℤ Stop
 import_tried marks (ByModule x) = marked x (slice_get marks x)
 import_tried marks (ByScript v) = Ok v
 import_tried marks Nobody = Err (Fault Unresolved)
 
 -- a form's value as far as exports are known, or what it needs first
 abbrev pub tried : Option Resolved → List Mark → Form → Result ℤ Stop
-tried m marks f = value_in (Fault NoValue) (base_of m) (λ j. import_tried marks (giver_at m j)) f
+tried m marks f = value_in (Fault NoValue) (base_of m) (λ j. import_tried marks (provider_at m j)) f
 
 -- what was found of exports is what they come to
 abbrev pub AreTrue : Linkage → List Mark → Type 0
@@ -131,15 +131,15 @@ pub record AreNames (n : Names) : Type 0 where
   pub exports : IsTable n.export_places (map (λ e. e.name) n.exports.now)
   pub weak : IsTable n.weak_places (map (λ d. d.name) n.weak.now)
 
-abbrev pub giver_in : Names → List ℕ → Giver
-giver_in n name = giver_of n.own.now n.exports.now n.weak.now name
+abbrev pub provider_in : Names → List ℕ → Provider
+provider_in n name = provider_of n.own.now n.exports.now n.weak.now name
 
 -- the rows are found by name
 abbrev pub AreAddresses : Addresses → Type 0
 AreAddresses a = IsTable a.by_name (map (λ r. r.name) a.rows.now)
 
 abbrev pub resolved_by : Names → Addresses → Member → Resolved
-resolved_by n a m = record { bases = map (address_of a.rows.now a.places.now) m.sections; givers = map (giver_in n) m.imports }
+resolved_by n a m = record { bases = map (address_of a.rows.now a.places.now) m.sections; providers = map (provider_in n) m.imports }
 
 -- ---- A placed program whose exports are all found, as the code holds it, and what it comes to but for its files.
 
@@ -156,8 +156,8 @@ abbrev pub program_in : Placed → Program
 program_in p = record { members = p.members.now; segments = segments_in p; exports = p.exports.now; asserts = p.asserts.now }
 
 -- the check of a value that waits
-abbrev pub check_in : Placed → Waiting → Result (Unit {0}) LinkFault
-check_in p = check_waiting (linkage_in p) p.members.now (exports_in p)
+abbrev pub check_in : Placed → Fixup → Result (Unit {0}) LinkFault
+check_in p = check_fixup (linkage_in p) p.members.now (exports_in p)
 
 -- the check of an export, and its value, where it has been found to have one
 abbrev pub check_export_in : Placed → Exported → Result (Unit {0}) LinkFault

@@ -9,7 +9,7 @@ use Rattle.object65.specs.declared.object.Fragment.{Fragment}
 use Rattle.object65.specs.declared.object.Fragment.TheVariants.{Literal, Fill, Value}
 use Rattle.object65.specs.Objects.{section_len}
 use Rattle.script65.specs.Placing.{rounded_up}
-use Rattle.link65.specs.declared.parts.Waiting.{Waiting}
+use Rattle.link65.specs.declared.parts.Fixup.{Fixup}
 use Rattle.link65.specs.declared.parts.SectionPlace.{SectionPlace}
 use Rattle.object65.specs.declared.object.Assert.{Assert}
 use Rattle.object65.specs.declared.object.Export.{Export}
@@ -47,7 +47,7 @@ pub record Module : Type 0 where
 pub data Cell : Type 0 where
   known : ℕ → Cell
   filled : Cell
-  waits : Waiting → Cell
+  waits : Fixup → Cell
 
 -- a segment's size, the largest alignment of its sections, and what lies in it from its start on
 pub record Segment : Type 0 where

@@ -3,8 +3,8 @@ use Rattle.std.specs.Prelude.{◌≡◌, ℕ, zero, suc, ◌<◌, ℤ, pos, List
 use Rattle.object65.specs.Form.{Form}
 use Rattle.object65.specs.FormValue.{value_in}
 use Rattle.link65.specs.declared.parts.Exported.{Exported}
-use Rattle.link65.specs.declared.parts.Giver.{Giver}
-use Rattle.link65.specs.declared.parts.Giver.TheVariants.{ByModule, ByScript, Nobody}
+use Rattle.link65.specs.declared.parts.Provider.{Provider}
+use Rattle.link65.specs.declared.parts.Provider.TheVariants.{ByModule, ByScript, Nobody}
 use Rattle.link65.specs.declared.parts.Resolved.{Resolved}
 use Rattle.link65.specs.declared.parts.ValueFault.{ValueFault}
 use Rattle.link65.specs.declared.parts.ValueFault.TheVariants.{Circular, NoValue, Unresolved}
@@ -17,7 +17,7 @@ use Rattle.script65.specs.declared.script.Row.{Row}
 use Rattle.script65.specs.declared.script.Script.{Script}
 use Rattle.link65.specs.declared.parts.Member.{Member}
 use Rattle.link65.specs.declared.parts.SectionPlace.{SectionPlace}
-use Rattle.link65.specs.Names.{giver_of, script_definitions, weak_symbols}
+use Rattle.link65.specs.Names.{provider_of, script_definitions, weak_symbols}
 use Rattle.link65.specs.Programs.{position_in, Program, Segment, Cell, known, filled, waits, segment_of}
 use Rattle.std.specs.List.{flat_map}
 use Rattle.object65.specs.declared.object.Width.{Width}
@@ -40,11 +40,11 @@ abbrev pub base_of : Option Resolved → ℕ → ℤ
 base_of (Some m) k = get_or m.bases k (pos 0)
 base_of None k = pos 0
 
-abbrev pub giver_at : Option Resolved → ℕ → Giver
-giver_at (Some m) j = get_or m.givers j Nobody
-giver_at None j = Nobody
+abbrev pub provider_at : Option Resolved → ℕ → Provider
+provider_at (Some m) j = get_or m.providers j Nobody
+provider_at None j = Nobody
 
-abbrev pub import_value : Exports → Giver → Result ℤ ValueFault
+abbrev pub import_value : Exports → Provider → Result ℤ ValueFault
 import_value exports (ByModule x) = exports x
 import_value exports (ByScript v) = Ok v
 import_value exports Nobody = Err Unresolved
@@ -52,7 +52,7 @@ import_value exports Nobody = Err Unresolved
 -- the value of a form of the module at a place, where exports come to this
 abbrev pub value_by : Linkage → Exports → ℕ → Form → Result ℤ ValueFault
 value_by l exports owner f =
-    value_in NoValue (base_of (slice_get l.modules owner)) (λ j. import_value exports (giver_at (slice_get l.modules owner) j)) f
+    value_in NoValue (base_of (slice_get l.modules owner)) (λ j. import_value exports (provider_at (slice_get l.modules owner) j)) f
 
 abbrev pub export_value : Linkage → Exports → Option Exported → Result ℤ ValueFault
 export_value l exports None = Err Unresolved
@@ -113,7 +113,7 @@ address_of rows places p = cast_signed w64 ((run_of rows places p.segment + p.of
 abbrev pub resolved : Script → Program → Placement → Member → Resolved
 resolved s program p m = record {
   bases = map (address_of s.rows p.rows) m.sections;
-  givers = map (giver_of (script_definitions s p) program.exports (weak_symbols s.symbols)) m.imports;
+  providers = map (provider_of (script_definitions s p) program.exports (weak_symbols s.symbols)) m.imports;
 }
 
 abbrev pub linkage_of : Script → Program → Placement → Linkage

@@ -7,10 +7,10 @@ ghost use Rattle.link65.specs.declared.evaluation.Stop.TheVariants.{Fault};
 ghost use Rattle.link65.specs.declared.parts.Exported.{Exported};
 ghost use Rattle.link65.specs.declared.parts.ValueFault.TheVariants.{NoValue};
 ghost use Rattle.link65.specs.Placed.{AllFound, as_found, as_outcome, attempt_of, export_tried, import_tried, table_of, tried, AreAllFound, AreSettled, AreUntouched, IsFound, KeepsFound};
-ghost use Rattle.link65.specs.Values.{base_of, giver_at, in_table, linkage, value_by};
+ghost use Rattle.link65.specs.Values.{base_of, provider_at, in_table, linkage, value_by};
 ghost use Rattle.link65.specs.declared.evaluation.Mark.TheVariants.{Untouched};
 
-use crate::parts::{Exported, Giver, Resolved, ValueFault};
+use crate::parts::{Exported, Provider, Resolved, ValueFault};
 use base65::{apply1, apply2};
 use object65::{Node, Norm};
 use std::alloc::{AllocError, Global};
@@ -51,13 +51,13 @@ fn as_found(outcome: Result<i64, ValueFault>) -> Result<i64, Stop>
 }
 
 /// The value of an import, as far as exports are known.
-fn try_import(marks: &[Mark], giver: Giver) -> Result<i64, Stop>
-    ensures { result ≡ import_tried marks.now giver }
+fn try_import(marks: &[Mark], provider: Provider) -> Result<i64, Stop>
+    ensures { result ≡ import_tried marks.now provider }
 {
-    match giver {
-        Giver::ByScript(value) => Ok(value),
-        Giver::Nobody => Err(Stop::Fault(ValueFault::Unresolved)),
-        Giver::ByModule(export) => match marks.get(export) {
+    match provider {
+        Provider::ByScript(value) => Ok(value),
+        Provider::Nobody => Err(Stop::Fault(ValueFault::Unresolved)),
+        Provider::ByModule(export) => match marks.get(export) {
             None => Err(Stop::Fault(ValueFault::Unresolved)),
             Some(Mark::Untouched) => Err(Stop::Needs(export)),
             Some(Mark::BeingEvaluated) => Err(Stop::Fault(ValueFault::Circular)),
@@ -67,14 +67,14 @@ fn try_import(marks: &[Mark], giver: Giver) -> Result<i64, Stop>
 }
 
 /// Who gives a module's import; nobody does where there is no such module or import.
-fn giver_at(resolved: Option<&Resolved>, place: usize) -> Giver
-    ensures { result ≡ giver_at (option_copied resolved.entry) place }
+fn provider_at(resolved: Option<&Resolved>, place: usize) -> Provider
+    ensures { result ≡ provider_at (option_copied resolved.entry) place }
 {
     match resolved {
-        None => Giver::Nobody,
-        Some(resolved) => match resolved.givers.as_slice().get(place) {
-            Some(giver) => *giver,
-            None => Giver::Nobody,
+        None => Provider::Nobody,
+        Some(resolved) => match resolved.providers.as_slice().get(place) {
+            Some(provider) => *provider,
+            None => Provider::Nobody,
         },
     }
 }
@@ -113,7 +113,7 @@ pub fn try_form(form: &Norm, resolved: Option<&Resolved>, marks: &[Mark]) -> Res
     match form.node() {
         Node::Lit(value) => Ok(*value),
         Node::Sec(section, offset) => Ok(sum(base_at(resolved, *section as usize), *offset)),
-        Node::Imp(place) => try_import(marks, giver_at(resolved, *place as usize)),
+        Node::Imp(place) => try_import(marks, provider_at(resolved, *place as usize)),
         Node::Prefix(op, part) => {
             let value = try_form(part, resolved, marks)?;
             Ok(apply1(*op, value))

@@ -4,8 +4,8 @@ ghost use Rattle.std.specs.Prelude.{◌≡◌, ◌++◌, IfOk, OnOk, Some, map, 
 ghost use Rattle.std.specs.List.{flat_map};
 ghost use Rattle.base65.specs.Outcome.{Gives, Finds};
 ghost use Rattle.link65.specs.Files.{written};
-ghost use Rattle.link65.specs.Links.{each_passes, waiting_by_row, waiting_of, checked};
-ghost use Rattle.link65.specs.Grounds.{cells_of, piece_cells, piece_waiting, segment_from};
+ghost use Rattle.link65.specs.Links.{each_passes, fixups_by_row, fixups_of, checked};
+ghost use Rattle.link65.specs.Grounds.{cells_of, piece_cells, piece_fixups, segment_from};
 ghost use Rattle.link65.specs.Faults.{is_memory};
 ghost use Rattle.link65.specs.Placed.{AllFound, IsReady, bytes_in, cell_in, check_in, exports_in, linkage_in, segments_in, AreOf, IsPassed, program_in, values_in};
 ghost use Rattle.link65.specs.Values.{or_zero, stored, written_segment, value_by};
@@ -14,7 +14,7 @@ ghost use Rattle.link65.specs.Texts.{warnings_of_rows};
 
 use crate::fault::LinkFault;
 use crate::mapping::{map_text, symbols_text};
-use crate::parts::{Content, Piece, Waiting};
+use crate::parts::{Content, Fixup, Piece};
 use crate::resolving::Names;
 use crate::texts::warnings_of;
 use crate::values::{Placed, check_assertions, content_of, datum_value, export_values};
@@ -37,15 +37,15 @@ fn add_fill(bytes: &mut Vec<u8>, count: u32, fill: u8) -> Result<(), AllocError>
 fn add_value(
     alloc: Global,
     program: &Placed<'_>,
-    waiting: &Waiting,
+    fixup: &Fixup,
     bytes: &mut Vec<u8>,
 ) -> Result<(), LinkFault>
     requires { AllFound program.now.marks.now }
-    ensures checked { Gives is_memory (λ u. u) result (check_in program.now waiting.now) }
-    ensures bytes { OnOk result (bytes.new.items ≡ bytes.old.items ++ stored waiting.now.width (or_zero (value_by (linkage_in program.now) (exports_in program.now) waiting.now.owner waiting.now.form))) }
+    ensures checked { Gives is_memory (λ u. u) result (check_in program.now fixup.now) }
+    ensures bytes { OnOk result (bytes.new.items ≡ bytes.old.items ++ stored fixup.now.width (or_zero (value_by (linkage_in program.now) (exports_in program.now) fixup.now.owner fixup.now.form))) }
 {
-    let value = datum_value(alloc, program, waiting)?;
-    bytes.extend_from_slice(put(waiting.width, value).as_slice())?;
+    let value = datum_value(alloc, program, fixup)?;
+    bytes.extend_from_slice(put(fixup.width, value).as_slice())?;
     Ok(())
 }
 
@@ -58,13 +58,13 @@ fn add_piece(
     bytes: &mut Vec<u8>,
 ) -> Result<(), LinkFault>
     requires { AllFound program.now.marks.now }
-    ensures checked { Gives is_memory (λ u. u) result (each_passes (check_in program.now) (piece_waiting piece.now)) }
+    ensures checked { Gives is_memory (λ u. u) result (each_passes (check_in program.now) (piece_fixups piece.now)) }
     ensures bytes { OnOk result (bytes.new.items ≡ bytes.old.items ++ flat_map (cell_in program.now fill) (piece_cells piece.now)) }
 {
     match piece {
         Piece::Known(known) => Ok(bytes.extend_from_slice(known.as_slice())?),
         Piece::Filled(count) => Ok(add_fill(bytes, *count, fill)?),
-        Piece::Waits(waiting) => add_value(alloc, program, waiting, bytes),
+        Piece::Waits(fixup) => add_value(alloc, program, fixup, bytes),
     }
 }
 
@@ -77,7 +77,7 @@ fn bytes_of_pieces(
     room: usize,
 ) -> Result<Sequence<u8>, LinkFault>
     requires { AllFound program.now.marks.now }
-    ensures checked { Gives is_memory (λ _. tt) result (each_passes (check_in program.now) (flat_map piece_waiting pieces.now)) }
+    ensures checked { Gives is_memory (λ _. tt) result (each_passes (check_in program.now) (flat_map piece_fixups pieces.now)) }
     ensures bytes { IfOk result (λ bytes. bytes ≡ flat_map (cell_in program.now fill) (cells_of pieces.now)) }
 {
     let mut bytes = Vec::with_capacity(alloc, room)?;
@@ -90,11 +90,11 @@ fn bytes_of_pieces(
 /// Refuses a piece whose value is missing or doesn't fit.
 fn check_piece(alloc: Global, program: &Placed<'_>, piece: &Piece) -> Result<(), LinkFault>
     requires { AllFound program.now.marks.now }
-    ensures { Gives is_memory (λ u. u) result (each_passes (check_in program.now) (piece_waiting piece.now)) }
+    ensures { Gives is_memory (λ u. u) result (each_passes (check_in program.now) (piece_fixups piece.now)) }
 {
     match piece {
-        Piece::Waits(waiting) => {
-            datum_value(alloc, program, waiting)?;
+        Piece::Waits(fixup) => {
+            datum_value(alloc, program, fixup)?;
             Ok(())
         }
         Piece::Known(_) => Ok(()),
@@ -105,7 +105,7 @@ fn check_piece(alloc: Global, program: &Placed<'_>, piece: &Piece) -> Result<(),
 /// Refuses the first of pieces whose value is missing or doesn't fit.
 fn check_pieces(alloc: Global, program: &Placed<'_>, pieces: &[Piece]) -> Result<(), LinkFault>
     requires { AllFound program.now.marks.now }
-    ensures { Gives is_memory (λ u. u) result (each_passes (check_in program.now) (flat_map piece_waiting pieces.now)) }
+    ensures { Gives is_memory (λ u. u) result (each_passes (check_in program.now) (flat_map piece_fixups pieces.now)) }
 {
     for piece in pieces {
         check_piece(alloc, program, piece)?;
@@ -121,7 +121,7 @@ fn bytes_of_content(
     content: &Content,
 ) -> Result<Sequence<u8>, LinkFault>
     requires { AllFound program.now.marks.now }
-    ensures checked { Gives is_memory (λ _. tt) result (each_passes (check_in program.now) (flat_map piece_waiting content.now.pieces)) }
+    ensures checked { Gives is_memory (λ _. tt) result (each_passes (check_in program.now) (flat_map piece_fixups content.now.pieces)) }
     ensures bytes { IfOk result (λ bytes. bytes ≡ written_segment (linkage_in program.now) (exports_in program.now) row.now (Some (segment_from content.now))) }
 {
     let pieces = content.pieces.as_slice();
@@ -137,7 +137,7 @@ fn bytes_of_content(
 /// The bytes of a row, where it is written, or the first fault of its values.
 fn bytes_of_row(alloc: Global, program: &Placed<'_>, row: &Row) -> Result<Sequence<u8>, LinkFault>
     requires { IsReady program.now }
-    ensures checked { Gives is_memory (λ _. tt) result (each_passes (check_in program.now) (waiting_of (segment_of (segments_in program.now) row.now.name))) }
+    ensures checked { Gives is_memory (λ _. tt) result (each_passes (check_in program.now) (fixups_of (segment_of (segments_in program.now) row.now.name))) }
     ensures bytes { IfOk result (λ bytes. bytes ≡ written (bytes_in program.now) row.now) }
 {
     match content_of(program, row.name.as_slice()) {
@@ -154,7 +154,7 @@ pub fn rows_of(
     rows: &[Row],
 ) -> Result<Vec<Sequence<u8>>, LinkFault>
     requires { IsReady program.now }
-    ensures checked { Gives is_memory (λ _. tt) result (each_passes (check_in program.now) (waiting_by_row rows.now (segments_in program.now))) }
+    ensures checked { Gives is_memory (λ _. tt) result (each_passes (check_in program.now) (fixups_by_row rows.now (segments_in program.now))) }
     ensures bytes { IfOk result (λ all. all.items ≡ map (written (bytes_in program.now)) rows.now) }
 {
     let mut all = Vec::with_capacity(alloc, rows.len())?;

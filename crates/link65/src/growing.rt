@@ -12,7 +12,7 @@ ghost use Rattle.link65.specs.Growing.{at_rest, bare_section, ended, grown_by, l
 ghost use Rattle.link65.specs.Programs.{no_program, empty_segment, fragment_cells, grown};
 
 use crate::fault::LinkFault;
-use crate::parts::{Asserted, Content, Exported, Member, Piece, SectionPlace, Waiting};
+use crate::parts::{Asserted, Content, Exported, Fixup, Member, Piece, SectionPlace};
 use base65::Sequence;
 use indexmap::IndexSet;
 use object65::{Fragment, Item, Width};
@@ -116,7 +116,7 @@ fn piece_of(owner: usize, fragment: Fragment) -> Piece
             width,
             origin,
             form,
-        } => Piece::Waits(Waiting {
+        } => Piece::Waits(Fixup {
             owner,
             width,
             origin,

@@ -21,9 +21,9 @@ pub struct SectionPlace {
     pub size: u64,
 }
 
-/// A value of a module that is computed once all is placed.
+/// A value of a module that waits for addresses: it is computed once all is placed.
 #[derive(Drop)]
-pub struct Waiting {
+pub struct Fixup {
     pub owner: usize,
     pub width: Width,
     /// Where its statement stands.
@@ -51,9 +51,9 @@ pub struct Asserted {
     pub form: Norm,
 }
 
-/// Who gives a name.
+/// Who provides a name.
 #[derive(Clone, Copy)]
-pub enum Giver {
+pub enum Provider {
     /// A module: the place of its export among all exports.
     ByModule(usize),
     /// The script, which says its value.
@@ -65,7 +65,7 @@ pub enum Giver {
 #[derive(Drop)]
 pub struct Resolved {
     pub bases: Sequence<i64>,
-    pub givers: Sequence<Giver>,
+    pub providers: Sequence<Provider>,
 }
 
 /// Why a form has no value.
@@ -93,8 +93,8 @@ pub enum Piece {
     Known(Sequence<u8>),
     /// So many bytes of the fill value.
     Filled(u32),
-    /// The bytes of a value that waits.
-    Waits(Waiting),
+    /// The bytes of a value that waits for addresses.
+    Waits(Fixup),
 }
 
 /// What a segment holds: its size in bytes, the largest alignment of its sections, and its pieces in order.

@@ -5,10 +5,10 @@ ghost use Rattle.link65.specs.Programs.{position_in};
 ghost use Rattle.std.specs.Option.{option_map_or};
 ghost use Rattle.link65.specs.Names.{by_definition, by_export, defined_at, exported_at};
 ghost use Rattle.link65.specs.Values.{address_of, run_at, run_of};
-ghost use Rattle.link65.specs.Placed.{AreAddresses, AreNames, IsTable, giver_in, resolved_by};
-ghost use Rattle.link65.specs.declared.parts.Giver.TheVariants.{Nobody};
+ghost use Rattle.link65.specs.Placed.{AreAddresses, AreNames, IsTable, provider_in, resolved_by};
+ghost use Rattle.link65.specs.declared.parts.Provider.TheVariants.{Nobody};
 
-use crate::parts::{Definition, Exported, Giver, Member, Resolved, SectionPlace};
+use crate::parts::{Definition, Exported, Member, Provider, Resolved, SectionPlace};
 use base65::Sequence;
 use indexmap::IndexMap;
 use script65::{Row, RowPlace};
@@ -103,20 +103,20 @@ fn definition_value(definitions: &[Definition], place: usize) -> i64
     }
 }
 
-fn by_definition(definitions: &[Definition], place: Option<usize>, other: Giver) -> Giver
+fn by_definition(definitions: &[Definition], place: Option<usize>, other: Provider) -> Provider
     ensures { result ≡ by_definition definitions.now place other }
 {
     match place {
-        Some(place) => Giver::ByScript(definition_value(definitions, place)),
+        Some(place) => Provider::ByScript(definition_value(definitions, place)),
         None => other,
     }
 }
 
-fn by_export(place: Option<usize>, other: Giver) -> Giver
+fn by_export(place: Option<usize>, other: Provider) -> Provider
     ensures { result ≡ by_export place other }
 {
     match place {
-        Some(place) => Giver::ByModule(place),
+        Some(place) => Provider::ByModule(place),
         None => other,
     }
 }
@@ -145,11 +145,11 @@ impl<'a> Names<'a> {
     }
 
     /// Who gives a name.
-    fn giver(&self, name: &[u8]) -> Giver
+    fn provider(&self, name: &[u8]) -> Provider
         requires { AreNames self.now }
-        ensures { result ≡ giver_in self.now name.now }
+        ensures { result ≡ provider_in self.now name.now }
     {
-        let weak = by_definition(self.weak, self.weak_places.get(name), Giver::Nobody);
+        let weak = by_definition(self.weak, self.weak_places.get(name), Provider::Nobody);
         let other = by_export(self.export_places.get(name), weak);
         by_definition(self.own, self.own_places.get(name), other)
     }
@@ -246,19 +246,19 @@ fn bases_of(
     Ok(bases)
 }
 
-fn givers_of(
+fn providers_of(
     alloc: Global,
     names: &Names<'_>,
     imports: &[Sequence<u8>],
-) -> Result<Sequence<Giver>, AllocError>
+) -> Result<Sequence<Provider>, AllocError>
     requires { AreNames names.now }
-    ensures { IfOk result (λ givers. givers ≡ map (giver_in names.now) imports.now) }
+    ensures { IfOk result (λ providers. providers ≡ map (provider_in names.now) imports.now) }
 {
-    let mut givers = Sequence::new(alloc);
+    let mut providers = Sequence::new(alloc);
     for name in imports {
-        givers.push(names.giver(name.as_slice()))?;
+        providers.push(names.provider(name.as_slice()))?;
     }
-    Ok(givers)
+    Ok(providers)
 }
 
 fn resolve(
@@ -273,7 +273,7 @@ fn resolve(
 {
     Ok(Resolved {
         bases: bases_of(alloc, addresses, member.sections.as_slice())?,
-        givers: givers_of(alloc, names, member.imports.as_slice())?,
+        providers: providers_of(alloc, names, member.imports.as_slice())?,
     })
 }
 

@@ -15,7 +15,7 @@ ghost use Rattle.link65.specs.Texts.{assertion_warning};
 use crate::evaluation::{Mark, value_of};
 use crate::fault::{LinkFault, Site};
 use crate::growing::place_of;
-use crate::parts::{Asserted, Content, Exported, Member, Resolved, ValueFault, Waiting};
+use crate::parts::{Asserted, Content, Exported, Fixup, Member, Resolved, ValueFault};
 use crate::texts::{join, site_name};
 use base65::Sequence;
 use indexmap::IndexSet;
@@ -133,37 +133,26 @@ pub fn value_at(
 }
 
 /// Refuses a value that doesn't fit.
-fn check_fit(
-    alloc: Global,
-    members: &[Member],
-    waiting: &Waiting,
-    value: i64,
-) -> Result<(), LinkFault>
-    ensures checked { Gives is_memory (λ u. u) result (fitting (site members.now waiting.now.owner waiting.now.origin) waiting.now value) }
-    ensures fits { OnOk result (fits_width waiting.now.width value ≡ true) }
+fn check_fit(alloc: Global, members: &[Member], fixup: &Fixup, value: i64) -> Result<(), LinkFault>
+    ensures checked { Gives is_memory (λ u. u) result (fitting (site members.now fixup.now.owner fixup.now.origin) fixup.now value) }
+    ensures fits { OnOk result (fits_width fixup.now.width value ≡ true) }
 {
-    if !fits(waiting.width, value) {
-        return Err(LinkFault::OutOfRange(site_of(alloc, members, waiting.owner, waiting.origin)?));
+    if !fits(fixup.width, value) {
+        return Err(LinkFault::OutOfRange(site_of(alloc, members, fixup.owner, fixup.origin)?));
     }
     Ok(())
 }
 
 /// The value of a datum, or its fault: it has none, or one that doesn't fit.
-pub fn datum_value(alloc: Global, program: &Placed<'_>, waiting: &Waiting) -> Result<i64, LinkFault>
+pub fn datum_value(alloc: Global, program: &Placed<'_>, fixup: &Fixup) -> Result<i64, LinkFault>
     requires { AllFound program.now.marks.now }
-    ensures checked { Gives is_memory (λ _. tt) result (check_in program.now waiting.now) }
-    ensures value { IfOk result (λ v. value_by (linkage_in program.now) (exports_in program.now) waiting.now.owner waiting.now.form ≡ Ok v) }
-    ensures fits { IfOk result (λ v. fits_width waiting.now.width v ≡ true) }
+    ensures checked { Gives is_memory (λ _. tt) result (check_in program.now fixup.now) }
+    ensures value { IfOk result (λ v. value_by (linkage_in program.now) (exports_in program.now) fixup.now.owner fixup.now.form ≡ Ok v) }
+    ensures fits { IfOk result (λ v. fits_width fixup.now.width v ≡ true) }
 {
-    let outcome = value_in(program, waiting.owner, &waiting.form);
-    let value = value_at(
-        alloc,
-        program.members,
-        waiting.owner,
-        waiting.origin,
-        outcome,
-    )?;
-    check_fit(alloc, program.members, waiting, value)?;
+    let outcome = value_in(program, fixup.owner, &fixup.form);
+    let value = value_at(alloc, program.members, fixup.owner, fixup.origin, outcome)?;
+    check_fit(alloc, program.members, fixup, value)?;
     Ok(value)
 }
 

@@ -12,7 +12,7 @@ ghost use Rattle.object65.specs.Objects.{is_good_object, section_len, section_li
 ghost use Rattle.object65.specs.Scanning.{start};
 
 use crate::decoding::{decode_front, decode_head};
-use crate::{Builder, Object, ObjectFault, RecordReader, check_end, read_head};
+use crate::{Builder, Object, ObjectFault, RecordReader};
 use base65::{Store, StoreFault, read_full};
 use std::alloc::Global;
 

@@ -18,7 +18,7 @@ use Rattle.link65.specs.declared.fault.LinkFault.TheVariants.{IndexDisagrees, Ma
 use Rattle.link65.specs.declared.parts.Exported.{Exported}
 use Rattle.link65.specs.Standing.{agreed, agrees_with, as_link, joined as joined_to, module_of}
 use Rattle.whole65.proofs.Given.{none_again}
-use Rattle.whole65.proofs.Givers.{exports_are, linked_exports}
+use Rattle.whole65.proofs.Providers.{exports_are, linked_exports}
 use Rattle.whole65.proofs.Later.{bind_ok}
 use Rattle.ld65.specs.declared.refusal.Refusal.{Refusal}
 use Rattle.ld65.specs.declared.refusal.Refusal.TheVariants as refusal

@@ -35,7 +35,7 @@ use Rattle.module65.specs.Module.{contents_from}
 use Rattle.whole65.proofs.Asserting.{IsPassed, lines_pass}
 use Rattle.whole65.proofs.Evaluated.{table_law}
 use Rattle.whole65.proofs.Files.{all_split}
-use Rattle.whole65.proofs.Givers.{keyed_said, sources_law}
+use Rattle.whole65.proofs.Providers.{keyed_said, sources_law}
 use Rattle.whole65.proofs.Keyed.{form_law, keyed_law}
 use Rattle.whole65.proofs.Later.{bind_ok}
 use Rattle.whole65.proofs.Sources.{HasContents, contents_of}

@@ -7,11 +7,11 @@ use Rattle.object65.specs.Form.{Form, lit, sec, imp, prefix, binary}
 use Rattle.object65.specs.FormValue.{or_none}
 use Rattle.link65.proofs.Tries.{exports_grow, form_grows, Known, further, settles_once}
 use Rattle.link65.specs.declared.parts.Exported.{Exported}
-use Rattle.link65.specs.declared.parts.Giver.{Giver}
-use Rattle.link65.specs.declared.parts.Giver.TheVariants.{ByModule, ByScript, Nobody}
+use Rattle.link65.specs.declared.parts.Provider.{Provider}
+use Rattle.link65.specs.declared.parts.Provider.TheVariants.{ByModule, ByScript, Nobody}
 use Rattle.link65.specs.declared.parts.ValueFault.{ValueFault}
 use Rattle.link65.specs.declared.parts.ValueFault.TheVariants.{Circular, NoValue, Unresolved}
-use Rattle.link65.specs.Values.{AreExports, Exports, Linkage, Settles, base_of, export_value, exports_through, giver_at, import_value, in_table, value_by}
+use Rattle.link65.specs.Values.{AreExports, Exports, Linkage, Settles, base_of, export_value, exports_through, provider_at, import_value, in_table, value_by}
 use Rattle.whole65.proofs.Later.{bind_ok, value_covered}
 use Rattle.whole65.specs.Inner.Cells.{linked_value}
 use Rattle.whole65.specs.Inner.Steps.{TableLaw}
@@ -22,7 +22,7 @@ known_ok (Err Circular) s v h e = cc
 known_ok (Err NoValue) s v h e = cc
 known_ok (Err Unresolved) s v h e = cc
 
-import_covered : (few more : Exports) → ((x : ℕ) (u : ℤ) → few x ≡ Ok u → more x ≡ Ok u) → (g : Giver) (u : ℤ) → import_value few g ≡ Ok u → import_value more g ≡ Ok u
+import_covered : (few more : Exports) → ((x : ℕ) (u : ℤ) → few x ≡ Ok u → more x ≡ Ok u) → (g : Provider) (u : ℤ) → import_value few g ≡ Ok u → import_value more g ≡ Ok u
 import_covered few more h (ByModule x) u e = h x u e
 import_covered few more h (ByScript v) u e = e
 import_covered few more h Nobody u e = e
@@ -53,10 +53,10 @@ module _ (l : Linkage) (table : List (Result ℤ ValueFault)) (h : AreExports l 
 
   from_turns : (owner : ℕ) (f : Form) (v : ℤ) → linked_value l owner f v → value_by l (in_table table) owner f ≡ Ok v
   from_turns owner f v (n, e) =
-      value_covered NoValue (base_of (slice_get l.modules owner)) (λ j. import_value (exports_through l n) (giver_at (slice_get l.modules owner) j)) (λ j. import_value (in_table table) (giver_at (slice_get l.modules owner) j))
-      (λ j u q. import_covered (exports_through l n) (in_table table) (in_the_table n) (giver_at (slice_get l.modules owner) j) u q) f v e
+      value_covered NoValue (base_of (slice_get l.modules owner)) (λ j. import_value (exports_through l n) (provider_at (slice_get l.modules owner) j)) (λ j. import_value (in_table table) (provider_at (slice_get l.modules owner) j))
+      (λ j u q. import_covered (exports_through l n) (in_table table) (in_the_table n) (provider_at (slice_get l.modules owner) j) u q) f v e
 
-  import_turns : (g : Giver) (u : ℤ) → import_value (in_table table) g ≡ Ok u → (n : ℕ) × (import_value (exports_through l n) g ≡ Ok u)
+  import_turns : (g : Provider) (u : ℤ) → import_value (in_table table) g ≡ Ok u → (n : ℕ) × (import_value (exports_through l n) g ≡ Ok u)
   import_turns (ByModule x) u e =
       let long = h.long in
       let inside = table_inside table x u e in
@@ -71,7 +71,7 @@ module _ (l : Linkage) (table : List (Result ℤ ValueFault)) (h : AreExports l 
   to_turns : (owner : ℕ) (f : Form) (v : ℤ) → value_by l (in_table table) owner f ≡ Ok v → linked_value l owner f v
   to_turns owner (lit n) v e = (0, e)
   to_turns owner (sec k a) v e = (0, e)
-  to_turns owner (imp j) v e = import_turns (giver_at (slice_get l.modules owner) j) v e
+  to_turns owner (imp j) v e = import_turns (provider_at (slice_get l.modules owner) j) v e
   to_turns owner (prefix op f) v e =
       let (a, first, last) = bind_ok (value_by l (in_table table) owner f) (λ a. Ok (value1 op a)) v e in
       let (n, got) = to_turns owner f a first in

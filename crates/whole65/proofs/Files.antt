@@ -21,7 +21,7 @@ use Rattle.link65.specs.declared.parts.Exported.{Exported}
 use Rattle.link65.specs.declared.parts.ValueFault.{ValueFault}
 use Rattle.module65.proofs.SoundForms.{all_append}
 use Rattle.whole65.proofs.Exports.{source_exports}
-use Rattle.whole65.proofs.Givers.{exports_are, linked_exports}
+use Rattle.whole65.proofs.Providers.{exports_are, linked_exports}
 use Rattle.whole65.proofs.Images.{export_value_law, rows_law}
 use Rattle.whole65.proofs.Later.{bind_ok}
 use Rattle.whole65.specs.Inner.Steps.{ExportsLaw, FilesLaw}

@@ -9,17 +9,17 @@ use Rattle.script65.specs.declared.script.Row.{Row}
 use Rattle.script65.specs.declared.script.Script.{Script}
 use Rattle.language65.specs.Layout.{Layout}
 use Rattle.link65.proofs.Passes.{passes_append}
-use Rattle.link65.specs.Links.{check_waiting, each_passes, waiting_by_row, waiting_in, waiting_of}
+use Rattle.link65.specs.Links.{check_fixup, each_passes, fixups_by_row, fixups_in, fixups_of}
 use Rattle.link65.specs.Files.{RowBytes}
 use Rattle.link65.specs.Values.{cell_bytes, row_bytes, segment_bytes, linkage_of, AreExports, Linkage, exports_through, in_table, value_by}
 use Rattle.link65.specs.Programs.{Module, Segment, segment_of}
 use Rattle.link65.specs.Programs as linked
 use Rattle.link65.specs.declared.fault.LinkFault.{LinkFault}
 use Rattle.link65.specs.declared.parts.ValueFault.{ValueFault}
-use Rattle.link65.specs.declared.parts.Waiting.{Waiting}
+use Rattle.link65.specs.declared.parts.Fixup.{Fixup}
 use Rattle.whole65.proofs.Checked.{checked_law}
 use Rattle.whole65.proofs.Evaluated.{table_law}
-use Rattle.whole65.proofs.Givers.{IsExportOf, exports_known, export_normal, sources_law}
+use Rattle.whole65.proofs.Providers.{IsExportOf, exports_known, export_normal, sources_law}
 use Rattle.whole65.proofs.Keyed.{form_law}
 use Rattle.whole65.proofs.Later.{bind_ok}
 use Rattle.whole65.proofs.Positions.{all_get}
@@ -37,9 +37,9 @@ use Rattle.whole65.specs.Whole.{AreRow}
 
 -- ---- Rows.
 
-waiting_cells : (g : Option Segment) → waiting_of g ≡ flat_map waiting_in (cells_or g)
-waiting_cells None = refl
-waiting_cells (Some g) = refl
+fixup_cells : (g : Option Segment) → fixups_of g ≡ flat_map fixups_in (cells_or g)
+fixup_cells None = refl
+fixup_cells (Some g) = refl
 
 bytes_cells : (l : Linkage) (table : List (Result ℤ ValueFault)) (fill : ℕ) (g : Option Segment) → segment_bytes l (in_table table) fill g ≡ flat_map (cell_bytes l (in_table table) fill) (cells_or g)
 bytes_cells l table fill None = refl
@@ -52,26 +52,26 @@ module _ (s : Script) (placement : Placement) (ys : List Layout) (ms : List Modu
   abbrev segments : List Segment
   segments = (linked.program_of ms).segments
 
-  abbrev check : Waiting → Result (Unit {0}) LinkFault
-  check = check_waiting l (linked.program_of ms).members (in_table table)
+  abbrev check : Fixup → Result (Unit {0}) LinkFault
+  check = check_fixup l (linked.program_of ms).members (in_table table)
 
   abbrev IsWritten : Row → Type 0
   IsWritten r = bytes r ≡ row_bytes l (in_table table) segments r
 
-  one_row : (r : Row) → AreRow (whole.program_of s placement ys) ys bytes r ↔ ((each_passes check (waiting_of (segment_of segments r.name)) ≡ Ok tt) × IsWritten r)
+  one_row : (r : Row) → AreRow (whole.program_of s placement ys) ys bytes r ↔ ((each_passes check (fixups_of (segment_of segments r.name)) ≡ Ok tt) × IsWritten r)
   one_row r =
       let g : Option Segment = segment_of segments r.name in
       let list = linked_bytes_law s placement ys ms r.fill_value r.name (bytes r) h (sources_law s placement ys ms h) in
       let cells = checked_law l (linked.program_of ms).members table r.fill_value (cells_or g) (bytes r) exports in (
-        λ k. (let q = cells.0 (list.1 k) in (ap (each_passes check) (waiting_cells g) ∙ q.0, q.1 ∙ sym (bytes_cells l table r.fill_value g))),
-        λ k. list.0 (cells.1 (ap (each_passes check) (sym (waiting_cells g)) ∙ k.0, k.1 ∙ bytes_cells l table r.fill_value g)),
+        λ k. (let q = cells.0 (list.1 k) in (ap (each_passes check) (fixup_cells g) ∙ q.0, q.1 ∙ sym (bytes_cells l table r.fill_value g))),
+        λ k. list.0 (cells.1 (ap (each_passes check) (sym (fixup_cells g)) ∙ k.0, k.1 ∙ bytes_cells l table r.fill_value g)),
       )
 
-  all_rows : (rs : List Row) → AllByRecursion (AreRow (whole.program_of s placement ys) ys bytes) rs ↔ ((each_passes check (waiting_by_row rs segments) ≡ Ok tt) × AllByRecursion IsWritten rs)
+  all_rows : (rs : List Row) → AllByRecursion (AreRow (whole.program_of s placement ys) ys bytes) rs ↔ ((each_passes check (fixups_by_row rs segments) ≡ Ok tt) × AllByRecursion IsWritten rs)
   all_rows [] = (λ k. (refl, tt), λ k. tt)
   all_rows (r ∷ rs) =
-      let first : List Waiting = waiting_of (segment_of segments r.name) in
-      let rest : List Waiting = waiting_by_row rs segments in
+      let first : List Fixup = fixups_of (segment_of segments r.name) in
+      let rest : List Fixup = fixups_by_row rs segments in
       let deeper = all_rows rs in
       let one = one_row r in (
         λ k. (let a = one.0 k.0 in let b = deeper.0 k.1 in (passes_append check first rest ∙ ap (λ z. z >>= (λ u. each_passes check rest)) a.0 ∙ b.0, (a.1, b.1))),

@@ -9,11 +9,11 @@ use Rattle.object65.specs.declared.object.Object.{Object}
 use Rattle.language65.specs.Parts.{Content, Part, Known, Filled, Waiting, Said, Exported, Demanded, Checked}
 use Rattle.language65.specs.Numbering.{content_imports, import_keys, imports_in, name_of, number_of, part_imports, said_imports, section_keys}
 use Rattle.language65.specs.Sound.{IsSoundContent, IsSoundForm, IsSoundPart, IsSoundSaid, sections_in}
-use Rattle.link65.specs.Names.{giver_of, script_definitions, weak_symbols}
-use Rattle.link65.specs.Values.{linkage_of, base_of, exports_through, giver_at, import_value, Linkage}
+use Rattle.link65.specs.Names.{provider_of, script_definitions, weak_symbols}
+use Rattle.link65.specs.Values.{linkage_of, base_of, exports_through, provider_at, import_value, Linkage}
 use Rattle.link65.specs.Programs.{program_of}
-use Rattle.link65.specs.declared.parts.Giver.{Giver}
-use Rattle.link65.specs.declared.parts.Giver.TheVariants.{Nobody}
+use Rattle.link65.specs.declared.parts.Provider.{Provider}
+use Rattle.link65.specs.declared.parts.Provider.TheVariants.{Nobody}
 use Rattle.link65.specs.declared.parts.ValueFault.{ValueFault}
 use Rattle.link65.specs.declared.parts.ValueFault.TheVariants.{NoValue}
 use Rattle.module65.proofs.SoundContents.{sound_contents}
@@ -23,7 +23,7 @@ use Rattle.whole65.proofs.Keys.{any_once, number_first, number_later}
 use Rattle.whole65.proofs.Numbers.{equal}
 use Rattle.whole65.proofs.OwnParts.{own_parts_law}
 use Rattle.whole65.proofs.Sources.{same_object}
-use Rattle.whole65.specs.Inner.Keyed.{IsKeyed, IsKeyedContent, IsKeyedPart, IsKeyedSaid, giver_named, imports_linked}
+use Rattle.whole65.specs.Inner.Keyed.{IsKeyed, IsKeyedContent, IsKeyedPart, IsKeyedSaid, provider_named, imports_linked}
 use Rattle.whole65.specs.Inner.Steps.{FormLaw, KeyedLaw}
 use Rattle.whole65.specs.Inner.Linked.{base_in, symbols_at}
 use Rattle.whole65.specs.Modules.{table_of}
@@ -158,20 +158,20 @@ form_law s placement ys ms owner turns y m cs f h at_y at_m e =
     let imports : List ℕ = import_keys names cs in
     let l : Linkage = linkage_of s (program_of ms) placement in
     let source : IsSource y m = source_at ys ms owner y m h at_y at_m in
-    let G : List ℕ → Giver = giver_of (script_definitions s placement) (program_of ms).exports (weak_symbols s.symbols) in
+    let G : List ℕ → Provider = provider_of (script_definitions s placement) (program_of ms).exports (weak_symbols s.symbols) in
     let mine = resolved_at s placement ms owner m at_m in
     let object = same_object y m cs source e in
     let base : (g : ℕ) → list_any (nat_eq g) sections ≡ true → base_in s placement ys owner g (slice_get ys owner) ≡ base_of (slice_get l.modules owner) (number_of sections g) =
     λ g among. ap (base_in s placement ys owner g) at_y ∙ sym (section_base_law s placement ys ms owner g y m cs h at_y at_m e among) in
-    let giver : (k : ℕ) → (list_any (nat_eq k) imports ≡ true) × (k < length names) → giver_named s placement (program_of ms) (slice_get (symbols_at (slice_get ys owner)).imports k) ≡ giver_at (slice_get l.modules owner) (number_of imports k) =
+    let provider : (k : ℕ) → (list_any (nat_eq k) imports ≡ true) × (k < length names) → provider_named s placement (program_of ms) (slice_get (symbols_at (slice_get ys owner)).imports k) ≡ provider_at (slice_get l.modules owner) (number_of imports k) =
     λ k among.
-    ap (λ r. giver_named s placement (program_of ms) (slice_get (symbols_at r).imports k)) at_y
-    ∙ ap (giver_named s placement (program_of ms)) (got names k among.1)
+    ap (λ r. provider_named s placement (program_of ms) (slice_get (symbols_at r).imports k)) at_y
+    ∙ ap (provider_named s placement (program_of ms)) (got names k among.1)
     ∙ sym (at_number G names imports k Nobody among.0)
     ∙ ap (λ (o : Object). get_or (map G o.imports) (number_of imports k) Nobody) (sym object)
-    ∙ ap (λ r. giver_at r (number_of imports k)) (sym mine) in
+    ∙ ap (λ r. provider_at r (number_of imports k)) (sym mine) in
     λ keyed.
-    own_parts_law ValueFault NoValue (λ g. base_in s placement ys owner g (slice_get ys owner)) (λ g. base_of (slice_get l.modules owner) (number_of sections g)) (imports_linked s placement ys ms turns owner) (λ k. import_value (exports_through l turns) (giver_at (slice_get l.modules owner) (number_of imports k))) f
+    own_parts_law ValueFault NoValue (λ g. base_in s placement ys owner g (slice_get ys owner)) (λ g. base_of (slice_get l.modules owner) (number_of sections g)) (imports_linked s placement ys ms turns owner) (λ k. import_value (exports_through l turns) (provider_at (slice_get l.modules owner) (number_of imports k))) f
     (all_map (λ g. list_any (nat_eq g) sections ≡ true) (λ g. base_in s placement ys owner g (slice_get ys owner) ≡ base_of (slice_get l.modules owner) (number_of sections g)) base (sections_in f) keyed.own_sections)
-    (all_map (λ k. (list_any (nat_eq k) imports ≡ true) × (k < length names)) (λ k. imports_linked s placement ys ms turns owner k ≡ import_value (exports_through l turns) (giver_at (slice_get l.modules owner) (number_of imports k))) (λ k among. ap (import_value (exports_through l turns)) (giver k among)) (imports_in f) keyed.own_imports)
-    ∙ sym (number_law ValueFault NoValue (base_of (slice_get l.modules owner)) (λ j. import_value (exports_through l turns) (giver_at (slice_get l.modules owner) j)) sections imports f)
+    (all_map (λ k. (list_any (nat_eq k) imports ≡ true) × (k < length names)) (λ k. imports_linked s placement ys ms turns owner k ≡ import_value (exports_through l turns) (provider_at (slice_get l.modules owner) (number_of imports k))) (λ k among. ap (import_value (exports_through l turns)) (provider k among)) (imports_in f) keyed.own_imports)
+    ∙ sym (number_law ValueFault NoValue (base_of (slice_get l.modules owner)) (λ j. import_value (exports_through l turns) (provider_at (slice_get l.modules owner) j)) sections imports f)

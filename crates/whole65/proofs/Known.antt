@@ -22,12 +22,12 @@ use Rattle.link65.specs.Names as linked
 use Rattle.link65.specs.Programs.{flat_zip, Module, Program, member, no_program, program_of, with_module, with_modules}
 use Rattle.link65.specs.declared.parts.Definition.{Definition}
 use Rattle.link65.specs.declared.parts.Exported as parts
-use Rattle.link65.specs.declared.parts.Giver.{Giver}
-use Rattle.link65.specs.declared.parts.Giver.TheVariants.{Nobody}
+use Rattle.link65.specs.declared.parts.Provider.{Provider}
+use Rattle.link65.specs.declared.parts.Provider.TheVariants.{Nobody}
 use Rattle.link65.specs.declared.parts.Member.{Member}
 use Rattle.module65.proofs.SoundForms.{all_append}
 use Rattle.language65.proofs.Segments.{all_more}
-use Rattle.whole65.proofs.Givers.{Agree, givers_agree, of_module, of_nobody, of_script}
+use Rattle.whole65.proofs.Providers.{Agree, providers_agree, of_module, of_nobody, of_script}
 use Rattle.whole65.specs.Programs as whole
 use Rattle.whole65.specs.Segments.{needs_of}
 use Rattle.whole65.specs.Sources.{AreSources}
@@ -77,8 +77,8 @@ script_named s needs q h =
 
 -- ---- A name is given where somebody gives it.
 
--- so says the test, and so the giver
-abbrev Knows : Bool → Giver → Type 0
+-- so says the test, and so the provider
+abbrev Knows : Bool → Provider → Type 0
 Knows b g = (g ≢ Nobody) ↔ (b ≡ true)
 
 some_step : (b : Bool) (i : ℕ) (o : Option ℕ) (rest : Bool) → is_some o ≡ rest → is_some (cond b (Some i) o) ≡ (b || rest)
@@ -92,14 +92,14 @@ some_among p i (x ∷ xs) = some_step (p x) i (position_from p (i + 1) xs) (list
 knows_nobody : Knows false Nobody
 knows_nobody = (λ k. absurd (k refl), λ k. absurd cc)
 
-knows_definition : (ds : List Definition) (name : List ℕ) (b : Bool) (g : Giver) → Knows b g → Knows (is_among (names_of ds) name || b) (by_definition ds (defined_at ds name) g)
+knows_definition : (ds : List Definition) (name : List ℕ) (b : Bool) (g : Provider) → Knows b g → Knows (is_among (names_of ds) name || b) (by_definition ds (defined_at ds name) g)
 knows_definition ds name b g h = subst (λ a. Knows (a || b) (by_definition ds (defined_at ds name) g)) (some_among (λ n. bytes_eq n name) 0 (names_of ds)) (go (defined_at ds name))
   where
     go : (o : Option ℕ) → Knows (is_some o || b) (by_definition ds o g)
     go (Some i) = (λ k. refl, λ k e. absurd cc)
     go None = h
 
-knows_export : (es : List parts.Exported) (name : List ℕ) (b : Bool) (g : Giver) → Knows b g → Knows (is_among (map (λ (e : parts.Exported). e.name) es) name || b) (by_export (exported_at es name) g)
+knows_export : (es : List parts.Exported) (name : List ℕ) (b : Bool) (g : Provider) → Knows b g → Knows (is_among (map (λ (e : parts.Exported). e.name) es) name || b) (by_export (exported_at es name) g)
 knows_export es name b g h = subst (λ a. Knows (a || b) (by_export (exported_at es name) g)) (some_among (λ n. bytes_eq n name) 0 (map (λ (e : parts.Exported). e.name) es)) (go (exported_at es name))
   where
     go : (o : Option ℕ) → Knows (is_some o || b) (by_export o g)
@@ -112,7 +112,7 @@ in_either false true c = refl
 in_either false false true = refl
 in_either false false false = refl
 
-agree_known : (es : List parts.Exported) (name : List ℕ) (w : values.Giver) (g : Giver) → Agree es name w g → (w ≢ by_nobody) ↔ (g ≢ Nobody)
+agree_known : (es : List parts.Exported) (name : List ℕ) (w : values.Provider) (g : Provider) → Agree es name w g → (w ≢ by_nobody) ↔ (g ≢ Nobody)
 agree_known es name _ _ (of_script v) = (λ k e. absurd cc, λ k e. absurd cc)
 agree_known es name _ _ of_nobody = (λ k. absurd (k refl), λ k. absurd (k refl))
 agree_known es name _ _ (of_module i e at called) = (λ k q. absurd cc, λ k q. absurd cc)
@@ -128,7 +128,7 @@ module _ (s : Script) (placement : Placement) (ys : List Layout) (ms : List Modu
   known name =
       let own : List Definition = script_definitions s placement in
       let weak : List Definition = weak_symbols s.symbols in
-      let agree = agree_known q.exports name (whole.giver_of s placement ys name) (linked.giver_of own q.exports weak name) (givers_agree s placement ys ms name h) in
+      let agree = agree_known q.exports name (whole.provider_of s placement ys name) (linked.provider_of own q.exports weak name) (providers_agree s placement ys ms name h) in
       let inner : Knows (is_among (export_names q) name || (is_among (names_of weak) name || false)) (by_export (exported_at q.exports name) (by_definition weak (defined_at weak name) Nobody)) =
       knows_export q.exports name (is_among (names_of weak) name || false) (by_definition weak (defined_at weak name) Nobody) (knows_definition weak name false Nobody knows_nobody) in
       let knows = knows_definition own name (is_among (export_names q) name || (is_among (names_of weak) name || false)) (by_export (exported_at q.exports name) (by_definition weak (defined_at weak name) Nobody)) inner in

@@ -14,7 +14,7 @@ use Rattle.language65.specs.declared.fault.AsmFault.{AsmFault}
 use Rattle.language65.specs.declared.fault.AsmFault.TheVariants.{FileNameTooLong}
 use Rattle.language65.specs.Norms.{folded}
 use Rattle.whole65.specs.Objects.{AreObjects, IsGiven, IsGivenBy, Objects, form_value}
-use Rattle.whole65.specs.Values.{Giver, by_module, by_script, by_nobody, Program}
+use Rattle.whole65.specs.Values.{Provider, by_module, by_script, by_nobody, Program}
 
 pub bind_ok : {E A B : Type 0} (r : Result A E) (f : A → Result B E) (y : B) → (r >>= f) ≡ Ok y → (x : A) × (r ≡ Ok x) × (f x ≡ Ok y)
 bind_ok (Ok x) f y e = (x, refl, e)
@@ -55,18 +55,18 @@ module _ {E : Type 0} (p : Program) (o : Objects E) (h : AreObjects p o) where
   Reaches : ℕ → Type 0
   Reaches turns = (owner : ℕ) → Covers (o.imports turns owner) (o.imports (suc turns) owner)
 
-  by_giver : (turns owner k : ℕ) (v : ℤ) → ((before : ℕ) → turns ≡ suc before → Reaches before) → (x : List ℕ) (g : Giver) → IsGivenBy p o owner k x g → o.imports turns owner k ≡ Ok v → o.imports (suc turns) owner k ≡ Ok v
+  by_provider : (turns owner k : ℕ) (v : ℤ) → ((before : ℕ) → turns ≡ suc before → Reaches before) → (x : List ℕ) (g : Provider) → IsGivenBy p o owner k x g → o.imports turns owner k ≡ Ok v → o.imports (suc turns) owner k ≡ Ok v
   unfolding Reaches
-  by_giver zero owner k v deeper x (by_module giver) given q = absurd (given.first v q)
-  by_giver (suc turns) owner k v deeper x (by_module giver) given q =
-      let one : form_value o turns giver given.form ≡ Ok v = sym (given.later turns) ∙ q in
-      given.later (suc turns) ∙ value_covered o.none (o.bases giver) (o.imports turns giver) (o.imports (suc turns) giver) (deeper turns refl giver) given.form v one
-  by_giver turns owner k v deeper x (by_script u) given q = given (suc turns) ∙ sym (given turns) ∙ q
-  by_giver turns owner k v deeper x by_nobody given q = absurd (given turns v q)
+  by_provider zero owner k v deeper x (by_module provider) given q = absurd (given.first v q)
+  by_provider (suc turns) owner k v deeper x (by_module provider) given q =
+      let one : form_value o turns provider given.form ≡ Ok v = sym (given.later turns) ∙ q in
+      given.later (suc turns) ∙ value_covered o.none (o.bases provider) (o.imports turns provider) (o.imports (suc turns) provider) (deeper turns refl provider) given.form v one
+  by_provider turns owner k v deeper x (by_script u) given q = given (suc turns) ∙ sym (given turns) ∙ q
+  by_provider turns owner k v deeper x by_nobody given q = absurd (given turns v q)
 
   by_name : (turns owner k : ℕ) (v : ℤ) → ((before : ℕ) → turns ≡ suc before → Reaches before) → (x : Option (List ℕ)) → IsGiven p o owner k x → o.imports turns owner k ≡ Ok v → o.imports (suc turns) owner k ≡ Ok v
   by_name turns owner k v deeper None given q = absurd (given turns v q)
-  by_name turns owner k v deeper (Some x) given q = by_giver turns owner k v deeper x (p.giver x) given q
+  by_name turns owner k v deeper (Some x) given q = by_provider turns owner k v deeper x (p.provider x) given q
 
   reaches : (turns : ℕ) → Reaches turns
   unfolding Reaches

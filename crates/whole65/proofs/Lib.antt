@@ -38,7 +38,7 @@ pub mod Keyed
 pub mod Rows
 pub mod Needs
 pub mod Exports
-pub mod Givers
+pub mod Providers
 pub mod Images
 pub mod Files
 pub mod Tables

@@ -6,7 +6,7 @@ use Rattle.script65.specs.Placing.{place_of}
 use Rattle.script65.specs.declared.placement.PlaceFault.{PlaceFault}
 use Rattle.script65.specs.declared.placement.Placement.{Placement}
 use Rattle.script65.specs.declared.script.Script.{Script}
-use Rattle.link65.specs.Links.{check_asserts, check_export, check_waiting, each_passes, waiting_by_row, AreFiles, IsFinished, IsImaged, IsPlacedLink, IsProgramLink, as_placement, checked, names_once, none_unresolved, placed}
+use Rattle.link65.specs.Links.{check_asserts, check_export, check_fixup, each_passes, fixups_by_row, AreFiles, IsFinished, IsImaged, IsPlacedLink, IsProgramLink, as_placement, checked, names_once, none_unresolved, placed}
 use Rattle.link65.specs.Names.{unresolved}
 use Rattle.link65.specs.Texts.{map_text, warnings_of_rows}
 use Rattle.link65.specs.Values.{linkage_of, needs_of, AreExports, Exports, Linkage, in_table}
@@ -57,7 +57,7 @@ pub record HasLink (output : List ℕ) (s : Script) (q : Program) (files : List 
   pub placed : place_of s (needs_of q) ≡ Ok placement
   pub table : List (Result ℤ ValueFault)
   pub exports : AreExports (linkage_of s q placement) table
-  pub values : each_passes (check_waiting (linkage_of s q placement) q.members (in_table table)) (waiting_by_row s.rows q.segments) ≡ Ok tt
+  pub values : each_passes (check_fixup (linkage_of s q placement) q.members (in_table table)) (fixups_by_row s.rows q.segments) ≡ Ok tt
   pub exported : each_passes (check_export (linkage_of s q placement) q.members (in_table table)) q.exports ≡ Ok tt
   pub warnings : List ℕ
   pub asserted : check_asserts (linkage_of s q placement) q.members (in_table table) q.asserts ≡ Ok warnings
@@ -76,7 +76,7 @@ module _ (output : List ℕ) (s : Script) (q : Program) (files : List OutputFile
       let l : Linkage = linkage_of s q h.placement in
       let there : placed s q ≡ Ok h.placement = placed_by (unresolved s q) (place_of s (needs_of q)) h.placement h.none h.placed in
       let passed : checked s q l (in_table h.table) ≡ Ok h.warnings =
-      checked_by (each_passes (check_waiting l q.members (in_table h.table)) (waiting_by_row s.rows q.segments))
+      checked_by (each_passes (check_fixup l q.members (in_table h.table)) (fixups_by_row s.rows q.segments))
       (each_passes (check_export l q.members (in_table h.table)) q.exports)
       (check_asserts l q.members (in_table h.table) q.asserts) h.warnings h.values h.exported h.asserted in
       let finished : IsFinished output s q h.placement l (in_table h.table) (Ok (linked_by h)) =
@@ -93,8 +93,8 @@ module _ (output : List ℕ) (s : Script) (q : Program) (files : List OutputFile
       let exports : Exports = in_table found.0 in
       let (w, none, at) = bind_ok (none_unresolved (unresolved s q)) (λ u. as_placement (place_of s (needs_of q))) placement there in
       let (warnings, passed, imaged) = gone_on (checked s q l exports) (IsImaged output s q placement l exports) linked found.2 in
-      let (x, before, asserted) = bind_ok (each_passes (check_waiting l q.members exports) (waiting_by_row s.rows q.segments) >>= (λ u. each_passes (check_export l q.members exports) q.exports)) (λ u. check_asserts l q.members exports q.asserts) warnings passed in
-      let (y, values, exported) = bind_ok (each_passes (check_waiting l q.members exports) (waiting_by_row s.rows q.segments)) (λ u. each_passes (check_export l q.members exports) q.exports) x before in
+      let (x, before, asserted) = bind_ok (each_passes (check_fixup l q.members exports) (fixups_by_row s.rows q.segments) >>= (λ u. each_passes (check_export l q.members exports) q.exports)) (λ u. check_asserts l q.members exports q.asserts) warnings passed in
+      let (y, values, exported) = bind_ok (each_passes (check_fixup l q.members exports) (fixups_by_row s.rows q.segments)) (λ u. each_passes (check_export l q.members exports) q.exports) x before in
       record {
         once = once;
         none = none_open (unresolved s q) none;

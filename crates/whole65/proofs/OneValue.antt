@@ -5,19 +5,19 @@ use Rattle.syntax65.specs.Trees.{Tree, name}
 use Rattle.syntax65.specs.Trees as tree
 use Rattle.base65.specs.Values.{value1, value2}
 use Rattle.whole65.specs.Laws.{OneValueLaw}
-use Rattle.whole65.specs.Values.{Meaning, label_at, constant_at, import_of, Giver, by_module, by_script, by_nobody, Program, meaning_in, Value, number, here, label, constant, exported, scripted, prefixed, joined}
+use Rattle.whole65.specs.Values.{Meaning, label_at, constant_at, import_of, Provider, by_module, by_script, by_nobody, Program, meaning_in, Value, number, here, label, constant, exported, scripted, prefixed, joined}
 
 -- what an import's value comes from
-abbrev pub FromGiver : Program → List ℕ → Giver → ℤ → Type 0
-FromGiver p x (by_module giver) v = Value p giver (p.global giver) (name false (x ∷ [])) v
-FromGiver p x (by_script u) v = u ≡ v
-FromGiver p x by_nobody v = ⊥
+abbrev pub FromProvider : Program → List ℕ → Provider → ℤ → Type 0
+FromProvider p x (by_module provider) v = Value p provider (p.global provider) (name false (x ∷ [])) v
+FromProvider p x (by_script u) v = u ≡ v
+FromProvider p x by_nobody v = ⊥
 
 abbrev pub FromMeaning : Program → ℕ → Option Meaning → ℤ → Type 0
 FromMeaning p owner None v = ⊥
 FromMeaning p owner (Some (label_at at)) v = p.address owner at ≡ v
 FromMeaning p owner (Some (constant_at at f)) v = Value p owner at f v
-FromMeaning p owner (Some (import_of x)) v = FromGiver p x (p.giver x) v
+FromMeaning p owner (Some (import_of x)) v = FromProvider p x (p.provider x) v
 
 abbrev pub From : Program → ℕ → ℕ → Tree → ℤ → Type 0
 From p owner place (tree.number n) v = pos n ≡ v

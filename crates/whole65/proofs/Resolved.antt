@@ -27,7 +27,7 @@ use Rattle.module65.specs.Places.{PlacedFault, at_place}
 use Rattle.whole65.proofs.Demands.{IsAsserted, all_demanded, demanded_names, one_tells}
 use Rattle.whole65.proofs.Exports.{IsDefined, exported_names, said_all}
 use Rattle.whole65.proofs.Given.{valued_imports_law}
-use Rattle.whole65.proofs.Givers.{global_form, past_all, sources_law}
+use Rattle.whole65.proofs.Providers.{global_form, past_all, sources_law}
 use Rattle.whole65.proofs.Imports.{KeyFor, OfKey, OfPart, OfSaid, among_swapped, at_key, each_name, imports_hold, key_for, no_key}
 use Rattle.whole65.proofs.Keyed.{or_right}
 use Rattle.whole65.proofs.Keys.{alike}
@@ -149,7 +149,7 @@ module _ (s : Script) (placement : Placement) (ys : List Layout) (ms : List Modu
       by : (r : Option (List ℕ)) → slice_get z.imports k ≡ r → objects.IsGiven p o owner k r → IsGiven p (name_of z.imports k)
       by None q given = absurd (given turns w e)
       by (Some x) q given = λ none.
-          let called : p.giver x ≡ by_nobody = ap (λ r. p.giver (unwrap_or r [])) (sym q) ∙ none in
+          let called : p.provider x ≡ by_nobody = ap (λ r. p.provider (unwrap_or r [])) (sym q) ∙ none in
           let never : HasNone o owner k = subst (IsGivenBy p o owner k x) called given in
           never turns w e
 

@@ -16,7 +16,7 @@ use Rattle.whole65.proofs.Later.{bind_ok, folded_ok, value_later}
 use Rattle.whole65.proofs.Operands.{IsForm, meant, operand}
 use Rattle.whole65.specs.Laws.{SameValuesLaw}
 use Rattle.whole65.specs.Objects.{AreObjects, HasValue, IsExport, IsGiven, IsGivenBy, Objects, form_value}
-use Rattle.whole65.specs.Values.{Giver, by_module, by_script, by_nobody, Meaning, label_at, constant_at, import_of, Program, meaning_in, Value, number, here, label, constant, exported, scripted, prefixed, joined}
+use Rattle.whole65.specs.Values.{Provider, by_module, by_script, by_nobody, Meaning, label_at, constant_at, import_of, Program, meaning_in, Value, number, here, label, constant, exported, scripted, prefixed, joined}
 
 or_none_is : {E : Type 0} (none : E) (r : Option ℤ) (v : ℤ) → r ≡ Some v → or_none none r ≡ Ok v
 or_none_is none None v q = cc
@@ -43,17 +43,17 @@ module _ {E : Type 0} (p : Program) (o : Objects E) (h : AreObjects p o) where
   at_place turns owner place = ap Ok (sym (h.addresses owner place))
 
   -- ---- From the program to the objects.
-  export_of : (owner k : ℕ) (x : List ℕ) (giver : ℕ) → slice_get (o.symbols owner).imports k ≡ Some x → p.giver x ≡ by_module giver → IsExport p o owner k x giver
-  export_of owner k x giver there g =
+  export_of : (owner k : ℕ) (x : List ℕ) (provider : ℕ) → slice_get (o.symbols owner).imports k ≡ Some x → p.provider x ≡ by_module provider → IsExport p o owner k x provider
+  export_of owner k x provider there g =
       let given : IsGiven p o owner k (Some x) = subst (IsGiven p o owner k) there (h.given owner k) in
       subst (IsGivenBy p o owner k x) g given
 
-  value_of : (owner k : ℕ) (x : List ℕ) (giver : ℕ) (f : Form) (v : ℤ) (export : IsExport p o owner k x giver) → f ≡ imp k → HasValue o giver export.form v → HasValue o owner f v
-  value_of owner k x giver f v export same (turns, got) =
+  value_of : (owner k : ℕ) (x : List ℕ) (provider : ℕ) (f : Form) (v : ℤ) (export : IsExport p o owner k x provider) → f ≡ imp k → HasValue o provider export.form v → HasValue o owner f v
+  value_of owner k x provider f v export same (turns, got) =
       let one : form_value o (suc turns) owner f ≡ o.imports (suc turns) owner k = ap (form_value o (suc turns) owner) same in
       (suc turns, one ∙ export.later turns ∙ got)
 
-  of_script : (owner k : ℕ) (x : List ℕ) (v : ℤ) → slice_get (o.symbols owner).imports k ≡ Some x → p.giver x ≡ by_script v → o.imports zero owner k ≡ Ok v
+  of_script : (owner k : ℕ) (x : List ℕ) (v : ℤ) → slice_get (o.symbols owner).imports k ≡ Some x → p.provider x ≡ by_script v → o.imports zero owner k ≡ Ok v
   of_script owner k x v there g =
       let given : IsGiven p o owner k (Some x) = subst (IsGiven p o owner k) there (h.given owner k) in
       let scripted : IsGivenBy p o owner k x (by_script v) = subst (IsGivenBy p o owner k x) g given in
@@ -70,10 +70,10 @@ module _ {E : Type 0} (p : Program) (o : Objects E) (h : AreObjects p o) where
       (0, rw same (at_place 0 owner at))
   linked (constant {owner = owner} {place = place} {at = at} {e = e} {f = g} w d) (suc depth) f q =
       linked d depth f (meant p o h depth owner place e (constant_at at g) f w q)
-  linked (exported {owner = owner} {place = place} {giver = giver} {e = e} {x = x} {v = v} w g d) (suc depth) f q =
+  linked (exported {owner = owner} {place = place} {provider = provider} {e = e} {x = x} {v = v} w g d) (suc depth) f q =
       let (k, there, same) = meant p o h depth owner place e (import_of x) f w q in
-      let export : IsExport p o owner k x giver = export_of owner k x giver there g in
-      value_of owner k x giver f v export same (linked d export.depth export.form export.normal)
+      let export : IsExport p o owner k x provider = export_of owner k x provider there g in
+      value_of owner k x provider f v export same (linked d export.depth export.form export.normal)
   linked (scripted {owner = owner} {place = place} {e = e} {x = x} {v = v} w g) (suc depth) f q =
       let (k, there, same) = meant p o h depth owner place e (import_of x) f w q in
       (0, rw same (of_script owner k x v there g))
@@ -102,10 +102,10 @@ module _ {E : Type 0} (p : Program) (o : Objects E) (h : AreObjects p o) where
   abbrev Through : ℕ → ℕ → Type 0
   Through turns depth = (owner place : ℕ) (e : Tree) (f : Form) (v : ℤ) → norm depth (o.symbols owner) (o.spots owner place) e ≡ Ok f → form_value o turns owner f ≡ Ok v → Value p owner place e v
 
-  import_back : (turns : ℕ) → BelowExport turns → (owner place k : ℕ) (e : Tree) (x : List ℕ) (v : ℤ) → meaning_in p owner place e ≡ Some (import_of x) → (g : Giver) → p.giver x ≡ g → IsGivenBy p o owner k x g → o.imports turns owner k ≡ Ok v → Value p owner place e v
-  import_back zero below owner place k e x v w (by_module giver) g given d = absurd (given.first v d)
-  import_back (suc turns) below owner place k e x v w (by_module giver) g given d =
-      exported w g (below turns refl given.depth giver (p.global giver) (tree.name false (x ∷ [])) given.form v given.normal (sym (given.later turns) ∙ d))
+  import_back : (turns : ℕ) → BelowExport turns → (owner place k : ℕ) (e : Tree) (x : List ℕ) (v : ℤ) → meaning_in p owner place e ≡ Some (import_of x) → (g : Provider) → p.provider x ≡ g → IsGivenBy p o owner k x g → o.imports turns owner k ≡ Ok v → Value p owner place e v
+  import_back zero below owner place k e x v w (by_module provider) g given d = absurd (given.first v d)
+  import_back (suc turns) below owner place k e x v w (by_module provider) g given d =
+      exported w g (below turns refl given.depth provider (p.global provider) (tree.name false (x ∷ [])) given.form v given.normal (sym (given.later turns) ∙ d))
   import_back turns below owner place k e x v w (by_script u) g given d =
       let both : Ok u ≡ Ok v = sym (given turns) ∙ d in
       let same : u ≡ v = cc both in
@@ -123,7 +123,7 @@ module _ {E : Type 0} (p : Program) (o : Objects E) (h : AreObjects p o) where
   meaning_back turns below depth through owner place e f v (Some (constant_at at g)) w q d = constant w (through owner at g f v q d)
   meaning_back turns below depth through owner place e f v (Some (import_of x)) w (k, there, same) d =
       let given : IsGiven p o owner k (Some x) = subst (IsGiven p o owner k) there (h.given owner k) in
-      import_back turns below owner place k e x v w (p.giver x) refl given (rw same at d)
+      import_back turns below owner place k e x v w (p.provider x) refl given (rw same at d)
 
   expression_back : (turns : ℕ) → BelowExport turns → (depth : ℕ) → Through turns depth → (owner place : ℕ) (e : Tree) (f : Form) (v : ℤ) → norm (suc depth) (o.symbols owner) (o.spots owner place) e ≡ Ok f → form_value o turns owner f ≡ Ok v → Value p owner place e v
   expression_back turns below depth through owner place (tree.number n) f v q d =

@@ -13,7 +13,7 @@ use Rattle.link65.specs.declared.parts.Exported.{Exported}
 use Rattle.link65.specs.declared.parts.ValueFault.{ValueFault}
 use Rattle.link65.specs.declared.parts.ValueFault.TheVariants.{Unresolved}
 use Rattle.whole65.proofs.Files.{all_modules}
-use Rattle.whole65.proofs.Givers.{IsExportOf, export_normal, exports_are, exports_known, sources_law}
+use Rattle.whole65.proofs.Providers.{IsExportOf, export_normal, exports_are, exports_known, sources_law}
 use Rattle.whole65.proofs.Keyed.{form_law}
 use Rattle.whole65.proofs.Positions.{all_get}
 use Rattle.whole65.proofs.SameValues.{same_values_law}

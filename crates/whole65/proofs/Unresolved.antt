@@ -21,7 +21,7 @@ use Rattle.link65.specs.Programs.{Module}
 use Rattle.link65.specs.declared.parts.ValueFault.{ValueFault}
 use Rattle.module65.proofs.SoundForms.{all_append}
 use Rattle.whole65.proofs.Bases.{one_of}
-use Rattle.whole65.proofs.Givers.{sources_law}
+use Rattle.whole65.proofs.Providers.{sources_law}
 use Rattle.whole65.proofs.Imports.{forced_hold}
 use Rattle.whole65.proofs.Keys.{any_once, asked_are, held, keys_of}
 use Rattle.whole65.proofs.Known.{all_parts, none_open}

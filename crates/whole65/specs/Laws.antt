@@ -12,7 +12,7 @@ use Rattle.link65.specs.Programs.{Module, Cell, fragment_cells, segment_of}
 use Rattle.link65.specs.Programs as linked
 use Rattle.link65.specs.Values as places
 use Rattle.link65.specs.Values.{address_of, linkage_of, run_of, row_bytes, AreExports, Linkage, in_table, value_by}
-use Rattle.link65.specs.Links.{check_waiting, each_passes, waiting_by_row}
+use Rattle.link65.specs.Links.{check_fixup, each_passes, fixups_by_row}
 use Rattle.link65.specs.Files.{RowBytes}
 use Rattle.link65.specs.declared.parts.Exported.{Exported}
 use Rattle.link65.specs.Programs as grown
@@ -71,7 +71,7 @@ RowsLaw =
     let segments : List grown.Segment = (linked.program_of ms).segments in
     AreSources ys ms → AreExports l table →
     AllByRecursion (AreRow (program_of s placement ys) ys bytes) s.rows
-    ↔ ((each_passes (check_waiting l (linked.program_of ms).members (in_table table)) (waiting_by_row s.rows segments) ≡ Ok tt)
+    ↔ ((each_passes (check_fixup l (linked.program_of ms).members (in_table table)) (fixups_by_row s.rows segments) ≡ Ok tt)
     × AllByRecursion (λ r. bytes r ≡ row_bytes l (in_table table) segments r) s.rows)
 
 -- What an export of an object comes to in a link is the value of its name in the whole program.

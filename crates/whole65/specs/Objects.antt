@@ -10,7 +10,7 @@ use Rattle.language65.specs.Names as names
 use Rattle.language65.specs.Names.{meaning_of}
 use Rattle.language65.specs.Norms.{norm}
 use Rattle.language65.specs.Symbols.{Definition, Symbols}
-use Rattle.whole65.specs.Values.{Giver, by_module, by_script, by_nobody, Meaning, label_at, constant_at, import_of, Program}
+use Rattle.whole65.specs.Values.{Provider, by_module, by_script, by_nobody, Meaning, label_at, constant_at, import_of, Program}
 
 -- Of each module, by its place: its symbol table, where its statements stand, and what its sections and imports come to.
 -- What else than a value an import may come to is left open.
@@ -57,22 +57,22 @@ abbrev pub HasNone : {E : Type 0} → Objects E → ℕ → ℕ → Type 0
 HasNone o owner k = (turns : ℕ) (v : ℤ) → o.imports turns owner k ≢ Ok v
 
 -- to what the export of a name by a module comes to, one export deeper
-pub record IsExport {E : Type 0} (p : Program) (o : Objects E) (owner k : ℕ) (x : List ℕ) (giver : ℕ) : Type 0 where
+pub record IsExport {E : Type 0} (p : Program) (o : Objects E) (owner k : ℕ) (x : List ℕ) (provider : ℕ) : Type 0 where
   pub depth : ℕ
   pub form : Form
-  pub normal : norm depth (o.symbols giver) (o.spots giver (p.global giver)) (name false (x ∷ [])) ≡ Ok form
+  pub normal : norm depth (o.symbols provider) (o.spots provider (p.global provider)) (name false (x ∷ [])) ≡ Ok form
   pub first : (v : ℤ) → o.imports zero owner k ≢ Ok v
-  pub later : (turns : ℕ) → o.imports (suc turns) owner k ≡ form_value o turns giver form
+  pub later : (turns : ℕ) → o.imports (suc turns) owner k ≡ form_value o turns provider form
 
--- to what the giver of its name says
-abbrev pub IsGivenBy : {E : Type 0} → Program → Objects E → ℕ → ℕ → List ℕ → Giver → Type 0
-IsGivenBy p o owner k x (by_module giver) = IsExport p o owner k x giver
+-- to what the provider of its name says
+abbrev pub IsGivenBy : {E : Type 0} → Program → Objects E → ℕ → ℕ → List ℕ → Provider → Type 0
+IsGivenBy p o owner k x (by_module provider) = IsExport p o owner k x provider
 IsGivenBy p o owner k x (by_script v) = (turns : ℕ) → o.imports turns owner k ≡ Ok v
 IsGivenBy p o owner k x by_nobody = HasNone o owner k
 
 abbrev pub IsGiven : {E : Type 0} → Program → Objects E → ℕ → ℕ → Option (List ℕ) → Type 0
 IsGiven p o owner k None = HasNone o owner k
-IsGiven p o owner k (Some x) = IsGivenBy p o owner k x (p.giver x)
+IsGiven p o owner k (Some x) = IsGivenBy p o owner k x (p.provider x)
 
 -- ---- Objects of the modules of a program, placed alike.
 pub record AreObjects {E : Type 0} (p : Program) (o : Objects E) : Type 0 where

@@ -12,28 +12,28 @@ use Rattle.language65.specs.Laid.{Laid}
 use Rattle.language65.specs.Layout.{Layout}
 use Rattle.whole65.specs.Modules.{exports_of, means_in}
 use Rattle.whole65.specs.Segments.{position_of, segment_name}
-use Rattle.whole65.specs.Values.{Giver, by_module, by_script, by_nobody, Meaning, Program}
+use Rattle.whole65.specs.Values.{Provider, by_module, by_script, by_nobody, Meaning, Program}
 
 -- ---- Who gives a name.
 
 -- by the definition of that name, if there is one
-abbrev pub giver_or : Giver → Option Definition → Giver
-giver_or other None = other
-giver_or other (Some d) = by_script d.value
+abbrev pub provider_or : Provider → Option Definition → Provider
+provider_or other None = other
+provider_or other (Some d) = by_script d.value
 
 abbrev pub definition_of : List Definition → List ℕ → Option Definition
 definition_of ds name = find (λ d. bytes_eq d.name name) ds
 
 -- the first module, from a place on, that exports a name
-abbrev pub exporter_from : ℕ → List Layout → List ℕ → Giver → Giver
+abbrev pub exporter_from : ℕ → List Layout → List ℕ → Provider → Provider
 exporter_from owner [] name other = other
 exporter_from owner (y ∷ ys) name other = if is_among (exports_of y) name then by_module owner else exporter_from (suc owner) ys name other
 
 -- The names that the script defines or exports, then the exports of modules, and its weak names only where there is none
 -- of these.
-abbrev pub giver_of : Script → Placement → List Layout → List ℕ → Giver
-giver_of s p ys name =
-    giver_or (exporter_from 0 ys name (giver_or by_nobody (definition_of (weak_symbols s.symbols) name)))
+abbrev pub provider_of : Script → Placement → List Layout → List ℕ → Provider
+provider_of s p ys name =
+    provider_or (exporter_from 0 ys name (provider_or by_nobody (definition_of (weak_symbols s.symbols) name)))
     (definition_of (script_definitions s p) name)
 
 -- ---- Where statements lie.
@@ -64,6 +64,6 @@ abbrev pub program_of : Script → Placement → List Layout → Program
 program_of s p ys = record {
   means = λ owner place. means_at (slice_get ys owner) place;
   global = λ owner. length_of (slice_get ys owner);
-  giver = giver_of s p ys;
+  provider = provider_of s p ys;
   address = λ owner place. statement_address s p ys owner place (slice_get ys owner) (laid_at (slice_get ys owner) place);
 }

@@ -16,12 +16,12 @@ pub data Meaning : Type 0 where
   import_of : List ℕ → Meaning
 
 -- who gives a name its value
-pub data Giver : Type 0 where
+pub data Provider : Type 0 where
   -- a module that exports it
-  by_module : ℕ → Giver
+  by_module : ℕ → Provider
   -- the script, which says its value
-  by_script : ℤ → Giver
-  by_nobody : Giver
+  by_script : ℤ → Provider
+  by_nobody : Provider
 
 -- Modules and statements are named by their places: a module by its place in the order of linking, a statement by its
 -- place in its module.
@@ -30,7 +30,7 @@ pub record Program : Type 0 where
   pub means : (owner place : ℕ) → Tree → Option Meaning
   -- the place behind the last statement of a module, in its global scope
   pub global : (owner : ℕ) → ℕ
-  pub giver : List ℕ → Giver
+  pub provider : List ℕ → Provider
   -- the address of a statement
   pub address : (owner place : ℕ) → ℤ
 
@@ -58,13 +58,13 @@ pub data Value (p : Program) : (owner place : ℕ) → Tree → ℤ → Type 0 w
       meaning_in p owner place e ≡ Some (constant_at at f) → Value p owner at f v → Value p owner place e v
   -- an import has the value of the name in the global scope of the module that exports it
   exported :
-      {owner place giver : ℕ} {e : Tree} {x : List ℕ} {v : ℤ} →
-      meaning_in p owner place e ≡ Some (import_of x) → p.giver x ≡ by_module giver →
-      Value p giver (p.global giver) (name false (x ∷ [])) v → Value p owner place e v
+      {owner place provider : ℕ} {e : Tree} {x : List ℕ} {v : ℤ} →
+      meaning_in p owner place e ≡ Some (import_of x) → p.provider x ≡ by_module provider →
+      Value p provider (p.global provider) (name false (x ∷ [])) v → Value p owner place e v
   -- or that which the script says
   scripted :
       {owner place : ℕ} {e : Tree} {x : List ℕ} {v : ℤ} →
-      meaning_in p owner place e ≡ Some (import_of x) → p.giver x ≡ by_script v → Value p owner place e v
+      meaning_in p owner place e ≡ Some (import_of x) → p.provider x ≡ by_script v → Value p owner place e v
   -- an operation has its value on those of its operands
   prefixed :
       {owner place : ℕ} {op : Op1} {e : Tree} {a : ℤ} →

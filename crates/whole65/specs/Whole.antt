@@ -40,7 +40,7 @@ HasAssertion p x = go x.laid.stated
 
 -- a name that is needed whether or not it is used is given
 abbrev pub IsGiven : Program → List ℕ → Type 0
-IsGiven p x = p.giver x ≢ by_nobody
+IsGiven p x = p.provider x ≢ by_nobody
 
 -- what a module says to others and to the linker
 pub record IsSaid (p : Program) (owner : ℕ) (y : Layout) : Type 0 where

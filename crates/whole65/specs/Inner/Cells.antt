@@ -1,7 +1,7 @@
 -- The bytes of what lies in a segment of linked modules, where forms have values.
 use Rattle.std.specs.Prelude.{◌≡◌, ℕ, ℤ, List, [], ◌∷◌, ◌++◌, slice_get, Option, Some, None, ◌↔◌, ⊤}
 use Rattle.link65.specs.Programs.{Cell, Segment, known, filled, waits}
-use Rattle.link65.specs.Values.{Linkage, base_of, exports_through, giver_at, import_value}
+use Rattle.link65.specs.Values.{Linkage, base_of, exports_through, provider_at, import_value}
 use Rattle.link65.specs.declared.parts.ValueFault.TheVariants.{NoValue}
 use Rattle.language65.specs.Numbering.{numbered}
 use Rattle.language65.specs.Parts.{Part, Known, Filled, Waiting}
@@ -12,7 +12,7 @@ use Rattle.whole65.specs.Inner.Parts.{Valuing, valued_by}
 -- the value of a form of a linked module, through some number of exports
 abbrev pub linked_value : Linkage → ℕ → Valuing
 linked_value l owner =
-    valued_by NoValue (base_of (slice_get l.modules owner)) (λ turns j. import_value (exports_through l turns) (giver_at (slice_get l.modules owner) j))
+    valued_by NoValue (base_of (slice_get l.modules owner)) (λ turns j. import_value (exports_through l turns) (provider_at (slice_get l.modules owner) j))
 
 abbrev pub IsCell : Linkage → ℕ → Cell → List ℕ → Type 0
 IsCell l fill (known b) bytes = bytes ≡ b ∷ []

@@ -8,11 +8,11 @@ use Rattle.language65.specs.Parts.{Content, Part, Known, Filled, Waiting, Said, 
 use Rattle.language65.specs.Layout.{Layout}
 use Rattle.language65.specs.Numbering.{imports_in}
 use Rattle.language65.specs.Sound.{sections_in}
-use Rattle.link65.specs.Names.{giver_of, script_definitions, weak_symbols}
+use Rattle.link65.specs.Names.{provider_of, script_definitions, weak_symbols}
 use Rattle.link65.specs.Programs.{Module, Program, program_of}
 use Rattle.link65.specs.Values.{linkage_of, exports_through, import_value}
-use Rattle.link65.specs.declared.parts.Giver.{Giver}
-use Rattle.link65.specs.declared.parts.Giver.TheVariants.{Nobody}
+use Rattle.link65.specs.declared.parts.Provider.{Provider}
+use Rattle.link65.specs.declared.parts.Provider.TheVariants.{Nobody}
 use Rattle.link65.specs.declared.parts.ValueFault.{ValueFault}
 use Rattle.link65.specs.declared.parts.ValueFault.TheVariants.{NoValue}
 use Rattle.whole65.specs.Inner.Linked.{objects_of, symbols_at}
@@ -20,14 +20,14 @@ use Rattle.whole65.specs.Objects.{Objects}
 
 -- ---- What imports come to.
 
-abbrev pub giver_named : Script → Placement → Program → Option (List ℕ) → Giver
-giver_named s placement q None = Nobody
-giver_named s placement q (Some name) = giver_of (script_definitions s placement) q.exports (weak_symbols s.symbols) name
+abbrev pub provider_named : Script → Placement → Program → Option (List ℕ) → Provider
+provider_named s placement q None = Nobody
+provider_named s placement q (Some name) = provider_of (script_definitions s placement) q.exports (weak_symbols s.symbols) name
 
 -- an import of a module has the value of the export of its name, through so many exports
 abbrev pub imports_linked : Script → Placement → List Layout → List Module → ℕ → ℕ → ℕ → Result ℤ ValueFault
 imports_linked s placement ys ms turns owner k =
-    import_value (exports_through (linkage_of s (program_of ms) placement) turns) (giver_named s placement (program_of ms) (slice_get (symbols_at (slice_get ys owner)).imports k))
+    import_value (exports_through (linkage_of s (program_of ms) placement) turns) (provider_named s placement (program_of ms) (slice_get (symbols_at (slice_get ys owner)).imports k))
 
 -- what linking knows of the modules of sources
 abbrev pub linked_objects : Script → Placement → List Layout → List Module → Objects ValueFault

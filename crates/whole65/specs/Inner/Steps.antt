@@ -19,7 +19,7 @@ use Rattle.object65.specs.FormValue.{value_in}
 use Rattle.object65.specs.Objects.{section_len}
 use Rattle.whole65.specs.Inner.Parts.{AreFragments, AreParts, valued_by}
 use Rattle.link65.specs.Names.{export_names, first_again, unresolved, symbol_imports}
-use Rattle.link65.specs.Links.{AreFiles, names_once, check_asserts, check_export, check_waiting, each_passes, waiting_by_row, waiting_in}
+use Rattle.link65.specs.Links.{AreFiles, names_once, check_asserts, check_export, check_fixup, each_passes, fixups_by_row, fixups_in}
 use Rattle.link65.specs.Programs.{Module, Cell, fragment_cells, segment_of}
 use Rattle.link65.specs.Programs as linked
 use Rattle.link65.specs.Values.{address_of, linkage_of, run_of, cell_bytes, AreExports, Linkage, base_of, exports_through, in_table, value_by}
@@ -73,7 +73,7 @@ abbrev pub LaidOutLaw : Type 0
 LaidOutLaw = (m : Files) (job : Job) (r : Reached Layout) → AreLaid m job r → IsLaidOut r.behind
 
 -- The modules of a placed program are linked as that program: names mean the same, and statements have the addresses that
--- their sections' bases and their offsets make, for all that imports come to as their givers say.
+-- their sections' bases and their offsets make, for all that imports come to as their providers say.
 abbrev pub LinkedLaw : Type 0 → Type 0
 LinkedLaw E =
     (none : E) (imports : ℕ → ℕ → ℕ → Result ℤ E) (s : Script) (placement : Placement) (ys : List Layout) →
@@ -141,7 +141,7 @@ CheckedLaw =
     (l : Linkage) (members : List Member) (table : List (Result ℤ ValueFault)) (fill : ℕ) (cells : List Cell) (bytes : List ℕ) →
     AreExports l table →
     AreCells l fill cells bytes
-    ↔ ((each_passes (check_waiting l members (in_table table)) (flat_map waiting_in cells) ≡ Ok tt)
+    ↔ ((each_passes (check_fixup l members (in_table table)) (flat_map fixups_in cells) ≡ Ok tt)
     × (bytes ≡ flat_map (cell_bytes l (in_table table) fill) cells))
 
 -- A link and the whole program round alike.
@@ -239,7 +239,7 @@ ExportNamesLaw =
     (ys : List Layout) (ms : List Module) → AreSources ys ms →
     export_names (linked.program_of ms) ≡ flat_map exports_of ys
 
--- What linking knows of the modules of sources is of their program: each import comes to what its giver says.
+-- What linking knows of the modules of sources is of their program: each import comes to what its provider says.
 abbrev pub SourcesLaw : Type 0
 SourcesLaw =
     (s : Script) (placement : Placement) (ys : List Layout) (ms : List Module) → AreSources ys ms →
@@ -274,7 +274,7 @@ FilesLaw =
     let l : Linkage = linkage_of s (linked.program_of ms) placement in
     AreSources ys ms → AreExports l table →
     HasImage output s ys placement (program_of s placement ys) files
-    ↔ ((each_passes (check_waiting l (linked.program_of ms).members (in_table table)) (waiting_by_row s.rows (linked.program_of ms).segments) ≡ Ok tt)
+    ↔ ((each_passes (check_fixup l (linked.program_of ms).members (in_table table)) (fixups_by_row s.rows (linked.program_of ms).segments) ≡ Ok tt)
     × AreFiles output s (linked.program_of ms) placement l (in_table table) files)
 
 -- Where all names that modules export have values in the whole program, a link has the table of exports that its

@@ -6,7 +6,7 @@ use Rattle.link65.specs.declared.parts.Definition.{Definition}
 use Rattle.link65.specs.declared.parts.Exported.{Exported}
 use Rattle.link65.specs.declared.parts.Member.{Member}
 use Rattle.link65.specs.declared.parts.Resolved.{Resolved}
-use Rattle.link65.specs.Names.{giver_of, script_definitions}
+use Rattle.link65.specs.Names.{provider_of, script_definitions}
 use Rattle.link65.specs.Values.{address_of}
 use Rattle.link65.specs.Placed.{resolved_by}
 use Rattle.link65.proofs.linking.modules_of.Goals as goal
@@ -14,7 +14,7 @@ use Rattle.link65.proofs.linking.modules_of.Goals as goal
 pub returns : goal.returns
 returns c =
     let made : List Row → List RowPlace → List Definition → List Exported → List Definition → List Resolved = λ rows places own exports weak.
-    map (λ (m : Member). record { bases = map (address_of rows places) m.sections; givers = map (giver_of own exports weak) m.imports }) c.args.program.now.members in
+    map (λ (m : Member). record { bases = map (address_of rows places) m.sections; providers = map (provider_of own exports weak) m.imports }) c.args.program.now.members in
     let names = c.args.names.now in
     let addresses = c.in_ok-addresses.addresses in
     let s = c.args.script.now in

@@ -1,5 +1,5 @@
 use Rattle.std.proofs.Common.{map}
-use Rattle.link65.proofs.resolving.Names.giver.Goals as goal
+use Rattle.link65.proofs.resolving.Names.provider.Goals as goal
 
 pub returns : goal.returns
 returns c =

@@ -29,8 +29,8 @@ use Rattle.link65.specs.Programs.{position_in, Module, Program, exported, no_pro
 use Rattle.link65.specs.Values.{linkage_of, Linkage, export_value, exports_through, import_value, value_by}
 use Rattle.link65.specs.declared.parts.Definition.{Definition}
 use Rattle.link65.specs.declared.parts.Exported as parts
-use Rattle.link65.specs.declared.parts.Giver.{Giver}
-use Rattle.link65.specs.declared.parts.Giver.TheVariants.{ByModule, ByScript, Nobody}
+use Rattle.link65.specs.declared.parts.Provider.{Provider}
+use Rattle.link65.specs.declared.parts.Provider.TheVariants.{ByModule, ByScript, Nobody}
 use Rattle.link65.specs.declared.parts.ValueFault.{ValueFault}
 use Rattle.link65.specs.declared.parts.ValueFault.TheVariants.{Circular, NoValue, Unresolved}
 use Rattle.module65.proofs.SoundForms.{all_append}
@@ -41,14 +41,14 @@ use Rattle.whole65.proofs.Keyed.{form_law, keyed_law}
 use Rattle.whole65.proofs.Linked.{linked_law}
 use Rattle.whole65.proofs.Positions.{all_get}
 use Rattle.whole65.proofs.Sources.{contents_of}
-use Rattle.whole65.specs.Inner.Keyed.{IsKeyed, IsKeyedContent, IsKeyedSaid, giver_named, imports_linked, linked_objects}
+use Rattle.whole65.specs.Inner.Keyed.{IsKeyed, IsKeyedContent, IsKeyedSaid, provider_named, imports_linked, linked_objects}
 use Rattle.whole65.specs.Inner.Steps.{SourcesLaw}
 use Rattle.whole65.specs.Inner.Linked.{spot_in, symbols_at}
 use Rattle.whole65.specs.Modules.{global_spot, spot_or, table_of}
 use Rattle.whole65.specs.Objects.{IsExport, IsGiven, IsGivenBy, Objects}
 use Rattle.whole65.specs.Offsets.{IsLaidOut}
 use Rattle.whole65.specs.Programs as whole
-use Rattle.whole65.specs.Programs.{definition_of, exporter_from, giver_or, length_of}
+use Rattle.whole65.specs.Programs.{definition_of, exporter_from, provider_or, length_of}
 use Rattle.whole65.specs.Sources.{AreSources}
 use Rattle.whole65.specs.Values as values
 use Rattle.whole65.specs.Values.{by_module, by_nobody, by_script}
@@ -179,31 +179,31 @@ locate name_of name xs = go (locate_from name_of name 0 xs)
     go (absent_from f q) = absent f q
     go (there_from i x f q at called) = there i x f (q ∙ ap Some (zero_first i)) at called
 
--- ---- Both givers.
+-- ---- Both providers.
 
 -- who gives a name in the whole program, and in a link with these exports
-pub data Agree (exports : List parts.Exported) (name : List ℕ) : values.Giver → Giver → Type 0 where
+pub data Agree (exports : List parts.Exported) (name : List ℕ) : values.Provider → Provider → Type 0 where
   of_script : (v : ℤ) → Agree exports name (by_script v) (ByScript v)
   of_nobody : Agree exports name by_nobody Nobody
   of_module : (i : ℕ) (e : parts.Exported) → slice_get exports i ≡ Some e → e.name ≡ name → Agree exports name (by_module e.owner) (ByModule i)
 
-abbrev by_found : Option parts.Exported → values.Giver → values.Giver
+abbrev by_found : Option parts.Exported → values.Provider → values.Provider
 by_found None other = other
 by_found (Some e) other = by_module e.owner
 
-agree_by : (exports : List parts.Exported) (name : List ℕ) (w w' : values.Giver) (g g' : Giver) → w' ≡ w → g' ≡ g → Agree exports name w g → Agree exports name w' g'
+agree_by : (exports : List parts.Exported) (name : List ℕ) (w w' : values.Provider) (g g' : Provider) → w' ≡ w → g' ≡ g → Agree exports name w g → Agree exports name w' g'
 agree_by exports name w w' g g' e f h = subst (λ k. Agree exports name k g') (sym e) (subst (Agree exports name w) (sym f) h)
 
-by_definitions : (exports : List parts.Exported) (name : List ℕ) (ds : List Definition) (w : values.Giver) (g : Giver) → Agree exports name w g → Agree exports name (giver_or w (definition_of ds name)) (by_definition ds (defined_at ds name) g)
+by_definitions : (exports : List parts.Exported) (name : List ℕ) (ds : List Definition) (w : values.Provider) (g : Provider) → Agree exports name w g → Agree exports name (provider_or w (definition_of ds name)) (by_definition ds (defined_at ds name) g)
 by_definitions exports name ds w g h = go (locate (λ (d : Definition). d.name) name ds)
   where
-    go : Located (λ (d : Definition). d.name) name ds → Agree exports name (giver_or w (definition_of ds name)) (by_definition ds (defined_at ds name) g)
-    go (absent f q) = agree_by exports name w (giver_or w (definition_of ds name)) g (by_definition ds (defined_at ds name) g) (ap (giver_or w) f) (ap (λ o. by_definition ds o g) q) h
+    go : Located (λ (d : Definition). d.name) name ds → Agree exports name (provider_or w (definition_of ds name)) (by_definition ds (defined_at ds name) g)
+    go (absent f q) = agree_by exports name w (provider_or w (definition_of ds name)) g (by_definition ds (defined_at ds name) g) (ap (provider_or w) f) (ap (λ o. by_definition ds o g) q) h
     go (there i d f q at called) =
-        agree_by exports name (by_script d.value) (giver_or w (definition_of ds name)) (ByScript d.value) (by_definition ds (defined_at ds name) g)
-        (ap (giver_or w) f) (ap (λ o. by_definition ds o g) q ∙ ap (λ o. ByScript (option_map_or (λ (d : Definition). d.value) o (pos 0))) at) (of_script d.value)
+        agree_by exports name (by_script d.value) (provider_or w (definition_of ds name)) (ByScript d.value) (by_definition ds (defined_at ds name) g)
+        (ap (provider_or w) f) (ap (λ o. by_definition ds o g) q ∙ ap (λ o. ByScript (option_map_or (λ (d : Definition). d.value) o (pos 0))) at) (of_script d.value)
 
-by_exports : (exports : List parts.Exported) (name : List ℕ) (w : values.Giver) (g : Giver) → Agree exports name w g → Agree exports name (by_found (find (λ e. bytes_eq e.name name) exports) w) (by_export (exported_at exports name) g)
+by_exports : (exports : List parts.Exported) (name : List ℕ) (w : values.Provider) (g : Provider) → Agree exports name w g → Agree exports name (by_found (find (λ e. bytes_eq e.name name) exports) w) (by_export (exported_at exports name) g)
 by_exports exports name w g h = go (locate (λ (e : parts.Exported). e.name) name exports)
   where
     go : Located (λ (e : parts.Exported). e.name) name exports → Agree exports name (by_found (find (λ e. bytes_eq e.name name) exports) w) (by_export (exported_at exports name) g)
@@ -212,7 +212,7 @@ by_exports exports name w g h = go (locate (λ (e : parts.Exported). e.name) nam
         agree_by exports name (by_module e.owner) (by_found (find (λ e. bytes_eq e.name name) exports) w) (ByModule i) (by_export (exported_at exports name) g)
         (ap (λ o. by_found o w) f) (ap (λ o. by_export o g) q) (of_module i e at called)
 
-one_exporter : (owner : ℕ) (name : List ℕ) (other : values.Giver) (rest : List parts.Exported) (es : List Export) → by_found (find (λ e. bytes_eq e.name name) (map (exported owner) es ++ rest)) other ≡ cond (is_among (map (λ (e : Export). e.name) es) name) (by_module owner) (by_found (find (λ e. bytes_eq e.name name) rest) other)
+one_exporter : (owner : ℕ) (name : List ℕ) (other : values.Provider) (rest : List parts.Exported) (es : List Export) → by_found (find (λ e. bytes_eq e.name name) (map (exported owner) es ++ rest)) other ≡ cond (is_among (map (λ (e : Export). e.name) es) name) (by_module owner) (by_found (find (λ e. bytes_eq e.name name) rest) other)
 one_exporter owner name other rest [] = refl
 one_exporter owner name other rest (e ∷ es) = go (bytes_eq e.name name) (one_exporter owner name other rest es)
   where
@@ -220,7 +220,7 @@ one_exporter owner name other rest (e ∷ es) = go (bytes_eq e.name name) (one_e
     go true h = refl
     go false h = h
 
-exporters : (owner : ℕ) (ys : List Layout) (ms : List Module) (name : List ℕ) (other : values.Giver) → AreSources ys ms → exporter_from owner ys name other ≡ by_found (find (λ e. bytes_eq e.name name) (linked_exports owner ms)) other
+exporters : (owner : ℕ) (ys : List Layout) (ms : List Module) (name : List ℕ) (other : values.Provider) → AreSources ys ms → exporter_from owner ys name other ≡ by_found (find (λ e. bytes_eq e.name name) (linked_exports owner ms)) other
 exporters owner [] [] name other h = refl
 exporters owner [] (m ∷ ms) name other h = absurd h
 exporters owner (y ∷ ys) [] name other h = absurd h
@@ -229,12 +229,12 @@ exporters owner (y ∷ ys) (m ∷ ms) name other h =
     ∙ ap (cond (is_among (map (λ (e : Export). e.name) m.object.exports) name) (by_module owner)) (exporters (suc owner) ys ms name other h.1)
     ∙ sym (one_exporter owner name other (linked_exports (suc owner) ms) m.object.exports)
 
-pub givers_agree : (s : Script) (placement : Placement) (ys : List Layout) (ms : List Module) (name : List ℕ) → AreSources ys ms → Agree (program_of ms).exports name (whole.giver_of s placement ys name) (linked.giver_of (script_definitions s placement) (program_of ms).exports (weak_symbols s.symbols) name)
-givers_agree s placement ys ms name h =
+pub providers_agree : (s : Script) (placement : Placement) (ys : List Layout) (ms : List Module) (name : List ℕ) → AreSources ys ms → Agree (program_of ms).exports name (whole.provider_of s placement ys name) (linked.provider_of (script_definitions s placement) (program_of ms).exports (weak_symbols s.symbols) name)
+providers_agree s placement ys ms name h =
     let exports : List parts.Exported = (program_of ms).exports in
-    let weak : values.Giver = giver_or by_nobody (definition_of (weak_symbols s.symbols) name) in
-    let weakly : Giver = by_definition (weak_symbols s.symbols) (defined_at (weak_symbols s.symbols) name) Nobody in
-    let found : values.Giver = by_found (find (λ e. bytes_eq e.name name) exports) weak in
+    let weak : values.Provider = provider_or by_nobody (definition_of (weak_symbols s.symbols) name) in
+    let weakly : Provider = by_definition (weak_symbols s.symbols) (defined_at (weak_symbols s.symbols) name) Nobody in
+    let found : values.Provider = by_found (find (λ e. bytes_eq e.name name) exports) weak in
     let inner : Agree exports name found (by_export (exported_at exports name) weakly) = by_exports exports name weak weakly (by_definitions exports name (weak_symbols s.symbols) by_nobody Nobody of_nobody) in
     let same : exporter_from 0 ys name weak ≡ found = exporters 0 ys ms name weak h ∙ ap (λ es. by_found (find (λ e. bytes_eq e.name name) es) weak) (sym (exports_are ms)) in
     by_definitions exports name (script_definitions s placement) (exporter_from 0 ys name weak) (by_export (exported_at exports name) weakly)
@@ -297,16 +297,16 @@ module _ (s : Script) (placement : Placement) (ys : List Layout) (ms : List Modu
             ∙ sym (form_law s placement ys ms e.owner turns y m.object m.contents m.form h m.at_y m.at_m m.found m.keyed);
       }
 
-  given_by : (h : AreSources ys ms) (owner k : ℕ) (x : List ℕ) (w : values.Giver) (g : Giver) → Agree (program_of ms).exports x w g → ((turns : ℕ) → o.imports turns owner k ≡ import_value (exports_through l turns) g) → IsGivenBy p o owner k x w
+  given_by : (h : AreSources ys ms) (owner k : ℕ) (x : List ℕ) (w : values.Provider) (g : Provider) → Agree (program_of ms).exports x w g → ((turns : ℕ) → o.imports turns owner k ≡ import_value (exports_through l turns) g) → IsGivenBy p o owner k x w
   given_by h owner k x _ _ (of_script v) says = says
   given_by h owner k x _ _ of_nobody says = λ turns v q. (let never : ◌≡◌ {A = Result ℤ ValueFault} (Err Unresolved) (Ok v) = sym (says turns) ∙ q in absurd cc)
   given_by h owner k x _ _ (of_module i e at called) says = of_export h owner k x i e at called says
 
   given : (h : AreSources ys ms) (owner k : ℕ) (r : Option (List ℕ)) → slice_get (o.symbols owner).imports k ≡ r → IsGiven p o owner k r
-  given h owner k None e = λ turns v q. (let never : ◌≡◌ {A = Result ℤ ValueFault} (Err Unresolved) (Ok v) = sym (ap (λ r. import_value (exports_through l turns) (giver_named s placement (program_of ms) r)) e) ∙ q in absurd cc)
+  given h owner k None e = λ turns v q. (let never : ◌≡◌ {A = Result ℤ ValueFault} (Err Unresolved) (Ok v) = sym (ap (λ r. import_value (exports_through l turns) (provider_named s placement (program_of ms) r)) e) ∙ q in absurd cc)
   given h owner k (Some x) e =
-      given_by h owner k x (whole.giver_of s placement ys x) (linked.giver_of (script_definitions s placement) (program_of ms).exports (weak_symbols s.symbols) x) (givers_agree s placement ys ms x h)
-      (λ turns. ap (λ r. import_value (exports_through l turns) (giver_named s placement (program_of ms) r)) e)
+      given_by h owner k x (whole.provider_of s placement ys x) (linked.provider_of (script_definitions s placement) (program_of ms).exports (weak_symbols s.symbols) x) (providers_agree s placement ys ms x h)
+      (λ turns. ap (λ r. import_value (exports_through l turns) (provider_named s placement (program_of ms) r)) e)
 
 pub sources_law : SourcesLaw
 sources_law s placement ys ms h =

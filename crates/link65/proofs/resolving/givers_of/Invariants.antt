@@ -1,6 +1,0 @@
-use Rattle.std.proofs.Common.{◌≡◌, map, take}
-use Rattle.link65.specs.Placed.{giver_in}
-use Rattle.link65.proofs.resolving.givers_of.Given as goal
-
-abbrev pub invariant-loop-name : goal.invariant-loop-name
-invariant-loop-name l = l.givers ≡ map (giver_in l.names) (take l.name-index l.imports)

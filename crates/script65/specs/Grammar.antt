@@ -1,5 +1,5 @@
 -- The grammar of scripts, and the first fault of one.
-use Rattle.std.specs.Prelude.{◌≡◌, ℕ, ◌+◌, ◌-◌, ◌^◌, Bool, true, false, ◌==◌, ◌&&◌, ◌||◌, not, nat_le, nat_lt, is_some, unwrap_or, if◌then◌else◌, List, [], ◌∷◌, ◌++◌, length, slice_get, Option, Some, None, Result, Ok, Err, find}
+use Rattle.std.specs.Prelude.{◌≡◌, ◌<◌, ◌≤◌, ℕ, ◌+◌, ◌-◌, ◌^◌, Bool, true, false, ◌==◌, ◌&&◌, ◌||◌, not, nat_le, nat_lt, is_some, unwrap_or, if◌then◌else◌, List, [], ◌∷◌, ◌++◌, length, slice_get, Option, Some, None, Result, Ok, Err, find}
 use Rattle.std.specs.List.{list_any}
 use Rattle.std.specs.Option.{option_map, option_map_or, option_and_then}
 use Rattle.std.specs.Str.{bytes_eq}
@@ -25,6 +25,11 @@ use Rattle.script65.specs.declared.reading.table.Entry.{Entry}
 use Rattle.script65.specs.Tokens.{number_of, token_at, text, block_of, attribute_of, shape_of, area_access_of, row_access_of, flag_of, role_of, is_width}
 use Rattle.base65.specs.Outcome.{◌>>=◌}
 use Rattle.script65.specs.AreaSums.{sum_of}
+
+-- a place behind another, and not behind the end
+pub record IsFurther (at next end : ℕ) : Type 0 where
+  pub behind : at < next
+  pub within : next ≤ end
 
 -- a fault at a token
 abbrev pub stop : {A : Type 0} → Fault → Token → Result A Stop

@@ -2,7 +2,7 @@
 
 ghost use Rattle.std.specs.Prelude.{◌≡◌, ◌≢◌, ◌≤◌, ◌<◌, ◌++◌, ◌∷◌, [], ℕ, IfOk, length};
 ghost use Rattle.script65.specs.Faults.{is_outside, Finds};
-ghost use Rattle.script65.specs.Grammar.{stands, expect, behind, number_at, byte_at, text_at, output_at, file_at, word_value, word_at, value_at, attribute_word, IsValue, IsAttribute};
+ghost use Rattle.script65.specs.Grammar.{IsFurther, stands, expect, behind, number_at, byte_at, text_at, output_at, file_at, word_value, word_at, value_at, attribute_word, IsValue, IsAttribute};
 ghost use Rattle.script65.specs.declared.reading.tokens.Form.TheVariants.{End};
 
 use crate::fault::{Fault, Stop};
@@ -62,8 +62,7 @@ pub fn behind(bytes: &[u8], form: Form, at: usize) -> usize
 fn number_at(bytes: &[u8], low: u32, high: u32, at: usize) -> Result<(Value, usize), Stop>
     requires { at ≤ length bytes.now }
     ensures value { result ≡ number_at bytes.now low high at }
-    ensures within { IfOk result (λ r. r.1 ≤ length bytes.now) }
-    ensures start { IfOk result (λ r. at < r.1) }
+    ensures further { IfOk result (λ r. IsFurther at r.1 (length bytes.now)) }
 {
     let token = expect(bytes, Form::Number, at)?;
     match number_of(text(bytes, token.from, token.to)) {
@@ -76,8 +75,7 @@ fn number_at(bytes: &[u8], low: u32, high: u32, at: usize) -> Result<(Value, usi
 fn byte_at(bytes: &[u8], at: usize) -> Result<(Value, usize), Stop>
     requires { at ≤ length bytes.now }
     ensures value { result ≡ byte_at bytes.now at }
-    ensures within { IfOk result (λ r. r.1 ≤ length bytes.now) }
-    ensures start { IfOk result (λ r. at < r.1) }
+    ensures further { IfOk result (λ r. IsFurther at r.1 (length bytes.now)) }
 {
     let token = expect(bytes, Form::Number, at)?;
     match number_of(text(bytes, token.from, token.to)) {
@@ -90,8 +88,7 @@ fn byte_at(bytes: &[u8], at: usize) -> Result<(Value, usize), Stop>
 fn text_at(bytes: &[u8], at: usize) -> Result<(Value, usize), Stop>
     requires { at ≤ length bytes.now }
     ensures value { result ≡ text_at bytes.now at }
-    ensures within { IfOk result (λ r. r.1 ≤ length bytes.now) }
-    ensures start { IfOk result (λ r. at < r.1) }
+    ensures further { IfOk result (λ r. IsFurther at r.1 (length bytes.now)) }
 {
     let token = expect(bytes, Form::Text, at)?;
     Ok((Value::File(token.from + 1, token.to - 1), token.to))
@@ -101,8 +98,7 @@ fn text_at(bytes: &[u8], at: usize) -> Result<(Value, usize), Stop>
 fn output_at(bytes: &[u8], at: usize) -> Result<(Value, usize), Stop>
     requires { at ≤ length bytes.now }
     ensures value { result ≡ output_at bytes.now at }
-    ensures within { IfOk result (λ r. r.1 ≤ length bytes.now) }
-    ensures start { IfOk result (λ r. at < r.1) }
+    ensures further { IfOk result (λ r. IsFurther at r.1 (length bytes.now)) }
 {
     let token = expect(bytes, Form::Output, at)?;
     Ok((Value::Output, token.to))
@@ -111,8 +107,7 @@ fn output_at(bytes: &[u8], at: usize) -> Result<(Value, usize), Stop>
 fn file_at(bytes: &[u8], at: usize) -> Result<(Value, usize), Stop>
     requires { at ≤ length bytes.now }
     ensures value { result ≡ file_at bytes.now at }
-    ensures within { IfOk result (λ r. r.1 ≤ length bytes.now) }
-    ensures start { IfOk result (λ r. at < r.1) }
+    ensures further { IfOk result (λ r. IsFurther at r.1 (length bytes.now)) }
 {
     if stands(bytes, Form::Text, at) {
         text_at(bytes, at)
@@ -140,8 +135,7 @@ fn word_value(shape: Shape, word: &[u8], token: Token) -> Option<Value>
 fn word_at(bytes: &[u8], shape: Shape, at: usize) -> Result<(Value, usize), Stop>
     requires { at ≤ length bytes.now }
     ensures value { result ≡ word_at bytes.now shape at }
-    ensures within { IfOk result (λ r. r.1 ≤ length bytes.now) }
-    ensures start { IfOk result (λ r. at < r.1) }
+    ensures further { IfOk result (λ r. IsFurther at r.1 (length bytes.now)) }
 {
     let token = expect(bytes, Form::Word, at)?;
     match word_value(shape, text(bytes, token.from, token.to), token) {
@@ -153,8 +147,7 @@ fn word_at(bytes: &[u8], shape: Shape, at: usize) -> Result<(Value, usize), Stop
 fn value_at(bytes: &[u8], shape: Shape, at: usize) -> Result<(Value, usize), Stop>
     requires { at ≤ length bytes.now }
     ensures value { result ≡ value_at bytes.now shape at }
-    ensures within { IfOk result (λ r. r.1 ≤ length bytes.now) }
-    ensures start { IfOk result (λ r. at < r.1) }
+    ensures further { IfOk result (λ r. IsFurther at r.1 (length bytes.now)) }
 {
     match shape {
         Shape::Number(low, high) => number_at(bytes, low, high, at),
@@ -173,8 +166,7 @@ fn attribute_word(
 ) -> Result<(Attribute, usize), Stop>
     requires { at ≤ length bytes.now }
     ensures value { result ≡ attribute_word bytes.now block given.now at }
-    ensures within { IfOk result (λ r. r.1 ≤ length bytes.now) }
-    ensures start { IfOk result (λ r. at < r.1) }
+    ensures further { IfOk result (λ r. IsFurther at r.1 (length bytes.now)) }
 {
     let token = expect(bytes, Form::Word, at)?;
     let Some(attribute) = attribute_of(block, text(bytes, token.from, token.to)) else {
@@ -196,8 +188,7 @@ fn value(
 ) -> Result<(Value, Sequence<Part>, usize), Stop>
     requires { at ≤ length bytes.now }
     ensures found { Finds is_outside (λ x. x) (IsValue bytes.now shape at) result }
-    ensures within { IfOk result (λ r. r.2 ≤ length bytes.now) }
-    ensures order { IfOk result (λ r. at < r.2) }
+    ensures further { IfOk result (λ r. IsFurther at r.2 (length bytes.now)) }
 {
     if let Shape::Sum = shape {
         return sum(alloc, bytes, at);
@@ -217,8 +208,7 @@ pub fn attribute(
     requires { at ≤ length bytes.now }
     ensures found { Finds is_outside (λ r. (given.now ++ r.0 ∷ [], r.1))
         (IsAttribute bytes.now block given.now at) result }
-    ensures within { IfOk result (λ r. r.1 ≤ length bytes.now) }
-    ensures order { IfOk result (λ r. at < r.1) }
+    ensures further { IfOk result (λ r. IsFurther at r.1 (length bytes.now)) }
 {
     let (attribute, end) = attribute_word(bytes, block, given, at)?;
     let shape = shape_of(block, attribute);

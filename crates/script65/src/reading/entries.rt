@@ -2,7 +2,7 @@
 
 ghost use Rattle.std.specs.Prelude.{◌≡◌, ◌≤◌, ◌<◌, false, IfOk, length, []};
 ghost use Rattle.script65.specs.Faults.{is_outside, Finds};
-ghost use Rattle.script65.specs.Grammar.{Attributes, Blocks, Drafts, Entries, IsBlock, IsEntry, block_head, entries_of, entry_fault, entry_head, is_taken, nothing, sized, text_of, unless_fault};
+ghost use Rattle.script65.specs.Grammar.{IsFurther, Attributes, Blocks, Drafts, Entries, IsBlock, IsEntry, block_head, entries_of, entry_fault, entry_head, is_taken, nothing, sized, text_of, unless_fault};
 ghost use Rattle.script65.specs.Inner.Tables.{draft_in};
 
 use crate::fault::{Fault, Stop};
@@ -44,8 +44,7 @@ fn entry_head(
 ) -> Result<(Token, usize), Stop>
     requires { at ≤ length bytes.now }
     ensures value { result ≡ entry_head bytes.now block (draft_in tables.now) at }
-    ensures within { IfOk result (λ r. r.1 ≤ length bytes.now) }
-    ensures order { IfOk result (λ r. at < r.1) }
+    ensures further { IfOk result (λ r. IsFurther at r.1 (length bytes.now)) }
     ensures fresh { IfOk result (λ r.
         is_taken (text_of bytes.now r.0) (entries_of block (draft_in tables.now)) ≡ false) }
 {
@@ -78,8 +77,7 @@ fn entry<'a>(
     requires { at ≤ length bytes.now }
     ensures found { Finds is_outside (λ end. (draft_in tables.new, end))
         (IsEntry bytes.now block (draft_in tables.old) at) result }
-    ensures within { IfOk result (λ end. end ≤ length bytes.now) }
-    ensures order { IfOk result (λ end. at < end) }
+    ensures further { IfOk result (λ end. IsFurther at end (length bytes.now)) }
 {
     let (name, start) = entry_head(bytes, block, tables, at)?;
     let (given, end) = attributes(alloc, bytes, block, start)?;
@@ -118,8 +116,7 @@ fn entries<'a>(
 fn block_head(bytes: &[u8], at: usize) -> Result<(Block, usize), Stop>
     requires { at ≤ length bytes.now }
     ensures value { result ≡ block_head bytes.now at }
-    ensures within { IfOk result (λ r. r.1 ≤ length bytes.now) }
-    ensures order { IfOk result (λ r. at < r.1) }
+    ensures further { IfOk result (λ r. IsFurther at r.1 (length bytes.now)) }
 {
     let word = expect(bytes, Form::Word, at)?;
     let Some(block) = block_of(text(bytes, word.from, word.to)) else {
@@ -139,8 +136,7 @@ fn block<'a>(
     requires { at ≤ length bytes.now }
     ensures found { Finds is_outside (λ end. (draft_in tables.new, end))
         (IsBlock bytes.now (draft_in tables.old) at) result }
-    ensures within { IfOk result (λ end. end ≤ length bytes.now) }
-    ensures order { IfOk result (λ end. at < end) }
+    ensures further { IfOk result (λ end. IsFurther at end (length bytes.now)) }
 {
     let (kind, start) = block_head(bytes, at)?;
     let end = entries(alloc, bytes, kind, tables, start)?;

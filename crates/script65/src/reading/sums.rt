@@ -2,7 +2,7 @@
 
 ghost use Rattle.std.specs.Prelude.{◌≡◌, ◌≤◌, ◌<◌, ◌∷◌, [], IfOk, length, ◌≢◌, ◌++◌, ℕ, List, MatchOption, codes};
 ghost use Rattle.script65.specs.Faults.{is_outside, Finds};
-ghost use Rattle.script65.specs.Grammar.{IsSum, Parts, ends_sum, is_name, last_place, name_part, number_of_parts, number_part, part_at, signed_part, sum_value};
+ghost use Rattle.script65.specs.Grammar.{IsFurther, IsSum, Parts, ends_sum, is_name, last_place, name_part, number_of_parts, number_part, part_at, signed_part, sum_value};
 ghost use Rattle.std.specs.List.{list_any};
 ghost use Rattle.std.specs.Option.{option_copied, option_map};
 ghost use Rattle.script65.specs.Naming.{area_named, area_part_named, entry_named, export_named, exported, exported_by, extent_of, only, operand_named, operand_of, parts_given, row_named, row_part_named, starts_first, term_of, terms_given};
@@ -23,8 +23,7 @@ use std::alloc::Global;
 fn number_part(bytes: &[u8], minus: bool, at: usize) -> Result<(Part, usize), Stop>
     requires { at ≤ length bytes.now }
     ensures value { result ≡ number_part bytes.now minus at }
-    ensures within { IfOk result (λ r. r.1 ≤ length bytes.now) }
-    ensures start { IfOk result (λ r. at < r.1) }
+    ensures further { IfOk result (λ r. IsFurther at r.1 (length bytes.now)) }
 {
     let token = expect(bytes, Form::Number, at)?;
     match number_of(text(bytes, token.from, token.to)) {
@@ -45,8 +44,7 @@ fn number_part(bytes: &[u8], minus: bool, at: usize) -> Result<(Part, usize), St
 fn name_part(bytes: &[u8], minus: bool, at: usize) -> Result<(Part, usize), Stop>
     requires { at ≤ length bytes.now }
     ensures value { result ≡ name_part bytes.now minus at }
-    ensures within { IfOk result (λ r. r.1 ≤ length bytes.now) }
-    ensures start { IfOk result (λ r. at < r.1) }
+    ensures further { IfOk result (λ r. IsFurther at r.1 (length bytes.now)) }
 {
     let token = expect(bytes, Form::Word, at)?;
     let part = Part {
@@ -62,8 +60,7 @@ fn name_part(bytes: &[u8], minus: bool, at: usize) -> Result<(Part, usize), Stop
 fn part_at(bytes: &[u8], minus: bool, at: usize) -> Result<(Part, usize), Stop>
     requires { at ≤ length bytes.now }
     ensures value { result ≡ part_at bytes.now minus at }
-    ensures within { IfOk result (λ r. r.1 ≤ length bytes.now) }
-    ensures start { IfOk result (λ r. at < r.1) }
+    ensures further { IfOk result (λ r. IsFurther at r.1 (length bytes.now)) }
 {
     if stands(bytes, Form::Number, at) {
         number_part(bytes, minus, at)
@@ -85,8 +82,7 @@ fn ends_sum(bytes: &[u8], at: usize) -> bool
 fn signed_part(bytes: &[u8], at: usize) -> Result<(Part, usize), Stop>
     requires { at ≤ length bytes.now }
     ensures value { result ≡ signed_part bytes.now at }
-    ensures within { IfOk result (λ r. r.1 ≤ length bytes.now) }
-    ensures start { IfOk result (λ r. at < r.1) }
+    ensures further { IfOk result (λ r. IsFurther at r.1 (length bytes.now)) }
 {
     let sign = token_at(bytes, at);
     let minus = stands(bytes, Form::Minus, at);
@@ -163,8 +159,7 @@ fn last_place(parts: &[Part]) -> usize
 pub fn sum(alloc: Global, bytes: &[u8], at: usize) -> Result<(Value, Sequence<Part>, usize), Stop>
     requires { at ≤ length bytes.now }
     ensures found { Finds is_outside (λ x. x) (IsSum bytes.now at) result }
-    ensures within { IfOk result (λ r. r.2 ≤ length bytes.now) }
-    ensures order { IfOk result (λ r. at < r.2) }
+    ensures further { IfOk result (λ r. IsFurther at r.2 (length bytes.now)) }
 {
     let (first, start) = part_at(bytes, false, at)?;
     let (parts, end) = parts_from(alloc, bytes, first, start)?;

@@ -19,8 +19,8 @@ pub attributes-preserved : goal.attributes-preserved
 attributes-preserved c =
     let found = subst (λ (s : List Given). IsAttribute c.args.bytes.now c.args.block s c.attributes.at (Ok (s ++ c.in_ok-next.next ∷ [], c.in_ok-next.end))) c.as_slice.ensures c.in_ok-next.ensures.found in
     record {
-      inside = omega (arith, c.in_ok-next.ensures.within);
-      order = omega (arith, c.in_ok-next.ensures.order, c.attributes.invariant.order);
+      inside = omega (arith, c.in_ok-next.ensures.further.within);
+      order = omega (arith, c.in_ok-next.ensures.further.behind, c.attributes.invariant.order);
       so_far = λ r h. c.attributes.invariant.so_far r (more _ _ _ c.in_ok-next.end r (sym c.attributes-test.ensures) found
           (subst (λ (s : List Given). Attributes c.args.bytes.now c.args.block s c.in_ok-next.end r) c.in_ok-push.ensures.ok h));
     }

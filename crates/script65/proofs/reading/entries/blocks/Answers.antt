@@ -15,8 +15,8 @@ returns-in_err-at c =
 
 pub script-preserved : goal.script-preserved
 script-preserved c = record {
-  inside = omega (arith, c.in_ok-at.ensures.within);
-  order = omega (arith, c.in_ok-at.ensures.order, c.script.invariant.order);
+  inside = omega (arith, c.in_ok-at.ensures.further.within);
+  order = omega (arith, c.in_ok-at.ensures.further.behind, c.script.invariant.order);
   so_far = λ r h. c.script.invariant.so_far r (more _ (draft_in c.block.new.tables) _ _ r (sym c.script-test.ensures) c.in_ok-at.ensures.found h);
 }
 

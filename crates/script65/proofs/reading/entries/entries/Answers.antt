@@ -15,8 +15,8 @@ returns-in_err-at-clause-found c =
 
 pub entries-preserved : goal.entries-preserved
 entries-preserved c = record {
-  inside = omega (arith, c.in_ok-at.ensures.within);
-  order = omega (arith, c.in_ok-at.ensures.order, c.entries.invariant.order);
+  inside = omega (arith, c.in_ok-at.ensures.further.within);
+  order = omega (arith, c.in_ok-at.ensures.further.behind, c.entries.invariant.order);
   so_far = λ r h. c.entries.invariant.so_far r (more _ (draft_in c.entry.new.tables) _ _ r (sym c.entries-test.ensures) c.in_ok-at.ensures.found h);
 }
 

@@ -22,8 +22,8 @@ returns-in_err-part-clause-found c =
 
 pub parts-preserved : goal.parts-preserved
 parts-preserved c = record {
-  inside = omega (arith, c.in_ok-part.ensures.within);
-  order = omega (arith, c.in_ok-part.ensures.start, c.parts.invariant.order);
+  inside = omega (arith, c.in_ok-part.ensures.further.within);
+  order = omega (arith, c.in_ok-part.ensures.further.behind, c.parts.invariant.order);
   so_far = λ r h. c.parts.invariant.so_far r (part_more _ _ _ _ c.in_ok-part.part r (sym c.parts-test.ensures) c.in_ok-part.ensures.value
       (subst (λ (s : List Part). Parts c.args.bytes.now s c.in_ok-part.end r) c.in_ok-push-2.ensures.ok h));
 }

@@ -3,12 +3,13 @@
 ghost use Rattle.std.specs.Prelude.{◌≡◌, ◌≤◌, ◌<◌, ◌+◌, length, IfOk, OnOk, IfSome, IsErrOf, ◌++◌, ◌∷◌, [], ℕ, List, map, Ok, false};
 ghost use Rattle.std.specs.FinMap as map;
 ghost use Rattle.base65.specs.Outcome.{Gives};
-ghost use Rattle.base65.specs.Store.{Passes, Asks, IsBlamed};
-ghost use Rattle.object65.specs.Reading.{file_limit};
+ghost use Rattle.base65.specs.Store.{Asks};
+ghost use Rattle.object65.specs.Reading.{Leaves, file_limit};
 ghost use Rattle.library65.specs.Fault.{is_outside, is_memory};
 ghost use Rattle.library65.specs.Spelling.{is_among, is_member_name};
 ghost use Rattle.library65.specs.Reading.{in_file, field_at, head_at, name_at, number_at, symbol_at, counted_at, count_at, member_name_at, listing_at, list_at, entry_at, placed, end_at, index_at};
 ghost use Rattle.std.specs.List.{AllByRecursion};
+ghost use Rattle.library65.specs.declared.fault.LibraryFault.TheVariants.{FileError};
 
 use crate::index::{Listing, add_name, has_name, is_file_name, is_symbol_name};
 use crate::{Entry, Index, LibraryFault};
@@ -24,9 +25,7 @@ pub const HEAD: [u8; 5] = [0x52, 0x36, 0x35, 0x6c, 0x01];
 /// Refuses a file that doesn't begin as a library.
 pub fn read_head<S: Store>(store: &mut S, file: &str) -> Result<(), LibraryFault>
     ensures read { IfSome (S.files store.old) (λ m. Gives is_outside (λ u. u) result (in_file (map.get m file.now) head_at)) }
-    ensures files { S.files store.new ≡ S.files store.old }
-    ensures count { Passes LibraryFault.FileError (S.failures store.old) (S.failures store.new) result }
-    ensures blamed { IsErrOf result LibraryFault.FileError → IsBlamed (S.blamed store.new) file.now }
+    ensures kept { Leaves S.files S.failures S.blamed FileError file.now store.old store.new result }
     ensures asked { Asks is_outside (S.failures store.old) result }
 {
     let mut head = [0u8; 5];
@@ -47,9 +46,7 @@ fn read_field<S: Store>(
     requires at { at ≤ file_limit }
     requires short { length buf.old < 256 }
     ensures read { IfSome (S.files store.old) (λ m. Gives is_outside (λ _. buf.new) result (in_file (map.get m file.now) (field_at (length buf.old) at))) }
-    ensures files { S.files store.new ≡ S.files store.old }
-    ensures count { Passes LibraryFault.FileError (S.failures store.old) (S.failures store.new) result }
-    ensures blamed { IsErrOf result LibraryFault.FileError → IsBlamed (S.blamed store.new) file.now }
+    ensures kept { Leaves S.files S.failures S.blamed FileError file.now store.old store.new result }
     ensures asked { Asks is_outside (S.failures store.old) result }
     ensures limit { OnOk result (at + length buf.old ≤ file_limit) }
 {
@@ -68,9 +65,7 @@ fn read_field<S: Store>(
 pub fn read_number<S: Store>(store: &mut S, file: &str, at: u64) -> Result<u32, LibraryFault>
     requires { at ≤ file_limit }
     ensures read { IfSome (S.files store.old) (λ m. Gives is_outside (λ n. n) result (in_file (map.get m file.now) (number_at at))) }
-    ensures files { S.files store.new ≡ S.files store.old }
-    ensures count { Passes LibraryFault.FileError (S.failures store.old) (S.failures store.new) result }
-    ensures blamed { IsErrOf result LibraryFault.FileError → IsBlamed (S.blamed store.new) file.now }
+    ensures kept { Leaves S.files S.failures S.blamed FileError file.now store.old store.new result }
     ensures asked { Asks is_outside (S.failures store.old) result }
     ensures limit { OnOk result (at + 4 ≤ file_limit) }
 {
@@ -89,9 +84,7 @@ pub fn read_name<S: Store>(
 ) -> Result<(Sequence<u8>, u64), LibraryFault>
     requires { at ≤ file_limit }
     ensures read { IfSome (S.files store.old) (λ m. Gives is_outside (λ x. x) result (in_file (map.get m file.now) (name_at at))) }
-    ensures files { S.files store.new ≡ S.files store.old }
-    ensures count { Passes LibraryFault.FileError (S.failures store.old) (S.failures store.new) result }
-    ensures blamed { IsErrOf result LibraryFault.FileError → IsBlamed (S.blamed store.new) file.now }
+    ensures kept { Leaves S.files S.failures S.blamed FileError file.now store.old store.new result }
     ensures asked { Asks is_outside (S.failures store.old) result }
     ensures limit { IfOk result (λ x. x.1 ≤ file_limit) }
     ensures later { IfOk result (λ x. at < x.1) }
@@ -116,9 +109,7 @@ fn read_symbol<S: Store>(
 ) -> Result<(Sequence<u8>, u64), LibraryFault>
     requires { at ≤ file_limit }
     ensures read { IfSome (S.files store.old) (λ m. Gives is_outside (λ x. x) result (in_file (map.get m file.now) (symbol_at at))) }
-    ensures files { S.files store.new ≡ S.files store.old }
-    ensures count { Passes LibraryFault.FileError (S.failures store.old) (S.failures store.new) result }
-    ensures blamed { IsErrOf result LibraryFault.FileError → IsBlamed (S.blamed store.new) file.now }
+    ensures kept { Leaves S.files S.failures S.blamed FileError file.now store.old store.new result }
     ensures limit { IfOk result (λ x. x.1 ≤ file_limit) }
     ensures later { IfOk result (λ x. at < x.1) }
 {
@@ -138,9 +129,7 @@ fn read_symbols<S: Store>(
 ) -> Result<(Sequence<Sequence<u8>>, u64), LibraryFault>
     requires { at ≤ file_limit }
     ensures read { IfSome (S.files store.old) (λ m. Gives is_outside (λ x. x) result (in_file (map.get m file.now) (counted_at at))) }
-    ensures files { S.files store.new ≡ S.files store.old }
-    ensures count { Passes LibraryFault.FileError (S.failures store.old) (S.failures store.new) result }
-    ensures blamed { IsErrOf result LibraryFault.FileError → IsBlamed (S.blamed store.new) file.now }
+    ensures kept { Leaves S.files S.failures S.blamed FileError file.now store.old store.new result }
     ensures limit { IfOk result (λ x. x.1 ≤ file_limit) }
     ensures later { IfOk result (λ x. at < x.1) }
 {
@@ -167,9 +156,7 @@ fn read_member_name<S: Store>(
 ) -> Result<(Sequence<u8>, u64), LibraryFault>
     requires { at ≤ file_limit }
     ensures read { IfSome (S.files store.old) (λ m. Gives is_outside (λ x. x) result (in_file (map.get m file.now) (member_name_at (map (λ n. n.items) names.now.keys) at))) }
-    ensures files { S.files store.new ≡ S.files store.old }
-    ensures count { Passes LibraryFault.FileError (S.failures store.old) (S.failures store.new) result }
-    ensures blamed { IsErrOf result LibraryFault.FileError → IsBlamed (S.blamed store.new) file.now }
+    ensures kept { Leaves S.files S.failures S.blamed FileError file.now store.old store.new result }
     ensures limit { IfOk result (λ x. x.1 ≤ file_limit) }
     ensures later { IfOk result (λ x. at < x.1) }
     ensures new { IfOk result (λ x. is_among (map (λ n. n.items) names.now.keys) x.0 ≡ false) }
@@ -192,9 +179,7 @@ fn read_listing<S: Store>(
 ) -> Result<(Listing, u64), LibraryFault>
     requires { at ≤ file_limit }
     ensures read { IfSome (S.files store.old) (λ m. Gives is_outside (λ x. x) result (in_file (map.get m file.now) (listing_at (map (λ n. n.items) names.now.keys) at))) }
-    ensures files { S.files store.new ≡ S.files store.old }
-    ensures count { Passes LibraryFault.FileError (S.failures store.old) (S.failures store.new) result }
-    ensures blamed { IsErrOf result LibraryFault.FileError → IsBlamed (S.blamed store.new) file.now }
+    ensures kept { Leaves S.files S.failures S.blamed FileError file.now store.old store.new result }
     ensures limit { IfOk result (λ x. x.1 ≤ file_limit) }
     ensures later { IfOk result (λ x. at < x.1) }
     ensures new { IfOk result (λ x. is_among (map (λ n. n.items) names.now.keys) x.0.name ≡ false) }
@@ -217,9 +202,7 @@ fn read_listing<S: Store>(
 /// Reads the number of members behind the head.
 fn read_count<S: Store>(store: &mut S, file: &str) -> Result<u32, LibraryFault>
     ensures read { IfSome (S.files store.old) (λ m. Gives is_outside (λ n. n) result (in_file (map.get m file.now) count_at)) }
-    ensures files { S.files store.new ≡ S.files store.old }
-    ensures count { Passes LibraryFault.FileError (S.failures store.old) (S.failures store.new) result }
-    ensures blamed { IsErrOf result LibraryFault.FileError → IsBlamed (S.blamed store.new) file.now }
+    ensures kept { Leaves S.files S.failures S.blamed FileError file.now store.old store.new result }
     ensures asked { Asks is_outside (S.failures store.old) result }
 {
     read_head(store, file)?;
@@ -233,9 +216,7 @@ pub fn read_list<S: Store>(
     file: &str,
 ) -> Result<(Vec<Listing>, u64), LibraryFault>
     ensures read { IfSome (S.files store.old) (λ m. Gives is_outside (λ x. (x.0.items, x.1)) result (in_file (map.get m file.now) list_at)) }
-    ensures files { S.files store.new ≡ S.files store.old }
-    ensures count { Passes LibraryFault.FileError (S.failures store.old) (S.failures store.new) result }
-    ensures blamed { IsErrOf result LibraryFault.FileError → IsBlamed (S.blamed store.new) file.now }
+    ensures kept { Leaves S.files S.failures S.blamed FileError file.now store.old store.new result }
     ensures asked { Asks is_outside (S.failures store.old) result }
     ensures limit { IfOk result (λ x. x.1 ≤ file_limit) }
     ensures some { IfOk result (λ x. 0 < x.1) }
@@ -303,9 +284,7 @@ fn check_end<S: Store>(store: &mut S, file: &str, end: u64) -> Result<(), Librar
     requires some { 0 < end }
     requires limit { end ≤ file_limit }
     ensures read { IfSome (S.files store.old) (λ m. Gives is_outside (λ u. u) result (in_file (map.get m file.now) (end_at end))) }
-    ensures files { S.files store.new ≡ S.files store.old }
-    ensures count { Passes LibraryFault.FileError (S.failures store.old) (S.failures store.new) result }
-    ensures blamed { IsErrOf result LibraryFault.FileError → IsBlamed (S.blamed store.new) file.now }
+    ensures kept { Leaves S.files S.failures S.blamed FileError file.now store.old store.new result }
 {
     let mut last = [0u8; 2];
     let n = read_full(store, file, end - 1, &mut last)?;
@@ -322,9 +301,7 @@ fn check_end<S: Store>(store: &mut S, file: &str, end: u64) -> Result<(), Librar
 #[tactic(auto, unfolding(crate::specs::Reading::index_at))]
 pub fn read_index<S: Store>(alloc: Global, store: &mut S, file: &str) -> Result<Index, LibraryFault>
     ensures read { IfSome (S.files store.old) (λ m. Gives is_outside (λ x. x.entries) result (in_file (map.get m file.now) index_at)) }
-    ensures files { S.files store.new ≡ S.files store.old }
-    ensures count { Passes LibraryFault.FileError (S.failures store.old) (S.failures store.new) result }
-    ensures blamed { IsErrOf result LibraryFault.FileError → IsBlamed (S.blamed store.new) file.now }
+    ensures kept { Leaves S.files S.failures S.blamed FileError file.now store.old store.new result }
     ensures asked { Asks is_outside (S.failures store.old) result }
     // Also where the store doesn't tell.
     ensures within { IfOk result (λ x. AllByRecursion (λ e. e.place + e.size ≤ file_limit) x.entries) }

@@ -1,15 +1,17 @@
 //! Libraries as lists of members.
 
-ghost use Rattle.std.specs.Prelude.{◌≡◌, ◌∷◌, [], IfOk, IfSome, OnErr, OnOk, Ok, IsErrOf};
+ghost use Rattle.object65.specs.Reading.{Leaves};
+ghost use Rattle.std.specs.Prelude.{◌≡◌, ◌∷◌, [], IfOk, IfSome, OnErr, OnOk, Ok};
 ghost use Rattle.std.specs.Iterator.{YieldsFirstRef, item_count};
 ghost use Rattle.std.specs.Option.{option_copied};
 ghost use Rattle.base65.specs.Outcome.{Gives};
 ghost use Rattle.std.specs.FinMap as map;
-ghost use Rattle.base65.specs.Store.{Passes, Asks, IsBlamed};
+ghost use Rattle.base65.specs.Store.{Asks};
 ghost use Rattle.library65.specs.Fault.{is_memory, is_outside};
 ghost use Rattle.library65.specs.Reading.{in_file};
 ghost use Rattle.library65.specs.Libraries.{bytes_of, checked, deleted, library_at, member_names, replaced, with_member, without_member, written_behind, IsSound, members_of};
 ghost use Rattle.library65.specs.Spelling.{is_among, AreSymbols};
+ghost use Rattle.library65.specs.declared.fault.LibraryFault.TheVariants.{FileError};
 
 use crate::LibraryFault;
 use crate::contents::{Contents, check_member, empty_record};
@@ -173,9 +175,7 @@ impl Library {
     /// Reads a library from its file, all of it.
     pub fn load<S: Store>(alloc: Global, store: &mut S, file: &str) -> Result<Self, LibraryFault>
         ensures read { IfSome (S.files store.old) (λ m. Gives is_outside (λ l. l) result (in_file (map.get m file.now) library_at)) }
-        ensures files { S.files store.new ≡ S.files store.old }
-        ensures count { Passes LibraryFault.FileError (S.failures store.old) (S.failures store.new) result }
-        ensures blamed { IsErrOf result LibraryFault.FileError → IsBlamed (S.blamed store.new) file.now }
+        ensures kept { Leaves S.files S.failures S.blamed FileError file.now store.old store.new result }
         ensures asked { Asks is_outside (S.failures store.old) result }
     {
         let members = read_members(alloc, store, file)?;

@@ -5,12 +5,13 @@ ghost use Rattle.std.specs.FinMap as map;
 ghost use Rattle.std.specs.List.{AllByRecursion};
 ghost use Rattle.base65.specs.Outcome.{Gives};
 ghost use Rattle.base65.specs.Reading.{ReadsChunk};
-ghost use Rattle.base65.specs.Store.{Passes, Asks, IsBlamed};
-ghost use Rattle.object65.specs.Reading.{file_limit};
+ghost use Rattle.base65.specs.Store.{Asks};
+ghost use Rattle.object65.specs.Reading.{Leaves, file_limit};
 ghost use Rattle.library65.specs.Fault.{is_memory, is_outside};
 ghost use Rattle.library65.specs.Libraries.{added, agreed, checked, joined, library_at, piece_at, IsSound, members_of};
 ghost use Rattle.library65.specs.Reading.{in_file};
 ghost use Rattle.library65.specs.Spelling.{AreSymbols};
+ghost use Rattle.library65.specs.declared.fault.LibraryFault.TheVariants.{FileError};
 
 use crate::contents::{Contents, agrees, check_member, empty_record};
 use crate::library::{Stored, put_member};
@@ -43,9 +44,7 @@ fn read_chunk<S: Store>(
     requires limit { at ≤ file_limit }
     ensures read { IfSome (S.files store.old) (λ m. ReadsChunk (map.get m file.now) at (length chunk.old) bytes.old.items bytes.new.items result) }
     ensures grown { IfOk result (λ n. (n ≤ length chunk.old) × (length bytes.new.items ≡ length bytes.old.items + n)) }
-    ensures files { S.files store.new ≡ S.files store.old }
-    ensures count { Passes StoreFault.FileError (S.failures store.old) (S.failures store.new) result }
-    ensures blamed { IsErrOf result StoreFault.FileError → IsBlamed (S.blamed store.new) file.now }
+    ensures kept { Leaves S.files S.failures S.blamed StoreFault.FileError file.now store.old store.new result }
 {
     let n = read_full(store, file, at, chunk)?;
     bytes.extend_from_slice(&chunk[..n])?;
@@ -62,9 +61,7 @@ fn read_piece<S: Store>(
 ) -> Result<Vec<u8>, LibraryFault>
     requires { entry.now.place + entry.now.size ≤ file_limit }
     ensures read { IfSome (S.files store.old) (λ m. Gives is_outside (λ v. v.items) result (in_file (map.get m file.now) (piece_at entry.now.size entry.now.place))) }
-    ensures files { S.files store.new ≡ S.files store.old }
-    ensures count { Passes LibraryFault.FileError (S.failures store.old) (S.failures store.new) result }
-    ensures blamed { IsErrOf result LibraryFault.FileError → IsBlamed (S.blamed store.new) file.now }
+    ensures kept { Leaves S.files S.failures S.blamed FileError file.now store.old store.new result }
 {
     let size = entry.size as usize;
     let mut bytes = Vec::new(alloc);
@@ -132,9 +129,7 @@ fn join_member<S: Store>(
     requires sound { IsSound loading.old.members }
     requires within { entry.now.place + entry.now.size ≤ file_limit }
     ensures read { IfSome (S.files store.old) (λ m. Gives is_outside (λ _. members_of loading.new.members) result (in_file (map.get m file.now) (joined (members_of loading.old.members) entry.now))) }
-    ensures files { S.files store.new ≡ S.files store.old }
-    ensures count { Passes LibraryFault.FileError (S.failures store.old) (S.failures store.new) result }
-    ensures blamed { IsErrOf result LibraryFault.FileError → IsBlamed (S.blamed store.new) file.now }
+    ensures kept { Leaves S.files S.failures S.blamed FileError file.now store.old store.new result }
     ensures sound { OnOk result (IsSound loading.new.members) }
 {
     let bytes = read_piece(loading.alloc, store, file, entry, &mut loading.chunk)?;
@@ -148,9 +143,7 @@ pub fn read_members<S: Store>(
     file: &str,
 ) -> Result<IndexMap<Vec<u8>, Stored>, LibraryFault>
     ensures read { IfSome (S.files store.old) (λ m. Gives is_outside (λ ms. members_of ms) result (in_file (map.get m file.now) library_at)) }
-    ensures files { S.files store.new ≡ S.files store.old }
-    ensures count { Passes LibraryFault.FileError (S.failures store.old) (S.failures store.new) result }
-    ensures blamed { IsErrOf result LibraryFault.FileError → IsBlamed (S.blamed store.new) file.now }
+    ensures kept { Leaves S.files S.failures S.blamed FileError file.now store.old store.new result }
     ensures asked { Asks is_outside (S.failures store.old) result }
     ensures sound { IfOk result (λ ms. IsSound ms) }
 {

@@ -1,5 +1,5 @@
 -- How an object stands in a file.
-use Rattle.std.specs.Prelude.{◌≡◌, ℕ, ◌+◌, ◌-◌, List, length, take, drop, get_or, Option, Some, None, Result, Ok, Err, nat_lt, ◌||◌, not, if◌then◌else◌, ⊤, [], Bool, nat_le, ◌&&◌, zero, suc}
+use Rattle.std.specs.Prelude.{◌≡◌, IsErrOf, ℕ, ◌+◌, ◌-◌, List, length, take, drop, get_or, Option, Some, None, Result, Ok, Err, nat_lt, ◌||◌, not, if◌then◌else◌, ⊤, [], Bool, nat_le, ◌&&◌, zero, suc}
 use Rattle.std.specs.Str.{bytes_eq}
 use Rattle.byteorder.specs.Endian.{little_number}
 use Rattle.object65.specs.declared.fault.ObjectFault.{ObjectFault}
@@ -10,12 +10,20 @@ use Rattle.base65.specs.declared.store.StoreFault.{StoreFault}
 use Rattle.base65.specs.declared.store.StoreFault.TheVariants as store
 use Rattle.object65.specs.declared.object.Object.{Object}
 use Rattle.object65.specs.Scanning.{State, start, after, finished}
+use Rattle.base65.specs.Store.{Files, IsBlamed, Passes}
 
 -- ---- Reading an object from left to right, with the first fault that is met.
 
 -- what a file has from a place on, up to the end of a member's room
 abbrev pub room : List ℕ → ℕ → ℕ → List ℕ
 room bytes at limit = take (limit - at) (drop at bytes)
+
+-- What a call that reads a file leaves of a store: its files as before; its count of failures, a failure passed on as
+-- this error; and that the call that failed asked for this name.
+pub record Leaves {X T E : Type 0} (files_of : X → Option Files) (failures_of : X → ℕ) (blamed_of : X → Option (List ℕ)) (error : E) (name : List ℕ) (old new : X) (result : Result T E) : Type 0 where
+  pub files : files_of new ≡ files_of old
+  pub count : Passes error (failures_of old) (failures_of new) result
+  pub blamed : IsErrOf result error → IsBlamed (blamed_of new) name
 
 -- what is read of a file's bytes, or that there is no such file
 abbrev pub in_file : {A : Type 0} → Option (List ℕ) → (List ℕ → Result A ObjectFault) → Result A ObjectFault

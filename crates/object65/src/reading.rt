@@ -1,15 +1,16 @@
 //! Reading an object from a file: its head and end, the fronts of its records, and the whole.
 
-ghost use Rattle.std.specs.Prelude.{◌≡◌, ◌≤◌, ◌+◌, ◌-◌, true, length, IfOk, IfSome, take, IsErrOf};
+ghost use Rattle.std.specs.Prelude.{◌≡◌, ◌≤◌, ◌+◌, ◌-◌, true, length, IfOk, IfSome, take};
 ghost use Rattle.std.specs.FinMap as map;
-ghost use Rattle.base65.specs.Store.{Passes, Asks, IsBlamed};
+ghost use Rattle.base65.specs.Store.{Asks};
 ghost use Rattle.base65.specs.StoreFaults.{is_outside_store};
 ghost use Rattle.object65.specs.Record.{Gives, is_outside, is_version};
-ghost use Rattle.object65.specs.Reading.{in_file, head_at, end_at, room, IsRoomRead, front_of, records_at, object_at};
+ghost use Rattle.object65.specs.Reading.{Leaves, in_file, head_at, end_at, room, IsRoomRead, front_of, records_at, object_at};
 ghost use Rattle.object65.specs.Spelling.{body_limit};
 ghost use Rattle.std.specs.List.{AllByRecursion};
 ghost use Rattle.object65.specs.Objects.{is_good_object, section_len, section_limit};
 ghost use Rattle.object65.specs.Scanning.{start};
+ghost use Rattle.object65.specs.declared.fault.ObjectFault.TheVariants.{FileError};
 
 use crate::decoding::{decode_front, decode_head};
 use crate::{Builder, Object, ObjectFault, RecordReader};
@@ -27,9 +28,7 @@ pub fn read_room<S: Store>(
     ensures bound { IfOk result (λ n. n ≤ length buf.new) }
     ensures room { IfOk result (λ n. n ≤ limit - at) }
     ensures read { IfSome (S.files store.old) (λ m. IsRoomRead (map.get m name.now) at limit buf.new result) }
-    ensures files { S.files store.new ≡ S.files store.old }
-    ensures count { Passes StoreFault.FileError (S.failures store.old) (S.failures store.new) result }
-    ensures blamed { IsErrOf result StoreFault.FileError → IsBlamed (S.blamed store.new) name.now }
+    ensures kept { Leaves S.files S.failures S.blamed StoreFault.FileError name.now store.old store.new result }
     ensures asked { Asks is_outside_store (S.failures store.old) result }
 {
     let room = limit.saturating_sub(at);
@@ -49,9 +48,7 @@ pub fn read_head<S: Store>(
     limit: u64,
 ) -> Result<(u8, u64), ObjectFault>
     ensures read { IfSome (S.files store.old) (λ m. Gives is_outside (λ x. x) result (in_file (map.get m name.now) (head_at at limit))) }
-    ensures files { S.files store.new ≡ S.files store.old }
-    ensures count { Passes ObjectFault.FileError (S.failures store.old) (S.failures store.new) result }
-    ensures blamed { IsErrOf result ObjectFault.FileError → IsBlamed (S.blamed store.new) name.now }
+    ensures kept { Leaves S.files S.failures S.blamed FileError name.now store.old store.new result }
     ensures asked { Asks is_outside (S.failures store.old) result }
     ensures version { IfOk result (λ x. is_version x.0 ≡ true) }
     ensures bound { IfOk result (λ x. (x.1 ≡ at + 5) × (x.1 ≤ limit)) }
@@ -70,9 +67,7 @@ pub fn read_front<S: Store>(
     limit: u64,
 ) -> Result<(u8, usize), ObjectFault>
     ensures read { IfSome (S.files store.old) (λ m. Gives is_outside (λ x. x) result (in_file (map.get m name.now) (λ bytes. front_of version (take 3 (room bytes at limit))))) }
-    ensures files { S.files store.new ≡ S.files store.old }
-    ensures count { Passes ObjectFault.FileError (S.failures store.old) (S.failures store.new) result }
-    ensures blamed { IsErrOf result ObjectFault.FileError → IsBlamed (S.blamed store.new) name.now }
+    ensures kept { Leaves S.files S.failures S.blamed FileError name.now store.old store.new result }
     ensures asked { Asks is_outside (S.failures store.old) result }
     ensures room { IfOk result (λ x. 3 ≤ limit - at) }
     ensures len { IfOk result (λ x. x.1 ≤ body_limit) }
@@ -90,9 +85,7 @@ pub fn check_end<S: Store>(
     limit: u64,
 ) -> Result<(), ObjectFault>
     ensures read { IfSome (S.files store.old) (λ m. Gives is_outside (λ u. u) result (in_file (map.get m name.now) (end_at at limit))) }
-    ensures files { S.files store.new ≡ S.files store.old }
-    ensures count { Passes ObjectFault.FileError (S.failures store.old) (S.failures store.new) result }
-    ensures blamed { IsErrOf result ObjectFault.FileError → IsBlamed (S.blamed store.new) name.now }
+    ensures kept { Leaves S.files S.failures S.blamed FileError name.now store.old store.new result }
     ensures asked { Asks is_outside (S.failures store.old) result }
 {
     let mut next = [0u8; 1];
@@ -113,9 +106,7 @@ fn read_records<S: Store>(
 ) -> Result<(Builder, u64), ObjectFault>
     requires { is_version head.0 ≡ true }
     ensures read { IfSome (S.files store.old) (λ m. Gives is_outside (λ x. x) result (in_file (map.get m name.now) (λ bytes. records_at (length bytes) (start head.0) head.1 limit bytes))) }
-    ensures files { S.files store.new ≡ S.files store.old }
-    ensures count { Passes ObjectFault.FileError (S.failures store.old) (S.failures store.new) result }
-    ensures blamed { IsErrOf result ObjectFault.FileError → IsBlamed (S.blamed store.new) name.now }
+    ensures kept { Leaves S.files S.failures S.blamed FileError name.now store.old store.new result }
 {
     let (version, first) = head;
     let mut builder = Builder::new(alloc, version);
@@ -140,9 +131,7 @@ pub fn read_object<S: Store>(
     limit: u64,
 ) -> Result<Object, ObjectFault>
     ensures read { IfSome (S.files store.old) (λ m. Gives is_outside (λ o. o) result (in_file (map.get m name.now) (object_at at limit))) }
-    ensures files { S.files store.new ≡ S.files store.old }
-    ensures count { Passes ObjectFault.FileError (S.failures store.old) (S.failures store.new) result }
-    ensures blamed { IsErrOf result ObjectFault.FileError → IsBlamed (S.blamed store.new) name.now }
+    ensures kept { Leaves S.files S.failures S.blamed FileError name.now store.old store.new result }
     ensures asked { Asks is_outside (S.failures store.old) result }
     // What is read can be written, and so its sections are within their limit, also where the store doesn't tell.
     ensures good { IfOk result (λ o. is_good_object o ≡ true) }

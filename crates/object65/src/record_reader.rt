@@ -1,10 +1,11 @@
 //! Records, read from a file one after another into one room.
 
-ghost use Rattle.std.specs.Prelude.{◌≡◌, ◌≤◌, ◌<◌, ◌+◌, ◌-◌, ◌^◌, [], Ok, length, false, IfOk, IfErr, IfSome, OnOk, OnErr, take, IsErrOf};
+ghost use Rattle.std.specs.Prelude.{◌≡◌, ◌≤◌, ◌<◌, ◌+◌, ◌-◌, ◌^◌, [], Ok, length, false, IfOk, IfErr, IfSome, OnOk, OnErr, take};
 ghost use Rattle.std.specs.FinMap as map;
-ghost use Rattle.base65.specs.Store.{Passes, Asks, IsBlamed};
+ghost use Rattle.base65.specs.Store.{Asks};
 ghost use Rattle.object65.specs.Record.{Gives, is_memory, is_outside, entry_of};
-ghost use Rattle.object65.specs.Reading.{IsAhead, from_place, has_record, record_in, in_file, record_at, room, file_limit};
+ghost use Rattle.object65.specs.Reading.{Leaves, IsAhead, from_place, has_record, record_in, in_file, record_at, room, file_limit};
+ghost use Rattle.object65.specs.declared.fault.ObjectFault.TheVariants.{FileError};
 
 use crate::decoding::{body_at, decode_front, fill};
 use crate::format::{FILE_LIMIT, LARGEST_BODY};
@@ -132,9 +133,7 @@ impl RecordReader {
         limit: u64,
     ) -> Result<(), ObjectFault>
         ensures read { IfSome (S.files store.old) (λ m. Gives is_outside (λ _. self.new.ahead) result (in_file (map.get m name.now) (λ bytes. Ok (take 8192 (room bytes at limit))))) }
-        ensures files { S.files store.new ≡ S.files store.old }
-        ensures count { Passes ObjectFault.FileError (S.failures store.old) (S.failures store.new) result }
-        ensures blamed { IsErrOf result ObjectFault.FileError → IsBlamed (S.blamed store.new) name.now }
+        ensures kept { Leaves S.files S.failures S.blamed FileError name.now store.old store.new result }
         ensures asked { Asks is_outside (S.failures store.old) result }
         ensures begin { OnOk result (self.new.begin ≡ at) }
         ensures none { OnErr result (self.new.ahead ≡ []) }
@@ -159,9 +158,7 @@ impl RecordReader {
     ) -> Result<u64, ObjectFault>
         ensures read { IfSome (S.files store.old) (λ m. IsAhead (map.get m name.now) self.old → Gives is_outside (λ n. (self.new.entry, n)) result (in_file (map.get m name.now) (record_at version at limit))) }
         ensures ahead { IfSome (S.files store.old) (λ m. IsAhead (map.get m name.now) self.old → IsAhead (map.get m name.now) self.new) }
-        ensures files { S.files store.new ≡ S.files store.old }
-        ensures count { Passes ObjectFault.FileError (S.failures store.old) (S.failures store.new) result }
-        ensures blamed { IsErrOf result ObjectFault.FileError → IsBlamed (S.blamed store.new) name.now }
+        ensures kept { Leaves S.files S.failures S.blamed FileError name.now store.old store.new result }
         ensures asked { self.old.ahead ≡ [] → Asks is_outside (S.failures store.old) result }
         ensures bound { IfOk result (λ n. (n ≡ at + 3 + length self.new.entry.body) × (n ≤ limit) × (n ≤ file_limit)) }
     {
@@ -190,9 +187,7 @@ pub fn read_record<S: Store>(
     limit: u64,
 ) -> Result<(Record, u64), ObjectFault>
     ensures read { IfSome (S.files store.old) (λ m. Gives is_outside (λ x. (entry_of x.0, x.1)) result (in_file (map.get m name.now) (record_at version at limit))) }
-    ensures files { S.files store.new ≡ S.files store.old }
-    ensures count { Passes ObjectFault.FileError (S.failures store.old) (S.failures store.new) result }
-    ensures blamed { IsErrOf result ObjectFault.FileError → IsBlamed (S.blamed store.new) name.now }
+    ensures kept { Leaves S.files S.failures S.blamed FileError name.now store.old store.new result }
     ensures asked { Asks is_outside (S.failures store.old) result }
     ensures bound { IfOk result (λ x. (x.1 ≡ at + 3 + length x.0.body.items) × (x.1 ≤ limit) × (x.1 ≤ file_limit)) }
 {

@@ -219,7 +219,7 @@ module _ {K V Z : Type 0} (eq : K → K → Bool) (g : K × V → Z) (k : K) (v 
 
 module _ {T : Type 0} (is : T → Bool) (number : T → ℕ) (ts : List T) (i : ℕ) (d : T) (old new whole : ℕ) where
   pub counts : i < length ts → is (get_or ts i d) ≡ true → new ≡ old + number (get_or ts i d) → old + come_to is number (drop i ts) ≡ whole → new + come_to is number (drop (i + 1) ts) ≡ whole
-  counts lt sure more so_far =
+  counts lt sure added so_far =
       let rest : come_to is number (drop i ts) ≡ number (get_or ts i d) + come_to is number (drop (i + 1) ts) =
       ap (come_to is number) (rest_at ts i d lt) ∙ ap (λ b. (if b then number (get_or ts i d) else 0) + come_to is number (drop (i + 1) ts)) sure in
       omega arith

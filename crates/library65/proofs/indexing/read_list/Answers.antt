@@ -6,8 +6,8 @@ use Rattle.library65.proofs.indexing.read_list.Goals as goal
 
 pub loop-init : goal.loop-init
 loop-init g c = record {
-  files = c.in_ok-count.ensures.files;
-  count = kept_count _ _ _ c.in_ok-count.ensures.count;
+  files = c.in_ok-count.ensures.kept.files;
+  count = kept_count _ _ _ c.in_ok-count.ensures.kept.count;
   limit = omega arith;
   some = omega arith;
   names = rw (c.new-names.ensures.empty, c.new-members.ensures.items) refl;
@@ -35,8 +35,8 @@ loop-preserved g c =
     let ms = c.loop.members.items in
     let names = map (λ n. n.items) c.loop.names.keys in
     record {
-      files = c.in_ok-member.ensures.files ∙ c.loop.invariant.files;
-      count = kept_count _ _ _ c.in_ok-member.ensures.count ∙ c.loop.invariant.count;
+      files = c.in_ok-member.ensures.kept.files ∙ c.loop.invariant.files;
+      count = kept_count _ _ _ c.in_ok-member.ensures.kept.count ∙ c.loop.invariant.count;
       limit = c.in_ok-member.ensures.limit;
       some = omega (arith, c.in_ok-member.ensures.later);
       names = name_pushed ms c.in_ok-member.member _ names _ c.as_slice.result.now c.loop.invariant.names c.as_slice.ensures c.in_ok-add_name.ensures c.in_ok-push.ensures.items;

@@ -26,12 +26,18 @@ returns-in_err-take-clause-read g c =
     let e = c.in_err-take.field-0.0 in
     rw (p.1, p.2) (taking_stops c.args.head.0 c.args.limit c.args.head.1 c.records.next _ _ c.args.name.now c.records.builder (entry_of c.record.result.now, c.in_ok-next.next) e c.records.invariant.files c.records.invariant.read (seen _ (λ m. in_file (get m c.args.name.now) (record_at c.args.head.0 c.records.next c.args.limit)) _ _ c.in_ok-next.next c.record.ensures (where_ahead _ c.args.name.now c.records.reader _ c.records.invariant.ahead c.in_ok-next.ensures.read)) (memory_outside e _ c.in_err-take.ensures.taken))
 
-pub returns-in_err-take-clause-count : goal.returns-in_err-take-clause-count
-returns-in_err-take-clause-count g c =
+pub returns-in_err-take-clause-kept : goal.returns-in_err-take-clause-kept
+returns-in_err-take-clause-kept g c =
     let p = err_from_is_err_and c.from_residual-in_err-take.result c.from_residual-in_err-take.ensures.1 in
     let e = c.in_err-take.field-0.0 in
-    let same = kept_count _ _ _ c.in_ok-next.ensures.count ∙ c.records.invariant.count in
-    rw (p.1, p.2) (none_passed _ _ e same (not_stored c.records.builder (entry_of c.record.result.now) e c.in_err-take.ensures.taken))
+    let taken = c.in_err-take.ensures.taken in
+    let same = kept_count _ _ _ c.in_ok-next.ensures.kept.count ∙ c.records.invariant.count in
+    let entry = entry_of c.record.result.now in
+    rw (p.1, p.2) (record {
+      files = c.in_ok-next.ensures.kept.files ∙ c.records.invariant.files;
+      count = none_passed _ _ e same (not_stored c.records.builder entry e taken);
+      blamed = λ h. (let stored : e ≡ FileError = cc h in absurd (not_stored c.records.builder entry e taken stored));
+    })
 
 pub returns-then-is_ended-clause-read : goal.returns-then-is_ended-clause-read
 returns-then-is_ended-clause-read g c =
@@ -40,14 +46,8 @@ returns-then-is_ended-clause-read g c =
 pub records-preserved : goal.records-preserved
 records-preserved g c =
     record {
-      files = c.in_ok-next.ensures.files ∙ c.records.invariant.files;
-      ahead = stays_ahead _ _ c.args.name.now c.records.reader c.read.new.self c.in_ok-next.ensures.files c.records.invariant.ahead c.in_ok-next.ensures.ahead;
-      count = kept_count _ _ _ c.in_ok-next.ensures.count ∙ c.records.invariant.count;
+      files = c.in_ok-next.ensures.kept.files ∙ c.records.invariant.files;
+      ahead = stays_ahead _ _ c.args.name.now c.records.reader c.read.new.self c.in_ok-next.ensures.kept.files c.records.invariant.ahead c.in_ok-next.ensures.ahead;
+      count = kept_count _ _ _ c.in_ok-next.ensures.kept.count ∙ c.records.invariant.count;
       read = goes_on_in c.args.head.0 c.args.limit c.args.head.1 c.records.next _ _ c.args.name.now c.records.builder c.take.new.self (entry_of c.record.result.now, c.in_ok-next.next) c.records.invariant.files c.records.invariant.read (seen _ (λ m. in_file (get m c.args.name.now) (record_at c.args.head.0 c.records.next c.args.limit)) _ _ c.in_ok-next.next c.record.ensures (where_ahead _ c.args.name.now c.records.reader _ c.records.invariant.ahead c.in_ok-next.ensures.read)) (omega (arith, c.in_ok-next.ensures.bound.0)) c.in_ok-take.ensures.taken (sym c.is_ended.ensures ∙ c.if-is_ended.false);
     }
-
-pub returns-in_err-take-clause-blamed : goal.returns-in_err-take-clause-blamed
-returns-in_err-take-clause-blamed g c =
-    let p = err_from_is_err_and c.from_residual-in_err-take.result c.from_residual-in_err-take.ensures.1 in
-    let e = c.in_err-take.field-0.0 in
-    rw (p.1, p.2) (λ h. (let stored : e ≡ FileError = cc h in absurd (not_stored c.records.builder (entry_of c.record.result.now) e c.in_err-take.ensures.taken stored)))

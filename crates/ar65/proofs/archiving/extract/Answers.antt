@@ -13,7 +13,7 @@ returns-in_err-extract_files-clause-archived g c =
 pub returns-in_err-extract_files-clause-count : goal.returns-in_err-extract_files-clause-count
 returns-in_err-extract_files-clause-count g c =
     let p = err_from_is_err_and c.from_residual-in_err-extract_files.result c.from_residual-in_err-extract_files.ensures.1 in
-    rw (p.1, p.2) (library_count _ _ c.in_ok-library.library c.in_err-extract_files.field-0.0 c.in_ok-library.ensures.count (λ h. c.in_err-extract_files.ensures.cause (ap (λ f. Err f) h)))
+    rw (p.1, p.2) (library_count _ _ c.in_ok-library.library c.in_err-extract_files.field-0.0 c.in_ok-library.ensures.kept.count (λ h. c.in_err-extract_files.ensures.cause (ap (λ f. Err f) h)))
 
 pub returns-clause-archived : goal.returns-clause-archived
 returns-clause-archived g c =

@@ -33,7 +33,7 @@ returns-in_err-record-clause-fed g c =
 pub returns-in_err-record-clause-count : goal.returns-in_err-record-clause-count
 returns-in_err-record-clause-count g c =
     let p = err_from_is_err_and c.from_residual-in_err-record.result c.from_residual-in_err-record.ensures.1 in
-    let same = kept_count _ _ _ c.in_ok-next.ensures.count ∙ c.records.invariant.count in
+    let same = kept_count _ _ _ c.in_ok-next.ensures.kept.count ∙ c.records.invariant.count in
     rw (p.1, p.2) (none_passed _ (input_of c.args.object.now) c.args.head c.records.next c.args.linker.now c.records.linker c.record.new.self (entry_of c.record-record.result.now) c.in_err-record.field-0.0 _ _ same c.records.invariant.stands c.in_err-record.ensures.taken)
 
 pub returns-then-record-eq-END-clause-fed : goal.returns-then-record-eq-END-clause-fed
@@ -45,9 +45,9 @@ pub records-preserved : goal.records-preserved
 records-preserved g c =
     let read = seen _ (λ m. in_file (get m c.args.object.now.file.now) (record_at c.args.head.0 c.records.next c.args.object.now.end)) _ _ c.in_ok-next.next c.record-record.ensures (where_ahead _ c.args.object.now.file.now c.records.reader _ c.records.invariant.ahead c.in_ok-next.ensures.read) in
     record {
-      files = c.in_ok-next.ensures.files ∙ c.records.invariant.files;
-      ahead = stays_ahead _ _ c.args.object.now.file.now c.records.reader c.read.new.self c.in_ok-next.ensures.files c.records.invariant.ahead c.in_ok-next.ensures.ahead;
-      count = kept_count _ _ _ c.in_ok-next.ensures.count ∙ c.records.invariant.count;
+      files = c.in_ok-next.ensures.kept.files ∙ c.records.invariant.files;
+      ahead = stays_ahead _ _ c.args.object.now.file.now c.records.reader c.read.new.self c.in_ok-next.ensures.kept.files c.records.invariant.ahead c.in_ok-next.ensures.ahead;
+      count = kept_count _ _ _ c.in_ok-next.ensures.kept.count ∙ c.records.invariant.count;
       opened = c.in_ok-record.ensures.opened;
       keeps = record {
         script = c.in_ok-record.ensures.keeps.script ∙ c.records.invariant.keeps.script;
@@ -59,7 +59,7 @@ records-preserved g c =
 pub returns-in_err-next-clause-blamed : goal.returns-in_err-next-clause-blamed
 returns-in_err-next-clause-blamed g c =
     let p = err_from_is_err_and c.from_residual.result c.from_residual.ensures.1 in
-    λ modules called entry stands h. read_blames c.in_err-next.field-0.0 _ _ c.from_residual.result (p.1 ∙ ap Err p.2) c.in_err-next.ensures.blamed h
+    λ modules called entry stands h. read_blames c.in_err-next.field-0.0 _ _ c.from_residual.result (p.1 ∙ ap Err p.2) c.in_err-next.ensures.kept.blamed h
 
 pub returns-in_err-record-clause-blamed : goal.returns-in_err-record-clause-blamed
 returns-in_err-record-clause-blamed g c =

@@ -169,7 +169,7 @@ fn feed_input<S: Store>(
 }
 
 /// Feeds inputs, in order. The first fault is that of the first input that has one.
-pub fn feed_inputs<S: Store>(
+fn feed_inputs<S: Store>(
     alloc: Global,
     store: &mut S,
     linker: &mut Linker,

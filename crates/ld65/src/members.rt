@@ -63,7 +63,7 @@ fn places_of(alloc: Global, linker: &Linker, index: &Index) -> Result<Vec<usize>
 }
 
 /// The members of a library that the script and the modules fed so far need. Of the library only its index is read.
-pub fn choose_members<S: Store>(
+fn choose_members<S: Store>(
     alloc: Global,
     store: &mut S,
     linker: &Linker,

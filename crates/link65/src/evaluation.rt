@@ -107,7 +107,7 @@ fn known(outcome: Option<i64>) -> Result<i64, Stop>
 }
 
 /// The value of a form of a module as far as exports are known, or what it needs first.
-pub fn try_form(form: &Norm, resolved: Option<&Resolved>, marks: &[Mark]) -> Result<i64, Stop>
+fn try_form(form: &Norm, resolved: Option<&Resolved>, marks: &[Mark]) -> Result<i64, Stop>
     ensures { result ≡ tried (option_copied resolved.entry) marks.now form.now }
 {
     match form.node() {
@@ -127,7 +127,7 @@ pub fn try_form(form: &Norm, resolved: Option<&Resolved>, marks: &[Mark]) -> Res
 }
 
 /// The module at a place, if there is one.
-pub fn resolved_at(modules: &[Resolved], owner: usize) -> Option<&Resolved>
+fn resolved_at(modules: &[Resolved], owner: usize) -> Option<&Resolved>
     ensures { option_copied result ≡ slice_get modules.entry.now owner }
 {
     modules.get(owner)
@@ -145,12 +145,7 @@ fn attempt_of(outcome: Result<i64, Stop>) -> Attempt
 }
 
 /// What the export at a place comes to as far as exports are known, or what it needs first.
-pub fn try_export(
-    modules: &[Resolved],
-    exports: &[Exported],
-    marks: &[Mark],
-    place: usize,
-) -> Attempt
+fn try_export(modules: &[Resolved], exports: &[Exported], marks: &[Mark], place: usize) -> Attempt
     requires { place < length exports.now }
     ensures { result ≡ export_tried modules.now marks.now (slice_get exports.now place) }
 {

@@ -40,7 +40,7 @@ fn copies(alloc: Global, names: &[Sequence<u8>]) -> Result<Sequence<Sequence<u8>
 }
 
 /// The names that an entry has, if there is one.
-pub fn listed_of(alloc: Global, entry: Option<&Entry>) -> Result<Option<Listed>, AllocError>
+fn listed_of(alloc: Global, entry: Option<&Entry>) -> Result<Option<Listed>, AllocError>
     ensures { IfOk result (λ l. l ≡ option_map (λ e. listed_of e.now) entry.entry) }
 {
     match entry {
@@ -81,7 +81,7 @@ fn same_exports(names: &[Sequence<u8>], exports: &[Exported]) -> bool
 }
 
 /// Whether these are the names listed, if any are.
-pub fn are_listed(listed: &Option<Listed>, exports: &[Exported], imports: &[Sequence<u8>]) -> bool
+fn are_listed(listed: &Option<Listed>, exports: &[Exported], imports: &[Sequence<u8>]) -> bool
     ensures { result ≡ are_listed listed.now (map (λ e. e.name) exports.now) imports.now }
 {
     match listed {

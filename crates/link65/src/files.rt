@@ -29,7 +29,7 @@ pub struct Filled<'b, 'a> {
 }
 
 /// What stands at a place, which is taken out.
-pub fn take_at<T: Drop>(alloc: Global, all: &mut Vec<Sequence<T>>, i: usize) -> Sequence<T>
+fn take_at<T: Drop>(alloc: Global, all: &mut Vec<Sequence<T>>, i: usize) -> Sequence<T>
     ensures taken { (x : List T) → slice_get all.old.items i ≡ Some x → result ≡ x }
     ensures others { (j : ℕ) → i < j → slice_get all.new.items j ≡ slice_get all.old.items j }
 {
@@ -84,7 +84,7 @@ fn place_at(places: &[RowPlace], i: usize) -> Option<RowPlace>
 }
 
 /// The rows of each area's file, in order, each with its bytes.
-pub fn loads_of<'a>(
+fn loads_of<'a>(
     alloc: Global,
     areas: usize,
     rows: &'a [Row],
@@ -184,7 +184,7 @@ fn lay_out(
 
 /// The bytes of an area's file, of which memory has to take all. Where one row's are all of
 /// them, they aren't copied.
-pub fn area_file(alloc: Global, filled: Filled<'_, '_>) -> Result<Sequence<u8>, AllocError>
+fn area_file(alloc: Global, filled: Filled<'_, '_>) -> Result<Sequence<u8>, AllocError>
     ensures { IfOk result (λ image. IsFileOf filled.entry.area.now filled.entry.place (map view filled.entry.loads) image) }
 {
     let Ok(len) = usize::try_from(file_len(&filled)) else {

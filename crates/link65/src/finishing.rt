@@ -148,7 +148,7 @@ fn bytes_of_row(alloc: Global, program: &Placed<'_>, row: &Row) -> Result<Sequen
 
 /// The bytes of each row that is written, and none of any other. The first value that is missing or doesn't fit is
 /// refused, by row, module and fragment, whether its row is written or not.
-pub fn rows_of(
+fn rows_of(
     alloc: Global,
     program: &Placed<'_>,
     rows: &[Row],

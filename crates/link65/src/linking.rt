@@ -35,7 +35,7 @@ pub struct Linked {
 }
 
 /// What each segment needs of its row, in order.
-pub fn needs_of(alloc: Global, contents: &[Content]) -> Result<Sequence<SegmentNeed>, AllocError>
+fn needs_of(alloc: Global, contents: &[Content]) -> Result<Sequence<SegmentNeed>, AllocError>
     ensures { IfOk result (λ needs. needs ≡ map need_of (segments_from contents.now)) }
 {
     let mut needs = Sequence::new(alloc);

@@ -13,7 +13,7 @@ use script65::{Area, AreaPlace, Placement, Row, RowPlace, Script, Symbol, Symbol
 use std::alloc::{AllocError, Global};
 
 /// `__N_PART__`
-pub fn part_name(alloc: Global, name: &[u8], part: &[u8]) -> Result<Sequence<u8>, AllocError>
+fn part_name(alloc: Global, name: &[u8], part: &[u8]) -> Result<Sequence<u8>, AllocError>
     ensures { IfOk result (λ text. text ≡ part_name name.now part.now) }
 {
     join(alloc, &[b"__", name, b"_", part, b"__"])

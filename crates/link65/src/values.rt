@@ -39,7 +39,7 @@ pub struct Placed<'a> {
 }
 
 /// What a form of the module at a place comes to.
-pub fn value_in(program: &Placed<'_>, owner: usize, form: &Norm) -> Result<i64, ValueFault>
+fn value_in(program: &Placed<'_>, owner: usize, form: &Norm) -> Result<i64, ValueFault>
     requires { AllFound program.now.marks.now }
     ensures { result ≡ value_by (linkage_in program.now) (exports_in program.now) owner form.now }
 {
@@ -63,7 +63,7 @@ pub fn content_of<'a>(program: &Placed<'a>, name: &[u8]) -> Option<&'a Content>
     }
 }
 
-pub fn name_of(members: &[Member], owner: usize) -> &[u8]
+fn name_of(members: &[Member], owner: usize) -> &[u8]
     ensures { result.now ≡ option_map_or (λ m. m.name) (slice_get members.entry.now owner) [] }
 {
     match members.get(owner) {
@@ -92,7 +92,7 @@ fn copy_of(alloc: Global, name: Option<&[u8]>) -> Result<Option<Sequence<u8>>, A
 }
 
 /// The module, the file and the line of a datum, an export or an assertion.
-pub fn site_of(
+fn site_of(
     alloc: Global,
     members: &[Member],
     owner: usize,

@@ -24,7 +24,7 @@ use Rattle.asm65.specs.Assembly.{IsAssembled}
 use Rattle.cli65.specs.declared.line.Operation.{Operation}
 use Rattle.cli65.specs.Line.{Archiving, Assembling}
 use Rattle.cli65.specs.Messages.{memory_line}
-use Rattle.whole65.proofs.Later.{bind_ok}
+use Rattle.whole65.proofs.SameValues.{bind_ok}
 use Rattle.ar65.specs.declared.archiving.Archived.TheVariants as archived
 use Rattle.ar65.specs.Librarian.{as_file, as_library, begun, done, member_name, replaced_by, rewritten, with_file, with_files}
 use Rattle.output65.specs.declared.outcome.Outcome.{Outcome}

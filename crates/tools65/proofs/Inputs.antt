@@ -35,7 +35,7 @@ use Rattle.asm65.specs.Assembly.{IsAssembled}
 use Rattle.link65.specs.Names.{given_names, open_names}
 use Rattle.link65.specs.Programs.{Module, program_of}
 use Rattle.link65.specs.Standing.{module_of}
-use Rattle.whole65.proofs.Later.{bind_ok}
+use Rattle.whole65.proofs.SameValues.{bind_ok}
 use Rattle.ld65.specs.Linkage.{ByKind, chosen, chosen_at, file_input, is_library, is_library_in, member_input, member_module, no_limit}
 use Rattle.tools65.specs.Inputs.{SourcesSelectedLaw, WrittenInputLaw, WrittenMemberLaw, WrittenObjectLaw}
 use Rattle.tools65.specs.OneProgram.{AreInputOf, AreMembers, AreObjectsOf, AreSelected, AreTaken, IsModuleOf, IsObjectOf, Source}

@@ -17,9 +17,9 @@ use Rattle.link65.specs.declared.fault.LinkFault.{LinkFault}
 use Rattle.link65.specs.declared.fault.LinkFault.TheVariants.{IndexDisagrees, Malformed}
 use Rattle.link65.specs.declared.parts.Exported.{Exported}
 use Rattle.link65.specs.Standing.{agreed, agrees_with, as_link, joined as joined_to, module_of}
-use Rattle.whole65.proofs.Given.{none_again}
+use Rattle.whole65.proofs.Links.{none_again}
 use Rattle.whole65.proofs.Providers.{exports_are, linked_exports}
-use Rattle.whole65.proofs.Later.{bind_ok}
+use Rattle.whole65.proofs.SameValues.{bind_ok}
 use Rattle.ld65.specs.declared.refusal.Refusal.{Refusal}
 use Rattle.ld65.specs.declared.refusal.Refusal.TheVariants as refusal
 use Rattle.ld65.specs.Linkage.{AreInputs, AreNeeded, ByKind, Input, IsLibraryInput, added_in, as_library, behind, chosen, file_input, index_in, is_library_in, member_input, member_module, object_in, with_file, with_member, with_members}

@@ -10,7 +10,7 @@ use Rattle.module65.specs.Places.{PlacedFault}
 use Rattle.module65.specs.Reading.{Reached}
 use Rattle.link65.specs.Programs.{Module}
 use Rattle.whole65.proofs.Equality.{equality_law}
-use Rattle.whole65.proofs.LaidOut.{laid_out_law}
+use Rattle.whole65.proofs.Links.{laid_out_law}
 use Rattle.whole65.specs.Sources.{AreSources}
 use Rattle.whole65.specs.Sources as whole
 use Rattle.whole65.specs.Whole.{Whole}

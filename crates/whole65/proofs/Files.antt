@@ -1,35 +1,260 @@
 -- The files of a link and those of the whole program.
-use Rattle.std.proofs.Common.{◌≡◌, ℕ, suc, ◌+◌, Bool, true, false, cond, List, [], ◌∷◌, ◌++◌, length, map, slice_get, Some, Result, Ok, Err, refl, sym, ◌∙◌, ap, subst}
+use Rattle.std.proofs.Common.{◌≡◌, ℕ, zero, suc, ◌+◌, ◌<◌, List, [], ◌∷◌, length, slice_get, Option, Some, None, Result, Ok, Err, refl, ◌∙◌, ap, subst, arith, Bool, true, false, cond, ◌++◌, sym, map}
 use Rattle.std.specs.Prelude.{ℤ, ◌↔◌, ◌==◌}
-use Rattle.std.specs.List.{AllByRecursion}
 use Rattle.base65.specs.Outcome.{◌>>=◌}
-use Rattle.object65.specs.declared.object.Export.{Export}
-use Rattle.script65.specs.declared.placement.Placement.{Placement}
-use Rattle.script65.specs.declared.placement.RowPlace.{RowPlace}
-use Rattle.script65.specs.declared.script.Area.{Area}
-use Rattle.script65.specs.declared.script.Row.{Row}
-use Rattle.language65.specs.Layout.{Layout}
-use Rattle.link65.specs.Links.{check_export, each_passes, site, value_at}
-use Rattle.link65.specs.Files.{AddsArea, AddsAreas, IsAreaFile, IsImage, RowBytes, area_at, area_pieces, file_len, file_name, is_loaded, loaded_in, offset_of}
-use Rattle.link65.specs.Values.{row_bytes, linkage_of, Linkage, in_table, value_by}
-use Rattle.link65.specs.Programs.{Module}
-use Rattle.link65.specs.Programs as linked
-use Rattle.link65.specs.declared.fault.LinkFault.{LinkFault}
-use Rattle.link65.specs.declared.fault.Site.{Site}
-use Rattle.base65.specs.declared.output.OutputFile.{OutputFile}
+use Rattle.base65.specs.Values.{value1, value2}
+use Rattle.object65.specs.Form.{Form, lit, sec, imp, prefix, binary}
+use Rattle.object65.specs.FormValue.{or_none}
+use Rattle.link65.proofs.Tries.{exports_grow, form_grows, Known, further, settles_once}
 use Rattle.link65.specs.declared.parts.Exported.{Exported}
+use Rattle.link65.specs.declared.parts.Provider.{Provider}
+use Rattle.link65.specs.declared.parts.Provider.TheVariants.{ByModule, ByScript, Nobody}
 use Rattle.link65.specs.declared.parts.ValueFault.{ValueFault}
-use Rattle.module65.proofs.SoundForms.{all_append}
-use Rattle.whole65.proofs.Exports.{source_exports}
-use Rattle.whole65.proofs.Providers.{exports_are, linked_exports}
-use Rattle.whole65.proofs.Images.{export_value_law, rows_law}
-use Rattle.whole65.proofs.Later.{bind_ok}
-use Rattle.whole65.specs.Inner.Steps.{ExportsLaw, FilesLaw}
-use Rattle.whole65.specs.Modules.{exports_of}
+use Rattle.link65.specs.declared.parts.ValueFault.TheVariants.{Circular, NoValue, Unresolved}
+use Rattle.link65.specs.Values.{AreExports, Exports, Linkage, Settles, base_of, export_value, exports_through, provider_at, import_value, in_table, value_by, cell_bytes, or_zero, stored, row_bytes, segment_bytes, linkage_of}
+use Rattle.whole65.proofs.SameValues.{bind_ok, value_covered, same_values_law}
+use Rattle.whole65.specs.Inner.Cells.{linked_value, AreCells, cells_or}
+use Rattle.whole65.specs.Inner.Steps.{TableLaw, CheckedLaw, ExportsLaw, FilesLaw}
+use Rattle.std.specs.List.{flat_map, AllByRecursion}
+use Rattle.object65.specs.Objects.{fits_width, value_bytes}
+use Rattle.link65.specs.Links.{check_fixup, each_passes, fitting, site, value_at, fixups_in, fixups_by_row, fixups_of, check_export}
+use Rattle.link65.specs.Programs.{Cell, known, filled, waits, Module, Segment, segment_of}
+use Rattle.link65.specs.declared.fault.LinkFault.{LinkFault}
+use Rattle.link65.specs.declared.fault.LinkFault.TheVariants as fault
+use Rattle.link65.specs.declared.fault.Site.{Site}
+use Rattle.link65.specs.declared.parts.Member.{Member}
+use Rattle.link65.specs.declared.parts.Fixup.{Fixup}
+use Rattle.syntax65.specs.Trees as tree
+use Rattle.script65.specs.declared.placement.Placement.{Placement}
+use Rattle.script65.specs.declared.script.Row.{Row}
+use Rattle.script65.specs.declared.script.Script.{Script}
+use Rattle.language65.specs.Layout.{Layout}
+use Rattle.link65.proofs.Passes.{passes_append}
+use Rattle.link65.specs.Files.{RowBytes, AddsArea, AddsAreas, IsAreaFile, IsImage, area_at, area_pieces, file_len, file_name, is_loaded, loaded_in, offset_of}
+use Rattle.link65.specs.Programs as linked
+use Rattle.whole65.proofs.Providers.{IsExportOf, exports_known, export_normal, sources_law, exports_are, linked_exports}
+use Rattle.whole65.proofs.Keyed.{form_law}
+use Rattle.whole65.proofs.Positions.{all_get}
+use Rattle.whole65.proofs.Rows.{linked_bytes_law}
+use Rattle.whole65.specs.Inner.Keyed.{linked_objects}
+use Rattle.whole65.specs.Laws.{ExportValueLaw, RowsLaw}
+use Rattle.whole65.specs.Modules.{table_of, exports_of}
+use Rattle.whole65.specs.Objects.{form_value}
 use Rattle.whole65.specs.Programs as whole
 use Rattle.whole65.specs.Sources.{AreSources}
 use Rattle.whole65.specs.Values.{Program}
-use Rattle.whole65.specs.Whole.{AreExported, HasExport}
+use Rattle.whole65.specs.Whole.{AreRow, AreExported, HasExport}
+use Rattle.object65.specs.declared.object.Export.{Export}
+use Rattle.script65.specs.declared.placement.RowPlace.{RowPlace}
+use Rattle.script65.specs.declared.script.Area.{Area}
+use Rattle.base65.specs.declared.output.OutputFile.{OutputFile}
+use Rattle.module65.proofs.SoundForms.{all_append}
+use Rattle.whole65.proofs.Exports.{source_exports}
+
+-- ---- Exports that are evaluated once.
+
+known_ok : (r s : Result ℤ ValueFault) (v : ℤ) → Known r s → r ≡ Ok v → s ≡ Ok v
+known_ok (Ok w) s v h e = h ∙ e
+known_ok (Err Circular) s v h e = cc
+known_ok (Err NoValue) s v h e = cc
+known_ok (Err Unresolved) s v h e = cc
+
+import_covered : (few more : Exports) → ((x : ℕ) (u : ℤ) → few x ≡ Ok u → more x ≡ Ok u) → (g : Provider) (u : ℤ) → import_value few g ≡ Ok u → import_value more g ≡ Ok u
+import_covered few more h (ByModule x) u e = h x u e
+import_covered few more h (ByScript v) u e = e
+import_covered few more h Nobody u e = e
+
+-- what is found in a list stands in it
+got_inside : {A : Type 0} (xs : List A) (x : ℕ) (a : A) → slice_get xs x ≡ Some a → x < length xs
+got_inside [] x a e = cc
+got_inside (y ∷ xs) zero a e = omega arith
+got_inside (y ∷ xs) (suc x) a e = let deeper = got_inside xs x a e in omega (arith, deeper)
+
+table_inside : (table : List (Result ℤ ValueFault)) (x : ℕ) (u : ℤ) → in_table table x ≡ Ok u → x < length table
+table_inside [] x u e = cc
+table_inside (r ∷ table) zero u e = omega arith
+table_inside (r ∷ table) (suc x) u e = let deeper = table_inside table x u e in omega (arith, deeper)
+
+module _ (l : Linkage) (table : List (Result ℤ ValueFault)) (h : AreExports l table) where
+  export_inside : (n x : ℕ) (u : ℤ) → exports_through l n x ≡ Ok u → x < length l.exports
+  export_inside zero x u e = cc
+  export_inside (suc n) x u e = go (slice_get l.exports x) refl e
+    where
+      go : (r : Option Exported) → slice_get l.exports x ≡ r → export_value l (exports_through l n) r ≡ Ok u → x < length l.exports
+      go None w e = cc
+      go (Some d) w e = got_inside l.exports x d w
+
+  in_the_table : (n x : ℕ) (u : ℤ) → exports_through l n x ≡ Ok u → in_table table x ≡ Ok u
+  in_the_table n x u e =
+      settles_once (λ k. exports_through l k x) (in_table table x) (Ok u) (λ k. exports_grow l k x) (h.each x (export_inside n x u e)) (n, e)
+
+  from_turns : (owner : ℕ) (f : Form) (v : ℤ) → linked_value l owner f v → value_by l (in_table table) owner f ≡ Ok v
+  from_turns owner f v (n, e) =
+      value_covered NoValue (base_of (slice_get l.modules owner)) (λ j. import_value (exports_through l n) (provider_at (slice_get l.modules owner) j)) (λ j. import_value (in_table table) (provider_at (slice_get l.modules owner) j))
+      (λ j u q. import_covered (exports_through l n) (in_table table) (in_the_table n) (provider_at (slice_get l.modules owner) j) u q) f v e
+
+  import_turns : (g : Provider) (u : ℤ) → import_value (in_table table) g ≡ Ok u → (n : ℕ) × (import_value (exports_through l n) g ≡ Ok u)
+  import_turns (ByModule x) u e =
+      let long = h.long in
+      let inside = table_inside table x u e in
+      let lt : x < length l.exports = omega (arith, long, inside) in
+      subst (λ r. Settles (λ n. exports_through l n x) r) e (h.each x lt)
+  import_turns (ByScript v) u e = (0, e)
+  import_turns Nobody u e = cc
+
+  later : (owner : ℕ) (f : Form) (v : ℤ) (more n : ℕ) → value_by l (exports_through l n) owner f ≡ Ok v → value_by l (exports_through l (more + n)) owner f ≡ Ok v
+  later owner f v more n e = known_ok (value_by l (exports_through l n) owner f) (value_by l (exports_through l (more + n)) owner f) v (further (λ k. value_by l (exports_through l k) owner f) (form_grows l owner f) more n) e
+
+  to_turns : (owner : ℕ) (f : Form) (v : ℤ) → value_by l (in_table table) owner f ≡ Ok v → linked_value l owner f v
+  to_turns owner (lit n) v e = (0, e)
+  to_turns owner (sec k a) v e = (0, e)
+  to_turns owner (imp j) v e = import_turns (provider_at (slice_get l.modules owner) j) v e
+  to_turns owner (prefix op f) v e =
+      let (a, first, last) = bind_ok (value_by l (in_table table) owner f) (λ a. Ok (value1 op a)) v e in
+      let (n, got) = to_turns owner f a first in
+      let whole : (value_by l (exports_through l n) owner f >>= (λ z. Ok (value1 op z))) ≡ Ok v = ap (λ r. r >>= (λ z. Ok (value1 op z))) got ∙ last in
+      (n, whole)
+  to_turns owner (binary op f g) v e =
+      let (a, first, others) = bind_ok (value_by l (in_table table) owner f) (λ a. value_by l (in_table table) owner g >>= (λ b. or_none NoValue (value2 op a b))) v e in
+      let (b, second, last) = bind_ok (value_by l (in_table table) owner g) (λ b. or_none NoValue (value2 op a b)) v others in
+      let (n, got_f) = to_turns owner f a first in
+      let (m, got_g) = to_turns owner g b second in
+      let turned : m + n ≡ n + m = omega arith in
+      let u : value_by l (exports_through l (n + m)) owner f ≡ Ok a = rw turned at (later owner f a m n got_f) in
+      let w : value_by l (exports_through l (n + m)) owner g ≡ Ok b = later owner g b n m got_g in
+      let whole : (value_by l (exports_through l (n + m)) owner f >>= (λ x. value_by l (exports_through l (n + m)) owner g >>= (λ y. or_none NoValue (value2 op x y)))) ≡ Ok v =
+      ap (λ r. r >>= (λ x. value_by l (exports_through l (n + m)) owner g >>= (λ y. or_none NoValue (value2 op x y)))) u
+      ∙ ap (λ r. r >>= (λ y. or_none NoValue (value2 op a y))) w ∙ last in
+      (n + m, whole)
+
+pub table_law : TableLaw
+table_law l table owner f v h = (λ e. to_turns l table h owner f v e, λ k. from_turns l table h owner f v k)
+
+-- ---- Values of a segment that pass their checks.
+
+-- a value that fits
+abbrev Fits : Fixup → Result ℤ ValueFault → Type 0
+Fits w r = (v : ℤ) × (r ≡ Ok v) × (fits_width w.width v ≡ true)
+
+passing : (s : Site) (w : Fixup) (r : Result ℤ ValueFault) → (value_at s r >>= fitting s w) ≡ Ok tt → Fits w r
+passing s w (Err e) h = cc
+passing s w (Ok v) h = go (fits_width w.width v) refl h
+  where
+    go : (b : Bool) → fits_width w.width v ≡ b → ◌≡◌ {A = Result (Unit {0}) LinkFault} (cond b (Ok tt) (Err (fault.OutOfRange s))) (Ok tt) → Fits w (Ok v)
+    go true e h = (v, refl, e)
+    go false e h = cc
+
+passes : (s : Site) (w : Fixup) (r : Result ℤ ValueFault) → Fits w r → (value_at s r >>= fitting s w) ≡ Ok tt
+passes s w r (v, e, fits) = ap (λ z. value_at s z >>= fitting s w) e ∙ ap (λ b. cond b (Ok tt) (Err (fault.OutOfRange s))) fits
+
+written : (w : Fixup) (r : Result ℤ ValueFault) (v : ℤ) → r ≡ Ok v → fits_width w.width v ≡ true → stored w.width (or_zero r) ≡ value_bytes w.width v
+written w r v e fits = ap (λ z. stored w.width (or_zero z)) e ∙ ap (λ b. cond b (value_bytes w.width v) []) fits
+
+module _ (l : Linkage) (members : List Member) (table : List (Result ℤ ValueFault)) (fill : ℕ) (h : AreExports l table) where
+  abbrev exports : Exports
+  exports = in_table table
+
+  abbrev check : Fixup → Result (Unit {0}) LinkFault
+  check w = check_fixup l members exports w
+
+  abbrev Checked : List Cell → List ℕ → Type 0
+  Checked cells bytes = (each_passes check (flat_map fixups_in cells) ≡ Ok tt) × (bytes ≡ flat_map (cell_bytes l exports fill) cells)
+
+  there : (cells : List Cell) (bytes : List ℕ) → AreCells l fill cells bytes → Checked cells bytes
+  there [] bytes k = (refl, k)
+  there (known b ∷ cells) bytes (own, rest, first, more, e) =
+      let (passed, same) = there cells rest more in
+      (passed, e ∙ ap (λ z. z ++ rest) first ∙ ap (λ z. b ∷ z) same)
+  there (filled ∷ cells) bytes (own, rest, first, more, e) =
+      let (passed, same) = there cells rest more in
+      (passed, e ∙ ap (λ z. z ++ rest) first ∙ ap (λ z. fill ∷ z) same)
+  there (waits w ∷ cells) bytes (own, rest, (v, value, (fits, first)), more, e) =
+      let (passed, same) = there cells rest more in
+      let found : value_by l exports w.owner w.form ≡ Ok v = (table_law l table w.owner w.form v h).1 value in
+      let fine : check w ≡ Ok tt = passes (site members w.owner w.origin) w (value_by l exports w.owner w.form) (v, found, fits) in (
+        ap (λ r. r >>= (λ u. each_passes check (flat_map fixups_in cells))) fine ∙ passed,
+        e ∙ ap (λ z. z ++ rest) (first ∙ sym (written w (value_by l exports w.owner w.form) v found fits)) ∙ ap (λ z. stored w.width (or_zero (value_by l exports w.owner w.form)) ++ z) same,
+      )
+
+  back : (cells : List Cell) (bytes : List ℕ) → Checked cells bytes → AreCells l fill cells bytes
+  back [] bytes k = k.1
+  back (known b ∷ cells) bytes (passed, e) =
+      let rest : List ℕ = flat_map (cell_bytes l exports fill) cells in
+      (b ∷ [], rest, refl, back cells rest (passed, refl), e)
+  back (filled ∷ cells) bytes (passed, e) =
+      let rest : List ℕ = flat_map (cell_bytes l exports fill) cells in
+      (fill ∷ [], rest, refl, back cells rest (passed, refl), e)
+  back (waits w ∷ cells) bytes (passed, e) =
+      let rest : List ℕ = flat_map (cell_bytes l exports fill) cells in
+      let own : List ℕ = stored w.width (or_zero (value_by l exports w.owner w.form)) in
+      let (u, fine, others) = bind_ok (check w) (λ u. each_passes check (flat_map fixups_in cells)) tt passed in
+      let (v, found, fits) = passing (site members w.owner w.origin) w (value_by l exports w.owner w.form) fine in
+      let value : linked_value l w.owner w.form v = (table_law l table w.owner w.form v h).0 found in
+      (own, rest, (v, value, (fits, written w (value_by l exports w.owner w.form) v found fits)), back cells rest (others, refl), e)
+
+pub checked_law : CheckedLaw
+checked_law l members table fill cells bytes h = (there l members table fill h cells bytes, back l members table fill h cells bytes)
+
+-- ---- Rows.
+
+fixup_cells : (g : Option Segment) → fixups_of g ≡ flat_map fixups_in (cells_or g)
+fixup_cells None = refl
+fixup_cells (Some g) = refl
+
+bytes_cells : (l : Linkage) (table : List (Result ℤ ValueFault)) (fill : ℕ) (g : Option Segment) → segment_bytes l (in_table table) fill g ≡ flat_map (cell_bytes l (in_table table) fill) (cells_or g)
+bytes_cells l table fill None = refl
+bytes_cells l table fill (Some g) = refl
+
+module _ (s : Script) (placement : Placement) (ys : List Layout) (ms : List Module) (table : List (Result ℤ ValueFault)) (bytes : RowBytes) (h : AreSources ys ms) (exports : AreExports (linkage_of s (linked.program_of ms) placement) table) where
+  abbrev l : Linkage
+  l = linkage_of s (linked.program_of ms) placement
+
+  abbrev segments : List Segment
+  segments = (linked.program_of ms).segments
+
+  abbrev check : Fixup → Result (Unit {0}) LinkFault
+  check = check_fixup l (linked.program_of ms).members (in_table table)
+
+  abbrev IsWritten : Row → Type 0
+  IsWritten r = bytes r ≡ row_bytes l (in_table table) segments r
+
+  one_row : (r : Row) → AreRow (whole.program_of s placement ys) ys bytes r ↔ ((each_passes check (fixups_of (segment_of segments r.name)) ≡ Ok tt) × IsWritten r)
+  one_row r =
+      let g : Option Segment = segment_of segments r.name in
+      let list = linked_bytes_law s placement ys ms r.fill_value r.name (bytes r) h (sources_law s placement ys ms h) in
+      let cells = checked_law l (linked.program_of ms).members table r.fill_value (cells_or g) (bytes r) exports in (
+        λ k. (let q = cells.0 (list.1 k) in (ap (each_passes check) (fixup_cells g) ∙ q.0, q.1 ∙ sym (bytes_cells l table r.fill_value g))),
+        λ k. list.0 (cells.1 (ap (each_passes check) (sym (fixup_cells g)) ∙ k.0, k.1 ∙ bytes_cells l table r.fill_value g)),
+      )
+
+  all_rows : (rs : List Row) → AllByRecursion (AreRow (whole.program_of s placement ys) ys bytes) rs ↔ ((each_passes check (fixups_by_row rs segments) ≡ Ok tt) × AllByRecursion IsWritten rs)
+  all_rows [] = (λ k. (refl, tt), λ k. tt)
+  all_rows (r ∷ rs) =
+      let first : List Fixup = fixups_of (segment_of segments r.name) in
+      let rest : List Fixup = fixups_by_row rs segments in
+      let deeper = all_rows rs in
+      let one = one_row r in (
+        λ k. (let a = one.0 k.0 in let b = deeper.0 k.1 in (passes_append check first rest ∙ ap (λ z. z >>= (λ u. each_passes check rest)) a.0 ∙ b.0, (a.1, b.1))),
+        λ k. (let (u, a, b) = bind_ok (each_passes check first) (λ u. each_passes check rest) tt (sym (passes_append check first rest) ∙ k.0) in (one.1 (a, k.1.0), deeper.1 (b, k.1.1))),
+      )
+
+pub rows_law : RowsLaw
+rows_law s placement ys ms table bytes h exports = all_rows s placement ys ms table bytes h exports s.rows
+
+-- ---- Exports.
+
+pub export_value_law : ExportValueLaw
+export_value_law s placement ys ms table i e v h exports at =
+    let l : Linkage = linkage_of s (linked.program_of ms) placement in
+    let p : Program = whole.program_of s placement ys in
+    let m : IsExportOf ys ms e = all_get (IsExportOf ys ms) (linked.program_of ms).exports i e (exports_known ys ms h) at in
+    let found = table_law l table e.owner e.form v exports in
+    let same : (turns : ℕ) → form_value (linked_objects s placement ys ms) turns e.owner m.form ≡ value_by l (exports_through l turns) e.owner e.form =
+    λ turns. form_law s placement ys ms e.owner turns m.layout m.object m.contents m.form h m.at_y m.at_m m.found m.keyed ∙ ap (value_by l (exports_through l turns) e.owner) (sym m.written) in
+    let value = same_values_law ValueFault p (linked_objects s placement ys ms) (sources_law s placement ys ms h) (suc (suc (length (table_of m.layout).definitions))) e.owner (p.global e.owner) (tree.name false (e.name ∷ [])) m.form v (export_normal s placement ys ms e m) in (
+      λ k. (let q = found.0 k in value.1 (q.0, same q.0 ∙ q.1)),
+      λ k. (let q = value.0 k in found.1 (q.0, sym (same q.0) ∙ q.1)),
+    )
 
 -- ---- Files rest on the bytes of a script's rows alone.
 

@@ -1,33 +1,239 @@
 -- What holds of the names that an object imports, and of those in its contents.
-use Rattle.std.proofs.Common.{◌≡◌, ℕ, suc, Bool, true, false, nat_eq, List, [], ◌∷◌, map, Some, None, refl, sym, ◌∙◌, ap, subst}
-use Rattle.std.specs.Prelude.{◌||◌}
-use Rattle.std.specs.List.{AllByRecursion, flat_map, list_any}
-use Rattle.std.specs.Option.{option_map}
+use Rattle.std.proofs.Common.{◌≡◌, ◌≢◌, ℕ, ◌+◌, Bool, true, false, not, cond, List, [], ◌∷◌, ◌++◌, length, map, filter, Option, Some, None, Ok, is_some, refl, sym, ◌∙◌, ap, subst, arith, suc, nat_eq}
+use Rattle.std.specs.Prelude.{◌↔◌, ◌||◌}
+use Rattle.std.specs.List.{AllByRecursion, flat_map, list_any, position_from}
 use Rattle.std.specs.Str.{bytes_eq}
+use Rattle.std.proofs.lemmas.List.{append-nil, append_assoc, map-append}
 use Rattle.std.proofs.lemmas.List.Folds.{list_any-append}
+use Rattle.std.proofs.lemmas.Grind.{flat_map-append}
+use Rattle.script65.proofs.Apart.{all_placed}
+use Rattle.script65.specs.Placing.{place_of}
+use Rattle.script65.specs.declared.placement.AreaPlace.{AreaPlace}
+use Rattle.script65.specs.declared.placement.Placement.{Placement}
+use Rattle.script65.specs.declared.placement.RowPlace.{RowPlace}
+use Rattle.script65.specs.declared.placement.SegmentNeed.{SegmentNeed}
+use Rattle.script65.specs.declared.script.Area.{Area}
+use Rattle.script65.specs.declared.script.Row.{Row}
+use Rattle.script65.specs.declared.script.Script.{Script}
+use Rattle.language65.proofs.Lists.{same_bytes, bytes_swap}
+use Rattle.language65.specs.Layout.{Layout}
+use Rattle.link65.specs.Names.{by_definition, by_export, defined_at, each_once, export_names, exported_at, given_names, is_among, is_given, references, unresolved, area_definitions, area_names, areas_definitions, row_definitions, row_names, rows_definitions, script_definitions, script_names, symbol_exports, symbol_imports, weak_symbols}
+use Rattle.link65.specs.Names as linked
+use Rattle.link65.specs.Programs.{flat_zip, Module, Program, member, no_program, program_of, with_module, with_modules}
+use Rattle.link65.specs.declared.parts.Definition.{Definition}
+use Rattle.link65.specs.declared.parts.Exported as parts
+use Rattle.link65.specs.declared.parts.Provider.{Provider}
+use Rattle.link65.specs.declared.parts.Provider.TheVariants.{Nobody}
+use Rattle.link65.specs.declared.parts.Member.{Member}
+use Rattle.module65.proofs.SoundForms.{all_append}
+use Rattle.language65.proofs.Segments.{all_more}
+use Rattle.whole65.proofs.Providers.{Agree, providers_agree, of_module, of_nobody, of_script}
+use Rattle.whole65.specs.Programs as whole
+use Rattle.whole65.specs.Segments.{needs_of}
+use Rattle.whole65.specs.Sources.{AreSources, IsSource}
+use Rattle.whole65.specs.Values as values
+use Rattle.whole65.specs.Values.{by_nobody}
+use Rattle.whole65.specs.Whole.{IsGiven}
+use Rattle.std.specs.Option.{option_map}
 use Rattle.object65.specs.declared.object.Object.{Object}
-use Rattle.language65.proofs.Lists.{bytes_swap, same_bytes}
 use Rattle.language65.specs.Parts.{Content, Part, Said, Exported, Demanded, Checked}
 use Rattle.language65.specs.Laid.{Laid}
 use Rattle.language65.specs.declared.language.Statement.{Statement}
 use Rattle.language65.specs.declared.language.Statement.TheVariants.{ForceImport}
-use Rattle.language65.specs.Layout.{Layout}
 use Rattle.language65.specs.Numbering.{all_said, content_imports, import_keys, key_of, name_of, once, optional_key, part_imports, said_imports}
 use Rattle.language65.specs.Symbols.{imports_of}
 use Rattle.link65.proofs.SegmentLemmas.{at_front, behind_front}
-use Rattle.link65.specs.Names.{is_among}
-use Rattle.link65.specs.Programs.{Module}
-use Rattle.module65.proofs.SoundForms.{all_append}
-use Rattle.whole65.proofs.Bases.{one_of}
-use Rattle.whole65.proofs.Demands.{all_demanded, demanded_names}
-use Rattle.whole65.proofs.Keyed.{each_among, or_right}
-use Rattle.whole65.proofs.Keys.{all_once, any_once}
-use Rattle.whole65.proofs.Known.{all_parts}
-use Rattle.whole65.proofs.Needs.{any_new}
+use Rattle.whole65.proofs.Keyed.{one_of, each_among, or_right}
+use Rattle.whole65.proofs.Exports.{all_demanded, demanded_names}
+use Rattle.whole65.proofs.Sections.{all_once, any_once}
+use Rattle.whole65.proofs.Rows.{any_new}
 use Rattle.whole65.proofs.Positions.{itself}
 use Rattle.whole65.proofs.Sources.{contents_of}
 use Rattle.whole65.specs.Modules.{forced_by, forced_of, table_of}
-use Rattle.whole65.specs.Sources.{IsSource}
+
+-- ---- A script's names are those of what it defines.
+
+abbrev names_of : List Definition → List (List ℕ)
+names_of ds = map (λ (d : Definition). d.name) ds
+
+zip_names : {A B : Type 0} (f : A → B → List Definition) (g : A → List (List ℕ)) → ((x : A) (y : B) → names_of (f x y) ≡ g x) → (xs : List A) (zs : List B) → length zs ≡ length xs → names_of (flat_zip f xs zs) ≡ flat_map g xs
+zip_names f g h [] zs e = refl
+zip_names f g h (x ∷ xs) [] e = absurd (omega (arith, e))
+zip_names f g h (x ∷ xs) (z ∷ zs) e =
+    map-append (λ (d : Definition). d.name) (f x z) (flat_zip f xs zs)
+    ∙ ap (λ ns. ns ++ names_of (flat_zip f xs zs)) (h x z)
+    ∙ ap (λ ns. g x ++ ns) (zip_names f g h xs zs (omega (arith, e)))
+
+of_area : (a : Area) (q : AreaPlace) → names_of (area_definitions a q) ≡ area_names a
+of_area a q = go a.define
+  where
+    go : (b : Bool) → names_of (area_definitions (record a { define = b }) q) ≡ area_names (record a { define = b })
+    go true = refl
+    go false = refl
+
+of_row : (r : Row) (q : RowPlace) → names_of (row_definitions r q) ≡ row_names r
+of_row r q = go r.define
+  where
+    go : (b : Bool) → names_of (row_definitions (record r { define = b }) q) ≡ row_names (record r { define = b })
+    go true = refl
+    go false = refl
+
+script_named : (s : Script) (needs : List SegmentNeed) (q : Placement) → place_of s needs ≡ Ok q → names_of (script_definitions s q) ≡ script_names s
+script_named s needs q h =
+    let all = all_placed s needs q h in
+    let areas : names_of (areas_definitions s.areas q.areas) ≡ flat_map area_names s.areas = zip_names area_definitions area_names of_area s.areas q.areas all.0 in
+    let rows : names_of (rows_definitions s.rows q.rows) ≡ flat_map row_names s.rows = zip_names row_definitions row_names of_row s.rows q.rows all.1 in
+    let both : List Definition = areas_definitions s.areas q.areas ++ rows_definitions s.rows q.rows in
+    map-append (λ (d : Definition). d.name) both (symbol_exports s.symbols)
+    ∙ ap (λ ns. ns ++ names_of (symbol_exports s.symbols)) (
+    map-append (λ (d : Definition). d.name) (areas_definitions s.areas q.areas) (rows_definitions s.rows q.rows)
+    ∙ ap (λ ns. ns ++ names_of (rows_definitions s.rows q.rows)) areas
+    ∙ ap (λ ns. flat_map area_names s.areas ++ ns) rows
+    )
+
+-- ---- A name is given where somebody gives it.
+
+-- so says the test, and so the provider
+abbrev Knows : Bool → Provider → Type 0
+Knows b g = (g ≢ Nobody) ↔ (b ≡ true)
+
+some_step : (b : Bool) (i : ℕ) (o : Option ℕ) (rest : Bool) → is_some o ≡ rest → is_some (cond b (Some i) o) ≡ (b || rest)
+some_step true i o rest e = refl
+some_step false i o rest e = e
+
+some_among : (p : List ℕ → Bool) (i : ℕ) (xs : List (List ℕ)) → is_some (position_from p i xs) ≡ list_any p xs
+some_among p i [] = refl
+some_among p i (x ∷ xs) = some_step (p x) i (position_from p (i + 1) xs) (list_any p xs) (some_among p (i + 1) xs)
+
+knows_nobody : Knows false Nobody
+knows_nobody = (λ k. absurd (k refl), λ k. absurd cc)
+
+knows_definition : (ds : List Definition) (name : List ℕ) (b : Bool) (g : Provider) → Knows b g → Knows (is_among (names_of ds) name || b) (by_definition ds (defined_at ds name) g)
+knows_definition ds name b g h = subst (λ a. Knows (a || b) (by_definition ds (defined_at ds name) g)) (some_among (λ n. bytes_eq n name) 0 (names_of ds)) (go (defined_at ds name))
+  where
+    go : (o : Option ℕ) → Knows (is_some o || b) (by_definition ds o g)
+    go (Some i) = (λ k. refl, λ k e. absurd cc)
+    go None = h
+
+knows_export : (es : List parts.Exported) (name : List ℕ) (b : Bool) (g : Provider) → Knows b g → Knows (is_among (map (λ (e : parts.Exported). e.name) es) name || b) (by_export (exported_at es name) g)
+knows_export es name b g h = subst (λ a. Knows (a || b) (by_export (exported_at es name) g)) (some_among (λ n. bytes_eq n name) 0 (map (λ (e : parts.Exported). e.name) es)) (go (exported_at es name))
+  where
+    go : (o : Option ℕ) → Knows (is_some o || b) (by_export o g)
+    go (Some i) = (λ k. refl, λ k e. absurd cc)
+    go None = h
+
+in_either : (a b c : Bool) → (a || (b || (c || false))) ≡ ((a || b) || c)
+in_either true b c = refl
+in_either false true c = refl
+in_either false false true = refl
+in_either false false false = refl
+
+agree_known : (es : List parts.Exported) (name : List ℕ) (w : values.Provider) (g : Provider) → Agree es name w g → (w ≢ by_nobody) ↔ (g ≢ Nobody)
+agree_known es name _ _ (of_script v) = (λ k e. absurd cc, λ k e. absurd cc)
+agree_known es name _ _ of_nobody = (λ k. absurd (k refl), λ k. absurd (k refl))
+agree_known es name _ _ (of_module i e at called) = (λ k q. absurd cc, λ k q. absurd cc)
+
+module _ (s : Script) (placement : Placement) (ys : List Layout) (ms : List Module) (h : AreSources ys ms) (placed : place_of s (needs_of ys) ≡ Ok placement) where
+  abbrev p : values.Program
+  p = whole.program_of s placement ys
+
+  abbrev q : Program
+  q = program_of ms
+
+  known : (name : List ℕ) → IsGiven p name ↔ (is_given s q name ≡ true)
+  known name =
+      let own : List Definition = script_definitions s placement in
+      let weak : List Definition = weak_symbols s.symbols in
+      let agree = agree_known q.exports name (whole.provider_of s placement ys name) (linked.provider_of own q.exports weak name) (providers_agree s placement ys ms name h) in
+      let inner : Knows (is_among (export_names q) name || (is_among (names_of weak) name || false)) (by_export (exported_at q.exports name) (by_definition weak (defined_at weak name) Nobody)) =
+      knows_export q.exports name (is_among (names_of weak) name || false) (by_definition weak (defined_at weak name) Nobody) (knows_definition weak name false Nobody knows_nobody) in
+      let knows = knows_definition own name (is_among (export_names q) name || (is_among (names_of weak) name || false)) (by_export (exported_at q.exports name) (by_definition weak (defined_at weak name) Nobody)) inner in
+      let test : (is_among (names_of own) name || (is_among (export_names q) name || (is_among (names_of weak) name || false))) ≡ is_given s q name =
+      ap (λ ns. is_among ns name || (is_among (export_names q) name || (is_among (names_of weak) name || false))) (script_named s (needs_of ys) placement placed)
+      ∙ in_either (is_among (script_names s) name) (is_among (export_names q) name) (is_among (names_of weak) name)
+      ∙ ap (λ b. b || is_among (names_of weak) name) (sym (list_any-append (λ n. bytes_eq n name) (script_names s) (export_names q))) in
+      (λ k. sym test ∙ knows.0 (agree.0 k), λ k. agree.1 (knows.1 (test ∙ k)))
+
+-- ---- What has to be given, each once.
+
+pub all_parts : {A : Type 0} (P : A → Type 0) (xs zs : List A) → AllByRecursion P (xs ++ zs) → AllByRecursion P xs × AllByRecursion P zs
+all_parts P [] zs h = (tt, h)
+all_parts P (x ∷ xs) zs h = let more = all_parts P xs zs h.1 in ((h.0, more.0), more.1)
+
+-- what holds of all names holds of one that is among them
+pub of_among : (P : List ℕ → Type 0) (names : List (List ℕ)) (n : List ℕ) → AllByRecursion P names → is_among names n ≡ true → P n
+of_among P [] n h e = cc
+of_among P (k ∷ names) n h e = go (bytes_eq k n) refl e (of_among P names n h.1)
+  where
+    go : (b : Bool) → bytes_eq k n ≡ b → (b || is_among names n) ≡ true → (is_among names n ≡ true → P n) → P n
+    go true q e more = subst P (same_bytes k n q) h.0
+    go false q e more = more e
+
+module _ (P : List ℕ → Type 0) where
+  once_all : (names before : List (List ℕ)) → AllByRecursion P before → AllByRecursion P names → AllByRecursion P (each_once before names)
+  once_all [] before h k = h
+  once_all (n ∷ names) before h k = once_all names (cond (is_among before n) before (before ++ n ∷ [])) (go (is_among before n)) k.1
+    where
+      go : (b : Bool) → AllByRecursion P (cond b before (before ++ n ∷ []))
+      go true = h
+      go false = all_more P before n h k.0
+
+  once_parts : (names before : List (List ℕ)) → AllByRecursion P (each_once before names) → AllByRecursion P before × AllByRecursion P names
+  once_parts [] before h = (h, tt)
+  once_parts (n ∷ names) before h = go (is_among before n) refl (once_parts names (cond (is_among before n) before (before ++ n ∷ [])) h)
+    where
+      go : (b : Bool) → is_among before n ≡ b → AllByRecursion P (cond (is_among before n) before (before ++ n ∷ [])) × AllByRecursion P names → AllByRecursion P before × AllByRecursion P (n ∷ names)
+      go true e k =
+          let front : AllByRecursion P before = subst (λ b. AllByRecursion P (cond b before (before ++ n ∷ []))) e k.0 in
+          (front, (of_among P before n front e, k.1))
+      go false e k =
+          let both = all_parts P before (n ∷ []) (subst (λ b. AllByRecursion P (cond b before (before ++ n ∷ []))) e k.0) in
+          (both.0, (both.1.0, k.1))
+
+none_left : (t : List ℕ → Bool) (names : List (List ℕ)) → (filter (λ n. not (t n)) names ≡ []) ↔ AllByRecursion (λ n. t n ≡ true) names
+none_left t [] = (λ k. tt, λ k. refl)
+none_left t (n ∷ names) = go (t n) refl (none_left t names)
+  where
+    go : (b : Bool) → t n ≡ b → (filter (λ n. not (t n)) names ≡ []) ↔ AllByRecursion (λ n. t n ≡ true) names → (cond (not (t n)) (n ∷ filter (λ n. not (t n)) names) (filter (λ n. not (t n)) names) ≡ []) ↔ ((t n ≡ true) × AllByRecursion (λ n. t n ≡ true) names)
+    go true e more =
+        let kept : cond (not (t n)) (n ∷ filter (λ n. not (t n)) names) (filter (λ n. not (t n)) names) ≡ filter (λ n. not (t n)) names = ap (λ b. cond (not b) (n ∷ filter (λ n. not (t n)) names) (filter (λ n. not (t n)) names)) e in
+        (λ k. (e, more.0 (sym kept ∙ k)), λ k. kept ∙ more.1 k.1)
+    go false e more = (
+      λ k. (let some : n ∷ filter (λ n. not (t n)) names ≡ [] = sym (ap (λ b. cond (not b) (n ∷ filter (λ n. not (t n)) names) (filter (λ n. not (t n)) names)) e) ∙ k in absurd cc),
+      λ k. (let never : true ≡ false = sym k.0 ∙ e in absurd cc),
+    )
+
+-- the imports of members are those of their objects
+imports_behind : (q : Program) (ms : List Module) → flat_map (λ (m : Member). m.imports) (with_modules q ms).members ≡ flat_map (λ (m : Member). m.imports) q.members ++ flat_map (λ (m : Module). m.object.imports) ms
+imports_behind q [] = sym (append-nil (flat_map (λ (m : Member). m.imports) q.members))
+imports_behind q (m ∷ ms) =
+    imports_behind (with_module q m) ms
+    ∙ ap (λ ns. ns ++ flat_map (λ (m : Module). m.object.imports) ms) (flat_map-append (λ (m : Member). m.imports) q.members (member q m ∷ []) ∙ ap (λ ns. flat_map (λ (m : Member). m.imports) q.members ++ ns) (append-nil m.object.imports))
+    ∙ append_assoc (flat_map (λ (m : Member). m.imports) q.members) m.object.imports (flat_map (λ (m : Module). m.object.imports) ms)
+
+all_either : (P Q : List ℕ → Type 0) → ((n : List ℕ) → P n → Q n) → (ns : List (List ℕ)) → AllByRecursion P ns → AllByRecursion Q ns
+all_either P Q f [] h = tt
+all_either P Q f (n ∷ ns) h = (f n h.0, all_either P Q f ns h.1)
+
+-- A link leaves no name open where the imports of the script and of all objects are given in the whole program.
+pub none_open : (s : Script) (placement : Placement) (ys : List Layout) (ms : List Module) → AreSources ys ms → place_of s (needs_of ys) ≡ Ok placement → (unresolved s (program_of ms) ≡ []) ↔ (AllByRecursion (IsGiven (whole.program_of s placement ys)) (symbol_imports s.symbols) × AllByRecursion (IsGiven (whole.program_of s placement ys)) (flat_map (λ (m : Module). m.object.imports) ms))
+none_open s placement ys ms h placed =
+    let q : Program = program_of ms in
+    let Given : List ℕ → Type 0 = λ n. is_given s q n ≡ true in
+    let Known : List ℕ → Type 0 = IsGiven (whole.program_of s placement ys) in
+    let own : List (List ℕ) = symbol_imports s.symbols in
+    let members : List (List ℕ) = flat_map (λ (m : Member). m.imports) q.members in
+    let objects : List (List ℕ) = flat_map (λ (m : Module). m.object.imports) ms in
+    let same : members ≡ objects = imports_behind no_program ms in
+    let either = none_left (is_given s q) (references s q) in (
+      λ k. (
+          let both = all_parts Given own members (once_parts Given (own ++ members) [] (either.0 k)).1 in (
+            all_either Given Known (λ n e. (known s placement ys ms h placed n).1 e) own both.0,
+            subst (AllByRecursion Known) same (all_either Given Known (λ n e. (known s placement ys ms h placed n).1 e) members both.1),
+          )
+          ),
+      λ k. either.1 (once_all Given (own ++ members) [] tt (all_append Given own members (all_either Known Given (λ n e. (known s placement ys ms h placed n).0 e) own k.0) (all_either Known Given (λ n e. (known s placement ys ms h placed n).0 e) members (subst (AllByRecursion Known) (sym same) k.1)))),
+    )
 
 -- ---- The key of a name.
 

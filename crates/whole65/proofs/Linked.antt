@@ -1,32 +1,258 @@
 -- Modules are linked as the program is placed.
-use Rattle.std.proofs.Common.{◌≡◌, ℕ, ◌+◌, ◌<◌, Bool, true, false, cond, List, length, slice_get, Option, Some, None, Result, Ok, Err, refl, sym, ◌∙◌, ap, arith}
-use Rattle.std.specs.Prelude.{ℤ, pos, ◌+ℤ◌, nat_lt}
-use Rattle.std.specs.List.{AllByRecursion}
+use Rattle.std.proofs.Common.{◌≡◌, ℕ, zero, suc, ◌+◌, List, [], ◌∷◌, ◌++◌, map, slice_get, Option, Some, None, Result, Ok, Err, refl, sym, ◌∙◌, ap, arith, ◌≢◌, ◌<◌, Bool, true, false, nat_eq, cond, take, subst, length}
+use Rattle.std.specs.List.{flat_map, AllByRecursion, list_any}
+use Rattle.syntax65.specs.Trees.{Tree}
+use Rattle.language65.specs.declared.fault.AsmFault.{AsmFault}
+use Rattle.language65.specs.Laid.{Laid, asks_section}
+use Rattle.language65.specs.Layout.{Layout, laid, own_size, spot_of}
+use Rattle.language65.specs.Names as names
+use Rattle.language65.specs.Symbols.{Definition, Key, definition_with, definitions_of, key_defined, value_defined, Symbols, symbols_of}
+use Rattle.whole65.specs.Inner.Linked.{or_first, place_in, symbols_at, base_in, begin_in, objects_of, spot_in}
+use Rattle.whole65.specs.Modules.{defining_from, definition_at, import_named, meaning_by, spot_at, statement_at, table_of, global_spot, spot_or}
+use Rattle.whole65.specs.Objects.{definition_shown, import_shown, value_shown, meaning_shown}
+use Rattle.whole65.specs.Values.{Meaning}
+use Rattle.std.specs.Prelude.{◌&&◌, ◌||◌, ℤ, pos, ◌+ℤ◌, nat_lt}
+use Rattle.std.specs.Str.{bytes_eq}
+use Rattle.syntax65.specs.declared.lexing.tokens.AddressSize.{AddressSize}
+use Rattle.language65.specs.declared.laid.Spot.{Spot}
+use Rattle.language65.specs.declared.language.Statement.{Statement}
+use Rattle.language65.specs.declared.language.Statement.TheVariants as statement
+use Rattle.language65.specs.Sizes.{length_of}
+use Rattle.language65.proofs.Segments.{all_more}
+use Rattle.whole65.proofs.Positions.{IsAbsent, other_part, all_front, itself, all_get, position_law, named}
+use Rattle.whole65.proofs.Multiples.{equal}
+use Rattle.whole65.proofs.Offsets.{placed}
+use Rattle.whole65.specs.Offsets.{IsLaidOut, begun, behind, lines_at, begin_of}
+use Rattle.whole65.specs.Segments.{Item, end_of, has_section, items_before, items_from, items_of, largest_multiple, line, line_end, line_of, lines_behind, lines_in, part_of, rounding, segment_name, stands_in, position_of}
 use Rattle.std.specs.Int.{int_wrap, w64}
 use Rattle.std.proofs.lemmas.Bool.Decides.{nat_tests}
 use Rattle.std.proofs.lemmas.Int.{ints, int_wrap-add_left}
-use Rattle.syntax65.specs.Trees.{Tree}
 use Rattle.base65.specs.Values.{wrapped}
 use Rattle.script65.specs.declared.placement.Placement.{Placement}
 use Rattle.script65.specs.declared.script.Script.{Script}
 use Rattle.link65.specs.Values.{run_of}
-use Rattle.language65.specs.declared.fault.AsmFault.{AsmFault}
-use Rattle.language65.specs.Laid.{Laid}
-use Rattle.language65.specs.Layout.{Layout}
-use Rattle.language65.specs.Names as names
 use Rattle.language65.specs.Names.{meaning_of}
-use Rattle.language65.specs.Symbols.{Definition}
-use Rattle.whole65.proofs.Defining.{none_shown, same_meaning, same_spot, shown_by}
-use Rattle.whole65.proofs.Naming.{named}
-use Rattle.whole65.proofs.Positions.{all_get, position_law}
-use Rattle.whole65.proofs.Unasked.{at_end, no_offset}
 use Rattle.whole65.specs.Inner.Steps.{LinkedLaw}
-use Rattle.whole65.specs.Inner.Linked.{base_in, begin_in, objects_of, place_in, spot_in, symbols_at}
-use Rattle.whole65.specs.Modules.{global_spot, spot_or}
-use Rattle.whole65.specs.Objects.{meaning_shown}
-use Rattle.whole65.specs.Offsets.{IsLaidOut, begin_of}
 use Rattle.whole65.specs.Programs.{laid_at, means_at, statement_address}
-use Rattle.whole65.specs.Segments.{end_of, has_section, items_of, position_of, segment_name}
+
+-- ---- The statements that make definitions.
+
+-- the definition of a number and the statement that makes it
+pub record Made (i : ℕ) (ls : List Laid) (d : ℕ) : Type 0 where
+  pub place : ℕ
+  pub laid : Laid
+  pub definition : Definition
+  pub there : slice_get ls place ≡ Some laid
+  pub defining : slice_get (defining_from i ls) d ≡ Some (i + place)
+  pub defined : slice_get (flat_map definitions_of ls) d ≡ Some definition
+  pub value : definition.value ≡ value_defined laid.stated
+  pub spot : definition.spot ≡ laid.spot
+
+pub record Missing (i : ℕ) (ls : List Laid) (d : ℕ) : Type 0 where
+  pub defining : slice_get (defining_from i ls) d ≡ None
+  pub defined : slice_get (flat_map definitions_of ls) d ≡ None
+
+pub data Looked (i : ℕ) (ls : List Laid) (d : ℕ) : Type 0 where
+  made : Made i ls d → Looked i ls d
+  missing : Missing i ls d → Looked i ls d
+
+pub look : (i : ℕ) (ls : List Laid) (d : ℕ) → Looked i ls d
+look i [] d = missing (record { defining = refl; defined = refl })
+look i (l ∷ ls) d = go (key_defined l.spot l.stated) refl d (λ e. look (suc i) ls e)
+  where
+    later : (e d : ℕ) → slice_get (map (λ z. i) (definitions_of l) ++ defining_from (suc i) ls) d ≡ slice_get (defining_from (suc i) ls) e → slice_get (definitions_of l ++ flat_map definitions_of ls) d ≡ slice_get (flat_map definitions_of ls) e → Looked (suc i) ls e → Looked i (l ∷ ls) d
+    later e d p q (made m) =
+        let moved : suc i + m.place ≡ i + suc m.place = omega arith in
+        made (record {
+          place = suc m.place;
+          laid = m.laid;
+          definition = m.definition;
+          there = m.there;
+          defining = p ∙ m.defining ∙ ap Some moved;
+          defined = q ∙ m.defined;
+          value = m.value;
+          spot = m.spot;
+        })
+    later e d p q (missing m) = missing (record { defining = p ∙ m.defining; defined = q ∙ m.defined })
+
+    go : (k : Option Key) → key_defined l.spot l.stated ≡ k → (d : ℕ) → ((e : ℕ) → Looked (suc i) ls e) → Looked i (l ∷ ls) d
+    go None e d next =
+        let none : definitions_of l ≡ [] = ap (λ z. definition_with z (value_defined l.stated) l.spot l.size) e in
+        later d d (ap (λ xs. slice_get (map (λ z. i) xs ++ defining_from (suc i) ls) d) none) (ap (λ xs. slice_get (xs ++ flat_map definitions_of ls) d) none) (next d)
+    go (Some k) e zero next =
+        let x : Definition = record { key = k; value = value_defined l.stated; spot = l.spot; size = l.size } in
+        let one : definitions_of l ≡ x ∷ [] = ap (λ z. definition_with z (value_defined l.stated) l.spot l.size) e in
+        let here : i ≡ i + 0 = omega arith in
+        made (record {
+          place = 0;
+          laid = l;
+          definition = x;
+          there = refl;
+          defining = ap (λ xs. slice_get (map (λ z. i) xs ++ defining_from (suc i) ls) 0) one ∙ ap Some here;
+          defined = ap (λ xs. slice_get (xs ++ flat_map definitions_of ls) 0) one;
+          value = refl;
+          spot = refl;
+        })
+    go (Some k) e (suc d) next =
+        let x : Definition = record { key = k; value = value_defined l.stated; spot = l.spot; size = l.size } in
+        let one : definitions_of l ≡ x ∷ [] = ap (λ z. definition_with z (value_defined l.stated) l.spot l.size) e in
+        later d (suc d) (ap (λ xs. slice_get (map (λ z. i) xs ++ defining_from (suc i) ls) (suc d)) one) (ap (λ xs. slice_get (xs ++ flat_map definitions_of ls) (suc d)) one) (next d)
+
+-- ---- What names mean.
+
+abbrev pub shown_by : Option Layout → Result names.Meaning AsmFault → Option Meaning
+shown_by r (Err e) = None
+shown_by r (Ok (names.defined_at d)) = definition_shown (place_in r d) (slice_get (symbols_at r).definitions d)
+shown_by r (Ok (names.imported_as k)) = import_shown (slice_get (symbols_at r).imports k)
+
+same_value : (place : ℕ) (l : Laid) (v : Option Tree) → value_defined l.stated ≡ v → definition_at place (Some l) ≡ value_shown place v
+same_value place l v e = go v (definition_at place (Some l)) refl e
+  where
+    go : (v : Option Tree) (r : Option Meaning) → definition_at place (Some l) ≡ r → value_defined l.stated ≡ v → definition_at place (Some l) ≡ value_shown place v
+    go None r w e = rw e refl
+    go (Some t) r w e = rw e refl
+
+same_definition : (y : Layout) (d : ℕ) → Looked 0 y.laid d → statement_at y.laid (slice_get (defining_from 0 y.laid) d) ≡ definition_shown (place_in (Some y) d) (slice_get (table_of y).definitions d)
+same_definition y d (missing m) =
+    ap (statement_at y.laid) m.defining ∙ ap (definition_shown (place_in (Some y) d)) (sym m.defined)
+same_definition y d (made m) =
+    let zero_more : 0 + m.place ≡ m.place = omega arith in
+    let at : slice_get (defining_from 0 y.laid) d ≡ Some m.place = m.defining ∙ ap Some zero_more in
+    ap (statement_at y.laid) at
+    ∙ ap (definition_at m.place) m.there
+    ∙ same_value m.place m.laid m.definition.value (sym m.value)
+    ∙ ap (λ r. value_shown (or_first r) m.definition.value) (sym at)
+    ∙ ap (definition_shown (place_in (Some y) d)) (sym m.defined)
+
+same_import : (r : Option (List ℕ)) → import_named r ≡ import_shown r
+same_import None = refl
+same_import (Some n) = refl
+
+pub same_meaning : (y : Layout) (r : Result names.Meaning AsmFault) → meaning_by y r ≡ shown_by (Some y) r
+same_meaning y (Err e) = refl
+same_meaning y (Ok (names.defined_at d)) = same_definition y d (look 0 y.laid d)
+same_meaning y (Ok (names.imported_as k)) = same_import (slice_get (table_of y).imports k)
+
+pub none_shown : (r : Result names.Meaning AsmFault) → None ≡ shown_by None r
+none_shown (Err e) = refl
+none_shown (Ok (names.defined_at d)) = refl
+none_shown (Ok (names.imported_as k)) = refl
+
+-- a definition stands where its statement does
+pub same_spot : (y : Layout) (d : ℕ) (x : Definition) → slice_get (table_of y).definitions d ≡ Some x → spot_at y (place_in (Some y) d) ≡ x.spot
+same_spot y d x e = go (look 0 y.laid d)
+  where
+    go : Looked 0 y.laid d → spot_at y (place_in (Some y) d) ≡ x.spot
+    go (missing m) = let none : Some x ≡ None = sym e ∙ m.defined in absurd cc
+    go (made m) =
+        let zero_more : 0 + m.place ≡ m.place = omega arith in
+        let at : slice_get (defining_from 0 y.laid) d ≡ Some m.place = m.defining ∙ ap Some zero_more in
+        let both : Some m.definition ≡ Some x = sym m.defined ∙ e in
+        let same : m.definition ≡ x = cc in
+        ap (λ r. spot_at y (or_first r)) at
+        ∙ (rw m.there (sym m.spot))
+        ∙ ap (λ (z : Definition). z.spot) same
+
+-- ---- What asks for no section places nothing.
+
+abbrev IsQuiet : Laid → Type 0
+IsQuiet l = asks_section l.stated ≡ false → l.length ≡ 0
+
+places_nothing : (y : Symbols) (s : Spot) (own : AddressSize) (x : Statement) → asks_section x ≡ false → length_of y s own x ≡ 0
+places_nothing y s own (statement.Instruction m o) h = cc
+places_nothing y s own (statement.Values w is) h = cc
+places_nothing y s own (statement.Reserve n v) h = cc
+places_nothing y s own (statement.Align n v) h = cc
+places_nothing y s own (statement.FilePart b n v) h = cc
+places_nothing y s own x h = refl
+
+pub quiet : {y : Layout} → IsLaidOut y → AllByRecursion IsQuiet y.laid
+quiet begun = tt
+quiet (behind y place x d none) =
+    all_more IsQuiet y.laid (laid (symbols_of y.laid) y.standing place x) (quiet d)
+    (λ h. places_nothing (symbols_of y.laid) (spot_of y.standing) (own_size y.standing) x h)
+
+quiet_end : (at multiple : ℕ) (l : Laid) → asks_section l.stated ≡ false → l.length ≡ 0 → line_end at multiple l ≡ at
+quiet_end at multiple l h e = go l.stated h
+  where
+    nothing : at + l.length ≡ at
+    nothing = omega (arith, e)
+
+    go : (x : Statement) → asks_section x ≡ false → line_end at multiple (record l { stated = x }) ≡ at
+    go (statement.Align n v) h = absurd cc
+    go x h = nothing
+
+-- none of the module's statements there asks
+abbrev AsksNot : Layout → List ℕ → Laid → Type 0
+AsksNot y name l = stands_in y name l ≡ true → asks_section l.stated ≡ false
+
+none_asks : (y : Layout) (name : List ℕ) (ls : List Laid) → list_any (λ l. stands_in y name l && asks_section l.stated) ls ≡ false → AllByRecursion (AsksNot y name) ls
+none_asks y name [] h = tt
+none_asks y name (l ∷ ls) h = (first (stands_in y name l) (asks_section l.stated) h, none_asks y name ls (others (stands_in y name l && asks_section l.stated) h))
+  where
+    first : (a b : Bool) → (a && b || list_any (λ l. stands_in y name l && asks_section l.stated) ls) ≡ false → a ≡ true → b ≡ false
+    first true true h e = absurd cc
+    first true false h e = refl
+    first false b h e = absurd cc
+
+    others : (a : Bool) → (a || list_any (λ l. stands_in y name l && asks_section l.stated) ls) ≡ false → list_any (λ l. stands_in y name l && asks_section l.stated) ls ≡ false
+    others true h = absurd cc
+    others false h = h
+
+quiet_lines : (at owner : ℕ) (y : Layout) (g : ℕ) (before ls : List Laid) → AllByRecursion IsQuiet ls → AllByRecursion (AsksNot y (segment_name y g)) ls → end_of at (map line (lines_at g (lines_behind owner before ls))) ≡ at
+quiet_lines at owner y g before [] q a = refl
+quiet_lines at owner y g before (l ∷ ls) q a = go (nat_eq l.spot.segment g) refl (λ z. quiet_lines z owner y g (before ++ l ∷ []) ls q.1 a.1)
+  where
+    go : (b : Bool) → nat_eq l.spot.segment g ≡ b → ((z : ℕ) → end_of z (map line (lines_at g (lines_behind owner (before ++ l ∷ []) ls))) ≡ z) → end_of at (map line (cond b (line_of owner before l ∷ lines_at g (lines_behind owner (before ++ l ∷ []) ls)) (lines_at g (lines_behind owner (before ++ l ∷ []) ls)))) ≡ at
+    go false e r = r at
+    go true e r =
+        let here : l.spot.segment ≡ g = equal l.spot.segment g e in
+        let there : stands_in y (segment_name y g) l ≡ true = ap (λ k. bytes_eq (segment_name y k) (segment_name y g)) here ∙ itself (segment_name y g) in
+        let asks = a.0 there in
+        let z : ℕ = line_end at (line_of owner before l).multiple l in
+        r z ∙ quiet_end at (line_of owner before l).multiple l asks (q.0 asks)
+
+-- a statement there has the offset 0
+pub no_offset : (y : Layout) (place : ℕ) (l : Laid) → IsLaidOut y → slice_get y.laid place ≡ Some l → has_section y (segment_name y l.spot.segment) ≡ false → l.spot.offset ≡ 0
+no_offset y place l d there asked =
+    (placed 0 d).offsets place l there
+    ∙ quiet_lines 0 0 y l.spot.segment [] (take place y.laid) (all_front IsQuiet y.laid place (quiet d)) (all_front (AsksNot y (segment_name y l.spot.segment)) y.laid place (none_asks y (segment_name y l.spot.segment) y.laid asked))
+
+-- ---- No item of the segment's list is such a statement.
+
+all_absent : (owner place : ℕ) (xs : List Item) → IsAbsent owner place xs → items_before owner place xs ≡ xs
+all_absent owner place [] h = refl
+all_absent owner place (x ∷ xs) h =
+    ap (λ b. cond b [] (x ∷ items_before owner place xs)) h.0 ∙ ap (λ z. x ∷ z) (all_absent owner place xs h.1)
+
+both_absent : (owner place : ℕ) (xs ys : List Item) → IsAbsent owner place xs → IsAbsent owner place ys → IsAbsent owner place (xs ++ ys)
+both_absent owner place [] ys h k = k
+both_absent owner place (x ∷ xs) ys h k = (h.0, both_absent owner place xs ys h.1 k)
+
+behind_absent : (first owner place : ℕ) (ys : List Layout) (name : List ℕ) → owner < first → IsAbsent owner place (items_from first ys name)
+behind_absent first owner place [] name lt = tt
+behind_absent first owner place (y ∷ ys) name lt =
+    let other : first ≢ owner = omega (arith, lt) in
+    let next : owner < suc first = omega (arith, lt) in
+    both_absent owner place (part_of first y name) (items_from (suc first) ys name) (other_part first owner place other y name) (behind_absent (suc first) owner place ys name next)
+
+absent_from : (first count owner place : ℕ) (ys : List Layout) (y : Layout) (name : List ℕ) → owner ≡ first + count → slice_get ys count ≡ Some y → has_section y name ≡ false → IsAbsent owner place (items_from first ys name)
+absent_from first count owner place [] y name o e h = cc
+absent_from first zero owner place (z ∷ ys) y name o e h =
+    let same : z ≡ y = cc in
+    let none : has_section z name ≡ false = ap (λ k. has_section k name) same ∙ h in
+    let lt : owner < suc first = omega (arith, o) in
+    let empty : part_of first z name ≡ [] = ap (λ b. cond b (rounding (largest_multiple (lines_in first z name)) ∷ map line (lines_in first z name)) []) none in
+    subst (λ xs. IsAbsent owner place (xs ++ items_from (suc first) ys name)) (sym empty) (behind_absent (suc first) owner place ys name lt)
+absent_from first (suc count) owner place (z ∷ ys) y name o e h =
+    let other : first ≢ owner = omega (arith, o) in
+    let next : owner ≡ suc first + count = omega (arith, o) in
+    both_absent owner place (part_of first z name) (items_from (suc first) ys name) (other_part first owner place other z name) (absent_from (suc first) count owner place ys y name next e h)
+
+-- its position is the end of the list
+pub at_end : (ys : List Layout) (owner place : ℕ) (y : Layout) (name : List ℕ) → slice_get ys owner ≡ Some y → has_section y name ≡ false → end_of 0 (items_before owner place (items_of ys name)) ≡ end_of 0 (items_of ys name)
+at_end ys owner place y name e h =
+    ap (end_of 0) (all_absent owner place (items_of ys name) (absent_from 0 owner owner place ys y name (omega arith) e h))
 
 -- ---- Names.
 

@@ -1,21 +1,46 @@
 -- What a link comes to that gives files.
-use Rattle.std.proofs.Common.{◌≡◌, ℕ, List, [], ◌∷◌, ◌++◌, Result, Ok, Err, refl, sym, ◌∙◌, ap, subst}
-use Rattle.std.specs.Prelude.{ℤ}
+use Rattle.std.proofs.Common.{◌≡◌, ℕ, List, [], ◌∷◌, ◌++◌, Result, Ok, Err, refl, sym, ◌∙◌, ap, subst, Option, Some, None}
+use Rattle.std.specs.Prelude.{ℤ, ◌↔◌}
 use Rattle.base65.specs.Outcome.{◌>>=◌, First}
 use Rattle.script65.specs.Placing.{place_of}
 use Rattle.script65.specs.declared.placement.PlaceFault.{PlaceFault}
 use Rattle.script65.specs.declared.placement.Placement.{Placement}
 use Rattle.script65.specs.declared.script.Script.{Script}
-use Rattle.link65.specs.Links.{check_asserts, check_export, check_fixup, each_passes, fixups_by_row, AreFiles, IsFinished, IsImaged, IsPlacedLink, IsProgramLink, as_placement, checked, names_once, none_unresolved, placed}
-use Rattle.link65.specs.Names.{unresolved}
+use Rattle.link65.specs.Links.{check_asserts, check_export, check_fixup, each_passes, fixups_by_row, AreFiles, IsFinished, IsImaged, IsPlacedLink, IsProgramLink, as_placement, checked, names_once, none_unresolved, placed, no_name_again}
+use Rattle.link65.specs.Names.{unresolved, first_again, script_names}
 use Rattle.link65.specs.Texts.{map_text, warnings_of_rows}
 use Rattle.link65.specs.Values.{linkage_of, needs_of, AreExports, Exports, Linkage, in_table}
-use Rattle.link65.specs.Programs.{Program}
+use Rattle.link65.specs.Programs.{Program, program_of}
 use Rattle.link65.specs.declared.fault.LinkFault.{LinkFault}
 use Rattle.link65.specs.declared.linking.Linked.{Linked}
 use Rattle.base65.specs.declared.output.OutputFile.{OutputFile}
 use Rattle.link65.specs.declared.parts.ValueFault.{ValueFault}
-use Rattle.whole65.proofs.Later.{bind_ok}
+use Rattle.whole65.proofs.SameValues.{bind_ok}
+use Rattle.base65.specs.Store.{Files}
+use Rattle.syntax65.specs.Tokens.{Lexeme}
+use Rattle.syntax65.specs.Trees.{number}
+use Rattle.expand65.specs.Expansion.{opened_in}
+use Rattle.expand65.specs.State as expand
+use Rattle.source65.specs.declared.fault.ExpandFault.{ExpandFault}
+use Rattle.source65.specs.declared.place.Place.{Place}
+use Rattle.language65.specs.declared.fault.AsmFault.{AsmFault}
+use Rattle.language65.specs.declared.language.Statement.{Statement}
+use Rattle.language65.specs.declared.language.Statement.TheVariants.{Constant}
+use Rattle.language65.specs.Layout.{Layout, layout_behind, nothing_laid}
+use Rattle.language65.specs.LineFaults.{line_fault, unless_fault}
+use Rattle.language65.specs.Symbols.{symbols_of}
+use Rattle.statements65.specs.Parsing.{label_of}
+use Rattle.module65.specs.Laying.{IsLaid, laying}
+use Rattle.module65.specs.Reading.{AreDefined, AreTaken, Define, Follows, IsBegun, IsGiven, IsLabelled, IsRest, Job, Reached, no_line, taken, faulty, refused, ended, with_bytes}
+use Rattle.whole65.specs.Inner.Steps.{LaidOutLaw, NamesLaw, ValuedImportsLaw}
+use Rattle.whole65.specs.Offsets.{IsLaidOut, begun, behind}
+use Rattle.base65.specs.Values.{value1, value2}
+use Rattle.object65.specs.Form.{lit, sec, imp, prefix, binary}
+use Rattle.object65.specs.FormValue.{or_none, value_in}
+use Rattle.language65.specs.Numbering.{imports_in}
+use Rattle.link65.specs.Names as linked
+use Rattle.module65.proofs.SoundForms.{all_append}
+use Rattle.whole65.proofs.Exports.{export_names_law}
 
 -- ---- One thing first, and then another.
 
@@ -108,3 +133,86 @@ module _ (output : List ℕ) (s : Script) (q : Program) (files : List OutputFile
         asserted = asserted;
         made = subst (AreFiles output s q placement l exports) (same_files imaged.0 (warnings_of_rows s.rows q.segments ++ warnings) (map_text s q placement l exports) linked imaged.2 files same) imaged.1;
       }
+
+-- ---- A source lays its statements one behind the other, none with a fault at its line.
+
+one : (y z : Layout) (place : Place) (x : Statement) → IsLaidOut y → IsLaid y place x (Ok z) → IsLaidOut z
+one y z place x d h = by (line_fault (symbols_of y.laid) y.standing x) refl h
+  where
+    by : (o : Option AsmFault) → line_fault (symbols_of y.laid) y.standing x ≡ o → Ok z ≡ unless_fault o (layout_behind y place x) → IsLaidOut z
+    by (Some e) is h = absurd cc
+    by None is h =
+        let same : layout_behind y place x ≡ z = cc in
+        subst IsLaidOut same (behind y place x d is)
+
+unchanged : (y z : Layout) → IsLaidOut y → ◌≡◌ {A = Result Layout AsmFault} (Ok z) (Ok y) → IsLaidOut z
+unchanged y z d h = let same : y ≡ z = cc in subst IsLaidOut same d
+
+labelled : (y z : Layout) (place : Place) (x : Option Statement) → IsLaidOut y → IsLabelled IsLaid y place x (Ok z) → IsLaidOut z
+labelled y z place None d h = unchanged y z d h
+labelled y z place (Some x) d h = one y z place x d h
+
+stated : (m : Files) (y z : Layout) (place : Place) (x : Result Statement AsmFault) → IsLaidOut y → First x (λ s. IsLaid y place (with_bytes m place s)) (Ok z) → IsLaidOut z
+stated m y z place (Ok x) d h = one y z place (with_bytes m place x) d h
+stated m y z place (Err e) d h = absurd cc
+
+rest : (m : Files) (y z : Layout) (place : Place) (ts : List Lexeme) → IsLaidOut y → IsRest m IsLaid y place ts (Ok z) → IsLaidOut z
+rest m y z place [] d h = unchanged y z d h
+rest m y z place (t ∷ ts) d (x, is, h) = stated m y z place x d h
+
+behind_label : (m : Files) (y z : Layout) (place : Place) (ts : List Lexeme) (q : Result Layout AsmFault) → IsLaidOut y → IsLabelled IsLaid y place (label_of ts).0 q → First q (λ w. IsRest m IsLaid w place (label_of ts).1) (Ok z) → IsLaidOut z
+behind_label m y z place ts (Ok w) d l h = rest m w z place (label_of ts).1 (labelled y w place (label_of ts).0 d l) h
+behind_label m y z place ts (Err e) d l h = absurd cc
+
+given : (m : Files) (y z : Layout) (place : Place) (x : expand.Stated) → IsLaidOut y → IsGiven m IsLaid y place x (Ok z) → IsLaidOut z
+given m y z place (expand.label ts) d (q, l, h) = behind_label m y z place ts q d l h
+given m y z place (expand.plain ts) d h = rest m y z place ts d h
+
+all_taken : (m : Files) {s : expand.State} {y : Layout} {r : Reached Layout} → AreTaken m laying s y r → IsLaidOut y → IsLaidOut r.behind
+all_taken m (taken s t x y z r reach h more) d = all_taken m more (given m y z t.left.place x d h)
+all_taken m (faulty s t x y e reach h) d = d
+all_taken m (refused s y e place reach) d = d
+all_taken m (ended s t y reach) d = d
+
+all_defined : (y : Layout) (place : Place) (ds : List Define) (z : Layout) → IsLaidOut y → AreDefined IsLaid y place ds (Ok z) → IsLaidOut z
+all_defined y place [] z d h = unchanged y z d h
+all_defined y place (c ∷ cs) z d (q, is, h) = by q is h (λ w e more. all_defined w place cs z e more)
+  where
+    by : (q : Result Layout AsmFault) → IsLaid y place (Constant c.0 (number c.1)) q → First q (λ w. AreDefined IsLaid w place cs) (Ok z) → ((w : Layout) → IsLaidOut w → AreDefined IsLaid w place cs (Ok z) → IsLaidOut z) → IsLaidOut z
+    by (Ok w) is h next = next w (one y w place (Constant c.0 (number c.1)) d is) h
+    by (Err e) is h next = absurd cc
+
+followed : (m : Files) (s : expand.State) (place : Place) (ds : List Define) (q : Result Layout AsmFault) (r : Reached Layout) → AreDefined IsLaid nothing_laid place ds q → Follows m laying s place nothing_laid q r → IsLaidOut r.behind
+followed m s place ds (Ok z) r defined h = all_taken m h (all_defined nothing_laid place ds z begun defined)
+followed m s place ds (Err e) r defined h = subst (λ (k : Reached Layout). IsLaidOut k.behind) (sym h) begun
+
+opened : (m : Files) (job : Job) (o : Result expand.State ExpandFault) (r : Reached Layout) → IsBegun m laying job nothing_laid o r → IsLaidOut r.behind
+opened m job (Err e) r h = subst (λ (k : Reached Layout). IsLaidOut k.behind) (sym h) begun
+opened m job (Ok s) r (q, defined, h) = followed m s (no_line job.source) job.defines q r defined h
+
+pub laid_out_law : LaidOutLaw
+laid_out_law m job r h = opened m job (opened_in m job.source job.include) r h
+
+-- ---- Names that are given, and imports that have values.
+
+pub valued_imports_law : (E : Type 0) → ValuedImportsLaw E
+valued_imports_law E none bases values (lit n) v e = tt
+valued_imports_law E none bases values (sec g a) v e = tt
+valued_imports_law E none bases values (imp k) v e = ((v, e), tt)
+valued_imports_law E none bases values (prefix op f) v e =
+    let (a, first, last) = bind_ok (value_in none bases values f) (λ a. Ok (value1 op a)) v e in
+    valued_imports_law E none bases values f a first
+valued_imports_law E none bases values (binary op f g) v e =
+    let (a, first, others) = bind_ok (value_in none bases values f) (λ a. value_in none bases values g >>= (λ b. or_none none (value2 op a b))) v e in
+    let (b, second, last) = bind_ok (value_in none bases values g) (λ b. or_none none (value2 op a b)) v others in
+    all_append (λ k. (w : ℤ) × (values k ≡ Ok w)) (imports_in f) (imports_in g) (valued_imports_law E none bases values f a first) (valued_imports_law E none bases values g b second)
+
+pub none_again : (r : Option (List ℕ)) → (no_name_again r ≡ Ok tt) ↔ (r ≡ None)
+none_again None = (λ k. refl, λ k. refl)
+none_again (Some name) = (λ k. absurd cc, λ k. absurd cc)
+
+pub names_law : NamesLaw
+names_law s ys ms h =
+    let same = ap (λ names. first_again [] (script_names s ++ names)) (export_names_law ys ms h) in
+    let either = none_again (first_again [] (linked.given_names s (program_of ms))) in
+    (λ k. sym same ∙ either.0 k, λ k. either.1 (same ∙ k))

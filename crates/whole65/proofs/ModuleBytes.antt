@@ -1,17 +1,204 @@
--- A module's lines in a segment, and what its object's section puts there.
-use Rattle.std.proofs.Common.{ℕ, List, [], ◌∷◌, map}
-use Rattle.std.specs.Prelude.{◌↔◌}
-use Rattle.std.specs.List.{AllByRecursion}
-use Rattle.language65.specs.Parts.{Part, Known, Filled, Waiting}
-use Rattle.language65.specs.Numbering.{fragment_of, fragments_of, numbered, parts_in}
+-- What lies in a segment, and what an object's section puts there.
+use Rattle.std.proofs.Common.{◌≡◌, ℕ, zero, suc, List, [], ◌∷◌, ◌++◌, map, refl, sym, ◌∙◌, ap, subst, ◌+◌, Bool, true, false, cond, filter, Result, Ok, arith}
+use Rattle.std.specs.Prelude.{◌↔◌, replicate, ℤ, not}
+use Rattle.std.specs.List.{flat_map, AllByRecursion}
+use Rattle.std.proofs.lemmas.List.{append-nil, append_assoc}
+use Rattle.object65.specs.declared.object.Fragment.{Fragment}
+use Rattle.object65.specs.declared.object.Fragment.TheVariants.{Literal, Fill, Value}
+use Rattle.link65.specs.Programs.{Cell, known, filled, fragment_cells}
 use Rattle.link65.specs.Values.{Linkage}
-use Rattle.whole65.proofs.Cells.{cells_law}
-use Rattle.whole65.proofs.Fragments.{all_joined_are, all_kept, same_parts}
+use Rattle.whole65.specs.Inner.Cells.{AreCells, linked_value, IsValuedIn}
+use Rattle.whole65.specs.Inner.Steps.{CellsLaw, FragmentsLaw, NumberLaw, ModuleLaw}
+use Rattle.whole65.specs.Inner.Parts.{AreFragments, IsFragment, AreParts, ArePart, Valuing, valued_by}
+use Rattle.base65.specs.Outcome.{◌>>=◌}
+use Rattle.base65.specs.Values.{value1, value2}
+use Rattle.object65.specs.Form.{Form, lit, sec, imp, prefix, binary}
+use Rattle.object65.specs.FormValue.{or_none, value_in}
+use Rattle.object65.specs.declared.object.Origin.{Origin}
+use Rattle.source65.specs.declared.place.Place.{Place}
+use Rattle.language65.specs.Parts.{Part, Known, Filled, Waiting}
+use Rattle.language65.specs.Numbering.{all_joined, fragment_of, fragments_of, is_empty, joined, number_of, numbered, parts_in}
 use Rattle.whole65.proofs.SectionBytes.{section_law}
-use Rattle.whole65.specs.Inner.Cells.{IsValuedIn, linked_value}
-use Rattle.whole65.specs.Inner.Steps.{ModuleLaw}
 use Rattle.whole65.specs.Objects.{HasValue, Objects}
-use Rattle.whole65.specs.Inner.Parts.{ArePart, AreParts, Valuing}
+
+-- ---- What lies in a segment, and the fragments that were put there.
+
+module _ (l : Linkage) (fill : ℕ) where
+  abbrev pub BothCells : List Cell → List Cell → List ℕ → Type 0
+  BothCells cs ds bytes = (own : List ℕ) × (rest : List ℕ) × AreCells l fill cs own × AreCells l fill ds rest × (bytes ≡ own ++ rest)
+
+  pub cells_joined : (cs ds : List Cell) (bytes : List ℕ) → BothCells cs ds bytes → AreCells l fill (cs ++ ds) bytes
+  cells_joined [] ds bytes (own, rest, none, h, e) = subst (AreCells l fill ds) (sym (e ∙ ap (λ z. z ++ rest) none)) h
+  cells_joined (c ∷ cs) ds bytes (own, rest, (a, b, k, more, e'), h, e) =
+      (a, b ++ rest, k, cells_joined cs ds (b ++ rest) (b, rest, more, h, refl), e ∙ ap (λ z. z ++ rest) e' ∙ append_assoc a b rest)
+
+  pub cells_split : (cs ds : List Cell) (bytes : List ℕ) → AreCells l fill (cs ++ ds) bytes → BothCells cs ds bytes
+  cells_split [] ds bytes h = ([], bytes, refl, h, refl)
+  cells_split (c ∷ cs) ds bytes (a, b, k, more, e) =
+      let (own, rest, h, g, e') = cells_split cs ds b more in
+      (a ++ own, rest, (a, own, k, h, refl), g, e ∙ ap (λ z. a ++ z) e' ∙ sym (append_assoc a own rest))
+
+  of_known : (own bytes : List ℕ) → (bytes ≡ own) ↔ AreCells l fill (map known own) bytes
+  of_known [] bytes = (λ h. h, λ h. h)
+  of_known (b ∷ own) bytes = (
+    λ h. (b ∷ [], own, refl, (of_known own own).0 refl, h),
+    λ h. h.4 ∙ ap (λ z. z ++ h.1) h.2 ∙ ap (λ z. b ∷ z) ((of_known own h.1).1 h.3),
+  )
+
+  pub of_filled : (n : ℕ) (bytes : List ℕ) → (bytes ≡ replicate n fill) ↔ AreCells l fill (replicate n filled) bytes
+  of_filled zero bytes = (λ h. h, λ h. h)
+  of_filled (suc n) bytes = (
+    λ h. (fill ∷ [], replicate n fill, refl, (of_filled n (replicate n fill)).0 refl, h),
+    λ h. h.4 ∙ ap (λ z. z ++ h.1) h.2 ∙ ap (λ z. fill ∷ z) ((of_filled n h.1).1 h.3),
+  )
+
+  of_fragment : (owner : ℕ) (f : Fragment) (bytes : List ℕ) → IsFragment (linked_value l owner) fill f bytes ↔ AreCells l fill (fragment_cells owner f) bytes
+  of_fragment owner (Literal own) bytes = of_known own bytes
+  of_fragment owner (Fill n) bytes = of_filled n bytes
+  of_fragment owner (Value width origin f) bytes = (λ h. (bytes, [], h, refl, sym (append-nil bytes)), back)
+    where
+      back : AreCells l fill (fragment_cells owner (Value width origin f)) bytes → IsFragment (linked_value l owner) fill (Value width origin f) bytes
+      back (own, rest, h, none, e) =
+          let same : bytes ≡ own = e ∙ ap (λ z. own ++ z) none ∙ append-nil own in
+          subst (IsFragment (linked_value l owner) fill (Value width origin f)) (sym same) h
+
+  pub of_fragments : (owner : ℕ) (fs : List Fragment) (bytes : List ℕ) → AreFragments (linked_value l owner) fill fs bytes ↔ AreCells l fill (flat_map (fragment_cells owner) fs) bytes
+  of_fragments owner [] bytes = (λ h. h, λ h. h)
+  of_fragments owner (f ∷ fs) bytes = (
+    λ h. cells_joined (fragment_cells owner f) (flat_map (fragment_cells owner) fs) bytes (h.0, h.1, (of_fragment owner f h.0).0 h.2, (of_fragments owner fs h.1).0 h.3, h.4),
+    λ h. (let s = cells_split (fragment_cells owner f) (flat_map (fragment_cells owner) fs) bytes h in (s.0, s.1, (of_fragment owner f s.0).1 s.2, (of_fragments owner fs s.1).1 s.3, s.4)),
+  )
+
+pub cells_law : CellsLaw
+cells_law l fill owner fs bytes = of_fragments l fill owner fs bytes
+
+-- ---- Fragments and the parts of which they are joined.
+
+pub number_law : (E : Type 0) → NumberLaw E
+number_law E none bases values ss is (lit v) = refl
+number_law E none bases values ss is (sec g a) = refl
+number_law E none bases values ss is (imp k) = refl
+number_law E none bases values ss is (prefix op f) = ap (λ r. r >>= (λ a. Ok (value1 op a))) (number_law E none bases values ss is f)
+number_law E none bases values ss is (binary op f g) =
+    ap (λ r. r >>= (λ a. value_in none bases values (numbered ss is g) >>= (λ b. or_none none (value2 op a b)))) (number_law E none bases values ss is f)
+    ∙ ap (λ r. value_in none (λ k. bases (number_of ss k)) (λ k. values (number_of is k)) f >>= (λ a. r >>= (λ b. or_none none (value2 op a b)))) (number_law E none bases values ss is g)
+
+module _ (Has : Valuing) (fill : ℕ) where
+  -- ---- Without numbers.
+  same_part : (origins : Place → Origin) (ss is : List ℕ) (p : Part) (bytes : List ℕ) → ArePart (λ f v. Has (numbered ss is f) v) fill p bytes ↔ IsFragment Has fill (fragment_of origins ss is p) bytes
+  same_part origins ss is (Known own) bytes = (λ h. h, λ h. h)
+  same_part origins ss is (Filled n) bytes = (λ h. h, λ h. h)
+  same_part origins ss is (Waiting width place f) bytes = (λ h. h, λ h. h)
+
+  pub same_parts : (origins : Place → Origin) (ss is : List ℕ) (ps : List Part) (bytes : List ℕ) → AreParts (λ f v. Has (numbered ss is f) v) fill ps bytes ↔ AreFragments Has fill (map (fragment_of origins ss is) ps) bytes
+  same_parts origins ss is [] bytes = (λ h. h, λ h. h)
+  same_parts origins ss is (p ∷ ps) bytes = (
+    λ h. (h.0, h.1, (same_part origins ss is p h.0).0 h.2, (same_parts origins ss is ps h.1).0 h.3, h.4),
+    λ h. (h.0, h.1, (same_part origins ss is p h.0).1 h.2, (same_parts origins ss is ps h.1).1 h.3, h.4),
+  )
+
+  -- ---- Without the empty ones.
+  no_bytes : (f : Fragment) → is_empty f ≡ true → (IsFragment Has fill f []) × ((bytes : List ℕ) → IsFragment Has fill f bytes → bytes ≡ [])
+  no_bytes (Literal []) e = (refl, λ bytes h. h)
+  no_bytes (Literal (b ∷ bs)) e = cc
+  no_bytes (Fill zero) e = (refl, λ bytes h. h)
+  no_bytes (Fill (suc n)) e = cc
+  no_bytes (Value w n f) e = cc
+
+  abbrev kept : List Fragment → List Fragment
+  kept fs = filter (λ f. not (is_empty f)) fs
+
+  pub all_kept : (fs : List Fragment) (bytes : List ℕ) → AreFragments Has fill fs bytes ↔ AreFragments Has fill (kept fs) bytes
+  all_kept [] bytes = (λ h. h, λ h. h)
+  all_kept (f ∷ fs) bytes = go (is_empty f) refl (all_kept fs)
+    where
+      go : (b : Bool) → is_empty f ≡ b → ((bytes : List ℕ) → AreFragments Has fill fs bytes ↔ AreFragments Has fill (filter (λ g. not (is_empty g)) fs) bytes) → AreFragments Has fill (f ∷ fs) bytes ↔ AreFragments Has fill (cond (not b) (f ∷ filter (λ g. not (is_empty g)) fs) (filter (λ g. not (is_empty g)) fs)) bytes
+      go false e others = (
+        λ h. (h.0, h.1, h.2, (others h.1).0 h.3, h.4),
+        λ h. (h.0, h.1, h.2, (others h.1).1 h.3, h.4),
+      )
+      go true e others =
+          let none = no_bytes f e in (
+            λ h. (let same : bytes ≡ h.1 = h.4 ∙ ap (λ z. z ++ h.1) (none.1 h.0 h.2) in subst (AreFragments Has fill (filter (λ g. not (is_empty g)) fs)) (sym same) ((others h.1).0 h.3)),
+            λ h. ([], bytes, none.0, (others bytes).1 h, refl),
+          )
+
+  -- ---- Joined.
+  more_fill : (m n : ℕ) → replicate (m + n) fill ≡ replicate m fill ++ replicate n fill
+  more_fill zero n = (let same : zero + n ≡ n = omega arith in ap (λ k. replicate k fill) same)
+  more_fill (suc m) n = (let same : suc m + n ≡ suc (m + n) = omega arith in ap (λ k. replicate k fill) same ∙ ap (λ z. fill ∷ z) (more_fill m n))
+
+  both : (f g h : Fragment) (fs : List Fragment) (a b : List ℕ) →
+      ((own : List ℕ) → IsFragment Has fill f own ↔ (own ≡ a)) → ((own : List ℕ) → IsFragment Has fill g own ↔ (own ≡ b)) → ((own : List ℕ) → IsFragment Has fill h own ↔ (own ≡ a ++ b)) →
+      (bytes : List ℕ) → AreFragments Has fill (f ∷ g ∷ fs) bytes ↔ AreFragments Has fill (h ∷ fs) bytes
+  both f g h fs a b is_f is_g is_h bytes = (there, back)
+    where
+      there : AreFragments Has fill (f ∷ g ∷ fs) bytes → AreFragments Has fill (h ∷ fs) bytes
+      there (x, rest, p, (y, more, q, r, e), e') =
+          let first : x ≡ a = (is_f x).0 p in
+          let second : y ≡ b = (is_g y).0 q in
+          let whole : bytes ≡ (a ++ b) ++ more = e' ∙ ap (λ z. x ++ z) e ∙ ap (λ z. z ++ (y ++ more)) first ∙ ap (λ z. a ++ (z ++ more)) second ∙ sym (append_assoc a b more) in
+          (a ++ b, more, (is_h (a ++ b)).1 refl, r, whole)
+
+      back : AreFragments Has fill (h ∷ fs) bytes → AreFragments Has fill (f ∷ g ∷ fs) bytes
+      back (x, more, p, r, e) =
+          let whole : x ≡ a ++ b = (is_h x).0 p in
+          let parts : bytes ≡ a ++ (b ++ more) = e ∙ ap (λ z. z ++ more) whole ∙ append_assoc a b more in
+          (a, b ++ more, (is_f a).1 refl, (b, more, (is_g b).1 refl, r, refl), parts)
+
+  one_more : (f : Fragment) (gs hs : List Fragment) (bytes : List ℕ) → ((rest : List ℕ) → AreFragments Has fill gs rest ↔ AreFragments Has fill hs rest) → AreFragments Has fill (f ∷ gs) bytes ↔ AreFragments Has fill (f ∷ hs) bytes
+  one_more f gs hs bytes same =
+      (λ h. (h.0, h.1, h.2, (same h.1).0 h.3, h.4), λ h. (h.0, h.1, h.2, (same h.1).1 h.3, h.4))
+
+  then : {A B C : Type 0} → A ↔ B → B ↔ C → A ↔ C
+  then p q = (λ a. q.0 (p.0 a), λ c. p.1 (q.1 c))
+
+  all_in_one : (f : Fragment) (fs : List Fragment) (bytes : List ℕ) → AreFragments Has fill (f ∷ fs) bytes ↔ AreFragments Has fill (joined f fs) bytes
+  all_in_one f [] bytes = (λ h. h, λ h. h)
+  all_in_one (Literal a) (Literal b ∷ fs) bytes =
+      then (both (Literal a) (Literal b) (Literal (a ++ b)) fs a b (λ own. (λ h. h, λ h. h)) (λ own. (λ h. h, λ h. h)) (λ own. (λ h. h, λ h. h)) bytes) (all_in_one (Literal (a ++ b)) fs bytes)
+  all_in_one (Fill m) (Fill n ∷ fs) bytes =
+      then (both (Fill m) (Fill n) (Fill (m + n)) fs (replicate m fill) (replicate n fill) (λ own. (λ h. h, λ h. h)) (λ own. (λ h. h, λ h. h)) (λ own. (λ h. h ∙ more_fill m n, λ h. h ∙ sym (more_fill m n))) bytes) (all_in_one (Fill (m + n)) fs bytes)
+  all_in_one (Literal a) (Fill n ∷ fs) bytes = one_more (Literal a) (Fill n ∷ fs) (joined (Fill n) fs) bytes (all_in_one (Fill n) fs)
+  all_in_one (Literal a) (Value w n g ∷ fs) bytes = one_more (Literal a) (Value w n g ∷ fs) (joined (Value w n g) fs) bytes (all_in_one (Value w n g) fs)
+  all_in_one (Fill m) (Literal b ∷ fs) bytes = one_more (Fill m) (Literal b ∷ fs) (joined (Literal b) fs) bytes (all_in_one (Literal b) fs)
+  all_in_one (Fill m) (Value w n g ∷ fs) bytes = one_more (Fill m) (Value w n g ∷ fs) (joined (Value w n g) fs) bytes (all_in_one (Value w n g) fs)
+  all_in_one (Value w n g) (h ∷ fs) bytes = one_more (Value w n g) (h ∷ fs) (joined h fs) bytes (all_in_one h fs)
+
+  pub all_joined_are : (fs : List Fragment) (bytes : List ℕ) → AreFragments Has fill fs bytes ↔ AreFragments Has fill (all_joined fs) bytes
+  all_joined_are [] bytes = (λ h. h, λ h. h)
+  all_joined_are (f ∷ fs) bytes = all_in_one f fs bytes
+
+-- values that are the same make the same bytes
+same_valued : (Has Other : Valuing) (fill : ℕ) → ((f : Form) (v : ℤ) → Has f v ↔ Other f v) → (p : Part) (bytes : List ℕ) → ArePart Has fill p bytes ↔ ArePart Other fill p bytes
+same_valued Has Other fill h (Known own) bytes = (λ k. k, λ k. k)
+same_valued Has Other fill h (Filled n) bytes = (λ k. k, λ k. k)
+same_valued Has Other fill h (Waiting width place f) bytes = (λ k. (k.0, (h f k.0).0 k.1, k.2), λ k. (k.0, (h f k.0).1 k.1, k.2))
+
+pub all_valued : (Has Other : Valuing) (fill : ℕ) → ((f : Form) (v : ℤ) → Has f v ↔ Other f v) → (ps : List Part) (bytes : List ℕ) → AreParts Has fill ps bytes ↔ AreParts Other fill ps bytes
+all_valued Has Other fill h [] bytes = (λ k. k, λ k. k)
+all_valued Has Other fill h (p ∷ ps) bytes = (
+  λ k. (k.0, k.1, (same_valued Has Other fill h p k.0).0 k.2, (all_valued Has Other fill h ps k.1).0 k.3, k.4),
+  λ k. (k.0, k.1, (same_valued Has Other fill h p k.0).1 k.2, (all_valued Has Other fill h ps k.1).1 k.3, k.4),
+)
+
+of_numbered : {E : Type 0} (none : E) (bases : ℕ → ℤ) (values : ℕ → ℕ → Result ℤ E) (ss is : List ℕ) (f : Form) (v : ℤ) → valued_by none (λ g. bases (number_of ss g)) (λ turns k. values turns (number_of is k)) f v ↔ valued_by none bases values (numbered ss is f) v
+of_numbered {E = E} none bases values ss is f v = (
+  λ h. (h.0, number_law E none bases (values h.0) ss is f ∙ h.1),
+  λ h. (h.0, sym (number_law E none bases (values h.0) ss is f) ∙ h.1),
+)
+
+pub fragments_law : (E : Type 0) → FragmentsLaw E
+fragments_law E none bases values fill origins ss is ps bytes =
+    let Has : Valuing = valued_by none bases values in
+    let Own : Valuing = valued_by none (λ g. bases (number_of ss g)) (λ turns k. values turns (number_of is k)) in
+    let same = all_valued Own (λ f v. Has (numbered ss is f) v) fill (λ f v. of_numbered none bases values ss is f v) ps bytes in
+    let parts = same_parts Has fill origins ss is ps bytes in
+    let kept = all_kept Has fill (map (fragment_of origins ss is) ps) bytes in
+    let joined = all_joined_are Has fill (fragments_of origins ss is ps) bytes in
+    (λ h. joined.0 (kept.0 (parts.0 (same.0 h))), λ h. same.1 (parts.1 (kept.1 (joined.1 h))))
+
+-- ---- A module's lines in a segment, and what its object's section puts there.
 
 module _ {E : Type 0} (o : Objects E) (l : Linkage) (owner fill : ℕ) (sections imports : List ℕ) where
   of_part : (q : Part) (bytes : List ℕ) → IsValuedIn o l owner sections imports q → ArePart (HasValue o owner) fill q bytes ↔ ArePart (λ f v. linked_value l owner (numbered sections imports f) v) fill q bytes

@@ -1,9 +1,33 @@
--- Powers of two and their multiples.
-use Rattle.std.proofs.Common.{◌≡◌, ℕ, zero, suc, ◌+◌, ◌-◌, ◌*◌, ◌^◌, ◌%◌, ◌/◌, ◌≤◌, ◌<◌, ◌⊎◌, inl, inr, max, sym, ◌∙◌, ap, subst, arith}
+-- Powers of two, their multiples, and what lies behind a multiple.
+use Rattle.std.proofs.Common.{◌≡◌, ℕ, true, nat_eq, arith, zero, suc, ◌+◌, ◌-◌, ◌*◌, ◌^◌, ◌%◌, ◌/◌, ◌≤◌, ◌<◌, ◌⊎◌, inl, inr, max, sym, ◌∙◌, ap, subst, refl, List, [], ◌∷◌, ◌++◌, map, Bool, false, Option, Some, None, min, cond}
+use Rattle.std.proofs.lemmas.Bool.Decides.{nat_tests}
 use Rattle.std.specs.Int.{next_multiple_of}
-use Rattle.std.proofs.Math.Nat.{mul-add-mod_self_left, div-add-mod, add_assoc, mul_assoc, mod-eq_of_lt, mod_self}
+use Rattle.std.proofs.Math.Nat.{mul-add-mod_self_left, div-add-mod, add_assoc, mul_assoc, mod-eq_of_lt, mod_self, mul_comm}
 use Rattle.std.proofs.lemmas.Nat.{pow-add, pow_pos, mod_below}
-use Rattle.whole65.specs.Offsets.{IsMultiple, IsPower}
+use Rattle.whole65.specs.Offsets.{IsMultiple, IsPower, ArePowers}
+use Rattle.language65.specs.Laid.{Laid}
+use Rattle.language65.specs.declared.language.Statement.{Statement}
+use Rattle.language65.specs.declared.language.Statement.TheVariants.{Align}
+use Rattle.whole65.specs.Inner.Steps.{ShiftLaw, RoundingLaw}
+use Rattle.whole65.specs.Segments.{Item, Line, end_behind, end_of, largest_multiple, line, line_end}
+use Rattle.std.specs.Prelude.{ℤ, pos, negsuc, nat_lt, not, ◌==◌, ◌&&◌, ◌||◌}
+use Rattle.std.specs.List.{AllByRecursion, list_any}
+use Rattle.language65.specs.declared.fault.AsmFault.{AsmFault}
+use Rattle.language65.specs.declared.fault.AsmFault.TheVariants.{BadAlignment, NotUnderstood, SectionTooLarge}
+use Rattle.language65.specs.Layout.{Standing, laid, multiple_of, own_size, powers, spot_of}
+use Rattle.language65.specs.LineFaults.{alignment_fault, block_fault, defined_twice, first_fault, form_fault, is_open, line_fault, lost_scopes, missing_file, multiple_fault, opened_twice, operand_fault, part_fault, pop_fault, scope_name, size_fault, stands_outside, trees_of, when}
+use Rattle.language65.specs.Norms.{constant_in}
+use Rattle.language65.specs.Sizes.{counted, gap, length_of}
+use Rattle.language65.specs.Symbols.{Symbols, key_defined}
+use Rattle.source65.specs.declared.place.Place.{Place}
+use Rattle.object65.specs.Objects.{section_limit}
+
+-- ---- Numbers that are tested.
+
+pub equal : (n m : ℕ) → nat_eq n m ≡ true → n ≡ m
+equal n m e = grind (arith, nat_tests)
+
+-- ---- Powers of two and their multiples.
 
 -- of two powers the smaller divides the larger
 power_divides : (a c : ℕ) → a ≤ c → IsMultiple (2 ^ c) (2 ^ a)
@@ -80,3 +104,145 @@ rounded x n h = of_parts x n (x / n) (x % n) h (mod_below x n h) (div-add-mod x 
 
 pub power_positive : (n : ℕ) → IsPower n → 0 < n
 power_positive n p = subst (λ z. 0 < z) (sym p.power) (pow_pos p.exponent)
+
+-- ---- Lines behind a multiple of their alignment.
+
+pub end_of-append : (at : ℕ) (xs ys : List Item) → end_of at (xs ++ ys) ≡ end_of (end_of at xs) ys
+end_of-append at [] ys = refl
+end_of-append at (x ∷ xs) ys = end_of-append (end_behind at x) xs ys
+
+pub largest_power : (xs : List Line) → ArePowers xs → IsPower (largest_multiple xs)
+largest_power [] h = record { exponent = 0; below = omega arith; power = refl }
+largest_power (x ∷ xs) h = (larger x.multiple (largest_multiple xs) h.0 (largest_power xs h.1)).is_power
+
+pub line_shift : (b o multiple : ℕ) (l : Laid) → IsMultiple b multiple → line_end (b + o) multiple l ≡ b + line_end o multiple l
+line_shift b o multiple l h = go l.stated
+  where
+    go : (x : Statement) → line_end (b + o) multiple (record l { stated = x }) ≡ b + line_end o multiple (record l { stated = x })
+    go (Align n v) = round_shift b o multiple h
+    go x = add_assoc b o l.length
+
+pub end_shift : (xs : List Line) (b o : ℕ) → ArePowers xs → IsMultiple b (largest_multiple xs) → end_of (b + o) (map line xs) ≡ b + end_of o (map line xs)
+end_shift [] b o p h = refl
+end_shift (x ∷ xs) b o p h =
+    let both : Larger x.multiple (largest_multiple xs) = larger x.multiple (largest_multiple xs) p.0 (largest_power xs p.1) in
+    let first = multiple_of_multiple b x.multiple (max x.multiple (largest_multiple xs)) h both.first in
+    let others = multiple_of_multiple b (largest_multiple xs) (max x.multiple (largest_multiple xs)) h both.second in
+    ap (λ n. end_of n (map line xs)) (line_shift b o x.multiple x.laid first)
+    ∙ end_shift xs b (line_end o x.multiple x.laid) p.1 others
+
+pub shift_law : ShiftLaw
+shift_law xs b p h = let same : b ≡ b + 0 = omega arith in ap (λ n. end_of n (map line xs)) same ∙ end_shift xs b 0 p h
+
+-- ---- A line ends its length behind its offset, and aligns to a power of two.
+
+none_all : (os : List (Option AsmFault)) → first_fault os ≡ None → AllByRecursion (λ o. o ≡ None) os
+none_all [] h = tt
+none_all (None ∷ os) h = (refl, none_all os h)
+none_all (Some e ∷ os) h = absurd cc
+
+abbrev faults : Symbols → Standing → Statement → List (Option AsmFault)
+faults y w x =
+    when (stands_outside x && is_open (spot_of w).scope) NotUnderstood
+    ∷ lost_scopes y.scopes (spot_of w).scope (trees_of x)
+    ∷ opened_twice y.scopes (spot_of w).scope (scope_name x)
+    ∷ defined_twice y (key_defined (spot_of w) x)
+    ∷ form_fault y (spot_of w) (own_size w) x
+    ∷ operand_fault y (spot_of w) x
+    ∷ alignment_fault y (spot_of w) x
+    ∷ missing_file x
+    ∷ part_fault y (spot_of w) x
+    ∷ size_fault w.segments x
+    ∷ block_fault y.scopes (spot_of w).scope x
+    ∷ pop_fault w.kept x
+    ∷ when (nat_lt section_limit ((spot_of w).offset + length_of y (spot_of w) (own_size w) x)) SectionTooLarge
+    ∷ []
+
+no_alignment_fault : (y : Symbols) (w : Standing) (x : Statement) → line_fault y w x ≡ None → alignment_fault y (spot_of w) x ≡ None
+no_alignment_fault y w x h =
+    let all = none_all (faults y w x) h in
+    all.1.1.1.1.1.1.0
+
+-- ---- Multiples.
+
+power_among : (n : ℕ) (ps : List ℕ) → AllByRecursion IsPower ps → list_any (λ m. m == n) ps ≡ true → IsPower n
+power_among n [] h e = cc
+power_among n (p ∷ ps) h e = go (nat_eq p n) refl e (power_among n ps h.1)
+  where
+    go : (b : Bool) → nat_eq p n ≡ b → (b || list_any (λ m. m == n) ps) ≡ true → (list_any (λ m. m == n) ps ≡ true → IsPower n) → IsPower n
+    go true q e others = subst IsPower (equal p n q) h.0
+    go false q e others = others e
+
+power : (k n : ℕ) → k < 16 → n ≡ 2 ^ k → IsPower n
+power k n lt e = record { exponent = k; below = lt; power = e }
+
+all_powers : AllByRecursion IsPower powers
+all_powers = (power 0 1 (omega arith) refl, (power 1 2 (omega arith) refl, (power 2 4 (omega arith) refl, (power 3 8 (omega arith) refl, (power 4 16 (omega arith) refl, (power 5 32 (omega arith) refl, (power 6 64 (omega arith) refl, (power 7 128 (omega arith) refl, (power 8 256 (omega arith) refl, (power 9 512 (omega arith) refl, (power 10 1024 (omega arith) refl, (power 11 2048 (omega arith) refl, (power 12 4096 (omega arith) refl, (power 13 8192 (omega arith) refl, (power 14 16384 (omega arith) refl, (power 15 32768 (omega arith) refl, tt))))))))))))))))
+
+not_when : (b : Bool) (e : AsmFault) → when (not b) e ≡ None → b ≡ true
+not_when true e h = refl
+not_when false e h = absurd cc
+
+-- a constant that is one of the multiples
+pub record IsAligned (r : Option ℤ) : Type 0 where
+  pub multiple : ℕ
+  pub value : r ≡ Some (pos multiple)
+  pub is_power : IsPower multiple
+
+aligned : (r : Option ℤ) → multiple_fault r ≡ None → IsAligned r
+aligned (Some (pos n)) h = record { multiple = n; value = refl; is_power = power_among n powers all_powers (not_when (list_any (λ m. m == n) powers) BadAlignment h) }
+aligned (Some (negsuc n)) h = absurd cc
+aligned None h = absurd cc
+
+pub multiple_power : (y : Symbols) (w : Standing) (x : Statement) → line_fault y w x ≡ None → IsPower (multiple_of y (spot_of w) x)
+multiple_power y w x h = go x (no_alignment_fault y w x h)
+  where
+    go : (x : Statement) → alignment_fault y (spot_of w) x ≡ None → IsPower (multiple_of y (spot_of w) x)
+    go (Align n v) h =
+        let a = aligned (constant_in y (spot_of w) n) h in
+        subst (λ r. IsPower (counted r)) (sym a.value) a.is_power
+    go x h = record { exponent = 0; below = omega arith; power = refl }
+
+-- ---- Ends.
+
+gap_end : (offset n : ℕ) → IsPower n → next_multiple_of offset n ≡ offset + gap offset (Some (pos n))
+gap_end offset zero p = absurd (let positive = power_positive 0 p in omega (arith, positive))
+gap_end offset (suc n) p =
+    let more : offset ≤ next_multiple_of offset (suc n) = omega arith in
+    omega (arith, more)
+
+pub line_ends : (y : Symbols) (w : Standing) (place : Place) (x : Statement) → line_fault y w x ≡ None → line_end (spot_of w).offset (multiple_of y (spot_of w) x) (laid y w place x) ≡ (spot_of w).offset + (laid y w place x).length
+line_ends y w place x h = go x (no_alignment_fault y w x h)
+  where
+    go : (x : Statement) → alignment_fault y (spot_of w) x ≡ None → line_end (spot_of w).offset (multiple_of y (spot_of w) x) (laid y w place x) ≡ (spot_of w).offset + (laid y w place x).length
+    go (Align n v) h =
+        let a = aligned (constant_in y (spot_of w) n) h in
+        ap (λ r. next_multiple_of (spot_of w).offset (counted r)) a.value
+        ∙ gap_end (spot_of w).offset a.multiple a.is_power
+        ∙ ap (λ r. (spot_of w).offset + gap (spot_of w).offset r) (sym a.value)
+    go x h = refl
+
+-- ---- Rounding up by quotients and by remainders.
+
+by_parts : (x y q r : ℕ) → 0 < y → r < y → y * q + r ≡ x → (q + min 1 r) * y ≡ x + (y - r) % y
+by_parts x y q zero pos_y h e =
+    let same : y - 0 ≡ y = omega arith in
+    let none : (y - 0) % y ≡ 0 = ap (λ n. n % y) same ∙ mod_self y in
+    let count : q + min 1 0 ≡ q = omega arith in
+    let product : (q + min 1 0) * y ≡ y * q = ap (λ n. n * y) count ∙ mul_comm q y in
+    omega (arith, none, product)
+by_parts x y q (suc r) pos_y h e =
+    let less : y - suc r < y = omega arith in
+    let small : (y - suc r) % y ≡ y - suc r = mod-eq_of_lt less in
+    let count : q + min 1 (suc r) ≡ suc q = omega arith in
+    let product : (q + min 1 (suc r)) * y ≡ y * suc q = ap (λ n. n * y) count ∙ mul_comm (suc q) y in
+    omega (arith, small, product)
+
+not_zero : (n : ℕ) → (suc n == 0) ≡ false
+not_zero n = grind (arith, nat_tests)
+
+pub rounding_law : RoundingLaw
+rounding_law at zero h = absurd (omega (arith, h))
+rounding_law at (suc n) h =
+    ap (λ b. cond b at ((at / suc n + min 1 (at % suc n)) * suc n)) (not_zero n)
+    ∙ by_parts at (suc n) (at / suc n) (at % suc n) h (mod_below at (suc n) h) (div-add-mod at (suc n))

@@ -1,21 +1,120 @@
 -- Offsets are positions behind the lines before.
-use Rattle.std.proofs.Common.{◌≡◌, ℕ, zero, suc, ◌+◌, ◌<◌, ◌≤◌, max, Bool, true, false, nat_eq, cond, List, [], ◌∷◌, ◌++◌, length, map, take, slice_get, Some, None, refl, sym, ◌∙◌, ap, subst, arith}
+use Rattle.std.proofs.Common.{◌≡◌, ℕ, zero, suc, ◌+◌, ◌<◌, ◌≤◌, max, Bool, true, false, nat_eq, cond, List, [], ◌∷◌, ◌++◌, length, Option, Some, None, refl, sym, ap, subst, arith, map, take, slice_get, ◌∙◌}
+use Rattle.std.specs.List.{AllByRecursion}
+use Rattle.std.proofs.lemmas.Bool.Decides.{nat_tests}
+use Rattle.syntax65.specs.declared.lexing.tokens.AddressSize.{AddressSize}
+use Rattle.language65.specs.declared.contents.Segment.{Segment}
+use Rattle.language65.specs.declared.language.Statement.{Statement}
+use Rattle.language65.specs.declared.language.Statement.TheVariants as statement
+use Rattle.language65.specs.Layout.{Standing, current_behind, first_size, grown_at, kept_behind, last_kept, multiple_of, named_segments, new_segment, own_size, place_of, rest_kept, segment_at, segments_behind, spot_of, Layout, laid, layout_behind, nothing_laid}
+use Rattle.language65.specs.Sizes.{length_of}
+use Rattle.language65.specs.Symbols.{Symbols, symbols_of}
+use Rattle.language65.proofs.Segments.{all_same, end_behind, grown_end, grown_length, grown_other, named_there, one_longer, all_more}
 use Rattle.std.proofs.lemmas.List.{append-nil, append_assoc, map-append}
 use Rattle.std.proofs.lemmas.List.Elements.{filter-append}
 use Rattle.source65.specs.declared.place.Place.{Place}
 use Rattle.language65.specs.Laid.{Laid}
-use Rattle.language65.specs.declared.language.Statement.{Statement}
-use Rattle.language65.specs.Layout.{Layout, laid, layout_behind, nothing_laid, segment_at, spot_of}
 use Rattle.language65.specs.LineFaults.{line_fault}
-use Rattle.language65.specs.Symbols.{Symbols, symbols_of}
-use Rattle.language65.proofs.Segments.{all_more}
-use Rattle.whole65.proofs.Ends.{line_ends, multiple_power}
-use Rattle.whole65.proofs.Growing.{Adds, adds, are_below, current_below, kept_below}
-use Rattle.whole65.proofs.Numbers.{equal}
-use Rattle.whole65.proofs.Shifts.{end_of-append}
+use Rattle.whole65.proofs.Multiples.{line_ends, multiple_power, equal, end_of-append, largest_power, line_shift, Larger, larger, multiple_of_multiple}
 use Rattle.whole65.specs.Laws.{OffsetLaw}
-use Rattle.whole65.specs.Offsets.{ArePowers, IsLaidOut, IsPower, begun, behind, lines_at}
+use Rattle.whole65.specs.Offsets.{ArePowers, IsLaidOut, IsPower, begun, behind, lines_at, IsMultiple}
 use Rattle.whole65.specs.Segments.{Line, end_of, largest_multiple, line, line_end, line_of, lines_behind}
+use Rattle.std.proofs.Math.Nat.{add_assoc}
+
+-- ---- Segments behind a statement: which one is the current one, their ends and alignments.
+
+abbrev pub are_below : ℕ → List ℕ → Type 0
+are_below count ks = AllByRecursion (λ k. k < count) ks
+
+-- ---- How many segments there are.
+
+named_more : (gs : List Segment) (n : List ℕ) (own : Option AddressSize) (place : Option ℕ) → length gs ≤ length (named_segments gs n own place)
+named_more gs n own (Some i) = omega arith
+named_more gs n own None = let longer : length (gs ++ new_segment n (first_size n own) ∷ []) ≡ length gs + 1 = one_longer gs (new_segment n (first_size n own)) in omega (arith, longer)
+
+pub behind_more : (gs : List Segment) (current count multiple : ℕ) (x : Statement) → length gs ≤ length (segments_behind gs current count multiple x)
+behind_more gs current count multiple (statement.Segment n own) = named_more gs n own (place_of gs n)
+behind_more gs current count multiple x = let same : length (grown_at gs current count multiple) ≡ length gs = grown_length gs current count multiple in omega (arith, same)
+
+below_more : (few more : ℕ) (ks : List ℕ) → few ≤ more → are_below few ks → are_below more ks
+below_more few more ks le h = all_same (λ k. k < few) (λ k. k < more) (λ k lt. let up : k < more = omega (arith, lt, le) in up) ks h
+
+pub current_below : (w : Standing) (count multiple : ℕ) (x : Statement) → w.current < length w.segments → are_below (length w.segments) w.kept → current_behind w x < length (segments_behind w.segments w.current count multiple x)
+current_below w count multiple (statement.Segment n own) lt h = named_there w.segments n own (place_of w.segments n) refl
+current_below w count multiple statement.PopSegment lt h =
+    let same : length (grown_at w.segments w.current count multiple) ≡ length w.segments = grown_length w.segments w.current count multiple in
+    subst (λ n. last_kept w.current w.kept < n) (sym same) (last w.kept h)
+  where
+    last : (ks : List ℕ) → are_below (length w.segments) ks → last_kept w.current ks < length w.segments
+    last [] h = lt
+    last (k ∷ ks) h = h.0
+current_below w count multiple x lt h =
+    let same : length (grown_at w.segments w.current count multiple) ≡ length w.segments = grown_length w.segments w.current count multiple in
+    subst (λ n. w.current < n) (sym same) lt
+
+pub kept_below : (w : Standing) (count multiple : ℕ) (x : Statement) → w.current < length w.segments → are_below (length w.segments) w.kept → are_below (length (segments_behind w.segments w.current count multiple x)) (kept_behind w x)
+kept_below w count multiple statement.PushSegment lt h =
+    let le = behind_more w.segments w.current count multiple statement.PushSegment in
+    let up : w.current < length (grown_at w.segments w.current count multiple) = omega (arith, le, lt) in
+    (up, below_more (length w.segments) (length (grown_at w.segments w.current count multiple)) w.kept le h)
+kept_below w count multiple statement.PopSegment lt h =
+    below_more (length w.segments) (length (grown_at w.segments w.current count multiple)) (rest_kept w.kept) (behind_more w.segments w.current count multiple statement.PopSegment) (rest w.kept h)
+  where
+    rest : (ks : List ℕ) → are_below (length w.segments) ks → are_below (length w.segments) (rest_kept ks)
+    rest [] h = tt
+    rest (k ∷ ks) h = h.1
+kept_below w count multiple x lt h = below_more (length w.segments) (length (segments_behind w.segments w.current count multiple x)) w.kept (behind_more w.segments w.current count multiple x) h
+
+-- ---- Ends and alignments.
+
+grown_align : (gs : List Segment) (i count multiple : ℕ) → i < length gs → (segment_at (grown_at gs i count multiple) i).align ≡ max (segment_at gs i).align multiple
+grown_align [] i count multiple lt = absurd (omega arith)
+grown_align (g ∷ gs) zero count multiple lt = refl
+grown_align (g ∷ gs) (suc i) count multiple lt = grown_align gs i count multiple (omega arith)
+
+new_align : (gs : List Segment) (n : List ℕ) (own : AddressSize) (g : ℕ) → (segment_at (gs ++ new_segment n own ∷ []) g).align ≡ (segment_at gs g).align
+new_align [] n own zero = refl
+new_align [] n own (suc g) = refl
+new_align (x ∷ gs) n own zero = refl
+new_align (x ∷ gs) n own (suc g) = new_align gs n own g
+
+named_end : (gs : List Segment) (n : List ℕ) (own : Option AddressSize) (place : Option ℕ) (g : ℕ) → (segment_at (named_segments gs n own place) g).end ≡ (segment_at gs g).end
+named_end gs n own (Some i) g = refl
+named_end gs n own None g = end_behind gs n (first_size n own) g
+
+named_align : (gs : List Segment) (n : List ℕ) (own : Option AddressSize) (place : Option ℕ) (g : ℕ) → (segment_at (named_segments gs n own place) g).align ≡ (segment_at gs g).align
+named_align gs n own (Some i) g = refl
+named_align gs n own None g = new_align gs n (first_size n own) g
+
+-- what a statement adds to a segment: nothing, where it stands in another
+pub record Adds (g h : Segment) (is_here : Bool) (count multiple : ℕ) : Type 0 where
+  pub end : h.end ≡ g.end + cond is_here count 0
+  pub align : h.align ≡ cond is_here (max g.align multiple) g.align
+
+at_least_one : (n : ℕ) → 1 ≤ n → max n 1 ≡ n
+at_least_one n h = omega (arith, h)
+
+pub adds : (y : Symbols) (w : Standing) (x : Statement) (g : ℕ) → w.current < length w.segments → 1 ≤ (segment_at w.segments g).align → Adds (segment_at w.segments g) (segment_at (segments_behind w.segments w.current (length_of y (spot_of w) (own_size w) x) (multiple_of y (spot_of w) x) x) g) (nat_eq w.current g) (length_of y (spot_of w) (own_size w) x) (multiple_of y (spot_of w) x)
+adds y w x g lt one = go x
+  where
+    nothing : (b : Bool) (gs : List Segment) → (segment_at gs g).end ≡ (segment_at w.segments g).end → (segment_at gs g).align ≡ (segment_at w.segments g).align → Adds (segment_at w.segments g) (segment_at gs g) b 0 1
+    nothing true gs p q = record { end = omega (arith, p); align = omega (arith, q, one) }
+    nothing false gs p q = record { end = omega (arith, p); align = q }
+
+    more : (count multiple : ℕ) (b : Bool) → nat_eq w.current g ≡ b → Adds (segment_at w.segments g) (segment_at (grown_at w.segments w.current count multiple) g) b count multiple
+    more count multiple true e =
+        let same : w.current ≡ g = grind (arith, nat_tests) in
+        subst (λ h. Adds (segment_at w.segments h) (segment_at (grown_at w.segments w.current count multiple) h) true count multiple) same (record {
+          end = grown_end w.segments w.current count multiple lt;
+          align = grown_align w.segments w.current count multiple lt;
+        })
+    more count multiple false e =
+        let same = grown_other w.segments w.current g count multiple e in
+        record { end = (let equal = ap (λ (h : Segment). h.end) same in omega (arith, equal)); align = ap (λ (h : Segment). h.align) same }
+
+    go : (x : Statement) → Adds (segment_at w.segments g) (segment_at (segments_behind w.segments w.current (length_of y (spot_of w) (own_size w) x) (multiple_of y (spot_of w) x) x) g) (nat_eq w.current g) (length_of y (spot_of w) (own_size w) x) (multiple_of y (spot_of w) x)
+    go (statement.Segment n own) = nothing (nat_eq w.current g) (named_segments w.segments n own (place_of w.segments n)) (named_end w.segments n own (place_of w.segments n) g) (named_align w.segments n own (place_of w.segments n) g)
+    go x = more (length_of y (spot_of w) (own_size w) x) (multiple_of y (spot_of w) x) (nat_eq w.current g) refl
 
 -- ---- One more line.
 
@@ -159,3 +258,52 @@ pub offset_law : OffsetLaw
 offset_law y owner d =
     let h = placed owner d in
     record { offset = h.offsets; size = h.ends; alignment = h.aligns; powers = h.powers }
+
+-- ---- Each line of a section ends its length behind its position.
+
+-- from a position on, each of these lines ends its length further on
+abbrev pub EndsAt : ℕ → List Line → Type 0
+EndsAt at [] = Unit {0}
+EndsAt at (x ∷ xs) = (line_end at x.multiple x.laid ≡ at + x.laid.length) × EndsAt (line_end at x.multiple x.laid) xs
+
+ends_push : (at : ℕ) (xs : List Line) (x : Line) → EndsAt at xs → line_end (end_of at (map line xs)) x.multiple x.laid ≡ end_of at (map line xs) + x.laid.length → EndsAt at (xs ++ x ∷ [])
+ends_push at [] x h e = (e, tt)
+ends_push at (y ∷ ys) x h e = (h.0, ends_push (line_end at y.multiple y.laid) ys x h.1 e)
+
+pub ends_moved : (begin at : ℕ) (xs : List Line) → ArePowers xs → IsMultiple begin (largest_multiple xs) → EndsAt at xs → EndsAt (begin + at) xs
+ends_moved begin at [] p m h = tt
+ends_moved begin at (x ∷ xs) p m h =
+    let both : Larger x.multiple (largest_multiple xs) = larger x.multiple (largest_multiple xs) p.0 (largest_power xs p.1) in
+    let first = multiple_of_multiple begin x.multiple (max x.multiple (largest_multiple xs)) m both.first in
+    let others = multiple_of_multiple begin (largest_multiple xs) (max x.multiple (largest_multiple xs)) m both.second in
+    let shifted = line_shift begin at x.multiple x.laid first in (
+      shifted ∙ ap (λ n. begin + n) h.0 ∙ sym (add_assoc begin at x.laid.length),
+      subst (λ n. EndsAt n xs) (sym shifted) (ends_moved begin (line_end at x.multiple x.laid) xs p.1 others h.1),
+    )
+
+module _ (owner g : ℕ) where
+  abbrev here : List Laid → List Line
+  here ls = lines_at g (lines_behind owner [] ls)
+
+  one_more : (y : Layout) (place : Place) (x : Statement) → Placed owner y → line_fault (symbols_of y.laid) y.standing x ≡ None → EndsAt 0 (here y.laid) → (b : Bool) → nat_eq y.standing.current g ≡ b → EndsAt 0 (here (y.laid ++ laid (symbols_of y.laid) y.standing place x ∷ []))
+  one_more y place x h none ends b e =
+      let l : Laid = laid (symbols_of y.laid) y.standing place x in
+      let next : Line = line_of owner y.laid l in
+      let pushed : here (y.laid ++ l ∷ []) ≡ here y.laid ++ cond b (next ∷ []) [] =
+      ap (lines_at g) (lines_push owner [] y.laid l)
+      ∙ filter-append (λ (z : Line). nat_eq z.laid.spot.segment g) (lines_behind owner [] y.laid) (next ∷ [])
+      ∙ ap (λ c. here y.laid ++ cond c (next ∷ []) []) e in
+      subst (EndsAt 0) (sym pushed) (go b e)
+    where
+      go : (b : Bool) → nat_eq y.standing.current g ≡ b → EndsAt 0 (here y.laid ++ cond b (line_of owner y.laid (laid (symbols_of y.laid) y.standing place x) ∷ []) [])
+      go false e = subst (EndsAt 0) (sym (append-nil (here y.laid))) ends
+      go true e =
+          let l : Laid = laid (symbols_of y.laid) y.standing place x in
+          let same : y.standing.current ≡ g = equal y.standing.current g e in
+          let before : (spot_of y.standing).offset ≡ end_of 0 (map line (here y.laid)) = ap (λ n. (segment_at y.standing.segments n).end) same ∙ h.ends g in
+          ends_push 0 (here y.laid) (line_of owner y.laid l) ends
+          (subst (λ n. line_end n (multiple_of (symbols_of y.laid) (spot_of y.standing) x) l ≡ n + l.length) before (line_ends (symbols_of y.laid) y.standing place x none))
+
+  pub all_end : {y : Layout} → IsLaidOut y → EndsAt 0 (here y.laid)
+  all_end begun = tt
+  all_end (behind y place x d none) = one_more y place x (placed owner d) none (all_end d) (nat_eq y.standing.current g) refl

@@ -1,22 +1,189 @@
 -- Positions in the list of a segment.
-use Rattle.std.proofs.Common.{◌≡◌, ◌≢◌, ℕ, zero, suc, ◌+◌, ◌<◌, max, Bool, true, false, nat_eq, cond, List, [], ◌∷◌, ◌++◌, length, map, take, drop, slice_get, filter, Some, refl, sym, ◌∙◌, ap, subst, arith}
-use Rattle.std.specs.List.{AllByRecursion}
-use Rattle.std.specs.Int.{next_multiple_of}
-use Rattle.std.specs.Str.{bytes_eq}
+use Rattle.std.proofs.Common.{◌≡◌, ℕ, zero, suc, ◌+◌, Bool, true, false, nat_eq, cond, List, [], ◌∷◌, ◌++◌, length, map, take, slice_get, filter, Some, refl, sym, ◌∙◌, ap, arith, ◌≢◌, ◌<◌, Option, None, subst, max, drop, ◌^◌}
+use Rattle.std.specs.Prelude.{◌&&◌, ⊤}
+use Rattle.std.specs.List.{AllByRecursion, position_from}
 use Rattle.std.proofs.lemmas.Bool.Decides.{nat_tests}
-use Rattle.std.proofs.lemmas.List.{append-nil, append_assoc, take-append-drop}
+use Rattle.std.proofs.lemmas.List.{length-append, append-nil, append_assoc, take-append-drop}
+use Rattle.language65.specs.Laid.{Laid}
+use Rattle.language65.specs.Layout.{Layout, Standing, first_size, grown_at, laid, layout_behind, multiple_of, named_segments, new_segment, own_size, place_of, segment_at, segments_behind, spot_of, powers}
+use Rattle.whole65.specs.Segments.{Item, Line, has_section, is_line, items_before, largest_multiple, line, line_of, lines_behind, lines_in, part_of, rounding, stands_in, end_of, items_from, segment_name}
+use Rattle.std.specs.Str.{bytes_eq}
+use Rattle.std.proofs.lemmas.Iterator.Adapters.{position_from-zero}
+use Rattle.syntax65.specs.declared.lexing.tokens.AddressSize.{AddressSize}
+use Rattle.language65.proofs.Lists.{bytes_swap}
+use Rattle.language65.specs.declared.contents.Segment.{Segment}
+use Rattle.language65.specs.declared.language.Statement.{Statement}
+use Rattle.language65.specs.declared.language.Statement.TheVariants as statement
+use Rattle.language65.specs.Sizes.{length_of}
+use Rattle.language65.specs.Symbols.{Symbols, symbols_of}
+use Rattle.source65.specs.declared.place.Place.{Place}
+use Rattle.language65.proofs.Segments.{all_more, all_same, grown_length, one_longer}
+use Rattle.whole65.proofs.Offsets.{behind_more, placed, largest_push}
+use Rattle.whole65.proofs.Multiples.{equal, larger, multiple_of_multiple, power_positive, rounded, end_of-append, largest_power, shift_law}
+use Rattle.whole65.specs.Offsets.{IsLaidOut, begun, behind, ArePowers, IsMultiple, begin_from, lines_at, IsPower}
+use Rattle.std.specs.Int.{next_multiple_of}
 use Rattle.std.proofs.lemmas.List.Elements.{filter-append}
 use Rattle.std.proofs.lemmas.Slice.Eq.{bytes_eq-Decides}
-use Rattle.language65.specs.Laid.{Laid}
-use Rattle.language65.specs.Layout.{Layout}
-use Rattle.whole65.proofs.Before.{other_part, skipped, stopped}
-use Rattle.whole65.proofs.Multiples.{larger, multiple_of_multiple, power_positive, rounded}
-use Rattle.whole65.proofs.Naming.{Distinct, named}
-use Rattle.whole65.proofs.Offsets.{largest_push, placed}
-use Rattle.whole65.proofs.Shifts.{end_of-append, largest_power, shift_law}
-use Rattle.whole65.specs.Inner.Steps.{PositionLaw}
-use Rattle.whole65.specs.Offsets.{ArePowers, IsLaidOut, IsMultiple, begin_from, lines_at}
-use Rattle.whole65.specs.Segments.{Item, Line, end_of, has_section, items_before, items_from, largest_multiple, line, line_of, lines_behind, lines_in, part_of, rounding, segment_name, stands_in}
+use Rattle.whole65.specs.Inner.Steps.{PositionLaw, AlignmentLaw}
+use Rattle.language65.specs.Numbering.{number_of, segment_power}
+
+-- ---- The items of a list before a statement.
+
+-- the statement is none of these items
+abbrev pub IsAbsent : ℕ → ℕ → List Item → Type 0
+IsAbsent owner place xs = AllByRecursion (λ x. is_line owner place x ≡ false) xs
+
+pub skipped : (owner place : ℕ) (xs rest : List Item) → IsAbsent owner place xs → items_before owner place (xs ++ rest) ≡ xs ++ items_before owner place rest
+skipped owner place [] rest h = refl
+skipped owner place (x ∷ xs) rest h =
+    ap (λ b. cond b [] (x ∷ items_before owner place (xs ++ rest))) h.0
+    ∙ ap (λ z. x ∷ z) (skipped owner place xs rest h.1)
+
+apart : (n m : ℕ) → n ≢ m → nat_eq n m ≡ false
+apart n m h = grind (arith, nat_tests)
+
+alike : (n : ℕ) → nat_eq n n ≡ true
+alike n = grind (arith, nat_tests)
+
+-- ---- Other modules.
+
+other_lines : (first owner place : ℕ) → first ≢ owner → (q : Laid → Bool) (before ls : List Laid) → IsAbsent owner place (map line (filter (λ (x : Line). q x.laid) (lines_behind first before ls)))
+other_lines first owner place h q before [] = tt
+other_lines first owner place h q before (l ∷ ls) = go (q l) (other_lines first owner place h q (before ++ l ∷ []) ls)
+  where
+    go : (b : Bool) → IsAbsent owner place (map line (filter (λ (x : Line). q x.laid) (lines_behind first (before ++ l ∷ []) ls))) → IsAbsent owner place (map line (cond b (line_of first before l ∷ filter (λ (x : Line). q x.laid) (lines_behind first (before ++ l ∷ []) ls)) (filter (λ (x : Line). q x.laid) (lines_behind first (before ++ l ∷ []) ls))))
+    go true r = (ap (λ b. b && nat_eq (length before) place) (apart first owner h), r)
+    go false r = r
+
+pub other_part : (first owner place : ℕ) → first ≢ owner → (y : Layout) (name : List ℕ) → IsAbsent owner place (part_of first y name)
+other_part first owner place h y name = go (has_section y name)
+  where
+    go : (b : Bool) → IsAbsent owner place (cond b (rounding (largest_multiple (lines_in first y name)) ∷ map line (lines_in first y name)) [])
+    go true = (refl, other_lines first owner place h (stands_in y name) [] y.laid)
+    go false = tt
+
+-- ---- The module itself.
+
+pub stopped : (owner place : ℕ) (q : Laid → Bool) (before ls : List Laid) (rest : List Item) (i : ℕ) (l : Laid) → place ≡ length before + i → slice_get ls i ≡ Some l → q l ≡ true → items_before owner place (map line (filter (λ (x : Line). q x.laid) (lines_behind owner before ls)) ++ rest) ≡ map line (filter (λ (x : Line). q x.laid) (lines_behind owner before (take i ls)))
+stopped owner place q before [] rest i l e s t = cc
+stopped owner place q before (x ∷ ls) rest zero l e s t =
+    let same : x ≡ l = cc in
+    let yes : q x ≡ true = ap q same ∙ t in
+    let here : length before ≡ place = omega (arith, e) in
+    let found : is_line owner place (line (line_of owner before x)) ≡ true =
+    ap (λ b. b && nat_eq (length before) place) (alike owner) ∙ ap (nat_eq (length before)) (sym here) ∙ alike (length before) in
+    ap (λ b. items_before owner place (map line (cond b (line_of owner before x ∷ filter (λ (z : Line). q z.laid) (lines_behind owner (before ++ x ∷ []) ls)) (filter (λ (z : Line). q z.laid) (lines_behind owner (before ++ x ∷ []) ls))) ++ rest)) yes
+    ∙ ap (λ b. cond b [] (line (line_of owner before x) ∷ items_before owner place (map line (filter (λ (z : Line). q z.laid) (lines_behind owner (before ++ x ∷ []) ls)) ++ rest))) found
+stopped owner place q before (x ∷ ls) rest (suc i) l e s t =
+    let longer : length (before ++ x ∷ []) ≡ length before + 1 = length-append before (x ∷ []) in
+    let next : place ≡ length (before ++ x ∷ []) + i = omega (arith, e, longer) in
+    go (q x) (stopped owner place q (before ++ x ∷ []) ls rest i l next s t)
+  where
+    later : length before ≢ place
+    later = omega (arith, e)
+
+    go : (b : Bool) → items_before owner place (map line (filter (λ (z : Line). q z.laid) (lines_behind owner (before ++ x ∷ []) ls)) ++ rest) ≡ map line (filter (λ (z : Line). q z.laid) (lines_behind owner (before ++ x ∷ []) (take i ls))) → items_before owner place (map line (cond b (line_of owner before x ∷ filter (λ (z : Line). q z.laid) (lines_behind owner (before ++ x ∷ []) ls)) (filter (λ (z : Line). q z.laid) (lines_behind owner (before ++ x ∷ []) ls))) ++ rest) ≡ map line (cond b (line_of owner before x ∷ filter (λ (z : Line). q z.laid) (lines_behind owner (before ++ x ∷ []) (take i ls))) (filter (λ (z : Line). q z.laid) (lines_behind owner (before ++ x ∷ []) (take i ls))))
+    go true r =
+        let none : is_line owner place (line (line_of owner before x)) ≡ false = ap (λ b. b && nat_eq (length before) place) (alike owner) ∙ apart (length before) place later in
+        ap (λ b. cond b [] (line (line_of owner before x) ∷ items_before owner place (map line (filter (λ (z : Line). q z.laid) (lines_behind owner (before ++ x ∷ []) ls)) ++ rest))) none
+        ∙ ap (λ z. line (line_of owner before x) ∷ z) r
+    go false r = r
+
+-- ---- Each statement stands in a segment, and no two segments have one name.
+
+-- no two segments have one name
+abbrev pub Distinct : List Segment → Type 0
+Distinct gs = (g h : ℕ) → g < length gs → h < length gs → bytes_eq (segment_at gs g).name (segment_at gs h).name ≡ true → g ≡ h
+
+front_name : (gs : List Segment) (x : Segment) (g : ℕ) → g < length gs → (segment_at (gs ++ x ∷ []) g).name ≡ (segment_at gs g).name
+front_name [] x g lt = absurd (omega arith)
+front_name (y ∷ gs) x zero lt = refl
+front_name (y ∷ gs) x (suc g) lt = front_name gs x g (omega arith)
+
+last_name : (gs : List Segment) (x : Segment) → (segment_at (gs ++ x ∷ []) (length gs)).name ≡ x.name
+last_name [] x = refl
+last_name (y ∷ gs) x = last_name gs x
+
+grown_name : (gs : List Segment) (i count multiple g : ℕ) → (segment_at (grown_at gs i count multiple) g).name ≡ (segment_at gs g).name
+grown_name [] i count multiple g = refl
+grown_name (y ∷ gs) zero count multiple zero = refl
+grown_name (y ∷ gs) zero count multiple (suc g) = refl
+grown_name (y ∷ gs) (suc i) count multiple zero = refl
+grown_name (y ∷ gs) (suc i) count multiple (suc g) = grown_name gs i count multiple g
+
+absent : (gs : List Segment) (n : List ℕ) (i g : ℕ) → position_from (λ (k : Segment). bytes_eq k.name n) i gs ≡ None → g < length gs → bytes_eq (segment_at gs g).name n ≡ false
+absent [] n i g e lt = absurd (omega arith)
+absent (y ∷ gs) n i g e lt = by (bytes_eq y.name n) refl e g lt (absent gs n (i + 1))
+  where
+    by : (b : Bool) → bytes_eq y.name n ≡ b → cond b (Some i) (position_from (λ (k : Segment). bytes_eq k.name n) (i + 1) gs) ≡ None → (g : ℕ) → g < length (y ∷ gs) → ((g : ℕ) → position_from (λ (k : Segment). bytes_eq k.name n) (i + 1) gs ≡ None → g < length gs → bytes_eq (segment_at gs g).name n ≡ false) → bytes_eq (segment_at (y ∷ gs) g).name n ≡ false
+    by true q e g lt more = cc
+    by false q e zero lt more = q
+    by false q e (suc g) lt more = more g e (omega arith)
+
+distinct_new : (gs : List Segment) (n : List ℕ) (own : AddressSize) → Distinct gs → place_of gs n ≡ None → Distinct (gs ++ new_segment n own ∷ [])
+distinct_new gs n own d e g h lt lt' same = go (nat_eq g (length gs)) (nat_eq h (length gs)) refl refl
+  where
+    apart : (k : ℕ) → k < length gs → bytes_eq (segment_at gs k).name n ≡ false
+    apart k below = absent gs n 0 k (sym (position_from-zero (λ (z : Segment). bytes_eq z.name n) gs) ∙ e) below
+
+    below : (k : ℕ) → k < length (gs ++ new_segment n own ∷ []) → nat_eq k (length gs) ≡ false → k < length gs
+    below k l other =
+        let longer : length (gs ++ new_segment n own ∷ []) ≡ length gs + 1 = one_longer gs (new_segment n own) in
+        let differs : k ≢ length gs = grind (arith, nat_tests) in
+        omega (arith, longer, l, differs)
+
+    at_last : (k : ℕ) → nat_eq k (length gs) ≡ true → (segment_at (gs ++ new_segment n own ∷ []) k).name ≡ n
+    at_last k q = ap (λ z. (segment_at (gs ++ new_segment n own ∷ []) z).name) (equal k (length gs) q) ∙ last_name gs (new_segment n own)
+
+    go : (a b : Bool) → nat_eq g (length gs) ≡ a → nat_eq h (length gs) ≡ b → g ≡ h
+    go true true p q = equal g (length gs) p ∙ sym (equal h (length gs) q)
+    go false false p q =
+        let bg = below g lt p in
+        let bh = below h lt' q in
+        d g h bg bh (rw (front_name gs (new_segment n own) g bg, front_name gs (new_segment n own) h bh) at same)
+    go true false p q =
+        let bh = below h lt' q in
+        let one : bytes_eq n (segment_at gs h).name ≡ true = rw (at_last g p, front_name gs (new_segment n own) h bh) at same in
+        let two : bytes_eq n (segment_at gs h).name ≡ false = bytes_swap n (segment_at gs h).name ∙ apart h bh in
+        absurd cc
+    go false true p q =
+        let bg = below g lt p in
+        let one : bytes_eq (segment_at gs g).name n ≡ true = rw (front_name gs (new_segment n own) g bg, at_last h q) at same in
+        let two : bytes_eq (segment_at gs g).name n ≡ false = apart g bg in
+        absurd cc
+
+distinct_named : (gs : List Segment) (n : List ℕ) (own : _) (place : Option ℕ) → Distinct gs → place_of gs n ≡ place → Distinct (named_segments gs n own place)
+distinct_named gs n own (Some i) d e = d
+distinct_named gs n own None d e = distinct_new gs n (first_size n own) d e
+
+distinct_behind : (gs : List Segment) (current count multiple : ℕ) (x : Statement) → Distinct gs → Distinct (segments_behind gs current count multiple x)
+distinct_behind gs current count multiple (statement.Segment n own) d = distinct_named gs n own (place_of gs n) d refl
+distinct_behind gs current count multiple x d = λ g h lt lt' same. d g h (subst (λ n. g < n) (grown_length gs current count multiple) lt) (subst (λ n. h < n) (grown_length gs current count multiple) lt') (rw (grown_name gs current count multiple g, grown_name gs current count multiple h) at same)
+
+pub record Named (y : Layout) : Type 0 where
+  pub distinct : Distinct y.standing.segments
+  pub standing : AllByRecursion (λ (l : Laid). l.spot.segment < length y.standing.segments) y.laid
+
+later : (y : Layout) (place : Place) (x : Statement) → y.standing.current < length y.standing.segments → Named y → Named (layout_behind y place x)
+later y place x here h =
+    let z : Layout = layout_behind y place x in
+    let w : Standing = y.standing in
+    let table : Symbols = symbols_of y.laid in
+    let count : ℕ = length_of table (spot_of w) (own_size w) x in
+    let multiple : ℕ = multiple_of table (spot_of w) x in
+    let more = behind_more w.segments w.current count multiple x in
+    let up : (k : ℕ) → k < length w.segments → k < length z.standing.segments = λ k lt. omega (arith, more, lt) in
+    record {
+      distinct = distinct_behind w.segments w.current count multiple x h.distinct;
+      standing =
+          all_more (λ (l : Laid). l.spot.segment < length z.standing.segments) y.laid (laid table w place x)
+          (all_same (λ (l : Laid). l.spot.segment < length w.segments) (λ (l : Laid). l.spot.segment < length z.standing.segments) (λ l below. up l.spot.segment below) y.laid h.standing)
+          (up w.current here);
+    }
+
+pub named : {y : Layout} → IsLaidOut y → Named y
+named begun = record { distinct = λ g h lt lt' e. (let none : g ≡ 0 = omega (arith, lt) in let also : h ≡ 0 = omega (arith, lt') in none ∙ sym also); standing = tt }
+named (behind y place x d none) = later y place x (placed 0 d).here (named d)
 
 -- ---- Lines of a segment by its name and by its number.
 
@@ -148,3 +315,39 @@ from_module at first (suc count) owner place (z ∷ ys) y l o e d there asked =
 
 pub position_law : PositionLaw
 position_law ys owner place y l e d there asked = from_module 0 0 owner owner place ys y l (omega arith) e d there asked
+
+-- ---- The alignment of a section in an object.
+
+-- so it is with each exponent below a number
+abbrev AreFound : ℕ → Type 0
+AreFound zero = ⊤
+AreFound (suc n) = (number_of powers (2 ^ n) ≡ n) × AreFound n
+
+all_found : AreFound 16
+all_found = (refl, (refl, (refl, (refl, (refl, (refl, (refl, (refl, (refl, (refl, (refl, (refl, (refl, (refl, (refl, (refl, tt))))))))))))))))
+
+found_below : (n k : ℕ) → AreFound n → k < n → number_of powers (2 ^ k) ≡ k
+found_below zero k h lt = absurd (omega (arith, lt))
+found_below (suc n) k h lt = go (found_below n k h.1) (nat_eq k n) refl
+  where
+    go : (k < n → number_of powers (2 ^ k) ≡ k) → (b : Bool) → nat_eq k n ≡ b → number_of powers (2 ^ k) ≡ k
+    go more true e = let same : k ≡ n = equal k n e in subst (λ z. number_of powers (2 ^ z) ≡ z) (sym same) h.0
+    go more false e =
+        let other : k ≢ n = grind (arith, nat_tests) in
+        more (omega (arith, lt, other))
+
+its_power : (n : ℕ) → IsPower n → 2 ^ number_of powers n ≡ n
+its_power n p =
+    ap (λ z. 2 ^ number_of powers z) p.power ∙ ap (λ z. 2 ^ z) (found_below 16 p.exponent all_found p.below) ∙ sym p.power
+
+power_at : (gs : List Segment) (g : ℕ) → segment_power (slice_get gs g) ≡ number_of powers (segment_at gs g).align
+power_at [] g = refl
+power_at (x ∷ gs) zero = refl
+power_at (x ∷ gs) (suc g) = power_at gs g
+
+pub alignment_law : AlignmentLaw
+alignment_law y owner g d =
+    let lines : List Line = lines_at g (lines_behind owner [] y.laid) in
+    let same : (segment_at y.standing.segments g).align ≡ largest_multiple lines = (placed owner d).aligns g in
+    ap (λ n. 2 ^ n) (power_at y.standing.segments g ∙ ap (number_of powers) same)
+    ∙ its_power (largest_multiple lines) (largest_power lines (powers_at g (lines_behind owner [] y.laid) (placed owner d).powers))

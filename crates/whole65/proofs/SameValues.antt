@@ -1,22 +1,225 @@
 -- A normal form has the value of its expression.
-use Rattle.std.proofs.Common.{◌≡◌, ℕ, zero, suc, ◌+◌, refl, sym, ◌∙◌, ap, subst, arith, List, [], ◌∷◌, false, Option, Some, None, Ok}
-use Rattle.std.specs.Prelude.{ℤ, pos, slice_get}
+use Rattle.std.proofs.Common.{◌≡◌, ℕ, zero, suc, ◌+◌, Bool, true, false, cond, refl, sym, ◌∙◌, subst, arith, List, Option, Some, None, Result, Ok, Err, ap, [], ◌∷◌}
+use Rattle.std.specs.Prelude.{ℤ, slice_get, pos}
 use Rattle.base65.specs.Outcome.{◌>>=◌}
-use Rattle.syntax65.specs.Trees.{Tree}
-use Rattle.syntax65.specs.Trees as tree
 use Rattle.base65.specs.Values.{value1, value2}
+use Rattle.object65.specs.Form.{Form, lit, sec, imp, prefix, binary}
+use Rattle.object65.specs.FormValue.{or_none, value_in}
+use Rattle.object65.specs.Objects.{is_file_name}
+use Rattle.object65.specs.declared.folding.FormFault.{FormFault}
+use Rattle.object65.specs.declared.folding.FormFault.TheVariants as form
+use Rattle.source65.specs.declared.place.Place.{Place}
+use Rattle.language65.specs.Contents.{written}
+use Rattle.language65.specs.declared.fault.AsmFault.{AsmFault}
+use Rattle.language65.specs.declared.fault.AsmFault.TheVariants.{FileNameTooLong}
+use Rattle.language65.specs.Norms.{folded, address_of, form_of_definition, form_of_meaning, form_of_value, norm}
+use Rattle.whole65.specs.Objects.{AreObjects, IsGiven, IsGivenBy, Objects, form_value, definition_shown, import_shown, meaning_shown, value_shown, HasValue, IsExport}
+use Rattle.whole65.specs.Values.{Provider, by_module, by_script, by_nobody, Program, Meaning, label_at, constant_at, import_of, meaning_in, Value, number, here, label, constant, exported, scripted, prefixed, joined}
+use Rattle.syntax65.specs.Trees.{Tree, name}
+use Rattle.syntax65.specs.Trees as tree
+use Rattle.whole65.specs.Laws.{OneValueLaw, SameValuesLaw}
+use Rattle.language65.specs.Names as names
+use Rattle.language65.specs.Names.{meaning_of}
+use Rattle.language65.specs.Symbols.{Definition}
 use Rattle.base65.specs.declared.values.Op1.{Op1}
 use Rattle.base65.specs.declared.values.Op2.{Op2}
 use Rattle.object65.proofs.Foldings.{binary_fold_law, prefix_fold_law}
 use Rattle.object65.specs.Folding.{fold1, fold2}
-use Rattle.object65.specs.Form.{Form, lit, imp}
-use Rattle.object65.specs.FormValue.{or_none}
-use Rattle.language65.specs.Norms.{address_of, folded, norm}
-use Rattle.whole65.proofs.Later.{bind_ok, folded_ok, value_later}
-use Rattle.whole65.proofs.Operands.{IsForm, meant, operand}
-use Rattle.whole65.specs.Laws.{SameValuesLaw}
-use Rattle.whole65.specs.Objects.{AreObjects, HasValue, IsExport, IsGiven, IsGivenBy, Objects, form_value}
-use Rattle.whole65.specs.Values.{Provider, by_module, by_script, by_nobody, Meaning, label_at, constant_at, import_of, Program, meaning_in, Value, number, here, label, constant, exported, scripted, prefixed, joined}
+
+-- ---- A value stays where imports come to more.
+
+pub bind_ok : {E A B : Type 0} (r : Result A E) (f : A → Result B E) (y : B) → (r >>= f) ≡ Ok y → (x : A) × (r ≡ Ok x) × (f x ≡ Ok y)
+bind_ok (Ok x) f y e = (x, refl, e)
+bind_ok (Err z) f y e = cc
+
+pub folded_ok : (r : Result Form FormFault) (f : Form) → folded r ≡ Ok f → r ≡ Ok f
+folded_ok (Ok g) f e = cc
+folded_ok (Err form.OutOfMemory) f e = cc
+folded_ok (Err form.NoValue) f e = cc
+folded_ok (Err form.TooLarge) f e = cc
+
+-- what is written with its place is what was to be written
+pub written_ok : {A : Type 0} (place : Place) (a b : A) → written place a ≡ Ok b → a ≡ b
+written_ok {A = A} place a b e = go (is_file_name place.file) e
+  where
+    go : (fits : Bool) → ◌≡◌ {A = Result A AsmFault} (cond fits (Ok a) (Err FileNameTooLong)) (Ok b) → a ≡ b
+    go true e = cc
+    go false e = cc
+
+-- the second has the values of the first
+abbrev pub Covers : {E : Type 0} → (ℕ → Result ℤ E) → (ℕ → Result ℤ E) → Type 0
+Covers few more = (k : ℕ) (v : ℤ) → few k ≡ Ok v → more k ≡ Ok v
+
+pub value_covered : {E : Type 0} (none : E) (bases : ℕ → ℤ) (few more : ℕ → Result ℤ E) → Covers few more → (f : Form) (v : ℤ) → value_in none bases few f ≡ Ok v → value_in none bases more f ≡ Ok v
+value_covered none bases few more h (lit n) v q = q
+value_covered none bases few more h (sec k a) v q = q
+value_covered none bases few more h (imp k) v q = h k v q
+value_covered none bases few more h (prefix op f) v q =
+    let (a, s, t) = bind_ok (value_in none bases few f) (λ a. Ok (value1 op a)) v q in
+    rw (value_covered none bases few more h f a s) t
+value_covered none bases few more h (binary op f g) v q =
+    let (a, s, t) = bind_ok (value_in none bases few f) (λ a. value_in none bases few g >>= (λ b. or_none none (value2 op a b))) v q in
+    let (b, u, w) = bind_ok (value_in none bases few g) (λ b. or_none none (value2 op a b)) v t in
+    rw (value_covered none bases few more h f a s, value_covered none bases few more h g b u) w
+
+module _ {E : Type 0} (p : Program) (o : Objects E) (h : AreObjects p o) where
+  -- what is reached through so many exports is reached through one more
+  Reaches : ℕ → Type 0
+  Reaches turns = (owner : ℕ) → Covers (o.imports turns owner) (o.imports (suc turns) owner)
+
+  by_provider : (turns owner k : ℕ) (v : ℤ) → ((before : ℕ) → turns ≡ suc before → Reaches before) → (x : List ℕ) (g : Provider) → IsGivenBy p o owner k x g → o.imports turns owner k ≡ Ok v → o.imports (suc turns) owner k ≡ Ok v
+  unfolding Reaches
+  by_provider zero owner k v deeper x (by_module provider) given q = absurd (given.first v q)
+  by_provider (suc turns) owner k v deeper x (by_module provider) given q =
+      let one : form_value o turns provider given.form ≡ Ok v = sym (given.later turns) ∙ q in
+      given.later (suc turns) ∙ value_covered o.none (o.bases provider) (o.imports turns provider) (o.imports (suc turns) provider) (deeper turns refl provider) given.form v one
+  by_provider turns owner k v deeper x (by_script u) given q = given (suc turns) ∙ sym (given turns) ∙ q
+  by_provider turns owner k v deeper x by_nobody given q = absurd (given turns v q)
+
+  by_name : (turns owner k : ℕ) (v : ℤ) → ((before : ℕ) → turns ≡ suc before → Reaches before) → (x : Option (List ℕ)) → IsGiven p o owner k x → o.imports turns owner k ≡ Ok v → o.imports (suc turns) owner k ≡ Ok v
+  by_name turns owner k v deeper None given q = absurd (given turns v q)
+  by_name turns owner k v deeper (Some x) given q = by_provider turns owner k v deeper x (p.provider x) given q
+
+  reaches : (turns : ℕ) → Reaches turns
+  unfolding Reaches
+  reaches zero owner k v q = by_name zero owner k v (λ before e. cc) (slice_get (o.symbols owner).imports k) (h.given owner k) q
+  reaches (suc turns) owner k v q =
+      let here : Reaches turns = reaches turns in
+      by_name (suc turns) owner k v (λ before e. let same : turns ≡ before = omega (arith, e) in subst Reaches same here) (slice_get (o.symbols owner).imports k) (h.given owner k) q
+
+  pub value_next : (turns owner : ℕ) (f : Form) (v : ℤ) → form_value o turns owner f ≡ Ok v → form_value o (suc turns) owner f ≡ Ok v
+  unfolding Reaches
+  value_next turns owner f v q = value_covered o.none (o.bases owner) (o.imports turns owner) (o.imports (suc turns) owner) (reaches turns owner) f v q
+
+  pub value_later : (more turns owner : ℕ) (f : Form) (v : ℤ) → form_value o turns owner f ≡ Ok v → form_value o (more + turns) owner f ≡ Ok v
+  value_later zero turns owner f v q = let same : zero + turns ≡ turns = omega arith in rw same q
+  value_later (suc more) turns owner f v q =
+      let same : suc more + turns ≡ suc (more + turns) = omega arith in
+      rw same (value_next (more + turns) owner f v (value_later more turns owner f v q))
+
+-- ---- An expression has at most one value.
+
+-- what an import's value comes from
+abbrev pub FromProvider : Program → List ℕ → Provider → ℤ → Type 0
+FromProvider p x (by_module provider) v = Value p provider (p.global provider) (name false (x ∷ [])) v
+FromProvider p x (by_script u) v = u ≡ v
+FromProvider p x by_nobody v = ⊥
+
+abbrev pub FromMeaning : Program → ℕ → Option Meaning → ℤ → Type 0
+FromMeaning p owner None v = ⊥
+FromMeaning p owner (Some (label_at at)) v = p.address owner at ≡ v
+FromMeaning p owner (Some (constant_at at f)) v = Value p owner at f v
+FromMeaning p owner (Some (import_of x)) v = FromProvider p x (p.provider x) v
+
+abbrev pub From : Program → ℕ → ℕ → Tree → ℤ → Type 0
+From p owner place (tree.number n) v = pos n ≡ v
+From p owner place tree.here v = p.address owner place ≡ v
+From p owner place (tree.unary op e) v = (a : ℤ) × Value p owner place e a × (value1 op a ≡ v)
+From p owner place (tree.binary op e f) v = (a : ℤ) × (b : ℤ) × Value p owner place e a × Value p owner place f b × (value2 op a b ≡ Some v)
+From p owner place e v = FromMeaning p owner (p.means owner place e) v
+
+-- what has a meaning comes from it
+by_meaning : (p : Program) (owner place : ℕ) (e : Tree) (v : ℤ) (m : Meaning) → meaning_in p owner place e ≡ Some m → FromMeaning p owner (Some m) v → From p owner place e v
+by_meaning p owner place (tree.number n) v m q h = cc
+by_meaning p owner place tree.here v m q h = cc
+by_meaning p owner place (tree.unary op e) v m q h = cc
+by_meaning p owner place (tree.binary op e f) v m q h = cc
+by_meaning p owner place (tree.name b parts) v m q h = rw q h
+by_meaning p owner place (tree.cheap n) v m q h = rw q h
+by_meaning p owner place (tree.forward n) v m q h = rw q h
+by_meaning p owner place (tree.backward n) v m q h = rw q h
+
+pub inverse : (p : Program) {owner place : ℕ} {e : Tree} {v : ℤ} → Value p owner place e v → From p owner place e v
+inverse p number = refl
+inverse p here = refl
+inverse p (label {owner = owner} {place = place} {at = at} {e = e} m) = by_meaning p owner place e (p.address owner at) (label_at at) m refl
+inverse p (constant {owner = owner} {place = place} {at = at} {e = e} {f = f} {v = v} m d) = by_meaning p owner place e v (constant_at at f) m d
+inverse p (exported {owner = owner} {place = place} {e = e} {x = x} {v = v} m g d) = by_meaning p owner place e v (import_of x) m (rw g d)
+inverse p (scripted {owner = owner} {place = place} {e = e} {x = x} {v = v} m g) = by_meaning p owner place e v (import_of x) m (rw g refl)
+inverse p (prefixed {a = a} d) = (a, d, refl)
+inverse p (joined {a = a} {b = b} d₁ d₂ q) = (a, b, d₁, d₂, q)
+
+-- and the meaning of what has one is all that its value comes from
+pub of_meaning : (p : Program) (owner place : ℕ) (e : Tree) (v : ℤ) (m : Meaning) → meaning_in p owner place e ≡ Some m → From p owner place e v → FromMeaning p owner (Some m) v
+of_meaning p owner place (tree.number n) v m q h = cc
+of_meaning p owner place tree.here v m q h = cc
+of_meaning p owner place (tree.unary op e) v m q h = cc
+of_meaning p owner place (tree.binary op e f) v m q h = cc
+of_meaning p owner place (tree.name b parts) v m q h = rw q at h
+of_meaning p owner place (tree.cheap n) v m q h = rw q at h
+of_meaning p owner place (tree.forward n) v m q h = rw q at h
+of_meaning p owner place (tree.backward n) v m q h = rw q at h
+
+unique : (p : Program) {owner place : ℕ} {e : Tree} {v : ℤ} → Value p owner place e v → (w : ℤ) → Value p owner place e w → v ≡ w
+unique p number w h = inverse p h
+unique p here w h = inverse p h
+unique p (label {owner = owner} {place = place} {at = at} {e = e} m) w h = of_meaning p owner place e w (label_at at) m (inverse p h)
+unique p (constant {owner = owner} {place = place} {at = at} {e = e} {f = f} m d) w h = unique p d w (of_meaning p owner place e w (constant_at at f) m (inverse p h))
+unique p (exported {owner = owner} {place = place} {e = e} {x = x} m g d) w h = unique p d w (rw g at (of_meaning p owner place e w (import_of x) m (inverse p h)))
+unique p (scripted {owner = owner} {place = place} {e = e} {x = x} m g) w h = rw g at (of_meaning p owner place e w (import_of x) m (inverse p h))
+unique p (prefixed {op = op} d) w h = let (a, k, r) = inverse p h in ap (value1 op) (unique p d a k) ∙ r
+unique p (joined {op = op} {a = a} {b = b} {v = v} d₁ d₂ q) w h =
+    let (a', b', k₁, k₂, r) = inverse p h in
+    let one : a ≡ a' = unique p d₁ a' k₁ in
+    let two : b ≡ b' = unique p d₂ b' k₂ in
+    let both : Some v ≡ Some w = sym q ∙ ap (λ z. value2 op z b) one ∙ ap (λ z. value2 op a' z) two ∙ r in
+    cc both
+
+pub one_value_law : OneValueLaw
+one_value_law p owner place e v w d h = unique p d w h
+
+-- ---- The form of what stands for a definition.
+
+-- the form of what means this, through at most so many constants
+abbrev pub IsFormOf : {E : Type 0} → Objects E → ℕ → ℕ → Form → Meaning → Type 0
+IsFormOf o depth owner f (label_at place) = f ≡ address_of (o.spots owner place)
+IsFormOf o depth owner f (constant_at place e) = norm depth (o.symbols owner) (o.spots owner place) e ≡ Ok f
+IsFormOf o depth owner f (import_of x) = (k : ℕ) × (slice_get (o.symbols owner).imports k ≡ Some x) × (f ≡ imp k)
+
+abbrev pub IsForm : {E : Type 0} → Objects E → ℕ → ℕ → Form → Option Meaning → Type 0
+IsForm o depth owner f (Some m) = IsFormOf o depth owner f m
+IsForm o depth owner f None = (k : ℕ) × (slice_get (o.symbols owner).imports k ≡ None) × (f ≡ imp k)
+
+module _ {E : Type 0} (p : Program) (o : Objects E) (h : AreObjects p o) where
+  of_value : (depth owner definition : ℕ) (f : Form) (d : Definition) → slice_get (o.symbols owner).definitions definition ≡ Some d → (r : Option Tree) → form_of_value (norm depth (o.symbols owner)) d.spot r ≡ Ok f → IsForm o depth owner f (value_shown (o.places owner definition) r)
+  of_value depth owner definition f d w None q =
+      let same : address_of d.spot ≡ f = cc in
+      sym same ∙ ap address_of (sym (h.spots owner definition d w))
+  of_value depth owner definition f d w (Some e) q =
+      subst (λ s. norm depth (o.symbols owner) s e ≡ Ok f) (sym (h.spots owner definition d w)) q
+
+  of_definition : (depth owner definition : ℕ) (f : Form) (r : Option Definition) → slice_get (o.symbols owner).definitions definition ≡ r → form_of_definition (norm depth (o.symbols owner)) r ≡ Ok f → IsForm o depth owner f (definition_shown (o.places owner definition) r)
+  of_definition depth owner definition f None w q = cc
+  of_definition depth owner definition f (Some d) w q = of_value depth owner definition f d w d.value q
+
+  of_import : (depth owner k : ℕ) (f : Form) (r : Option (List ℕ)) → slice_get (o.symbols owner).imports k ≡ r → imp k ≡ f → IsForm o depth owner f (import_shown r)
+  of_import depth owner k f None w q = (k, w, sym q)
+  of_import depth owner k f (Some x) w q = (k, w, sym q)
+
+  of_meaning : (depth owner : ℕ) (f : Form) (r : Result names.Meaning AsmFault) → (r >>= form_of_meaning (norm depth (o.symbols owner)) (o.symbols owner)) ≡ Ok f → IsForm o depth owner f (meaning_shown o owner r)
+  of_meaning depth owner f (Err e) q = cc
+  of_meaning depth owner f (Ok (names.defined_at d)) q = of_definition depth owner d f (slice_get (o.symbols owner).definitions d) refl q
+  of_meaning depth owner f (Ok (names.imported_as k)) q =
+      let same : imp k ≡ f = cc in
+      of_import depth owner k f (slice_get (o.symbols owner).imports k) refl same
+
+  -- the form of an operand is that of what it means
+  pub operand : (depth owner place : ℕ) (e : Tree) (f : Form) → (meaning_of (o.symbols owner) (o.spots owner place) e >>= form_of_meaning (norm depth (o.symbols owner)) (o.symbols owner)) ≡ Ok f → IsForm o depth owner f (p.means owner place e)
+  operand depth owner place e f q =
+      subst (IsForm o depth owner f) (sym (h.means owner place e)) (of_meaning depth owner f (meaning_of (o.symbols owner) (o.spots owner place) e) q)
+
+  -- likewise of an expression that has a meaning
+  pub meant : (depth owner place : ℕ) (e : Tree) (m : Meaning) (f : Form) → meaning_in p owner place e ≡ Some m → norm (suc depth) (o.symbols owner) (o.spots owner place) e ≡ Ok f → IsFormOf o depth owner f m
+  meant depth owner place (tree.number n) m f w q = cc
+  meant depth owner place tree.here m f w q = cc
+  meant depth owner place (tree.unary op e) m f w q = cc
+  meant depth owner place (tree.binary op d e) m f w q = cc
+  meant depth owner place (tree.name b ns) m f w q = subst (IsForm o depth owner f) w (operand depth owner place (tree.name b ns) f q)
+  meant depth owner place (tree.cheap n) m f w q = subst (IsForm o depth owner f) w (operand depth owner place (tree.cheap n) f q)
+  meant depth owner place (tree.forward n) m f w q = subst (IsForm o depth owner f) w (operand depth owner place (tree.forward n) f q)
+  meant depth owner place (tree.backward n) m f w q = subst (IsForm o depth owner f) w (operand depth owner place (tree.backward n) f q)
+
+-- ---- A normal form has the value of its expression.
 
 or_none_is : {E : Type 0} (none : E) (r : Option ℤ) (v : ℤ) → r ≡ Some v → or_none none r ≡ Ok v
 or_none_is none None v q = cc

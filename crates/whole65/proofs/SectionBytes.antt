@@ -1,30 +1,252 @@
 -- The bytes of a module's lines in a segment and those of its parts there.
-use Rattle.std.proofs.Common.{◌≡◌, ℕ, ◌+◌, Bool, true, false, nat_eq, cond, List, [], ◌∷◌, ◌++◌, length, map, filter, slice_get, Some, Result, Ok, Err, refl, sym, ◌∙◌, ap, subst, arith}
-use Rattle.std.specs.Prelude.{◌↔◌}
-use Rattle.std.specs.List.{flat_map}
-use Rattle.std.proofs.lemmas.List.{append_assoc}
-use Rattle.source65.specs.declared.place.Place.{Place}
+use Rattle.std.proofs.Common.{◌≡◌, ℕ, ◌+◌, Bool, true, false, cond, List, Result, Ok, Err, refl, sym, ◌∙◌, ap, subst, arith, suc, ◌-◌, [], ◌∷◌, ◌++◌, length, Option, Some, None, nat_eq, map, filter, slice_get}
+use Rattle.std.specs.Prelude.{ℤ, pos, ◌+ℤ◌, ◌-ℤ◌, ◌↔◌, replicate}
+use Rattle.std.specs.Int.{w64}
+use Rattle.std.proofs.lemmas.Int.{ints, int_wrap-add_left}
 use Rattle.base65.specs.Outcome.{◌>>=◌, each}
-use Rattle.language65.specs.Parts.{Content, Part, Said}
+use Rattle.base65.specs.Values.{wrapped}
+use Rattle.base65.specs.declared.values.Op2.TheVariants.{Subtract}
+use Rattle.object65.proofs.Foldings.{binary_fold_law}
+use Rattle.object65.specs.Folding.{fold2}
+use Rattle.object65.specs.Form.{Form, lit, sec, imp, prefix, binary}
+use Rattle.object65.specs.Objects.{fits_width, value_bytes}
+use Rattle.object65.specs.declared.object.Width.{Width}
+use Rattle.object65.specs.declared.object.Width.TheVariants.{Byte, Word, HighFirst, Dword, Branch}
+use Rattle.source65.specs.declared.place.Place.{Place}
+use Rattle.language65.specs.Parts.{Part, Known, Waiting, Content, Said}
 use Rattle.language65.specs.declared.fault.AsmFault.{AsmFault}
-use Rattle.language65.specs.Contents.{content_of, parts_of, said_of}
+use Rattle.language65.specs.declared.fault.AsmFault.TheVariants.{OutOfRange}
+use Rattle.language65.specs.Contents.{operand_form, stored, written, instruction_parts, item_part, opcode_part, operand_part, operand_parts, operand_tree, parts_of, room_part, content_of, said_of}
+use Rattle.language65.specs.declared.laid.Spot.{Spot}
+use Rattle.whole65.proofs.SameValues.{bind_ok, folded_ok, written_ok, same_values_law}
+use Rattle.whole65.specs.Contents.{AreStored, counted_from, AreInstruction, AreItem, AreItems, AreLine, AreOperand, code_bytes, filling, AreBytes}
+use Rattle.whole65.specs.Objects.{HasValue, Objects, form_value, AreObjects}
+use Rattle.whole65.specs.Inner.Parts.{ArePart, AreParts, Valuing}
+use Rattle.std.proofs.lemmas.List.{append-nil, append_assoc}
+use Rattle.syntax65.specs.Opcodes.{opcode_of}
+use Rattle.syntax65.specs.Trees.{Tree}
+use Rattle.syntax65.specs.declared.instructions.names.Mnemonic.{Mnemonic}
+use Rattle.language65.specs.declared.laid.Settled.{Settled}
+use Rattle.language65.specs.declared.laid.Settled.TheVariants.{Unsettled, InMode, FilledWith, FromByte}
+use Rattle.language65.specs.declared.language.Item.{Item}
+use Rattle.language65.specs.declared.language.Operand.{Operand}
+use Rattle.language65.specs.declared.language.Statement.{Statement}
+use Rattle.language65.specs.declared.language.Statement.TheVariants as statement
+use Rattle.language65.specs.declared.language.Item.TheVariants as item
+use Rattle.language65.specs.Norms.{norm_of}
+use Rattle.language65.specs.Sizes.{width_of}
+use Rattle.whole65.specs.Inner.Steps.{PartsLaw, SectionLaw}
+use Rattle.whole65.specs.Segments.{Line, line_end, line, line_of, lines_behind}
+use Rattle.whole65.specs.Values.{Program, Value}
+use Rattle.std.specs.List.{flat_map}
 use Rattle.language65.specs.Laid.{Laid, asks_section}
 use Rattle.language65.specs.Numbering.{parts_in}
 use Rattle.language65.specs.Symbols.{Symbols}
 use Rattle.module65.specs.Module.{contents_from}
 use Rattle.module65.specs.Places.{PlacedFault, at_place}
-use Rattle.whole65.proofs.Later.{bind_ok}
-use Rattle.whole65.proofs.LineBytes.{parts_law}
-use Rattle.whole65.proofs.LineEnds.{EndsAt, all_end, ends_moved}
-use Rattle.whole65.proofs.Offsets.{placed}
+use Rattle.whole65.proofs.Offsets.{EndsAt, all_end, ends_moved, placed}
 use Rattle.whole65.proofs.Positions.{powers_at}
-use Rattle.whole65.specs.Contents.{AreBytes, AreLine}
-use Rattle.whole65.specs.Inner.Steps.{SectionLaw}
-use Rattle.whole65.specs.Objects.{AreObjects, HasValue, Objects}
 use Rattle.whole65.specs.Offsets.{ArePowers, lines_at}
-use Rattle.whole65.specs.Inner.Parts.{AreParts, Valuing}
-use Rattle.whole65.specs.Segments.{Line, line, line_end, line_of, lines_behind}
-use Rattle.whole65.specs.Values.{Program}
+
+-- ---- Values as they are stored.
+
+-- the bytes of a form's value
+abbrev pub HasBytes : {E : Type 0} → Objects E → ℕ → Width → Form → List ℕ → Type 0
+HasBytes o owner width f bytes = (v : ℤ) × HasValue o owner f v × AreStored width v bytes
+
+module _ {E : Type 0} (o : Objects E) (owner fill : ℕ) where
+  of_literal : (width : Width) (v : ℤ) (part : Part) (bytes : List ℕ) (b : Bool) → fits_width width v ≡ b → ◌≡◌ {A = Result Part AsmFault} (cond b (Ok (Known (value_bytes width v))) (Err OutOfRange)) (Ok part) → ArePart (HasValue o owner) fill part bytes ↔ HasBytes o owner width (lit v) bytes
+  of_literal width v part bytes false fits e = cc
+  of_literal width v part bytes true fits e =
+      let same : Known (value_bytes width v) ≡ part = cc in
+      let there : ArePart (HasValue o owner) fill (Known (value_bytes width v)) bytes → HasBytes o owner width (lit v) bytes = λ h. (v, (0, refl), (fits, h)) in
+      let back : HasBytes o owner width (lit v) bytes → ArePart (HasValue o owner) fill (Known (value_bytes width v)) bytes =
+      λ h. (let both : v ≡ h.0 = literal_is v h.0 h.1.1 in h.2.1 ∙ ap (value_bytes width) (sym both)) in
+      (λ h. there (subst (λ q. ArePart (HasValue o owner) fill q bytes) (sym same) h), λ h. subst (λ q. ArePart (HasValue o owner) fill q bytes) same (back h))
+    where
+      literal_is : (v w : ℤ) → ◌≡◌ {A = Result ℤ E} (Ok v) (Ok w) → v ≡ w
+      literal_is v w e = cc
+
+  of_waiting : (width : Width) (place : Place) (f : Form) (part : Part) (bytes : List ℕ) → written place (Waiting width place f) ≡ Ok part → ArePart (HasValue o owner) fill part bytes ↔ HasBytes o owner width f bytes
+  of_waiting width place f part bytes e =
+      let same : Waiting width place f ≡ part = written_ok place (Waiting width place f) part e in
+      (λ h. subst (λ q. ArePart (HasValue o owner) fill q bytes) (sym same) h, λ h. subst (λ q. ArePart (HasValue o owner) fill q bytes) same h)
+
+  -- a part has the bytes of the form that is stored
+  pub of_stored : (width : Width) (place : Place) (f : Form) (part : Part) (bytes : List ℕ) → stored width place f ≡ Ok part → ArePart (HasValue o owner) fill part bytes ↔ HasBytes o owner width f bytes
+  of_stored width place (lit v) part bytes e = of_literal width v part bytes (fits_width width v) refl e
+  of_stored width place (sec k a) part bytes e = of_waiting width place (sec k a) part bytes e
+  of_stored width place (imp k) part bytes e = of_waiting width place (imp k) part bytes e
+  of_stored width place (prefix op f) part bytes e = of_waiting width place (prefix op f) part bytes e
+  of_stored width place (binary op f g) part bytes e = of_waiting width place (binary op f g) part bytes e
+
+  -- ---- Branches.
+
+  two_more : (base : ℤ) (offset : ℕ) → wrapped (wrapped (base +ℤ pos offset) +ℤ pos 2) ≡ wrapped (base +ℤ pos (offset + 2))
+  two_more base offset =
+      let regroup : (base +ℤ pos offset) +ℤ pos 2 ≡ base +ℤ pos (offset + 2) = omega (arith, ints) in
+      int_wrap-add_left w64 (base +ℤ pos offset) (pos 2) ∙ ap wrapped regroup
+
+  abbrev Counted : Width → ℤ → Form → List ℕ → Type 0
+  Counted width address f bytes = (v : ℤ) × HasValue o owner f v × AreStored width (counted_from width address v) bytes
+
+  of_branch : (address : ℤ) (s : Spot) (f h : Form) (bytes : List ℕ) → address ≡ wrapped (o.bases owner s.segment +ℤ pos s.offset) → fold2 Subtract f (sec s.segment (pos (s.offset + 2))) ≡ Ok h → Counted Branch address f bytes ↔ HasBytes o owner Branch h bytes
+  of_branch address s f h bytes at e = (there, back)
+    where
+      behind : ℤ
+      behind = wrapped (o.bases owner s.segment +ℤ pos (s.offset + 2))
+
+      difference : (turns : ℕ) → form_value o turns owner h ≡ (form_value o turns owner f >>= (λ a. Ok (wrapped (a -ℤ wrapped (o.bases owner s.segment +ℤ pos (s.offset + 2))))))
+      difference turns = binary_fold_law E o.none (o.bases owner) (o.imports turns owner) Subtract f (sec s.segment (pos (s.offset + 2))) h e
+
+      same : wrapped (address +ℤ pos 2) ≡ wrapped (o.bases owner s.segment +ℤ pos (s.offset + 2))
+      same = ap (λ z. wrapped (z +ℤ pos 2)) at ∙ two_more (o.bases owner s.segment) s.offset
+
+      counted : (v : ℤ) → counted_from Branch address v ≡ wrapped (v -ℤ wrapped (o.bases owner s.segment +ℤ pos (s.offset + 2)))
+      counted v = ap (λ z. wrapped (v -ℤ z)) same
+
+      there : Counted Branch address f bytes → HasBytes o owner Branch h bytes
+      there (v, (turns, got), st) =
+          (counted_from Branch address v, (turns, difference turns ∙ ap (λ r. r >>= (λ a. Ok (wrapped (a -ℤ wrapped (o.bases owner s.segment +ℤ pos (s.offset + 2)))))) got ∙ ap Ok (sym (counted v))), st)
+
+      back : HasBytes o owner Branch h bytes → Counted Branch address f bytes
+      back (w, (turns, got), st) =
+          let (v, first, last) = bind_ok (form_value o turns owner f) (λ a. Ok (wrapped (a -ℤ wrapped (o.bases owner s.segment +ℤ pos (s.offset + 2))))) w (sym (difference turns) ∙ got) in
+          let one : wrapped (v -ℤ wrapped (o.bases owner s.segment +ℤ pos (s.offset + 2))) ≡ w = cc last in
+          (v, (turns, first), subst (λ z. AreStored Branch z bytes) (sym (counted v ∙ one)) st)
+
+  unchanged : (width : Width) (f h : Form) (bytes : List ℕ) → ◌≡◌ {A = Result Form AsmFault} (Ok f) (Ok h) → HasBytes o owner width f bytes ↔ HasBytes o owner width h bytes
+  unchanged width f h bytes e =
+      let same : f ≡ h = cc in
+      (λ k. subst (λ z. HasBytes o owner width z bytes) same k, λ k. subst (λ z. HasBytes o owner width z bytes) (sym same) k)
+
+  -- an operand's value is counted as its form is
+  pub of_operand : (width : Width) (address : ℤ) (s : Spot) (f h : Form) (bytes : List ℕ) → address ≡ wrapped (o.bases owner s.segment +ℤ pos s.offset) → operand_form width s f ≡ Ok h → Counted width address f bytes ↔ HasBytes o owner width h bytes
+  of_operand Branch address s f h bytes at e = of_branch address s f h bytes at (folded_ok (fold2 Subtract f (sec s.segment (pos (s.offset + 2)))) h e)
+  of_operand Byte address s f h bytes at e = unchanged Byte f h bytes e
+  of_operand Word address s f h bytes at e = unchanged Word f h bytes e
+  of_operand HighFirst address s f h bytes at e = unchanged HighFirst f h bytes e
+  of_operand Dword address s f h bytes at e = unchanged Dword f h bytes e
+
+-- ---- The bytes of lines and those of parts.
+
+module _ {E : Type 0} (p : Program) (o : Objects E) (h : AreObjects p o) (fill : ℕ) (x : Line) (at_spot : o.spots x.owner x.place ≡ x.laid.spot) where
+  -- one part alone
+  single : (q : Part) (bytes : List ℕ) → ArePart (HasValue o x.owner) fill q bytes ↔ AreParts (HasValue o x.owner) fill (q ∷ []) bytes
+  single q bytes = (λ k. (bytes, [], k, refl, sym (append-nil bytes)), back)
+    where
+      back : AreParts (HasValue o x.owner) fill (q ∷ []) bytes → ArePart (HasValue o x.owner) fill q bytes
+      back (own, rest, k, none, e) =
+          let same : bytes ≡ own = e ∙ ap (λ z. own ++ z) none ∙ append-nil own in
+          subst (ArePart (HasValue o x.owner) fill q) (sym same) k
+
+  none : (ps : List Part) (bytes : List ℕ) → ◌≡◌ {A = Result (List Part) AsmFault} (Ok []) (Ok ps) → (bytes ≡ []) ↔ AreParts (HasValue o x.owner) fill ps bytes
+  none ps bytes e =
+      let same : [] ≡ ps = cc in
+      (λ k. subst (λ z. AreParts (HasValue o x.owner) fill z bytes) same k, λ k. subst (λ z. AreParts (HasValue o x.owner) fill z bytes) (sym same) k)
+
+  -- an expression has the value of its form
+  values : (e : Tree) (f : Form) (v : ℤ) → norm_of (o.symbols x.owner) x.laid.spot e ≡ Ok f → Value p x.owner x.place e v ↔ HasValue o x.owner f v
+  values e f v q =
+      let there = subst (λ s. norm_of (o.symbols x.owner) s e ≡ Ok f) (sym at_spot) q in
+      same_values_law E p o h (suc (length (o.symbols x.owner).definitions)) x.owner x.place e f v there
+
+  address : p.address x.owner x.place ≡ wrapped (o.bases x.owner x.laid.spot.segment +ℤ pos x.laid.spot.offset)
+  address = subst (λ (s : Spot). p.address x.owner x.place ≡ wrapped (o.bases x.owner s.segment +ℤ pos s.offset)) at_spot (h.addresses x.owner x.place)
+
+  -- ---- Data.
+
+  of_item : (width : Width) (i : Item) (q : Part) (bytes : List ℕ) → item_part (o.symbols x.owner) x.laid width i ≡ Ok q → AreItem p x width i bytes ↔ ArePart (HasValue o x.owner) fill q bytes
+  of_item width (item.Value e) q bytes r =
+      let (f, normal, kept) = bind_ok (norm_of (o.symbols x.owner) x.laid.spot e) (stored width x.laid.place) q r in
+      let part = of_stored o x.owner fill width x.laid.place f q bytes kept in
+      (λ k. part.1 (k.0, (values e f k.0 normal).0 k.1, k.2), λ k. (let b : HasBytes o x.owner width f bytes = part.0 k in (b.0, (values e f b.0 normal).1 b.1, b.2)))
+  of_item width (item.Text own) q bytes r =
+      let same : Known own ≡ q = cc in
+      (λ k. subst (λ z. ArePart (HasValue o x.owner) fill z bytes) same k, λ k. subst (λ z. ArePart (HasValue o x.owner) fill z bytes) (sym same) k)
+
+  of_items : (width : Width) (is : List Item) (qs : List Part) (bytes : List ℕ) → each (item_part (o.symbols x.owner) x.laid width) is ≡ Ok qs → AreItems p x width is bytes ↔ AreParts (HasValue o x.owner) fill qs bytes
+  of_items width [] qs bytes r = none qs bytes r
+  of_items width (i ∷ is) qs bytes r =
+      let part : Item → Result Part AsmFault = item_part (o.symbols x.owner) x.laid width in
+      let (q, first, others) = bind_ok (part i) (λ y. each part is >>= (λ ys. Ok (y ∷ ys))) qs r in
+      let (rest, more, whole) = bind_ok (each part is) (λ ys. Ok (q ∷ ys)) qs others in
+      let same : q ∷ rest ≡ qs = cc whole in
+      let there : AreItems p x width (i ∷ is) bytes → AreParts (HasValue o x.owner) fill (q ∷ rest) bytes =
+      λ k. (k.0, k.1, (of_item width i q k.0 first).0 k.2, (of_items width is rest k.1 more).0 k.3, k.4) in
+      let back : AreParts (HasValue o x.owner) fill (q ∷ rest) bytes → AreItems p x width (i ∷ is) bytes =
+      λ k. (k.0, k.1, (of_item width i q k.0 first).1 k.2, (of_items width is rest k.1 more).1 k.3, k.4) in
+      (λ k. subst (λ z. AreParts (HasValue o x.owner) fill z bytes) same (there k), λ k. back (subst (λ z. AreParts (HasValue o x.owner) fill z bytes) (sym same) k))
+
+  -- ---- Instructions.
+
+  of_one : (width : Width) (e : Tree) (q : Part) (bytes : List ℕ) → operand_part (o.symbols x.owner) x.laid width e ≡ Ok q → AreOperand p x (Some width) (Some e) bytes ↔ ArePart (HasValue o x.owner) fill q bytes
+  of_one width e q bytes r =
+      let (f, normal, kept) = bind_ok (norm_of (o.symbols x.owner) x.laid.spot e) (λ f. operand_form width x.laid.spot f >>= stored width x.laid.place) q r in
+      let (g, counted, last) = bind_ok (operand_form width x.laid.spot f) (stored width x.laid.place) q kept in
+      let part = of_stored o x.owner fill width x.laid.place g q bytes last in
+      let form = of_operand o x.owner fill width (p.address x.owner x.place) x.laid.spot f g bytes address counted in
+      (λ k. part.1 (form.0 (k.0, (values e f k.0 normal).0 k.1, k.2)), λ k. (let b = form.1 (part.0 k) in (b.0, (values e f b.0 normal).1 b.1, b.2)))
+
+  of_operands : (width : Option Width) (e : Option Tree) (qs : List Part) (bytes : List ℕ) → operand_parts (o.symbols x.owner) x.laid width e ≡ Ok qs → AreOperand p x width e bytes ↔ AreParts (HasValue o x.owner) fill qs bytes
+  of_operands (Some width) (Some e) qs bytes r =
+      let (q, found, whole) = bind_ok (operand_part (o.symbols x.owner) x.laid width e) (λ q. Ok (q ∷ [])) qs r in
+      let same : q ∷ [] ≡ qs = cc whole in
+      let one = of_one width e q bytes found in
+      (λ k. subst (λ z. AreParts (HasValue o x.owner) fill z bytes) same ((single q bytes).0 (one.0 k)), λ k. one.1 ((single q bytes).1 (subst (λ z. AreParts (HasValue o x.owner) fill z bytes) (sym same) k)))
+  of_operands (Some width) None qs bytes r = none qs bytes r
+  of_operands None (Some e) qs bytes r = none qs bytes r
+  of_operands None None qs bytes r = none qs bytes r
+
+  code_part : (c : Option ℕ) → opcode_part c ≡ Known (code_bytes c)
+  code_part None = refl
+  code_part (Some c) = refl
+
+  of_instruction : (m : Mnemonic) (d : Operand) (s : Settled) (qs : List Part) (bytes : List ℕ) → instruction_parts (o.symbols x.owner) x.laid m d s ≡ Ok qs → AreInstruction p x m d s bytes ↔ AreParts (HasValue o x.owner) fill qs bytes
+  of_instruction m d (InMode mode) qs bytes r =
+      let (rest, found, whole) = bind_ok (operand_parts (o.symbols x.owner) x.laid (width_of mode) (operand_tree d)) (λ ps. Ok (opcode_part (opcode_of m mode) ∷ ps)) qs r in
+      let last : opcode_part (opcode_of m mode) ∷ rest ≡ qs = cc whole in
+      let same : Known (code_bytes (opcode_of m mode)) ∷ rest ≡ qs = ap (λ z. z ∷ rest) (sym (code_part (opcode_of m mode))) ∙ last in
+      let there : AreInstruction p x m d (InMode mode) bytes → AreParts (HasValue o x.owner) fill (Known (code_bytes (opcode_of m mode)) ∷ rest) bytes =
+      λ k. (code_bytes (opcode_of m mode), k.0, refl, (of_operands (width_of mode) (operand_tree d) rest k.0 found).0 k.1, k.2) in
+      let back : AreParts (HasValue o x.owner) fill (Known (code_bytes (opcode_of m mode)) ∷ rest) bytes → AreInstruction p x m d (InMode mode) bytes =
+      λ k. (k.1, (of_operands (width_of mode) (operand_tree d) rest k.1 found).1 k.3, k.4 ∙ ap (λ z. z ++ k.1) k.2) in
+      (λ k. subst (λ z. AreParts (HasValue o x.owner) fill z bytes) same (there k), λ k. back (subst (λ z. AreParts (HasValue o x.owner) fill z bytes) (sym same) k))
+  of_instruction m d Unsettled qs bytes r = none qs bytes r
+  of_instruction m d (FilledWith b) qs bytes r = none qs bytes r
+  of_instruction m d (FromByte b) qs bytes r = none qs bytes r
+
+  -- ---- Room and parts of files.
+
+  of_alone : (q : Part) (qs : List Part) (bytes : List ℕ) → ◌≡◌ {A = Result (List Part) AsmFault} (Ok (q ∷ [])) (Ok qs) → ArePart (HasValue o x.owner) fill q bytes ↔ AreParts (HasValue o x.owner) fill qs bytes
+  of_alone q qs bytes r =
+      let same : q ∷ [] ≡ qs = cc in
+      (λ k. subst (λ z. AreParts (HasValue o x.owner) fill z bytes) same ((single q bytes).0 k), λ k. (single q bytes).1 (subst (λ z. AreParts (HasValue o x.owner) fill z bytes) (sym same) k))
+
+  of_room : (count : ℕ) (s : Settled) (bytes : List ℕ) → ArePart (HasValue o x.owner) fill (room_part count s) bytes ≡ (bytes ≡ replicate count (filling fill s))
+  of_room count (FilledWith b) bytes = refl
+  of_room count Unsettled bytes = refl
+  of_room count (InMode m) bytes = refl
+  of_room count (FromByte b) bytes = refl
+
+  room : (count len : ℕ) (s : Settled) (qs : List Part) (bytes : List ℕ) → count ≡ len → ◌≡◌ {A = Result (List Part) AsmFault} (Ok (room_part len s ∷ [])) (Ok qs) → (bytes ≡ replicate count (filling fill s)) ↔ AreParts (HasValue o x.owner) fill qs bytes
+  room count len s qs bytes e r =
+      let alone = of_alone (room_part len s) qs bytes r in
+      let same : ArePart (HasValue o x.owner) fill (room_part len s) bytes ≡ (bytes ≡ replicate count (filling fill s)) = of_room len s bytes ∙ ap (λ n. bytes ≡ replicate n (filling fill s)) (sym e) in
+      (λ k. alone.0 (subst (λ z. z) (sym same) k), λ k. subst (λ z. z) same (alone.1 k))
+
+of_line : {E : Type 0} (p : Program) (o : Objects E) → AreObjects p o → (fill at : ℕ) (x : Line) (t : Statement) (ps : List Part) (bytes : List ℕ) → o.spots x.owner x.place ≡ x.laid.spot → line_end at x.multiple (record x.laid { stated = t }) ≡ at + x.laid.length → parts_of (o.symbols x.owner) (record x.laid { stated = t }) ≡ Ok ps → AreLine p fill at (record x { laid = record x.laid { stated = t } }) bytes ↔ AreParts (HasValue o x.owner) fill ps bytes
+of_line p o h fill at x (statement.Instruction m d) ps bytes s e q = of_instruction p o h fill x s m d x.laid.settled ps bytes q
+of_line p o h fill at x (statement.Values width is) ps bytes s e q = of_items p o h fill x s width is ps bytes q
+of_line p o h fill at x (statement.Reserve n v) ps bytes s e q = room p o h fill x s x.laid.length x.laid.length x.laid.settled ps bytes refl q
+of_line p o h fill at x (statement.Align n v) ps bytes s e q =
+    let count : line_end at x.multiple (record x.laid { stated = statement.Align n v }) - at ≡ x.laid.length = omega (arith, e) in
+    room p o h fill x s (line_end at x.multiple (record x.laid { stated = statement.Align n v }) - at) x.laid.length x.laid.settled ps bytes count q
+of_line p o h fill at x (statement.FilePart file n v) ps bytes s e q = of_alone p o h fill x s _ ps bytes q
+of_line p o h fill at x t ps bytes s e q = none p o h fill x s ps bytes q
+
+pub parts_law : (E : Type 0) → PartsLaw E
+parts_law E p o fill at x ps bytes h s e q = of_line p o h fill at x x.laid.stated ps bytes s e q
 
 -- ---- Parts behind parts.
 

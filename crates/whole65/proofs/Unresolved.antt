@@ -1,49 +1,260 @@
 -- A link leaves names open exactly where the whole program lacks some that have to be given.
-use Rattle.std.proofs.Common.{◌≡◌, ℕ, zero, suc, ◌+◌, Bool, true, false, nat_eq, List, [], ◌∷◌, map, filter, length, ◌<◌, slice_get, Some, Ok, refl, sym, ◌∙◌, ap, subst, arith}
-use Rattle.std.specs.Prelude.{◌||◌}
-use Rattle.std.specs.Int.{next_multiple_of}
+use Rattle.std.proofs.Common.{◌≡◌, ℕ, suc, Bool, true, false, nat_eq, cond, List, [], ◌∷◌, ◌++◌, length, map, filter, slice_get, Option, Some, None, Result, Ok, refl, sym, ◌∙◌, ap, subst, zero, ◌+◌, ◌<◌, arith}
+use Rattle.std.specs.Prelude.{⊤, ℤ, unwrap_or, ◌||◌}
 use Rattle.std.specs.List.{AllByRecursion, flat_map, list_any}
+use Rattle.std.proofs.lemmas.List.{append_assoc}
+use Rattle.base65.specs.Outcome.{◌>>=◌, each}
+use Rattle.syntax65.specs.Trees as tree
+use Rattle.object65.specs.Form.{Form}
+use Rattle.script65.specs.declared.placement.Placement.{Placement}
+use Rattle.script65.specs.declared.script.Script.{Script}
+use Rattle.language65.specs.Parts.{Content, Part, Known, Filled, Waiting, Said, Exported, Demanded, Checked}
+use Rattle.language65.specs.Contents.{content_of, parts_of}
+use Rattle.language65.specs.Laid.{Laid, asks_section}
+use Rattle.language65.specs.declared.language.Statement.{Statement}
+use Rattle.language65.specs.declared.language.Statement.TheVariants as statement
+use Rattle.language65.specs.declared.language.Statement.TheVariants.{Assert}
+use Rattle.language65.specs.Layout.{Layout}
+use Rattle.language65.specs.Norms.{defined_form, norm}
+use Rattle.language65.specs.Numbering.{all_said, imports_in, name_of, optional_key, key_of, parts_in, segments_asked, section_keys}
+use Rattle.language65.specs.Symbols.{Symbols, defined, named, with_new}
+use Rattle.link65.specs.Programs.{Module}
+use Rattle.link65.specs.declared.parts.ValueFault.{ValueFault}
+use Rattle.link65.specs.declared.parts.ValueFault.TheVariants.{NoValue}
+use Rattle.module65.proofs.SoundForms.{all_append}
+use Rattle.module65.specs.Module.{contents_from}
+use Rattle.module65.specs.Places.{PlacedFault, at_place}
+use Rattle.whole65.proofs.Exports.{IsAsserted, all_demanded, demanded_names, one_tells, IsDefined, exported_names, said_all}
+use Rattle.whole65.proofs.Links.{valued_imports_law}
+use Rattle.whole65.proofs.Providers.{global_form, past_all, sources_law}
+use Rattle.whole65.proofs.Imports.{KeyFor, OfKey, OfPart, OfSaid, among_swapped, at_key, each_name, imports_hold, key_for, no_key, forced_hold, all_parts, of_among, none_open}
+use Rattle.whole65.proofs.Keyed.{or_right, one_of}
+use Rattle.whole65.proofs.Sections.{alike, any_once, asked_are, held, keys_of}
+use Rattle.whole65.proofs.SameValues.{bind_ok, same_values_law}
+use Rattle.whole65.proofs.Rows.{any_new, any_map, names_asked, bytes_split}
+use Rattle.whole65.proofs.SectionBytes.{content_is, in_middle, placed_ok, section_law}
+use Rattle.whole65.proofs.Sources.{contents_of, begin_is_multiple, whole_part}
+use Rattle.whole65.specs.Inner.Keyed.{linked_objects}
+use Rattle.whole65.specs.Inner.Linked.{spot_in, symbols_at}
+use Rattle.whole65.specs.Modules.{exports_of, forced_of, global_spot, spot_or, table_of}
+use Rattle.whole65.specs.Objects.{AreObjects, HasNone, HasValue, IsGivenBy, Objects}
+use Rattle.whole65.specs.Objects as objects
+use Rattle.whole65.specs.Programs as whole
+use Rattle.whole65.specs.Programs.{length_of}
+use Rattle.whole65.specs.Segments.{line_of, lines_behind, Line, asked_by, end_of, has_section, items_from, items_of, largest_multiple, line, need_of, needs_of, part_of, rounding, segment_name, segments_of}
+use Rattle.whole65.specs.Sources.{AreSources, IsSource}
+use Rattle.whole65.specs.Values.{Program, by_nobody}
+use Rattle.whole65.specs.Whole.{HasAssertion, HasExport, IsGiven, AreAsserted, AreExported, AreForced, AreRow}
+use Rattle.std.specs.Int.{next_multiple_of}
 use Rattle.std.specs.Str.{bytes_eq}
 use Rattle.std.proofs.lemmas.List.Folds.{list_any-append}
 use Rattle.script65.proofs.Apart.{rows_there}
 use Rattle.script65.specs.Placing.{has_row, place_of}
 use Rattle.script65.specs.declared.placement.SegmentNeed.{SegmentNeed}
-use Rattle.script65.specs.declared.placement.Placement.{Placement}
 use Rattle.script65.specs.declared.script.Row.{Row}
-use Rattle.script65.specs.declared.script.Script.{Script}
 use Rattle.language65.proofs.Lists.{same_bytes}
-use Rattle.language65.specs.Parts.{Content, Part, Known, Filled, Waiting}
-use Rattle.language65.specs.Laid.{Laid, asks_section}
-use Rattle.language65.specs.Layout.{Layout}
-use Rattle.language65.specs.Numbering.{parts_in, section_keys, segments_asked}
 use Rattle.link65.specs.Files.{RowBytes}
-use Rattle.link65.specs.Programs.{Module}
-use Rattle.link65.specs.declared.parts.ValueFault.{ValueFault}
-use Rattle.module65.proofs.SoundForms.{all_append}
-use Rattle.whole65.proofs.Bases.{one_of}
-use Rattle.whole65.proofs.Providers.{sources_law}
-use Rattle.whole65.proofs.Imports.{forced_hold}
-use Rattle.whole65.proofs.Keys.{any_once, asked_are, held, keys_of}
-use Rattle.whole65.proofs.Known.{all_parts, none_open}
-use Rattle.whole65.proofs.Needs.{any_map, any_new, names_asked}
 use Rattle.whole65.proofs.Positions.{itself}
-use Rattle.whole65.proofs.Resolved.{Asked, IsValuedPart, module_given}
-use Rattle.whole65.proofs.Rows.{bytes_split}
-use Rattle.whole65.proofs.SectionBytes.{section_law}
-use Rattle.whole65.proofs.Sources.{begin_is_multiple, contents_of, whole_part}
 use Rattle.whole65.specs.Contents.{AreBytes}
-use Rattle.whole65.specs.Inner.Keyed.{linked_objects}
 use Rattle.whole65.specs.Inner.Steps.{GivenLaw, ResolvedLaw}
-use Rattle.whole65.specs.Inner.Linked.{spot_in, symbols_at}
-use Rattle.whole65.specs.Modules.{global_spot, spot_or, table_of}
-use Rattle.whole65.specs.Objects.{HasValue, Objects}
 use Rattle.whole65.specs.Offsets.{lines_at}
 use Rattle.whole65.specs.Inner.Parts.{AreParts}
-use Rattle.whole65.specs.Programs as whole
-use Rattle.whole65.specs.Segments.{Line, asked_by, end_of, has_section, items_from, items_of, largest_multiple, line, lines_behind, need_of, needs_of, part_of, rounding, segment_name, segments_of}
-use Rattle.whole65.specs.Sources.{AreSources, IsSource}
-use Rattle.whole65.specs.Values.{Program}
-use Rattle.whole65.specs.Whole.{AreAsserted, AreExported, AreForced, AreRow, IsGiven}
+
+-- ---- What asks for no section puts nothing there.
+
+abbrev IsQuiet : Content → Type 0
+IsQuiet c = c.asks ≡ false → c.parts ≡ []
+
+quiet_parts : (z : Symbols) (l : Laid) (ps : List Part) → asks_section l.stated ≡ false → parts_of z l ≡ Ok ps → ps ≡ []
+quiet_parts z l ps none h = go l.stated none h
+  where
+    go : (x : Statement) → asks_section x ≡ false → parts_of z (record l { stated = x }) ≡ Ok ps → ps ≡ []
+    go (statement.Instruction m o) none h = absurd cc
+    go (statement.Values w is) none h = absurd cc
+    go (statement.Reserve n v) none h = absurd cc
+    go (statement.Align n v) none h = absurd cc
+    go (statement.FilePart b n v) none h = absurd cc
+    go x none h = cc
+
+quiet_contents : (z : Symbols) (ls : List Laid) (cs : List Content) → contents_from z ls ≡ Ok cs → AllByRecursion IsQuiet cs
+quiet_contents z [] cs e = let same : [] ≡ cs = cc in subst (AllByRecursion IsQuiet) same tt
+quiet_contents z (l ∷ ls) cs e =
+    let found : Laid → Result Content PlacedFault = λ l. at_place l.place (content_of z l) in
+    let (c, first, others) = bind_ok (found l) (λ y. each found ls >>= (λ ys. Ok (y ∷ ys))) cs e in
+    let (ds, more, last) = bind_ok (each found ls) (λ ys. Ok (c ∷ ys)) cs others in
+    let same : c ∷ ds ≡ cs = cc last in
+    let content = content_is z l c (placed_ok l.place (content_of z l) c first) in
+    subst (AllByRecursion IsQuiet) same ((λ none. quiet_parts z l c.parts (sym content.asks ∙ none) content.parts), quiet_contents z ls ds more)
+
+-- what holds of the parts in each section that is asked for holds of the parts of all contents
+module _ (P : Part → Type 0) where
+  abbrev pub Asked : List Content → Type 0
+  Asked cs = (g : ℕ) → list_any (nat_eq g) (segments_asked cs) ≡ true → AllByRecursion P (parts_in cs g)
+
+  parts_if : (c : Content) (cs : List Content) (g : ℕ) (b : Bool) → nat_eq c.segment g ≡ b → AllByRecursion P (parts_in (c ∷ cs) g) → AllByRecursion P (flat_map (λ (d : Content). d.parts) (cond b (c ∷ filter (λ (d : Content). nat_eq d.segment g) cs) (filter (λ (d : Content). nat_eq d.segment g) cs)))
+  parts_if c cs g b e h = subst (λ b. AllByRecursion P (flat_map (λ (d : Content). d.parts) (cond b (c ∷ filter (λ (d : Content). nat_eq d.segment g) cs) (filter (λ (d : Content). nat_eq d.segment g) cs)))) e h
+
+  asked_later : (c : Content) (cs : List Content) → Asked (c ∷ cs) → Asked cs
+  asked_later c cs up g e = go (nat_eq c.segment g) refl (up g (wider c.asks))
+    where
+      wider : (b : Bool) → list_any (nat_eq g) (map (λ (d : Content). d.segment) (cond b (c ∷ filter (λ (d : Content). d.asks) cs) (filter (λ (d : Content). d.asks) cs))) ≡ true
+      wider true = or_right (nat_eq g c.segment) (list_any (nat_eq g) (segments_asked cs)) e
+      wider false = e
+
+      go : (b : Bool) → nat_eq c.segment g ≡ b → AllByRecursion P (parts_in (c ∷ cs) g) → AllByRecursion P (parts_in cs g)
+      go true q h = (all_parts P c.parts (parts_in cs g) (parts_if c cs g true q h)).1
+      go false q h = parts_if c cs g false q h
+
+  asked_here : (c : Content) (cs : List Content) → IsQuiet c → Asked (c ∷ cs) → AllByRecursion P c.parts
+  asked_here c cs quiet up = go c.asks refl
+    where
+      go : (b : Bool) → c.asks ≡ b → AllByRecursion P c.parts
+      go false e = subst (AllByRecursion P) (sym (quiet e)) tt
+      go true e =
+          let first : list_any (nat_eq c.segment) (segments_asked (c ∷ cs)) ≡ true =
+          ap (λ b. list_any (nat_eq c.segment) (map (λ (d : Content). d.segment) (cond b (c ∷ filter (λ (d : Content). d.asks) cs) (filter (λ (d : Content). d.asks) cs)))) e
+          ∙ ap (λ b. b || list_any (nat_eq c.segment) (segments_asked cs)) (alike c.segment) in
+          (all_parts P c.parts (parts_in cs c.segment) (parts_if c cs c.segment true (alike c.segment) (up c.segment first))).0
+
+  parts_asked : (cs : List Content) → AllByRecursion IsQuiet cs → Asked cs → AllByRecursion (λ (c : Content). AllByRecursion P c.parts) cs
+  parts_asked [] h up = tt
+  parts_asked (c ∷ cs) h up = (asked_here c cs h.0 up, parts_asked cs h.1 (asked_later c cs up))
+
+-- ---- One module.
+
+new_all : (P : List ℕ → Type 0) (names : List (List ℕ)) → AllByRecursion P (with_new [] names) → AllByRecursion P names
+new_all P names h = each_name P names (λ n e. of_among P (with_new [] names) n h (among_swapped n (with_new [] names) ∙ any_new n names [] ∙ e))
+
+module _ (s : Script) (placement : Placement) (ys : List Layout) (ms : List Module) (h : AreSources ys ms) (owner : ℕ) (y : Layout) (at_y : slice_get ys owner ≡ Some y) where
+  abbrev p : Program
+  p = whole.program_of s placement ys
+
+  abbrev o : Objects ValueFault
+  o = linked_objects s placement ys ms
+
+  abbrev z : Symbols
+  z = table_of y
+
+  abbrev HasSome : Form → Type 0
+  HasSome f = (v : ℤ) × HasValue o owner f v
+
+  abbrev pub IsValuedPart : Part → Type 0
+  IsValuedPart (Known own) = ⊤
+  IsValuedPart (Filled n) = ⊤
+  IsValuedPart (Waiting width place f) = HasSome f
+
+  abbrev IsValuedExport : Said → Type 0
+  IsValuedExport (Exported n place f) = HasSome f
+  IsValuedExport (Demanded n) = ⊤
+  IsValuedExport (Checked act place words f) = ⊤
+
+  abbrev IsValuedCheck : Said → Type 0
+  IsValuedCheck (Exported n place f) = ⊤
+  IsValuedCheck (Demanded n) = ⊤
+  IsValuedCheck (Checked act place words f) = HasSome f
+
+  -- an import that comes to a value has a name that is given
+  one_given : (turns k : ℕ) (w : ℤ) → o.imports turns owner k ≡ Ok w → OfKey (IsGiven p) z.imports k
+  one_given turns k w e = by (slice_get z.imports k) refl (subst (λ r. objects.IsGiven p o owner k (slice_get (symbols_at r).imports k)) at_y ((sources_law s placement ys ms h).given owner k))
+    where
+      by : (r : Option (List ℕ)) → slice_get z.imports k ≡ r → objects.IsGiven p o owner k r → IsGiven p (name_of z.imports k)
+      by None q given = absurd (given turns w e)
+      by (Some x) q given = λ none.
+          let called : p.provider x ≡ by_nobody = ap (λ r. p.provider (unwrap_or r [])) (sym q) ∙ none in
+          let never : HasNone o owner k = subst (IsGivenBy p o owner k x) called given in
+          never turns w e
+
+  each_given : (turns : ℕ) (ks : List ℕ) → AllByRecursion (λ k. (w : ℤ) × (o.imports turns owner k ≡ Ok w)) ks → AllByRecursion (OfKey (IsGiven p) z.imports) ks
+  each_given turns [] k = tt
+  each_given turns (x ∷ ks) k = (one_given turns x k.0.0 k.0.1, each_given turns ks k.1)
+
+  form_given : (f : Form) → HasSome f → AllByRecursion (OfKey (IsGiven p) z.imports) (imports_in f)
+  form_given f (v, (turns, e)) = each_given turns (imports_in f) (valued_imports_law ValueFault NoValue (o.bases owner) (o.imports turns owner) f v e)
+
+  part_given : (x : Part) → IsValuedPart x → OfPart (IsGiven p) z.imports x
+  part_given (Known own) k = tt
+  part_given (Filled n) k = tt
+  part_given (Waiting width place f) k = form_given f k
+
+  parts_given : (xs : List Part) → AllByRecursion IsValuedPart xs → AllByRecursion (OfPart (IsGiven p) z.imports) xs
+  parts_given [] k = tt
+  parts_given (x ∷ xs) k = (part_given x k.0, parts_given xs k.1)
+
+  all_parts_given : (cs : List Content) → AllByRecursion (λ (c : Content). AllByRecursion IsValuedPart c.parts) cs → AllByRecursion (λ (c : Content). AllByRecursion (OfPart (IsGiven p) z.imports) c.parts) cs
+  all_parts_given [] k = tt
+  all_parts_given (c ∷ cs) k = (parts_given c.parts k.0, all_parts_given cs k.1)
+
+  demand_given : (n : List ℕ) → IsGiven p n → AllByRecursion (OfKey (IsGiven p) z.imports) (optional_key (key_of z.imports n))
+  demand_given n k = go (key_for z.imports n)
+    where
+      go : KeyFor z.imports n → AllByRecursion (OfKey (IsGiven p) z.imports) (optional_key (key_of z.imports n))
+      go (at_key j q called) = subst (λ r. AllByRecursion (OfKey (IsGiven p) z.imports) (optional_key r)) (sym q) (subst (IsGiven p) (sym called) k, tt)
+      go (no_key q none) = subst (λ r. AllByRecursion (OfKey (IsGiven p) z.imports) (optional_key r)) (sym q) tt
+
+  said_given : (ss : List Said) → AllByRecursion (IsGiven p) (demanded_names ss) → AllByRecursion IsValuedExport ss → AllByRecursion IsValuedCheck ss → AllByRecursion (OfSaid (IsGiven p) z.imports) ss
+  said_given [] d e a = tt
+  said_given (Exported n place f ∷ ss) d e a = (form_given f e.0, said_given ss d e.1 a.1)
+  said_given (Demanded n ∷ ss) d e a = (demand_given n d.0, said_given ss d.1 e.1 a.1)
+  said_given (Checked act place words f ∷ ss) d e a = (form_given f a.0, said_given ss d e.1 a.1)
+
+  -- ---- Exports.
+
+  export_valued : (n : List ℕ) (j : ℕ) (f : Form) → defined z (named 0 n) ≡ Some j → defined_form z j ≡ Ok f → HasExport p owner n → HasSome f
+  export_valued n j f e normal has =
+      let depth : ℕ = suc (suc (length z.definitions)) in
+      let same : norm depth (o.symbols owner) (o.spots owner (p.global owner)) (tree.name false (n ∷ [])) ≡ Ok f =
+      ap (λ r. norm depth (symbols_at r) (spot_in r (length_of r)) (tree.name false (n ∷ []))) at_y
+      ∙ ap (λ r. norm depth z (spot_or (global_spot y) r) (tree.name false (n ∷ []))) (past_all y.laid)
+      ∙ global_form y n j f e normal in
+      (has.0, (same_values_law ValueFault p o (sources_law s placement ys ms h) depth owner (p.global owner) (tree.name false (n ∷ [])) f has.0 same).0 has.1)
+
+  exports_valued : (ss : List Said) → AllByRecursion (IsDefined z) ss → AllByRecursion (HasExport p owner) (exported_names ss) → AllByRecursion IsValuedExport ss
+  exports_valued [] d e = tt
+  exports_valued (Exported n place f ∷ ss) d e = (export_valued n d.0.0 f d.0.1 d.0.2 e.0, exports_valued ss d.1 e.1)
+  exports_valued (Demanded n ∷ ss) d e = (tt, exports_valued ss d.1 e)
+  exports_valued (Checked act place words f ∷ ss) d e = (tt, exports_valued ss d.1 e)
+
+  -- ---- Assertions.
+
+  check_valued : (before : List Laid) (l : Laid) (x : Said) → o.spots owner (length before) ≡ l.spot → HasAssertion p (line_of owner before l) → IsAsserted z l x → IsValuedCheck x
+  check_valued before l (Exported n place f) spot has k = tt
+  check_valued before l (Demanded n) spot has k = tt
+  check_valued before l (Checked act place words f) spot has (e, stated, normal) =
+      let own : HasAssertion p (line_of owner before (record l { stated = Assert e act words })) = subst (λ x. HasAssertion p (line_of owner before (record l { stated = x }))) stated has in
+      let depth : ℕ = suc (length z.definitions) in
+      let same : norm depth (o.symbols owner) (o.spots owner (length before)) e ≡ Ok f = ap (λ r. norm depth (symbols_at r) (o.spots owner (length before)) e) at_y ∙ ap (λ r. norm depth z r e) spot ∙ normal in
+      (own.0, (same_values_law ValueFault p o (sources_law s placement ys ms h) depth owner (length before) e f own.0 same).0 own.1)
+
+  line_valued : (before : List Laid) (l : Laid) (ss : List Said) → o.spots owner (length before) ≡ l.spot → HasAssertion p (line_of owner before l) → AllByRecursion (IsAsserted z l) ss → AllByRecursion IsValuedCheck ss
+  line_valued before l [] spot has k = tt
+  line_valued before l (x ∷ ss) spot has k = (check_valued before l x spot has k.0, line_valued before l ss spot has k.1)
+
+  checks_valued : (before ls : List Laid) (cs : List Content) → before ++ ls ≡ y.laid → contents_from z ls ≡ Ok cs → AllByRecursion (HasAssertion p) (lines_behind owner before ls) → AllByRecursion IsValuedCheck (all_said cs)
+  checks_valued before [] cs w e has = let same : [] ≡ cs = cc in subst (λ k. AllByRecursion IsValuedCheck (all_said k)) same tt
+  checks_valued before (l ∷ ls) cs w e has =
+      let found : Laid → Result Content PlacedFault = λ l. at_place l.place (content_of z l) in
+      let (c, first, others) = bind_ok (found l) (λ y. each found ls >>= (λ ys. Ok (y ∷ ys))) cs e in
+      let (ds, more, last) = bind_ok (each found ls) (λ ys. Ok (c ∷ ys)) cs others in
+      let same : c ∷ ds ≡ cs = cc last in
+      let content = content_is z l c (placed_ok l.place (content_of z l) c first) in
+      let next : (before ++ l ∷ []) ++ ls ≡ y.laid = append_assoc before (l ∷ []) ls ∙ w in
+      let there : slice_get y.laid (length before) ≡ Some l = subst (λ k. slice_get k (length before) ≡ Some l) w (in_middle before l ls) in
+      let spot : o.spots owner (length before) ≡ l.spot = ap (λ r. spot_in r (length before)) at_y ∙ ap (spot_or (global_spot y)) there in
+      subst (λ k. AllByRecursion IsValuedCheck (all_said k)) same
+      (all_append IsValuedCheck c.said (all_said ds) (line_valued before l c.said spot has.0 (one_tells z l c.said content.said).asserted) (checks_valued (before ++ l ∷ []) ls ds next more has.1))
+
+  -- ---- All imports of the object.
+
+  pub module_given : (m : Module) (source : IsSource y m) → AllByRecursion (IsGiven p) (forced_of y) → AllByRecursion (HasExport p owner) (exports_of y) → AllByRecursion (HasAssertion p) (lines_behind owner [] y.laid) → Asked IsValuedPart (contents_of y m source).contents → AllByRecursion (IsGiven p) m.object.imports
+  module_given m source given exported asserted asked =
+      let c = contents_of y m source in
+      let cs : List Content = c.contents in
+      let says = said_all z y.laid cs c.found in
+      let names : AllByRecursion (HasExport p owner) (exported_names (all_said cs)) = subst (AllByRecursion (HasExport p owner)) (sym says.exported) (new_all (HasExport p owner) _ exported) in
+      let demands : AllByRecursion (IsGiven p) (demanded_names (all_said cs)) = subst (AllByRecursion (IsGiven p)) (sym (all_demanded z y.laid cs c.found)) given in
+      imports_hold (IsGiven p) y m source
+      (all_parts_given cs (parts_asked IsValuedPart cs (quiet_contents z y.laid cs c.found) asked))
+      (said_given (all_said cs) demands (exports_valued (all_said cs) says.are_defined names) (checks_valued [] y.laid cs refl c.found asserted))
 
 -- ---- From the link.
 

@@ -1,4 +1,4 @@
-use Rattle.whole65.proofs.Images.{export_value_law}
+use Rattle.whole65.proofs.Files.{export_value_law}
 use Rattle.whole65.proofs.laws.export_values.Goals as goal
 
 pub returns : goal.returns

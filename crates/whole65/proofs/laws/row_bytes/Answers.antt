@@ -1,4 +1,4 @@
-use Rattle.whole65.proofs.Images.{rows_law}
+use Rattle.whole65.proofs.Files.{rows_law}
 use Rattle.whole65.proofs.laws.row_bytes.Goals as goal
 
 pub returns : goal.returns

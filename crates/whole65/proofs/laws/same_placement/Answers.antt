@@ -1,4 +1,4 @@
-use Rattle.whole65.proofs.Needs.{placement_law}
+use Rattle.whole65.proofs.Rows.{placement_law}
 use Rattle.whole65.proofs.laws.same_placement.Goals as goal
 
 pub returns : goal.returns

@@ -142,11 +142,6 @@ pub begun_anew : (file : Option (List ℕ)) → in_file file library_at ≡ Err 
 begun_anew None e = refl
 begun_anew (Some bytes) e = absurd (no_such bytes e)
 
--- any other answer is that of the library which is there
-pub begun_there : (file : Option (List ℕ)) (r : Result (List Member) LibraryFault) → in_file file library_at ≡ r → IsThere r → begun file ≡ r
-begun_there None r e h = let bad : Speaks {A = List Member} (Err FileNotFound) ≡ false = rw (sym e) at h in absurd cc
-begun_there (Some bytes) r e h = e
-
 pub begun_empty : (known : Option Files) (name : List ℕ) (new : List Member) (e : LibraryFault) → new ≡ [] → e ≡ FileNotFound → IfSome known (λ m. Refuses is_outside e (in_file (get m name) library_at)) → IfSome known (λ m. begun (get m name) ≡ Ok new)
 begun_empty None name new e none is h = tt
 begun_empty (Some m) name new e none is h = begun_anew (get m name) (rw is at h) ∙ ap (λ ms. Ok ms) (sym none)

@@ -25,19 +25,6 @@ use Rattle.ar65.proofs.Longs.{told_by_front}
 
 -- ---- One FILE.
 
--- the file couldn't be read
-pub unread : (known : Option Files) (ms : List Member) (name : List ℕ) (e : StoreFault) → IfSome known (λ m. Refuses is_outside_store e (front_in (get m name) (file_limit + 1))) → IfSome known (λ m. Refuses is_library_outside (of_store e) (with_file m ms name))
-unread None ms name e h = tt
-unread (Some m) ms name e h = go (get m name) e h
-  where
-    go : (file : Option (List ℕ)) (e : StoreFault) → Refuses is_outside_store e (front_in file (file_limit + 1)) → Refuses is_library_outside (of_store e) (in_file file (replaced ms (member_name name)))
-    go None store.FileNotFound h = refl
-    go None store.OutOfMemory h = tt
-    go None store.FileError h = tt
-    go (Some bytes) store.FileNotFound h = absurd cc
-    go (Some bytes) store.OutOfMemory h = tt
-    go (Some bytes) store.FileError h = tt
-
 weaker : {Y : Type 0} (e : LibraryFault) (r : Result Y LibraryFault) → Refuses is_library_memory e r → Refuses is_library_outside e r
 weaker fault.OutOfMemory r h = tt
 weaker fault.FileError r h = tt
@@ -131,7 +118,3 @@ file_none (Some m) next before ms names k name e same at left put =
     let whole : with_file m ms name ≡ Err e → with_files m before 0 names ≡ Err (refusal.File k e) = λ h.
     sym left ∙ ap (with_files m ms k) at ∙ ap (λ r. as_file k r >>= (λ xs. with_files m xs (k + 1) (drop (k + 1) names))) h in
     file_outside k e (with_files m before 0 names ≡ Err (refusal.File k e)) (unless_then (is_library_outside e) whole here)
-
-pub file_last : (known : Option Files) (before ms : List Member) (names : List (List ℕ)) (k : ℕ) → length names ≤ k → IsLeft known before names ms k → IfSome known (λ m. with_files m before 0 names ≡ Ok ms)
-file_last None before ms names k past left = tt
-file_last (Some m) before ms names k past left = sym left ∙ ap (with_files m ms k) (drop_all k names past)

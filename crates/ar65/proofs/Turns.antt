@@ -9,10 +9,6 @@ use Rattle.ar65.specs.Librarian.{member_name}
 abbrev pub ahead : {E A : Type 0} → List A → Result (List A) E → Result (List A) E
 ahead found r = r >>= (λ more. Ok (found ++ more))
 
-pub ahead_nothing : {E A : Type 0} (r : Result (List A) E) → ahead [] r ≡ r
-ahead_nothing (Ok x) = refl
-ahead_nothing (Err e) = refl
-
 further : {E B : Type 0} (found : List B) (y : B) (r : Result (List B) E) → ahead (found ++ y ∷ []) r ≡ ahead found (r >>= (λ ys. Ok (y ∷ ys)))
 further found y (Ok ys) = ap Ok (append_assoc found (y ∷ []) ys)
 further found y (Err e) = refl
@@ -29,10 +25,6 @@ pub each_none : {E A B : Type 0} (f : A → Result B E) (found : List B) (left :
 each_none f found left x more e l h =
     ap (λ xs. ahead found (each f xs)) l
     ∙ ap (λ r. ahead found (r >>= (λ z. each f more >>= (λ zs. Ok (z ∷ zs))))) h
-
--- all are found
-pub each_done : {E A B : Type 0} (f : A → Result B E) (found : List B) (left : List A) → left ≡ [] → ahead found (each f left) ≡ Ok found
-each_done f found left l = ap (λ xs. ahead found (each f xs)) l ∙ ap Ok (append-nil found)
 
 -- a refusal of a part is that of the whole
 pub refused_so : {E A B : Type 0} (is_out : E → Bool) (e : E) (part : Result A E) (whole : Result B E) → (part ≡ Err e → whole ≡ Err e) → Refuses is_out e part → Refuses is_out e whole

@@ -34,10 +34,6 @@ ending_of a = record { known = a.known; sections = a.sections; err = a.texts.err
 abbrev pub files_of : Assembler → List (List ℕ)
 files_of a = map string_bytes a.files.keys
 
--- its forms are those of its own symbol table
-pub table_held : (count : ℕ) (t : State) (a : Assembler) → Holds count t a → IsTable (table_of a.symbols) a.known.states.items
-table_held count t a h = subst (λ (y : Symbols). IsTable y a.known.states.items) (sym h.symbols) h.known
-
 -- by the symbol table of the state that it holds
 pub all_settled : (count : ℕ) (t : State) (a : Assembler) (files : List (List ℕ)) (new : Ending) (r : Result Unit AsmRefusal) → Holds count t a → files ≡ files_of a → ((vs : List machine.Waiting) → AreWaiting (table_of a.symbols) files a.waiting.items vs → SettlesAll (table_of a.symbols) vs (ending_of a) new r) → SettlesAll t.symbols t.waiting (ending_of a) new r
 all_settled count t a files new r h same settled =

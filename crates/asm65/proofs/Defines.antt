@@ -9,7 +9,7 @@ use Rattle.language65.specs.declared.language.Statement.TheVariants.{Constant}
 use Rattle.module65.specs.Inner.Continuing.{DefinesOn}
 use Rattle.module65.specs.Machine.{State, Takes, begun}
 use Rattle.module65.specs.Reading.{Answers, AreDefined, Define}
-use Rattle.module65.proofs.TakenAll.{faulty_constant, first_constant, last_constant, next_constant}
+use Rattle.module65.proofs.TakenAll.{faulty_constant, first_constant, next_constant}
 use Rattle.asm65.specs.declared.assembler.Assembler.{Assembler}
 use Rattle.asm65.specs.declared.assembly.Define as code
 use Rattle.asm65.specs.Assembly.{define_of}
@@ -44,9 +44,6 @@ none_so_far place ds a h = record {
   err = refl;
 }
 
-pub so_far_roomy : (place : Place) (ds left : List Define) (a : Assembler) → SoFar place ds left a → IsRoomy 1 a
-so_far_roomy place ds left a s = (0, s.state, omega arith, s.holds)
-
 zero_within : (count : ℕ) (t : State) (a : Assembler) → count ≤ 0 → Holds count t a → Holds 0 t a
 zero_within count t a le h =
     let none : count ≡ 0 = omega (arith, le) in
@@ -69,9 +66,6 @@ pub one_wrong : (place : Place) (ds left : List Define) (d : Define) (old new : 
 one_wrong place ds left d old new e r fails s defines =
     let P : Answer → Type 0 = λ q. Leaves ⊤ (AreDefined Takes begun place ds) 0 begun new q in
     subst P (sym fails) (fault_then ⊤ ⊤ (Takes s.state place (Constant d.0 (number d.1))) (AreDefined Takes begun place ds) 0 0 begun s.state new e (λ x. x) (λ p. faulty_constant Takes place (AreDefined Takes begun place ds) d left s.state e s.goes p) (λ says. (says.0 ∙ s.out, says.1 ∙ s.err)) (defines 0 s.state (omega arith) s.holds))
-
-pub all_defined : (place : Place) (ds : List Define) (a : Assembler) (v : Unit {0}) → SoFar place ds [] a → Leaves ⊤ (AreDefined Takes begun place ds) 0 begun a (Ok v)
-all_defined place ds a v s = (s.state, last_constant Takes place (AreDefined Takes begun place ds) s.state s.goes, λ first. s.reached, (0, omega arith, s.holds))
 
 -- ---- Lists.
 

@@ -73,14 +73,6 @@ datum_tried old x place s width e f b final h = value_tried old x place s (datum
 pub operand_tried : (old : Assembler) (x : Sections) (place : Place) (s : Spot) (width : Width) (e : Tree) (f : Form) (b : Bool) → IsFinal (table_of old.symbols) s e f → IsPut old.sections x s.segment (operand_stored width s place f) b → IsTried place s (valued (operand width) e) old (fed old x) b
 operand_tried old x place s width e f b final h = value_tried old x place s (operand width) e f final (operand_stored width s place f) b refl h
 
--- an operand other than a branch's is stored as it is
-pub stored_as_is : (width : Width) (s : Spot) (place : Place) (f : Form) → (width ≡ Branch → ⊥) → operand_stored width s place f ≡ stored width place f
-stored_as_is Byte s place f h = refl
-stored_as_is Word s place f h = refl
-stored_as_is HighFirst s place f h = refl
-stored_as_is Dword s place f h = refl
-stored_as_is Branch s place f h = absurd (h refl)
-
 -- ---- Assertions.
 
 -- nothing is said

@@ -20,14 +20,6 @@ named m name text e = by (is_utf8 name) e
     by true h = let same : text ≡ name = cc in ap (fmap.get m) (sym same)
     by false h = absurd cc
 
--- a name that is a text
-pub text_is : (name text : List ℕ) → Some text ≡ as_text name → text ≡ name
-text_is name text e = by (is_utf8 name) e
-  where
-    by : (b : Bool) → Some text ≡ (if b then Some name else None) → text ≡ name
-    by true h = cc
-    by false h = absurd cc
-
 -- a name that is no text has no file
 pub unnamed : (m : Files) (name : List ℕ) (most : ℕ) → None ≡ as_text name → None ≡ option_map (take most) (file_named m name)
 unnamed m name most e = by (is_utf8 name) e

@@ -152,10 +152,6 @@ all_refused o first now e place a at outside refused ran =
 says_begun : (b : Assembler) → Holds 0 begun b → SaysAs begun b
 says_begun b h = (h.out, h.err)
 
-and_says : (P Q : Type 0) (c : Bool) → Q → Unless c P → Unless c (P × Q)
-and_says P Q true q h = tt
-and_says P Q false q h = (h, q)
-
 unless_state : (m : Files) (job : Job) (place : Place) (e : AsmFault) (b : Assembler) (c : Bool) → SaysAs begun b → Unless c (Runs m job (stopped begun place e)) → Unless c ((u : State) × Runs m job (stopped u place e) × SaysAs u b)
 unless_state m job place e b true says h = tt
 unless_state m job place e b false says h = (begun, h, says)

@@ -95,19 +95,10 @@ pub told_all : (o : Option Files) (P : Files → Type 0) → ((m : Files) → P 
 told_all None P f = tt
 told_all (Some m) P f = f m
 
--- a refusal from outside
-pub refused_outside : (AreSo : Type 0) (Is : State → Result State AsmFault → Type 0) (more : ℕ) (old new : Assembler) (e : AsmFault) → is_outside e ≡ true → TakesBy AreSo Is more old new (Err e)
-refused_outside AreSo Is more old new e outside = λ count t room h.
-    (let P : Bool → Type 0 = λ b. Unless b ((AreSo → Is t (Err e)) × SaysAs t new) in subst P (sym outside) tt)
-
 -- ---- What stands behind a label.
 
 abbrev pub RestBy : Option Files → Place → List Lexeme → State → Result State AsmFault → Type 0
 RestBy o place ts = Told o (λ m t. IsRest m Takes t place ts)
-
-pub rest_none : (o : Option Files) (place : Place) (ts : List Lexeme) (a : Assembler) → ts ≡ [] → TakesBy (AreNamed ts) (RestBy o place ts) 1 a a (Ok tt)
-rest_none o place ts a none = λ count t room h.
-    (t, told_all o (λ m. IsRest m Takes t place ts (Ok t)) (λ m. subst (λ ks. IsRest m Takes t place ks (Ok t)) (sym none) refl), λ reached. reached, (count, omega arith, h))
 
 pub rest_wrong : (o : Option Files) (place : Place) (ts : List Lexeme) (a : Assembler) (e : AsmFault) → (ts ≡ [] → ⊥) → Unless (is_outside e) (IsStatement ts (Err e)) → TakesBy (AreNamed ts) (RestBy o place ts) 1 a a (Err e)
 rest_wrong o place [] a e some is = absurd (some refl)

@@ -72,11 +72,6 @@ held_behind t u old mid new h b less same = record {
 -- ---- One statement more, whatever the store tells.
 
 module _ (old mid : Run) (same : mid.assembler ≡ old.assembler) (less : measure_of mid.expander < measure_of old.expander) where
-  pub still_roomy : IsRunning old → IsRoomy 2 mid.assembler
-  still_roomy held =
-      let h = held.2 in
-      (h.count, held.0, few_opened h.count (measure_of old.expander) h.room (some_left (measure_of old.expander) (measure_of mid.expander) less), holds_same h.count held.0 old.assembler mid.assembler same h.holds)
-
   abbrev Takes2 : Option Files → Statement → Run → Answer → Type 0
   Takes2 f x new r = TakesBy (AreNamed (tokens_of (stated x))) (GivenBy f (place_of mid.expander) (stated x)) 2 mid.assembler new.assembler r
 
@@ -86,11 +81,6 @@ module _ (old mid : Run) (same : mid.assembler ≡ old.assembler) (less : measur
       let room = few_opened h.count (measure_of old.expander) h.room (some_left (measure_of old.expander) (measure_of mid.expander) less) in
       let b = taken h.count held.0 room (holds_same h.count held.0 old.assembler mid.assembler same h.holds) in
       (b.0, b.2 held.1, held_behind held.0 b.0 old mid new h b.3 less stays)
-
-pub reached_by : (old mid : Run) → mid.assembler ≡ old.assembler → IsRunning old → IsReachedBy mid.assembler
-reached_by old mid same held =
-    let h = held.2 in
-    (held.0, held.1, (h.count, holds_same h.count held.0 old.assembler mid.assembler same h.holds))
 
 -- ---- Where files are told.
 
@@ -268,14 +258,6 @@ module _ (m : Files) (first old mid : Run) (same : mid.assembler ≡ old.assembl
             says_err = q.err ∙ says.1;
           }
 
--- nothing of it is a failure of the store
-pub stops_never : (m : Files) (blamed : Option (List ℕ)) (first now : Run) (r : Answer) → r ≡ (if is_open now.assembler.standing.scope then Err BadScope else Ok tt) → StopsAll m blamed first now r
-stops_never m blamed first now r is = subst (StopsAll m blamed first now) (sym is) (by (is_open now.assembler.standing.scope))
-  where
-    by : (b : Bool) → StopsAll m blamed first now (if b then Err BadScope else Ok tt)
-    by true = λ failed job begun_so. absurd cc
-    by false = tt
-
 -- ---- The same by what a store tells of its files.
 
 pub some_all : (P : Files → Type 0) (o : Option Files) → ((m : Files) → P m) → IfSome o P
@@ -322,6 +304,3 @@ module _ (o p : Option Files) (told : p ≡ o) (first old mid : Run) (same : mid
       all_wrong e r fails taken =
           some_both (λ m. Goes m first old × NextBy m old (Ok (Some x)) mid) (TakesIn (Err e)) (λ m. RanAll m first new r) o (λ m so t. goes_wrong m first old mid same x new e r fails less so.1 t stays so.0)
           (some_both (λ m. Goes m first old) (λ m. NextBy m old (Ok (Some x)) mid) (λ m. Goes m first old × NextBy m old (Ok (Some x)) mid) o (λ m so n. (so, n)) so_far (given (Some x) is)) (told_taken (Err e) taken)
-
-pub less_given : (q : Option Statement) (x : Statement) (a b : ℕ) → q ≡ Some x → IfSome q (λ y. a < b) → a < b
-less_given q x a b is h = subst (λ z. IfSome z (λ y. a < b)) is h

@@ -52,17 +52,9 @@ where_so (Some m) Q f = f m
 
 -- ---- A line without a directive.
 
-pub nothing_there : (r : Rewriter) (s : State) (ts : List Lexeme) → Opens opening.Nothing r ts → goes s ≡ ordinary s ts
-nothing_there r s [] h = refl
-nothing_there r s (t ∷ ts) h = absurd h
-
 pub no_call : (m : Files) (r : Rewriter) (ts : List Lexeme) → Opens opening.Other r ts → gives (plain ts) (state_of m r) ≡ ordinary (state_of m r) ts
 no_call m r [] h = absurd h
 no_call m r (t ∷ ts) h = sym (ap (called_or_given (state_of m r) t ts) h)
-
-pub a_call : (m : Files) (r : Rewriter) (ts : List Lexeme) (body : Rc Body Global) (x : Stepped) → Opens (opening.Call body) r ts → x ≡ called (state_of m r) (definition_of body.value) (arguments_of (drop 1 ts)) → x ≡ ordinary (state_of m r) ts
-a_call m r [] body x h e = absurd h
-a_call m r (t ∷ ts) body x h e = e ∙ sym (ap (called_or_given (state_of m r) t ts) h)
 
 -- ---- A line that may begin with a label.
 
@@ -74,22 +66,6 @@ unlabelled m k s ts x e h =
     let Q : ℕ → Type 0 = λ n. IsSplit m k s ts (line_directive ts) n x in
     let R : Option Directive → Type 0 = λ d. IsActed m k s ts d x in
     subst P (sym right) (subst Q (sym e) (subst R (sym directive) h))
-
-pub split : (m : Files) (k : Meaning) (s : State) (ts : List Lexeme) (n : ℕ) (front behind : Line) → AreParts ts n front behind → IsLabelled m k s ts (is_mislabelled ts) (turned s (Parts front behind))
-split m k s ts n front behind p =
-    let x = turned s (Parts front behind) in
-    let P : Bool → Type 0 = λ b. IsLabelled m k s ts b x in
-    let Q : ℕ → Type 0 = λ n. IsSplit m k s ts (line_directive ts) n x in
-    let same : x ≡ gives (label (take (suc n) ts)) (with_items s (labelled (drop (suc n) ts) ∷ s.left.items)) =
-    ap (λ l. gives (label l) (with_items s (labelled (tokens_in behind) ∷ s.left.items))) p.label ∙ ap (λ l. gives (label (take (suc n) ts)) (with_items s (labelled l ∷ s.left.items))) p.rest in
-    subst P (sym p.right) (subst Q (sym p.some) same)
-
-pub mislabelled : (m : Files) (k : Meaning) (s : State) (ts : List Lexeme) (f : ExpandFault) → Unless (is_outside f) ((f ≡ NotUnderstood) × (is_mislabelled ts ≡ true)) → Unless (is_outside f) (IsLabelled m k s ts (is_mislabelled ts) (stops (f, s.left.place)))
-mislabelled m k s ts f h = by (is_outside f) h
-  where
-    by : (b : Bool) → Unless b ((f ≡ NotUnderstood) × (is_mislabelled ts ≡ true)) → Unless b (IsLabelled m k s ts (is_mislabelled ts) (stops (f, s.left.place)))
-    by true h = tt
-    by false (e, w) = let P : Bool → Type 0 = λ b. IsLabelled m k s ts b (stops (f, s.left.place)) in subst P (sym w) (ap (λ g. stops (g, s.left.place)) e)
 
 -- ---- The first line that is left of the inputs.
 

@@ -120,12 +120,6 @@ rest_fronted (Branch line) n ts t h = absurd h
 rest_fronted End n ts t h = absurd h
 rest_fronted (Rest line) n ts t h = ap (λ l. with_items t (labelled l ∷ t.left.items)) (sym h)
 
-pub rest_weight : (f : Front) (ts : List Lexeme) → IsRest f ts → weight_in f ≡ 3
-rest_weight Nothing ts h = absurd h
-rest_weight (Branch line) ts h = absurd h
-rest_weight End ts h = absurd h
-rest_weight (Rest line) ts h = refl
-
 -- ---- What a call takes where nothing stands in front of the lines.
 
 pub plain_given : (m : Files) (k : Meaning) (s : State) (mid new : Rewriter) (f : Front) (x : Kind) (ts : List Lexeme) → f ≡ Nothing → Goes m k s (fronted f (state_of m mid)) → x ≡ kind.Statement → ReachesBy m k (state_of m mid) x ts (state_of m new) → Reaches m k s (statement (plain ts) (fronted f (state_of m new)))
@@ -152,12 +146,6 @@ none_given m k s mid new f x ts e h (inr i) r =
     subst P (sym e) (λ g. goes_over m k s (state_of m mid) (state_of m new) g (subst Q i r)) h
 
 -- ---- From what an expander stands for.
-
-pub follows_given : (o : Option Files) (k : Meaning) (old new : Expander) (x : Statement) → old.failed ≡ false → new.failed ≡ old.failed → (NamesFiles old.rewriter.reader → NamesFiles new.rewriter.reader) → ((m : Files) (l : Meaning) → Reaches m l (state_in m old) (statement (stated x) (state_in m new))) → IfSome o (λ m. FollowsFrom m k old (Ok (Some x)) new)
-follows_given None k old new x right same named h = tt
-follows_given (Some m) k old new x right same named h = λ s stands.
-    let P : State → Type 0 = λ z. Reaches m k z (statement (stated x) (state_in m new)) in
-    (state_in m new, subst P stands.1 (h m k), (same ∙ right, refl, named stands.2))
 
 pub follows_behind : (o : Option Files) (k : Meaning) (old mid new : Expander) (r : Result (Option Statement) ExpandFault) → mid.failed ≡ old.failed → (NamesFiles old.rewriter.reader → NamesFiles mid.rewriter.reader) → ((m : Files) (l : Meaning) → Goes m l (state_in m old) (state_in m mid)) → IfSome o (λ m. FollowsFrom m k mid r new) → IfSome o (λ m. FollowsFrom m k old r new)
 follows_behind None k old mid new r same named gone h = tt

@@ -78,13 +78,6 @@ once_refused s name params f p h b = by (is_outside f) b
 
 -- ---- An input put in front of the lines.
 
-pub entered_at : (s : State) (is : List Item) (k : Mark) (p : Place) (l : Left) → Ok l ≡ pushed is k s.left → goes (with_left s (left l.items l.room p)) ≡ entered s is k p
-entered_at s is k p l e = by (nat_le (marks s.left.items) nesting_limit) e
-  where
-    by : (b : Bool) → ◌≡◌ {A = Result Left Stop} (Ok l) (if b then Ok (left (is ++ mark k ∷ s.left.items) s.left.room s.left.place) else Err (Nested, s.left.place)) → goes (with_left s (left l.items l.room p)) ≡ (if b then goes (with_left s (left (is ++ mark k ∷ s.left.items) s.left.room p)) else stops (Nested, s.left.place))
-    by true e = let same : l ≡ left (is ++ mark k ∷ s.left.items) s.left.room s.left.place = cc in ap (λ (x : Left). goes (with_left s (left x.items x.room p))) same
-    by false e = absurd (cc)
-
 -- an input of the lines' own place
 pub entered_same : (s : State) (is : List Item) (k : Mark) (l : Left) → Ok l ≡ pushed is k s.left → goes (with_left s l) ≡ entered s is k s.left.place
 entered_same s is k l e = by (nat_le (marks s.left.items) nesting_limit) e

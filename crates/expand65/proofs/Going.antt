@@ -26,9 +26,6 @@ use Rattle.expand65.specs.declared.rewriter.Turn.{Turn}
 
 -- ---- The step by what stands in front of the lines.
 
-pub step_plain : (m : Files) (k : Meaning) (e : Expander) (x : Stepped) → e.front ≡ Nothing → IsStep m k (state_of m e.rewriter) x → IsStep m k (state_in m e) x
-step_plain m k e x h s = let P : Front → Type 0 = λ f. IsStep m k (fronted f (state_of m e.rewriter)) x in subst P (sym h) s
-
 pub step_rest : (m : Files) (k : Meaning) (e : Expander) (line : Line) (x : Stepped) → e.front ≡ Rest line → IsActed m k (state_of m e.rewriter) (tokens_in line) (front_directive (tokens_in line)) x → IsStep m k (state_in m e) x
 unfolding IsStep
 step_rest m k e line x h s = let P : Front → Type 0 = λ f. IsStep m k (fronted f (state_of m e.rewriter)) x in subst P (sym h) s
@@ -75,13 +72,3 @@ came_to_fault (Some m) k i e new f h s = by (is_outside f) s
     by false s = h (fault (f, place_of new)) (stopped (state_in m e) (f, place_of new) s)
 
 -- ---- From what an expander stands for.
-
-pub failed_before : (o : Option Files) (k : Meaning) (old new : Expander) (r : Result (Option Statement) ExpandFault) → old.failed ≡ true → IfSome o (λ m. FollowsFrom m k old r new)
-failed_before None k old new r e = tt
-failed_before (Some m) k old new r e = λ s h. absurd (let a : old.failed ≡ false = h.0 in let b : true ≡ false = sym e ∙ a in cc)
-
-pub answered : (o : Option Files) (k : Meaning) (old new : Expander) (r : Result (Option Statement) ExpandFault) → new.failed ≡ is_err r → (NamesFiles old.rewriter.reader → OnOk r (NamesFiles new.rewriter.reader)) → IfSome o (λ m. Comes m k (state_in m old) r (state_in m new)) → IfSome o (λ m. FollowsFrom m k old r new)
-answered None k old new r e n h = tt
-answered (Some m) k old new (Ok None) e n h = λ s t. let P : State → Type 0 = λ z. Reaches m k z (nothing (state_in m new)) in (state_in m new, subst P t.1 h, (e, refl, n t.2))
-answered (Some m) k old new (Ok (Some x)) e n h = λ s t. let P : State → Type 0 = λ z. Reaches m k z (statement (stated x) (state_in m new)) in (state_in m new, subst P t.1 h, (e, refl, n t.2))
-answered (Some m) k old new (Err f) e n h = λ s t. let P : State → Type 0 = λ z. Unless (is_outside f) (Reaches m k z (fault (f, place_of new))) in subst P t.1 h

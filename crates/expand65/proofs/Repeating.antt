@@ -18,24 +18,6 @@ use Rattle.source65.specs.declared.fault.ExpandFault.TheVariants.{NotUnderstood}
 
 -- ---- The variable.
 
-pub no_comma : (ts : List Lexeme) → length ts ≢ 0 → is_comma_at ts 0 ≡ false → understood (variable_of ts) ≡ understood None
-no_comma [] n h = absurd (n refl)
-no_comma (c ∷ []) n h = refl
-no_comma (c ∷ t ∷ []) n h = rw h refl
-no_comma (c ∷ t ∷ u ∷ ts) n h = refl
-
-pub other_count : (ts : List Lexeme) → length ts ≢ 0 → length ts ≢ 2 → understood (variable_of ts) ≡ understood None
-other_count [] n h = absurd (n refl)
-other_count (c ∷ []) n h = refl
-other_count (c ∷ t ∷ []) n h = absurd (h refl)
-other_count (c ∷ t ∷ u ∷ ts) n h = refl
-
-pub a_name : (ts : List Lexeme) (o : Option (List ℕ)) → length ts ≡ 2 → is_comma_at ts 0 ≡ true → name_at ts 1 ≡ o → variable_of ts ≡ (o >=> (λ name. Some (name ∷ [])))
-a_name [] o n h e = absurd (omega arith)
-a_name (c ∷ []) o n h e = absurd (omega arith)
-a_name (c ∷ t ∷ []) o n h e = rw h (ap (λ (x : Option (List ℕ)). x >=> (λ name. Some (name ∷ []))) e)
-a_name (c ∷ t ∷ u ∷ ts) o n h e = absurd (omega arith)
-
 -- ---- The header.
 
 abbrev pub IsHeader : List Lexeme → Result (Tree × List (List ℕ)) ExpandFault → Type 0

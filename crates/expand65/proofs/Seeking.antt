@@ -99,9 +99,6 @@ not_utf8 bytes h = by (is_utf8 bytes) refl
     by true e = absurd (h (IsUtf8-from_is_utf8 bytes e))
     by false e = refl
 
-pub no_text : (m : Files) (name : List ℕ) (others : Result (List ℕ × List ℕ) ExpandFault) → is_utf8 name ≡ false → found_or name (file_named m name) others ≡ others
-no_text m name others h = rw h refl
-
 named : (m : Files) (name : List ℕ) → is_utf8 name ≡ true → file_named m name ≡ fmap.get m name
 named m name h = rw h refl
 

@@ -148,21 +148,3 @@ stops_later {A} B (Some m) blamed k i e mark place r f is h s =
     }))
 
 -- ---- At the place of the line that was read last.
-
-pub goes_back : {A : Type 0} (o : Option Files) (blamed : Option (List ℕ)) (k : Meaning) (old mid new : Expander) (r : Result A ExpandFault) → (NamesFiles old.rewriter.reader → IfSome o (λ m. StopsReading m blamed k (state_in m old) r (mark_of mid.rewriter.reader.top) (place_of mid))) → place_of new ≡ last_read (place_of mid) mid.rewriter.reader.top.back → IfSome o (λ m. StopsOnItsWay m blamed k old r new)
-goes_back None blamed k old mid new r h e = tt
-goes_back (Some m) blamed k old mid new (Ok x) h e = λ s stands. tt
-goes_back (Some m) blamed k old mid new (Err f) h e = λ s stands failed.
-    let so = h stands.2 failed in
-    subst (λ t. IsOnItsWay m blamed k t (place_of new)) stands.1 (record {
-      state = so.state;
-      reading = place_of mid;
-      goes = so.goes;
-      fails = so.fails;
-      at = e ∙ ap (λ b. last_read (place_of mid) b) (sym (ap back_of so.within));
-    })
-
-pub not_on_its_way : {A : Type 0} (o : Option Files) (blamed : Option (List ℕ)) (k : Meaning) (old new : Expander) (r : Result A ExpandFault) → ((f : ExpandFault) → r ≡ Err f → is_failure f ≡ false) → IfSome o (λ m. StopsOnItsWay m blamed k old r new)
-not_on_its_way None blamed k old new r h = tt
-not_on_its_way (Some m) blamed k old new (Ok x) h = λ s stands. tt
-not_on_its_way (Some m) blamed k old new (Err f) h = λ s stands failed. (let no : is_failure f ≡ false = h f refl in absurd cc)

@@ -14,19 +14,6 @@ drop_item [] i x lt e = absurd (omega arith)
 drop_item (y ∷ xs) zero x lt e = ap (λ z. z ∷ xs) (sym e)
 drop_item (y ∷ xs) (suc i) x lt e = drop_item xs i x (omega arith) e
 
-pub one_taken : {A : Type 0} (xs : List A) (i : ℕ) (x : A) → slice_get xs i ≡ Some x → take i xs ++ x ∷ [] ≡ take (i + 1) xs
-one_taken {A = A} xs i x e = rw add-one (go xs i e)
-  where
-    go : (ys : List A) (j : ℕ) → slice_get ys j ≡ Some x → take j ys ++ x ∷ [] ≡ take (suc j) ys
-    go [] j e = absurd cc
-    go (y ∷ ys) zero e = let k : y ≡ x = cc in ap (λ z. z ∷ []) (sym k)
-    go (y ∷ ys) (suc j) e = ap (λ zs. y ∷ zs) (go ys j e)
-
-pub drop_mapped : {A B : Type 0} (f : A → B) (xs : List A) (i : ℕ) (x : A) → i < length xs → x ≡ get_or xs i x → drop i (map f xs) ≡ f x ∷ drop (suc i) (map f xs)
-drop_mapped f [] i x lt e = absurd (omega arith)
-drop_mapped f (y ∷ xs) zero x lt e = ap (λ z. f z ∷ map f xs) (sym e)
-drop_mapped f (y ∷ xs) (suc i) x lt e = drop_mapped f xs i x (omega arith) e
-
 pub map_length : {A B : Type 0} (f : A → B) (xs : List A) → length (map f xs) ≡ length xs
 map_length f [] = refl
 map_length f (x ∷ xs) = ap suc (map_length f xs)
@@ -37,9 +24,6 @@ from_mapped p f i (x ∷ xs) = ap (cond (p (f x)) (Some i)) (from_mapped p f (i 
 
 pub position_mapped : {A B : Type 0} (p : B → Bool) (f : A → B) (xs : List A) → position p (map f xs) ≡ position (λ x. p (f x)) xs
 position_mapped p f xs = position_from-zero p (map f xs) ∙ from_mapped p f 0 xs ∙ sym (position_from-zero (λ x. p (f x)) xs)
-
-pub position_is : {A : Type 0} (p : A → Bool) (xs : List A) → position_from p 0 (drop 0 xs) ≡ position p xs
-position_is p xs = sym (position_from-zero p xs)
 
 -- ---- Names.
 

@@ -112,19 +112,6 @@ has_numbers count y w counted inside less =
 
 -- ---- What is measured.
 
-all_none : (fs : List (Option AsmFault)) → first_fault fs ≡ None → AllByRecursion (λ (f : Option AsmFault). f ≡ None) fs
-all_none [] h = tt
-all_none (None ∷ fs) h = (refl, all_none fs h)
-all_none (Some e ∷ fs) h = absurd cc
-
-second_none : (f g : Option AsmFault) → or_then f g ≡ None → g ≡ None
-second_none None g h = h
-second_none (Some e) g h = absurd cc
-
-when_none : (b : Bool) (e : AsmFault) → when b e ≡ None → b ≡ false
-when_none false e h = refl
-when_none true e h = absurd cc
-
 module _ (y : Symbols) (w : Standing) (x : Statement) where
   pub without_fault : (m : Measured) → measured y w x ≡ Ok m → line_fault y w x ≡ None
   without_fault m e = (no_fault (line_fault y w x) (measure_of y w x) m e).0
@@ -142,11 +129,3 @@ module _ (y : Symbols) (w : Standing) (x : Statement) where
   -- where the next statement stands
   pub behind_measured : (m : Measured) → measured y w x ≡ Ok m → advanced y w x m.length m.multiple ≡ standing_behind y w x
   behind_measured m e = ap (λ (k : Measured). advanced y w x k.length k.multiple) (sym (is_measured m e))
-
-  -- the section has room for the statement
-  pub room_measured : (m : Measured) → measured y w x ≡ Ok m → (spot_of w).offset + m.length ≤ section_limit
-  room_measured m e =
-      let none = second_none (naming_fault y (spot_of w) x) (first_fault (placing_faults y w x)) (sym (faults_are y w x) ∙ without_fault m e) in
-      let last = (all_none (placing_faults y w x) none).1.1.1.1.1.1.1.1.0 in
-      let fits = ap (λ (k : Measured). nat_lt section_limit ((spot_of w).offset + k.length)) (sym (is_measured m e)) ∙ when_none (nat_lt section_limit ((spot_of w).offset + length_of y (spot_of w) (own_size w) x)) SectionTooLarge last in
-      grind (arith, nat_tests)

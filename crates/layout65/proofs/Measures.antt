@@ -224,14 +224,6 @@ module _ (y : Symbols) (w : Standing) (x : Statement) where
   pub measured_named : unless_fault {A = Unit {0}} (naming_fault y (spot_of w) x) tt ≡ Ok tt → measured y w x ≡ placed y w x
   measured_named h = ap (λ f. unless_fault f (measure_of y w x)) (faults_are ∙ left_behind (naming_fault y (spot_of w) x) (first_fault (placing_faults y w x)) tt tt h)
 
-or_nothing : (f : Option AsmFault) → or_then f None ≡ f
-or_nothing None = refl
-or_nothing (Some e) = refl
-
--- names refuse an instruction for its operand alone
-pub instruction_naming : (y : Symbols) (s : Spot) (x : Statement) (m : Mnemonic) (o : Operand) → x ≡ statement.Instruction m o → naming_fault y s x ≡ lost_scopes y.scopes s.scope (operand_trees o)
-instruction_naming y s x m o is = ap (naming_fault y s) is ∙ or_nothing (lost_scopes y.scopes s.scope (operand_trees o))
-
 -- ---- Room for what is placed.
 
 last_fault : {A : Type 0} (fs : List (Option AsmFault)) (l : Option AsmFault) (x y : A) → unless_fault (first_fault (fs ++ l ∷ [])) x ≡ Ok y → (l ≡ None) × (x ≡ y)

@@ -85,44 +85,6 @@ member_named blamed place library member called e is asked failed =
     let P : LinkFault → Type 0 = λ f. IsOfInput blamed place library (refusal_in called f) in
     subst P (sym fault) ((member, is), asked (ap Err fault))
 
-pub object_named : (blamed : Option (List ℕ)) (place : ℕ) (name : List ℕ) (f : ObjectFault) → (f ≡ object.FileError → IsBlamed blamed name) → NamesInput blamed place name (Object place f)
-object_named blamed place name f asked failed = (refl, asked (by f failed))
-  where
-    by : (g : ObjectFault) → is_failure (Object place g) ≡ true → g ≡ object.FileError
-    by object.FileError h = refl
-    by object.OutOfMemory h = absurd cc
-    by object.FailedBefore h = absurd cc
-    by object.NotAnObject h = absurd cc
-    by object.UnknownVersion h = absurd cc
-    by object.CutShort h = absurd cc
-    by object.UnknownRecord h = absurd cc
-    by object.OutOfOrder h = absurd cc
-    by object.IndexOutOfRange h = absurd cc
-    by object.BadSize h = absurd cc
-    by object.NotCanonical h = absurd cc
-    by object.BytesAfterEnd h = absurd cc
-    by object.FileNotFound h = absurd cc
-
-pub library_named : (blamed : Option (List ℕ)) (place : ℕ) (name : List ℕ) (f : LibraryFault) → (f ≡ library.FileError → IsBlamed blamed name) → NamesInput blamed place name (Library place f)
-library_named blamed place name f asked failed = (refl, asked (by f failed))
-  where
-    by : (g : LibraryFault) → is_failure (Library place g) ≡ true → g ≡ library.FileError
-    by library.FileError h = refl
-    by library.OutOfMemory h = absurd cc
-    by library.NotALibrary h = absurd cc
-    by library.CutShort h = absurd cc
-    by library.BadIndex h = absurd cc
-    by (library.NoSuchMember n) h = absurd cc
-    by library.NotAnObject h = absurd cc
-    by library.IndexDisagrees h = absurd cc
-    by library.FileNotFound h = absurd cc
-    by library.BadMemberName h = absurd cc
-
-pub script_named : (blamed : Option (List ℕ)) (script : List ℕ) (f : StoreFault) → (f ≡ store.FileError → IsBlamed blamed script) → NamesScript blamed script (ScriptFile f)
-script_named blamed script store.FileError asked failed = (refl, asked refl)
-script_named blamed script store.OutOfMemory asked failed = absurd cc
-script_named blamed script store.FileNotFound asked failed = absurd cc
-
 -- behind members of a library, and behind inputs
 pub turn_named : (known : Option Files) (name : List ℕ) (all left : List Listing) (old mid : Feeding) (P : Type 0) → IsAfter known name all left old mid → ((modules : List Module) → IsFed mid modules → P) → (before : List Module) → IsFed old before → P
 turn_named known name all left old mid P is so before stands = let p = is before stands in so p.0 p.1
@@ -138,12 +100,6 @@ same_blames {B} e blamed name r is asked h =
     let same : ◌≡◌ {A = Result B LinkFault} (Err e) (Err (link.Malformed object.FileError)) = subst (λ (q : Result B LinkFault). q ≡ Err (link.Malformed object.FileError)) is h in
     let fault : e ≡ link.Malformed object.FileError = cc same in
     asked (ap Err fault)
-
-pub of_script : (blamed : Option (List ℕ)) (l : Linking) (e : Refusal) → NamesScript blamed l.script e → NamesOfLine blamed l e
-of_script blamed l e named failed = inl (named failed)
-
-pub of_inputs : (blamed : Option (List ℕ)) (l : Linking) (e : Refusal) → NamesInputs blamed l.inputs e → NamesOfLine blamed l e
-of_inputs blamed l e named failed = inr (named failed)
 
 pub in_place : (blamed : Option (List ℕ)) (place : ℕ) (library : List ℕ) (r : Result (Unit {0}) Refusal) → IfErr r (NamesMember blamed library) → IfErr r (NamesInput blamed place library)
 in_place blamed place library (Ok u) h = tt

@@ -72,13 +72,6 @@ IsAfter known library all left old now =
     × IfSome known (λ m. with_members old.script m library before all ≡ with_members old.script m library modules left)
 
 module _ (known : Option Files) (library : List ℕ) (all : List Entry) where
-  pub after_none : (old : Feeding) → IsAfter known library all all old old
-  after_none old before stands = (before, stands, same known)
-    where
-      same : (k : Option Files) → IfSome k (λ m. with_members old.script m library before all ≡ with_members old.script m library before all)
-      same None = tt
-      same (Some m) = refl
-
   -- some members, and then others
   in_turn : (s : Script) (m : Files) (before : List Module) (some left : List Entry) → with_members s m library before (some ++ left) ≡ (with_members s m library before some >>= (λ ms. with_members s m library ms left))
   in_turn s m before [] left = refl
@@ -115,9 +108,6 @@ module _ (known : Option Files) (library : List ℕ) (all : List Entry) where
           unless (is_outside x) (with_members old.script m library modules some) (λ ms. with_members old.script m library ms left) _
           (h ∙ in_turn old.script m modules some left)
           (subst (λ (s : Script). Refuses is_outside x (with_members s m library modules some)) script refused)
-
-  pub after_all : (old now : Feeding) → IsAfter known library all [] old now → FeedsMembers known library all old now (Ok tt)
-  after_all old now is before stands = let p = is before stands in (p.0, p.2, p.1)
 
 -- ---- Places of an index.
 
@@ -163,14 +153,6 @@ none_there known library es place old there =
 
 -- ---- A library.
 
-pub choice_refused : (known : Option Files) (k : ℕ) (library : List ℕ) (old new : Feeding) (e : Refusal) → Chooses known k library old (Err e) → FeedsLibrary known k library old new (Err e)
-choice_refused known k library old new e chooses before stands = go known (is_outside e) (chooses before stands)
-  where
-    go : (f : Option Files) (b : Bool) → IfSome f (λ m. Unless b (as_library k (index_in m library) ≡ Err e)) → IfSome f (λ m. Unless b (IsLibraryInput old.script m k before library (Err e)))
-    go None b h = tt
-    go (Some m) true h = tt
-    go (Some m) false h = rw h refl
-
 pub library_fed : (known now : Option Files) (k : ℕ) (library : List ℕ) (c : Choice) (old new : Feeding) (r : Result (Unit {0}) Refusal) → now ≡ known → Chooses known k library old (Ok c) → FeedsMembers now library (chosen c.index.entries c.places.items) old new r → FeedsLibrary known k library old new r
 library_fed known now k library c old new r same chooses fed before stands = by r (rw same at fed before stands)
   where
@@ -199,8 +181,3 @@ pub after_counted : (known : Option Files) (library : List ℕ) (all left : List
 after_counted known library all left old mid a b c is same passes before stands =
     let p = is before stands in
     kept_by b c tt (passes p.0 p.1) ∙ same before stands
-
-pub refused_counted : (known : Option Files) (library : List ℕ) (all left : List Entry) (old mid : Feeding) (a b c : ℕ) (e : Refusal) → IsAfter known library all left old mid → Counted old a b → ((modules : List Module) → IsFed mid modules → PassesBy {T = Unit {0}} is_failure b c (Err e)) → (before : List Module) → IsFed old before → PassesBy {T = Unit {0}} is_failure a c (Err e)
-refused_counted known library all left old mid a b c e is same passes before stands =
-    let p = is before stands in
-    later_count a b c (Err e) (same before stands) (passes p.0 p.1)

@@ -103,9 +103,6 @@ refused_behind (Some m) s before i named e same h = rw same (go (is_link_outside
 abbrev pub Counted : Feeding → ℕ → ℕ → Type 0
 Counted old count_old count_new = (before : List Module) → IsFed old before → count_new ≡ count_old
 
-pub counted_same : (old : Feeding) (a b : ℕ) → b ≡ a → Counted old a b
-counted_same old a b same before stands = same
-
 -- where a call answered, none failed
 pub kept_by : {T : Type 0} (a b : ℕ) (x : T) → PassesBy is_failure a b (Ok x) → b ≡ a
 kept_by a b x passes = let not_later : a < b → ⊥ = λ h. absurd (passes.told h) in omega (arith, passes.later, not_later)
@@ -139,13 +136,6 @@ fed_count a b passes = record { later = passes.later; told = λ h. let no : ⊥ 
 -- behind calls of which none failed
 pub later_count : {T : Type 0} (a b c : ℕ) (r : Result T Refusal) → b ≡ a → PassesBy is_failure b c r → PassesBy is_failure a c r
 later_count a b c r same passes = subst (λ (n : ℕ). PassesBy is_failure n c r) same passes
-
-pub done_count : (a b : ℕ) → b ≡ a → PassesBy {T = Unit {0}} is_failure a b (Ok tt)
-done_count a b same = record {
-  later = omega (arith, same);
-  told = λ h. absurd (omega (arith, same));
-  cause = tt;
-}
 
 -- ---- Faults.
 

@@ -88,9 +88,6 @@ module _ (known : Option Files) (i : Input) (old : Feeding) where
       go None h = tt
       go (Some m) h = as_module old.script modules m i (as_fault f) (of_object f (object_in m i) (head_stops i (get m i.file) f h))
 
-  pub not_begun : (new : Feeding) (e : LinkFault) → (old.failed ≡ false → is_memory e ≡ true) → FeedsObject known i old new (Err e)
-  not_begun new e h modules stands = by_memory known e (λ m. added_in old.script modules m i) (h stands.failed)
-
   pub no_records : (now : Option Files) (first : ℕ × ℕ) (mid new : Feeding) (e : LinkFault) → now ≡ known → HasHead first → Begins i.name first.0 i.entry old mid (Ok tt) → FeedsRecords now i first mid new (Err e) → FeedsObject known i old new (Err e)
   no_records now first mid new e same head begun fed modules stands = go known head (rw same at fed modules i.name i.entry (begun modules stands))
     where
@@ -145,12 +142,6 @@ unpassed {T} old new e same other = record {
   told = λ h. absurd (omega (arith, same));
   cause = λ h. absurd (other (let f : e ≡ link.Malformed object.FileError = cc h in f));
 }
-
-no_memory : (e : LinkFault) → is_memory e ≡ true → e ≡ link.Malformed object.FileError → ⊥
-no_memory e h is = let no_such : false ≡ true = ap is_memory (sym is) ∙ h in absurd cc
-
-pub not_begun_count : (f : Feeding) (old new : ℕ) (e : LinkFault) → new ≡ old → (f.failed ≡ false → is_memory e ≡ true) → (modules : List Module) → IsFed f modules → Passed {T = Unit {0}} old new (Err e)
-not_begun_count f old new e same h modules stands = unpassed old new e same (no_memory e (h stands.failed))
 
 -- the end of a module is no failure of the store
 finished_free : (t : State) → as_link (finished t) ≡ Err (link.Malformed object.FileError) → ⊥

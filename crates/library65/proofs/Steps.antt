@@ -53,15 +53,6 @@ module _ {A Y : Type 0} (name : List ℕ) (all rest : Reading A) (step : Reading
   stops (Some m) now e files leads refused = file_stops (finmap.get m name) e leads (rw files at refused)
 
 module _ {A Y : Type 0} (name : List ℕ) (all rest : Reading A) (step : Reading Y) (x : A) (y : Y) (done : (bytes : List ℕ) → rest bytes ≡ Ok x) where
-  file_ends : (file : Option (List ℕ)) → IfSome file (λ bytes. rest bytes ≡ all bytes) → in_file file step ≡ Ok y → in_file file all ≡ Ok x
-  file_ends None leads read = cc
-  file_ends (Some bytes) leads read = sym leads ∙ done bytes
-
-  -- nothing is left to read; an earlier step shows that the file is there
-  pub ends : (known : Option Files) → Leads known name rest all → IfSome known (λ m. in_file (finmap.get m name) step ≡ Ok y) → IfSome known (λ m. in_file (finmap.get m name) all ≡ Ok x)
-  ends None leads read = tt
-  ends (Some m) leads read = file_ends (finmap.get m name) leads read
-
 -- at the beginning all is left to read
 pub begins : {A : Type 0} (known : Option Files) (name : List ℕ) (all : Reading A) → Leads known name all all
 begins None name all = tt
@@ -97,9 +88,6 @@ counted_begins at bytes = go (number_at at bytes) where
 pub symbols_more : (n i : ℕ) (names : List (List ℕ)) (at : ℕ) → i < n → (bytes : List ℕ) → symbols_at (n - i) names at bytes ≡ (symbol_at at bytes >>= (λ s. symbols_at (n - (i + 1)) (names ++ s.0 ∷ []) s.1 bytes))
 symbols_more n i names at less bytes = let one : n - i ≡ suc (n - (i + 1)) = omega arith in rw one refl
 
-pub symbols_done : (n i : ℕ) (names : List (List ℕ)) (at : ℕ) → n ≤ i → (bytes : List ℕ) → symbols_at (n - i) names at bytes ≡ Ok (names, at)
-symbols_done n i names at all bytes = let none : n - i ≡ 0 = omega arith in rw none refl
-
 -- ---- What is said of the members.
 
 pub list_begins : (bytes : List ℕ) → list_at bytes ≡ (count_at bytes >>= (λ n. listings_at (n - 0) [] 9 bytes))
@@ -111,9 +99,6 @@ list_begins bytes = go (count_at bytes) where
 
 pub listings_more : (n i : ℕ) (ms : List Listing) (names : List (List ℕ)) (at : ℕ) → names ≡ map (λ m. m.name) ms → i < n → (bytes : List ℕ) → listings_at (n - i) ms at bytes ≡ (listing_at names at bytes >>= (λ m. listings_at (n - (i + 1)) (ms ++ m.0 ∷ []) m.1 bytes))
 listings_more n i ms names at named less bytes = let one : n - i ≡ suc (n - (i + 1)) = omega arith in rw (one, named) refl
-
-pub listings_done : (n i : ℕ) (ms : List Listing) (at : ℕ) → n ≤ i → (bytes : List ℕ) → listings_at (n - i) ms at bytes ≡ Ok (ms, at)
-listings_done n i ms at all bytes = let none : n - i ≡ 0 = omega arith in rw none refl
 
 -- the names of the members so far, with one more
 pub name_pushed : (ms : List Listing) (m : Listing) (after : List Listing) (names more : List (List ℕ)) (name : List ℕ) → names ≡ map (λ x. x.name) ms → name ≡ m.name → ◌≡◌ {A = Result (List (List ℕ)) LibraryFault} (Ok (names ++ name ∷ [])) (Ok more) → after ≡ ms ++ m ∷ [] → more ≡ map (λ x. x.name) after
@@ -127,16 +112,6 @@ pub library_begins : (bytes : List ℕ) → library_at bytes ≡ (index_at bytes
 unfolding library_at
 library_begins bytes = refl
 
-pub joined_more : (ms : List Member) (es : List Entry) (i : ℕ) (e : Entry) → i < length es → e ≡ get_or es i e → (bytes : List ℕ) → joined_all ms (drop i es) bytes ≡ (joined ms e bytes >>= (λ ns. joined_all ns (drop (i + 1) es) bytes))
-joined_more ms es i e lt at bytes =
-    ap (λ xs. joined_all ms xs bytes) (drop-cons es i e lt ∙ ap (λ x. x ∷ drop (suc i) es) (sym at))
-    ∙ ap (λ k. joined ms e bytes >>= (λ ns. joined_all ns (drop k es) bytes)) (sym (add-one i))
-
-pub all_at : {X : Type 0} (P : X → Type 0) (xs : List X) (i : ℕ) (x : X) → AllByRecursion P xs → i < length xs → x ≡ get_or xs i x → P x
-all_at P [] i x all lt at = absurd (omega arith)
-all_at P (y ∷ xs) zero x all lt at = subst P (sym at) all.0
-all_at P (y ∷ xs) (suc i) x all lt at = all_at P xs i x all.1 (omega arith) at
-
 -- ---- The bytes of a member, read chunk by chunk: the front of what a file has from a place on.
 
 -- the bytes are the first of what a file has from a place on
@@ -148,16 +123,6 @@ moved : (file : List ℕ) (at len want n : ℕ) (old new : List ℕ) → ReadsCh
 moved file at len want n old new read =
     let same = drop-drop len at file in
     (read.0 ∙ ap (λ xs. old ++ take want xs) (sym same), read.1 ∙ ap (λ (xs : List ℕ). length (take want xs)) (sym same))
-
-piece_more : (file : Option (List ℕ)) (at want n : ℕ) (old new : List ℕ) → IsPieceFront file at old → length new ≡ length old + n → ReadsChunk file (at + length old) want old new (Ok n) → IsPieceFront file at new
-piece_more None at want n old new front len read = tt
-piece_more (Some file) at want n old new front len read = more (Some (drop at file)) want n old new front len (moved file at (length old) want n old new read)
-
-pub told_more : (known next : Option Files) (name : List ℕ) (at place want n : ℕ) (old new : List ℕ) → next ≡ known → place ≡ at + length old → IfSome known (λ m. IsPieceFront (finmap.get m name) at old) → length new ≡ length old + n → IfSome next (λ m. ReadsChunk (finmap.get m name) place want old new (Ok n)) → IfSome known (λ m. IsPieceFront (finmap.get m name) at new)
-told_more None next name at place want n old new same there front len read = tt
-told_more (Some m) next name at place want n old new same there front len read =
-    let P : ℕ → Type 0 = λ k. ReadsChunk (finmap.get m name) k want old new (Ok n) in
-    piece_more (finmap.get m name) at want n old new front len (subst P there (rw same at read))
 
 longer : (file : List ℕ) (want n : ℕ) (old new : List ℕ) → old ≡ take (length old) file → ReadsChunk (Some file) (length old) want old new (Ok n) → new ≡ take (length old + want) file
 longer file want n old new front read = read.0 ∙ ap (λ xs. xs ++ take want (drop (length old) file)) front ∙ sym (take-add (length old) want file)
@@ -187,13 +152,6 @@ told_whole (Some m) next name at place want n size old new same there within is 
     go : (file : Option (List ℕ)) → IsPieceFront file at old → ReadsChunk file (at + length old) want old new (Ok n) → IsPiece file at size new
     go None f r = absurd r
     go (Some file) f r = last (nat_le size (length old + 4096)) (drop at file) want n size old new refl f within is short (moved file at (length old) want n old new r)
-
-pub piece_short : (known : Option Files) (name : List ℕ) (at size : ℕ) (new : List ℕ) → length new < size → IfSome known (λ m. IsPiece (finmap.get m name) at size new) → IfSome known (λ m. in_file (finmap.get m name) (piece_at size at) ≡ Err CutShort)
-piece_short None name at size new lt is = tt
-piece_short (Some m) name at size new lt is = go (finmap.get m name) is where
-  go : (file : Option (List ℕ)) → IsPiece file at size new → in_file file (piece_at size at) ≡ Err CutShort
-  go None i = absurd i
-  go (Some file) i = let few : nat_lt (length (take size (drop at file))) size ≡ true = rw (← i) (grind (arith, nat_tests)) in rw few refl
 
 pub piece_whole : (known : Option Files) (name : List ℕ) (at size : ℕ) (new : List ℕ) → size ≤ length new → IfSome known (λ m. IsPiece (finmap.get m name) at size new) → IfSome known (λ m. in_file (finmap.get m name) (piece_at size at) ≡ Ok new)
 piece_whole None name at size new le is = tt

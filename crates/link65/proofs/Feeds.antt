@@ -6,7 +6,7 @@ use Rattle.link65.specs.Growing.{Growth, at_rest, ended, grown_by}
 use Rattle.link65.specs.Programs.{Module, exported, program_of, Program, with_module, with_modules}
 use Rattle.link65.specs.Inner.Fields.{ended_exports, Comes, are_listed, exports_from, matched}
 use Rattle.link65.specs.Standing.{Feeding, HaveEnded, Opened, IsFed, IsFeeding, Leads, agreed, agrees_with, as_link, joined, listed_of, module_of, opening, whole, all_once}
-use Rattle.link65.proofs.GivenLemmas.{given_all, map_behind, module_gives, once_behind, once_of}
+use Rattle.link65.proofs.GivenLemmas.{map_behind, module_gives, once_behind, once_of}
 use Rattle.std.specs.Str.{bytes_eq}
 use Rattle.library65.specs.Libraries.{are_same}
 use Rattle.link65.specs.declared.parts.Exported.{Exported}
@@ -54,11 +54,6 @@ their_exports f modules (inr going) =
     ∙ ap (λ (g : Growth). take (length p.exports) g.program.exports) (sym h.growth)
     ∙ ap (λ (o : Option Opened). ended_exports o f.growth.program.exports) (sym h.opened)
 
--- the names that they and the script give
-pub their_names : (f : Feeding) (modules : List Module) → HaveEnded f modules → f.given ≡ given_names f.script (program_of modules)
-their_names f modules (inl fed) = given_all (given_names f.script (program_of modules)) f.given fed.given
-their_names f modules (inr going) = given_all (given_names f.script (program_of modules)) f.given going.3.given
-
 -- ---- Names of exports beside those listed.
 
 -- a name and an export that stand at one place differ
@@ -71,16 +66,6 @@ differ names exports i x y lt lt2 at at2 e =
     ∙ ap (λ b. b && are_same (drop (suc i) names) (map (λ e. e.name) (drop (suc i) exports))) e
 
 -- ---- Items.
-
--- what is within its limits is small
-pub small_item : (o : Outline) (i : Item) → IsWithin o i → IsSmall i
-small_item o (item.File name) w = tt
-small_item o (item.Import name) w = tt
-small_item o (item.Section name size align) w = w.1
-small_item o (item.Part k offset f) w = tt
-small_item o (item.Export name origin form) w = tt
-small_item o (item.Assert action origin text form) w = tt
-small_item o item.End w = tt
 
 -- ---- No records lead to a state that failed.
 

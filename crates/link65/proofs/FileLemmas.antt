@@ -322,13 +322,3 @@ module _ (output : List ℕ) (bytes : RowBytes) (rows : List Row) (p : Placement
 
   pub no_area : (areas : List Area) (k : ℕ) (files : List OutputFile) → length areas ≤ k → Adds k (drop k areas) files files
   no_area areas k files le = subst (λ (l : List Area). Adds k l files files) (sym (drop_all k areas le)) refl
-
--- what is so of each area's file is so of all
-pub each_area : (output : List ℕ) (P Q : ℕ → Area → List ℕ → Type 0) (all : List Area) → ((k : ℕ) (a : Area) (image : List ℕ) → slice_get all k ≡ Some a → P k a image → Q k a image) → (k : ℕ) (areas : List Area) (before after : List OutputFile) → drop k all ≡ areas → AddsAreas output P k areas before after → AddsAreas output Q k areas before after
-each_area output P Q all h k [] before after left adds = adds
-each_area output P Q all h k (a ∷ rest) before after left adds =
-    (adds.0, area (length (file_name output a.file) == 0) adds.1, each_area output P Q all h (k + 1) rest adds.0 after (rw add-one (drop_suc all k a rest left)) adds.2)
-  where
-    area : (b : Bool) → AddsArea b (file_name output a.file) (P k a) before adds.0 → AddsArea b (file_name output a.file) (Q k a) before adds.0
-    area true e = e
-    area false e = (e.0, h k a e.0 (there all k a rest left) e.1, e.2)

@@ -111,19 +111,6 @@ value_found l marks h owner f = ap as_outcome (tried_found marks h (slice_get l.
 
 -- ---- All of them in turn.
 
-pub untouched_settled : (l : Linkage) (marks : List Mark) → AreUntouched (length l.exports) marks → AreSettled l marks
-untouched_settled l marks h = record {
-  long = h.long;
-  all_true = λ x r e. absurd (none x (inside x e) (λ u. let same : Found r ≡ Untouched = cc in cc));
-  at_rest = λ x e. none x (inside x e) (λ u. let same : BeingEvaluated ≡ Untouched = cc in cc);
-}
-  where
-    inside : (x : ℕ) {m : Mark} → slice_get marks x ≡ Some m → x < length l.exports
-    inside x e = let long = h.long in grind (arith, common_steps, gets)
-
-    none : (x : ℕ) → x < length l.exports → (slice_get marks x ≡ Some Untouched → ⊥) → ⊥
-    none x k f = f (h.each x k)
-
 -- what isn't untouched is found
 pub touched_found : (l : Linkage) (marks : List Mark) (x : ℕ) → AreSettled l marks → x < length marks → slice_get marks x ≢ Some Untouched → IsFound marks x
 touched_found l marks x h k n = go (slice_get marks x) refl
@@ -184,13 +171,6 @@ placed_by s p placement modules marks r same found k =
 
 pub first_ok : {A B : Type 0} (head : Result A LinkFault) (x : A) (Next : A → Result B LinkFault → Type 0) (r : Result B LinkFault) → head ≡ Ok x → Next x r → First head Next r
 first_ok {A} {B} head x Next r e h = subst (λ (z : Result A LinkFault). First z Next r) (sym e) h
-
-pub first_err : {A B : Type 0} (head : Result A LinkFault) (e : LinkFault) (Next : A → Result B LinkFault → Type 0) → Refuses is_memory e head → Unless (is_memory e) (First head Next (Err e))
-first_err {A} {B} head e Next h = go (is_memory e) h
-  where
-    go : (b : Bool) → Unless b (head ≡ Err e) → Unless b (First {A = A} {B = B} head Next (Err e))
-    go true k = tt
-    go false k = let P : Result A LinkFault → Type 0 = λ z. First z Next (Err e) in subst P (sym k) refl
 
 -- ---- With which faults a link is refused at all.
 

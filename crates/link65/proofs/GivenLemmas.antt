@@ -84,44 +84,15 @@ module_gives s p m =
     let names = map_behind (λ e. e.name) (exported (length p.members)) p.exports m.object.exports in
     ap (λ ys. script_names s ++ ys) names ∙ sym (append_assoc (script_names s) (export_names p) (map (λ e. e.name) m.object.exports))
 
--- where all names are given, these are all
-pub given_all : (names given : Names) → all_once [] names ≡ Ok given → given ≡ names
-given_all names given h = taken_all (no_name_again (first_again [] names)) names given h
-  where
-    taken_all : (r : Result (Unit {0}) LinkFault) (all given : Names) → (r >>= (λ u. Ok ([] ++ all))) ≡ Ok given → given ≡ all
-    taken_all (Ok u) all given h = cc
-    taken_all (Err e) all given h = absurd cc
-
 -- ---- Names by themselves.
 
 all_passed : (r : Result (Unit {0}) LinkFault) (all given : Names) → (r >>= (λ u. Ok all)) ≡ Ok given → r ≡ Ok tt
 all_passed (Ok u) all given h = refl
 all_passed (Err e) all given h = absurd cc
 
-first_refused : (r : Result (Unit {0}) LinkFault) (all : Names) (e : LinkFault) → (r >>= (λ u. Ok all)) ≡ Err e → r ≡ Err e
-first_refused (Ok u) all e h = absurd cc
-first_refused (Err f) all e h = let same : f ≡ e = cc in let made : LinkFault → Result (Unit {0}) LinkFault = λ g. Err g in ap made same
-
 -- where all names are given, none is given twice
 pub once_of : (s : Script) (p : Program) (given : Names) → all_once [] (given_names s p) ≡ Ok given → names_once s p ≡ Ok tt
 once_of s p given h = all_passed (no_name_again (first_again [] (given_names s p))) (given_names s p) given h
-
--- no module gives a name
-pub script_alone : (s : Script) → given_names s (program_of []) ≡ script_names s
-script_alone s = append-nil (script_names s)
-
-pub script_once : (s : Script) (given : Names) → all_once [] (script_names s) ≡ Ok given → names_once s (program_of []) ≡ Ok tt
-script_once s given h = once_of s (program_of []) given (ap (all_once []) (script_alone s) ∙ h)
-
-refused_once : (b : Bool) (s : Script) (e : LinkFault) → Unless b (all_once [] (script_names s) ≡ Err e) → Unless b (names_once s (program_of []) ≡ Err e)
-refused_once true s e h = tt
-refused_once false s e h =
-    let all = given_names s (program_of []) in
-    first_refused (no_name_again (first_again [] all)) all e (ap (all_once []) (script_alone s) ∙ h)
-
--- a script that gives a name twice
-pub script_twice : (s : Script) (e : LinkFault) → Refuses is_memory e (all_once [] (script_names s)) → Refuses is_memory e (names_once s (program_of []))
-script_twice s e h = refused_once (is_memory e) s e h
 
 -- ---- A name goes behind others, if it isn't among them.
 

@@ -85,13 +85,6 @@ known_passes check p bytes is = rw is (ap (each_passes check) (known_waits bytes
 pub filled_passes : (check : Check Fixup) (p : Piece) (n : ℕ) → p ≡ Filled n → each_passes check (piece_fixups p) ≡ Ok tt
 filled_passes check p n is = rw is (ap (each_passes check) (filled_waits n))
 
-pub one_passes : (check : Check Fixup) (p : Piece) (w : Fixup) → p ≡ Waits w → each_passes check (piece_fixups p) ≡ check w
-one_passes check p w is = rw is (go (check w))
-  where
-    go : (r : Result (Unit {0}) LinkFault) → (r >>= (λ u. Ok tt)) ≡ r
-    go (Ok u) = refl
-    go (Err e) = refl
-
 -- ---- The bytes of pieces and of rows.
 
 module _ (l : Linkage) (exports : Exports) (fill : ℕ) where

@@ -27,12 +27,6 @@ hex_step (suc count) n h = let e : suc count - 1 ≡ count = omega arith in rw e
 abbrev pub IsBefore : ℕ → ℕ → ℕ → List ℕ → Type 0
 IsBefore count n left digits = (digits ≡ hex_digits (count - left) (n / 2 ^ (4 * left))) × (length digits ≡ count - left)
 
-pub none_yet : (count n : ℕ) → IsBefore count n count []
-none_yet count n = let none : count - count ≡ zero = omega arith in (rw none refl, omega arith)
-
-pub all_there : (count n left : ℕ) (digits : List ℕ) → left ≡ 0 → IsBefore count n left digits → digits ≡ hex_digits count n
-all_there count n left digits none is = is.0 ∙ ap (λ l. hex_digits (count - l) (n / 2 ^ (4 * l))) none ∙ (let all : count - 0 ≡ count = omega arith in ap (λ c. hex_digits c (n / 1)) all ∙ ap (hex_digits count) (div-one n))
-
 -- and one more
 pub one_more : (count n left now d : ℕ) (digits new : List ℕ) → 0 < left → left ≤ count → now ≡ left - 1 → IsBefore count n left digits → d ≡ hex_digit (n / 2 ^ (4 * now) % 16) → new ≡ digits ++ d ∷ [] → IsBefore count n now new
 one_more count n left now d digits new some within is before digit after = (

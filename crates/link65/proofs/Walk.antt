@@ -188,23 +188,6 @@ untouched_inside marks x e = grind (arith, common_steps, gets)
 pub next_inside : (l : Linkage) (old marks : List Mark) (waiting : List ℕ) (root top next : ℕ) → IsWalk l old marks waiting root top → attempt.Needs next ≡ export_tried l.modules marks (slice_get l.exports top) → next < length marks
 next_inside l old marks waiting root top next w a = untouched_inside marks next (top_needs l old marks waiting root top next w a).0
 
-pub walk_starts : (l : Linkage) (marks : List Mark) (root : ℕ) → AreSettled l marks → slice_get marks root ≡ Some Untouched → IsWalk l marks (slice_set marks root BeingEvaluated) [] root root
-walk_starts l marks root s u = record {
-  long = (let long = s.long in grind (arith, common_steps));
-  all_true = begun_true l marks root (untouched_inside marks root u) s.all_true;
-  top_inside = (let h : root < length marks = untouched_inside marks root u in grind (arith, common_steps));
-  inside = λ x k. absurd k;
-  chain = refl;
-  evaluated = λ x e. inr (only x e (nat_eq x root) refl);
-  kept = begun_kept marks marks root u (λ x f. f);
-}
-  where
-    only : (x : ℕ) → slice_get (slice_set marks root BeingEvaluated) x ≡ Some BeingEvaluated → (b : Bool) → nat_eq x root ≡ b → x ≡ root
-    only x e true b = grind (arith, nat_tests)
-    only x e false b =
-        let other : x ≢ root = grind (arith, nat_tests) in
-        absurd (s.at_rest x (sym (get_set_other marks root x BeingEvaluated other) ∙ e))
-
 pub walk_down : (l : Linkage) (old marks : List Mark) (waiting : List ℕ) (root top next : ℕ) → IsWalk l old marks waiting root top → attempt.Needs next ≡ export_tried l.modules marks (slice_get l.exports top) → IsWalk l old (slice_set marks next BeingEvaluated) (waiting ++ top ∷ []) root next
 walk_down l old marks waiting root top next w a = record {
   long = (let long = w.long in grind (arith, common_steps));

@@ -1,5 +1,7 @@
 -- The content of a statement is what its pieces come to.
-use Rattle.std.proofs.Common.{◌≡◌, ◌∙◌, ℕ, List, [], ◌∷◌, ◌++◌, map, Bool, true, false, Option, Some, None, refl, sym, ap}
+use borrow.Author.Rules.{rules}
+use Rattle.std.proofs.lemmas.Grind.{common_steps}
+use Rattle.std.proofs.Common.{arith, ◌≡◌, ◌∙◌, ℕ, List, [], ◌∷◌, ◌++◌, map, Bool, true, false, Option, Some, None, refl, sym, ap}
 use Rattle.std.specs.Prelude.{Result, Ok, Err, if◌then◌else◌}
 use Rattle.std.specs.List.{flat_map}
 use Rattle.std.proofs.lemmas.List.{append-nil}
@@ -32,8 +34,7 @@ use Rattle.module65.specs.Machine.{Finished}
 use Rattle.module65.specs.Module.{asserted, asserted_by, contents_from, failed, has_content, sound_from}
 use Rattle.module65.specs.Pieces as p
 use Rattle.module65.specs.Pieces.{Made, Piece, absent_of, as_part, as_said, demanded, equated, exported, given, imported, instruction_pieces, item_piece, made_of, operand, operand_pieces, pieces_of, used, valued}
-use Rattle.module65.proofs.Entries.{Entry, all_entries, asked_by, entries_of, part, tells}
-use Rattle.module65.proofs.Finishes.{after, after_after, after_nothing, nothing, nothing_after, placed}
+use Rattle.module65.proofs.Entries.{Entry, all_entries, asked_by, entries_of, part, tells, after, after_after, after_nothing, nothing, nothing_after, placed}
 
 -- ---- Pieces one behind the other.
 
@@ -75,87 +76,51 @@ with_parts g asks ps ss = record { segment = g; asks = asks; parts = ps; said = 
 
 -- a content that is parts alone, or is said alone
 only_parts : (place : Place) (g : ℕ) (asks : Bool) (r : Result (List Part) AsmFault) → told place [] entries_of (r >>= (λ ps. Ok (with_parts g asks ps []))) ≡ after (record { found = Ok (asked_by g asks); warned = [] }) (told place [] (parts_entries g) r)
-only_parts place g asks (Ok ps) = ap (λ es. record { found = Ok es; warned = [] }) (append-nil (asked_by g asks ++ parts_entries g ps))
-only_parts place g asks (Err e) = refl
+only_parts place g asks x1 = grind (arith, common_steps)
 
 only_said : (place : Place) (g : ℕ) (asks : Bool) (said : List ℕ) (r : Result (List Said) AsmFault) → told place said entries_of (r >>= (λ ss. Ok (with_parts g asks [] ss))) ≡ after (record { found = Ok (asked_by g asks); warned = [] }) (told place said said_entries r)
-only_said place g asks said (Ok ss) = ap (λ es. record { found = Ok (es ++ said_entries ss); warned = said }) (append-nil (asked_by g asks))
-only_said place g asks said (Err e) = refl
+only_said place g asks said x1 = grind (arith, common_steps)
 
 -- ---- Parts.
 
 part_made : (place : Place) (g : ℕ) (r : Result Part AsmFault) → placed place (λ m. entries_of m.content) (r >>= as_part g) ≡ told place [] (λ p. part g p ∷ []) r
-part_made place g (Ok p) = refl
-part_made place g (Err e) = refl
+part_made place g x1 = grind (arith, common_steps)
 
 -- a value that is found in two steps may be used in the second
 part_told : {A : Type 0} (place : Place) (g : ℕ) (r : Result A AsmFault) (f : A → Result Part AsmFault) → placed place (λ m. entries_of m.content) (r >>= (λ x. f x >>= as_part g)) ≡ told place [] (λ p. part g p ∷ []) (r >>= f)
-part_told place g (Ok x) f = part_made place g (f x)
-part_told place g (Err e) f = refl
+part_told place g x1 f = grind (arith, common_steps)
 
 item_made : (y : Symbols) (l : Laid) (width : Width) (it : Item) → piece_made y l.place l.spot (item_piece width it) ≡ told l.place [] (λ p. part l.spot.segment p ∷ []) (item_part y l width it)
-item_made y l width (Value e) = part_told l.place l.spot.segment (norm_of y l.spot e) (stored width l.place)
-item_made y l width (Text bytes) = refl
+item_made y l width x1 = grind (arith, common_steps)
 
 cons_told : (place : Place) (g : ℕ) (r : Result Part AsmFault) (s : Result (List Part) AsmFault) → after (told place [] (λ p. part g p ∷ []) r) (told place [] (parts_entries g) s) ≡ told place [] (parts_entries g) (r >>= (λ p. s >>= (λ ps. Ok (p ∷ ps))))
-cons_told place g (Ok p) (Ok ps) = refl
-cons_told place g (Ok p) (Err e) = refl
-cons_told place g (Err e) s = refl
+cons_told place g x1 x2 = grind (arith, common_steps)
 
 items_made : (y : Symbols) (l : Laid) (width : Width) (its : List Item) → pieces_made y l.place l.spot (map (item_piece width) its) ≡ told l.place [] (parts_entries l.spot.segment) (each (item_part y l width) its)
 items_made y l width [] = refl
-items_made y l width (it ∷ its) =
-    ap (λ a. after a (pieces_made y l.place l.spot (map (item_piece width) its))) (item_made y l width it)
-    ∙ ap (after (told l.place [] (λ p. part l.spot.segment p ∷ []) (item_part y l width it))) (items_made y l width its)
-    ∙ cons_told l.place l.spot.segment (item_part y l width it) (each (item_part y l width) its)
+items_made y l width (it ∷ its) = grind (arith, common_steps, (items_made y l width its), after, item_made, part, cons_told)
 
 operand_made : (y : Symbols) (l : Laid) (width : Width) (e : Tree) → piece_made y l.place l.spot (valued (operand width) e) ≡ told l.place [] (λ p. part l.spot.segment p ∷ []) (operand_part y l width e)
 operand_made y l width e = part_told l.place l.spot.segment (norm_of y l.spot e) (λ f. operand_form width l.spot f >>= stored width l.place)
 
 operands_made : (y : Symbols) (l : Laid) (w : Option Width) (t : Option Tree) → pieces_made y l.place l.spot (operand_pieces w t) ≡ told l.place [] (parts_entries l.spot.segment) (operand_parts y l w t)
-operands_made y l (Some width) (Some e) = one_piece y l.place l.spot (valued (operand width) e) ∙ operand_made y l width e ∙ single (operand_part y l width e)
-  where
-    single : (r : Result Part AsmFault) → told l.place [] (λ p. part l.spot.segment p ∷ []) r ≡ told l.place [] (parts_entries l.spot.segment) (r >>= (λ p. Ok (p ∷ [])))
-    single (Ok p) = refl
-    single (Err f) = refl
-operands_made y l (Some width) None = refl
-operands_made y l None t = refl
+operands_made y l x1 x2 = grind (arith, common_steps)
 
 given_before : (place : Place) (g : ℕ) (p : Part) (r : Result (List Part) AsmFault) → after (record { found = Ok (part g p ∷ []); warned = [] }) (told place [] (parts_entries g) r) ≡ told place [] (parts_entries g) (r >>= (λ ps. Ok (p ∷ ps)))
-given_before place g p (Ok ps) = refl
-given_before place g p (Err e) = refl
+given_before place g p x1 = grind (arith, common_steps)
 
 instruction_made : (y : Symbols) (l : Laid) (m : Mnemonic) (o : Operand) (s : Settled) → pieces_made y l.place l.spot (instruction_pieces m o s) ≡ told l.place [] (parts_entries l.spot.segment) (instruction_parts y l m o s)
-instruction_made y l m o (InMode mode) =
-    ap (after (record { found = Ok (part l.spot.segment (opcode_part (opcode_of m mode)) ∷ []); warned = [] })) (operands_made y l (width_of mode) (operand_tree o))
-    ∙ given_before l.place l.spot.segment (opcode_part (opcode_of m mode)) (operand_parts y l (width_of mode) (operand_tree o))
-instruction_made y l m o Unsettled = refl
-instruction_made y l m o (FilledWith b) = refl
-instruction_made y l m o (FromByte b) = refl
+instruction_made y l m o x1 = grind (arith, common_steps, after, part, operands_made, given_before)
 
 -- ---- What is said.
 
 said_made : (place : Place) (r : Result (List Said) AsmFault) → placed place (λ m. entries_of m.content) (r >>= as_said) ≡ told place [] said_entries r
-said_made place (Ok ss) = refl
-said_made place (Err e) = refl
+said_made place x1 = grind (arith, common_steps)
 
 -- each name says something
 names_made : (y : Symbols) (place : Place) (s : Spot) (make : List ℕ → Piece) (says : List ℕ → Result (List Said) AsmFault) → ((n : List ℕ) → made_of y place s (make n) ≡ (says n >>= as_said)) → (names : List (List ℕ)) → pieces_made y place s (map make names) ≡ told place [] said_entries (each_of says names)
 names_made y place s make says is [] = refl
-names_made y place s make says is (n ∷ names) =
-    ap (λ r. after (placed place (λ (m : Made). entries_of m.content) r) (pieces_made y place s (map make names))) (is n)
-    ∙ ap (λ a. after a (pieces_made y place s (map make names))) (said_made place (says n))
-    ∙ ap (after (told place [] said_entries (says n))) (names_made y place s make says is names)
-    ∙ by (says n) (each says names)
-  where
-    more : (xs : List Said) (yss : List (List Said)) → said_entries xs ++ said_entries (flat_map (λ ys. ys) yss) ≡ said_entries (xs ++ flat_map (λ ys. ys) yss)
-    more [] yss = refl
-    more (x ∷ xs) yss = ap (λ es. tells x ∷ es) (more xs yss)
-
-    by : (r : Result (List Said) AsmFault) (q : Result (List (List Said)) AsmFault) → after (told place [] said_entries r) (told place [] said_entries (q >>= (λ yss. Ok (flat_map (λ ys. ys) yss)))) ≡ told place [] said_entries ((r >>= (λ ys. q >>= (λ yss. Ok (ys ∷ yss)))) >>= (λ yss. Ok (flat_map (λ ys. ys) yss)))
-    by (Ok xs) (Ok yss) = ap (λ es. record { found = Ok es; warned = [] }) (more xs yss)
-    by (Ok xs) (Err e) = refl
-    by (Err e) q = refl
+names_made y place s make says is (n ∷ names) = grind (arith, common_steps, (names_made y place s make says is names), after, placed, entries_of, said_made, tells)
 
 demands_made : (y : Symbols) (place : Place) (s : Spot) (names : List (List ℕ)) → pieces_made y place s (map demanded names) ≡ record { found = Ok (said_entries (map Demanded names)); warned = [] }
 demands_made y place s [] = refl
@@ -166,46 +131,23 @@ abbrev silently : {A : Type 0} → A → List Entry
 silently x = []
 
 import_made : (y : Symbols) (place : Place) (s : Spot) (n : List ℕ) → piece_made y place s (imported n) ≡ told place [] silently (import_fault y n)
-import_made y place s n = by (defined y (named 0 n)) refl
-  where
-    by : (o : Option ℕ) → defined y (named 0 n) ≡ o → piece_made y place s (imported n) ≡ told place [] silently (import_fault y n)
-    by None e = rw e refl
-    by (Some j) e = rw e refl
+import_made y place s n = grind (arith, common_steps)
 
 imports_made : (y : Symbols) (place : Place) (s : Spot) (names : List (List ℕ)) → pieces_made y place s (map imported names) ≡ told place [] silently (each_of (import_fault y) names)
 imports_made y place s [] = refl
-imports_made y place s (n ∷ names) =
-    ap (λ a. after a (pieces_made y place s (map imported names))) (import_made y place s n)
-    ∙ ap (after (told place [] silently (import_fault y n))) (imports_made y place s names)
-    ∙ by (import_fault y n) (each (import_fault y) names)
-  where
-    by : (r : Result (List Said) AsmFault) (q : Result (List (List Said)) AsmFault) → after (told place [] silently r) (told place [] silently (q >>= (λ yss. Ok (flat_map (λ ys. ys) yss)))) ≡ told place [] silently ((r >>= (λ ys. q >>= (λ yss. Ok (ys ∷ yss)))) >>= (λ yss. Ok (flat_map (λ ys. ys) yss)))
-    by (Ok xs) (Ok yss) = refl
-    by (Ok xs) (Err e) = refl
-    by (Err e) q = refl
+imports_made y place s (n ∷ names) = grind (arith, common_steps, (imports_made y place s names), after, import_made)
 
 then_demanded : (place : Place) (names : List (List ℕ)) (r : Result (List Said) AsmFault) → after (told place [] silently r) (record { found = Ok (said_entries (map Demanded names)); warned = [] }) ≡ told place [] said_entries (r >>= (λ none. Ok (map Demanded names)))
-then_demanded place names (Ok ss) = refl
-then_demanded place names (Err e) = refl
+then_demanded place names x1 = grind (arith, common_steps)
 
 forced_made : (y : Symbols) (place : Place) (s : Spot) (names : List (List ℕ)) → pieces_made y place s (map imported names ++ map demanded names) ≡ told place [] said_entries (each_of (import_fault y) names >>= (λ none. Ok (map Demanded names)))
-forced_made y place s names =
-    pieces_append y place s (map imported names) (map demanded names)
-    ∙ ap (after (pieces_made y place s (map imported names))) (demands_made y place s names)
-    ∙ ap (λ a. after a (record { found = Ok (said_entries (map Demanded names)); warned = [] })) (imports_made y place s names)
-    ∙ then_demanded place names (each_of (import_fault y) names)
+forced_made y place s names = grind (arith, common_steps, pieces_append, after, demands_made, imports_made, then_demanded)
 
 equated_made : (place : Place) (r : Result Form AsmFault) → placed place (λ m. entries_of m.content) (r >>= (λ f. as_said [])) ≡ told place [] said_entries (r >>= (λ f. Ok []))
-equated_made place (Ok f) = refl
-equated_made place (Err e) = refl
+equated_made place x1 = grind (arith, common_steps)
 
 asserted_made : (place : Place) (s : Spot) (act : Action) (words : List ℕ) (r : Result Form AsmFault) → placed place (λ m. entries_of m.content) (r >>= used place s (p.asserted act words)) ≡ told place (failed place act words r) said_entries (r >>= decided act place words)
-asserted_made place s act words (Ok f) = by (decided act place words f)
-  where
-    by : (d : Result (List Said) AsmFault) → placed place (λ m. entries_of m.content) (d >>= (λ ss. Ok (record { content = telling ss; warning = failed place act words (Ok f) }))) ≡ told place (failed place act words (Ok f)) said_entries d
-    by (Ok ss) = refl
-    by (Err e) = refl
-asserted_made place s act words (Err e) = refl
+asserted_made place s act words x1 = grind (arith, common_steps)
 
 -- ---- Statements.
 
@@ -229,8 +171,7 @@ made_with y (Instruction m o) place s len own settled =
 made_with y (Values width its) place s len own settled =
     let l = laid_with (Values width its) place s len own settled in
     by_parts y l s.segment true (each (item_part y l width) its) (pieces_made y place s (map (item_piece width) its)) (items_made y l width its)
-made_with y (Constant n e) place s len own settled =
-    by_said place s.segment (asks_section (Constant n e)) [] (norm_of y s e >>= (λ f. Ok [])) (pieces_made y place s (valued equated e ∷ [])) (one_piece y place s (valued equated e) ∙ equated_made place (norm_of y s e))
+made_with y (Constant n e) place s len own settled = grind (arith, common_steps, by_said, one_piece, equated_made)
 made_with y (Import size names) place s len own settled =
     by_said place s.segment false [] (each_of (import_fault y) names) (pieces_made y place s (map imported names)) (names_made y place s imported (import_fault y) (λ n. refl) names)
 made_with y (Export names) place s len own settled =
@@ -239,12 +180,8 @@ made_with y (Export names) place s len own settled =
 made_with y (Global size names) place s len own settled =
     let says : List ℕ → Result (List Said) AsmFault = λ n. export_said y place n (absent_of false n) (defined y (named 0 n)) in
     by_said place s.segment false [] (each_of says names) (pieces_made y place s (map (exported false) names)) (names_made y place s (exported false) says (λ n. refl) names)
-made_with y (ForceImport names) place s len own settled =
-    by_said place s.segment false [] (each_of (import_fault y) names >>= (λ none. Ok (map Demanded names))) (pieces_made y place s (map imported names ++ map demanded names)) (forced_made y place s names)
-made_with y (Assert e act words) place s len own settled =
-    let r : Result (List Said) AsmFault = norm_of y s e >>= decided act place words in
-    let said : List ℕ = failed place act words (norm_of y s e) in
-    by_said place s.segment (asks_section (Assert e act words)) said r (pieces_made y place s (valued (p.asserted act words) e ∷ [])) (one_piece y place s (valued (p.asserted act words) e) ∙ asserted_made place s act words (norm_of y s e))
+made_with y (ForceImport names) place s len own settled = grind (arith, common_steps, by_said, forced_made)
+made_with y (Assert e act words) place s len own settled = grind (arith, common_steps, by_said, one_piece, asserted_made)
 made_with y _ place s len own settled = refl
 
 pub made_of_pieces : (y : Symbols) (l : Laid) → IsMadeOfPieces y l
@@ -256,20 +193,8 @@ abbrev pub all_made : Symbols → List Laid → Finished Entry
 all_made y ls = record { found = contents_from y ls >>= (λ cs. Ok (all_entries cs)); warned = asserted y ls }
 
 all_cons : (y : Symbols) (l : Laid) (ls : List Laid) → all_made y (l ∷ ls) ≡ after (content_made y l) (all_made y ls)
-all_cons y l ls = by (content_of y l)
-  where
-    more : (c : Content) (r : Result (List Content) PlacedFault) → ((r >>= (λ cs. Ok (c ∷ cs))) >>= (λ cs. Ok (all_entries cs))) ≡ ((r >>= (λ cs. Ok (all_entries cs))) >>= (λ es. Ok (entries_of c ++ es)))
-    more c (Ok cs) = refl
-    more c (Err e) = refl
-
-    by : (r : Result Content AsmFault) → record { found = (at_place l.place r >>= (λ c. contents_from y ls >>= (λ cs. Ok (c ∷ cs)))) >>= (λ cs. Ok (all_entries cs)); warned = flat_map (asserted_by y) (if has_content r then l ∷ sound_from y ls else []) } ≡ after (told l.place (asserted_by y l) entries_of r) (all_made y ls)
-    by (Ok c) = ap (λ (r : Result (List Entry) PlacedFault). record { found = r; warned = asserted_by y l ++ asserted y ls }) (more c (contents_from y ls))
-    by (Err e) = refl
+all_cons y l ls = grind (arith, common_steps)
 
 pub all_append : (y : Symbols) (ls : List Laid) (l : Laid) → all_made y (ls ++ l ∷ []) ≡ after (all_made y ls) (content_made y l)
 all_append y [] l = all_cons y l [] ∙ after_nothing (content_made y l) ∙ sym (nothing_after (content_made y l))
-all_append y (k ∷ ls) l =
-    all_cons y k (ls ++ l ∷ [])
-    ∙ ap (after (content_made y k)) (all_append y ls l)
-    ∙ sym (after_after (content_made y k) (all_made y ls) (content_made y l))
-    ∙ ap (λ a. after a (content_made y l)) (sym (all_cons y k ls))
+all_append y (k ∷ ls) l = grind (arith, common_steps, (all_append y ls l), all_cons, after, after_after)

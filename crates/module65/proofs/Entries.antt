@@ -1,9 +1,10 @@
--- Contents by their entries: what decides their object.
-use Rattle.std.proofs.Common.{◌≡◌, ◌∙◌, ℕ, Bool, true, false, cond, nat_eq, List, [], ◌∷◌, ◌++◌, map, refl, sym, ap}
-use Rattle.std.specs.Prelude.{filter_map, slice_get}
+-- Contents by their entries, and what is found one behind the other.
+use borrow.Author.Rules.{rules}
+use Rattle.std.proofs.Common.{◌≡◌, ◌∙◌, ℕ, Bool, true, false, cond, nat_eq, List, [], ◌∷◌, ◌++◌, map, refl, sym, ap, suc, length, arith, append_assoc}
+use Rattle.std.specs.Prelude.{filter_map, slice_get, Result, Ok, Err}
 use Rattle.std.specs.List.{filter, flat_map}
 use Rattle.std.proofs.Math.Path.{fun_ext}
-use Rattle.std.proofs.lemmas.Grind.{flat_map-append}
+use Rattle.std.proofs.lemmas.Grind.{common_steps, flat_map-append}
 use Rattle.std.proofs.lemmas.List.{append-nil, map-append}
 use Rattle.std.proofs.lemmas.List.Elements.{filter-append}
 use Rattle.object65.specs.declared.object.Object.{Object}
@@ -14,6 +15,14 @@ use Rattle.language65.specs.declared.contents.Segment.{Segment}
 use Rattle.language65.specs.Numbering.{all_joined, all_said, assert_files, assert_of, content_imports, export_files, exports_among, fragments_of, in_files, name_of, names_once, object_with, once, part_files, part_imports, parts_in, said_imports, segment_name, segment_power, segments_asked}
 use Rattle.module65.specs.Laws.{AreAlike}
 use Rattle.language65.specs.Contents.{asking, put, telling}
+use Rattle.base65.specs.Outcome.{◌>>=◌}
+use Rattle.language65.specs.declared.fault.AsmFault.{AsmFault}
+use Rattle.language65.specs.Symbols.{Symbols}
+use Rattle.module65.specs.Places.{PlacedFault}
+use Rattle.module65.specs.Machine.{Finished, Slot, Waiting, awaited, before_it, filled, holds, resolved, awaited_in}
+use Rattle.module65.specs.Pieces.{Made, made_of}
+
+-- ---- Contents by their entries: what decides their object.
 
 -- one thing that is asked for, put or said
 pub data Entry : Type 0 where
@@ -51,23 +60,11 @@ record Gathers {X : Type 0} (F : List Content → List X) : Type 0 where
 
 gathered : {X : Type 0} (F : List Content → List X) → Gathers F → (cs : List Content) → F (split (all_entries cs)) ≡ F cs
 gathered F g [] = refl
-gathered F g (c ∷ cs) =
-    ap F (map-append entry_content (entries_of c) (all_entries cs))
-    ∙ g.append (split (entries_of c)) (split (all_entries cs))
-    ∙ ap (λ xs. xs ++ F (split (all_entries cs))) (g.one c)
-    ∙ ap (λ xs. F (c ∷ []) ++ xs) (gathered F g cs)
-    ∙ sym (g.append (c ∷ []) cs)
+gathered F g (c ∷ cs) = grind (arith, common_steps, (gathered F g cs), map-append)
 
 -- the entries of a content in their three groups
 grouped : {X : Type 0} (F : List Content → List X) → ((cs ds : List Content) → F (cs ++ ds) ≡ F cs ++ F ds) → (c : Content) → F (split (entries_of c)) ≡ F (split (asked_by c.segment c.asks)) ++ F (split (map (part c.segment) c.parts)) ++ F (split (map tells c.said))
-grouped F append c =
-    let asks : List Entry = asked_by c.segment c.asks in
-    let ps : List Entry = map (part c.segment) c.parts in
-    let ss : List Entry = map tells c.said in
-    ap F (map-append entry_content (asks ++ ps) ss)
-    ∙ append (split (asks ++ ps)) (split ss)
-    ∙ ap (λ cs. F cs ++ F (split ss)) (map-append entry_content asks ps)
-    ∙ ap (λ xs. xs ++ F (split ss)) (append (split asks) (split ps))
+grouped x1 append c = grind (arith, common_steps)
 
 -- ---- Segments that are asked for.
 
@@ -80,9 +77,7 @@ asked_said [] = refl
 asked_said (s ∷ ss) = asked_said ss
 
 asked_append : (cs ds : List Content) → segments_asked (cs ++ ds) ≡ segments_asked cs ++ segments_asked ds
-asked_append cs ds =
-    ap (map (λ (c : Content). c.segment)) (filter-append (λ (c : Content). c.asks) cs ds)
-    ∙ map-append (λ (c : Content). c.segment) (filter (λ (c : Content). c.asks) cs) (filter (λ (c : Content). c.asks) ds)
+asked_append cs ds = grind (arith, common_steps)
 
 asked_gathers : Gathers segments_asked
 asked_gathers = record { none = refl; append = asked_append; one = one }
@@ -134,38 +129,26 @@ imports_gather names = record { none = refl; append = append; one = one }
 -- ---- Parts.
 
 parts_asked : (g h : ℕ) (b : Bool) → parts_in (split (asked_by g b)) h ≡ []
-parts_asked g h true = by (nat_eq g h)
-  where
-    by : (b : Bool) → flat_map (λ (c : Content). c.parts) (cond b (split (asked_by g true)) []) ≡ []
-    by true = refl
-    by false = refl
+parts_asked g h true = grind (arith, common_steps)
 parts_asked g h false = refl
 
 parts_parts : (g h : ℕ) (b : Bool) → nat_eq g h ≡ b → (ps : List Part) → parts_in (split (map (part g) ps)) h ≡ cond b ps []
 parts_parts g h true e [] = refl
 parts_parts g h false e [] = refl
-parts_parts g h true e (p ∷ ps) =
-    ap (λ b. flat_map (λ (c : Content). c.parts) (cond b (entry_content (part g p) ∷ filter (λ (c : Content). nat_eq c.segment h) (split (map (part g) ps))) (filter (λ (c : Content). nat_eq c.segment h) (split (map (part g) ps))))) e
-    ∙ ap (λ qs. p ∷ qs) (parts_parts g h true e ps)
+parts_parts g h true e (p ∷ ps) = grind (arith, common_steps, (parts_parts g h true e ps))
 parts_parts g h false e (p ∷ ps) =
     ap (λ b. flat_map (λ (c : Content). c.parts) (cond b (entry_content (part g p) ∷ filter (λ (c : Content). nat_eq c.segment h) (split (map (part g) ps))) (filter (λ (c : Content). nat_eq c.segment h) (split (map (part g) ps))))) e
     ∙ parts_parts g h false e ps
 
 parts_said : (h : ℕ) (ss : List Said) → parts_in (split (map tells ss)) h ≡ []
 parts_said h [] = refl
-parts_said h (s ∷ ss) = by (nat_eq 0 h) (parts_said h ss)
-  where
-    by : (b : Bool) → parts_in (split (map tells ss)) h ≡ [] → flat_map (λ (c : Content). c.parts) (cond b (entry_content (tells s) ∷ filter (λ (c : Content). nat_eq c.segment h) (split (map tells ss))) (filter (λ (c : Content). nat_eq c.segment h) (split (map tells ss)))) ≡ []
-    by true more = more
-    by false more = more
+parts_said h (s ∷ ss) = grind (arith, common_steps, (parts_said h ss))
 
 abbrev parts_of_segment : ℕ → List Content → List Part
 parts_of_segment h cs = parts_in cs h
 
 parts_append : (h : ℕ) (cs ds : List Content) → parts_in (cs ++ ds) h ≡ parts_in cs h ++ parts_in ds h
-parts_append h cs ds =
-    ap (flat_map (λ (c : Content). c.parts)) (filter-append (λ (c : Content). nat_eq c.segment h) cs ds)
-    ∙ flat_map-append (λ (c : Content). c.parts) (filter (λ (c : Content). nat_eq c.segment h) cs) (filter (λ (c : Content). nat_eq c.segment h) ds)
+parts_append h cs ds = grind (arith, common_steps)
 
 parts_gather : (h : ℕ) → Gathers (parts_of_segment h)
 parts_gather h = record { none = refl; append = parts_append h; one = one }
@@ -249,3 +232,75 @@ alike_by cs ds e = record {
   where
     same : {X : Type 0} (F : List Content → List X) → Gathers F → F cs ≡ F ds
     same F g = sym (gathered F g cs) ∙ ap (λ es. F (split es)) e ∙ gathered F g ds
+
+-- ---- What is found one behind the other, up to the first fault.
+
+abbrev pub nothing : {A : Type 0} → Finished A
+nothing = record { found = Ok []; warned = [] }
+
+abbrev pub after_found : {A : Type 0} → Result (List A) PlacedFault → List ℕ → Finished A → Finished A
+after_found (Ok xs) said b = record { found = b.found >>= (λ ys. Ok (xs ++ ys)); warned = said ++ b.warned }
+after_found (Err e) said b = record { found = Err e; warned = said }
+
+-- the one and then the other
+abbrev pub after : {A : Type 0} → Finished A → Finished A → Finished A
+after a b = after_found a.found a.warned b
+
+prepended : {A : Type 0} (r : Result (List A) PlacedFault) → (r >>= (λ ys. Ok ([] ++ ys))) ≡ r
+prepended x1 = grind (arith, common_steps)
+
+pub nothing_after : {A : Type 0} (b : Finished A) → after nothing b ≡ b
+nothing_after b = ap (λ r. record { found = r; warned = b.warned }) (prepended b.found)
+
+pub after_nothing : {A : Type 0} (a : Finished A) → after a nothing ≡ a
+after_nothing {A = A} a = grind (arith, common_steps, append-nil)
+
+pub after_after : {A : Type 0} (a b c : Finished A) → after (after a b) c ≡ after a (after b c)
+after_after {A = A} a b c = grind (arith, common_steps, append_assoc)
+
+-- ---- What waits.
+
+-- a piece where it stands
+abbrev pub placed : {A : Type 0} → Place → (Made → List A) → Result Made AsmFault → Finished A
+placed place f (Ok m) = record { found = Ok (f m); warned = m.warning }
+placed place f (Err e) = record { found = Err (record { place = place; fault = e }); warned = [] }
+
+abbrev pub one_resolved : Symbols → Waiting → Finished Content
+one_resolved y w = placed w.place (λ m. m.content ∷ []) (made_of y w.place w.spot w.piece)
+
+before_after : (place : Place) (r : Result Made AsmFault) (b : Finished Content) → before_it place r b ≡ after (placed place (λ m. m.content ∷ []) r) b
+before_after place x1 b = grind (arith, common_steps)
+
+pub resolved_append : (y : Symbols) (ws vs : List Waiting) → resolved y (ws ++ vs) ≡ after (resolved y ws) (resolved y vs)
+resolved_append y [] vs = sym (nothing_after (resolved y vs))
+resolved_append y (w ∷ ws) vs = grind (arith, common_steps, (resolved_append y ws vs), before_after, after_after)
+
+resolved_length : (y : Symbols) (ws : List Waiting) (cs : List Content) → (resolved y ws).found ≡ Ok cs → length cs ≡ length ws
+resolved_length y [] cs h = (let same : [] ≡ cs = cc in ap length (sym same))
+resolved_length y (w ∷ ws) cs h = grind (arith, common_steps, (resolved_length y ws))
+
+-- ---- Slots that are filled.
+
+pub filled_append : (olds news : List Slot) (cs ds : List Content) → awaited_in olds ≡ length cs → filled (olds ++ news) (cs ++ ds) ≡ filled olds cs ++ filled news ds
+filled_append [] news [] ds h = refl
+filled_append [] news (c ∷ cs) ds h = absurd cc
+filled_append (holds b ∷ olds) news cs ds h = ap (λ bs. b ∷ bs) (filled_append olds news cs ds h)
+filled_append (awaited ∷ olds) news [] ds h = absurd cc
+filled_append (awaited ∷ olds) news (c ∷ cs) ds h = ap (λ bs. c ∷ bs) (filled_append olds news cs ds (omega (arith, h)))
+
+entries_filled : (olds news : List Slot) (cs ds : List Content) → awaited_in olds ≡ length cs → all_entries (filled (olds ++ news) (cs ++ ds)) ≡ all_entries (filled olds cs) ++ all_entries (filled news ds)
+entries_filled olds news cs ds h = ap all_entries (filled_append olds news cs ds h) ∙ flat_map-append entries_of (filled olds cs) (filled news ds)
+
+-- contents that were found, as entries
+abbrev pub as_entries : Finished Content → Finished Entry
+as_entries r = record { found = r.found >>= (λ cs. Ok (all_entries cs)); warned = r.warned }
+
+-- what slots come to
+abbrev pub slots_filled : List Slot → Finished Content → Finished Content
+slots_filled slots r = record { found = r.found >>= (λ cs. Ok (filled slots cs)); warned = r.warned }
+
+abbrev pub come : Symbols → List Slot → List Waiting → Finished Entry
+come y slots ws = as_entries (slots_filled slots (resolved y ws))
+
+pub come_append : (y : Symbols) (olds news : List Slot) (ws vs : List Waiting) → awaited_in olds ≡ length ws → come y (olds ++ news) (ws ++ vs) ≡ after (come y olds ws) (come y news vs)
+come_append y olds news ws vs count = grind (arith, common_steps, resolved_append, resolved_length, entries_filled)

@@ -1,4 +1,6 @@
 -- The lines that are left hold names alone, and no more macros are called than lines were taken.
+use borrow.Author.Rules.{rules}
+use Rattle.std.proofs.lemmas.Grind.{common_steps}
 use Rattle.std.proofs.Common.{◌≡◌, ◌∙◌, ℕ, zero, suc, ◌+◌, ◌≤◌, Bool, true, false, List, [], ◌∷◌, ◌++◌, length, map, Option, Some, None, refl, sym, ap, subst, arith}
 use Rattle.std.specs.Prelude.{Result, Ok, Err, nat_le, if◌then◌else◌, ⊤}
 use Rattle.std.specs.List.{AllByRecursion}
@@ -12,8 +14,7 @@ use Rattle.reader65.specs.Left.{numbered, localised, outside_macro, turns, Item,
 use Rattle.reader65.specs.Lines.{token_limit}
 use Rattle.reader65.specs.Replacing.{in_turn, repeating, Replacing, replaced}
 use Rattle.reader65.specs.Taking.{IsOpened, Taken, Takes, TakesFrom, lexed, reached, taken_as}
-use Rattle.module65.proofs.NamedLines.{AreAllFit, Each, IsReplacingFit, replaced_fit, with_locals_fit}
-use Rattle.module65.proofs.NamedTokens.{AreFit, IsBase, read_fit}
+use Rattle.module65.proofs.NamedLines.{AreAllFit, Each, IsReplacingFit, replaced_fit, with_locals_fit, AreFit, IsBase, read_fit}
 use Rattle.module65.proofs.SoundForms.{all_append}
 
 -- ---- What is left.
@@ -100,16 +101,11 @@ abbrev pub IsOutside : List Item → Mark × List Item × Place → Type 0
 IsOutside is (k, js, p) = AreItemsFit js × (rests js ≤ rests is)
 
 further_out : (is js : List Item) (o : Option (Mark × List Item × Place)) → rests js ≤ rests is → Each (IsOutside js) o → Each (IsOutside is) o
-further_out is js None less h = tt
-further_out is js (Some (k, ks, p)) less h = let more = h.1 in (h.0, omega (arith, less, more))
+further_out is js x1 less h = grind (arith, common_steps)
 
 pub outside_fit : (is : List Item) (p : Place) → AreItemsFit is → Each (IsOutside is) (outside_macro is p)
 outside_fit [] p h = tt
-outside_fit (mark k ∷ is) p h = by k.is_macro (outside_fit is (come_back p k.back) h.1)
-  where
-    by : (b : Bool) → Each (IsOutside is) (outside_macro is (come_back p k.back)) → Each (IsOutside (mark k ∷ is)) (if b then Some (k, is, come_back p k.back) else outside_macro is (come_back p k.back))
-    by true more = (h.1, omega arith)
-    by false more = further_out (mark k ∷ is) is (outside_macro is (come_back p k.back)) (omega arith) more
+outside_fit (mark k ∷ is) p h = grind (arith, common_steps, (outside_fit is (come_back p k.back) h.1), further_out)
 outside_fit (written n bytes ∷ is) p h = further_out (written n bytes ∷ is) is (outside_macro is p) (omega arith) (outside_fit is p h.1)
 outside_fit (played r ts ∷ is) p h = further_out (played r ts ∷ is) is (outside_macro is p) (omega arith) (outside_fit is p h.1)
 outside_fit (labelled ts ∷ is) p h = further_out (labelled ts ∷ is) is (outside_macro is p) (omega arith) (outside_fit is p h.1)
@@ -128,27 +124,11 @@ pub record IsTakenFit (lines : ℕ) (ts : List Lexeme) (m : Left) : Type 0 where
   pub less : suc (lines_in m) ≤ lines
 
 opened_fit : (i : Item) (q : Result (List Lexeme) ExpandFault) (ts : List Lexeme) → IsItemFit i → IsOpened i q → q ≡ Ok ts → AreFit ts
-opened_fit (written n bytes) q ts h (x, reads, same) e = by x reads (sym same ∙ e)
-  where
-    by : (x : Result (List Lexeme) LexFault) → IsRead bytes x → lexed x ≡ Ok ts → AreFit ts
-    by (Ok us) reads e = (let same : us ≡ ts = cc in subst AreFit same (read_fit bytes us reads))
-    by (Err f) reads e = absurd cc
-opened_fit (played r us) q ts h same e = by (nat_le (length (replaced r us)) token_limit) (sym same ∙ e)
-  where
-    by : (b : Bool) → (if b then Ok (replaced r us) else Err LineTooLong) ≡ Ok ts → AreFit ts
-    by true e = (let same : replaced r us ≡ ts = cc in subst AreFit same (replaced_fit r us h.0 h.1))
-    by false e = absurd cc
-opened_fit (labelled us) q ts h is e = absurd is
-opened_fit (branch us) q ts h is e = absurd is
-opened_fit (mark k) q ts h is e = absurd is
+opened_fit x1 q ts h x2 e = grind (arith, common_steps, read_fit, replaced_fit)
 
 -- rests don't stand at the front of what a line is taken from
 line_rests : (i : Item) (is : List Item) (q : Result (List Lexeme) ExpandFault) → IsOpened i q → rests (i ∷ is) ≡ rests is
-line_rests (written n bytes) is q h = refl
-line_rests (played r ts) is q h = refl
-line_rests (labelled ts) is q h = absurd h
-line_rests (branch ts) is q h = refl
-line_rests (mark k) is q h = refl
+line_rests x1 is q h = grind (arith, common_steps)
 
 one_taken : (i : Item) (is : List Item) (r : ℕ) (p : Place) (ts : List Lexeme) (m : Left) → IsItemFit i → AreItemsFit is → (q : Result (List Lexeme) ExpandFault) → IsOpened i q → Ok (Some ts, m) ≡ taken_as q (left is r (reached p i)) → IsTakenFit (suc r + rests (i ∷ is)) ts m
 one_taken i is r p ts m fit h (Ok us) opened e =
@@ -179,20 +159,10 @@ pub taken_fit : (l : Left) (ts : List Lexeme) (m : Left) → AreItemsFit l.items
 taken_fit l ts m h t = taken_from l.items l.room l.place ts m h t
 
 as_none : (q : Result (List Lexeme) ExpandFault) (l m : Left) → ◌≡◌ {A = Taken} (Ok (None, m)) (taken_as q l) → ⊥
-as_none (Ok ts) l m e = no_line ts l m (sym (let pair : ◌≡◌ {A = Line} (None, m) (Some ts, l) = cc in pair))
-as_none (Err f) l m e = absurd cc
+as_none x1 l m e = grind (arith, common_steps)
 
 none_from : (is : List Item) (r : ℕ) (p : Place) (m : Left) → TakesFrom is r p (Ok (None, m)) → m ≡ left is r p
-none_from [] r p m t = let pair : ◌≡◌ {A = Line} (None, m) (None, left [] r p) = cc in ap (λ (t : Line). t.1) pair
-none_from (mark k ∷ is) r p m t = let pair : ◌≡◌ {A = Line} (None, m) (None, left (mark k ∷ is) r p) = cc in ap (λ (t : Line). t.1) pair
-none_from (written n bytes ∷ is) zero p m t = absurd cc
-none_from (played e us ∷ is) zero p m t = absurd cc
-none_from (labelled us ∷ is) zero p m t = absurd cc
-none_from (branch us ∷ is) zero p m t = absurd cc
-none_from (written n bytes ∷ is) (suc r) p m t = absurd (as_none t.0 (left is r (reached p (written n bytes))) m t.2)
-none_from (played e us ∷ is) (suc r) p m t = absurd (as_none t.0 (left is r (reached p (played e us))) m t.2)
-none_from (labelled us ∷ is) (suc r) p m t = absurd (as_none t.0 (left is r (reached p (labelled us))) m t.2)
-none_from (branch us ∷ is) (suc r) p m t = absurd (as_none t.0 (left is r (reached p (branch us))) m t.2)
+none_from x1 r p m t = grind (arith, common_steps)
 
 -- where no line is taken, all is left
 pub none_taken : (l m : Left) → Takes l (Ok (None, m)) → m ≡ l
@@ -211,17 +181,13 @@ IsBlockFit Q lines (Ok (b, m)) = Q b × AreItemsFit m.items × (lines_in m ≤ l
 IsBlockFit Q lines (Err e) = ⊤
 
 block_more : {B : Type 0} (Q : B → Type 0) (less lines : ℕ) (r : Result (B × Left) Stop) → less ≤ lines → IsBlockFit Q less r → IsBlockFit Q lines r
-block_more Q less lines (Ok (b, m)) le h = let more = h.2 in (h.0, h.1, omega (arith, le, more))
-block_more Q less lines (Err e) le h = tt
+block_more x1 less lines x2 le h = grind (arith, common_steps)
 
 pub block_fit : {A B : Type 0} (P : A → Type 0) (Q : B → Type 0) (judge : A → List Lexeme → Verdict A B) → ((a : A) (ts : List Lexeme) → P a → AreFit ts → IsVerdictFit P Q (judge a ts)) → (a : A) (l : Left) (r : Result (B × Left) Stop) → P a → AreItemsFit l.items → Block judge a l r → IsBlockFit Q (lines_in l) r
 block_fit P Q judge keeps a l r p h (a_fault _ _ e t) = tt
 block_fit P Q judge keeps a l r p h (a_mark _ _ m t) = tt
 block_fit P Q judge keeps a l r p h (a_refusal _ _ m ts f t e) = tt
-block_fit P Q judge keeps a l r p h (the_last _ _ m ts b t e) =
-    let line = taken_fit l ts m h t in
-    let less = line.less in
-    (subst (IsVerdictFit P Q) e (keeps a ts p line.tokens), line.items, omega (arith, less))
+block_fit P Q judge keeps a l r p h (the_last _ _ m ts b t e) = grind (arith, common_steps, taken_fit)
 block_fit P Q judge keeps a l r p h (one_more _ c _ m ts _ t e more) =
     let line = taken_fit l ts m h t in
     let less = line.less in

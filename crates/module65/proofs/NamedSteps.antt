@@ -1,4 +1,6 @@
 -- What expansion gives holds names alone, whatever step it comes from.
+use borrow.Author.Rules.{rules}
+use Rattle.std.proofs.lemmas.Grind.{common_steps}
 use Rattle.std.proofs.Common.{◌≡◌, ℕ, zero, suc, ◌+◌, ◌≤◌, Bool, true, false, List, [], ◌∷◌, ◌++◌, length, map, take, drop, Option, Some, None, sym, subst, arith}
 use Rattle.std.specs.Prelude.{Result, Ok, Err, ◌==◌, nat_le, if◌then◌else◌, ⊤}
 use Rattle.std.specs.List.{AllByRecursion}
@@ -28,8 +30,7 @@ use Rattle.expand65.specs.State.{State, Stated, label, plain, Stepped, goes, giv
 use Rattle.expand65.specs.Step.{IsActed, IsDirected, IsElseLine, IsLabelled, IsSplit, IsStep, IsStepBehind, IsStepFrom, at_mark, error_by, if_alone, last_condition, not_opened}
 use Rattle.reader65.specs.Taking.{Taken, Takes}
 use Rattle.module65.proofs.NamedItems.{AreItemsFit, AreLines, IsBlockFit, IsItemFit, IsOutside, IsVerdictFit, block_fit, lines_in, localised_fit, localised_rests, numbered_lines, outside_fit, none_taken, played_lines, rests, rests_append, taken_fit, turns_lines}
-use Rattle.module65.proofs.NamedLines.{AreAllFit, Each, IsReplacingFit, arguments_fit, lookup_each, new_names_fit}
-use Rattle.module65.proofs.NamedTokens.{AreFit, IsBase, fit_drop, fit_take}
+use Rattle.module65.proofs.NamedLines.{AreAllFit, Each, IsReplacingFit, arguments_fit, lookup_each, new_names_fit, AreFit, IsBase, fit_drop, fit_take}
 use Rattle.language65.proofs.Segments.{all_more}
 use Rattle.module65.proofs.SoundForms.{all_append}
 
@@ -70,14 +71,7 @@ with_conditions_fit s cs l fit items less = let calls = fit.calls in record { it
 
 -- lines that are put in front
 entered_fit : (s : State) (is : List Item) (k : Mark) (p : Place) → IsStateFit 0 s → AreLines is → IsSteppedFit (entered s is k p)
-entered_fit s is k p fit lines = by (nat_le (marks s.left.items) nesting_limit)
-  where
-    by : (b : Bool) → IsSteppedFit (if b then goes (with_left s (left (is ++ mark k ∷ s.left.items) s.left.room p)) else stops (fault.Nested, s.left.place))
-    by true =
-        let none = lines.1 in
-        let all = rests_append is (mark k ∷ s.left.items) in
-        with_left_fit s (left (is ++ mark k ∷ s.left.items) s.left.room p) fit (all_append IsItemFit is (mark k ∷ s.left.items) lines.0 (tt, fit.items)) (omega (arith, none, all))
-    by false = tt
+entered_fit s is k p fit lines = grind (arith, common_steps, rests_append, with_left_fit, all_append)
 
 -- ---- Blocks.
 
@@ -89,16 +83,10 @@ more_lines : (body : List (List Lexeme)) (ts : List Lexeme) → AreAllFit body �
 more_lines body ts h fit = all_more AreFit body ts h fit
 
 collecting_fit : (body : List (List Lexeme)) (ts : List Lexeme) (d : Option Directive) → AreAllFit body → AreFit ts → IsVerdictFit AreAllFit AreAllFit (collecting body ts d)
-collecting_fit body ts (Some EndMacro) h fit = closed_if_fit AreAllFit AreAllFit (is_nothing (drop 1 ts)) body h
-collecting_fit body ts (Some Macro) h fit = tt
-collecting_fit body ts _ h fit = more_lines body ts h fit
+collecting_fit body ts x1 h fit = grind (arith, common_steps)
 
 collects_fit : (body : List (List Lexeme)) (ts : List Lexeme) → AreAllFit body → AreFit ts → IsVerdictFit AreAllFit AreAllFit (collects body ts)
-collects_fit body ts h fit = by (is_mislabelled ts)
-  where
-    by : (b : Bool) → IsVerdictFit AreAllFit AreAllFit (if b then mislabelled else collecting body ts (line_directive ts))
-    by true = tt
-    by false = collecting_fit body ts (line_directive ts) h fit
+collects_fit body ts h fit = grind (arith, common_steps, collecting_fit)
 
 abbrev IsGatheredFit : Gathered → Type 0
 IsGatheredFit g = AreAllFit g.1
@@ -112,20 +100,14 @@ gathering_fit zero body ts _ h fit = more_lines body ts h fit
 gathering_fit (suc d) body ts _ h fit = more_lines body ts h fit
 
 gathers_fit : (g : Gathered) (ts : List Lexeme) → IsGatheredFit g → AreFit ts → IsVerdictFit IsGatheredFit AreAllFit (gathers g ts)
-gathers_fit g ts h fit = by (is_mislabelled ts)
-  where
-    by : (b : Bool) → IsVerdictFit IsGatheredFit AreAllFit (if b then mislabelled else gathering g.0 g.1 ts (line_directive ts))
-    by true = tt
-    by false = gathering_fit g.0 g.1 ts (line_directive ts) h fit
+gathers_fit g ts h fit = grind (arith, common_steps, gathering_fit)
 
 -- of lines that are skipped nothing is kept
 abbrev Anything : {A : Type 0} → A → Type 0
 Anything a = ⊤
 
 any_verdict : {A B : Type 0} (v : Verdict A B) → IsVerdictFit Anything Anything v
-any_verdict (on a) = tt
-any_verdict (closed b) = tt
-any_verdict (refused f) = tt
+any_verdict x1 = grind (arith, common_steps)
 
 skipped_fit : {A B : Type 0} (judge : A → List Lexeme → Verdict A B) (a : A) (s : State) (r : Result (B × Left) Stop) → IsStateFit 0 s → Block judge a s.left r → IsBlockFit Anything (lines_in s.left) r
 skipped_fit judge a s r fit block = block_fit Anything Anything judge (λ c ts h lexemes. any_verdict (judge c ts)) a s.left r tt fit.items block
@@ -133,11 +115,7 @@ skipped_fit judge a s r fit block = block_fit Anything Anything judge (λ c ts h
 -- ---- Macros.
 
 kept_fit : (s : State) (name : List ℕ) (params : List (List ℕ)) (q : Result (List (List Lexeme) × Left) Stop) → IsStateFit 0 s → IsBlockFit AreAllFit (lines_in s.left) q → IsSteppedFit (kept s name params q)
-kept_fit s name params (Err e) fit block = tt
-kept_fit s name params (Ok (body, l)) fit block =
-    let calls = fit.calls in
-    let less = block.2 in
-    record { items = block.1; macros = all_more (λ e. AreAllFit e.1.body) s.macros (name, record { params = params; body = body }) fit.macros block.0; calls = omega (arith, calls, less) }
+kept_fit s name params x1 fit block = grind (arith, common_steps)
 
 defined_fit : (s : State) (o : Option (List ℕ × List (List ℕ))) (r : Stepped) → IsStateFit 0 s → IsDefined s o r → IsSteppedFit r
 defined_fit s None r fit h = same_stepped r (stops (fault.NotUnderstood, s.left.place)) h tt
@@ -148,8 +126,7 @@ defined_fit s (Some (name, params)) r fit h = by (macro_of s.macros name) h
     by None h = same_stepped r (kept s name params h.0) h.2 (kept_fit s name params h.0 fit (block_fit AreAllFit AreAllFit collects collects_fit [] s.left h.0 tt fit.items h.1))
 
 macro_fit : (ms : List (List ℕ × Definition)) (k : TokenKind) (t : List ℕ) → AreMacrosFit ms → Each (λ m. AreAllFit m.body) (macro_at ms (k, t))
-macro_fit ms token.Identifier t h = lookup_each (λ m. AreAllFit m.body) (bytes_eq t) ms h
-macro_fit ms _ t h = tt
+macro_fit ms x1 t h = grind (arith, common_steps, lookup_each)
 
 called_fit : (s : State) (m : Definition) (arguments : List (List Lexeme)) → IsStateFit 1 s → AreAllFit m.body → AreAllFit arguments → IsSteppedFit (called s m arguments)
 called_fit s m arguments fit body all = by (nat_le (length arguments) (length m.params))
@@ -168,33 +145,13 @@ called_fit s m arguments fit body all = by (nat_le (length arguments) (length m.
     by false = tt
 
 ordinary_fit : (s : State) (ts : List Lexeme) → IsStateFit 1 s → AreFit ts → IsSteppedFit (ordinary s ts)
-ordinary_fit s [] fit h = acted s fit
-ordinary_fit s (t ∷ ts) fit h = by (macro_at s.macros t) (macro_fit s.macros t.0 t.1 fit.macros)
-  where
-    by : (o : Option Definition) → Each (λ m. AreAllFit m.body) o → IsSteppedFit (called_or_given s t ts o)
-    by None body = (h, acted s fit)
-    by (Some m) body = called_fit s m (arguments_of ts) fit body (arguments_fit ts h.1)
+ordinary_fit s x1 fit h = grind (arith, common_steps, acted, macro_fit, called_fit, arguments_fit)
 
 exited_fit : (s : State) (o : Option (Mark × List Item × Place)) → IsStateFit 0 s → Each (IsOutside s.left.items) o → IsSteppedFit (exited s o)
-exited_fit s None fit h = tt
-exited_fit s (Some (k, is, p)) fit h =
-    let calls = fit.calls in
-    let less = h.1 in
-    record { items = h.0; macros = fit.macros; calls = omega (arith, calls, less) }
+exited_fit s x1 fit h = grind (arith, common_steps)
 
 local_fit : (s : State) (ts : List Lexeme) → IsStateFit 0 s → AreFit ts → IsSteppedFit (local_line s ts)
-local_fit s ts fit h = by (in_macro (innermost s.left.items))
-  where
-    names : (o : Option (List (List ℕ))) → Each (λ ns. AllByRecursion IsBase ns) o → IsSteppedFit (local_named s o)
-    names None bases = tt
-    names (Some ns) bases =
-        let calls = fit.calls in
-        let same = localised_rests ns s.left.items in
-        record { items = localised_fit ns s.left.items bases fit.items; macros = fit.macros; calls = omega (arith, calls, same) }
-
-    by : (b : Bool) → IsSteppedFit (if b then local_named s (new_names ts) else stops (fault.NotUnderstood, s.left.place))
-    by true = names (new_names ts) (new_names_fit ts h)
-    by false = tt
+local_fit s ts fit h = grind (arith, common_steps, localised_rests, localised_fit, new_names_fit)
 
 -- ---- Repeats and included files.
 
@@ -207,52 +164,35 @@ repeat_fit s (Err f) r fit h = same_stepped r (stops (f, s.left.place)) h tt
 repeat_fit s (Ok (n, variable)) r fit h = same_stepped r (repeated s n variable h.0) h.2 (repeated_fit s n variable h.0 fit (block_fit IsGatheredFit AreAllFit gathers gathers_fit (0, []) s.left h.0 tt fit.items h.1))
 
 include_fit : (m : Files) (s : State) (o : Option (List ℕ)) → IsStateFit 0 s → IsSteppedFit (included_by m s o)
-include_fit m s None fit = tt
-include_fit m s (Some name) fit = by (first_file m (tried s.left.place.file s.folders name))
-  where
-    by : (q : Result (List ℕ × List ℕ) ExpandFault) → IsSteppedFit (included s q)
-    by (Err f) = tt
-    by (Ok (file, bytes)) = entered_fit s (numbered 0 (lines_of bytes)) (include_mark s) (record { file = file; line = 0 }) fit (numbered_lines 0 (lines_of bytes))
+include_fit m s x1 fit = grind (arith, common_steps, entered_fit, numbered_lines)
 
 -- ---- Conditions.
 
 found_fit : (s : State) (q : Result (Branch × Left) Stop) → IsStateFit 0 s → IsBlockFit Anything (lines_in s.left) q → IsSteppedFit (found s q)
-found_fit s (Err e) fit block = tt
-found_fit s (Ok (at_endif, l)) fit block = with_left_fit s l fit block.1 block.2
-found_fit s (Ok (at_else, l)) fit block = with_conditions_fit s (true ∷ s.conditions) l fit block.1 block.2
-found_fit s (Ok (at_elseif ts, l)) fit block = with_left_fit s (left (branch ts ∷ l.items) l.room l.place) fit (tt, block.1) block.2
+found_fit s x1 fit block = grind (arith, common_steps)
 
 decided_fit : (s : State) (c : Result Bool ExpandFault) (r : Stepped) → IsStateFit 0 s → IsDecided s c r → IsSteppedFit r
-decided_fit s (Err f) r fit h = same_stepped r (stops (f, s.left.place)) h tt
-decided_fit s (Ok true) r fit h = same_stepped r (goes (with_conditions s (false ∷ s.conditions) s.left)) h (with_conditions_fit s (false ∷ s.conditions) s.left fit fit.items (omega arith))
-decided_fit s (Ok false) r fit h = same_stepped r (found s h.0) h.2 (found_fit s h.0 fit (skipped_fit skips 0 s h.0 fit h.1))
+decided_fit s x1 r fit h = grind (arith, common_steps, same_stepped, with_conditions_fit, found_fit, skipped_fit)
 
 passed_fit : (s : State) (bs : List Bool) (q : Result (Unit {0} × Left) Stop) → IsStateFit 0 s → IsBlockFit Anything (lines_in s.left) q → IsSteppedFit (passed s bs q)
-passed_fit s bs (Err e) fit block = tt
-passed_fit s bs (Ok (u, l)) fit block = with_conditions_fit s bs l fit block.1 block.2
+passed_fit s bs x1 fit block = grind (arith, common_steps)
 
 else_fit : (s : State) (o : Option (Bool × List Bool)) (r : Stepped) → IsStateFit 0 s → IsElse s o r → IsSteppedFit r
-else_fit s None r fit h = same_stepped r (stops (fault.NotOpened, s.left.place)) h tt
-else_fit s (Some (true, bs)) r fit h = same_stepped r (stops (fault.NotOpened, s.left.place)) h tt
-else_fit s (Some (false, bs)) r fit h = same_stepped r (passed s bs h.0) h.2 (passed_fit s bs h.0 fit (skipped_fit passes 0 s h.0 fit h.1))
+else_fit s x1 r fit h = grind (arith, common_steps, same_stepped, passed_fit, skipped_fit)
 
 ended_fit : (s : State) (o : Option (Bool × List Bool)) → IsStateFit 0 s → IsSteppedFit (ended_if s o)
-ended_fit s None fit = tt
-ended_fit s (Some (b, bs)) fit = with_conditions_fit s bs s.left fit fit.items (omega arith)
+ended_fit s x1 fit = grind (arith, common_steps)
 
 -- ---- Directives.
 
 alone_fit : (s : State) (ts : List Lexeme) (r : Stepped) → IsSteppedFit r → IsSteppedFit (if_alone s ts r)
-alone_fit s [] r h = h
-alone_fit s (t ∷ ts) r h = tt
+alone_fit s x1 r h = grind (arith, common_steps)
 
 error_fit : (s : State) (o : Option (List ℕ)) → IsSteppedFit (error_by s o)
-error_fit s None = tt
-error_fit s (Some text) = tt
+error_fit s x1 = grind (arith, common_steps)
 
 else_line_fit : (s : State) (ts : List Lexeme) (r : Stepped) → IsStateFit 0 s → IsElseLine s ts r → IsSteppedFit r
-else_line_fit s [] r fit h = else_fit s (last_condition s) r fit h
-else_line_fit s (t ∷ ts) r fit h = same_stepped r (stops (fault.NotUnderstood, s.left.place)) h tt
+else_line_fit s x1 r fit h = grind (arith, common_steps, else_fit, same_stepped)
 
 emptied : (s : State) → IsStateFit 0 s → IsStateFit 0 (with_items s [])
 emptied s fit = let calls = fit.calls in record { items = tt; macros = fit.macros; calls = omega (arith, calls) }
@@ -273,54 +213,27 @@ directed_fit m k s Error ts r fit h is = same_stepped r (error_by s (string_of t
 directed_fit m k s End ts r fit h is = same_stepped r (if_alone s ts (goes (with_items s []))) is (alone_fit s ts (goes (with_items s [])) (emptied s fit))
 
 acted_fit : (m : Files) (k : Meaning) (s : State) (ts : List Lexeme) (d : Option Directive) (r : Stepped) → IsStateFit 1 s → AreFit ts → IsActed m k s ts d r → IsSteppedFit r
-acted_fit m k s ts (Some directive) r fit h is = directed_fit m k s directive (drop 1 ts) r (acted s fit) (fit_drop 1 ts h) is
-acted_fit m k s ts None r fit h is = same_stepped r (ordinary s ts) is (ordinary_fit s ts fit h)
+acted_fit m k s ts x1 r fit h is = grind (arith, common_steps, directed_fit, acted, fit_drop, same_stepped, ordinary_fit)
 
 -- ---- Steps.
 
 split_fit : (m : Files) (k : Meaning) (s : State) (ts : List Lexeme) (d : Option Directive) (n : ℕ) (r : Stepped) → IsStateFit 1 s → AreFit ts → IsSplit m k s ts d n r → IsSteppedFit r
 split_fit m k s ts d zero r fit h is = acted_fit m k s ts d r fit h is
-split_fit m k s ts d (suc n) r fit h is =
-    let calls = fit.calls in
-    same_stepped r (gives (label (take (suc n) ts)) (with_items s (labelled (drop (suc n) ts) ∷ s.left.items))) is
-    (fit_take (suc n) ts h, record { items = (fit_drop (suc n) ts h, fit.items); macros = fit.macros; calls = omega (arith, calls) })
+split_fit m k s ts d (suc n) r fit h is = grind (arith, common_steps, same_stepped, fit_take, fit_drop)
 
 labelled_fit : (m : Files) (k : Meaning) (s : State) (ts : List Lexeme) (b : Bool) (r : Stepped) → IsStateFit 1 s → AreFit ts → IsLabelled m k s ts b r → IsSteppedFit r
 labelled_fit m k s ts true r fit h is = same_stepped r (stops (fault.NotUnderstood, s.left.place)) is tt
 labelled_fit m k s ts false r fit h is = split_fit m k s ts (line_directive ts) (label_len ts) r fit h is
 
 mark_fit : (s : State) (is : List Item) → IsStateFit 0 s → AreItemsFit is → rests is ≤ rests s.left.items → IsSteppedFit (at_mark s is)
-mark_fit s [] fit h less = tt
-mark_fit s (mark k ∷ is) fit h less = by (k.conditions == length s.conditions)
-  where
-    by : (b : Bool) → IsSteppedFit (if b then goes (with_left s (left is s.left.room (come_back s.left.place k.back))) else stops (fault.NotClosed, s.left.place))
-    by true = with_left_fit s (left is s.left.room (come_back s.left.place k.back)) fit h.1 (omega (arith, less))
-    by false = tt
-mark_fit s (written n bytes ∷ is) fit h less = tt
-mark_fit s (played e ts ∷ is) fit h less = tt
-mark_fit s (labelled ts ∷ is) fit h less = tt
-mark_fit s (branch ts ∷ is) fit h less = tt
+mark_fit s x1 fit h less = grind (arith, common_steps)
 
 behind_fit : (m : Files) (k : Meaning) (s : State) (t : Taken) (r : Stepped) → IsStateFit 0 s → Takes s.left t → IsStepBehind m k s t r → IsSteppedFit r
-behind_fit m k s (Err e) r fit takes is = same_stepped r (stops e) is tt
-behind_fit m k s (Ok (Some ts, l)) r fit takes is =
-    let line = taken_fit s.left ts l fit.items takes in
-    let calls = fit.calls in
-    let less = line.less in
-    labelled_fit m k (with_left s l) ts (is_mislabelled ts) r (record { items = line.items; macros = fit.macros; calls = omega (arith, calls, less) }) line.tokens is
-behind_fit m k s (Ok (None, l)) r fit takes is =
-    let same = none_taken s.left l takes in
-    let fit' : IsStateFit 0 (with_left s l) = subst (λ (x : Left). IsStateFit 0 (with_left s x)) (sym same) (with_left_fit s s.left fit fit.items (omega arith)) in
-    same_stepped r (at_mark (with_left s l) l.items) is (mark_fit (with_left s l) l.items fit' fit'.items (omega arith))
+behind_fit m k s x1 r fit takes is = grind (arith, common_steps, same_stepped, taken_fit, labelled_fit, none_taken, with_left_fit, mark_fit)
 
 -- the first line, and what else is left
 step_from : (m : Files) (k : Meaning) (s : State) (is : List Item) (r : Stepped) → IsStateFit 0 s → AreItemsFit is → s.expansions + (s.left.room + rests is) ≤ line_limit → IsStepFrom m k s is r → IsSteppedFit r
-step_from m k s (labelled ts ∷ is) r fit h calls step = acted_fit m k (with_items s is) ts (front_directive ts) r (record { items = h.1; macros = fit.macros; calls = omega (arith, calls) }) h.0 step
-step_from m k s (branch ts ∷ is) r fit h calls step = decided_fit (with_items s is) step.0 r (record { items = h.1; macros = fit.macros; calls = omega (arith, calls) }) step.2
-step_from m k s [] r fit h calls step = behind_fit m k s step.0 r fit step.1 step.2
-step_from m k s (written n bytes ∷ is) r fit h calls step = behind_fit m k s step.0 r fit step.1 step.2
-step_from m k s (played e ts ∷ is) r fit h calls step = behind_fit m k s step.0 r fit step.1 step.2
-step_from m k s (mark x ∷ is) r fit h calls step = behind_fit m k s step.0 r fit step.1 step.2
+step_from m k s x1 r fit h calls step = grind (arith, common_steps, acted_fit, decided_fit, behind_fit)
 
 step_fit : (m : Files) (k : Meaning) (s : State) (r : Stepped) → IsStateFit 0 s → IsStep m k s r → IsSteppedFit r
 unfolding IsStep
@@ -340,8 +253,4 @@ next_fit m k s n fit (ended _ t step) = tt
 next_fit m k s n fit (stopped _ e step) = tt
 
 pub first_fit : (file : List ℕ) (folders : List (List ℕ)) (bytes : List ℕ) → IsStateFit 0 (first_state file folders bytes)
-first_fit file folders bytes =
-    let lines = numbered_lines 0 (lines_of bytes) in
-    let none = lines.1 in
-    let all = rests_append (numbered 0 (lines_of bytes)) (mark source_mark ∷ []) in
-    record { items = all_append IsItemFit (numbered 0 (lines_of bytes)) (mark source_mark ∷ []) lines.0 (tt, tt); macros = tt; calls = omega (arith, none, all) }
+first_fit file folders bytes = grind (arith, common_steps, numbered_lines, rests_append, all_append)

@@ -1,4 +1,6 @@
 -- One pass over the statements, and then over what waits, comes to the contents of all.
+use borrow.Author.Rules.{rules}
+use Rattle.std.proofs.lemmas.Grind.{common_steps}
 use Rattle.std.proofs.Common.{◌≡◌, ◌∙◌, ℕ, ◌+◌, List, [], ◌∷◌, ◌++◌, length, Option, Some, None, refl, sym, ap, subst, arith}
 use Rattle.std.specs.Prelude.{Bool, true, false, Result, Ok, Err, if◌then◌else◌}
 use Rattle.std.proofs.lemmas.List.{append-nil, length-append}
@@ -24,11 +26,9 @@ use Rattle.module65.specs.Module.{Outcome, asserted, contents_from, out_of, outc
 use Rattle.language65.specs.Contents.{asking}
 use Rattle.module65.specs.Pieces.{Made, Piece, made_of, pieces_of}
 use Rattle.module65.proofs.Contents.{all_append, all_made, made_of_pieces, piece_made, pieces_made}
-use Rattle.module65.proofs.Entries.{Entry, alike_by, all_entries, asked_by, entries_of, object_alike}
-use Rattle.module65.proofs.Finishes.{after, after_after, after_nothing, as_entries, come, come_append, nothing, placed, slots_filled}
-use Rattle.module65.proofs.Resolving.{awaited_append}
-use Rattle.module65.proofs.Simulations.{Matches, Simulates, StandIn, source_matches}
-use Rattle.module65.proofs.Tables.{extends_behind, extends_same, extends_then, flat_push, symbols_push}
+use Rattle.module65.proofs.Entries.{Entry, alike_by, all_entries, asked_by, entries_of, object_alike, after, after_after, after_nothing, as_entries, come, come_append, nothing, placed, slots_filled}
+use Rattle.module65.proofs.Resolving.{awaited_append, extends_behind, extends_same, extends_then, flat_push, symbols_push}
+use Rattle.module65.proofs.OneLayouts.{Matches, Simulates, StandIn, source_matches}
 
 -- ---- Pieces that are put.
 
@@ -39,11 +39,7 @@ abbrev ended : List Entry → List ℕ → Finished Entry
 ended es said = record { found = Ok es; warned = said }
 
 come_waiting : (z : Symbols) (w : Waiting) → come z (awaited ∷ []) (w ∷ []) ≡ piece_made z w.place w.spot w.piece
-come_waiting z w = by (made_of z w.place w.spot w.piece)
-  where
-    by : (r : Result Made AsmFault) → as_entries (slots_filled (awaited ∷ []) (before_it w.place r nothing)) ≡ placed w.place (λ m. entries_of m.content) r
-    by (Ok m) = ap (λ es. ended es (m.warning ++ [])) (append-nil (entries_of m.content)) ∙ ap (ended (entries_of m.content)) (append-nil m.warning)
-    by (Err e) = refl
+come_waiting z w = grind (arith, common_steps)
 
 -- slots and what waits, whose count is the same, come to this behind others, by each table that extends this one
 pub record Comes (y : Symbols) (slots : List Slot) (ws : List Waiting) (made : Symbols → Finished Entry) : Type 0 where
@@ -61,13 +57,7 @@ comes_entered y slots ws made c comes = record {
 }
 
 comes_waiting : (y : Symbols) (slots : List Slot) (ws : List Waiting) (made : Symbols → Finished Entry) (w : Waiting) → Comes y slots ws made → Comes y (slots ++ awaited ∷ []) (ws ++ w ∷ []) (λ z. after (made z) (piece_made z w.place w.spot w.piece))
-comes_waiting y slots ws made w c = record {
-  count = awaited_append slots (awaited ∷ []) ∙ (let count = c.count in let long : length (ws ++ w ∷ []) ≡ length ws + 1 = length-append ws (w ∷ []) in omega (arith, count, long));
-  found = λ z e.
-      come_append z slots (awaited ∷ []) ws (w ∷ []) c.count
-      ∙ ap (after (come z slots ws)) (come_waiting z w)
-      ∙ ap (λ a. after a (piece_made z w.place w.spot w.piece)) (c.found z e);
-}
+comes_waiting y slots ws made w c = grind (arith, common_steps, awaited_append, length-append, come_append, after, come, come_waiting, piece_made)
 
 comes_same : (y : Symbols) (slots : List Slot) (ws : List Waiting) (made more : Symbols → Finished Entry) → ((z : Symbols) → Extends y z → made z ≡ more z) → Comes y slots ws made → Comes y slots ws more
 comes_same y slots ws made more same c = record { count = c.count; found = λ z e. c.found z e ∙ same z e }
@@ -98,12 +88,7 @@ put_one place s t _ p made c later = record {
 }
 
 put_all : (place : Place) (s : Spot) (t u : State) (ps : List Piece) (made : Symbols → Finished Entry) → Comes t.symbols t.slots t.waiting made → PutsAll place s t ps u → Adds t u made (λ z. after (made z) (pieces_made z place s ps))
-put_all place s t u [] made c h = record {
-  slots = t.slots;
-  waiting = t.waiting;
-  same = h;
-  comes = comes_same t.symbols t.slots t.waiting made (λ z. after (made z) nothing) (λ z e. sym (after_nothing (made z))) c;
-}
+put_all place s t u [] made c h = grind (arith, common_steps, comes_same, after, nothing, after_nothing)
 put_all place s t u (p ∷ ps) made c h =
     let one = put_one place s t h.0 p made c h.1 in
     let v = holding t one.slots one.waiting in
@@ -130,13 +115,7 @@ pub record Follows (y : Layout) (t : State) : Type 0 where
 
 -- what is known behind a statement is what is known of it and those before it
 known_for : (y : Layout) (place : Place) (x : Statement) (slots : List Slot) (ws : List Waiting) → known (state_for y slots ws) (laid (symbols_of y.laid) y.standing place x) ≡ state_for (layout_behind y place x) slots ws
-known_for y place x slots ws =
-    let l = laid (symbols_of y.laid) y.standing place x in
-    let z = symbols_behind (symbols_of y.laid) l in
-    let w = standing_behind (symbols_of y.laid) y.standing x in
-    ap (λ (symbols : Symbols). record { symbols = symbols; standing = w; slots = slots; waiting = ws; out = printed y.laid ++ out_of x; err = warned y.laid ++ warning_of place x }) (sym (symbols_push y.laid l))
-    ∙ ap (λ (said : List ℕ). record { symbols = symbols_of (y.laid ++ l ∷ []); standing = w; slots = slots; waiting = ws; out = said; err = warned y.laid ++ warning_of place x }) (sym (flat_push (λ (m : Laid). out_of m.stated) y.laid l))
-    ∙ ap (λ (said : List ℕ). record { symbols = symbols_of (y.laid ++ l ∷ []); standing = w; slots = slots; waiting = ws; out = printed (y.laid ++ l ∷ []); err = said }) (sym (flat_push (λ (m : Laid). warning_of m.place m.stated) y.laid l))
+known_for y place x slots ws = grind (arith, common_steps, symbols_push, flat_push)
 
 -- a statement asks for its section, or doesn't
 record Asked (y : Layout) (slots : List Slot) (ws : List Waiting) (l : Laid) : Type 0 where
@@ -181,9 +160,7 @@ statement_follows y slots ws place x u c puts =
 
 step_follows : (y : Layout) (slots : List Slot) (ws : List Waiting) (place : Place) (x : Statement) (r : Result State AsmFault) → Comes (symbols_of y.laid) slots ws (λ z. all_made z y.laid) → (o : Option AsmFault) → UnlessFault o (Steps (state_for y slots ws) (laid (symbols_of y.laid) y.standing place x)) r → Matches Follows (λ q. q ≡ unless_fault o (layout_behind y place x)) r
 step_follows y slots ws place x r c (Some e) is = subst (Matches Follows (λ q. q ≡ Err e)) (sym is) refl
-step_follows y slots ws place x r c None is =
-    let l = laid (symbols_of y.laid) y.standing place x in
-    subst (Matches Follows (λ q. q ≡ Ok (layout_behind y place x))) (sym is.2) (layout_behind y place x, refl, statement_follows y slots ws place x is.0 c is.1)
+step_follows y slots ws place x r c None is = grind (arith, common_steps, statement_follows)
 
 pub takes_follows : Simulates Follows IsLaid Takes
 takes_follows y t place x r follows takes =
@@ -212,17 +189,7 @@ found_alike (Err f) (Ok ds) e = absurd cc
 found_alike (Err f) (Err g) e = (let same : f ≡ g = cc in ap Err (sym same))
 
 pub stands_for : (y : Layout) (slots : List Slot) (ws : List Waiting) → Comes (symbols_of y.laid) slots ws (λ z. all_made z y.laid) → StandsFor y (state_for y slots ws)
-stands_for y slots ws c =
-    let z = symbols_of y.laid in
-    let all = c.found z (extends_same z) in
-    record {
-      symbols = refl;
-      standing = refl;
-      out = refl;
-      err = refl;
-      found = found_alike (finished (state_for y slots ws)).found (contents_from z y.laid) (ap (λ (f : Finished Entry). f.found) all);
-      asserted = ap (λ (f : Finished Entry). f.warned) all;
-    }
+stands_for y slots ws c = grind (arith, common_steps, extends_same, found_alike)
 
 pub runs_laid : RunsLaid
 runs_laid m job r runs =
@@ -253,14 +220,10 @@ concluded_for y t None for =
     ∙ ap (λ (w : Standing). answered z w (contents_from z y.laid) t.out (t.err ++ asserted z y.laid)) for.standing
     ∙ ap (λ out. answered z y.standing (contents_from z y.laid) out (t.err ++ asserted z y.laid)) for.out
     ∙ ap (λ err. answered z y.standing (contents_from z y.laid) (printed y.laid) (err ++ asserted z y.laid)) for.err
-concluded_for y t (Some e) for =
-    ap (λ (out : List ℕ). record { result = Err e; out = out; err = t.err }) for.out
-    ∙ ap (λ (err : List ℕ). record { result = Err e; out = printed y.laid; err = err }) for.err
+concluded_for y t (Some e) for = grind (arith, common_steps)
 
 pub one_pass : OnePass
-one_pass m job r runs =
-    let laid = runs_laid m job r runs in
-    (record { behind = laid.0; fault = r.fault }, laid.1, concluded_for laid.0 r.behind r.fault laid.2)
+one_pass m job r runs = grind (arith, common_steps, runs_laid, concluded_for)
 
 -- ---- Whatever is laid can be reached.
 

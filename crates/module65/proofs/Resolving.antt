@@ -1,20 +1,66 @@
--- Slots that are filled and what waits that is resolved, one behind the other.
-use Rattle.std.proofs.Common.{◌≡◌, ◌∙◌, ℕ, ◌+◌, false, List, [], ◌∷◌, ◌++◌, length, refl, sym, ap, arith}
-use Rattle.std.specs.Prelude.{IfOk, Result, Ok, Err}
+-- What waits, resolved by a symbol table that grew.
+use borrow.Author.Rules.{rules}
+use Rattle.std.proofs.Common.{◌≡◌, ◌∙◌, ℕ, List, [], ◌∷◌, ◌++◌, refl, sym, ap, append_assoc, ◌+◌, false, length, arith}
+use Rattle.std.specs.Prelude.{if◌then◌else◌, IfOk, Result, Ok, Err}
+use Rattle.std.specs.List.{flat_map, list_any}
+use Rattle.std.specs.Str.{bytes_eq}
+use Rattle.std.proofs.lemmas.Grind.{common_steps, flat_map-append}
 use Rattle.std.proofs.lemmas.List.{append-nil}
+use Rattle.language65.specs.Laid.{Laid}
+use Rattle.language65.specs.Symbols.{Symbols, Definition, Scope, definitions_of, imports_of, scope_opened, symbols_of, with_new, zero_page_names, defined, named}
+use Rattle.language65.specs.Extending.{Extends}
+use Rattle.module65.specs.Machine.{symbols_behind, IsSettled, Finished, Slot, Waiting, awaited, before_it, filled, holds, resolved, awaited_in}
 use Rattle.base65.specs.Outcome.{◌>>=◌}
-use Rattle.object65.specs.Form.{Form}
-use Rattle.language65.specs.Parts.{Content, Part, Said}
-use Rattle.language65.specs.declared.fault.AsmFault.{AsmFault}
-use Rattle.language65.specs.Contents.{decided, export_said, import_fault, operand_form, stored, telling}
+use Rattle.language65.specs.Parts.{Part, Content, Said}
 use Rattle.source65.specs.declared.place.Place.{Place}
 use Rattle.language65.specs.declared.laid.Spot.{Spot}
+use Rattle.module65.specs.Laws.{FinalSettles}
+use Rattle.language65.specs.Contents.{put, telling, decided, export_said, import_fault, operand_form, stored}
+use Rattle.module65.specs.Pieces.{demanded, given, used, Made, Piece, Purpose, absent_of, as_part, as_said, asserted, datum, equated, exported, imported, made_of, operand, valued}
+use Rattle.object65.specs.Form.{Form}
+use Rattle.language65.specs.declared.fault.AsmFault.{AsmFault}
 use Rattle.language65.specs.Norms.{norm_of}
-use Rattle.language65.specs.Symbols.{Symbols, defined, named}
-use Rattle.module65.specs.Machine.{Finished, Slot, Waiting, awaited, before_it, filled, holds, resolved, awaited_in}
 use Rattle.module65.specs.Module.{failed}
-use Rattle.module65.specs.Pieces.{Made, Piece, Purpose, absent_of, as_part, as_said, asserted, datum, demanded, equated, exported, given, imported, made_of, operand, used, valued}
-use Rattle.module65.proofs.Finishes.{after, filled_append, resolved_append}
+use Rattle.module65.proofs.Entries.{after, filled_append, resolved_append}
+
+-- ---- Symbol tables that grow.
+
+pub flat_push : {A B : Type 0} (f : A → List B) (xs : List A) (x : A) → flat_map f (xs ++ x ∷ []) ≡ flat_map f xs ++ f x
+flat_push f xs x = flat_map-append f xs (x ∷ []) ∙ ap (λ zs. flat_map f xs ++ zs) (append-nil (f x))
+
+pub new_append : (known xs ys : List (List ℕ)) → with_new known (xs ++ ys) ≡ with_new (with_new known xs) ys
+new_append known [] ys = refl
+new_append known (x ∷ xs) ys = new_append (if list_any (λ k. bytes_eq x k) known then known else known ++ x ∷ []) xs ys
+
+-- the symbol table of statements with one more behind them
+pub symbols_push : (ls : List Laid) (l : Laid) → symbols_of (ls ++ l ∷ []) ≡ symbols_behind (symbols_of ls) l
+symbols_push ls l = grind (arith, common_steps, flat_push, new_append)
+
+pub extends_same : (y : Symbols) → Extends y y
+extends_same y = record {
+  later_definitions = [];
+  definitions = sym (append-nil y.definitions);
+  later_scopes = [];
+  scopes = sym (append-nil y.scopes);
+}
+
+pub extends_behind : (y : Symbols) (l : Laid) → Extends y (symbols_behind y l)
+extends_behind y l = grind (arith, common_steps)
+
+pub extends_then : (x y z : Symbols) → Extends x y → Extends y z → Extends x z
+extends_then x y z a b = grind (arith, common_steps)
+
+-- ---- Which pieces are settled at their line.
+
+-- what needs no value
+pub settled_given : (y : Symbols) (place : Place) (s : Spot) (p : Part) → IsSettled y place s (given p) (put s.segment p)
+settled_given y place s p z e = refl
+
+-- a value whose form is final
+pub final_settles : FinalSettles
+final_settles y place s why e f c final there z more = ap (λ r. r >>= used place s why) (final z more) ∙ there
+
+-- ---- Slots that are filled and what waits that is resolved, one behind the other.
 
 -- ---- Slots.
 
@@ -36,22 +82,11 @@ done_with cs said = record { found = Ok cs; warned = said }
 
 -- one more that is resolved
 pub resolved_more : (y : Symbols) (done : List Waiting) (w : Waiting) (cs : List Content) (said : List ℕ) (m : Made) → resolved y done ≡ record { found = Ok cs; warned = said } → made_of y w.place w.spot w.piece ≡ Ok m → resolved y (done ++ w ∷ []) ≡ record { found = Ok (cs ++ m.content ∷ []); warned = said ++ m.warning }
-resolved_more y done w cs said m before made =
-    resolved_append y done (w ∷ [])
-    ∙ ap (λ a. after a (resolved y (w ∷ []))) before
-    ∙ ap (λ r. after (done_with cs said) (before_it w.place r (resolved y []))) made
-    ∙ ap (λ warning. done_with (cs ++ m.content ∷ []) (said ++ warning)) (append-nil m.warning)
+resolved_more y done w cs said m before made = grind (arith, common_steps, resolved_append, after, append-nil)
 
 -- the first that has a fault ends it
 pub resolved_stops : (y : Symbols) (done rest : List Waiting) (w : Waiting) (cs : List Content) (said : List ℕ) (e : AsmFault) → resolved y done ≡ record { found = Ok cs; warned = said } → made_of y w.place w.spot w.piece ≡ Err e → resolved y (done ++ w ∷ rest) ≡ record { found = Err (record { place = w.place; fault = e }); warned = said }
-resolved_stops y done rest w cs said e before made =
-    resolved_append y done (w ∷ rest)
-    ∙ ap (λ a. after a (resolved y (w ∷ rest))) before
-    ∙ ap (λ r. after (done_with cs said) (before_it w.place r (resolved y rest))) made
-    ∙ ap (λ w'. stopped_with w') (append-nil said)
-  where
-    stopped_with : List ℕ → Finished Content
-    stopped_with warned = record { found = Err (record { place = w.place; fault = e }); warned = warned }
+resolved_stops y done rest w cs said e before made = grind (arith, common_steps, resolved_append, after, append-nil)
 
 -- ---- A piece asks for no section.
 
@@ -59,30 +94,13 @@ abbrev asks_none : Made → Type 0
 asks_none m = m.content.asks ≡ false
 
 as_part_asks : (g : ℕ) (r : Result Part AsmFault) → IfOk (r >>= as_part g) asks_none
-as_part_asks g (Ok p) = refl
-as_part_asks g (Err e) = tt
+as_part_asks g x1 = grind (arith, common_steps)
 
 as_said_asks : (r : Result (List Said) AsmFault) → IfOk (r >>= as_said) asks_none
-as_said_asks (Ok ss) = refl
-as_said_asks (Err e) = tt
+as_said_asks x1 = grind (arith, common_steps)
 
 used_asks : (place : Place) (s : Spot) (why : Purpose) (f : Form) → IfOk (used place s why f) asks_none
-used_asks place s (datum width) f = as_part_asks s.segment (stored width place f)
-used_asks place s (operand width) f = as_part_asks s.segment (operand_form width s f >>= stored width place)
-used_asks place s equated f = refl
-used_asks place s (asserted act words) f = by (decided act place words f)
-  where
-    by : (r : Result (List Said) AsmFault) → IfOk (r >>= (λ ss. Ok (record { content = telling ss; warning = failed place act words (Ok f) }))) asks_none
-    by (Ok ss) = refl
-    by (Err e) = tt
+used_asks place s x1 f = grind (arith, common_steps)
 
 pub made_asks : (y : Symbols) (place : Place) (s : Spot) (p : Piece) → IfOk (made_of y place s p) asks_none
-made_asks y place s (given p) = refl
-made_asks y place s (valued why e) = by (norm_of y s e)
-  where
-    by : (r : Result Form AsmFault) → IfOk (r >>= used place s why) asks_none
-    by (Ok f) = used_asks place s why f
-    by (Err e) = tt
-made_asks y place s (imported n) = as_said_asks (import_fault y n)
-made_asks y place s (demanded n) = refl
-made_asks y place s (exported must n) = as_said_asks (export_said y place n (absent_of must n) (defined y (named 0 n)))
+made_asks y place s x1 = grind (arith, common_steps)

@@ -1,4 +1,6 @@
 -- The contents of sound statements.
+use borrow.Author.Rules.{rules}
+use Rattle.std.proofs.lemmas.Grind.{common_steps}
 use Rattle.std.proofs.Common.{◌≡◌, ◌∙◌, ℕ, suc, ◌+◌, ◌<◌, Bool, true, false, cond, nat_eq, refl, sym, ap, subst, arith, List, [], ◌∷◌, ◌++◌, length, map, take, slice_get, Some, Result, Ok, Err}
 use Rattle.std.specs.Prelude.{⊤, IfOk, ◌||◌, sum_by, if◌then◌else◌}
 use Rattle.std.specs.List.{AllByRecursion, list_any, filter, flat_map}
@@ -25,31 +27,16 @@ use Rattle.language65.specs.Numbering.{once, parts_in, section_keys, segments_as
 use Rattle.language65.specs.Sound.{IsMeasured, IsSound, IsSoundContent, part_len, statements_in}
 use Rattle.module65.proofs.SoundForms.{Asks, definitions_pass, well_then}
 use Rattle.module65.proofs.SoundParts.{IsKnown, PartsOf, asked_in, below, parts_sound}
-use Rattle.module65.proofs.Tables.{new_append}
+use Rattle.module65.proofs.Resolving.{new_append}
 use Rattle.module65.proofs.SoundSayings.{AreSoundSaid, names_all, said_sound}
 
 -- ---- Keys, each once.
 
 known_key : (found : List ℕ) (g k : ℕ) → asked_in found g ≡ true → asked_in (if list_any (nat_eq k) found then found else found ++ k ∷ []) g ≡ true
-known_key found g k h = go (list_any (nat_eq k) found)
-  where
-    go : (b : Bool) → asked_in (if b then found else found ++ k ∷ []) g ≡ true
-    go true = h
-    go false = list_any-append (nat_eq g) found (k ∷ []) ∙ ap (λ b. b || list_any (nat_eq g) (k ∷ [])) h
+known_key found g k h = grind (arith, common_steps)
 
 new_key : (found : List ℕ) (g k : ℕ) → nat_eq g k ≡ true → asked_in (if list_any (nat_eq k) found then found else found ++ k ∷ []) g ≡ true
-new_key found g k e = go (list_any (nat_eq k) found) refl
-  where
-    same : g ≡ k
-    same = grind (arith, nat_tests)
-
-    or_true : (b : Bool) → (b || true) ≡ true
-    or_true true = refl
-    or_true false = refl
-
-    go : (b : Bool) → list_any (nat_eq k) found ≡ b → asked_in (if b then found else found ++ k ∷ []) g ≡ true
-    go true h = ap (λ x. list_any (nat_eq x) found) same ∙ h
-    go false h = list_any-append (nat_eq g) found (k ∷ []) ∙ ap (λ b. list_any (nat_eq g) found || (b || false)) e ∙ or_true (list_any (nat_eq g) found)
+new_key found g k e = grind (arith, common_steps)
 
 kept : (ks found : List ℕ) (g : ℕ) → asked_in found g ≡ true → asked_in (once found ks) g ≡ true
 kept [] found g h = h
@@ -57,11 +44,7 @@ kept (k ∷ ks) found g h = kept ks (if list_any (nat_eq k) found then found els
 
 once_holds : (ks found : List ℕ) (g : ℕ) → asked_in ks g ≡ true → asked_in (once found ks) g ≡ true
 once_holds [] found g h = absurd cc
-once_holds (k ∷ ks) found g h = go (once_holds ks (if list_any (nat_eq k) found then found else found ++ k ∷ []) g) (nat_eq g k) refl h
-  where
-    go : (asked_in ks g ≡ true → asked_in (once found (k ∷ ks)) g ≡ true) → (b : Bool) → nat_eq g k ≡ b → (b || asked_in ks g) ≡ true → asked_in (once found (k ∷ ks)) g ≡ true
-    go more true e i = kept ks (if list_any (nat_eq k) found then found else found ++ k ∷ []) g (new_key found g k e)
-    go more false e i = more i
+once_holds (k ∷ ks) found g h = grind (arith, common_steps, (once_holds ks (if list_any (nat_eq k) found then found else found ++ k ∷ []) g), asked_in, kept, new_key)
 
 -- ---- Names of imports.
 
@@ -74,10 +57,7 @@ new_names (n ∷ ns) known h (good, all) = new_names ns (if list_any (λ k. byte
     go false e = names_push known n h good e
 
 imports_named : (x : Statement) → IsSound x → AllByRecursion (λ n. is_name n ≡ true) (imports_of x)
-imports_named (statement.Import own names) h = names_all names h
-imports_named (statement.Global own names) h = names_all names h
-imports_named (statement.ForceImport names) h = names_all names h
-imports_named _ h = tt
+imports_named x1 h = grind (arith, common_steps, names_all)
 
 all_names : (ls : List Laid) (known : List (List ℕ)) → are_names known ≡ true → AllByRecursion (λ l. IsSound l.stated) ls → are_names (with_new known (flat_map (λ l. imports_of l.stated) ls)) ≡ true
 all_names [] known h all = h
@@ -86,9 +66,7 @@ all_names (x ∷ ls) known h (sound, all) =
     ∙ all_names ls (with_new known (imports_of x.stated)) (new_names (imports_of x.stated) known h (imports_named x.stated sound)) all
 
 imports_below : (y : Symbols) (n : List ℕ) (k : ℕ) → imported y n ≡ Some k → below (length y.imports) k ≡ true
-imports_below y n k e =
-    let lt : k < length y.imports = (position-Some (λ m. bytes_eq n m) y.imports k [] e).0 in
-    grind (arith, nat_tests)
+imports_below y n k e = grind (arith, common_steps)
 
 -- ---- Where contents stand, and whether they ask for a section.
 
@@ -103,23 +81,17 @@ EachWith R [] (c ∷ cs) = ⊥
 EachWith R (l ∷ ls) [] = ⊥
 
 at_place_ok : {A : Type 0} (P : A → Type 0) (place : Place) (r : Result A AsmFault) → IfOk r P → IfOk (at_place place r) P
-at_place_ok P place (Ok x) h = h
-at_place_ok P place (Err e) h = tt
+at_place_ok x1 place x2 h = grind (arith, common_steps)
 
 contents_with : (R : Laid → Content → Type 0) (y : Symbols) (P : Laid → Type 0) → ((l : Laid) → P l → IfOk (content_of y l) (R l)) → (ls : List Laid) → AllByRecursion P ls → IfOk (contents_from y ls) (EachWith R ls)
 contents_with R y P h [] ps = tt
-contents_with R y P h (l ∷ ls) (p, ps) =
-    well_then (R l) (EachWith R (l ∷ ls)) (at_place l.place (content_of y l)) (λ c. contents_from y ls >>= (λ cs. Ok (c ∷ cs))) (at_place_ok (R l) l.place (content_of y l) (h l p))
-    (λ c w. well_then (EachWith R ls) (EachWith R (l ∷ ls)) (contents_from y ls) (λ cs. Ok (c ∷ cs)) (contents_with R y P h ls ps) (λ cs ws. (w, ws)))
+contents_with R y P h (l ∷ ls) (p, ps) = grind (arith, common_steps, (contents_with R y P h ls ps), well_then, at_place_ok)
 
 any_one : {A : Type 0} (r : Result A AsmFault) → IfOk r (λ x. ⊤)
-any_one (Ok x) = tt
-any_one (Err e) = tt
+any_one x1 = grind (arith, common_steps)
 
 stands : (y : Symbols) (l : Laid) → IfOk (content_of y l) (Stands l)
-stands y l =
-    well_then (λ ps. ⊤) (Stands l) (parts_of y l) (λ ps. said_of y l >>= (λ ss. Ok (record { segment = l.spot.segment; asks = asks_section l.stated; parts = ps; said = ss }))) (any_one (parts_of y l))
-    (λ ps u. well_then (λ ss. ⊤) (Stands l) (said_of y l) (λ ss. Ok (record { segment = l.spot.segment; asks = asks_section l.stated; parts = ps; said = ss })) (any_one (said_of y l)) (λ ss v. (refl, refl)))
+stands y l = grind (arith, common_steps)
 
 all_any : (ls : List Laid) → AllByRecursion (λ l. ⊤) ls
 all_any [] = tt
@@ -132,30 +104,16 @@ asks_more q r h [] every = tt
 asks_more q r h (l ∷ ls) (a, every) = ((λ e. h l.spot.segment (a e)), asks_more q r h ls every)
 
 asked_more : (c : Content) (cs : List Content) (g : ℕ) → asked_in (segments_asked cs) g ≡ true → asked_in (segments_asked (c ∷ cs)) g ≡ true
-asked_more c cs g h = go c.asks
-  where
-    or_right : (b : Bool) → (b || asked_in (segments_asked cs) g) ≡ true
-    or_right true = refl
-    or_right false = h
-
-    go : (b : Bool) → asked_in (map (λ x. x.segment) (cond b (c ∷ filter (λ x. x.asks) cs) (filter (λ x. x.asks) cs))) g ≡ true
-    go true = or_right (nat_eq g c.segment)
-    go false = h
+asked_more c cs g h = grind (arith, common_steps)
 
 asked_first : (c : Content) (cs : List Content) → c.asks ≡ true → asked_in (segments_asked (c ∷ cs)) c.segment ≡ true
-asked_first c cs e = ap (λ b. asked_in (map (λ (x : Content). x.segment) (cond b (c ∷ filter (λ x. x.asks) cs) (filter (λ x. x.asks) cs))) c.segment) e ∙ ap (λ b. b || asked_in (segments_asked cs) c.segment) same
-  where
-    same : nat_eq c.segment c.segment ≡ true
-    same = grind (arith, nat_tests)
+asked_first c cs e = grind (arith, common_steps)
 
 asked_all : (ls : List Laid) (cs : List Content) → EachWith Stands ls cs → AllByRecursion (Asks (asked_in (segments_asked cs))) ls
 asked_all [] [] h = tt
 asked_all [] (c ∷ cs) h = absurd h
 asked_all (l ∷ ls) [] h = absurd h
-asked_all (l ∷ ls) (c ∷ cs) (s, h) = (
-  (λ e. ap (asked_in (segments_asked (c ∷ cs))) (sym s.0) ∙ asked_first c cs (s.1 ∙ e)),
-  asks_more (asked_in (segments_asked cs)) (asked_in (segments_asked (c ∷ cs))) (asked_more c cs) ls (asked_all ls cs h),
-)
+asked_all (l ∷ ls) (c ∷ cs) (s, h) = grind (arith, common_steps, (asked_all ls cs h), asked_in, asked_first, asks_more, asked_more)
 
 asked_keys : (ls : List Laid) (cs : List Content) → EachWith Stands ls cs → AllByRecursion (Asks (asked_in (section_keys cs))) ls
 asked_keys ls cs h = asks_more (asked_in (segments_asked cs)) (asked_in (section_keys cs)) (λ g e. once_holds (segments_asked cs) [] g e) ls (asked_all ls cs h)
@@ -211,22 +169,11 @@ same_room : (asked : List ℕ) (count bound g : ℕ) (ls : List Laid) (cs : List
 same_room asked count bound g [] [] h = refl
 same_room asked count bound g [] (c ∷ cs) h = absurd h
 same_room asked count bound g (l ∷ ls) [] h = absurd h
-same_room asked count bound g (l ∷ ls) (c ∷ cs) (f, h) =
-    ap (λ n. sum_by part_len (flat_map (λ (x : Content). x.parts) (cond (nat_eq n g) (c ∷ filter (λ x. nat_eq x.segment g) cs) (filter (λ x. nat_eq x.segment g) cs)))) f.place
-    ∙ go (nat_eq l.spot.segment g) (same_room asked count bound g ls cs h)
-  where
-    go : (b : Bool) → sum_by part_len (parts_in cs g) ≡ sum_by (λ x. x.length) (statements_in ls g) → sum_by part_len (flat_map (λ (x : Content). x.parts) (cond b (c ∷ filter (λ x. nat_eq x.segment g) cs) (filter (λ x. nat_eq x.segment g) cs))) ≡ sum_by (λ x. x.length) (cond b (l ∷ filter (λ x. nat_eq x.spot.segment g) ls) (filter (λ x. nat_eq x.spot.segment g) ls))
-    go true e =
-        sum_by-append part_len c.parts (parts_in cs g)
-        ∙ ap (λ n. n + sum_by part_len (parts_in cs g)) f.long
-        ∙ ap (λ n. l.length + n) e
-        ∙ sym (sum_by-cons (λ (x : Laid). x.length) l (statements_in ls g))
-    go false e = e
+same_room asked count bound g (l ∷ ls) (c ∷ cs) (f, h) = grind (arith, common_steps, (same_room asked count bound g ls cs h), sum_by-append, sum_by-cons)
 
 -- what an answer is so of, an answer that was given is so of
 given : {A E : Type 0} (P : A → Type 0) (r : Result A E) (x : A) → r ≡ Ok x → IfOk r P → P x
-given P (Ok y) x e h = (let same : y ≡ x = cc in subst P same h)
-given P (Err z) x e h = absurd cc
+given x1 x2 x e h = grind (arith, common_steps)
 
 pub sound_contents : SoundContents
 sound_contents = λ y cs s e.

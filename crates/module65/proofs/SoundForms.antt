@@ -1,12 +1,25 @@
 -- The forms of expressions by the symbol table of sound statements.
-use Rattle.std.proofs.Common.{◌≡◌, ℕ, zero, suc, Bool, true, false, refl, subst, arith, List, [], ◌∷◌, ◌++◌, ◌+◌, length, take, Option, Some, None, slice_get, Result, Ok, Err}
-use Rattle.std.specs.Prelude.{⊤, IfOk, ◌||◌, ◌-◌, nat_le, if◌then◌else◌}
+use borrow.Author.Rules.{rules}
+use Rattle.std.proofs.lemmas.Grind.{common_steps}
+use Rattle.object65.specs.declared.folding.FormFault.TheVariants as fault
+use Rattle.syntax65.specs.Trees as tree
+use Rattle.std.proofs.Common.{◌≡◌, ℕ, Bool, true, false, nat_eq, nat_le, refl, Option, Some, None, Ok, Err, zero, suc, subst, arith, List, [], ◌∷◌, ◌++◌, ◌+◌, length, take, slice_get}
+use Rattle.std.specs.Prelude.{⊤, ℤ, ◌-ℤ◌, IfOk, Result, if◌then◌else◌, ◌||◌, ◌-◌}
+use Rattle.base65.specs.Values.{value2, wrapped}
+use Rattle.base65.specs.declared.values.Op1.{Op1}
+use Rattle.base65.specs.declared.values.Op1.TheVariants.{Plus}
+use Rattle.base65.specs.declared.values.Op2.{Op2}
+use Rattle.base65.specs.declared.values.Op2.TheVariants.{Add, Subtract}
+use Rattle.object65.specs.declared.folding.FormFault.{FormFault}
+use Rattle.object65.specs.Folding.{fold1, fold2, fold_any, fold_difference, fold_prefix, fold_sum, limited, literal, node_limit}
+use Rattle.object65.specs.Form.{Form, lit, sec, imp, prefix, binary, nodes}
+use Rattle.object65.specs.Laws.{IsFolded}
+use Rattle.object65.proofs.Foldings.{normal_law}
+use Rattle.language65.specs.Norms.{folded, defined_form, form_by, form_of_definition, form_of_meaning, form_of_value, norm, norm_of}
 use Rattle.std.specs.List.{AllByRecursion, flat_map}
 use Rattle.base65.specs.Outcome.{◌>>=◌}
-use Rattle.syntax65.specs.Trees.{Tree, number, here, name, cheap, forward, backward, unary, binary}
+use Rattle.syntax65.specs.Trees.{Tree, number, here, name, cheap, forward, backward, unary}
 use Rattle.syntax65.specs.declared.lexing.tokens.AddressSize.{AddressSize}
-use Rattle.object65.specs.Form.{Form}
-use Rattle.object65.specs.Folding.{fold1, fold2}
 use Rattle.language65.specs.declared.fault.AsmFault.{AsmFault}
 use Rattle.language65.specs.declared.fault.AsmFault.TheVariants.{Undefined, NoSuchScope, NoSuchLabel}
 use Rattle.language65.specs.declared.language.Statement.{Statement}
@@ -14,13 +27,61 @@ use Rattle.language65.specs.declared.language.Statement.TheVariants.{Label, Chea
 use Rattle.language65.specs.Laid.{Laid, asks_section, has_here}
 use Rattle.language65.specs.declared.laid.Spot.{Spot}
 use Rattle.language65.specs.Names.{Meaning, defined_at, imported_as, backward_meaning, first_found, last_of, meaning_of, member_meaning, or_fault, plain_meaning, scope_from, scoped_meaning, scopes_from, scopes_of, shown, unnamed_meaning}
-use Rattle.language65.specs.Norms.{defined_form, folded, form_by, form_of_definition, form_of_meaning, form_of_value, norm, norm_of}
 use Rattle.language65.specs.Symbols.{Definition, Symbols, cheap_in, defined, definition_with, definitions_of, imported, key_defined, named, unnamed_at, value_defined}
-use Rattle.module65.proofs.Holding.{IsWell, one_well, two_well}
+
+-- ---- The sections and imports that forms hold.
+
+-- its sections pass one test, and its imports another
+abbrev pub Holds : (ℕ → Bool) → (ℕ → Bool) → Form → Type 0
+Holds q r (lit v) = ⊤
+Holds q r (sec k a) = q k ≡ true
+Holds q r (imp k) = r k ≡ true
+Holds q r (prefix op f) = Holds q r f
+Holds q r (binary op f g) = Holds q r f × Holds q r g
+
+limited_holds : (q r : ℕ → Bool) (f : Form) → Holds q r f → IfOk (limited f) (Holds q r)
+limited_holds q r f h = grind (arith, common_steps)
+
+prefix_holds : (q r : ℕ → Bool) (op : Op1) (f : Form) → Holds q r f → IfOk (fold_prefix op f) (Holds q r)
+prefix_holds q r op x1 h = grind (arith, common_steps)
+
+one_holds : (q r : ℕ → Bool) (op : Op1) (f : Form) → Holds q r f → IfOk (fold1 op f) (Holds q r)
+one_holds q r x1 f h = grind (arith, common_steps)
+
+literal_holds : (q r : ℕ → Bool) (o : Option ℤ) → IfOk (literal o) (Holds q r)
+literal_holds q r x1 = grind (arith, common_steps)
+
+any_holds : (q r : ℕ → Bool) (op : Op2) (f g : Form) → Holds q r f → Holds q r g → IfOk (fold_any op f g) (Holds q r)
+any_holds q r op x1 x2 h k = grind (arith, common_steps)
+
+sum_holds : (q r : ℕ → Bool) (f g : Form) → Holds q r f → Holds q r g → IfOk (fold_sum f g) (Holds q r)
+sum_holds q r x1 x2 h i = grind (arith, common_steps)
+
+difference_holds : (q r : ℕ → Bool) (f g : Form) → Holds q r f → Holds q r g → IfOk (fold_difference f g) (Holds q r)
+difference_holds q r x1 x2 h i = grind (arith, common_steps)
+
+two_holds : (q r : ℕ → Bool) (op : Op2) (f g : Form) → Holds q r f → Holds q r g → IfOk (fold2 op f g) (Holds q r)
+two_holds q r x1 f g h i = grind (arith, common_steps)
+
+-- ---- Folded forms.
+
+pub record IsWell (q r : ℕ → Bool) (f : Form) : Type 0 where
+  pub folded : IsFolded f
+  pub holds : Holds q r f
+
+well_folded : (q r : ℕ → Bool) (x : Result Form FormFault) → ((f : Form) → x ≡ Ok f → IsFolded f) → IfOk x (Holds q r) → IfOk (folded x) (IsWell q r)
+well_folded q r x1 h k = grind (arith, common_steps)
+
+pub one_well : (q r : ℕ → Bool) (op : Op1) (f : Form) → IsWell q r f → IfOk (folded (fold1 op f)) (IsWell q r)
+one_well q r op f w = well_folded q r (fold1 op f) (λ h e. normal_law.0 op f h w.folded e) (one_holds q r op f w.holds)
+
+pub two_well : (q r : ℕ → Bool) (op : Op2) (f g : Form) → IsWell q r f → IsWell q r g → IfOk (folded (fold2 op f g)) (IsWell q r)
+two_well q r op f g v w = well_folded q r (fold2 op f g) (λ h e. normal_law.1 op f g h v.folded w.folded e) (two_holds q r op f g v.holds w.holds)
+
+-- ---- The forms of expressions by the symbol table of sound statements.
 
 pub well_then : {A B E : Type 0} (P : A → Type 0) (Q : B → Type 0) (r : Result A E) (f : A → Result B E) → IfOk r P → ((x : A) → P x → IfOk (f x) Q) → IfOk (r >>= f) Q
-well_then P Q (Ok x) f h k = k x h
-well_then P Q (Err e) f h k = tt
+well_then x1 x2 x3 f h k = grind (arith, common_steps)
 
 -- a statement's segment passes where it asks for a section
 abbrev pub Asks : (ℕ → Bool) → Laid → Type 0
@@ -43,7 +104,7 @@ form_well q r operand s h (cheap n) k = h (cheap n)
 form_well q r operand s h (forward n) k = h (forward n)
 form_well q r operand s h (backward n) k = h (backward n)
 form_well q r operand s h (unary op e) k = well_then (IsWell q r) (IsWell q r) (form_by operand s e) (λ f. folded (fold1 op f)) (form_well q r operand s h e k) (λ f w. one_well q r op f w)
-form_well q r operand s h (binary op e g) k =
+form_well q r operand s h (tree.binary op e g) k =
     well_then (IsWell q r) (IsWell q r) (form_by operand s e) (λ f. form_by operand s g >>= (λ z. folded (fold2 op f z))) (form_well q r operand s h e (λ a. k (or_left (has_here e) (has_here g) a)))
     (λ f v. well_then (IsWell q r) (IsWell q r) (form_by operand s g) (λ z. folded (fold2 op f z)) (form_well q r operand s h g (λ a. k (or_right (has_here e) (has_here g) a))) (λ z w. two_well q r op f z v w))
 
@@ -66,8 +127,7 @@ pub record Pass (q r : ℕ → Bool) (y : Symbols) : Type 0 where
   pub imports : (n : List ℕ) (k : ℕ) → imported y n ≡ Some k → r k ≡ true
 
 value_well : (q r : ℕ → Bool) (a : Spot → Tree → Result Form AsmFault) → FormsWell q r a → (s : Spot) (v : Option Tree) → ValuePasses q s.segment v → IfOk (form_of_value a s v) (IsWell q r)
-value_well q r a h s None k = record { folded = (refl, omega arith); holds = k }
-value_well q r a h s (Some e) k = h s e k
+value_well q r a h s x1 k = grind (arith, common_steps)
 
 item_of : {A : Type 0} (P : A → Type 0) (xs : List A) (j : ℕ) (x : A) → AllByRecursion P xs → slice_get xs j ≡ Some x → P x
 item_of P [] j x h e = absurd cc
@@ -80,19 +140,12 @@ MeansWell r (defined_at j) = ⊤
 MeansWell r (imported_as k) = r k ≡ true
 
 meaning_well : (q r : ℕ → Bool) (y : Symbols) (a : Spot → Tree → Result Form AsmFault) → Pass q r y → FormsWell q r a → (m : Meaning) → MeansWell r m → IfOk (form_of_meaning a y m) (IsWell q r)
-meaning_well q r y a pass h (imported_as k) w = record { folded = (refl, omega arith); holds = w }
-meaning_well q r y a pass h (defined_at j) w = go (slice_get y.definitions j) refl
-  where
-    go : (o : Option Definition) → slice_get y.definitions j ≡ o → IfOk (form_of_definition a o) (IsWell q r)
-    go None e = tt
-    go (Some d) e = value_well q r a h d.spot d.value (item_of (Passes q) y.definitions j d pass.definitions e)
+meaning_well q r y a pass h x1 w = grind (arith, common_steps, value_well, item_of)
 
 -- ---- Names.
 
 found_well : (r : ℕ → Bool) (z : AsmFault) (o p : Option ℕ) → ((k : ℕ) → p ≡ Some k → r k ≡ true) → IfOk (or_fault z o p) (MeansWell r)
-found_well r z (Some j) p h = tt
-found_well r z None (Some k) h = h k refl
-found_well r z None None h = tt
+found_well r z x1 p h = grind (arith, common_steps)
 
 no_import : (r : ℕ → Bool) (k : ℕ) → None ≡ Some k → r k ≡ true
 no_import r k e = absurd cc
@@ -101,9 +154,7 @@ plain_well : (q r : ℕ → Bool) (y : Symbols) (scope : ℕ) (n : List ℕ) →
 plain_well q r y scope n pass = found_well r (Undefined n) (first_found (λ s. defined y (named s n)) (scopes_from y.scopes scope)) (imported y n) (pass.imports n)
 
 member_well : (q r : ℕ → Bool) (y : Symbols) (n : List ℕ) (absent lost : AsmFault) (scope : Option ℕ) → Pass q r y → IfOk (member_meaning y n absent lost scope) (MeansWell r)
-member_well q r y n absent lost None pass = tt
-member_well q r y n absent lost (Some zero) pass = found_well r absent (defined y (named zero n)) (imported y n) (pass.imports n)
-member_well q r y n absent lost (Some (suc i)) pass = found_well r absent (defined y (named (suc i) n)) None (no_import r)
+member_well q r y n absent lost x1 pass = grind (arith, common_steps)
 
 scoped_well : (q r : ℕ → Bool) (y : Symbols) (s : Spot) (global : Bool) (parts : List (List ℕ)) → Pass q r y → IfOk (scoped_meaning y s global parts) (MeansWell r)
 scoped_well q r y s global parts pass = member_well q r y (last_of parts) (Undefined (shown global parts)) (NoSuchScope (shown global parts)) (scope_from (take s.opened y.scopes) s.scope global (scopes_of parts)) pass
@@ -112,21 +163,10 @@ unnamed_well : (r : ℕ → Bool) (y : Symbols) (k : ℕ) → IfOk (unnamed_mean
 unnamed_well r y k = found_well r NoSuchLabel (defined y (unnamed_at k)) None (no_import r)
 
 backward_well : (r : ℕ → Bool) (y : Symbols) (k n : ℕ) → IfOk (backward_meaning y k n) (MeansWell r)
-backward_well r y k n = by (nat_le n k)
-  where
-    by : (b : Bool) → IfOk (if b then unnamed_meaning y (k - n) else Err NoSuchLabel) (MeansWell r)
-    by true = unnamed_well r y (k - n)
-    by false = tt
+backward_well r y k n = grind (arith, common_steps)
 
 operand_well : (q r : ℕ → Bool) (y : Symbols) (s : Spot) (e : Tree) → Pass q r y → IfOk (meaning_of y s e) (MeansWell r)
-operand_well q r y s (name false (n ∷ [])) pass = plain_well q r y s.scope n pass
-operand_well q r y s (name false []) pass = scoped_well q r y s false [] pass
-operand_well q r y s (name false (n ∷ m ∷ parts)) pass = scoped_well q r y s false (n ∷ m ∷ parts) pass
-operand_well q r y s (name true parts) pass = scoped_well q r y s true parts pass
-operand_well q r y s (cheap n) pass = found_well r (Undefined n) (defined y (cheap_in s.region n)) None (no_import r)
-operand_well q r y s (forward n) pass = unnamed_well r y (s.unnamed + n - 1)
-operand_well q r y s (backward n) pass = backward_well r y s.unnamed n
-operand_well q r y s _ pass = tt
+operand_well q r y s x1 pass = search (rules, plain_well, scoped_well, found_well, no_import, unnamed_well, backward_well)
 
 -- ---- Forms.
 
@@ -145,12 +185,7 @@ export_well q r y pass j = meaning_well q r y (norm_of y) pass (norm_well q r y 
 -- ---- The definitions of statements that ask for their sections.
 
 one_passes : (q : ℕ → Bool) (s : Spot) (own : AddressSize) (x : Statement) → (asks_section x ≡ true → q s.segment ≡ true) → AllByRecursion (Passes q) (definition_with (key_defined s x) (value_defined x) s own)
-one_passes q s own (Label n) h = (h refl, tt)
-one_passes q s own (CheapLabel n) h = (h refl, tt)
-one_passes q s own UnnamedLabel h = (h refl, tt)
-one_passes q s own (OpenProc n) h = (h refl, tt)
-one_passes q s own (Constant n e) h = (h, tt)
-one_passes q s own _ h = tt
+one_passes q s own x1 h = grind (arith, common_steps)
 
 pub all_append : {X : Type 0} (P : X → Type 0) (xs ys : List X) → AllByRecursion P xs → AllByRecursion P ys → AllByRecursion P (xs ++ ys)
 all_append P [] ys h k = k

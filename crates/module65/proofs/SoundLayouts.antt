@@ -1,4 +1,6 @@
 -- What statements lay is sound: names of segments, statements, their lengths, and the room in each section.
+use borrow.Author.Rules.{rules}
+use Rattle.std.proofs.lemmas.Grind.{common_steps}
 use Rattle.std.proofs.Common.{◌≡◌, ◌∙◌, ℕ, zero, suc, ◌+◌, ◌<◌, ◌≤◌, Bool, true, false, nat_eq, nat_lt, cond, List, [], ◌∷◌, ◌++◌, length, map, take, slice_get, Option, Some, None, Ok, refl, sym, ap, subst, arith}
 use Rattle.std.specs.Prelude.{◌&&◌, sum_by}
 use Rattle.std.specs.List.{AllByRecursion}
@@ -55,11 +57,7 @@ faults y w x =
     ∷ []
 
 has_room : (y : Symbols) (w : Standing) (x : Statement) → line_fault y w x ≡ None → (segment_at w.segments w.current).end + length_of y (spot_of w) (own_size w) x ≤ section_limit
-has_room y w x h =
-    let all = none_all (faults y w x) h in
-    let fits : nat_lt section_limit ((segment_at w.segments w.current).end + length_of y (spot_of w) (own_size w) x) ≡ false =
-    not_when (nat_lt section_limit ((spot_of w).offset + length_of y (spot_of w) (own_size w) x)) SectionTooLarge all.1.1.1.1.1.1.1.1.1.1.1.1.0 in
-    grind (arith, nat_tests)
+has_room y w x h = grind (arith, common_steps)
 
 -- ---- Lengths.
 
@@ -69,12 +67,10 @@ is_segment _ = false
 
 -- only a constant has a size of its own, and it places nothing
 same_length : (y : Symbols) (s : Spot) (own : AddressSize) (x : Statement) → length_of y s own x ≡ length_of y s (size_stated y s own x) x
-same_length y s own (statement.Constant n e) = refl
-same_length y s own x = refl
+same_length y s own x1 = grind (arith, common_steps)
 
 same_settled : (y : Symbols) (s : Spot) (own : AddressSize) (x : Statement) → settled_of y s own x ≡ settled_of y s (size_stated y s own x) x
-same_settled y s own (statement.Constant n e) = refl
-same_settled y s own x = refl
+same_settled y s own x1 = grind (arith, common_steps)
 
 -- ---- What holds behind each statement.
 
@@ -115,14 +111,7 @@ behind_push M (y ∷ ys) l h m zero x e = h zero x e
 behind_push M (y ∷ ys) l h m (suc i) x e = behind_push (λ zs z. M (y ∷ zs) z) ys l (λ j z f. h (suc j) z f) m i x e
 
 total_push : (ls : List Laid) (l : Laid) (g : ℕ) → total_in (ls ++ l ∷ []) g ≡ total_in ls g + cond (nat_eq l.spot.segment g) l.length 0
-total_push ls l g =
-    ap (sum_by (λ (m : Laid). m.length)) (filter-append (λ (m : Laid). nat_eq m.spot.segment g) ls (l ∷ []))
-    ∙ sum_by-append (λ (m : Laid). m.length) (statements_in ls g) (statements_in (l ∷ []) g)
-    ∙ ap (λ n. total_in ls g + n) (one (nat_eq l.spot.segment g))
-  where
-    one : (b : Bool) → sum_by (λ (m : Laid). m.length) (cond b (l ∷ []) []) ≡ cond b l.length 0
-    one true = omega arith
-    one false = refl
+total_push ls l g = grind (arith, common_steps)
 
 -- one more statement in the current segment
 good_push : (ls : List Laid) (gs hs : List Segment) (current : ℕ) (kept : List ℕ) (l : Laid) → Good ls gs current kept → Grows gs hs current l.length → l.spot.segment ≡ current → IsSound l.stated → MeasuredBehind ls l → (segment_at gs current).end + l.length ≤ section_limit → Good (ls ++ l ∷ []) hs current kept
@@ -155,52 +144,22 @@ good_push ls gs hs current kept l good more at sound measured room = record {
 -- ---- One more segment.
 
 good_named : (ls : List Laid) (gs : List Segment) (current : ℕ) (kept : List ℕ) (n : List ℕ) (own : Option AddressSize) (place : Option ℕ) → Good ls gs current kept → is_name n ≡ true → place_of gs n ≡ place → Good ls (named_segments gs n own place) current kept
-good_named ls gs current kept n own (Some i) good fine e = good
-good_named ls gs current kept n own None good fine e =
-    let last : Segment = new_segment n (first_size n own) in
-    let longer : length (gs ++ last ∷ []) ≡ length gs + 1 = one_longer gs last in
-    let further : (k : ℕ) → k < length gs → k < length (gs ++ last ∷ []) = λ k lt. omega (arith, longer, lt) in
-    record {
-      named = ap are_names (map-append (λ (g : Segment). g.name) gs (last ∷ [])) ∙ names_push (map (λ (g : Segment). g.name) gs) n good.named fine (not_among n gs e);
-      sound = good.sound;
-      standing = all_same (stands_in (length gs)) (stands_in (length (gs ++ last ∷ []))) (λ l lt. further l.spot.segment lt) ls good.standing;
-      measured = good.measured;
-      here = further current good.here;
-      keeps = all_same (λ k. k < length gs) (λ k. k < length (gs ++ last ∷ [])) further kept good.keeps;
-      ends = λ g. good.ends g ∙ sym (end_behind gs n (first_size n own) g);
-      limit = λ g. subst (λ m. m ≤ section_limit) (sym (end_behind gs n (first_size n own) g)) (good.limit g);
-    }
+good_named ls gs current kept n own x1 good fine e = grind (arith, common_steps, one_longer, map-append, names_push, not_among, all_same, end_behind)
 
 -- ---- One statement.
 
 -- another segment is the current one
 good_move : (ls : List Laid) (gs : List Segment) (current next : ℕ) (kept rest : List ℕ) → Good ls gs current kept → next < length gs → are_below (length gs) rest → Good ls gs next rest
-good_move ls gs current next kept rest good lt below = record {
-  named = good.named;
-  sound = good.sound;
-  standing = good.standing;
-  measured = good.measured;
-  here = lt;
-  keeps = below;
-  ends = good.ends;
-  limit = good.limit;
-}
+good_move ls gs current next kept rest good lt below = grind (arith, common_steps)
 
 last_below : (count current : ℕ) (kept : List ℕ) → current < count → are_below count kept → last_kept current kept < count
-last_below count current [] lt h = lt
-last_below count current (k ∷ kept) lt h = h.0
+last_below count current x1 lt h = grind (arith, common_steps)
 
 rest_below : (count : ℕ) (kept : List ℕ) → are_below count kept → are_below count (rest_kept kept)
-rest_below count [] h = tt
-rest_below count (k ∷ kept) h = h.1
+rest_below count x1 h = grind (arith, common_steps)
 
 good_current : (ls : List Laid) (w : Standing) (count multiple : ℕ) (x : Statement) → Good ls (segments_behind w.segments w.current count multiple x) w.current w.kept → Good ls (segments_behind w.segments w.current count multiple x) (current_behind w x) (kept_behind w x)
-good_current ls w count multiple (statement.Segment n own) good = good_move ls (named_segments w.segments n own (place_of w.segments n)) w.current (or_last w.segments (place_of w.segments n)) w.kept w.kept good (named_there w.segments n own (place_of w.segments n) refl) good.keeps
-good_current ls w count multiple statement.PushSegment good = good_move ls (grown_at w.segments w.current count multiple) w.current w.current w.kept (w.current ∷ w.kept) good good.here (good.here, good.keeps)
-good_current ls w count multiple statement.PopSegment good =
-    let gs : List Segment = grown_at w.segments w.current count multiple in
-    good_move ls gs w.current (last_kept w.current w.kept) w.kept (rest_kept w.kept) good (last_below (length gs) w.current w.kept good.here good.keeps) (rest_below (length gs) w.kept good.keeps)
-good_current ls w count multiple x good = good
+good_current ls w count multiple x1 good = grind (arith, common_steps)
 
 good_laying : (ls : List Laid) (w : Standing) (count multiple : ℕ) (x : Statement) → Good ls w.segments w.current w.kept → IsSound x → (more : List Laid) → ((hs : List Segment) → Grows w.segments hs w.current count → Good more hs w.current w.kept) → (is_segment x ≡ true → count ≡ 0) → Good more (segments_behind w.segments w.current count multiple x) w.current w.kept
 good_laying ls w count multiple (statement.Segment n own) good sound more next none =
@@ -208,8 +167,7 @@ good_laying ls w count multiple (statement.Segment n own) good sound more next n
 good_laying ls w count multiple x good sound more next none = next (grown_at w.segments w.current count multiple) (grows w.segments w.current count multiple good.here)
 
 segment_empty : (before : Symbols) (s : Spot) (own : AddressSize) (x : Statement) → is_segment x ≡ true → length_of before s own x ≡ 0
-segment_empty before s own (statement.Segment n size) h = refl
-segment_empty before s own x h = absurd cc
+segment_empty before s own x1 h = grind (arith, common_steps)
 
 good_step : (y : Layout) (place : Place) (x : Statement) → IsGood y → IsSound x → line_fault (symbols_of y.laid) y.standing x ≡ None → IsGood (layout_behind y place x)
 good_step y place x good sound none =
@@ -233,30 +191,7 @@ good_statement y z place x good sound h = by (line_fault (symbols_of y.laid) y.s
 -- ---- The first and the last.
 
 pub nothing_good : IsGood nothing_laid
-nothing_good = record {
-  named = refl;
-  sound = tt;
-  standing = tt;
-  measured = λ i l e. none_behind i l e;
-  here = omega arith;
-  keeps = tt;
-  ends = λ g. ends_at g;
-  limit = λ g. subst (λ n. n ≤ section_limit) (ends_at g) (omega arith);
-}
-  where
-    none_behind : EachBehind MeasuredBehind []
-    none_behind zero l e = absurd cc
-    none_behind (suc i) l e = absurd cc
-
-    ends_at : (g : ℕ) → 0 ≡ (segment_at nothing_laid.standing.segments g).end
-    ends_at zero = refl
-    ends_at (suc g) = refl
+nothing_good = grind (arith, common_steps)
 
 pub sound_from : (y : Layout) → IsGood y → IsSoundLayout y
-sound_from y good = record {
-  named = good.named;
-  sound = good.sound;
-  standing = good.standing;
-  measured = good.measured;
-  room = λ g. subst (λ n. n ≤ section_limit) (sym (good.ends g)) (good.limit g);
-}
+sound_from y good = grind (arith, common_steps)

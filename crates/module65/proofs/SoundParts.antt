@@ -1,4 +1,6 @@
 -- The parts of sound statements.
+use borrow.Author.Rules.{rules}
+use Rattle.std.proofs.lemmas.Grind.{common_steps}
 use Rattle.std.proofs.Common.{◌≡◌, ◌∙◌, ℕ, ◌+◌, Bool, true, false, nat_eq, nat_lt, refl, sym, ap, subst, arith, pos, List, [], ◌∷◌, length, replicate, take, drop, Option, Some, None, Ok, Err}
 use Rattle.std.specs.Prelude.{⊤, ℤ, IfOk, ◌&&◌, ◌-◌, sum_by, if◌then◌else◌}
 use Rattle.std.specs.List.{AllByRecursion, list_all, list_any}
@@ -38,8 +40,7 @@ use Rattle.language65.specs.Numbering.{imports_in}
 use Rattle.language65.specs.Sizes.{address_mode, branch_mode, bytes_between, counted, fill_settled, first_of, is_branch, item_len, length_of, mode_for, mode_len, mode_of, mode_settled, operand_len, optional_value, part_len as file_len, part_start, settled_of, size_of, width_of}
 use Rattle.language65.specs.Symbols.{Symbols}
 use Rattle.language65.specs.Sound.{IsMeasured, IsSoundAt, IsSoundForm, IsSoundPart, part_len, sections_in}
-use Rattle.module65.proofs.Holding.{Holds, IsWell, two_well}
-use Rattle.module65.proofs.SoundForms.{Asks, Pass, norm_well, well_then}
+use Rattle.module65.proofs.SoundForms.{Holds, IsWell, two_well, Asks, Pass, norm_well, well_then}
 
 -- ---- Forms.
 
@@ -79,11 +80,7 @@ form_sound asked count y k s e h = norm_well (asked_in asked) (below count) y k 
 -- ---- What is written with its place.
 
 pub written_with : {A : Type 0} (P : A → Type 0) (place : Place) (x : A) → (is_file_name place.file ≡ true → P x) → IfOk (written place x) P
-written_with {A} P place x h = go (is_file_name place.file) refl
-  where
-    go : (b : Bool) → is_file_name place.file ≡ b → IfOk (if b then Ok x else Err FileNameTooLong) P
-    go true e = h e
-    go false e = tt
+written_with {A} P place x h = grind (arith, common_steps)
 
 pub form_at : (asked : List ℕ) (count : ℕ) (place : Place) (f : Form) → IsWell (asked_in asked) (below count) f → is_file_name place.file ≡ true → IsSoundAt asked count place f
 form_at asked count place f w e = record { file = e; form = sound_form asked count f w }
@@ -91,21 +88,13 @@ form_at asked count place f w e = record { file = e; form = sound_form asked cou
 -- ---- Items.
 
 value_len : (width : Width) (v : ℤ) → length (value_bytes width v) ≡ width_len width
-value_len Byte v = refl
-value_len Word v = refl
-value_len HighFirst v = refl
-value_len Dword v = refl
-value_len Branch v = refl
+value_len x1 v = grind (arith, common_steps)
 
 abbrev PartOf : List ℕ → ℕ → ℕ → Part → Type 0
 PartOf asked count len p = IsSoundPart asked count p × (part_len p ≡ len)
 
 stored_sound : (asked : List ℕ) (count : ℕ) (width : Width) (place : Place) (f : Form) → IsWell (asked_in asked) (below count) f → IfOk (stored width place f) (PartOf asked count (width_len width))
-stored_sound asked count width place (lit v) w = go (fits_width width v)
-  where
-    go : (b : Bool) → IfOk (if b then Ok (Known (value_bytes width v)) else Err OutOfRange) (PartOf asked count (width_len width))
-    go true = (tt, value_len width v)
-    go false = tt
+stored_sound asked count width place (lit v) w = grind (arith, common_steps, value_len)
 stored_sound asked count width place f w = written_with (PartOf asked count (width_len width)) place (Waiting width place f) (λ e. ((form_at asked count place f w e, refl), refl))
 
 item_sound : (asked : List ℕ) (count : ℕ) (y : Symbols) → IsKnown asked count y → (l : Laid) → asked_in asked l.spot.segment ≡ true → (width : Width) (it : Item) → IfOk (item_part y l width it) (PartOf asked count (item_len width it))
@@ -160,24 +149,16 @@ stored_behind : (e : Tree) (mode : Mode) → Alone (Some e) mode
 stored_behind e mode h = absurd cc
 
 address_form : (m : Mnemonic) (e : Tree) (forced : Option AddressSize) (own : AddressSize) (r : Option Index) → MayForm m (Some e) (address_mode m forced own r)
-address_form m e (Some forced) own r = first_form m (Some e) (mode_for forced r) (mode_for forced r) (stored_behind e (mode_for forced r)) (stored_behind e (mode_for forced r))
-address_form m e None size.ZeroPage r = first_form m (Some e) (mode_for size.ZeroPage r) (mode_for size.Absolute r) (stored_behind e (mode_for size.ZeroPage r)) (stored_behind e (mode_for size.Absolute r))
-address_form m e None size.Absolute r = first_form m (Some e) (mode_for size.Absolute r) (mode_for size.ZeroPage r) (stored_behind e (mode_for size.Absolute r)) (stored_behind e (mode_for size.ZeroPage r))
+address_form m e x1 own r = grind (arith, common_steps)
 
 not_branch : (m : Mnemonic) → opcode_of m Relative ≡ None → is_branch m ≡ false
 not_branch m h = rw h refl
 
 branch_code : (m : Mnemonic) → is_branch m ≡ true → part_len (opcode_part (opcode_of m Relative)) ≡ 1
-branch_code m b = go (opcode_of m Relative) refl
-  where
-    go : (o : Option ℕ) → opcode_of m Relative ≡ o → part_len (opcode_part (opcode_of m Relative)) ≡ 1
-    go (Some c) h = ap (λ o. part_len (opcode_part o)) h
-    go None h = (let other = not_branch m h in absurd cc)
+branch_code m b = grind (arith, common_steps)
 
 branch_form : (m : Mnemonic) (e : Tree) (forced : Option AddressSize) (r : Option Index) → is_branch m ≡ true → MayForm m (Some e) (branch_mode forced r)
-branch_form m e None None b = record { code = branch_code m b; alone = stored_behind e Relative }
-branch_form m e None (Some r) b = tt
-branch_form m e (Some forced) r b = tt
+branch_form m e x1 x2 b = grind (arith, common_steps)
 
 operand_mode : (before : Symbols) (s : Spot) (own : AddressSize) (m : Mnemonic) (o : Operand) → MayForm m (operand_tree o) (mode_of before s own m o)
 operand_mode before s own m operand.Absent = first_form m None Implied Accumulator (λ h. refl) (λ h. refl)
@@ -195,11 +176,7 @@ operand_mode before s own m (operand.IndirectY e) = first_form m (Some e) Indire
 -- ---- Instructions.
 
 operand_sound : (asked : List ℕ) (count : ℕ) (s : Spot) → asked_in asked s.segment ≡ true → (width : Width) (f : Form) → IsWell (asked_in asked) (below count) f → IfOk (operand_form width s f) (IsWell (asked_in asked) (below count))
-operand_sound asked count s h Branch f w = two_well (asked_in asked) (below count) Subtract f (sec s.segment (pos (s.offset + 2))) w (record { folded = (refl, omega arith); holds = h })
-operand_sound asked count s h Byte f w = w
-operand_sound asked count s h Word f w = w
-operand_sound asked count s h HighFirst f w = w
-operand_sound asked count s h Dword f w = w
+operand_sound asked count s h x1 f w = grind (arith, common_steps)
 
 behind_sound : (asked : List ℕ) (count : ℕ) (y : Symbols) → IsKnown asked count y → (l : Laid) → asked_in asked l.spot.segment ≡ true → (w : Option Width) (t : Option Tree) → (t ≡ None → w ≡ None) → IfOk (operand_parts y l w t) (PartsOf asked count (operand_len w))
 behind_sound asked count y k l h None t a = (tt, refl)
@@ -213,8 +190,7 @@ behind_sound asked count y k l h (Some width) (Some e) a =
     (λ p z. ((z.0, tt), sum_by-cons part_len p [] ∙ (let same = z.1 in omega (arith, same))))
 
 code_sound : (asked : List ℕ) (count : ℕ) (o : Option ℕ) → IsSoundPart asked count (opcode_part o)
-code_sound asked count None = tt
-code_sound asked count (Some c) = tt
+code_sound asked count x1 = grind (arith, common_steps)
 
 instruction_sound : (asked : List ℕ) (count : ℕ) (y : Symbols) → IsKnown asked count y → (l : Laid) → asked_in asked l.spot.segment ≡ true → (m : Mnemonic) (o : Operand) (mode : Option Mode) → MayForm m (operand_tree o) mode → IfOk (instruction_parts y l m o (mode_settled mode)) (PartsOf asked count (mode_len mode))
 instruction_sound asked count y k l h m o None f = (tt, refl)
@@ -228,8 +204,7 @@ replicated : (n b : ℕ) → length (replicate n b) ≡ n
 replicated n b = length-replicate n b
 
 room_sound : (asked : List ℕ) (count : ℕ) (before : Symbols) (s : Spot) (len : ℕ) (v : Option Tree) → PartOf asked count len (room_part len (fill_settled before s v))
-room_sound asked count before s len None = (tt, refl)
-room_sound asked count before s len (Some v) = (tt, replicated len (counted (constant_in before s v)))
+room_sound asked count before s len x1 = grind (arith, common_steps)
 
 one_part : (asked : List ℕ) (count len : ℕ) (p : Part) → PartOf asked count len p → PartsOf asked count len (p ∷ [])
 one_part asked count len p h = ((h.0, tt), sum_by-cons part_len p [] ∙ (let same = h.1 in omega (arith, same)))
@@ -241,12 +216,10 @@ all_taken : (xs : List ℕ) (n : ℕ) → length (take (length (take n xs)) xs) 
 all_taken xs n = length-take-le (length (take n xs)) xs (let e = length-take n xs in omega (arith, e))
 
 between_taken : (bytes : List ℕ) (start : ℕ) (len : Option ℤ) → length (take (length (bytes_between bytes start len)) (drop start bytes)) ≡ length (bytes_between bytes start len)
-between_taken bytes start None = refl
-between_taken bytes start (Some v) = all_taken (drop start bytes) (counted (Some v))
+between_taken bytes start x1 = grind (arith, common_steps)
 
 file_taken : (before : Symbols) (s : Spot) (bytes : Option (List ℕ)) (start len : Option Tree) → length (file_bytes (file_len before s bytes start len) bytes (FromByte (part_start before s start))) ≡ file_len before s bytes start len
-file_taken before s None start len = refl
-file_taken before s (Some bytes) start len = between_taken bytes (part_start before s start) (optional_value before s len (pos (length bytes - part_start before s start)))
+file_taken before s x1 start len = grind (arith, common_steps, between_taken)
 
 -- ---- Statements.
 
@@ -258,20 +231,12 @@ PartsAre asked count y place s own x len settled = IfOk (parts_of y (laid_with x
 
 -- with the length and what is settled as they are measured
 parts_with : (asked : List ℕ) (count : ℕ) (y before : Symbols) → IsKnown asked count y → (place : Place) (s : Spot) (own : AddressSize) (x : Statement) → (asks_section x ≡ true → asked_in asked s.segment ≡ true) → PartsAre asked count y place s own x (length_of before s own x) (settled_of before s own x)
-parts_with asked count y before k place s own (Instruction m o) a =
-    let mode = mode_of before s own m o in
-    instruction_sound asked count y k (laid_with (Instruction m o) place s (mode_len mode) own (mode_settled mode)) (a refl) m o mode (operand_mode before s own m o)
+parts_with asked count y before k place s own (Instruction m o) a = grind (arith, common_steps, instruction_sound, operand_mode)
 parts_with asked count y before k place s own (Values width its) a =
     items_sound asked count y k (laid_with (Values width its) place s (sum_by (item_len width) its) own Unsettled) (a refl) width its
-parts_with asked count y before k place s own (Reserve n v) a =
-    let len = length_of before s own (Reserve n v) in
-    one_part asked count len (room_part len (fill_settled before s v)) (room_sound asked count before s len v)
-parts_with asked count y before k place s own (Align n v) a =
-    let len = length_of before s own (Align n v) in
-    one_part asked count len (room_part len (fill_settled before s v)) (room_sound asked count before s len v)
-parts_with asked count y before k place s own (FilePart bytes start more) a =
-    let len = file_len before s bytes start more in
-    one_part asked count len (Known (file_bytes len bytes (FromByte (part_start before s start)))) (tt, file_taken before s bytes start more)
+parts_with asked count y before k place s own (Reserve n v) a = grind (arith, common_steps, one_part, room_sound)
+parts_with asked count y before k place s own (Align n v) a = grind (arith, common_steps, one_part, room_sound)
+parts_with asked count y before k place s own (FilePart bytes start more) a = grind (arith, common_steps, one_part, file_taken)
 parts_with asked count y before k place s own _ a = (tt, refl)
 
 pub parts_sound : (asked : List ℕ) (count : ℕ) (y before : Symbols) → IsKnown asked count y → (l : Laid) → Asks (asked_in asked) l → IsMeasured before l → IfOk (parts_of y l) (PartsOf asked count l.length)

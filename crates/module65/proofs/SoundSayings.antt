@@ -1,16 +1,18 @@
 -- What sound statements say.
-use Rattle.std.proofs.Common.{◌≡◌, ℕ, zero, suc, ◌<◌, Bool, true, false, refl, subst, List, [], ◌∷◌, ◌++◌, length, map, pos, negsuc, Option, Some, None, Result, Ok}
+use borrow.Author.Rules.{rules}
+use Rattle.std.proofs.lemmas.Grind.{common_steps}
+use Rattle.object65.specs.declared.object.Action.TheVariants as action
+use Rattle.std.proofs.Common.{arith, ◌≡◌, List, [], ◌∷◌, ◌++◌, refl, ap, Result, Ok, Err, ℕ, zero, suc, ◌<◌, Bool, true, false, subst, length, map, pos, negsuc, Option, Some, None}
+use Rattle.std.specs.List.{flat_map, AllByRecursion, list_all}
+use Rattle.base65.specs.Outcome.{◌>>=◌, each}
+use Rattle.language65.specs.Parts.{Said, Exported, Demanded, Checked}
+use Rattle.language65.specs.declared.fault.AsmFault.{AsmFault}
+use Rattle.language65.specs.Contents.{each_of, decided, export_said, import_fault, said_of, written}
 use Rattle.std.specs.Prelude.{⊤, IfOk, ◌&&◌}
-use Rattle.std.specs.List.{AllByRecursion, list_all}
-use Rattle.base65.specs.Outcome.{◌>>=◌}
 use Rattle.syntax65.specs.declared.lexing.tokens.AddressSize.{AddressSize}
 use Rattle.object65.specs.Form.{Form, lit}
 use Rattle.object65.specs.Objects.{is_name}
 use Rattle.object65.specs.declared.object.Action.{Action}
-use Rattle.object65.specs.declared.object.Action.TheVariants as action
-use Rattle.language65.specs.Parts.{Said, Exported, Demanded, Checked}
-use Rattle.language65.specs.declared.fault.AsmFault.{AsmFault}
-use Rattle.language65.specs.Contents.{decided, each_of, export_said, import_fault, said_of, written}
 use Rattle.source65.specs.declared.place.Place.{Place}
 use Rattle.language65.specs.Laid.{Laid, asks_section}
 use Rattle.language65.specs.declared.laid.Settled.{Settled}
@@ -21,10 +23,21 @@ use Rattle.language65.specs.Norms.{defined_form, norm_of}
 use Rattle.language65.specs.Symbols.{Symbols, defined, named}
 use Rattle.module65.specs.Pieces.{absent_of}
 use Rattle.language65.specs.Sound.{IsSound, IsSoundSaid}
-use Rattle.module65.proofs.Aheads.{said_by, said_each}
-use Rattle.module65.proofs.Holding.{IsWell}
-use Rattle.module65.proofs.SoundForms.{Asks, all_append, export_well, well_then}
+use Rattle.module65.proofs.SoundForms.{IsWell, Asks, all_append, export_well, well_then}
 use Rattle.module65.proofs.SoundParts.{IsKnown, asked_in, below, form_at, form_sound, laid_with, written_with}
+
+-- ---- What each of some names says, one behind the other.
+
+-- what f says of each in turn
+abbrev pub said_by : {A : Type 0} → (A → Result (List Said) AsmFault) → List A → Result (List Said) AsmFault
+said_by f [] = Ok []
+said_by f (x ∷ xs) = f x >>= (λ ys. said_by f xs >>= (λ zs. Ok (ys ++ zs)))
+
+pub said_each : {A : Type 0} (f : A → Result (List Said) AsmFault) (xs : List A) → said_by f xs ≡ each_of f xs
+said_each f [] = refl
+said_each f (x ∷ xs) = grind (arith, common_steps, (said_each f xs))
+
+-- ---- What sound statements say.
 
 abbrev pub AreSoundSaid : List ℕ → ℕ → List Said → Type 0
 AreSoundSaid asked count ss = AllByRecursion (IsSoundSaid asked count) ss
@@ -45,9 +58,7 @@ names_all (n ∷ ns) h = (first (is_name n) (list_all is_name ns) h, names_all n
 
 by_names : (asked : List ℕ) (count : ℕ) (f : List ℕ → Result (List Said) AsmFault) (P : List ℕ → Type 0) → ((n : List ℕ) → P n → IfOk (f n) (AreSoundSaid asked count)) → (names : List (List ℕ)) → AllByRecursion P names → IfOk (said_by f names) (AreSoundSaid asked count)
 by_names asked count f P h [] ps = tt
-by_names asked count f P h (n ∷ ns) (p, ps) =
-    well_then (AreSoundSaid asked count) (AreSoundSaid asked count) (f n) (λ ys. said_by f ns >>= (λ zs. Ok (ys ++ zs))) (h n p)
-    (λ ys a. well_then (AreSoundSaid asked count) (AreSoundSaid asked count) (said_by f ns) (λ zs. Ok (ys ++ zs)) (by_names asked count f P h ns ps) (λ zs b. all_append (IsSoundSaid asked count) ys zs a b))
+by_names asked count f P h (n ∷ ns) (p, ps) = grind (arith, common_steps, (by_names asked count f P h ns ps), well_then, all_append)
 
 each_sound : (asked : List ℕ) (count : ℕ) (f : List ℕ → Result (List Said) AsmFault) (P : List ℕ → Type 0) → ((n : List ℕ) → P n → IfOk (f n) (AreSoundSaid asked count)) → (names : List (List ℕ)) → AllByRecursion P names → IfOk (each_of f names) (AreSoundSaid asked count)
 each_sound asked count f P h names ps =
@@ -55,11 +66,7 @@ each_sound asked count f P h names ps =
     subst Q (said_each f names) (by_names asked count f P h names ps)
 
 import_sound : (asked : List ℕ) (count : ℕ) (y : Symbols) (n : List ℕ) → IfOk (import_fault y n) (AreSoundSaid asked count)
-import_sound asked count y n = go (defined y (named 0 n)) refl
-  where
-    go : (o : Option ℕ) → defined y (named 0 n) ≡ o → IfOk (import_fault y n) (AreSoundSaid asked count)
-    go None e = rw e tt
-    go (Some j) e = rw e tt
+import_sound asked count y n = grind (arith, common_steps)
 
 absent_sound : (asked : List ℕ) (count : ℕ) (b : Bool) (n : List ℕ) → IfOk (absent_of b n) (AreSoundSaid asked count)
 absent_sound asked count true n = tt

@@ -1,5 +1,7 @@
 -- What a source lays is sound: its statements are of names that objects can hold.
-use Rattle.std.proofs.Common.{◌≡◌, ℕ, Bool, true, false, List, [], ◌∷◌, Option, Some, None, refl, sym, subst}
+use borrow.Author.Rules.{rules}
+use Rattle.std.proofs.lemmas.Grind.{common_steps}
+use Rattle.std.proofs.Common.{arith, ◌≡◌, ℕ, Bool, true, false, List, [], ◌∷◌, Option, Some, None, refl, sym, subst}
 use Rattle.std.specs.Prelude.{Result, Ok, Err, if◌then◌else◌}
 use Rattle.std.specs.FinMap as fmap
 use Rattle.base65.specs.Outcome.{◌>>=◌, First}
@@ -25,7 +27,7 @@ use Rattle.module65.specs.Laws.{SoundLayoutLaw}
 use Rattle.module65.specs.Laying.{IsLaid, laying}
 use Rattle.module65.specs.Reading.{AreDefined, AreTaken, taken, faulty, refused, ended, Define, Follows, IsBegun, IsGiven, IsLabel, IsLabelled, IsRest, Job, Reached, no_line, stopped, with_bytes}
 use Rattle.module65.proofs.NamedSteps.{IsStateFit, first_fit, next_fit, tokens_of}
-use Rattle.module65.proofs.NamedTokens.{are_named}
+use Rattle.module65.proofs.NamedLines.{are_named}
 use Rattle.module65.proofs.SoundLayouts.{IsGood, good_statement, nothing_good, sound_from}
 
 -- ---- A label and what stands behind it.
@@ -42,29 +44,13 @@ one_label : (x : Statement) (ts : List Lexeme) → IsSound x → AreNamed ts →
 one_label x ts sound named = record { label = λ y e. (let same : x ≡ y = cc in subst IsSound same sound); rest = named }
 
 named_sound : (all ts : List Lexeme) (k : TokenKind) (n : List ℕ) → AreNamed all → AreNamed ts → IsLabelSound (or_all all (with_rest ts (named_label k n)))
-named_sound all ts token.Identifier n whole named = by (is_reserved n)
-  where
-    by : (b : Bool) → IsLabelSound (or_all all (with_rest ts (if b then None else Some (Label n))))
-    by true = no_label all whole
-    by false = one_label (Label n) ts tt named
-named_sound all ts token.CheapName n whole named = one_label (CheapLabel n) ts tt named
-named_sound all ts _ n whole named = no_label all whole
+named_sound all ts x1 n whole named = grind (arith, common_steps)
 
 before_sound : (t : Lexeme) (ts : List Lexeme) → AreNamed (t ∷ ts) → IsLabelSound (or_all (t ∷ ts) (label_before t ts))
-before_sound t [] named = no_label (t ∷ []) named
-before_sound t (c ∷ ts) named = by (is_colon c)
-  where
-    by : (b : Bool) → IsLabelSound (or_all (t ∷ c ∷ ts) (if b then with_rest ts (named_label t.0 t.1) else None))
-    by true = named_sound (t ∷ c ∷ ts) ts t.0 t.1 named named.1.1
-    by false = no_label (t ∷ c ∷ ts) named
+before_sound t x1 named = grind (arith, common_steps)
 
 pub label_sound : (ts : List Lexeme) → AreNamed ts → IsLabelSound (label_of ts)
-label_sound [] named = no_label [] tt
-label_sound (t ∷ ts) named = by (is_colon t)
-  where
-    by : (b : Bool) → IsLabelSound (or_all (t ∷ ts) (if b then Some (UnnamedLabel, ts) else label_before t ts))
-    by true = one_label UnnamedLabel ts tt named.1
-    by false = before_sound t ts named
+label_sound x1 named = grind (arith, common_steps, no_label, one_label, before_sound)
 
 -- ---- A statement.
 
@@ -74,8 +60,7 @@ good_labelled y z place (Some x) good sound h = good_statement y z place x good 
 
 -- bytes hand nothing else to the object
 pub bytes_sound : (m : Files) (place : Place) (x : Statement) → IsSound x → IsSound (with_bytes m place x)
-bytes_sound m place (NamedPart name start len) sound = tt
-bytes_sound m place _ sound = sound
+bytes_sound m place x1 sound = grind (arith, common_steps)
 
 good_rest : (m : Files) (y z : Layout) (place : Place) (ts : List Lexeme) → IsGood y → AreNamed ts → IsRest m IsLaid y place ts (Ok z) → IsGood z
 good_rest m y z place [] good named h = let same : y ≡ z = cc in subst IsGood same good
@@ -131,12 +116,7 @@ good_behind : (q r : Reached Layout) → r ≡ q → IsGood q.behind → IsGood 
 good_behind q r e good = subst (λ (x : Reached Layout). IsGood x.behind) (sym e) good
 
 good_begun : (m : Files) (job : Job) (o : Result expand.State ExpandFault) (r : Reached Layout) → ((s : expand.State) → o ≡ Ok s → IsStateFit 0 s) → IsBegun m laying job nothing_laid o r → IsGood r.behind
-good_begun m job (Err e) r fit h = good_behind (stopped nothing_laid (no_line job.source) _) r h nothing_good
-good_begun m job (Ok s) r fit h = by h.0 h.1 h.2
-  where
-    by : (q : Result Layout AsmFault) → AreDefined IsLaid nothing_laid (no_line job.source) job.defines q → Follows m laying s (no_line job.source) nothing_laid q r → IsGood r.behind
-    by (Ok z) are next = good_taken m s z r (fit s refl) (good_defined nothing_laid z (no_line job.source) job.defines nothing_good are) next
-    by (Err f) are same = good_behind (stopped nothing_laid (no_line job.source) f) r same nothing_good
+good_begun m job x1 r fit h = grind (arith, common_steps, good_behind, nothing_good, good_taken, good_defined)
 
 pub sound_layout : SoundLayoutLaw
 sound_layout m job r h = sound_from r.behind (good_begun m job (opened_in m job.source job.include) r (opened_fit m job.source job.include) h)

@@ -105,10 +105,6 @@ binary_fold_law E none bases imports op f g h e = two_kept none bases imports op
 small : (f : Form) → nat_le (nodes f) Folding.node_limit ≡ true → nodes f ≤ Folding.node_limit
 small f e = grind (arith, nat_tests)
 
-opened : (b : Bool) → not b ≡ true → b ≡ false
-opened true e = cc
-opened false e = refl
-
 literal_normal : (r : Option ℤ) (h : Form) → Folding.literal r ≡ Ok h → IsFolded h
 literal_normal (Some v) h e = let same : lit v ≡ h = cc in rw (← same) (refl, omega arith)
 literal_normal None h e = cc

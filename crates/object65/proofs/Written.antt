@@ -11,34 +11,6 @@ nil : (xs : List ℕ) → xs ++ [] ≡ xs
 nil [] = refl
 nil (x ∷ xs) = ap (λ ys. x ∷ ys) (nil xs)
 
-pub none_written : (old : List ℕ) → old ≡ old ++ []
-none_written old = sym (nil old)
-
--- one more thing, of several records each
-pub more_written : {X : Type 0} (f : X → List Entry) (xs : List X) (i : ℕ) (x : X) (old out new : List ℕ) → i < length xs → x ≡ get_or xs i x → out ≡ old ++ flat_map entry_bytes (flat_map f (take i xs)) → new ≡ out ++ flat_map entry_bytes (f x) → new ≡ old ++ flat_map entry_bytes (flat_map f (take (i + 1) xs))
-more_written {X} f xs i x old out new within is kept added =
-    let more : take (i + 1) xs ≡ take i xs ++ x ∷ [] = take_more xs i x within ∙ ap (λ y. take i xs ++ y ∷ []) (sym is) in
-    let all : flat_map entry_bytes (flat_map f (take (i + 1) xs)) ≡ flat_map entry_bytes (flat_map f (take i xs)) ++ flat_map entry_bytes (f x) =
-    ap (λ ys. flat_map entry_bytes (flat_map f ys)) more
-    ∙ ap (flat_map entry_bytes) (flat_map-append f (take i xs) (x ∷ []) ∙ ap (λ es. flat_map f (take i xs) ++ es) (end (f x)))
-    ∙ flat_map-append entry_bytes (flat_map f (take i xs)) (f x) in
-    added ∙ ap (λ ys. ys ++ flat_map entry_bytes (f x)) kept ∙ append_assoc old (flat_map entry_bytes (flat_map f (take i xs))) (flat_map entry_bytes (f x)) ∙ ap (λ ys. old ++ ys) (sym all)
-  where
-    end : (es : List Entry) → es ++ [] ≡ es
-    end [] = refl
-    end (e ∷ es) = ap (λ ys. e ∷ ys) (end es)
-
--- one more record
-pub one_more_written : {X : Type 0} (f : X → Entry) (xs : List X) (i : ℕ) (x : X) (old out new : List ℕ) → i < length xs → x ≡ get_or xs i x → out ≡ old ++ flat_map entry_bytes (map f (take i xs)) → new ≡ out ++ entry_bytes (f x) → new ≡ old ++ flat_map entry_bytes (map f (take (i + 1) xs))
-one_more_written f xs i x old out new within is kept added =
-    let more : take (i + 1) xs ≡ take i xs ++ x ∷ [] = take_more xs i x within ∙ ap (λ y. take i xs ++ y ∷ []) (sym is) in
-    let all : flat_map entry_bytes (map f (take (i + 1) xs)) ≡ flat_map entry_bytes (map f (take i xs)) ++ entry_bytes (f x) =
-    ap (λ ys. flat_map entry_bytes (map f ys)) more
-    ∙ ap (flat_map entry_bytes) (map-append f (take i xs) (x ∷ []))
-    ∙ flat_map-append entry_bytes (map f (take i xs)) (f x ∷ [])
-    ∙ ap (λ ys. flat_map entry_bytes (map f (take i xs)) ++ ys) (nil (entry_bytes (f x))) in
-    added ∙ ap (λ ys. ys ++ entry_bytes (f x)) kept ∙ append_assoc old (flat_map entry_bytes (map f (take i xs))) (entry_bytes (f x)) ∙ ap (λ ys. old ++ ys) (sym all)
-
 regroup : (old h y a b c d e z : List ℕ) → ((((((((old ++ h) ++ y) ++ a) ++ b) ++ c) ++ d) ++ e) ++ z) ≡ old ++ (h ++ (y ++ (((((a ++ b) ++ c) ++ d) ++ e) ++ z)))
 regroup old h y a b c d e z = simp append_assoc
 
@@ -53,10 +25,3 @@ written_object old h oy o0 o1 o2 o3 o4 o5 new y a b c d e z py p0 p1 p2 p3 p4 p5
     ∙ regroup old h (flat_map entry_bytes y) (flat_map entry_bytes a) (flat_map entry_bytes b) (flat_map entry_bytes c) (flat_map entry_bytes d) (flat_map entry_bytes e) (entry_bytes z)
     ∙ ap (λ xs. old ++ (h ++ (flat_map entry_bytes y ++ (((((flat_map entry_bytes a ++ flat_map entry_bytes b) ++ flat_map entry_bytes c) ++ flat_map entry_bytes d) ++ flat_map entry_bytes e) ++ xs)))) (sym (nil (entry_bytes z)))
     ∙ ap (λ xs. old ++ (h ++ xs)) (sym (spread y a b c d e (z ∷ [])))
-
--- what all pass, each passes
-pub passes : {X : Type 0} (p : X → Bool) (xs : List X) (i : ℕ) (x : X) → i < length xs → x ≡ get_or xs i x → list_all p xs ≡ true → p x ≡ true
-passes p xs i x within is all = ap p is ∙ test (p (get_or xs i x)) refl where
-  test : (b : Bool) → p (get_or xs i x) ≡ b → p (get_or xs i x) ≡ true
-  test true e = e
-  test false e = cc (list_all_at p xs i x within e)

@@ -24,12 +24,6 @@ line_goes_on None first self new line after h e n t = tt
 line_goes_on (Some m) first self new line after h e n t =
     ap (λ l. after ++ (drop new.at new.buffer.items ++ l)) (sym (same_behind m self new e n)) ∙ sym (t (drop self.next (content m self.name))) ∙ h
 
-pub line_fails : (o : Option Files) (first self new : OpenFile) (line after : List ℕ) (f : ExpandFault) → IfSome o (λ m. line ++ rest_of m self ≡ rest_of m first) → ((b : List ℕ) → TakesPiece line (drop self.at self.buffer.items) b (Err f) after (drop new.at new.buffer.items)) → IfSome o (λ m. ReadsLine (lines_of (rest_of m first)) (Err f) (lines_of (rest_of m new)))
-line_fails None first self new line after f h t = tt
-line_fails (Some m) first self new line after f h t =
-    let P : List ℕ → Type 0 = λ l. ReadsLine (lines_of l) (Err f) (lines_of (rest_of m new)) in
-    subst P h (t (drop self.next (content m self.name)))
-
 pub with_more : (o : Option Files) (first mid new : OpenFile) (after : List ℕ) → IfSome o (λ m. after ++ rest_of m mid ≡ rest_of m first) → IfSome o (λ m. rest_of m new ≡ rest_of m mid) → IfSome o (λ m. after ++ rest_of m new ≡ rest_of m first)
 with_more None first mid new after h k = tt
 with_more (Some m) first mid new after h k = ap (λ l. after ++ l) k ∙ h

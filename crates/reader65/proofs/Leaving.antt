@@ -16,9 +16,6 @@ use Rattle.reader65.proofs.Marks.{AreLines, lines_left, outside_push, own_split}
 pub dropped : (m : Files) (old new : List Input) (g top : Input) → old ≡ new ++ g ∷ [] → top ≡ g → own m top ++ outside m new ≡ outside m old
 dropped m old new g top e t = ap (λ x. own m x ++ outside m new) t ∙ sym (ap (outside m) e ∙ outside_push m new g)
 
-pub none_dropped : (m : Files) (old : List Input) → old ≡ [] → [] ≡ outside m old
-none_dropped m old e = sym (ap (outside m) e)
-
 -- ---- At the end of the innermost input.
 
 at_end : (m : Files) (r : Reader) → left_in m r.top.source ≡ [] → (left_of m r).items ≡ mark (mark_of r.top) ∷ outside m r.outer.items

@@ -24,24 +24,6 @@ lookup_mapped p f g (e ∷ es) = by (p (f e.0)) (lookup_mapped p f g es)
     by true h = refl
     by false h = h
 
--- a list from a place on begins with what stands there
-pub drop_at : {A : Type 0} → (xs : List A) (i : ℕ) (x : A) → slice_get xs i ≡ Some x → drop i xs ≡ x ∷ drop (i + 1) xs
-drop_at [] i x e = absurd (grind (arith, common_steps, gets))
-drop_at (y ∷ xs) zero x e = (let same : y ≡ x = cc in rw same refl)
-drop_at (y ∷ xs) (suc i) x e = let ih : drop i xs ≡ x ∷ drop (i + 1) xs = drop_at xs i x e in (let n : suc i + 1 ≡ suc (i + 1) = omega arith in rw n ih)
-
-pub drop_end : {A : Type 0} → (xs : List A) (i : ℕ) → slice_get xs i ≡ None → drop i xs ≡ []
-drop_end [] zero e = refl
-drop_end [] (suc i) e = refl
-drop_end (y ∷ xs) zero e = absurd (cc)
-drop_end (y ∷ xs) (suc i) e = drop_end xs i e
-
-pub drop_past : {A : Type 0} → (xs : List A) (i : ℕ) → length xs ≤ i → drop i xs ≡ []
-drop_past [] zero e = refl
-drop_past [] (suc i) e = refl
-drop_past (y ∷ xs) zero e = absurd (omega arith)
-drop_past (y ∷ xs) (suc i) e = drop_past xs i (omega arith)
-
 -- the front of a list is what stands last in the list the other way round
 pub reverse_take : {A : Type 0} (n : ℕ) (xs : List A) → reverse (take n xs) ≡ drop (length (reverse xs) - n) (reverse xs)
 reverse_take n xs =

@@ -19,11 +19,6 @@ use Rattle.reader65.specs.declared.line.Line.{Line}
 use Rattle.source65.specs.declared.place.Place.{Place}
 use Rattle.reader65.specs.declared.reader.Reader.{Reader}
 
-pub too_many : (before tail : List Item) (n : NextLine) (p : Place) → ComesNext before n → (n ≡ AtEnd → ⊥) → TakesFrom (before ++ tail) 0 p (Err (TooManyLines, moved_by n p))
-too_many before tail AtEnd p c h = absurd (h refl)
-too_many before tail (Numbered n) p (bytes, (others, e)) h = let P : List Item → Type 0 = λ l. TakesFrom (l ++ tail) 0 p (Err (TooManyLines, moved p n)) in subst P (sym e) refl
-too_many before tail Replayed p (r, (ts, (others, e))) h = let P : List Item → Type 0 = λ l. TakesFrom (l ++ tail) 0 p (Err (TooManyLines, p)) in subst P (sym e) refl
-
 pub one_taken : (before after tail : List Item) (n : NextLine) (r : ℕ) (p : Place) (line : Line) → ComesNext before n → (n ≡ AtEnd → ⊥) → TakesLine before (Ok line) after → TakesFrom (before ++ tail) (suc r) p (Ok (Some (tokens_in line), left (after ++ tail) r (moved_by n p)))
 one_taken before after tail AtEnd r p line c h t = absurd (h refl)
 one_taken before after tail (Numbered n) r p line (bytes, (others, e)) h (i, f, o) =

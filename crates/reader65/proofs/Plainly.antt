@@ -54,19 +54,6 @@ pub plain_gathered : (d : ℕ) (body : List (List Lexeme)) (ts : List Lexeme) �
 plain_gathered zero body ts p = plain_on ts (gathering zero body ts) (zero, body ++ ts ∷ []) p refl
 plain_gathered (suc d) body ts p = plain_on ts (gathering (suc d) body ts) (suc d, body ++ ts ∷ []) p refl
 
--- by a line's first two tokens
-pub plain_front : (ts : List Lexeme) (a b : Option Lexeme) → a ≡ slice_get ts 0 → b ≡ slice_get ts 1 → is_colon_there a ≡ false → is_colon_there b ≡ false → directive_of_first a ≡ None → IsPlain ts
-plain_front [] a b e f h k d = (refl, refl)
-plain_front (t ∷ []) a b e f h k d =
-    let first : is_colon t ≡ false = ap is_colon_there (sym e) ∙ h in
-    let no_directive : directive_in t ≡ None = ap directive_of_first (sym e) ∙ d in
-    (rw first (no_name (is_label_name t)), no_directive)
-plain_front (t ∷ u ∷ ts) a b e f h k d =
-    let first : is_colon t ≡ false = ap is_colon_there (sym e) ∙ h in
-    let second : is_colon u ≡ false = ap is_colon_there (sym f) ∙ k in
-    let no_directive : directive_in t ≡ None = ap directive_of_first (sym e) ∙ d in
-    (rw (first, second) (no_name (is_label_name t)), no_directive)
-
 -- ---- Lines that begin with a label.
 
 never : (b : Bool) → (b && false) ≡ false

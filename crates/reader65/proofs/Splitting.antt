@@ -119,13 +119,6 @@ pub ended_line : (bs : List ℕ) → prefix_len is_inside bs < length bs → lin
 unfolding front rest
 ended_line bs h = ended bs h
 
-pub whole_line : (bs : List ℕ) (n : ℕ) → (bs ≡ [] → ⊥) → n ≡ prefix_len is_inside bs → n ≡ length bs → lines_of bs ≡ take n bs ∷ lines_of (drop n bs)
-whole_line [] n some e f = absurd (some refl)
-whole_line (b ∷ bs) n some e f =
-    let all : take n (b ∷ bs) ≡ b ∷ bs = take_all n (b ∷ bs) (omega arith) in
-    let none : drop n (b ∷ bs) ≡ [] = drop_all n (b ∷ bs) (omega arith) in
-    last_line b bs (sym e ∙ f) ∙ rw (all, none) refl
-
 pub ended_there : (bs : List ℕ) (n : ℕ) → n ≡ prefix_len is_inside bs → n < length bs → lines_of bs ≡ without_return (take n bs) ∷ lines_of (drop (n + 1) bs)
 ended_there bs n e lt = let P : ℕ → Type 0 = λ k. lines_of bs ≡ without_return (take k bs) ∷ lines_of (drop (k + 1) bs) in subst P (sym e) (rw add-one (ended_line bs (omega arith)))
 
@@ -225,12 +218,6 @@ piece_too_long line here behind n h e le long =
     append_assoc line (take n here) (drop n here ++ behind) ∙ ap (λ l. line ++ l) (sym (append_assoc (take n here) (drop n here) behind) ∙ ap (λ l. l ++ behind) (take-append-drop n here)) in
     let Q : List ℕ → Type 0 = λ l. BeginsLong (lines_of l) in
     subst Q whole (part_is_long (line ++ take n here) (drop n here ++ behind) (part_append line (take n here) h piece) more)
-
--- it is all that is at hand
-pub piece_is_all : (line here behind : List ℕ) (n : ℕ) → drop n here ≡ [] → line ++ (here ++ behind) ≡ (line ++ take n here) ++ ([] ++ behind)
-piece_is_all line here behind n e =
-    let all : here ≡ take n here = sym (take-append-drop n here) ∙ ap (λ l. take n here ++ l) e ∙ append-nil (take n here) in
-    ap (λ l. line ++ (l ++ behind)) all ∙ sym (append_assoc line (take n here) behind)
 
 -- what stands behind the bytes before a line's end
 stops : (bs : List ℕ) (b : ℕ) (cs : List ℕ) → drop (prefix_len is_inside bs) bs ≡ b ∷ cs → is_line_end b ≡ true

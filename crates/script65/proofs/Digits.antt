@@ -37,16 +37,6 @@ grows : (radix v : ℕ) (ds : List ℕ) → 0 < radix → v ≤ digits_value_aft
 grows radix v [] h = omega arith
 grows radix v (d ∷ ds) h = omega (arith, grows radix (v * radix + digit_value d) ds h, le-mul_of_pos_right v h)
 
-pub all_digits : (radix : ℕ) (text : List ℕ) → 0 < length text → digits_from radix 0 text ≡ digits radix text
-all_digits radix [] h = absurd (omega arith)
-all_digits radix (b ∷ bs) h = refl
-
-pub one_digit : (radix v d : ℕ) (ds : List ℕ) → digit_value d < radix → digits_from radix v (d ∷ ds) ≡ digits_from radix (v * radix + digit_value d) ds
-one_digit radix v d ds h = let e : nat_lt (digit_value d) radix ≡ true = test_true _ _ h in rw e refl
-
-pub no_digit : (radix v d : ℕ) (ds : List ℕ) → radix ≤ digit_value d → digits_from radix v (d ∷ ds) ≡ None
-no_digit radix v d ds h = let e : nat_lt (digit_value d) radix ≡ false = test_false _ _ h in rw e refl
-
 pub too_large : (radix v d : ℕ) (ds : List ℕ) → 0 < radix → 2 ^ 32 ≤ v * radix + digit_value d → digits_from radix v (d ∷ ds) ≡ None
 too_large radix v d ds pos h =
     let e : nat_lt (digits_value_after radix (v * radix + digit_value d) ds) (2 ^ 32) ≡ false = test_false _ _ (omega (arith, grows radix (v * radix + digit_value d) ds pos)) in

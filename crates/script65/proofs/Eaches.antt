@@ -64,14 +64,6 @@ map_end f done xs inv at = sym (ap (λ l. done ++ map f l) (drop_end xs (length 
 abbrev pub behind : {E B : Type 0} → List B → Result (List B) E → Result (List B) E
 behind done rest = rest >>= (λ ys. Ok (done ++ ys))
 
-behind_none : {E B : Type 0} (rest : Result (List B) E) → behind [] rest ≡ rest
-behind_none (Ok ys) = refl
-behind_none (Err e) = refl
-
-pub each_begin : {E A B : Type 0} (f : A → Result B E) (xs : List A) → behind [] (each f (drop 0 xs)) ≡ each f xs
-each_begin f [] = refl
-each_begin f (x ∷ xs) = behind_none (each f (x ∷ xs))
-
 behind_one : {E B : Type 0} (done : List B) (y : B) (rest : Result (List B) E) → behind done (rest >>= (λ ys. Ok (y ∷ ys))) ≡ behind (done ++ y ∷ []) rest
 behind_one done y (Ok ys) = ap Ok (sym (regroup done y ys))
 behind_one done y (Err e) = refl
@@ -131,9 +123,6 @@ unless_map P Q false g h = g h
 pub unless_of : {P : Type 0} (b : Bool) → P → Unless b P
 unless_of true h = tt
 unless_of false h = h
-
-pub finds_map : {E X Y A B : Type 0} (outside : E → Bool) (view : X → A) (view' : Y → B) (P : Result A E → Type 0) (Q : Result B E → Type 0) (e : E) → (P (Err e) → Q (Err e)) → Finds outside view P (Err e) → Finds outside view' Q (Err e)
-finds_map outside view view' P Q e g h = unless_map (P (Err e)) (Q (Err e)) (outside e) g h
 
 pub finds_of : {E X A : Type 0} (outside : E → Bool) (view : X → A) (P : Result A E → Type 0) (e : E) → P (Err e) → Finds outside view P (Err e)
 finds_of outside view P e h = unless_of (outside e) h

@@ -144,12 +144,6 @@ itself xs ys e = (bytes_eq-Decides xs ys).1 e
 pub behind_front : (name rest : List ℕ) → bytes_eq (take 2 name) (codes "__") ≡ true → rest ≡ drop 2 name → name ≡ codes "__" ++ rest
 behind_front name rest e d = sym (take-append-drop 2 name) ∙ ap (λ l. l ++ drop 2 name) (same_bytes _ _ e) ∙ ap (λ l. codes "__" ++ l) (sym d)
 
-pub no_front : (name rest : List ℕ) → bytes_eq (take 2 name) (codes "__") ≡ false → name ≢ codes "__" ++ rest
-no_front name rest e is =
-    let front : take 2 name ≡ codes "__" = ap (take 2) is in
-    let never : true ≡ false = sym (itself _ _ front) ∙ e in
-    cc
-
 -- what stands before an ending
 pub before_ending : (rest x end : List ℕ) → bytes_eq (drop (length rest - length end) rest) end ≡ true → x ≡ take (length rest - length end) rest → rest ≡ x ++ end
 before_ending rest x end e t =

@@ -80,9 +80,6 @@ always (x ∷ xs) = (tt, always xs)
 abbrev Names : ℕ → ℕ → Option Operand → Type 0
 Names areas rows found = (o : Operand) → found ≡ Some o → IsThere areas rows o
 
-none_names : (areas rows : ℕ) → Names areas rows None
-none_names areas rows o h = absurd cc
-
 either_names : (areas rows : ℕ) (p q : Option Operand) → Names areas rows p → Names areas rows q → Names areas rows (option_or p q)
 either_names areas rows (Some x) q f g o h = f o h
 either_names areas rows None q f g o h = g o h

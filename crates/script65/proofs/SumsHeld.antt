@@ -66,11 +66,6 @@ front s rest = rest >>= λ y. Ok (s ∷ y.0, y.1)
 same_pair : (x y : Reached) → ◌≡◌ {A = Result Reached PlaceFault} (Ok x) (Ok y) → x ≡ y
 same_pair x y h = cc
 
-pub settled_all : (j : ℕ) (rs : List Row) (ss : List Spot) → Settled j rs ss ss
-settled_all j [] ss = tt
-settled_all j (r ∷ rs) [] = tt
-settled_all j (r ∷ rs) (s ∷ ss) = (stays_same j r s, settled_all j rs ss)
-
 -- the rows of an area are placed: those that stand before another that isn't behind it stay
 pub rows_settled : (j k : ℕ) (a : Area) (b : Bounds) (rs : List Row) (ss ts : List Spot) (cursor last : ℕ) → j ≤ k → rows_from k a b rs ss cursor ≡ Ok (ts, last) → Settled j rs ss ts
 rows_settled j k a b [] ss ts cursor last le h = tt

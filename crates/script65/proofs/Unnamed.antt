@@ -112,9 +112,6 @@ many_keep closes Item Keeps step _ _ _ (ends s at e) keeps x h = let same : s �
 many_keep closes Item Keeps step _ _ _ (more s t at next r e g d) keeps x h = many_keep closes Item Keeps step t next r d (step s t at next keeps g) x h
 many_keep closes Item Keeps step _ _ _ (stops s at f e g) keeps x h = absurd cc
 
-abbrev Both : {A : Type 0} → (A → Type 0) → List A → Type 0
-Both P xs = AllByRecursion P xs
-
 put_behind : {A : Type 0} (P : A → Type 0) (xs : List A) (x : A) → AllByRecursion P xs → P x → AllByRecursion P (xs ++ x ∷ [])
 put_behind P [] x h p = (p, tt)
 put_behind P (y ∷ ys) x h p = (h.0, put_behind P ys x h.1 p)

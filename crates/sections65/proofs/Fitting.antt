@@ -23,21 +23,6 @@ set_keeps P (x ∷ xs) (suc at) d e is step h = (h.0, set_keeps P xs at d e is s
 pub all_fits : (d : Draft) → DraftFits d → AllByRecursion FragmentFits (all_of_draft d)
 all_fits d h = all_more FragmentFits d.done (optional_fragment d.last) h.done h.last
 
-pub begun_fits : (d : Draft) (f : Fragment) → DraftFits d → FragmentFits f → DraftFits (begun d f)
-begun_fits d f h g = record { done = all_fits d h; last = (g, tt) }
-
-grown_fits : (d : Draft) (bytes : List ℕ) → DraftFits d → (o : Option Fragment) → DraftFits (grown d o (Literal bytes))
-grown_fits d bytes h (Some (Literal a)) = record { done = h.done; last = (tt, tt) }
-grown_fits d bytes h _ = begun_fits d (Literal bytes) h tt
-
--- more bytes always fit
-pub bytes_fit : (d : Draft) (bytes : List ℕ) → DraftFits d → DraftFits (with_fragment d (Literal bytes))
-bytes_fit d bytes h = by (is_empty (Literal bytes))
-  where
-    by : (b : Bool) → DraftFits (cond b d (grown d d.last (Literal bytes)))
-    by true = h
-    by false = grown_fits d bytes h d.last
-
 pub new_fit : (keys : List ℕ) → AllByRecursion DraftFits (map new_draft keys)
 new_fit [] = tt
 new_fit (k ∷ keys) = (record { done = tt; last = tt }, new_fit keys)

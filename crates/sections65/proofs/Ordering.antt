@@ -19,17 +19,6 @@ use Rattle.sections65.proofs.Renumbering.{HasAll, first_has, has, left, number_a
 
 -- ---- The file that was named last.
 
--- it is named again, which adds nothing
-pub named_again : (keys : List ℕ) (k : ℕ) → has keys k ≡ true → keys ≡ once keys (k ∷ [])
-named_again keys k h = sym (ap (λ b. if b then keys else keys ++ k ∷ []) h)
-
-pub has_named : (keys : List ℕ) (k : ℕ) → has (once keys (k ∷ [])) k ≡ true
-has_named keys k = by (has keys k) refl
-  where
-    by : (b : Bool) → has keys k ≡ b → has (if b then keys else keys ++ k ∷ []) k ≡ true
-    by true e = e
-    by false e = list_any-append (nat_eq k) keys (k ∷ []) ∙ (let same : nat_eq k k ≡ true = grind (arith, nat_tests) in λ n. e n || (same n || false))
-
 -- ---- Files that stand in the order of the table.
 
 abbrev pub IsInPlace : List ℕ → Type 0

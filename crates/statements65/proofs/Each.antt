@@ -27,13 +27,6 @@ count_left (Some ts) = suc (length ts.now)
 abbrev pub GoesOn : {B : Type 0} → (List Lexeme → Result B AsmFault → Type 0) → List (List Lexeme) → List B → List (List Lexeme) → Type 0
 GoesOn Is all found left = (r : Result (List _) AsmFault) → EachIs Is left r → EachIs Is all (before found r)
 
-before_nothing : {B : Type 0} (r : Result (List B) AsmFault) → before [] r ≡ r
-before_nothing (Ok x) = refl
-before_nothing (Err e) = refl
-
-pub at_start : {B : Type 0} (Is : List Lexeme → Result B AsmFault → Type 0) (all : List (List Lexeme)) → GoesOn Is all [] all
-at_start Is all r h = rw (before_nothing r) h
-
 further : {B : Type 0} (found : List B) (y : B) (r : Result (List B) AsmFault) → before (found ++ y ∷ []) r ≡ before found (r >>= (λ ys. Ok (y ∷ ys)))
 further found y (Ok ys) = ap Ok (append_assoc found (y ∷ []) ys)
 further found y (Err e) = refl

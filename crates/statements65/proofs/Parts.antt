@@ -91,9 +91,6 @@ then_fault Is next view (Err f) e h i = rw h (go (is_outside e) i)
 
 -- ---- The first part.
 
-is_inside : Token → Bool
-is_inside t = not (is_comma (lexeme_of t))
-
 len : List Token → ℕ
 len ts = prefix_len (λ t. not (is_comma (lexeme_of t))) ts
 

@@ -270,28 +270,3 @@ statement_sound ((token.Directive, d) ∷ ts) x named h = asked_sound (p.directi
 statement_sound ((_, t) ∷ ts) x named h = cc
 
 -- ---- Lines.
-
--- what stands behind a label, or all
-labelled : (ts rest : List Lexeme) (label : Option Statement) → AreNamed ts → AreNamed rest → AreNamed (p.or_all ts (p.with_rest rest label)).1
-labelled ts rest None named behind = named
-labelled ts rest (Some x) named behind = behind
-
-colon_behind : (t c : Lexeme) (ts : List Lexeme) (colon : Bool) → p.is_colon c ≡ colon → AreNamed (t ∷ c ∷ ts) → AreNamed (p.or_all (t ∷ c ∷ ts) (if colon then p.with_rest ts (p.named_label t.0 t.1) else None)).1
-colon_behind t c ts true is named = labelled (t ∷ c ∷ ts) ts (p.named_label t.0 t.1) named named.1.1
-colon_behind t c ts false is named = named
-
-before_colon : (t : Lexeme) (ts : List Lexeme) → AreNamed (t ∷ ts) → AreNamed (p.or_all (t ∷ ts) (p.label_before t ts)).1
-before_colon t [] named = named
-before_colon t (c ∷ ts) named = colon_behind t c ts (p.is_colon c) refl named
-
-colon_first : (t : Lexeme) (ts : List Lexeme) (colon : Bool) → p.is_colon t ≡ colon → AreNamed (t ∷ ts) → AreNamed (p.or_all (t ∷ ts) (if colon then Some (statement.UnnamedLabel, ts) else p.label_before t ts)).1
-colon_first t ts true is named = named.1
-colon_first t ts false is named = before_colon t ts named
-
-behind_label : (ts : List Lexeme) → AreNamed ts → AreNamed (p.label_of ts).1
-behind_label [] named = tt
-behind_label (t ∷ ts) named = colon_first t ts (p.is_colon t) refl named
-
--- the statement of a line is sound
-pub line_sound : (text : List ℕ) (ts : List Lexeme) (x : Statement) → IsRead text (Ok ts) → p.IsStatement (p.label_of ts).1 (Ok x) → IsSound x
-line_sound text ts x read h = statement_sound (p.label_of ts).1 x (behind_label ts (tokens_named text ts read)) h

@@ -44,13 +44,6 @@ found_bare (Some Waiting) = refl
 found_bare (Some (Hangs k)) = refl
 found_bare (Some (Found f)) = refl
 
-looked_bare : (o : Option State) → may_be_looked_for (option_map bare o) ≡ may_be_looked_for o
-looked_bare None = refl
-looked_bare (Some Unknown) = refl
-looked_bare (Some Waiting) = refl
-looked_bare (Some (Hangs k)) = refl
-looked_bare (Some (Found f)) = refl
-
 waiting_back : (o : Option State) → option_map bare o ≡ Some Waiting → o ≡ Some Waiting
 waiting_back None e = absurd cc
 waiting_back (Some Unknown) e = absurd cc

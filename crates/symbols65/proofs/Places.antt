@@ -14,10 +14,6 @@ same_test false false f g = refl
 same_test true false f g = sym (f refl)
 same_test false true f g = g refl
 
-pub not_so : (b : Bool) → (b ≡ true → ⊥) → b ≡ false
-not_so true f = absurd (f refl)
-not_so false f = refl
-
 pub swapped : (m n : ℕ) → (m == n) ≡ (n == m)
 swapped m n = same_test (m == n) (n == m) (λ e. grind (arith, nat_tests)) (λ e. grind (arith, nat_tests))
 

@@ -10,27 +10,6 @@ use Rattle.language65.specs.Symbols.{Scope}
 -- ---- Outward.
 
 module _ (cs : List Scope) (find : ℕ → Option ℕ) where
-  pub outward_found : (n s p : ℕ) → find s ≡ Some p → first_found find (outward_from cs n s) ≡ Some p
-  outward_found n zero p e = ap (λ o. or_else o None) e
-  outward_found zero (suc i) p e = ap (λ o. or_else o None) e
-  outward_found (suc n) (suc i) p e = ap (λ o. or_else o (first_found find (outward_from cs n (enclosing cs (suc i))))) e
-
-  pub outward_global : (n s : ℕ) → find s ≡ None → s ≡ 0 → first_found find (outward_from cs n s) ≡ None
-  outward_global n zero e t = ap (λ o. or_else o None) e
-  outward_global n (suc i) e t = absurd (omega (arith, t))
-
-  pub outward_ends : (n s : ℕ) → find s ≡ None → n ≡ 0 → first_found find (outward_from cs n s) ≡ None
-  outward_ends n zero e t = ap (λ o. or_else o None) e
-  outward_ends zero (suc i) e t = ap (λ o. or_else o None) e
-  outward_ends (suc n) (suc i) e t = absurd (omega (arith, t))
-
-  pub outward_on : (n s : ℕ) → find s ≡ None → (s ≡ 0 → ⊥) → (n ≡ 0 → ⊥) → first_found find (outward_from cs n s) ≡ first_found find (outward_from cs (n - 1) (enclosing cs s))
-  outward_on n zero e t u = absurd (t refl)
-  outward_on zero (suc i) e t u = absurd (u refl)
-  outward_on (suc n) (suc i) e t u =
-      ap (λ o. or_else o (first_found find (outward_from cs n (enclosing cs (suc i))))) e
-      ∙ ap (λ m. first_found find (outward_from cs m (enclosing cs (suc i)))) (let less : n ≡ suc n - 1 = omega arith in less)
-
 -- ---- What stands before a place.
 
 from_above : {A : Type 0} (p : A → Bool) (k : ℕ) (xs : List A) (j : ℕ) → position_from p k xs ≡ Some j → k ≤ j

@@ -36,10 +36,6 @@ no_blank (x ∷ xs) h b = let blank : is_blank x ≡ true = ap is_blank_class b 
 pub no_blank_behind : (line : List ℕ) → Begins Blank (after_blanks line) → ⊥
 no_blank_behind line = no_blank (after_blanks line) (behind is_blank line)
 
--- one more token
-pub more : (line rest : List ℕ) (first : Bool) (ts : List Lexeme) (t : Lexeme) → ((us : List Lexeme) (end : Option LexFault) → Reads first rest us end → Reads true line (ts ++ us) end) → t.1 ≡ take (length t.1) (after_blanks rest) → IsToken first t.0 (length t.1) (after_blanks rest) → (us : List Lexeme) (end : Option LexFault) → Reads false (drop (length t.1) (after_blanks rest)) us end → Reads true line ((ts ++ t ∷ []) ++ us) end
-more line rest first ts t inv front token us end h = rw append_assoc (inv (t ∷ us) end (front, token, h))
-
 pub refuse : (first : Bool) (line here : List ℕ) (ts : List Lexeme) (fault : LexFault) → length line ≤ 4096 → FaultAt first here fault → Reads true line ts (Some fault) → Unless (is_lex_outside fault) (IsRead line (Err fault))
 refuse first line here ts OutOfMemory short h reads = tt
 refuse first line here ts BadCharacter short h reads = (short, (ts, reads))
@@ -47,11 +43,6 @@ refuse first line here ts BadNumber short h reads = (short, (ts, reads))
 refuse first line here ts StringNotClosed short h reads = (short, (ts, reads))
 refuse first line here ts LineTooLong short h reads = absurd h
 refuse first line here ts NameTooLong short h reads = (short, (ts, reads))
-
--- a token has a byte
-pub token_size : (first : Bool) (k : TokenKind) (n : ℕ) (here : List ℕ) → IsToken first k n here → 0 < n
-token_size first k zero here h = absurd (h.longest.stands.form)
-token_size first k (suc n) here h = omega arith
 
 -- a token that stands behind blanks is cut off
 pub cut_off : (rest here text left : List ℕ) (n : ℕ) → here ≡ after_blanks rest → text ≡ take n here → left ≡ drop n here → IsCutOff rest text left

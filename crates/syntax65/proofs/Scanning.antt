@@ -8,17 +8,10 @@ use Rattle.syntax65.specs.declared.lexing.fault.LexFault.{LexFault}
 use Rattle.syntax65.specs.declared.lexing.fault.LexFault.TheVariants.{OutOfMemory, BadCharacter, BadNumber, StringNotClosed, LineTooLong, NameTooLong}
 use Rattle.syntax65.specs.declared.lexing.front.LineFront.{LineFront}
 use Rattle.syntax65.specs.declared.lexing.tokens.Token.{Token}
-use Rattle.syntax65.proofs.Lines.{more}
 
 -- so many tokens were read, of which the first two are kept, and what is left of the line goes on behind them
 abbrev pub SoFar : List ℕ → LineFront → Bool → List ℕ → List Lexeme → Type 0
 SoFar line f first rest ts = IsFront ts f × ((us : List Lexeme) (end : Option LexFault) → Reads first rest us end → Reads true line (ts ++ us) end)
-
-pub nothing_yet : (line : List ℕ) → SoFar line (record { first = None; second = None }) true line []
-nothing_yet line = ((refl, refl), λ us end h. h)
-
-pub one_more : (line rest : List ℕ) (old new : LineFront) (first : Bool) (ts : List Lexeme) (t : Token) → SoFar line old first rest ts → (IsFront ts old → IsFront (ts ++ lexeme_of t ∷ []) new) → t.text.now ≡ take (length t.text.now) (after_blanks rest) → IsToken first t.kind (length t.text.now) (after_blanks rest) → SoFar line new false (drop (length t.text.now) (after_blanks rest)) (ts ++ lexeme_of t ∷ [])
-one_more line rest old new first ts t (f, h) g front token = (g f, more line rest first ts (lexeme_of t) h front token)
 
 pub read_all : (line rest : List ℕ) (f : LineFront) (first : Bool) (ts : List Lexeme) → length line ≤ 4096 → SoFar line f first rest ts → IsEnd (after_blanks rest) → (us : List Lexeme) × IsRead line (Ok us) × IsFront us f
 read_all line rest f first ts short (g, h) e =

@@ -169,35 +169,6 @@ module _ (Has : Valuing) (fill : ℕ) where
   all_joined_are [] bytes = (λ h. h, λ h. h)
   all_joined_are (f ∷ fs) bytes = all_in_one f fs bytes
 
--- values that are the same make the same bytes
-same_valued : (Has Other : Valuing) (fill : ℕ) → ((f : Form) (v : ℤ) → Has f v ↔ Other f v) → (p : Part) (bytes : List ℕ) → ArePart Has fill p bytes ↔ ArePart Other fill p bytes
-same_valued Has Other fill h (Known own) bytes = (λ k. k, λ k. k)
-same_valued Has Other fill h (Filled n) bytes = (λ k. k, λ k. k)
-same_valued Has Other fill h (Waiting width place f) bytes = (λ k. (k.0, (h f k.0).0 k.1, k.2), λ k. (k.0, (h f k.0).1 k.1, k.2))
-
-pub all_valued : (Has Other : Valuing) (fill : ℕ) → ((f : Form) (v : ℤ) → Has f v ↔ Other f v) → (ps : List Part) (bytes : List ℕ) → AreParts Has fill ps bytes ↔ AreParts Other fill ps bytes
-all_valued Has Other fill h [] bytes = (λ k. k, λ k. k)
-all_valued Has Other fill h (p ∷ ps) bytes = (
-  λ k. (k.0, k.1, (same_valued Has Other fill h p k.0).0 k.2, (all_valued Has Other fill h ps k.1).0 k.3, k.4),
-  λ k. (k.0, k.1, (same_valued Has Other fill h p k.0).1 k.2, (all_valued Has Other fill h ps k.1).1 k.3, k.4),
-)
-
-of_numbered : {E : Type 0} (none : E) (bases : ℕ → ℤ) (values : ℕ → ℕ → Result ℤ E) (ss is : List ℕ) (f : Form) (v : ℤ) → valued_by none (λ g. bases (number_of ss g)) (λ turns k. values turns (number_of is k)) f v ↔ valued_by none bases values (numbered ss is f) v
-of_numbered {E = E} none bases values ss is f v = (
-  λ h. (h.0, number_law E none bases (values h.0) ss is f ∙ h.1),
-  λ h. (h.0, sym (number_law E none bases (values h.0) ss is f) ∙ h.1),
-)
-
-pub fragments_law : (E : Type 0) → FragmentsLaw E
-fragments_law E none bases values fill origins ss is ps bytes =
-    let Has : Valuing = valued_by none bases values in
-    let Own : Valuing = valued_by none (λ g. bases (number_of ss g)) (λ turns k. values turns (number_of is k)) in
-    let same = all_valued Own (λ f v. Has (numbered ss is f) v) fill (λ f v. of_numbered none bases values ss is f v) ps bytes in
-    let parts = same_parts Has fill origins ss is ps bytes in
-    let kept = all_kept Has fill (map (fragment_of origins ss is) ps) bytes in
-    let joined = all_joined_are Has fill (fragments_of origins ss is ps) bytes in
-    (λ h. joined.0 (kept.0 (parts.0 (same.0 h))), λ h. same.1 (parts.1 (kept.1 (joined.1 h))))
-
 -- ---- A module's lines in a segment, and what its object's section puts there.
 
 module _ {E : Type 0} (o : Objects E) (l : Linkage) (owner fill : ℕ) (sections imports : List ℕ) where

@@ -91,9 +91,6 @@ pub record Adds (g h : Segment) (is_here : Bool) (count multiple : ℕ) : Type 0
   pub end : h.end ≡ g.end + cond is_here count 0
   pub align : h.align ≡ cond is_here (max g.align multiple) g.align
 
-at_least_one : (n : ℕ) → 1 ≤ n → max n 1 ≡ n
-at_least_one n h = omega (arith, h)
-
 pub adds : (y : Symbols) (w : Standing) (x : Statement) (g : ℕ) → w.current < length w.segments → 1 ≤ (segment_at w.segments g).align → Adds (segment_at w.segments g) (segment_at (segments_behind w.segments w.current (length_of y (spot_of w) (own_size w) x) (multiple_of y (spot_of w) x) x) g) (nat_eq w.current g) (length_of y (spot_of w) (own_size w) x) (multiple_of y (spot_of w) x)
 adds y w x g lt one = go x
   where

@@ -3,7 +3,7 @@ use Rattle.std.specs.Prelude.{IfSome}
 use Rattle.std.proofs.lemmas.Result.{err_from_is_err_and}
 use Rattle.expand65.specs.Standing.{given_in}
 use Rattle.asm65.specs.Failing.{StopsAll}
-use Rattle.asm65.proofs.Sources.{Goes, all_end, all_further, all_out, all_stop, all_stopped, all_wrong, goes_first, NextBy, some_all, stops_never, still_running}
+use Rattle.asm65.proofs.Sources.{Goes, all_end, all_further, all_out, all_stop, all_stopped, all_wrong, goes_first, NextBy, some_all, still_running}
 use Rattle.asm65.proofs.running.take_all.Goals as goal
 
 pub statements-init : goal.statements-init

@@ -1,4 +1,4 @@
-use Rattle.module65.proofs.Finals.{final_settles}
+use Rattle.module65.proofs.Resolving.{final_settles}
 use Rattle.module65.proofs.laws.final_settles.Goals as goal
 
 pub returns : goal.returns

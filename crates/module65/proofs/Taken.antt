@@ -1,17 +1,35 @@
--- The statements of a source one behind the other: how they begin, one step further, and each end.
-use Rattle.std.proofs.Common.{◌≡◌, List, [], ◌∷◌, refl, sym, subst}
-use Rattle.std.specs.Prelude.{Result, Ok, Err}
+-- What taking the statements of a source comes to, one after the other.
+use borrow.Author.Rules.{rules}
+use Rattle.std.proofs.lemmas.Grind.{common_steps}
+use Rattle.expand65.specs.State as expand
+use Rattle.source65.specs.Faults as expansion
+use Rattle.syntax65.specs.declared.lexing.tokens.TokenKind.TheVariants as token
+use Rattle.std.proofs.Common.{arith, ◌≡◌, List, [], ◌∷◌, refl, sym, subst, Some, None, Bool, true, false, ap, ℕ, Option}
+use Rattle.std.specs.Prelude.{Result, Ok, Err, length, if◌then◌else◌}
 use Rattle.base65.specs.Store.{Files}
 use Rattle.syntax65.specs.Trees.{number}
 use Rattle.source65.specs.declared.fault.ExpandFault.{ExpandFault}
 use Rattle.source65.specs.declared.place.Place.{Place}
 use Rattle.expand65.specs.Expansion.{Reaches, statement, nothing, fault, opened_in}
-use Rattle.expand65.specs.State as expand
 use Rattle.language65.specs.declared.fault.AsmFault.{AsmFault}
 use Rattle.language65.specs.declared.fault.AsmFault.TheVariants.{Expansion}
-use Rattle.language65.specs.declared.language.Statement.TheVariants.{Constant}
+use Rattle.language65.specs.declared.language.Statement.TheVariants.{Constant, Label, UnnamedLabel}
 use Rattle.module65.specs.Inner.Continuing.{DefinesOn, GoesOn}
 use Rattle.module65.specs.Reading.{AreDefined, taken, faulty, refused, ended, Between, Define, IsBegun, IsGiven, IsSource, Job, Reached, Taking, no_line, open_fault, stopped}
+use Rattle.base65.specs.Outcome.{Unless}
+use Rattle.expand65.specs.declared.expander.Expander.{Expander}
+use Rattle.source65.specs.declared.fault.ExpandFault.TheVariants.{OutOfMemory, FileError}
+use Rattle.expand65.specs.Standing.{Opens, StandsFor, place_of}
+use Rattle.language65.specs.Faults.{is_outside}
+use Rattle.syntax65.specs.Tokens.{Lexeme, lexemes}
+use Rattle.syntax65.specs.Words.{is_reserved}
+use Rattle.syntax65.specs.declared.lexing.tokens.Token.{Token}
+use Rattle.syntax65.specs.declared.lexing.tokens.TokenKind.{TokenKind}
+use Rattle.language65.specs.declared.language.Statement.{Statement}
+use Rattle.statements65.specs.Parsing.{is_colon, label_before, label_of, named_label, or_all, with_rest}
+use Rattle.module65.specs.Module.{out_of, warning_of}
+
+-- ---- The statements of a source one behind the other: how they begin, one step further, and each end.
 
 -- ---- Statements.
 
@@ -42,9 +60,6 @@ next_constant Takes place IsAll d ds y z inv takes = λ r h. inv r (Ok z, takes,
 pub faulty_constant : {S : Type 0} (Takes : Taking S) (place : Place) (IsAll : Result S AsmFault → Type 0) (d : Define) (ds : List Define) (y : S) (e : AsmFault) → DefinesOn Takes place IsAll (d ∷ ds) y → Takes y place (Constant d.0 (number d.1)) (Err e) → IsAll (Err e)
 faulty_constant Takes place IsAll d ds y e inv takes = inv (Err e) (Err e, takes, refl)
 
-pub last_constant : {S : Type 0} (Takes : Taking S) (place : Place) (IsAll : Result S AsmFault → Type 0) (y : S) → DefinesOn Takes place IsAll [] y → IsAll (Ok y)
-last_constant Takes place IsAll y inv = inv (Ok y) refl
-
 -- ---- A source.
 
 -- one that can't be opened
@@ -58,3 +73,62 @@ not_defined m b job s y e is defined = subst (λ q. IsBegun m b job y q (stopped
 -- one whose statements begin behind its constants
 pub begins : {S : Type 0} (m : Files) (b : Between S) (job : Job) (s : expand.State) (y z : S) → opened_in m job.source job.include ≡ Ok s → AreDefined b.takes y (no_line job.source) job.defines (Ok z) → GoesOn m b (IsSource m b job y) s z
 begins m b job s y z is defined = λ r h. subst (λ q. IsBegun m b job y q r) (sym is) (Ok z, defined, h)
+
+-- ---- The statements of a source as an expander gives them: how they begin, one further, and each end.
+
+-- a fault of expansion comes from outside where it does in assembling
+pub same_outside : (e : ExpandFault) → expansion.is_outside e ≡ is_outside (Expansion e)
+same_outside x1 = grind (arith, common_steps)
+
+unless_same : {P Q : Type 0} (a b : Bool) → a ≡ b → (P → Q) → Unless a P → Unless b Q
+unless_same a true same f h = tt
+unless_same true false same f h = absurd cc
+unless_same false false same f h = f h
+
+pub same_place : (m : Files) (e : Expander) (t : expand.State) → StandsFor m e t → t.left.place ≡ place_of e
+same_place m e t stands = ap (λ (s : expand.State). s.left.place) (sym stands.1)
+
+-- ---- A source.
+
+-- one that can't be opened
+pub open_refused : {S : Type 0} (m : Files) (b : Between S) (job : Job) (y : S) (e : ExpandFault) → Opens m (Err e) (opened_in m job.source job.include) → Unless (is_outside (Expansion e)) (IsSource m b job y (stopped y (no_line job.source) (Expansion e)))
+open_refused m b job y e opens = unless_same (expansion.is_outside e) (is_outside (Expansion e)) (same_outside e) (not_opened m b job y e) opens
+
+-- one with a fault in a constant
+pub constants_refused : {S : Type 0} (m : Files) (b : Between S) (job : Job) (opened : Expander) (y : S) (e : AsmFault) → Opens m (Ok opened) (opened_in m job.source job.include) → AreDefined b.takes y (no_line job.source) job.defines (Err e) → IsSource m b job y (stopped y (no_line job.source) e)
+constants_refused m b job opened y e opens defined = not_defined m b job opens.0 y e opens.1 defined
+
+-- ---- Statements.
+
+-- ---- What taking a statement that expansion gives answers.
+
+-- ---- A label prints nothing.
+
+abbrev IsQuiet : Option Statement → Type 0
+IsQuiet o = (place : Place) (x : Statement) → o ≡ Some x → (out_of x ≡ []) × (warning_of place x ≡ [])
+
+none_quiet : IsQuiet None
+none_quiet place x e = absurd cc
+
+one_quiet : (y : Statement) → out_of y ≡ [] → ((place : Place) → warning_of place y ≡ []) → IsQuiet (Some y)
+one_quiet y out err place x e = let same : y ≡ x = cc in (subst (λ z. out_of z ≡ []) same out, subst (λ z. warning_of place z ≡ []) same (err place))
+
+named_quiet : (k : TokenKind) (n : List ℕ) → IsQuiet (named_label k n)
+named_quiet x1 n = grind (arith, common_steps)
+
+rest_quiet : (all ts : List Lexeme) (o : Option Statement) → IsQuiet o → IsQuiet (or_all all (with_rest ts o)).0
+rest_quiet all ts None h = none_quiet
+rest_quiet all ts (Some x) h = h
+
+before_quiet : (all : List Lexeme) (t : Lexeme) (ts : List Lexeme) → IsQuiet (or_all all (label_before t ts)).0
+before_quiet all t x1 = grind (arith, common_steps)
+
+pub label_quiet : (ts : List Lexeme) → IsQuiet (label_of ts).0
+label_quiet x1 = grind (arith, common_steps)
+
+-- ---- What stands behind it.
+
+pub some_tokens : (tokens : List Token) → (length tokens ≡ 0 → ⊥) → lexemes tokens ≡ [] → ⊥
+some_tokens x1 some e = grind (arith, common_steps)
+
+-- ---- A label.

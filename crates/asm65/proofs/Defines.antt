@@ -9,7 +9,7 @@ use Rattle.language65.specs.declared.language.Statement.TheVariants.{Constant}
 use Rattle.module65.specs.Inner.Continuing.{DefinesOn}
 use Rattle.module65.specs.Machine.{State, Takes, begun}
 use Rattle.module65.specs.Reading.{Answers, AreDefined, Define}
-use Rattle.module65.proofs.TakenAll.{faulty_constant, first_constant, next_constant}
+use Rattle.module65.proofs.Taken.{faulty_constant, first_constant, next_constant}
 use Rattle.asm65.specs.declared.assembler.Assembler.{Assembler}
 use Rattle.asm65.specs.declared.assembly.Define as code
 use Rattle.asm65.specs.Assembly.{define_of}

@@ -16,7 +16,7 @@ use Rattle.language65.specs.Extending.{IsFinal}
 use Rattle.language65.specs.declared.laid.Spot.{Spot}
 use Rattle.module65.specs.Machine.{IsSettled, PutsAll, State, at_once, entered}
 use Rattle.module65.specs.Pieces.{Piece, Purpose, as_part, asserted, datum, given, operand, quietly, used, valued}
-use Rattle.module65.proofs.Finals.{final_settles, settled_given}
+use Rattle.module65.proofs.Resolving.{final_settles, settled_given}
 use Rattle.sections65.specs.declared.sections.Sections.{Sections}
 use Rattle.sections65.specs.Standing.{Feeds, contents_in, names_in}
 use Rattle.sections65.proofs.Alikes.{alike_nothing, alike_trans, empty_alike}

@@ -26,7 +26,7 @@ use Rattle.module65.specs.Machine.{Runs, State, Takes, begun, concluded, finishe
 use Rattle.module65.specs.Module.{IsOutcome, Outcome, contents_from}
 use Rattle.module65.specs.Places.{PlacedFault}
 use Rattle.module65.specs.Reading.{AreDefined, Job, no_line, stopped}
-use Rattle.module65.proofs.Continued.{constants_refused, open_refused}
+use Rattle.module65.proofs.Taken.{constants_refused, open_refused}
 use Rattle.module65.proofs.Entries.{object_alike}
 use Rattle.module65.proofs.Passes.{Follows, begun_follows, one_pass, stands_for, takes_follows}
 use Rattle.module65.proofs.SoundContents.{sound_contents}

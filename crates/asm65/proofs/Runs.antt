@@ -29,7 +29,7 @@ use Rattle.module65.specs.Module.{out_of, warning_of}
 use Rattle.module65.specs.Pieces.{Piece, pieces_of}
 use Rattle.module65.specs.Reading.{Answers, IsGiven, IsLabel, IsLabelled, IsRest, with_bytes}
 use Rattle.language65.specs.Contents.{asking}
-use Rattle.module65.proofs.Given.{label_quiet}
+use Rattle.module65.proofs.Taken.{label_quiet}
 use Rattle.module65.proofs.SoundSources.{label_sound}
 use Rattle.asm65.specs.declared.assembler.Assembler.{Assembler}
 use Rattle.asm65.specs.declared.texts.Texts.{Texts}

@@ -22,12 +22,11 @@ use Rattle.module65.specs.Inner.Continuing.{GoesOn}
 use Rattle.module65.specs.Knowing.{known_at}
 use Rattle.module65.specs.Machine.{Runs, State, Takes, begun, running}
 use Rattle.module65.specs.Reading.{AreDefined, IsGiven, IsSource, Job, no_line, open_fault, stopped}
-use Rattle.module65.proofs.Continued.{same_outside, same_place}
+use Rattle.module65.proofs.Taken.{same_outside, same_place, begins, ends, goes_on, is_refused, stops}
 use Rattle.module65.proofs.NamedSteps as named
 use Rattle.module65.proofs.NamedSteps.{IsStateFit, next_fit}
-use Rattle.module65.proofs.NamedTokens.{AreFit, are_named}
+use Rattle.module65.proofs.NamedLines.{AreFit, are_named}
 use Rattle.module65.proofs.SoundSources.{opened_fit}
-use Rattle.module65.proofs.TakenAll.{begins, ends, goes_on, is_refused, stops}
 use Rattle.asm65.specs.declared.assembler.Assembler.{Assembler}
 use Rattle.asm65.specs.declared.running.Run.{Run}
 use Rattle.layout65.specs.Counting.{opening_limit}

@@ -83,13 +83,6 @@ only_said place g asks said x1 = grind (arith, common_steps)
 
 -- ---- Parts.
 
-part_made : (place : Place) (g : ℕ) (r : Result Part AsmFault) → placed place (λ m. entries_of m.content) (r >>= as_part g) ≡ told place [] (λ p. part g p ∷ []) r
-part_made place g x1 = grind (arith, common_steps)
-
--- a value that is found in two steps may be used in the second
-part_told : {A : Type 0} (place : Place) (g : ℕ) (r : Result A AsmFault) (f : A → Result Part AsmFault) → placed place (λ m. entries_of m.content) (r >>= (λ x. f x >>= as_part g)) ≡ told place [] (λ p. part g p ∷ []) (r >>= f)
-part_told place g x1 f = grind (arith, common_steps)
-
 item_made : (y : Symbols) (l : Laid) (width : Width) (it : Item) → piece_made y l.place l.spot (item_piece width it) ≡ told l.place [] (λ p. part l.spot.segment p ∷ []) (item_part y l width it)
 item_made y l width x1 = grind (arith, common_steps)
 
@@ -99,9 +92,6 @@ cons_told place g x1 x2 = grind (arith, common_steps)
 items_made : (y : Symbols) (l : Laid) (width : Width) (its : List Item) → pieces_made y l.place l.spot (map (item_piece width) its) ≡ told l.place [] (parts_entries l.spot.segment) (each (item_part y l width) its)
 items_made y l width [] = refl
 items_made y l width (it ∷ its) = grind (arith, common_steps, (items_made y l width its), after, item_made, part, cons_told)
-
-operand_made : (y : Symbols) (l : Laid) (width : Width) (e : Tree) → piece_made y l.place l.spot (valued (operand width) e) ≡ told l.place [] (λ p. part l.spot.segment p ∷ []) (operand_part y l width e)
-operand_made y l width e = part_told l.place l.spot.segment (norm_of y l.spot e) (λ f. operand_form width l.spot f >>= stored width l.place)
 
 operands_made : (y : Symbols) (l : Laid) (w : Option Width) (t : Option Tree) → pieces_made y l.place l.spot (operand_pieces w t) ≡ told l.place [] (parts_entries l.spot.segment) (operand_parts y l w t)
 operands_made y l x1 x2 = grind (arith, common_steps)

@@ -265,9 +265,6 @@ abbrev pub placed : {A : Type 0} → Place → (Made → List A) → Result Made
 placed place f (Ok m) = record { found = Ok (f m); warned = m.warning }
 placed place f (Err e) = record { found = Err (record { place = place; fault = e }); warned = [] }
 
-abbrev pub one_resolved : Symbols → Waiting → Finished Content
-one_resolved y w = placed w.place (λ m. m.content ∷ []) (made_of y w.place w.spot w.piece)
-
 before_after : (place : Place) (r : Result Made AsmFault) (b : Finished Content) → before_it place r b ≡ after (placed place (λ m. m.content ∷ []) r) b
 before_after place x1 b = grind (arith, common_steps)
 

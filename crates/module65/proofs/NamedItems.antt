@@ -158,9 +158,6 @@ taken_from (branch us ∷ is) (suc r) p ts m h t = one_taken (branch us) is r p 
 pub taken_fit : (l : Left) (ts : List Lexeme) (m : Left) → AreItemsFit l.items → Takes l (Ok (Some ts, m)) → IsTakenFit (lines_in l) ts m
 taken_fit l ts m h t = taken_from l.items l.room l.place ts m h t
 
-as_none : (q : Result (List Lexeme) ExpandFault) (l m : Left) → ◌≡◌ {A = Taken} (Ok (None, m)) (taken_as q l) → ⊥
-as_none x1 l m e = grind (arith, common_steps)
-
 none_from : (is : List Item) (r : ℕ) (p : Place) (m : Left) → TakesFrom is r p (Ok (None, m)) → m ≡ left is r p
 none_from x1 r p m t = grind (arith, common_steps)
 

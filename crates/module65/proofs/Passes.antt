@@ -35,9 +35,6 @@ use Rattle.module65.proofs.OneLayouts.{Matches, Simulates, StandIn, source_match
 come_held : (z : Symbols) (c : Content) → come z (holds c ∷ []) [] ≡ record { found = Ok (entries_of c); warned = [] }
 come_held z c = ap (λ (es : List Entry). record { found = Ok es; warned = [] }) (append-nil (entries_of c))
 
-abbrev ended : List Entry → List ℕ → Finished Entry
-ended es said = record { found = Ok es; warned = said }
-
 come_waiting : (z : Symbols) (w : Waiting) → come z (awaited ∷ []) (w ∷ []) ≡ piece_made z w.place w.spot w.piece
 come_waiting z w = grind (arith, common_steps)
 

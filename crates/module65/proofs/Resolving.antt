@@ -77,9 +77,6 @@ awaited_append (awaited ∷ olds) news = let more = awaited_append olds news in 
 
 -- ---- What waits.
 
-abbrev done_with : List Content → List ℕ → Finished Content
-done_with cs said = record { found = Ok cs; warned = said }
-
 -- one more that is resolved
 pub resolved_more : (y : Symbols) (done : List Waiting) (w : Waiting) (cs : List Content) (said : List ℕ) (m : Made) → resolved y done ≡ record { found = Ok cs; warned = said } → made_of y w.place w.spot w.piece ≡ Ok m → resolved y (done ++ w ∷ []) ≡ record { found = Ok (cs ++ m.content ∷ []); warned = said ++ m.warning }
 resolved_more y done w cs said m before made = grind (arith, common_steps, resolved_append, after, append-nil)
@@ -92,15 +89,6 @@ resolved_stops y done rest w cs said e before made = grind (arith, common_steps,
 
 abbrev asks_none : Made → Type 0
 asks_none m = m.content.asks ≡ false
-
-as_part_asks : (g : ℕ) (r : Result Part AsmFault) → IfOk (r >>= as_part g) asks_none
-as_part_asks g x1 = grind (arith, common_steps)
-
-as_said_asks : (r : Result (List Said) AsmFault) → IfOk (r >>= as_said) asks_none
-as_said_asks x1 = grind (arith, common_steps)
-
-used_asks : (place : Place) (s : Spot) (why : Purpose) (f : Form) → IfOk (used place s why f) asks_none
-used_asks place s x1 f = grind (arith, common_steps)
 
 pub made_asks : (y : Symbols) (place : Place) (s : Spot) (p : Piece) → IfOk (made_of y place s p) asks_none
 made_asks y place s x1 = grind (arith, common_steps)

@@ -87,9 +87,6 @@ contents_with : (R : Laid → Content → Type 0) (y : Symbols) (P : Laid → Ty
 contents_with R y P h [] ps = tt
 contents_with R y P h (l ∷ ls) (p, ps) = grind (arith, common_steps, (contents_with R y P h ls ps), well_then, at_place_ok)
 
-any_one : {A : Type 0} (r : Result A AsmFault) → IfOk r (λ x. ⊤)
-any_one x1 = grind (arith, common_steps)
-
 stands : (y : Symbols) (l : Laid) → IfOk (content_of y l) (Stands l)
 stands y l = grind (arith, common_steps)
 

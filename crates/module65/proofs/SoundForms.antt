@@ -39,26 +39,8 @@ Holds q r (imp k) = r k ≡ true
 Holds q r (prefix op f) = Holds q r f
 Holds q r (binary op f g) = Holds q r f × Holds q r g
 
-limited_holds : (q r : ℕ → Bool) (f : Form) → Holds q r f → IfOk (limited f) (Holds q r)
-limited_holds q r f h = grind (arith, common_steps)
-
-prefix_holds : (q r : ℕ → Bool) (op : Op1) (f : Form) → Holds q r f → IfOk (fold_prefix op f) (Holds q r)
-prefix_holds q r op x1 h = grind (arith, common_steps)
-
 one_holds : (q r : ℕ → Bool) (op : Op1) (f : Form) → Holds q r f → IfOk (fold1 op f) (Holds q r)
 one_holds q r x1 f h = grind (arith, common_steps)
-
-literal_holds : (q r : ℕ → Bool) (o : Option ℤ) → IfOk (literal o) (Holds q r)
-literal_holds q r x1 = grind (arith, common_steps)
-
-any_holds : (q r : ℕ → Bool) (op : Op2) (f g : Form) → Holds q r f → Holds q r g → IfOk (fold_any op f g) (Holds q r)
-any_holds q r op x1 x2 h k = grind (arith, common_steps)
-
-sum_holds : (q r : ℕ → Bool) (f g : Form) → Holds q r f → Holds q r g → IfOk (fold_sum f g) (Holds q r)
-sum_holds q r x1 x2 h i = grind (arith, common_steps)
-
-difference_holds : (q r : ℕ → Bool) (f g : Form) → Holds q r f → Holds q r g → IfOk (fold_difference f g) (Holds q r)
-difference_holds q r x1 x2 h i = grind (arith, common_steps)
 
 two_holds : (q r : ℕ → Bool) (op : Op2) (f g : Form) → Holds q r f → Holds q r g → IfOk (fold2 op f g) (Holds q r)
 two_holds q r x1 f g h i = grind (arith, common_steps)

@@ -29,33 +29,6 @@ use Rattle.language65.proofs.Segments.{Grows, all_more, all_same, end_behind, gr
 
 -- ---- Faults that there aren't.
 
-none_all : (os : List (Option AsmFault)) → first_fault os ≡ None → AllByRecursion (λ o. o ≡ None) os
-none_all [] h = tt
-none_all (None ∷ os) h = (refl, none_all os h)
-none_all (Some e ∷ os) h = absurd cc
-
-not_when : (b : Bool) (e : AsmFault) → when b e ≡ None → b ≡ false
-not_when true e h = absurd cc
-not_when false e h = refl
-
--- the faults of a statement at its line, in their order
-abbrev faults : Symbols → Standing → Statement → List (Option AsmFault)
-faults y w x =
-    when (stands_outside x && is_open (spot_of w).scope) NotUnderstood
-    ∷ lost_scopes y.scopes (spot_of w).scope (trees_of x)
-    ∷ opened_twice y.scopes (spot_of w).scope (scope_name x)
-    ∷ defined_twice y (key_defined (spot_of w) x)
-    ∷ form_fault y (spot_of w) (own_size w) x
-    ∷ operand_fault y (spot_of w) x
-    ∷ alignment_fault y (spot_of w) x
-    ∷ missing_file x
-    ∷ part_fault y (spot_of w) x
-    ∷ size_fault w.segments x
-    ∷ block_fault y.scopes (spot_of w).scope x
-    ∷ pop_fault w.kept x
-    ∷ when (nat_lt section_limit ((spot_of w).offset + length_of y (spot_of w) (own_size w) x)) SectionTooLarge
-    ∷ []
-
 has_room : (y : Symbols) (w : Standing) (x : Statement) → line_fault y w x ≡ None → (segment_at w.segments w.current).end + length_of y (spot_of w) (own_size w) x ≤ section_limit
 has_room y w x h = grind (arith, common_steps)
 
@@ -147,16 +120,6 @@ good_named : (ls : List Laid) (gs : List Segment) (current : ℕ) (kept : List �
 good_named ls gs current kept n own x1 good fine e = grind (arith, common_steps, one_longer, map-append, names_push, not_among, all_same, end_behind)
 
 -- ---- One statement.
-
--- another segment is the current one
-good_move : (ls : List Laid) (gs : List Segment) (current next : ℕ) (kept rest : List ℕ) → Good ls gs current kept → next < length gs → are_below (length gs) rest → Good ls gs next rest
-good_move ls gs current next kept rest good lt below = grind (arith, common_steps)
-
-last_below : (count current : ℕ) (kept : List ℕ) → current < count → are_below count kept → last_kept current kept < count
-last_below count current x1 lt h = grind (arith, common_steps)
-
-rest_below : (count : ℕ) (kept : List ℕ) → are_below count kept → are_below count (rest_kept kept)
-rest_below count x1 h = grind (arith, common_steps)
 
 good_current : (ls : List Laid) (w : Standing) (count multiple : ℕ) (x : Statement) → Good ls (segments_behind w.segments w.current count multiple x) w.current w.kept → Good ls (segments_behind w.segments w.current count multiple x) (current_behind w x) (kept_behind w x)
 good_current ls w count multiple x1 good = grind (arith, common_steps)

@@ -151,12 +151,6 @@ stored_behind e mode h = absurd cc
 address_form : (m : Mnemonic) (e : Tree) (forced : Option AddressSize) (own : AddressSize) (r : Option Index) → MayForm m (Some e) (address_mode m forced own r)
 address_form m e x1 own r = grind (arith, common_steps)
 
-not_branch : (m : Mnemonic) → opcode_of m Relative ≡ None → is_branch m ≡ false
-not_branch m h = rw h refl
-
-branch_code : (m : Mnemonic) → is_branch m ≡ true → part_len (opcode_part (opcode_of m Relative)) ≡ 1
-branch_code m b = grind (arith, common_steps)
-
 branch_form : (m : Mnemonic) (e : Tree) (forced : Option AddressSize) (r : Option Index) → is_branch m ≡ true → MayForm m (Some e) (branch_mode forced r)
 branch_form m e x1 x2 b = grind (arith, common_steps)
 
@@ -200,9 +194,6 @@ instruction_sound asked count y k l h m o (Some mode) f =
 
 -- ---- Room.
 
-replicated : (n b : ℕ) → length (replicate n b) ≡ n
-replicated n b = length-replicate n b
-
 room_sound : (asked : List ℕ) (count : ℕ) (before : Symbols) (s : Spot) (len : ℕ) (v : Option Tree) → PartOf asked count len (room_part len (fill_settled before s v))
 room_sound asked count before s len x1 = grind (arith, common_steps)
 
@@ -210,10 +201,6 @@ one_part : (asked : List ℕ) (count len : ℕ) (p : Part) → PartOf asked coun
 one_part asked count len p h = ((h.0, tt), sum_by-cons part_len p [] ∙ (let same = h.1 in omega (arith, same)))
 
 -- ---- Parts of files.
-
--- so many bytes of a file as were counted are there
-all_taken : (xs : List ℕ) (n : ℕ) → length (take (length (take n xs)) xs) ≡ length (take n xs)
-all_taken xs n = length-take-le (length (take n xs)) xs (let e = length-take n xs in omega (arith, e))
 
 between_taken : (bytes : List ℕ) (start : ℕ) (len : Option ℤ) → length (take (length (bytes_between bytes start len)) (drop start bytes)) ≡ length (bytes_between bytes start len)
 between_taken bytes start x1 = grind (arith, common_steps)

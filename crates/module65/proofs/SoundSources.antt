@@ -43,9 +43,6 @@ no_label ts named = record { label = λ x e. absurd cc; rest = named }
 one_label : (x : Statement) (ts : List Lexeme) → IsSound x → AreNamed ts → IsLabelSound (Some x, ts)
 one_label x ts sound named = record { label = λ y e. (let same : x ≡ y = cc in subst IsSound same sound); rest = named }
 
-named_sound : (all ts : List Lexeme) (k : TokenKind) (n : List ℕ) → AreNamed all → AreNamed ts → IsLabelSound (or_all all (with_rest ts (named_label k n)))
-named_sound all ts x1 n whole named = grind (arith, common_steps)
-
 before_sound : (t : Lexeme) (ts : List Lexeme) → AreNamed (t ∷ ts) → IsLabelSound (or_all (t ∷ ts) (label_before t ts))
 before_sound t x1 named = grind (arith, common_steps)
 

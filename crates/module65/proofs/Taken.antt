@@ -107,22 +107,6 @@ constants_refused m b job opened y e opens defined = not_defined m b job opens.0
 abbrev IsQuiet : Option Statement → Type 0
 IsQuiet o = (place : Place) (x : Statement) → o ≡ Some x → (out_of x ≡ []) × (warning_of place x ≡ [])
 
-none_quiet : IsQuiet None
-none_quiet place x e = absurd cc
-
-one_quiet : (y : Statement) → out_of y ≡ [] → ((place : Place) → warning_of place y ≡ []) → IsQuiet (Some y)
-one_quiet y out err place x e = let same : y ≡ x = cc in (subst (λ z. out_of z ≡ []) same out, subst (λ z. warning_of place z ≡ []) same (err place))
-
-named_quiet : (k : TokenKind) (n : List ℕ) → IsQuiet (named_label k n)
-named_quiet x1 n = grind (arith, common_steps)
-
-rest_quiet : (all ts : List Lexeme) (o : Option Statement) → IsQuiet o → IsQuiet (or_all all (with_rest ts o)).0
-rest_quiet all ts None h = none_quiet
-rest_quiet all ts (Some x) h = h
-
-before_quiet : (all : List Lexeme) (t : Lexeme) (ts : List Lexeme) → IsQuiet (or_all all (label_before t ts)).0
-before_quiet all t x1 = grind (arith, common_steps)
-
 pub label_quiet : (ts : List Lexeme) → IsQuiet (label_of ts).0
 label_quiet x1 = grind (arith, common_steps)
 

@@ -50,12 +50,11 @@ use Rattle.link65.specs.declared.parts.ValueFault.{ValueFault}
 use Rattle.whole65.proofs.Providers.{keyed_said, sources_law}
 use Rattle.whole65.proofs.Keyed.{form_law, keyed_law}
 use Rattle.whole65.proofs.Sources.{HasContents, contents_of}
-use Rattle.whole65.specs.Inner.Keyed.{IsKeyed, IsKeyedSaid, linked_objects}
-use Rattle.whole65.specs.Inner.Steps.{AssertionsLaw}
-use Rattle.whole65.specs.Inner.Linked.{spot_in, symbols_at}
+use Rattle.whole65.proofs.LinkedObjects.{IsKeyed, IsKeyedSaid, linked_objects, spot_in, symbols_at}
 use Rattle.whole65.specs.Modules.{global_spot, spot_or, table_of}
 use Rattle.whole65.specs.Programs as whole
 use Rattle.whole65.specs.Sources.{AreSources, IsSource}
+use Rattle.whole65.specs.Programs.{program_of}
 
 -- ---- What statements assert, and what is said of it in a module's contents.
 
@@ -346,7 +345,9 @@ module _ (s : Script) (placement : Placement) (ys : List Layout) (ms : List Modu
         λ q. all_append Passing first others (one.1 q.0) (more.1 q.1),
       )
 
-pub assertions_law : AssertionsLaw
+-- All assertions pass in a link, with some text of warnings, exactly where those that modules make pass in the whole
+-- program.
+pub assertions_law : (s : Script) (placement : Placement) (ys : List Layout) (ms : List Module) (table : List (Result ℤ ValueFault)) → let q : linked.Program = linked.program_of ms in let l : Linkage = linkage_of s q placement in AreSources ys ms → AreExports l table → ((warnings : List ℕ) × (check_asserts l q.members (in_table table) q.asserts ≡ Ok warnings)) ↔ AreAsserted (program_of s placement ys) 0 ys
 assertions_law s placement ys ms table h exports =
     let q : linked.Program = linked.program_of ms in
     let l : Linkage = linkage_of s q placement in

@@ -7,7 +7,7 @@ use Rattle.script65.specs.declared.placement.Placement.{Placement}
 use Rattle.script65.specs.declared.script.Script.{Script}
 use Rattle.language65.specs.Layout.{Layout}
 use Rattle.link65.specs.Programs.{Module}
-use Rattle.link65.specs.Values.{linkage_of, ExportComesTo, Linkage, export_value, exports_through, value_by}
+use Rattle.link65.specs.Values.{linkage_of, ExportComesTo, Linkage, export_value, exports_through, value_by, AreExports}
 use Rattle.link65.specs.Programs as linked
 use Rattle.link65.specs.declared.parts.Exported.{Exported}
 use Rattle.link65.specs.declared.parts.ValueFault.{ValueFault}
@@ -17,8 +17,7 @@ use Rattle.whole65.proofs.Providers.{IsExportOf, export_normal, exports_are, exp
 use Rattle.whole65.proofs.Keyed.{form_law}
 use Rattle.whole65.proofs.Positions.{all_get}
 use Rattle.whole65.proofs.SameValues.{same_values_law}
-use Rattle.whole65.specs.Inner.Keyed.{linked_objects}
-use Rattle.whole65.specs.Inner.Steps.{ExportTableLaw}
+use Rattle.whole65.proofs.LinkedObjects.{linked_objects}
 use Rattle.whole65.specs.Modules.{table_of}
 use Rattle.whole65.specs.Programs as whole
 use Rattle.whole65.specs.Sources.{AreSources}
@@ -74,7 +73,9 @@ module _ (s : Script) (placement : Placement) (ys : List Layout) (ms : List Modu
         ),
       )
 
-pub export_table_law : ExportTableLaw
+-- Where all names that modules export have values in the whole program, a link has the table of exports that its
+-- definition wants.
+pub export_table_law : (s : Script) (placement : Placement) (ys : List Layout) (ms : List Module) → AreSources ys ms → AreExported (program_of s placement ys) 0 ys → (table : List (Result ℤ ValueFault)) × AreExports (linkage_of s (linked.program_of ms) placement) table
 export_table_law s placement ys ms h exported =
     let p : Program = whole.program_of s placement ys in
     let es : List Exported = (linked.program_of ms).exports in

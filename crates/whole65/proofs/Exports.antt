@@ -1,4 +1,5 @@
 -- The names that sources export and demand.
+use Rattle.whole65.specs.Programs as whole
 use Rattle.std.proofs.Common.{◌≡◌, ℕ, zero, suc, Bool, true, false, cond, List, [], ◌∷◌, ◌++◌, length, map, filter, Option, Some, None, Result, Ok, Err, refl, sym, ◌∙◌, ap, subst}
 use Rattle.std.specs.Prelude.{⊤, is_some, pos, negsuc, ◌||◌}
 use Rattle.std.specs.List.{AllByRecursion, flat_map, list_any}
@@ -35,7 +36,6 @@ use Rattle.module65.specs.Places.{PlacedFault, at_place}
 use Rattle.whole65.proofs.SameValues.{bind_ok, written_ok}
 use Rattle.whole65.proofs.SectionBytes.{content_is, placed_ok}
 use Rattle.whole65.proofs.Sources.{contents_of}
-use Rattle.whole65.specs.Inner.Steps.{ExportNamesLaw}
 use Rattle.whole65.specs.Modules.{exported_by, exports_of, table_of, forced_by}
 use Rattle.whole65.specs.Sources.{AreSources, IsSource}
 use Rattle.syntax65.specs.Trees.{Tree}
@@ -217,7 +217,8 @@ all_exports p (y ∷ ys) (m ∷ ms) h =
     ∙ ap (λ z. z ++ flat_map exports_of ys) (map-append (λ (e : parts.Exported). e.name) p.exports (map (linked.exported (length p.members)) m.object.exports) ∙ ap (λ z. export_names p ++ z) (names_exported (length p.members) m.object.exports ∙ source_exports y m h.0))
     ∙ append_assoc (export_names p) (exports_of y) (flat_map exports_of ys)
 
-pub export_names_law : ExportNamesLaw
+-- The objects of sources export the names that the sources do, in the same order.
+pub export_names_law : (ys : List Layout) (ms : List Module) → AreSources ys ms → export_names (linked.program_of ms) ≡ flat_map exports_of ys
 export_names_law ys ms h = all_exports no_program ys ms h
 
 -- ---- What statements say of the names that they demand and of what they assert.

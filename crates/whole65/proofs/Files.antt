@@ -13,11 +13,10 @@ use Rattle.link65.specs.declared.parts.ValueFault.{ValueFault}
 use Rattle.link65.specs.declared.parts.ValueFault.TheVariants.{Circular, NoValue, Unresolved}
 use Rattle.link65.specs.Values.{AreExports, Exports, Linkage, Settles, base_of, export_value, exports_through, provider_at, import_value, in_table, value_by, cell_bytes, or_zero, stored, row_bytes, segment_bytes, linkage_of}
 use Rattle.whole65.proofs.SameValues.{bind_ok, value_covered, same_values_law}
-use Rattle.whole65.specs.Inner.Cells.{linked_value, AreCells, cells_or}
-use Rattle.whole65.specs.Inner.Steps.{TableLaw, CheckedLaw, ExportsLaw, FilesLaw}
+use Rattle.whole65.proofs.LinkedObjects.{linked_value, AreCells, cells_or, linked_objects}
 use Rattle.std.specs.List.{flat_map, AllByRecursion}
 use Rattle.object65.specs.Objects.{fits_width, value_bytes}
-use Rattle.link65.specs.Links.{check_fixup, each_passes, fitting, site, value_at, fixups_in, fixups_by_row, fixups_of, check_export}
+use Rattle.link65.specs.Links.{check_fixup, each_passes, fitting, site, value_at, fixups_in, fixups_by_row, fixups_of, check_export, AreFiles}
 use Rattle.link65.specs.Programs.{Cell, known, filled, waits, Module, Segment, segment_of}
 use Rattle.link65.specs.declared.fault.LinkFault.{LinkFault}
 use Rattle.link65.specs.declared.fault.LinkFault.TheVariants as fault
@@ -36,20 +35,20 @@ use Rattle.whole65.proofs.Providers.{IsExportOf, exports_known, export_normal, s
 use Rattle.whole65.proofs.Keyed.{form_law}
 use Rattle.whole65.proofs.Positions.{all_get}
 use Rattle.whole65.proofs.Rows.{linked_bytes_law}
-use Rattle.whole65.specs.Inner.Keyed.{linked_objects}
 use Rattle.whole65.specs.Laws.{ExportValueLaw, RowsLaw}
 use Rattle.whole65.specs.Modules.{table_of, exports_of}
 use Rattle.whole65.specs.Objects.{form_value}
 use Rattle.whole65.specs.Programs as whole
 use Rattle.whole65.specs.Sources.{AreSources}
 use Rattle.whole65.specs.Values.{Program}
-use Rattle.whole65.specs.Whole.{AreRow, AreExported, HasExport}
+use Rattle.whole65.specs.Whole.{AreRow, AreExported, HasExport, HasImage}
 use Rattle.object65.specs.declared.object.Export.{Export}
 use Rattle.script65.specs.declared.placement.RowPlace.{RowPlace}
 use Rattle.script65.specs.declared.script.Area.{Area}
 use Rattle.base65.specs.declared.output.OutputFile.{OutputFile}
 use Rattle.module65.proofs.SoundForms.{all_append}
 use Rattle.whole65.proofs.Exports.{source_exports}
+use Rattle.whole65.specs.Programs.{program_of}
 
 -- ---- Exports that are evaluated once.
 
@@ -127,7 +126,8 @@ module _ (l : Linkage) (table : List (Result ℤ ValueFault)) (h : AreExports l 
       ∙ ap (λ r. r >>= (λ y. or_none NoValue (value2 op a y))) w ∙ last in
       (n + m, whole)
 
-pub table_law : TableLaw
+-- Where each export is evaluated once, a form has the values that it has through some number of exports.
+pub table_law : (l : Linkage) (table : List (Result ℤ ValueFault)) (owner : ℕ) (f : Form) (v : ℤ) → AreExports l table → (value_by l (in_table table) owner f ≡ Ok v) ↔ linked_value l owner f v
 table_law l table owner f v h = (λ e. to_turns l table h owner f v e, λ k. from_turns l table h owner f v k)
 
 -- ---- Values of a segment that pass their checks.
@@ -192,7 +192,8 @@ module _ (l : Linkage) (members : List Member) (table : List (Result ℤ ValueFa
       let value : linked_value l w.owner w.form v = (table_law l table w.owner w.form v h).0 found in
       (own, rest, (v, value, (fits, written w (value_by l exports w.owner w.form) v found fits)), back cells rest (others, refl), e)
 
-pub checked_law : CheckedLaw
+-- What lies in a segment has bytes exactly where each value that waits there passes its check, and those that a link writes.
+pub checked_law : (l : Linkage) (members : List Member) (table : List (Result ℤ ValueFault)) (fill : ℕ) (cells : List Cell) (bytes : List ℕ) → AreExports l table → AreCells l fill cells bytes ↔ ((each_passes (check_fixup l members (in_table table)) (flat_map fixups_in cells) ≡ Ok tt) × (bytes ≡ flat_map (cell_bytes l (in_table table) fill) cells))
 checked_law l members table fill cells bytes h = (there l members table fill h cells bytes, back l members table fill h cells bytes)
 
 -- ---- Rows.
@@ -286,7 +287,9 @@ all_itself : (bytes : RowBytes) (rs : List Row) → AllByRecursion (λ r. bytes 
 all_itself bytes [] = tt
 all_itself bytes (r ∷ rs) = (refl, all_itself bytes rs)
 
-pub files_law : FilesLaw
+-- The rows of a placed program have bytes and make these files exactly where each value that waits in a link passes its
+-- check, and the link makes them.
+pub files_law : (output : List ℕ) (s : Script) (placement : Placement) (ys : List Layout) (ms : List Module) (table : List (Result ℤ ValueFault)) (files : List OutputFile) → let l : Linkage = linkage_of s (linked.program_of ms) placement in AreSources ys ms → AreExports l table → HasImage output s ys placement (program_of s placement ys) files ↔ ((each_passes (check_fixup l (linked.program_of ms).members (in_table table)) (fixups_by_row s.rows (linked.program_of ms).segments) ≡ Ok tt) × AreFiles output s (linked.program_of ms) placement l (in_table table) files)
 files_law output s placement ys ms table files h exports =
     let l : Linkage = linkage_of s (linked.program_of ms) placement in
     let written : RowBytes = row_bytes l (in_table table) (linked.program_of ms).segments in (
@@ -345,7 +348,8 @@ module _ (p : Program) where
         λ k. all_append OfExport first rest (one.1 (subst (AllByRecursion (HasExport p owner)) (sym names) k.0)) (more.1 k.1),
       )
 
-pub exports_law : ExportsLaw
+-- All exports pass in a link exactly where all names that modules export have values in the whole program.
+pub exports_law : (s : Script) (placement : Placement) (ys : List Layout) (ms : List Module) (table : List (Result ℤ ValueFault)) → let l : Linkage = linkage_of s (linked.program_of ms) placement in AreSources ys ms → AreExports l table → (each_passes (check_export l (linked.program_of ms).members (in_table table)) (linked.program_of ms).exports ≡ Ok tt) ↔ AreExported (program_of s placement ys) 0 ys
 exports_law s placement ys ms table h exports =
     let l : Linkage = linkage_of s (linked.program_of ms) placement in
     let p : Program = whole.program_of s placement ys in

@@ -1,15 +1,15 @@
 -- Bases of sections in a link, and forms of modules with the numbers of objects.
+use Rattle.whole65.specs.Programs as whole
 use Rattle.std.proofs.Common.{◌≡◌, List, [], ◌∷◌, ◌++◌, Ok, refl, ◌∙◌, ap, ℕ, zero, suc, ◌+◌, ◌<◌, Bool, true, false, nat_eq, cond, length, map, take, get_or, slice_get, Some, sym, subst, arith, nat_lt}
-use Rattle.std.specs.Prelude.{◌+ℤ◌, ℤ, pos, ◌||◌, ◌&&◌}
+use Rattle.std.specs.Prelude.{◌+ℤ◌, ℤ, pos, ◌||◌, ◌&&◌, Result}
 use Rattle.std.specs.Int.{int_wrap, next_multiple_of}
 use Rattle.std.specs.List.{AllByRecursion, list_any, flat_map, list_all}
 use Rattle.base65.specs.Outcome.{◌>>=◌}
 use Rattle.base65.specs.Values.{value1, value2, wrapped}
 use Rattle.object65.specs.Form.{lit, sec, imp, prefix, binary, Form}
 use Rattle.object65.specs.FormValue.{or_none, value_in}
-use Rattle.language65.specs.Numbering.{imports_in, import_keys, number_of, section_keys, section_of, content_imports, name_of, part_imports, said_imports}
-use Rattle.language65.specs.Sound.{sections_in, IsSoundContent, IsSoundForm, IsSoundPart, IsSoundSaid}
-use Rattle.whole65.specs.Inner.Steps.{BaseLaw, OwnPartsLaw, SectionBaseLaw, FormLaw, KeyedLaw}
+use Rattle.language65.specs.Numbering.{imports_in, import_keys, number_of, section_keys, section_of, content_imports, name_of, part_imports, said_imports, numbered}
+use Rattle.language65.specs.Sound.{sections_in, IsSoundContent, IsSoundForm, IsSoundPart, IsSoundSaid, IsSoundLayout}
 use Rattle.std.specs.Str.{bytes_eq}
 use Rattle.std.proofs.lemmas.Bool.Decides.{nat_tests}
 use Rattle.std.proofs.lemmas.List.{length-append}
@@ -23,7 +23,7 @@ use Rattle.source65.specs.declared.place.Place.{Place}
 use Rattle.language65.specs.Parts.{Content, Part, Known, Filled, Waiting, Said, Exported, Demanded, Checked}
 use Rattle.language65.specs.Layout.{Layout}
 use Rattle.link65.specs.Programs.{Module, Program, member, no_program, program_of, with_module, with_modules, grown, section_place, section_places, segment_of, with_section}
-use Rattle.link65.specs.Values.{address_of, linkage_of, resolved, run_of, base_of, exports_through, provider_at, import_value, Linkage}
+use Rattle.link65.specs.Values.{address_of, linkage_of, resolved, run_of, base_of, exports_through, provider_at, import_value, Linkage, value_by}
 use Rattle.link65.specs.Programs as linked
 use Rattle.link65.specs.declared.parts.Member.{Member}
 use Rattle.link65.specs.declared.parts.SectionPlace.{SectionPlace}
@@ -31,8 +31,7 @@ use Rattle.whole65.proofs.Sections.{one_section, AreOnce, held, keys_of, number_
 use Rattle.whole65.proofs.Positions.{Distinct, named, itself}
 use Rattle.whole65.proofs.Multiples.{equal, end_of-append}
 use Rattle.whole65.proofs.Sources.{contents_of, in_segment, section_begin, same_object, size_law, size_or}
-use Rattle.whole65.specs.Inner.Growth.{or_empty}
-use Rattle.whole65.specs.Inner.Linked.{begin_in, base_in, symbols_at}
+use Rattle.whole65.proofs.LinkedObjects.{or_empty, begin_in, base_in, symbols_at, IsKeyed, IsKeyedContent, IsKeyedPart, IsKeyedSaid, provider_named, imports_linked, linked_objects}
 use Rattle.whole65.specs.Modules.{table_of}
 use Rattle.whole65.specs.Offsets.{IsLaidOut, begin_from, begin_of, lines_at}
 use Rattle.whole65.specs.Segments.{end_of, has_section, items_from, items_of, largest_multiple, lines_behind, lines_in, part_of, segment_name}
@@ -45,7 +44,10 @@ use Rattle.link65.specs.declared.parts.ValueFault.{ValueFault}
 use Rattle.link65.specs.declared.parts.ValueFault.TheVariants.{NoValue}
 use Rattle.module65.proofs.SoundContents.{sound_contents}
 use Rattle.whole65.proofs.ModuleBytes.{number_law}
-use Rattle.whole65.specs.Inner.Keyed.{IsKeyed, IsKeyedContent, IsKeyedPart, IsKeyedSaid, provider_named, imports_linked}
+use Rattle.script65.specs.declared.script.Row.{Row}
+use Rattle.script65.specs.declared.placement.RowPlace.{RowPlace}
+use Rattle.module65.specs.Module.{contents_from}
+use Rattle.whole65.specs.Objects.{form_value}
 
 -- ---- What the value of a form rests on.
 
@@ -57,7 +59,8 @@ rest_of : {A : Type 0} (P : A → Type 0) (xs ys : List A) → AllByRecursion P 
 rest_of P [] ys h = h
 rest_of P (x ∷ xs) ys h = rest_of P xs ys h.1
 
-pub own_parts_law : (E : Type 0) → OwnPartsLaw E
+-- The value of a form rests on the bases of its own sections and on what its own imports come to, and on no others.
+pub own_parts_law : (E : Type 0) → (none : E) (bases others : ℕ → ℤ) (values rest : ℕ → Result ℤ E) (f : Form) → AllByRecursion (λ g. bases g ≡ others g) (sections_in f) → AllByRecursion (λ k. values k ≡ rest k) (imports_in f) → value_in none bases values f ≡ value_in none others rest f
 own_parts_law E none bases others values rest (lit v) h k = refl
 own_parts_law E none bases others values rest (sec g a) h k = ap (λ b. Ok (wrapped (b +ℤ a))) h.0
 own_parts_law E none bases others values rest (imp j) h k = k.0
@@ -69,7 +72,8 @@ own_parts_law E none bases others values rest (binary op f g) h k =
     ap (λ r. r >>= (λ a. value_in none bases values g >>= (λ b. or_none none (value2 op a b)))) left
     ∙ ap (λ r. value_in none others rest f >>= (λ a. r >>= (λ b. or_none none (value2 op a b)))) right
 
-pub base_law : BaseLaw
+-- The base of a section in a link is where it begins behind the run address of its segment's row, wrapped.
+pub base_law : (rows : List Row) (places : List RowPlace) (at : SectionPlace) → address_of rows places at ≡ wrapped (pos (run_of rows places at.segment + at.offset))
 unfolding int_wrap
 base_law rows places at = refl
 
@@ -188,7 +192,8 @@ begins (z ∷ ys) y name at first (suc i) e =
 less : (n m : ℕ) → n < m → nat_lt n m ≡ true
 less n m h = grind (arith, nat_tests)
 
-pub section_base_law : SectionBaseLaw
+-- The base of a section of an object in a link is that of the module's segment in the whole program.
+pub section_base_law : (s : Script) (placement : Placement) (ys : List Layout) (ms : List Module) (owner g : ℕ) (y : Layout) (m : Module) (cs : List Content) → AreSources ys ms → slice_get ys owner ≡ Some y → slice_get ms owner ≡ Some m → contents_from (table_of y) y.laid ≡ Ok cs → list_any (nat_eq g) (section_keys cs) ≡ true → base_of (slice_get (linkage_of s (linked.program_of ms) placement).modules owner) (number_of (section_keys cs) g) ≡ base_in s placement ys owner g (Some y)
 section_base_law s placement ys ms owner g y m cs h at_y at_m e among =
     let source : IsSource y m = source_at ys ms owner y m h at_y at_m in
     let d : IsLaidOut y = source.laid_out in
@@ -315,7 +320,8 @@ module _ (sections imports : List ℕ) (count : ℕ) where
         keyed_contents names cs h.1 (among_rest (content_imports names c) (flat_map (content_imports names) cs) up),
       )
 
-pub keyed_law : KeyedLaw
+-- All forms in a module's contents have the sections and the imports of its object.
+pub keyed_law : (y : Layout) (cs : List Content) → IsSoundLayout y → contents_from (table_of y) y.laid ≡ Ok cs → AllByRecursion (IsKeyedContent (section_keys cs) (import_keys (table_of y).imports cs) (length (table_of y).imports)) cs
 keyed_law y cs h e =
     let names : List (List ℕ) = (table_of y).imports in
     keyed_contents (section_keys cs) (import_keys names cs) (length names) names cs (sound_contents y cs h e).contents
@@ -345,7 +351,8 @@ all_map : (P Q : ℕ → Type 0) → ((k : ℕ) → P k → Q k) → (xs : List 
 all_map P Q f [] h = tt
 all_map P Q f (x ∷ xs) h = (f x h.0, all_map P Q f xs h.1)
 
-pub form_law : FormLaw
+-- Such a form comes in a link, through so many exports, to what linking knows of it in the whole program.
+pub form_law : (s : Script) (placement : Placement) (ys : List Layout) (ms : List Module) (owner turns : ℕ) (y : Layout) (m : Module) (cs : List Content) (f : Form) → AreSources ys ms → slice_get ys owner ≡ Some y → slice_get ms owner ≡ Some m → contents_from (table_of y) y.laid ≡ Ok cs → let sections : List ℕ = section_keys cs in let imports : List ℕ = import_keys (table_of y).imports cs in let l : Linkage = linkage_of s (linked.program_of ms) placement in IsKeyed sections imports (length (table_of y).imports) f → form_value (linked_objects s placement ys ms) turns owner f ≡ value_by l (exports_through l turns) owner (numbered sections imports f)
 form_law s placement ys ms owner turns y m cs f h at_y at_m e =
     let names : List (List ℕ) = (table_of y).imports in
     let sections : List ℕ = section_keys cs in

@@ -18,3 +18,4 @@ pub mod Sections
 pub mod Sources
 pub mod Unresolved
 pub mod Versions
+pub mod LinkedObjects

@@ -7,10 +7,10 @@ use Rattle.language65.specs.Laid.{Laid, asks_section}
 use Rattle.language65.specs.Layout.{Layout, laid, own_size, spot_of}
 use Rattle.language65.specs.Names as names
 use Rattle.language65.specs.Symbols.{Definition, Key, definition_with, definitions_of, key_defined, value_defined, Symbols, symbols_of}
-use Rattle.whole65.specs.Inner.Linked.{or_first, place_in, symbols_at, base_in, begin_in, objects_of, spot_in}
+use Rattle.whole65.proofs.LinkedObjects.{or_first, place_in, symbols_at, base_in, begin_in, objects_of, spot_in}
 use Rattle.whole65.specs.Modules.{defining_from, definition_at, import_named, meaning_by, spot_at, statement_at, table_of, global_spot, spot_or}
-use Rattle.whole65.specs.Objects.{definition_shown, import_shown, value_shown, meaning_shown}
-use Rattle.whole65.specs.Values.{Meaning}
+use Rattle.whole65.specs.Objects.{definition_shown, import_shown, value_shown, meaning_shown, AreObjects, IsGiven, Objects}
+use Rattle.whole65.specs.Values.{Meaning, Program}
 use Rattle.std.specs.Prelude.{◌&&◌, ◌||◌, ℤ, pos, ◌+ℤ◌, nat_lt}
 use Rattle.std.specs.Str.{bytes_eq}
 use Rattle.syntax65.specs.declared.lexing.tokens.AddressSize.{AddressSize}
@@ -32,8 +32,7 @@ use Rattle.script65.specs.declared.placement.Placement.{Placement}
 use Rattle.script65.specs.declared.script.Script.{Script}
 use Rattle.link65.specs.Values.{run_of}
 use Rattle.language65.specs.Names.{meaning_of}
-use Rattle.whole65.specs.Inner.Steps.{LinkedLaw}
-use Rattle.whole65.specs.Programs.{laid_at, means_at, statement_address}
+use Rattle.whole65.specs.Programs.{laid_at, means_at, statement_address, program_of}
 
 -- ---- The statements that make definitions.
 
@@ -310,7 +309,9 @@ module _ (s : Script) (p : Placement) (ys : List Layout) (laid_out : AllByRecurs
   of_module owner place None e = zero_wraps
   of_module owner place (Some y) e = of_line owner place y e (slice_get y.laid place) refl
 
-pub linked_law : (E : Type 0) → LinkedLaw E
+-- The modules of a placed program are linked as that program: names mean the same, and statements have the addresses that
+-- their sections' bases and their offsets make, for all that imports come to as their providers say.
+pub linked_law : (E : Type 0) → (none : E) (imports : ℕ → ℕ → ℕ → Result ℤ E) (s : Script) (placement : Placement) (ys : List Layout) → AllByRecursion IsLaidOut ys → let p : Program = program_of s placement ys in let o : Objects E = objects_of none imports s placement ys in ((owner k : ℕ) → IsGiven p o owner k (slice_get (o.symbols owner).imports k)) → AreObjects p o
 linked_law E none imports s p ys laid_out given = record {
   means = λ owner place e. means_by (slice_get ys owner) place e ∙ sym (shown_is none imports s p ys owner (meaning_of (symbols_at (slice_get ys owner)) (spot_in (slice_get ys owner) place) e));
   spots = λ owner definition d there. spot_by (slice_get ys owner) definition d there;

@@ -1,4 +1,5 @@
 -- What a link comes to that gives files.
+use Rattle.whole65.specs.Programs as whole
 use Rattle.std.proofs.Common.{◌≡◌, ℕ, List, [], ◌∷◌, ◌++◌, Result, Ok, Err, refl, sym, ◌∙◌, ap, subst, Option, Some, None}
 use Rattle.std.specs.Prelude.{ℤ, ◌↔◌}
 use Rattle.base65.specs.Outcome.{◌>>=◌, First}
@@ -10,7 +11,7 @@ use Rattle.link65.specs.Links.{check_asserts, check_export, check_fixup, each_pa
 use Rattle.link65.specs.Names.{unresolved, first_again, script_names}
 use Rattle.link65.specs.Texts.{map_text, warnings_of_rows}
 use Rattle.link65.specs.Values.{linkage_of, needs_of, AreExports, Exports, Linkage, in_table}
-use Rattle.link65.specs.Programs.{Program, program_of}
+use Rattle.link65.specs.Programs.{Program, program_of, Module}
 use Rattle.link65.specs.declared.fault.LinkFault.{LinkFault}
 use Rattle.link65.specs.declared.linking.Linked.{Linked}
 use Rattle.base65.specs.declared.output.OutputFile.{OutputFile}
@@ -30,17 +31,19 @@ use Rattle.language65.specs.Layout.{Layout, layout_behind, nothing_laid}
 use Rattle.language65.specs.LineFaults.{line_fault, unless_fault}
 use Rattle.language65.specs.Symbols.{symbols_of}
 use Rattle.statements65.specs.Parsing.{label_of}
-use Rattle.module65.specs.Laying.{IsLaid, laying}
+use Rattle.module65.specs.Laying.{IsLaid, laying, AreLaid}
 use Rattle.module65.specs.Reading.{AreDefined, AreTaken, Define, Follows, IsBegun, IsGiven, IsLabelled, IsRest, Job, Reached, no_line, taken, faulty, refused, ended, with_bytes}
-use Rattle.whole65.specs.Inner.Steps.{LaidOutLaw, NamesLaw, ValuedImportsLaw}
 use Rattle.whole65.specs.Offsets.{IsLaidOut, begun, behind}
 use Rattle.base65.specs.Values.{value1, value2}
-use Rattle.object65.specs.Form.{lit, sec, imp, prefix, binary}
+use Rattle.object65.specs.Form.{lit, sec, imp, prefix, binary, Form}
 use Rattle.object65.specs.FormValue.{or_none, value_in}
 use Rattle.language65.specs.Numbering.{imports_in}
 use Rattle.link65.specs.Names as linked
 use Rattle.module65.proofs.SoundForms.{all_append}
 use Rattle.whole65.proofs.Exports.{export_names_law}
+use Rattle.std.specs.List.{AllByRecursion}
+use Rattle.whole65.specs.Whole.{given_names}
+use Rattle.whole65.specs.Sources.{AreSources}
 
 -- ---- One thing first, and then another.
 
@@ -190,12 +193,14 @@ opened : (m : Files) (job : Job) (o : Result expand.State ExpandFault) (r : Reac
 opened m job (Err e) r h = subst (λ (k : Reached Layout). IsLaidOut k.behind) (sym h) begun
 opened m job (Ok s) r (q, defined, h) = followed m s (no_line job.source) job.defines q r defined h
 
-pub laid_out_law : LaidOutLaw
+-- what a source lays, it lays so: statement by statement, none with a fault at its line
+pub laid_out_law : (m : Files) (job : Job) (r : Reached Layout) → AreLaid m job r → IsLaidOut r.behind
 laid_out_law m job r h = opened m job (opened_in m job.source job.include) r h
 
 -- ---- Names that are given, and imports that have values.
 
-pub valued_imports_law : (E : Type 0) → ValuedImportsLaw E
+-- A form that has a value has one of each of its imports.
+pub valued_imports_law : (E : Type 0) → (none : E) (bases : ℕ → ℤ) (values : ℕ → Result ℤ E) (f : Form) (v : ℤ) → value_in none bases values f ≡ Ok v → AllByRecursion (λ k. (w : ℤ) × (values k ≡ Ok w)) (imports_in f)
 valued_imports_law E none bases values (lit n) v e = tt
 valued_imports_law E none bases values (sec g a) v e = tt
 valued_imports_law E none bases values (imp k) v e = ((v, e), tt)
@@ -211,7 +216,8 @@ pub none_again : (r : Option (List ℕ)) → (no_name_again r ≡ Ok tt) ↔ (r 
 none_again None = (λ k. refl, λ k. refl)
 none_again (Some name) = (λ k. absurd cc, λ k. absurd cc)
 
-pub names_law : NamesLaw
+-- A name is given twice in a link exactly where it is in the whole program.
+pub names_law : (s : Script) (ys : List Layout) (ms : List Module) → AreSources ys ms → (names_once s (program_of ms) ≡ Ok tt) ↔ (first_again [] (given_names s ys) ≡ None)
 names_law s ys ms h =
     let same = ap (λ names. first_again [] (script_names s ++ names)) (export_names_law ys ms h) in
     let either = none_again (first_again [] (linked.given_names s (program_of ms))) in

@@ -1,25 +1,31 @@
 -- What lies in a segment, and what an object's section puts there.
 use Rattle.std.proofs.Common.{◌≡◌, ℕ, zero, suc, List, [], ◌∷◌, ◌++◌, map, refl, sym, ◌∙◌, ap, subst, ◌+◌, Bool, true, false, cond, filter, Result, Ok, arith}
-use Rattle.std.specs.Prelude.{◌↔◌, replicate, ℤ, not}
+use Rattle.std.specs.Prelude.{◌↔◌, replicate, ℤ, not, Some, slice_get}
 use Rattle.std.specs.List.{flat_map, AllByRecursion}
 use Rattle.std.proofs.lemmas.List.{append-nil, append_assoc}
 use Rattle.object65.specs.declared.object.Fragment.{Fragment}
 use Rattle.object65.specs.declared.object.Fragment.TheVariants.{Literal, Fill, Value}
 use Rattle.link65.specs.Programs.{Cell, known, filled, fragment_cells}
 use Rattle.link65.specs.Values.{Linkage}
-use Rattle.whole65.specs.Inner.Cells.{AreCells, linked_value, IsValuedIn}
-use Rattle.whole65.specs.Inner.Steps.{CellsLaw, FragmentsLaw, NumberLaw, ModuleLaw}
-use Rattle.whole65.specs.Inner.Parts.{AreFragments, IsFragment, AreParts, ArePart, Valuing, valued_by}
+use Rattle.whole65.proofs.LinkedObjects.{AreCells, linked_value, IsValuedIn, AreFragments, IsFragment, AreParts, ArePart, Valuing, valued_by}
 use Rattle.base65.specs.Outcome.{◌>>=◌}
 use Rattle.base65.specs.Values.{value1, value2}
 use Rattle.object65.specs.Form.{Form, lit, sec, imp, prefix, binary}
 use Rattle.object65.specs.FormValue.{or_none, value_in}
 use Rattle.object65.specs.declared.object.Origin.{Origin}
 use Rattle.source65.specs.declared.place.Place.{Place}
-use Rattle.language65.specs.Parts.{Part, Known, Filled, Waiting}
-use Rattle.language65.specs.Numbering.{all_joined, fragment_of, fragments_of, is_empty, joined, number_of, numbered, parts_in}
+use Rattle.language65.specs.Parts.{Part, Known, Filled, Waiting, Content}
+use Rattle.language65.specs.Numbering.{all_joined, fragment_of, fragments_of, is_empty, joined, number_of, numbered, parts_in, section_of}
 use Rattle.whole65.proofs.SectionBytes.{section_law}
-use Rattle.whole65.specs.Objects.{HasValue, Objects}
+use Rattle.whole65.specs.Objects.{HasValue, Objects, AreObjects}
+use Rattle.module65.specs.Module.{contents_from}
+use Rattle.language65.specs.Layout.{Layout}
+use Rattle.whole65.specs.Modules.{table_of}
+use Rattle.whole65.specs.Offsets.{lines_at, IsMultiple, IsLaidOut}
+use Rattle.language65.specs.Laid.{Laid}
+use Rattle.whole65.specs.Segments.{largest_multiple, lines_behind, line}
+use Rattle.whole65.specs.Contents.{AreBytes}
+use Rattle.whole65.specs.Values.{Program}
 
 -- ---- What lies in a segment, and the fragments that were put there.
 
@@ -69,12 +75,15 @@ module _ (l : Linkage) (fill : ℕ) where
     λ h. (let s = cells_split (fragment_cells owner f) (flat_map (fragment_cells owner) fs) bytes h in (s.0, s.1, (of_fragment owner f s.0).1 s.2, (of_fragments owner fs s.1).1 s.3, s.4)),
   )
 
-pub cells_law : CellsLaw
+-- What a module's section puts into its segment has the bytes of the section's fragments.
+pub cells_law : (l : Linkage) (fill owner : ℕ) (fs : List Fragment) (bytes : List ℕ) → AreFragments (linked_value l owner) fill fs bytes ↔ AreCells l fill (flat_map (fragment_cells owner) fs) bytes
 cells_law l fill owner fs bytes = of_fragments l fill owner fs bytes
 
 -- ---- Fragments and the parts of which they are joined.
 
-pub number_law : (E : Type 0) → NumberLaw E
+-- The value of a form whose sections and imports have the numbers of an object is that of the form by those numbers' bases and
+-- values.
+pub number_law : (E : Type 0) → (none : E) (bases : ℕ → ℤ) (values : ℕ → Result ℤ E) (sections imports : List ℕ) (f : Form) → value_in none bases values (numbered sections imports f) ≡ value_in none (λ g. bases (number_of sections g)) (λ k. values (number_of imports k)) f
 number_law E none bases values ss is (lit v) = refl
 number_law E none bases values ss is (sec g a) = refl
 number_law E none bases values ss is (imp k) = refl
@@ -184,7 +193,9 @@ module _ {E : Type 0} (o : Objects E) (l : Linkage) (owner fill : ℕ) (sections
     λ k. (k.0, k.1, (of_part q k.0 h.0).1 k.2, (of_parts qs k.1 h.1).1 k.3, k.4),
   )
 
-pub module_law : (E : Type 0) → ModuleLaw E
+-- A module's lines in a segment have the bytes of what its object's section puts there, where the forms in its parts have the
+-- values of those in the object.
+pub module_law : (E : Type 0) → (p : Program) (o : Objects E) (l : Linkage) (fill begin owner g : ℕ) (y : Layout) (cs : List Content) (origins : Place → Origin) (sections imports bytes : List ℕ) → AreObjects p o → o.symbols owner ≡ table_of y → ((place : ℕ) (x : Laid) → slice_get y.laid place ≡ Some x → o.spots owner place ≡ x.spot) → IsLaidOut y → IsMultiple begin (largest_multiple (lines_at g (lines_behind owner [] y.laid))) → contents_from (table_of y) y.laid ≡ Ok cs → AllByRecursion (IsValuedIn o l owner sections imports) (parts_in cs g) → AreBytes p fill begin (map line (lines_at g (lines_behind owner [] y.laid))) bytes ↔ AreCells l fill (flat_map (fragment_cells owner) (section_of origins y.standing.segments sections imports cs g).fragments) bytes
 module_law E p o l fill begin owner g y cs origins sections imports bytes h table spots d m e valued =
     let Has : Valuing = linked_value l owner in
     let lines = section_law E p o fill begin owner g y cs bytes h table spots d m e in

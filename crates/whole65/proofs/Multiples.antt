@@ -8,7 +8,6 @@ use Rattle.whole65.specs.Offsets.{IsMultiple, IsPower, ArePowers}
 use Rattle.language65.specs.Laid.{Laid}
 use Rattle.language65.specs.declared.language.Statement.{Statement}
 use Rattle.language65.specs.declared.language.Statement.TheVariants.{Align}
-use Rattle.whole65.specs.Inner.Steps.{ShiftLaw, RoundingLaw}
 use Rattle.whole65.specs.Segments.{Item, Line, end_behind, end_of, largest_multiple, line, line_end}
 use Rattle.std.specs.Prelude.{ℤ, pos, negsuc, nat_lt, not, ◌==◌, ◌&&◌, ◌||◌}
 use Rattle.std.specs.List.{AllByRecursion, list_any}
@@ -21,6 +20,7 @@ use Rattle.language65.specs.Sizes.{counted, gap, length_of}
 use Rattle.language65.specs.Symbols.{Symbols, key_defined}
 use Rattle.source65.specs.declared.place.Place.{Place}
 use Rattle.object65.specs.Objects.{section_limit}
+use Rattle.script65.specs.Placing.{rounded_up}
 
 -- ---- Numbers that are tested.
 
@@ -131,7 +131,9 @@ end_shift (x ∷ xs) b o p h =
     ap (λ n. end_of n (map line xs)) (line_shift b o x.multiple x.laid first)
     ∙ end_shift xs b (line_end o x.multiple x.laid) p.1 others
 
-pub shift_law : ShiftLaw
+-- Lines that begin at a multiple of the largest of their own multiples end where they end from 0 on, moved to there: so
+-- `.align` rounds a position in the whole list as it rounds an offset in the section.
+pub shift_law : (xs : List Line) (begin : ℕ) → ArePowers xs → IsMultiple begin (largest_multiple xs) → end_of begin (map line xs) ≡ begin + end_of 0 (map line xs)
 shift_law xs b p h = let same : b ≡ b + 0 = omega arith in ap (λ n. end_of n (map line xs)) same ∙ end_shift xs b 0 p h
 
 -- ---- A line ends its length behind its offset, and aligns to a power of two.
@@ -241,7 +243,8 @@ by_parts x y q (suc r) pos_y h e =
 not_zero : (n : ℕ) → (suc n == 0) ≡ false
 not_zero n = grind (arith, nat_tests)
 
-pub rounding_law : RoundingLaw
+-- A link and the whole program round alike.
+pub rounding_law : (at n : ℕ) → 0 < n → rounded_up at n ≡ next_multiple_of at n
 rounding_law at zero h = absurd (omega (arith, h))
 rounding_law at (suc n) h =
     ap (λ b. cond b at ((at / suc n + min 1 (at % suc n)) * suc n)) (not_zero n)

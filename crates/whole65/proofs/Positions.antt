@@ -6,7 +6,7 @@ use Rattle.std.proofs.lemmas.Bool.Decides.{nat_tests}
 use Rattle.std.proofs.lemmas.List.{length-append, append-nil, append_assoc, take-append-drop}
 use Rattle.language65.specs.Laid.{Laid}
 use Rattle.language65.specs.Layout.{Layout, Standing, first_size, grown_at, laid, layout_behind, multiple_of, named_segments, new_segment, own_size, place_of, segment_at, segments_behind, spot_of, powers}
-use Rattle.whole65.specs.Segments.{Item, Line, has_section, is_line, items_before, largest_multiple, line, line_of, lines_behind, lines_in, part_of, rounding, stands_in, end_of, items_from, segment_name}
+use Rattle.whole65.specs.Segments.{Item, Line, has_section, is_line, items_before, largest_multiple, line, line_of, lines_behind, lines_in, part_of, rounding, stands_in, end_of, items_from, segment_name, position_of}
 use Rattle.std.specs.Str.{bytes_eq}
 use Rattle.std.proofs.lemmas.Iterator.Adapters.{position_from-zero}
 use Rattle.syntax65.specs.declared.lexing.tokens.AddressSize.{AddressSize}
@@ -20,11 +20,10 @@ use Rattle.source65.specs.declared.place.Place.{Place}
 use Rattle.language65.proofs.Segments.{all_more, all_same, grown_length, one_longer}
 use Rattle.whole65.proofs.Offsets.{behind_more, placed, largest_push}
 use Rattle.whole65.proofs.Multiples.{equal, larger, multiple_of_multiple, power_positive, rounded, end_of-append, largest_power, shift_law}
-use Rattle.whole65.specs.Offsets.{IsLaidOut, begun, behind, ArePowers, IsMultiple, begin_from, lines_at, IsPower}
+use Rattle.whole65.specs.Offsets.{IsLaidOut, begun, behind, ArePowers, IsMultiple, begin_from, lines_at, IsPower, begin_of}
 use Rattle.std.specs.Int.{next_multiple_of}
 use Rattle.std.proofs.lemmas.List.Elements.{filter-append}
 use Rattle.std.proofs.lemmas.Slice.Eq.{bytes_eq-Decides}
-use Rattle.whole65.specs.Inner.Steps.{PositionLaw, AlignmentLaw}
 use Rattle.language65.specs.Numbering.{number_of, segment_power}
 
 -- ---- The items of a list before a statement.
@@ -313,7 +312,9 @@ from_module at first (suc count) owner place (z ∷ ys) y l o e d there asked =
     ∙ end_of-append at (part_of first z name) (items_before owner place (items_from (suc first) ys name))
     ∙ from_module (end_of at (part_of first z name)) (suc first) count owner place ys y l next e d there asked
 
-pub position_law : PositionLaw
+-- In the list of a segment of which the module has a section, a statement's position is where the module's section begins,
+-- moved by the statement's offset.
+pub position_law : (ys : List Layout) (owner place : ℕ) (y : Layout) (l : Laid) → slice_get ys owner ≡ Some y → IsLaidOut y → slice_get y.laid place ≡ Some l → has_section y (segment_name y l.spot.segment) ≡ true → position_of ys (segment_name y l.spot.segment) owner place ≡ begin_of ys (segment_name y l.spot.segment) owner + l.spot.offset
 position_law ys owner place y l e d there asked = from_module 0 0 owner owner place ys y l (omega arith) e d there asked
 
 -- ---- The alignment of a section in an object.
@@ -345,7 +346,8 @@ power_at [] g = refl
 power_at (x ∷ gs) zero = refl
 power_at (x ∷ gs) (suc g) = power_at gs g
 
-pub alignment_law : AlignmentLaw
+-- The section of an object for a segment is aligned as the module's lines in that segment are.
+pub alignment_law : (y : Layout) (owner g : ℕ) → IsLaidOut y → 2 ^ segment_power (slice_get y.standing.segments g) ≡ largest_multiple (lines_at g (lines_behind owner [] y.laid))
 alignment_law y owner g d =
     let lines : List Line = lines_at g (lines_behind owner [] y.laid) in
     let same : (segment_at y.standing.segments g).align ≡ largest_multiple lines = (placed owner d).aligns g in

@@ -41,11 +41,9 @@ use Rattle.whole65.proofs.Keyed.{form_law, keyed_law}
 use Rattle.whole65.proofs.Linked.{linked_law}
 use Rattle.whole65.proofs.Positions.{all_get}
 use Rattle.whole65.proofs.Sources.{contents_of}
-use Rattle.whole65.specs.Inner.Keyed.{IsKeyed, IsKeyedContent, IsKeyedSaid, provider_named, imports_linked, linked_objects}
-use Rattle.whole65.specs.Inner.Steps.{SourcesLaw}
-use Rattle.whole65.specs.Inner.Linked.{spot_in, symbols_at}
+use Rattle.whole65.proofs.LinkedObjects.{IsKeyed, IsKeyedContent, IsKeyedSaid, provider_named, imports_linked, linked_objects, spot_in, symbols_at}
 use Rattle.whole65.specs.Modules.{global_spot, spot_or, table_of}
-use Rattle.whole65.specs.Objects.{IsExport, IsGiven, IsGivenBy, Objects}
+use Rattle.whole65.specs.Objects.{IsExport, IsGiven, IsGivenBy, Objects, AreObjects}
 use Rattle.whole65.specs.Offsets.{IsLaidOut}
 use Rattle.whole65.specs.Programs as whole
 use Rattle.whole65.specs.Programs.{definition_of, exporter_from, provider_or, length_of}
@@ -308,6 +306,7 @@ module _ (s : Script) (placement : Placement) (ys : List Layout) (ms : List Modu
       given_by h owner k x (whole.provider_of s placement ys x) (linked.provider_of (script_definitions s placement) (program_of ms).exports (weak_symbols s.symbols) x) (providers_agree s placement ys ms x h)
       (λ turns. ap (λ r. import_value (exports_through l turns) (provider_named s placement (program_of ms) r)) e)
 
-pub sources_law : SourcesLaw
+-- What linking knows of the modules of sources is of their program: each import comes to what its provider says.
+pub sources_law : (s : Script) (placement : Placement) (ys : List Layout) (ms : List Module) → AreSources ys ms → AreObjects (whole.program_of s placement ys) (linked_objects s placement ys ms)
 sources_law s placement ys ms h =
     linked_law ValueFault NoValue (imports_linked s placement ys ms) s placement ys (all_laid_out ys ms h) (λ owner k. given s placement ys ms h owner k _ refl)

@@ -22,7 +22,7 @@ use Rattle.language65.specs.Symbols.{with_new}
 use Rattle.link65.specs.Programs.{Module, Program as LinkedProgram, no_program, program_of, with_module, with_modules, Segment, grown, segment_of, with_section, with_sections, Cell, begin_behind, filled, fragment_cells}
 use Rattle.link65.specs.Values as places
 use Rattle.link65.specs.Programs as linked
-use Rattle.module65.proofs.Tables.{new_append}
+use Rattle.module65.proofs.Resolving.{new_append}
 use Rattle.whole65.proofs.Sections.{asked_are, held, keys_of, or_both, or_false, or_true, with_key, name_at, segment_law}
 use Rattle.whole65.proofs.Positions.{itself}
 use Rattle.whole65.proofs.Sources.{contents_of, size_law, Behind, begin_is_multiple, behind_source, grows, no_part, part_end, section_begin, size_or, size_or_empty, unchanged, whole_part}
@@ -39,12 +39,8 @@ use Rattle.module65.specs.Module.{contents_from}
 use Rattle.module65.proofs.SoundForms.{all_append}
 use Rattle.whole65.proofs.Keyed.{source_at, form_law, keyed_law}
 use Rattle.whole65.proofs.ModuleBytes.{cells_joined, cells_split, of_filled, module_law}
-use Rattle.whole65.specs.Inner.Cells.{AreCells, IsValuedIn, cells_or}
+use Rattle.whole65.proofs.LinkedObjects.{AreCells, IsValuedIn, cells_or, behind_modules, behind_sections, or_empty, IsKeyedContent, IsKeyedPart, linked_objects, spot_in, symbols_at}
 use Rattle.whole65.specs.Contents.{AreBytes}
-use Rattle.whole65.specs.Inner.Growth.{behind_modules, behind_sections, or_empty}
-use Rattle.whole65.specs.Inner.Keyed.{IsKeyedContent, IsKeyedPart, linked_objects}
-use Rattle.whole65.specs.Inner.Steps.{LinkedBytesLaw}
-use Rattle.whole65.specs.Inner.Linked.{spot_in, symbols_at}
 use Rattle.whole65.specs.Objects.{AreObjects, Objects}
 use Rattle.whole65.specs.Offsets.{IsMultiple, lines_at}
 use Rattle.whole65.specs.Programs as whole
@@ -343,7 +339,8 @@ module _ (s : Script) (placement : Placement) (ys : List Layout) (ms : List Modu
         λ k. (let b = bytes_split p fill (size_or g) (part_of owner y name) (items_from (suc owner) rest name) k.1 k.3 in deeper.1 (k.0 ++ b.0, b.1, (one (k.0 ++ b.0)).1 (k.0, b.0, k.2, b.2, refl), subst (λ n. AreBytes p fill n (items_from (suc owner) rest name) b.1) (sym size) b.3, k.4 ∙ ap (λ z. k.0 ++ z) b.4 ∙ sym (append_assoc k.0 b.0 b.1))),
       )
 
-pub linked_bytes_law : LinkedBytesLaw
+-- What lies in a segment of a link has the bytes of the segment's list in the whole program.
+pub linked_bytes_law : (s : Script) (placement : Placement) (ys : List Layout) (ms : List Module) (fill : ℕ) (name bytes : List ℕ) → AreSources ys ms → AreObjects (whole.program_of s placement ys) (linked_objects s placement ys ms) → AreCells (linkage_of s (linked.program_of ms) placement) fill (cells_or (segment_of (linked.program_of ms).segments name)) bytes ↔ AreBytes (whole.program_of s placement ys) fill 0 (items_of ys name) bytes
 linked_bytes_law s placement ys ms fill name bytes sources objects =
     let all = modules s placement ys ms fill name sources objects ys ms 0 None bytes sources (λ i. ap (slice_get ys) (zero_first i)) (λ i. ap (slice_get ms) (zero_first i)) in
     let l : Linkage = linkage_of s (linked.program_of ms) placement in

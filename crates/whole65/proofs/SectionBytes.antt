@@ -21,7 +21,7 @@ use Rattle.language65.specs.declared.laid.Spot.{Spot}
 use Rattle.whole65.proofs.SameValues.{bind_ok, folded_ok, written_ok, same_values_law}
 use Rattle.whole65.specs.Contents.{AreStored, counted_from, AreInstruction, AreItem, AreItems, AreLine, AreOperand, code_bytes, filling, AreBytes}
 use Rattle.whole65.specs.Objects.{HasValue, Objects, form_value, AreObjects}
-use Rattle.whole65.specs.Inner.Parts.{ArePart, AreParts, Valuing}
+use Rattle.whole65.proofs.LinkedObjects.{ArePart, AreParts, Valuing}
 use Rattle.std.proofs.lemmas.List.{append-nil, append_assoc}
 use Rattle.syntax65.specs.Opcodes.{opcode_of}
 use Rattle.syntax65.specs.Trees.{Tree}
@@ -35,8 +35,7 @@ use Rattle.language65.specs.declared.language.Statement.TheVariants as statement
 use Rattle.language65.specs.declared.language.Item.TheVariants as item
 use Rattle.language65.specs.Norms.{norm_of}
 use Rattle.language65.specs.Sizes.{width_of}
-use Rattle.whole65.specs.Inner.Steps.{PartsLaw, SectionLaw}
-use Rattle.whole65.specs.Segments.{Line, line_end, line, line_of, lines_behind}
+use Rattle.whole65.specs.Segments.{Line, line_end, line, line_of, lines_behind, largest_multiple}
 use Rattle.whole65.specs.Values.{Program, Value}
 use Rattle.std.specs.List.{flat_map}
 use Rattle.language65.specs.Laid.{Laid, asks_section}
@@ -46,7 +45,9 @@ use Rattle.module65.specs.Module.{contents_from}
 use Rattle.module65.specs.Places.{PlacedFault, at_place}
 use Rattle.whole65.proofs.Offsets.{EndsAt, all_end, ends_moved, placed}
 use Rattle.whole65.proofs.Positions.{powers_at}
-use Rattle.whole65.specs.Offsets.{ArePowers, lines_at}
+use Rattle.whole65.specs.Offsets.{ArePowers, lines_at, IsMultiple, IsLaidOut}
+use Rattle.language65.specs.Layout.{Layout}
+use Rattle.whole65.specs.Modules.{table_of}
 
 -- ---- Values as they are stored.
 
@@ -245,7 +246,9 @@ of_line p o h fill at x (statement.Align n v) ps bytes s e q =
 of_line p o h fill at x (statement.FilePart file n v) ps bytes s e q = of_alone p o h fill x s _ ps bytes q
 of_line p o h fill at x t ps bytes s e q = none p o h fill x s ps bytes q
 
-pub parts_law : (E : Type 0) → PartsLaw E
+-- A line of the whole program has the bytes of the parts that its statement puts into the section, at a position at which it
+-- ends its length further on.
+pub parts_law : (E : Type 0) → (p : Program) (o : Objects E) (fill at : ℕ) (x : Line) (ps : List Part) (bytes : List ℕ) → AreObjects p o → o.spots x.owner x.place ≡ x.laid.spot → line_end at x.multiple x.laid ≡ at + x.laid.length → parts_of (o.symbols x.owner) x.laid ≡ Ok ps → AreLine p fill at x bytes ↔ AreParts (HasValue o x.owner) fill ps bytes
 parts_law E p o fill at x ps bytes h s e q = of_line p o h fill at x x.laid.stated ps bytes s e q
 
 -- ---- Parts behind parts.
@@ -328,7 +331,9 @@ module _ {E : Type 0} (p : Program) (o : Objects E) (h : AreObjects p o) (fill o
                 λ k. (let s = parts_split (HasValue o owner) fill c.parts (parts_in ds g) bytes k in (s.0, s.1, (one s.0).1 s.2, (deeper behind s.1 ends.1).1 s.3, s.4)),
               )
 
-pub section_law : (E : Type 0) → SectionLaw E
+-- A module's lines in a segment, from a multiple of their alignment on, have the bytes of what its statements put into the
+-- section.
+pub section_law : (E : Type 0) → (p : Program) (o : Objects E) (fill begin owner g : ℕ) (y : Layout) (cs : List Content) (bytes : List ℕ) → AreObjects p o → o.symbols owner ≡ table_of y → ((place : ℕ) (l : Laid) → slice_get y.laid place ≡ Some l → o.spots owner place ≡ l.spot) → IsLaidOut y → IsMultiple begin (largest_multiple (lines_at g (lines_behind owner [] y.laid))) → contents_from (table_of y) y.laid ≡ Ok cs → AreBytes p fill begin (map line (lines_at g (lines_behind owner [] y.laid))) bytes ↔ AreParts (HasValue o owner) fill (parts_in cs g) bytes
 section_law E p o fill begin owner g y cs bytes h table spots d m e =
     let lines : List Line = lines_at g (lines_behind owner [] y.laid) in
     let powers : ArePowers lines = powers_at g (lines_behind owner [] y.laid) (placed owner d).powers in

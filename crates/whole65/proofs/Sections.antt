@@ -32,9 +32,9 @@ use Rattle.language65.specs.declared.contents.Segment.{Segment}
 use Rattle.language65.specs.Numbering as numbering
 use Rattle.link65.specs.Programs.{grown, Module, Program, member, no_program, with_module, with_modules, Segment as LinkedSegment, segment_of, with_section, with_sections}
 use Rattle.link65.specs.Programs as linked
-use Rattle.whole65.specs.Inner.Growth.{behind_sections, or_empty, behind_modules}
+use Rattle.whole65.proofs.LinkedObjects.{behind_sections, or_empty, behind_modules}
 use Rattle.std.proofs.lemmas.List.{length-append}
-use Rattle.whole65.specs.Inner.Steps.{SegmentLaw}
+use Rattle.whole65.specs.Programs.{program_of}
 
 -- ---- Each once.
 
@@ -326,5 +326,6 @@ all_modules p (m ∷ ms) name =
     ∙ ap (λ n. behind_modules n name (segment_of (with_sections (length p.members) p.segments m.object.sections) name) ms) longer
     ∙ ap (λ g. behind_modules (suc (length p.members)) name g ms) (all_sections (length p.members) p.segments m.object.sections name)
 
-pub segment_law : SegmentLaw
+-- A segment of linked modules is what the sections of its name make of it, module by module.
+pub segment_law : (ms : List Module) (name : List ℕ) → segment_of (linked.program_of ms).segments name ≡ behind_modules 0 name None ms
 segment_law ms name = all_modules no_program ms name

@@ -28,23 +28,23 @@ use Rattle.module65.specs.Places.{PlacedFault, at_place}
 use Rattle.whole65.proofs.SameValues.{bind_ok}
 use Rattle.whole65.proofs.Offsets.{EndsAt, all_end, placed}
 use Rattle.whole65.proofs.SectionBytes.{IsContent, content_is, placed_ok}
-use Rattle.whole65.specs.Inner.Steps.{LengthLaw, SizeLaw}
 use Rattle.whole65.specs.Modules.{table_of}
 use Rattle.whole65.specs.Offsets.{lines_at, IsLaidOut, IsMultiple}
-use Rattle.whole65.specs.Segments.{Line, end_of, line, line_end, line_of, lines_behind, has_section, items_from, largest_multiple, lines_in, part_of, rounding, segment_name}
+use Rattle.whole65.specs.Segments.{Line, end_of, line, line_end, line_of, lines_behind, has_section, items_from, largest_multiple, lines_in, part_of, rounding, segment_name, items_of}
 use Rattle.std.specs.Int.{next_multiple_of}
 use Rattle.std.specs.Option.{option_map_or}
 use Rattle.object65.specs.Versions.{IsEitherVersion, in_version_one, line_alone}
 use Rattle.object65.specs.declared.object.Object.{Object}
 use Rattle.script65.specs.Placing.{rounded_up}
 use Rattle.link65.specs.Programs.{Module, grown, segment_of}
-use Rattle.link65.specs.Programs as linked_segments
 use Rattle.whole65.proofs.Positions.{alignment_law, named, by_number, powers_at}
 use Rattle.whole65.proofs.Sections.{segment_law, AreKeys, keys_of, its_section, none_there, one_there}
 use Rattle.whole65.proofs.Multiples.{power_positive, rounded, rounding_law, end_of-append, largest_power, shift_law}
 use Rattle.whole65.proofs.Versions.{by_lines}
-use Rattle.whole65.specs.Inner.Growth.{behind_modules, behind_sections, or_empty}
+use Rattle.whole65.proofs.LinkedObjects.{behind_modules, behind_sections, or_empty}
 use Rattle.whole65.specs.Sources.{AreSources, IsSource}
+use Rattle.link65.specs.Programs as linked
+use Rattle.whole65.specs.Programs.{program_of}
 
 -- ---- Fragments.
 
@@ -192,7 +192,8 @@ module _ (z : Symbols) (owner g : ℕ) where
               let both = sum_by-append part_len c.parts (parts_in ds g) in
               omega (arith, first, rest, own, both)
 
-pub length_law : LengthLaw
+-- It is as long as they are.
+pub length_law : (y : Layout) (owner g : ℕ) (cs : List Content) (origins : Place → Origin) (sections imports : List ℕ) → IsLaidOut y → IsSoundLayout y → contents_from (table_of y) y.laid ≡ Ok cs → section_len (section_of origins y.standing.segments sections imports cs g) ≡ end_of 0 (map line (lines_at g (lines_behind owner [] y.laid)))
 length_law y owner g cs origins sections imports d s e =
     let parts = joined_parts_long origins sections imports (parts_in cs g) in
     let lines = lines_long (table_of y) owner g [] y.laid cs 0 (all_end owner g d) (all_lines_long y s) e in
@@ -244,15 +245,15 @@ same_object y m cs h e =
 
 -- ---- One section.
 
-abbrev pub size_or : Option linked_segments.Segment → ℕ
-size_or g = option_map_or (λ (g : linked_segments.Segment). g.size) g 0
+abbrev pub size_or : Option linked.Segment → ℕ
+size_or g = option_map_or (λ (g : linked.Segment). g.size) g 0
 
-pub size_or_empty : (name : List ℕ) (g : Option linked_segments.Segment) → (or_empty name g).size ≡ size_or g
+pub size_or_empty : (name : List ℕ) (g : Option linked.Segment) → (or_empty name g).size ≡ size_or g
 size_or_empty name None = refl
 size_or_empty name (Some g) = refl
 
 -- what a section makes of a segment, or that there is none
-pub data Behind (y : Layout) (m : Module) (origins : Place → Origin) (cs : List Content) (owner : ℕ) (name : List ℕ) (g : Option linked_segments.Segment) : Type 0 where
+pub data Behind (y : Layout) (m : Module) (origins : Place → Origin) (cs : List Content) (owner : ℕ) (name : List ℕ) (g : Option linked.Segment) : Type 0 where
   unchanged : has_section y name ≡ false → behind_sections owner name g m.object.sections ≡ g → Behind y m origins cs owner name g
   grows :
       (key : ℕ) → has_section y name ≡ true → list_any (nat_eq key) (section_keys cs) ≡ true → key < length y.standing.segments →
@@ -260,7 +261,7 @@ pub data Behind (y : Layout) (m : Module) (origins : Place → Origin) (cs : Lis
       behind_sections owner name g m.object.sections ≡ Some (grown owner (or_empty name g) (section_of origins y.standing.segments (section_keys cs) (import_keys (table_of y).imports cs) cs key)) →
       Behind y m origins cs owner name g
 
-pub behind_source : (y : Layout) (m : Module) → (h : IsSource y m) → (owner : ℕ) (name : List ℕ) (g : Option linked_segments.Segment) → Behind y m (contents_of y m h).origins (contents_of y m h).contents owner name g
+pub behind_source : (y : Layout) (m : Module) → (h : IsSource y m) → (owner : ℕ) (name : List ℕ) (g : Option linked.Segment) → Behind y m (contents_of y m h).origins (contents_of y m h).contents owner name g
 behind_source y m h owner name g = go (has_section y name) refl
   where
     go : (b : Bool) → has_section y name ≡ b → Behind y m (contents_of y m h).origins (contents_of y m h).contents owner name g
@@ -285,7 +286,7 @@ behind_source y m h owner name g = go (has_section y name) refl
 pub in_segment : (owner : ℕ) (y : Layout) (g : ℕ) → IsLaidOut y → g < length y.standing.segments → lines_in owner y (segment_name y g) ≡ lines_at g (lines_behind owner [] y.laid)
 in_segment owner y g d lt = by_number owner y g (named d).distinct lt [] y.laid (named d).standing
 
-pub section_begin : (y : Layout) (owner key at : ℕ) (origins : Place → Origin) (sections imports : List ℕ) (cs : List Content) → IsLaidOut y → rounded_up at (linked_segments.align_of (section_of origins y.standing.segments sections imports cs key)) ≡ next_multiple_of at (largest_multiple (lines_at key (lines_behind owner [] y.laid)))
+pub section_begin : (y : Layout) (owner key at : ℕ) (origins : Place → Origin) (sections imports : List ℕ) (cs : List Content) → IsLaidOut y → rounded_up at (linked.align_of (section_of origins y.standing.segments sections imports cs key)) ≡ next_multiple_of at (largest_multiple (lines_at key (lines_behind owner [] y.laid)))
 section_begin y owner key at origins sections imports cs d =
     let lines : List Line = lines_at key (lines_behind owner [] y.laid) in
     let positive : 0 < largest_multiple lines = power_positive (largest_multiple lines) (largest_power lines (powers_at key (lines_behind owner [] y.laid) (placed owner d).powers)) in
@@ -306,7 +307,7 @@ whole_part y owner key name d lt called has =
 pub no_part : (y : Layout) (owner : ℕ) (name : List ℕ) → has_section y name ≡ false → part_of owner y name ≡ []
 no_part y owner name has = ap (λ b. cond b (rounding (largest_multiple (lines_in owner y name)) ∷ map line (lines_in owner y name)) []) has
 
-pub part_end : (y : Layout) (m : Module) (owner : ℕ) (name : List ℕ) (g : Option linked_segments.Segment) → IsSource y m → size_or (behind_sections owner name g m.object.sections) ≡ end_of (size_or g) (part_of owner y name)
+pub part_end : (y : Layout) (m : Module) (owner : ℕ) (name : List ℕ) (g : Option linked.Segment) → IsSource y m → size_or (behind_sections owner name g m.object.sections) ≡ end_of (size_or g) (part_of owner y name)
 part_end y m owner name g h = go (behind_source y m h owner name g)
   where
     go : Behind y m (contents_of y m h).origins (contents_of y m h).contents owner name g → size_or (behind_sections owner name g m.object.sections) ≡ end_of (size_or g) (part_of owner y name)
@@ -319,7 +320,7 @@ part_end y m owner name g h = go (behind_source y m h owner name g)
         let lines : List Line = lines_at key (lines_behind owner [] y.laid) in
         let begin : ℕ = next_multiple_of (size_or g) (largest_multiple lines) in
         ap size_or e
-        ∙ ap (λ n. rounded_up n (linked_segments.align_of (section_of c.origins y.standing.segments sections imports cs key)) + section_len (section_of c.origins y.standing.segments sections imports cs key)) (size_or_empty name g)
+        ∙ ap (λ n. rounded_up n (linked.align_of (section_of c.origins y.standing.segments sections imports cs key)) + section_len (section_of c.origins y.standing.segments sections imports cs key)) (size_or_empty name g)
         ∙ ap (λ n. n + section_len (section_of c.origins y.standing.segments sections imports cs key)) (section_begin y owner key (size_or g) c.origins sections imports cs h.laid_out)
         ∙ ap (λ n. begin + n) (length_law y owner key cs c.origins sections imports h.laid_out h.sound c.found)
         ∙ sym (shift_law lines begin (powers_at key (lines_behind owner [] y.laid) (placed owner h.laid_out).powers) (begin_is_multiple y owner key (size_or g) h.laid_out))
@@ -327,7 +328,7 @@ part_end y m owner name g h = go (behind_source y m h owner name g)
 
 -- ---- Module by module.
 
-pub modules_end : (ys : List Layout) (ms : List Module) (owner : ℕ) (name : List ℕ) (g : Option linked_segments.Segment) → AreSources ys ms → size_or (behind_modules owner name g ms) ≡ end_of (size_or g) (items_from owner ys name)
+pub modules_end : (ys : List Layout) (ms : List Module) (owner : ℕ) (name : List ℕ) (g : Option linked.Segment) → AreSources ys ms → size_or (behind_modules owner name g ms) ≡ end_of (size_or g) (items_from owner ys name)
 modules_end [] [] owner name g h = refl
 modules_end [] (m ∷ ms) owner name g h = absurd h
 modules_end (y ∷ ys) [] owner name g h = absurd h
@@ -336,5 +337,6 @@ modules_end (y ∷ ys) (m ∷ ms) owner name g h =
     ∙ ap (λ n. end_of n (items_from (suc owner) ys name)) (part_end y m owner name g h.0)
     ∙ sym (end_of-append (size_or g) (part_of owner y name) (items_from (suc owner) ys name))
 
-pub size_law : SizeLaw
+-- A segment of linked modules is as long as the list of all lines of its name.
+pub size_law : (ys : List Layout) (ms : List Module) (name : List ℕ) → AreSources ys ms → linked.end_of (linked.program_of ms).segments name ≡ end_of 0 (items_of ys name)
 size_law ys ms name h = ap size_or (segment_law ms name) ∙ modules_end ys ms 0 name None h

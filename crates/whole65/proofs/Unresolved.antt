@@ -34,13 +34,12 @@ use Rattle.whole65.proofs.SameValues.{bind_ok, same_values_law}
 use Rattle.whole65.proofs.Rows.{any_new, any_map, names_asked, bytes_split}
 use Rattle.whole65.proofs.SectionBytes.{content_is, in_middle, placed_ok, section_law}
 use Rattle.whole65.proofs.Sources.{contents_of, begin_is_multiple, whole_part}
-use Rattle.whole65.specs.Inner.Keyed.{linked_objects}
-use Rattle.whole65.specs.Inner.Linked.{spot_in, symbols_at}
+use Rattle.whole65.proofs.LinkedObjects.{linked_objects, spot_in, symbols_at, AreParts}
 use Rattle.whole65.specs.Modules.{exports_of, forced_of, global_spot, spot_or, table_of}
 use Rattle.whole65.specs.Objects.{AreObjects, HasNone, HasValue, IsGivenBy, Objects}
 use Rattle.whole65.specs.Objects as objects
 use Rattle.whole65.specs.Programs as whole
-use Rattle.whole65.specs.Programs.{length_of}
+use Rattle.whole65.specs.Programs.{length_of, program_of}
 use Rattle.whole65.specs.Segments.{line_of, lines_behind, Line, asked_by, end_of, has_section, items_from, items_of, largest_multiple, line, need_of, needs_of, part_of, rounding, segment_name, segments_of}
 use Rattle.whole65.specs.Sources.{AreSources, IsSource}
 use Rattle.whole65.specs.Values.{Program, by_nobody}
@@ -56,9 +55,9 @@ use Rattle.language65.proofs.Lists.{same_bytes}
 use Rattle.link65.specs.Files.{RowBytes}
 use Rattle.whole65.proofs.Positions.{itself}
 use Rattle.whole65.specs.Contents.{AreBytes}
-use Rattle.whole65.specs.Inner.Steps.{GivenLaw, ResolvedLaw}
 use Rattle.whole65.specs.Offsets.{lines_at}
-use Rattle.whole65.specs.Inner.Parts.{AreParts}
+use Rattle.link65.specs.Programs as linked
+use Rattle.link65.specs.Names.{unresolved, symbol_imports}
 
 -- ---- What asks for no section puts nothing there.
 
@@ -266,7 +265,9 @@ forced_all p (y ∷ ys) (m ∷ ms) h k =
     let both = all_parts (IsGiven p) m.object.imports (flat_map (λ (m : Module). m.object.imports) ms) k in
     (forced_hold (IsGiven p) y m h.0 both.0, forced_all p ys ms h.1 both.1)
 
-pub given_law : GivenLaw
+-- Where a link leaves no name open, the names that have to be given in the whole program are: the script's imports, and those
+-- that modules import whether or not they use them.
+pub given_law : (s : Script) (placement : Placement) (ys : List Layout) (ms : List Module) → let p : Program = program_of s placement ys in AreSources ys ms → place_of s (needs_of ys) ≡ Ok placement → unresolved s (linked.program_of ms) ≡ [] → AllByRecursion (IsGiven p) (symbol_imports s.symbols) × AreForced p ys
 given_law s placement ys ms h placed none =
     let both = (none_open s placement ys ms h placed).0 none in
     (both.0, forced_all (whole.program_of s placement ys) ys ms h both.1)
@@ -376,7 +377,9 @@ module _ (s : Script) (placement : Placement) (ys : List Layout) (ms : List Modu
       (module_given s placement ys ms h owner y at_y m k.0 forced.0 exported.0 asserted.0 (asked_valued owner y at_y m k.0))
       (modules_given rest ns (suc owner) k.1 (λ i. up (suc i) ∙ ap (slice_get ys) (next i)) forced.1 exported.1 asserted.1)
 
-pub resolved_law : ResolvedLaw
+-- A link leaves no name open where they are given, and all that has to have a value in the whole program has one: rows, exports
+-- and assertions.
+pub resolved_law : (s : Script) (placement : Placement) (ys : List Layout) (ms : List Module) (bytes : RowBytes) → let p : Program = program_of s placement ys in AreSources ys ms → place_of s (needs_of ys) ≡ Ok placement → AllByRecursion (IsGiven p) (symbol_imports s.symbols) → AreForced p ys → AreExported p 0 ys → AreAsserted p 0 ys → AllByRecursion (AreRow p ys bytes) s.rows → unresolved s (linked.program_of ms) ≡ []
 resolved_law s placement ys ms bytes h placed own forced exported asserted rows =
     (none_open s placement ys ms h placed).1
     (own, modules_given s placement ys ms bytes h placed rows ys ms 0 h (λ i. ap (slice_get ys) (zero_first i)) forced exported asserted)

@@ -1,6 +1,5 @@
 pub mod Contents
 pub mod Equality
-pub mod Inner
 pub mod Laws
 pub mod Modules
 pub mod Objects

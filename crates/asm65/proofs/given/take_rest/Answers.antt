@@ -11,7 +11,7 @@ use Rattle.asm65.specs.Inner.Files.{read_bytes}
 use Rattle.language65.specs.Views.{place_in}
 use Rattle.module65.specs.Machine.{Takes}
 use Rattle.module65.specs.Reading.{IsRest}
-use Rattle.module65.proofs.Given.{some_tokens}
+use Rattle.module65.proofs.Taken.{some_tokens}
 use Rattle.asm65.specs.Inner.Running.{TakesBy}
 use Rattle.asm65.specs.Unread.{Without}
 use Rattle.asm65.proofs.Runs.{Answer, RestBy, never_stops, rest_leaves, rest_stops, rest_unread, rest_wrong, some_there, sound_leaves, takes_from, told_all}

@@ -11,7 +11,7 @@ use Rattle.language65.specs.Views.{place_in}
 use Rattle.language65.proofs.Lists.{map_length}
 use Rattle.module65.specs.Machine.{State, at_once, awaiting, entered, later}
 use Rattle.module65.specs.Pieces.{equated, valued}
-use Rattle.module65.proofs.Finals.{final_settles}
+use Rattle.module65.proofs.Resolving.{final_settles}
 use Rattle.symbols65.specs.Finals.{formed}
 use Rattle.symbols65.specs.Tables.{definition_in}
 use Rattle.symbols65.specs.Views.{table_of, with_definition, words_of}

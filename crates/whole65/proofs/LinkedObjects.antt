@@ -1,0 +1,194 @@
+-- What linking knows of the modules of a placed program, and the bytes of what they put into sections.
+use Rattle.object65.specs.declared.object.Fragment.TheVariants as fragment
+use Rattle.std.specs.Prelude.{◌≡◌, ℕ, ℤ, List, [], ◌∷◌, ◌++◌, replicate, Result, Ok, suc, Option, Some, None, if◌then◌else◌, ◌+◌, pos, nat_lt, length, slice_get, ◌<◌, nat_eq, true, ⊤, ◌↔◌}
+use Rattle.object65.specs.Form.{Form}
+use Rattle.object65.specs.FormValue.{value_in}
+use Rattle.object65.specs.declared.object.Fragment.{Fragment}
+use Rattle.language65.specs.Parts.{Part, Known, Filled, Waiting, Content, Said, Exported, Demanded, Checked}
+use Rattle.whole65.specs.Contents.{AreStored}
+use Rattle.std.specs.Str.{bytes_eq}
+use Rattle.object65.specs.declared.object.Section.{Section}
+use Rattle.link65.specs.Programs.{Module, Segment, empty_segment, grown, Program, program_of, Cell, known, filled, waits}
+use Rattle.base65.specs.Values.{wrapped}
+use Rattle.script65.specs.declared.placement.Placement.{Placement}
+use Rattle.script65.specs.declared.script.Script.{Script}
+use Rattle.link65.specs.Values.{run_of, linkage_of, exports_through, import_value, Linkage, base_of, provider_at}
+use Rattle.language65.specs.declared.laid.Spot.{Spot}
+use Rattle.language65.specs.Layout.{Layout}
+use Rattle.language65.specs.Symbols.{Symbols}
+use Rattle.whole65.specs.Modules.{defining_from, spot_at, table_of}
+use Rattle.whole65.specs.Objects.{Objects, HasValue}
+use Rattle.whole65.specs.Offsets.{begin_of}
+use Rattle.whole65.specs.Segments.{end_of, has_section, items_of, segment_name}
+use Rattle.std.specs.List.{AllByRecursion, list_any}
+use Rattle.language65.specs.Numbering.{imports_in, numbered}
+use Rattle.language65.specs.Sound.{sections_in}
+use Rattle.link65.specs.Names.{provider_of, script_definitions, weak_symbols}
+use Rattle.link65.specs.declared.parts.Provider.{Provider}
+use Rattle.link65.specs.declared.parts.Provider.TheVariants.{Nobody}
+use Rattle.link65.specs.declared.parts.ValueFault.{ValueFault}
+use Rattle.link65.specs.declared.parts.ValueFault.TheVariants.{NoValue}
+
+-- ---- The bytes of what modules put into their sections, where forms have values.
+
+-- which values forms have
+abbrev pub Valuing : Type 1
+Valuing = Form → ℤ → Type 0
+
+-- that of an object, where its sections have these bases and its imports come to this through so many exports
+abbrev pub valued_by : {E : Type 0} → E → (ℕ → ℤ) → (ℕ → ℕ → Result ℤ E) → Valuing
+valued_by none bases values f v = (turns : ℕ) × (value_in none bases (values turns) f ≡ Ok v)
+
+-- the bytes of a part of a module's section, by the fill value of its row
+abbrev pub ArePart : Valuing → ℕ → Part → List ℕ → Type 0
+ArePart Has fill (Known own) bytes = bytes ≡ own
+ArePart Has fill (Filled n) bytes = bytes ≡ replicate n fill
+ArePart Has fill (Waiting width place f) bytes = (v : ℤ) × Has f v × AreStored width v bytes
+
+-- of parts one behind the other
+abbrev pub AreParts : Valuing → ℕ → List Part → List ℕ → Type 0
+AreParts Has fill [] bytes = bytes ≡ []
+AreParts Has fill (p ∷ ps) bytes =
+    (own : List ℕ) × (rest : List ℕ) × ArePart Has fill p own × AreParts Has fill ps rest × (bytes ≡ own ++ rest)
+
+-- the bytes of a fragment of an object's section
+abbrev pub IsFragment : Valuing → ℕ → Fragment → List ℕ → Type 0
+IsFragment Has fill (fragment.Literal own) bytes = bytes ≡ own
+IsFragment Has fill (fragment.Fill n) bytes = bytes ≡ replicate n fill
+IsFragment Has fill (fragment.Value width origin f) bytes = (v : ℤ) × Has f v × AreStored width v bytes
+
+abbrev pub AreFragments : Valuing → ℕ → List Fragment → List ℕ → Type 0
+AreFragments Has fill [] bytes = bytes ≡ []
+AreFragments Has fill (f ∷ fs) bytes =
+    (own : List ℕ) × (rest : List ℕ) × IsFragment Has fill f own × AreFragments Has fill fs rest × (bytes ≡ own ++ rest)
+
+-- ---- One segment of a link, as the sections of its name make it grow.
+
+abbrev pub or_empty : List ℕ → Option Segment → Segment
+or_empty name None = empty_segment name
+or_empty name (Some g) = g
+
+-- the segment of a name behind the sections of a module
+abbrev pub behind_sections : ℕ → List ℕ → Option Segment → List Section → Option Segment
+behind_sections owner name g [] = g
+behind_sections owner name g (s ∷ ss) =
+    behind_sections owner name (if bytes_eq s.name name then Some (grown owner (or_empty s.name g) s) else g) ss
+
+-- behind modules, the first of which has this place
+abbrev pub behind_modules : ℕ → List ℕ → Option Segment → List Module → Option Segment
+behind_modules owner name g [] = g
+behind_modules owner name g (m ∷ ms) = behind_modules (suc owner) name (behind_sections owner name g m.object.sections) ms
+
+-- ---- What linking knows of the modules of a placed program.
+
+abbrev pub no_symbols : Symbols
+no_symbols = record { definitions = []; scopes = []; imports = []; zero_page = [] }
+
+abbrev pub symbols_at : Option Layout → Symbols
+symbols_at None = no_symbols
+symbols_at (Some y) = table_of y
+
+abbrev pub nowhere : Spot
+nowhere = record { scope = 0; opened = 0; region = 0; unnamed = 0; segment = 0; offset = 0 }
+
+abbrev pub spot_in : Option Layout → ℕ → Spot
+spot_in None place = nowhere
+spot_in (Some y) place = spot_at y place
+
+abbrev pub or_first : Option ℕ → ℕ
+or_first None = 0
+or_first (Some place) = place
+
+-- the place of the statement that makes a definition
+abbrev pub place_in : Option Layout → ℕ → ℕ
+place_in None definition = 0
+place_in (Some y) definition = or_first (slice_get (defining_from 0 y.laid) definition)
+
+-- where a module's section begins; a segment of which it has none is at its end there
+abbrev pub begin_in : List Layout → ℕ → Layout → List ℕ → ℕ
+begin_in ys owner y name = if has_section y name then begin_of ys name owner else end_of 0 (items_of ys name)
+
+abbrev pub base_in : Script → Placement → List Layout → ℕ → ℕ → Option Layout → ℤ
+base_in s p ys owner g None = pos 0
+base_in s p ys owner g (Some y) =
+    if nat_lt g (length y.standing.segments)
+    then wrapped (pos (run_of s.rows p.rows (segment_name y g) + begin_in ys owner y (segment_name y g)))
+    else pos 0
+
+-- by what imports come to
+abbrev pub objects_of : {E : Type 0} → E → (ℕ → ℕ → ℕ → Result ℤ E) → Script → Placement → List Layout → Objects E
+objects_of none imports s p ys = record {
+  none = none;
+  symbols = λ owner. symbols_at (slice_get ys owner);
+  spots = λ owner place. spot_in (slice_get ys owner) place;
+  places = λ owner definition. place_in (slice_get ys owner) definition;
+  bases = λ owner g. base_in s p ys owner g (slice_get ys owner);
+  imports = imports;
+}
+
+-- ---- Forms in the contents of a module, and what linking knows of them.
+
+-- ---- What imports come to.
+
+abbrev pub provider_named : Script → Placement → Program → Option (List ℕ) → Provider
+provider_named s placement q None = Nobody
+provider_named s placement q (Some name) = provider_of (script_definitions s placement) q.exports (weak_symbols s.symbols) name
+
+-- an import of a module has the value of the export of its name, through so many exports
+abbrev pub imports_linked : Script → Placement → List Layout → List Module → ℕ → ℕ → ℕ → Result ℤ ValueFault
+imports_linked s placement ys ms turns owner k =
+    import_value (exports_through (linkage_of s (program_of ms) placement) turns) (provider_named s placement (program_of ms) (slice_get (symbols_at (slice_get ys owner)).imports k))
+
+-- what linking knows of the modules of sources
+abbrev pub linked_objects : Script → Placement → List Layout → List Module → Objects ValueFault
+linked_objects s placement ys ms = objects_of NoValue (imports_linked s placement ys ms) s placement ys
+
+-- ---- Keys of forms.
+
+-- the sections and the imports of a form have numbers in the object
+pub record IsKeyed (sections imports : List ℕ) (count : ℕ) (f : Form) : Type 0 where
+  pub own_sections : AllByRecursion (λ g. list_any (nat_eq g) sections ≡ true) (sections_in f)
+  pub own_imports : AllByRecursion (λ k. (list_any (nat_eq k) imports ≡ true) × (k < count)) (imports_in f)
+
+abbrev pub IsKeyedPart : (sections imports : List ℕ) → ℕ → Part → Type 0
+IsKeyedPart sections imports count (Known own) = ⊤
+IsKeyedPart sections imports count (Filled n) = ⊤
+IsKeyedPart sections imports count (Waiting width place f) = IsKeyed sections imports count f
+
+abbrev pub IsKeyedSaid : (sections imports : List ℕ) → ℕ → Said → Type 0
+IsKeyedSaid sections imports count (Exported name place f) = IsKeyed sections imports count f
+IsKeyedSaid sections imports count (Demanded name) = ⊤
+IsKeyedSaid sections imports count (Checked act place words f) = IsKeyed sections imports count f
+
+pub record IsKeyedContent (sections imports : List ℕ) (count : ℕ) (c : Content) : Type 0 where
+  pub parts : AllByRecursion (IsKeyedPart sections imports count) c.parts
+  pub said : AllByRecursion (IsKeyedSaid sections imports count) c.said
+
+-- ---- The bytes of what lies in a segment of linked modules, where forms have values.
+
+-- the value of a form of a linked module, through some number of exports
+abbrev pub linked_value : Linkage → ℕ → Valuing
+linked_value l owner =
+    valued_by NoValue (base_of (slice_get l.modules owner)) (λ turns j. import_value (exports_through l turns) (provider_at (slice_get l.modules owner) j))
+
+abbrev pub IsCell : Linkage → ℕ → Cell → List ℕ → Type 0
+IsCell l fill (known b) bytes = bytes ≡ b ∷ []
+IsCell l fill filled bytes = bytes ≡ fill ∷ []
+IsCell l fill (waits w) bytes = (v : ℤ) × linked_value l w.owner w.form v × AreStored w.width v bytes
+
+abbrev pub AreCells : Linkage → ℕ → List Cell → List ℕ → Type 0
+AreCells l fill [] bytes = bytes ≡ []
+AreCells l fill (c ∷ cs) bytes =
+    (own : List ℕ) × (rest : List ℕ) × IsCell l fill c own × AreCells l fill cs rest × (bytes ≡ own ++ rest)
+
+-- a form in a part of a module has the value that the object's form has in a link
+abbrev pub IsValuedIn : {E : Type 0} → Objects E → Linkage → ℕ → (sections imports : List ℕ) → Part → Type 0
+IsValuedIn o l owner sections imports (Known own) = ⊤
+IsValuedIn o l owner sections imports (Filled n) = ⊤
+IsValuedIn o l owner sections imports (Waiting width place f) =
+    (v : ℤ) → HasValue o owner f v ↔ linked_value l owner (numbered sections imports f) v
+
+-- what lies in a segment, if there is one
+abbrev pub cells_or : Option Segment → List Cell
+cells_or None = []
+cells_or (Some g) = g.cells

@@ -11,7 +11,7 @@ use Rattle.std.specs.Cmp.Lexicographic.{slice_cmp, nat_list_cmp_total}
 use Rattle.base65.specs.Store.{Files, Tells, NoneFailed, HasFailed, Appends as Appended}
 use Rattle.base65.specs.declared.store.StoreFault.{StoreFault}
 use Rattle.base65.specs.declared.store.StoreFault.TheVariants.{OutOfMemory, FileNotFound, FileError}
-use Rattle.output65.specs.Leaving.{Prints, SaysBoth, IsPartly, apply, StopsAt, StopsShort, is_failure, is_file_error}
+use Rattle.output65.specs.Leaving.{Prints, SaysBoth, IsPartly, apply, StopsAt, StopsShort, Streams, streams, is_failure, is_file_error}
 use Rattle.output65.specs.declared.writing.Unwritten.{Unwritten}
 use Rattle.base65.proofs.Filling.{take-add}
 use Rattle.output65.specs.declared.outcome.Outcome.{Outcome}
@@ -172,15 +172,12 @@ by_cause u = go u.fault refl
     go FileError e a b = let yes : is_file_error u.fault ≡ true = ap is_file_error e in cc
 
 -- outputs that aren't all written
-pub short : (known new : Option Files) (fo fm fn : ℕ) (o : Outcome) (memory : List ℕ) (u : Unwritten) (out_old out_new err_old err_mid err_new : Option (List ℕ)) (whole : Bool) (status : Status) (P : Files → Type 0) → status ≡ Failure → fo ≤ fm → fm ≡ fn → (is_failure u ≡ true → HasFailed fo fm) → IfSome known (λ m. u.fault ≡ FileNotFound → ⊥) → Tells (StopsAt o.outputs u.place) known new → SaysBoth out_old out_new o.out err_old err_mid o.err true → (u.fault ≡ OutOfMemory → Prints err_mid err_new memory whole) → IfSome known (λ m. NoneFailed fo fn → P m ⊎ StopsShort o memory m new out_old out_new err_old err_new status)
-short None new fo fm fn o memory u out_old out_new err_old err_mid err_new whole status P e later same cause there left said more = tt
-short (Some m) new fo fm fn o memory u out_old out_new err_old err_mid err_new whole status P e later same cause there left said more = λ none.
+pub short : (known new : Option Files) (fo fm fn : ℕ) (o : Outcome) (memory : List ℕ) (u : Unwritten) (io : Streams) (err_mid : Option (List ℕ)) (whole : Bool) (status : Status) (P : Files → Type 0) → status ≡ Failure → fo ≤ fm → fm ≡ fn → (is_failure u ≡ true → HasFailed fo fm) → IfSome known (λ m. u.fault ≡ FileNotFound → ⊥) → Tells (StopsAt o.outputs u.place) known new → SaysBoth (streams io.out_old io.out_new io.err_old err_mid) o.out o.err true → (u.fault ≡ OutOfMemory → Prints err_mid io.err_new memory whole) → IfSome known (λ m. NoneFailed fo fn → P m ⊎ StopsShort o memory m new io status)
+short None new fo fm fn o memory u io err_mid whole status P e later same cause there left said more = tt
+short (Some m) new fo fm fn o memory u io err_mid whole status P e later same cause there left said more = λ none.
     let want : u.fault ≡ OutOfMemory = by_cause u (not_failed (is_failure u) refl none) there in
     inr (record {
-      err_mid = err_mid;
-      said = said;
-      whole = whole;
-      behind = more want;
+      said = record { err_mid = err_mid; said = said; whole = whole; behind = more want };
       place = u.place;
       left = left;
       failed = e;

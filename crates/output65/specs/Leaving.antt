@@ -32,10 +32,28 @@ IsPartly old name bytes new = (new ≡ old) ⊎ ((k : ℕ) × (new ≡ insert ol
 abbrev pub StopsAt : List OutputFile → ℕ → Files → Files → Type 0
 StopsAt outputs i old new = (o : OutputFile) × (slice_get outputs i ≡ Some o) × IsPartly (apply (take i outputs) old) o.name o.bytes new
 
+-- what standard output and standard error hold before a run and behind it, where they tell
+pub record Streams : Type 0 where
+  pub out_old : Option (List ℕ)
+  pub out_new : Option (List ℕ)
+  pub err_old : Option (List ℕ)
+  pub err_new : Option (List ℕ)
+
+abbrev pub streams : Option (List ℕ) → Option (List ℕ) → Option (List ℕ) → Option (List ℕ) → Streams
+streams out_old out_new err_old err_new = record { out_old = out_old; out_new = out_new; err_old = err_old; err_new = err_new }
+
 -- a text for each of two streams: both have taken theirs whole, or one stops short and nothing further is said
-abbrev pub SaysBoth : Option (List ℕ) → Option (List ℕ) → List ℕ → Option (List ℕ) → Option (List ℕ) → List ℕ → Bool → Type 0
-SaysBoth out_old out_new out err_old err_new err true = Prints out_old out_new out true × Prints err_old err_new err true
-SaysBoth out_old out_new out err_old err_new err false = (Prints out_old out_new out false × Keeps err_old err_new) ⊎ (Prints out_old out_new out true × Prints err_old err_new err false)
+abbrev pub SaysBoth : Streams → List ℕ → List ℕ → Bool → Type 0
+SaysBoth io out err true = Prints io.out_old io.out_new out true × Prints io.err_old io.err_new err true
+SaysBoth io out err false = (Prints io.out_old io.out_new out false × Keeps io.err_old io.err_new) ⊎ (Prints io.out_old io.out_new out true × Prints io.err_old io.err_new err false)
+
+-- both texts were taken whole, and behind that of standard error a text of a fault, or a first part of it
+pub record SaysBehind (io : Streams) (out err fault : List ℕ) : Type 0 where
+  -- standard error behind its own text
+  pub err_mid : Option (List ℕ)
+  pub said : SaysBoth (streams io.out_old io.out_new io.err_old err_mid) out err true
+  pub whole : Bool
+  pub behind : Prints err_mid io.err_new fault whole
 
 abbrev pub is_file_error : StoreFault → Bool
 is_file_error FileError = true
@@ -51,19 +69,15 @@ Settles o old new status true = (new ≡ Some (apply o.outputs old)) × (status 
 Settles o old new status false = (new ≡ Some old) × (status ≡ Failure)
 
 -- A run of an outcome: it says its texts, standard output's first, and then writes its files.
-pub record Performs (o : Outcome) (old : Files) (new : Option Files) (out_old out_new err_old err_new : Option (List ℕ)) (status : Status) : Type 0 where
+pub record Performs (o : Outcome) (old : Files) (new : Option Files) (io : Streams) (status : Status) : Type 0 where
   pub whole : Bool
-  pub said : SaysBoth out_old out_new o.out err_old err_new o.err whole
+  pub said : SaysBoth io o.out o.err whole
   pub settled : Settles o old new status whole
 
 -- Memory ran out while an outcome's files were written: its texts were taken whole, and behind them stands what is said
 -- of want of memory, or a first part of that.
-pub record StopsShort (o : Outcome) (memory : List ℕ) (old : Files) (new : Option Files) (out_old out_new err_old err_new : Option (List ℕ)) (status : Status) : Type 0 where
-  -- standard error behind its own text
-  pub err_mid : Option (List ℕ)
-  pub said : SaysBoth out_old out_new o.out err_old err_mid o.err true
-  pub whole : Bool
-  pub behind : Prints err_mid err_new memory whole
+pub record StopsShort (o : Outcome) (memory : List ℕ) (old : Files) (new : Option Files) (io : Streams) (status : Status) : Type 0 where
+  pub said : SaysBehind io o.out o.err memory
   pub place : ℕ
   pub left : Tells (StopsAt o.outputs place) (Some old) new
   pub failed : status ≡ Failure

@@ -1,9 +1,9 @@
 -- What is left where a call of the store fails while files are written.
-use Rattle.std.specs.Prelude.{◌≡◌, ℕ, true, List, ◌∷◌, [], codes, slice_get, Option, Some, Bool}
+use Rattle.std.specs.Prelude.{◌≡◌, ℕ, List, ◌∷◌, [], codes, slice_get, Option, Some}
 use Rattle.base65.specs.Store.{Files, IsBlamed, Tells}
 use Rattle.base65.specs.declared.output.OutputFile.{OutputFile}
 use Rattle.cli65.specs.Messages.{joined}
-use Rattle.output65.specs.Leaving.{Prints, SaysBoth, StopsAt}
+use Rattle.output65.specs.Leaving.{SaysBehind, StopsAt, Streams}
 use Rattle.output65.specs.declared.outcome.Outcome.{Outcome}
 use Rattle.output65.specs.declared.outcome.Status.{Status}
 use Rattle.output65.specs.declared.outcome.Status.TheVariants.{Failure}
@@ -15,15 +15,11 @@ file_error_line name = joined (name ∷ codes ": Error: file error\n" ∷ [])
 -- A call failed while an outcome's files were written: its texts were taken whole; the outputs before one are written, that
 -- one in part or not at all, and no later one; the failed call asked for that file; and what befell it is said behind the
 -- texts, or a first part of that.
-pub record StopsWriting (o : Outcome) (old : Files) (new : Option Files) (blamed : Option (List ℕ)) (out_old out_new err_old err_new : Option (List ℕ)) (status : Status) : Type 0 where
-  -- standard error behind the outcome's text
-  pub err_mid : Option (List ℕ)
-  pub said : SaysBoth out_old out_new o.out err_old err_mid o.err true
+pub record StopsWriting (o : Outcome) (old : Files) (new : Option Files) (blamed : Option (List ℕ)) (io : Streams) (status : Status) : Type 0 where
   pub place : ℕ
   pub left : Tells (StopsAt o.outputs place) (Some old) new
   pub output : OutputFile
   pub at : slice_get o.outputs place ≡ Some output
   pub asked : IsBlamed blamed output.name
-  pub whole : Bool
-  pub behind : Prints err_mid err_new (file_error_line output.name) whole
+  pub said : SaysBehind io o.out o.err (file_error_line output.name)
   pub failed : status ≡ Failure

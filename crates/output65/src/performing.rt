@@ -2,7 +2,7 @@
 
 ghost use Rattle.std.specs.Prelude.{◌≡◌, ◌<◌, ◌≤◌, ◌⊎◌, [], slice_get, IfSome, Some};
 ghost use Rattle.base65.specs.Store.{NoneFailed};
-ghost use Rattle.output65.specs.Leaving.{Prints, SaysBoth, Performs, StopsShort};
+ghost use Rattle.output65.specs.Leaving.{Prints, SaysBoth, Performs, StopsShort, streams};
 ghost use Rattle.cli65.specs.Messages.{memory_line};
 ghost use Rattle.base65.specs.declared.output.OutputFile.{OutputFile};
 ghost use Rattle.output65.specs.Stopping.{StopsWriting, file_error_line};
@@ -16,7 +16,8 @@ use std::io::Write;
 /// Says a text on each of two streams, on the second only where the first took all of its own, and answers
 /// whether both did.
 fn say_both<W: Write, E: Write>(out: &mut W, text: &[u8], err: &mut E, error_text: &[u8]) -> bool
-    ensures { SaysBoth (W.contents out.old) (W.contents out.new) text.now (E.contents err.old) (E.contents err.new) error_text.now result }
+    ensures { SaysBoth (streams (W.contents out.old) (W.contents out.new) (E.contents err.old) (E.contents err.new))
+        text.now error_text.now result }
 {
     if !print(out, text) {
         return false;
@@ -65,13 +66,17 @@ pub fn perform<S: Store, W: Write, E: Write>(
     memory_name: &str,
 ) -> Status
     ensures done { IfSome (S.files store.old) (λ m. NoneFailed (S.failures store.old) (S.failures store.new) →
-        Performs outcome.now m (S.files store.new) (W.contents out.old) (W.contents out.new) (E.contents err.old) (E.contents err.new) result
-        ⊎ StopsShort outcome.now (memory_line memory_name.now) m (S.files store.new) (W.contents out.old) (W.contents out.new) (E.contents err.old) (E.contents err.new) result) }
+        Performs outcome.now m (S.files store.new)
+            (streams (W.contents out.old) (W.contents out.new) (E.contents err.old) (E.contents err.new)) result
+        ⊎ StopsShort outcome.now (memory_line memory_name.now) m (S.files store.new)
+            (streams (W.contents out.old) (W.contents out.new) (E.contents err.old) (E.contents err.new)) result) }
     ensures plain { outcome.now.outputs ≡ [] → IfSome (S.files store.old) (λ m.
-        Performs outcome.now m (S.files store.new) (W.contents out.old) (W.contents out.new) (E.contents err.old) (E.contents err.new) result) }
+        Performs outcome.now m (S.files store.new)
+            (streams (W.contents out.old) (W.contents out.new) (E.contents err.old) (E.contents err.new)) result) }
     ensures untouched { outcome.now.outputs ≡ [] → S.blamed store.new ≡ S.blamed store.old }
     ensures failed { IfSome (S.files store.old) (λ m. S.failures store.old < S.failures store.new →
-        StopsWriting outcome.now m (S.files store.new) (S.blamed store.new) (W.contents out.old) (W.contents out.new) (E.contents err.old) (E.contents err.new) result) }
+        StopsWriting outcome.now m (S.files store.new) (S.blamed store.new)
+            (streams (W.contents out.old) (W.contents out.new) (E.contents err.old) (E.contents err.new)) result) }
     ensures later { S.failures store.old ≤ S.failures store.new }
     ensures rose { S.failures store.old < S.failures store.new → result ≡ Status.Failure }
     ensures failing { outcome.now.status ≡ Status.Failure → result ≡ Status.Failure }

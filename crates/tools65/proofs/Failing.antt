@@ -29,7 +29,7 @@ use Rattle.tools65.specs.Archives.{Archives, archive_outcome}
 use Rattle.tools65.specs.Assembling.{asm_message, job_in}
 use Rattle.tools65.specs.Command.{Assembles, AssemblesWith, line_memory, outcome_of, refused_with}
 use Rattle.tools65.specs.Failing.{Fails, FailsAs, FailsLine, FailsWords, SaysWhy, refusing}
-use Rattle.output65.specs.Leaving.{Performs, Prints}
+use Rattle.output65.specs.Leaving.{Performs, Prints, Streams, streams}
 use Rattle.output65.specs.Stopping.{StopsWriting}
 use Rattle.output65.specs.Outputs.{failing}
 use Rattle.output65.specs.declared.outcome.Outcome.{Outcome}
@@ -56,7 +56,7 @@ module _ {A E : Type 0} (is_memory is_failure : E → Bool) (memory : List ℕ) 
   abbrev Does : Files → Outcome → Type 0
   Does = Computes is_memory is_failure memory Is Comes by_memory
 
-  abbrev FailsSo : Files → Option Files → Option (List ℕ) → Option (List ℕ) → Option (List ℕ) → Option (List ℕ) → Option (List ℕ) → Status → Type 0
+  abbrev FailsSo : Files → Option Files → Option (List ℕ) → Streams → Status → Type 0
   FailsSo = Fails Does Why
 
   -- what is known of a refusal by a failed call
@@ -64,9 +64,9 @@ module _ {A E : Type 0} (is_memory is_failure : E → Bool) (memory : List ℕ) 
   Known r blamed m = IfErr r (λ e. is_failure e ≡ true → Stopped m blamed e)
 
   -- a call failed while files were read
-  while_reading : (m : Files) (new : Option Files) (r : Result A E) (o : Outcome) (asked blamed out_old out_new err_old err_new : Option (List ℕ)) (status : Status) → IsErrAnd r (λ e. is_failure e ≡ true) → Known r asked m → Comes r o → (o.outputs ≡ [] → Performs o m new out_old out_new err_old err_new status) → (o.outputs ≡ [] → blamed ≡ asked) → FailsSo m new blamed out_old out_new err_old err_new status
-  while_reading m new (Ok x) o asked blamed out_old out_new err_old err_new status told known comes performs kept = absurd told
-  while_reading m new (Err e) o asked blamed out_old out_new err_old err_new status told known comes performs kept =
+  while_reading : (m : Files) (new : Option Files) (r : Result A E) (o : Outcome) (asked blamed : Option (List ℕ)) (io : Streams) (status : Status) → IsErrAnd r (λ e. is_failure e ≡ true) → Known r asked m → Comes r o → (o.outputs ≡ [] → Performs o m new io status) → (o.outputs ≡ [] → blamed ≡ asked) → FailsSo m new blamed io status
+  while_reading m new (Ok x) o asked blamed io status told known comes performs kept = absurd told
+  while_reading m new (Err e) o asked blamed io status told known comes performs kept =
       let why = by_why m asked e o told (known told) comes in
       let none : o.outputs ≡ [] = ap (λ (x : Outcome). x.outputs) why.3 in
       let W : Option (List ℕ) → Type 0 = λ b. Why m b why.0 why.1 in
@@ -74,53 +74,53 @@ module _ {A E : Type 0} (is_memory is_failure : E → Bool) (memory : List ℕ) 
         out = why.0;
         err = why.1;
         why = subst W (sym (kept none)) why.2;
-        said = subst (λ (x : Outcome). Performs x m new out_old out_new err_old err_new status) why.3 (performs none);
+        said = subst (λ (x : Outcome). Performs x m new io status) why.3 (performs none);
       })
 
   -- memory ran out before the store could fail
-  while_memory : (m : Files) (new : Option Files) (o : Outcome) (blamed out_old out_new err_old err_new : Option (List ℕ)) (status : Status) → o ≡ failing memory → (o.outputs ≡ [] → Performs o m new out_old out_new err_old err_new status) → FailsSo m new blamed out_old out_new err_old err_new status
-  while_memory m new o blamed out_old out_new err_old err_new status is performs =
+  while_memory : (m : Files) (new : Option Files) (o : Outcome) (blamed : Option (List ℕ)) (io : Streams) (status : Status) → o ≡ failing memory → (o.outputs ≡ [] → Performs o m new io status) → FailsSo m new blamed io status
+  while_memory m new o blamed io status is performs =
       let none : o.outputs ≡ [] = ap (λ (x : Outcome). x.outputs) is in
       inl (record {
         out = [];
         err = memory;
         why = why_memory m blamed;
-        said = subst (λ (x : Outcome). Performs x m new out_old out_new err_old err_new status) is (performs none);
+        said = subst (λ (x : Outcome). Performs x m new io status) is (performs none);
       })
 
   -- a call failed while an outcome's files were written
-  while_writing : (m : Files) (new : Option Files) (o : Outcome) (blamed out_old out_new err_old err_new : Option (List ℕ)) (status : Status) → Does m o ⊎ (o ≡ failing memory) → StopsWriting o m new blamed out_old out_new err_old err_new status → FailsSo m new blamed out_old out_new err_old err_new status
-  while_writing m new o blamed out_old out_new err_old err_new status (inl does) s = inr (o, does, s)
-  while_writing m new o blamed out_old out_new err_old err_new status (inr is) s =
+  while_writing : (m : Files) (new : Option Files) (o : Outcome) (blamed : Option (List ℕ)) (io : Streams) (status : Status) → Does m o ⊎ (o ≡ failing memory) → StopsWriting o m new blamed io status → FailsSo m new blamed io status
+  while_writing m new o blamed io status (inl does) s = inr (o, does, s)
+  while_writing m new o blamed io status (inr is) s =
       let none : o.outputs ≡ [] = ap (λ (x : Outcome). x.outputs) is in
       let empty : None ≡ Some s.output = rw none at s.at in
       cc
 
   -- where the count stood at its last value, the first call that asks fails
-  at_last : (m : Files) (new : Option Files) (r : Result A E) (o : Outcome) (asked blamed out_old out_new err_old err_new : Option (List ℕ)) (status : Status) → IsErrAnd r (λ e. (is_memory e || is_failure e) ≡ true) → Known r asked m → Comes r o → (o.outputs ≡ [] → Performs o m new out_old out_new err_old err_new status) → (o.outputs ≡ [] → blamed ≡ asked) → FailsSo m new blamed out_old out_new err_old err_new status
-  at_last m new (Ok x) o asked blamed out_old out_new err_old err_new status outside known comes performs kept = absurd outside
-  at_last m new (Err e) o asked blamed out_old out_new err_old err_new status outside known comes performs kept = by (is_memory e) (is_failure e) refl refl outside
+  at_last : (m : Files) (new : Option Files) (r : Result A E) (o : Outcome) (asked blamed : Option (List ℕ)) (io : Streams) (status : Status) → IsErrAnd r (λ e. (is_memory e || is_failure e) ≡ true) → Known r asked m → Comes r o → (o.outputs ≡ [] → Performs o m new io status) → (o.outputs ≡ [] → blamed ≡ asked) → FailsSo m new blamed io status
+  at_last m new (Ok x) o asked blamed io status outside known comes performs kept = absurd outside
+  at_last m new (Err e) o asked blamed io status outside known comes performs kept = by (is_memory e) (is_failure e) refl refl outside
     where
-      by : (a b : Bool) → is_memory e ≡ a → is_failure e ≡ b → (a || b) ≡ true → FailsSo m new blamed out_old out_new err_old err_new status
-      by true b p q h = while_memory m new o blamed out_old out_new err_old err_new status (by_memory e o p comes) performs
-      by false true p q h = while_reading m new (Err e) o asked blamed out_old out_new err_old err_new status q known comes performs kept
+      by : (a b : Bool) → is_memory e ≡ a → is_failure e ≡ b → (a || b) ≡ true → FailsSo m new blamed io status
+      by true b p q h = while_memory m new o blamed io status (by_memory e o p comes) performs
+      by false true p q h = while_reading m new (Err e) o asked blamed io status q known comes performs kept
       by false false p q h = absurd cc
 
-  pub failed_run : (known mid new : Option Files) (fo fm fn : ℕ) (r : Result A E) (o : Outcome) (asked blamed out_old out_new err_old err_new : Option (List ℕ)) (status : Status) → mid ≡ known → PassesBy is_failure fo fm r → Asks (λ e. is_memory e || is_failure e) fo r → IfSome known (Known r asked) → Comes r o → IfSome known (λ m. Finds (λ e. is_memory e || is_failure e) (Is m) r) → (o.outputs ≡ [] → IfSome mid (λ m. Performs o m new out_old out_new err_old err_new status)) → (o.outputs ≡ [] → blamed ≡ asked) → IfSome mid (λ m. fm < fn → StopsWriting o m new blamed out_old out_new err_old err_new status) → IfSome known (λ m. HasFailed fo fn → FailsSo m new blamed out_old out_new err_old err_new status)
-  failed_run None mid new fo fm fn r o asked blamed out_old out_new err_old err_new status same count asks stopped comes finds performs kept stops = tt
-  failed_run (Some m) mid new fo fm fn r o asked blamed out_old out_new err_old err_new status same count asks stopped comes finds performs kept stops = λ some. by_last some (nat_eq fo last_count) refl
+  pub failed_run : (known mid new : Option Files) (fo fm fn : ℕ) (r : Result A E) (o : Outcome) (asked blamed : Option (List ℕ)) (io : Streams) (status : Status) → mid ≡ known → PassesBy is_failure fo fm r → Asks (λ e. is_memory e || is_failure e) fo r → IfSome known (Known r asked) → Comes r o → IfSome known (λ m. Finds (λ e. is_memory e || is_failure e) (Is m) r) → (o.outputs ≡ [] → IfSome mid (λ m. Performs o m new io status)) → (o.outputs ≡ [] → blamed ≡ asked) → IfSome mid (λ m. fm < fn → StopsWriting o m new blamed io status) → IfSome known (λ m. HasFailed fo fn → FailsSo m new blamed io status)
+  failed_run None mid new fo fm fn r o asked blamed io status same count asks stopped comes finds performs kept stops = tt
+  failed_run (Some m) mid new fo fm fn r o asked blamed io status same count asks stopped comes finds performs kept stops = λ some. by_last some (nat_eq fo last_count) refl
     where
-      last : fo ≡ last_count → FailsSo m new blamed out_old out_new err_old err_new status
-      last at = at_last m new r o asked blamed out_old out_new err_old err_new status (asks at) stopped comes (λ none. (rw same at performs none)) kept
+      last : fo ≡ last_count → FailsSo m new blamed io status
+      last at = at_last m new r o asked blamed io status (asks at) stopped comes (λ none. (rw same at performs none)) kept
 
-      by_moment : (nat_eq fo last_count ≡ false) → fo < fn → (fo ≡ fm) ⊎ (fo < fm) → FailsSo m new blamed out_old out_new err_old err_new status
-      by_moment other later (inr rose) = while_reading m new r o asked blamed out_old out_new err_old err_new status (count.told rose) stopped comes (λ none. (rw same at performs none)) kept
+      by_moment : (nat_eq fo last_count ≡ false) → fo < fn → (fo ≡ fm) ⊎ (fo < fm) → FailsSo m new blamed io status
+      by_moment other later (inr rose) = while_reading m new r o asked blamed io status (count.told rose) stopped comes (λ none. (rw same at performs none)) kept
       by_moment other later (inl e) =
           let none = no_failure is_memory is_failure memory Is Comes by_memory fo fm r count (not_failed fo fm (sym e) other) in
-          while_writing m new o blamed out_old out_new err_old err_new status (found is_memory is_failure memory Is Comes by_memory m r o finds none comes)
+          while_writing m new o blamed io status (found is_memory is_failure memory Is Comes by_memory m r o finds none comes)
           ((rw same at stops) (omega (arith, e, later)))
 
-      by_last : HasFailed fo fn → (b : Bool) → nat_eq fo last_count ≡ b → FailsSo m new blamed out_old out_new err_old err_new status
+      by_last : HasFailed fo fn → (b : Bool) → nat_eq fo last_count ≡ b → FailsSo m new blamed io status
       by_last some true at = last (is_equal fo last_count at)
       by_last (inl later) false other = by_moment other later (eq-or-lt_of_le count.later)
       by_last (inr at) false other = last at
@@ -144,18 +144,18 @@ module _ {A E : Type 0} (is_memory is_failure : E → Bool) (memory : List ℕ) 
 -- ---- The commands.
 
 -- memory ran out before there was an outcome
-pub only_memory_fails : (known new : Option Files) (line : Says) (blamed out err_old err_new : Option (List ℕ)) (whole : Bool) (status : Status) (Q : Type 0) → new ≡ known → status ≡ Failure → Prints err_old err_new (line_memory line) whole → IfSome known (λ m. Q → FailsLine line m new blamed out out err_old err_new status)
+pub only_memory_fails : (known new : Option Files) (line : Says) (blamed out err_old err_new : Option (List ℕ)) (whole : Bool) (status : Status) (Q : Type 0) → new ≡ known → status ≡ Failure → Prints err_old err_new (line_memory line) whole → IfSome known (λ m. Q → FailsLine line m new blamed (streams out out err_old err_new) status)
 unfolding FailsLine
 only_memory_fails None new line blamed out err_old err_new whole status Q same e p = tt
 only_memory_fails (Some m) new line blamed out err_old err_new whole status Q same e p = λ _.
     inl (record { out = []; err = line_memory line; why = inr (refl, refl); said = says m new out err_old err_new (line_memory line) whole status same e p })
 
 -- a run that fails while it does one thing fails while it does another that it is
-fails_as : (does other : Files → Outcome → Type 0) (Why : Files → Option (List ℕ) → List ℕ → List ℕ → Type 0) → ((m : Files) (o : Outcome) → does m o → other m o) → (known new : Option Files) (fo fn : ℕ) (blamed out_old out_new err_old err_new : Option (List ℕ)) (status : Status) → IfSome known (λ m. HasFailed fo fn → Fails does Why m new blamed out_old out_new err_old err_new status) → IfSome known (λ m. HasFailed fo fn → Fails other Why m new blamed out_old out_new err_old err_new status)
-fails_as does other Why is None new fo fn blamed out_old out_new err_old err_new status h = tt
-fails_as does other Why is (Some m) new fo fn blamed out_old out_new err_old err_new status h = λ some. go (h some)
+fails_as : (does other : Files → Outcome → Type 0) (Why : Files → Option (List ℕ) → List ℕ → List ℕ → Type 0) → ((m : Files) (o : Outcome) → does m o → other m o) → (known new : Option Files) (fo fn : ℕ) (blamed : Option (List ℕ)) (io : Streams) (status : Status) → IfSome known (λ m. HasFailed fo fn → Fails does Why m new blamed io status) → IfSome known (λ m. HasFailed fo fn → Fails other Why m new blamed io status)
+fails_as does other Why is None new fo fn blamed io status h = tt
+fails_as does other Why is (Some m) new fo fn blamed io status h = λ some. go (h some)
   where
-    go : Fails does Why m new blamed out_old out_new err_old err_new status → Fails other Why m new blamed out_old out_new err_old err_new status
+    go : Fails does Why m new blamed io status → Fails other Why m new blamed io status
     go (inl reading) = inl reading
     go (inr (o, d, writing)) = inr (o, is m o d, writing)
 
@@ -165,11 +165,11 @@ whatever None P h = tt
 whatever (Some m) P h = h
 
 -- a link
-pub failed_link : (known mid new : Option Files) (fo fm fn : ℕ) (l : Linking) (r : Result Linked Refusal) (o : Outcome) (asked blamed out_old out_new err_old err_new : Option (List ℕ)) (status : Status) → mid ≡ known → PassesBy is_failure fo fm r → Asks is_outside fo r → o ≡ outcome_of l r → IfErr r (NamesOfLine asked l) → IfSome known (λ m. Finds is_outside (IsLinked m l) r) → (o.outputs ≡ [] → IfSome mid (λ m. Performs o m new out_old out_new err_old err_new status)) → (o.outputs ≡ [] → blamed ≡ asked) → IfSome mid (λ m. fm < fn → StopsWriting o m new blamed out_old out_new err_old err_new status) → IfSome known (λ m. HasFailed fo fn → FailsLine (link l) m new blamed out_old out_new err_old err_new status)
+pub failed_link : (known mid new : Option Files) (fo fm fn : ℕ) (l : Linking) (r : Result Linked Refusal) (o : Outcome) (asked blamed : Option (List ℕ)) (io : Streams) (status : Status) → mid ≡ known → PassesBy is_failure fo fm r → Asks is_outside fo r → o ≡ outcome_of l r → IfErr r (NamesOfLine asked l) → IfSome known (λ m. Finds is_outside (IsLinked m l) r) → (o.outputs ≡ [] → IfSome mid (λ m. Performs o m new io status)) → (o.outputs ≡ [] → blamed ≡ asked) → IfSome mid (λ m. fm < fn → StopsWriting o m new blamed io status) → IfSome known (λ m. HasFailed fo fn → FailsLine (link l) m new blamed io status)
 unfolding FailsLine
-failed_link known mid new fo fm fn l r o asked blamed out_old out_new err_old err_new status same count asks comes named finds performs kept stops =
+failed_link known mid new fo fm fn l r o asked blamed io status same count asks comes named finds performs kept stops =
     failed_run is_memory is_failure memory_message (λ m. IsLinked m l) (λ r o. o ≡ outcome_of l r) (link_memory l) (SaysWhy (link l)) (λ m b. inr (refl, refl)) (λ m b e. IsOfLine b l e)
-    (λ m b e o failed is_of is. ([], refusal_message l e, inl (e, failed, is_of, refl, refl), is)) known mid new fo fm fn r o asked blamed out_old out_new err_old err_new status same count asks (whatever known _ named) comes finds performs kept stops
+    (λ m b e o failed is_of is. ([], refusal_message l e, inl (e, failed, is_of, refl, refl), is)) known mid new fo fm fn r o asked blamed io status same count asks (whatever known _ named) comes finds performs kept stops
 
 pub link_failed : (fo fm fn : ℕ) (l : Linking) (r : Result Linked Refusal) (o : Outcome) (status : Status) → PassesBy is_failure fo fm r → Asks is_outside fo r → o ≡ outcome_of l r → (fm < fn → status ≡ Failure) → (o.status ≡ Failure → status ≡ Failure) → HasFailed fo fn → status ≡ Failure
 link_failed fo fm fn l r o status count asks comes rose failing_so =
@@ -181,12 +181,12 @@ link_failed fo fm fn l r o status count asks comes rose failing_so =
     by (Err e) is = ap (λ (x : Outcome). x.status) is
 
 -- a line of the librarian
-pub failed_archive : (known mid new : Option Files) (fo fm fn : ℕ) (a : Archiving) (r : Result Archived ArchiveRefusal) (o : Outcome) (asked blamed out_old out_new err_old err_new : Option (List ℕ)) (status : Status) → mid ≡ known → PassesBy is_archive_failure fo fm r → Asks is_archive_outside fo r → o ≡ archive_outcome a r → IfErr r (NamesOfArchive asked a) → IfSome known (λ m. Gives is_archive_outside (λ x. x) r (archived_of m a)) → (o.outputs ≡ [] → IfSome mid (λ m. Performs o m new out_old out_new err_old err_new status)) → (o.outputs ≡ [] → blamed ≡ asked) → IfSome mid (λ m. fm < fn → StopsWriting o m new blamed out_old out_new err_old err_new status) → IfSome known (λ m. HasFailed fo fn → FailsLine (archive a) m new blamed out_old out_new err_old err_new status)
+pub failed_archive : (known mid new : Option Files) (fo fm fn : ℕ) (a : Archiving) (r : Result Archived ArchiveRefusal) (o : Outcome) (asked blamed : Option (List ℕ)) (io : Streams) (status : Status) → mid ≡ known → PassesBy is_archive_failure fo fm r → Asks is_archive_outside fo r → o ≡ archive_outcome a r → IfErr r (NamesOfArchive asked a) → IfSome known (λ m. Gives is_archive_outside (λ x. x) r (archived_of m a)) → (o.outputs ≡ [] → IfSome mid (λ m. Performs o m new io status)) → (o.outputs ≡ [] → blamed ≡ asked) → IfSome mid (λ m. fm < fn → StopsWriting o m new blamed io status) → IfSome known (λ m. HasFailed fo fn → FailsLine (archive a) m new blamed io status)
 unfolding FailsLine
-failed_archive known mid new fo fm fn a r o asked blamed out_old out_new err_old err_new status same count asks comes named gives performs kept stops =
-    fails_as _ (Archives a) (SaysWhy (archive a)) (does_archive a) known new fo fn blamed out_old out_new err_old err_new status
+failed_archive known mid new fo fm fn a r o asked blamed io status same count asks comes named gives performs kept stops =
+    fails_as _ (Archives a) (SaysWhy (archive a)) (does_archive a) known new fo fn blamed io status
     (failed_run is_archive_memory is_archive_failure (memory_line a.library) (λ m. IsArchived a m) (λ r o. o ≡ archive_outcome a r) (archive_memory a) (SaysWhy (archive a)) (λ m b. inr (refl, refl)) (λ m b e. IsOfArchive b a e)
-    (λ m b e o failed is_of is. ([], archive_message a e, inl (e, failed, is_of, refl, refl), is)) known mid new fo fm fn r o asked blamed out_old out_new err_old err_new status same count asks (whatever known _ named) comes (archived_found known a r gives) performs kept stops)
+    (λ m b e o failed is_of is. ([], archive_message a e, inl (e, failed, is_of, refl, refl), is)) known mid new fo fm fn r o asked blamed io status same count asks (whatever known _ named) comes (archived_found known a r gives) performs kept stops)
 
 pub archive_failed : (fo fm fn : ℕ) (a : Archiving) (r : Result Archived ArchiveRefusal) (o : Outcome) (status : Status) → PassesBy is_archive_failure fo fm r → Asks is_archive_outside fo r → o ≡ archive_outcome a r → (fm < fn → status ≡ Failure) → (o.status ≡ Failure → status ≡ Failure) → HasFailed fo fn → status ≡ Failure
 archive_failed fo fm fn a r o status count asks comes rose failing_so =
@@ -228,12 +228,12 @@ module _ (a : Assembling) (out err : List ℕ) where
   assembles : (m : Files) (o : Outcome) → ((r : Result Object AsmRefusal) × Is m r × Comes r o) → Assembles a m o
   assembles m o h = with_texts a out err m o h
 
-  pub failed_assembly : (known mid new : Option Files) (fo fm fn : ℕ) (r : Result Object AsmRefusal) (o : Outcome) (asked blamed out_old out_new err_old err_new : Option (List ℕ)) (status : Status) → mid ≡ known → PassesBy has_failed fo fm r → Asks is_outside_refusal fo r → AssemblesWith a out err (in_places r) o → IfSome known (λ m. IfErr r (λ e. has_failed e ≡ true → Stops m asked (job_in a) (placed_of e) out err)) → IfSome known (λ m. Finds is_outside_refusal (Is m) r) → (o.outputs ≡ [] → IfSome mid (λ m. Performs o m new out_old out_new err_old err_new status)) → (o.outputs ≡ [] → blamed ≡ asked) → IfSome mid (λ m. fm < fn → StopsWriting o m new blamed out_old out_new err_old err_new status) → IfSome known (λ m. HasFailed fo fn → FailsLine (assemble a) m new blamed out_old out_new err_old err_new status)
+  pub failed_assembly : (known mid new : Option Files) (fo fm fn : ℕ) (r : Result Object AsmRefusal) (o : Outcome) (asked blamed : Option (List ℕ)) (io : Streams) (status : Status) → mid ≡ known → PassesBy has_failed fo fm r → Asks is_outside_refusal fo r → AssemblesWith a out err (in_places r) o → IfSome known (λ m. IfErr r (λ e. has_failed e ≡ true → Stops m asked (job_in a) (placed_of e) out err)) → IfSome known (λ m. Finds is_outside_refusal (Is m) r) → (o.outputs ≡ [] → IfSome mid (λ m. Performs o m new io status)) → (o.outputs ≡ [] → blamed ≡ asked) → IfSome mid (λ m. fm < fn → StopsWriting o m new blamed io status) → IfSome known (λ m. HasFailed fo fn → FailsLine (assemble a) m new blamed io status)
   unfolding FailsLine
-  failed_assembly known mid new fo fm fn r o asked blamed out_old out_new err_old err_new status same count asks comes stopped finds performs kept stops =
-      fails_as _ (Assembles a) (SaysWhy (assemble a)) assembles known new fo fn blamed out_old out_new err_old err_new status
+  failed_assembly known mid new fo fm fn r o asked blamed io status same count asks comes stopped finds performs kept stops =
+      fails_as _ (Assembles a) (SaysWhy (assemble a)) assembles known new fo fn blamed io status
       (failed_run (λ e. is_asm_memory e.fault) has_failed (memory_line a.source) Is Comes memory_only (SaysWhy (assemble a)) (λ m b. inr (refl, refl)) (StopsFor (job_in a)) refusal_why
-      known mid new fo fm fn r o asked blamed out_old out_new err_old err_new status same count asks stopped comes finds performs kept stops)
+      known mid new fo fm fn r o asked blamed io status same count asks stopped comes finds performs kept stops)
 
   pub assembly_failed : (fo fm fn : ℕ) (r : Result Object AsmRefusal) (o : Outcome) (status : Status) → PassesBy has_failed fo fm r → Asks is_outside_refusal fo r → AssemblesWith a out err (in_places r) o → (fm < fn → status ≡ Failure) → (o.status ≡ Failure → status ≡ Failure) → HasFailed fo fn → status ≡ Failure
   assembly_failed fo fm fn r o status count asks comes rose failing_so =
@@ -250,26 +250,26 @@ module _ (a : Assembling) (out err : List ℕ) where
 
 -- ---- Words.
 
-pub failed_words : (known new : Option Files) (fo fn : ℕ) (words : List (List ℕ)) (line : Says) (blamed out_old out_new err_old err_new : Option (List ℕ)) (status : Status) → line_of words ≡ Ok line → IfSome known (λ m. HasFailed fo fn → FailsLine line m new blamed out_old out_new err_old err_new status) → IfSome known (λ m. HasFailed fo fn → FailsWords fo words m new blamed out_old out_new err_old err_new status)
+pub failed_words : (known new : Option Files) (fo fn : ℕ) (words : List (List ℕ)) (line : Says) (blamed : Option (List ℕ)) (io : Streams) (status : Status) → line_of words ≡ Ok line → IfSome known (λ m. HasFailed fo fn → FailsLine line m new blamed io status) → IfSome known (λ m. HasFailed fo fn → FailsWords fo words m new blamed io status)
 unfolding FailsWords
-failed_words None new fo fn words line blamed out_old out_new err_old err_new status e h = tt
-failed_words (Some m) new fo fn words line blamed out_old out_new err_old err_new status e h = λ some. rw e (inl (h some))
+failed_words None new fo fn words line blamed io status e h = tt
+failed_words (Some m) new fo fn words line blamed io status e h = λ some. rw e (inl (h some))
 
 -- words that are no line, or for which memory ran out
-pub refused_fails : (known new : Option Files) (count : ℕ) (words : List (List ℕ)) (e : LineFault) (blamed out err_old err_new : Option (List ℕ)) (whole : Bool) (status : Status) → new ≡ known → status ≡ Failure → Refuses is_line_outside e (line_of words) → Prints err_old err_new (line_message_of e) whole → IfSome known (λ m. HasFailed count count → FailsWords count words m new blamed out out err_old err_new status)
+pub refused_fails : (known new : Option Files) (count : ℕ) (words : List (List ℕ)) (e : LineFault) (blamed out err_old err_new : Option (List ℕ)) (whole : Bool) (status : Status) → new ≡ known → status ≡ Failure → Refuses is_line_outside e (line_of words) → Prints err_old err_new (line_message_of e) whole → IfSome known (λ m. HasFailed count count → FailsWords count words m new blamed (streams out out err_old err_new) status)
 unfolding FailsWords
 refused_fails None new count words e blamed out err_old err_new whole status same f h p = tt
 refused_fails (Some m) new count words BadArguments blamed out err_old err_new whole status same f h p =
     λ _. rw h (failing (line_message_of BadArguments), inl refl, inl (says m new out err_old err_new (line_message_of BadArguments) whole status same f p))
 refused_fails (Some m) new count words OutOfMemory blamed out err_old err_new whole status same f h p = λ some. either (line_of words) (at_last some)
   where
-    said : Performs (failing line_memory_message) m new out out err_old err_new status
+    said : Performs (failing line_memory_message) m new (streams out out err_old err_new) status
     said = says m new out err_old err_new line_memory_message whole status same f p
 
     at_last : HasFailed count count → count ≡ last_count
     at_last (inl less) = absurd (omega arith)
     at_last (inr last) = last
 
-    either : (r : Result Says LineFault) → count ≡ last_count → FailsAs count r m new blamed out out err_old err_new status
+    either : (r : Result Says LineFault) → count ≡ last_count → FailsAs count r m new blamed (streams out out err_old err_new) status
     either (Ok line) last = inr (last, said)
     either (Err e) last = (failing line_memory_message, inr refl, inl said)

@@ -16,7 +16,7 @@ use Rattle.ld65.specs.declared.refusal.Refusal.{Refusal}
 use Rattle.ld65.specs.Linkage.{IsLinked, output_of}
 use Rattle.ld65.specs.Refusals.{memory_message}
 use Rattle.tools65.specs.Command.{Commands, Does, DoesLine, Ran, RanWords, line_memory, outcome_of}
-use Rattle.output65.specs.Leaving.{Performs, Settles, StopsAt, StopsShort, apply}
+use Rattle.output65.specs.Leaving.{Performs, Settles, StopsAt, StopsShort, Streams, apply}
 use Rattle.tools65.specs.OneProgram.{DoesWhole, HasFiles, HaveNoImage, IsRefusal, LineLinksWhole, LineRunsLaw, LinksWhole, RunsLaw, SelectsSources, Source, WholeOf, WordsLinkWhole, WritesWhole, WroteFiles}
 use Rattle.output65.specs.Outputs.{failing, with_map}
 use Rattle.output65.specs.declared.outcome.Outcome.{Outcome}
@@ -36,9 +36,9 @@ settled_well o m new status true h e = (sym h.1 ∙ e, h.0)
 settled_well o m new status false h e = absurd (not_both (sym e ∙ h.1))
 
 -- its outcome is carried out whole
-carried_out : (o : Outcome) (memory : List ℕ) (m : Files) (new : Option Files) (out_old out_new err_old err_new : Option (List ℕ)) (status : Status) → status ≡ Success → Performs o m new out_old out_new err_old err_new status ⊎ StopsShort o memory m new out_old out_new err_old err_new status → (o.status ≡ Success) × (new ≡ Some (apply o.outputs m))
-carried_out o memory m new out_old out_new err_old err_new status e (inl p) = settled_well o m new status p.whole p.settled e
-carried_out o memory m new out_old out_new err_old err_new status e (inr p) = absurd (not_both (sym e ∙ p.failed))
+carried_out : (o : Outcome) (memory : List ℕ) (m : Files) (new : Option Files) (io : Streams) (status : Status) → status ≡ Success → Performs o m new io status ⊎ StopsShort o memory m new io status → (o.status ≡ Success) × (new ≡ Some (apply o.outputs m))
+carried_out o memory m new io status e (inl p) = settled_well o m new status p.whole p.settled e
+carried_out o memory m new io status e (inr p) = absurd (not_both (sym e ∙ p.failed))
 
 failing_fails : (o : Outcome) (text : List ℕ) → o ≡ failing text → o.status ≡ Success → ⊥
 failing_fails o text same e = not_both (sym e ∙ ap (λ (z : Outcome). z.status) same)
@@ -69,9 +69,9 @@ no_place outputs place m None none left = left
 no_place outputs place m (Some z) none left = none_there place left.0 (sym (ap (λ (files : List OutputFile). slice_get files place) none) ∙ left.1)
 
 -- an outcome without files leaves the files as they were
-left_alone : (o : Outcome) (memory : List ℕ) (m : Files) (new : Option Files) (out_old out_new err_old err_new : Option (List ℕ)) (status : Status) → o.outputs ≡ [] → o.status ≡ Failure → Performs o m new out_old out_new err_old err_new status ⊎ StopsShort o memory m new out_old out_new err_old err_new status → (new ≡ Some m) × (status ≡ Failure)
-left_alone o memory m new out_old out_new err_old err_new status none fails (inl p) = settled_alone o m new status p.whole none fails p.settled
-left_alone o memory m new out_old out_new err_old err_new status none fails (inr p) = absurd (no_place o.outputs p.place m new none p.left)
+left_alone : (o : Outcome) (memory : List ℕ) (m : Files) (new : Option Files) (io : Streams) (status : Status) → o.outputs ≡ [] → o.status ≡ Failure → Performs o m new io status ⊎ StopsShort o memory m new io status → (new ≡ Some m) × (status ≡ Failure)
+left_alone o memory m new io status none fails (inl p) = settled_alone o m new status p.whole none fails p.settled
+left_alone o memory m new io status none fails (inr p) = absurd (no_place o.outputs p.place m new none p.left)
 
 module _ (l : Linking) (m : Files) (s : Script) (xs : List Source) (k : SelectsSources l m s xs) where
   -- a link that succeeds is that of the modules that the line selects
@@ -135,11 +135,11 @@ module _ (l : Linking) (m : Files) (s : Script) (xs : List Source) (k : SelectsS
       by_only (inl (files, w, has)) = absurd (none files w)
       by_only (inr (none_there, (e, same))) = (ap (λ (z : Outcome). z.outputs) same, ap (λ (z : Outcome). z.status) same)
 
-  writes_whole : (new : Option Files) (out_old out_new err_old err_new : Option (List ℕ)) (status : Status) → Ran (Does l) memory_message m new out_old out_new err_old err_new status → WritesWhole l s xs m new out_old out_new err_old err_new status
-  writes_whole new out_old out_new err_old err_new status (o, does, left) = record {
+  writes_whole : (new : Option Files) (io : Streams) (status : Status) → Ran (Does l) memory_message m new io status → WritesWhole l s xs m new io status
+  writes_whole new io status (o, does, left) = record {
     ran = (o, carried does, left);
-    wrote = λ e. (let well = carried_out o memory_message m new out_old out_new err_old err_new status e left in wrote o new does well.0 well.1);
-    refused = λ none. (let fails = fails_alone o (carried does) none in left_alone o memory_message m new out_old out_new err_old err_new status fails.0 fails.1 left);
+    wrote = λ e. (let well = carried_out o memory_message m new io status e left in wrote o new does well.0 well.1);
+    refused = λ none. (let fails = fails_alone o (carried does) none in left_alone o memory_message m new io status fails.0 fails.1 left);
   }
     where
       carried : Does l m o ⊎ (o ≡ failing memory_message) → DoesWhole l s xs m o ⊎ (o ≡ failing memory_message)
@@ -148,37 +148,37 @@ module _ (l : Linking) (m : Files) (s : Script) (xs : List Source) (k : SelectsS
 
 -- ---- Lines and words.
 
-module _ (m : Files) (new : Option Files) (out_old out_new err_old err_new : Option (List ℕ)) (status : Status) where
-  links_whole : (line : Says) (l : Linking) → Ran (DoesLine line) (line_memory line) m new out_old out_new err_old err_new status → line ≡ link l → LinksWhole l m new out_old out_new err_old err_new status
+module _ (m : Files) (new : Option Files) (io : Streams) (status : Status) where
+  links_whole : (line : Says) (l : Linking) → Ran (DoesLine line) (line_memory line) m new io status → line ≡ link l → LinksWhole l m new io status
   links_whole line l ran same s xs k =
-      let there : Ran (Does l) memory_message m new out_old out_new err_old err_new status =
-      subst (λ (z : Says). Ran (DoesLine z) (line_memory z) m new out_old out_new err_old err_new status) same ran in
-      writes_whole l m s xs k new out_old out_new err_old err_new status there
+      let there : Ran (Does l) memory_message m new io status =
+      subst (λ (z : Says). Ran (DoesLine z) (line_memory z) m new io status) same ran in
+      writes_whole l m s xs k new io status there
 
-  line_links : (line : Says) → Ran (DoesLine line) (line_memory line) m new out_old out_new err_old err_new status → LineLinksWhole line m new out_old out_new err_old err_new status
+  line_links : (line : Says) → Ran (DoesLine line) (line_memory line) m new io status → LineLinksWhole line m new io status
   unfolding LineLinksWhole
   line_links line ran l same = links_whole line l ran same
 
-  either : (l : Linking) → RanWords (Ok (link l)) m new out_old out_new err_old err_new status → LinksWhole l m new out_old out_new err_old err_new status ⊎ Performs (failing line_memory_message) m new out_old out_new err_old err_new status
+  either : (l : Linking) → RanWords (Ok (link l)) m new io status → LinksWhole l m new io status ⊎ Performs (failing line_memory_message) m new io status
   either l (inl ran) = inl (links_whole (link l) l ran refl)
   either l (inr p) = inr p
 
-  words_link : (words : Result Says LineFault) → RanWords words m new out_old out_new err_old err_new status → WordsLinkWhole words m new out_old out_new err_old err_new status
+  words_link : (words : Result Says LineFault) → RanWords words m new io status → WordsLinkWhole words m new io status
   unfolding WordsLinkWhole
-  words_link words ran l same = either l (subst (λ (z : Result Says LineFault). RanWords z m new out_old out_new err_old err_new status) same ran)
+  words_link words ran l same = either l (subst (λ (z : Result Says LineFault). RanWords z m new io status) same ran)
 
 pub words_law : RunsLaw
-words_law words m new out_old out_new err_old err_new status ran = words_link m new out_old out_new err_old err_new status (line_of words) ran
+words_law words m new io status ran = words_link m new io status (line_of words) ran
 
 pub lines_law : LineRunsLaw
-lines_law line m new out_old out_new err_old err_new status ran = line_links m new out_old out_new err_old err_new status line ran
+lines_law line m new io status ran = line_links m new io status line ran
 
 -- a line that was run
-pub line_whole : (known new : Option Files) (fo fn : ℕ) (line : Says) (out_old out_new err_old err_new : Option (List ℕ)) (status : Status) → IfSome known (λ m. NoneFailed fo fn → Ran (DoesLine line) (line_memory line) m new out_old out_new err_old err_new status) → IfSome known (λ m. NoneFailed fo fn → LineLinksWhole line m new out_old out_new err_old err_new status)
-line_whole None new fo fn line out_old out_new err_old err_new status h = tt
-line_whole (Some m) new fo fn line out_old out_new err_old err_new status h = λ none. line_links m new out_old out_new err_old err_new status line (h none)
+pub line_whole : (known new : Option Files) (fo fn : ℕ) (line : Says) (io : Streams) (status : Status) → IfSome known (λ m. NoneFailed fo fn → Ran (DoesLine line) (line_memory line) m new io status) → IfSome known (λ m. NoneFailed fo fn → LineLinksWhole line m new io status)
+line_whole None new fo fn line io status h = tt
+line_whole (Some m) new fo fn line io status h = λ none. line_links m new io status line (h none)
 
 -- words that were run
-pub words_whole : (known new : Option Files) (fo fn : ℕ) (words : List (List ℕ)) (out_old out_new err_old err_new : Option (List ℕ)) (status : Status) → IfSome known (λ m. NoneFailed fo fn → Commands words m new out_old out_new err_old err_new status) → IfSome known (λ m. NoneFailed fo fn → WordsLinkWhole (line_of words) m new out_old out_new err_old err_new status)
-words_whole None new fo fn words out_old out_new err_old err_new status h = tt
-words_whole (Some m) new fo fn words out_old out_new err_old err_new status h = λ none. words_link m new out_old out_new err_old err_new status (line_of words) (h none)
+pub words_whole : (known new : Option Files) (fo fn : ℕ) (words : List (List ℕ)) (io : Streams) (status : Status) → IfSome known (λ m. NoneFailed fo fn → Commands words m new io status) → IfSome known (λ m. NoneFailed fo fn → WordsLinkWhole (line_of words) m new io status)
+words_whole None new fo fn words io status h = tt
+words_whole (Some m) new fo fn words io status h = λ none. words_link m new io status (line_of words) (h none)

@@ -15,7 +15,7 @@ use Rattle.ld65.specs.declared.refusal.Refusal.{Refusal}
 use Rattle.output65.specs.declared.outcome.Outcome.{Outcome}
 use Rattle.output65.specs.declared.outcome.Status.{Status}
 use Rattle.output65.specs.declared.outcome.Status.TheVariants.{Success, Failure}
-use Rattle.output65.specs.Leaving.{Performs, StopsShort}
+use Rattle.output65.specs.Leaving.{Performs, StopsShort, Streams}
 use Rattle.cli65.specs.Line.{Assembling, Linking, Says, assemble, link, archive, line_of}
 use Rattle.ld65.specs.Linkage.{IsLinked}
 use Rattle.output65.specs.Outputs.{failing, outputs_of, with_map}
@@ -54,9 +54,9 @@ Assembles a m o = (x : asm.Outcome) × IsAssembled m (job_in a) x × AssemblesTo
 
 -- A run has the outcome that the files give, or only says that memory ran out; it carries that out, or memory ran
 -- out while it wrote the files.
-abbrev pub Ran : (Files → Outcome → Type 0) → List ℕ → Files → Option Files → Option (List ℕ) → Option (List ℕ) → Option (List ℕ) → Option (List ℕ) → Status → Type 0
-Ran does memory m new out_old out_new err_old err_new status =
-    (o : Outcome) × (does m o ⊎ (o ≡ failing memory)) × (Performs o m new out_old out_new err_old err_new status ⊎ StopsShort o memory m new out_old out_new err_old err_new status)
+abbrev pub Ran : (Files → Outcome → Type 0) → List ℕ → Files → Option Files → Streams → Status → Type 0
+Ran does memory m new io status =
+    (o : Outcome) × (does m o ⊎ (o ≡ failing memory)) × (Performs o m new io status ⊎ StopsShort o memory m new io status)
 
 -- what a line does, given the files
 abbrev pub DoesLine : Says → Files → Outcome → Type 0
@@ -76,11 +76,11 @@ line_memory (link l) = memory_message
 line_memory (archive a) = memory_line a.library
 
 -- A run of words: their line's, or what is said of words that are none; or memory ran out before they were a line.
-abbrev pub RanWords : Result Says LineFault → Files → Option Files → Option (List ℕ) → Option (List ℕ) → Option (List ℕ) → Option (List ℕ) → Status → Type 0
-RanWords (Ok line) m new out_old out_new err_old err_new status =
-    Ran (DoesLine line) (line_memory line) m new out_old out_new err_old err_new status ⊎ Performs (failing line_memory_message) m new out_old out_new err_old err_new status
-RanWords (Err e) m new out_old out_new err_old err_new status =
-    Ran (DoesWords (Err e)) line_memory_message m new out_old out_new err_old err_new status
+abbrev pub RanWords : Result Says LineFault → Files → Option Files → Streams → Status → Type 0
+RanWords (Ok line) m new io status =
+    Ran (DoesLine line) (line_memory line) m new io status ⊎ Performs (failing line_memory_message) m new io status
+RanWords (Err e) m new io status =
+    Ran (DoesWords (Err e)) line_memory_message m new io status
 
-abbrev pub Commands : List (List ℕ) → Files → Option Files → Option (List ℕ) → Option (List ℕ) → Option (List ℕ) → Option (List ℕ) → Status → Type 0
+abbrev pub Commands : List (List ℕ) → Files → Option Files → Streams → Status → Type 0
 Commands words = RanWords (line_of words)

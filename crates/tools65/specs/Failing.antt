@@ -15,7 +15,7 @@ use Rattle.module65.specs.Places.{PlacedFault}
 use Rattle.asm65.specs.Failing.{Stops}
 use Rattle.tools65.specs.Assembling.{asm_message, job_in}
 use Rattle.tools65.specs.Command.{DoesLine, RanWords, line_memory}
-use Rattle.output65.specs.Leaving.{Performs}
+use Rattle.output65.specs.Leaving.{Performs, Streams}
 use Rattle.output65.specs.Stopping.{StopsWriting}
 use Rattle.output65.specs.declared.outcome.Outcome.{Outcome}
 use Rattle.output65.specs.declared.outcome.Status.{Status}
@@ -26,18 +26,18 @@ abbrev pub refusing : List ℕ → List ℕ → Outcome
 refusing out err = record { out = out; err = err; outputs = []; status = Failure }
 
 -- A call failed while files were read: nothing is written, and texts for both streams say why, as they may.
-pub record StopsReading (Why : List ℕ → List ℕ → Type 0) (old : Files) (new : Option Files) (out_old out_new err_old err_new : Option (List ℕ)) (status : Status) : Type 0 where
+pub record StopsReading (Why : List ℕ → List ℕ → Type 0) (old : Files) (new : Option Files) (io : Streams) (status : Status) : Type 0 where
   pub out : List ℕ
   pub err : List ℕ
   pub why : Why out err
-  pub said : Performs (refusing out err) old new out_old out_new err_old err_new status
+  pub said : Performs (refusing out err) old new io status
 
 -- A run in which a call failed: while it read files, or while it wrote those of the outcome that they give. The last failed
 -- call asked for a name, where the store tells which.
-abbrev pub Fails : (Files → Outcome → Type 0) → (Files → Option (List ℕ) → List ℕ → List ℕ → Type 0) → Files → Option Files → Option (List ℕ) → Option (List ℕ) → Option (List ℕ) → Option (List ℕ) → Option (List ℕ) → Status → Type 0
-Fails does Why m new blamed out_old out_new err_old err_new status =
-    StopsReading (Why m blamed) m new out_old out_new err_old err_new status
-    ⊎ ((o : Outcome) × does m o × StopsWriting o m new blamed out_old out_new err_old err_new status)
+abbrev pub Fails : (Files → Outcome → Type 0) → (Files → Option (List ℕ) → List ℕ → List ℕ → Type 0) → Files → Option Files → Option (List ℕ) → Streams → Status → Type 0
+Fails does Why m new blamed io status =
+    StopsReading (Why m blamed) m new io status
+    ⊎ ((o : Outcome) × does m o × StopsWriting o m new blamed io status)
 
 -- What a line says on both streams of a call that failed while it read files: one message. Where a source is assembled it
 -- says where that was, and stands behind what the source said up to there; else it names what the call asked for (the
@@ -54,17 +54,17 @@ SaysFailure (archive a) m blamed out err =
 abbrev pub SaysWhy : Says → Files → Option (List ℕ) → List ℕ → List ℕ → Type 0
 SaysWhy line m blamed out err = SaysFailure line m blamed out err ⊎ ((out ≡ []) × (err ≡ line_memory line))
 
-unfoldable pub FailsLine : Says → Files → Option Files → Option (List ℕ) → Option (List ℕ) → Option (List ℕ) → Option (List ℕ) → Option (List ℕ) → Status → Type 0
+unfoldable pub FailsLine : Says → Files → Option Files → Option (List ℕ) → Streams → Status → Type 0
 FailsLine line = Fails (DoesLine line) (SaysWhy line)
 
 -- Words that are no line ask nothing of the store: what is said of them is said. Where the count of failures stood at its
 -- last value when the run began, it may also be said of a line that memory ran out before the words were one.
-abbrev pub FailsAs : ℕ → Result Says LineFault → Files → Option Files → Option (List ℕ) → Option (List ℕ) → Option (List ℕ) → Option (List ℕ) → Option (List ℕ) → Status → Type 0
-FailsAs count (Ok line) m new blamed out_old out_new err_old err_new status =
-    FailsLine line m new blamed out_old out_new err_old err_new status
-    ⊎ ((count ≡ last_count) × Performs (failing line_memory_message) m new out_old out_new err_old err_new status)
-FailsAs count (Err e) m new blamed out_old out_new err_old err_new status =
-    RanWords (Err e) m new out_old out_new err_old err_new status
+abbrev pub FailsAs : ℕ → Result Says LineFault → Files → Option Files → Option (List ℕ) → Streams → Status → Type 0
+FailsAs count (Ok line) m new blamed io status =
+    FailsLine line m new blamed io status
+    ⊎ ((count ≡ last_count) × Performs (failing line_memory_message) m new io status)
+FailsAs count (Err e) m new blamed io status =
+    RanWords (Err e) m new io status
 
-unfoldable pub FailsWords : ℕ → List (List ℕ) → Files → Option Files → Option (List ℕ) → Option (List ℕ) → Option (List ℕ) → Option (List ℕ) → Option (List ℕ) → Status → Type 0
+unfoldable pub FailsWords : ℕ → List (List ℕ) → Files → Option Files → Option (List ℕ) → Streams → Status → Type 0
 FailsWords count words = FailsAs count (line_of words)

@@ -29,7 +29,7 @@ use Rattle.output65.specs.declared.outcome.Outcome.{Outcome}
 use Rattle.output65.specs.declared.outcome.Status.{Status}
 use Rattle.output65.specs.declared.outcome.Status.TheVariants.{Failure, Success}
 use Rattle.tools65.specs.Command.{Commands, Does, DoesLine, Ran, line_memory}
-use Rattle.output65.specs.Leaving.{Performs, apply}
+use Rattle.output65.specs.Leaving.{Performs, apply, Streams}
 use Rattle.output65.specs.Outputs.{failing, with_map}
 
 -- ---- Sources, what ca65 writes of them, and what they are as one program.
@@ -141,37 +141,37 @@ pub record DoesWhole (l : Linking) (s : Script) (xs : List Source) (m : Files) (
 
 -- A run over sources' objects carries out the image that the sources have as one program, and a refusal where they have
 -- none.
-pub record WritesWhole (l : Linking) (s : Script) (xs : List Source) (m : Files) (new : Option Files) (out_old out_new err_old err_new : Option (List ℕ)) (status : Status) : Type 0 where
+pub record WritesWhole (l : Linking) (s : Script) (xs : List Source) (m : Files) (new : Option Files) (io : Streams) (status : Status) : Type 0 where
   -- the run carries that out, or says that memory ran out
-  pub ran : Ran (DoesWhole l s xs) memory_message m new out_old out_new err_old err_new status
+  pub ran : Ran (DoesWhole l s xs) memory_message m new io status
   -- a run that succeeds wrote such an image
   pub wrote :
       status ≡ Success → (files : List OutputFile) × WholeOf (output_of l) s xs files × WroteFiles l files m new
   -- where there is none, no file is written and the run fails
   pub refused : HaveNoImage l s xs → (new ≡ Some m) × (status ≡ Failure)
 
-abbrev pub LinksWhole : Linking → Files → Option Files → Option (List ℕ) → Option (List ℕ) → Option (List ℕ) → Option (List ℕ) → Status → Type 0
-LinksWhole l m new out_old out_new err_old err_new status =
-    (s : Script) (xs : List Source) → SelectsSources l m s xs → WritesWhole l s xs m new out_old out_new err_old err_new status
+abbrev pub LinksWhole : Linking → Files → Option Files → Streams → Status → Type 0
+LinksWhole l m new io status =
+    (s : Script) (xs : List Source) → SelectsSources l m s xs → WritesWhole l s xs m new io status
 
 -- where a line is a link of sources' objects
-unfoldable pub LineLinksWhole : Says → Files → Option Files → Option (List ℕ) → Option (List ℕ) → Option (List ℕ) → Option (List ℕ) → Status → Type 0
-LineLinksWhole line m new out_old out_new err_old err_new status =
-    (l : Linking) → line ≡ link l → LinksWhole l m new out_old out_new err_old err_new status
+unfoldable pub LineLinksWhole : Says → Files → Option Files → Streams → Status → Type 0
+LineLinksWhole line m new io status =
+    (l : Linking) → line ≡ link l → LinksWhole l m new io status
 
 -- where words are such a line, unless memory ran out before they were one
-unfoldable pub WordsLinkWhole : Result Says LineFault → Files → Option Files → Option (List ℕ) → Option (List ℕ) → Option (List ℕ) → Option (List ℕ) → Status → Type 0
-WordsLinkWhole words m new out_old out_new err_old err_new status =
+unfoldable pub WordsLinkWhole : Result Says LineFault → Files → Option Files → Streams → Status → Type 0
+WordsLinkWhole words m new io status =
     (l : Linking) → words ≡ Ok (link l)
-    → LinksWhole l m new out_old out_new err_old err_new status ⊎ Performs (failing line_memory_message) m new out_old out_new err_old err_new status
+    → LinksWhole l m new io status ⊎ Performs (failing line_memory_message) m new io status
 
 -- What a run of words or of a line does by its command, it does so.
 abbrev pub RunsLaw : Type 0
 RunsLaw =
-    (words : List (List ℕ)) (m : Files) (new : Option Files) (out_old out_new err_old err_new : Option (List ℕ)) (status : Status) →
-    Commands words m new out_old out_new err_old err_new status → WordsLinkWhole (line_of words) m new out_old out_new err_old err_new status
+    (words : List (List ℕ)) (m : Files) (new : Option Files) (io : Streams) (status : Status) →
+    Commands words m new io status → WordsLinkWhole (line_of words) m new io status
 
 abbrev pub LineRunsLaw : Type 0
 LineRunsLaw =
-    (line : Says) (m : Files) (new : Option Files) (out_old out_new err_old err_new : Option (List ℕ)) (status : Status) →
-    Ran (DoesLine line) (line_memory line) m new out_old out_new err_old err_new status → LineLinksWhole line m new out_old out_new err_old err_new status
+    (line : Says) (m : Files) (new : Option Files) (io : Streams) (status : Status) →
+    Ran (DoesLine line) (line_memory line) m new io status → LineLinksWhole line m new io status

@@ -4,6 +4,7 @@ ghost use Rattle.std.specs.Prelude.{◌≡◌, ◌≤◌, IfOk, IfSome, map};
 ghost use Rattle.base65.specs.Store.{HasFailed, NoneFailed};
 ghost use Rattle.cli65.specs.Line.{archive, archiving, assemble, assembling, line_of, link, linking, view};
 ghost use Rattle.cli65.specs.Messages.{memory_line};
+ghost use Rattle.output65.specs.Leaving.{streams};
 ghost use Rattle.tools65.specs.Archives.{Archives};
 ghost use Rattle.tools65.specs.Command.{outcome_of, Ran, Assembles, Does, DoesLine, Commands, line_memory};
 ghost use Rattle.tools65.specs.Failing.{FailsLine, FailsWords};
@@ -56,11 +57,14 @@ fn run_link<S: Store, W: Write, E: Write>(
     err: &mut E,
 ) -> Status
     ensures done { IfSome (S.files store.old) (λ m. NoneFailed (S.failures store.old) (S.failures store.new) →
-        Ran (Does (linking line.now)) memory_message m (S.files store.new) (W.contents out.old) (W.contents out.new) (E.contents err.old) (E.contents err.new) result) }
+        Ran (Does (linking line.now)) memory_message m (S.files store.new)
+            (streams (W.contents out.old) (W.contents out.new) (E.contents err.old) (E.contents err.new)) result) }
     ensures failed { IfSome (S.files store.old) (λ m. HasFailed (S.failures store.old) (S.failures store.new) →
-        FailsLine (link (linking line.now)) m (S.files store.new) (S.blamed store.new) (W.contents out.old) (W.contents out.new) (E.contents err.old) (E.contents err.new) result) }
+        FailsLine (link (linking line.now)) m (S.files store.new) (S.blamed store.new)
+            (streams (W.contents out.old) (W.contents out.new) (E.contents err.old) (E.contents err.new)) result) }
     ensures one_program { IfSome (S.files store.old) (λ m. NoneFailed (S.failures store.old) (S.failures store.new) →
-        LineLinksWhole (link (linking line.now)) m (S.files store.new) (W.contents out.old) (W.contents out.new) (E.contents err.old) (E.contents err.new) result) }
+        LineLinksWhole (link (linking line.now)) m (S.files store.new)
+            (streams (W.contents out.old) (W.contents out.new) (E.contents err.old) (E.contents err.new)) result) }
     ensures later { S.failures store.old ≤ S.failures store.new }
     ensures rose { HasFailed (S.failures store.old) (S.failures store.new) → result ≡ Status.Failure }
 {
@@ -83,11 +87,14 @@ fn run_assemble<S: Store, W: Write, E: Write>(
     err: &mut E,
 ) -> Status
     ensures done { IfSome (S.files store.old) (λ m. NoneFailed (S.failures store.old) (S.failures store.new) →
-        Ran (Assembles (assembling line.now)) (memory_line line.now.source.now) m (S.files store.new) (W.contents out.old) (W.contents out.new) (E.contents err.old) (E.contents err.new) result) }
+        Ran (Assembles (assembling line.now)) (memory_line line.now.source.now) m (S.files store.new)
+            (streams (W.contents out.old) (W.contents out.new) (E.contents err.old) (E.contents err.new)) result) }
     ensures failed { IfSome (S.files store.old) (λ m. HasFailed (S.failures store.old) (S.failures store.new) →
-        FailsLine (assemble (assembling line.now)) m (S.files store.new) (S.blamed store.new) (W.contents out.old) (W.contents out.new) (E.contents err.old) (E.contents err.new) result) }
+        FailsLine (assemble (assembling line.now)) m (S.files store.new) (S.blamed store.new)
+            (streams (W.contents out.old) (W.contents out.new) (E.contents err.old) (E.contents err.new)) result) }
     ensures one_program { IfSome (S.files store.old) (λ m. NoneFailed (S.failures store.old) (S.failures store.new) →
-        LineLinksWhole (assemble (assembling line.now)) m (S.files store.new) (W.contents out.old) (W.contents out.new) (E.contents err.old) (E.contents err.new) result) }
+        LineLinksWhole (assemble (assembling line.now)) m (S.files store.new)
+            (streams (W.contents out.old) (W.contents out.new) (E.contents err.old) (E.contents err.new)) result) }
     ensures later { S.failures store.old ≤ S.failures store.new }
     ensures rose { HasFailed (S.failures store.old) (S.failures store.new) → result ≡ Status.Failure }
 {
@@ -123,11 +130,14 @@ fn run_archive<S: Store, W: Write, E: Write>(
     err: &mut E,
 ) -> Status
     ensures done { IfSome (S.files store.old) (λ m. NoneFailed (S.failures store.old) (S.failures store.new) →
-        Ran (Archives (archiving line.now)) (memory_line line.now.library.now) m (S.files store.new) (W.contents out.old) (W.contents out.new) (E.contents err.old) (E.contents err.new) result) }
+        Ran (Archives (archiving line.now)) (memory_line line.now.library.now) m (S.files store.new)
+            (streams (W.contents out.old) (W.contents out.new) (E.contents err.old) (E.contents err.new)) result) }
     ensures failed { IfSome (S.files store.old) (λ m. HasFailed (S.failures store.old) (S.failures store.new) →
-        FailsLine (archive (archiving line.now)) m (S.files store.new) (S.blamed store.new) (W.contents out.old) (W.contents out.new) (E.contents err.old) (E.contents err.new) result) }
+        FailsLine (archive (archiving line.now)) m (S.files store.new) (S.blamed store.new)
+            (streams (W.contents out.old) (W.contents out.new) (E.contents err.old) (E.contents err.new)) result) }
     ensures one_program { IfSome (S.files store.old) (λ m. NoneFailed (S.failures store.old) (S.failures store.new) →
-        LineLinksWhole (archive (archiving line.now)) m (S.files store.new) (W.contents out.old) (W.contents out.new) (E.contents err.old) (E.contents err.new) result) }
+        LineLinksWhole (archive (archiving line.now)) m (S.files store.new)
+            (streams (W.contents out.old) (W.contents out.new) (E.contents err.old) (E.contents err.new)) result) }
     ensures later { S.failures store.old ≤ S.failures store.new }
     ensures rose { HasFailed (S.failures store.old) (S.failures store.new) → result ≡ Status.Failure }
 {
@@ -151,11 +161,14 @@ pub fn run_line<S: Store, W: Write, E: Write>(
     err: &mut E,
 ) -> Status
     ensures done { IfSome (S.files store.old) (λ m. NoneFailed (S.failures store.old) (S.failures store.new) →
-        Ran (DoesLine (view line.now)) (line_memory (view line.now)) m (S.files store.new) (W.contents out.old) (W.contents out.new) (E.contents err.old) (E.contents err.new) result) }
+        Ran (DoesLine (view line.now)) (line_memory (view line.now)) m (S.files store.new)
+            (streams (W.contents out.old) (W.contents out.new) (E.contents err.old) (E.contents err.new)) result) }
     ensures failed { IfSome (S.files store.old) (λ m. HasFailed (S.failures store.old) (S.failures store.new) →
-        FailsLine (view line.now) m (S.files store.new) (S.blamed store.new) (W.contents out.old) (W.contents out.new) (E.contents err.old) (E.contents err.new) result) }
+        FailsLine (view line.now) m (S.files store.new) (S.blamed store.new)
+            (streams (W.contents out.old) (W.contents out.new) (E.contents err.old) (E.contents err.new)) result) }
     ensures one_program { IfSome (S.files store.old) (λ m. NoneFailed (S.failures store.old) (S.failures store.new) →
-        LineLinksWhole (view line.now) m (S.files store.new) (W.contents out.old) (W.contents out.new) (E.contents err.old) (E.contents err.new) result) }
+        LineLinksWhole (view line.now) m (S.files store.new)
+            (streams (W.contents out.old) (W.contents out.new) (E.contents err.old) (E.contents err.new)) result) }
     ensures later { S.failures store.old ≤ S.failures store.new }
     ensures rose { HasFailed (S.failures store.old) (S.failures store.new) → result ≡ Status.Failure }
 {
@@ -175,11 +188,14 @@ pub fn run<A: AsStr, S: Store, W: Write, E: Write>(
     err: &mut E,
 ) -> Status
     ensures done { IfSome (S.files store.old) (λ m. NoneFailed (S.failures store.old) (S.failures store.new) →
-        Commands (map A.text words.now) m (S.files store.new) (W.contents out.old) (W.contents out.new) (E.contents err.old) (E.contents err.new) result) }
+        Commands (map A.text words.now) m (S.files store.new)
+            (streams (W.contents out.old) (W.contents out.new) (E.contents err.old) (E.contents err.new)) result) }
     ensures failed { IfSome (S.files store.old) (λ m. HasFailed (S.failures store.old) (S.failures store.new) →
-        FailsWords (S.failures store.old) (map A.text words.now) m (S.files store.new) (S.blamed store.new) (W.contents out.old) (W.contents out.new) (E.contents err.old) (E.contents err.new) result) }
+        FailsWords (S.failures store.old) (map A.text words.now) m (S.files store.new) (S.blamed store.new)
+            (streams (W.contents out.old) (W.contents out.new) (E.contents err.old) (E.contents err.new)) result) }
     ensures one_program { IfSome (S.files store.old) (λ m. NoneFailed (S.failures store.old) (S.failures store.new) →
-        WordsLinkWhole (line_of (map A.text words.now)) m (S.files store.new) (W.contents out.old) (W.contents out.new) (E.contents err.old) (E.contents err.new) result) }
+        WordsLinkWhole (line_of (map A.text words.now)) m (S.files store.new)
+            (streams (W.contents out.old) (W.contents out.new) (E.contents err.old) (E.contents err.new)) result) }
     ensures later { S.failures store.old ≤ S.failures store.new }
     ensures rose { HasFailed (S.failures store.old) (S.failures store.new) → result ≡ Status.Failure }
 {

@@ -5,14 +5,14 @@ use Rattle.tools65.proofs.WholeRuns.{words_whole}
 use Rattle.tools65.proofs.running.run.Goals as goal
 
 pub returns-in-Ok-clause-done : goal.returns-in-Ok-clause-done
-returns-in-Ok-clause-done g c = line_run _ _ _ _ (map g.A.AsStr.text c.args.words.now) _ _ _ _ _ _ c.in-Ok.ensures c.run_line.ensures.done
+returns-in-Ok-clause-done g c = line_run _ _ _ _ (map g.A.AsStr.text c.args.words.now) _ _ _ c.in-Ok.ensures c.run_line.ensures.done
 
 pub returns-in-Err-clause-done : goal.returns-in-Err-clause-done
 returns-in-Err-clause-done g c =
     refused_words _ _ (map g.A.AsStr.text c.args.words.now) c.in-Err.fault _ _ _ c.print.result _ _ refl refl c.in-Err.ensures (rw c.fault_message.ensures at c.print.ensures)
 
 pub returns-in-Ok-clause-failed : goal.returns-in-Ok-clause-failed
-returns-in-Ok-clause-failed g c = failed_words _ _ _ _ (map g.A.AsStr.text c.args.words.now) _ _ _ _ _ _ _ c.in-Ok.ensures c.run_line.ensures.failed
+returns-in-Ok-clause-failed g c = failed_words _ _ _ _ (map g.A.AsStr.text c.args.words.now) _ _ _ _ c.in-Ok.ensures c.run_line.ensures.failed
 
 pub returns-in-Err-clause-failed : goal.returns-in-Err-clause-failed
 returns-in-Err-clause-failed g c =
@@ -20,10 +20,10 @@ returns-in-Err-clause-failed g c =
 
 pub returns-in-Ok-clause-one_program : goal.returns-in-Ok-clause-one_program
 returns-in-Ok-clause-one_program g c =
-    words_whole _ _ _ _ (map g.A.AsStr.text c.args.words.now) _ _ _ _ _
-    (line_run _ _ _ _ (map g.A.AsStr.text c.args.words.now) _ _ _ _ _ _ c.in-Ok.ensures c.run_line.ensures.done)
+    words_whole _ _ _ _ (map g.A.AsStr.text c.args.words.now) _ _
+    (line_run _ _ _ _ (map g.A.AsStr.text c.args.words.now) _ _ _ c.in-Ok.ensures c.run_line.ensures.done)
 
 pub returns-in-Err-clause-one_program : goal.returns-in-Err-clause-one_program
 returns-in-Err-clause-one_program g c =
-    words_whole _ _ _ _ (map g.A.AsStr.text c.args.words.now) _ _ _ _ _
+    words_whole _ _ _ _ (map g.A.AsStr.text c.args.words.now) _ _
     (refused_words _ _ (map g.A.AsStr.text c.args.words.now) c.in-Err.fault _ _ _ c.print.result _ _ refl refl c.in-Err.ensures (rw c.fault_message.ensures at c.print.ensures))

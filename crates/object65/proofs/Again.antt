@@ -1,4 +1,5 @@
 -- The records of an object lead to a state that stands for it.
+use Rattle.std.proofs.lemmas.Grind.{common_steps}
 use Rattle.std.proofs.Common.{◌≡◌, ◌∙◌, ℕ, zero, suc, ◌+◌, ◌-◌, ◌%◌, ◌^◌, ◌<◌, ◌≤◌, List, [], ◌∷◌, ◌++◌, length, take, drop, map, Bool, true, false, ◌&&◌, ◌||◌, not, nat_lt, nat_le, nat_eq, ◌==◌, if◌then◌else◌, Result, Ok, refl, sym, ap, subst, arith, append_assoc, length-append, inl, inr}
 use Rattle.std.proofs.lemmas.Bool.Decides.{nat_tests}
 use Rattle.std.proofs.lemmas.List.{length-map, map-append, length-take, length-drop, take-append-drop}
@@ -77,9 +78,7 @@ naming v files = record (start v) { files = files }
 
 take_file : (v : ℕ) (done : List (List ℕ)) (name : List ℕ) (others : List (List ℕ)) → (v == 1) ≡ false → are_distinct is_file_name (done ++ name ∷ others) ≡ true → is_utf8 name ≡ true → after (naming v done) (file_entry name) ≡ Ok (naming v (done ++ name ∷ []))
 unfolding after Scanning.scanned Scanning.scan_entry Scanning.scan_file
-take_file v done name others two names text =
-    let n = name_among is_file_name done others name names in
-    rw (two, n.0, text, n.1) refl
+take_file v done name others two names text = grind (arith, common_steps, name_among)
 
 -- all files in turn
 take_files : (v : ℕ) (names done : List (List ℕ)) (rest : List Entry) → (v == 1) ≡ false → are_distinct is_file_name (done ++ names) ≡ true → AllByRecursion (λ name. is_utf8 name ≡ true) names → after_all (naming v done) (map file_entry names ++ rest) ≡ after_all (naming v (done ++ names)) rest
@@ -92,11 +91,7 @@ take_files v (n ∷ names) done rest two good texts =
 
 -- those of an object of either version
 files_taken : (v : ℕ) (files : List (List ℕ)) (rest : List Entry) → are_files_of v files ≡ true → AllByRecursion (λ name. is_utf8 name ≡ true) files → after_all (start v) (map file_entry files ++ rest) ≡ after_all (naming v files) rest
-files_taken v files rest good texts = go (v == 1) refl files good texts where
-  go : (b : Bool) → (v == 1) ≡ b → (files : List (List ℕ)) → (if b then length files == 0 else are_distinct is_file_name files) ≡ true → AllByRecursion (λ name. is_utf8 name ≡ true) files → after_all (start v) (map file_entry files ++ rest) ≡ after_all (naming v files) rest
-  go true one [] good texts = refl
-  go true one (n ∷ files) good texts = let some : (length (n ∷ files) == 0) ≡ false = grind (arith, nat_tests) in cc
-  go false two files good texts = take_files v files [] rest two good texts
+files_taken v files rest good texts = grind (arith, common_steps, nat_tests, take_files)
 
 module _ (v : ℕ) (files : List (List ℕ)) where
   -- a state with these parts
@@ -160,16 +155,11 @@ module _ (v : ℕ) (files : List (List ℕ)) where
       )
 
   heading_again : (n align : ℕ) (name : List ℕ) → n ≤ 16777216 → section_of (little_bytes 4 n ++ align ∷ name) ≡ Ok (record { size = n; align = align; name = name })
-  heading_again n align name small =
-      let number : little_number 4 (little_bytes 4 n ++ align ∷ name) ≡ n = back 4 n (align ∷ name) (omega arith) in
-      let long : nat_lt (length (little_bytes 4 n ++ align ∷ name)) 5 ≡ false = grind (arith, nat_tests) in
-      let within : nat_lt 16777216 n ≡ false = grind (arith, nat_tests) in
-      rw (long, number, within) refl
+  heading_again n align name small = grind (arith, common_steps)
 
   take_section : (n i : ℕ) (imports : List (List ℕ)) (ds : List Draft) (s : Section) (others : List (List ℕ)) → IsGood n i s → are_names (map (λ (d : Draft). d.name) ds ++ s.name ∷ others) ≡ true → after (sectioned imports false ds) (section_entry s) ≡ Ok (sectioned imports false (ds ++ empty_draft s ∷ []))
   unfolding after Scanning.scanned Scanning.scan_entry Scanning.scan_section
-  take_section n i imports ds s others good names =
-      rw (heading_again (section_len s) s.align s.name good.size, new_again (map (λ (d : Draft). d.name) ds) others s.name names, good.align) refl
+  take_section n i imports ds s others good names = grind (arith, common_steps, heading_again, new_again)
 
   -- all headings in turn
   take_headings : (n i : ℕ) (imports : List (List ℕ)) (ss : List Section) (ds : List Draft) (rest : List Entry) → AllByRecursion (IsGood n i) ss → are_names (map (λ (d : Draft). d.name) ds ++ map (λ (s : Section). s.name) ss) ≡ true → after_all (sectioned imports false ds) (map section_entry ss ++ rest) ≡ after_all (sectioned imports false (ds ++ map empty_draft ss)) rest
@@ -186,21 +176,14 @@ module _ (v : ℕ) (files : List (List ℕ)) where
   -- a fragment goes to the first section that isn't full
   part_again : (imports : List (List ℕ)) (begun : Bool) (full : List Draft) (d e : Draft) (more : List Draft) (grow : Room → Result (Room × Fragment) ObjectFault) (y : Room × Fragment) → list_all is_full full ≡ true → is_full d ≡ false → grow (Scanning.room_of d) ≡ Ok y → grown d y.1 ≡ e → (Scanning.scan_part (Scanning.outline_of (sectioned imports begun (full ++ d ∷ more))) grow >>= (λ x. Ok (with_item (sectioned imports begun (full ++ d ∷ more)) x.1))) ≡ Ok (sectioned imports true (full ++ e ∷ more))
   unfolding Scanning.scan_part
-  part_again imports begun full d e more grow y all free h is =
-      rw (opens full d more all free, h, piece_there full d more y.1, is) refl
+  part_again imports begun full d e more grow y all free h is = grind (arith, common_steps, opens, piece_there)
 
   literal_again : (s : Section) (fs : List Fragment) (bytes body : List ℕ) → 0 < length body → (sum_by fragment_len fs + length bytes) + length body ≤ section_len s → length bytes % body_limit ≡ 0 → Scanning.room_literal body (Scanning.room_of (drafting s fs bytes)) ≡ Ok (Scanning.room_behind (Scanning.room_of (drafting s fs bytes)) (length body) (Scanning.last_behind (length body)), Literal body)
   unfolding Scanning.room_literal
-  literal_again s fs bytes body some within full =
-      let none : (length body == 0) ≡ false = grind (arith, nat_tests) in
-      let room : nat_le (length body) (section_len s - (sum_by fragment_len fs + length bytes)) ≡ true = (let less : length body ≤ section_len s - (sum_by fragment_len fs + length bytes) = omega arith in grind (arith, nat_tests)) in
-      let even : (length bytes % body_limit == 0) ≡ true = grind (arith, nat_tests) in
-      rw (none, room, short_is (drafting s fs bytes), even) refl
+  literal_again s fs bytes body some within full = grind (arith, common_steps)
 
   literal_joined : (s : Section) (fs : List Fragment) (bytes body : List ℕ) → grown (drafting s fs bytes) (Literal body) ≡ drafting s fs (bytes ++ body)
-  literal_joined s fs bytes body =
-      let sum : (sum_by fragment_len fs + length bytes) + length body ≡ sum_by fragment_len fs + length (bytes ++ body) = omega (arith, length-append bytes body) in
-      ap (λ k. record { name = s.name; align = s.align; size = section_len s; filled = k; fragments = fs; literal = bytes ++ body }) sum
+  literal_joined s fs bytes body = grind (arith, common_steps)
 
   -- a section that has room isn't full
   not_full : (s : Section) (fs : List Fragment) (bytes : List ℕ) (len : ℕ) → 0 < len → (sum_by fragment_len fs + length bytes) + len ≤ section_len s → is_full (drafting s fs bytes) ≡ false
@@ -263,9 +246,7 @@ module _ (v : ℕ) (files : List (List ℕ)) where
 
   -- the section with one more fragment, which is no literal
   added : (s : Section) (fs : List Fragment) (bytes : List ℕ) (f : Fragment) → with_fragment (drafting s fs bytes) (fragment_len f) f ≡ drafting s ((fs ++ closing bytes) ++ f ∷ []) []
-  added s fs bytes f =
-      let sum : (sum_by fragment_len fs + length bytes) + fragment_len f ≡ sum_by fragment_len ((fs ++ closing bytes) ++ f ∷ []) + 0 = omega (arith, shut_len fs bytes, sum_by-append fragment_len (fs ++ closing bytes) (f ∷ [])) in
-      ap (λ k. record { name = s.name; align = s.align; size = section_len s; filled = k; fragments = (fs ++ closing bytes) ++ f ∷ []; literal = [] }) sum
+  added s fs bytes f = grind (arith, common_steps)
 
   room_again : (s : Section) (fs : List Fragment) (bytes : List ℕ) (len : ℕ) → (sum_by fragment_len fs + length bytes) + len ≤ section_len s → nat_le len (section_len s - (sum_by fragment_len fs + length bytes)) ≡ true
   room_again s fs bytes len within = let less : len ≤ section_len s - (sum_by fragment_len fs + length bytes) = omega arith in grind (arith, nat_tests)
@@ -280,14 +261,7 @@ module _ (v : ℕ) (files : List (List ℕ)) where
 
   -- what makes a form good in a value or an assertion
   form_parts : (n i : ℕ) (f : Form) → (is_good_form n i f && not (is_literal f)) ≡ true → (is_within n i f ≡ true) × ((is_normal f && nat_le (nodes f) node_limit && not (is_literal f)) ≡ true) × (is_normal f ≡ true)
-  form_parts n i f good =
-      let form = left (is_good_form n i f) (not (is_literal f)) good in
-      let two = left (is_within n i f && is_normal f) (nat_le (nodes f) node_limit) form in
-      let normal = right (is_within n i f) (is_normal f) two in (
-        left (is_within n i f) (is_normal f) two,
-        and (is_normal f && nat_le (nodes f) node_limit) (not (is_literal f)) (and (is_normal f) (nat_le (nodes f) node_limit) normal (right (is_within n i f && is_normal f) (nat_le (nodes f) node_limit) form)) (right (is_good_form n i f) (not (is_literal f)) good),
-        normal,
-      )
+  form_parts n i f good = grind (arith, common_steps, left, right, and)
 
   take_value : (n i : ℕ) (imports : List (List ℕ)) (begun : Bool) (full more : List Draft) (s : Section) (fs : List Fragment) (bytes : List ℕ) (w : Width) (o : Origin) (form : Form) → list_all is_full full ≡ true → is_good_origin v (length files) o ≡ true → length (full ++ drafting s fs bytes ∷ more) ≡ n → length imports ≡ i → OriginFits o × FitsBits form → (is_good_form n i form && not (is_literal form)) ≡ true → (sum_by fragment_len fs + length bytes) + width_len w ≤ section_len s → after (sectioned imports begun (full ++ drafting s fs bytes ∷ more)) (value_entry w o form) ≡ Ok (sectioned imports true (full ++ drafting s ((fs ++ closing bytes) ++ Value w o form ∷ []) [] ∷ more))
   unfolding after Scanning.scanned Scanning.scan_entry Scanning.room_value
@@ -326,14 +300,7 @@ module _ (v : ℕ) (files : List (List ℕ)) where
 
   -- one fragment, and then the others
   fills_next : (before : State) (imports : List (List ℕ)) (first others rest : List Entry) (full more : List Draft) (s : Section) (begun : Bool) (d : Draft) (all now : List Fragment) → now ≡ all → after_all before (first ++ (others ++ rest)) ≡ after_all (sectioned imports begun (full ++ d ∷ more)) (others ++ rest) → Fills (sectioned imports begun (full ++ d ∷ more)) imports others rest full more s now → Fills before imports (first ++ others) rest full more s all
-  fills_next before imports first others rest full more s begun d all now same one next = record {
-    fragments = next.fragments;
-    literal = next.literal;
-    whole = next.whole ∙ same;
-    is_full = next.is_full;
-    begun = next.begun;
-    same = ap (λ es. after_all before es) (append_assoc first others rest) ∙ one ∙ next.same;
-  }
+  fills_next before imports first others rest full more s begun d all now same one next = grind (arith, common_steps)
 
   take_fragments : (n i : ℕ) (imports : List (List ℕ)) (gs : List Fragment) (begun : Bool) (full more : List Draft) (s : Section) (fs : List Fragment) (bytes : List ℕ) (rest : List Entry) → list_all is_full full ≡ true → length full + suc (length more) ≡ n → length imports ≡ i → list_all (is_good_fragment n i) gs ≡ true → list_all (has_good_origin v (length files)) gs ≡ true → AllByRecursion FragmentFits gs → are_apart ((fs ++ closing bytes) ++ gs) ≡ true → (sum_by fragment_len fs + length bytes) + sum_by fragment_len gs ≡ section_len s → Fills (sectioned imports begun (full ++ drafting s fs bytes ∷ more)) imports (flat_map fragment_entries gs) rest full more s ((fs ++ closing bytes) ++ gs)
   take_fragments n i imports [] begun full more s fs bytes rest all count there good placed fits apart sum = record {

@@ -1,7 +1,7 @@
 -- Sections in the making: their fragments, and the first that isn't full.
 use Rattle.std.proofs.Common.{◌≡◌, ◌∙◌, ℕ, suc, ◌+◌, ◌-◌, List, [], ◌∷◌, ◌++◌, length, Bool, true, false, not, nat_lt, if◌then◌else◌, refl, sym, ap, subst, arith, map, Some, None, ◌==◌, Ok, Err, ◌⊎◌, inl, inr, ◌<◌, ◌≤◌, zero, ◌*◌, ◌%◌, length-append, ◌/◌, take, drop, append_assoc}
 use Rattle.std.proofs.lemmas.Bool.Decides.{nat_tests}
-use Rattle.std.proofs.lemmas.Grind.{flat_map-append}
+use Rattle.std.proofs.lemmas.Grind.{common_steps, flat_map-append}
 use Rattle.std.proofs.lemmas.List.Folds.{list_all-append, list_all-map}
 use Rattle.std.proofs.lemmas.List.Sums.{sum_by-append}
 use Rattle.std.specs.Prelude.{slice_get, slice_set}
@@ -82,16 +82,13 @@ longer x xs = grind (arith, nat_tests)
 
 -- a literal of some bytes is a fragment
 pub closing_is : (bytes : List ℕ) → is_none bytes ≡ false → closing bytes ≡ Literal bytes ∷ []
-closing_is [] some = cc
-closing_is (b ∷ bytes) some = ap (λ c. if c then [] else Literal (b ∷ bytes) ∷ []) (longer b bytes)
+closing_is x some = grind (arith, common_steps)
 
 closing_entries : (bytes : List ℕ) → flat_map fragment_entries (closing bytes) ≡ literal_entries bytes
-closing_entries [] = refl
-closing_entries (b ∷ bytes) = ap (flat_map fragment_entries) (closing_is (b ∷ bytes) (longer b bytes)) ∙ nil (literal_entries (b ∷ bytes))
+closing_entries x = grind (arith, common_steps)
 
 closing_len : (bytes : List ℕ) → sum_by fragment_len (closing bytes) ≡ length bytes
-closing_len [] = refl
-closing_len (b ∷ bytes) = ap (sum_by fragment_len) (closing_is (b ∷ bytes) (longer b bytes)) ∙ omega arith
+closing_len x = grind (arith, common_steps)
 
 pub shut_entries : (fs : List Fragment) (bytes : List ℕ) → flat_map fragment_entries (fs ++ closing bytes) ≡ flat_map fragment_entries fs ++ literal_entries bytes
 shut_entries fs bytes = flat_map-append fragment_entries fs (closing bytes) ∙ ap (λ es. flat_map fragment_entries fs ++ es) (closing_entries bytes)
@@ -100,23 +97,16 @@ pub shut_len : (fs : List Fragment) (bytes : List ℕ) → sum_by fragment_len (
 shut_len fs bytes = sum_by-append fragment_len fs (closing bytes) ∙ ap (λ n. sum_by fragment_len fs + n) (closing_len bytes)
 
 pub shut_good : (s i : ℕ) (fs : List Fragment) (bytes : List ℕ) → list_all (is_good_fragment s i) fs ≡ true → list_all (is_good_fragment s i) (fs ++ closing bytes) ≡ true
-shut_good s i fs [] good = ap (list_all (is_good_fragment s i)) (nil fs) ∙ good
-shut_good s i fs (b ∷ bytes) good =
-    let some : nat_lt 0 (length (b ∷ bytes)) ≡ true = grind (arith, nat_tests) in
-    let one : list_all (is_good_fragment s i) (Literal (b ∷ bytes) ∷ []) ≡ true = and (is_good_fragment s i (Literal (b ∷ bytes))) true some refl in
-    ap (λ xs. list_all (is_good_fragment s i) (fs ++ xs)) (closing_is (b ∷ bytes) (longer b bytes)) ∙ list_all-append (is_good_fragment s i) fs (Literal (b ∷ bytes) ∷ []) ∙ and (list_all (is_good_fragment s i) fs) (list_all (is_good_fragment s i) (Literal (b ∷ bytes) ∷ [])) good one
+shut_good s i fs x good = grind (arith, common_steps)
 
 pub shut_origins : (v n : ℕ) (fs : List Fragment) (bytes : List ℕ) → list_all (has_good_origin v n) fs ≡ true → list_all (has_good_origin v n) (fs ++ closing bytes) ≡ true
-shut_origins v n fs [] good = ap (list_all (has_good_origin v n)) (nil fs) ∙ good
-shut_origins v n fs (b ∷ bytes) good = ap (λ xs. list_all (has_good_origin v n) (fs ++ xs)) (closing_is (b ∷ bytes) (longer b bytes)) ∙ list_all-append (has_good_origin v n) fs (Literal (b ∷ bytes) ∷ []) ∙ and (list_all (has_good_origin v n) fs) true good refl
+shut_origins v n fs x good = grind (arith, common_steps)
 
 pub shut_apart : (fs : List Fragment) (bytes : List ℕ) → are_apart fs ≡ true → ((xs : List ℕ) → last_joins fs (Literal xs) ≡ false) → are_apart (fs ++ closing bytes) ≡ true
-shut_apart fs [] apart bare = ap are_apart (nil fs) ∙ apart
-shut_apart fs (b ∷ bytes) apart bare = ap (λ xs. are_apart (fs ++ xs)) (closing_is (b ∷ bytes) (longer b bytes)) ∙ apart_push fs (Literal (b ∷ bytes)) apart (bare (b ∷ bytes))
+shut_apart fs x apart bare = grind (arith, common_steps, nil, closing_is, longer, apart_push)
 
 pub shut_fits : (fs : List Fragment) (bytes : List ℕ) → AllByRecursion FragmentFits fs → AllByRecursion FragmentFits (fs ++ closing bytes)
-shut_fits fs [] fits = subst (AllByRecursion FragmentFits) (sym (nil fs)) fits
-shut_fits fs (b ∷ bytes) fits = subst (λ xs. AllByRecursion FragmentFits (fs ++ xs)) (sym (closing_is (b ∷ bytes) (longer b bytes))) (all_push FragmentFits fs (Literal (b ∷ bytes)) fits tt)
+shut_fits fs x fits = grind (arith, common_steps)
 
 -- ---- The section to which the next fragment goes: the first that isn't full.
 
@@ -204,9 +194,7 @@ opened ds place h = go (seek ds) where
 
 -- a fragment leaves the name
 pub grown_name : (d : Draft) (f : Fragment) → (grown d f).name ≡ d.name
-grown_name d (Literal bytes) = refl
-grown_name d (Fill n) = refl
-grown_name d (Value w line form) = refl
+grown_name d x = grind (arith, common_steps)
 
 -- ---- The records of a literal, one after another.
 
@@ -225,19 +213,10 @@ one_piece bytes some within =
 
 -- what is written so far and the records of what is left are the whole
 pub written_piece : (out new old bytes : List ℕ) (whole : List ℕ) → body_limit < length bytes → new ≡ out ++ entry_bytes (literal_entry (take body_limit bytes)) → out ++ flat_map entry_bytes (literal_entries bytes) ≡ old ++ whole → new ++ flat_map entry_bytes (literal_entries (drop body_limit bytes)) ≡ old ++ whole
-written_piece out new old bytes whole long is kept =
-    ap (λ xs. xs ++ flat_map entry_bytes (literal_entries (drop body_limit bytes))) is
-    ∙ append_assoc out (entry_bytes (literal_entry (take body_limit bytes))) (flat_map entry_bytes (literal_entries (drop body_limit bytes)))
-    ∙ ap (λ es. out ++ flat_map entry_bytes es) (sym (more_pieces bytes (omega arith)))
-    ∙ kept
+written_piece out new old bytes whole long is kept = grind (arith, common_steps, append_assoc, more_pieces)
 
 pub written_last : (out new old bytes : List ℕ) (whole : List ℕ) → 0 < length bytes → length bytes ≤ body_limit → new ≡ out ++ entry_bytes (literal_entry bytes) → out ++ flat_map entry_bytes (literal_entries bytes) ≡ old ++ whole → new ≡ old ++ whole
-written_last out new old bytes whole some within is kept =
-    is ∙ sym (ap (λ es. out ++ flat_map entry_bytes es) (one_piece bytes some within) ∙ ap (λ xs. out ++ xs) (nil (entry_bytes (literal_entry bytes)))) ∙ kept
-  where
-    nil : (xs : List ℕ) → xs ++ [] ≡ xs
-    nil [] = refl
-    nil (x ∷ xs) = ap (λ ys. x ∷ ys) (nil xs)
+written_last out new old bytes whole some within is kept = grind (arith, common_steps, one_piece)
 
 -- where all its records are full, a literal and one record more are the records of both
 pieces_grown : (k : ℕ) (bytes body : List ℕ) → length bytes ≡ body_limit * k → 0 < length body → length body ≤ body_limit → literal_entries (bytes ++ body) ≡ literal_entries bytes ++ literal_entry body ∷ []

@@ -1,4 +1,5 @@
 -- The fields of the bodies of records: what is read is spelled so, and what is spelled so is read.
+use Rattle.std.proofs.lemmas.Grind.{common_steps}
 use Rattle.std.proofs.Common.{◌≡◌, ◌∙◌, ℕ, ℤ, zero, suc, ◌+◌, ◌-◌, ◌<◌, ◌≤◌, ◌^◌, List, [], ◌∷◌, ◌++◌, length, take, drop, Bool, true, false, ◌&&◌, ◌||◌, not, nat_lt, ◌==◌, Option, Some, None, Result, Ok, Err, refl, sym, ap, subst, arith, append_assoc, length-append, ◌⊎◌, inl, inr, if◌then◌else◌}
 use Rattle.std.proofs.lemmas.Bool.Decides.{nat_tests}
 use Rattle.std.proofs.lemmas.List.{take-append-drop, take_at, drop_at}
@@ -203,22 +204,10 @@ found true x y e = cc
 found false x y e = (refl, cc)
 
 op1_spelled : (code : ℕ) (op : Op1) → Bodies.op1_at code ≡ Some op → code1 op ≡ code ∷ []
-op1_spelled code op e =
-    let f = found (nat_lt code 0x10 || nat_lt 0x15 code) (op1_of (code - 0x0f)) op e in
-    let ends = either_not (nat_lt code 0x10) (nat_lt 0x15 code) f.0 in
-    let low : 0x10 ≤ code = ltb-false _ _ ends.0 in
-    let high : code ≤ 0x15 = ltb-false _ _ ends.1 in
-    let sum : 15 + (code - 0x0f) ≡ code = omega arith in
-    ap code1 (sym f.1) ∙ code1_of (code - 0x0f) (omega arith) (omega arith) ∙ ap (λ c. c ∷ []) sum
+op1_spelled code op e = grind (arith, common_steps)
 
 op2_spelled : (code : ℕ) (op : Op2) → Bodies.op2_at code ≡ Some op → 0x20 + number2 op ≡ code
-op2_spelled code op e =
-    let f = found (nat_lt code 0x20 || nat_lt 0x32 code) (op2_of (code - 0x20)) op e in
-    let ends = either_not (nat_lt code 0x20) (nat_lt 0x32 code) f.0 in
-    let low : 0x20 ≤ code = ltb-false _ _ ends.0 in
-    let high : code ≤ 0x32 = ltb-false _ _ ends.1 in
-    let number : number2 op ≡ code - 0x20 = ap number2 (sym f.1) ∙ number2_of (code - 0x20) (omega arith) in
-    omega arith
+op2_spelled code op e = grind (arith, common_steps, found, either_not, number2_of)
 
 prefix_reads : (part : Part) (code : ℕ) (op : Op1) (rest : List ℕ) (x : Form × List ℕ) → ReadsParts part → code1 op ≡ code ∷ [] → IsBytes rest → Bodies.prefix_at part op rest ≡ Ok x → ReadsForm (code ∷ rest) x
 unfolding Bodies.prefix_at
@@ -276,8 +265,7 @@ form_reads (suc depth) [] x is e = cc
 form_reads (suc depth) (code ∷ rest) x is e = code_reads (λ xs. Bodies.form_at depth xs) code rest x (form_reads depth) (λ i. is (suc i)) e
 
 nothing_left : (bytes : List ℕ) → (length bytes == 0) ≡ true → bytes ≡ []
-nothing_left [] e = refl
-nothing_left (b ∷ bytes) e = let longer : (length (b ∷ bytes) == 0) ≡ false = grind (arith, nat_tests) in cc
+nothing_left x e = grind (arith, common_steps)
 
 kept : {A : Type 0} (b : Bool) (x y : A) → (if b then Ok x else Err BadSize) ≡ Ok y → (b ≡ true) × (x ≡ y)
 kept true x y e = (refl, cc)
@@ -294,60 +282,13 @@ all_reads bytes f is e =
 -- ---- Bodies that are read.
 
 pub fill_reads : (body : List ℕ) (n : ℕ) → IsBytes body → Bodies.fill_of body ≡ Ok n → (body ≡ little_bytes 4 n) × (n < 2 ^ 32) × (0 < n)
-fill_reads body n is e =
-    let p = passes (not (length body == 4) || little_number 4 body == 0) BadSize _ _ e in
-    let ends = either_not (not (length body == 4)) (little_number 4 body == 0) p.0 in
-    let len : length body ≡ 4 = four (length body) ends.0 in
-    let n_is : little_number 4 body ≡ n = cc (p.1) in
-    let spelled = front 4 body is (omega arith) in
-    let some : little_number 4 body ≡ 0 → ⊥ = positive (little_number 4 body) ends.1 in
-    let below = little_from-lt 0 4 body is in
-    (sym (ap (little_bytes 4) (sym n_is) ∙ spelled ∙ take_whole 4 body len), omega (arith, below, n_is), above (little_number 4 body) n some n_is)
-  where
-    four : (n : ℕ) → not (n == 4) ≡ false → n ≡ 4
-    four n e = grind (arith, nat_tests)
-
-    positive : (n : ℕ) → (n == 0) ≡ false → n ≡ 0 → ⊥
-    positive n e h = grind (arith, nat_tests)
-
-    above : (m n : ℕ) → (m ≡ 0 → ⊥) → m ≡ n → 0 < n
-    above zero n some e = absurd (some refl)
-    above (suc m) n some e = omega arith
-
-    take_whole : (n : ℕ) (xs : List ℕ) → length xs ≡ n → take n xs ≡ xs
-    take_whole zero [] e = refl
-    take_whole zero (x ∷ xs) e = absurd (omega arith)
-    take_whole (suc n) [] e = absurd (omega arith)
-    take_whole (suc n) (x ∷ xs) e = ap (λ ys. x ∷ ys) (take_whole n xs (omega arith))
+fill_reads body n is e = grind (arith, common_steps)
 
 width_spelled : (code : ℕ) (w : Width) → Bodies.width_of code ≡ Ok w → code ≡ width_code w
-width_spelled code w e =
-    elim (either (code == 0)) [
-      | inl is ↦ let same : code ≡ 0 = grind (arith, nat_tests) in let w_is : Byte ≡ w = cc (sym (chosen (code == 0) _ _ is) ∙ e) in same ∙ ap width_code w_is
-      | inr not_0 ↦ elim (either (code == 1)) [
-        | inl is ↦ let same : code ≡ 1 = grind (arith, nat_tests) in let w_is : Word ≡ w = cc (sym (chosen (code == 1) _ _ is) ∙ sym (other (code == 0) _ _ not_0) ∙ e) in same ∙ ap width_code w_is
-        | inr not_1 ↦ elim (either (code == 2)) [
-          | inl is ↦ let same : code ≡ 2 = grind (arith, nat_tests) in let w_is : HighFirst ≡ w = cc (sym (chosen (code == 2) _ _ is) ∙ sym (other (code == 1) _ _ not_1) ∙ sym (other (code == 0) _ _ not_0) ∙ e) in same ∙ ap width_code w_is
-          | inr not_2 ↦ elim (either (code == 3)) [
-            | inl is ↦ let same : code ≡ 3 = grind (arith, nat_tests) in let w_is : Dword ≡ w = cc (sym (chosen (code == 3) _ _ is) ∙ sym (other (code == 2) _ _ not_2) ∙ sym (other (code == 1) _ _ not_1) ∙ sym (other (code == 0) _ _ not_0) ∙ e) in same ∙ ap width_code w_is
-            | inr not_3 ↦ let last = kept (code == 4) Branch w (sym (other (code == 3) _ _ not_3) ∙ sym (other (code == 2) _ _ not_2) ∙ sym (other (code == 1) _ _ not_1) ∙ sym (other (code == 0) _ _ not_0) ∙ e) in let same : code ≡ 4 = four code last.0 in same ∙ ap width_code last.1
-          ]
-        ]
-      ]
-    ]
-  where
-    four : (n : ℕ) → (n == 4) ≡ true → n ≡ 4
-    four n e = grind (arith, nat_tests)
+width_spelled code w e = grind (arith, common_steps)
 
 action_spelled : (code : ℕ) (a : Action) → Bodies.action_of code ≡ Ok a → code ≡ action_code a
-action_spelled code a e =
-    elim (either (code == 0)) [
-      | inl is ↦ let same : code ≡ 0 = grind (arith, nat_tests) in let a_is : action.Warning ≡ a = cc (sym (chosen (code == 0) _ _ is) ∙ e) in same ∙ ap action_code a_is
-      | inr not_0 ↦ let last = kept (code == 1) action.Error a (sym (other (code == 0) _ _ not_0) ∙ e) in let same : code ≡ 1 = one code last.0 in same ∙ ap action_code last.1
-    ]
-  where
-    one : (n : ℕ) → (n == 1) ≡ true → n ≡ 1
-    one n e = grind (arith, nat_tests)
+action_spelled code a e = grind (arith, common_steps)
 
 -- the origin stands at the front, and then the rest
 record ReadsOrigin (bytes : List ℕ) (x : Origin × List ℕ) : Type 0 where
@@ -385,55 +326,27 @@ origin_reads v bytes x is e = go (v == 1) e where
 
 line_by : (v : ℕ) (bytes : List ℕ) (x : Origin × List ℕ) → (v == 1) ≡ true → Bodies.line_at bytes ≡ Ok x → has_file_by v x.0.file ≡ true
 unfolding Bodies.line_at
-line_by v bytes x one e =
-    let l = bound (Bodies.number_at 4 bytes) _ _ e in
-    let x_is : ◌≡◌ {A = Origin × List ℕ} (record { file = None; line = l.0.0 }, l.0.1) x = cc (l.2) in
-    rw (← x_is) one
+line_by v bytes x one e = grind (arith, common_steps)
 
 file_line_by : (v : ℕ) (bytes : List ℕ) (x : Origin × List ℕ) → (v == 1) ≡ false → Bodies.file_line_at bytes ≡ Ok x → has_file_by v x.0.file ≡ true
 unfolding Bodies.file_line_at
-file_line_by v bytes x two e =
-    let k = bound (Bodies.number_at 4 bytes) _ _ e in
-    let l = bound (Bodies.number_at 4 k.0.1) _ _ k.2 in
-    let x_is : ◌≡◌ {A = Origin × List ℕ} (record { file = Some k.0.0; line = l.0.0 }, l.0.1) x = cc (l.2) in
-    rw (← x_is) (ap not two)
+file_line_by v bytes x two e = grind (arith, common_steps)
 
 -- an origin that is read has a file or none as its version says
 origin_by : (v : ℕ) (bytes : List ℕ) (x : Origin × List ℕ) → Bodies.origin_at v bytes ≡ Ok x → has_file_by v x.0.file ≡ true
-origin_by v bytes x e = go (v == 1) refl e where
-  go : (b : Bool) → (v == 1) ≡ b → (if b then Bodies.line_at bytes else Bodies.file_line_at bytes) ≡ Ok x → has_file_by v x.0.file ≡ true
-  go true one e = line_by v bytes x one e
-  go false two e = file_line_by v bytes x two e
+origin_by v bytes x e = grind (arith, common_steps, line_by, file_line_by)
 
 pub value_by : (v : ℕ) (body : List ℕ) (x : Width × Origin × Form) → Bodies.value_of v body ≡ Ok x → has_file_by v x.1.file ≡ true
 unfolding Bodies.value_of
-value_by v body x e =
-    let c = bound (Bodies.number_at 1 body) _ _ e in
-    let w = bound (Bodies.width_of c.0.0) _ _ c.2 in
-    let l = bound (Bodies.origin_at v c.0.1) _ _ w.2 in
-    let f = bound (Bodies.form_of_all l.0.1) _ _ l.2 in
-    let x_is : ◌≡◌ {A = Width × Origin × Form} (w.0, l.0.0, f.0) x = cc (f.2) in
-    rw (← x_is) (origin_by v c.0.1 l.0 l.1)
+value_by v body x e = grind (arith, common_steps, bound, origin_by)
 
 pub export_by : (v : ℕ) (body : List ℕ) (x : Export) → Bodies.export_of v body ≡ Ok x → has_file_by v x.origin.file ≡ true
 unfolding Bodies.export_of
-export_by v body x e =
-    let t = bound (Bodies.counted_at body) _ _ e in
-    let l = bound (Bodies.origin_at v t.0.1) _ _ t.2 in
-    let f = bound (Bodies.form_of_all l.0.1) _ _ l.2 in
-    let x_is : ◌≡◌ {A = Export} (record { name = t.0.0; origin = l.0.0; form = f.0 }) x = cc (f.2) in
-    rw (← x_is) (origin_by v t.0.1 l.0 l.1)
+export_by v body x e = grind (arith, common_steps, bound, origin_by)
 
 pub assert_by : (v : ℕ) (body : List ℕ) (x : Assert) → Bodies.assert_of v body ≡ Ok x → has_file_by v x.origin.file ≡ true
 unfolding Bodies.assert_of
-assert_by v body x e =
-    let c = bound (Bodies.number_at 1 body) _ _ e in
-    let a = bound (Bodies.action_of c.0.0) _ _ c.2 in
-    let l = bound (Bodies.origin_at v c.0.1) _ _ a.2 in
-    let t = bound (Bodies.counted_at l.0.1) _ _ l.2 in
-    let f = bound (Bodies.form_of_all t.0.1) _ _ t.2 in
-    let x_is : ◌≡◌ {A = Assert} (record { action = a.0; origin = l.0.0; text = t.0.0; form = f.0 }) x = cc (f.2) in
-    rw (← x_is) (origin_by v c.0.1 l.0 l.1)
+assert_by v body x e = grind (arith, common_steps, bound, origin_by)
 
 pub value_reads : (v : ℕ) (body : List ℕ) (x : Width × Origin × Form) → IsBytes body → Bodies.value_of v body ≡ Ok x → (body ≡ (value_entry x.0 x.1 x.2).body) × OriginFits x.1 × FitsBits x.2
 unfolding Bodies.value_of
@@ -504,21 +417,14 @@ number_again n x rest fits =
     rw (long, back n x rest fits, drop_at (little_bytes n x) rest n len) refl
 
 byte_again : (b : ℕ) (rest : List ℕ) → Bodies.number_at 1 (b ∷ rest) ≡ Ok (b, rest)
-byte_again b rest =
-    let long : nat_lt (length (b ∷ rest)) 1 ≡ false = grind (arith, nat_tests) in
-    let same : little_number 1 (b ∷ rest) ≡ b = omega arith in
-    rw (long, same) refl
+byte_again b rest = grind (arith, common_steps)
 
 signed_again : (v : ℤ) (rest : List ℕ) → FitsSigned w64 v → Bodies.signed_at (little_bytes 8 (cast_unsigned w64 v) ++ rest) ≡ Ok (v, rest)
-signed_again v rest fits =
-    let below : cast_unsigned w64 v < 2 ^ 64 = Fits-lt-pow (Fits-of_z fits) in
-    rw (number_again 8 (cast_unsigned w64 v) rest (omega (arith, below)), to_z-of_z w64 v fits) refl
+signed_again v rest fits = grind (arith, common_steps)
 
 text_again : (text rest : List ℕ) → Bodies.counted_at (length text ∷ (text ++ rest)) ≡ Ok (text, rest)
 unfolding Bodies.counted_at
-text_again text rest =
-    let long : nat_lt (length (text ++ rest)) (length text) ≡ false = (let n = length-append text rest in grind (arith, nat_tests)) in
-    rw (byte_again (length text) (text ++ rest), long, take_at text rest (length text) refl, drop_at text rest (length text) refl) refl
+text_again text rest = grind (arith, common_steps)
 
 binary_code : (part : Part) (op : Op2) (bytes : List ℕ) → Bodies.form_of_code part (0x20 + number2 op) bytes ≡ Bodies.binary_at part op bytes
 binary_code part Multiply bytes = refl
@@ -600,24 +506,16 @@ all_again f fits normal =
     rw read refl
 
 fill_kept : (body : List ℕ) (n : ℕ) → length body ≡ 4 → little_number 4 body ≡ n → 0 < n → Bodies.fill_of body ≡ Ok n
-fill_kept body n len number some =
-    let four : (length body == 4) ≡ true = grind (arith, nat_tests) in
-    let above : (n == 0) ≡ false = grind (arith, nat_tests) in
-    rw (four, number, above) refl
+fill_kept body n len number some = grind (arith, common_steps)
 
 pub fill_again : (n : ℕ) → 0 < n → n < 2 ^ 32 → Bodies.fill_of (fill_entry n).body ≡ Ok n
 fill_again n some fits = fill_kept (little_bytes 4 n) n (length-bytes_low_first 0 4 n) (ap (little_number 4) (sym (nil (little_bytes 4 n))) ∙ back 4 n [] (omega arith)) some
 
 width_again : (w : Width) → Bodies.width_of (width_code w) ≡ Ok w
-width_again Byte = refl
-width_again Word = refl
-width_again HighFirst = refl
-width_again Dword = refl
-width_again Branch = refl
+width_again x = grind (arith, common_steps)
 
 action_again : (a : Action) → Bodies.action_of (action_code a) ≡ Ok a
-action_again action.Warning = refl
-action_again action.Error = refl
+action_again x = grind (arith, common_steps)
 
 line_again : (line : ℕ) (rest : List ℕ) → line < 2 ^ 32 → Bodies.line_at (little_bytes 4 line ++ rest) ≡ Ok (record { file = None; line = line }, rest)
 unfolding Bodies.line_at
@@ -625,20 +523,10 @@ line_again line rest within = rw (number_again 4 line rest (omega (arith, within
 
 file_line_again : (k line : ℕ) (rest : List ℕ) → k < 2 ^ 32 → line < 2 ^ 32 → Bodies.file_line_at ((little_bytes 4 k ++ little_bytes 4 line) ++ rest) ≡ Ok (record { file = Some k; line = line }, rest)
 unfolding Bodies.file_line_at
-file_line_again k line rest file within =
-    ap Bodies.file_line_at (append_assoc (little_bytes 4 k) (little_bytes 4 line) rest)
-    ∙ ap (λ r. r >>= (λ x. Bodies.number_at 4 x.1 >>= (λ y. Ok (record { file = Some x.0; line = y.0 }, y.1)))) (number_again 4 k (little_bytes 4 line ++ rest) (omega (arith, file)))
-    ∙ ap (λ r. r >>= (λ y. Ok (record { file = Some k; line = y.0 }, y.1))) (number_again 4 line rest (omega (arith, within)))
+file_line_again k line rest file within = grind (arith, common_steps)
 
 origin_again : (v : ℕ) (o : Origin) (rest : List ℕ) → has_file_by v o.file ≡ true → OriginFits o → Bodies.origin_at v (origin_bytes o ++ rest) ≡ Ok (o, rest)
-origin_again v o rest by fits = go o.file o.line by fits.0 fits.1 where
-  turned_off : (b : Bool) → not b ≡ true → b ≡ false
-  turned_off true e = cc
-  turned_off false e = refl
-
-  go : (file : Option ℕ) (line : ℕ) → has_file_by v file ≡ true → IfSome file (λ k. k < 2 ^ 32) → line < 2 ^ 32 → Bodies.origin_at v (origin_bytes (record { file = file; line = line }) ++ rest) ≡ Ok (record { file = file; line = line }, rest)
-  go None line by file within = chosen (v == 1) _ _ by ∙ line_again line rest within
-  go (Some k) line by file within = other (v == 1) _ _ (turned_off (v == 1) by) ∙ file_line_again k line rest file within
+origin_again v o rest by fits = grind (arith, common_steps, chosen, line_again, other, file_line_again)
 
 pub value_again : (v : ℕ) (w : Width) (o : Origin) (f : Form) → has_file_by v o.file ≡ true → OriginFits o → FitsBits f → is_normal f ≡ true → Bodies.value_of v (value_entry w o f).body ≡ Ok (w, o, f)
 unfolding Bodies.value_of
@@ -647,10 +535,8 @@ value_again v w o f by within fits normal =
 
 pub export_again : (v : ℕ) (x : Export) → has_file_by v x.origin.file ≡ true → OriginFits x.origin → FitsBits x.form → is_normal x.form ≡ true → Bodies.export_of v (export_entry x).body ≡ Ok x
 unfolding Bodies.export_of
-export_again v x by within fits normal =
-    rw (append_assoc x.name (origin_bytes x.origin) (form_bytes x.form), text_again x.name (origin_bytes x.origin ++ form_bytes x.form), origin_again v x.origin (form_bytes x.form) by within, all_again x.form fits normal) refl
+export_again v x by within fits normal = grind (arith, common_steps, append_assoc, text_again, origin_again, all_again)
 
 pub assert_again : (v : ℕ) (x : Assert) → has_file_by v x.origin.file ≡ true → OriginFits x.origin → FitsBits x.form → is_normal x.form ≡ true → Bodies.assert_of v (assert_entry x).body ≡ Ok x
 unfolding Bodies.assert_of
-assert_again v x by within fits normal =
-    rw (byte_again (action_code x.action) (origin_bytes x.origin ++ length x.text ∷ (x.text ++ form_bytes x.form)), action_again x.action, origin_again v x.origin (length x.text ∷ (x.text ++ form_bytes x.form)) by within, text_again x.text (form_bytes x.form), all_again x.form fits normal) refl
+assert_again v x by within fits normal = grind (arith, common_steps, byte_again, action_again, origin_again, text_again, all_again)

@@ -1,4 +1,5 @@
 -- Folding keeps values, and what it gives is normal.
+use Rattle.std.proofs.lemmas.Grind.{common_steps}
 use Rattle.std.proofs.Common.{◌≡◌, ◌∙◌, ℕ, ◌≤◌, ℤ, ◌+ℤ◌, ◌-ℤ◌, refl, sym, ap, arith, Result, Ok, Err, Option, Some, None, Bool, true, false, ◌&&◌, ◌||◌, not, nat_eq, nat_le, cond}
 use Rattle.std.proofs.lemmas.Bool.Decides.{nat_tests}
 use Rattle.std.proofs.lemmas.Int.{ints, int_wrap-add_left, int_wrap-add_right, int_wrap-sub_right}
@@ -42,35 +43,26 @@ difference b a c =
 -- ---- Values.
 
 limited_is : (f h : Form) → Folding.limited f ≡ Ok h → (f ≡ h) × (nat_le (nodes f) Folding.node_limit ≡ true)
-limited_is f h e = go (nat_le (nodes f) Folding.node_limit) e
-  where
-    go : (b : Bool) → cond b (Ok f) (Err TooLarge) ≡ Ok h → (f ≡ h) × (b ≡ true)
-    go true e = (cc, refl)
-    go false e = cc
+limited_is f h e = grind (arith, common_steps)
 
 module _ {E : Type 0} (none : E) (bases : ℕ → ℤ) (imports : ℕ → Result ℤ E) where
   prefix_kept : (op : Op1) (f h : Form) → Folding.fold_prefix op f ≡ Ok h → value_in none bases imports h ≡ value_of_one none bases imports op f
-  prefix_kept op (lit v) h e = let same : lit (value1 op v) ≡ h = cc in ap (value_in none bases imports) (sym same)
-  prefix_kept op f h e = ap (value_in none bases imports) (sym (limited_is (prefix op f) h e).0)
+  prefix_kept op x h e = grind (arith, common_steps)
 
   plus_kept : (r : Result ℤ E) → r ≡ (r >>= (λ a. Ok (value1 Plus a)))
-  plus_kept (Ok v) = refl
-  plus_kept (Err e) = refl
+  plus_kept x = grind (arith, common_steps)
 
   one_kept : (op : Op1) (f h : Form) → Folding.fold1 op f ≡ Ok h → value_in none bases imports h ≡ value_of_one none bases imports op f
-  one_kept Plus f h e = let same : f ≡ h = cc in ap (value_in none bases imports) (sym same) ∙ plus_kept (value_in none bases imports f)
-  one_kept op f h e = prefix_kept op f h e
+  one_kept x f h e = grind (arith, common_steps)
 
   literals_kept : (r : Option ℤ) (h : Form) → Folding.literal r ≡ Ok h → value_in none bases imports h ≡ or_none none r
-  literals_kept (Some v) h e = let same : lit v ≡ h = cc in ap (value_in none bases imports) (sym same)
-  literals_kept None h e = cc
+  literals_kept x h e = grind (arith, common_steps)
 
   stays : (op : Op2) (f g h : Form) → Folding.limited (binary op f g) ≡ Ok h → value_in none bases imports h ≡ value_of_two none bases imports op f g
   stays op f g h e = ap (value_in none bases imports) (sym (limited_is (binary op f g) h e).0)
 
   any_kept : (op : Op2) (f g h : Form) → Folding.fold_any op f g ≡ Ok h → value_in none bases imports h ≡ value_of_two none bases imports op f g
-  any_kept op (lit a) (lit b) h e = literals_kept (value2 op a b) h e
-  any_kept op f g h e = stays op f g h e
+  any_kept op x y h e = grind (arith, common_steps)
 
   sum_kept : (f g h : Form) → Folding.fold_sum f g ≡ Ok h → value_in none bases imports h ≡ value_of_two none bases imports Add f g
   sum_kept (sec k a) (lit n) h e = let same : sec k (wrapped (a +ℤ n)) ≡ h = cc in ap (value_in none bases imports) (sym same) ∙ ap Ok (add_right (bases k) a n)
@@ -85,14 +77,10 @@ module _ {E : Type 0} (none : E) (bases : ℕ → ℤ) (imports : ℕ → Result
   sections_kept k m a b h false t e = any_kept Subtract (sec k a) (sec m b) h e
 
   difference_kept : (f g h : Form) → Folding.fold_difference f g ≡ Ok h → value_in none bases imports h ≡ value_of_two none bases imports Subtract f g
-  difference_kept (sec k a) (sec m b) h e = sections_kept k m a b h (nat_eq k m) refl e
-  difference_kept (sec k a) (lit n) h e = let same : sec k (wrapped (a -ℤ n)) ≡ h = cc in ap (value_in none bases imports) (sym same) ∙ ap Ok (subtract_right (bases k) a n)
-  difference_kept f g h e = any_kept Subtract f g h e
+  difference_kept x y h e = grind (arith, common_steps, sections_kept, subtract_right, any_kept)
 
   two_kept : (op : Op2) (f g h : Form) → Folding.fold2 op f g ≡ Ok h → value_in none bases imports h ≡ value_of_two none bases imports op f g
-  two_kept Add f g h e = sum_kept f g h e
-  two_kept Subtract f g h e = difference_kept f g h e
-  two_kept op f g h e = any_kept op f g h e
+  two_kept x f g h e = grind (arith, common_steps, sum_kept, difference_kept, any_kept)
 
 pub prefix_fold_law : (E : Type 0) → PrefixFoldLaw E
 prefix_fold_law E none bases imports op f h e = one_kept none bases imports op f h e
@@ -106,38 +94,28 @@ small : (f : Form) → nat_le (nodes f) Folding.node_limit ≡ true → nodes f 
 small f e = grind (arith, nat_tests)
 
 literal_normal : (r : Option ℤ) (h : Form) → Folding.literal r ≡ Ok h → IsFolded h
-literal_normal (Some v) h e = let same : lit v ≡ h = cc in rw (← same) (refl, omega arith)
-literal_normal None h e = cc
+literal_normal x h e = grind (arith, common_steps)
 
 prefix_stays : (op : Op1) (f h : Form) → IsFolded f → not (Folding.folds1 op f) ≡ true → Folding.limited (prefix op f) ≡ Ok h → IsFolded h
-prefix_stays op f h folded alone e =
-    let is = limited_is (prefix op f) h e in
-    rw (← is.0) (and (Folding.is_normal f) (not (Folding.folds1 op f)) folded.0 alone, small (prefix op f) is.1)
+prefix_stays op f h folded alone e = grind (arith, common_steps)
 
 binary_stays : (op : Op2) (f g h : Form) → IsFolded f → IsFolded g → not (Folding.folds2 op f g) ≡ true → Folding.limited (binary op f g) ≡ Ok h → IsFolded h
-binary_stays op f g h folded_f folded_g alone e =
-    let is = limited_is (binary op f g) h e in
-    rw (← is.0) (and (Folding.is_normal f && Folding.is_normal g) (not (Folding.folds2 op f g)) (and (Folding.is_normal f) (Folding.is_normal g) folded_f.0 folded_g.0) alone, small (binary op f g) is.1)
+binary_stays op f g h folded_f folded_g alone e = grind (arith, common_steps)
 
 place_normal : (k : ℕ) (a : ℤ) (h : Form) → sec k a ≡ h → IsFolded h
 place_normal k a h e = rw (← e) (refl, omega arith)
 
 prefix_normal : (op : Op1) (f h : Form) → IsFolded f → Folding.folds1 op f ≡ Folding.is_literal f → Folding.fold_prefix op f ≡ Ok h → IsFolded h
-prefix_normal op (lit v) h folded alone e = let same : lit (value1 op v) ≡ h = cc in rw (← same) (refl, omega arith)
-prefix_normal op f h folded alone e = prefix_stays op f h folded (ap not alone) e
+prefix_normal op x h folded alone e = grind (arith, common_steps)
 
 one_normal : (op : Op1) (f h : Form) → IsFolded f → Folding.fold1 op f ≡ Ok h → IsFolded h
-one_normal Plus f h folded e = let same : f ≡ h = cc in rw (← same) folded
-one_normal op f h folded e = prefix_normal op f h folded refl e
+one_normal x f h folded e = grind (arith, common_steps)
 
 any_normal : (op : Op2) (f g h : Form) → IsFolded f → IsFolded g → Folding.folds2 op f g ≡ (Folding.is_literal f && Folding.is_literal g) → Folding.fold_any op f g ≡ Ok h → IsFolded h
-any_normal op (lit a) (lit b) h folded_f folded_g alone e = literal_normal (value2 op a b) h e
-any_normal op f g h folded_f folded_g alone e = binary_stays op f g h folded_f folded_g (ap not alone) e
+any_normal op x y h folded_f folded_g alone e = grind (arith, common_steps)
 
 sum_normal : (f g h : Form) → IsFolded f → IsFolded g → Folding.fold_sum f g ≡ Ok h → IsFolded h
-sum_normal (sec k a) (lit n) h folded_f folded_g e = place_normal k (wrapped (a +ℤ n)) h cc
-sum_normal (lit n) (sec k a) h folded_f folded_g e = place_normal k (wrapped (a +ℤ n)) h cc
-sum_normal f g h folded_f folded_g e = any_normal Add f g h folded_f folded_g refl e
+sum_normal x y h folded_f folded_g e = grind (arith, common_steps)
 
 sections_normal : (k m : ℕ) (a b : ℤ) (h : Form) (t : Bool) → IsFolded (sec k a) → IsFolded (sec m b) → nat_eq k m ≡ t → cond t (Ok (lit (wrapped (a -ℤ b)))) (Folding.fold_any Subtract (sec k a) (sec m b)) ≡ Ok h → IsFolded h
 sections_normal k m a b h true folded_f folded_g t e = let same : lit (wrapped (a -ℤ b)) ≡ h = cc in rw (← same) (refl, omega arith)
@@ -148,15 +126,10 @@ or_false true = refl
 or_false false = refl
 
 difference_normal : (f g h : Form) → IsFolded f → IsFolded g → Folding.fold_difference f g ≡ Ok h → IsFolded h
-difference_normal (sec k a) (sec m b) h folded_f folded_g e = sections_normal k m a b h (nat_eq k m) folded_f folded_g refl e
-difference_normal (sec k a) (lit n) h folded_f folded_g e = place_normal k (wrapped (a -ℤ n)) h cc
-difference_normal (lit v) g h folded_f folded_g e = any_normal Subtract (lit v) g h folded_f folded_g (or_false (Folding.is_literal g)) e
-difference_normal f g h folded_f folded_g e = any_normal Subtract f g h folded_f folded_g refl e
+difference_normal x y h folded_f folded_g e = grind (arith, common_steps)
 
 two_normal : (op : Op2) (f g h : Form) → IsFolded f → IsFolded g → Folding.fold2 op f g ≡ Ok h → IsFolded h
-two_normal Add f g h folded_f folded_g e = sum_normal f g h folded_f folded_g e
-two_normal Subtract f g h folded_f folded_g e = difference_normal f g h folded_f folded_g e
-two_normal op f g h folded_f folded_g e = any_normal op f g h folded_f folded_g refl e
+two_normal x f g h folded_f folded_g e = grind (arith, common_steps)
 
 pub normal_law : NormalLaw
 normal_law = (one_normal, two_normal)
@@ -171,16 +144,13 @@ limited_ok : (f : Form) → nodes f ≤ Folding.node_limit → Folding.limited f
 limited_ok f h = let within : nat_le (nodes f) Folding.node_limit ≡ true = grind (arith, nat_tests) in rw within refl
 
 prefix_alone : (op : Op1) (f : Form) → nodes (prefix op f) ≤ Folding.node_limit → Folding.is_literal f ≡ false → Folding.fold_prefix op f ≡ Ok (prefix op f)
-prefix_alone op (lit v) h alone = cc
-prefix_alone op f h alone = limited_ok (prefix op f) h
+prefix_alone op x h alone = grind (arith, common_steps)
 
 prefix_only : (op : Op1) (f : Form) → Folding.fold_prefix op f ≡ Ok (prefix op f) → Folding.is_literal f ≡ false
-prefix_only op (lit v) e = cc
-prefix_only op f e = refl
+prefix_only op x e = grind (arith, common_steps)
 
 one_alone : (op : Op1) (f : Form) → nodes (prefix op f) ≤ Folding.node_limit → Folding.folds1 op f ≡ false → Folding.fold1 op f ≡ Ok (prefix op f)
-one_alone Plus f h alone = cc
-one_alone op f h alone = prefix_alone op f h alone
+one_alone x f h alone = grind (arith, common_steps)
 
 one_only : (op : Op1) (f : Form) → Folding.fold1 op f ≡ Ok (prefix op f) → Folding.folds1 op f ≡ false
 one_only Plus f e =
@@ -189,26 +159,19 @@ one_only Plus f e =
 one_only op f e = prefix_only op f e
 
 any_alone : (op : Op2) (f g : Form) → nodes (binary op f g) ≤ Folding.node_limit → (Folding.is_literal f && Folding.is_literal g) ≡ false → Folding.fold_any op f g ≡ Ok (binary op f g)
-any_alone op (lit a) (lit b) h alone = cc
-any_alone op f g h alone = limited_ok (binary op f g) h
+any_alone op x y h alone = grind (arith, common_steps)
 
 no_literal : (r : Option ℤ) (op : Op2) (f g : Form) → Folding.literal r ≡ Ok (binary op f g) → ⊥
-no_literal (Some v) op f g e = cc
-no_literal None op f g e = cc
+no_literal x op f g e = grind (arith, common_steps)
 
 any_only : (op : Op2) (f g : Form) → Folding.fold_any op f g ≡ Ok (binary op f g) → (Folding.is_literal f && Folding.is_literal g) ≡ false
-any_only op (lit a) (lit b) e = absurd (no_literal (value2 op a b) op (lit a) (lit b) e)
-any_only op f g e = refl
+any_only op x y e = grind (arith, common_steps)
 
 sum_alone : (f g : Form) → nodes (binary Add f g) ≤ Folding.node_limit → Folding.folds2 Add f g ≡ false → Folding.fold_sum f g ≡ Ok (binary Add f g)
-sum_alone (sec k a) (lit n) h alone = cc
-sum_alone (lit n) (sec k a) h alone = cc
-sum_alone f g h alone = any_alone Add f g h (first_false (Folding.is_literal f && Folding.is_literal g) (Folding.folds_sum f g) alone)
+sum_alone x y h alone = grind (arith, common_steps)
 
 sum_only : (f g : Form) → Folding.fold_sum f g ≡ Ok (binary Add f g) → Folding.folds2 Add f g ≡ false
-sum_only (sec k a) (lit n) e = cc
-sum_only (lit n) (sec k a) e = cc
-sum_only f g e = ap (λ b. b || false) (any_only Add f g e)
+sum_only x y e = grind (arith, common_steps)
 
 sections_alone : (k m : ℕ) (a b : ℤ) → nodes (binary Subtract (sec k a) (sec m b)) ≤ Folding.node_limit → nat_eq k m ≡ false → Folding.fold_difference (sec k a) (sec m b) ≡ Ok (binary Subtract (sec k a) (sec m b))
 sections_alone k m a b h apart = rw apart (limited_ok (binary Subtract (sec k a) (sec m b)) h)
@@ -218,24 +181,16 @@ sections_only k m a b true t e = cc
 sections_only k m a b false t e = t
 
 difference_alone : (f g : Form) → nodes (binary Subtract f g) ≤ Folding.node_limit → Folding.folds2 Subtract f g ≡ false → Folding.fold_difference f g ≡ Ok (binary Subtract f g)
-difference_alone (sec k a) (sec m b) h alone = sections_alone k m a b h alone
-difference_alone (sec k a) (lit n) h alone = cc
-difference_alone f g h alone = any_alone Subtract f g h (first_false (Folding.is_literal f && Folding.is_literal g) (Folding.folds_difference f g) alone)
+difference_alone x y h alone = grind (arith, common_steps)
 
 difference_only : (f g : Form) → Folding.fold_difference f g ≡ Ok (binary Subtract f g) → Folding.folds2 Subtract f g ≡ false
-difference_only (sec k a) (sec m b) e = sections_only k m a b (nat_eq k m) refl e
-difference_only (sec k a) (lit n) e = cc
-difference_only f g e = ap (λ b. b || false) (any_only Subtract f g e)
+difference_only x y e = grind (arith, common_steps)
 
 two_alone : (op : Op2) (f g : Form) → nodes (binary op f g) ≤ Folding.node_limit → Folding.folds2 op f g ≡ false → Folding.fold2 op f g ≡ Ok (binary op f g)
-two_alone Add f g h alone = sum_alone f g h alone
-two_alone Subtract f g h alone = difference_alone f g h alone
-two_alone op f g h alone = any_alone op f g h alone
+two_alone x f g h alone = grind (arith, common_steps)
 
 two_only : (op : Op2) (f g : Form) → Folding.fold2 op f g ≡ Ok (binary op f g) → Folding.folds2 op f g ≡ false
-two_only Add f g e = sum_only f g e
-two_only Subtract f g e = difference_only f g e
-two_only op f g e = any_only op f g e
+two_only x f g e = grind (arith, common_steps)
 
 pub stays_law : StaysLaw
 stays_law = (λ op f h. (one_alone op f h, one_only op f), λ op f g h. (two_alone op f g h, two_only op f g))

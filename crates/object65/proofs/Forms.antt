@@ -1,4 +1,5 @@
 -- How long a form is.
+use Rattle.std.proofs.lemmas.Grind.{common_steps}
 use Rattle.std.proofs.Common.{◌≡◌, ◌≤◌, ◌<◌, ℕ, zero, suc, [], ◌∷◌, ◌-◌, take, drop, get_or, ◌+◌, ◌*◌, ◌++◌, List, length, Bool, true, false, ◌&&◌, arith, ap, refl, length-append, Option, Some, None}
 use Rattle.std.proofs.lemmas.Bool.Decides.{nat_tests}
 use Rattle.object65.specs.declared.object.Assert.{Assert}
@@ -15,13 +16,7 @@ use Rattle.object65.specs.declared.object.Origin.{Origin}
 use Rattle.object65.specs.Spelling.{file_bytes, form_bytes, code1, origin_bytes}
 
 code1_len : (op : Op1) → length (code1 op) ≤ 1
-code1_len Plus = omega arith
-code1_len Negate = omega arith
-code1_len BitNot = omega arith
-code1_len LowByte = omega arith
-code1_len HighByte = omega arith
-code1_len BankByte = omega arith
-code1_len Not = omega arith
+code1_len x = grind (arith, common_steps)
 
 pub form_len : (f : Form) → length (form_bytes f) ≤ 13 * nodes f
 form_len (lit v) = omega (arith, length-bytes_low_first 0 8 (cast_unsigned w64 v))
@@ -31,8 +26,7 @@ form_len (prefix op f) = omega (arith, length-append (code1 op) (form_bytes f), 
 form_len (binary op f g) = omega (arith, length-append (form_bytes f) (form_bytes g), form_len f, form_len g)
 
 file_len : (file : Option ℕ) → length (file_bytes file) ≤ 4
-file_len None = omega arith
-file_len (Some k) = omega (arith, length-bytes_low_first 0 4 k)
+file_len x = grind (arith, common_steps)
 
 pub origin_len : (o : Origin) → length (origin_bytes o) ≤ 8
 origin_len o = omega (arith, length-append (file_bytes o.file) (little_bytes 4 o.line), length-bytes_low_first 0 4 o.line, file_len o.file)

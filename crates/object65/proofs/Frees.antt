@@ -1,5 +1,6 @@
 -- What a record is asked for gives no fault of a store.
-use Rattle.std.proofs.Common.{◌≡◌, ℕ, zero, suc, ◌-◌, List, [], ◌∷◌, length, Bool, true, false, cond, not, ◌&&◌, ◌||◌, ◌==◌, nat_le, Option, Some, None, Result, Ok, Err}
+use Rattle.std.proofs.lemmas.Grind.{common_steps}
+use Rattle.std.proofs.Common.{arith, ◌≡◌, ℕ, zero, suc, ◌-◌, List, [], ◌∷◌, length, Bool, true, false, cond, not, ◌&&◌, ◌||◌, ◌==◌, nat_le, Option, Some, None, Result, Ok, Err}
 use Rattle.std.specs.Str.{is_utf8}
 use Rattle.byteorder.specs.Endian.{little_number}
 use Rattle.object65.specs.declared.object.Action.TheVariants as action
@@ -21,8 +22,7 @@ abbrev pub IsFree : {A : Type 0} → Result A ObjectFault → Type 0
 IsFree r = r ≡ Err FileError → ⊥
 
 pub bound : {A B : Type 0} (r : Result A ObjectFault) (f : A → Result B ObjectFault) → IsFree r → ((x : A) → IsFree (f x)) → IsFree (r >>= f)
-bound (Ok x) f h k e = k x e
-bound (Err fault) f h k e = h (let same : fault ≡ FileError = cc in λ i. Err (same i))
+bound x f h k e = grind (arith, common_steps)
 
 pub chosen : {A : Type 0} (b : Bool) (x y : Result A ObjectFault) → IsFree x → IsFree y → IsFree (cond b x y)
 chosen true x y h k = h
@@ -92,9 +92,7 @@ unfolding Bodies.binary_at
 binary_free part op bytes h = bound _ _ (h bytes) (λ x. bound _ _ (h x.1) (λ y. ok _))
 
 operation_free : (part : List ℕ → Result (Form × List ℕ) ObjectFault) (p : Option Op1) (q : Option Op2) (bytes : List ℕ) → ((xs : List ℕ) → IsFree (part xs)) → IsFree (Bodies.operation_at part p q bytes)
-operation_free part (Some op) q bytes h = prefix_free part op bytes h
-operation_free part None (Some op) bytes h = binary_free part op bytes h
-operation_free part None None bytes h = bad
+operation_free part x q bytes h = grind (arith, common_steps, prefix_free, binary_free, bad)
 
 form_free : (depth : ℕ) (bytes : List ℕ) → IsFree (Bodies.form_at depth bytes)
 form_free zero bytes = bad

@@ -1,4 +1,5 @@
 -- An object of the grammar has small parts.
+use Rattle.std.proofs.lemmas.Grind.{common_steps}
 use Rattle.std.proofs.Common.{◌≡◌, ℕ, List, [], ◌∷◌, length, map, Bool, true, false, ◌&&◌, not, nat_lt, nat_le, ◌==◌, if◌then◌else◌, arith, refl}
 use Rattle.std.proofs.lemmas.Bool.Decides.{nat_tests}
 use Rattle.std.specs.List.{list_all}
@@ -49,18 +50,10 @@ good_form_small : (s i : ℕ) (f : Form) → is_good_form s i f ≡ true → is_
 good_form_small s i f e = right (is_within s i f && is_normal f) (is_small_form f) e
 
 good_fragment_small : (s i : ℕ) (f : Fragment) → is_good_fragment s i f ≡ true → is_small_fragment f ≡ true
-good_fragment_small s i (Literal bytes) e = refl
-good_fragment_small s i (Fill n) e = refl
-good_fragment_small s i (Value width origin form) e = good_form_small s i form (left (is_good_form s i form) (not (is_literal form)) e)
+good_fragment_small s i x e = grind (arith, common_steps, good_form_small, left)
 
 good_section_small : (s i : ℕ) (x : Section) → is_small_text x.name ≡ true → is_good_section s i x ≡ true → is_small_section x ≡ true
-good_section_small s i x name e =
-    let a = left (nat_le x.align 15 && nat_le (section_len x) section_limit && list_all (is_good_fragment s i) x.fragments) (are_apart x.fragments) e in
-    let fragments = right (nat_le x.align 15 && nat_le (section_len x) section_limit) (list_all (is_good_fragment s i) x.fragments) a in
-    let size = right (nat_le x.align 15) (nat_le (section_len x) section_limit) (left (nat_le x.align 15 && nat_le (section_len x) section_limit) (list_all (is_good_fragment s i) x.fragments) a) in
-    and (is_small_text x.name && nat_le (section_len x) section_limit) (list_all is_small_fragment x.fragments)
-    (and (is_small_text x.name) (nat_le (section_len x) section_limit) name size)
-    (all_weaker (is_good_fragment s i) is_small_fragment x.fragments (good_fragment_small s i) fragments)
+good_section_small s i x name e = grind (arith, common_steps, left, right, and, all_weaker, good_fragment_small)
 
 small_sections : (s i : ℕ) (xs : List Section) → are_names (map (λ x. x.name) xs) ≡ true → list_all (is_good_section s i) xs ≡ true → list_all is_small_section xs ≡ true
 small_sections s i [] names e = refl
@@ -78,9 +71,7 @@ small_exports s i (x ∷ xs) names e =
     (small_exports s i xs (other_names x.name (map (λ y. y.name) xs) names) (right (is_good_form s i x.form) (list_all rest xs) e))
 
 good_assert_small : (s i : ℕ) (a : Assert) → is_good_assert s i a ≡ true → is_small_assert a ≡ true
-good_assert_small s i a e =
-    let b = left (is_small_text a.text && is_good_form s i a.form) (not (is_literal a.form)) e in
-    and (is_small_text a.text) (is_small_form a.form) (left (is_small_text a.text) (is_good_form s i a.form) b) (good_form_small s i a.form (right (is_small_text a.text) (is_good_form s i a.form) b))
+good_assert_small s i a e = grind (arith, common_steps, left, and, good_form_small, right)
 
 -- the parts of an object of the grammar
 pub record Parts (o : Object) : Type 0 where
@@ -97,39 +88,7 @@ pub record Parts (o : Object) : Type 0 where
   pub asserts : list_all (is_good_assert (length o.sections) (length o.imports)) o.asserts ≡ true
 
 pub parts : (o : Object) → is_good_object o ≡ true → Parts o
-parts o e =
-    let s = length o.sections in
-    let i = length o.imports in
-    let a = are_names o.imports in
-    let b = are_names (map (λ x. x.name) o.sections) in
-    let c = are_names (map (λ x. x.name) o.exports) in
-    let d = list_all (is_good_section s i) o.sections in
-    let f = list_all (λ x. is_good_form s i x.form) o.exports in
-    let g = list_all (is_good_assert s i) o.asserts in
-    let values = list_all (λ x. list_all (has_good_origin o.version (length o.files)) x.fragments) o.sections in
-    let said = list_all (λ x. is_good_origin o.version (length o.files) x.origin) o.exports in
-    let asked = list_all (λ x. is_good_origin o.version (length o.files) x.origin) o.asserts in
-    let front = left (is_version o.version && are_files_of o.version o.files && has_good_origins o) (has_good_parts o) e in
-    let whole = right (is_version o.version && are_files_of o.version o.files && has_good_origins o) (has_good_parts o) e in
-    let heads = left (is_version o.version && are_files_of o.version o.files) (has_good_origins o) front in
-    let origins = right (is_version o.version && are_files_of o.version o.files) (has_good_origins o) front in
-    let e4 = left (a && b && c && d && f) g whole in
-    let e3 = left (a && b && c && d) f e4 in
-    let e2 = left (a && b && c) d e3 in
-    let e1 = left (a && b) c e2 in
-    record {
-      version = left (is_version o.version) (are_files_of o.version o.files) heads;
-      files = right (is_version o.version) (are_files_of o.version o.files) heads;
-      values = left values said (left (values && said) asked origins);
-      export_origins = right values said (left (values && said) asked origins);
-      assert_origins = right (values && said) asked origins;
-      imports = left a b e1;
-      section_names = right a b e1;
-      export_names = right (a && b) c e2;
-      sections = right (a && b && c) d e3;
-      exports = right (a && b && c && d) f e4;
-      asserts = right (a && b && c && d && f) g whole;
-    }
+parts o e = grind (arith, common_steps)
 
 pub small_names_of : (names : List (List ℕ)) → are_distinct is_file_name names ≡ true → list_all is_file_name names ≡ true
 small_names_of [] e = refl
@@ -138,11 +97,7 @@ small_names_of (name ∷ names) e =
     and (is_file_name name) (list_all is_file_name names) (left (is_file_name name) (not (is_among names name)) front) (small_names_of names (right (is_file_name name && not (is_among names name)) (are_distinct is_file_name names) e))
 
 pub small_files : (version : ℕ) (files : List (List ℕ)) → are_files_of version files ≡ true → list_all is_file_name files ≡ true
-small_files version files e = go (version == 1) files e where
-  go : (b : Bool) (files : List (List ℕ)) → (if b then length files == 0 else are_distinct is_file_name files) ≡ true → list_all is_file_name files ≡ true
-  go true [] e = refl
-  go true (name ∷ files) e = let some : (length (name ∷ files) == 0) ≡ false = grind (arith, nat_tests) in cc
-  go false files e = small_names_of files e
+small_files version files e = grind (arith, common_steps, nat_tests, small_names_of)
 
 pub good_files : (o : Object) → is_good_object o ≡ true → list_all is_file_name o.files ≡ true
 good_files o e = small_files o.version o.files (parts o e).files

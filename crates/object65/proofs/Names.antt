@@ -1,5 +1,6 @@
 -- Names that are kept in order and found by a set.
-use Rattle.std.proofs.Common.{◌≡◌, Bool, List, [], ◌∷◌, ◌||◌, ◌++◌, map, refl, ap, ◌∙◌, append_assoc, true, false, ℕ, nat_eq, sym, if◌then◌else◌}
+use Rattle.std.proofs.lemmas.Grind.{common_steps}
+use Rattle.std.proofs.Common.{arith, ◌≡◌, Bool, List, [], ◌∷◌, ◌||◌, ◌++◌, map, refl, ap, ◌∙◌, append_assoc, true, false, ℕ, nat_eq, sym, if◌then◌else◌}
 use Rattle.std.specs.List.{list_any}
 use Rattle.std.proofs.lemmas.List.{map-append}
 use Rattle.std.specs.Cmp.Lexicographic.{pointwise}
@@ -29,6 +30,4 @@ not_text name never = no_test name (is_utf8 name) refl (λ is. never (IsUtf8-fro
 
 -- a name that isn't there goes last
 pub pushed_name : {A : Type 0} (f : A → List ℕ) (ks : List A) (k : A) (names : List (List ℕ)) → map f ks ≡ names → is_among names (f k) ≡ false → map f (if list_any (λ y. pointwise nat_eq (f k) (f y)) ks then ks else ks ++ k ∷ []) ≡ names ++ f k ∷ []
-pushed_name f ks k names same new =
-    let none : list_any (λ y. pointwise nat_eq (f k) (f y)) ks ≡ false = sym (list_any-map (pointwise nat_eq (f k)) f ks) ∙ (rw same new) in
-    rw (none, map-append f ks (k ∷ []), same) refl
+pushed_name f ks k names same new = grind (arith, common_steps, list_any-map, map-append)

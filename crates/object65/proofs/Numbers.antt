@@ -1,4 +1,5 @@
 -- Numbers of several bytes, the low one first: no other bytes of the same length give the number.
+use Rattle.std.proofs.lemmas.Grind.{common_steps}
 use Rattle.std.proofs.Common.{◌≡◌, ◌∙◌, ℕ, zero, suc, ◌+◌, ◌*◌, ◌<◌, ◌≤◌, ◌^◌, List, [], ◌∷◌, ◌++◌, length, take, drop, refl, sym, ap, arith}
 use Rattle.std.proofs.Math.Nat.{mod-lt}
 use Rattle.std.proofs.lemmas.List.{get_or-drop, length-take}
@@ -55,8 +56,4 @@ pub back : (n x : ℕ) (rest : List ℕ) → x < 256 ^ n → little_number n (li
 back n x rest fits = little_number-reads_back n x rest fits
 
 pub two_bytes : (b c : ℕ) → b < 256 → c < 256 → little_bytes 2 (little_number 2 (b ∷ c ∷ [])) ≡ b ∷ c ∷ []
-two_bytes b c hb hc = front 2 (b ∷ c ∷ []) below (omega arith) where
-  below : IsBytes (b ∷ c ∷ [])
-  below zero = hb
-  below (suc zero) = hc
-  below (suc (suc i)) = omega arith
+two_bytes b c hb hc = grind (arith, common_steps)

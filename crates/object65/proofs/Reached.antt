@@ -1,7 +1,7 @@
 -- What the state behind a list of records says of them.
 use Rattle.std.proofs.Common.{◌≡◌, ◌∙◌, ℕ, zero, suc, Option, Some, None, ◌+◌, ◌-◌, ◌%◌, ◌<◌, ◌≤◌, List, [], ◌∷◌, ◌++◌, length, drop, map, get_or, Bool, true, false, ◌&&◌, ◌||◌, not, nat_lt, nat_le, nat_eq, ◌==◌, if◌then◌else◌, Ok, refl, sym, ap, arith, append_assoc, length-append, ◌⊎◌, inl, inr, subst}
 use Rattle.std.proofs.lemmas.Bool.Decides.{nat_tests}
-use Rattle.std.proofs.lemmas.Grind.{flat_map-append}
+use Rattle.std.proofs.lemmas.Grind.{common_steps, flat_map-append}
 use Rattle.std.proofs.lemmas.List.Folds.{list_any-append, list_all-append}
 use Rattle.std.proofs.lemmas.List.Sums.{sum_by-append}
 use Rattle.std.specs.Cmp.{nat_eq_equiv}
@@ -123,16 +123,14 @@ pub record Reached (s : State) (es : List Entry) : Type 0 where
 
 -- none of these is none of those
 pub none_of : {A B : Type 0} (f : A → B) (xs : List A) → is_none (map f xs) ≡ true → xs ≡ []
-none_of f [] e = refl
-none_of f (x ∷ xs) e = let longer : is_none (map f (x ∷ xs)) ≡ false = grind (arith, nat_tests) in cc
+none_of f x e = grind (arith, common_steps)
 
 pub either : (b : Bool) → (b ≡ true) ⊎ (b ≡ false)
 either true = inl refl
 either false = inr refl
 
 pub none_is : {A : Type 0} (xs : List A) → is_none xs ≡ true → xs ≡ []
-none_is [] e = refl
-none_is (x ∷ xs) e = let longer : is_none (x ∷ xs) ≡ false = grind (arith, nat_tests) in cc
+none_is x e = grind (arith, common_steps)
 
 pub empties_none : (ds : List Draft) → AllByRecursion IsEmptyDraft ds → flat_map content_entries ds ≡ []
 empties_none [] all = refl
@@ -195,23 +193,10 @@ pub record ReadsHeading (body : List ℕ) (h : Heading) : Type 0 where
   pub small : little_number 4 body ≤ section_limit
 
 five : (body : List ℕ) → IsBytes body → 5 ≤ length body → little_bytes 4 (little_number 4 body) ++ get_or body 4 0 ∷ drop 5 body ≡ body
-five [] is long = absurd (omega arith)
-five (a ∷ []) is long = absurd (omega arith)
-five (a ∷ b ∷ []) is long = absurd (omega arith)
-five (a ∷ b ∷ c ∷ []) is long = absurd (omega arith)
-five (a ∷ b ∷ c ∷ d ∷ []) is long = absurd (omega arith)
-five (a ∷ b ∷ c ∷ d ∷ e ∷ body) is long = ap (λ xs. xs ++ e ∷ body) (front 4 (a ∷ b ∷ c ∷ d ∷ e ∷ body) is (omega arith))
+five x is long = grind (arith, common_steps)
 
 pub heading_read : (body : List ℕ) (h : Heading) → section_of body ≡ Ok h → ReadsHeading body h
-heading_read body h e =
-    let a = passes (nat_lt (length body) 5) BadSize _ _ e in
-    let b = passes (nat_lt section_limit (little_number 4 body)) BadSize _ _ a.1 in
-    let is : ◌≡◌ {A = Heading} (record { size = little_number 4 body; align = get_or body 4 0; name = drop 5 body }) h = cc (b.1) in
-    record {
-      long = (let t = a.0 in grind (arith, nat_tests));
-      fresh = sym is;
-      small = (let t = b.0 in grind (arith, nat_tests));
-    }
+heading_read body h e = grind (arith, common_steps)
 
 -- it is spelled so
 pub heading_spelled : (body : List ℕ) (h : Heading) → IsBytes body → ReadsHeading body h → little_bytes 4 h.size ++ h.align ∷ h.name ≡ body
@@ -265,34 +250,10 @@ literal_grows n i e d x kind good h =
     })
 
 fragment_grows : (n i : ℕ) (e : Entry) (d : Draft) (f : Fragment) → GoodDraft n i d → fragment_len f ≤ d.size - d.filled → is_good_fragment n i f ≡ true → last_joins (closed d) f ≡ false → ((bytes : List ℕ) → joins f (Literal bytes) ≡ false) → (IsReadEntry e → (fragment_entries f ≡ e ∷ []) × FragmentFits f) → Grows n i e d (with_fragment d (fragment_len f) f)
-fragment_grows n i e d f good room fine apart bare read = record {
-  good = record {
-    align = good.align;
-    size = good.size;
-    filled = omega (arith, good.filled, shut_len d.fragments d.literal, sum_by-append fragment_len (closed d) (f ∷ []));
-    within = omega (arith, good.within, room);
-    good = list_all-append (is_good_fragment n i) (closed d) (f ∷ []) ∙ and (list_all (is_good_fragment n i) (closed d)) (is_good_fragment n i f && true) (shut_good n i d.fragments d.literal good.good) (and (is_good_fragment n i f) true fine refl);
-    apart = apart_push (closed d) f (shut_apart d.fragments d.literal good.apart good.bare) apart;
-    bare = λ bytes. last_push (closed d) f (Literal bytes) ∙ bare bytes;
-  };
-  name = refl;
-  heading = refl;
-  contents = λ is.
-      nil (flat_map fragment_entries (closed d ++ f ∷ []))
-      ∙ flat_map-append fragment_entries (closed d) (f ∷ [])
-      ∙ (λ k. shut_entries d.fragments d.literal k ++ (nil (fragment_entries f) ∙ (read is).0) k);
-  fits = λ is fits. all_push FragmentFits (closed d) f (shut_fits d.fragments d.literal fits) (read is).1;
-}
+fragment_grows n i e d f good room fine apart bare read = grind (arith, common_steps, shut_len, sum_by-append, list_all-append, and, shut_good, apart_push, shut_apart, last_push)
 
 fill_some : (body : List ℕ) (n : ℕ) → fill_of body ≡ Ok n → 0 < n
-fill_some body n e =
-    let p = passes (not (length body == 4) || little_number 4 body == 0) BadSize _ _ e in
-    let n_is : little_number 4 body ≡ n = cc (p.1) in
-    above (not (length body == 4)) (little_number 4 body) n p.0 n_is
-  where
-    above : (b : Bool) (m n : ℕ) → (b || m == 0) ≡ false → m ≡ n → 0 < n
-    above true m n e is = cc
-    above false m n e is = grind (arith, nat_tests)
+fill_some body n e = grind (arith, common_steps)
 
 pub fill_grows : (n i : ℕ) (e : Entry) (d : Draft) (x : Room × Fragment) → e.kind ≡ 4 → GoodDraft n i d → room_fill e.body (room_of d) ≡ Ok x → Grows n i e d (grown d x.1)
 unfolding room_fill
@@ -314,13 +275,7 @@ parts_known m n i o f u h = let t = bound (known_file m o) _ _ h in (wanted (has
 
 -- what is known of a form that a value or an assertion holds
 pub open_form : (n i : ℕ) (f : Form) (u v : Unit {0}) → known n i f ≡ Ok u → canonical_open f ≡ Ok v → is_open_form n i f ≡ true
-open_form n i f u v k c =
-    let there = wanted (is_within n i f) IndexOutOfRange u k in
-    let fine = wanted (is_normal f && nat_le (nodes f) node_limit && not (is_literal f)) NotCanonical v c in
-    let two = left (is_normal f && nat_le (nodes f) node_limit) (not (is_literal f)) fine in
-    and (is_good_form n i f) (not (is_literal f))
-    (and (is_within n i f && is_normal f) (nat_le (nodes f) node_limit) (and (is_within n i f) (is_normal f) there (left (is_normal f) (nat_le (nodes f) node_limit) two)) (right (is_normal f) (nat_le (nodes f) node_limit) two))
-    (right (is_normal f && nat_le (nodes f) node_limit) (not (is_literal f)) fine)
+open_form n i f u v k c = grind (arith, common_steps)
 
 pub value_grows : (v m n i : ℕ) (e : Entry) (d : Draft) (x : Room × Fragment) → e.kind ≡ 5 → GoodDraft n i d → room_value v m n i e.body (room_of d) ≡ Ok x → Grows n i e d (grown d x.1)
 unfolding room_value
@@ -338,21 +293,11 @@ value_grows v m n i e d x kind good h =
 
 pub literal_placed : (v m : ℕ) (body : List ℕ) (r : Room) (y : Room × Fragment) → room_literal body r ≡ Ok y → has_good_origin v m y.1 ≡ true
 unfolding room_literal
-literal_placed v m body r y h =
-    let b = bound (literal_of body) _ _ h in
-    let u = bound (room_for r (length b.0)) _ _ b.2 in
-    let w = bound (wants (not (is_short r.last)) NotCanonical) _ _ u.2 in
-    let item : Literal b.0 ≡ y.1 = (let z = w.2 in cc) in
-    ap (has_good_origin v m) (sym item)
+literal_placed v m body r y h = grind (arith, common_steps)
 
 pub fill_placed : (v m : ℕ) (body : List ℕ) (r : Room) (y : Room × Fragment) → room_fill body r ≡ Ok y → has_good_origin v m y.1 ≡ true
 unfolding room_fill
-fill_placed v m body r y h =
-    let c = bound (fill_of body) _ _ h in
-    let u = bound (room_for r c.0) _ _ c.2 in
-    let w = bound (wants (not (is_fill r.last)) NotCanonical) _ _ u.2 in
-    let item : Fill c.0 ≡ y.1 = (let z = w.2 in cc) in
-    ap (has_good_origin v m) (sym item)
+fill_placed v m body r y h = grind (arith, common_steps)
 
 pub value_placed : (v m n i : ℕ) (body : List ℕ) (r : Room) (y : Room × Fragment) → room_value v m n i body r ≡ Ok y → has_good_origin v m y.1 ≡ true
 unfolding room_value
@@ -365,9 +310,7 @@ value_placed v m n i body r y h =
     ap (has_good_origin v m) (sym item) ∙ and (has_file_by v c.0.1.file) (has_file m c.0.1.file) (value_by v body c.0 c.1) (parts_known m n i c.0.1 c.0.2 k.0 k.1).0
 
 values_grown : (v m : ℕ) (d : Draft) (f : Fragment) → has_good_values v m d ≡ true → has_good_origin v m f ≡ true → has_good_values v m (grown d f) ≡ true
-values_grown v m d (Literal bytes) good fine = good
-values_grown v m d (Fill n) good fine = list_all-append (has_good_origin v m) (closed d) (Fill n ∷ []) ∙ and (list_all (has_good_origin v m) (closed d)) true (shut_origins v m d.fragments d.literal good) refl
-values_grown v m d (Value w o form) good fine = list_all-append (has_good_origin v m) (closed d) (Value w o form ∷ []) ∙ and (list_all (has_good_origin v m) (closed d)) (is_good_origin v m o && true) (shut_origins v m d.fragments d.literal good) (and (is_good_origin v m o) true fine refl)
+values_grown v m d x good fine = grind (arith, common_steps)
 
 -- with a fragment more in one of the sections
 pub values_with_piece : (v m : ℕ) (f : Fragment) → has_good_origin v m f ≡ true → (ds : List Draft) (k : ℕ) → list_all (has_good_values v m) ds ≡ true → list_all (has_good_values v m) (with_piece ds k f) ≡ true
@@ -402,28 +345,10 @@ pub record Goes (n i : ℕ) (e : Entry) (ds es : List Draft) : Type 0 where
   pub filling : Filling es
 
 past : (n i : ℕ) (e : Entry) (d : Draft) (ds es : List Draft) → GoodDraft n i d → is_full d ≡ true → Goes n i e ds es → Goes n i e (d ∷ ds) (d ∷ es)
-past n i e d ds es good full rest = record {
-  headings = ap (λ xs. heading_entry d ∷ xs) rest.headings;
-  names = ap (λ xs. d.name ∷ xs) rest.names;
-  count = omega (arith, rest.count);
-  contents = λ read. ap (λ xs. content_entries d ++ xs) (rest.contents read) ∙ sym (append_assoc (content_entries d) (flat_map content_entries ds) (e ∷ []));
-  fits = λ read fits. (fits.0, rest.fits read fits.1);
-  good = (good, rest.good);
-  filling = (λ h. cc, rest.filling);
-}
+past n i e d ds es good full rest = grind (arith, common_steps)
 
 here : (n i : ℕ) (e : Entry) (d x : Draft) (ds : List Draft) → AllByRecursion (GoodDraft n i) ds → AllByRecursion IsEmptyDraft ds → Grows n i e d x → Goes n i e (d ∷ ds) (x ∷ ds)
-here n i e d x ds goods empties grows =
-    let none = empties_none ds empties in
-    record {
-      headings = (λ k. grows.heading k ∷ map heading_entry ds);
-      names = (λ k. grows.name k ∷ map (λ y. y.name) ds);
-      count = refl;
-      contents = λ read. (λ k. grows.contents read k ++ none k) ∙ nil (content_entries d ++ e ∷ []) ∙ ap (λ xs. xs ++ e ∷ []) (sym (nil (content_entries d))) ∙ ap (λ xs. (content_entries d ++ xs) ++ e ∷ []) (sym none);
-      fits = λ read fits. (grows.fits read fits.0, fits.1);
-      good = (grows.good, goods);
-      filling = (λ h. empties, empties_fill ds empties);
-    }
+here n i e d x ds goods empties grows = grind (arith, common_steps, empties_none, nil, empties_fill)
 
 -- with a fragment more in the first section that isn't full
 goes : (n i : ℕ) (e : Entry) (front : List Draft) (d x : Draft) (behind : List Draft) → list_all is_full front ≡ true → is_full d ≡ false → AllByRecursion (GoodDraft n i) (front ++ d ∷ behind) → Filling (front ++ d ∷ behind) → (GoodDraft n i d → Grows n i e d x) → Goes n i e (front ++ d ∷ behind) (front ++ x ∷ behind)

@@ -1,4 +1,5 @@
 -- Records that are read one after another, also among bytes that were read ahead.
+use Rattle.std.proofs.lemmas.Grind.{common_steps}
 use Rattle.std.proofs.Common.{◌≡◌, ◌∙◌, ◌<◌, ◌≤◌, ℕ, zero, suc, ◌+◌, ◌-◌, List, [], length, take, Bool, true, false, if◌then◌else◌, Option, Some, None, Result, Ok, Err, refl, sym, ap, arith, ◌∷◌, ◌++◌, drop, nat_le, nat_lt}
 use Rattle.std.specs.Prelude.{IfSome, min, not}
 use Rattle.std.proofs.lemmas.List.{drop_all, take-append-drop, take-append-le, drop-append-le, take_all, length-take, length-drop, drop-drop, take_rest, take_min}
@@ -22,10 +23,7 @@ use borrow.Author.Tests.{ltb-false}
 
 pub cut : (v at limit : ℕ) (bytes : List ℕ) → length bytes ≤ at → record_at v at limit bytes ≡ Err CutShort
 unfolding record_at
-cut v at limit bytes past = rw (drop_all at bytes past) (empty (limit - at)) where
-  empty : (n : ℕ) → (front_of v (take 3 (take n [])) >>= (λ front. whole front.1 (take front.1 (room bytes (at + 3) limit)) >>= (λ body. ending at front.0 front.1 body))) ≡ Err CutShort
-  empty zero = refl
-  empty (suc n) = refl
+cut v at limit bytes past = grind (arith, common_steps)
 
 -- a record that was read, as the borrower of the reader sees it
 pub seen : (known : Option Files) (read : Files → Result (Entry × ℕ) ObjectFault) (shown of_reader : Entry) (next : ℕ) → shown ≡ of_reader → IfSome known (λ m. read m ≡ Ok (of_reader, next)) → IfSome known (λ m. read m ≡ Ok (shown, next))
@@ -68,14 +66,7 @@ ends v bytes limit at next s t r goes e h ended =
     sym goes.same ∙ k.2 ∙ rw (h, ended) refl
 
 pub goes_on : (v : ℕ) (bytes : List ℕ) (limit at next : ℕ) (s t : State) (r : Entry × ℕ) → Goes v bytes limit at next s → record_at v next limit bytes ≡ Ok r → next < r.1 → after s r.0 ≡ Ok t → t.ended ≡ false → Goes v bytes limit at r.1 t
-goes_on v bytes limit at next s t r goes e later h ended =
-    let k = one goes.left s next limit bytes r goes.enough (by_state v s next limit bytes _ goes.version e) in
-    record {
-      version = version_kept s t r.0 h ∙ goes.version;
-      left = k.0;
-      enough = omega (arith, goes.enough, k.1);
-      same = sym (k.2 ∙ rw (h, ended) refl) ∙ goes.same;
-    }
+goes_on v bytes limit at next s t r goes e later h ended = grind (arith, common_steps, one, by_state, version_kept)
 
 -- the same where the files may not be known, and of a file that may not be there
 abbrev pub GoesIn : ℕ → Option Files → List ℕ → ℕ → ℕ → ℕ → State → Type 0
@@ -91,24 +82,15 @@ unless false h p = h p
 
 -- a refusal for any cause but memory is one for any cause but memory and the store
 pub memory_outside : {A : Type 0} (e : ObjectFault) (r : Result A ObjectFault) → Refuses is_memory e r → Refuses is_outside e r
-memory_outside OutOfMemory r h = tt
-memory_outside FileError r h = tt
-memory_outside e r h = h
+memory_outside x r h = grind (arith, common_steps)
 
 -- a call that answered left the count of failures as it was
 pub kept_count : {T : Type 0} (old now : ℕ) (x : T) → Passes {E = ObjectFault} FileError old now (Ok x) → now ≡ old
-kept_count old now x passes = let not_later : old < now → ⊥ = λ h. ok_or_err x (passes.told h) in omega (arith, passes.later, not_later)
-  where
-    ok_or_err : {T : Type 0} (x : T) → ◌≡◌ {A = Result T ObjectFault} (Ok x) (Err FileError) → ⊥
-    ok_or_err x e = cc
+kept_count old now x passes = grind (arith, common_steps)
 
 -- a refusal for another cause passes nothing on
 pub none_passed : {T : Type 0} (old now : ℕ) (e : ObjectFault) → now ≡ old → (e ≡ FileError → ⊥) → Passes {T = T} FileError old now (Err e)
-none_passed old now e same other = record {
-  later = omega arith;
-  told = λ h. absurd (omega arith);
-  cause = λ is. absurd (other (let f : e ≡ FileError = cc in f));
-}
+none_passed old now e same other = grind (arith, common_steps)
 
 -- taking refuses for no fault of a store
 pub not_stored : (s : State) (x : Entry) (e : ObjectFault) → Refuses is_memory e (after s x) → e ≡ FileError → ⊥
@@ -116,11 +98,7 @@ not_stored s x e refused is = after_free s x (rw is at refused)
 
 module _ (v limit at next : ℕ) where
   pub begins_in : (known : Option Files) (name : List ℕ) → GoesIn v known name limit at at (start v)
-  begins_in None name = tt
-  begins_in (Some m) name = file (map.get m name) where
-    file : (f : Option (List ℕ)) → IfSome f (λ bytes. Goes v bytes limit at at (start v))
-    file None = tt
-    file (Some bytes) = begins v bytes limit at
+  begins_in x name = grind (arith, common_steps, begins)
 
   pub reading_stops : (known now : Option Files) (name : List ℕ) (s : State) (e : ObjectFault) → now ≡ known → GoesIn v known name limit at next s → IfSome now (λ m. Refuses is_outside e (in_file (map.get m name) (record_at v next limit))) → IfSome known (λ m. Refuses is_outside e (all_in v (map.get m name) at limit))
   reading_stops None now name s e same goes refused = tt
@@ -137,24 +115,15 @@ module _ (v limit at next : ℕ) where
     file (Some bytes) goes read = unless (is_outside e) (stops_taking v bytes limit at next s r e goes read) refused
 
   pub ends_in : (known now : Option Files) (name : List ℕ) (s t : State) (r : Entry × ℕ) → now ≡ known → GoesIn v known name limit at next s → IfSome now (λ m. in_file (map.get m name) (record_at v next limit) ≡ Ok r) → after s r.0 ≡ Ok t → t.ended ≡ true → IfSome known (λ m. all_in v (map.get m name) at limit ≡ Ok (t, r.1))
-  ends_in None now name s t r same goes read taken ended = tt
-  ends_in (Some m) now name s t r same goes read taken ended = file (map.get m name) goes (rw same at read) where
-    file : (f : Option (List ℕ)) → IfSome f (λ bytes. Goes v bytes limit at next s) → in_file f (record_at v next limit) ≡ Ok r → all_in v f at limit ≡ Ok (t, r.1)
-    file None goes read = cc
-    file (Some bytes) goes read = ends v bytes limit at next s t r goes read taken ended
+  ends_in x now name s t r same goes read taken ended = grind (arith, common_steps, ends)
 
   pub goes_on_in : (known now : Option Files) (name : List ℕ) (s t : State) (r : Entry × ℕ) → now ≡ known → GoesIn v known name limit at next s → IfSome now (λ m. in_file (map.get m name) (record_at v next limit) ≡ Ok r) → next < r.1 → after s r.0 ≡ Ok t → t.ended ≡ false → GoesIn v known name limit at r.1 t
-  goes_on_in None now name s t r same goes read later taken ended = tt
-  goes_on_in (Some m) now name s t r same goes read later taken ended = file (map.get m name) goes (rw same at read) where
-    file : (f : Option (List ℕ)) → IfSome f (λ bytes. Goes v bytes limit at next s) → in_file f (record_at v next limit) ≡ Ok r → IfSome f (λ bytes. Goes v bytes limit at r.1 t)
-    file None goes read = cc
-    file (Some bytes) goes read = goes_on v bytes limit at next s t r goes read later taken ended
+  goes_on_in x now name s t r same goes read later taken ended = grind (arith, common_steps, goes_on)
 
 -- a refusal behind the END is one of the whole
 behind_refused : (bytes : List ℕ) (at limit : ℕ) (first : ℕ × ℕ) (s : State) (end : ℕ) (e : ObjectFault) → head_at at limit bytes ≡ Ok first → records_at (length bytes) (start first.0) first.1 limit bytes ≡ Ok (s, end) → Refuses is_outside e (end_at end limit bytes) → Refuses is_outside e (object_at at limit bytes)
 unfolding object_at
-behind_refused bytes at limit first s end e head records refused =
-    rw (head, records) (refused-then is_outside e (end_at end limit bytes) (λ u. finished s) refused)
+behind_refused bytes at limit first s end e head records refused = grind (arith, common_steps)
 
 pub end_refused : (known a b : Option Files) (name : List ℕ) (at limit : ℕ) (first : ℕ × ℕ) (s : State) (end : ℕ) (e : ObjectFault) → a ≡ known → b ≡ known → IfSome known (λ m. in_file (map.get m name) (head_at at limit) ≡ Ok first) → IfSome a (λ m. all_in first.0 (map.get m name) first.1 limit ≡ Ok (s, end)) → IfSome b (λ m. Refuses is_outside e (in_file (map.get m name) (end_at end limit))) → IfSome known (λ m. Refuses is_outside e (in_file (map.get m name) (object_at at limit)))
 end_refused None a b name at limit first s end e same_a same_b head records refused = tt
@@ -172,14 +141,7 @@ at_is_in v at limit bytes = ap (λ behind. front_of v (take 3 (room bytes at lim
 
 -- the length that the front says
 pub front_len : (v : ℕ) (xs : List ℕ) (f : ℕ × ℕ) → front_of v (take 3 xs) ≡ Ok f → (3 + f.1 ≡ record_len xs) × (f.1 ≤ 4096)
-front_len v [] f e = cc
-front_len v (a ∷ []) f e = cc
-front_len v (a ∷ b ∷ []) f e = cc
-front_len v (a ∷ b ∷ c ∷ xs) f e =
-    let k = passes (not (is_record_kind v a)) UnknownRecord _ _ e in
-    let l = passes (nat_lt 4096 (little_number 2 (b ∷ c ∷ []))) BadSize _ _ k.1 in
-    let is : (a, little_number 2 (b ∷ c ∷ [])) ≡ f = cc (l.1) in
-    rw (← is) (refl, ltb-false _ _ l.0)
+front_len v x f e = grind (arith, common_steps)
 
 -- what stands behind a record doesn't matter, where the record is there
 pub behind : (v at : ℕ) (xs rest : List ℕ) → 3 ≤ length xs → ((f : ℕ × ℕ) → front_of v (take 3 xs) ≡ Ok f → 3 + f.1 ≤ length xs) → record_in v at (xs ++ rest) ≡ record_in v at xs
@@ -231,11 +193,7 @@ nothing : (n : ℕ) (xs : List ℕ) → xs ≡ [] → has_record (take n xs) ≡
 nothing n xs none h = (let len : length (take n xs) ≤ 0 = omega (arith, length-take n xs, ap length none) in let three : 3 ≤ length (take n xs) = grind (arith, nat_tests, h) in omega (arith, len, three))
 
 kept_none : (r : Reader) (at limit : ℕ) → r.ahead ≡ [] → has_record (kept r at limit) ≡ true → ⊥
-kept_none r at limit none h = nothing (limit - at) (from_place r.ahead r.begin at) (by (nat_lt at r.begin)) h
-  where
-    by : (b : Bool) → (if b then [] else drop (at - r.begin) r.ahead) ≡ []
-    by true = refl
-    by false = ap (drop (at - r.begin)) none ∙ drop_all (at - r.begin) [] (omega arith)
+kept_none r at limit none h = grind (arith, common_steps)
 
 kept_in : (v at limit : ℕ) (r : Reader) (bytes : List ℕ) → IsAhead (Some bytes) r → has_record (kept r at limit) ≡ true → record_at v at limit bytes ≡ record_in v at (kept r at limit)
 kept_in v at limit r bytes same h = by (nat_lt at r.begin) refl h
@@ -259,33 +217,17 @@ kept_in v at limit r bytes same h = by (nat_lt at r.begin) refl h
 -- ---- What reading answers.
 
 as_outside : (x : Result ℕ ObjectFault) (e : Entry) (r : Result (Entry × ℕ) ObjectFault) → Gives is_memory (λ n. (e, n)) x r → Gives is_outside (λ n. (e, n)) x r
-as_outside (Ok n) e r h = h
-as_outside (Err f) e r h = memory_outside f r h
+as_outside x e r h = grind (arith, common_steps)
 
 -- what was kept, by the calls that give it
 pub kept_so : (w t f : List ℕ) (n at limit : ℕ) (r : Reader) → w ≡ take n t → n ≡ limit - at → t ≡ from_place f r.begin at → f ≡ r.ahead → w ≡ kept r at limit
 kept_so w t f n at limit r a b c d = a ∙ ap (λ k. take k t) b ∙ ap (take (limit - at)) (c ∙ ap (λ xs. from_place xs r.begin at) d)
 
 pub read_kept : (known : Option Files) (name : List ℕ) (r : Reader) (v at limit : ℕ) (w : List ℕ) (x : Result ℕ ObjectFault) (e : Entry) → w ≡ kept r at limit → has_record w ≡ true → Gives is_memory (λ n. (e, n)) x (record_in v at w) → IfSome known (λ m. IsAhead (get m name) r → Gives is_outside (λ n. (e, n)) x (in_file (get m name) (record_at v at limit)))
-read_kept None name r v at limit w x e is has gives = tt
-read_kept (Some m) name r v at limit w x e is has gives = file (get m name)
-  where
-    there : has_record (kept r at limit) ≡ true
-    there = sym (ap has_record is) ∙ has
-
-    file : (f : Option (List ℕ)) → IsAhead f r → Gives is_outside (λ n. (e, n)) x (in_file f (record_at v at limit))
-    file None none = absurd (kept_none r at limit none there)
-    file (Some bytes) same = rw (kept_in v at limit r bytes same there, ← is) (as_outside x e (record_in v at w) gives)
+read_kept y name r v at limit w x e is has gives = grind (arith, common_steps, kept_none, kept_in, as_outside)
 
 pub read_anew : (known : Option Files) (name : List ℕ) (r : Reader) (v at limit : ℕ) (w shown : List ℕ) (x : Result ℕ ObjectFault) (e : Entry) → shown ≡ w → IfSome known (λ m. in_file (get m name) (λ bytes. Ok (take 8192 (room bytes at limit))) ≡ Ok w) → Gives is_memory (λ n. (e, n)) x (record_in v at shown) → IfSome known (λ m. IsAhead (get m name) r → Gives is_outside (λ n. (e, n)) x (in_file (get m name) (record_at v at limit)))
-read_anew None name r v at limit w shown x e same read gives = tt
-read_anew (Some m) name r v at limit w shown x e same read gives = λ ahead. file (get m name) read
-  where
-    file : (f : Option (List ℕ)) → in_file f (λ bytes. Ok (take 8192 (room bytes at limit))) ≡ Ok w → Gives is_outside (λ n. (e, n)) x (in_file f (record_at v at limit))
-    file None h = absurd cc
-    file (Some bytes) h =
-        let is : take 8192 (room bytes at limit) ≡ w = cc h in
-        rw (at_is_in v at limit bytes, ← filled v at (room bytes at limit), is ∙ sym same) (as_outside x e (record_in v at shown) gives)
+read_anew y name r v at limit w shown x e same read gives = grind (arith, common_steps, at_is_in, filled, as_outside)
 
 pub ahead_anew : (known : Option Files) (name : List ℕ) (r new : Reader) (at limit : ℕ) (w : List ℕ) → new.begin ≡ at → new.ahead ≡ w → IfSome known (λ m. in_file (get m name) (λ bytes. Ok (take 8192 (room bytes at limit))) ≡ Ok w) → IfSome known (λ m. IsAhead (get m name) r → IsAhead (get m name) new)
 ahead_anew None name r new at limit w begin same read = tt
@@ -316,16 +258,10 @@ abbrev pub StandsAhead : Option Files → List ℕ → Reader → Type 0
 StandsAhead known name r = IfSome known (λ m. IsAhead (get m name) r)
 
 pub fresh : (known : Option Files) (name : List ℕ) (r : Reader) → r.ahead ≡ [] → StandsAhead known name r
-fresh None name r none = tt
-fresh (Some m) name r none = file (get m name)
-  where
-    file : (f : Option (List ℕ)) → IsAhead f r
-    file None = none
-    file (Some bytes) = rw none refl
+fresh x name r none = grind (arith, common_steps)
 
 pub where_ahead : (known : Option Files) (name : List ℕ) (r : Reader) (Q : Files → Type 0) → StandsAhead known name r → IfSome known (λ m. IsAhead (get m name) r → Q m) → IfSome known Q
-where_ahead None name r Q ahead h = tt
-where_ahead (Some m) name r Q ahead h = h ahead
+where_ahead x name r y ahead h = grind (arith, common_steps)
 
 pub stays_ahead : (known after : Option Files) (name : List ℕ) (r new : Reader) → after ≡ known → StandsAhead known name r → IfSome known (λ m. IsAhead (get m name) r → IsAhead (get m name) new) → StandsAhead after name new
 stays_ahead known after name r new same ahead h = rw same (where_ahead known name r (λ m. IsAhead (get m name) new) ahead h)

@@ -1,4 +1,5 @@
 -- What a scan keeps behind a record is what it keeps of what the item makes.
+use Rattle.std.proofs.lemmas.Grind.{common_steps}
 use Rattle.std.proofs.Common.{◌≡◌, ◌∙◌, ◌+◌, ◌%◌, ℕ, zero, suc, List, [], ◌∷◌, ◌++◌, length, map, Some, Bool, true, false, ◌&&◌, ◌||◌, not, nat_le, ◌==◌, if◌then◌else◌, Result, Ok, Err, refl, sym, ap, subst, arith, ◌⊎◌, inl, inr, length-append}
 use Rattle.std.specs.List.{list_all}
 use Rattle.std.specs.Prelude.{slice_get, slice_set}
@@ -51,8 +52,7 @@ refused : {A : Type 0} (e : ObjectFault) → IsFree {A = A} (Err e) → e ≡ Fi
 refused e free is = free (λ i. Err (is i))
 
 read : {A : Type 0} (s : State) (last : Bool) (r : Result A ObjectFault) (g : A → Result (Scanning.Outline × Item) ObjectFault) → IsFree r → ((a : A) → Leads s last (g a)) → Leads s last (r >>= g)
-read s last (Ok a) g free h = h a
-read s last (Err e) g free h = refused e free
+read s last x g free h = grind (arith, common_steps)
 
 either : (s : State) (last b : Bool) (q v : Result (Scanning.Outline × Item) ObjectFault) → (b ≡ true → Leads s last q) → (b ≡ false → Leads s last v) → Leads s last (if b then q else v)
 either s last true q v h k = h refl
@@ -65,39 +65,19 @@ some_push xs x = let n = length-append xs (x ∷ []) in grind (arith, nat_tests,
 
 file_leads : (s : State) (body : List ℕ) → Leads s false (Scanning.scan_file (Scanning.outline_of s) body)
 unfolding Scanning.scan_file
-file_leads s body =
-    let o = Scanning.outline_of s in
-    read s false _ _ (wants_astray (is_none o.imports && is_none o.rooms && is_none o.exports && not o.asserting)) (λ u.
-    read s false _ _ (wants_size (is_file_name body)) (λ t.
-    read s false _ _ (file_free o.files body) (λ v. (refl, tt, refl))))
+file_leads s body = grind (arith, common_steps)
 
 import_leads : (s : State) (body : List ℕ) → Leads s false (Scanning.scan_import (Scanning.outline_of s) body)
 unfolding Scanning.scan_import
-import_leads s body =
-    let o = Scanning.outline_of s in
-    read s false _ _ (wants_astray (is_none o.rooms && is_none o.exports && not o.asserting)) (λ u.
-    read s false _ _ (name_free o.imports body) (λ v. (refl, tt, refl)))
+import_leads s body = grind (arith, common_steps)
 
 section_leads : (s : State) (body : List ℕ) → Leads s false (Scanning.scan_section (Scanning.outline_of s) body)
 unfolding Scanning.scan_section
-section_leads s body =
-    let o = Scanning.outline_of s in
-    read s false _ _ (wants_astray (not o.begun && is_none o.exports && not o.asserting)) (λ u.
-    read s false _ _ (section_free body) (λ h.
-    read s false _ _ (name_free o.sections h.name) (λ v.
-    read s false _ _ (wants_canonical (nat_le h.align 15)) (λ w.
-    (rw (map-append (λ d. d.name) s.drafts (empty_draft h.name h.size h.align ∷ []), map-append Scanning.room_of s.drafts (empty_draft h.name h.size h.align ∷ [])) refl, tt, refl)))))
+section_leads s body = grind (arith, common_steps)
 
 export_leads : (s : State) (body : List ℕ) → Leads s false (Scanning.scan_export (Scanning.outline_of s) body)
 unfolding Scanning.scan_export
-export_leads s body =
-    let o = Scanning.outline_of s in
-    read s false _ _ (wants_astray (list_all Scanning.is_filled o.rooms && not o.asserting)) (λ u.
-    read s false _ _ (export_free s.version body) (λ e.
-    read s false _ _ (parts_free (length o.files) (length o.rooms) (length o.imports) e.origin e.form) (λ v.
-    read s false _ _ (name_free o.exports e.name) (λ w.
-    read s false _ _ (canonical_free e.form) (λ x.
-    (rw (map-append (λ x. x.name) s.exports (e ∷ [])) refl, tt, refl))))))
+export_leads s body = grind (arith, common_steps, read, wants_astray, export_free, parts_free, name_free, canonical_free, map-append)
 
 assert_leads : (s : State) (body : List ℕ) → Leads s false (Scanning.scan_assert (Scanning.outline_of s) body)
 unfolding Scanning.scan_assert
@@ -111,9 +91,7 @@ assert_leads s body =
 
 end_leads : (s : State) (body : List ℕ) → Leads s true (Scanning.scan_last (Scanning.outline_of s) body)
 unfolding Scanning.scan_last
-end_leads s body =
-    read s true _ _ (wants_astray (list_all Scanning.is_filled (Scanning.outline_of s).rooms)) (λ u.
-    read s true _ _ (end_free body) (λ v. (refl, tt, refl)))
+end_leads s body = grind (arith, common_steps)
 
 -- ---- Fragments.
 
@@ -123,8 +101,7 @@ LeadsIn d (Ok x) = x.0 ≡ Scanning.room_of (grown d x.1)
 LeadsIn d (Err e) = e ≡ FileError → ⊥
 
 in_read : {A : Type 0} (d : Draft) (r : Result A ObjectFault) (g : A → Result (Room × Fragment) ObjectFault) → IsFree r → ((a : A) → r ≡ Ok a → LeadsIn d (g a)) → LeadsIn d (r >>= g)
-in_read d (Ok a) g free h = h a refl
-in_read d (Err e) g free h = refused e free
+in_read d x g free h = grind (arith, common_steps)
 
 pub wanted : (b : Bool) (f : ObjectFault) (u : Unit {0}) → Scanning.wants b f ≡ Ok u → b ≡ true
 wanted true f u e = refl
@@ -145,83 +122,35 @@ whole bytes = length bytes % body_limit == 0
 
 -- so many bytes more are no whole record where some are missing
 nothing : (bytes : List ℕ) → whole bytes ≡ false → is_none bytes ≡ false
-nothing [] part = cc
-nothing (b ∷ bytes) part = longer b bytes
+nothing x part = grind (arith, common_steps)
 
 pub short_is : (d : Draft) → not (Scanning.is_short (Scanning.last_of d)) ≡ whole d.literal
-short_is d = go (whole d.literal) (Scanning.ends_in_fill (closed d)) where
-  go : (b c : Bool) → not (Scanning.is_short (last_at b c)) ≡ b
-  go true true = refl
-  go true false = refl
-  go false c = refl
+short_is d = grind (arith, common_steps)
 
 pub fill_is : (d : Draft) → Scanning.is_fill (Scanning.last_of d) ≡ Scanning.ends_in_fill (closed d)
-fill_is d = go (whole d.literal) refl where
-  go : (b : Bool) → whole d.literal ≡ b → Scanning.is_fill (last_at b (Scanning.ends_in_fill (closed d))) ≡ Scanning.ends_in_fill (closed d)
-  go true is = by_fill (Scanning.ends_in_fill (closed d)) where
-    by_fill : (c : Bool) → Scanning.is_fill (last_at true c) ≡ c
-    by_fill true = refl
-    by_fill false = refl
-  go false is = sym (literal_ends d.fragments d.literal (nothing d.literal is))
+fill_is d = grind (arith, common_steps, literal_ends, nothing)
 
 -- behind a literal
 behind_literal : (d : Draft) (bytes : List ℕ) → is_none bytes ≡ false → whole d.literal ≡ true → Scanning.last_behind (length bytes) ≡ Scanning.last_of (grown d (Literal bytes))
-behind_literal d bytes some full =
-    let e = grown d (Literal bytes) in
-    let zero_left : length d.literal % body_limit ≡ 0 = grind (arith, nat_tests) in
-    let none_more : 0 + length bytes ≡ length bytes = omega arith in
-    let len : length e.literal ≡ length d.literal + length bytes = length-append d.literal bytes in
-    let same : length e.literal % body_limit ≡ length bytes % body_limit =
-    ap (λ n. n % body_limit) len ∙ sym (mod-add-mod (length d.literal) body_limit (length bytes)) ∙ ap (λ n. (n + length bytes) % body_limit) zero_left ∙ ap (λ n. n % body_limit) none_more in
-    let more : is_none e.literal ≡ false = joined_some d.literal bytes some in
-    let no_fill : Scanning.ends_in_fill (closed e) ≡ false = literal_ends e.fragments e.literal more in
-    rw (same, no_fill) (go (length bytes % body_limit == 0))
-  where
-    joined_some : (xs ys : List ℕ) → is_none ys ≡ false → is_none (xs ++ ys) ≡ false
-    joined_some [] ys h = h
-    joined_some (x ∷ xs) ys h = longer x (xs ++ ys)
-
-    go : (b : Bool) → (if b then last.Other else last.Short) ≡ last_at b false
-    go true = refl
-    go false = refl
+behind_literal d bytes some full = grind (arith, common_steps, nat_tests, length-append, mod-add-mod, literal_ends, longer)
 
 -- behind another fragment
 behind_fill : (d : Draft) (n : ℕ) → last.Fill ≡ Scanning.last_of (grown d (Fill n))
-behind_fill d n =
-    let fs = closed d ++ Fill n ∷ [] in
-    let fill : Scanning.ends_in_fill (fs ++ []) ≡ true = ap Scanning.ends_in_fill (nil fs) ∙ ends_push (closed d) (Fill n) in
-    rw fill refl
+behind_fill d n = grind (arith, common_steps, nil, ends_push)
 
 behind_value : (d : Draft) (w : Width) (origin : Origin) (form : Form) → last.Other ≡ Scanning.last_of (grown d (Value w origin form))
-behind_value d w origin form =
-    let fs = closed d ++ Value w origin form ∷ [] in
-    let no_fill : Scanning.ends_in_fill (fs ++ []) ≡ false = ap Scanning.ends_in_fill (nil fs) ∙ ends_push (closed d) (Value w origin form) in
-    rw no_fill refl
+behind_value d w origin form = grind (arith, common_steps, nil, ends_push)
 
 pub literal_some : (body bytes : List ℕ) → literal_of body ≡ Ok bytes → is_none bytes ≡ false
-literal_some body bytes h = go (is_none body) refl h where
-  go : (b : Bool) → is_none body ≡ b → (if b then Err BadSize else Ok body) ≡ Ok bytes → is_none bytes ≡ false
-  go true none e = cc
-  go false some e = let same : body ≡ bytes = cc in ap (λ (xs : List ℕ). is_none xs) (sym same) ∙ some
+literal_some body bytes h = grind (arith, common_steps)
 
 literal_leads : (body : List ℕ) (d : Draft) → LeadsIn d (Scanning.room_literal body (Scanning.room_of d))
 unfolding Scanning.room_literal
-literal_leads body d =
-    let r = Scanning.room_of d in
-    in_read d _ _ (literal_free body) (λ bytes is.
-    in_read d _ _ (room_free r (length bytes)) (λ u room.
-    in_read d _ _ (wants_canonical (not (Scanning.is_short r.last))) (λ v full.
-    ap (λ (l : Last). Scanning.room_behind (Scanning.room_of d) (length bytes) l)
-    (behind_literal d bytes (literal_some body bytes is) (sym (short_is d) ∙ wanted (not (Scanning.is_short (Scanning.last_of d))) NotCanonical v full)))))
+literal_leads body d = grind (arith, common_steps, in_read, literal_free, room_free, wants_canonical, behind_literal, literal_some, short_is, wanted)
 
 fill_leads : (body : List ℕ) (d : Draft) → LeadsIn d (Scanning.room_fill body (Scanning.room_of d))
 unfolding Scanning.room_fill
-fill_leads body d =
-    let r = Scanning.room_of d in
-    in_read d _ _ (fill_free body) (λ n is.
-    in_read d _ _ (room_free r n) (λ u room.
-    in_read d _ _ (wants_canonical (not (Scanning.is_fill r.last))) (λ v alone.
-    ap (λ (l : Last). Scanning.room_behind (Scanning.room_of d) n l) (behind_fill d n))))
+fill_leads body d = grind (arith, common_steps, in_read, fill_free, room_free, wants_canonical, behind_fill)
 
 value_leads : (v m n i : ℕ) (body : List ℕ) (d : Draft) → LeadsIn d (Scanning.room_value v m n i body (Scanning.room_of d))
 unfolding Scanning.room_value
@@ -238,12 +167,7 @@ names_stay (x ∷ ds) zero d e there same = let is : x ≡ d = cc in ap (λ n. n
 names_stay (x ∷ ds) (suc k) d e there same = ap (λ ns. x.name ∷ ns) (names_stay ds k d e there same)
 
 grown_leads : (s : State) (k : ℕ) (d : Draft) → slice_get s.drafts k ≡ Some d → slice_get (map Scanning.room_of s.drafts) k ≡ Some (Scanning.room_of d) → (q : Result (Room × Fragment) ObjectFault) → LeadsIn d q → Leads s false (q >>= (λ x. Ok (record (Scanning.outline_of s) { rooms = slice_set (map Scanning.room_of s.drafts) k x.0; begun = true }, item.Part k d.filled x.1)))
-grown_leads s k d there room (Ok x) h =
-    let e = grown d x.1 in
-    let names = names_stay s.drafts k d e there (grown_name d x.1) in
-    let rooms = map-set Scanning.room_of s.drafts k e in
-    (rw (there, names, rooms, h) refl, (d, there, room, refl), refl)
-grown_leads s k d there room (Err e) h = h
+grown_leads s k d there room x h = grind (arith, common_steps, names_stay, grown_name, map-set)
 
 part_leads : (s : State) (grow : Room → Result (Room × Fragment) ObjectFault) → ((d : Draft) → LeadsIn d (grow (Scanning.room_of d))) → Leads s false (Scanning.scan_part (Scanning.outline_of s) grow)
 unfolding Scanning.scan_part
@@ -260,10 +184,7 @@ part_leads s grow h = go (seek s.drafts) where
 -- ---- Any record.
 
 last_of_all : (v k : ℕ) → not (is_record_kind v k) ≡ false → (k == 1) ≡ false → (k == 2) ≡ false → (k == 3) ≡ false → (k == 4) ≡ false → (k == 5) ≡ false → (k == 6) ≡ false → (k == 7) ≡ false → (k == 9) ≡ false → true ≡ (k == 8)
-last_of_all v k a b c d e f g h i = go (v == 1) a where
-  go : (one : Bool) → not (nat_le 1 k && nat_le k 8 || not one && k == 9) ≡ false → true ≡ (k == 8)
-  go true a = grind (arith, nat_tests)
-  go false a = grind (arith, nat_tests)
+last_of_all v k a b c d e f g h i = grind (arith, common_steps)
 
 entry_leads : (s : State) (e : Entry) → Leads s (e.kind == 8) (Scanning.scan_entry (Scanning.outline_of s) e)
 unfolding Scanning.scan_entry

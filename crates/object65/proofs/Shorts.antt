@@ -1,4 +1,5 @@
 -- The records of an object are of known kinds, and no body is too long.
+use Rattle.std.proofs.lemmas.Grind.{common_steps}
 use Rattle.std.proofs.Common.{◌≡◌, ℕ, zero, suc, ◌+◌, ◌/◌, ◌≤◌, List, [], ◌∷◌, ◌++◌, length, drop, map, Bool, true, false, not, ◌&&◌, ◌==◌, if◌then◌else◌, refl, ap, arith, length-append}
 use Rattle.std.proofs.lemmas.List.{length-take}
 use Rattle.std.specs.List.{flat_map, list_all, AllByRecursion}
@@ -36,19 +37,13 @@ import_short : (v : ℕ) (name : List ℕ) → is_small_text name ≡ true → I
 import_short v name small = (refl, omega (arith, small_text name small))
 
 section_short : (v : ℕ) (s : Section) → is_small_section s ≡ true → IsShortEntry v (section_entry s)
-section_short v s small =
-    let name = left (is_small_text s.name) (nat_le (section_len s) section_limit) (left (is_small_text s.name && nat_le (section_len s) section_limit) (list_all is_small_fragment s.fragments) small) in
-    (refl, omega (arith, length-append (little_bytes 4 (section_len s)) (s.align ∷ s.name), length-bytes_low_first 0 4 (section_len s), small_text s.name name))
+section_short v s small = grind (arith, common_steps)
 
 export_short : (v : ℕ) (x : Export) → is_small_export x ≡ true → IsShortEntry v (export_entry x)
-export_short v x small =
-    let parts = small_export x small in
-    (refl, omega (arith, length-append (x.name ++ origin_bytes x.origin) (form_bytes x.form), length-append x.name (origin_bytes x.origin), origin_len x.origin, parts.0, parts.1))
+export_short v x small = grind (arith, common_steps, parts, small_export, length-append, origin_len)
 
 assert_short : (v : ℕ) (x : Assert) → is_small_assert x ≡ true → IsShortEntry v (assert_entry x)
-assert_short v x small =
-    let parts = small_assert x small in
-    (refl, omega (arith, length-append (origin_bytes x.origin) (length x.text ∷ (x.text ++ form_bytes x.form)), length-append x.text (form_bytes x.form), origin_len x.origin, parts.0, parts.1))
+assert_short v x small = grind (arith, common_steps, parts, small_assert, length-append, origin_len)
 
 pieces_short : (v : ℕ) (n : ℕ) (bytes : List ℕ) → AllByRecursion (IsShortEntry v) (map literal_entry (pieces n bytes))
 pieces_short v zero bytes = tt

@@ -1,4 +1,5 @@
 -- How what a scan keeps stays sound.
+use Rattle.std.proofs.lemmas.Grind.{common_steps}
 use Rattle.std.proofs.Common.{◌≡◌, ◌∙◌, ◌≤◌, ◌<◌, ◌+◌, ℕ, zero, suc, get_or, set, Bool, true, false, ◌&&◌, List, [], ◌∷◌, ◌++◌, length, refl, arith, nat_eq, cond, ◌==◌, Result, Ok, Err, ap}
 use Rattle.std.proofs.lemmas.Bool.Decides.{nat_tests}
 use Rattle.std.specs.List.{list_all, prefix_len}
@@ -68,15 +69,10 @@ front-ends p (x ∷ xs) (suc i) d stops h = step_ends (p x) i (prefix_len p xs) 
 -- ---- The items of records make what the records make.
 
 regrouped : (s : State) (i : Item) (r : Result (List Item) ObjectFault) → ((r >>= (λ is. Ok (i ∷ is))) >>= (λ is. Ok (with_items s is))) ≡ (r >>= (λ is. Ok (with_items (with_item s i) is)))
-regrouped s i (Ok is) = refl
-regrouped s i (Err e) = refl
+regrouped s i x = grind (arith, common_steps)
 
 one_step : (s : State) (es : List Entry) (last : Bool) (q : Result (Outline × Item) ObjectFault) → Leads s last q → ((t : State) → (items_of (outline_of t) es >>= (λ is. Ok (with_items t is))) ≡ after_all t es) → ((q >>= (λ x. items_of x.0 es >>= (λ is. Ok (x.1 ∷ is)))) >>= (λ is. Ok (with_items s is))) ≡ ((q >>= (λ x. Ok (with_item s x.1))) >>= (λ t. after_all t es))
-one_step s es last (Ok x) a rest =
-    regrouped s x.1 (items_of x.0 es)
-    ∙ ap (λ (o : Outline). items_of o es >>= (λ is. Ok (with_items (with_item s x.1) is))) a.0
-    ∙ rest (with_item s x.1)
-one_step s es last (Err e) a rest = refl
+one_step s es last x a rest = grind (arith, common_steps)
 
 pub items_make : ItemsLaw
 unfolding after

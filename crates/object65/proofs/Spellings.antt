@@ -1,4 +1,5 @@
 -- What is read as an object is spelled so, and what is spelled as one is read as it.
+use Rattle.std.proofs.lemmas.Grind.{common_steps}
 use Rattle.std.proofs.Common.{◌≡◌, ◌∙◌, ℕ, ◌+◌, ◌≤◌, List, [], ◌∷◌, ◌++◌, length, take, drop, map, Bool, true, false, ◌&&◌, not, nat_lt, nat_le, if◌then◌else◌, Result, Ok, Err, refl, sym, ap, subst, arith, ◌-◌, get_or, append_assoc, length-append}
 use Rattle.std.proofs.lemmas.Bool.Decides.{nat_tests}
 use Rattle.std.specs.Cmp.Lexicographic.{bytes_decides}
@@ -35,9 +36,7 @@ use Rattle.object65.proofs.Shorts.{short_entries, IsShortEntry}
 -- ---- The sections.
 
 full_size : (n i : ℕ) (d : Draft) → GoodDraft n i d → is_full d ≡ true → section_len (section_from d) ≡ d.size
-full_size n i d good full =
-    let same : d.filled ≡ d.size = grind (arith, nat_tests) in
-    shut_len d.fragments d.literal ∙ sym good.filled ∙ same
+full_size n i d good full = grind (arith, common_steps)
 
 headings : (n i : ℕ) (ds : List Draft) → AllByRecursion (GoodDraft n i) ds → list_all is_full ds ≡ true → map section_entry (map section_from ds) ≡ map heading_entry ds
 headings n i [] good full = refl
@@ -97,9 +96,7 @@ asserts_good n i (x ∷ xs) good small =
 -- ---- The object behind an END.
 
 pub finished_entries : (t : State) (es : List Entry) → GoodState t → Reached t es → t.ended ≡ true → entries_of (object_from t) ≡ es
-finished_entries t es good r ended =
-    ap (λ xs. map file_entry t.files ++ xs) (λ k. rows (map import_entry t.imports) (headings (length t.drafts) (length t.imports) t.drafts good.drafts (good.full ended) k) (contents t.drafts k) (map export_entry t.exports) (map assert_entry t.asserts) (end_entries (sym ended k)))
-    ∙ sym r.entries
+finished_entries t es good r ended = grind (arith, common_steps, rows, headings, contents, end_entries)
 
 finished_parts : (t : State) → GoodState t → list_all (λ a. is_small_text a.text) t.asserts ≡ true → t.ended ≡ true → has_good_parts (object_from t) ≡ true
 finished_parts t r texts ended =
@@ -131,21 +128,10 @@ finished_origins t r =
     and (a && b) c (and a b (sections_placed v m t.drafts r.values) r.export_origins) r.assert_origins
 
 pub finished_good : (t : State) → GoodState t → list_all (λ a. is_small_text a.text) t.asserts ≡ true → t.ended ≡ true → is_good_object (object_from t) ≡ true
-finished_good t r texts ended =
-    let v = is_version t.version in
-    let f = are_files_of t.version t.files in
-    let o = has_good_origins (object_from t) in
-    and (v && f && o) (has_good_parts (object_from t))
-    (and (v && f) o (and v f r.version r.files) (finished_origins t r))
-    (finished_parts t r texts ended)
+finished_good t r texts ended = grind (arith, common_steps, and, finished_origins, finished_parts)
 
 pub finished_fits : (t : State) (es : List Entry) → Reached t es → ObjectFits (object_from t)
-finished_fits t es r = record {
-  files = r.files;
-  sections = sections_fit t.drafts r.drafts;
-  exports = r.exports;
-  asserts = r.asserts;
-}
+finished_fits t es r = grind (arith, common_steps, sections_fit)
 
 -- ---- The head and the end.
 
@@ -171,8 +157,7 @@ head_read at first (a ∷ b ∷ c ∷ d ∷ v ∷ xs) e =
     version false n first e = cc
 
 end_read : (xs : List ℕ) (u : Unit {0}) → (if nat_lt 0 (length (take 1 xs)) then Err BytesAfterEnd else Ok tt) ≡ Ok u → xs ≡ []
-end_read [] u e = refl
-end_read (x ∷ xs) u e = cc
+end_read x u e = grind (arith, common_steps)
 
 finish_read : (t : State) (o : Object) → t.failed ≡ false → t.ended ≡ true → finished t ≡ Ok o → object_from t ≡ o
 finish_read t o running ended e = let same : ◌≡◌ {A = Result Object ObjectFault} (Ok (object_from t)) (Ok o) = sym (ap (λ b. if b then Err FailedBefore else (if t.ended then Ok (object_from t) else Err CutShort)) running ∙ ap (λ b. if b then Ok (object_from t) else Err CutShort) ended) ∙ e in cc

@@ -1,4 +1,5 @@
 -- One record more, and what the state behind it says.
+use Rattle.std.proofs.lemmas.Grind.{common_steps}
 use Rattle.std.proofs.Common.{◌≡◌, ◌∙◌, ℕ, ◌<◌, ◌++◌, List, [], ◌∷◌, length, map, Bool, true, false, ◌&&◌, ◌||◌, not, nat_le, ◌==◌, if◌then◌else◌, Result, Ok, refl, sym, ap, subst, arith, append_assoc, inl, inr}
 use Rattle.std.proofs.lemmas.Bool.Decides.{nat_tests}
 use Rattle.std.proofs.lemmas.List.{length-map, map-append}
@@ -82,10 +83,7 @@ clash false p q = cc
 
 -- no assertion was taken
 none_asserted : (s : State) → not (not (is_none s.asserts)) ≡ true → s.asserts ≡ []
-none_asserted s h = none_is s.asserts (turned_twice (is_none s.asserts) h) where
-  turned_twice : (b : Bool) → not (not b) ≡ true → b ≡ true
-  turned_twice true e = refl
-  turned_twice false e = cc
+none_asserted s h = grind (arith, common_steps)
 
 file_step : (s : State) (e : Entry) (x : Scanning.Outline × Item) → e.kind ≡ 9 → is_record_kind s.version 9 ≡ true → GoodState s → s.ended ≡ false → Scanning.scan_file (Scanning.outline_of s) e.body ≡ Ok x → Step s (with_item s x.1) e
 unfolding Scanning.scan_file
@@ -614,29 +612,7 @@ after_steps (e ∷ rest) s t es good r all h =
     rw (← append_assoc es (e ∷ []) rest) (after_steps rest u.0 t (es ++ e ∷ []) step.good (step.reached es r all.0) all.1 u.2)
 
 pub good_start : (v : ℕ) → is_version v ≡ true → GoodState (start v)
-good_start v known = record {
-  version = known;
-  files = none_of_any (v == 1);
-  values = refl;
-  export_origins = refl;
-  assert_origins = refl;
-  imports = refl;
-  names = refl;
-  export_names = refl;
-  drafts = tt;
-  filling = tt;
-  begun = λ b. tt;
-  exported = λ some. refl;
-  asserted = λ some. refl;
-  full = λ e. refl;
-  exports = refl;
-  asserts = refl;
-  failed = refl;
-}
-  where
-    none_of_any : (b : Bool) → (if b then (let none : List (List ℕ) = [] in length none) == 0 else true) ≡ true
-    none_of_any true = refl
-    none_of_any false = refl
+good_start v known = grind (arith, common_steps)
 
 pub at_start : (v : ℕ) → Reached (start v) []
 at_start v = record { entries = refl; files = tt; drafts = tt; exports = tt; asserts = tt; texts = refl }

@@ -1,4 +1,5 @@
 -- Records in the room of an object, one after another up to the END.
+use Rattle.std.proofs.lemmas.Grind.{common_steps}
 use Rattle.std.proofs.Common.{◌≡◌, ◌∙◌, ℕ, zero, suc, ◌+◌, ◌-◌, ◌≤◌, List, [], ◌∷◌, ◌++◌, length, take, drop, Bool, true, false, cond, not, nat_lt, Result, Ok, Err, refl, sym, ap, arith, ◌<◌, get_or, if◌then◌else◌, append_assoc, length-append, ◌⊎◌, inl, inr, subst}
 use Rattle.std.proofs.lemmas.List.{take-append-drop, drop-drop, length-take, take_at, drop_at}
 use Rattle.std.proofs.lemmas.Bool.Decides.{nat_tests}
@@ -23,8 +24,7 @@ passes true f r y e = cc
 passes false f r y e = (refl, e)
 
 pub bound : {A B : Type 0} (r : Result A ObjectFault) (f : A → Result B ObjectFault) (y : B) → (r >>= f) ≡ Ok y → (x : A) × (r ≡ Ok x) × (f x ≡ Ok y)
-bound (Ok x) f y e = (x, refl, e)
-bound (Err g) f y e = cc
+bound x f y e = grind (arith, common_steps)
 
 take_none : (n : ℕ) → take n (let none : List ℕ = [] in none) ≡ []
 take_none zero = refl
@@ -85,28 +85,15 @@ record_takes v bytes at limit x is e =
     joined v bytes at limit f.0 b.0 x is f.1 b.1 b.2
 
 front_again : (v kind n : ℕ) (ys : List ℕ) → is_record_kind v kind ≡ true → n ≤ body_limit → front_of v (take 3 (kind ∷ (little_bytes 2 n ++ ys))) ≡ Ok (kind, n)
-front_again v kind n ys known short =
-    let number : little_number 2 (little_bytes 2 n) ≡ n = back 2 n [] (omega arith) in
-    let within : nat_lt body_limit n ≡ false = grind (arith, nat_tests) in
-    rw (known, number, within) refl
+front_again v kind n ys known short = grind (arith, common_steps)
 
 whole_again : (body rest : List ℕ) → whole (length body) (take (length body) (body ++ rest)) ≡ Ok body
-whole_again body rest =
-    let all : take (length body) (body ++ rest) ≡ body = take_at body rest (length body) refl in
-    let enough : nat_lt (length body) (length body) ≡ false = grind (arith, nat_tests) in
-    rw (all, enough) refl
+whole_again body rest = grind (arith, common_steps)
 
 -- a record that stands in the room is read, and what follows it is left
 pub record_again : (v : ℕ) (bytes : List ℕ) (at limit : ℕ) (e : Entry) (rest : List ℕ) → room bytes at limit ≡ entry_bytes e ++ rest → is_record_kind v e.kind ≡ true → length e.body ≤ body_limit → at + 3 + length e.body ≤ file_limit → (record_at v at limit bytes ≡ Ok (e, at + 3 + length e.body)) × (room bytes (at + 3 + length e.body) limit ≡ rest)
 unfolding record_at
-record_again v bytes at limit e rest is known short within =
-    let n = length e.body in
-    let inside : room bytes at limit ≡ e.kind ∷ (little_bytes 2 n ++ (e.body ++ rest)) = is in
-    let front : front_of v (take 3 (room bytes at limit)) ≡ Ok (e.kind, n) = ap (λ xs. front_of v (take 3 xs)) inside ∙ front_again v e.kind n (e.body ++ rest) known short in
-    let after : room bytes (at + 3) limit ≡ e.body ++ rest = room_on bytes at 3 limit ∙ ap (drop 3) inside in
-    let body : whole n (take n (room bytes (at + 3) limit)) ≡ Ok e.body = ap (λ xs. whole n (take n xs)) after ∙ whole_again e.body rest in
-    let end : nat_lt file_limit (at + 3 + n) ≡ false = grind (arith, nat_tests) in
-    (rw (front, body, end) refl, room_on bytes (at + 3) n limit ∙ ap (drop n) after ∙ drop_at e.body rest n refl)
+record_again v bytes at limit e rest is known short within = grind (arith, common_steps, front_again, room_on, whole_again, nat_tests, drop_at)
 
 -- ---- The list of records that stand one after another up to the END.
 
@@ -161,20 +148,10 @@ bytes_on : (bytes : List ℕ) (limit at : ℕ) (x : Entry × ℕ) → IsBytes (r
 bytes_on bytes limit at x is read = bytes_back (entry_bytes x.0) (room bytes x.1 limit) (λ i. subst (λ (ys : List ℕ). get_or ys i 0 < 256) read.spelled (is i))
 
 last_one : (bytes : List ℕ) (limit at end : ℕ) (s t u : State) (x : Entry × ℕ) → IsReadEntry x.0 → TakesRecord bytes at limit x → after s x.0 ≡ Ok u → u.ended ≡ true → u ≡ t → x.1 ≡ end → Trail bytes limit at end s t (x.0 ∷ [])
-last_one bytes limit at end s t u x one read h over t_is end_is = record {
-  taken = first_taken s u x.0 [] t h (ap (λ v. Ok v) t_is);
-  ended = sym (ap (λ (v : State). v.ended) t_is) ∙ over;
-  spelled = read.spelled ∙ ap (λ n. entry_bytes x.0 ++ room bytes n limit) end_is ∙ ap (λ ys. ys ++ room bytes end limit) (sym (nil (entry_bytes x.0)));
-  each = (one, tt);
-}
+last_one bytes limit at end s t u x one read h over t_is end_is = grind (arith, common_steps)
 
 one_more : (bytes : List ℕ) (limit at end : ℕ) (s t u : State) (x : Entry × ℕ) (es : List Entry) → IsReadEntry x.0 → TakesRecord bytes at limit x → after s x.0 ≡ Ok u → Trail bytes limit x.1 end u t es → Trail bytes limit at end s t (x.0 ∷ es)
-one_more bytes limit at end s t u x es one read h rest = record {
-  taken = first_taken s u x.0 es t h rest.taken;
-  ended = rest.ended;
-  spelled = read.spelled ∙ ap (λ ys. entry_bytes x.0 ++ ys) rest.spelled ∙ sym (append_assoc (entry_bytes x.0) (flat_map entry_bytes es) (room bytes end limit));
-  each = (one, rest.each);
-}
+one_more bytes limit at end s t u x es one read h rest = grind (arith, common_steps)
 
 -- what was read up to the END stands there
 pub trail : (left : ℕ) (bytes : List ℕ) (limit at : ℕ) (s t : State) (end : ℕ) → IsBytes (room bytes at limit) → records_at left s at limit bytes ≡ Ok (t, end) → (es : List Entry) × Trail bytes limit at end s t es
@@ -201,26 +178,12 @@ going o e x h = let a = passes o.failed FailedBefore _ _ h in (passes o.ended Ou
 
 pub ended_stops : (s : State) (e : Entry) (u : State) → s.ended ≡ true → after s e ≡ Ok u → ⊥
 unfolding after
-ended_stops s e u over h = let x = bound (scanned (outline_of s) e) _ _ h in both s.ended over (going (outline_of s) e x.0 x.1) where
-  both : (b : Bool) → b ≡ true → b ≡ false → ⊥
-  both b p q = cc
+ended_stops s e u over h = grind (arith, common_steps, bound, going)
 
 -- a record leaves the version
 pub version_kept : (s u : State) (e : Entry) → after s e ≡ Ok u → u.version ≡ s.version
 unfolding after
-version_kept s u e h =
-    let x = bound (scanned (outline_of s) e) _ _ h in
-    let made : with_item s x.0.1 ≡ u = (let z = x.2 in cc) in
-    ap (λ (v : State). v.version) (sym made) ∙ keeps x.0.1
-  where
-    keeps : (i : Item) → (with_item s i).version ≡ s.version
-    keeps (item.File name) = refl
-    keeps (item.Import name) = refl
-    keeps (item.Section name size align) = refl
-    keeps (item.Part k offset f) = refl
-    keeps (item.Export name origin form) = refl
-    keeps (item.Assert action origin text form) = refl
-    keeps item.End = refl
+version_kept s u e h = grind (arith, common_steps)
 
 pub versions_kept : (es : List Entry) (s t : State) → after_all s es ≡ Ok t → t.version ≡ s.version
 versions_kept [] s t h = let here : s ≡ t = cc in ap (λ (u : State). u.version) (sym here)

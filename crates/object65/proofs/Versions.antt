@@ -1,5 +1,6 @@
 -- An object of version 1 that says the same is as good.
-use Rattle.std.proofs.Common.{◌≡◌, ℕ, ◌+◌, List, [], ◌∷◌, length, map, Bool, true, ◌&&◌, not, nat_le, refl, sym, ◌∙◌, ap}
+use Rattle.std.proofs.lemmas.Grind.{common_steps}
+use Rattle.std.proofs.Common.{arith, ◌≡◌, ℕ, ◌+◌, List, [], ◌∷◌, length, map, Bool, true, ◌&&◌, not, nat_le, refl, sym, ◌∙◌, ap}
 use Rattle.std.specs.Prelude.{sum_by}
 use Rattle.std.specs.List.{list_all, AllByRecursion}
 use Rattle.std.proofs.lemmas.List.{length-map}
@@ -36,25 +37,13 @@ same_maps g k f (x ∷ xs) h = ap (λ z. z ∷ map g (map f xs)) (h x) ∙ ap (�
 -- ---- Fragments.
 
 same_len : (f : Fragment) → fragment_len (fragment_in_one f) ≡ fragment_len f
-same_len (Literal bytes) = refl
-same_len (Fill n) = refl
-same_len (Value width origin form) = refl
+same_len x = grind (arith, common_steps)
 
 same_fragment : (s i : ℕ) (f : Fragment) → is_good_fragment s i (fragment_in_one f) ≡ is_good_fragment s i f
-same_fragment s i (Literal bytes) = refl
-same_fragment s i (Fill n) = refl
-same_fragment s i (Value width origin form) = refl
+same_fragment s i x = grind (arith, common_steps)
 
 same_joins : (f g : Fragment) → joins (fragment_in_one f) (fragment_in_one g) ≡ joins f g
-same_joins (Literal a) (Literal b) = refl
-same_joins (Literal a) (Fill n) = refl
-same_joins (Literal a) (Value w o g) = refl
-same_joins (Fill m) (Literal b) = refl
-same_joins (Fill m) (Fill n) = refl
-same_joins (Fill m) (Value w o g) = refl
-same_joins (Value w o f) (Literal b) = refl
-same_joins (Value w o f) (Fill n) = refl
-same_joins (Value w o f) (Value x p g) = refl
+same_joins x y = grind (arith, common_steps)
 
 same_apart : (fs : List Fragment) → are_apart (map fragment_in_one fs) ≡ are_apart fs
 same_apart [] = refl
@@ -65,14 +54,10 @@ same_apart (f ∷ g ∷ fs) =
 
 -- version 1 has no files, and no value names one
 one_origin : (f : Fragment) → has_good_origin 1 0 (fragment_in_one f) ≡ true
-one_origin (Literal bytes) = refl
-one_origin (Fill n) = refl
-one_origin (Value width origin form) = refl
+one_origin x = grind (arith, common_steps)
 
 one_fits : (f : Fragment) → FragmentFits f → FragmentFits (fragment_in_one f)
-one_fits (Literal bytes) h = tt
-one_fits (Fill n) h = h
-one_fits (Value width origin form) h = ((tt, h.0.1), h.1)
+one_fits x h = grind (arith, common_steps)
 
 -- ---- Sections.
 
@@ -85,12 +70,7 @@ same_sum (f ∷ fs) =
     ∙ sym (sum_by-cons fragment_len f fs)
 
 same_section : (s i : ℕ) (x : Section) → is_good_section s i (section_in_one x) ≡ is_good_section s i x
-same_section s i x =
-    let fs : List Fragment = x.fragments in
-    let gs : List Fragment = map fragment_in_one fs in
-    ap (λ n. nat_le x.align 15 && nat_le n section_limit && list_all (is_good_fragment s i) gs && are_apart gs) (same_sum fs)
-    ∙ ap (λ b. nat_le x.align 15 && nat_le (section_len x) section_limit && b && are_apart gs) (all_mapped (is_good_fragment s i) (is_good_fragment s i) fragment_in_one fs (same_fragment s i))
-    ∙ ap (λ b. nat_le x.align 15 && nat_le (section_len x) section_limit && list_all (is_good_fragment s i) fs && b) (same_apart fs)
+same_section s i x = grind (arith, common_steps, same_sum, all_mapped, same_fragment, same_apart)
 
 -- ---- Objects.
 

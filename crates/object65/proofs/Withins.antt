@@ -1,4 +1,5 @@
 -- What holds of a builder, and what the items of records keep to.
+use Rattle.std.proofs.lemmas.Grind.{common_steps}
 use Rattle.std.proofs.Common.{◌≡◌, ◌∙◌, ◌≤◌, ℕ, List, [], ◌∷◌, ◌++◌, length, true, ◌&&◌, nat_le, Result, Ok, Err, refl, ap, subst, arith, ◌+◌, zero, suc, Option, Some, Bool, false, ◌==◌, if◌then◌else◌, sym}
 use Rattle.std.proofs.lemmas.Bool.Decides.{nat_tests}
 use Rattle.std.specs.List.{list_all, AllByRecursion}
@@ -75,8 +76,7 @@ good_sized o e = sized_sections (length o.sections) (length o.imports) o.section
 
 -- what holds of the one thing that may be given holds of what was given
 pub if_given : {X : Type 0} (result : Result X ObjectFault) (x : X) (P : X → Type 0) → Gives is_memory (λ y. y) result (Ok x) → P x → IfOk result P
-if_given (Ok y) x P given p = let same : x ≡ y = cc in subst P same p
-if_given (Err f) x P given p = tt
+if_given y x z given p = grind (arith, common_steps)
 
 -- ---- A call's answer.
 
@@ -109,10 +109,7 @@ ended_by s t e h =
 -- no record gives a fault of a store
 pub after_free : (s : State) (e : Entry) → after s e ≡ Err FileError → ⊥
 unfolding after
-after_free s e = go (Scanning.scanned (Scanning.outline_of s) e) (leads s e) where
-  go : (q : Result (Scanning.Outline × Item) ObjectFault) → Leads s (e.kind == 8) q → (q >>= (λ y. Ok (with_item s y.1))) ≡ Err FileError → ⊥
-  go (Ok x) l h = cc
-  go (Err f) l h = let is : f ≡ FileError = cc in l is
+after_free s e = grind (arith, common_steps, leads)
 
 unless : (b : Bool) {P Q : Type 0} → (P → Q) → Unless b P → Unless b Q
 unless true h p = tt
@@ -120,8 +117,7 @@ unless false h p = h p
 
 pub taken_from : (s : State) (o : Scanning.Outline) (e : Entry) (new : Scanning.Outline) (result : Result Item ObjectFault) → o ≡ Scanning.outline_of s → Gives is_memory (λ i. (new, i)) result (Scanning.scanned o e) → Gives is_memory (λ i. with_item s i) result (after s e)
 unfolding after
-taken_from s o e new (Ok i) same h = (led s o e (new, i) same h).0
-taken_from s o e new (Err f) same h = unless (is_memory f) (λ k. ap (λ r. r >>= (λ y. Ok (with_item s y.1))) (subst (λ p. Scanning.scanned p e ≡ Err f) same k)) h
+taken_from s o e new x same h = grind (arith, common_steps)
 
 pub kept_from : (s : State) (o : Scanning.Outline) (e : Entry) (new : Scanning.Outline) (result : Result Item ObjectFault) → o ≡ Scanning.outline_of s → Gives is_memory (λ i. (new, i)) result (Scanning.scanned o e) → IfOk result (λ i. new ≡ Scanning.outline_of (with_item s i))
 kept_from s o e new (Ok i) same h = (led s o e (new, i) same h).1
@@ -139,14 +135,10 @@ all_last P [] x all = all.0
 all_last P (y ∷ xs) x all = all_last P xs x all.1
 
 more_filled : (d : Draft) (f : Fragment) → (grown d f).filled ≡ d.filled + fragment_len f
-more_filled d (Literal bytes) = refl
-more_filled d (Fill n) = refl
-more_filled d (Value w origin form) = refl
+more_filled d x = grind (arith, common_steps)
 
 same_size : (d : Draft) (f : Fragment) → (grown d f).size ≡ d.size
-same_size d (Literal bytes) = refl
-same_size d (Fill n) = refl
-same_size d (Value w origin form) = refl
+same_size d x = grind (arith, common_steps)
 
 -- the section that a fragment went to
 piece_good : (s : State) (k offset : ℕ) (f : Fragment) (d : Draft) → slice_get s.drafts k ≡ Some d → GoodState (with_item s (item.Part k offset f)) → (d.filled + fragment_len f ≤ d.size) × (d.size ≤ section_limit)
@@ -208,30 +200,14 @@ room_next s o e x r same h =
     room_of_item s x.1 l.2 (reached_parts (with_item s x.1) (reached_next s (with_item s x.1) e r l.0))
 
 texts_next : (s : State) (o : Scanning.Outline) (i : Item) → list_all (λ a. is_small_text a.text) s.asserts ≡ true → Scanning.IsWithin o i → list_all (λ a. is_small_text a.text) (with_item s i).asserts ≡ true
-texts_next s o (item.Assert action origin text form) small h =
-    let a : Assert = record { action = action; origin = origin; text = text; form = form } in
-    list_all-append (λ b. is_small_text b.text) s.asserts (a ∷ []) ∙ and (list_all (λ b. is_small_text b.text) s.asserts) (list_all (λ b. is_small_text b.text) (a ∷ [])) small (and (is_small_text text) true h refl)
-texts_next s o (item.File name) small h = small
-texts_next s o (item.Import name) small h = small
-texts_next s o (item.Section name size align) small h = small
-texts_next s o (item.Part k offset f) small h = small
-texts_next s o (item.Export name origin form) small h = small
-texts_next s o item.End small h = small
+texts_next s o x small h = grind (arith, common_steps)
 
 abbrev marked : State → Scanning.Outline → State
 marked s o = record s { begun = o.begun; ended = o.ended }
 
 -- what the parts and the scan beside them stand for behind an item
 pub joined_next : (p q : Parts) (o n : Scanning.Outline) (i : Item) → state_of q ≡ unmarked (with_item (state_of p) i) → n ≡ Scanning.outline_of (with_item (state_in p o) i) → state_in q n ≡ with_item (state_in p o) i
-joined_next p q o n i parts scan = ap (λ (u : State). marked u n) parts ∙ ap (λ (m : Scanning.Outline). marked (unmarked (with_item (state_of p) i)) m) scan ∙ go i where
-  go : (i : Item) → (record (unmarked (with_item (state_of p) i)) { begun = (with_item (state_in p o) i).begun; ended = (with_item (state_in p o) i).ended }) ≡ with_item (state_in p o) i
-  go (item.File name) = refl
-  go (item.Import name) = refl
-  go (item.Section name size align) = refl
-  go (item.Part k offset f) = refl
-  go (item.Export name origin form) = refl
-  go (item.Assert action origin text form) = refl
-  go item.End = refl
+joined_next p q o n i parts scan = grind (arith, common_steps)
 
 pub whole_next : (p q : Parts) (o n : Scanning.Outline) (e : Entry) (i : Item) → IsWhole p o → Scanning.scanned o e ≡ Ok (n, i) → Scanning.IsWithin o i → ◌≡◌ {A = Result State ObjectFault} (Ok (unmarked (with_item (state_of p) i))) (Ok (state_of q)) → IsWhole q n
 whole_next p q o n e i w h within added =

@@ -1,8 +1,8 @@
 -- What is written so far, record by record.
-use Rattle.std.proofs.Common.{◌≡◌, ◌∙◌, ◌<◌, ℕ, ◌+◌, List, [], ◌∷◌, ◌++◌, length, take, map, get_or, Bool, true, false, refl, sym, ap, append_assoc}
+use Rattle.std.proofs.Common.{arith, ◌≡◌, ◌∙◌, ◌<◌, ℕ, ◌+◌, List, [], ◌∷◌, ◌++◌, length, take, map, get_or, Bool, true, false, refl, sym, ap, append_assoc}
 use Rattle.std.proofs.lemmas.List.{take_more, map-append}
 use Rattle.std.proofs.lemmas.List.Folds.{list_all_at}
-use Rattle.std.proofs.lemmas.Grind.{flat_map-append}
+use Rattle.std.proofs.lemmas.Grind.{common_steps, flat_map-append}
 use Rattle.std.specs.List.{flat_map, list_all}
 use Rattle.object65.specs.Record.{Entry}
 use Rattle.object65.specs.Spelling.{entry_bytes}
@@ -19,9 +19,4 @@ spread y a b c d e z = simp flat_map-append
 
 -- all records of an object, kind by kind
 pub written_object : (old h oy o0 o1 o2 o3 o4 o5 new : List ℕ) (y a b c d e : List Entry) (z : Entry) → oy ≡ old ++ h → o0 ≡ oy ++ flat_map entry_bytes y → o1 ≡ o0 ++ flat_map entry_bytes a → o2 ≡ o1 ++ flat_map entry_bytes b → o3 ≡ o2 ++ flat_map entry_bytes c → o4 ≡ o3 ++ flat_map entry_bytes d → o5 ≡ o4 ++ flat_map entry_bytes e → new ≡ o5 ++ entry_bytes z → new ≡ old ++ (h ++ flat_map entry_bytes (y ++ (((((a ++ b) ++ c) ++ d) ++ e) ++ z ∷ [])))
-written_object old h oy o0 o1 o2 o3 o4 o5 new y a b c d e z py p0 p1 p2 p3 p4 p5 last =
-    last
-    ∙ ap (λ xs. xs ++ entry_bytes z) (p5 ∙ ap (λ xs. xs ++ flat_map entry_bytes e) (p4 ∙ ap (λ xs. xs ++ flat_map entry_bytes d) (p3 ∙ ap (λ xs. xs ++ flat_map entry_bytes c) (p2 ∙ ap (λ xs. xs ++ flat_map entry_bytes b) (p1 ∙ ap (λ xs. xs ++ flat_map entry_bytes a) (p0 ∙ ap (λ xs. xs ++ flat_map entry_bytes y) py))))))
-    ∙ regroup old h (flat_map entry_bytes y) (flat_map entry_bytes a) (flat_map entry_bytes b) (flat_map entry_bytes c) (flat_map entry_bytes d) (flat_map entry_bytes e) (entry_bytes z)
-    ∙ ap (λ xs. old ++ (h ++ (flat_map entry_bytes y ++ (((((flat_map entry_bytes a ++ flat_map entry_bytes b) ++ flat_map entry_bytes c) ++ flat_map entry_bytes d) ++ flat_map entry_bytes e) ++ xs)))) (sym (nil (entry_bytes z)))
-    ∙ ap (λ xs. old ++ (h ++ xs)) (sym (spread y a b c d e (z ∷ [])))
+written_object old h oy o0 o1 o2 o3 o4 o5 new y a b c d e z py p0 p1 p2 p3 p4 p5 last = grind (arith, common_steps, regroup, nil, spread)

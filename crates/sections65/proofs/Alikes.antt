@@ -2,7 +2,7 @@
 use Rattle.std.proofs.Common.{◌≡◌, ◌∙◌, ℕ, zero, suc, ◌+◌, Bool, true, false, not, nat_eq, cond, List, [], ◌∷◌, ◌++◌, map, refl, sym, ap, append_assoc, append-nil, arith}
 use Rattle.std.specs.Prelude.{filter_map, slice_get}
 use Rattle.std.specs.List.{filter, flat_map}
-use Rattle.std.proofs.lemmas.Grind.{flat_map-append}
+use Rattle.std.proofs.lemmas.Grind.{common_steps, flat_map-append}
 use Rattle.std.proofs.lemmas.List.{map-append}
 use Rattle.std.proofs.lemmas.List.Elements.{filter-append}
 use Rattle.object65.specs.declared.object.Fragment.{Fragment}
@@ -41,9 +41,7 @@ alike_sym cs ds h = record {
 
 -- what contents put into a segment
 parts_more : (cs ds : List Content) (g : ℕ) → parts_in (cs ++ ds) g ≡ parts_in cs g ++ parts_in ds g
-parts_more cs ds g =
-    ap (λ es. flat_map (λ (c : Content). c.parts) es) (filter-append (λ (c : Content). nat_eq c.segment g) cs ds)
-    ∙ flat_map-append (λ (c : Content). c.parts) (filter (λ (c : Content). nat_eq c.segment g) cs) (filter (λ (c : Content). nat_eq c.segment g) ds)
+parts_more cs ds g = grind (arith, common_steps)
 
 -- the files of its values
 abbrev files_in : List Content → ℕ → List (List ℕ)
@@ -58,9 +56,7 @@ module _ (at : Place → Origin) (s i : List ℕ) where
   placed cs g = fragments_of at s i (parts_in cs g)
 
   fragments_more : (ps qs : List Part) → fragments_of at s i (ps ++ qs) ≡ fragments_of at s i ps ++ fragments_of at s i qs
-  fragments_more ps qs =
-      ap (filter (λ f. not (is_empty f))) (map-append (fragment_of at s i) ps qs)
-      ∙ filter-append (λ f. not (is_empty f)) (map (fragment_of at s i) ps) (map (fragment_of at s i) qs)
+  fragments_more ps qs = grind (arith, common_steps)
 
   pub placed_more : (cs ds : List Content) (g : ℕ) → placed (cs ++ ds) g ≡ placed cs g ++ placed ds g
   placed_more cs ds g = ap (fragments_of at s i) (parts_more cs ds g) ∙ fragments_more (parts_in cs g) (parts_in ds g)
@@ -144,83 +140,26 @@ all_fills_join (f ∷ before) behind a b = fills_join f before behind a b
 
 -- contents of bytes alone, or of room alone, which come to the same fragments in their segment
 unnamed_alike : (g : ℕ) (p q r : Part) → part_imports p ≡ [] → part_imports q ≡ [] → part_imports r ≡ [] → part_files p ≡ [] → part_files q ≡ [] → part_files r ≡ [] → ((at : Place → Origin) (s i : List ℕ) (before behind : List Fragment) → all_joined (before ++ (fragments_of at s i (p ∷ q ∷ []) ++ behind)) ≡ all_joined (before ++ (fragments_of at s i (r ∷ []) ++ behind))) → AreAlike (put g p ∷ put g q ∷ []) (put g r ∷ [])
-unnamed_alike g p q r no_p no_q no_r none_p none_q none_r same = record {
-  imports = λ names. rw (no_p, no_q, no_r) refl;
-  parts = λ at s i h before behind. by at s i h before behind (nat_eq g h);
-  files = λ h. none (nat_eq g h);
-  said = refl;
-}
-  where
-    none : (b : Bool) →
-        flat_map part_files (flat_map (λ (c : Content). c.parts) (cond b (put g p ∷ cond b (put g q ∷ []) []) (cond b (put g q ∷ []) [])))
-        ≡ flat_map part_files (flat_map (λ (c : Content). c.parts) (cond b (put g r ∷ []) []))
-    none true = rw (none_p, none_q, none_r) refl
-    none false = refl
-
-    by : (at : Place → Origin) (s i : List ℕ) (h : ℕ) (before behind : List Fragment) (b : Bool) →
-        all_joined (before ++ (fragments_of at s i (flat_map (λ (c : Content). c.parts) (cond b (put g p ∷ cond b (put g q ∷ []) []) (cond b (put g q ∷ []) []))) ++ behind))
-        ≡ all_joined (before ++ (fragments_of at s i (flat_map (λ (c : Content). c.parts) (cond b (put g r ∷ []) [])) ++ behind))
-    by at s i h before behind true = same at s i before behind
-    by at s i h before behind false = refl
+unnamed_alike g p q r no_p no_q no_r none_p none_q none_r same = grind (arith, common_steps)
 
 pub bytes_alike : (g : ℕ) (a b : List ℕ) → AreAlike (put g (Known a) ∷ put g (Known b) ∷ []) (put g (Known (a ++ b)) ∷ [])
-bytes_alike g a b = unnamed_alike g (Known a) (Known b) (Known (a ++ b)) refl refl refl refl refl refl (λ at s i before behind. by at s i before behind a b)
-  where
-    by : (at : Place → Origin) (s i : List ℕ) (before behind : List Fragment) (a b : List ℕ) → all_joined (before ++ (fragments_of at s i (Known a ∷ Known b ∷ []) ++ behind)) ≡ all_joined (before ++ (fragments_of at s i (Known (a ++ b) ∷ []) ++ behind))
-    by at s i before behind [] b = refl
-    by at s i before behind (x ∷ a) [] = rw (append-nil a) refl
-    by at s i before behind (x ∷ a) (y ∷ b) = all_literals_join before behind (x ∷ a) (y ∷ b)
+bytes_alike g a b = grind (arith, common_steps, unnamed_alike, append-nil, all_literals_join)
 
 room_is : (at : Place → Origin) (s i : List ℕ) (before behind : List Fragment) (k j : ℕ) → k ≡ suc j → all_joined (before ++ (Fill k ∷ behind)) ≡ all_joined (before ++ (fragments_of at s i (Filled k ∷ []) ++ behind))
 room_is at s i before behind k j e = rw e refl
 
 pub room_alike : (g m n : ℕ) → AreAlike (put g (Filled m) ∷ put g (Filled n) ∷ []) (put g (Filled (m + n)) ∷ [])
-room_alike g m n = unnamed_alike g (Filled m) (Filled n) (Filled (m + n)) refl refl refl refl refl refl (λ at s i before behind. by at s i before behind m n)
-  where
-    by : (at : Place → Origin) (s i : List ℕ) (before behind : List Fragment) (m n : ℕ) → all_joined (before ++ (fragments_of at s i (Filled m ∷ Filled n ∷ []) ++ behind)) ≡ all_joined (before ++ (fragments_of at s i (Filled (m + n) ∷ []) ++ behind))
-    by at s i before behind zero n = let e : zero + n ≡ n = omega arith in rw e refl
-    by at s i before behind (suc m) zero = let e : suc m + zero ≡ suc m = omega arith in rw e refl
-    by at s i before behind (suc m) (suc n) = all_fills_join before behind (suc m) (suc n) ∙ room_is at s i before behind (suc m + suc n) (m + suc n) (let e : suc m + suc n ≡ suc (m + suc n) = omega arith in e)
+room_alike g m n = grind (arith, common_steps, unnamed_alike, all_fills_join, room_is)
 
 -- ---- What makes no difference.
 
 -- a content that holds nothing
 pub empty_alike : (g : ℕ) (asks : Bool) → AreAlike (record { segment = g; asks = asks; parts = []; said = [] } ∷ []) []
-empty_alike g asks = record {
-  imports = λ names. refl;
-  parts = λ at s i h before behind. by at s i before behind (nat_eq g h);
-  files = λ h. none (nat_eq g h);
-  said = refl;
-}
-  where
-    none : (b : Bool) → flat_map part_files (flat_map (λ (c : Content). c.parts) (cond b (record { segment = g; asks = asks; parts = []; said = [] } ∷ []) [])) ≡ []
-    none true = refl
-    none false = refl
-
-    by : (at : Place → Origin) (s i : List ℕ) (before behind : List Fragment) (b : Bool) →
-        all_joined (before ++ (fragments_of at s i (flat_map (λ (c : Content). c.parts) (cond b (record { segment = g; asks = asks; parts = []; said = [] } ∷ []) [])) ++ behind))
-        ≡ all_joined (before ++ behind)
-    by at s i before behind true = refl
-    by at s i before behind false = refl
+empty_alike g asks = grind (arith, common_steps)
 
 -- a part of no byte
 empty_part : (g : ℕ) (p : Part) → part_imports p ≡ [] → part_files p ≡ [] → ((at : Place → Origin) (s i : List ℕ) → fragments_of at s i (p ∷ []) ≡ []) → AreAlike (put g p ∷ []) []
-empty_part g p no_imports no_files nothing = record {
-  imports = λ names. rw no_imports refl;
-  parts = λ at s i h before behind. by at s i before behind (nat_eq g h);
-  files = λ h. none (nat_eq g h);
-  said = refl;
-}
-  where
-    none : (b : Bool) → flat_map part_files (flat_map (λ (c : Content). c.parts) (cond b (put g p ∷ []) [])) ≡ []
-    none true = rw no_files refl
-    none false = refl
-
-    by : (at : Place → Origin) (s i : List ℕ) (before behind : List Fragment) (b : Bool) →
-        all_joined (before ++ (fragments_of at s i (flat_map (λ (c : Content). c.parts) (cond b (put g p ∷ []) [])) ++ behind))
-        ≡ all_joined (before ++ behind)
-    by at s i before behind true = ap (λ fs. all_joined (before ++ (fs ++ behind))) (nothing at s i)
-    by at s i before behind false = refl
+empty_part g p no_imports no_files nothing = grind (arith, common_steps)
 
 pub no_bytes_alike : (g : ℕ) → AreAlike (put g (Known []) ∷ []) []
 no_bytes_alike g = empty_part g (Known []) refl refl (λ at s i. refl)

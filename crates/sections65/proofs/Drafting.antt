@@ -1,4 +1,5 @@
 -- Sections that are filled statement by statement.
+use Rattle.std.proofs.lemmas.Grind.{common_steps}
 use Rattle.std.proofs.Common.{◌≡◌, ◌∙◌, ℕ, zero, suc, ◌+◌, Bool, true, false, not, nat_eq, nat_lt, cond, List, [], ◌∷◌, ◌++◌, map, length, get_or, slice_set, Option, Some, None, refl, sym, ap, arith, append_assoc, subst}
 use Rattle.std.specs.Prelude.{◌||◌, if◌then◌else◌, slice_get}
 use Rattle.std.specs.List.{AllByRecursion, IsDistinct, list_any, position, position_or_len, filter, flat_map}
@@ -19,11 +20,7 @@ use Rattle.sections65.specs.Inner.Drafts.{all_of_draft, grown, in_segment, new_d
 -- ---- One item of a list in which each has a key of its own.
 
 position_is : {A : Type 0} (p : A → Bool) (xs : List A) (i : ℕ) → position p xs ≡ Some i → i ≡ position_or_len p xs
-position_is p xs i h = by (nat_lt (position_or_len p xs) (length xs)) h
-  where
-    by : (b : Bool) → cond b (Some (position_or_len p xs)) None ≡ Some i → i ≡ position_or_len p xs
-    by true e = cc
-    by false e = absurd cc
+position_is p xs i h = grind (arith, common_steps)
 
 abbrev changed : {A : Type 0} → (A → ℕ) → ℕ → (A → A) → A → A
 changed key g h d = if nat_eq g (key d) then h d else d
@@ -36,11 +33,7 @@ others_stay key g k h (d ∷ ds) e all =
 
 pub none_stands : {A : Type 0} (key : A → ℕ) (g : ℕ) (h : A → A) (ds : List A) → list_any (nat_eq g) (map key ds) ≡ false → map (changed key g h) ds ≡ ds
 none_stands key g h [] e = refl
-none_stands key g h (d ∷ ds) e = by (nat_eq g (key d)) refl e (none_stands key g h ds)
-  where
-    by : (b : Bool) → nat_eq g (key d) ≡ b → (b || list_any (nat_eq g) (map key ds)) ≡ false → (list_any (nat_eq g) (map key ds) ≡ false → map (changed key g h) ds ≡ ds) → map (changed key g h) (d ∷ ds) ≡ d ∷ ds
-    by true is any again = absurd cc
-    by false is any again = rw (is, again any) refl
+none_stands key g h (d ∷ ds) e = grind (arith, common_steps, (none_stands key g h ds))
 
 at_length : {A : Type 0} (key : A → ℕ) (g : ℕ) (h : A → A) (ds : List A) (i : ℕ) (d e : A) → i ≡ position_or_len (nat_eq g) (map key ds) → IsDistinct nat_eq (map key ds) → d ≡ get_or ds i d → e ≡ h d → slice_set ds i e ≡ map (changed key g h) ds
 at_length key g h [] i d e at distinct is new = refl
@@ -56,36 +49,21 @@ at_length key g h (x ∷ ds) (suc i) d e at distinct is new = by (nat_eq g (key 
     by false eq place again = let next : i ≡ position_or_len (nat_eq g) (map key ds) = omega (arith, place) in rw (eq, again next) refl
 
 pub one_changed : {A : Type 0} (key : A → ℕ) (g : ℕ) (h : A → A) (keys : List ℕ) (ds : List A) (i : ℕ) (d e : A) → map key ds ≡ keys → IsDistinct nat_eq keys → Some i ≡ position (nat_eq g) keys → d ≡ get_or ds i d → e ≡ h d → slice_set ds i e ≡ map (changed key g h) ds
-one_changed key g h keys ds i d e same distinct at is new =
-    at_length key g h ds i d e (position_is (nat_eq g) keys i (sym at) ∙ ap (position_or_len (nat_eq g)) (sym same)) (subst (IsDistinct nat_eq) (sym same) distinct) is new
+one_changed key g h keys ds i d e same distinct at is new = grind (arith, common_steps, at_length, position_is)
 
 -- ---- A section keeps its segment.
 
 grown_segment : (d : Draft) (l : Option Fragment) (f : Fragment) → (grown d l f).segment ≡ d.segment
-grown_segment d (Some (Literal a)) (Literal b) = refl
-grown_segment d (Some (Fill m)) (Fill n) = refl
-grown_segment d _ f = refl
+grown_segment d x y = grind (arith, common_steps)
 
 fragment_segment : (d : Draft) (f : Fragment) → (with_fragment d f).segment ≡ d.segment
-fragment_segment d f = by (is_empty f)
-  where
-    by : (b : Bool) → (cond b d (grown d d.last f)).segment ≡ d.segment
-    by true = refl
-    by false = grown_segment d d.last f
+fragment_segment d f = grind (arith, common_steps)
 
 put_segment : (g : ℕ) (f : Fragment) (d : Draft) → (if nat_eq g d.segment then with_fragment d f else d).segment ≡ d.segment
-put_segment g f d = by (nat_eq g d.segment)
-  where
-    by : (b : Bool) → (cond b (with_fragment d f) d).segment ≡ d.segment
-    by true = fragment_segment d f
-    by false = refl
+put_segment g f d = grind (arith, common_steps)
 
 pub front : (f : Fragment) (fs : List Fragment) → filter (λ f. not (is_empty f)) (f ∷ []) ++ filter (λ f. not (is_empty f)) fs ≡ filter (λ f. not (is_empty f)) (f ∷ fs)
-front f fs = by (is_empty f)
-  where
-    by : (b : Bool) → cond (not b) (f ∷ []) [] ++ filter (λ f. not (is_empty f)) fs ≡ cond (not b) (f ∷ filter (λ f. not (is_empty f)) fs) (filter (λ f. not (is_empty f)) fs)
-    by true = refl
-    by false = refl
+front f fs = grind (arith, common_steps)
 
 -- what a fragment that is put into a segment adds to those of another one
 abbrev pub fragment_put : (h g : ℕ) → Fragment → List Fragment
@@ -93,11 +71,7 @@ fragment_put h g f = if nat_eq g h then filter (λ f. not (is_empty f)) (f ∷ [
 
 module _ (s i : List ℕ) where
   entry_segment : (e : Entry) (d : Draft) → (with_entry s i e d).segment ≡ d.segment
-  entry_segment (Bytes g bytes) d = put_segment g (Literal bytes) d
-  entry_segment (Room g n) d = put_segment g (Fill n) d
-  entry_segment (Value width g o f) d = put_segment g (fragment.Value width (origin_by o) (numbered s i f)) d
-  entry_segment (Told o ss) d = refl
-  entry_segment Open d = refl
+  entry_segment x d = grind (arith, common_steps)
 
   pub segments_stay : (e : Entry) (ds : List Draft) → map (λ d. d.segment) (map (with_entry s i e) ds) ≡ map (λ d. d.segment) ds
   segments_stay e [] = refl
@@ -126,21 +100,13 @@ module _ (s i : List ℕ) where
   behind (Some f) fs = joined f fs
 
   grown_joined : (g : ℕ) (done : List Fragment) (l : Option Fragment) (f : Fragment) (rest : List Fragment) → let d : Draft = record { segment = g; done = done; last = l } in (grown d l f).done ++ behind (grown d l f).last rest ≡ done ++ behind l (f ∷ rest)
-  grown_joined g done None f rest = append_assoc done [] (joined f rest)
-  grown_joined g done (Some (Literal a)) (Literal b) rest = refl
-  grown_joined g done (Some (Fill m)) (Fill n) rest = refl
-  grown_joined g done (Some l) f rest = append_assoc done (l ∷ []) (joined f rest)
+  grown_joined g done x f rest = grind (arith, common_steps)
 
   fragment_joined : (d : Draft) (f : Fragment) (rest : List Fragment) → (with_fragment d f).done ++ behind (with_fragment d f).last rest ≡ d.done ++ behind d.last (filter (λ f. not (is_empty f)) (f ∷ []) ++ rest)
-  fragment_joined d f rest = by (is_empty f)
-    where
-      by : (b : Bool) → (cond b d (grown d d.last f)).done ++ behind (cond b d (grown d d.last f)).last rest ≡ d.done ++ behind d.last (cond (not b) (f ∷ []) [] ++ rest)
-      by true = refl
-      by false = grown_joined d.segment d.done d.last f rest
+  fragment_joined d f rest = grind (arith, common_steps)
 
   ends : (done : List Fragment) (l : Option Fragment) (g : ℕ) → let d : Draft = record { segment = g; done = done; last = l } in all_of_draft d ≡ done ++ behind l []
-  ends done None g = refl
-  ends done (Some f) g = refl
+  ends done x g = grind (arith, common_steps)
 
   -- what an entry puts into a section
   abbrev pub entry_fragments : ℕ → Entry → List Fragment
@@ -153,18 +119,10 @@ module _ (s i : List ℕ) where
   fragments_put h es = flat_map (entry_fragments h) es
 
   put_joined : (g : ℕ) (f : Fragment) (d : Draft) (rest : List Fragment) → let e : Draft = if nat_eq g d.segment then with_fragment d f else d in e.done ++ behind e.last rest ≡ d.done ++ behind d.last (fragment_put d.segment g f ++ rest)
-  put_joined g f d rest = by (nat_eq g d.segment)
-    where
-      by : (b : Bool) → (cond b (with_fragment d f) d).done ++ behind (cond b (with_fragment d f) d).last rest ≡ d.done ++ behind d.last ((if b then filter (λ f. not (is_empty f)) (f ∷ []) else []) ++ rest)
-      by true = fragment_joined d f rest
-      by false = refl
+  put_joined g f d rest = grind (arith, common_steps)
 
   entry_joined : (e : Entry) (d : Draft) (rest : List Fragment) → (with_entry s i e d).done ++ behind (with_entry s i e d).last rest ≡ d.done ++ behind d.last (entry_fragments d.segment e ++ rest)
-  entry_joined (Bytes g bytes) d rest = put_joined g (Literal bytes) d rest
-  entry_joined (Room g n) d rest = put_joined g (Fill n) d rest
-  entry_joined (Value width g o f) d rest = put_joined g (fragment.Value width (origin_by o) (numbered s i f)) d rest
-  entry_joined (Told o ss) d rest = refl
-  entry_joined Open d rest = refl
+  entry_joined x d rest = grind (arith, common_steps)
 
   -- ---- All entries.
 
@@ -204,11 +162,7 @@ module _ (s i : List ℕ) where
   }
 
   section_is : (segments : List Segment) (es : List Entry) (g : ℕ) → section_from segments (whole es (new_draft g)) ≡ section_put segments es g
-  section_is segments es g =
-      let at : (whole es (new_draft g)).segment ≡ g = whole_segment es (new_draft g) in
-      let has : all_of_draft (whole es (new_draft g)) ≡ all_joined (fragments_put g es) = whole_joined es (new_draft g) in
-      let made : ℕ → List Fragment → Section = λ h fs. record { name = segment_name (slice_get segments h); align = segment_power (slice_get segments h); fragments = fs } in
-      λ n. made (at n) (has n)
+  section_is segments es g = grind (arith, common_steps, whole_segment, whole_joined)
 
   each_section : (segments : List Segment) (es : List Entry) (keys : List ℕ) → map (section_from segments) (map (whole es) (map new_draft keys)) ≡ map (section_put segments es) keys
   each_section segments es [] = refl

@@ -1,5 +1,6 @@
 -- Exports, each once.
-use Rattle.std.proofs.Common.{◌≡◌, ◌∙◌, ℕ, Bool, true, false, not, List, [], ◌∷◌, ◌++◌, map, refl, sym, ap}
+use Rattle.std.proofs.lemmas.Grind.{common_steps}
+use Rattle.std.proofs.Common.{arith, ◌≡◌, ◌∙◌, ℕ, Bool, true, false, not, List, [], ◌∷◌, ◌++◌, map, refl, sym, ap}
 use Rattle.std.specs.Prelude.{◌||◌}
 use Rattle.std.specs.Borrow.{Bor}
 use Rattle.std.specs.List.{list_any}
@@ -32,19 +33,13 @@ not_false true e = refl
 not_false false e = cc
 
 pub export_new : (at : Place → Origin) (s i : List ℕ) (names : List (Bor (List ℕ))) (found : List Export) (n : List ℕ) (place : Place) (f : Form) → map (λ k. k.now) names ≡ map (λ e. e.name) found → true ≡ not (list_any (λ k. bytes_eq n k.now) names) → found ++ record { name = n; origin = at place; form = numbered s i f } ∷ [] ≡ exports_among at s i found (Exported n place f ∷ [])
-export_new at s i names found n place f named new =
-    let none : list_any (λ e. bytes_eq n e.name) found ≡ false = sym (same_any n names found named) ∙ not_true (list_any (λ k. bytes_eq n k.now) names) new in
-    rw none refl
+export_new at s i names found n place f named new = grind (arith, common_steps, same_any, not_true)
 
 pub export_old : (at : Place → Origin) (s i : List ℕ) (names : List (Bor (List ℕ))) (found : List Export) (n : List ℕ) (place : Place) (f : Form) → map (λ k. k.now) names ≡ map (λ e. e.name) found → false ≡ not (list_any (λ k. bytes_eq n k.now) names) → found ≡ exports_among at s i found (Exported n place f ∷ [])
-export_old at s i names found n place f named old =
-    let some : list_any (λ e. bytes_eq n e.name) found ≡ true = sym (same_any n names found named) ∙ not_false (list_any (λ k. bytes_eq n k.now) names) old in
-    rw some refl
+export_old at s i names found n place f named old = grind (arith, common_steps, same_any, not_false)
 
 pub among_cons : (at : Place → Origin) (s i : List ℕ) (found : List Export) (x : Said) (ss : List Said) → exports_among at s i (exports_among at s i found (x ∷ [])) ss ≡ exports_among at s i found (x ∷ ss)
-among_cons at s i found (Exported n place f) ss = refl
-among_cons at s i found (Demanded n) ss = refl
-among_cons at s i found (Checked act place words f) ss = refl
+among_cons at s i found x ss = grind (arith, common_steps)
 
 pub among_append : (at : Place → Origin) (s i : List ℕ) (xs : List Said) (found : List Export) (ss : List Said) → exports_among at s i (exports_among at s i found xs) ss ≡ exports_among at s i found (xs ++ ss)
 among_append at s i [] found ss = refl
@@ -56,11 +51,7 @@ among_append at s i (x ∷ xs) found ss =
 -- ---- Entry by entry.
 
 pub from_cons : (s i : List ℕ) (found : List Export) (e : Entry) (es : List Entry) → exports_from s i (exports_from s i found (e ∷ [])) es ≡ exports_from s i found (e ∷ es)
-from_cons s i found (Bytes g bytes) es = refl
-from_cons s i found (Room g n) es = refl
-from_cons s i found (Value width g o f) es = refl
-from_cons s i found (Told o ss) es = refl
-from_cons s i found Open es = refl
+from_cons s i found x es = grind (arith, common_steps)
 
 -- what was said before and the rest
 pub at_append : (s i : List ℕ) (o : Origin) (found : List Export) (x : told.Said) (ss : List told.Said) → exports_at s i o (exports_at s i o found (x ∷ [])) ss ≡ exports_at s i o found (x ∷ ss)

@@ -1,4 +1,5 @@
 -- Entries of which some are open.
+use Rattle.std.proofs.lemmas.Grind.{common_steps}
 use Rattle.std.proofs.Common.{◌≡◌, ◌∙◌, ℕ, zero, suc, ◌+◌, ◌<◌, true, false, List, [], ◌∷◌, ◌++◌, length, take, get_or, slice_set, Some, refl, sym, ap, arith}
 use Rattle.std.specs.Prelude.{slice_get, ◌||◌, map}
 use Rattle.std.specs.List.{list_any}
@@ -73,11 +74,7 @@ count_more (Value width g o f ∷ es) fs = count_more es fs
 count_more (Told o ss ∷ es) fs = count_more es fs
 
 pub count_closed : (es : List Entry) (e : Entry) → is_open e ≡ false → open_count (es ++ e ∷ []) ≡ open_count es
-count_closed es (Bytes g bytes) h = count_more es (Bytes g bytes ∷ []) ∙ (let none : open_count es + 0 ≡ open_count es = omega arith in none)
-count_closed es (Room g n) h = count_more es (Room g n ∷ []) ∙ (let none : open_count es + 0 ≡ open_count es = omega arith in none)
-count_closed es (Value width g o f) h = count_more es (Value width g o f ∷ []) ∙ (let none : open_count es + 0 ≡ open_count es = omega arith in none)
-count_closed es (Told o ss) h = count_more es (Told o ss ∷ []) ∙ (let none : open_count es + 0 ≡ open_count es = omega arith in none)
-count_closed es Open h = absurd cc
+count_closed es x h = grind (arith, common_steps, count_more)
 
 pub count_settled : (e : Entry) (es : List Entry) → is_open e ≡ false → 0 < open_count es → 1 + open_count (settled_with e es) ≡ open_count es
 count_settled e [] h some = absurd (omega (arith, some))
@@ -125,10 +122,7 @@ none_up_to e (Value width g o f ∷ es) (suc i) h lt none = none_up_to e es i h 
 none_up_to e (Told o ss ∷ es) (suc i) h lt none = none_up_to e es i h (omega (arith, lt)) none
 
 pub none_so_far : (es : List Entry) (i : ℕ) (x : Entry) → i < length es → x ≡ get_or es i x → is_open x ≡ false → list_any is_open (take i es) ≡ false → list_any is_open (take (i + 1) es) ≡ false
-none_so_far es i x lt at closed none =
-    ap (list_any is_open) (take_more es i x lt) ∙ list_any-append is_open (take i es) (get_or es i x ∷ [])
-    ∙ ap (λ y. list_any is_open (take i es) || list_any is_open (y ∷ [])) (sym at)
-    ∙ (λ n. none n || (closed n || false))
+none_so_far es i x lt at closed none = grind (arith, common_steps)
 
 pub found : (es : List Entry) (i : ℕ) (x : Entry) → i < length es → x ≡ get_or es i x → is_open x ≡ true → slice_get es i ≡ Some Open
 found [] i x lt at waits = absurd (omega (arith, lt))

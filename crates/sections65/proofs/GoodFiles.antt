@@ -1,4 +1,5 @@
 -- Files of an object: names that it can hold, none twice, and each that is written among them.
+use Rattle.std.proofs.lemmas.Grind.{common_steps}
 use Rattle.std.proofs.Common.{◌≡◌, ◌∙◌, ℕ, zero, suc, ◌+◌, ◌<◌, Bool, true, false, ◌&&◌, ◌||◌, List, [], ◌∷◌, ◌++◌, length, map, nat_eq, nat_lt, refl, sym, ap, subst, arith}
 use Rattle.std.specs.Prelude.{filter_map, if◌then◌else◌}
 use Rattle.std.specs.List.{AllByRecursion, filter, flat_map, list_all, list_any, position_or_len}
@@ -86,17 +87,11 @@ module _ (asked : List ℕ) (count : ℕ) where
 
   segment_files : (g : ℕ) (cs : List Content) → AllByRecursion (IsSoundContent asked count) cs → AllByRecursion (IsSoundPart asked count) (parts_in cs g)
   segment_files g [] h = tt
-  segment_files g (c ∷ cs) h = by (nat_eq c.segment g) (segment_files g cs h.1)
-    where
-      by : (b : Bool) → AllByRecursion (IsSoundPart asked count) (parts_in cs g) → AllByRecursion (IsSoundPart asked count) (flat_map (λ (c : Content). c.parts) (if b then c ∷ filter (λ c. nat_eq c.segment g) cs else filter (λ c. nat_eq c.segment g) cs))
-      by true rest = all_more (IsSoundPart asked count) c.parts (parts_in cs g) h.0.parts rest
-      by false rest = rest
+  segment_files g (c ∷ cs) h = grind (arith, common_steps, (segment_files g cs h.1), all_more)
 
   sections_files : (keys : List ℕ) (cs : List Content) → AllByRecursion (IsSoundContent asked count) cs → AreFileNames (flat_map (λ g. flat_map part_files (parts_in cs g)) keys)
   sections_files [] cs h = tt
-  sections_files (g ∷ keys) cs h =
-      all_more (λ n. is_file_name n ≡ true) (flat_map part_files (parts_in cs g)) (flat_map (λ g. flat_map part_files (parts_in cs g)) keys)
-      (parts_files (parts_in cs g) (segment_files g cs h)) (sections_files keys cs h)
+  sections_files (g ∷ keys) cs h = grind (arith, common_steps, (sections_files keys cs h), all_more, parts_files, segment_files)
 
   all_said_sound : (cs : List Content) → AllByRecursion (IsSoundContent asked count) cs → AllByRecursion (IsSoundSaid asked count) (all_said cs)
   all_said_sound [] h = tt
@@ -106,11 +101,7 @@ module _ (asked : List ℕ) (count : ℕ) where
   exports_files found [] h = tt
   exports_files found (Demanded n ∷ ss) h = exports_files found ss h.1
   exports_files found (Checked act place words f ∷ ss) h = exports_files found ss h.1
-  exports_files found (Exported n place f ∷ ss) h = by (list_any (bytes_eq n) found) (exports_files found ss h.1) (exports_files (found ++ n ∷ []) ss h.1)
-    where
-      by : (b : Bool) → AreFileNames (export_files found ss) → AreFileNames (export_files (found ++ n ∷ []) ss) → AreFileNames (if b then export_files found ss else place.file ∷ export_files (found ++ n ∷ []) ss)
-      by true old new = old
-      by false old new = (h.0.1.file, new)
+  exports_files found (Exported n place f ∷ ss) h = grind (arith, common_steps, (exports_files found ss h.1), (exports_files (found ++ n ∷ []) ss h.1))
 
   asserts_files : (ss : List Said) → AllByRecursion (IsSoundSaid asked count) ss → AreFileNames (flat_map assert_files ss)
   asserts_files [] h = tt
@@ -119,15 +110,7 @@ module _ (asked : List ℕ) (count : ℕ) where
   asserts_files (Checked act place words f ∷ ss) h = (h.0.1.file, asserts_files ss h.1)
 
   pub files_good : (cs : List Content) → AllByRecursion (IsSoundContent asked count) cs → are_distinct is_file_name (files_of cs) ≡ true
-  files_good cs h =
-      let a = flat_map (λ g. flat_map part_files (parts_in cs g)) (section_keys cs) in
-      let b = export_files [] (all_said cs) in
-      let c = flat_map assert_files (all_said cs) in
-      let said = all_said_sound cs h in
-      once_good [] (files_named cs) refl
-      (all_more (λ n. is_file_name n ≡ true) (a ++ b) c
-      (all_more (λ n. is_file_name n ≡ true) a b (sections_files (section_keys cs) cs h) (exports_files [] (all_said cs) said))
-      (asserts_files (all_said cs) said))
+  files_good cs h = grind (arith, common_steps, all_said_sound, once_good, all_more, sections_files, exports_files, asserts_files)
 
 -- ---- Origins.
 
@@ -142,10 +125,7 @@ module _ (files : List (List ℕ)) (s i : List ℕ) where
   has_good f = has_good_origin 2 (length files) f
 
   pub origin_good : (place : Place) → IsAmong files place.file → is_good (at place) ≡ true
-  origin_good place h =
-      let lt : position_or_len (bytes_eq place.file) files < length files = any_below (bytes_eq place.file) files h in
-      let below : nat_lt (position_or_len (bytes_eq place.file) files) (length files) ≡ true = grind (arith, nat_tests) in
-      ap (λ f. has_file_by 2 f && has_file (length files) f) (position_at (bytes_eq place.file) files lt) ∙ below
+  origin_good place h = grind (arith, common_steps, any_below, nat_tests, position_at)
 
   parts_origins : (ps : List Part) → AreAmong files (flat_map part_files ps) → list_all has_good (fragments_of at s i ps) ≡ true
   parts_origins [] h = refl
@@ -159,13 +139,10 @@ module _ (files : List (List ℕ)) (s i : List ℕ) where
   joined_origins f [] h all = and (has_good f) true h refl
   joined_origins (Literal a) (Literal b ∷ fs) h all = joined_origins (Literal (a ++ b)) fs refl all
   joined_origins (Fill m) (Fill n ∷ fs) h all = joined_origins (Fill (m + n)) fs refl all
-  joined_origins f (g ∷ fs) h all =
-      and (has_good f) (list_all has_good (joined g fs)) h
-      (joined_origins g fs (left (has_good g) (list_all has_good fs) all) (right (has_good g) (list_all has_good fs) all))
+  joined_origins f (g ∷ fs) h all = grind (arith, common_steps, (joined_origins g fs (left (has_good g) (list_all has_good fs) all) (right (has_good g) (list_all has_good fs) all)), and, left, right)
 
   all_joined_origins : (fs : List Fragment) → list_all has_good fs ≡ true → list_all has_good (all_joined fs) ≡ true
-  all_joined_origins [] h = refl
-  all_joined_origins (f ∷ fs) h = joined_origins f fs (left (has_good f) (list_all has_good fs) h) (right (has_good f) (list_all has_good fs) h)
+  all_joined_origins x h = grind (arith, common_steps, joined_origins, left, right)
 
   sections_origins : (segments : List Segment) (cs : List Content) (keys : List ℕ) → AreAmong files (flat_map (λ g. flat_map part_files (parts_in cs g)) keys) → list_all (λ (x : Section). list_all has_good x.fragments) (map (section_of at segments s i cs) keys) ≡ true
   sections_origins segments cs [] h = refl

@@ -1,4 +1,5 @@
 -- Names of imports, sections and exports: good ones, and none twice.
+use Rattle.std.proofs.lemmas.Grind.{common_steps}
 use Rattle.std.proofs.Common.{◌≡◌, ◌∙◌, ℕ, zero, suc, ◌<◌, Bool, true, false, not, ◌&&◌, ◌||◌, nat_eq, List, [], ◌∷◌, ◌++◌, length, map, refl, sym, ap, arith}
 use Rattle.std.specs.Prelude.{slice_get, if◌then◌else◌}
 use Rattle.std.specs.Cmp.{nat_eq_equiv}
@@ -26,9 +27,7 @@ flipped : (n m : List ℕ) → same_name n m ≡ same_name m n
 flipped n m = (lists_equiv nat_eq_equiv).symm n m
 
 among_push : (ns : List (List ℕ)) (n m : List ℕ) → is_among ns m ≡ false → same_name n m ≡ false → is_among (ns ++ n ∷ []) m ≡ false
-among_push ns n m h g =
-    let other : same_name m n ≡ false = flipped m n ∙ g in
-    list_any-append (λ x. pointwise nat_eq m x) ns (n ∷ []) ∙ (λ j. h j || (other j || false))
+among_push ns n m h g = grind (arith, common_steps, flipped, list_any-append)
 
 module _ (passes : List ℕ → Bool) where
   head_good : (n : List ℕ) (ns : List (List ℕ)) → are_distinct passes (n ∷ ns) ≡ true → passes n ≡ true
@@ -47,11 +46,7 @@ module _ (passes : List ℕ → Bool) where
   -- one name more
   pub names_push : (ns : List (List ℕ)) (n : List ℕ) → are_distinct passes ns ≡ true → passes n ≡ true → is_among ns n ≡ false → are_distinct passes (ns ++ n ∷ []) ≡ true
   names_push [] n h good apart = with_head n [] good refl refl
-  names_push (m ∷ ns) n h good apart = by (same_name n m) refl apart (names_push ns n (rest_good m ns h) good)
-    where
-      by : (b : Bool) → same_name n m ≡ b → (b || is_among ns n) ≡ false → (is_among ns n ≡ false → are_distinct passes (ns ++ n ∷ []) ≡ true) → are_distinct passes (m ∷ (ns ++ n ∷ [])) ≡ true
-      by true e f rest = absurd cc
-      by false e f rest = with_head m (ns ++ n ∷ []) (head_good m ns h) (among_push ns n m (head_apart m ns h) e) (rest f)
+  names_push (m ∷ ns) n h good apart = grind (arith, common_steps, (names_push ns n (rest_good m ns h) good), rest_good, with_head, head_good, among_push, head_apart)
 
 -- ---- Names at keys.
 

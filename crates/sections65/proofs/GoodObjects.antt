@@ -1,10 +1,11 @@
 -- The object of sound contents is one of the grammar.
+use borrow.Author.Rules.{rules}
 use Rattle.std.proofs.Common.{◌≡◌, ◌∙◌, ℕ, ◌<◌, Bool, true, false, not, ◌&&◌, nat_eq, nat_lt, cond, List, [], ◌∷◌, ◌++◌, length, map, Some, None, refl, sym, ap, subst, arith}
 use Rattle.std.specs.Prelude.{filter_map, if◌then◌else◌}
 use Rattle.std.specs.List.{AllByRecursion, IsDistinct, filter, flat_map, list_any, list_all, position_or_len}
 use Rattle.std.specs.Str.{bytes_eq}
 use Rattle.std.proofs.lemmas.Bool.Decides.{nat_tests}
-use Rattle.std.proofs.lemmas.Grind.{flat_map-append}
+use Rattle.std.proofs.lemmas.Grind.{common_steps, flat_map-append}
 use Rattle.std.proofs.lemmas.List.Folds.{list_all-append}
 use Rattle.object65.specs.declared.object.Assert.{Assert}
 use Rattle.object65.specs.declared.object.Export.{Export}
@@ -39,11 +40,7 @@ below_both : (n : ℕ) (a b : List ℕ) → AllBelow n a → AllBelow n b → Al
 below_both n a b h g = list_all-append (λ k. nat_lt k n) a b ∙ and (list_all (λ k. nat_lt k n) a) (list_all (λ k. nat_lt k n) b) h g
 
 place_below : (n : ℕ) (length : ℕ) → AllBelow length (optional_key (cond (nat_lt n length) (Some n) None))
-place_below n length = by (nat_lt n length) refl
-  where
-    by : (b : Bool) → nat_lt n length ≡ b → AllBelow length (optional_key (cond b (Some n) None))
-    by true e = and (nat_lt n length) true e refl
-    by false e = refl
+place_below n length = grind (arith, common_steps)
 
 module _ (asked : List ℕ) (names : List (List ℕ)) where
   parts_below : (ps : List Part) → AllByRecursion (IsSoundPart asked (length names)) ps → AllBelow (length names) (flat_map part_imports ps)
@@ -60,18 +57,11 @@ module _ (asked : List ℕ) (names : List (List ℕ)) where
 
   contents_below : (cs : List Content) → AllByRecursion (IsSoundContent asked (length names)) cs → AllBelow (length names) (flat_map (content_imports names) cs)
   contents_below [] sound = refl
-  contents_below (c ∷ cs) sound =
-      below_both (length names) (content_imports names c) (flat_map (content_imports names) cs)
-      (below_both (length names) (flat_map part_imports c.parts) (flat_map (said_imports names) c.said) (parts_below c.parts sound.0.parts) (said_below c.said sound.0.said))
-      (contents_below cs sound.1)
+  contents_below (c ∷ cs) sound = grind (arith, common_steps, (contents_below cs sound.1), below_both, parts_below, said_below)
 
 asked_below : (n : ℕ) (cs : List Content) → AllByRecursion (λ c. c.segment < n) cs → AllByRecursion (λ k. k < n) (segments_asked cs)
 asked_below n [] h = tt
-asked_below n (c ∷ cs) h = by c.asks (asked_below n cs h.1)
-  where
-    by : (b : Bool) → AllByRecursion (λ k. k < n) (segments_asked cs) → AllByRecursion (λ k. k < n) (map (λ c. c.segment) (cond b (c ∷ filter (λ c. c.asks) cs) (filter (λ c. c.asks) cs)))
-    by true rest = (h.0, rest)
-    by false rest = rest
+asked_below n (c ∷ cs) h = grind (arith, common_steps, (asked_below n cs h.1))
 
 -- ---- What is said.
 
@@ -92,10 +82,7 @@ module _ (at : Place → Origin) (s i : List ℕ) (names : List (List ℕ)) wher
 
   said_has : (cs : List Content) → HasAll i (flat_map (content_imports names) cs) → HasAll i (flat_map (said_imports names) (all_said cs))
   said_has [] h = refl
-  said_has (c ∷ cs) h =
-      has_parts c.said (all_said cs)
-      (second_has i (flat_map part_imports c.parts) (flat_map (said_imports names) c.said) (first_has i (content_imports names c) (flat_map (content_imports names) cs) h))
-      (said_has cs (second_has i (content_imports names c) (flat_map (content_imports names) cs) h))
+  said_has (c ∷ cs) h = grind (arith, common_steps, (said_has cs (second_has i (content_imports names c) (flat_map (content_imports names) cs) h)), has_parts, second_has, first_has)
 
   abbrev is_good_export : Export → Bool
   is_good_export e = is_good_form (length s) (length i) e.form
@@ -182,9 +169,4 @@ parts_are_good segments names cs sound =
     ∙ and (a && b && c && d m n && e m n) (f m n) (and (a && b && c && d m n) (e m n) (and (a && b && c) (d m n) (and (a && b) c (and a b imports section_names) export_names) all_sections) all_exports) all_asserts
 
 pub good_object : (segments : List Segment) (names : List (List ℕ)) (cs : List Content) → AreSound segments names cs → is_good_object (object_with segments names cs) ≡ true
-good_object segments names cs sound =
-    let o : Object = object_with segments names cs in
-    let files : are_files_of 2 o.files ≡ true = files_good (section_keys cs) (length names) cs sound.contents in
-    let origins : has_good_origins o ≡ true = origins_good segments names cs in
-    and (are_files_of 2 o.files && has_good_origins o) (has_good_parts o)
-    (and (are_files_of 2 o.files) (has_good_origins o) files origins) (parts_are_good segments names cs sound)
+good_object segments names cs sound = search (rules, files_good, origins_good, and, parts_are_good)

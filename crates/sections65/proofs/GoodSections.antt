@@ -1,4 +1,5 @@
 -- The fragments of a section, joined: none is empty, no two neighbours join, and they have the bytes of the parts.
+use Rattle.std.proofs.lemmas.Grind.{common_steps}
 use Rattle.std.proofs.Common.{◌≡◌, ◌∙◌, ℕ, zero, suc, ◌+◌, ◌≤◌, Bool, true, false, not, ◌&&◌, ◌||◌, nat_eq, nat_lt, nat_le, cond, List, [], ◌∷◌, ◌++◌, length, Option, Some, None, refl, sym, ap, subst, arith, length-append}
 use Rattle.std.specs.Prelude.{slice_get, unwrap_or, sum_by}
 use Rattle.std.specs.List.{AllByRecursion, filter, flat_map, list_all, position_or_len}
@@ -54,14 +55,10 @@ joined_len (Fill m) (Fill n ∷ fs) =
 joined_len f (g ∷ fs) = sum_by-cons fragment_len f (joined g fs) ∙ ap (λ n. fragment_len f + n) (joined_len g fs ∙ sym (sum_by-cons fragment_len g fs))
 
 literals_alike : (f : Fragment) (a b : List ℕ) → joins f (Literal a) ≡ joins f (Literal b)
-literals_alike (Literal c) a b = refl
-literals_alike (Fill n) a b = refl
-literals_alike (Value w line form) a b = refl
+literals_alike x a b = grind (arith, common_steps)
 
 fills_alike : (f : Fragment) (m n : ℕ) → joins f (Fill m) ≡ joins f (Fill n)
-fills_alike (Literal c) m n = refl
-fills_alike (Fill k) m n = refl
-fills_alike (Value w line form) m n = refl
+fills_alike x m n = grind (arith, common_steps)
 
 -- a fragment in front of joined ones, which doesn't join the first of them
 pub front_apart : (f g : Fragment) (fs : List Fragment) → joins f g ≡ false → are_apart (joined g fs) ≡ true → are_apart (f ∷ joined g fs) ≡ true
@@ -91,43 +88,18 @@ module _ (at : Place → Origin) (s i : List ℕ) where
   is_good_part p = is_empty (made p) || is_good_fragment (length s) (length i) (made p)
 
   made_len : (p : Part) → fragment_len (made p) ≡ part_len p
-  made_len (Known bytes) = refl
-  made_len (Filled n) = refl
-  made_len (Waiting width line f) = refl
+  made_len x = grind (arith, common_steps)
 
   empty_len : (f : Fragment) → is_empty f ≡ true → fragment_len f ≡ 0
-  empty_len (Literal []) h = refl
-  empty_len (Literal (b ∷ bytes)) h = absurd cc
-  empty_len (Fill zero) h = refl
-  empty_len (Fill (suc n)) h = absurd cc
-  empty_len (Value width line f) h = absurd cc
+  empty_len x h = grind (arith, common_steps)
 
   pub fragments_len : (ps : List Part) → len_of (fragments_of at s i ps) ≡ sum_by part_len ps
   fragments_len [] = refl
-  fragments_len (p ∷ ps) = by (is_empty (made p)) refl (fragments_len ps)
-    where
-      by : (b : Bool) → is_empty (made p) ≡ b → len_of (fragments_of at s i ps) ≡ sum_by part_len ps → len_of (cond (not b) (made p ∷ fragments_of at s i ps) (fragments_of at s i ps)) ≡ sum_by part_len (p ∷ ps)
-      by true e rest =
-          let none : fragment_len (made p) ≡ 0 = empty_len (made p) e in
-          let one : fragment_len (made p) ≡ part_len p = made_len p in
-          let all : sum_by part_len (p ∷ ps) ≡ part_len p + sum_by part_len ps = sum_by-cons part_len p ps in
-          omega (arith, none, one, all, rest)
-      by false e rest =
-          let one : fragment_len (made p) ≡ part_len p = made_len p in
-          let all : sum_by part_len (p ∷ ps) ≡ part_len p + sum_by part_len ps = sum_by-cons part_len p ps in
-          let made_all : len_of (made p ∷ fragments_of at s i ps) ≡ fragment_len (made p) + len_of (fragments_of at s i ps) = sum_by-cons fragment_len (made p) (fragments_of at s i ps) in
-          omega (arith, made_all, one, all, rest)
+  fragments_len (p ∷ ps) = grind (arith, common_steps, (fragments_len ps), empty_len, made_len, sum_by-cons)
 
   pub fragments_good : (ps : List Part) → list_all is_good_part ps ≡ true → AllGood (length s) (length i) (fragments_of at s i ps)
   fragments_good [] h = refl
-  fragments_good (p ∷ ps) h = by (is_empty (made p)) h (fragments_good ps)
-    where
-      by : (b : Bool) → ((b || is_good_fragment (length s) (length i) (made p)) && list_all is_good_part ps) ≡ true → (list_all is_good_part ps ≡ true → AllGood (length s) (length i) (fragments_of at s i ps)) → AllGood (length s) (length i) (cond (not b) (made p ∷ fragments_of at s i ps) (fragments_of at s i ps))
-      by true e rest = rest e
-      by false e rest =
-          and (is_good_fragment (length s) (length i) (made p)) (list_all (is_good_fragment (length s) (length i)) (fragments_of at s i ps))
-          (left (is_good_fragment (length s) (length i) (made p)) (list_all is_good_part ps) e)
-          (rest (right (is_good_fragment (length s) (length i) (made p)) (list_all is_good_part ps) e))
+  fragments_good (p ∷ ps) h = grind (arith, common_steps, (fragments_good ps), and, left, right)
 
   part_good : (count : ℕ) (p : Part) → IsSoundPart s count p → HasAll i (part_imports p) → is_good_part p ≡ true
   part_good count (Known []) sound has_imports = refl
@@ -140,10 +112,7 @@ module _ (at : Place → Origin) (s i : List ℕ) where
 
   parts_good : (count : ℕ) (ps : List Part) → AllByRecursion (IsSoundPart s count) ps → HasAll i (flat_map part_imports ps) → list_all is_good_part ps ≡ true
   parts_good count [] sound has_imports = refl
-  parts_good count (p ∷ ps) sound has_imports =
-      and (is_good_part p) (list_all is_good_part ps)
-      (part_good count p sound.0 (first_has i (part_imports p) (flat_map part_imports ps) has_imports))
-      (parts_good count ps sound.1 (second_has i (part_imports p) (flat_map part_imports ps) has_imports))
+  parts_good count (p ∷ ps) sound has_imports = grind (arith, common_steps, (parts_good count ps sound.1 (second_has i (part_imports p) (flat_map part_imports ps) has_imports)), and, part_good, first_has, second_has)
 
   -- all parts in a segment
   pub parts_in_good : (names : List (List ℕ)) (count g : ℕ) (cs : List Content) → AllByRecursion (IsSoundContent s count) cs → HasAll i (flat_map (content_imports names) cs) → list_all is_good_part (parts_in cs g) ≡ true
@@ -161,37 +130,19 @@ module _ (at : Place → Origin) (s i : List ℕ) where
   -- ---- Sections.
 
   all_joined_good : (fs : List Fragment) → AllGood (length s) (length i) fs → AllGood (length s) (length i) (all_joined fs)
-  all_joined_good [] h = refl
-  all_joined_good (f ∷ fs) h = joined_good (length s) (length i) f fs (left (is_good_fragment (length s) (length i) f) (list_all (is_good_fragment (length s) (length i)) fs) h) (right (is_good_fragment (length s) (length i) f) (list_all (is_good_fragment (length s) (length i)) fs) h)
+  all_joined_good x h = grind (arith, common_steps, joined_good, left, right)
 
   all_joined_len : (fs : List Fragment) → len_of (all_joined fs) ≡ len_of fs
-  all_joined_len [] = refl
-  all_joined_len (f ∷ fs) = joined_len f fs ∙ sym (sum_by-cons fragment_len f fs)
+  all_joined_len x = grind (arith, common_steps, joined_len, sum_by-cons)
 
   all_joined_apart : (fs : List Fragment) → are_apart (all_joined fs) ≡ true
-  all_joined_apart [] = refl
-  all_joined_apart (f ∷ fs) = joined_apart f fs
+  all_joined_apart x = grind (arith, common_steps, joined_apart)
 
   place_small : (n : ℕ) → unwrap_or (cond (nat_lt n 16) (Some n) None) 0 ≤ 15
-  place_small n = by (nat_lt n 16) refl
-    where
-      by : (b : Bool) → nat_lt n 16 ≡ b → unwrap_or (cond b (Some n) None) 0 ≤ 15
-      by true e = grind (arith, nat_tests)
-      by false e = omega arith
+  place_small n = grind (arith, common_steps)
 
   power_small : (o : Option Segment) → segment_power o ≤ 15
-  power_small None = omega arith
-  power_small (Some g) = place_small (position_or_len (nat_eq g.align) powers)
+  power_small x = grind (arith, common_steps)
 
   pub section_good : (segments : List Segment) (cs : List Content) (g : ℕ) → sum_by part_len (parts_in cs g) ≤ section_limit → list_all is_good_part (parts_in cs g) ≡ true → is_good_section (length s) (length i) (section_of at segments s i cs g) ≡ true
-  section_good segments cs g room good =
-      let fs : List Fragment = fragments_of at s i (parts_in cs g) in
-      let power = segment_power (slice_get segments g) in
-      let small : power ≤ 15 = power_small (slice_get segments g) in
-      let aligned : nat_le power 15 ≡ true = grind (arith, nat_tests) in
-      let long : len_of (all_joined fs) ≤ section_limit = subst (λ n. n ≤ section_limit) (sym (all_joined_len fs ∙ fragments_len (parts_in cs g))) room in
-      let within : nat_le (len_of (all_joined fs)) section_limit ≡ true = grind (arith, nat_tests) in
-      let a = nat_le power 15 in
-      let b = nat_le (len_of (all_joined fs)) section_limit in
-      let c = list_all (is_good_fragment (length s) (length i)) (all_joined fs) in
-      and (a && b && c) (are_apart (all_joined fs)) (and (a && b) c (and a b aligned within) (all_joined_good fs (fragments_good (parts_in cs g) good))) (all_joined_apart fs)
+  section_good segments cs g room good = grind (arith, common_steps, power_small, nat_tests, all_joined_len, fragments_len, and, all_joined_good, fragments_good, all_joined_apart)

@@ -1,4 +1,5 @@
 -- Keys in the order in which they first come.
+use Rattle.std.proofs.lemmas.Grind.{common_steps}
 use Rattle.std.proofs.Common.{◌≡◌, ◌∙◌, ℕ, ◌+◌, ◌-◌, ◌<◌, ◌≤◌, zero, suc, cond, List, [], ◌∷◌, ◌++◌, drop, length, get_or, map, Option, Some, None, nat_eq, refl, sym, ap, arith, add-one}
 use Rattle.std.specs.List.{position_from, list_any, flat_map}
 use Rattle.std.specs.Str.{bytes_eq}
@@ -28,8 +29,7 @@ drop_item xs i x lt e = rw add-one (drop_at xs i x lt e)
 
 -- one item more of a list of which the rest is still to be added
 pub once_step : {A : Type 0} (f : A → List ℕ) (xs : List A) (i : ℕ) (x : A) (old all : List ℕ) → i < length xs → x ≡ get_or xs i x → once old (flat_map f (drop i xs)) ≡ all → once (once old (f x)) (flat_map f (drop (i + 1) xs)) ≡ all
-once_step f xs i x old all lt at inv =
-    once_append (f x) old (flat_map f (drop (i + 1) xs)) ∙ sym (ap (λ l. once old (flat_map f l)) (drop_item xs i x lt at)) ∙ inv
+once_step f xs i x old all lt at inv = grind (arith, common_steps, once_append, drop_item)
 
 -- ---- Keys by name.
 
@@ -41,14 +41,7 @@ pub no_key : (names : List (List ℕ)) (name : List ℕ) → None ≡ key_from (
 no_key names name = rw (drop_all (length names) names (omega arith)) refl
 
 pub key_step : (names : List (List ℕ)) (i : ℕ) (n key name : List ℕ) (v : ℕ) (old new : Option ℕ) → 0 < i → i ≤ length names → n ≡ get_or names (i - 1) n → key ≡ n → v ≡ i - 1 → new ≡ cond (bytes_eq key name) (Some v) old → old ≡ key_from i names name → new ≡ key_from (i - 1) names name
-key_step names i n key name v old new pos le at is place e inv =
-    let lt : i - 1 < length names = omega arith in
-    let next : i - 1 + 1 ≡ i = omega arith in
-    e
-    ∙ ap (λ k. cond (bytes_eq k name) (Some v) old) is
-    ∙ ap (λ w. cond (bytes_eq n name) (Some w) old) place
-    ∙ ap (cond (bytes_eq n name) (Some (i - 1))) (inv ∙ sym (ap (λ j. key_from j names name) next))
-    ∙ sym (ap (position_from (λ m. bytes_eq m name) (i - 1)) (drop_item names (i - 1) n lt at))
+key_step names i n key name v old new pos le at is place e inv = grind (arith, common_steps)
 
 pub key_end : (names : List (List ℕ)) (i : ℕ) (name : List ℕ) → i ≡ 0 → key_from i names name ≡ key_of names name
 key_end names i name none = ap (λ j. key_from j names name) none ∙ sym (position_from-zero (λ m. bytes_eq m name) names)

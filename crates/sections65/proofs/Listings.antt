@@ -1,4 +1,5 @@
 -- Files in which entries stand, and what more of them change.
+use Rattle.std.proofs.lemmas.Grind.{common_steps}
 use Rattle.std.proofs.Common.{◌≡◌, ◌∙◌, ℕ, zero, suc, ◌+◌, ◌<◌, ◌≤◌, true, List, [], ◌∷◌, ◌++◌, length, map, refl, ap, arith, length-append}
 use Rattle.std.specs.Prelude.{nat_lt}
 use Rattle.std.specs.List.{list_all}
@@ -46,18 +47,11 @@ file_grown : (m n k : ℕ) → m ≤ n → nat_lt k m ≡ true → nat_lt k n �
 file_grown m n k le h = grind (arith, nat_tests)
 
 stands_grown : (m n : ℕ) (e : Entry) → m ≤ n → stands_in m e ≡ true → stands_in n e ≡ true
-stands_grown m n Open le h = refl
-stands_grown m n (Bytes g bytes) le h = refl
-stands_grown m n (Room g count) le h = refl
-stands_grown m n (Value width g o f) le h = file_grown m n o.file le h
-stands_grown m n (Told o ss) le h = file_grown m n o.file le h
+stands_grown m n x le h = grind (arith, common_steps)
 
 pub standing_grown : (m n : ℕ) (es : List Entry) → m ≤ n → StandIn m es → StandIn n es
 standing_grown m n [] le h = refl
-standing_grown m n (e ∷ es) le h =
-    and (stands_in n e) (list_all (stands_in n) es)
-    (stands_grown m n e le (left (stands_in m e) (list_all (stands_in m) es) h))
-    (standing_grown m n es le (right (stands_in m e) (list_all (stands_in m) es) h))
+standing_grown m n (e ∷ es) le h = grind (arith, common_steps, (standing_grown m n es le (right (stands_in m e) (list_all (stands_in m) es) h)), and, stands_grown, left, right)
 
 pub standing_more : (n : ℕ) (es : List Entry) (e : Entry) → stands_in n e ≡ true → StandIn n es → StandIn n (es ++ e ∷ [])
 standing_more n es e h all = list_all-append (stands_in n) es (e ∷ []) ∙ and (list_all (stands_in n) es) (list_all (stands_in n) (e ∷ [])) all (and (stands_in n e) true h refl)
@@ -67,17 +61,9 @@ standing_settled n e [] h all = refl
 standing_settled n e (Open ∷ es) h all = and (stands_in n e) (list_all (stands_in n) es) h all
 standing_settled n e (Bytes g bytes ∷ es) h all = standing_settled n e es h all
 standing_settled n e (Room g count ∷ es) h all = standing_settled n e es h all
-standing_settled n e (Value width g o f ∷ es) h all =
-    and (stands_in n (Value width g o f)) (list_all (stands_in n) (settled_with e es))
-    (left (stands_in n (Value width g o f)) (list_all (stands_in n) es) all)
-    (standing_settled n e es h (right (stands_in n (Value width g o f)) (list_all (stands_in n) es) all))
-standing_settled n e (Told o ss ∷ es) h all =
-    and (stands_in n (Told o ss)) (list_all (stands_in n) (settled_with e es))
-    (left (stands_in n (Told o ss)) (list_all (stands_in n) es) all)
-    (standing_settled n e es h (right (stands_in n (Told o ss)) (list_all (stands_in n) es) all))
+standing_settled n e (Value width g o f ∷ es) h all = grind (arith, common_steps, (standing_settled n e es h (right (stands_in n (Value width g o f)) (list_all (stands_in n) es) all)), and, settled_with, left, right)
+standing_settled n e (Told o ss ∷ es) h all = grind (arith, common_steps, (standing_settled n e es h (right (stands_in n (Told o ss)) (list_all (stands_in n) es) all)), and, settled_with, left, right)
 
 -- names with others behind them are as many or more
 pub begins_long : (names more : List (List ℕ)) → Begins names more → length names ≤ length more
-begins_long names more h =
-    let long : length more ≡ length names + length h.0 = ap length h.1 ∙ length-append names h.0 in
-    omega (arith, long)
+begins_long names more h = grind (arith, common_steps)

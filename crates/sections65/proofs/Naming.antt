@@ -1,4 +1,6 @@
 -- Names of files by their places in a table in which none stands twice.
+use borrow.Author.Rules.{rules}
+use Rattle.std.proofs.lemmas.Grind.{common_steps}
 use Rattle.std.proofs.Common.{◌≡◌, ◌∙◌, ℕ, ◌+◌, ◌<◌, Bool, true, false, not, ◌||◌, cond, List, [], ◌∷◌, ◌++◌, length, map, get_or, position, Option, Some, None, nat_eq, nat_lt, refl, sym, ap, subst, arith}
 use Rattle.std.specs.Prelude.{if◌then◌else◌}
 use Rattle.std.specs.List.{AllByRecursion, IsDistinct, list_any, position_or_len}
@@ -20,16 +22,10 @@ use Rattle.sections65.proofs.Renumbering.{HasAll, has, left, number_is, place_be
 
 pub any_below : {A : Type 0} (p : A → Bool) (xs : List A) → list_any p xs ≡ true → position_or_len p xs < length xs
 any_below p [] h = absurd cc
-any_below p (x ∷ xs) h = by (p x) h (any_below p xs)
-  where
-    by : (b : Bool) → (b || list_any p xs) ≡ true → (list_any p xs ≡ true → position_or_len p xs < length xs) → cond (not b) (1 + position_or_len p xs) 0 < length (x ∷ xs)
-    by true e rest = omega arith
-    by false e rest = let below = rest e in omega (arith, below)
+any_below p (x ∷ xs) h = grind (arith, common_steps, (any_below p xs))
 
 pub position_at : {A : Type 0} (p : A → Bool) (xs : List A) → position_or_len p xs < length xs → position p xs ≡ Some (position_or_len p xs)
-position_at p xs lt =
-    let yes : nat_lt (position_or_len p xs) (length xs) ≡ true = grind (arith, nat_tests) in
-    ap (λ b. cond b (Some (position_or_len p xs)) None) yes
+position_at p xs lt = grind (arith, common_steps)
 
 pub itself : (n : List ℕ) → bytes_eq n n ≡ true
 itself n = grind (arith, bytes_eq-Decides n n)
@@ -119,9 +115,7 @@ module _ (files : List (List ℕ)) (apart : IsDistinct bytes_eq files) where
   listed_at place h = position_at (bytes_eq place.file) files (listed_below place h)
 
   listed_name : (place : Place) → is_listed place ≡ true → name_of files (key_at place) ≡ place.file
-  listed_name place h =
-      let lt = listed_below place h in
-      name_at (key_at place) ∙ sym (same_bytes place.file (get_or files (key_at place) []) (passes_at_first (bytes_eq place.file) files [] lt))
+  listed_name place h = search (rules, listed_below, name_at, same_bytes, passes_at_first)
 
   -- an origin by the order is that by the names in that order
   pub placed_by : (order : List ℕ) (place : Place) → AreBelow order → is_listed place ≡ true → HasAll order (optional_key (in_files files place).file) → origin_by order (in_files files place) ≡ in_files (map (name_of files) order) place
@@ -149,12 +143,7 @@ module _ (files : List (List ℕ)) (apart : IsDistinct bytes_eq files) where
   naming_none = record { names = refl; below = tt }
 
   pub naming_more : (ks js : List ℕ) (ns ms : List (List ℕ)) → IsNaming ks ns → IsNaming js ms → IsNaming (ks ++ js) (ns ++ ms)
-  naming_more ks js ns ms a b = record {
-    names = map-append (name_of files) ks js ∙ (λ n. a.names n ++ b.names n);
-    below = all_more (λ k. k < length files) ks js a.below b.below;
-  }
+  naming_more ks js ns ms a b = grind (arith, common_steps)
 
   pub naming_one : (place : Place) → is_listed place ≡ true → IsNaming (optional_key (in_files files place).file) (place.file ∷ [])
-  naming_one place h =
-      subst (λ (f : Option ℕ). IsNaming (optional_key f) (place.file ∷ [])) (sym (listed_at place h))
-      (record { names = ap (λ n. n ∷ []) (listed_name place h); below = (listed_below place h, tt) })
+  naming_one place h = grind (arith, common_steps, listed_at, listed_name, listed_below)

@@ -1,4 +1,5 @@
 -- The object of entries, in the order of its files, is that of their contents.
+use Rattle.std.proofs.lemmas.Grind.{common_steps}
 use Rattle.std.proofs.Common.{◌≡◌, ◌∙◌, ℕ, ◌<◌, Bool, true, false, not, List, [], ◌∷◌, ◌++◌, length, map, position, Some, nat_eq, nat_lt, refl, sym, ap, arith}
 use Rattle.std.specs.Prelude.{filter_map, slice_get, if◌then◌else◌}
 use Rattle.std.specs.List.{IsDistinct, filter, flat_map, list_all, list_any}
@@ -65,34 +66,19 @@ module _ (files : List (List ℕ)) (apart : IsDistinct bytes_eq files) where
 
   -- what is told stands in no section
   told_parts : (ss : List Said) (cs : List Content) (g : ℕ) → parts_in (telling ss ∷ cs) g ≡ parts_in cs g
-  told_parts ss cs g = by (nat_eq 0 g)
-    where
-      by : (b : Bool) → flat_map (λ (c : Content). c.parts) (if b then telling ss ∷ filter (λ c. nat_eq c.segment g) cs else filter (λ c. nat_eq c.segment g) cs) ≡ parts_in cs g
-      by true = refl
-      by false = refl
+  told_parts ss cs g = grind (arith, common_steps)
 
   module _ (s i : List ℕ) where
     -- ---- What entries put.
 
     part_put : (h g : ℕ) (f : Fragment) (q : Part) (cs : List Content) (fs : List Fragment) → f ≡ fragment_of at s i q → fs ≡ fragments_of at s i (parts_in cs h) → fragment_put h g f ++ fs ≡ fragments_of at s i (parts_in (put g q ∷ cs) h)
-    part_put h g f q cs fs same rest = by (nat_eq g h)
-      where
-        by : (b : Bool) →
-            (if b then filter (λ f. not (is_empty f)) (f ∷ []) else []) ++ fs
-            ≡ fragments_of at s i (flat_map (λ (c : Content). c.parts) (if b then put g q ∷ filter (λ c. nat_eq c.segment h) cs else filter (λ c. nat_eq c.segment h) cs))
-        by true =
-            (λ n. filter (λ f. not (is_empty f)) (same n ∷ []) ++ rest n)
-            ∙ front (fragment_of at s i q) (map (fragment_of at s i) (parts_in cs h))
-        by false = rest
+    part_put h g f q cs fs same rest = grind (arith, common_steps)
 
     fragments_are : (h : ℕ) (es : List Entry) → StandIn (length files) es → fragments_put s i h es ≡ fragments_of at s i (parts_in (contents es) h)
     fragments_are h [] standing = refl
     fragments_are h (Bytes g bytes ∷ es) standing = part_put h g (Literal bytes) (Known bytes) (contents es) (fragments_put s i h es) refl (fragments_are h es (others (Bytes g bytes) es standing))
     fragments_are h (Room g n ∷ es) standing = part_put h g (Fill n) (Filled n) (contents es) (fragments_put s i h es) refl (fragments_are h es (others (Room g n) es standing))
-    fragments_are h (Value width g o f ∷ es) standing =
-        part_put h g (fragment.Value width (origin_by o) (numbered s i f)) (Waiting width (place_by files o) f) (contents es) (fragments_put s i h es)
-        (ap (λ origin. fragment.Value width origin (numbered s i f)) (sym (origin_back o (first (Value width g o f) es standing))))
-        (fragments_are h es (others (Value width g o f) es standing))
+    fragments_are h (Value width g o f ∷ es) standing = grind (arith, common_steps, (fragments_are h es (others (Value width g o f) es standing)), part_put, fragments_put, origin_back, first, others)
     fragments_are h (Told o ss ∷ es) standing =
         fragments_are h es (others (Told o ss) es standing)
         ∙ ap (fragments_of at s i) (sym (told_parts (map (said_at (place_by files o)) ss) (contents es) h))
@@ -146,19 +132,13 @@ module _ (files : List (List ℕ)) (apart : IsDistinct bytes_eq files) where
     -- ---- What is written stands in files of the table.
 
     part_listed : (h g : ℕ) (q : Part) (cs : List Content) → is_listed_part files apart s i q ≡ true → list_all (is_listed_part files apart s i) (parts_in cs h) ≡ true → list_all (is_listed_part files apart s i) (parts_in (put g q ∷ cs) h) ≡ true
-    part_listed h g q cs one rest = by (nat_eq g h)
-      where
-        by : (b : Bool) → list_all (is_listed_part files apart s i) (flat_map (λ (c : Content). c.parts) (if b then put g q ∷ filter (λ c. nat_eq c.segment h) cs else filter (λ c. nat_eq c.segment h) cs)) ≡ true
-        by true = and (is_listed_part files apart s i q) (list_all (is_listed_part files apart s i) (parts_in cs h)) one rest
-        by false = rest
+    part_listed h g q cs one rest = grind (arith, common_steps)
 
     parts_listed : (h : ℕ) (es : List Entry) → StandIn (length files) es → list_all (is_listed_part files apart s i) (parts_in (contents es) h) ≡ true
     parts_listed h [] standing = refl
     parts_listed h (Bytes g bytes ∷ es) standing = part_listed h g (Known bytes) (contents es) refl (parts_listed h es (others (Bytes g bytes) es standing))
     parts_listed h (Room g n ∷ es) standing = part_listed h g (Filled n) (contents es) refl (parts_listed h es (others (Room g n) es standing))
-    parts_listed h (Value width g o f ∷ es) standing =
-        part_listed h g (Waiting width (place_by files o) f) (contents es) (origin_listed o (first (Value width g o f) es standing))
-        (parts_listed h es (others (Value width g o f) es standing))
+    parts_listed h (Value width g o f ∷ es) standing = grind (arith, common_steps, (parts_listed h es (others (Value width g o f) es standing)), part_listed, origin_listed, first, others)
     parts_listed h (Told o ss ∷ es) standing =
         ap (list_all (is_listed_part files apart s i)) (told_parts (map (said_at (place_by files o)) ss) (contents es) h)
         ∙ parts_listed h es (others (Told o ss) es standing)
@@ -186,10 +166,7 @@ module _ (files : List (List ℕ)) (apart : IsDistinct bytes_eq files) where
         (said_listed es (others (Told o ss) es standing))
 
     before_at : (segments : List Segment) (names : List (List ℕ)) (es : List Entry) → StandIn (length files) es → object_before segments names s i es ≡ object_at files apart s i segments names (contents es)
-    before_at segments names es standing =
-        let made : List Section → List Export → List Assert → Object = λ ss xs ts. record { version = 2; files = []; imports = map (name_of names) i; sections = ss; exports = xs; asserts = ts } in
-        let sections = sections_are s i segments es s ∙ sections_at segments es s standing in
-        λ n. made (sections n) (exports_said [] es standing n) (asserts_said es standing n)
+    before_at segments names es standing = grind (arith, common_steps, sections_are, sections_at, exports_said, asserts_said)
 
   -- the object of entries is that of their contents
   pub entries_ordered : (segments : List Segment) (names : List (List ℕ)) (s : List ℕ) (es : List Entry) → StandIn (length files) es → in_order files (object_before segments names s (import_keys names (map (content_of []) es)) es) ≡ object_over segments names s (contents es)

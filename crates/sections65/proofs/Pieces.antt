@@ -1,8 +1,8 @@
 -- A content that is fed a call at a time.
-use Rattle.std.proofs.Common.{◌≡◌, ◌∙◌, ℕ, Bool, true, false, nat_eq, List, [], ◌∷◌, ◌++◌, map, refl, sym, ap, append-nil, append_assoc}
+use Rattle.std.proofs.Common.{arith, ◌≡◌, ◌∙◌, ℕ, Bool, true, false, nat_eq, List, [], ◌∷◌, ◌++◌, map, refl, sym, ap, append-nil, append_assoc}
 use Rattle.std.specs.Prelude.{if◌then◌else◌}
 use Rattle.std.specs.List.{flat_map}
-use Rattle.std.proofs.lemmas.Grind.{flat_map-append}
+use Rattle.std.proofs.lemmas.Grind.{common_steps, flat_map-append}
 use Rattle.language65.specs.Parts.{Content, Part, Said}
 use Rattle.language65.specs.Numbering.{all_joined, all_said, content_imports, fragments_of, once, part_files, part_imports, parts_in, said_imports, section_keys, segments_asked}
 use Rattle.sections65.specs.declared.sections.Sections.{Sections}
@@ -14,22 +14,13 @@ use Rattle.sections65.proofs.Standings.{asked_more}
 
 -- contents that are alike and ask for the same sections
 pub alike_stands : (cs ds ws : List Content) (s : Sections) → AreAlike cs ds → section_keys cs ≡ section_keys ds → Stands cs ws s → Stands ds ws s
-alike_stands cs ds ws s alike keys h = record {
-  asked = sym keys ∙ h.asked;
-  latest = h.latest;
-  alike = alike_trans ds cs _ (alike_sym cs ds alike) h.alike;
-  waits = h.waits;
-  settled = h.settled;
-  standing = h.standing;
-}
+alike_stands cs ds ws s alike keys h = grind (arith, common_steps, alike_trans, alike_sym)
 
 -- ---- Its parts.
 
 parts_imports : (names : List (List ℕ)) (g : ℕ) (ps : List Part) → flat_map (content_imports names) (map (put g) ps) ≡ flat_map part_imports ps
 parts_imports names g [] = refl
-parts_imports names g (p ∷ ps) =
-    ap (λ ks. ks ++ flat_map (content_imports names) (map (put g) ps)) (append-nil (part_imports p ++ []) ∙ append-nil (part_imports p))
-    ∙ ap (λ ks. part_imports p ++ ks) (parts_imports names g ps)
+parts_imports names g (p ∷ ps) = grind (arith, common_steps, (parts_imports names g ps), append-nil)
 
 parts_here : (g h : ℕ) (ps : List Part) (ss : List Said) → nat_eq g h ≡ true → parts_in (map (put g) ps ++ telling ss ∷ []) h ≡ ps
 parts_here g h [] ss e = by (nat_eq 0 h)
@@ -62,38 +53,17 @@ module _ (g : ℕ) (ps : List Part) (ss : List Said) where
   whole b = record { segment = g; asks = b; parts = ps; said = ss }
 
   pieces_imports : (names : List (List ℕ)) → flat_map (content_imports names) (map (put g) ps ++ telling ss ∷ []) ≡ flat_map (content_imports names) (whole true ∷ [])
-  pieces_imports names =
-      flat_map-append (content_imports names) (map (put g) ps) (telling ss ∷ [])
-      ∙ ap (λ ks. ks ++ (flat_map (said_imports names) ss ++ [])) (parts_imports names g ps)
-      ∙ sym (append_assoc (flat_map part_imports ps) (flat_map (said_imports names) ss) [])
+  pieces_imports names = grind (arith, common_steps, flat_map-append, parts_imports, append_assoc)
 
   pieces_parts : (b : Bool) (h : ℕ) → parts_in (map (put g) ps ++ telling ss ∷ []) h ≡ parts_in (whole b ∷ []) h
-  pieces_parts b h = by (nat_eq g h) refl
-    where
-      by : (t : Bool) → nat_eq g h ≡ t → parts_in (map (put g) ps ++ telling ss ∷ []) h ≡ flat_map (λ (c : Content). c.parts) (if t then whole b ∷ [] else [])
-      by true e = parts_here g h ps ss e ∙ sym (append-nil ps)
-      by false e = parts_there g h ps ss e
+  pieces_parts b h = grind (arith, common_steps, parts_here, append-nil, parts_there)
 
   asking_parts : (cs : List Content) (h : ℕ) → parts_in (asking g ∷ cs) h ≡ parts_in cs h
-  asking_parts cs h = by (nat_eq g h) refl
-    where
-      by : (t : Bool) → nat_eq g h ≡ t → parts_in (asking g ∷ cs) h ≡ parts_in cs h
-      by true e = rw e refl
-      by false e = rw e refl
+  asking_parts cs h = grind (arith, common_steps)
 
   pieces_alike : (b : Bool) → AreAlike (in_pieces (whole b)) (whole b ∷ [])
-  pieces_alike true = record {
-    imports = λ names. pieces_imports names;
-    parts = λ at s i h before behind. ap (λ qs. all_joined (before ++ (fragments_of at s i qs ++ behind))) (asking_parts (map (put g) ps ++ telling ss ∷ []) h ∙ pieces_parts true h);
-    files = λ h. ap (flat_map part_files) (asking_parts (map (put g) ps ++ telling ss ∷ []) h ∙ pieces_parts true h);
-    said = parts_said g ps ss;
-  }
-  pieces_alike false = record {
-    imports = λ names. pieces_imports names;
-    parts = λ at s i h before behind. ap (λ qs. all_joined (before ++ (fragments_of at s i qs ++ behind))) (pieces_parts false h);
-    files = λ h. ap (flat_map part_files) (pieces_parts false h);
-    said = parts_said g ps ss;
-  }
+  pieces_alike true = grind (arith, common_steps, pieces_imports, asking_parts, pieces_parts, parts_said)
+  pieces_alike false = grind (arith, common_steps, pieces_imports, pieces_parts, parts_said)
 
   pieces_ask : (b : Bool) → segments_asked (in_pieces (whole b)) ≡ segments_asked (whole b ∷ [])
   pieces_ask true = ap (λ gs. g ∷ gs) (parts_ask g ps ss)

@@ -1,4 +1,5 @@
 -- What the numbers of sections and imports keep of a form.
+use Rattle.std.proofs.lemmas.Grind.{common_steps}
 use Rattle.std.proofs.Common.{◌≡◌, ◌∙◌, ℕ, ◌+◌, ◌<◌, ◌≤◌, Bool, true, false, not, ◌&&◌, ◌||◌, nat_eq, nat_lt, nat_le, cond, List, [], ◌∷◌, ◌++◌, length, get_or, Some, None, refl, sym, ap, subst, arith}
 use Rattle.std.specs.Prelude.{unwrap_or, if◌then◌else◌, ◌==◌}
 use Rattle.std.specs.Cmp.{nat_eq_equiv}
@@ -46,24 +47,16 @@ HasAll keys ks = list_all (has keys) ks ≡ true
 
 pub place_below : (keys : List ℕ) (k : ℕ) → has keys k ≡ true → position_or_len (nat_eq k) keys < length keys
 place_below [] k h = absurd cc
-place_below (m ∷ keys) k h = by (nat_eq k m) h (place_below keys k)
-  where
-    by : (b : Bool) → (b || has keys k) ≡ true → (has keys k ≡ true → position_or_len (nat_eq k) keys < length keys) → cond (not b) (1 + position_or_len (nat_eq k) keys) 0 < length (m ∷ keys)
-    by true e rest = omega arith
-    by false e rest = let below = rest e in omega (arith, below)
+place_below (m ∷ keys) k h = grind (arith, common_steps, (place_below keys k))
 
 pub number_is : (keys : List ℕ) (k : ℕ) → has keys k ≡ true → number_of keys k ≡ position_or_len (nat_eq k) keys
-number_is keys k h =
-    let yes : nat_lt (position_or_len (nat_eq k) keys) (length keys) ≡ true = (let below = place_below keys k h in grind (arith, nat_tests)) in
-    ap (λ b. unwrap_or (cond b (Some (position_or_len (nat_eq k) keys)) None) 0) yes
+number_is keys k h = grind (arith, common_steps, place_below, nat_tests)
 
 pub number_below : (keys : List ℕ) (k : ℕ) → has keys k ≡ true → number_of keys k < length keys
 number_below keys k h = subst (λ n. n < length keys) (sym (number_is keys k h)) (place_below keys k h)
 
 pub number_at : (keys : List ℕ) (k : ℕ) → has keys k ≡ true → get_or keys (number_of keys k) 0 ≡ k
-number_at keys k h =
-    let same : nat_eq k (get_or keys (position_or_len (nat_eq k) keys) 0) ≡ true = passes_at_first (nat_eq k) keys 0 (place_below keys k h) in
-    ap (λ n. get_or keys n 0) (number_is keys k h) ∙ grind (arith, nat_tests)
+number_at keys k h = grind (arith, common_steps, passes_at_first, place_below, number_is, nat_tests)
 
 -- keys that are there have different numbers
 one_number : (keys : List ℕ) (k m : ℕ) → has keys k ≡ true → has keys m ≡ true → (number_of keys k == number_of keys m) ≡ (k == m)
@@ -101,30 +94,13 @@ module _ (s i : List ℕ) where
   same_nodes (binary op f g) = λ j. same_nodes f j + same_nodes g j + 1
 
   pub same_literal : (f : Form) → is_literal (numbered s i f) ≡ is_literal f
-  same_literal (lit v) = refl
-  same_literal (sec k a) = refl
-  same_literal (imp k) = refl
-  same_literal (prefix op f) = refl
-  same_literal (binary op f g) = refl
+  same_literal x = grind (arith, common_steps)
 
   same_prefix : (op : Op1) (f : Form) → folds1 op (numbered s i f) ≡ folds1 op f
-  same_prefix Plus f = refl
-  same_prefix op f = same_literal f
+  same_prefix x f = grind (arith, common_steps)
 
   same_sum : (f g : Form) → folds_sum (numbered s i f) (numbered s i g) ≡ folds_sum f g
-  same_sum (sec k a) (lit n) = refl
-  same_sum (lit n) (sec k a) = refl
-  same_sum (sec k a) (sec m b) = refl
-  same_sum (sec k a) (imp m) = refl
-  same_sum (sec k a) (prefix op g) = refl
-  same_sum (sec k a) (binary op g h) = refl
-  same_sum (lit n) (lit m) = refl
-  same_sum (lit n) (imp m) = refl
-  same_sum (lit n) (prefix op g) = refl
-  same_sum (lit n) (binary op g h) = refl
-  same_sum (imp k) g = refl
-  same_sum (prefix op f) g = refl
-  same_sum (binary op f e) g = refl
+  same_sum x y = grind (arith, common_steps)
 
   same_difference : (f g : Form) → HasAll s (sections_in f) → HasAll s (sections_in g) → folds_difference (numbered s i f) (numbered s i g) ≡ folds_difference f g
   same_difference (sec k a) (sec m b) p q = one_number s k m (left (has s k) true p) (left (has s m) true q)
@@ -138,9 +114,7 @@ module _ (s i : List ℕ) where
   same_difference (binary op f e) g p q = refl
 
   same_binary : (op : Op2) (f g : Form) → HasAll s (sections_in f) → HasAll s (sections_in g) → folds2 op (numbered s i f) (numbered s i g) ≡ folds2 op f g
-  same_binary Add f g p q = λ j. same_literal f j && same_literal g j || same_sum f g j
-  same_binary Subtract f g p q = λ j. same_literal f j && same_literal g j || same_difference f g p q j
-  same_binary op f g p q = λ j. same_literal f j && same_literal g j
+  same_binary x f g p q = grind (arith, common_steps, same_literal, same_sum, same_difference)
 
   pub same_normal : (f : Form) → HasAll s (sections_in f) → is_normal (numbered s i f) ≡ is_normal f
   same_normal (lit v) h = refl
@@ -166,12 +140,7 @@ module _ (s i : List ℕ) where
       (now_within f (second_has s (sections_in e) (sections_in f) h) (second_has i (imports_in e) (imports_in f) g))
 
   pub good_form : (count : ℕ) (f : Form) → IsSoundForm s count f → HasAll i (imports_in f) → is_good_form (length s) (length i) (numbered s i f) ≡ true
-  good_form count f sound has_imports =
-      let few : nodes (numbered s i f) ≤ node_limit = subst (λ n. n ≤ node_limit) (sym (same_nodes f)) sound.folded.1 in
-      let small : nat_le (nodes (numbered s i f)) node_limit ≡ true = grind (arith, nat_tests) in
-      and (is_within (length s) (length i) (numbered s i f) && is_normal (numbered s i f)) (nat_le (nodes (numbered s i f)) node_limit)
-      (and (is_within (length s) (length i) (numbered s i f)) (is_normal (numbered s i f)) (now_within f sound.sections has_imports) (same_normal f sound.sections ∙ sound.folded.0))
-      small
+  good_form count f sound has_imports = grind (arith, common_steps, same_nodes, nat_tests, and, now_within, same_normal)
 
 -- ---- Keys that are taken once.
 
@@ -200,22 +169,10 @@ once_all P found (k ∷ ks) f g = once_all P (with_key found k) ks (by (has foun
     by false = push found f
 
 has_more : (found : List ℕ) (k m : ℕ) → has found m ≡ true → has (with_key found k) m ≡ true
-has_more found k m h = by (has found k)
-  where
-    by : (b : Bool) → has (if b then found else found ++ k ∷ []) m ≡ true
-    by true = h
-    by false = list_any-append (nat_eq m) found (k ∷ []) ∙ ap (λ b. b || has (k ∷ []) m) h
+has_more found k m h = grind (arith, common_steps)
 
 has_it : (found : List ℕ) (k : ℕ) → has (with_key found k) k ≡ true
-has_it found k = by (has found k) refl
-  where
-    last : (b : Bool) → (b || has (k ∷ []) k) ≡ true
-    last true = refl
-    last false = let same : nat_eq k k ≡ true = grind (arith, nat_tests) in ap (λ b. b || false) same
-
-    by : (b : Bool) → has found k ≡ b → has (if b then found else found ++ k ∷ []) k ≡ true
-    by true e = e
-    by false e = list_any-append (nat_eq k) found (k ∷ []) ∙ last (has found k)
+has_it found k = grind (arith, common_steps)
 
 once_keeps : (found ks : List ℕ) (m : ℕ) → has found m ≡ true → has (once found ks) m ≡ true
 once_keeps found [] m h = h

@@ -1,9 +1,9 @@
 -- The object of contents whose origins are by a table, in the order of its own files.
-use Rattle.std.proofs.Common.{◌≡◌, ◌∙◌, ℕ, zero, suc, ◌+◌, ◌<◌, Bool, true, false, List, [], ◌∷◌, ◌++◌, length, map, refl, sym, ap, subst, append_assoc, append-nil}
+use Rattle.std.proofs.Common.{arith, ◌≡◌, ◌∙◌, ℕ, zero, suc, ◌+◌, ◌<◌, Bool, true, false, List, [], ◌∷◌, ◌++◌, length, map, refl, sym, ap, subst, append_assoc, append-nil}
 use Rattle.std.specs.Prelude.{filter_map, slice_get, if◌then◌else◌}
 use Rattle.std.specs.List.{IsDistinct, flat_map, list_all, list_any}
 use Rattle.std.specs.Str.{bytes_eq}
-use Rattle.std.proofs.lemmas.Grind.{flat_map-append}
+use Rattle.std.proofs.lemmas.Grind.{common_steps, flat_map-append}
 use Rattle.std.proofs.lemmas.List.{map-append}
 use Rattle.source65.specs.declared.place.Place.{Place}
 use Rattle.object65.specs.declared.object.Assert.{Assert}
@@ -35,8 +35,7 @@ keys_joined (Fill m) (Value w o form ∷ fs) = keys_joined (Value w o form) fs
 keys_joined (Value w o form) (g ∷ fs) = ap (λ ks. optional_key o.file ++ ks) (keys_joined g fs)
 
 all_keys_joined : (fs : List Fragment) → flat_map fragment_keys (all_joined fs) ≡ flat_map fragment_keys fs
-all_keys_joined [] = refl
-all_keys_joined (f ∷ fs) = keys_joined f fs
+all_keys_joined x = grind (arith, common_steps, keys_joined)
 
 -- the order changes no bytes and no room
 joined_by : (order : List ℕ) (f : Fragment) (fs : List Fragment) → map (fragment_by order) (joined f fs) ≡ joined (fragment_by order f) (map (fragment_by order) fs)
@@ -50,8 +49,7 @@ joined_by order (Fill m) (Value w o form ∷ fs) = ap (λ gs. Fill m ∷ gs) (jo
 joined_by order (Value w o form) (g ∷ fs) = ap (λ gs. Value w (origin_by order o) form ∷ gs) (joined_by order g fs)
 
 all_joined_by : (order : List ℕ) (fs : List Fragment) → map (fragment_by order) (all_joined fs) ≡ all_joined (map (fragment_by order) fs)
-all_joined_by order [] = refl
-all_joined_by order (f ∷ fs) = joined_by order f fs
+all_joined_by order x = grind (arith, common_steps, joined_by)
 
 module _ (files : List (List ℕ)) (apart : IsDistinct bytes_eq files) (s i : List ℕ) where
   abbrev at : Place → Origin

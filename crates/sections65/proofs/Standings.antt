@@ -1,4 +1,5 @@
 -- What sections in the making stand for, call by call.
+use Rattle.std.proofs.lemmas.Grind.{common_steps}
 use Rattle.std.proofs.Common.{◌≡◌, ◌∙◌, ℕ, suc, ◌+◌, ◌≤◌, ◌<◌, Bool, true, false, nat_eq, List, [], ◌∷◌, ◌++◌, length, map, take, slice_set, Option, Some, refl, sym, ap, subst, append_assoc, append-nil, length-append, arith, add-one}
 use Rattle.std.specs.Prelude.{slice_get, if◌then◌else◌, IfSome, ◌||◌}
 use Rattle.std.specs.List.{filter, list_any}
@@ -31,31 +32,15 @@ nothing_grows g h = alike_trans (put g (Known []) ∷ put h (Filled 0) ∷ []) (
 
 -- where nothing grows there are the entries alone
 pub closed_alike : (files : List (List ℕ)) (ws : List Content) (t : Entries) → t.bytes ≡ [] → t.room ≡ 0 → AreAlike (contents_in files ws t) (filled files ws t.done.items)
-closed_alike files ws t no_bytes no_room =
-    alike_nothing (filled files ws t.done.items) (growing t)
-    (subst (λ (n : ℕ). AreAlike (put t.segment (Known t.bytes) ∷ put t.segment (Filled n) ∷ []) []) (sym no_room)
-    (subst (λ (bytes : List ℕ). AreAlike (put t.segment (Known bytes) ∷ put t.segment (Filled 0) ∷ []) []) (sym no_bytes) (nothing_grows t.segment t.segment)))
+closed_alike files ws t no_bytes no_room = grind (arith, common_steps)
 
 -- ---- Entries that take more.
 
 pub settled_more : (t u : Entries) (more : List Entry) → u.done.items ≡ t.done.items ++ more → u.settled ≡ t.settled → IsSettled t → IsSettled u
-settled_more t u more done place h =
-    let long : length u.done.items ≡ length t.done.items + length more = ap length done ∙ length-append t.done.items more in
-    let within : t.settled ≤ length t.done.items = h.within in
-    record {
-      none =
-          ap (λ es. list_any is_open (take u.settled es)) done ∙ ap (λ n. list_any is_open (take n (t.done.items ++ more))) place
-          ∙ ap (list_any is_open) (take-append-le t.settled t.done.items more within) ∙ h.none;
-      within = let same : u.settled ≡ t.settled = place in omega (arith, long, within, same);
-    }
+settled_more t u more done place h = grind (arith, common_steps)
 
 pub takes_nothing : (files : List (List ℕ)) (t : Entries) → TakesIn files t t []
-takes_nothing files t = record {
-  alike = λ ws. rw (append-nil (contents_in files ws t)) (alike_same (contents_in files ws t));
-  waits = refl;
-  settled = λ h. h;
-  standing = λ h. h;
-}
+takes_nothing files t = grind (arith, common_steps)
 
 pub takes_both : (files : List (List ℕ)) (t u v : Entries) (cs ds : List Content) → TakesIn files t u cs → TakesIn files u v ds → TakesIn files t v (cs ++ ds)
 takes_both files t u v cs ds h k = record {
@@ -226,23 +211,11 @@ takes_moved files t u v h no_bytes no_room bytes room done place =
 
 -- an entry behind those that no longer grow
 pub takes_pushed : (files : List (List ℕ)) (t u : Entries) (e : Entry) → is_open e ≡ false → stands_in (length files) e ≡ true → t.bytes ≡ [] → t.room ≡ 0 → IsAdded t u e → TakesIn files t u (content_of files e ∷ [])
-takes_pushed files t u e closed standing no_bytes no_room h = record {
-  alike = λ ws.
-      alike_trans (contents_in files ws t ++ content_of files e ∷ []) (filled files ws t.done.items ++ content_of files e ∷ []) (contents_in files ws u)
-      (alike_front (contents_in files ws t) (filled files ws t.done.items) (content_of files e ∷ []) (closed_alike files ws t no_bytes no_room))
-      (subst (λ (cs : List Content). AreAlike cs (contents_in files ws u)) (ap (filled files ws) h.done ∙ filled_more files ws t.done.items e closed)
-      (alike_sym (contents_in files ws u) (filled files ws u.done.items) (closed_alike files ws u (h.bytes ∙ no_bytes) (h.room ∙ no_room))));
-  waits = ap open_count h.done ∙ count_closed t.done.items e closed;
-  settled = settled_more t u (e ∷ []) h.done h.settled;
-  standing = λ s. subst (StandIn (length files)) (sym h.done) (standing_more (length files) t.done.items e standing s);
-}
+takes_pushed files t u e closed standing no_bytes no_room h = grind (arith, common_steps, alike_trans, alike_front, closed_alike, filled_more, alike_sym, count_closed, settled_more, standing_more)
 
 -- where all is closed there are the entries alone
 pub closed_entries : (files : List (List ℕ)) (t u : Entries) (ws : List Content) → TakesIn files t u [] → u.bytes ≡ [] → u.room ≡ 0 → AreAlike (contents_in files ws t) (filled files ws u.done.items)
-closed_entries files t u ws same no_bytes no_room =
-    alike_trans (contents_in files ws t) (contents_in files ws u) (filled files ws u.done.items)
-    (subst (λ (cs : List Content). AreAlike cs (contents_in files ws u)) (append-nil (contents_in files ws t)) (same.alike ws))
-    (closed_alike files ws u no_bytes no_room)
+closed_entries files t u ws same no_bytes no_room = grind (arith, common_steps, alike_trans, append-nil, closed_alike)
 
 -- ---- Entries of which one more waits, or one is settled.
 
@@ -259,22 +232,7 @@ defers_more files t u v same no_bytes no_room h = record {
 }
 
 pub settles_at : (files : List (List ℕ)) (t u : Entries) (e : Entry) (i : ℕ) → is_open e ≡ false → stands_in (length files) e ≡ true → i < length t.done.items → slice_get t.done.items i ≡ Some Open → list_any is_open (take i t.done.items) ≡ false → u.done.items ≡ slice_set t.done.items i e → growing u ≡ growing t → u.settled ≡ i + 1 → SettlesIn files t u (content_of files e)
-settles_at files t u e i closed standing lt is none done same place = record {
-  alike = λ ws some.
-      (λ n. filled files ws ((done ∙ settled_at e t.done.items i is none) n) ++ same n)
-      ∙ ap (λ cs. cs ++ growing t) (filled_settled files e ws t.done.items closed some);
-  waits = λ some. ap (λ es. 1 + open_count es) (done ∙ settled_at e t.done.items i is none) ∙ count_settled e t.done.items closed some;
-  settled = record {
-    none =
-        ap (λ n. list_any is_open (take n u.done.items)) (place ∙ add-one i)
-        ∙ ap (λ es. list_any is_open (take (suc i) es)) done ∙ none_up_to e t.done.items i closed lt none;
-    within =
-        let long : length u.done.items ≡ length t.done.items = ap length done ∙ length-set t.done.items i e in
-        let at : u.settled ≡ i + 1 = place in
-        omega (arith, long, at, lt);
-  };
-  standing = λ s. subst (StandIn (length files)) (sym (done ∙ settled_at e t.done.items i is none)) (standing_settled (length files) e t.done.items standing s);
-}
+settles_at files t u e i closed standing lt is none done same place = grind (arith, common_steps, settled_at, filled_settled, count_settled, none_up_to, length-set, standing_settled)
 
 -- the same of what was looked through
 pub settles_seen : (files : List (List ℕ)) (t u : Entries) (e : Entry) (i : ℕ) (es : List Entry) → es ≡ t.done.items → is_open e ≡ false → stands_in (length files) e ≡ true → i < length es → slice_get es i ≡ Some Open → list_any is_open (take i es) ≡ false → u.done.items ≡ slice_set t.done.items i e → growing u ≡ growing t → u.settled ≡ i + 1 → SettlesIn files t u (content_of files e)
@@ -286,22 +244,12 @@ settles_seen files t u e i es all closed standing lt is none done same place =
     done same place
 
 pub settles_none : (files : List (List ℕ)) (t : Entries) (c : Content) → list_any is_open t.done.items ≡ false → IsSettled t → SettlesIn files t t c
-settles_none files t c none settled =
-    let empty : open_count t.done.items ≡ 0 = none_counted t.done.items none in
-    record {
-      alike = λ ws some. absurd (omega (arith, empty, some));
-      waits = λ some. absurd (omega (arith, empty, some));
-      settled = settled;
-      standing = λ s. s;
-    }
+settles_none files t c none settled = grind (arith, common_steps, none_counted)
 
 -- ---- Sections in the making.
 
 pub asked_more : (cs ds : List Content) → section_keys (cs ++ ds) ≡ once (section_keys cs) (segments_asked ds)
-asked_more cs ds =
-    ap (λ es. once [] (map (λ (d : Content). d.segment) es)) (filter-append (λ (d : Content). d.asks) cs ds)
-    ∙ ap (once []) (map-append (λ (d : Content). d.segment) (filter (λ (d : Content). d.asks) cs) (filter (λ (d : Content). d.asks) ds))
-    ∙ sym (once_append (segments_asked cs) [] (segments_asked ds))
+asked_more cs ds = grind (arith, common_steps, filter-append, map-append, once_append)
 
 -- what asks for no section
 pub asked_same : (cs : List Content) (c : Content) → c.asks ≡ false → section_keys (cs ++ c ∷ []) ≡ section_keys cs
@@ -312,15 +260,11 @@ abbrev HasLatest : Option ℕ → List ℕ → Type 0
 HasLatest o keys = IfSome o (λ g. list_any (nat_eq g) keys ≡ true)
 
 same_latest : (s t : Sections) → t.asked.keys ≡ s.asked.keys → t.latest ≡ s.latest → HasLatest s.latest s.asked.keys → HasLatest t.latest t.asked.keys
-same_latest s t keys latest h =
-    subst (λ (o : Option ℕ). HasLatest o t.asked.keys) (sym latest) (subst (λ (ks : List ℕ). HasLatest s.latest ks) (sym keys) h)
+same_latest s t keys latest h = grind (arith, common_steps)
 
 -- where there are more files, entries have the contents that they had
 contents_grown : (old new : List (List ℕ)) (ws : List Content) (t : Entries) → Begins old new → StandIn (length old) t.done.items → contents_in old ws t ≡ contents_in new ws t
-contents_grown old new ws t begins standing =
-    let forth : contents_in new ws t ≡ contents_in old ws t =
-    ap (λ files. contents_in files ws t) begins.1 ∙ ap (λ cs. cs ++ growing t) (filled_grown old begins.0 ws t.done.items standing) in
-    sym forth
+contents_grown old new ws t begins standing = grind (arith, common_steps, filled_grown)
 
 alike_grown : (s : Sections) (new : List (List ℕ)) (cs ws : List Content) → Begins (names_in s.files) new → Stands cs ws s → AreAlike cs (contents_in new ws s.entries)
 alike_grown s new cs ws begins h = subst (λ (ds : List Content). AreAlike cs ds) (contents_grown (names_in s.files) new ws s.entries begins h.standing) h.alike
@@ -382,11 +326,7 @@ stands_given s t e c cs ws keys latest begins is settles h =
     stands_settled s t c cs ws keys latest begins (λ settled. subst (λ (d : Content). SettlesIn (names_in t.files) s.entries t.entries d) is.content (settles settled)) h
 
 has_last : (ks : List ℕ) (g : ℕ) → list_any (nat_eq g) (once ks (g ∷ [])) ≡ true
-has_last ks g = by (list_any (nat_eq g) ks) refl
-  where
-    by : (b : Bool) → list_any (nat_eq g) ks ≡ b → list_any (nat_eq g) (if b then ks else ks ++ g ∷ []) ≡ true
-    by true e = e
-    by false e = list_any-append (nat_eq g) ks (g ∷ []) ∙ (let same : nat_eq g g ≡ true = grind (arith, nat_tests) in λ n. e n || (same n || false))
+has_last ks g = grind (arith, common_steps)
 
 pub stands_asked : (s t : Sections) (g : ℕ) (cs ws : List Content) → t.asked.keys ≡ once s.asked.keys (g ∷ []) → t.latest ≡ Some g → t.entries ≡ s.entries → t.files ≡ s.files → Stands cs ws s → Stands (cs ++ asking g ∷ []) ws t
 stands_asked s t g cs ws keys latest entries files h = record {

@@ -6,7 +6,7 @@ ghost use Rattle.object65.specs.Objects.{is_good_object};
 ghost use Rattle.library65.specs.Fault.{is_memory};
 ghost use Rattle.library65.specs.Libraries.{agrees, are_same, checked, contents_in, member_fault, object_in, contents_from};
 ghost use Rattle.library65.specs.Spelling.{AreSymbols};
-ghost use Rattle.object65.specs.Record.{Gives, is_memory, is_version};
+ghost use Rattle.object65.specs.Record.{is_memory as is_object_memory, is_version};
 ghost use Rattle.object65.specs.Items.{with_item};
 ghost use Rattle.object65.specs.Reading.{end_at};
 ghost use Rattle.object65.specs.Scanning.{State, object_from};
@@ -156,13 +156,13 @@ fn check_end(bytes: &[u8], at: usize) -> Result<(), ObjectFault>
 
 /// What the object that the bytes are exports and imports. The space takes its records one after
 /// another.
-#[tactic(auto, unfolding(object65::specs::Whole::object_at))]
+#[tactic(auto, unfolding(object65::specs::Reading::object_at))]
 pub fn read_contents(
     alloc: Global,
     space: &mut Record,
     bytes: &[u8],
 ) -> Result<Contents, ObjectFault>
-    ensures read { Gives is_memory (λ c. c) result (contents_at bytes.now) }
+    ensures read { Gives is_object_memory (λ c. c) result (contents_at bytes.now) }
     ensures symbols { IfOk result AreSymbols }
 {
     let (version, first) = decode_head(bytes, 0)?;

@@ -144,35 +144,35 @@ one_of P (k ∷ ks) g h e = go (nat_eq g k) refl e (one_of P ks g h.1)
     go false q e more = more e
 
 module _ (y : Layout) (owner : ℕ) (origins : Place → Origin) (sections imports : List ℕ) (cs : List Content) (A : SectionPlace → ℤ) (d : Distinct y.standing.segments) where
-  abbrev sec : ℕ → Section
-  sec g = section_of origins y.standing.segments sections imports cs g
+  abbrev own_section : ℕ → Section
+  own_section g = section_of origins y.standing.segments sections imports cs g
 
-  other_end : (gs : List linked.Segment) (k g : ℕ) → k < length y.standing.segments → g < length y.standing.segments → nat_eq g k ≡ false → linked.end_of (with_section owner gs (sec k)) (sec g).name ≡ linked.end_of gs (sec g).name
-  other_end gs k g lk lg e = go (bytes_eq (sec k).name (sec g).name) refl
+  other_end : (gs : List linked.Segment) (k g : ℕ) → k < length y.standing.segments → g < length y.standing.segments → nat_eq g k ≡ false → linked.end_of (with_section owner gs (own_section k)) (own_section g).name ≡ linked.end_of gs (own_section g).name
+  other_end gs k g lk lg e = go (bytes_eq (own_section k).name (own_section g).name) refl
     where
-      go : (b : Bool) → bytes_eq (sec k).name (sec g).name ≡ b → linked.end_of (with_section owner gs (sec k)) (sec g).name ≡ linked.end_of gs (sec g).name
-      go false q = ap size_or (one_section owner gs (sec k) (sec g).name ∙ ap (λ b. cond b (Some (grown owner (or_empty (sec k).name (segment_of gs (sec g).name)) (sec k))) (segment_of gs (sec g).name)) q)
+      go : (b : Bool) → bytes_eq (own_section k).name (own_section g).name ≡ b → linked.end_of (with_section owner gs (own_section k)) (own_section g).name ≡ linked.end_of gs (own_section g).name
+      go false q = ap size_or (one_section owner gs (own_section k) (own_section g).name ∙ ap (λ b. cond b (Some (grown owner (or_empty (own_section k).name (segment_of gs (own_section g).name)) (own_section k))) (segment_of gs (own_section g).name)) q)
       go true q =
-          let names : bytes_eq (segment_name y k) (segment_name y g) ≡ true = ap (λ n. bytes_eq n (segment_name y g)) (sym (name_at y.standing.segments k lk)) ∙ ap (bytes_eq (sec k).name) (sym (name_at y.standing.segments g lg)) ∙ q in
+          let names : bytes_eq (segment_name y k) (segment_name y g) ≡ true = ap (λ n. bytes_eq n (segment_name y g)) (sym (name_at y.standing.segments k lk)) ∙ ap (bytes_eq (own_section k).name) (sym (name_at y.standing.segments g lg)) ∙ q in
           let same : k ≡ g = d k g lk lg names in
           absurd (differs same e)
         where
           differs : k ≡ g → nat_eq g k ≡ false → ⊥
           differs same e = grind (arith, nat_tests)
 
-  pub place_at : (gs : List linked.Segment) (ks : List ℕ) (g : ℕ) → AllByRecursion (λ k. k < length y.standing.segments) ks → AreOnce ks → list_any (nat_eq g) ks ≡ true → get_or (map A (section_places owner gs (map sec ks))) (number_of ks g) (pos 0) ≡ A (section_place gs (sec g))
+  pub place_at : (gs : List linked.Segment) (ks : List ℕ) (g : ℕ) → AllByRecursion (λ k. k < length y.standing.segments) ks → AreOnce ks → list_any (nat_eq g) ks ≡ true → get_or (map A (section_places owner gs (map own_section ks))) (number_of ks g) (pos 0) ≡ A (section_place gs (own_section g))
   place_at gs [] g h o e = cc
-  place_at gs (k ∷ ks) g h o e = go (nat_eq g k) refl e (place_at (with_section owner gs (sec k)) ks g h.1 o.1)
+  place_at gs (k ∷ ks) g h o e = go (nat_eq g k) refl e (place_at (with_section owner gs (own_section k)) ks g h.1 o.1)
     where
-      go : (b : Bool) → nat_eq g k ≡ b → (b || list_any (nat_eq g) ks) ≡ true → (list_any (nat_eq g) ks ≡ true → get_or (map A (section_places owner (with_section owner gs (sec k)) (map sec ks))) (number_of ks g) (pos 0) ≡ A (section_place (with_section owner gs (sec k)) (sec g))) → get_or (map A (section_places owner gs (map sec (k ∷ ks)))) (number_of (k ∷ ks) g) (pos 0) ≡ A (section_place gs (sec g))
+      go : (b : Bool) → nat_eq g k ≡ b → (b || list_any (nat_eq g) ks) ≡ true → (list_any (nat_eq g) ks ≡ true → get_or (map A (section_places owner (with_section owner gs (own_section k)) (map own_section ks))) (number_of ks g) (pos 0) ≡ A (section_place (with_section owner gs (own_section k)) (own_section g))) → get_or (map A (section_places owner gs (map own_section (k ∷ ks)))) (number_of (k ∷ ks) g) (pos 0) ≡ A (section_place gs (own_section g))
       go true q e more =
-          ap (λ n. get_or (map A (section_places owner gs (map sec (k ∷ ks)))) n (pos 0)) (number_first ks k g q)
-          ∙ ap (λ n. A (section_place gs (sec n))) (sym (equal g k q))
+          ap (λ n. get_or (map A (section_places owner gs (map own_section (k ∷ ks)))) n (pos 0)) (number_first ks k g q)
+          ∙ ap (λ n. A (section_place gs (own_section n))) (sym (equal g k q))
       go false q e more =
           let lg : g < length y.standing.segments = one_of (λ k. k < length y.standing.segments) ks g h.1 e in
-          ap (λ n. get_or (map A (section_places owner gs (map sec (k ∷ ks)))) n (pos 0)) (number_later ks k g q e)
+          ap (λ n. get_or (map A (section_places owner gs (map own_section (k ∷ ks)))) n (pos 0)) (number_later ks k g q e)
           ∙ more e
-          ∙ ap (λ n. A (record { segment = (sec g).name; offset = rounded_up n (linked.align_of (sec g)); size = (section_place gs (sec g)).size })) (other_end gs k g h.0 lg q)
+          ∙ ap (λ n. A (record { segment = (own_section g).name; offset = rounded_up n (linked.align_of (own_section g)); size = (section_place gs (own_section g)).size })) (other_end gs k g h.0 lg q)
 
 -- ---- Where sections begin.
 

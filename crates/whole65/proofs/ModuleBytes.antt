@@ -202,6 +202,6 @@ module_law E p o l fill begin owner g y cs origins sections imports bytes h tabl
     let parts = of_parts o l owner fill sections imports (parts_in cs g) bytes valued in
     let fragments = same_parts Has fill origins sections imports (parts_in cs g) bytes in
     let kept = all_kept Has fill (map (fragment_of origins sections imports) (parts_in cs g)) bytes in
-    let joined = all_joined_are Has fill (fragments_of origins sections imports (parts_in cs g)) bytes in
+    let all_joined = all_joined_are Has fill (fragments_of origins sections imports (parts_in cs g)) bytes in
     let cells = cells_law l fill owner _ bytes in
-    (λ k. cells.0 (joined.0 (kept.0 (fragments.0 (parts.0 (lines.0 k))))), λ k. lines.1 (parts.1 (fragments.1 (kept.1 (joined.1 (cells.1 k))))))
+    (λ k. cells.0 (all_joined.0 (kept.0 (fragments.0 (parts.0 (lines.0 k))))), λ k. lines.1 (parts.1 (fragments.1 (kept.1 (all_joined.1 (cells.1 k))))))

@@ -84,8 +84,8 @@ module _ {E : Type 0} (p : Program) (o : Objects E) (h : AreObjects p o) where
   unfolding Reaches
   reaches zero owner k v q = by_name zero owner k v (λ before e. cc) (slice_get (o.symbols owner).imports k) (h.given owner k) q
   reaches (suc turns) owner k v q =
-      let here : Reaches turns = reaches turns in
-      by_name (suc turns) owner k v (λ before e. let same : turns ≡ before = omega (arith, e) in subst Reaches same here) (slice_get (o.symbols owner).imports k) (h.given owner k) q
+      let at_hand : Reaches turns = reaches turns in
+      by_name (suc turns) owner k v (λ before e. let same : turns ≡ before = omega (arith, e) in subst Reaches same at_hand) (slice_get (o.symbols owner).imports k) (h.given owner k) q
 
   pub value_next : (turns owner : ℕ) (f : Form) (v : ℤ) → form_value o turns owner f ≡ Ok v → form_value o (suc turns) owner f ≡ Ok v
   unfolding Reaches

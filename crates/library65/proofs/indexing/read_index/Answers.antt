@@ -1,5 +1,6 @@
-use Rattle.std.proofs.Common.{Err, absurd, ap}
+use Rattle.std.proofs.Common.{◌≡◌, Err, ap}
 use Rattle.std.proofs.lemmas.Result.{err_from_is_err_and}
+use Rattle.library65.specs.declared.fault.LibraryFault.TheVariants.{FileError}
 use Rattle.library65.proofs.Steps.{kept_count, none_passed}
 use Rattle.library65.proofs.indexing.read_index.Goals as goal
 
@@ -10,5 +11,5 @@ returns-in_err-entries-clause-kept g c =
     rw (p.1, p.2) (record {
       files = kept.files;
       count = none_passed _ _ c.in_err-entries.field-0.0 (kept_count _ _ _ kept.count) (λ e. c.in_err-entries.ensures.cause (ap Err e));
-      blamed = λ e. absurd (c.in_err-entries.ensures.cause e);
+      blamed = λ h. (let is : c.in_err-entries.field-0.0 ≡ FileError = cc h in absurd (c.in_err-entries.ensures.cause (ap Err is)));
     })

@@ -1,6 +1,6 @@
 -- The records of an object lead to a state that stands for it.
 use Rattle.std.proofs.lemmas.Grind.{common_steps}
-use Rattle.std.proofs.Common.{◌≡◌, ◌∙◌, ℕ, zero, suc, ◌+◌, ◌-◌, ◌%◌, ◌^◌, ◌<◌, ◌≤◌, List, [], ◌∷◌, ◌++◌, length, take, drop, map, Bool, true, false, ◌&&◌, ◌||◌, not, nat_lt, nat_le, nat_eq, ◌==◌, if◌then◌else◌, Result, Ok, refl, sym, ap, subst, arith, append_assoc, length-append, inl, inr}
+use Rattle.std.proofs.Common.{◌≡◌, ◌∙◌, ℕ, zero, suc, ◌+◌, ◌-◌, ◌%◌, ◌^◌, ◌<◌, ◌≤◌, List, [], ◌∷◌, ◌++◌, length, take, drop, map, Bool, true, false, ◌&&◌, ◌||◌, not, nat_lt, nat_le, nat_eq, ◌==◌, Result, Ok, refl, sym, ap, subst, arith, append_assoc, length-append, inl, inr}
 use Rattle.std.proofs.lemmas.Bool.Decides.{nat_tests}
 use Rattle.std.proofs.lemmas.List.{length-map, map-append, length-take, length-drop, take-append-drop}
 use Rattle.std.specs.Cmp.{nat_eq_equiv}
@@ -9,7 +9,7 @@ use Rattle.std.specs.Cmp.Lexicographic.{pointwise, lists_equiv}
 use Rattle.std.specs.List.{flat_map, list_all, sum_by, AllByRecursion}
 use Rattle.std.proofs.lemmas.List.Folds.{list_any-append, list_all-append}
 use Rattle.std.proofs.lemmas.List.Sums.{sum_by-append, sum_by-cons}
-use Rattle.byteorder.specs.Endian.{little_bytes, little_number}
+use Rattle.byteorder.specs.Endian.{little_bytes}
 use Rattle.object65.specs.declared.builder.Draft.{Draft}
 use Rattle.object65.specs.declared.fault.ObjectFault.{ObjectFault}
 use Rattle.object65.specs.declared.object.Assert.{Assert}
@@ -36,9 +36,8 @@ use Rattle.object65.specs.Scanning.{after, after_all, finished}
 use Rattle.object65.proofs.Closings.{turned, nil, longer, closing_is, last_joins, last_push, apart_last, fill_last, shut_len, all_full, is_full, opens, piece_there, more_pieces, one_piece}
 use Rattle.object65.proofs.Fields.{fill_again, value_again, export_again, assert_again}
 use Rattle.object65.proofs.Goods.{left, right, and, parts}
-use Rattle.object65.proofs.Numbers.{back}
 use Rattle.object65.proofs.Reached.{either}
-use Rattle.object65.proofs.Scannings.{fill_is, short_is}
+use Rattle.object65.proofs.Scannings.{fill_is}
 
 -- a name among distinct names that pass passes, and none before it is the same
 name_among : (p : List ℕ → Bool) (xs ys : List (List ℕ)) (n : List ℕ) → are_distinct p (xs ++ n ∷ ys) ≡ true → (p n ≡ true) × (is_among xs n ≡ false)

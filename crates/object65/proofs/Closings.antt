@@ -1,8 +1,8 @@
 -- Sections in the making: their fragments, and the first that isn't full.
-use Rattle.std.proofs.Common.{◌≡◌, ◌∙◌, ℕ, suc, ◌+◌, ◌-◌, List, [], ◌∷◌, ◌++◌, length, Bool, true, false, not, nat_lt, if◌then◌else◌, refl, sym, ap, subst, arith, map, Some, None, ◌==◌, Ok, Err, ◌⊎◌, inl, inr, ◌<◌, ◌≤◌, zero, ◌*◌, ◌%◌, length-append, ◌/◌, take, drop, append_assoc}
+use Rattle.std.proofs.Common.{◌≡◌, ◌∙◌, ℕ, suc, ◌+◌, ◌-◌, List, [], ◌∷◌, ◌++◌, length, Bool, true, false, not, refl, sym, ap, arith, map, Some, None, ◌==◌, Ok, Err, ◌⊎◌, inl, inr, ◌<◌, ◌≤◌, zero, ◌*◌, ◌%◌, length-append, ◌/◌, take, drop, append_assoc}
 use Rattle.std.proofs.lemmas.Bool.Decides.{nat_tests}
 use Rattle.std.proofs.lemmas.Grind.{common_steps, flat_map-append}
-use Rattle.std.proofs.lemmas.List.Folds.{list_all-append, list_all-map}
+use Rattle.std.proofs.lemmas.List.Folds.{list_all-map}
 use Rattle.std.proofs.lemmas.List.Sums.{sum_by-append}
 use Rattle.std.specs.Prelude.{slice_get, slice_set}
 use Rattle.std.specs.List.{flat_map, list_all, sum_by, AllByRecursion, prefix_len}

@@ -1,12 +1,12 @@
 -- The fields of the bodies of records: what is read is spelled so, and what is spelled so is read.
 use Rattle.std.proofs.lemmas.Grind.{common_steps}
-use Rattle.std.proofs.Common.{◌≡◌, ◌∙◌, ℕ, ℤ, zero, suc, ◌+◌, ◌-◌, ◌<◌, ◌≤◌, ◌^◌, List, [], ◌∷◌, ◌++◌, length, take, drop, Bool, true, false, ◌&&◌, ◌||◌, not, nat_lt, ◌==◌, Option, Some, None, Result, Ok, Err, refl, sym, ap, subst, arith, append_assoc, length-append, ◌⊎◌, inl, inr, if◌then◌else◌}
+use Rattle.std.proofs.Common.{◌≡◌, ◌∙◌, ℕ, ℤ, zero, suc, ◌+◌, ◌<◌, ◌≤◌, ◌^◌, List, [], ◌∷◌, ◌++◌, length, take, drop, Bool, true, false, ◌&&◌, ◌||◌, not, nat_lt, ◌==◌, Option, Some, None, Result, Ok, Err, refl, sym, ap, subst, arith, append_assoc, length-append, ◌⊎◌, inl, inr, if◌then◌else◌}
 use Rattle.std.proofs.lemmas.Bool.Decides.{nat_tests}
-use Rattle.std.proofs.lemmas.List.{take-append-drop, take_at, drop_at}
-use Rattle.std.proofs.Math.Facts.{Fits-of_z, Fits-lt-pow, Fits-of_lt, sfits_to_z}
-use Rattle.std.proofs.lemmas.Int.{to_z-of_z, of_z-to_z}
+use Rattle.std.proofs.lemmas.List.{take-append-drop, drop_at}
+use Rattle.std.proofs.Math.Facts.{Fits-of_lt, sfits_to_z}
+use Rattle.std.proofs.lemmas.Int.{of_z-to_z}
 use Rattle.std.specs.Int.{w64, cast_signed, cast_unsigned}
-use Rattle.std.specs.Prelude.{FitsSigned, IfSome}
+use Rattle.std.specs.Prelude.{FitsSigned}
 use Rattle.byteorder.specs.Endian.{little_number, little_bytes}
 use Rattle.byteorder.specs.Numbers.{length-bytes_low_first, little_from-lt}
 use Rattle.object65.specs.declared.fault.ObjectFault.{ObjectFault}
@@ -16,12 +16,10 @@ use Rattle.base65.specs.declared.values.Op1.TheVariants.{Plus, Negate, BitNot, L
 use Rattle.base65.specs.declared.values.Op2.{Op2}
 use Rattle.base65.specs.declared.values.Op2.TheVariants.{Multiply, Divide, Modulo, BitAnd, BitXor, ShiftLeft, ShiftRight, Add, Subtract, BitOr, Equal, NotEqual, Less, Greater, LessOrEqual, GreaterOrEqual, And, Xor, Or}
 use Rattle.object65.specs.declared.object.Action.{Action}
-use Rattle.object65.specs.declared.object.Action.TheVariants as action
 use Rattle.object65.specs.declared.object.Assert.{Assert}
 use Rattle.object65.specs.declared.object.Export.{Export}
 use Rattle.object65.specs.declared.object.Origin.{Origin}
 use Rattle.object65.specs.declared.object.Width.{Width}
-use Rattle.object65.specs.declared.object.Width.TheVariants.{Byte, Word, HighFirst, Dword, Branch}
 use Rattle.object65.specs.Bodies
 use Rattle.object65.specs.Record.{IsBytes, ◌>>=◌}
 use Rattle.object65.specs.Folding.{is_normal, folds1, folds2}

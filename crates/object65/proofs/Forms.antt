@@ -1,6 +1,6 @@
 -- How long a form is.
 use Rattle.std.proofs.lemmas.Grind.{common_steps}
-use Rattle.std.proofs.Common.{◌≡◌, ◌≤◌, ◌<◌, ℕ, zero, suc, [], ◌∷◌, ◌-◌, take, drop, get_or, ◌+◌, ◌*◌, ◌++◌, List, length, Bool, true, false, ◌&&◌, arith, ap, refl, length-append, Option, Some, None}
+use Rattle.std.proofs.Common.{◌≡◌, ◌≤◌, ◌<◌, ℕ, zero, suc, [], ◌∷◌, ◌-◌, take, drop, get_or, ◌+◌, ◌*◌, ◌++◌, List, length, Bool, true, false, ◌&&◌, arith, ap, refl, length-append, Option}
 use Rattle.std.proofs.lemmas.Bool.Decides.{nat_tests}
 use Rattle.object65.specs.declared.object.Assert.{Assert}
 use Rattle.object65.specs.declared.object.Export.{Export}
@@ -9,7 +9,6 @@ use Rattle.std.specs.Int.{w64, cast_unsigned}
 use Rattle.byteorder.specs.Endian.{little_bytes}
 use Rattle.byteorder.specs.Numbers.{length-bytes_low_first}
 use Rattle.base65.specs.declared.values.Op1.{Op1}
-use Rattle.base65.specs.declared.values.Op1.TheVariants.{Plus, Negate, BitNot, LowByte, HighByte, BankByte, Not}
 use Rattle.object65.specs.Form.{Form, lit, sec, imp, prefix, binary, nodes}
 use Rattle.object65.specs.Bodies.{form_at, form_of_code}
 use Rattle.object65.specs.declared.object.Origin.{Origin}

@@ -1,6 +1,6 @@
 -- An object of the grammar has small parts.
 use Rattle.std.proofs.lemmas.Grind.{common_steps}
-use Rattle.std.proofs.Common.{◌≡◌, ℕ, List, [], ◌∷◌, length, map, Bool, true, false, ◌&&◌, not, nat_lt, nat_le, ◌==◌, if◌then◌else◌, arith, refl}
+use Rattle.std.proofs.Common.{◌≡◌, ℕ, List, [], ◌∷◌, length, map, Bool, true, false, ◌&&◌, not, nat_lt, arith, refl}
 use Rattle.std.proofs.lemmas.Bool.Decides.{nat_tests}
 use Rattle.std.specs.List.{list_all}
 use Rattle.object65.specs.declared.object.Object.{Object}
@@ -8,10 +8,9 @@ use Rattle.object65.specs.declared.object.Section.{Section}
 use Rattle.object65.specs.declared.object.Export.{Export}
 use Rattle.object65.specs.declared.object.Assert.{Assert}
 use Rattle.object65.specs.declared.object.Fragment.{Fragment}
-use Rattle.object65.specs.declared.object.Fragment.TheVariants.{Literal, Fill, Value}
-use Rattle.object65.specs.Folding.{is_normal, is_within, is_literal}
+use Rattle.object65.specs.Folding.{is_normal, is_within}
 use Rattle.object65.specs.Form.{Form}
-use Rattle.object65.specs.Objects.{is_file_name, is_name, is_printed, is_among, are_names, is_good_form, is_good_fragment, is_good_section, is_good_assert, is_good_object, are_apart, are_distinct, are_files_of, has_good_origin, has_good_origins, has_good_parts, is_good_origin, section_len, section_limit}
+use Rattle.object65.specs.Objects.{is_file_name, is_name, is_printed, is_among, are_names, is_good_form, is_good_fragment, is_good_section, is_good_assert, is_good_object, are_distinct, are_files_of, has_good_origin, is_good_origin}
 use Rattle.object65.specs.Record.{is_version}
 use Rattle.object65.specs.Small.{is_small_text, is_small_form, is_small_fragment, is_small_section, is_small_export, is_small_assert}
 

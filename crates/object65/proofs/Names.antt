@@ -1,6 +1,6 @@
 -- Names that are kept in order and found by a set.
 use Rattle.std.proofs.lemmas.Grind.{common_steps}
-use Rattle.std.proofs.Common.{arith, ◌≡◌, Bool, List, [], ◌∷◌, ◌||◌, ◌++◌, map, refl, ap, ◌∙◌, append_assoc, true, false, ℕ, nat_eq, sym, if◌then◌else◌}
+use Rattle.std.proofs.Common.{arith, ◌≡◌, Bool, List, [], ◌∷◌, ◌||◌, ◌++◌, map, refl, ap, ◌∙◌, append_assoc, true, false, ℕ, nat_eq, if◌then◌else◌}
 use Rattle.std.specs.List.{list_any}
 use Rattle.std.proofs.lemmas.List.{map-append}
 use Rattle.std.specs.Cmp.Lexicographic.{pointwise}

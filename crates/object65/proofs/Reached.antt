@@ -1,7 +1,7 @@
 -- What the state behind a list of records says of them.
 use Rattle.std.proofs.Common.{◌≡◌, ◌∙◌, ℕ, zero, suc, Option, Some, None, ◌+◌, ◌-◌, ◌%◌, ◌<◌, ◌≤◌, List, [], ◌∷◌, ◌++◌, length, drop, map, get_or, Bool, true, false, ◌&&◌, ◌||◌, not, nat_lt, nat_le, nat_eq, ◌==◌, if◌then◌else◌, Ok, refl, sym, ap, arith, append_assoc, length-append, ◌⊎◌, inl, inr, subst}
 use Rattle.std.proofs.lemmas.Bool.Decides.{nat_tests}
-use Rattle.std.proofs.lemmas.Grind.{common_steps, flat_map-append}
+use Rattle.std.proofs.lemmas.Grind.{common_steps}
 use Rattle.std.proofs.lemmas.List.Folds.{list_any-append, list_all-append}
 use Rattle.std.proofs.lemmas.List.Sums.{sum_by-append}
 use Rattle.std.specs.Cmp.{nat_eq_equiv}
@@ -20,14 +20,14 @@ use Rattle.object65.specs.declared.object.Fragment.TheVariants.{Literal, Fill, V
 use Rattle.object65.specs.declared.scan.Room.{Room}
 use Rattle.object65.specs.Bodies.{Heading, section_of, literal_of, fill_of, value_of}
 use Rattle.object65.specs.Record.{IsBytes, Entry, is_version}
-use Rattle.object65.specs.Folding.{is_within, is_normal, is_literal, node_limit}
-use Rattle.object65.specs.Form.{Form, nodes}
+use Rattle.object65.specs.Folding.{is_literal}
+use Rattle.object65.specs.Form.{Form}
 use Rattle.object65.specs.Objects.{is_name, is_among, are_distinct, are_files_of, are_names, has_file, has_file_by, has_good_origin, is_good_origin, section_limit, fragment_len, width_len, is_good_form, is_good_fragment, joins, are_apart, FragmentFits, FitsBits, OriginFits}
 use Rattle.object65.specs.Small.{is_small_text}
 use Rattle.object65.specs.Spelling.{file_entry, import_entry, literal_entry, literal_entries, fragment_entries, export_entry, assert_entry, end_entry, body_limit}
 use Rattle.object65.specs.Items.{State, closed, grown, is_none, with_fragment, with_piece, with_piece_in}
 use Rattle.object65.specs.Scanning.{canonical_open, ends_in_fill, is_fill, is_short, known, known_file, known_parts, last_of, room_fill, room_for, room_literal, room_of, room_value, wants}
-use Rattle.object65.proofs.Closings.{turned, nil, all_push, last_joins, last_push, apart_push, value_apart, fill_last, shut_entries, shut_len, shut_good, shut_apart, shut_fits, shut_origins, Opened, is_full, piece_there, joined_piece}
+use Rattle.object65.proofs.Closings.{turned, nil, last_joins, last_push, apart_push, value_apart, fill_last, shut_len, shut_good, shut_apart, Opened, is_full, piece_there, joined_piece}
 use Rattle.object65.proofs.Fields.{fill_reads, value_by, value_reads}
 use Rattle.object65.proofs.Goods.{left, right, and}
 use Rattle.object65.proofs.Numbers.{front}

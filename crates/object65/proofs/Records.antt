@@ -1,21 +1,19 @@
 -- Records that are read one after another, also among bytes that were read ahead.
 use Rattle.std.proofs.lemmas.Grind.{common_steps}
 use Rattle.std.proofs.Common.{◌≡◌, ◌∙◌, ◌<◌, ◌≤◌, ℕ, zero, suc, ◌+◌, ◌-◌, List, [], length, take, Bool, true, false, if◌then◌else◌, Option, Some, None, Result, Ok, Err, refl, sym, ap, arith, ◌∷◌, ◌++◌, drop, nat_le, nat_lt}
-use Rattle.std.specs.Prelude.{IfSome, min, not}
-use Rattle.std.proofs.lemmas.List.{drop_all, take-append-drop, take-append-le, drop-append-le, take_all, length-take, length-drop, drop-drop, take_rest, take_min}
+use Rattle.std.specs.Prelude.{IfSome, min}
+use Rattle.std.proofs.lemmas.List.{take-append-drop, take-append-le, drop-append-le, take_all, length-take, length-drop, drop-drop, take_rest, take_min}
 use Rattle.std.specs.FinMap as map
 use Rattle.base65.specs.Store.{Files, Passes}
 use Rattle.object65.specs.declared.fault.ObjectFault.{ObjectFault}
-use Rattle.object65.specs.declared.fault.ObjectFault.TheVariants.{OutOfMemory, CutShort, FileError, FileNotFound, UnknownRecord, BadSize}
-use Rattle.object65.specs.Record.{◌>>=◌, Refuses, is_memory, is_outside, Gives, Entry, is_record_kind}
+use Rattle.object65.specs.declared.fault.ObjectFault.TheVariants.{CutShort, FileError, FileNotFound}
+use Rattle.object65.specs.Record.{◌>>=◌, Refuses, is_memory, is_outside, Gives, Entry}
 use Rattle.object65.specs.Reading.{head_at, record_at, end_at, in_file, front_of, whole, ending, room, IsRoomRead, records_at, object_at, IsAhead, Reader, from_place, has_record, record_in, record_len}
-use Rattle.object65.specs.Scanning.{State, start, after, finished}
+use Rattle.object65.specs.Scanning.{State, start, after}
 use Rattle.base65.specs.Outcome.{Unless}
-use Rattle.base65.proofs.Outcome.{refused-then}
 use Rattle.object65.proofs.Trails.{version_kept, passes, room_on}
 use Rattle.object65.proofs.Withins.{after_free}
 use Rattle.std.proofs.lemmas.Bool.Decides.{nat_tests}
-use Rattle.byteorder.specs.Endian.{little_number}
 use Rattle.std.specs.FinMap.{get}
 use borrow.Author.Tests.{ltb-false}
 

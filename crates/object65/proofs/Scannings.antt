@@ -1,6 +1,6 @@
 -- What a scan keeps behind a record is what it keeps of what the item makes.
 use Rattle.std.proofs.lemmas.Grind.{common_steps}
-use Rattle.std.proofs.Common.{◌≡◌, ◌∙◌, ◌+◌, ◌%◌, ℕ, zero, suc, List, [], ◌∷◌, ◌++◌, length, map, Some, Bool, true, false, ◌&&◌, ◌||◌, not, nat_le, ◌==◌, if◌then◌else◌, Result, Ok, Err, refl, sym, ap, subst, arith, ◌⊎◌, inl, inr, length-append}
+use Rattle.std.proofs.Common.{◌≡◌, ◌∙◌, ◌%◌, ℕ, zero, suc, List, [], ◌∷◌, ◌++◌, length, map, Some, Bool, true, false, not, ◌==◌, if◌then◌else◌, Result, Ok, Err, refl, sym, ap, subst, arith, ◌⊎◌, inl, inr, length-append}
 use Rattle.std.specs.List.{list_all}
 use Rattle.std.specs.Prelude.{slice_get, slice_set}
 use Rattle.std.proofs.Math.Nat.{mod-add-mod}
@@ -8,7 +8,7 @@ use Rattle.std.proofs.lemmas.Bool.Decides.{nat_tests}
 use Rattle.std.proofs.lemmas.List.{map-append, map-set}
 use Rattle.object65.specs.declared.builder.Draft.{Draft}
 use Rattle.object65.specs.declared.fault.ObjectFault.{ObjectFault}
-use Rattle.object65.specs.declared.fault.ObjectFault.TheVariants.{FailedBefore, FileError, OutOfOrder, BadSize, NotCanonical}
+use Rattle.object65.specs.declared.fault.ObjectFault.TheVariants.{FailedBefore, FileError, OutOfOrder}
 use Rattle.object65.specs.declared.record.Item.{Item}
 use Rattle.object65.specs.declared.record.Item.TheVariants as item
 use Rattle.object65.specs.declared.object.Fragment.{Fragment}
@@ -21,12 +21,12 @@ use Rattle.object65.specs.declared.scan.Room.{Room}
 use Rattle.object65.specs.Bodies.{literal_of}
 use Rattle.object65.specs.Record.{◌>>=◌, Entry, is_record_kind}
 use Rattle.object65.specs.Form.{Form}
-use Rattle.object65.specs.Items.{State, closed, closing, empty_draft, grown, is_none, with_item}
-use Rattle.object65.specs.Objects.{is_file_name, width_len}
+use Rattle.object65.specs.Items.{State, closed, closing, grown, is_none, with_item}
+use Rattle.object65.specs.Objects.{width_len}
 use Rattle.object65.specs.Scanning
 use Rattle.object65.specs.Spelling.{body_limit}
 use Rattle.object65.proofs.Closings.{nil, longer, closing_is, fill_last, last_push, last_joins, Split, draft_there, grown_name, is_full, none_open, opens, room_there, seek}
-use Rattle.object65.proofs.Frees.{IsFree, astray, assert_free, canonical_free, end_free, export_free, failed, file_free, fill_free, parts_free, literal_free, name_free, open_free, room_free, section_free, value_free, wants_astray, wants_canonical, wants_size}
+use Rattle.object65.proofs.Frees.{IsFree, astray, assert_free, canonical_free, export_free, failed, fill_free, parts_free, literal_free, name_free, open_free, room_free, value_free, wants_astray, wants_canonical}
 
 -- a fragment stands behind what was taken of its section
 abbrev pub IsPlaced : List Draft → Item → Type 0

@@ -1,6 +1,6 @@
 -- How what a scan keeps stays sound.
 use Rattle.std.proofs.lemmas.Grind.{common_steps}
-use Rattle.std.proofs.Common.{◌≡◌, ◌∙◌, ◌≤◌, ◌<◌, ◌+◌, ℕ, zero, suc, get_or, set, Bool, true, false, ◌&&◌, List, [], ◌∷◌, ◌++◌, length, refl, arith, nat_eq, cond, ◌==◌, Result, Ok, Err, ap}
+use Rattle.std.proofs.Common.{◌≡◌, ◌∙◌, ◌≤◌, ◌<◌, ◌+◌, ℕ, zero, suc, get_or, set, Bool, true, false, ◌&&◌, List, [], ◌∷◌, ◌++◌, length, refl, arith, nat_eq, cond, ◌==◌, Result, Ok}
 use Rattle.std.proofs.lemmas.Bool.Decides.{nat_tests}
 use Rattle.std.specs.List.{list_all, prefix_len}
 use Rattle.object65.specs.declared.fault.ObjectFault.{ObjectFault}

@@ -14,14 +14,14 @@ use Rattle.object65.specs.declared.object.Section.{Section}
 use Rattle.object65.specs.declared.object.Export.{Export}
 use Rattle.object65.specs.declared.object.Assert.{Assert}
 use Rattle.object65.specs.Record.{IsBytes, Entry, is_version}
-use Rattle.object65.specs.Objects.{are_files_of, are_names, has_good_origin, has_good_origins, has_good_parts, is_good_origin, section_len, section_limit, is_good_form, is_good_fragment, is_good_section, is_good_assert, is_good_object, are_apart, ObjectFits, FragmentFits}
+use Rattle.object65.specs.Objects.{are_names, has_good_origin, has_good_origins, has_good_parts, is_good_origin, section_len, section_limit, is_good_form, is_good_fragment, is_good_section, is_good_assert, is_good_object, are_apart, ObjectFits, FragmentFits}
 use Rattle.object65.specs.Folding.{is_literal}
 use Rattle.object65.specs.Reading.{room, head_of, head_at, end_at, file_limit, records_at, object_at}
 use Rattle.object65.specs.Small.{is_small_text}
-use Rattle.object65.specs.Spelling.{magic, object_head, entry_bytes, entries_of, file_entry, import_entry, section_entry, fragment_entries, export_entry, assert_entry, IsObject, object_bytes, body_limit}
+use Rattle.object65.specs.Spelling.{magic, object_head, entry_bytes, entries_of, section_entry, fragment_entries, IsObject, object_bytes, body_limit}
 use Rattle.object65.specs.Items.{State, start, closed, section_from, object_from}
 use Rattle.object65.specs.Scanning.{finished, after, after_all}
-use Rattle.object65.proofs.Closings.{is_full, nil, shut_entries, shut_len, shut_good, shut_apart, shut_fits, shut_origins}
+use Rattle.object65.proofs.Closings.{is_full, nil, shut_entries, shut_good, shut_apart, shut_fits, shut_origins}
 use Rattle.object65.proofs.Goods.{left, right, and, parts}
 use Rattle.object65.proofs.Reached.{Reached, GoodState, GoodDraft, FitDraft, is_open_form, has_good_values, heading_entry, content_entries, end_entries, rows}
 use Rattle.object65.proofs.Trails.{bound, passes, room_on, trail, versions_kept, trail_again, ended_stops}

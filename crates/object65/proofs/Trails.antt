@@ -1,7 +1,7 @@
 -- Records in the room of an object, one after another up to the END.
 use Rattle.std.proofs.lemmas.Grind.{common_steps}
 use Rattle.std.proofs.Common.{◌≡◌, ◌∙◌, ℕ, zero, suc, ◌+◌, ◌-◌, ◌≤◌, List, [], ◌∷◌, ◌++◌, length, take, drop, Bool, true, false, cond, not, nat_lt, Result, Ok, Err, refl, sym, ap, arith, ◌<◌, get_or, if◌then◌else◌, append_assoc, length-append, ◌⊎◌, inl, inr, subst}
-use Rattle.std.proofs.lemmas.List.{take-append-drop, drop-drop, length-take, take_at, drop_at}
+use Rattle.std.proofs.lemmas.List.{take-append-drop, drop-drop, length-take, drop_at}
 use Rattle.std.proofs.lemmas.Bool.Decides.{nat_tests}
 use borrow.Author.Tests.{ltb-false}
 use Rattle.byteorder.specs.Endian.{little_number, little_bytes}
@@ -10,12 +10,11 @@ use Rattle.object65.specs.declared.fault.ObjectFault.TheVariants.{CutShort, Unkn
 use Rattle.object65.specs.Record.{IsBytes, ◌>>=◌, Entry, is_record_kind}
 use Rattle.object65.specs.Reading.{front_of, whole, ending, room, record_at, file_limit, records_at}
 use Rattle.object65.specs.Spelling.{entry_bytes, body_limit}
-use Rattle.object65.proofs.Numbers.{two_bytes, back}
+use Rattle.object65.proofs.Numbers.{two_bytes}
 use Rattle.std.specs.List.{flat_map, AllByRecursion}
 use Rattle.object65.specs.declared.record.Item.{Item}
-use Rattle.object65.specs.declared.record.Item.TheVariants as item
-use Rattle.object65.specs.Items.{State, with_item}
-use Rattle.object65.specs.Scanning.{Outline, outline_of, scanned, after, after_all}
+use Rattle.object65.specs.Items.{State}
+use Rattle.object65.specs.Scanning.{Outline, scanned, after, after_all}
 
 -- ---- A record in the room of an object, and its bytes there.
 

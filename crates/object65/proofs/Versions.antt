@@ -1,6 +1,6 @@
 -- An object of version 1 that says the same is as good.
 use Rattle.std.proofs.lemmas.Grind.{common_steps}
-use Rattle.std.proofs.Common.{arith, ◌≡◌, ℕ, ◌+◌, List, [], ◌∷◌, length, map, Bool, true, ◌&&◌, not, nat_le, refl, sym, ◌∙◌, ap}
+use Rattle.std.proofs.Common.{arith, ◌≡◌, ℕ, ◌+◌, List, [], ◌∷◌, length, map, Bool, true, ◌&&◌, not, refl, sym, ◌∙◌, ap}
 use Rattle.std.specs.Prelude.{sum_by}
 use Rattle.std.specs.List.{list_all, AllByRecursion}
 use Rattle.std.proofs.lemmas.List.{length-map}
@@ -10,9 +10,8 @@ use Rattle.object65.specs.declared.object.Section.{Section}
 use Rattle.object65.specs.declared.object.Export.{Export}
 use Rattle.object65.specs.declared.object.Assert.{Assert}
 use Rattle.object65.specs.declared.object.Fragment.{Fragment}
-use Rattle.object65.specs.declared.object.Fragment.TheVariants.{Literal, Fill, Value}
 use Rattle.object65.specs.Laws.{VersionLaw}
-use Rattle.object65.specs.Objects.{FragmentFits, FitsBits, ObjectFits, OriginFits, are_apart, are_names, fragment_len, has_good_origin, has_good_parts, is_good_assert, is_good_form, is_good_fragment, is_good_object, is_good_origin, is_good_section, joins, section_len, section_limit}
+use Rattle.object65.specs.Objects.{FragmentFits, FitsBits, ObjectFits, OriginFits, are_apart, are_names, fragment_len, has_good_origin, has_good_parts, is_good_assert, is_good_form, is_good_fragment, is_good_object, is_good_origin, is_good_section, joins}
 use Rattle.object65.specs.Versions.{assert_in_one, export_in_one, fragment_in_one, in_version_one, section_in_one}
 use Rattle.object65.proofs.Goods.{Parts, and, parts}
 

@@ -11,19 +11,16 @@ use Rattle.object65.specs.Record.{◌>>=◌, Gives, is_memory, Entry, is_version
 use Rattle.object65.specs.Objects.{is_good_object, is_good_section, is_good_fragment, are_apart, section_len, section_limit, fragment_len}
 use Rattle.object65.specs.Small.{is_small_text}
 use Rattle.object65.specs.Scanning
-use Rattle.object65.proofs.Goods.{left, right, parts, and}
+use Rattle.object65.proofs.Goods.{left, right, parts}
 use Rattle.object65.proofs.Spellings.{finished_good}
 use Rattle.object65.proofs.Reached.{GoodState, GoodDraft}
 use Rattle.object65.proofs.Trails.{bound, version_kept, going}
 use Rattle.object65.proofs.Steps.{good_after, good_start}
-use Rattle.std.proofs.lemmas.List.Folds.{list_all-append}
 use Rattle.object65.specs.declared.builder.Draft.{Draft}
 use Rattle.object65.specs.declared.fault.ObjectFault.TheVariants.{FailedBefore, FileError, OutOfOrder}
 use Rattle.object65.specs.declared.record.Item.{Item}
 use Rattle.object65.specs.declared.record.Item.TheVariants as item
 use Rattle.object65.specs.declared.object.Fragment.{Fragment}
-use Rattle.object65.specs.declared.object.Fragment.TheVariants.{Literal, Fill, Value}
-use Rattle.object65.specs.declared.object.Assert.{Assert}
 use Rattle.object65.specs.declared.builder.Parts.{Parts}
 use Rattle.object65.specs.Items.{State, grown, with_item, with_piece, with_piece_in, empty_draft, has_small_text}
 use Rattle.object65.specs.Inner.Sound.{HasRoom, IsWhole, Stands, state_in, state_of, unmarked}

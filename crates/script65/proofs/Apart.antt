@@ -1,17 +1,18 @@
 -- What a placement has; no two rows of an area overlap, and each lies within it.
-use Rattle.std.proofs.Common.{◌≡◌, ℕ, suc, ◌+◌, Bool, true, false, cond, List, [], ◌∷◌, ◌++◌, length, map, Option, Result, Ok, Err, refl, sym, ◌∙◌, ap, arith, ◌≢◌, ◌<◌, ◌≤◌, ◌-◌, slice_get, Some, None, unwrap_or, subst, nat_lt}
-use Rattle.std.specs.Prelude.{if◌then◌else◌, ⊤, ◌==◌, ◌&&◌, ◌||◌, not}
+use Rattle.std.proofs.lemmas.Grind.{common_steps}
+use Rattle.std.proofs.Common.{◌≡◌, ℕ, suc, ◌+◌, Bool, true, false, cond, List, [], ◌∷◌, ◌++◌, length, map, Option, Result, Ok, Err, refl, sym, ◌∙◌, ap, arith, ◌≢◌, ◌<◌, ◌≤◌, slice_get, Some, unwrap_or, subst, nat_lt}
+use Rattle.std.specs.Prelude.{if◌then◌else◌, ⊤, ◌==◌}
 use Rattle.std.specs.List.{AllByRecursion}
 use Rattle.std.proofs.lemmas.List.{length-map}
 use Rattle.base65.specs.Outcome.{◌>>=◌}
 use Rattle.script65.specs.declared.script.Area.{Area}
 use Rattle.script65.specs.declared.script.Row.{Row}
 use Rattle.script65.specs.PlacingLaws.{AllPlaced, RowsThere, SameNeeds, AllWithin, AreApart, AreBehind, AreWithin, NoOverlap, address_in}
-use Rattle.script65.specs.Placing.{area_place, areas_from, has_row, is_in, row_after, row_place, rows_exist, rows_from, size_of, standing, unplaced, begin_in, fitted, moved, sized_row, is_read_only}
+use Rattle.script65.specs.Placing.{area_place, areas_from, has_row, is_in, row_after, row_place, rows_exist, rows_from, size_of, standing, unplaced, fitted, moved, sized_row}
 use Rattle.script65.specs.AreaSums.{bounds_in}
 use Rattle.script65.specs.declared.placement.AreaPlace.{AreaPlace}
 use Rattle.script65.specs.declared.placement.PlaceFault.{PlaceFault}
-use Rattle.script65.specs.declared.placement.PlaceFault.TheVariants.{NoRow, ReadOnlyArea, StartBelow, Overflow}
+use Rattle.script65.specs.declared.placement.PlaceFault.TheVariants.{NoRow}
 use Rattle.script65.specs.declared.placement.Placement.{Placement}
 use Rattle.script65.specs.declared.placement.SegmentNeed.{SegmentNeed}
 use Rattle.script65.specs.declared.placing.site.Bounds.{Bounds}
@@ -50,10 +51,7 @@ rows_kept k a b (r ∷ rs) (s ∷ ss) cursor x h = by (is_in k r) h (λ c y e. r
         ap (λ (z : Reached). length z.0) (sym (same_pair (s ∷ y.0, y.1) x g.2)) ∙ ap suc (again cursor y g.1)
 
 areas_kept : (all : List Area) (rows : List Row) (areas : List Area) (k : ℕ) (before : List AreaPlace) (ss : List Spot) (q : Placement) → areas_from k all rows areas before ss ≡ Ok q → (length q.areas ≡ length before + length areas) × (length q.rows ≡ length ss)
-areas_kept all rows [] k before ss q h =
-    let same : ◌≡◌ {A = Placement} (record { areas = before; rows = map row_place ss }) q = cc in
-    let none : length before ≡ length before + 0 = omega arith in
-    (ap (λ (z : Placement). length z.areas) (sym same) ∙ none, ap (λ (z : Placement). length z.rows) (sym same) ∙ length-map ss row_place)
+areas_kept all rows [] k before ss q h = grind (arith, common_steps)
 areas_kept all rows (a ∷ rest) k before ss q h =
     let d = bind_ok (bounds_in (standing k all rows a before ss)) (λ b. rows_from k a b rows ss b.start >>= λ x. areas_from (k + 1) all rows rest (before ++ area_place b x.1 ∷ []) x.0) q h in
     let b : Bounds = d.0 in
@@ -76,15 +74,10 @@ all_placed script needs p h =
 
 all_exist : (rows : List Row) (needs : List SegmentNeed) → rows_exist rows needs ≡ Ok tt → AllByRecursion (λ (n : SegmentNeed). has_row rows n.name ≡ true) needs
 all_exist rows [] h = tt
-all_exist rows (n ∷ needs) h = go (has_row rows n.name) refl h (all_exist rows needs)
-  where
-    go : (b : Bool) → has_row rows n.name ≡ b → cond b (rows_exist rows needs) (Err (NoRow n.name)) ≡ Ok tt → (rows_exist rows needs ≡ Ok tt → AllByRecursion (λ (n : SegmentNeed). has_row rows n.name ≡ true) needs) → (has_row rows n.name ≡ true) × AllByRecursion (λ (n : SegmentNeed). has_row rows n.name ≡ true) needs
-    go true e h rest = (e, rest h)
-    go false e h rest = absurd cc
+all_exist rows (n ∷ needs) h = grind (arith, common_steps, (all_exist rows needs))
 
 pub rows_there : RowsThere
-rows_there script needs p h =
-    all_exist script.rows needs (bind_ok (rows_exist script.rows needs) (λ u. areas_from 0 script.areas script.rows script.areas [] (map (unplaced needs) script.rows)) p h).1
+rows_there script needs p h = grind (arith, common_steps, all_exist, bind_ok)
 
 -- ---- Names and sizes of needs.
 
@@ -102,16 +95,10 @@ unplaced_by size = record { size = size; run = 0; load = 0 }
 
 rows_alike : (needs others : List SegmentNeed) → ((name : List ℕ) → size_of needs name ≡ size_of others name) → (rows : List Row) → map (unplaced needs) rows ≡ map (unplaced others) rows
 rows_alike needs others h [] = refl
-rows_alike needs others h (r ∷ rows) =
-    ap (λ z. unplaced_by z ∷ map (unplaced needs) rows) (h r.name)
-    ∙ ap (λ z. unplaced others r ∷ z) (rows_alike needs others h rows)
+rows_alike needs others h (r ∷ rows) = grind (arith, common_steps, (rows_alike needs others h rows))
 
 pub same_needs : SameNeeds
-same_needs script needs others names sizes =
-    let exist : rows_exist script.rows needs ≡ rows_exist script.rows others =
-    exist_by_name script.rows needs ∙ ap (names_exist script.rows) names ∙ sym (exist_by_name script.rows others) in
-    ap (λ r. r >>= (λ u. areas_from 0 script.areas script.rows script.areas [] (map (unplaced needs) script.rows))) exist
-    ∙ ap (λ ss. rows_exist script.rows others >>= (λ u. areas_from 0 script.areas script.rows script.areas [] ss)) (rows_alike needs others sizes script.rows)
+same_needs script needs others names sizes = grind (arith, common_steps, exist_by_name, names_exist, rows_alike)
 
 -- ---- No two rows of an area overlap, and each lies within it.
 
@@ -140,30 +127,14 @@ pub record Placed (k : ℕ) (b : Bounds) (r : Row) (s : Spot) (cursor : ℕ) (x 
 
 fitted_placed : (k : ℕ) (a : Area) (b : Bounds) (r : Row) (s : Spot) (n at cursor : ℕ) (x : Spot × ℕ) → s.size ≡ Some n → fitted k a b r s n at cursor ≡ Ok x → Placed k b r s cursor x
 unfolding fitted
-fitted_placed k a b r s n at cursor x sized h = by (nat_lt at cursor) (nat_lt b.end (at + n)) refl refl h
-  where
-    by : (t u : Bool) → nat_lt at cursor ≡ t → nat_lt b.end (at + n) ≡ u → (if t then Err (StartBelow r.name) else if u then Err (Overflow a.name (at + n - b.end)) else Ok (moved k r at s, at + n)) ≡ Ok x → Placed k b r s cursor x
-    by true u e f h = absurd cc
-    by false true e f h = absurd cc
-    by false false e f h =
-        let same : ◌≡◌ {A = Spot × ℕ} (moved k r at s, at + n) x = cc in
-        let size : size_in s ≡ n = ap (λ o. unwrap_or o 0) sized in
-        record { at = at; spot = sym (ap (λ y. y.0) same); end = sym (ap (λ y. y.1) same) ∙ ap (λ m. at + m) (sym size); low = not_below at cursor e; high = λ c. (let g = not_below b.end (at + n) f in let q = ap (λ y. y.1) same in omega arith) }
+fitted_placed k a b r s n at cursor x sized h = grind (arith, common_steps)
 
 sized_placed : (k : ℕ) (a : Area) (b : Bounds) (r : Row) (s : Spot) (o : Option ℕ) (cursor : ℕ) (x : Spot × ℕ) → s.size ≡ o → sized_row k a b r s o cursor ≡ Ok x → Placed k b r s cursor x
-sized_placed k a b r s None cursor x e h =
-    let same : ◌≡◌ {A = Spot × ℕ} (moved k r cursor s, cursor) x = cc in
-    let size : size_in s ≡ 0 = ap (λ o. unwrap_or o 0) e in
-    record { at = cursor; spot = sym (ap (λ y. y.0) same); end = sym (ap (λ y. y.1) same) ∙ omega (arith, size); low = omega arith; high = λ c. (let q = ap (λ y. y.1) same in omega arith) }
-sized_placed k a b r s (Some n) cursor x e h = fitted_placed k a b r s n (begin_in k b r cursor) cursor x e h
+sized_placed k a b r s y cursor x e h = grind (arith, common_steps, fitted_placed)
 
 pub row_placed : (k : ℕ) (a : Area) (b : Bounds) (r : Row) (s : Spot) (cursor : ℕ) (x : Spot × ℕ) → row_after k a b r s cursor ≡ Ok x → Placed k b r s cursor x
 unfolding row_after
-row_placed k a b r s cursor x h = by (a.read_only && r.run == k && not (is_read_only r.access)) h
-  where
-    by : (t : Bool) → (if t then Err (ReadOnlyArea r.name) else sized_row k a b r s s.size cursor) ≡ Ok x → Placed k b r s cursor x
-    by true h = absurd cc
-    by false h = sized_placed k a b r s s.size cursor x refl h
+row_placed k a b r s cursor x h = grind (arith, common_steps, sized_placed)
 
 moved_size : (k at : ℕ) (r : Row) (s : Spot) → (moved k r at s).size ≡ s.size
 unfolding moved
@@ -171,20 +142,11 @@ moved_size k at r s = refl
 
 moved_there : (k at : ℕ) (r : Row) (s : Spot) → is_in k r ≡ true → at_in k r (moved k r at s) ≡ at
 unfolding moved is_in
-moved_there k at r s i = by (r.run == k) (r.load == k) i
-  where
-    by : (t u : Bool) → (t || u) ≡ true → (if t then (if t then at else s.run) else (if u then at else s.load)) ≡ at
-    by true u h = refl
-    by false true h = refl
-    by false false h = absurd cc
+moved_there k at r s i = grind (arith, common_steps)
 
 moved_elsewhere : (j k at : ℕ) (r : Row) (s : Spot) → j ≢ k → is_in j r ≡ true → at_in j r (moved k r at s) ≡ at_in j r s
 unfolding moved is_in
-moved_elsewhere j k at r s apart i = by (r.run == j) refl i
-  where
-    by : (t : Bool) → (r.run == j) ≡ t → (t || r.load == j) ≡ true → (if t then (if r.run == k then at else s.run) else (if r.load == k then at else s.load)) ≡ (if t then s.run else s.load)
-    by true e h = rw (other_test r.run j k apart e) refl
-    by false e h = rw (other_test r.load j k apart h) refl
+moved_elsewhere j k at r s apart i = grind (arith, common_steps)
 
 -- the rows of one area
 
@@ -215,9 +177,7 @@ first_of_pair x y h = cc
 
 rows_good : (k : ℕ) (a : Area) (b : Bounds) (rs : List Row) (ss ts : List Spot) (cursor last : ℕ) → cursor ≤ b.end → rows_from k a b rs ss cursor ≡ Ok (ts, last) → IsGood k cursor b.end rs ts
 rows_good k a b [] ss ts cursor last room h = (tt, tt, tt)
-rows_good k a b (r ∷ rs) [] ts cursor last room h =
-    let e = first_of_pair ([], cursor) (ts, last) h in
-    subst (IsGood k cursor b.end (r ∷ rs)) (ap (λ y. y.0) e) (tt, tt, tt)
+rows_good k a b (r ∷ rs) [] ts cursor last room h = grind (arith, common_steps, first_of_pair)
 rows_good k a b (r ∷ rs) (s ∷ ss) ts cursor last room h = by (is_in k r) refl h (λ c us l small e. rows_good k a b rs ss us c l small e)
   where
     by : (t : Bool) → is_in k r ≡ t → (if t then (row_after k a b r s cursor >>= λ x. front x.0 (rows_from k a b rs ss x.1)) else front s (rows_from k a b rs ss cursor)) ≡ Ok (ts, last) → ((c : ℕ) (us : List Spot) (l : ℕ) → c ≤ b.end → rows_from k a b rs ss c ≡ Ok (us, l) → IsGood k c b.end rs us) → IsGood k cursor b.end (r ∷ rs) ts
@@ -259,9 +219,7 @@ Same k [] ss ts = ⊤
 
 rows_same : (j k : ℕ) (a : Area) (b : Bounds) (rs : List Row) (ss ts : List Spot) (cursor last : ℕ) → j ≢ k → rows_from k a b rs ss cursor ≡ Ok (ts, last) → Same j rs ss ts
 rows_same j k a b [] ss ts cursor last apart h = tt
-rows_same j k a b (r ∷ rs) [] ts cursor last apart h =
-    let e = first_of_pair ([], cursor) (ts, last) h in
-    subst (Same j (r ∷ rs) []) (ap (λ y. y.0) e) tt
+rows_same j k a b (r ∷ rs) [] ts cursor last apart h = grind (arith, common_steps, first_of_pair)
 rows_same j k a b (r ∷ rs) (s ∷ ss) ts cursor last apart h = by (is_in k r) h (λ c us l e. rows_same j k a b rs ss us c l apart e)
   where
     by : (t : Bool) → (if t then (row_after k a b r s cursor >>= λ x. front x.0 (rows_from k a b rs ss x.1)) else front s (rows_from k a b rs ss cursor)) ≡ Ok (ts, last) → ((c : ℕ) (us : List Spot) (l : ℕ) → rows_from k a b rs ss c ≡ Ok (us, l) → Same j rs ss us) → Same j (r ∷ rs) (s ∷ ss) ts
@@ -317,10 +275,7 @@ abbrev WithinIn : List Row → ℕ → List AreaPlace → List Spot → Type 0
 WithinIn rows j placed ss = (place : AreaPlace) → slice_get placed j ≡ Some place → AreWithin j place rows (map row_place ss)
 
 to_place : (b : Bounds) (last k : ℕ) (rows : List Row) (ts : List Spot) → b.start ≤ b.end → AllTo k b.end rows ts → AllTo k ((area_place b last).start + (area_place b last).size) rows ts
-to_place b last k rows ts le h =
-    let P : ℕ → Type 0 = λ n. AllTo k n rows ts in
-    let same : b.end ≡ (area_place b last).start + (area_place b last).size = omega arith in
-    subst P same h
+to_place b last k rows ts le h = grind (arith, common_steps)
 
 apart_made : (script : Script) → Made script (ApartIn script.rows)
 apart_made script k a placed ss ts b last at count made e = (rows_good k a b script.rows ss ts b.start last (bounds_order (standing k script.areas script.rows a placed ss) b made) e).1
@@ -329,11 +284,7 @@ apart_kept : (script : Script) → Kept script (ApartIn script.rows)
 apart_kept script j k a placed ss ts b last less count made e q = apart_same j script.rows ss ts (rows_same j k a b script.rows ss ts b.start last (λ same. absurd (omega arith)) e) q
 
 within_made : (script : Script) → Made script (WithinIn script.rows)
-within_made script k a placed ss ts b last at count made e place here =
-    let good = rows_good k a b script.rows ss ts b.start last (bounds_order (standing k script.areas script.rows a placed ss) b made) e in
-    let same : area_place b last ≡ place = (let w : ◌≡◌ {A = Option AreaPlace} (Some (area_place b last)) (Some place) = sym (get_last placed k (area_place b last) count) ∙ here in cc) in
-    subst (λ q. AreWithin k q script.rows (map row_place ts)) same
-    (within_of k (area_place b last) script.rows ts good.0 (to_place b last k script.rows ts (bounds_order (standing k script.areas script.rows a placed ss) b made) good.2))
+within_made script k a placed ss ts b last at count made e place here = grind (arith, common_steps, rows_good, bounds_order, get_last, within_of, to_place)
 
 within_kept : (script : Script) → Kept script (WithinIn script.rows)
 within_kept script j k a placed ss ts b last less count made e q place here =

@@ -1,4 +1,5 @@
 -- Texts: digits, the numbers of forms, names as they are printed.
+use Rattle.std.proofs.lemmas.Grind.{common_steps}
 use Rattle.std.proofs.Common.{◌≡◌, ℕ, ◌+◌, ◌*◌, ◌^◌, ◌<◌, ◌≤◌, Bool, true, false, List, [], ◌∷◌, length, drop, get_or, Option, Some, None, refl, sym, ap, ◌∙◌, arith, nat_lt, add-one, ◌++◌, take, append_assoc}
 use Rattle.std.specs.Prelude.{◌&&◌, if◌then◌else◌, ◌==◌, IsUtf8, encode_utf8, encode_utf8_all}
 use Rattle.std.specs.List.{list_all}
@@ -38,9 +39,7 @@ grows radix v [] h = omega arith
 grows radix v (d ∷ ds) h = omega (arith, grows radix (v * radix + digit_value d) ds h, le-mul_of_pos_right v h)
 
 pub too_large : (radix v d : ℕ) (ds : List ℕ) → 0 < radix → 2 ^ 32 ≤ v * radix + digit_value d → digits_from radix v (d ∷ ds) ≡ None
-too_large radix v d ds pos h =
-    let e : nat_lt (digits_value_after radix (v * radix + digit_value d) ds) (2 ^ 32) ≡ false = test_false _ _ (omega (arith, grows radix (v * radix + digit_value d) ds pos)) in
-    rw e (rw (and_false (list_all (is_digit radix) (d ∷ ds))) refl)
+too_large radix v d ds pos h = grind (arith, common_steps, test_false, grows, and_false)
 
 pub no_more_digits : (radix v : ℕ) → v < 2 ^ 32 → digits_from radix v [] ≡ Some v
 no_more_digits radix v h = let e : nat_lt v (2 ^ 32) ≡ true = test_true _ _ h in rw e refl
@@ -49,8 +48,7 @@ pub next_digit : (text : List ℕ) (i : ℕ) → i < length text → drop i text
 next_digit text i h = rw add-one (drop-cons text i 0 h)
 
 pub stops : (text : List ℕ) (i v radix : ℕ) → i < length text → digits_from radix v (drop i text) ≡ digits radix text → 0 < radix → 2 ^ 32 ≤ v * radix + digit_value (get_or text i 0) → digits radix text ≡ None
-stops text i v radix lt inv pos large =
-    sym inv ∙ ap (digits_from radix v) (next_digit text i lt) ∙ too_large radix v (get_or text i 0) (drop (i + 1) text) pos large
+stops text i v radix lt inv pos large = grind (arith, common_steps, next_digit, too_large)
 
 pub ends : (text : List ℕ) (i v radix : ℕ) → length text ≤ i → digits_from radix v (drop i text) ≡ digits radix text → v < 2 ^ 32 → digits radix text ≡ Some v
 ends text i v radix le inv small = sym inv ∙ ap (digits_from radix v) (drop_all i text le) ∙ no_more_digits radix v small
@@ -58,23 +56,7 @@ ends text i v radix le inv small = sym inv ∙ ap (digits_from radix v) (drop_al
 -- ---- What the number of a form says of it.
 
 end_of_rank : (f g : Form) → (form_rank f == form_rank g) ≡ true → f ≡ form.End → g ≡ form.End
-end_of_rank f g h e = by_rank g (let h' : (12 == form_rank g) ≡ true = rw (ap form_rank e) at h in h')
-  where
-    by_rank : (g : Form) → (12 == form_rank g) ≡ true → g ≡ form.End
-    by_rank form.End h = refl
-    by_rank form.Word h = cc
-    by_rank form.Number h = cc
-    by_rank form.Text h = cc
-    by_rank form.Output h = cc
-    by_rank form.Colon h = cc
-    by_rank form.Semicolon h = cc
-    by_rank form.Comma h = cc
-    by_rank form.Equals h = cc
-    by_rank form.Plus h = cc
-    by_rank form.Minus h = cc
-    by_rank form.Open h = cc
-    by_rank form.Close h = cc
-    by_rank form.Bad h = cc
+end_of_rank f g h e = grind (arith, common_steps)
 
 pub end_stands : (bytes : List ℕ) (f : Form) (at : ℕ) → stands bytes f at ≡ true → (token_at bytes at).form ≡ form.End → f ≡ form.End
 unfolding stands
@@ -97,7 +79,4 @@ encode-push (x ∷ xs) c = append_assoc (encode_utf8 x) (encode_utf8_all xs) (en
 
 -- one byte more
 pub encode-more : (name : List ℕ) (i c : ℕ) → i < length name → c ≡ get_or name i 0 → encode_utf8_all (take i name) ++ encode_utf8 c ≡ encode_utf8_all (take (i + 1) name)
-encode-more name i c lt e =
-    ap (λ d. encode_utf8_all (take i name) ++ encode_utf8 d) e
-    ∙ encode-push (take i name) (get_or name i 0)
-    ∙ ap encode_utf8_all (sym (rw add-one (take-suc name i 0 lt)))
+encode-more name i c lt e = grind (arith, common_steps, encode-push, take-suc)

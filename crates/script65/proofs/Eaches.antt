@@ -1,9 +1,9 @@
 -- Lists that are made item by item, and how faults pass.
+use Rattle.std.proofs.lemmas.Grind.{common_steps}
 use Rattle.std.proofs.Common.{◌≡◌, ◌<◌, ◌≤◌, ◌+◌, ℕ, zero, suc, add-one, get_or, List, [], ◌∷◌, ◌++◌, length, map, drop, slice_get, Option, Some, None, refl, sym, ap, ◌∙◌, Ok, Err, Bool, true, false, subst, cond, nat_lt, position, is_some, arith}
-use Rattle.std.specs.Prelude.{Result, ◌||◌, if◌then◌else◌}
+use Rattle.std.specs.Prelude.{Result}
 use Rattle.std.specs.Option.{option_map}
 use Rattle.std.proofs.Math.Seq.{drop-cons}
-use Rattle.std.proofs.lemmas.List.{drop_all}
 use Rattle.std.proofs.lemmas.Option.{slice_get_read}
 use Rattle.base65.specs.Outcome.{each, ◌>>=◌, Unless}
 use Rattle.script65.specs.declared.fault.Stop.{Stop}
@@ -50,12 +50,7 @@ regroup [] x ys = refl
 regroup (y ∷ xs) x ys = ap (λ l. y ∷ l) (regroup xs x ys)
 
 pub map_step : {A B : Type 0} (f : A → B) (done : List B) (xs : List A) (x : A) (y : B) → done ++ map f (drop (length done) xs) ≡ map f xs → slice_get xs (length done) ≡ Some x → y ≡ f x → (done ++ y ∷ []) ++ map f (drop (length (done ++ y ∷ [])) xs) ≡ map f xs
-map_step f done xs x y inv at e =
-    ap (λ n. (done ++ y ∷ []) ++ map f (drop n xs)) (longer done y)
-    ∙ regroup done y (map f (drop (suc (length done)) xs))
-    ∙ ap (λ z. done ++ z ∷ map f (drop (suc (length done)) xs)) e
-    ∙ sym (ap (λ l. done ++ map f l) (drop_at xs (length done) x at))
-    ∙ inv
+map_step f done xs x y inv at e = grind (arith, common_steps, longer, regroup, drop_at)
 
 pub map_end : {A B : Type 0} (f : A → B) (done : List B) (xs : List A) → done ++ map f (drop (length done) xs) ≡ map f xs → slice_get xs (length done) ≡ None → done ≡ map f xs
 map_end f done xs inv at = sym (ap (λ l. done ++ map f l) (drop_end xs (length done) at) ∙ append_none done) ∙ inv
@@ -65,8 +60,7 @@ abbrev pub behind : {E B : Type 0} → List B → Result (List B) E → Result (
 behind done rest = rest >>= (λ ys. Ok (done ++ ys))
 
 behind_one : {E B : Type 0} (done : List B) (y : B) (rest : Result (List B) E) → behind done (rest >>= (λ ys. Ok (y ∷ ys))) ≡ behind (done ++ y ∷ []) rest
-behind_one done y (Ok ys) = ap Ok (sym (regroup done y ys))
-behind_one done y (Err e) = refl
+behind_one done y x = grind (arith, common_steps)
 
 pub each_step : {E A B : Type 0} (f : A → Result B E) (done : List B) (xs : List A) (x : A) (y : B) → behind done (each f (drop (length done) xs)) ≡ each f xs → slice_get xs (length done) ≡ Some x → f x ≡ Ok y → behind (done ++ y ∷ []) (each f (drop (length (done ++ y ∷ [])) xs)) ≡ each f xs
 each_step f done xs x y inv at e =
@@ -77,14 +71,10 @@ each_step f done xs x y inv at e =
     ∙ inv
 
 pub each_stops : {E A B : Type 0} (f : A → Result B E) (done : List B) (xs : List A) (x : A) (e : E) → behind done (each f (drop (length done) xs)) ≡ each f xs → slice_get xs (length done) ≡ Some x → f x ≡ Err e → each f xs ≡ Err e
-each_stops f done xs x e inv at h =
-    sym inv
-    ∙ ap (λ l. behind done (each f l)) (drop_at xs (length done) x at)
-    ∙ ap (λ r. behind done (r >>= λ y. each f (drop (suc (length done)) xs) >>= λ ys. Ok (y ∷ ys))) h
+each_stops f done xs x e inv at h = grind (arith, common_steps, drop_at)
 
 pub each_end : {E A B : Type 0} (f : A → Result B E) (done : List B) (xs : List A) → behind done (each f (drop (length done) xs)) ≡ each f xs → slice_get xs (length done) ≡ None → each f xs ≡ Ok done
-each_end f done xs inv at =
-    sym inv ∙ ap (λ l. behind done (each f l)) (drop_end xs (length done) at) ∙ ap Ok (append_none done)
+each_end f done xs inv at = grind (arith, common_steps, drop_end, append_none)
 
 -- the same where a loop goes by the place of an item
 
@@ -92,26 +82,17 @@ pub rest_at : {A : Type 0} (xs : List A) (i : ℕ) (d : A) → i < length xs →
 rest_at xs i d lt = rw add-one (drop-cons xs i d lt)
 
 pub each_next : {E A B : Type 0} (f : A → Result B E) (done : List B) (xs : List A) (i : ℕ) (d : A) (y : B) → i < length xs → behind done (each f (drop i xs)) ≡ each f xs → f (get_or xs i d) ≡ Ok y → behind (done ++ y ∷ []) (each f (drop (i + 1) xs)) ≡ each f xs
-each_next f done xs i d y lt inv e =
-    sym (behind_one done y (each f (drop (i + 1) xs)))
-    ∙ sym (ap (λ r. behind done (r >>= λ y. each f (drop (i + 1) xs) >>= λ ys. Ok (y ∷ ys))) e)
-    ∙ sym (ap (λ l. behind done (each f l)) (rest_at xs i d lt))
-    ∙ inv
+each_next f done xs i d y lt inv e = grind (arith, common_steps)
 
 pub each_refuses : {E A B : Type 0} (f : A → Result B E) (done : List B) (xs : List A) (i : ℕ) (d : A) (e : E) → i < length xs → behind done (each f (drop i xs)) ≡ each f xs → f (get_or xs i d) ≡ Err e → each f xs ≡ Err e
-each_refuses f done xs i d e lt inv h =
-    sym inv
-    ∙ ap (λ l. behind done (each f l)) (rest_at xs i d lt)
-    ∙ ap (λ r. behind done (r >>= λ y. each f (drop (i + 1) xs) >>= λ ys. Ok (y ∷ ys))) h
+each_refuses f done xs i d e lt inv h = grind (arith, common_steps)
 
 pub each_all : {E A B : Type 0} (f : A → Result B E) (done : List B) (xs : List A) (i : ℕ) → length xs ≤ i → behind done (each f (drop i xs)) ≡ each f xs → each f xs ≡ Ok done
-each_all f done xs i le inv =
-    sym inv ∙ ap (λ l. behind done (each f l)) (drop_all i xs le) ∙ ap Ok (append_none done)
+each_all f done xs i le inv = grind (arith, common_steps)
 
 -- no item, seen by f
 pub none_mapped : {A B : Type 0} (f : A → B) (o : Option A) (s : Option B) → ((x : A) → o ≡ Some x → ⊥) → option_map f o ≡ s → s ≡ None
-none_mapped f None s h e = sym e
-none_mapped f (Some x) s h e = absurd (h x refl)
+none_mapped f x s h e = grind (arith, common_steps)
 
 -- ---- Items one behind the other, and how faults pass.
 
@@ -147,27 +128,18 @@ checked o t = unless_fault o t tt
 
 entry_done : (bytes : List ℕ) (block : Block) (name : Token) (d f : Draft) (given : List Given) (at : ℕ) → checked (entry_fault block given) (token_at bytes at) ≡ Ok tt → f ≡ added block (text_of bytes name) (record { at = name.from; given = given }) d → Ok (f, (token_at bytes at).to) ≡ entry_end bytes block name d (given, at)
 unfolding entry_end
-entry_done bytes block name d f given at h e = rw e (by (entry_fault block given) h)
-  where
-    by : (o : Option Fault) → checked o (token_at bytes at) ≡ Ok tt → ◌≡◌ {A = Reached} (Ok (added block (text_of bytes name) (record { at = name.from; given = given }) d, (token_at bytes at).to)) (unless_fault o (token_at bytes at) (added block (text_of bytes name) (record { at = name.from; given = given }) d, (token_at bytes at).to))
-    by None h = refl
-    by (Some fault) h = absurd cc
+entry_done bytes block name d f given at h e = grind (arith, common_steps)
 
 entry_lacks : (bytes : List ℕ) (block : Block) (name : Token) (d : Draft) (given : List Given) (at : ℕ) (e : Stop) → checked (entry_fault block given) (token_at bytes at) ≡ Err e → Err e ≡ entry_end bytes block name d (given, at)
 unfolding entry_end
-entry_lacks bytes block name d given at e h = by (entry_fault block given) h
-  where
-    by : (o : Option Fault) → checked o (token_at bytes at) ≡ Err e → ◌≡◌ {A = Reached} (Err e) (unless_fault o (token_at bytes at) (added block (text_of bytes name) (record { at = name.from; given = given }) d, (token_at bytes at).to))
-    by None h = absurd cc
-    by (Some fault) h = let same : (record { fault = fault; at = (token_at bytes at).from }) ≡ e = cc in ap Err (sym same)
+entry_lacks bytes block name d given at e h = grind (arith, common_steps)
 
 pub entry_of : (bytes : List ℕ) (block : Block) (d f : Draft) (at start next : ℕ) (name : Token) (given : List Given) (close : Token) → Ok (name, start) ≡ entry_head bytes block d at → Attributes bytes block [] start (Ok (given, next)) → close ≡ token_at bytes next → Ok tt ≡ checked (entry_fault block given) close → f ≡ added block (text_of bytes name) (record { at = name.from; given = given }) d → IsEntry bytes block d at (Ok (f, close.to))
 entry_of bytes block d f at start next name given close head body same full new =
     first_ok (name, start) (entry_head bytes block d at) _ _ head (Ok (given, next), body, rw same (entry_done bytes block name d f given next (sym (full ∙ ap (λ t. checked (entry_fault block given) t) same)) new))
 
 pub entry_stops : (bytes : List ℕ) (block : Block) (d : Draft) (at start next : ℕ) (name : Token) (given : List Given) (close : Token) (e : Stop) → Ok (name, start) ≡ entry_head bytes block d at → Attributes bytes block [] start (Ok (given, next)) → close ≡ token_at bytes next → Err e ≡ checked (entry_fault block given) close → IsEntry bytes block d at (Err e)
-entry_stops bytes block d at start next name given close e head body same lacks =
-    first_ok (name, start) (entry_head bytes block d at) _ _ head (Ok (given, next), body, entry_lacks bytes block name d given next e (sym (lacks ∙ ap (λ t. checked (entry_fault block given) t) same)))
+entry_stops bytes block d at start next name given close e head body same lacks = grind (arith, common_steps, first_ok, entry_lacks)
 
 -- ---- What a map by names says of the list of its entries.
 
@@ -188,38 +160,22 @@ module _ {K V Z : Type 0} (g : K × V → Z) (p : K → Bool) (q : Z → Bool) (
   -- a key is found where an item passes
   pub is_some-lookup : (es : List (K × V)) → is_some (lookup p es) ≡ list_any q (map g es)
   is_some-lookup [] = refl
-  is_some-lookup (e ∷ es) = ap (λ b. is_some (cond b (Some e.1) (lookup p es))) (same e) ∙ by (q (g e)) (is_some-lookup es)
-    where
-      by : (b : Bool) → is_some (lookup p es) ≡ list_any q (map g es) → is_some (cond b (Some e.1) (lookup p es)) ≡ (b || list_any q (map g es))
-      by true h = refl
-      by false h = h
+  is_some-lookup (e ∷ es) = grind (arith, common_steps, (is_some-lookup es))
 
 module _ {K V Z : Type 0} (eq : K → K → Bool) (g : K × V → Z) (k : K) (v : V) (q : Z → Bool) (same : (e : K × V) → eq k e.0 ≡ q (g e)) where
   -- a new key goes last
   pub map-insert_entry : (es : List (K × V)) → list_any q (map g es) ≡ false → map g (insert_entry eq es k v) ≡ map g es ++ g (k, v) ∷ []
   map-insert_entry [] h = refl
-  map-insert_entry (e ∷ es) h = by (eq k e.0) (same e) (map-insert_entry es)
-    where
-      by : (b : Bool) → b ≡ q (g e) → (list_any q (map g es) ≡ false → map g (insert_entry eq es k v) ≡ map g es ++ g (k, v) ∷ []) → map g (if b then (e.0, v) ∷ es else e ∷ insert_entry eq es k v) ≡ (g e ∷ map g es) ++ g (k, v) ∷ []
-      by true t rest = absurd (let never : true ≡ false = ap (λ b. b || list_any q (map g es)) t ∙ h in cc)
-      by false t rest = ap (λ l. g e ∷ l) (rest (ap (λ b. b || list_any q (map g es)) t ∙ h))
+  map-insert_entry (e ∷ es) h = grind (arith, common_steps, (map-insert_entry es))
 
 -- ---- Sums as far as a loop has come.
 
 module _ {T : Type 0} (is : T → Bool) (number : T → ℕ) (ts : List T) (i : ℕ) (d : T) (old new whole : ℕ) where
   pub counts : i < length ts → is (get_or ts i d) ≡ true → new ≡ old + number (get_or ts i d) → old + come_to is number (drop i ts) ≡ whole → new + come_to is number (drop (i + 1) ts) ≡ whole
-  counts lt sure added so_far =
-      let rest : come_to is number (drop i ts) ≡ number (get_or ts i d) + come_to is number (drop (i + 1) ts) =
-      ap (come_to is number) (rest_at ts i d lt) ∙ ap (λ b. (if b then number (get_or ts i d) else 0) + come_to is number (drop (i + 1) ts)) sure in
-      omega arith
+  counts lt sure added so_far = grind (arith, common_steps)
 
   pub passes : i < length ts → is (get_or ts i d) ≡ false → new ≡ old → old + come_to is number (drop i ts) ≡ whole → new + come_to is number (drop (i + 1) ts) ≡ whole
-  passes lt other same so_far =
-      let rest : come_to is number (drop i ts) ≡ 0 + come_to is number (drop (i + 1) ts) =
-      ap (come_to is number) (rest_at ts i d lt) ∙ ap (λ b. (if b then number (get_or ts i d) else 0) + come_to is number (drop (i + 1) ts)) other in
-      omega arith
+  passes lt other same so_far = grind (arith, common_steps)
 
 pub all_counted : {T : Type 0} (is : T → Bool) (number : T → ℕ) (ts : List T) (i old whole : ℕ) → length ts ≤ i → old + come_to is number (drop i ts) ≡ whole → old ≡ whole
-all_counted is number ts i old whole le so_far =
-    let rest : come_to is number (drop i ts) ≡ 0 = ap (come_to is number) (drop_all i ts le) in
-    omega arith
+all_counted is number ts i old whole le so_far = grind (arith, common_steps)

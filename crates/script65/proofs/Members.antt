@@ -1,4 +1,5 @@
 -- The rows of each area, their names, and what segments need.
+use Rattle.std.proofs.lemmas.Grind.{common_steps}
 use Rattle.std.proofs.Common.{◌≡◌, ◌≢◌, ◌<◌, ◌≤◌, ℕ, ◌+◌, Bool, true, false, List, [], ◌∷◌, ◌++◌, length, drop, get_or, Option, Some, None, refl, sym, ap, ◌∙◌, arith, ◌-◌, cond, map, Err, nat_lt, take, position, MatchOption, length-append}
 use Rattle.std.specs.Prelude.{◌==◌, ◌||◌, if◌then◌else◌, find, codes}
 use Rattle.std.specs.Option.{option_map}
@@ -6,16 +7,15 @@ use Rattle.std.proofs.lemmas.Bool.Decides.{nat_tests}
 use Rattle.std.proofs.lemmas.List.{drop_all, append_cancel_right, take-append-drop}
 use Rattle.script65.specs.declared.script.Row.{Row}
 use Rattle.script65.specs.Placing.{is_in, places_in, has_row, rows_exist, size_of}
-use Rattle.script65.proofs.Eaches.{append_none, regroup, drop_item}
+use Rattle.script65.proofs.Eaches.{append_none, drop_item}
 use Rattle.std.specs.Str.{bytes_eq}
 use Rattle.script65.specs.declared.placement.PlaceFault.TheVariants.{NoRow}
 use Rattle.script65.specs.declared.placement.SegmentNeed.{SegmentNeed}
-use Rattle.std.specs.Bool.{one_answer}
 use Rattle.std.specs.List.{position_or_len}
 use Rattle.std.proofs.lemmas.Slice.Eq.{bytes_eq-Decides}
 use Rattle.std.proofs.Math.Path.{fun_ext}
 use Rattle.std.proofs.Math.Seq.{drop-append_seam}
-use Rattle.script65.specs.AreaSums.{ending, part_name}
+use Rattle.script65.specs.AreaSums.{part_name}
 use Rattle.script65.specs.declared.reading.table.Entry.{Entry}
 
 -- ---- The rows of each area.
@@ -29,37 +29,21 @@ never_both run load k apart a b = grind (arith, nat_tests)
 
 pub added_twice : (k i : ℕ) (r : Row) (o : Option (List ℕ)) → r.load ≢ r.run → option_map (with_if (r.load == k) i) (option_map (with_if (r.run == k) i) o) ≡ option_map (with_if (is_in k r) i) o
 unfolding is_in
-added_twice k i r None apart = refl
-added_twice k i r (Some m) apart = by (r.run == k) (r.load == k) (never_both r.run r.load k apart)
-  where
-    by : (a b : Bool) → (a ≡ true → b ≡ true → ⊥) → Some (with_if b i (with_if a i m)) ≡ Some (with_if (a || b) i m)
-    by true true h = absurd (h refl refl)
-    by true false h = refl
-    by false b h = refl
+added_twice k i r x apart = grind (arith, common_steps)
 
 pub added_once : (k i : ℕ) (r : Row) (o : Option (List ℕ)) → r.load ≡ r.run → option_map (with_if (r.run == k) i) o ≡ option_map (with_if (is_in k r) i) o
 unfolding is_in
-added_once k i r o same = rw same (by (r.run == k))
-  where
-    by : (a : Bool) → option_map (with_if a i) o ≡ option_map (with_if (a || a) i) o
-    by true = refl
-    by false = refl
+added_once k i r o same = grind (arith, common_steps)
 
 -- what the members so far and the rest are
 abbrev pub Collects : ℕ → List Row → ℕ → Option (List ℕ) → Type 0
 Collects k rows i o = (m : List ℕ) × (o ≡ Some m) × (m ++ places_in k i (drop i rows) ≡ places_in k 0 rows)
 
 pub collects_none : (k : ℕ) (rows : List Row) (o : Option (List ℕ)) → o ≡ Some [] → Collects k rows 0 o
-collects_none k [] o e = ([], e, refl)
-collects_none k (r ∷ rows) o e = ([], e, refl)
+collects_none k x o e = grind (arith, common_steps)
 
 pub collects_more : (k : ℕ) (rows : List Row) (i : ℕ) (r : Row) (old new : Option (List ℕ)) → i < length rows → r ≡ get_or rows i r → new ≡ option_map (with_if (is_in k r) i) old → Collects k rows i old → Collects k rows (i + 1) new
-collects_more k rows i r old new lt at e h =
-    (with_if (is_in k r) i h.0, e ∙ ap (option_map (with_if (is_in k r) i)) h.1, by (is_in k r) (ap (λ l. h.0 ++ places_in k i l) (sym (drop_item rows i r lt at)) ∙ h.2))
-  where
-    by : (b : Bool) → h.0 ++ (if b then i ∷ places_in k (i + 1) (drop (i + 1) rows) else places_in k (i + 1) (drop (i + 1) rows)) ≡ places_in k 0 rows → with_if b i h.0 ++ places_in k (i + 1) (drop (i + 1) rows) ≡ places_in k 0 rows
-    by true t = regroup h.0 i (places_in k (i + 1) (drop (i + 1) rows)) ∙ t
-    by false t = t
+collects_more k rows i r old new lt at e h = grind (arith, common_steps)
 
 pub collects_all : (k : ℕ) (rows : List Row) (i : ℕ) (o : Option (List ℕ)) → length rows ≤ i → Collects k rows i o → o ≡ Some (places_in k 0 rows)
 collects_all k rows i o le h = h.1 ∙ ap Some (sym (ap (λ l. h.0 ++ places_in k i l) (drop_all i rows le) ∙ append_none h.0) ∙ h.2)
@@ -77,28 +61,17 @@ or_step false old rest = refl
 
 pub name_step : (rows : List Row) (i : ℕ) (r : Row) (name : List ℕ) (old new : Bool) → i < length rows → r ≡ get_or rows i r → new ≡ cond (bytes_eq r.name name) true old → (old || has_row (drop i rows) name) ≡ has_row rows name → (new || has_row (drop (i + 1) rows) name) ≡ has_row rows name
 unfolding has_row
-name_step rows i r name old new lt at e inv =
-    ap (λ b. b || has_row (drop (i + 1) rows) name) e
-    ∙ or_step (bytes_eq r.name name) old (has_row (drop (i + 1) rows) name)
-    ∙ sym (ap (λ l. old || has_row l name) (drop_item rows i r lt at))
-    ∙ inv
+name_step rows i r name old new lt at e inv = grind (arith, common_steps)
 
 pub name_end : (rows : List Row) (i : ℕ) (name : List ℕ) (old : Bool) → length rows ≤ i → (old || has_row (drop i rows) name) ≡ has_row rows name → old ≡ has_row rows name
 unfolding has_row
 name_end rows i name old le inv = sym (ap (λ l. old || has_row l name) (drop_all i rows le) ∙ or_false old) ∙ inv
 
 pub need_step : (rows : List Row) (needs : List SegmentNeed) (i : ℕ) (n : SegmentNeed) → i < length needs → n ≡ get_or needs i n → has_row rows n.name ≡ true → rows_exist rows (drop i needs) ≡ rows_exist rows needs → rows_exist rows (drop (i + 1) needs) ≡ rows_exist rows needs
-need_step rows needs i n lt at e inv =
-    sym (ap (λ b. if b then rows_exist rows (drop (i + 1) needs) else Err (NoRow n.name)) e)
-    ∙ sym (ap (rows_exist rows) (drop_item needs i n lt at))
-    ∙ inv
+need_step rows needs i n lt at e inv = grind (arith, common_steps)
 
 pub need_stops : (rows : List Row) (needs : List SegmentNeed) (i : ℕ) (n : SegmentNeed) (name : List ℕ) → i < length needs → n ≡ get_or needs i n → has_row rows n.name ≡ false → name ≡ n.name → rows_exist rows (drop i needs) ≡ rows_exist rows needs → rows_exist rows needs ≡ Err (NoRow name)
-need_stops rows needs i n name lt at e same inv =
-    sym inv
-    ∙ ap (rows_exist rows) (drop_item needs i n lt at)
-    ∙ ap (λ b. if b then rows_exist rows (drop (i + 1) needs) else Err (NoRow n.name)) e
-    ∙ ap (λ l. Err (NoRow l)) (sym same)
+need_stops rows needs i n name lt at e same inv = grind (arith, common_steps)
 
 pub size_none : (needs : List SegmentNeed) (name : List ℕ) → size_of (drop (length needs) needs) name ≡ None
 unfolding size_of
@@ -106,33 +79,18 @@ size_none needs name = ap (λ l. option_map (λ (n : SegmentNeed). n.size) (find
 
 size_front : (n : SegmentNeed) (rest : List SegmentNeed) (name : List ℕ) → size_of (n ∷ rest) name ≡ cond (bytes_eq n.name name) (Some n.size) (size_of rest name)
 unfolding size_of
-size_front n rest name = by (bytes_eq n.name name)
-  where
-    by : (b : Bool) → option_map (λ (n : SegmentNeed). n.size) (if b then Some n else find (λ n. bytes_eq n.name name) rest) ≡ cond b (Some n.size) (option_map (λ (n : SegmentNeed). n.size) (find (λ n. bytes_eq n.name name) rest))
-    by true = refl
-    by false = refl
+size_front n rest name = grind (arith, common_steps)
 
 pub size_step : (needs : List SegmentNeed) (i : ℕ) (n : SegmentNeed) (name : List ℕ) (old new : Option ℕ) → 0 < i → i ≤ length needs → n ≡ get_or needs (i - 1) n → new ≡ cond (bytes_eq n.name name) (Some n.size) old → old ≡ size_of (drop i needs) name → new ≡ size_of (drop (i - 1) needs) name
-size_step needs i n name old new pos le at e inv =
-    let lt : i - 1 < length needs = omega arith in
-    let next : i - 1 + 1 ≡ i = omega arith in
-    e
-    ∙ ap (cond (bytes_eq n.name name) (Some n.size)) (inv ∙ sym (ap (λ j. size_of (drop j needs) name) next))
-    ∙ sym (size_front n (drop (i - 1 + 1) needs) name)
-    ∙ sym (ap (λ l. size_of l name) (drop_item needs (i - 1) n lt at))
+size_step needs i n name old new pos le at e inv = grind (arith, common_steps, size_front, drop_item)
 
 pub map_more : {A B : Type 0} (f : A → B) (xs : List A) (i : ℕ) (x : A) (done : List B) (y : B) → i < length xs → x ≡ get_or xs i x → y ≡ f x → done ++ map f (drop i xs) ≡ map f xs → (done ++ y ∷ []) ++ map f (drop (i + 1) xs) ≡ map f xs
-map_more f xs i x done y lt at e inv =
-    regroup done y (map f (drop (i + 1) xs))
-    ∙ ap (λ z. done ++ z ∷ map f (drop (i + 1) xs)) e
-    ∙ sym (ap (λ l. done ++ map f l) (drop_item xs i x lt at))
-    ∙ inv
+map_more f xs i x done y lt at e inv = grind (arith, common_steps)
 
 -- ---- The names for parts of areas and rows.
 
 pub match_map : {X : Type 0} (o : Option X) (A P : Type 0) (B Q : X → Type 0) → (A → P) → ((x : X) → B x → Q x) → MatchOption o A B → MatchOption o P Q
-match_map None A P B Q f g h = f h
-match_map (Some x) A P B Q f g h = g x h
+match_map x y z u v f g h = grind (arith, common_steps)
 
 same_bytes : (xs ys : List ℕ) → bytes_eq xs ys ≡ true → xs ≡ ys
 same_bytes xs ys e = (bytes_eq-Decides xs ys).0 e
@@ -152,21 +110,14 @@ before_ending rest x end e t =
     ∙ ap (λ l. l ++ end) (sym t)
 
 pub no_ending : (rest n end : List ℕ) → bytes_eq (drop (length rest - length end) rest) end ≡ false → rest ≢ n ++ end
-no_ending rest n end e is =
-    let at : length rest - length end ≡ length n = omega (arith, ap length is, length-append n end) in
-    let tail : drop (length rest - length end) rest ≡ end = ap (λ k. drop k rest) at ∙ ap (drop (length n)) is ∙ drop-append_seam n end in
-    let never : true ≡ false = sym (itself _ _ tail) ∙ e in
-    cc
+no_ending rest n end e is = grind (arith, common_steps, length-append, drop-append_seam, itself)
 
 pub same_rest : (a b : List ℕ) → codes "__" ++ a ≡ codes "__" ++ b → a ≡ b
 same_rest a b e = cc
 
 -- names for one part are the same where the names in them are
 inner_name : (n m part : List ℕ) → bytes_eq (part_name n part) (part_name m part) ≡ bytes_eq n m
-inner_name n m part =
-    one_answer (bytes_eq (part_name n part) (part_name m part)) (bytes_eq n m)
-    ((λ e. append_cancel_right n m (ending part) (same_rest (n ++ ending part) (m ++ ending part) (same_bytes (part_name n part) (part_name m part) e))), (λ e. itself (part_name n part) (part_name m part) (ap (λ k. part_name k part) e)))
-    (bytes_eq-Decides n m)
+inner_name n m part = grind (arith, common_steps, append_cancel_right, same_rest, same_bytes, itself, bytes_eq-Decides)
 
 to_false : (b : Bool) → (b ≡ true → ⊥) → b ≡ false
 to_false true h = absurd (h refl)
@@ -192,8 +143,4 @@ named_nowhere es name part never =
 
 -- a name that is that for this part of something
 pub named_there : (es : List (List ℕ × Entry)) (name n part : List ℕ) → name ≡ part_name n part → position (λ e. bytes_eq name (part_name e.0 part)) es ≡ position (λ e. bytes_eq n e.0) es
-named_there es name n part is =
-    let P : (List ℕ × Entry) → Bool = λ e. bytes_eq name (part_name e.0 part) in
-    let Q : (List ℕ × Entry) → Bool = λ e. bytes_eq n e.0 in
-    let same : P ≡ Q = fun_ext (λ e. ap (λ k. bytes_eq k (part_name e.0 part)) is ∙ inner_name n e.0 part) in
-    ap (λ p. position p es) same
+named_there es name n part is = grind (arith, common_steps, fun_ext, inner_name)

@@ -1,15 +1,15 @@
 -- Each area holds its sums, read off the placement itself.
-use Rattle.std.proofs.Common.{◌≡◌, ◌<◌, ◌≤◌, ℕ, zero, suc, Bool, true, false, List, [], ◌∷◌, map, slice_get, unwrap_or, refl, ap, ◌∙◌, subst, Ok, arith, nat_lt, ◌+◌, ◌-◌, ◌^◌, not, ◌++◌, find, length, Option, Some, None, is_some, sym, nat_le}
-use Rattle.std.specs.Prelude.{Result, if◌then◌else◌, ⊤, ◌==◌, ◌&&◌, ◌||◌}
+use Rattle.std.proofs.lemmas.Grind.{common_steps}
+use Rattle.std.proofs.Common.{◌≡◌, ◌<◌, ◌≤◌, ℕ, zero, suc, Bool, true, false, List, [], ◌∷◌, map, slice_get, refl, ap, ◌∙◌, subst, Ok, arith, nat_lt, ◌+◌, ◌^◌, not, ◌++◌, find, length, Option, Some, None, is_some, sym, nat_le}
+use Rattle.std.specs.Prelude.{Result, if◌then◌else◌, ⊤, ◌==◌}
 use Rattle.std.specs.Option.{option_map_or}
 use Rattle.std.proofs.lemmas.Bool.Decides.{nat_tests}
 use Rattle.base65.specs.Outcome.{◌>>=◌}
 use Rattle.script65.specs.declared.script.Area.{Area}
 use Rattle.script65.specs.declared.script.Row.{Row}
 use Rattle.script65.specs.declared.script.RowPart.{RowPart}
-use Rattle.script65.specs.declared.script.RowPart.TheVariants as row
 use Rattle.script65.specs.Placing.{is_in, moved, row_after, row_place, rows_from, area_place, standing}
-use Rattle.script65.specs.AreaSums.{row_known, row_value, Standing, area_known, area_value, is_known, number_or_fault, operand_known, operand_value, own_place, places_there, sum_by, sum_in, sum_unless, term_value, unknown, with_start, come_to, difference}
+use Rattle.script65.specs.AreaSums.{row_known, row_value, Standing, area_known, area_value, is_known, operand_known, operand_value, own_place, places_there, sum_in, with_start, come_to, difference}
 use Rattle.script65.specs.declared.placement.PlaceFault.{PlaceFault}
 use Rattle.script65.specs.declared.placing.site.Bounds.{Bounds}
 use Rattle.script65.specs.declared.placing.site.Spot.{Spot}
@@ -51,11 +51,7 @@ other x j k lt le = grind (arith, nat_tests)
 
 moved_stays : (j k at : ℕ) (r : Row) (s t : Spot) → j ≤ k → t ≡ moved k r at s → Stays j r s t
 unfolding moved
-moved_stays j k at r s t le e = record {
-  size = ap (λ (u : Spot). u.size) e;
-  run = λ lt. ap (λ (u : Spot). u.run) e ∙ ap (λ b. if b then at else s.run) (other r.run j k lt le);
-  load = λ lt. ap (λ (u : Spot). u.load) e ∙ ap (λ b. if b then at else s.load) (other r.load j k lt le);
-}
+moved_stays j k at r s t le e = grind (arith, common_steps)
 
 abbrev Reached : Type 0
 Reached = List Spot × ℕ
@@ -69,9 +65,7 @@ same_pair x y h = cc
 -- the rows of an area are placed: those that stand before another that isn't behind it stay
 pub rows_settled : (j k : ℕ) (a : Area) (b : Bounds) (rs : List Row) (ss ts : List Spot) (cursor last : ℕ) → j ≤ k → rows_from k a b rs ss cursor ≡ Ok (ts, last) → Settled j rs ss ts
 rows_settled j k a b [] ss ts cursor last le h = tt
-rows_settled j k a b (r ∷ rs) [] ts cursor last le h =
-    let e = same_pair ([], cursor) (ts, last) h in
-    subst (Settled j (r ∷ rs) []) (ap (λ y. y.0) e) tt
+rows_settled j k a b (r ∷ rs) [] ts cursor last le h = grind (arith, common_steps, same_pair)
 rows_settled j k a b (r ∷ rs) (s ∷ ss) ts cursor last le h = by (is_in k r) h (λ c us l e. rows_settled j k a b rs ss us c l le e)
   where
     by : (t : Bool) → (if t then (row_after k a b r s cursor >>= λ x. front x.0 (rows_from k a b rs ss x.1)) else front s (rows_from k a b rs ss cursor)) ≡ Ok (ts, last) → ((c : ℕ) (us : List Spot) (l : ℕ) → rows_from k a b rs ss c ≡ Ok (us, l) → Settled j rs ss us) → Settled j (r ∷ rs) (s ∷ ss) ts
@@ -93,9 +87,7 @@ below : (x k : ℕ) → nat_lt x k ≡ true → x < k
 below x k h = grind (arith, nat_tests)
 
 part_stays : (k : ℕ) (part : RowPart) (r : Row) (s t : Spot) → Stays k r s t → row_known k part r ≡ true → row_value part (row_place t) ≡ row_value part (row_place s)
-part_stays k row.Load r s t h known = h.load (below r.load k known)
-part_stays k row.Run r s t h known = h.run (below r.run k known)
-part_stays k row.Size r s t h known = ap (λ o. unwrap_or o 0) h.size
+part_stays k x r s t h known = grind (arith, common_steps)
 
 -- what is known of a row stays what it is
 pub value_stays : (k : ℕ) (part : RowPart) (rs : List Row) (ss ts : List Spot) (i : ℕ) → Settled k rs ss ts → option_map_or (row_known k part) (slice_get rs i) false ≡ true → option_map_or (row_value part) (slice_get (map row_place ts) i) 0 ≡ option_map_or (row_value part) (slice_get (map row_place ss) i) 0
@@ -112,24 +104,11 @@ at_most : (x k : ℕ) → nat_le x k ≡ true → x ≤ k
 at_most x k h = grind (arith, nat_tests)
 
 the_difference : (added taken n : ℕ) → difference added taken ≡ Some n → (taken + n ≡ added) × (n < 2 ^ 32)
-the_difference added taken n h = by (nat_le taken added) (nat_lt (added - taken) (2 ^ 32)) refl refl h
-  where
-    by : (t u : Bool) → nat_le taken added ≡ t → nat_lt (added - taken) (2 ^ 32) ≡ u → (if t && u then Some (added - taken) else None) ≡ Some n → (taken + n ≡ added) × (n < 2 ^ 32)
-    by true true e f h =
-        let le : taken ≤ added = at_most taken added e in
-        let less : added - taken < 2 ^ 32 = below (added - taken) (2 ^ 32) f in
-        let same : added - taken ≡ n = cc in
-        (omega arith, omega arith)
-    by true false e f h = absurd cc
-    by false u e f h = absurd cc
+the_difference added taken n h = grind (arith, common_steps)
 
 none_found : (known : Term → Bool) (ts : List Term) → find (λ t. not (known t)) ts ≡ None → list_all known ts ≡ true
 none_found known [] h = refl
-none_found known (t ∷ ts) h = by (known t) refl h (none_found known ts)
-  where
-    by : (b : Bool) → known t ≡ b → (if not b then Some t else find (λ t. not (known t)) ts) ≡ None → (find (λ t. not (known t)) ts ≡ None → list_all known ts ≡ true) → (known t && list_all known ts) ≡ true
-    by true e h rest = ap (λ b. b && list_all known ts) e ∙ rest h
-    by false e h rest = absurd cc
+none_found known (t ∷ ts) h = grind (arith, common_steps, (none_found known ts))
 
 -- all terms are known, and they come to this
 record Found (s : Standing) (ts : List Term) (n : ℕ) : Type 0 where
@@ -138,19 +117,7 @@ record Found (s : Standing) (ts : List Term) (n : ℕ) : Type 0 where
   pub less : n < 2 ^ 32
 
 found_of : (s : Standing) (ts : List Term) (n : ℕ) → sum_in s ts ≡ Ok n → Found s ts n
-found_of s ts n h = by (unknown s ts) refl h
-  where
-    sum_is : (o : Option ℕ) → sum_by (places_there s) s.row_places ts ≡ o → number_or_fault s.own.name o ≡ Ok n → HasSum (places_there s) s.row_places ts n × (n < 2 ^ 32)
-    sum_is (Some m) e h =
-        let same : m ≡ n = cc in
-        the_difference (come_to (λ (t : Term). not t.minus) (term_value (places_there s) s.row_places) ts) (come_to (λ (t : Term). t.minus) (term_value (places_there s) s.row_places) ts) n (e ∙ ap Some same)
-    sum_is None e h = absurd cc
-
-    by : (o : Option Term) → unknown s ts ≡ o → sum_unless s ts o ≡ Ok n → Found s ts n
-    by (Some t) e h = absurd cc
-    by None e h =
-        let sum = sum_is (sum_by (places_there s) s.row_places ts) refl h in
-        record { known = none_found (is_known s.k (is_some s.start) s.rows) ts e; sum = sum.0; less = sum.1 }
+found_of s ts n h = grind (arith, common_steps, the_difference, none_found)
 
 -- ---- Terms that are known stay what they are.
 
@@ -158,11 +125,7 @@ found_of s ts n h = by (unknown s ts) refl h
 module _ (known : Term → Bool) (v w : Term → ℕ) (same : (t : Term) → known t ≡ true → w t ≡ v t) where
   come_same : (is : Term → Bool) (ts : List Term) → list_all known ts ≡ true → come_to is w ts ≡ come_to is v ts
   come_same is [] h = refl
-  come_same is (t ∷ ts) h = by (known t) refl h (come_same is ts)
-    where
-      by : (b : Bool) → known t ≡ b → (b && list_all known ts) ≡ true → (list_all known ts ≡ true → come_to is w ts ≡ come_to is v ts) → (if is t then w t else 0) + come_to is w ts ≡ (if is t then v t else 0) + come_to is v ts
-      by true e h rest = ap (λ n. (if is t then n else 0) + come_to is w ts) (same t e) ∙ ap (λ n. (if is t then v t else 0) + n) (rest h)
-      by false e h rest = absurd cc
+  come_same is (t ∷ ts) h = grind (arith, common_steps, (come_same is ts))
 
 -- places of areas that agree on those before a place, and on the start of that one
 record Agree (k : ℕ) (begun : Bool) (ps qs : List AreaPlace) : Type 0 where
@@ -170,20 +133,7 @@ record Agree (k : ℕ) (begun : Bool) (ps qs : List AreaPlace) : Type 0 where
   pub own : begun ≡ true → option_map_or (area_value area.Start) (slice_get qs k) 0 ≡ option_map_or (area_value area.Start) (slice_get ps k) 0
 
 area_same : (k : ℕ) (begun : Bool) (ps qs : List AreaPlace) (part : AreaPart) (j : ℕ) → Agree k begun ps qs → area_known k begun part j ≡ true → option_map_or (area_value part) (slice_get qs j) 0 ≡ option_map_or (area_value part) (slice_get ps j) 0
-area_same k begun ps qs area.Start j h known = by (nat_lt j k) refl known
-  where
-    here : (b : Bool) → begun ≡ b → (b && j == k) ≡ true → option_map_or (area_value area.Start) (slice_get qs j) 0 ≡ option_map_or (area_value area.Start) (slice_get ps j) 0
-    here true e g =
-        let same : j ≡ k = grind (arith, nat_tests) in
-        let P : ℕ → Type 0 = λ n. option_map_or (area_value area.Start) (slice_get qs n) 0 ≡ option_map_or (area_value area.Start) (slice_get ps n) 0 in
-        subst P (sym same) (h.own e)
-    here false e g = absurd cc
-
-    by : (b : Bool) → nat_lt j k ≡ b → (b || (begun && j == k)) ≡ true → option_map_or (area_value area.Start) (slice_get qs j) 0 ≡ option_map_or (area_value area.Start) (slice_get ps j) 0
-    by true e g = ap (λ o. option_map_or (area_value area.Start) o 0) (h.before j (below j k e))
-    by false e g = here begun refl g
-area_same k begun ps qs area.Size j h known = ap (λ o. option_map_or (area_value area.Size) o 0) (h.before j (below j k known))
-area_same k begun ps qs area.Last j h known = ap (λ o. option_map_or (area_value area.Last) o 0) (h.before j (below j k known))
+area_same k begun ps qs x j h known = grind (arith, common_steps)
 
 operand_same : (k : ℕ) (begun : Bool) (rows : List Row) (ps qs : List AreaPlace) (ss ts : List Spot) (o : Operand) → Agree k begun ps qs → Settled k rows ss ts → operand_known k begun rows o ≡ true → operand_value qs (map row_place ts) o ≡ operand_value ps (map row_place ss) o
 operand_same k begun rows ps qs ss ts (operand.Number n) a s known = refl
@@ -191,13 +141,7 @@ operand_same k begun rows ps qs ss ts (operand.Area j part) a s known = area_sam
 operand_same k begun rows ps qs ss ts (operand.Row i part) a s known = value_stays k part rows ss ts i s known
 
 sum_same : (k : ℕ) (begun : Bool) (rows : List Row) (ps qs : List AreaPlace) (ss us : List Spot) (ts : List Term) (n : ℕ) → Agree k begun ps qs → Settled k rows ss us → list_all (is_known k begun rows) ts ≡ true → HasSum ps (map row_place ss) ts n → HasSum qs (map row_place us) ts n
-sum_same k begun rows ps qs ss us ts n a s known h =
-    let v : Term → ℕ = term_value ps (map row_place ss) in
-    let w : Term → ℕ = term_value qs (map row_place us) in
-    let same : (t : Term) → is_known k begun rows t ≡ true → w t ≡ v t = λ t e. operand_same k begun rows ps qs ss us t.operand a s e in
-    ap (λ m. m + n) (come_same (is_known k begun rows) v w same (λ (t : Term). t.minus) ts known)
-    ∙ h
-    ∙ sym (come_same (is_known k begun rows) v w same (λ (t : Term). not t.minus) ts known)
+sum_same k begun rows ps qs ss us ts n a s known h = grind (arith, common_steps, operand_same, come_same)
 
 -- ---- Area by area.
 
@@ -215,24 +159,13 @@ SumsIn script j placed ss = (a : Area) (place : AreaPlace) → slice_get script.
 
 -- one place more agrees with those before it
 longer_agrees : (k : ℕ) (begun : Bool) (placed : List AreaPlace) (x : AreaPlace) → k < length placed → Agree k begun placed (placed ++ x ∷ [])
-longer_agrees k begun placed x lt = record {
-  before = λ j less. get_before placed x j (omega arith);
-  own = λ e. ap (λ o. option_map_or (area_value area.Start) o 0) (get_before placed x k lt);
-}
+longer_agrees k begun placed x lt = grind (arith, common_steps, get_before)
 
 first_agrees : (k : ℕ) (placed : List AreaPlace) (x : AreaPlace) → length placed ≡ k → Agree k false (placed ++ own_place None) (placed ++ x ∷ [])
-first_agrees k placed x count = record {
-  before = λ j less. get_before placed x j (omega arith) ∙ sym (ap (λ l. slice_get l j) (append-nil placed));
-  own = λ e. absurd cc;
-}
+first_agrees k placed x count = grind (arith, common_steps, get_before, append-nil)
 
 own_agrees : (k : ℕ) (placed : List AreaPlace) (x : AreaPlace) (start : ℕ) → length placed ≡ k → x.start ≡ start → Agree k true (placed ++ own_place (Some start)) (placed ++ x ∷ [])
-own_agrees k placed x start count same =
-    let own : AreaPlace = record { start = start; size = 0; last = start } in
-    record {
-      before = λ j less. get_before placed x j (omega arith) ∙ sym (get_before placed own j (omega arith));
-      own = λ e. ap (λ o. option_map_or (area_value area.Start) o 0) (get_last placed k x count) ∙ same ∙ sym (ap (λ o. option_map_or (area_value area.Start) o 0) (get_last placed k own count));
-    }
+own_agrees k placed x start count same = grind (arith, common_steps, get_before, get_last)
 
 sums_made : (script : Script) → Made script (SumsIn script)
 sums_made script k a placed ss ts b last at count made e c place there here =

@@ -1,16 +1,17 @@
 -- Sums without names are looked at as they are read: areas of such sums alone are fixed.
-use Rattle.std.proofs.Common.{◌≡◌, ◌≤◌, ℕ, ◌+◌, ◌^◌, Bool, false, not, List, [], ◌∷◌, ◌++◌, map, find, Some, None, is_some, refl, sym, ap, ◌∙◌, Ok, Err, arith, nat_lt, true, Option, unwrap_or, subst}
-use Rattle.std.specs.Prelude.{Result, if◌then◌else◌, ◌==◌, ◌&&◌, ◌||◌}
+use Rattle.std.proofs.lemmas.Grind.{common_steps}
+use Rattle.std.proofs.Common.{◌≡◌, ◌≤◌, ℕ, ◌+◌, ◌^◌, Bool, false, not, List, [], ◌∷◌, ◌++◌, find, Some, None, is_some, refl, sym, ap, ◌∙◌, Ok, Err, arith, nat_lt, true, Option, unwrap_or, subst}
+use Rattle.std.specs.Prelude.{Result, if◌then◌else◌, ◌||◌}
 use Rattle.std.specs.List.{AllByRecursion, list_any}
 use Rattle.std.proofs.lemmas.Bool.Decides.{nat_tests}
 use Rattle.base65.specs.Outcome.{◌>>=◌, each}
-use Rattle.script65.specs.AreaSums.{come_to, difference, Standing, bounds_in, is_known, number_or_fault, operand_known, operand_value, places_there, spanned, sum_by, sum_in, sum_unless, term_value, with_start}
+use Rattle.script65.specs.AreaSums.{come_to, difference, Standing, bounds_in, is_known, number_or_fault, operand_known, places_there, spanned, sum_by, sum_in, sum_unless, term_value, with_start}
 use Rattle.script65.specs.declared.script.Area.{Area}
 use Rattle.script65.specs.declared.script.Operand.TheVariants as operand
 use Rattle.script65.specs.declared.script.Row.{Row}
 use Rattle.script65.specs.declared.script.Term.{Term}
 use Rattle.script65.specs.PlacingLaws.{AreFixed, AreNumbers, IsFixed, OnlyNumbers, fixed_from, HasNoNames, NoNamesFixed}
-use Rattle.script65.specs.Placing.{area_place, areas_from, rows_exist, rows_from, standing, unplaced}
+use Rattle.script65.specs.Placing.{area_place, areas_from, rows_from, standing}
 use Rattle.script65.specs.declared.placement.AreaPlace.{AreaPlace}
 use Rattle.script65.specs.declared.placement.PlaceFault.{PlaceFault}
 use Rattle.script65.specs.declared.placement.PlaceFault.TheVariants.{AreaOutOfRange}
@@ -19,7 +20,6 @@ use Rattle.script65.specs.declared.placing.site.Bounds.{Bounds}
 use Rattle.script65.specs.declared.placing.site.Spot.{Spot}
 use Rattle.std.specs.Option.{option_map, option_map_or, option_and_then}
 use Rattle.script65.specs.declared.fault.Fault.{Fault}
-use Rattle.script65.specs.declared.fault.Fault.TheVariants.{AttributeMissing, OutOfRange}
 use Rattle.script65.specs.declared.fault.Stop.{Stop}
 use Rattle.script65.specs.declared.reading.table.Entry.{Entry}
 use Rattle.script65.specs.declared.reading.tokens.Token.{Token}
@@ -33,7 +33,7 @@ use Rattle.script65.specs.declared.reading.words.Part.{Part}
 use Rattle.script65.specs.declared.reading.words.Shape.TheVariants as shape
 use Rattle.script65.specs.declared.reading.words.Value.{Value}
 use Rattle.script65.specs.declared.reading.words.Value.TheVariants as value
-use Rattle.script65.specs.Grammar.{Draft, Drafts, First, IsAttribute, IsBlock, IsEntry, IsSum, IsValue, Many, area_end, attribute_rank, area_fault, attribute_end, attribute_word, behind, block_head, entry_end, entry_fault, entry_head, ends, has, is_name, is_of, more, nothing, number_given, number_in, number_of_parts, part_at, sized, stands, stops, sum_end, sum_value, text_of, unless_fault, value_given}
+use Rattle.script65.specs.Grammar.{Draft, Drafts, First, IsAttribute, IsBlock, IsEntry, IsSum, IsValue, Many, area_end, area_fault, block_head, entry_end, entry_head, ends, has, is_name, is_of, more, nothing, number_given, number_in, number_of_parts, part_at, sized, stands, stops, sum_end, sum_value, text_of, unless_fault, value_given}
 use Rattle.script65.specs.Naming.{extent_of, parts_given, term_of, terms_given}
 use Rattle.script65.specs.Scripts.{area_of, area_with}
 use Rattle.script65.specs.Tokens.{token_at, shape_of}
@@ -47,16 +47,10 @@ AllNumbers ts = AllByRecursion (λ (t : Term). (m : ℕ) × (t.operand ≡ opera
 -- numbers come to the same wherever areas and rows are placed
 come_fixed : (is : Term → Bool) (ps qs : List AreaPlace) (rs us : List RowPlace) (ts : List Term) → AllNumbers ts → come_to is (term_value ps rs) ts ≡ come_to is (term_value qs us) ts
 come_fixed is ps qs rs us [] h = refl
-come_fixed is ps qs rs us (t ∷ ts) h =
-    let same : term_value ps rs t ≡ term_value qs us t = ap (operand_value ps rs) h.0.1 ∙ sym (ap (operand_value qs us) h.0.1) in
-    ap (λ n. (if is t then n else 0) + come_to is (term_value ps rs) ts) same
-    ∙ ap (λ n. (if is t then term_value qs us t else 0) + n) (come_fixed is ps qs rs us ts h.1)
+come_fixed is ps qs rs us (t ∷ ts) h = grind (arith, common_steps, (come_fixed is ps qs rs us ts h.1))
 
 sum_fixed : (ps : List AreaPlace) (rs : List RowPlace) (ts : List Term) (n : ℕ) → AreNumbers ts n → sum_by ps rs ts ≡ Some n
-sum_fixed ps rs ts n h =
-    ap (λ m. difference m (come_to (λ (t : Term). t.minus) (term_value ps rs) ts)) (come_fixed (λ (t : Term). not t.minus) ps [] rs [] ts h.numbers)
-    ∙ ap (difference (come_to (λ (t : Term). not t.minus) (term_value [] []) ts)) (come_fixed (λ (t : Term). t.minus) ps [] rs [] ts h.numbers)
-    ∙ h.sum
+sum_fixed ps rs ts n h = grind (arith, common_steps, come_fixed)
 
 none_unknown : (k : ℕ) (begun : Bool) (rows : List Row) (ts : List Term) → AllNumbers ts → find (λ t. not (is_known k begun rows t)) ts ≡ None
 none_unknown k begun rows [] h = refl
@@ -95,14 +89,12 @@ areas_fixed all rows (a ∷ rest) (b ∷ bs) k placed ss h =
     by (Err e) again = refl
 
 pub only_numbers : OnlyNumbers
-only_numbers script needs bounds h =
-    ap (λ z. rows_exist script.rows needs >>= λ u. z) (areas_fixed script.areas script.rows script.areas bounds 0 [] (map (unplaced needs) script.rows) h)
+only_numbers script needs bounds h = grind (arith, common_steps, areas_fixed)
 
 -- ---- What is kept while a script is read.
 
 first_then : {A B : Type 0} (head : Result A Stop) (Next : A → Result B Stop → Type 0) (y : B) → First head Next (Ok y) → (x : A) × (head ≡ Ok x) × Next x (Ok y)
-first_then (Ok x) Next y h = (x, refl, h)
-first_then (Err e) Next y h = absurd cc
+first_then x z y h = grind (arith, common_steps)
 
 -- what each item keeps, all keep
 many_keep : {S : Type 0} (closes : ℕ → Bool) (Item : S → ℕ → Result (S × ℕ) Stop → Type 0) (Keeps : S → Type 0)
@@ -144,12 +136,7 @@ value_is : (bytes : List ℕ) (s : _) (at : ℕ) (v : Value × List Part × ℕ)
 value_is bytes s at v e h = sum_is bytes at v (subst (λ x. IsValue bytes x at (Ok v)) e h)
 
 attribute_summed : (bytes : List ℕ) (given t : List Given) (at next : ℕ) → AreSummed given → IsAttribute bytes Memory given at (Ok (t, next)) → AreSummed t
-attribute_summed bytes given t at next keeps h =
-    let a = first_then (attribute_word bytes Memory given at) _ (t, next) h in
-    let v = and_then a.2.0 (attribute_end bytes given a.0.0) (t, next) (sym a.2.2) in
-    let g : Given = record { attribute = a.0.0; value = v.0.0; parts = v.0.1 } in
-    let same : given ++ g ∷ [] ≡ t = ap (λ (p : List Given × ℕ). p.0) (ok_is _ (t, next) v.2) in
-    subst AreSummed same (put_behind IsSummed given g keeps (λ e. value_is bytes (shape_of Memory a.0.0) (behind bytes form.Equals a.0.1) v.0 e (subst (IsValue bytes (shape_of Memory a.0.0) (behind bytes form.Equals a.0.1)) v.1 a.2.1)))
+attribute_summed bytes given t at next keeps h = grind (arith, common_steps, first_then, and_then, ok_is, put_behind, value_is)
 
 -- ---- Entries.
 
@@ -162,8 +149,7 @@ abbrev pub AreGood : Draft → Type 0
 AreGood d = AllByRecursion IsGood d.areas
 
 passed : {A : Type 0} (o : Option Fault) (t : Token) (x y : A) → unless_fault o t x ≡ Ok y → (o ≡ None) × (x ≡ y)
-passed None t x y h = (refl, ok_is x y h)
-passed (Some fault) t x y h = absurd cc
+passed z t x y h = grind (arith, common_steps)
 
 entry_good : (bytes : List ℕ) (block : Block) (d t : Draft) (at next : ℕ) → AreGood d → IsEntry bytes block d at (Ok (t, next)) → AreGood t
 unfolding entry_end
@@ -175,16 +161,8 @@ entry_good bytes Memory d t at next keeps h =
     let made = passed (area_fault x.0.0) (token_at bytes x.0.1) _ (t, next) x.2 in
     let good : IsGood (text_of bytes name.0.0, e) = record { summed = summed; ends = made.0 } in
     subst (λ (p : Draft × ℕ). AreGood p.0) made.1 (put_behind IsGood d.areas (text_of bytes name.0.0, e) keeps good)
-entry_good bytes Segments d t at next keeps h =
-    let name = first_then (entry_head bytes Segments d at) _ (t, next) h in
-    let x = and_then name.2.0 (entry_end bytes Segments name.0.0 d) (t, next) (sym name.2.2) in
-    let made = passed (entry_fault Segments x.0.0) (token_at bytes x.0.1) _ (t, next) x.2 in
-    subst (λ (p : Draft × ℕ). AreGood p.0) made.1 keeps
-entry_good bytes Symbols d t at next keeps h =
-    let name = first_then (entry_head bytes Symbols d at) _ (t, next) h in
-    let x = and_then name.2.0 (entry_end bytes Symbols name.0.0 d) (t, next) (sym name.2.2) in
-    let made = passed (entry_fault Symbols x.0.0) (token_at bytes x.0.1) _ (t, next) x.2 in
-    subst (λ (p : Draft × ℕ). AreGood p.0) made.1 keeps
+entry_good bytes Segments d t at next keeps h = grind (arith, common_steps, first_then, and_then, passed)
+entry_good bytes Symbols d t at next keeps h = grind (arith, common_steps, first_then, and_then, passed)
 
 blocks_good : (bytes : List ℕ) (d t : Draft) (at next : ℕ) → AreGood d → IsBlock bytes d at (Ok (t, next)) → AreGood t
 blocks_good bytes d t at next keeps h =
@@ -278,44 +256,10 @@ number_of bytes d a given ts takes summed has_a none h =
     by ps v e None f k same = absurd cc
 
 starts_in : (g : Given) → is_of attribute.Start g ≡ true → shape_of Memory g.attribute ≡ shape.Sum
-starts_in g h = by g.attribute h
-  where
-    by : (a : Attribute) → (attribute_rank a == 0) ≡ true → shape_of Memory a ≡ shape.Sum
-    by attribute.Start h = refl
-    by attribute.Size h = absurd cc
-    by attribute.Type h = absurd cc
-    by attribute.File h = absurd cc
-    by attribute.Fill h = absurd cc
-    by attribute.FillValue h = absurd cc
-    by attribute.Define h = absurd cc
-    by attribute.Load h = absurd cc
-    by attribute.Run h = absurd cc
-    by attribute.Align h = absurd cc
-    by attribute.AlignLoad h = absurd cc
-    by attribute.Offset h = absurd cc
-    by attribute.Optional h = absurd cc
-    by attribute.Value h = absurd cc
-    by attribute.AddressSize h = absurd cc
+starts_in g h = grind (arith, common_steps)
 
 sizes_in : (g : Given) → is_of attribute.Size g ≡ true → shape_of Memory g.attribute ≡ shape.Sum
-sizes_in g h = by g.attribute h
-  where
-    by : (a : Attribute) → (attribute_rank a == 1) ≡ true → shape_of Memory a ≡ shape.Sum
-    by attribute.Start h = absurd cc
-    by attribute.Size h = refl
-    by attribute.Type h = absurd cc
-    by attribute.File h = absurd cc
-    by attribute.Fill h = absurd cc
-    by attribute.FillValue h = absurd cc
-    by attribute.Define h = absurd cc
-    by attribute.Load h = absurd cc
-    by attribute.Run h = absurd cc
-    by attribute.Align h = absurd cc
-    by attribute.AlignLoad h = absurd cc
-    by attribute.Offset h = absurd cc
-    by attribute.Optional h = absurd cc
-    by attribute.Value h = absurd cc
-    by attribute.AddressSize h = absurd cc
+sizes_in g h = grind (arith, common_steps)
 
 -- ---- Areas.
 
@@ -329,13 +273,7 @@ not_beyond : (x : ℕ) → nat_lt (2 ^ 32) x ≡ false → x ≤ 2 ^ 32
 not_beyond x h = grind (arith, nat_tests)
 
 ends_of : (given : List Given) → area_fault given ≡ None → Ends given
-ends_of given h = by (has attribute.Start given) (has attribute.Size given) (nat_lt (2 ^ 32) (area_end given)) refl refl refl h
-  where
-    by : (b c e : Bool) → has attribute.Start given ≡ b → has attribute.Size given ≡ c → nat_lt (2 ^ 32) (area_end given) ≡ e → (if not (b && c) then Some AttributeMissing else if e then Some OutOfRange else None) ≡ None → Ends given
-    by true true false f g k h = record { start = f; size = g; inside = not_beyond (area_end given) k }
-    by true true true f g k h = absurd cc
-    by true false e f g k h = absurd cc
-    by false c e f g k h = absurd cc
+ends_of given h = grind (arith, common_steps)
 
 fixed_of : (bytes : List ℕ) (d : Draft) (e : List ℕ × Entry) (a : Area) → IsGood e × HasNoNames e → area_of bytes d e ≡ Ok a → (b : Bounds) × IsFixed a b
 fixed_of bytes d e a q h =

@@ -1,4 +1,5 @@
 -- Areas and their rows, one behind the other.
+use Rattle.std.proofs.lemmas.Grind.{common_steps}
 use Rattle.std.proofs.Common.{◌≡◌, ◌<◌, ℕ, zero, suc, ◌+◌, Bool, true, false, List, [], ◌∷◌, ◌++◌, length, take, drop, get_or, slice_get, slice_set, Some, refl, sym, ap, ◌∙◌, subst, Ok, Err, arith, add-one, ◌≤◌, ◌^◌, map, nat_lt, inl, inr, ◌⊎◌, length-append}
 use Rattle.std.proofs.lemmas.Option.{slice_get-get_or}
 use Rattle.std.specs.Prelude.{Result, if◌then◌else◌}
@@ -9,12 +10,11 @@ use Rattle.script65.specs.declared.script.Area.{Area}
 use Rattle.script65.specs.declared.script.Row.{Row}
 use Rattle.base65.specs.Outcome.{Unless, ◌>>=◌}
 use Rattle.script65.specs.Placing.{is_in, places_in, row_after, rows_from, spots_after, area_place, areas_from, place_of, row_place, rows_exist, standing, unplaced}
-use Rattle.script65.proofs.Eaches.{drop_at, regroup, unless_map}
+use Rattle.script65.proofs.Eaches.{drop_at, unless_map}
 use Rattle.std.proofs.lemmas.Bool.Decides.{nat_tests}
 use Rattle.script65.specs.declared.script.Script.{Script}
 use Rattle.script65.specs.AreaSums.{Standing, bounds_in, spanned, sum_in, with_start}
 use Rattle.script65.specs.declared.placement.AreaPlace.{AreaPlace}
-use Rattle.script65.specs.declared.placement.PlaceFault.TheVariants.{AreaOutOfRange}
 use Rattle.script65.specs.declared.placement.Placement.{Placement}
 use Rattle.script65.specs.declared.placement.SegmentNeed.{SegmentNeed}
 
@@ -70,12 +70,10 @@ abbrev pub behind : List Spot → Result (List Spot × ℕ) PlaceFault → Resul
 behind done rest = rest >>= λ y. Ok (done ++ y.0, y.1)
 
 pub whole_of : (rest : Result (List Spot × ℕ) PlaceFault) → behind [] rest ≡ rest
-whole_of (Ok y) = refl
-whole_of (Err e) = refl
+whole_of x = grind (arith, common_steps)
 
 behind_one : (done : List Spot) (s : Spot) (rest : Result (List Spot × ℕ) PlaceFault) → behind done (rest >>= λ y. Ok (s ∷ y.0, y.1)) ≡ behind (done ++ s ∷ []) rest
-behind_one done s (Ok y) = let e = regroup done s y.0 in ap (λ (l : List Spot). let x : List Spot × ℕ = (l, y.1) in let r : Result (List Spot × ℕ) PlaceFault = Ok x in r) (sym e)
-behind_one done s (Err e) = refl
+behind_one done s x = grind (arith, common_steps)
 
 module _ (k : ℕ) (a : Area) (b : Bounds) (rows : List Row) (whole : Result (List Spot × ℕ) PlaceFault) where
   -- from a place on the rows and their spots are left, and the rest of the members are theirs
@@ -179,10 +177,7 @@ module _ (k : ℕ) (a : Area) (b : Bounds) (rows : List Row) (whole : Result (Li
           ∙ ap (in_front s) (again f)
 
   pub walk_ends : (spots : List Spot) (cursor : ℕ) → Walk spots cursor [] → whole ≡ Ok (spots, cursor)
-  walk_ends spots cursor w =
-      sym w.same
-      ∙ ap (behind (take w.place spots)) (none_left cursor w.place w.rs w.ss w.count w.rest)
-      ∙ ap (λ (l : List Spot). let x : List Spot × ℕ = (l, cursor) in let r : Result (List Spot × ℕ) PlaceFault = Ok x in r) (ap (λ l. take w.place spots ++ l) (sym w.spots_there) ∙ take_drop spots w.place)
+  walk_ends spots cursor w = grind (arith, common_steps, none_left, take_drop)
 
   -- what placing one row gives
   abbrev pub Steps : List Spot → ℕ → ℕ → Result (List Spot × ℕ) PlaceFault → Type 0
@@ -192,10 +187,7 @@ module _ (k : ℕ) (a : Area) (b : Bounds) (rows : List Row) (whole : Result (Li
   set_in ss m n = n >>= λ x. Ok (slice_set ss m x.0, x.1)
 
   got : (n : Result (Spot × ℕ) PlaceFault) (ss : List Spot) (m : ℕ) (spots : List Spot) (cursor : ℕ) → set_in ss m n ≡ Ok (spots, cursor) → (x : Spot × ℕ) × (n ≡ Ok x) × (slice_set ss m x.0 ≡ spots) × (x.1 ≡ cursor)
-  got (Ok x) ss m spots cursor h =
-      let e : ◌≡◌ {A = List Spot × ℕ} (slice_set ss m x.0, x.1) (spots, cursor) = cc in
-      (x, refl, ap (λ y. y.0) e, ap (λ y. y.1) e)
-  got (Err e) ss m spots cursor h = absurd cc
+  got x ss m spots cursor h = grind (arith, common_steps)
 
   pub walk_step : (spots after : List Spot) (cursor end m : ℕ) (members : List ℕ) → Walk spots cursor (m ∷ members) → Steps spots cursor m (Ok (after, end)) → Walk after end members
   walk_step spots after cursor end m members w h =
@@ -206,8 +198,7 @@ module _ (k : ℕ) (a : Area) (b : Bounds) (rows : List Row) (whole : Result (Li
       subst P g.2 (subst Q g.3 (walk_on spots cursor m members n g.0 g.1))
 
   lost : (n : Result (Spot × ℕ) PlaceFault) (ss : List Spot) (m : ℕ) (e : PlaceFault) → set_in ss m n ≡ Err e → n ≡ Err e
-  lost (Ok x) ss m e h = absurd cc
-  lost (Err f) ss m e h = let same : f ≡ e = cc in ap Err same
+  lost x ss m e h = grind (arith, common_steps)
 
   -- a refusal of the row is one of the area, unless it came from outside
   pub walk_refuses : (spots : List Spot) (cursor m : ℕ) (members : List ℕ) (e : PlaceFault) (outside : Bool) → Walk spots cursor (m ∷ members) → ((r : Row) → (s : Spot) → slice_get rows m ≡ Some r → slice_get spots m ≡ Some s → Unless outside (spots_after k a b r s cursor m spots ≡ Err e)) → Unless outside (whole ≡ Err e)
@@ -230,8 +221,7 @@ drop_number xs i lt = rw add-one (drop_at xs i (get_or xs i 0) (slice_get-get_or
 -- ---- Areas, one behind the other.
 
 pub bind_ok : {A B : Type 0} (r : Result A PlaceFault) (f : A → Result B PlaceFault) (y : B) → (r >>= f) ≡ Ok y → (x : A) × (r ≡ Ok x) × (f x ≡ Ok y)
-bind_ok (Ok x) f y h = (x, refl, h)
-bind_ok (Err e) f y h = absurd cc
+bind_ok x f y h = grind (arith, common_steps)
 
 -- ---- Bounds.
 
@@ -245,16 +235,7 @@ pub record Spans (start size : ℕ) (b : Bounds) : Type 0 where
   pub inside : b.end ≤ 2 ^ 32
 
 pub spans_of : (name : List ℕ) (start size : ℕ) (b : Bounds) → spanned name start size ≡ Ok b → Spans start size b
-spans_of name start size b h = by (nat_lt (2 ^ 32) (start + size)) refl h
-  where
-    by : (t : Bool) → nat_lt (2 ^ 32) (start + size) ≡ t → (if t then Err (AreaOutOfRange name) else Ok (record { start = start; end = start + size })) ≡ Ok b → Spans start size b
-    by true e h = absurd cc
-    by false e h =
-        let same : ◌≡◌ {A = Bounds} (record { start = start; end = start + size }) b = cc in
-        let starts : b.start ≡ start = sym (ap (λ (c : Bounds). c.start) same) in
-        let ends : b.end ≡ start + size = sym (ap (λ (c : Bounds). c.end) same) in
-        let le : start + size ≤ 2 ^ 32 = not_above (2 ^ 32) (start + size) e in
-        record { starts = starts; ends = ends; inside = omega arith }
+spans_of name start size b h = grind (arith, common_steps)
 
 -- the sums of an area with these bounds
 pub record Summed (s : Standing) (b : Bounds) : Type 0 where
@@ -265,17 +246,10 @@ pub record Summed (s : Standing) (b : Bounds) : Type 0 where
   pub spans : Spans start size b
 
 pub summed_of : (s : Standing) (b : Bounds) → bounds_in s ≡ Ok b → Summed s b
-summed_of s b h =
-    let f = bind_ok (sum_in s s.own.start) (λ start. sum_in (with_start s start) s.own.size >>= λ size. spanned s.own.name start size) b h in
-    let g = bind_ok (sum_in (with_start s f.0) s.own.size) (λ size. spanned s.own.name f.0 size) b f.2 in
-    record { start = f.0; size = g.0; starts = f.1; sizes = g.1; spans = spans_of s.own.name f.0 g.0 b g.2 }
+summed_of s b h = grind (arith, common_steps, bind_ok, spans_of)
 
 pub bounds_order : (s : Standing) (b : Bounds) → bounds_in s ≡ Ok b → b.start ≤ b.end
-bounds_order s b h =
-    let g = summed_of s b h in
-    let starts = g.spans.starts in
-    let ends = g.spans.ends in
-    omega arith
+bounds_order s b h = grind (arith, common_steps)
 
 -- ---- Lists with one more item.
 
@@ -297,11 +271,7 @@ one_longer xs k x e = omega (arith, length-append xs (x ∷ []))
 -- ---- What is so of each area when it is placed, and stays so, is so of all.
 
 last_or_before : (j k : ℕ) → j < k + 1 → (j ≡ k) ⊎ (j < k)
-last_or_before j k lt = by (nat_lt j k) refl
-  where
-    by : (t : Bool) → nat_lt j k ≡ t → (j ≡ k) ⊎ (j < k)
-    by true e = inr (grind (arith, nat_tests))
-    by false e = inl (let g : k ≤ j = not_above j k e in omega arith)
+last_or_before j k lt = grind (arith, common_steps)
 
 -- what is said of the area at a place, by the places of areas so far and the spots of rows
 abbrev pub Saying : Type 1
@@ -327,13 +297,7 @@ pub record Holds (Q : ℕ → List AreaPlace → List Spot → Type 0) (areas : 
 
 module _ (script : Script) (Q : ℕ → List AreaPlace → List Spot → Type 0) (made : Made script Q) (kept : Kept script Q) where
   areas_hold : (rest : List Area) (k : ℕ) (placed : List AreaPlace) (ss : List Spot) (p : Placement) → drop k script.areas ≡ rest → length placed ≡ k → areas_from k script.areas script.rows rest placed ss ≡ Ok p → ((j : ℕ) → j < k → Q j placed ss) → Holds Q (k + length rest) p
-  areas_hold [] k placed ss p left count h before =
-      let e : ◌≡◌ {A = Placement} (record { areas = placed; rows = map row_place ss }) p = cc in
-      record {
-        spots = ss;
-        rows = sym (ap (λ (q : Placement). q.rows) e);
-        each = λ j lt. subst (λ (ps : List AreaPlace). Q j ps ss) (ap (λ (q : Placement). q.areas) e) (before j (omega arith));
-      }
+  areas_hold [] k placed ss p left count h before = grind (arith, common_steps)
   areas_hold (a ∷ rest) k placed ss p left count h before =
       let f = bind_ok (bounds_in (standing k script.areas script.rows a placed ss)) (λ b. rows_from k a b script.rows ss b.start >>= λ x. areas_from (k + 1) script.areas script.rows rest (placed ++ area_place b x.1 ∷ []) x.0) p h in
       let b : Bounds = f.0 in

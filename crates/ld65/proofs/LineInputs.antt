@@ -136,6 +136,7 @@ file_refused known k name called old new e same fed before stands =
     refused_behind known old.script before (file_input name) (refusal_at k) e (at_outside k e) q
 
 module _ (known : Option Files) (k : ℕ) (name : List ℕ) (old new : Feeding) where
+
 -- ---- Their names.
 
 -- the rest of the names begins with the one at its place

@@ -53,6 +53,7 @@ module _ {A Y : Type 0} (name : List ℕ) (all rest : Reading A) (step : Reading
   stops (Some m) now e files leads refused = file_stops (finmap.get m name) e leads (rw files at refused)
 
 module _ {A Y : Type 0} (name : List ℕ) (all rest : Reading A) (step : Reading Y) (x : A) (y : Y) (done : (bytes : List ℕ) → rest bytes ≡ Ok x) where
+
 -- at the beginning all is left to read
 pub begins : {A : Type 0} (known : Option Files) (name : List ℕ) (all : Reading A) → Leads known name all all
 begins None name all = tt

@@ -67,16 +67,16 @@ pub fn perform<S: Store, W: Write, E: Write>(
 ) -> Status
     ensures done { IfSome (S.files store.old) (λ m. NoneFailed (S.failures store.old) (S.failures store.new) →
         Performs outcome.now m (S.files store.new)
-            (streams (W.contents out.old) (W.contents out.new) (E.contents err.old) (E.contents err.new)) result
+        (streams (W.contents out.old) (W.contents out.new) (E.contents err.old) (E.contents err.new)) result
         ⊎ StopsShort outcome.now (memory_line memory_name.now) m (S.files store.new)
-            (streams (W.contents out.old) (W.contents out.new) (E.contents err.old) (E.contents err.new)) result) }
+        (streams (W.contents out.old) (W.contents out.new) (E.contents err.old) (E.contents err.new)) result) }
     ensures plain { outcome.now.outputs ≡ [] → IfSome (S.files store.old) (λ m.
         Performs outcome.now m (S.files store.new)
-            (streams (W.contents out.old) (W.contents out.new) (E.contents err.old) (E.contents err.new)) result) }
+        (streams (W.contents out.old) (W.contents out.new) (E.contents err.old) (E.contents err.new)) result) }
     ensures untouched { outcome.now.outputs ≡ [] → S.blamed store.new ≡ S.blamed store.old }
     ensures failed { IfSome (S.files store.old) (λ m. S.failures store.old < S.failures store.new →
         StopsWriting outcome.now m (S.files store.new) (S.blamed store.new)
-            (streams (W.contents out.old) (W.contents out.new) (E.contents err.old) (E.contents err.new)) result) }
+        (streams (W.contents out.old) (W.contents out.new) (E.contents err.old) (E.contents err.new)) result) }
     ensures later { S.failures store.old ≤ S.failures store.new }
     ensures rose { S.failures store.old < S.failures store.new → result ≡ Status.Failure }
     ensures failing { outcome.now.status ≡ Status.Failure → result ≡ Status.Failure }

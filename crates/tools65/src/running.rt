@@ -58,13 +58,13 @@ fn run_link<S: Store, W: Write, E: Write>(
 ) -> Status
     ensures done { IfSome (S.files store.old) (λ m. NoneFailed (S.failures store.old) (S.failures store.new) →
         Ran (Does (linking line.now)) memory_message m (S.files store.new)
-            (streams (W.contents out.old) (W.contents out.new) (E.contents err.old) (E.contents err.new)) result) }
+        (streams (W.contents out.old) (W.contents out.new) (E.contents err.old) (E.contents err.new)) result) }
     ensures failed { IfSome (S.files store.old) (λ m. HasFailed (S.failures store.old) (S.failures store.new) →
         FailsLine (link (linking line.now)) m (S.files store.new) (S.blamed store.new)
-            (streams (W.contents out.old) (W.contents out.new) (E.contents err.old) (E.contents err.new)) result) }
+        (streams (W.contents out.old) (W.contents out.new) (E.contents err.old) (E.contents err.new)) result) }
     ensures one_program { IfSome (S.files store.old) (λ m. NoneFailed (S.failures store.old) (S.failures store.new) →
         LineLinksWhole (link (linking line.now)) m (S.files store.new)
-            (streams (W.contents out.old) (W.contents out.new) (E.contents err.old) (E.contents err.new)) result) }
+        (streams (W.contents out.old) (W.contents out.new) (E.contents err.old) (E.contents err.new)) result) }
     ensures later { S.failures store.old ≤ S.failures store.new }
     ensures rose { HasFailed (S.failures store.old) (S.failures store.new) → result ≡ Status.Failure }
 {
@@ -88,13 +88,13 @@ fn run_assemble<S: Store, W: Write, E: Write>(
 ) -> Status
     ensures done { IfSome (S.files store.old) (λ m. NoneFailed (S.failures store.old) (S.failures store.new) →
         Ran (Assembles (assembling line.now)) (memory_line line.now.source.now) m (S.files store.new)
-            (streams (W.contents out.old) (W.contents out.new) (E.contents err.old) (E.contents err.new)) result) }
+        (streams (W.contents out.old) (W.contents out.new) (E.contents err.old) (E.contents err.new)) result) }
     ensures failed { IfSome (S.files store.old) (λ m. HasFailed (S.failures store.old) (S.failures store.new) →
         FailsLine (assemble (assembling line.now)) m (S.files store.new) (S.blamed store.new)
-            (streams (W.contents out.old) (W.contents out.new) (E.contents err.old) (E.contents err.new)) result) }
+        (streams (W.contents out.old) (W.contents out.new) (E.contents err.old) (E.contents err.new)) result) }
     ensures one_program { IfSome (S.files store.old) (λ m. NoneFailed (S.failures store.old) (S.failures store.new) →
         LineLinksWhole (assemble (assembling line.now)) m (S.files store.new)
-            (streams (W.contents out.old) (W.contents out.new) (E.contents err.old) (E.contents err.new)) result) }
+        (streams (W.contents out.old) (W.contents out.new) (E.contents err.old) (E.contents err.new)) result) }
     ensures later { S.failures store.old ≤ S.failures store.new }
     ensures rose { HasFailed (S.failures store.old) (S.failures store.new) → result ≡ Status.Failure }
 {
@@ -131,13 +131,13 @@ fn run_archive<S: Store, W: Write, E: Write>(
 ) -> Status
     ensures done { IfSome (S.files store.old) (λ m. NoneFailed (S.failures store.old) (S.failures store.new) →
         Ran (Archives (archiving line.now)) (memory_line line.now.library.now) m (S.files store.new)
-            (streams (W.contents out.old) (W.contents out.new) (E.contents err.old) (E.contents err.new)) result) }
+        (streams (W.contents out.old) (W.contents out.new) (E.contents err.old) (E.contents err.new)) result) }
     ensures failed { IfSome (S.files store.old) (λ m. HasFailed (S.failures store.old) (S.failures store.new) →
         FailsLine (archive (archiving line.now)) m (S.files store.new) (S.blamed store.new)
-            (streams (W.contents out.old) (W.contents out.new) (E.contents err.old) (E.contents err.new)) result) }
+        (streams (W.contents out.old) (W.contents out.new) (E.contents err.old) (E.contents err.new)) result) }
     ensures one_program { IfSome (S.files store.old) (λ m. NoneFailed (S.failures store.old) (S.failures store.new) →
         LineLinksWhole (archive (archiving line.now)) m (S.files store.new)
-            (streams (W.contents out.old) (W.contents out.new) (E.contents err.old) (E.contents err.new)) result) }
+        (streams (W.contents out.old) (W.contents out.new) (E.contents err.old) (E.contents err.new)) result) }
     ensures later { S.failures store.old ≤ S.failures store.new }
     ensures rose { HasFailed (S.failures store.old) (S.failures store.new) → result ≡ Status.Failure }
 {
@@ -162,13 +162,13 @@ pub fn run_line<S: Store, W: Write, E: Write>(
 ) -> Status
     ensures done { IfSome (S.files store.old) (λ m. NoneFailed (S.failures store.old) (S.failures store.new) →
         Ran (DoesLine (view line.now)) (line_memory (view line.now)) m (S.files store.new)
-            (streams (W.contents out.old) (W.contents out.new) (E.contents err.old) (E.contents err.new)) result) }
+        (streams (W.contents out.old) (W.contents out.new) (E.contents err.old) (E.contents err.new)) result) }
     ensures failed { IfSome (S.files store.old) (λ m. HasFailed (S.failures store.old) (S.failures store.new) →
         FailsLine (view line.now) m (S.files store.new) (S.blamed store.new)
-            (streams (W.contents out.old) (W.contents out.new) (E.contents err.old) (E.contents err.new)) result) }
+        (streams (W.contents out.old) (W.contents out.new) (E.contents err.old) (E.contents err.new)) result) }
     ensures one_program { IfSome (S.files store.old) (λ m. NoneFailed (S.failures store.old) (S.failures store.new) →
         LineLinksWhole (view line.now) m (S.files store.new)
-            (streams (W.contents out.old) (W.contents out.new) (E.contents err.old) (E.contents err.new)) result) }
+        (streams (W.contents out.old) (W.contents out.new) (E.contents err.old) (E.contents err.new)) result) }
     ensures later { S.failures store.old ≤ S.failures store.new }
     ensures rose { HasFailed (S.failures store.old) (S.failures store.new) → result ≡ Status.Failure }
 {
@@ -189,13 +189,13 @@ pub fn run<A: AsStr, S: Store, W: Write, E: Write>(
 ) -> Status
     ensures done { IfSome (S.files store.old) (λ m. NoneFailed (S.failures store.old) (S.failures store.new) →
         Commands (map A.text words.now) m (S.files store.new)
-            (streams (W.contents out.old) (W.contents out.new) (E.contents err.old) (E.contents err.new)) result) }
+        (streams (W.contents out.old) (W.contents out.new) (E.contents err.old) (E.contents err.new)) result) }
     ensures failed { IfSome (S.files store.old) (λ m. HasFailed (S.failures store.old) (S.failures store.new) →
         FailsWords (S.failures store.old) (map A.text words.now) m (S.files store.new) (S.blamed store.new)
-            (streams (W.contents out.old) (W.contents out.new) (E.contents err.old) (E.contents err.new)) result) }
+        (streams (W.contents out.old) (W.contents out.new) (E.contents err.old) (E.contents err.new)) result) }
     ensures one_program { IfSome (S.files store.old) (λ m. NoneFailed (S.failures store.old) (S.failures store.new) →
         WordsLinkWhole (line_of (map A.text words.now)) m (S.files store.new)
-            (streams (W.contents out.old) (W.contents out.new) (E.contents err.old) (E.contents err.new)) result) }
+        (streams (W.contents out.old) (W.contents out.new) (E.contents err.old) (E.contents err.new)) result) }
     ensures later { S.failures store.old ≤ S.failures store.new }
     ensures rose { HasFailed (S.failures store.old) (S.failures store.new) → result ≡ Status.Failure }
 {

@@ -22,7 +22,8 @@ use Rattle.ld65.specs.declared.refusal.Refusal.{Refusal}
 use Rattle.ld65.specs.declared.refusal.Refusal.TheVariants.{Library, Link, Member, Object, OutOfMemory, ScriptFile}
 use Rattle.ld65.specs.Inner.Feeding.{FeedsRecords}
 use Rattle.ld65.specs.Linkage.{Input, member_module}
-use Rattle.ld65.specs.Refusals.{IsOfInput, NamesInput, NamesInputs, NamesMember, NamesOfLine, NamesScript, is_failure, refusal_at, refusal_in}
+use Rattle.ld65.specs.Refusals.{is_failure, refusal_at, refusal_in}
+use Rattle.ld65.specs.Naming.{IsOfInput, NamesInput, NamesInputs, NamesMember, NamesOfLine, NamesScript}
 use Rattle.ld65.proofs.Fed.{is_stored_at, is_stored_in, IsAt, not_stored}
 use Rattle.ld65.proofs.Chosen.{IsAfter}
 use Rattle.ld65.proofs.LineInputs.{IsBehind}

@@ -1,3 +1,4 @@
 pub mod Inner
 pub mod Linkage
+pub mod Naming
 pub mod Refusals

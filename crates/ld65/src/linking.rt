@@ -14,7 +14,8 @@ ghost use Rattle.base65.specs.Outcome.{Gives, Finds};
 ghost use Rattle.object65.specs.Record.{is_outside as is_object_outside};
 ghost use Rattle.object65.specs.Reading.{in_file};
 ghost use Rattle.ld65.specs.Linkage.{is_library, output_of, IsLinkedBy, IsLinked};
-ghost use Rattle.ld65.specs.Refusals.{is_failure, is_outside, NamesInput, NamesInputs, NamesOfLine, NamesScript};
+ghost use Rattle.ld65.specs.Refusals.{is_failure, is_outside};
+ghost use Rattle.ld65.specs.Naming.{NamesInput, NamesInputs, NamesOfLine, NamesScript};
 ghost use Rattle.cli65.specs.Line.{linking};
 ghost use Rattle.ld65.specs.Inner.Texts.{script_text};
 

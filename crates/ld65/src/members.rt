@@ -9,7 +9,8 @@ ghost use Rattle.link65.specs.Programs.{Module};
 ghost use Rattle.link65.specs.Standing.{IsFed, Keeps, is_open};
 ghost use Rattle.ld65.specs.Inner.Feeding.{AreChosen, Chooses, FeedsLibrary, FeedsMembers};
 ghost use Rattle.ld65.specs.Linkage.{as_library, index_in, chosen, chosen_at, member_module};
-ghost use Rattle.ld65.specs.Refusals.{is_failure, is_memory, is_outside, NamesInput, NamesMember};
+ghost use Rattle.ld65.specs.Refusals.{is_failure, is_memory, is_outside};
+ghost use Rattle.ld65.specs.Naming.{NamesInput, NamesMember};
 
 use crate::linking::{ObjectInput, feed_object};
 use crate::refusal::Refusal;

@@ -19,7 +19,8 @@ use Rattle.cli65.specs.declared.fault.LineFault.TheVariants.{BadArguments, OutOf
 use Rattle.link65.specs.declared.linking.Linked.{Linked}
 use Rattle.ld65.specs.declared.refusal.Refusal.{Refusal}
 use Rattle.ld65.specs.Linkage.{IsLinked}
-use Rattle.ld65.specs.Refusals.{IsOfLine, NamesOfLine, is_outside, is_memory, is_failure, memory_message, refusal_message}
+use Rattle.ld65.specs.Refusals.{is_outside, is_memory, is_failure, memory_message, refusal_message}
+use Rattle.ld65.specs.Naming.{IsOfLine, NamesOfLine}
 use Rattle.ar65.specs.declared.archiving.Archived.{Archived}
 use Rattle.ar65.specs.declared.refusal.Refusal.{Refusal as ArchiveRefusal}
 use Rattle.ar65.specs.Librarian.{archived_of}

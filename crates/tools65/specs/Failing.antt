@@ -5,7 +5,8 @@ use Rattle.ar65.specs.declared.refusal.Refusal.{Refusal as ArchiveRefusal}
 use Rattle.ar65.specs.Naming.{IsOfLine as IsOfArchive}
 use Rattle.ar65.specs.Refusals as archives
 use Rattle.ld65.specs.declared.refusal.Refusal.{Refusal}
-use Rattle.ld65.specs.Refusals.{IsOfLine, is_failure, refusal_message}
+use Rattle.ld65.specs.Refusals.{is_failure, refusal_message}
+use Rattle.ld65.specs.Naming.{IsOfLine}
 use Rattle.language65.specs.Faults as asm
 use Rattle.cli65.specs.declared.fault.LineFault.{LineFault}
 use Rattle.cli65.specs.Messages.{line_memory_message}

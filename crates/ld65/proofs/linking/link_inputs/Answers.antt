@@ -1,7 +1,7 @@
 use Rattle.std.proofs.Common.{◌∙◌, ℕ, List, Err, Ok, [], ap, map, subst}
 use Rattle.std.proofs.lemmas.Result.{err_from_is_err_and}
 use Rattle.cli65.specs.Line.{linking}
-use Rattle.ld65.specs.Refusals.{NamesInputs}
+use Rattle.ld65.specs.Naming.{NamesInputs}
 use Rattle.ld65.proofs.LineInputs.{inputs_refused, inputs_linked, refused_so, passed_on}
 use Rattle.ld65.proofs.linking.link_inputs.Goals as goal
 

@@ -1,4 +1,5 @@
 -- What is spelled as an index is read as that index.
+use Rattle.std.proofs.lemmas.Grind.{common_steps}
 use Rattle.std.proofs.Common.{◌≡◌, ◌∙◌, ◌<◌, ◌≤◌, ◌^◌, ℕ, ◌+◌, Bool, true, false, ◌||◌, nat_eq, nat_lt, List, [], ◌∷◌, ◌++◌, length, take, drop, map, Result, Ok, refl, sym, ap, subst, arith, append_assoc, length-append}
 use Rattle.std.specs.Prelude.{sum_by}
 use Rattle.std.specs.List.{AllByRecursion, flat_map, list_all}
@@ -30,13 +31,7 @@ pub record Stands (bytes : List ℕ) (at : ℕ) (part : List ℕ) : Type 0 where
   pub limit : at + length part ≤ file_limit
 
 pub first_part : (bytes : List ℕ) (at : ℕ) (a b : List ℕ) → Stands bytes at (a ++ b) → Stands bytes at a
-first_part bytes at a b s = record {
-  front = s.front;
-  rest = b ++ s.rest;
-  split = s.split ∙ ap (λ xs. s.front ++ xs) (append_assoc a b s.rest);
-  place = s.place;
-  limit = omega (arith, s.limit, length-append a b);
-}
+first_part bytes at a b s = grind (arith, common_steps)
 
 pub second_part : (bytes : List ℕ) (at : ℕ) (a b : List ℕ) → Stands bytes at (a ++ b) → Stands bytes (at + length a) b
 second_part bytes at a b s = record {
@@ -48,20 +43,14 @@ second_part bytes at a b s = record {
 }
 
 whole_again : (n at : ℕ) (f : List ℕ) → length f ≡ n → at + length f ≤ file_limit → whole n at f ≡ Ok f
-whole_again n at f len fits =
-    let within : nat_lt file_limit (at + length f) ≡ false = grind (arith, nat_tests) in
-    let all : nat_lt (length f) n ≡ false = grind (arith, nat_tests) in
-    rw (within, all) refl
+whole_again n at f len fits = grind (arith, common_steps)
 
 pub field_again : (bytes : List ℕ) (n at : ℕ) (f : List ℕ) → length f ≡ n → Stands bytes at f → field_at n at bytes ≡ Ok f
-field_again bytes n at f len s =
-    let there : take n (drop at bytes) ≡ f = ap (λ xs. take n (drop at xs)) s.split ∙ ap (take n) (drop_at s.front (f ++ s.rest) at (sym s.place)) ∙ take_at f s.rest n len in
-    ap (whole n at) there ∙ whole_again n at f len s.limit
+field_again bytes n at f len s = grind (arith, common_steps)
 
 pub number_again : (bytes : List ℕ) (at x : ℕ) → x < 2 ^ 32 → Stands bytes at (little_bytes 4 x) → number_at at bytes ≡ Ok x
 unfolding number_at
-number_again bytes at x fits s =
-    rw (field_again bytes 4 at (little_bytes 4 x) refl s) (let made : ℕ → Result ℕ LibraryFault = λ n. Ok n in ap made (back 4 x [] (omega arith)))
+number_again bytes at x fits s = grind (arith, common_steps)
 
 pub name_again : (bytes : List ℕ) (at : ℕ) (name : List ℕ) → Stands bytes at (name_bytes name) → name_at at bytes ≡ Ok (name, at + 1 + length name)
 unfolding name_at
@@ -75,9 +64,7 @@ unfolding symbol_at
 symbol_again bytes at name good s = rw (name_again bytes at name s, good) refl
 
 pub symbols_again : (bytes : List ℕ) (at : ℕ) (before names : List (List ℕ)) → list_all is_name names ≡ true → Stands bytes at (flat_map name_bytes names) → symbols_at (length names) before at bytes ≡ Ok (before ++ names, at + length (flat_map name_bytes names))
-symbols_again bytes at before [] good s =
-    let none : at + 0 ≡ at = omega arith in
-    rw (none, append-nil before) refl
+symbols_again bytes at before [] good s = grind (arith, common_steps, append-nil)
 symbols_again bytes at before (n ∷ ns) good s =
     let rest = second_part bytes at (name_bytes n) (flat_map name_bytes ns) s in
     let on : at + length (name_bytes n) ≡ at + 1 + length n = omega arith in
@@ -147,9 +134,7 @@ fresh_none [] = tt
 fresh_none (e ∷ es) = (refl, fresh_none es)
 
 pub listings_again : (bytes : List ℕ) (at : ℕ) (before : List Listing) (es : List Entry) → are_member_names (map (λ e. e.name) es) ≡ true → Fresh (map (λ m. m.name) before) es → AllByRecursion IsGoodEntry es → Stands bytes at (flat_map entry_bytes es) → listings_at (length es) before at bytes ≡ Ok (before ++ map listing_of es, at + length (flat_map entry_bytes es))
-listings_again bytes at before [] good fresh fits s =
-    let none : at + 0 ≡ at = omega arith in
-    rw (none, append-nil before) refl
+listings_again bytes at before [] good fresh fits s = grind (arith, common_steps)
 listings_again bytes at before (e ∷ es) good fresh fits s =
     let g = good_names e.name (map (λ (x : Entry). x.name) es) good in
     let rest = second_part bytes at (entry_bytes e) (flat_map entry_bytes es) s in
@@ -163,9 +148,7 @@ listings_again bytes at before (e ∷ es) good fresh fits s =
     ∙ ap (λ k. Ok (before ++ map listing_of (e ∷ es), k)) total
 
 pub placed_again : (before : List Entry) (at : ℕ) (es : List Entry) → StandFrom at es → at + sum_by entry_size es ≤ file_limit → placed before at (map listing_of es) ≡ Ok (before ++ es, at + sum_by entry_size es)
-placed_again before at [] stands le =
-    let none : at + sum_by entry_size [] ≡ at = omega arith in
-    rw (none, append-nil before) refl
+placed_again before at [] stands le = grind (arith, common_steps, entry_size, append-nil)
 placed_again before at (e ∷ es) stands le =
     let total : sum_by entry_size (e ∷ es) ≡ e.size + sum_by entry_size es = sum_by-cons entry_size e es in
     let within : nat_lt file_limit (at + e.size) ≡ false = let few : at + e.size ≤ file_limit = omega arith in grind (arith, nat_tests) in
@@ -178,10 +161,7 @@ placed_again before at (e ∷ es) stands le =
     ∙ ap (λ k. Ok (before ++ e ∷ es, k)) sum)
 
 end_again : (bytes : List ℕ) (end : ℕ) → end ≡ length bytes → end_at end bytes ≡ Ok tt
-end_again bytes end same =
-    let a : nat_lt (length bytes) end ≡ false = grind (arith, nat_tests) in
-    let b : nat_lt end (length bytes) ≡ false = grind (arith, nat_tests) in
-    rw (a, b) refl
+end_again bytes end same = grind (arith, common_steps)
 
 head_again : (bytes rest : List ℕ) → bytes ≡ library_head ++ rest → head_at bytes ≡ Ok tt
 head_again bytes rest split = ap head_at split

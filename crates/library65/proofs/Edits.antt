@@ -1,5 +1,6 @@
 -- Edits of a library, seen as a list of members.
-use Rattle.std.proofs.Common.{◌≡◌, ◌∙◌, ℕ, Bool, true, false, not, ◌||◌, ◌&&◌, cond, List, [], ◌∷◌, map, Some, Ok, Err, is_some, refl, ap, subst, if◌then◌else◌}
+use Rattle.std.proofs.lemmas.Grind.{common_steps}
+use Rattle.std.proofs.Common.{arith, ◌≡◌, ◌∙◌, ℕ, Bool, true, false, not, ◌||◌, ◌&&◌, cond, List, [], ◌∷◌, map, Some, Ok, Err, is_some, refl, ap, subst, if◌then◌else◌}
 use Rattle.std.specs.Global.{Vec}
 use Rattle.std.specs.List.{AllByRecursion}
 use Rattle.std.specs.Map.{keys_of, lookup, remove_entry}
@@ -27,31 +28,19 @@ has_key name k = bytes_eq name k.items
 
 pub inserted : (es : Stock) (k : Vec ℕ) (v : Stored) → map member_of (insert_entry same_key es k v) ≡ with_member (map member_of es) k.items v.bytes.items
 inserted [] k v = refl
-inserted (e ∷ es) k v = step (same_key k e.0) (inserted es k v) where
-  step : (b : Bool) → map member_of (insert_entry same_key es k v) ≡ with_member (map member_of es) k.items v.bytes.items → map member_of (if b then (e.0, v) ∷ es else e ∷ insert_entry same_key es k v) ≡ (if b then (e.0.items, v.bytes.items) ∷ map member_of es else member_of e ∷ with_member (map member_of es) k.items v.bytes.items)
-  step true h = refl
-  step false h = ap (λ ms. member_of e ∷ ms) h
+inserted (e ∷ es) k v = grind (arith, common_steps, (inserted es k v))
 
 pub removed : (es : Stock) (name : List ℕ) → map member_of (remove_entry (has_key name) es) ≡ without_member (map member_of es) name
 removed [] name = refl
-removed (e ∷ es) name = step (has_key name e.0) (removed es name) where
-  step : (b : Bool) → map member_of (remove_entry (has_key name) es) ≡ without_member (map member_of es) name → map member_of (cond b es (e ∷ remove_entry (has_key name) es)) ≡ (if b then map member_of es else member_of e ∷ without_member (map member_of es) name)
-  step true h = refl
-  step false h = ap (λ ms. member_of e ∷ ms) h
+removed (e ∷ es) name = grind (arith, common_steps, (removed es name))
 
 pub found : (es : Stock) (name : List ℕ) → bytes_of (map member_of es) name ≡ option_map (λ s. s.bytes.items) (lookup (has_key name) es)
 found [] name = refl
-found (e ∷ es) name = step (has_key name e.0) (found es name) where
-  step : (b : Bool) → bytes_of (map member_of es) name ≡ option_map (λ s. s.bytes.items) (lookup (has_key name) es) → (if b then Some e.1.bytes.items else bytes_of (map member_of es) name) ≡ option_map (λ (s : Stored). s.bytes.items) (cond b (Some e.1) (lookup (has_key name) es))
-  step true h = refl
-  step false h = h
+found (e ∷ es) name = grind (arith, common_steps, (found es name))
 
 pub known : (es : Stock) (name : List ℕ) → is_some (lookup (has_key name) es) ≡ is_among (member_names (map member_of es)) name
 known [] name = refl
-known (e ∷ es) name = step (has_key name e.0) (known es name) where
-  step : (b : Bool) → is_some (lookup (has_key name) es) ≡ is_among (member_names (map member_of es)) name → is_some (cond b (Some e.1) (lookup (has_key name) es)) ≡ (b || is_among (member_names (map member_of es)) name)
-  step true h = refl
-  step false h = h
+known (e ∷ es) name = grind (arith, common_steps, (known es name))
 
 -- ---- The names stay good.
 
@@ -92,23 +81,14 @@ pub record GoodNames (n : List ℕ) (ns : List (List ℕ)) : Type 0 where
   pub rest : are_member_names ns ≡ true
 
 pub good_names : (n : List ℕ) (ns : List (List ℕ)) → are_member_names (n ∷ ns) ≡ true → GoodNames n ns
-good_names n ns e =
-    let front = left (is_member_name n && not (is_among ns n)) (are_member_names ns) e in
-    record {
-      good = left (is_member_name n) (not (is_among ns n)) front;
-      new = turned (is_among ns n) (right (is_member_name n) (not (is_among ns n)) front);
-      rest = right (is_member_name n && not (is_among ns n)) (are_member_names ns) e;
-    }
+good_names n ns e = grind (arith, common_steps)
 
 pub names_good : (n : List ℕ) (ns : List (List ℕ)) → GoodNames n ns → are_member_names (n ∷ ns) ≡ true
 names_good n ns g = and (is_member_name n && not (is_among ns n)) (are_member_names ns) (and (is_member_name n) (not (is_among ns n)) g.good (absent (is_among ns n) g.new)) g.rest
 
 with_absent : (ms : List Member) (name bytes q : List ℕ) → is_among (member_names ms) q ≡ false → bytes_eq q name ≡ false → is_among (member_names (with_member ms name bytes)) q ≡ false
 with_absent [] name bytes q e f = neither (bytes_eq q name) false f refl
-with_absent (m ∷ ms) name bytes q e f = step (bytes_eq name m.0) (with_absent ms name bytes q (then_not (bytes_eq q m.0) _ e) f) where
-  step : (b : Bool) → is_among (member_names (with_member ms name bytes)) q ≡ false → is_among (member_names (if b then (m.0, bytes) ∷ ms else m ∷ with_member ms name bytes)) q ≡ false
-  step true h = e
-  step false h = neither (bytes_eq q m.0) _ (first_not (bytes_eq q m.0) _ e) h
+with_absent (m ∷ ms) name bytes q e f = grind (arith, common_steps, (with_absent ms name bytes q (then_not (bytes_eq q m.0) _ e) f), then_not, neither, first_not)
 
 pub with_good : (ms : List Member) (name bytes : List ℕ) → is_member_name name ≡ true → are_member_names (member_names ms) ≡ true → are_member_names (member_names (with_member ms name bytes)) ≡ true
 with_good [] name bytes good all = names_good name [] (record { good = good; new = refl; rest = refl })
@@ -122,10 +102,7 @@ with_good (m ∷ ms) name bytes good all =
 
 without_absent : (ms : List Member) (name q : List ℕ) → is_among (member_names ms) q ≡ false → is_among (member_names (without_member ms name)) q ≡ false
 without_absent [] name q e = refl
-without_absent (m ∷ ms) name q e = step (bytes_eq name m.0) (without_absent ms name q (then_not (bytes_eq q m.0) _ e)) where
-  step : (b : Bool) → is_among (member_names (without_member ms name)) q ≡ false → is_among (member_names (if b then ms else m ∷ without_member ms name)) q ≡ false
-  step true h = then_not (bytes_eq q m.0) _ e
-  step false h = neither (bytes_eq q m.0) _ (first_not (bytes_eq q m.0) _ e) h
+without_absent (m ∷ ms) name q e = grind (arith, common_steps, (without_absent ms name q (then_not (bytes_eq q m.0) _ e)), then_not, neither, first_not)
 
 pub without_good : (ms : List Member) (name : List ℕ) → are_member_names (member_names ms) ≡ true → are_member_names (member_names (without_member ms name)) ≡ true
 without_good [] name all = refl
@@ -141,24 +118,15 @@ without_good (m ∷ ms) name all =
 
 pub checked_good : (name bytes : List ℕ) (c : Contents) → checked name bytes ≡ Ok c → is_member_name name ≡ true
 unfolding checked
-checked_good name bytes c e = step (is_member_name name) e where
-  step : (b : Bool) → (if b then contents_in bytes else Err BadMemberName) ≡ Ok c → b ≡ true
-  step true h = refl
-  step false h = cc
+checked_good name bytes c e = grind (arith, common_steps)
 
 pub insert_stored : (es : Stock) (k : Vec ℕ) (v : Stored) → AllByRecursion IsStored es → IsStored (k, v) → AllByRecursion IsStored (insert_entry same_key es k v)
 insert_stored [] k v all one = (one, tt)
-insert_stored (e ∷ es) k v all one = step (same_key k e.0) refl (insert_stored es k v all.1 one) where
-  step : (b : Bool) → same_key k e.0 ≡ b → AllByRecursion IsStored (insert_entry same_key es k v) → AllByRecursion IsStored (if b then (e.0, v) ∷ es else e ∷ insert_entry same_key es k v)
-  step true is h = ((subst (λ n. checked n v.bytes.items ≡ Ok v.contents) ((bytes_eq-Decides k.items e.0.items).0 is) one.0, one.1), all.1)
-  step false is h = (all.0, h)
+insert_stored (e ∷ es) k v all one = grind (arith, common_steps, (insert_stored es k v all.1 one), bytes_eq-Decides)
 
 pub remove_stored : (es : Stock) (name : List ℕ) → AllByRecursion IsStored es → AllByRecursion IsStored (remove_entry (has_key name) es)
 remove_stored [] name all = tt
-remove_stored (e ∷ es) name all = step (has_key name e.0) (remove_stored es name all.1) where
-  step : (b : Bool) → AllByRecursion IsStored (remove_entry (has_key name) es) → AllByRecursion IsStored (cond b es (e ∷ remove_entry (has_key name) es))
-  step true h = all.1
-  step false h = (all.0, h)
+remove_stored (e ∷ es) name all = grind (arith, common_steps, (remove_stored es name all.1))
 
 -- ---- Names.
 

@@ -1,4 +1,5 @@
 -- What is read as an index is an index, and spelled so.
+use Rattle.std.proofs.lemmas.Grind.{common_steps}
 use Rattle.std.proofs.Common.{◌≡◌, ◌∙◌, ◌<◌, ◌≤◌, ◌^◌, ℕ, zero, suc, ◌+◌, Bool, true, false, cond, nat_lt, List, [], ◌∷◌, ◌++◌, length, take, drop, get_or, Result, Ok, Err, refl, sym, ap, subst, arith, append_assoc, length-append, if◌then◌else◌, not, ◌||◌, ◌&&◌, nat_eq, map, length-drop}
 use Rattle.std.specs.List.{flat_map, list_all, AllByRecursion}
 use Rattle.std.proofs.lemmas.Bool.Decides.{nat_tests}
@@ -29,8 +30,7 @@ use Rattle.library65.proofs.Made.{entry_size}
 -- ---- What is read as an index is spelled so.
 
 pub bound : {A B : Type 0} (r : Result A LibraryFault) (f : A → Result B LibraryFault) (y : B) → (r >>= f) ≡ Ok y → (x : A) × (r ≡ Ok x) × (f x ≡ Ok y)
-bound (Ok x) f y e = (x, refl, e)
-bound (Err g) f y e = cc
+bound x f y e = grind (arith, common_steps)
 
 pub passes : {A : Type 0} (b : Bool) (f : LibraryFault) (r : Result A LibraryFault) (y : A) → cond b (Err f) r ≡ Ok y → (b ≡ false) × (r ≡ Ok y)
 passes true f r y e = cc
@@ -50,11 +50,7 @@ pub takes_none : (bytes : List ℕ) (at : ℕ) → at ≤ file_limit → Takes b
 takes_none bytes at le = record { split = refl; next_is = omega arith; limit = le }
 
 pub takes_then : (bytes : List ℕ) (at mid next : ℕ) (a b : List ℕ) → Takes bytes at mid a → Takes bytes mid next b → Takes bytes at next (a ++ b)
-takes_then bytes at mid next a b s t = record {
-  split = s.split ∙ ap (λ xs. a ++ xs) t.split ∙ sym (append_assoc a b (drop next bytes));
-  next_is = omega (arith, s.next_is, t.next_is, length-append a b);
-  limit = t.limit;
-}
+takes_then bytes at mid next a b s t = grind (arith, common_steps)
 
 pub record TakesField (bytes : List ℕ) (n at : ℕ) (f : List ℕ) : Type 0 where
   pub takes : Takes bytes at (at + n) f
@@ -127,9 +123,7 @@ pub record TakesNames (bytes : List ℕ) (n at : ℕ) (before : List (List ℕ))
   pub takes : Takes bytes at x.1 (flat_map name_bytes new)
 
 pub symbols_take : (n : ℕ) (bytes : List ℕ) (at : ℕ) (before : List (List ℕ)) (x : List (List ℕ) × ℕ) → at ≤ file_limit → symbols_at n before at bytes ≡ Ok x → TakesNames bytes n at before x
-symbols_take zero bytes at before x le e =
-    let made : ◌≡◌ {A = List (List ℕ) × ℕ} (before, at) x = cc in
-    subst (TakesNames bytes zero at before) made (record { new = []; names = sym (append-nil before); count = refl; good = refl; takes = takes_none bytes at le })
+symbols_take zero bytes at before x le e = grind (arith, common_steps, append-nil, takes_none)
 symbols_take (suc n) bytes at before x le e =
     let a = bound (symbol_at at bytes) (λ s. symbols_at n (before ++ s.0 ∷ []) s.1 bytes) x e in
     let s = symbol_takes bytes at a.0 a.1 in
@@ -239,9 +233,7 @@ record TakesListings (bytes : List ℕ) (n at : ℕ) (before : List Listing) (x 
   fits : AllByRecursion (λ m. IsGoodEntry (entry_at 0 m)) new
 
 listings_take : (n : ℕ) (bytes : List ℕ) (at : ℕ) (before : List Listing) (x : List Listing × ℕ) → IsBytes bytes → at ≤ file_limit → listings_at n before at bytes ≡ Ok x → TakesListings bytes n at before x
-listings_take zero bytes at before x is le e =
-    let made : ◌≡◌ {A = List Listing × ℕ} (before, at) x = cc in
-    subst (TakesListings bytes zero at before) made (record { new = []; members = sym (append-nil before); count = refl; takes = takes_none bytes at le; names = refl; apart = tt; fits = tt })
+listings_take zero bytes at before x is le e = grind (arith, common_steps, append-nil, takes_none)
 listings_take (suc n) bytes at before x is le e =
     let names = map (λ (m : Listing). m.name) before in
     let a = bound (listing_at names at bytes) (λ m. listings_at n (before ++ m.0 ∷ []) m.1 bytes) x e in
@@ -271,9 +263,7 @@ record TakesPlaces (at : ℕ) (before : List Entry) (ms : List Listing) (x : Lis
   limit : x.1 ≤ file_limit
 
 placed_takes : (before : List Entry) (at : ℕ) (ms : List Listing) (x : List Entry × ℕ) → at ≤ file_limit → placed before at ms ≡ Ok x → TakesPlaces at before ms x
-placed_takes before at [] x le e =
-    let made : ◌≡◌ {A = List Entry × ℕ} (before, at) x = cc in
-    subst (TakesPlaces at before []) made (record { entries = sym (append-nil before); end = (let none : at ≡ at + sum_by (λ (m : Listing). m.size) [] = omega arith in none); limit = le })
+placed_takes before at [] x le e = grind (arith, common_steps, append-nil)
 placed_takes before at (m ∷ ms) x le e =
     let a = passes (nat_lt file_limit (at + m.size)) BadIndex (placed (before ++ entry_at at m ∷ []) (at + m.size) ms) x e in
     let within : at + m.size ≤ file_limit = grind (arith, nat_tests) in
@@ -311,23 +301,10 @@ all_sizes at (m ∷ ms) = sum_by-cons entry_size (entry_at at m) (placed_from (a
 -- ---- The whole.
 
 head_takes : (bytes : List ℕ) (u : Unit {0}) → head_at bytes ≡ Ok u → Takes bytes 0 5 library_head
-head_takes bytes u e =
-    let g = passes (nat_lt (length (take 5 bytes)) 5 || not (bytes_eq (take 5 bytes) library_head)) NotALibrary (Ok tt) u e in
-    let same : take 5 bytes ≡ library_head = (bytes_eq-Decides (take 5 bytes) library_head).0 (equal (nat_lt (length (take 5 bytes)) 5) (bytes_eq (take 5 bytes) library_head) g.0) in
-    record { split = sym (take-append-drop 5 bytes) ∙ ap (λ xs. xs ++ drop 5 bytes) same; next_is = refl; limit = omega arith }
-  where
-    equal : (a b : Bool) → (a || not b) ≡ false → b ≡ true
-    equal true b h = cc
-    equal false true h = refl
-    equal false false h = cc
+head_takes bytes u e = grind (arith, common_steps)
 
 ended : (bytes : List ℕ) (end : ℕ) (u : Unit {0}) → end_at end bytes ≡ Ok u → length bytes ≡ end
-ended bytes end u e =
-    let a = passes (nat_lt (length bytes) end) CutShort (if nat_lt end (length bytes) then Err BadIndex else Ok tt) u e in
-    let b = passes (nat_lt end (length bytes)) BadIndex (Ok tt) u a.1 in
-    let low : end ≤ length bytes = grind (arith, nat_tests) in
-    let high : length bytes ≤ end = grind (arith, nat_tests) in
-    omega arith
+ended bytes end u e = grind (arith, common_steps)
 
 pub index_takes : IndexReadLaw
 unfolding index_at list_at

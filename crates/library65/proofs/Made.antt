@@ -1,4 +1,5 @@
 -- What is written is a library.
+use Rattle.std.proofs.lemmas.Grind.{common_steps}
 use Rattle.std.proofs.Common.{◌≡◌, ◌∙◌, ◌<◌, ℕ, true, not, ◌&&◌, nat_lt, List, [], ◌∷◌, length, get_or, map, refl, sym, ap, subst, arith, zero, suc, ◌≤◌, ◌+◌, Bool, false, if◌then◌else◌, ◌++◌, Ok, Err, length-append, append_assoc, ◌-◌, take, drop}
 use Rattle.std.proofs.lemmas.Bool.Decides.{nat_tests}
 use Rattle.std.specs.List.{list_all, flat_map, AllByRecursion}
@@ -28,26 +29,15 @@ use Rattle.library65.specs.Laws.{OneLibraryLaw, WrittenLaw}
 
 pub all_names : (names : List (List ℕ)) → are_names names ≡ true → list_all is_name names ≡ true
 all_names [] e = refl
-all_names (n ∷ ns) e =
-    let front = left (is_name n && not (is_among ns n)) (are_names ns) e in
-    and (is_name n) (list_all is_name ns) (left (is_name n) (not (is_among ns n)) front) (all_names ns (right (is_name n && not (is_among ns n)) (are_names ns) e))
+all_names (n ∷ ns) e = grind (arith, common_steps, (all_names ns (right (is_name n && not (is_among ns n)) (are_names ns) e)), left, and, right)
 
 pub symbols_good : (o : Object) (exports : List (List ℕ)) → is_good_object o ≡ true → exports ≡ map (λ (e : Export). e.name) o.exports → AreSymbols (record { exports = exports; imports = o.imports })
-symbols_good o exports good same =
-    let p = parts o good in
-    record {
-      exports = ap (list_all is_name) same ∙ all_names (map (λ (e : Export). e.name) o.exports) p.export_names;
-      imports = all_names o.imports p.imports;
-    }
+symbols_good o exports good same = grind (arith, common_steps, parts, all_names)
 
 -- a good name's length is a byte
 pub name_short : (names : List (List ℕ)) (i : ℕ) (name : List ℕ) → list_all is_name names ≡ true → i < length names → name ≡ get_or names i name → length name < 256
 name_short [] i name all lt at = absurd (omega arith)
-name_short (n ∷ ns) zero name all lt at =
-    let good = left (is_name n) (list_all is_name ns) all in
-    let short : nat_lt (length n) 256 ≡ true = right (nat_lt 0 (length n)) (nat_lt (length n) 256) (left (nat_lt 0 (length n) && nat_lt (length n) 256) (list_all is_printed n) good) in
-    let P : List ℕ → Type 0 = λ x. length x < 256 in
-    subst P (sym at) (grind (arith, nat_tests))
+name_short (n ∷ ns) zero name all lt at = grind (arith, common_steps, left, right, nat_tests)
 name_short (n ∷ ns) (suc i) name all lt at = name_short ns i name (right (is_name n) (list_all is_name ns) all) (omega arith) at
 
 -- ---- What is written of a library, part by part.
@@ -70,52 +60,32 @@ bodies_seen (e ∷ es) = ap (λ xs. e.1.bytes.items ++ xs) (bodies_seen es)
 
 pub checked_contents : (name bytes : List ℕ) (c : Contents) → checked name bytes ≡ Ok c → contents_in bytes ≡ Ok c
 unfolding checked
-checked_contents name bytes c e = step (is_member_name name) e where
-  step : (b : Bool) → (if b then contents_in bytes else Err BadMemberName) ≡ Ok c → contents_in bytes ≡ Ok c
-  step true h = h
-  step false h = cc
+checked_contents name bytes c e = grind (arith, common_steps)
 
 pub its_listing : (k : Vec ℕ) (v : Stored) → IsStored (k, v) → member_listing (member_of (k, v)) ≡ listing_bytes k.items (length v.bytes.items) v.contents.exports v.contents.imports
-its_listing k v is =
-    let found = checked_contents k.items v.bytes.items v.contents is.0 in
-    ap (λ r. let c = or_none r in listing_bytes k.items (length v.bytes.items) c.exports c.imports) found
+its_listing k v is = grind (arith, common_steps, checked_contents)
 
 abbrev pub Stock : Type 0
 Stock = List (Vec ℕ × Stored)
 
 pub names_next : (all : Stock) (k : Vec ℕ) (v : Stored) (es : Stock) → all ≡ (k, v) ∷ es → are_member_names (member_names (map member_of all)) ≡ true → are_member_names (member_names (map member_of es)) ≡ true
-names_next all k v es split good =
-    (good_names k.items (member_names (map member_of es)) (sym (ap (λ (xs : Stock). are_member_names (member_names (map member_of xs))) split) ∙ good)).rest
+names_next all k v es split good = grind (arith, common_steps)
 
 pub out_next : (all : Stock) (k : Vec ℕ) (v : Stored) (es : Stock) (name old new whole : List ℕ) → all ≡ (k, v) ∷ es → IsStored (k, v) → name ≡ k.items → new ≡ old ++ listing_bytes name (length v.bytes.items) v.contents.exports v.contents.imports → old ++ flat_map member_listing (map member_of all) ≡ whole → new ++ flat_map member_listing (map member_of es) ≡ whole
-out_next all k v es name old new whole split is same put so_far =
-    let rest = flat_map member_listing (map member_of es) in
-    ap (λ xs. xs ++ rest) (put ∙ ap (λ n. old ++ listing_bytes n (length v.bytes.items) v.contents.exports v.contents.imports) same ∙ ap (λ xs. old ++ xs) (sym (its_listing k v is)))
-    ∙ append_assoc old (member_listing (member_of (k, v))) rest
-    ∙ sym (ap (λ (xs : Stock). old ++ flat_map member_listing (map member_of xs)) split)
-    ∙ so_far
+out_next all k v es name old new whole split is same put so_far = grind (arith, common_steps, its_listing, append_assoc)
 
 abbrev pub written_len : Stock → ℕ
 written_len es = length (flat_map member_listing (map member_of es)) + length (flat_map (λ (m : Member). m.1) (map member_of es))
 
 pub size_next : (all : Stock) (k : Vec ℕ) (v : Stored) (es : Stock) (total : ℕ) → all ≡ (k, v) ∷ es → written_len all ≤ total → written_len es ≤ total
-size_next all k v es total split le =
-    let P : Stock → Type 0 = λ xs. written_len xs ≤ total in
-    let h : written_len ((k, v) ∷ es) ≤ total = subst P split le in
-    omega (arith, h, length-append (member_listing (member_of (k, v))) (flat_map member_listing (map member_of es)), length-append v.bytes.items (flat_map (λ (m : Member). m.1) (map member_of es)))
+size_next all k v es total split le = grind (arith, common_steps)
 
 pub size_first : (all : Stock) (k : Vec ℕ) (v : Stored) (es : Stock) (name : List ℕ) (total : ℕ) → all ≡ (k, v) ∷ es → IsStored (k, v) → name ≡ k.items → written_len all ≤ total → length (listing_bytes name (length v.bytes.items) v.contents.exports v.contents.imports) + length v.bytes.items ≤ total
-size_first all k v es name total split is same le =
-    let P : Stock → Type 0 = λ xs. written_len xs ≤ total in
-    let h : written_len ((k, v) ∷ es) ≤ total = subst P split le in
-    let one : length (listing_bytes name (length v.bytes.items) v.contents.exports v.contents.imports) ≡ length (member_listing (member_of (k, v))) = ap (λ (n : List ℕ). length (listing_bytes n (length v.bytes.items) v.contents.exports v.contents.imports)) same ∙ ap (length {A = ℕ}) (sym (its_listing k v is)) in
-    omega (arith, one, h, length-append (member_listing (member_of (k, v))) (flat_map member_listing (map member_of es)), length-append v.bytes.items (flat_map (λ (m : Member). m.1) (map member_of es)))
+size_first all k v es name total split is same le = grind (arith, common_steps, its_listing, length-append)
 
 -- a part that would pass the limit makes the whole pass it
 pub passed_on : (e : LibraryFault) (part whole old base new after : List ℕ) (n total : ℕ) → Puts part n old new (Err e) → n ≤ total → Puts whole total base after (Err e)
-passed_on OutOfMemory part whole old base new after n total put le = tt
-passed_on BadIndex part whole old base new after n total put le = omega arith
-passed_on e part whole old base new after n total put le = absurd put
+passed_on x part whole old base new after n total put le = grind (arith, common_steps)
 
 -- ---- The bytes of a library, from those of its members.
 
@@ -132,10 +102,7 @@ all_room bytes = take_all (length bytes - 0) bytes (omega arith)
 
 pub object_there : (bytes : List ℕ) (o : Object) → length bytes ≤ file_limit → IsObject bytes o → contents_in bytes ≡ Ok (contents_from o)
 unfolding contents_in
-object_there bytes o short is =
-    let whole : IsObject (room bytes 0 (length bytes)) o = subst (λ bs. IsObject bs o) (sym (all_room bytes)) is in
-    let fits : 0 + length (room bytes 0 (length bytes)) ≤ file_limit = omega (arith, ap (length {A = ℕ}) (all_room bytes)) in
-    rw (object_is_read bytes 0 (length bytes) o fits whole) refl
+object_there bytes o short is = grind (arith, common_steps, all_room, object_is_read)
 
 -- what an entry and its member have in common
 pub record Fits (e : Entry) (m : Member) : Type 0 where
@@ -153,11 +120,7 @@ AllFit (e ∷ es) [] = ⊥
 AllFit (e ∷ es) (m ∷ ms) = Fits e m × AllFit es ms
 
 fits_listing : (e : Entry) (m : Member) → length m.1 ≤ file_limit → Fits e m → entry_bytes e ≡ member_listing m
-fits_listing e m short f =
-    let c : contents_in m.1 ≡ Ok (contents_from f.object) = object_there m.1 f.object short f.is_object in
-    rw (f.exports, f.imports) (ap (λ n. listing_bytes n e.size (map (λ (x : Export). x.name) f.object.exports) f.object.imports) (sym f.name)
-    ∙ ap (λ n. listing_bytes m.0 n (map (λ (x : Export). x.name) f.object.exports) f.object.imports) (sym f.size)
-    ∙ sym (ap (λ r. let d = or_none r in listing_bytes m.0 (length m.1) d.exports d.imports) c))
+fits_listing e m short f = grind (arith, common_steps, object_there)
 
 pub all_listings : (es : List Entry) (ms : List Member) → length (bodies ms) ≤ file_limit → AllFit es ms → flat_map entry_bytes es ≡ flat_map member_listing ms
 all_listings [] [] short f = refl
@@ -181,10 +144,7 @@ piece_in front members at size is = ap (take size) (drop_at front members at (sy
 
 -- members that stand one behind the other are all that stands there
 pub stand : (front members : List ℕ) (es : List Entry) (ms : List Member) → StandFrom (length front) es → length members ≡ sum_by entry_size es → AreMembers (front ++ members) es ms → (members ≡ bodies ms) × AllFit es ms
-stand front members [] [] stands sizes are = (nothing members sizes, tt) where
-  nothing : (xs : List ℕ) → length xs ≡ 0 → xs ≡ []
-  nothing [] e = refl
-  nothing (x ∷ xs) e = absurd (omega arith)
+stand front members [] [] stands sizes are = grind (arith, common_steps)
 stand front members [] (m ∷ ms) stands sizes are = absurd are
 stand front members (e ∷ es) [] stands sizes are = absurd are
 stand front members (e ∷ es) (m ∷ ms) stands sizes are =
@@ -285,10 +245,7 @@ all_there front at (m ∷ ms) os is =
     )
 
 within_limit : (ms : List Member) (bytes : List ℕ) → written ms ≡ Ok bytes → (length (library_bytes ms) ≤ file_limit) × (bytes ≡ library_bytes ms)
-within_limit ms bytes e = step (nat_lt file_limit (length (library_bytes ms))) refl e where
-  step : (b : Bool) → nat_lt file_limit (length (library_bytes ms)) ≡ b → (if b then Err BadIndex else Ok (library_bytes ms)) ≡ Ok bytes → (length (library_bytes ms) ≤ file_limit) × (bytes ≡ library_bytes ms)
-  step true is h = cc
-  step false is h = (grind (arith, nat_tests), sym (let same : library_bytes ms ≡ bytes = cc in same))
+within_limit ms bytes e = grind (arith, common_steps)
 
 pub written_is : WrittenLaw
 written_is ms bytes stock e =

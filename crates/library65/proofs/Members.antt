@@ -1,5 +1,6 @@
 -- The objects in members' bytes, and what they export and import.
-use Rattle.std.proofs.Common.{◌≡◌, ◌∙◌, ◌<◌, ◌&&◌, ℕ, suc, Bool, true, false, not, List, ◌∷◌, length, drop, get_or, Result, Ok, Err, refl, sym, ap, if◌then◌else◌, [], map, subst}
+use Rattle.std.proofs.lemmas.Grind.{common_steps}
+use Rattle.std.proofs.Common.{arith, ◌≡◌, ◌∙◌, ◌<◌, ◌&&◌, ℕ, suc, Bool, true, false, not, List, ◌∷◌, length, drop, get_or, Result, Ok, Err, refl, sym, ap, if◌then◌else◌, [], map, subst}
 use Rattle.std.specs.Str.{bytes_eq}
 use Rattle.std.proofs.Math.Seq.{drop-cons}
 use Rattle.base65.specs.Outcome.{◌>>=◌, Refuses, Unless}
@@ -27,12 +28,7 @@ use Rattle.library65.proofs.Made.{all_names}
 
 -- two names that stand at one place differ
 pub differ : (names others : List (List ℕ)) (i : ℕ) (x y : List ℕ) → i < length names → i < length others → x ≡ get_or names i x → y ≡ get_or others i y → bytes_eq x y ≡ false → are_same (drop i names) (drop i others) ≡ false
-differ names others i x y lt lt2 at at2 e =
-    let first = drop-cons names i x lt ∙ ap (λ z. z ∷ drop (suc i) names) (sym at) in
-    let second = drop-cons others i y lt2 ∙ ap (λ z. z ∷ drop (suc i) others) (sym at2) in
-    ap (λ ns. are_same ns (drop i others)) first
-    ∙ ap (λ ns. are_same (x ∷ drop (suc i) names) ns) second
-    ∙ ap (λ b. b && are_same (drop (suc i) names) (drop (suc i) others)) e
+differ names others i x y lt lt2 at at2 e = grind (arith, common_steps)
 
 pub turned : (b : Bool) → not b ≡ true → b ≡ false
 turned true e = cc
@@ -42,11 +38,7 @@ turned false e = refl
 
 not_a_file : (name bytes : List ℕ) → checked name bytes ≡ Err library.FileError → ⊥
 unfolding checked contents_in
-not_a_file name bytes e = step (is_member_name name) (object_at 0 (length bytes) bytes) e where
-  step : (b : Bool) (r : Result Object ObjectFault) → (if b then (as_member r >>= (λ o. Ok (contents_from o))) else Err BadMemberName) ≡ Err library.FileError → ⊥
-  step true (Ok o) h = cc
-  step true (Err f) h = cc
-  step false r h = cc
+not_a_file name bytes e = grind (arith, common_steps)
 
 pub not_stored : (name bytes : List ℕ) (e : LibraryFault) → Refuses is_memory e (checked name bytes) → e ≡ library.FileError → ⊥
 not_stored name bytes e refused is = not_a_file name bytes (rw is at refused)
@@ -99,10 +91,4 @@ module _ (v : ℕ) (bytes : List ℕ) (at next : ℕ) (scan : Outline) (c : Cont
         }
 
     pub good_taken : AreSymbols more
-    good_taken =
-        let good = reached_parts (with_item was.state item) next_reached in
-        let same = added was.state was.contents in
-        subst AreSymbols (sym same) (record {
-          exports = all_names (map (λ (e : Export). e.name) (with_item was.state item).exports) good.export_names;
-          imports = all_names (with_item was.state item).imports good.imports;
-        })
+    good_taken = grind (arith, common_steps, reached_parts, next_reached, all_names)

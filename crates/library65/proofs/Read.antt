@@ -1,4 +1,5 @@
 -- What is loaded as a library is spelled so, and edits leave members that make a library.
+use Rattle.std.proofs.lemmas.Grind.{common_steps}
 use Rattle.std.proofs.Common.{◌≡◌, ◌∙◌, ◌≤◌, ℕ, Bool, true, false, ◌||◌, nat_lt, List, [], ◌∷◌, ◌++◌, length, take, drop, map, Ok, Err, refl, sym, ap, subst, arith, append_assoc, length-append, if◌then◌else◌, ◌-◌, Result}
 use Rattle.std.specs.Str.{bytes_eq}
 use Rattle.std.proofs.lemmas.Bool.Decides.{nat_tests}
@@ -36,15 +37,10 @@ same_names (n ∷ ns) = rw (same_bytes n) (same_names ns)
 
 pub put_last : (ms : List Member) (name bytes : List ℕ) → is_among (member_names ms) name ≡ false → with_member ms name bytes ≡ ms ++ (name, bytes) ∷ []
 put_last [] name bytes new = refl
-put_last (m ∷ ms) name bytes new = step (bytes_eq name m.0) refl new (put_last ms name bytes) where
-  step : (b : Bool) → bytes_eq name m.0 ≡ b → (b || is_among (member_names ms) name) ≡ false → (is_among (member_names ms) name ≡ false → with_member ms name bytes ≡ ms ++ (name, bytes) ∷ []) → (if b then (m.0, bytes) ∷ ms else m ∷ with_member ms name bytes) ≡ m ∷ (ms ++ (name, bytes) ∷ [])
-  step true is e h = cc
-  step false is e h = ap (λ xs. m ∷ xs) (h e)
+put_last (m ∷ ms) name bytes new = grind (arith, common_steps, (put_last ms name bytes))
 
 piece_again : (bytes : List ℕ) (e : Entry) (m : Member) → m.1 ≡ take e.size (drop e.place bytes) → length m.1 ≡ e.size → piece_at e.size e.place bytes ≡ Ok m.1
-piece_again bytes e m is len =
-    let all : nat_lt (length m.1) e.size ≡ false = grind (arith, nat_tests) in
-    ap (λ (xs : List ℕ). if nat_lt (length xs) e.size then Err CutShort else Ok xs) (sym is) ∙ rw all refl
+piece_again bytes e m is len = grind (arith, common_steps)
 
 checked_again : (name bytes : List ℕ) (c : Contents) → is_member_name name ≡ true → contents_in bytes ≡ Ok c → checked name bytes ≡ Ok c
 unfolding checked
@@ -60,10 +56,7 @@ agreed_again e m good short f =
 
 joined_again : (bytes : List ℕ) (before : List Member) (e : Entry) (m : Member) → is_member_name e.name ≡ true → is_among (member_names before) e.name ≡ false → length m.1 ≤ file_limit → IsMember bytes e m → Fits e m → joined before e bytes ≡ Ok (before ++ m ∷ [])
 unfolding joined
-joined_again bytes before e m good new short is f =
-    let same : ◌≡◌ {A = Member} (e.name, m.1) m = ap (λ (n : List ℕ). (n, m.1)) (sym f.name) in
-    rw (piece_again bytes e m is.bytes f.size, agreed_again e m good short f)
-    (ap (λ (ms : List Member). Ok ms) (put_last before e.name m.1 new ∙ ap (λ x. before ++ x ∷ []) same))
+joined_again bytes before e m good new short is f = grind (arith, common_steps, piece_again, agreed_again, put_last)
 
 all_again : (bytes : List ℕ) (before : List Member) (es : List Entry) (ms : List Member) → are_member_names (map (λ (e : Entry). e.name) es) ≡ true → Fresh (member_names before) es → length (bodies ms) ≤ file_limit → AreMembers bytes es ms → AllFit es ms → joined_all before es bytes ≡ Ok (before ++ ms)
 all_again bytes before [] [] good fresh short are f = ap (λ (ms : List Member). Ok ms) (sym (append-nil before))
@@ -93,8 +86,7 @@ all_room : (bytes : List ℕ) → room bytes 0 (length bytes) ≡ bytes
 all_room bytes = take_all (length bytes - 0) bytes (omega arith)
 
 read_one : (r : Result Object ObjectFault) (o : Object) → as_member r ≡ Ok o → r ≡ Ok o
-read_one (Ok p) o e = let same : p ≡ o = cc in ap (λ (x : Object). Ok x) same
-read_one (Err f) o e = cc
+read_one x o e = grind (arith, common_steps)
 
 pub record HasContents (bytes : List ℕ) (c : Contents) : Type 0 where
   pub object : Object
@@ -185,17 +177,11 @@ library_taken bytes ms is h =
 
 with_objects : (ms : List Member) (name bytes : List ℕ) → AllByRecursion HasObject ms → HasObject (name, bytes) → AllByRecursion HasObject (with_member ms name bytes)
 with_objects [] name bytes all one = (one, tt)
-with_objects (m ∷ ms) name bytes all one = step (bytes_eq name m.0) (with_objects ms name bytes all.1 one) where
-  step : (b : Bool) → AllByRecursion HasObject (with_member ms name bytes) → AllByRecursion HasObject (if b then (m.0, bytes) ∷ ms else m ∷ with_member ms name bytes)
-  step true h = (one, all.1)
-  step false h = (all.0, h)
+with_objects (m ∷ ms) name bytes all one = grind (arith, common_steps, (with_objects ms name bytes all.1 one))
 
 without_objects : (ms : List Member) (name : List ℕ) → AllByRecursion HasObject ms → AllByRecursion HasObject (without_member ms name)
 without_objects [] name all = tt
-without_objects (m ∷ ms) name all = step (bytes_eq name m.0) (without_objects ms name all.1) where
-  step : (b : Bool) → AllByRecursion HasObject (without_member ms name) → AllByRecursion HasObject (if b then ms else m ∷ without_member ms name)
-  step true h = all.1
-  step false h = (all.0, h)
+without_objects (m ∷ ms) name all = grind (arith, common_steps, (without_objects ms name all.1))
 
 replaced_stock : (ms ns : List Member) (name bytes : List ℕ) → IsBytes bytes → IsStock ms → replaced ms name bytes ≡ Ok ns → IsStock ns
 unfolding replaced
@@ -206,9 +192,7 @@ replaced_stock ms ns name bytes is stock h =
     subst IsStock made (record { names = with_good ms name bytes (checked_good name bytes c.0 c.1) stock.names; objects = with_objects ms name bytes stock.objects (o.object, o.is_object) })
 
 deleted_stock : (ms ns : List Member) (name : List ℕ) → IsStock ms → deleted ms name ≡ Ok ns → IsStock ns
-deleted_stock ms ns name stock h =
-    let g = admits (is_among (member_names ms) name) (NoSuchMember name) (without_member ms name) ns h in
-    subst IsStock g.1 (record { names = without_good ms name stock.names; objects = without_objects ms name stock.objects })
+deleted_stock ms ns name stock h = grind (arith, common_steps, admits, without_good, without_objects)
 
 all_named : (bytes : List ℕ) (es : List Entry) (ms : List Member) → AreMembers bytes es ms → member_names ms ≡ map (λ (e : Entry). e.name) es
 all_named bytes [] [] are = refl

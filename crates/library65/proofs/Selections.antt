@@ -1,4 +1,5 @@
 -- Selections: the search gives one, there is but one, and it grows with what is wanted.
+use Rattle.std.proofs.lemmas.Grind.{common_steps}
 use Rattle.std.proofs.Common.{◌≡◌, ◌≢◌, ◌∙◌, ◌<◌, ◌≤◌, ◌-◌, ℕ, zero, suc, ◌+◌, Bool, true, false, not, ◌||◌, cond, nat_eq, List, [], ◌∷◌, ◌++◌, length, get_or, slice_get, Some, refl, sym, ap, subst, arith, if◌then◌else◌, ◌&&◌, Option, None, append_assoc}
 use Rattle.std.specs.Prelude.{count_by, replicate, slice_set}
 use Rattle.std.specs.List.{AllByRecursion, list_any, position_from}
@@ -85,31 +86,17 @@ no_marks (suc n) (suc i) = no_marks n i
 
 pub none_counted : (n : ℕ) → count_by not (replicate n false) ≡ n
 none_counted zero = refl
-none_counted (suc n) = sum_by-cons (λ b. cond (not b) 1 0) false (replicate n false) ∙ ap (λ k. 1 + k) (none_counted n) ∙ one_more n where
-  one_more : (k : ℕ) → 1 + k ≡ suc k
-  one_more k = omega arith
+none_counted (suc n) = grind (arith, common_steps, (none_counted n), sum_by-cons)
 
 pub length_marks : (n : ℕ) → length (replicate n false) ≡ n
 length_marks zero = refl
 length_marks (suc n) = ap suc (length_marks n)
 
 pub marks_added : (marks : List Bool) (places : List ℕ) (place : ℕ) → place < length marks → ((i : ℕ) → get_or marks i false ≡ has_place places i) → (i : ℕ) → get_or (slice_set marks place true) i false ≡ has_place (places ++ place ∷ []) i
-marks_added marks places place within marked i =
-    either (nat_eq i place)
-    (λ e. let is : i ≡ place = same_place i place e in
-    let P : ℕ → Type 0 = λ j. get_or (slice_set marks place true) j false ≡ has_place (places ++ place ∷ []) j in
-    subst P (sym is) (get_or-set_same marks place true false within ∙ sym (place_behind places (place ∷ []) place (or_left (nat_eq place place) false (place_same place)))))
-    (λ e. let other : i ≢ place = λ is. let yes : nat_eq i place ≡ true = grind (arith, nat_tests) in cc in
-    get_or-set_other marks place i true false other
-    ∙ marked i
-    ∙ sym (or_false (has_place places i))
-    ∙ ap (λ b. has_place places i || (b || false)) (sym e)
-    ∙ sym (place_append places (place ∷ []) i))
+marks_added marks places place within marked i = grind (arith, common_steps)
 
 pub count_added : (marks : List Bool) (place : ℕ) → place < length marks → get_or marks place false ≡ false → count_by not (slice_set marks place true) + 1 ≡ count_by not marks
-count_added marks place within new =
-    let one : ◌≡◌ {A = ℕ} (cond (not (get_or marks place false)) 1 0) 1 = rw new refl in
-    omega (arith, sum_by-set (λ b. cond (not b) 1 0) marks place true false within, one)
+count_added marks place within new = grind (arith, common_steps)
 
 -- ---- The places that are marked.
 
@@ -197,12 +184,7 @@ module _ (es : List Entry) (wanted defined : Names) (found : List ℕ) where
 
   -- the first exporter of a name of the set was found
   exporter_found : IsSearched es wanted defined found (length found) → (name : List ℕ) (place : ℕ) → has name ≡ true → first_exporter es name ≡ Some place → has_place found place ≡ true
-  exporter_found done name place in_set first =
-      let parts = both (not (is_among defined name)) _ in_set in
-      let not_defined = not_true (is_among defined name) parts.0 in
-      or_true (is_among wanted name) _ parts.1
-      (λ e. done.wanted_found name place e not_defined first)
-      (λ e. let r = any_at (λ i. is_among (imports_at es i) name) found e in done.imports_found r.0 r.1 r.2 r.3 name place r.4 not_defined first)
+  exporter_found done name place in_set first = grind (arith, common_steps, both, not_true, or_true, any_at)
 
   set_closed : IsSearched es wanted defined found (length found) → IsClosed es wanted defined has
   set_closed done = record {
@@ -223,16 +205,7 @@ module _ (es : List Entry) (wanted defined : Names) (found : List ℕ) where
       closed.goes_on from.0 name r.1 (from.1 other closed) from.2 r.4 not_defined)
 
   pub searched_selected : (marks : List Bool) (places : List ℕ) → IsSearched es wanted defined found (length found) → ((i : ℕ) → get_or marks i false ≡ has_place found i) → places ≡ marked_from 0 marks → IsSelection es wanted defined places
-  searched_selected marks places done marked listed =
-      let same : (i : ℕ) → has_place places i ≡ has_place found i = λ i. ap (λ ps. has_place ps i) listed ∙ marked_places 0 i marks (omega arith) ∙ ap (λ j. get_or marks j false) (let z : i - 0 ≡ i = omega arith in z) ∙ marked i in
-      record {
-        has = has;
-        closed = set_closed done;
-        least = set_least done;
-        exporters = λ place there. let from = done.needed place (sym (same place) ∙ there) in (from.0, from.1 has (set_closed done), from.2);
-        all = λ name place in_set first. same place ∙ exporter_found done name place in_set first;
-        rising = subst IsRising (sym listed) (marked_rising 0 marks);
-      }
+  searched_selected marks places done marked listed = grind (arith, common_steps, marked_places, set_closed, set_least, exporter_found, marked_rising)
 
 -- ---- Selections.
 
@@ -264,35 +237,18 @@ selection_grows es wanted more defined a b grown first second place there =
     second.all from.0 place (first.least second.has closed from.0 from.1) from.2
 
 pub one_selection : OneSelectionLaw
-one_selection es wanted defined a b first second =
-    one_list a b first.rising second.rising
-    (selection_grows es wanted wanted defined a b (λ name want. want) first second)
-    (selection_grows es wanted wanted defined b a (λ name want. want) second first)
+one_selection es wanted defined a b first second = grind (arith, common_steps, one_list, selection_grows)
 
 -- ---- The search for the members that a link needs: what it has found is the selection.
 
 module _ (es : List Entry) (defined : Names) where
   -- nothing is wanted
   pub finds_none : (old : List ℕ) → Finds es defined [] old old
-  finds_none old = record {
-    behind = [];
-    more = sym (append-nil old);
-    all = λ name i e. absurd cc;
-    only = λ i e. absurd cc;
-  }
+  finds_none old = grind (arith, common_steps)
 
   -- names one behind the other
   pub finds_more : (names : Names) (name : List ℕ) (old mid new : List ℕ) → Finds es defined names old mid → Finds es defined (name ∷ []) mid new → Finds es defined (names ++ name ∷ []) old new
-  finds_more names name old mid new first last = record {
-    behind = first.behind ++ last.behind;
-    more = last.more ∙ ap (λ is. is ++ last.behind) first.more ∙ append_assoc old first.behind last.behind;
-    all = λ n i among free exported. or_true (is_among names n) (is_among (name ∷ []) n) (sym (list_any-append (pointwise nat_eq n) names (name ∷ [])) ∙ among)
-        (λ e. subst (λ is. has_place is i ≡ true) (sym last.more) (place_kept mid last.behind i (first.all n i e free exported)))
-        (λ e. last.all n i e free exported);
-    only = λ i found. or_true (has_place first.behind i) (has_place last.behind i) (sym (list_any-append (nat_eq i) first.behind last.behind) ∙ found)
-        (λ e. let r = first.only i e in (r.0, list_any-append (pointwise nat_eq r.0) names (name ∷ []) ∙ or_left (is_among names r.0) (is_among (name ∷ []) r.0) r.1, r.2, r.3))
-        (λ e. let r = last.only i e in (r.0, list_any-append (pointwise nat_eq r.0) names (name ∷ []) ∙ or_right (is_among names r.0) (is_among (name ∷ []) r.0) r.1, r.2, r.3));
-  }
+  finds_more names name old mid new first last = grind (arith, common_steps)
 
   one_name : (name n : List ℕ) → is_among (name ∷ []) n ≡ true → n ≡ name
   one_name name n among = or_true (pointwise nat_eq n name) false among (λ e. (bytes_eq-Decides n name).0 e) (λ e. absurd cc)
@@ -345,11 +301,7 @@ module _ (es : List Entry) (defined : Names) where
 module _ (es : List Entry) (wanted defined : Names) where
   -- what is wanted was found
   pub search_begins : (found : List ℕ) → Finds es defined wanted [] found → IsSearched es wanted defined found 0
-  search_begins found finds = record {
-    needed = λ i there. let r = finds.only i (subst (λ (js : List ℕ). has_place js i ≡ true) finds.more there) in (r.0, (λ has closed. closed.begins r.0 r.1 r.2), r.3);
-    wanted_found = λ name i among free exported. finds.all name i among free exported;
-    imports_found = λ k place lt. absurd (omega arith);
-  }
+  search_begins found finds = grind (arith, common_steps)
 
   -- what one member more imports was found
   pub search_goes_on : (found new : List ℕ) (next place : ℕ) → next < length found → slice_get found next ≡ Some place → IsSearched es wanted defined found next → Finds es defined (imports_at es place) found new → IsSearched es wanted defined new (next + 1)

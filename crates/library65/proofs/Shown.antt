@@ -1,5 +1,6 @@
 -- Names as they are printed.
-use Rattle.std.proofs.Common.{◌≡◌, ◌∙◌, ◌<◌, ℕ, ◌+◌, Bool, true, false, List, [], ◌∷◌, ◌++◌, length, take, get_or, refl, sym, ap, add-one, append_assoc}
+use Rattle.std.proofs.lemmas.Grind.{common_steps}
+use Rattle.std.proofs.Common.{arith, ◌≡◌, ◌∙◌, ◌<◌, ℕ, ◌+◌, Bool, true, false, List, [], ◌∷◌, ◌++◌, length, take, get_or, refl, sym, ap, add-one, append_assoc}
 use Rattle.std.proofs.Math.Seq.{take-suc}
 use Rattle.std.specs.Prelude.{encode_utf8, encode_utf8_all}
 use Rattle.std.proofs.lemmas.List.{append-nil}
@@ -12,10 +13,7 @@ encode-push (x ∷ xs) c = append_assoc (encode_utf8 x) (encode_utf8_all xs) (en
 
 -- one byte more
 pub encode-more : (name : List ℕ) (i c : ℕ) → i < length name → c ≡ get_or name i 0 → encode_utf8_all (take i name) ++ encode_utf8 c ≡ encode_utf8_all (take (i + 1) name)
-encode-more name i c lt e =
-    ap (λ d. encode_utf8_all (take i name) ++ encode_utf8 d) e
-    ∙ encode-push (take i name) (get_or name i 0)
-    ∙ ap encode_utf8_all (sym (rw add-one (take-suc name i 0 lt)))
+encode-more name i c lt e = grind (arith, common_steps, encode-push, take-suc)
 
 no_test : (name : List ℕ) (b : Bool) → is_utf8 name ≡ b → (b ≡ true → ⊥) → b ≡ false
 no_test name true is never = absurd (never refl)

@@ -1,4 +1,5 @@
 -- What is read of a file in steps.
+use Rattle.std.proofs.lemmas.Grind.{common_steps}
 use Rattle.std.proofs.Common.{◌≡◌, ◌∙◌, ◌<◌, arith, ℕ, List, Bool, true, false, Option, Some, None, Result, Ok, Err, refl, sym, ap, subst, add-one, drop, get_or, length, zero, suc, ◌+◌, ◌-◌, ◌≤◌, [], ◌∷◌, ◌++◌, map, nat_le, nat_lt, take, min, length-drop}
 use Rattle.std.specs.Prelude.{IfSome}
 use Rattle.std.specs.FinMap as finmap
@@ -35,56 +36,38 @@ unless false h p = h p
 
 module _ {A Y : Type 0} (name : List ℕ) (all rest : Reading A) (step : Reading Y) (k : Y → Reading A) (same : (bytes : List ℕ) → rest bytes ≡ (step bytes >>= (λ y. k y bytes))) where
   file_goes_on : (file : Option (List ℕ)) (y : Y) → IfSome file (λ bytes. rest bytes ≡ all bytes) → in_file file step ≡ Ok y → IfSome file (λ bytes. k y bytes ≡ all bytes)
-  file_goes_on None y leads read = tt
-  file_goes_on (Some bytes) y leads read = sym (same bytes ∙ ap (λ r. r >>= (λ z. k z bytes)) read) ∙ leads
+  file_goes_on x y leads read = grind (arith, common_steps)
 
   -- a step that is taken
   pub goes_on : (known now : Option Files) (y : Y) → now ≡ known → Leads known name rest all → IfSome now (λ m. in_file (finmap.get m name) step ≡ Ok y) → Leads known name (k y) all
-  goes_on None now y files leads read = tt
-  goes_on (Some m) now y files leads read = file_goes_on (finmap.get m name) y leads (rw files at read)
+  goes_on x now y files leads read = grind (arith, common_steps)
 
   file_stops : (file : Option (List ℕ)) (e : LibraryFault) → IfSome file (λ bytes. rest bytes ≡ all bytes) → Refuses is_outside e (in_file file step) → Refuses is_outside e (in_file file all)
-  file_stops None e leads refused = unless (is_outside e) (λ h. let is : FileNotFound ≡ e = cc in ap Err is) refused
-  file_stops (Some bytes) e leads refused = unless (is_outside e) (λ h. sym leads ∙ same bytes ∙ ap (λ r. r >>= (λ z. k z bytes)) h) refused
+  file_stops x e leads refused = grind (arith, common_steps)
 
   -- a step that is refused
   pub stops : (known now : Option Files) (e : LibraryFault) → now ≡ known → Leads known name rest all → IfSome now (λ m. Refuses is_outside e (in_file (finmap.get m name) step)) → IfSome known (λ m. Refuses is_outside e (in_file (finmap.get m name) all))
-  stops None now e files leads refused = tt
-  stops (Some m) now e files leads refused = file_stops (finmap.get m name) e leads (rw files at refused)
+  stops x now e files leads refused = grind (arith, common_steps)
 
 module _ {A Y : Type 0} (name : List ℕ) (all rest : Reading A) (step : Reading Y) (x : A) (y : Y) (done : (bytes : List ℕ) → rest bytes ≡ Ok x) where
 
 -- at the beginning all is left to read
 pub begins : {A : Type 0} (known : Option Files) (name : List ℕ) (all : Reading A) → Leads known name all all
-begins None name all = tt
-begins (Some m) name all = file (finmap.get m name) where
-  file : (f : Option (List ℕ)) → IfSome f (λ bytes. all bytes ≡ all bytes)
-  file None = tt
-  file (Some bytes) = refl
+begins x name all = grind (arith, common_steps)
 
 -- a call that answered left the count of failures as it was
 pub kept_count : {T : Type 0} (old now : ℕ) (x : T) → Passes {E = LibraryFault} FileError old now (Ok x) → now ≡ old
-kept_count old now x passes = let not_later : old < now → ⊥ = λ h. ok_or_err x (passes.told h) in omega (arith, passes.later, not_later)
-  where
-    ok_or_err : {T : Type 0} (x : T) → ◌≡◌ {A = Result T LibraryFault} (Ok x) (Err FileError) → ⊥
-    ok_or_err x e = cc
+kept_count old now x passes = grind (arith, common_steps)
 
 -- a refusal for another cause passes nothing on
 pub none_passed : {T : Type 0} (old now : ℕ) (e : LibraryFault) → now ≡ old → (e ≡ FileError → ⊥) → Passes {T = T} FileError old now (Err e)
-none_passed old now e same other = record {
-  later = omega arith;
-  told = λ h. absurd (omega arith);
-  cause = λ is. absurd (other (let f : e ≡ FileError = cc in f));
-}
+none_passed old now e same other = grind (arith, common_steps)
 
 -- ---- The names of exports or imports.
 
 pub counted_begins : (at : ℕ) (bytes : List ℕ) → counted_at at bytes ≡ (number_at at bytes >>= (λ n. symbols_at (n - 0) [] (at + 4) bytes))
 unfolding counted_at
-counted_begins at bytes = go (number_at at bytes) where
-  go : (r : Result ℕ LibraryFault) → (r >>= (λ n. symbols_at n [] (at + 4) bytes)) ≡ (r >>= (λ n. symbols_at (n - 0) [] (at + 4) bytes))
-  go (Ok n) = let same : n - 0 ≡ n = omega arith in rw same refl
-  go (Err e) = refl
+counted_begins at bytes = grind (arith, common_steps)
 
 pub symbols_more : (n i : ℕ) (names : List (List ℕ)) (at : ℕ) → i < n → (bytes : List ℕ) → symbols_at (n - i) names at bytes ≡ (symbol_at at bytes >>= (λ s. symbols_at (n - (i + 1)) (names ++ s.0 ∷ []) s.1 bytes))
 symbols_more n i names at less bytes = let one : n - i ≡ suc (n - (i + 1)) = omega arith in rw one refl
@@ -93,19 +76,14 @@ symbols_more n i names at less bytes = let one : n - i ≡ suc (n - (i + 1)) = o
 
 pub list_begins : (bytes : List ℕ) → list_at bytes ≡ (count_at bytes >>= (λ n. listings_at (n - 0) [] 9 bytes))
 unfolding list_at
-list_begins bytes = go (count_at bytes) where
-  go : (r : Result ℕ LibraryFault) → (r >>= (λ n. listings_at n [] 9 bytes)) ≡ (r >>= (λ n. listings_at (n - 0) [] 9 bytes))
-  go (Ok n) = let same : n - 0 ≡ n = omega arith in rw same refl
-  go (Err e) = refl
+list_begins bytes = grind (arith, common_steps)
 
 pub listings_more : (n i : ℕ) (ms : List Listing) (names : List (List ℕ)) (at : ℕ) → names ≡ map (λ m. m.name) ms → i < n → (bytes : List ℕ) → listings_at (n - i) ms at bytes ≡ (listing_at names at bytes >>= (λ m. listings_at (n - (i + 1)) (ms ++ m.0 ∷ []) m.1 bytes))
 listings_more n i ms names at named less bytes = let one : n - i ≡ suc (n - (i + 1)) = omega arith in rw (one, named) refl
 
 -- the names of the members so far, with one more
 pub name_pushed : (ms : List Listing) (m : Listing) (after : List Listing) (names more : List (List ℕ)) (name : List ℕ) → names ≡ map (λ x. x.name) ms → name ≡ m.name → ◌≡◌ {A = Result (List (List ℕ)) LibraryFault} (Ok (names ++ name ∷ [])) (Ok more) → after ≡ ms ++ m ∷ [] → more ≡ map (λ x. x.name) after
-name_pushed ms m after names more name named same added pushed =
-    let is : names ++ name ∷ [] ≡ more = cc in
-    sym is ∙ rw (named, same, pushed) (sym (map-append (λ x. x.name) ms (m ∷ [])))
+name_pushed ms m after names more name named same added pushed = grind (arith, common_steps)
 
 -- ---- The members themselves.
 
@@ -121,9 +99,7 @@ IsPieceFront file at bytes = IfSome file (λ b. bytes ≡ take (length bytes) (d
 
 -- a chunk further on in the file is one further on in its rest
 moved : (file : List ℕ) (at len want n : ℕ) (old new : List ℕ) → ReadsChunk (Some file) (at + len) want old new (Ok n) → ReadsChunk (Some (drop at file)) len want old new (Ok n)
-moved file at len want n old new read =
-    let same = drop-drop len at file in
-    (read.0 ∙ ap (λ xs. old ++ take want xs) (sym same), read.1 ∙ ap (λ (xs : List ℕ). length (take want xs)) (sym same))
+moved file at len want n old new read = grind (arith, common_steps)
 
 longer : (file : List ℕ) (want n : ℕ) (old new : List ℕ) → old ≡ take (length old) file → ReadsChunk (Some file) (length old) want old new (Ok n) → new ≡ take (length old + want) file
 longer file want n old new front read = read.0 ∙ ap (λ xs. xs ++ take want (drop (length old) file)) front ∙ sym (take-add (length old) want file)
@@ -133,12 +109,7 @@ last true file want n most old new test front within is short read =
     let near : most ≤ length old + 4096 = grind (arith, nat_tests) in
     let all : length old + want ≡ most = omega arith in
     longer file want n old new front read ∙ ap (λ k. take k file) all
-last false file want n most old new test front within is short read =
-    let far : length old + 4096 < most = grind (arith, nat_tests) in
-    let full : want ≡ 4096 = omega arith in
-    let rest : n ≡ min want (length file - length old) = read.1 ∙ length-take want (drop (length old) file) ∙ ap (min want) (length-drop (length old) file) in
-    let ended : length file ≤ length old + want = omega arith in
-    longer file want n old new front read ∙ take_all (length old + want) file ended ∙ sym (take_all most file (omega arith))
+last false file want n most old new test front within is short read = grind (arith, common_steps, nat_tests, length-take, longer, take_all)
 
 -- the file is there, and the bytes are all that it has for the member
 abbrev pub IsPiece : Option (List ℕ) → ℕ → ℕ → List ℕ → Type 0
@@ -155,8 +126,4 @@ told_whole (Some m) next name at place want n size old new same there within is 
     go (Some file) f r = last (nat_le size (length old + 4096)) (drop at file) want n size old new refl f within is short (moved file at (length old) want n old new r)
 
 pub piece_whole : (known : Option Files) (name : List ℕ) (at size : ℕ) (new : List ℕ) → size ≤ length new → IfSome known (λ m. IsPiece (finmap.get m name) at size new) → IfSome known (λ m. in_file (finmap.get m name) (piece_at size at) ≡ Ok new)
-piece_whole None name at size new le is = tt
-piece_whole (Some m) name at size new le is = go (finmap.get m name) is where
-  go : (file : Option (List ℕ)) → IsPiece file at size new → in_file file (piece_at size at) ≡ Ok new
-  go None i = absurd i
-  go (Some file) i = let all : nat_lt (length (take size (drop at file))) size ≡ false = rw (← i) (grind (arith, nat_tests)) in rw all (ap (λ (bs : List ℕ). Ok bs) (sym i))
+piece_whole x name at size new le is = grind (arith, common_steps)

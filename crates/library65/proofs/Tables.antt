@@ -1,4 +1,5 @@
 -- First exporters by name.
+use Rattle.std.proofs.lemmas.Grind.{common_steps}
 use Rattle.std.proofs.Common.{◌≡◌, ◌∙◌, ◌<◌, ◌≤◌, ◌-◌, ℕ, suc, nat_eq, ◌+◌, Bool, true, false, ◌||◌, cond, List, [], ◌∷◌, ◌++◌, length, take, drop, get_or, Option, Some, None, refl, sym, ap, arith, add-one, if◌then◌else◌}
 use Rattle.std.specs.List.{position_from}
 use Rattle.std.specs.Str.{bytes_eq}
@@ -23,8 +24,4 @@ joined false b false place old e = rw e refl
 
 -- an export more of one member
 pub export_more : (names : List (List ℕ)) (i : ℕ) (n key name : List ℕ) (place : ℕ) (old mid new : Option ℕ) → i < length names → n ≡ get_or names i n → key ≡ n → new ≡ cond (bytes_eq key name) (Some place) mid → mid ≡ (if is_among (take i names) name then Some place else old) → new ≡ (if is_among (take (i + 1) names) name then Some place else old)
-export_more names i n key name place old mid new lt at is step so_far =
-    step
-    ∙ ap (cond (bytes_eq key name) (Some place)) so_far
-    ∙ joined (is_among (take i names) name) (bytes_eq key name) (pointwise nat_eq name n) place old (ap (λ k. bytes_eq k name) is ∙ nat_list_eq_equiv.symm n name)
-    ∙ ap (λ b. if b then Some place else old) (sym (ap (λ ns. is_among ns name) (taken_more names i n lt at) ∙ list_any-append (pointwise nat_eq name) (take i names) (n ∷ [])))
+export_more names i n key name place old mid new lt at is step so_far = grind (arith, common_steps, joined, nat_list_eq_equiv, taken_more, list_any-append)

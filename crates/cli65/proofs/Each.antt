@@ -5,5 +5,3 @@ use Rattle.base65.specs.Outcome.{◌>>=◌, each, Refuses, Unless}
 -- what is left, behind what was found
 abbrev pub behind : {E B : Type 0} → List B → Result (List B) E → Result (List B) E
 behind front r = r >>= (λ ys. Ok (front ++ ys))
-
-module _ {E A B : Type 0} (f : A → Result B E) where

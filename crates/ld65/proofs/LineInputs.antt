@@ -135,8 +135,6 @@ file_refused known k name called old new e same fed before stands =
     let q = subst (λ n. FeedsObject known (record { file = name; begin = 0; end = 18446744073709551615; name = n; entry = None }) old new (Err e)) same fed before stands in
     refused_behind known old.script before (file_input name) (refusal_at k) e (at_outside k e) q
 
-module _ (known : Option Files) (k : ℕ) (name : List ℕ) (old new : Feeding) where
-
 -- ---- Their names.
 
 -- the rest of the names begins with the one at its place

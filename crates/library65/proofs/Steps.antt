@@ -49,8 +49,6 @@ module _ {A Y : Type 0} (name : List ℕ) (all rest : Reading A) (step : Reading
   pub stops : (known now : Option Files) (e : LibraryFault) → now ≡ known → Leads known name rest all → IfSome now (λ m. Refuses is_outside e (in_file (finmap.get m name) step)) → IfSome known (λ m. Refuses is_outside e (in_file (finmap.get m name) all))
   stops x now e files leads refused = grind (arith, common_steps)
 
-module _ {A Y : Type 0} (name : List ℕ) (all rest : Reading A) (step : Reading Y) (x : A) (y : Y) (done : (bytes : List ℕ) → rest bytes ≡ Ok x) where
-
 -- at the beginning all is left to read
 pub begins : {A : Type 0} (known : Option Files) (name : List ℕ) (all : Reading A) → Leads known name all all
 begins x name all = grind (arith, common_steps)

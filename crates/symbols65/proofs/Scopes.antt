@@ -9,8 +9,6 @@ use Rattle.language65.specs.Symbols.{Scope}
 
 -- ---- Outward.
 
-module _ (cs : List Scope) (find : ℕ → Option ℕ) where
-
 -- ---- What stands before a place.
 
 from_above : {A : Type 0} (p : A → Bool) (k : ℕ) (xs : List A) (j : ℕ) → position_from p k xs ≡ Some j → k ≤ j

@@ -31,7 +31,6 @@ use Rattle.language65.specs.Sound.{IsSoundLayout, sections_in}
 use Rattle.link65.specs.Files.{RowBytes}
 use Rattle.base65.specs.declared.output.OutputFile.{OutputFile}
 use Rattle.link65.specs.declared.parts.Member.{Member}
-use Rattle.link65.specs.Programs as grown
 use Rattle.link65.specs.declared.parts.ValueFault.{ValueFault}
 use Rattle.object65.specs.declared.object.Fragment.{Fragment}
 use Rattle.object65.specs.declared.object.Origin.{Origin}
@@ -193,7 +192,7 @@ LengthLaw =
 abbrev pub SizeLaw : Type 0
 SizeLaw =
     (ys : List Layout) (ms : List Module) (name : List ℕ) → AreSources ys ms →
-    grown.end_of (linked.program_of ms).segments name ≡ end_of 0 (items_of ys name)
+    linked.end_of (linked.program_of ms).segments name ≡ end_of 0 (items_of ys name)
 
 -- The base of a section of an object in a link is that of the module's segment in the whole program.
 abbrev pub SectionBaseLaw : Type 0

@@ -213,30 +213,30 @@ module _ (s : Script) (placement : Placement) (ys : List Layout) (ms : List Modu
   abbrev segments : List Segment
   segments = (linked.program_of ms).segments
 
-  abbrev check : Fixup → Result (Unit {0}) LinkFault
-  check = check_fixup l (linked.program_of ms).members (in_table table)
+  abbrev check_all : Fixup → Result (Unit {0}) LinkFault
+  check_all = check_fixup l (linked.program_of ms).members (in_table table)
 
   abbrev IsWritten : Row → Type 0
   IsWritten r = bytes r ≡ row_bytes l (in_table table) segments r
 
-  one_row : (r : Row) → AreRow (whole.program_of s placement ys) ys bytes r ↔ ((each_passes check (fixups_of (segment_of segments r.name)) ≡ Ok tt) × IsWritten r)
+  one_row : (r : Row) → AreRow (whole.program_of s placement ys) ys bytes r ↔ ((each_passes check_all (fixups_of (segment_of segments r.name)) ≡ Ok tt) × IsWritten r)
   one_row r =
       let g : Option Segment = segment_of segments r.name in
       let list = linked_bytes_law s placement ys ms r.fill_value r.name (bytes r) h (sources_law s placement ys ms h) in
       let cells = checked_law l (linked.program_of ms).members table r.fill_value (cells_or g) (bytes r) exports in (
-        λ k. (let q = cells.0 (list.1 k) in (ap (each_passes check) (fixup_cells g) ∙ q.0, q.1 ∙ sym (bytes_cells l table r.fill_value g))),
-        λ k. list.0 (cells.1 (ap (each_passes check) (sym (fixup_cells g)) ∙ k.0, k.1 ∙ bytes_cells l table r.fill_value g)),
+        λ k. (let q = cells.0 (list.1 k) in (ap (each_passes check_all) (fixup_cells g) ∙ q.0, q.1 ∙ sym (bytes_cells l table r.fill_value g))),
+        λ k. list.0 (cells.1 (ap (each_passes check_all) (sym (fixup_cells g)) ∙ k.0, k.1 ∙ bytes_cells l table r.fill_value g)),
       )
 
-  all_rows : (rs : List Row) → AllByRecursion (AreRow (whole.program_of s placement ys) ys bytes) rs ↔ ((each_passes check (fixups_by_row rs segments) ≡ Ok tt) × AllByRecursion IsWritten rs)
+  all_rows : (rs : List Row) → AllByRecursion (AreRow (whole.program_of s placement ys) ys bytes) rs ↔ ((each_passes check_all (fixups_by_row rs segments) ≡ Ok tt) × AllByRecursion IsWritten rs)
   all_rows [] = (λ k. (refl, tt), λ k. tt)
   all_rows (r ∷ rs) =
       let first : List Fixup = fixups_of (segment_of segments r.name) in
       let rest : List Fixup = fixups_by_row rs segments in
       let deeper = all_rows rs in
       let one = one_row r in (
-        λ k. (let a = one.0 k.0 in let b = deeper.0 k.1 in (passes_append check first rest ∙ ap (λ z. z >>= (λ u. each_passes check rest)) a.0 ∙ b.0, (a.1, b.1))),
-        λ k. (let (u, a, b) = bind_ok (each_passes check first) (λ u. each_passes check rest) tt (sym (passes_append check first rest) ∙ k.0) in (one.1 (a, k.1.0), deeper.1 (b, k.1.1))),
+        λ k. (let a = one.0 k.0 in let b = deeper.0 k.1 in (passes_append check_all first rest ∙ ap (λ z. z >>= (λ u. each_passes check_all rest)) a.0 ∙ b.0, (a.1, b.1))),
+        λ k. (let (u, a, b) = bind_ok (each_passes check_all first) (λ u. each_passes check_all rest) tt (sym (passes_append check_all first rest) ∙ k.0) in (one.1 (a, k.1.0), deeper.1 (b, k.1.1))),
       )
 
 pub rows_law : RowsLaw

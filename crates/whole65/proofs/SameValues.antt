@@ -196,17 +196,17 @@ module _ {E : Type 0} (p : Program) (o : Objects E) (h : AreObjects p o) where
   of_import depth owner k f None w q = (k, w, sym q)
   of_import depth owner k f (Some x) w q = (k, w, sym q)
 
-  of_meaning : (depth owner : ℕ) (f : Form) (r : Result names.Meaning AsmFault) → (r >>= form_of_meaning (norm depth (o.symbols owner)) (o.symbols owner)) ≡ Ok f → IsForm o depth owner f (meaning_shown o owner r)
-  of_meaning depth owner f (Err e) q = cc
-  of_meaning depth owner f (Ok (names.defined_at d)) q = of_definition depth owner d f (slice_get (o.symbols owner).definitions d) refl q
-  of_meaning depth owner f (Ok (names.imported_as k)) q =
+  of_meant : (depth owner : ℕ) (f : Form) (r : Result names.Meaning AsmFault) → (r >>= form_of_meaning (norm depth (o.symbols owner)) (o.symbols owner)) ≡ Ok f → IsForm o depth owner f (meaning_shown o owner r)
+  of_meant depth owner f (Err e) q = cc
+  of_meant depth owner f (Ok (names.defined_at d)) q = of_definition depth owner d f (slice_get (o.symbols owner).definitions d) refl q
+  of_meant depth owner f (Ok (names.imported_as k)) q =
       let same : imp k ≡ f = cc in
       of_import depth owner k f (slice_get (o.symbols owner).imports k) refl same
 
   -- the form of an operand is that of what it means
   pub operand : (depth owner place : ℕ) (e : Tree) (f : Form) → (meaning_of (o.symbols owner) (o.spots owner place) e >>= form_of_meaning (norm depth (o.symbols owner)) (o.symbols owner)) ≡ Ok f → IsForm o depth owner f (p.means owner place e)
   operand depth owner place e f q =
-      subst (IsForm o depth owner f) (sym (h.means owner place e)) (of_meaning depth owner f (meaning_of (o.symbols owner) (o.spots owner place) e) q)
+      subst (IsForm o depth owner f) (sym (h.means owner place e)) (of_meant depth owner f (meaning_of (o.symbols owner) (o.spots owner place) e) q)
 
   -- likewise of an expression that has a meaning
   pub meant : (depth owner place : ℕ) (e : Tree) (m : Meaning) (f : Form) → meaning_in p owner place e ≡ Some m → norm (suc depth) (o.symbols owner) (o.spots owner place) e ≡ Ok f → IsFormOf o depth owner f m

@@ -324,13 +324,13 @@ part_bytes p fill name (x ∷ rest) owner at (suc i) bytes y e h =
 -- ---- To the link.
 
 module _ (s : Script) (placement : Placement) (ys : List Layout) (ms : List Module) (bytes : RowBytes) (h : AreSources ys ms) (placed : place_of s (needs_of ys) ≡ Ok placement) (rows : AllByRecursion (AreRow (whole.program_of s placement ys) ys bytes) s.rows) where
-  abbrev p : Program
-  p = whole.program_of s placement ys
+  abbrev whole_program : Program
+  whole_program = whole.program_of s placement ys
 
-  abbrev o : Objects ValueFault
-  o = linked_objects s placement ys ms
+  abbrev linked_ones : Objects ValueFault
+  linked_ones = linked_objects s placement ys ms
 
-  parts_valued : (owner : ℕ) (y : Layout) (at_y : slice_get ys owner ≡ Some y) (fill : ℕ) (xs : List Part) (own : List ℕ) → AreParts (HasValue o owner) fill xs own → AllByRecursion (IsValuedPart s placement ys ms h owner y at_y) xs
+  parts_valued : (owner : ℕ) (y : Layout) (at_y : slice_get ys owner ≡ Some y) (fill : ℕ) (xs : List Part) (own : List ℕ) → AreParts (HasValue linked_ones owner) fill xs own → AllByRecursion (IsValuedPart s placement ys ms h owner y at_y) xs
   parts_valued owner y at_y fill [] own k = tt
   parts_valued owner y at_y fill (Known b ∷ xs) own k = (tt, parts_valued owner y at_y fill xs k.1 k.3)
   parts_valued owner y at_y fill (Filled n ∷ xs) own k = (tt, parts_valued owner y at_y fill xs k.1 k.3)
@@ -353,19 +353,19 @@ module _ (s : Script) (placement : Placement) (ys : List Layout) (ms : List Modu
       ∙ any_map (segment_name y) name (map (λ (l : Laid). l.spot.segment) asking)
       ∙ held (λ k. bytes_eq name (segment_name y k)) g (map (λ (l : Laid). l.spot.segment) asking) shown (itself name) in
       let needed : list_any (λ k. bytes_eq name k) (segments_of ys) ≡ true = any_new name (flat_map asked_by ys) [] ∙ any_at name ys owner y at_y by_name in
-      let (r, row, called) = row_of (AreRow p ys bytes) s.rows name rows (row_exists s.rows ys (segments_of ys) name (rows_there s (needs_of ys) placement placed) needed) in
-      let all : AreBytes p r.fill_value 0 (items_of ys name) (bytes r) = subst (λ n. AreBytes p r.fill_value 0 (items_of ys n) (bytes r)) called row in
-      let (at, own, part) = part_bytes p r.fill_value name ys 0 0 owner (bytes r) y at_y all in
+      let (r, row, called) = row_of (AreRow whole_program ys bytes) s.rows name rows (row_exists s.rows ys (segments_of ys) name (rows_there s (needs_of ys) placement placed) needed) in
+      let all : AreBytes whole_program r.fill_value 0 (items_of ys name) (bytes r) = subst (λ n. AreBytes whole_program r.fill_value 0 (items_of ys n) (bytes r)) called row in
+      let (at, own, part) = part_bytes whole_program r.fill_value name ys 0 0 owner (bytes r) y at_y all in
       let first : 0 + owner ≡ owner = omega arith in
       let lines : List Line = lines_at g (lines_behind owner [] y.laid) in
       let begin : ℕ = next_multiple_of at (largest_multiple lines) in
-      let mine : AreBytes p r.fill_value at (rounding (largest_multiple lines) ∷ map line lines) own =
-      subst (λ xs. AreBytes p r.fill_value at xs own) (whole_part y owner g name d below refl has) (subst (λ n. AreBytes p r.fill_value at (part_of n y name) own) first part) in
-      let spots : (place : ℕ) (x : Laid) → slice_get y.laid place ≡ Some x → o.spots owner place ≡ x.spot = λ place x e. ap (λ r. spot_in r place) at_y ∙ ap (spot_or (global_spot y)) e in
-      let parts : AreParts (HasValue o owner) r.fill_value (parts_in cs g) mine.1 = (section_law ValueFault p o r.fill_value begin owner g y cs mine.1 (sources_law s placement ys ms h) (ap symbols_at at_y) spots d (begin_is_multiple y owner g at d) c.found).0 mine.3 in
+      let mine : AreBytes whole_program r.fill_value at (rounding (largest_multiple lines) ∷ map line lines) own =
+      subst (λ xs. AreBytes whole_program r.fill_value at xs own) (whole_part y owner g name d below refl has) (subst (λ n. AreBytes whole_program r.fill_value at (part_of n y name) own) first part) in
+      let spots : (place : ℕ) (x : Laid) → slice_get y.laid place ≡ Some x → linked_ones.spots owner place ≡ x.spot = λ place x e. ap (λ r. spot_in r place) at_y ∙ ap (spot_or (global_spot y)) e in
+      let parts : AreParts (HasValue linked_ones owner) r.fill_value (parts_in cs g) mine.1 = (section_law ValueFault whole_program linked_ones r.fill_value begin owner g y cs mine.1 (sources_law s placement ys ms h) (ap symbols_at at_y) spots d (begin_is_multiple y owner g at d) c.found).0 mine.3 in
       parts_valued owner y at_y r.fill_value (parts_in cs g) mine.1 parts
 
-  modules_given : (rest : List Layout) (ns : List Module) (owner : ℕ) → AreSources rest ns → ((i : ℕ) → slice_get rest i ≡ slice_get ys (owner + i)) → AreForced p rest → AreExported p owner rest → AreAsserted p owner rest → AllByRecursion (IsGiven p) (flat_map (λ (m : Module). m.object.imports) ns)
+  modules_given : (rest : List Layout) (ns : List Module) (owner : ℕ) → AreSources rest ns → ((i : ℕ) → slice_get rest i ≡ slice_get ys (owner + i)) → AreForced whole_program rest → AreExported whole_program owner rest → AreAsserted whole_program owner rest → AllByRecursion (IsGiven whole_program) (flat_map (λ (m : Module). m.object.imports) ns)
   modules_given [] [] owner k up forced exported asserted = tt
   modules_given [] (m ∷ ns) owner k up forced exported asserted = absurd k
   modules_given (y ∷ rest) [] owner k up forced exported asserted = absurd k
@@ -373,7 +373,7 @@ module _ (s : Script) (placement : Placement) (ys : List Layout) (ms : List Modu
       let here : owner + 0 ≡ owner = omega arith in
       let at_y : slice_get ys owner ≡ Some y = ap (slice_get ys) (sym here) ∙ sym (up 0) in
       let next : (i : ℕ) → owner + suc i ≡ suc owner + i = λ i. omega arith in
-      all_append (IsGiven p) m.object.imports (flat_map (λ (m : Module). m.object.imports) ns)
+      all_append (IsGiven whole_program) m.object.imports (flat_map (λ (m : Module). m.object.imports) ns)
       (module_given s placement ys ms h owner y at_y m k.0 forced.0 exported.0 asserted.0 (asked_valued owner y at_y m k.0))
       (modules_given rest ns (suc owner) k.1 (λ i. up (suc i) ∙ ap (slice_get ys) (next i)) forced.1 exported.1 asserted.1)
 

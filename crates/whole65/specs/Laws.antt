@@ -15,7 +15,6 @@ use Rattle.link65.specs.Values.{address_of, linkage_of, run_of, row_bytes, AreEx
 use Rattle.link65.specs.Links.{check_fixup, each_passes, fixups_by_row}
 use Rattle.link65.specs.Files.{RowBytes}
 use Rattle.link65.specs.declared.parts.Exported.{Exported}
-use Rattle.link65.specs.Programs as grown
 use Rattle.link65.specs.declared.parts.ValueFault.{ValueFault}
 use Rattle.whole65.specs.Objects.{AreObjects, HasValue, Objects}
 use Rattle.whole65.specs.Programs.{program_of}
@@ -68,7 +67,7 @@ abbrev pub RowsLaw : Type 0
 RowsLaw =
     (s : Script) (placement : Placement) (ys : List Layout) (ms : List Module) (table : List (Result ℤ ValueFault)) (bytes : RowBytes) →
     let l : Linkage = linkage_of s (linked.program_of ms) placement in
-    let segments : List grown.Segment = (linked.program_of ms).segments in
+    let segments : List linked.Segment = (linked.program_of ms).segments in
     AreSources ys ms → AreExports l table →
     AllByRecursion (AreRow (program_of s placement ys) ys bytes) s.rows
     ↔ ((each_passes (check_fixup l (linked.program_of ms).members (in_table table)) (fixups_by_row s.rows segments) ≡ Ok tt)

@@ -1,32 +1,38 @@
 -- Pieces that are entered, one behind the other, and when they are put at once.
-use Rattle.std.proofs.Common.{◌≡◌, ◌∙◌, ℕ, zero, suc, List, [], ◌∷◌, ◌++◌, refl, ap, subst}
+use Rattle.std.proofs.Common.{◌≡◌, ◌∙◌, ℕ, zero, suc, List, [], ◌∷◌, ◌++◌, map, refl, ap, subst, append-nil, append_assoc}
 use Rattle.std.specs.Prelude.{ℤ, pos, negsuc, Bool, true, false, Result, Ok, Err}
+use Rattle.std.specs.List.{list_all}
 use Rattle.base65.specs.Outcome.{◌>>=◌}
-use Rattle.syntax65.specs.Trees.{Tree}
+use Rattle.syntax65.specs.Trees.{Tree, number}
 use Rattle.source65.specs.declared.place.Place.{Place}
 use Rattle.object65.specs.Form.{Form, lit}
+use Rattle.object65.specs.Objects.{fits_width, value_bytes}
+use Rattle.object65.proofs.Goods.{left, right}
 use Rattle.object65.specs.declared.object.Action.{Action}
 use Rattle.object65.specs.declared.object.Action.TheVariants as action
 use Rattle.object65.specs.declared.object.Width.{Width}
-use Rattle.object65.specs.declared.object.Width.TheVariants.{Branch, Byte, Dword, HighFirst, Word}
-use Rattle.language65.specs.Parts.{Content, Part}
+use Rattle.language65.specs.Items.{numbered}
+use Rattle.language65.specs.Parts.{Content, Known, Part}
 use Rattle.language65.specs.declared.fault.AsmFault.{AsmFault}
 use Rattle.language65.specs.Contents.{put, stored, telling}
 use Rattle.language65.specs.Extending.{IsFinal}
 use Rattle.language65.specs.declared.laid.Spot.{Spot}
-use Rattle.module65.specs.Machine.{IsSettled, PutsAll, State, at_once, entered}
-use Rattle.module65.specs.Pieces.{Piece, Purpose, as_part, asserted, datum, given, operand, quietly, used, valued}
+use Rattle.module65.specs.Machine.{IsSettled, PutsAll, State, at_once, entered, Slot, holds}
+use Rattle.module65.specs.Pieces.{Piece, Purpose, as_part, asserted, datum, given, operand, quietly, used, valued, item_piece}
 use Rattle.module65.proofs.Resolving.{final_settles, settled_given}
+use Rattle.language65.specs.Symbols.{Symbols}
 use Rattle.sections65.specs.declared.sections.Sections.{Sections}
 use Rattle.sections65.specs.Standing.{Feeds, contents_in, names_in}
 use Rattle.sections65.proofs.Alikes.{alike_nothing, alike_trans, empty_alike}
+use Rattle.sections65.proofs.Pieces.{runs, runs_stand}
 use Rattle.sections65.proofs.Standings.{asked_same}
 use Rattle.symbols65.specs.Views.{table_of}
 use Rattle.asm65.specs.declared.assembler.Assembler.{Assembler}
 use Rattle.asm65.specs.declared.waiting.Piece as held
 use Rattle.asm65.specs.Inner.Holding.{Enters, IsPiece}
-use Rattle.asm65.specs.Inner.Putting.{IsPut, IsTried, Waits, operand_stored}
-use Rattle.asm65.proofs.Waitings.{holds_entered, waits_enters}
+use Rattle.asm65.specs.Inner.Putting.{AreStored, IsPut, IsTried, Waits, operand_stored}
+use Rattle.asm65.proofs.Puttings.{stored_is}
+use Rattle.asm65.proofs.Waitings.{all_entered, holds_all, holds_entered, waits_enters}
 
 -- ---- One behind the other.
 
@@ -72,6 +78,36 @@ datum_tried old x place s width e f b final h = value_tried old x place s (datum
 
 pub operand_tried : (old : Assembler) (x : Sections) (place : Place) (s : Spot) (width : Width) (e : Tree) (f : Form) (b : Bool) → IsFinal (table_of old.symbols) s e f → IsPut old.sections x s.segment (operand_stored width s place f) b → IsTried place s (valued (operand width) e) old (fed old x) b
 operand_tried old x place s width e f b final h = value_tried old x place s (operand width) e f final (operand_stored width s place f) b refl h
+
+-- ---- Numbers in one go.
+
+-- a number that is in range
+number_settled : (y : Symbols) (place : Place) (s : Spot) (width : Width) (n : ℕ) → fits_width width (pos n) ≡ true → IsSettled y place s (valued (datum width) (number n)) (put s.segment (Known (value_bytes width (pos n))))
+number_settled y place s width n fits =
+    final_settles y place s (datum width) (number n) (lit (pos n)) (put s.segment (Known (value_bytes width (pos n)))) (λ z more. refl)
+    (ap (λ (r : Result Part AsmFault). r >>= as_part s.segment) (stored_is width place (pos n) fits))
+
+numbers_put : (place : Place) (s : Spot) (t : State) (width : Width) (ns : List ℕ) → list_all (λ (n : ℕ). fits_width width (pos n)) ns ≡ true → PutsAll place s t (map (item_piece width) (map numbered ns)) (all_entered t (runs s.segment (λ (n : ℕ). value_bytes width (pos n)) ns))
+numbers_put place s t width [] fit = ap (λ (slots : List Slot). record t { slots = slots }) (append-nil t.slots)
+numbers_put place s t width (n ∷ ns) fit =
+    let c : Content = put s.segment (Known (value_bytes width (pos n))) in
+    let cs : List Content = runs s.segment (λ (n : ℕ). value_bytes width (pos n)) ns in
+    let first = left (fits_width width (pos n)) (list_all (λ (n : ℕ). fits_width width (pos n)) ns) fit in
+    let others = right (fits_width width (pos n)) (list_all (λ (n : ℕ). fits_width width (pos n)) ns) fit in (
+      entered t c,
+      at_once c (number_settled t.symbols place s width n first),
+      subst (λ (slots : List Slot). PutsAll place s (entered t c) (map (item_piece width) (map numbered ns)) (record t { slots = slots }))
+          (append_assoc t.slots (holds c ∷ []) (map holds cs)) (numbers_put place s (entered t c) width ns others),
+    )
+
+pub numbers_enter : (old : Assembler) (x : Sections) (place : Place) (s : Spot) (width : Width) (ns bytes : List ℕ) → AreStored width ns bytes → Feeds old.sections x (put s.segment (Known bytes)) → Enters place s (map (item_piece width) (map numbered ns)) old (fed old x)
+numbers_enter old x place s width ns bytes stored feeds count t h =
+    let f : ℕ → List ℕ = λ (n : ℕ). value_bytes width (pos n) in
+    let known = subst (λ (b : List ℕ). Feeds old.sections x (put s.segment (Known b))) stored.bytes feeds in (
+      all_entered t (runs s.segment f ns),
+      numbers_put place s t width ns stored.fit,
+      holds_all count t old (fed old x) h (record { symbols = refl; known = refl; standing = refl; texts = refl }) (runs s.segment f ns) (runs_stand s.segment f ns old.sections x known) refl refl,
+    )
 
 -- ---- Assertions.
 

@@ -3,6 +3,7 @@ pub mod Puttings
 pub mod Constants
 pub mod Defines
 pub mod Outcomes
+pub mod Placings
 pub mod Refusals
 pub mod NamedFiles
 pub mod WholeFiles

@@ -1,6 +1,6 @@
 -- What is put into sections at once.
 use Rattle.std.proofs.Common.{◌≡◌, ℕ, List, refl, sym, ap, subst}
-use Rattle.std.specs.Prelude.{ℤ, true, Some, None, Result, Ok, Err, if◌then◌else◌}
+use Rattle.std.specs.Prelude.{ℤ, Bool, true, Some, None, Result, Ok, Err, if◌then◌else◌}
 use Rattle.object65.specs.Form.{Form, lit, sec, imp, prefix, binary}
 use Rattle.object65.specs.Objects.{fits_width, is_file_name, value_bytes}
 use Rattle.object65.specs.declared.object.Width.{Width}
@@ -20,9 +20,13 @@ use Rattle.asm65.specs.Inner.Putting.{IsPut, literal_of}
 abbrev in_range : (known : List ℕ) → Result Part AsmFault
 in_range known = Ok (Known known)
 
+-- a literal that is in range is its bytes
+pub stored_is : (width : Width) (place : Place) (v : ℤ) → fits_width width v ≡ true → stored width place (lit v) ≡ in_range (value_bytes width v)
+stored_is width place v fits = ap (λ (b : Bool). if b then in_range (value_bytes width v) else Err OutOfRange) fits
+
 pub literal_put : (old new : Sections) (g : ℕ) (width : Width) (place : Place) (v : ℤ) (bytes : List ℕ) → fits_width width v ≡ true → bytes ≡ value_bytes width v → Feeds old new (put g (Known bytes)) → IsPut old new g (stored width place (lit v)) true
 literal_put old new g width place v bytes fits same feeds =
-    subst (λ b. IsPut old new g (if b then in_range (value_bytes width v) else Err OutOfRange) true) (sym fits)
+    subst (λ (r : Result Part AsmFault). IsPut old new g r true) (sym (stored_is width place v fits))
     (subst (λ (known : List ℕ). Feeds old new (put g (Known known))) same feeds)
 
 pub literal_is : (f : Form) (v : ℤ) → literal_of f ≡ Some v → f ≡ lit v

@@ -1,6 +1,6 @@
 -- What waits, with one more behind it, and behind statements that follow; and what an assembler holds
 -- when one more piece waits or is put at once.
-use Rattle.std.proofs.Common.{◌≡◌, ◌∙◌, ℕ, zero, suc, ◌+◌, List, [], ◌∷◌, ◌++◌, length, map, position, refl, sym, ap, subst, length-append, arith}
+use Rattle.std.proofs.Common.{◌≡◌, ◌∙◌, ℕ, zero, suc, ◌+◌, List, [], ◌∷◌, ◌++◌, length, map, position, refl, sym, ap, subst, append-nil, length-append, arith}
 use Rattle.std.specs.Prelude.{string_bytes, false, slice_get, Some}
 use Rattle.std.specs.List.{AllByRecursion}
 use Rattle.std.specs.Str.{bytes_eq}
@@ -15,6 +15,7 @@ use Rattle.module65.specs.Machine as machine
 use Rattle.module65.specs.Machine.{State, awaited, awaited_in, awaiting, entered, filled, holds, later}
 use Rattle.module65.specs.Pieces as piece
 use Rattle.module65.proofs.Resolving.{extends_same, awaited_append, filled_later, filled_next}
+use Rattle.module65.proofs.Entries.{filled_append}
 use Rattle.sections65.specs.declared.sections.Sections.{Sections}
 use Rattle.sections65.specs.Standing.{Awaits, Feeds, Stands}
 use Rattle.symbols65.specs.declared.resolving.known.Known.{Known}
@@ -90,11 +91,24 @@ last_of (c ∷ []) n e = ([], c, refl)
 last_of (c ∷ d ∷ cs) zero e = absurd (omega arith)
 last_of (c ∷ d ∷ cs) (suc n) e = let (front, l, is) = last_of (d ∷ cs) n (omega arith) in (c ∷ front, l, ap (λ ds. c ∷ ds) is)
 
+-- sections stand for these contents more
+abbrev FeedsAll : Sections → Sections → List Content → Type 0
+FeedsAll old new cs = (ds ws : List Content) → Stands ds ws old → Stands (ds ++ cs) ws new
+
+all_held : (cs : List Content) → filled (map holds cs) [] ≡ cs
+all_held [] = refl
+all_held (c ∷ cs) = ap (λ ds. c ∷ ds) (all_held cs)
+
+none_awaited : (cs : List Content) → awaited_in (map holds cs) ≡ 0
+none_awaited [] = refl
+none_awaited (c ∷ cs) = none_awaited cs
+
 module _ (t : State) (old new : Sections) (slots : awaited_in t.slots ≡ length t.waiting) (stands : (ws : List Content) → AreAwaited t.waiting ws → Stands (filled t.slots ws) ws old) where
-  fed : (c : Content) → Feeds old new c → (ws : List Content) → AreAwaited t.waiting ws → Stands (filled (t.slots ++ holds c ∷ []) ws) ws new
-  fed c feeds ws h =
-      subst (λ cs. Stands cs ws new) (sym (filled_next t.slots c ws (slots ∙ sym h.0)))
-      (feeds (filled t.slots ws) ws (stands ws h))
+  fed : (cs : List Content) → FeedsAll old new cs → (ws : List Content) → AreAwaited t.waiting ws → Stands (filled (t.slots ++ map holds cs) ws) ws new
+  fed cs feeds ws h =
+      let there : filled (t.slots ++ map holds cs) ws ≡ filled t.slots ws ++ cs =
+      ap (filled (t.slots ++ map holds cs)) (sym (append-nil ws)) ∙ filled_append t.slots (map holds cs) ws [] (slots ∙ sym h.0) ∙ ap (λ ds. filled t.slots ws ++ ds) (all_held cs) in
+      subst (λ ds. Stands ds ws new) (sym there) (feeds (filled t.slots ws) ws (stands ws h))
 
   deferred : (v : machine.Waiting) → Awaits old new → (ws : List Content) → AreAwaited (t.waiting ++ v ∷ []) ws → Stands (filled (t.slots ++ awaited ∷ []) ws) ws new
   deferred v awaits ws h =
@@ -108,6 +122,10 @@ module _ (t : State) (old new : Sections) (slots : awaited_in t.slots ≡ length
       (awaits (filled t.slots front) front c quiet.1 (stands front (many, quiet.0))))
 
 -- ---- What is held.
+
+-- contents, one behind the other
+abbrev pub all_entered : State → List Content → State
+all_entered t cs = record t { slots = t.slots ++ map holds cs }
 
 module _ (count : ℕ) (t : State) (old new : Assembler) (h : Holds count t old) (keeps : KeepsTables old new) where
   -- one more piece waits
@@ -132,9 +150,9 @@ module _ (count : ℕ) (t : State) (old new : Assembler) (h : Holds count t old)
     err = ap (λ x. x.err) keeps.texts ∙ h.err;
   }
 
-  -- a content is put at once
-  pub holds_entered : (c : Content) → Feeds old.sections new.sections c → new.waiting ≡ old.waiting → new.files ≡ old.files → Holds count (entered t c) new
-  holds_entered c feeds waiting files = record {
+  -- contents are put at once
+  pub holds_all : (cs : List Content) → FeedsAll old.sections new.sections cs → new.waiting ≡ old.waiting → new.files ≡ old.files → Holds count (all_entered t cs) new
+  holds_all cs feeds waiting files = record {
     symbols = ap table_of keeps.symbols ∙ h.symbols;
     known = subst (λ (k : Known). IsTable t.symbols k.states.items) (sym keeps.known) h.known;
     standing = ap standing_of keeps.standing ∙ h.standing;
@@ -144,14 +162,19 @@ module _ (count : ℕ) (t : State) (old new : Assembler) (h : Holds count t old)
     inside = h.inside;
     unnamed = h.unnamed;
     waiting = rw (waiting, files) h.waiting;
-    sections = fed t old.sections new.sections h.slots h.sections c feeds;
+    sections = fed t old.sections new.sections h.slots h.sections cs feeds;
     slots =
-        (let more = awaited_append t.slots (holds c ∷ []) in
+        (let more = awaited_append t.slots (map holds cs) in
+        let none = none_awaited cs in
         let same = h.slots in
-        omega (arith, more, same));
+        omega (arith, more, none, same));
     out = ap (λ x. x.out) keeps.texts ∙ h.out;
     err = ap (λ x. x.err) keeps.texts ∙ h.err;
   }
+
+  -- a content is put at once
+  pub holds_entered : (c : Content) → Feeds old.sections new.sections c → new.waiting ≡ old.waiting → new.files ≡ old.files → Holds count (entered t c) new
+  holds_entered c feeds = holds_all (c ∷ []) feeds
 
 -- one more piece waits behind those before it
 pub waits_behind : (old new : Assembler) (place : Place) (s : Spot) (w : Waiting) → KeepsTables old new → Awaits old.sections new.sections → Begins (map string_bytes old.files.keys) (map string_bytes new.files.keys) → new.waiting.items ≡ old.waiting.items ++ w ∷ [] → slice_get (map string_bytes new.files.keys) w.file ≡ Some place.file → place.line ≡ w.line → s ≡ w.spot → Waits place s w.piece old new

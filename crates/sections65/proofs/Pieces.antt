@@ -3,18 +3,43 @@ use Rattle.std.proofs.Common.{arith, ◌≡◌, ◌∙◌, ℕ, Bool, true, fals
 use Rattle.std.specs.Prelude.{if◌then◌else◌}
 use Rattle.std.specs.List.{flat_map}
 use Rattle.std.proofs.lemmas.Grind.{common_steps, flat_map-append}
-use Rattle.language65.specs.Parts.{Content, Part, Said}
+use Rattle.language65.specs.Parts.{Content, Part, Said, Known}
 use Rattle.language65.specs.Numbering.{all_joined, all_said, content_imports, fragments_of, once, part_files, part_imports, parts_in, said_imports, section_keys, segments_asked}
 use Rattle.sections65.specs.declared.sections.Sections.{Sections}
 use Rattle.language65.specs.Contents.{asking, put, telling}
 use Rattle.sections65.specs.Fed.{AreAlike, in_pieces}
-use Rattle.sections65.specs.Standing.{Stands}
-use Rattle.sections65.proofs.Alikes.{alike_back, alike_sym, alike_trans}
+use Rattle.sections65.specs.Standing.{Feeds, Stands}
+use Rattle.sections65.proofs.Alikes.{alike_back, alike_sym, alike_trans, bytes_alike, no_bytes_alike}
 use Rattle.sections65.proofs.Standings.{asked_more}
 
 -- contents that are alike and ask for the same sections
 pub alike_stands : (cs ds ws : List Content) (s : Sections) → AreAlike cs ds → section_keys cs ≡ section_keys ds → Stands cs ws s → Stands ds ws s
 alike_stands cs ds ws s alike keys h = grind (arith, common_steps, alike_trans, alike_sym)
+
+-- ---- Bytes in one go.
+
+-- bytes for each element, one content each
+abbrev pub runs : {A : Type 0} → ℕ → (A → List ℕ) → List A → List Content
+runs g f xs = map (λ x. put g (Known (f x))) xs
+
+runs_alike : {A : Type 0} (g : ℕ) (f : A → List ℕ) (xs : List A) → AreAlike (put g (Known (flat_map f xs)) ∷ []) (runs g f xs)
+runs_alike g f [] = no_bytes_alike g
+runs_alike g f (x ∷ xs) =
+    alike_trans (put g (Known (f x ++ flat_map f xs)) ∷ []) (put g (Known (f x)) ∷ put g (Known (flat_map f xs)) ∷ []) (runs g f (x ∷ xs))
+    (alike_sym _ _ (bytes_alike g (f x) (flat_map f xs)))
+    (alike_back (put g (Known (f x)) ∷ []) (put g (Known (flat_map f xs)) ∷ []) (runs g f xs) (runs_alike g f xs))
+
+runs_ask : {A : Type 0} (g : ℕ) (f : A → List ℕ) (xs : List A) → segments_asked (runs g f xs) ≡ []
+runs_ask g f [] = refl
+runs_ask g f (x ∷ xs) = runs_ask g f xs
+
+-- sections that are fed the bytes of all in one go stand for what they are fed one by one
+pub runs_stand : {A : Type 0} (g : ℕ) (f : A → List ℕ) (xs : List A) (old new : Sections) → Feeds old new (put g (Known (flat_map f xs))) → (cs ws : List Content) → Stands cs ws old → Stands (cs ++ runs g f xs) ws new
+runs_stand g f xs old new feeds cs ws h =
+    let one : List Content = put g (Known (flat_map f xs)) ∷ [] in
+    alike_stands (cs ++ one) (cs ++ runs g f xs) ws new (alike_back cs one (runs g f xs) (runs_alike g f xs))
+    (asked_more cs one ∙ ap (once (section_keys cs)) (sym (runs_ask g f xs)) ∙ sym (asked_more cs (runs g f xs)))
+    (feeds cs ws h)
 
 -- ---- Its parts.
 

@@ -1,11 +1,14 @@
 -- A number by itself.
-use Rattle.std.proofs.Common.{◌≡◌, ℕ, List, [], ◌∷◌, Option, Some, None, Ok, IfSome, ap, refl, sym, subst}
+use Rattle.std.proofs.Common.{◌≡◌, ℕ, List, [], ◌∷◌, Option, Some, None, Ok, IfSome, ap, refl, sym, subst, take}
 use Rattle.syntax65.specs.Expressions.{IsParsed, NoOperator, Phrase, a_leaf, binary_at, leaf_of, of_level, opening_at, opening_in, text_at}
 use Rattle.syntax65.specs.Tokens.{Lexeme, lexeme_of, lexemes}
 use Rattle.syntax65.specs.Trees.{Tree, number}
 use Rattle.syntax65.specs.declared.expressions.words.Opening.TheVariants.{Number}
 use Rattle.syntax65.specs.declared.lexing.tokens.Token.{Token}
-use Rattle.statements65.specs.Parsing.{quoted_in, string_of}
+use Rattle.language65.specs.Items.{numbered}
+use Rattle.statements65.specs.declared.reading.words.Elements.{Elements}
+use Rattle.statements65.specs.Parsing.{quoted_in, IsItem}
+use Rattle.statements65.proofs.Parts.{is_item, is_whole}
 
 no_operator : (ts : List Lexeme) → binary_at ts 1 ≡ None → NoOperator ts 6 1
 no_operator ts e op h = absurd cc
@@ -29,8 +32,8 @@ alone_if (Some v) all behind first e n b =
     let P : List Token → Type 0 = λ ts. IsParsed (lexemes ts) (Ok (number v, 1)) in
     subst P (sym e) (alone (lexemes (first ∷ behind)) v n b)
 
--- what begins with no text is none
-pub no_text_if : (o : Option ℕ) (all behind : List Token) (first : Token) → all ≡ first ∷ behind → IfSome o (λ v. quoted_in (lexeme_of first) ≡ None) → IfSome o (λ v. string_of (lexemes all) ≡ None)
-no_text_if None all behind first e n = tt
-no_text_if (Some v) all [] first e n = let P : List Token → Type 0 = λ ts. string_of (lexemes ts) ≡ None in subst P (sym e) n
-no_text_if (Some v) all (t ∷ ts) first e n = let P : List Token → Type 0 = λ ts. string_of (lexemes ts) ≡ None in subst P (sym e) refl
+-- so it is an element of a list
+pub number_item : (all behind : List Token) (first : Token) (v : ℕ) → all ≡ first ∷ behind → opening_in (Some (lexeme_of first)) ≡ Number v → quoted_in (lexeme_of first) ≡ None → (e : Elements) → IsItem e (lexemes (take 1 all)) (Ok (numbered v))
+number_item all behind first v is n q e =
+    let P : List Token → Type 0 = λ ts. IsItem e (lexemes (take 1 ts)) (Ok (numbered v)) in
+    subst P (sym is) (is_item e (lexemes (first ∷ [])) v (is_whole (first ∷ []) (number v) 1 (alone (lexemes (first ∷ [])) v n refl) refl) q)

@@ -1,5 +1,5 @@
 -- Parts between commas.
-use Rattle.std.proofs.Common.{◌≡◌, ◌≢◌, ℕ, zero, suc, ◌+◌, ◌-◌, ◌<◌, ◌≤◌, Bool, true, false, nat_eq, not, List, [], ◌∷◌, Option, Some, None, IfSome, if◌then◌else◌, length, take, drop, Result, Ok, Err, refl, ap, sym, ◌∙◌, arith, add-one, one-add, length-drop, subst}
+use Rattle.std.proofs.Common.{◌≡◌, ◌≢◌, ℕ, zero, suc, ◌+◌, ◌-◌, ◌<◌, ◌≤◌, Bool, true, false, nat_eq, not, List, [], ◌∷◌, Option, Some, None, if◌then◌else◌, length, take, drop, Result, Ok, Err, refl, ap, sym, ◌∙◌, arith, add-one, one-add, length-drop, subst}
 use Rattle.std.proofs.lemmas.Bool.Decides.{nat_tests}
 use Rattle.std.specs.List.{prefix_len}
 use Rattle.std.proofs.lemmas.List.{take_all}
@@ -48,11 +48,6 @@ whole_short e n count h = go (nat_eq n count) refl
 
 pub is_whole : (ts : List Token) (e : Tree) (n : ℕ) → IsParsed (lexemes ts) (Ok (e, n)) → n ≡ length ts → IsExpression (lexemes ts) (Ok e)
 is_whole ts e n h f = (Ok (e, n), h, sym (whole_all e n (length (lexemes ts)) (f ∙ sym (lexemes_len ts))))
-
--- a number, where there is one
-pub is_number : (o : Option ℕ) (ts : List Token) → 1 ≡ length ts → IfSome o (λ v. IsParsed (lexemes ts) (Ok (number v, 1))) → IfSome o (λ v. IsExpression (lexemes ts) (Ok (number v)))
-is_number None ts one h = tt
-is_number (Some v) ts one h = is_whole ts (number v) 1 h one
 
 -- a number is an element, also where a text may be one
 pub is_item : (elements : Elements) (ts : List Lexeme) (v : ℕ) → IsExpression ts (Ok (number v)) → string_of ts ≡ None → IsItem elements ts (Ok (Value (number v)))

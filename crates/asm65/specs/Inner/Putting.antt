@@ -1,9 +1,11 @@
 -- What is put into sections at a line, and what waits.
-use Rattle.std.specs.Prelude.{◌≡◌, ℕ, ℤ, Bool, true, false, [], ◌∷◌, pos, Option, Some, None, Result, Ok, Err, ⊤}
+use Rattle.std.specs.Prelude.{◌≡◌, ℕ, ℤ, Bool, true, false, List, [], ◌∷◌, pos, Option, Some, None, Result, Ok, Err, ⊤}
+use Rattle.std.specs.List.{flat_map, list_all}
 use Rattle.base65.specs.Outcome.{◌>>=◌}
 use Rattle.syntax65.specs.Trees.{Tree}
 use Rattle.source65.specs.declared.place.Place.{Place}
 use Rattle.object65.specs.Form.{Form, lit}
+use Rattle.object65.specs.Objects.{fits_width, value_bytes}
 use Rattle.object65.specs.declared.object.Width.{Width}
 use Rattle.language65.specs.Parts.{Part}
 use Rattle.language65.specs.declared.fault.AsmFault.{AsmFault}
@@ -56,6 +58,11 @@ IsFaultless r None = ⊤
 -- what is stored of an operand's form
 abbrev pub operand_stored : Width → Spot → Place → Form → Result Part AsmFault
 operand_stored width s place f = operand_form width s f >>= stored width place
+
+-- numbers that are in range, and their bytes
+pub record AreStored (width : Width) (ns stored : List ℕ) : Type 0 where
+  pub fit : list_all (λ (n : ℕ). fits_width width (pos n)) ns ≡ true
+  pub bytes : stored ≡ flat_map (λ (n : ℕ). value_bytes width (pos n)) ns
 
 -- ---- Pieces.
 

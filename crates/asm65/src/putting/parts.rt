@@ -1,25 +1,27 @@
 //! Parts of sections that are settled at their line.
 
-ghost use Rattle.std.specs.Prelude.{◌≡◌, drop, IfOk, OnOk, take};
+ghost use Rattle.std.specs.Prelude.{◌≡◌, drop, IfOk, IfSome, map, OnOk, take};
 ghost use Rattle.object65.specs.Form.{lit};
 ghost use Rattle.source65.specs.declared.place.Place.{Place};
 ghost use Rattle.language65.specs.Contents.{file_bytes, opcode_part, operand_form, put, room_part, stored};
+ghost use Rattle.language65.specs.Items.{numbered};
 ghost use Rattle.language65.specs.Parts.{Known};
 ghost use Rattle.language65.specs.Views.{place_in};
 ghost use Rattle.sections65.specs.Standing.{Feeds};
-ghost use Rattle.asm65.specs.Inner.Putting.{IsFaultless, IsPut, operand_stored};
+ghost use Rattle.asm65.specs.Inner.Putting.{AreStored, IsFaultless, IsPut, operand_stored};
 
 use super::Stand;
 use crate::forms::{is_file_name, literal_of};
 use base65::Sequence;
-use language65::{At, Settled, Spot};
+use language65::{At, Item, Settled, Spot};
 use object65::{Norm, Width, fits, put};
 use sections65::Sections;
 use std::alloc::{AllocError, Global};
 use symbols65::operand_form;
+use syntax65::{Expr, ExprKind};
 
 /// Puts the bytes of a value into the section of a segment, if it lies in its range.
-pub fn put_literal(
+fn put_literal(
     sections: &mut Sections,
     segment: u32,
     width: Width,
@@ -33,6 +35,36 @@ pub fn put_literal(
     }
     sections.append(segment, &put(width, value))?;
     Ok(true)
+}
+
+/// The bytes of numbers, one behind the other, if each is in range.
+pub fn bytes_of(
+    alloc: Global,
+    width: Width,
+    numbers: &[u32],
+) -> Result<Option<Sequence<u8>>, AllocError>
+    ensures { IfOk result (λ o. IfSome o (AreStored width numbers.now)) }
+{
+    let mut bytes = Sequence::from_vec(Vec::with_capacity(alloc, numbers.len())?);
+    for number in numbers {
+        let number = i64::from(*number);
+        if !fits(width, number) {
+            return Ok(None);
+        }
+        bytes.extend_from_slice(&put(width, number))?;
+    }
+    Ok(Some(bytes))
+}
+
+/// Numbers as elements of a list.
+pub fn items_of(alloc: Global, numbers: &[u32]) -> Result<Sequence<Item>, AllocError>
+    ensures { IfOk result (λ items. items ≡ map numbered numbers.now) }
+{
+    let mut items = Sequence::new(alloc);
+    for number in numbers {
+        items.push(Item::Value(Expr::new(ExprKind::Number(*number))))?;
+    }
+    Ok(items)
 }
 
 /// Puts what is stored of a form into the section of a segment, if it has no fault.

@@ -7,7 +7,7 @@ ghost use Rattle.symbols65.specs.Views.{table_of};
 ghost use Rattle.asm65.specs.Inner.Putting.{IsSo};
 
 use super::Stand;
-use super::parts::{put_code, put_part, put_room};
+use super::parts::{bytes_of, items_of, put_code, put_part, put_room};
 use crate::assembler::Assembler;
 use crate::forms::literal_of;
 use crate::waiting::Piece;
@@ -16,7 +16,7 @@ use language65::{Item, Items, ItemsKind, Operand, Settled, Spot};
 use object65::{Action, Width};
 use std::alloc::{AllocError, Global};
 use symbols65::{Symbols, final_form};
-use syntax65::{Expr, ExprKind, Mnemonic, Mode, opcode};
+use syntax65::{Expr, Mnemonic, Mode, opcode};
 
 /// How wide the operand of an instruction of a form is stored, if it has a value.
 fn width_of(mode: Mode) -> Option<Width>
@@ -157,23 +157,22 @@ impl Assembler {
         Ok(())
     }
 
-    /// Enters a list of numbers.
+    /// Enters a list of numbers: in one go, if each is in range.
     fn enter_numbers(
         &mut self,
         alloc: Global,
         stand: Stand<'_>,
         width: Width,
-        numbers: Sequence<u32>,
+        numbers: &[u32],
     ) -> Result<(), AllocError>
         ensures { OnOk result (Enters
             (place_in stand.entry.at.file.now stand.entry.at.line) stand.entry.spot
-            (map (item_piece width) (map numbered numbers)) self.old self.new) }
+            (map (item_piece width) (map numbered numbers.now)) self.old self.new) }
     {
-        for number in numbers.into_vec() {
-            let value = Expr::new(ExprKind::Number(number));
-            self.enter_datum(alloc, stand, width, value)?;
+        match bytes_of(alloc, width, numbers)? {
+            Some(bytes) => self.sections.append(stand.spot.segment, bytes.as_slice()),
+            None => self.enter_mixed(alloc, stand, width, items_of(alloc, numbers)?),
         }
-        Ok(())
     }
 
     /// Enters a list.
@@ -190,7 +189,9 @@ impl Assembler {
             (map (item_piece width) items) self.old self.new) }
     {
         match items.into_kind() {
-            ItemsKind::Numbers(numbers) => self.enter_numbers(alloc, stand, width, numbers),
+            ItemsKind::Numbers(numbers) => {
+                self.enter_numbers(alloc, stand, width, numbers.as_slice())
+            }
             ItemsKind::Mixed(items) => self.enter_mixed(alloc, stand, width, items),
         }
     }

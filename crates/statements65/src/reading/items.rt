@@ -1,33 +1,19 @@
 //! Lists of data.
 
-ghost use Rattle.std.specs.Prelude.{◌≡◌, [], false, map, IfErr, IfOk, IfSome, None, Ok};
+ghost use Rattle.std.specs.Prelude.{◌≡◌, ◌<◌, ◌∷◌, [], false, length, map, option_map, take, IfErr, IfOk, IfSome, None, Ok};
 ghost use Rattle.syntax65.specs.Tokens.{lexemes};
-ghost use Rattle.syntax65.specs.Trees.{number};
 ghost use Rattle.language65.specs.Faults.{is_failure};
 ghost use Rattle.language65.specs.Items.{numbered};
 ghost use Rattle.statements65.specs.declared.reading.words.Elements.{Elements};
-ghost use Rattle.statements65.specs.Parsing.{parts_of, string_of, EachIs, IsExpression, IsItem, IsValue, Parses};
+ghost use Rattle.statements65.specs.Parsing.{parts_behind, parts_of, string_of, EachIs, IsItem, IsValue, Parses};
 
-use super::parts::{expression, first_part, lone_number};
-use super::tokens::string_of;
+use super::parts::{expression, first_part, number_in};
+use super::tokens::{is_comma, string_of};
 use super::words::Elements;
 use base65::Sequence;
 use language65::{AsmFault, Item, Items, ItemsKind};
 use std::alloc::{AllocError, Global};
-use syntax65::{Expr, ExprKind, Token};
-
-/// The value of one number, as most elements are.
-#[inline(always)]
-fn number_alone(tokens: &[Token<'_>]) -> Option<u32>
-    ensures value { IfSome result (λ v. IsExpression (lexemes tokens.now) (Ok (number v))) }
-    ensures text { IfSome result (λ _. string_of (lexemes tokens.now) ≡ None) }
-{
-    if tokens.len() == 1 {
-        lone_number(tokens)
-    } else {
-        None
-    }
-}
+use syntax65::Token;
 
 /// An element that is a value.
 #[tactic(auto, using(crate::proofs::Parts::then_fault))]
@@ -39,14 +25,10 @@ fn value_item(alloc: Global, tokens: &[Token<'_>]) -> Result<Item, AsmFault>
 }
 
 /// An element of a list.
-#[inline(always)]
 fn item(alloc: Global, elements: Elements, tokens: &[Token<'_>]) -> Result<Item, AsmFault>
     ensures value { Parses result (IsItem elements (lexemes tokens.now)) }
     ensures inside { IfErr result (λ e. is_failure e ≡ false) }
 {
-    if let Some(number) = number_alone(tokens) {
-        return Ok(Item::Value(Expr::new(ExprKind::Number(number))));
-    }
     match elements {
         Elements::Values => value_item(alloc, tokens),
         Elements::ValuesAndTexts => match string_of(tokens) {
@@ -70,6 +52,29 @@ fn no_items(alloc: Global, count: usize) -> Result<Sequence<Item>, AllocError>
     Ok(Sequence::from_vec(Vec::with_capacity(alloc, count / 2 + 1)?))
 }
 
+/// The number before the first comma, where it stands there by itself, and the tokens behind that comma, if there is one.
+#[inline(always)]
+fn first_number<'a, 'b>(tokens: &'b [Token<'a>]) -> Option<(u32, Option<&'b [Token<'a>]>)>
+    ensures parts { IfSome result (λ x. parts_of (lexemes tokens.now) ≡ lexemes (take 1 tokens.now)
+        ∷ parts_behind (option_map (λ rest. lexemes rest.now) x.1)) }
+    ensures item { IfSome result (λ x. (elements : Elements) →
+        IsItem elements (lexemes (take 1 tokens.now)) (Ok (numbered x.0))) }
+    ensures shorter { IfSome result (λ x. IfSome x.1 (λ rest. length rest.now < length tokens.now)) }
+{
+    let (first, behind) = tokens.split_first()?;
+    let number = number_in(first)?;
+    match behind.split_first() {
+        None => Some((number, None)),
+        Some((comma, rest)) => {
+            if is_comma(comma) {
+                Some((number, Some(rest)))
+            } else {
+                None
+            }
+        }
+    }
+}
+
 /// The numbers of a list that has nothing else, with a comma between each two.
 fn numbers(alloc: Global, tokens: &[Token<'_>]) -> Result<Option<Sequence<u32>>, AllocError>
     ensures { IfOk result (λ numbers. IfSome numbers (λ ns. (elements : Elements) →
@@ -78,8 +83,7 @@ fn numbers(alloc: Global, tokens: &[Token<'_>]) -> Result<Option<Sequence<u32>>,
     let mut numbers = no_numbers(alloc, tokens.len())?;
     let mut rest = Some(tokens);
     'parts: while let Some(left) = rest {
-        let (part, behind) = first_part(left);
-        let Some(number) = number_alone(part) else {
+        let Some((number, behind)) = first_number(left) else {
             return Ok(None);
         };
         numbers.push(number)?;

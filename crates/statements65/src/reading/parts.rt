@@ -9,7 +9,7 @@ ghost use Rattle.syntax65.specs.Tokens.{lexeme_of, lexemes};
 ghost use Rattle.syntax65.specs.Trees.{number};
 ghost use Rattle.syntax65.specs.declared.expressions.words.Opening.TheVariants.{Number};
 ghost use Rattle.language65.specs.Faults.{is_failure, is_outside};
-ghost use Rattle.statements65.specs.Parsing.{is_comma, parts_behind, parts_of, quoted_in, string_of, IsExpression, IsFront, Parses};
+ghost use Rattle.statements65.specs.Parsing.{is_comma, parts_behind, parts_of, quoted_in, IsExpression, IsFront, Parses};
 
 use super::tokens::{is_close, is_comma};
 use language65::AsmFault;
@@ -17,9 +17,10 @@ use std::alloc::Global;
 use syntax65::{Expr, ExprFault, ExprKind, Token, TokenKind, read_expr};
 
 /// The value of a number.
-fn number_in(token: &Token<'_>) -> Option<u32>
+pub fn number_in(token: &Token<'_>) -> Option<u32>
     ensures number { IfSome result (λ v. opening_in (Some (lexeme_of token.now)) ≡ Number v) }
     ensures text { IfSome result (λ _. quoted_in (lexeme_of token.now) ≡ None) }
+    ensures comma { IfSome result (λ _. is_comma (lexeme_of token.now) ≡ false) }
 {
     match token.kind {
         TokenKind::Number(value) => Some(value),
@@ -39,10 +40,9 @@ fn end_expression(tokens: &[Token<'_>]) -> bool
 
 /// The value of a number at the front that is an expression by itself.
 #[inline(always)]
-pub fn lone_number(tokens: &[Token<'_>]) -> Option<u32>
+fn lone_number(tokens: &[Token<'_>]) -> Option<u32>
     ensures read { IfSome result (λ v. IsParsed (lexemes tokens.now) (Ok (number v, 1))) }
     ensures some { IfSome result (λ _. 0 < length tokens.now) }
-    ensures text { IfSome result (λ _. string_of (lexemes tokens.now) ≡ None) }
 {
     let Some((first, behind)) = tokens.split_first() else {
         return None;

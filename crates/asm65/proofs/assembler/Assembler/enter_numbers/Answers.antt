@@ -1,43 +1,29 @@
-use Rattle.std.proofs.Common.{arith, ◌≡◌, ℕ, List, ◌∷◌, [], map, sym, subst, ◌∙◌}
-use Rattle.std.proofs.lemmas.Grind.{common_steps}
-use Rattle.std.specs.Vec.Iter.{into_iter_items}
-use Rattle.syntax65.specs.Trees.{Tree}
-use Rattle.source65.specs.declared.place.Place.{Place}
-use Rattle.object65.specs.declared.object.Width.{Width}
+use Rattle.std.proofs.Common.{List, ℕ, map, subst}
+use Rattle.std.specs.Prelude.{IfSome, OnOk, Option}
+use Rattle.language65.specs.Contents.{put}
 use Rattle.language65.specs.Items.{numbered}
-use Rattle.language65.specs.declared.laid.Spot.{Spot}
+use Rattle.language65.specs.Parts.{Known}
 use Rattle.language65.specs.Views.{place_in}
-use Rattle.module65.specs.Pieces.{datum, item_piece, valued}
-use Rattle.asm65.specs.declared.assembler.Assembler.{Assembler}
+use Rattle.language65.specs.declared.language.Item.{Item}
+use Rattle.layout65.proofs.Steps.{ok_then}
+use Rattle.module65.specs.Pieces.{item_piece}
+use Rattle.sections65.specs.Standing.{Feeds}
 use Rattle.asm65.specs.Inner.Holding.{Enters}
-use Rattle.asm65.proofs.Enterings.{enters_both, enters_none}
+use Rattle.asm65.specs.Inner.Putting.{AreStored}
+use Rattle.asm65.proofs.Enterings.{numbers_enter}
 use Rattle.asm65.proofs.assembler.Assembler.enter_numbers.Goals as goal
 
-abbrev Entered : Place → Spot → Width → (old new : Assembler) → List ℕ → Type 0
-Entered place s width old new numbers = Enters place s (map (item_piece width) (map numbered numbers)) old new
-
-pub loop-number-init : goal.loop-number-init
-loop-number-init c b h =
-    subst (Entered (place_in c.args.stand.at.file.now c.args.stand.at.line) c.args.stand.spot c.args.width c.args.self.now b)
-    (c.into_iter-number-iterator.ensures.into_iter_gives.0 ∙ c.into_vec-number-items.ensures) h
-
-pub loop-number-preserved : goal.loop-number-preserved
-loop-number-preserved c b h =
-    let place = place_in c.args.stand.at.file.now c.args.stand.at.line in
+pub returns-in-Some : goal.returns-in-Some
+returns-in-Some c =
+    let old = c.args.self.now in
     let s = c.args.stand.spot in
-    let width = c.args.width in
-    let a = c.loop-number.self in
-    let mid = c.enter_datum.new.self in
-    let rest = into_iter_items c.next.new.self in
-    let one = subst (λ (v : Tree). Enters place s (valued (datum width) v ∷ []) a mid) c.new-value.ensures c.in_ok-enter_datum.ensures in
-    c.loop-number.invariant b
-    (subst (Entered place s width a b) (sym c.in-Some.ensures.steps.0)
-    (enters_both place s (item_piece width (numbered c.in-Some.number) ∷ []) (map (item_piece width) (map numbered rest)) a mid b one h))
+    let stored : AreStored c.args.width c.args.numbers.now c.in-Some.bytes = subst (λ (o : Option (List ℕ)). IfSome o (AreStored c.args.width c.args.numbers.now)) c.in-Some.is c.in_ok-bytes.ensures in
+    ok_then c.append.result
+    (λ feeds. numbers_enter old c.append.new.self (place_in c.args.stand.at.file.now c.args.stand.at.line) s c.args.width c.args.numbers.now c.in-Some.bytes stored
+    (subst (λ (bytes : List ℕ). Feeds old.sections c.append.new.self (put s.segment (Known bytes))) c.as_slice.ensures feeds))
+    c.append.ensures
 
-pub returns : goal.returns
-returns c =
-    let place = place_in c.args.stand.at.file.now c.args.stand.at.line in
-    let s = c.args.stand.spot in
-    let a = c.loop-number.self in
-    let none : into_iter_items c.loop-number.number-iterator ≡ [] = grind (arith, common_steps) in
-    c.loop-number.invariant a (subst (Entered place s c.args.width a a) (sym none) (enters_none place s a))
+pub returns-in_ok-items_of-in-None : goal.returns-in_ok-items_of-in-None
+returns-in_ok-items_of-in-None c =
+    subst (λ (items : List Item). OnOk c.enter_mixed.result (Enters (place_in c.args.stand.at.file.now c.args.stand.at.line) c.args.stand.spot (map (item_piece c.args.width) items) c.args.self.now c.enter_mixed.new.self))
+    c.in_ok-items_of-in-None.ensures c.enter_mixed.ensures

@@ -1,6 +1,6 @@
 use Rattle.std.proofs.Common.{◌∙◌, List, ap, map, sym, subst}
 use Rattle.std.specs.Prelude.{OnOk}
-use Rattle.language65.specs.Items.{items_of}
+use Rattle.language65.specs.Items.{items_of, numbered}
 use Rattle.language65.specs.Views.{place_in}
 use Rattle.language65.specs.declared.language.Item.{Item}
 use Rattle.module65.specs.Pieces.{item_piece}
@@ -10,7 +10,7 @@ use Rattle.asm65.proofs.assembler.Assembler.enter_values.Goals as goal
 pub returns-in-Numbers : goal.returns-in-Numbers
 returns-in-Numbers c =
     subst (λ (items : List Item). OnOk c.enter_numbers.result (Enters (place_in c.args.stand.at.file.now c.args.stand.at.line) c.args.stand.spot (map (item_piece c.args.width) items) c.args.self.now c.enter_numbers.new.self))
-    (sym (ap items_of c.in-Numbers.is) ∙ c.into_kind.ensures) c.enter_numbers.ensures
+    (ap (map numbered) c.as_slice.ensures ∙ sym (ap items_of c.in-Numbers.is) ∙ c.into_kind.ensures) c.enter_numbers.ensures
 
 pub returns-in-Mixed : goal.returns-in-Mixed
 returns-in-Mixed c =

@@ -1,33 +1,29 @@
 use Rattle.std.proofs.Common.{◌≡◌, ◌∙◌, ℕ, sym, ap, subst}
-use Rattle.std.specs.Prelude.{Ok, Err, Result, Some}
+use Rattle.std.specs.Prelude.{Err, Result}
 use Rattle.std.proofs.lemmas.Result.{err_from_is_err_and}
-use Rattle.base65.specs.Outcome.{Unless}
 use Rattle.language65.specs.declared.fault.AsmFault.{AsmFault}
-use Rattle.language65.specs.Faults.{is_failure, is_memory, is_outside}
-use Rattle.layout65.proofs.Steps.{unless_then}
 use Rattle.source65.specs.declared.place.Place.{Place}
 use Rattle.language65.specs.declared.laid.Spot.{Spot}
 use Rattle.language65.specs.declared.language.Statement.{Statement}
 use Rattle.language65.specs.Layout as layout
 use Rattle.language65.specs.Layout.{Standing}
-use Rattle.language65.specs.LineFaults.{line_fault}
 use Rattle.language65.specs.Symbols.{Symbols}
 use Rattle.language65.specs.Views.{place_in}
 use Rattle.layout65.specs.Advancing.{advanced}
 use Rattle.layout65.specs.Counting.{AreInside, HasNumbers}
 use Rattle.layout65.specs.declared.measuring.Measured.{Measured}
-use Rattle.layout65.specs.Measuring.{measured}
 use Rattle.layout65.specs.Sounds.{IsCounted}
 use Rattle.layout65.specs.Views.{standing_of}
 use Rattle.layout65.specs.declared.standing.Standing as code
 use Rattle.layout65.specs.declared.measuring.Measured as found
-use Rattle.layout65.proofs.Behind.{behind_measured, has_numbers, is_measured, with_fault, without_fault}
+use Rattle.layout65.proofs.Behind.{has_numbers, without_fault}
 use Rattle.symbols65.specs.Views.{table_of}
 use Rattle.asm65.specs.declared.assembler.Assembler.{Assembler}
 use Rattle.asm65.specs.Inner.Holding.{AreBefore, Holds}
 use Rattle.asm65.specs.Inner.Taking.{IsNew, asked_of}
 use Rattle.asm65.proofs.Insides.{measured_inside}
-use Rattle.asm65.proofs.Takings.{holds_known, holds_stepped, is_new, unless_either}
+use Rattle.asm65.proofs.Placings.{moved_behind, placed_is, refused_is}
+use Rattle.asm65.proofs.Takings.{holds_known, holds_stepped, is_new}
 use Rattle.asm65.proofs.assembler.Assembler.place.Goals as goal
 
 pub advance-requires-clause-numbers : goal.advance-requires-clause-numbers
@@ -41,15 +37,7 @@ advance-requires-clause-numbers c =
 
 pub returns-clause-placed : goal.returns-clause-placed
 returns-clause-placed c = λ count t h.
-    (let old : Assembler = c.args.self.now in
-    let x : Statement = c.args.statement.now in
-    let m : Measured = c.in_ok-measured.measured in
-    let at : measured t.symbols t.standing x ≡ Ok m = ap (λ (y : Symbols). measured y t.standing x) (sym h.symbols) ∙ ap (λ (w : Standing). measured (table_of old.symbols) w x) (sym h.standing) ∙ c.in_ok-measured.ensures.measured in
-    record {
-      faultless = without_fault t.symbols t.standing x m at;
-      spot = c.spot-spot.ensures ∙ ap layout.spot_of h.standing;
-      measured = sym (is_measured t.symbols t.standing x m at);
-    })
+    placed_is count t c.args.self.now h c.args.statement.now c.in_ok-measured.measured c.spot-spot.result c.in_ok-measured.ensures.measured c.spot-spot.ensures
 
 pub returns-clause-new : goal.returns-clause-new
 returns-clause-new c =
@@ -82,9 +70,7 @@ returns-clause-holds c = λ count t h.
     c.in_ok-advance.ensures.moved
     ∙ ap (λ (z : Symbols). advanced z (standing_of mid.standing) x m.length m.multiple) same
     ∙ ap (λ (v : Standing). advanced y v x m.length m.multiple) stand
-    ∙ behind_measured y w x m c.in_ok-measured.ensures.measured
-    ∙ ap (λ (z : Symbols). layout.standing_behind z w x) h.symbols
-    ∙ ap (λ (v : Standing). layout.standing_behind t.symbols v x) h.standing in
+    ∙ moved_behind count t old h x m c.in_ok-measured.ensures.measured in
     let counted : IsCounted count mid.standing = subst (IsCounted count) (sym c.in_ok-ask.ensures.tables.standing) h.counted in
     let inside : AreInside count (table_of mid.symbols).scopes = subst (λ (z : Symbols). AreInside count z.scopes) (sym (same ∙ h.symbols)) h.inside in
     holds_stepped count t place x mid c.advance.new.self c.say.new.self held moved c.in_ok-advance.ensures.sound c.in_ok-advance.ensures.ends (c.in_ok-advance.ensures.counted count counted inside) c.in_ok-say.ensures.out c.in_ok-say.ensures.err)
@@ -92,14 +78,7 @@ returns-clause-holds c = λ count t h.
 pub returns-in_err-measured-clause-refused : goal.returns-in_err-measured-clause-refused
 returns-in_err-measured-clause-refused c = λ count t h.
     (let p = err_from_is_err_and c.from_residual.result c.from_residual.ensures.1 in
-    let e : AsmFault = c.in_err-measured.field-0.0 in
-    let old : Assembler = c.args.self.now in
-    let x : Statement = c.args.statement.now in
-    let there = measured (table_of old.symbols) (standing_of old.standing) x ≡ Err e in
-    let refused : Unless (is_memory e) there = c.in_err-measured.ensures.measured in
-    let same : there → line_fault t.symbols t.standing x ≡ Some e = λ (q : there). with_fault t.symbols t.standing x e (ap (λ (y : Symbols). measured y t.standing x) (sym h.symbols) ∙ ap (λ (w : Standing). measured (table_of old.symbols) w x) (sym h.standing) ∙ q) in
-    let outside : Unless (is_outside e) there = unless_either there (is_memory e) (is_failure e) refused in
-    rw (p.1, p.2) (unless_then (is_outside e) same outside))
+    rw (p.1, p.2) (refused_is count t c.args.self.now h c.args.statement.now c.in_err-measured.field-0.0 c.in_err-measured.ensures.measured))
 
 pub returns-in_err-measured-clause-inside : goal.returns-in_err-measured-clause-inside
 returns-in_err-measured-clause-inside c =

@@ -1,47 +1,35 @@
 use Rattle.std.proofs.Common.{◌≡◌, ◌∙◌, ℕ, refl, sym, ap, subst}
-use Rattle.std.specs.Prelude.{Ok, Err, Result, Some}
+use Rattle.std.specs.Prelude.{Err, Result}
 use Rattle.std.proofs.lemmas.List.{append-nil}
 use Rattle.std.proofs.lemmas.Result.{err_from_is_err_and}
-use Rattle.base65.specs.Outcome.{Unless}
 use Rattle.language65.specs.Contents.{asking}
 use Rattle.language65.specs.declared.fault.AsmFault.{AsmFault}
-use Rattle.language65.specs.Faults.{is_failure, is_memory, is_outside}
-use Rattle.layout65.proofs.Steps.{unless_then}
 use Rattle.language65.specs.declared.laid.Spot.{Spot}
 use Rattle.language65.specs.declared.language.Statement.{Statement}
 use Rattle.language65.specs.declared.language.Statement.TheVariants.{Instruction}
 use Rattle.language65.specs.Layout as layout
 use Rattle.language65.specs.Layout.{Standing}
-use Rattle.language65.specs.LineFaults.{line_fault}
 use Rattle.language65.specs.Symbols.{Symbols}
 use Rattle.layout65.specs.Advancing.{advanced}
 use Rattle.layout65.specs.Counting.{AreInside}
 use Rattle.layout65.specs.declared.measuring.Measured.{Measured}
-use Rattle.layout65.specs.Measuring.{measured}
 use Rattle.layout65.specs.Views.{standing_of}
 use Rattle.layout65.specs.declared.measuring.Measured as found
-use Rattle.layout65.proofs.Behind.{behind_measured, is_measured, with_fault, without_fault}
+use Rattle.layout65.proofs.Behind.{is_measured}
 use Rattle.module65.specs.Machine.{entered}
 use Rattle.symbols65.specs.Views.{table_of}
 use Rattle.asm65.specs.declared.assembler.Assembler.{Assembler}
 use Rattle.asm65.specs.Inner.Holding.{Holds}
 use Rattle.asm65.specs.Inner.Taking.{asked_of}
 use Rattle.asm65.proofs.Insides.{measured_inside}
-use Rattle.asm65.proofs.Takings.{holds_known, holds_stepped, unless_either}
+use Rattle.asm65.proofs.Placings.{moved_behind, placed_is, refused_is}
+use Rattle.asm65.proofs.Takings.{holds_known, holds_stepped}
 use Rattle.asm65.proofs.Waitings.{holds_entered}
 use Rattle.asm65.proofs.assembler.Assembler.place_instruction.Goals as goal
 
 pub returns-clause-placed : goal.returns-clause-placed
 returns-clause-placed c = λ count t h.
-    (let old : Assembler = c.args.self.now in
-    let x : Statement = Instruction c.args.mnemonic c.args.operand.now in
-    let m : Measured = c.in_ok-measured.measured in
-    let at : measured t.symbols t.standing x ≡ Ok m = ap (λ (y : Symbols). measured y t.standing x) (sym h.symbols) ∙ ap (λ (w : Standing). measured (table_of old.symbols) w x) (sym h.standing) ∙ c.in_ok-measured.ensures.measured in
-    record {
-      faultless = without_fault t.symbols t.standing x m at;
-      spot = c.spot-spot.ensures ∙ ap layout.spot_of h.standing;
-      measured = sym (is_measured t.symbols t.standing x m at);
-    })
+    placed_is count t c.args.self.now h (Instruction c.args.mnemonic c.args.operand.now) c.in_ok-measured.measured c.spot-spot.result c.in_ok-measured.ensures.measured c.spot-spot.ensures
 
 pub returns-clause-holds : goal.returns-clause-holds
 returns-clause-holds c = λ place count t h.
@@ -60,23 +48,14 @@ returns-clause-holds c = λ place count t h.
     let moved : standing_of c.advance_by.new.self ≡ layout.standing_behind t.symbols t.standing x =
     c.advance_by.ensures.moved y c.args.mnemonic c.args.operand.now
     ∙ ap (λ (k : ℕ). advanced y w x m.length k) one
-    ∙ behind_measured y w x m c.in_ok-measured.ensures.measured
-    ∙ ap (λ (z : Symbols). layout.standing_behind z w x) h.symbols
-    ∙ ap (λ (v : Standing). layout.standing_behind t.symbols v x) h.standing in
+    ∙ moved_behind count t old h x m c.in_ok-measured.ensures.measured in
     let inside : AreInside count y.scopes = subst (λ (z : Symbols). AreInside count z.scopes) (sym h.symbols) h.inside in
     holds_stepped count t place x mid c.advance_by.new.self old.texts held moved c.advance_by.ensures.sound c.advance_by.ensures.ends (c.advance_by.ensures.counted y c.args.mnemonic c.args.operand.now count h.counted inside) (sym (append-nil old.texts.out)) (sym (append-nil old.texts.err)))
 
 pub returns-in_err-measured-clause-refused : goal.returns-in_err-measured-clause-refused
 returns-in_err-measured-clause-refused c = λ count t h.
     (let p = err_from_is_err_and c.from_residual.result c.from_residual.ensures.1 in
-    let e : AsmFault = c.in_err-measured.field-0.0 in
-    let old : Assembler = c.args.self.now in
-    let x : Statement = Instruction c.args.mnemonic c.args.operand.now in
-    let there = measured (table_of old.symbols) (standing_of old.standing) x ≡ Err e in
-    let refused : Unless (is_memory e) there = c.in_err-measured.ensures.measured in
-    let same : there → line_fault t.symbols t.standing x ≡ Some e = λ (q : there). with_fault t.symbols t.standing x e (ap (λ (y : Symbols). measured y t.standing x) (sym h.symbols) ∙ ap (λ (w : Standing). measured (table_of old.symbols) w x) (sym h.standing) ∙ q) in
-    let outside : Unless (is_outside e) there = unless_either there (is_memory e) (is_failure e) refused in
-    rw (p.1, p.2) (unless_then (is_outside e) same outside))
+    rw (p.1, p.2) (refused_is count t c.args.self.now h (Instruction c.args.mnemonic c.args.operand.now) c.in_err-measured.field-0.0 c.in_err-measured.ensures.measured))
 
 pub returns-in_err-measured-clause-inside : goal.returns-in_err-measured-clause-inside
 returns-in_err-measured-clause-inside c =

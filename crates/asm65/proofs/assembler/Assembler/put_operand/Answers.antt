@@ -1,10 +1,4 @@
-use Rattle.std.proofs.Common.{◌≡◌, sym, subst, rules, FitsSigned, to_z, of_z, w64}
-use Rattle.std.specs.Prelude.{ℤ, IfOk}
-use Rattle.std.proofs.lemmas.Int.{to_z-of_z}
-use Rattle.object65.specs.Form.{lit}
-use Rattle.language65.specs.Contents.{stored}
 use Rattle.language65.specs.Views.{place_in}
-use Rattle.symbols65.specs.Views.{table_of}
 use Rattle.module65.specs.Pieces.{operand, valued}
 use Rattle.asm65.specs.declared.assembler.Assembler.{Assembler}
 use Rattle.asm65.specs.Inner.Putting.{IsPut, IsTried, operand_stored}
@@ -12,28 +6,14 @@ use Rattle.asm65.proofs.Enterings.{operand_tried}
 use Rattle.layout65.proofs.Steps.{ok_with}
 use Rattle.asm65.proofs.assembler.Assembler.put_operand.Goals as goal
 
-pub returns-in-Some-2 : goal.returns-in-Some-2
-returns-in-Some-2 c =
+pub returns-in-Some : goal.returns-in-Some
+returns-in-Some c =
     let old : Assembler = c.args.self.now in
     let new = c.put_operand.new.sections in
     let place = place_in c.args.stand.at.file.now c.args.stand.at.line in
     let s = c.args.stand.spot in
     let e = c.args.value.now in
-    let f = c.in-Some-2.form in
-    let final = c.in_ok-form.ensures.stays f c.in-Some-2.is in
+    let f = c.in-Some.form in
+    let final = c.in_ok-form.ensures.stays f c.in-Some.is in
     ok_with (IsPut old.sections new s.segment (operand_stored c.args.width s place f)) (IsTried place s (valued (operand c.args.width) e) old (record old { sections = new })) c.put_operand.result
     (λ b put. operand_tried old new place s c.args.width e f b final put) c.put_operand.ensures
-
-pub returns-in-Some : goal.returns-in-Some
-returns-in-Some c =
-    let old : Assembler = c.args.self.now in
-    let new = c.put_literal.new.sections in
-    let place = place_in c.args.stand.at.file.now c.args.stand.at.line in
-    let s = c.args.stand.spot in
-    let e = c.args.value.now in
-    let v = c.in-Some.number in
-    let fits : FitsSigned w64 v = search rules in
-    let same : to_z w64 (of_z w64 v) ≡ v = to_z-of_z w64 v fits in
-    let literal = subst (λ (z : ℤ). IfOk c.put_literal.result (IsPut old.sections new s.segment (stored c.args.width place (lit z)))) same (c.put_literal.ensures place) in
-    ok_with (IsPut old.sections new s.segment (stored c.args.width place (lit v))) (IsTried place s (valued (operand c.args.width) e) old (record old { sections = new })) c.put_literal.result
-    (λ b put. operand_tried old new place s c.args.width e (lit v) b (c.in-Some.ensures.form (table_of old.symbols) s) (subst (λ r. IsPut old.sections new s.segment r b) (sym (c.in-Some.ensures.stored s place)) put)) literal

@@ -1,18 +1,17 @@
-use Rattle.std.proofs.Common.{map, [], ◌∷◌}
+use Rattle.std.proofs.Common.{map, [], ◌∷◌, take}
 use Rattle.std.proofs.lemmas.List.{map-append}
 use Rattle.syntax65.specs.Tokens.{lexemes}
 use Rattle.language65.specs.Items.{numbered}
 use Rattle.statements65.specs.Parsing.{parts_of, IsItem}
 use Rattle.statements65.proofs.Each.{ended, one_more, parts_left, taken}
-use Rattle.statements65.proofs.Parts.{is_item}
 use Rattle.statements65.proofs.reading.items.numbers.Goals as goal
 
 pub parts-preserved : goal.parts-preserved
 parts-preserved c = λ e.
-    rw (c.in_ok-push.ensures.ok, map-append numbered c.parts.numbers (c.in-Some-number_alone.number ∷ []))
-    (one_more (IsItem e) (parts_of (lexemes c.args.tokens.now)) (map numbered c.parts.numbers) (lexemes c.first_part.result.0.now) (parts_left c.first_part.result.1) (numbered c.in-Some-number_alone.number)
-    (is_item e (lexemes c.first_part.result.0.now) c.in-Some-number_alone.number c.in-Some-number_alone.ensures.value c.in-Some-number_alone.ensures.text)
-    (taken (IsItem e) (parts_of (lexemes c.args.tokens.now)) (map numbered c.parts.numbers) c.parts.rest c.in-Some.left (lexemes c.first_part.result.0.now) (parts_left c.first_part.result.1) c.in-Some.is c.first_part.ensures.parts (c.parts.invariant e)))
+    rw (c.in_ok-push.ensures.ok, map-append numbered c.parts.numbers (c.in-Some-first_number.number ∷ []))
+    (one_more (IsItem e) (parts_of (lexemes c.args.tokens.now)) (map numbered c.parts.numbers) (lexemes (take 1 c.in-Some.left.now)) (parts_left c.in-Some-first_number.behind) (numbered c.in-Some-first_number.number)
+    (c.in-Some-first_number.ensures.item e)
+    (taken (IsItem e) (parts_of (lexemes c.args.tokens.now)) (map numbered c.parts.numbers) c.parts.rest c.in-Some.left (lexemes (take 1 c.in-Some.left.now)) (parts_left c.in-Some-first_number.behind) c.in-Some.is c.in-Some-first_number.ensures.parts (c.parts.invariant e)))
 
 pub returns : goal.returns
 returns c = λ e. ended (IsItem e) (parts_of (lexemes c.args.tokens.now)) (map numbered c.parts.numbers) c.parts.rest c.in_default.not-Some (c.parts.invariant e)

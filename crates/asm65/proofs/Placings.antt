@@ -1,0 +1,48 @@
+-- What is measured of a statement by what an assembler holds, by the state that it holds.
+use Rattle.std.proofs.Common.{◌≡◌, ◌∙◌, ℕ, sym, ap}
+use Rattle.std.specs.Prelude.{Ok, Err, Result, Some}
+use Rattle.base65.specs.Outcome.{Unless}
+use Rattle.language65.specs.declared.fault.AsmFault.{AsmFault}
+use Rattle.language65.specs.Faults.{is_failure, is_memory, is_outside}
+use Rattle.language65.specs.declared.laid.Spot.{Spot}
+use Rattle.language65.specs.declared.language.Statement.{Statement}
+use Rattle.language65.specs.Layout.{Standing, spot_of, standing_behind}
+use Rattle.language65.specs.LineFaults.{line_fault}
+use Rattle.language65.specs.Symbols.{Symbols}
+use Rattle.layout65.specs.Advancing.{advanced}
+use Rattle.layout65.specs.declared.measuring.Measured.{Measured}
+use Rattle.layout65.specs.Measuring.{measured}
+use Rattle.layout65.specs.Views.{standing_of}
+use Rattle.layout65.proofs.Behind.{behind_measured, is_measured, with_fault, without_fault}
+use Rattle.layout65.proofs.Steps.{unless_then}
+use Rattle.module65.specs.Machine.{State}
+use Rattle.symbols65.specs.Views.{table_of}
+use Rattle.asm65.specs.declared.assembler.Assembler.{Assembler}
+use Rattle.asm65.specs.Inner.Holding.{Holds}
+use Rattle.asm65.specs.Inner.Taking.{IsPlaced, IsRefused}
+use Rattle.asm65.proofs.Takings.{unless_either}
+
+module _ (count : ℕ) (t : State) (old : Assembler) (h : Holds count t old) (x : Statement) where
+  abbrev here : Result Measured AsmFault
+  here = measured (table_of old.symbols) (standing_of old.standing) x
+
+  there : (r : Result Measured AsmFault) → here ≡ r → measured t.symbols t.standing x ≡ r
+  there r at = ap (λ (y : Symbols). measured y t.standing x) (sym h.symbols) ∙ ap (λ (w : Standing). measured (table_of old.symbols) w x) (sym h.standing) ∙ at
+
+  pub placed_is : (m : Measured) (s : Spot) → here ≡ Ok m → s ≡ spot_of (standing_of old.standing) → IsPlaced t x s m
+  placed_is m s at spot = record {
+    faultless = without_fault t.symbols t.standing x m (there (Ok m) at);
+    spot = spot ∙ ap spot_of h.standing;
+    measured = sym (is_measured t.symbols t.standing x m (there (Ok m) at));
+  }
+
+  pub refused_is : (e : AsmFault) → Unless (is_memory e) (here ≡ Err e) → IsRefused t x e
+  refused_is e refused =
+      let same : here ≡ Err e → line_fault t.symbols t.standing x ≡ Some e = λ (q : here ≡ Err e). with_fault t.symbols t.standing x e (there (Err e) q) in
+      unless_then (is_outside e) same (unless_either (here ≡ Err e) (is_memory e) (is_failure e) refused)
+
+  pub moved_behind : (m : Measured) → here ≡ Ok m → advanced (table_of old.symbols) (standing_of old.standing) x m.length m.multiple ≡ standing_behind t.symbols t.standing x
+  moved_behind m at =
+      behind_measured (table_of old.symbols) (standing_of old.standing) x m at
+      ∙ ap (λ (z : Symbols). standing_behind z (standing_of old.standing) x) h.symbols
+      ∙ ap (λ (v : Standing). standing_behind t.symbols v x) h.standing

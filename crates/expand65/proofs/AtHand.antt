@@ -12,7 +12,7 @@ use Rattle.reader65.specs.Left.{labelled}
 use Rattle.reader65.specs.Naming.{NamesFiles}
 use Rattle.reader65.specs.Taking.{Takes}
 use Rattle.reader65.specs.declared.reader.Reader.{Reader}
-use Rattle.expand65.specs.AtHand.{IsOfKind, ReachesBy, Steps, rested}
+use Rattle.expand65.specs.AtHand.{IsAhead, IsOfKind, ReachesBy, Steps, rested}
 use Rattle.expand65.specs.Expansion.{Next, Reaches, fault, further, given, nothing, statement}
 use Rattle.expand65.specs.Meaning.{Meaning}
 use Rattle.expand65.specs.Rewriting.{state_of}
@@ -179,3 +179,13 @@ stops_behind_lines {A} B (Some m) blamed k old mid new r f is same named gone h 
       fails = so.fails;
       at = so.at;
     }))
+
+-- a line that is taken where it stands
+pub peeked_given : (m : Files) (k : Meaning) (old : Expander) (reader : Reader) (n : ℕ) (ts : List Lexeme) (x : Statement) → IsAhead old n ts → IsOfKind kind.Statement old.rewriter ts → stated x ≡ plain ts → (NamesFiles old.rewriter.reader → NamesFiles reader) → ((n : Files) → Takes (left_of n old.rewriter.reader) (Ok (Some ts, left_of n reader))) → FollowsFrom m k old (Ok (Some x)) (record { rewriter = record { alloc = old.rewriter.alloc; reader = reader; macros = old.rewriter.macros; conditions = old.rewriter.conditions; expansions = old.rewriter.expansions; folders = old.rewriter.folders }; front = old.front; failed = old.failed })
+peeked_given m k old reader n ts x (right, none, _) is given_as named taken =
+    let new : Rewriter = record { alloc = old.rewriter.alloc; reader = reader; macros = old.rewriter.macros; conditions = old.rewriter.conditions; expansions = old.rewriter.expansions; folders = old.rewriter.folders } in
+    let after : Expander = record { rewriter = new; front = old.front; failed = old.failed } in
+    follows_given (Some m) k old after x right refl named (λ n l.
+    let step = steps_at_hand n l old.rewriter reader ts kind.Statement is (λ e. cc) (taken n) in
+    let S : Stated → Type 0 = λ y. Reaches n l (state_in n old) (statement y (state_in n after)) in
+    subst S (sym given_as) (plain_given n l (state_in n old) old.rewriter new old.front kind.Statement ts none (no_step (state_in n old)) refl (given (state_of n old.rewriter) (state_of n new) (plain ts) step)))

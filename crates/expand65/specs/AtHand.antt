@@ -4,6 +4,7 @@ use Rattle.base65.specs.Store.{Files}
 use Rattle.syntax65.specs.Tokens.{Lexeme}
 use Rattle.reader65.specs.Fronts.{is_mislabelled, label_len}
 use Rattle.reader65.specs.Left.{labelled}
+use Rattle.reader65.specs.Peeking.{IsAtHand}
 use Rattle.reader65.specs.Plain.{IsPlain}
 use Rattle.expand65.specs.Expansion.{Reaches, statement}
 use Rattle.expand65.specs.Meaning.{Meaning}
@@ -13,6 +14,8 @@ use Rattle.expand65.specs.Step.{IsStep}
 use Rattle.expand65.specs.Stopping.{Goes}
 use Rattle.expand65.specs.declared.at_hand.Kind.{Kind}
 use Rattle.expand65.specs.declared.at_hand.Kind.TheVariants as kind
+use Rattle.expand65.specs.declared.expander.Expander.{Expander}
+use Rattle.expand65.specs.declared.expander.Front.TheVariants.{Nothing}
 use Rattle.expand65.specs.declared.macros.Opening.TheVariants as opening
 use Rattle.expand65.specs.declared.rewriter.Rewriter.{Rewriter}
 
@@ -41,3 +44,7 @@ ReachesBy m k s kind.Nothing ts t = ⊥
 ReachesBy m k s kind.Statement ts t = Reaches m k s (statement (plain ts) t)
 ReachesBy m k s (kind.Label n) ts t = Reaches m k s (statement (label (take n ts)) (rested n ts t))
 ReachesBy m k s kind.Other ts t = Goes m k s t
+
+-- what stands next is a line at hand of so many bytes and these tokens
+abbrev pub IsAhead : Expander → ℕ → List Lexeme → Type 0
+IsAhead e n ts = (e.failed ≡ false) × (e.front ≡ Nothing) × IsAtHand e.rewriter.reader.top.source n ts

@@ -1,8 +1,8 @@
 //! Lines of files that are taken where they stand, in the place of a line that the caller keeps.
 
-ghost use Rattle.std.specs.Prelude.{◌≡◌, ◌≤◌, ◌+◌, IfOk, OnOk, is_some};
+ghost use Rattle.std.specs.Prelude.{◌≡◌, ◌≤◌, ◌+◌, IfOk, IsTrue, OnOk, is_some};
 ghost use Rattle.base65.specs.Store.{Files};
-ghost use Rattle.syntax65.specs.Tokens.{lexeme_of};
+ghost use Rattle.syntax65.specs.Tokens.{lexeme_of, lexemes};
 ghost use Rattle.reader65.specs.Kept.{tokens_in};
 ghost use Rattle.reader65.specs.Naming.{NamesFiles};
 ghost use Rattle.expand65.specs.AtHand.{IsOfKind, ReachesBy, Steps};
@@ -11,7 +11,7 @@ ghost use Rattle.expand65.specs.Meaning.{Meaning};
 ghost use Rattle.expand65.specs.Rewriting.{macros_of, size_of, state_of};
 
 use crate::rewriter::Rewriter;
-use reader65::Line;
+use reader65::{Line, front_directive, label_len};
 use std::alloc::AllocError;
 use syntax65::{Token, TokenKind};
 
@@ -41,6 +41,21 @@ impl Rewriter {
         match token.kind {
             TokenKind::Identifier => self.has_macro(token.text),
             _ => false,
+        }
+    }
+
+    /// Whether tokens are a statement without a label.
+    #[inline(always)]
+    pub fn is_statement(&self, tokens: &[Token<'_>]) -> bool
+        ensures { IsTrue result → IsOfKind Kind.Statement self.now (lexemes tokens.now) }
+    {
+        match tokens.split_first() {
+            None => false,
+            Some((first, _)) => {
+                !self.is_macro(first)
+                    && label_len(tokens) == 0
+                    && front_directive(tokens).is_none()
+            }
         }
     }
 

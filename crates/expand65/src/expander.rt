@@ -1,7 +1,11 @@
 //! The statements of a source, one after another.
 
-ghost use Rattle.std.specs.Prelude.{◌≡◌, ◌<◌, ◌≤◌, ◌+◌, ◌*◌, [], true, false, length, take, drop, Err, IfOk, IfSome, IsErrOf, IsTrue, OnErr, OnOk};
+ghost use Rattle.std.specs.Prelude.{◌≡◌, ◌<◌, ◌≤◌, ◌+◌, ◌*◌, [], true, false, length, take, drop, Err, IfOk, IfSome, IsErrOf, IsTrue, List, Ok, OnErr, OnOk, Some};
 ghost use Rattle.base65.specs.Store.{Asks, Files, IsBlamed, Passes};
+ghost use Rattle.syntax65.specs.Held.{HoldsNothing, held};
+ghost use Rattle.syntax65.specs.Tokens.{Lexeme, lexemes};
+ghost use Rattle.reader65.specs.Peeking.{next_number};
+ghost use Rattle.expand65.specs.AtHand.{IsAhead, IsOfKind};
 ghost use Rattle.expand65.specs.Standing.{Comes, FollowsFrom, IsRest, Opens, StandsFor, given_in, is_end, led, measure_of, place_of, state_in, stated, tokens_of};
 ghost use Rattle.source65.specs.Faults.{is_outside};
 ghost use Rattle.expand65.specs.Stopping.{Goes, StopsOnItsWay, StopsReading};
@@ -22,10 +26,11 @@ use crate::knows::Knows;
 use crate::rewriter::{Rewriter, Turn};
 use base65::{Sequence, Store, Text};
 use indexmap::IndexMap;
-use reader65::{Input, Line, OpenFile, Reader, Source};
+use reader65::{Input, Line, OpenFile, Peeked, Reader, Source};
 use source65::{ExpandFault, Place};
 use std::alloc::{AllocError, Global};
 use std::mem;
+use syntax65::{LineTokens, Token};
 
 /// How many lines are read, skipped, collected and replayed at most, all together.
 const MAX_LINES: u32 = 1_048_576;
@@ -243,6 +248,43 @@ impl Expander {
             }
             None => Ok(false),
         }
+    }
+
+    /// The tokens of the next line, where it is a file's and all of it is at hand; how long it is, and its number.
+    #[inline(always)]
+    pub fn peek<'a>(&'a self, tokens: &mut LineTokens<'a>) -> Option<Peeked>
+        requires { HoldsNothing tokens.old }
+        ensures next { IfSome result (λ p. IsAhead self.now p.len (held tokens.new)) }
+        ensures number { IfSome result (λ p.
+            p.number ≡ next_number self.now.rewriter.reader.top.source) }
+        ensures within { tokens.new.count ≤ 8 }
+    {
+        if self.failed || !self.front.is_nothing() {
+            return None;
+        }
+        self.rewriter.reader.peek_tokens(self.rewriter.alloc, tokens)
+    }
+
+    /// Whether tokens are a statement without a label.
+    #[inline(always)]
+    pub fn is_statement(&self, tokens: &[Token<'_>]) -> bool
+        ensures { IsTrue result → IsOfKind Kind.Statement self.now.rewriter (lexemes tokens.now) }
+    {
+        self.rewriter.is_statement(tokens)
+    }
+
+    /// Takes the next line, which has so many bytes and is a statement, unless no line more may be taken; whether it was.
+    #[inline(always)]
+    pub fn take_peeked(&mut self, len: usize) -> bool
+        ensures next { (ts : List Lexeme) (x : Statement) → IsAhead self.old len ts →
+            IsOfKind Kind.Statement self.old.rewriter ts → stated x ≡ plain ts → IsTrue result →
+            (m : Files) (k : Meaning) → FollowsFrom m k self.old (Ok (Some x)) self.new }
+        ensures place { IsTrue result →
+            ((place_of self.new).file ≡ (place_of self.old).file) ×
+            ((place_of self.new).line ≡ next_number self.old.rewriter.reader.top.source) }
+        ensures less { IsTrue result → measure_of self.new < measure_of self.old }
+    {
+        self.rewriter.reader.take_peeked(len)
     }
 
     /// Takes the next statement in the place of another, where it is a whole line of a file, at hand, or the label of

@@ -1,5 +1,5 @@
 -- A line of a file that is read where it stands, before it is taken.
-use Rattle.std.specs.Prelude.{◌≡◌, ◌<◌, ℕ, List, ◌∷◌, length, take, drop, Ok}
+use Rattle.std.specs.Prelude.{◌≡◌, ◌<◌, ◌+◌, ℕ, List, ◌∷◌, length, take, drop, Ok}
 use Rattle.std.specs.List.{prefix_len}
 use Rattle.syntax65.specs.Tokens.{Lexeme, IsRead}
 use Rattle.reader65.specs.Left.{Item, written}
@@ -15,6 +15,11 @@ IsFront bytes n ts = (n ≡ prefix_len is_inside bytes) × (n < length bytes) ×
 abbrev pub IsAtHand : Source → ℕ → List Lexeme → Type 0
 IsAtHand (source.File f) n ts = IsFront (drop f.at f.buffer.items) n ts
 IsAtHand _ n ts = ⊥
+
+-- the number of its next line
+abbrev pub next_number : Source → ℕ
+next_number (source.File f) = f.line + 1
+next_number _ = 0
 
 -- the first of the lines is read so, and has this number
 abbrev pub TakesWritten : List Item → ℕ → List Lexeme → List Item → Type 0

@@ -104,6 +104,7 @@ fn begins_with_colon(tokens: &[Token<'_>]) -> bool
 }
 
 /// How many tokens the label at the front has, with its colon; 0 where there is none.
+#[inline(always)]
 pub fn label_len(tokens: &[Token<'_>]) -> usize
     ensures count { result ≡ label_len (lexemes tokens.now) }
     ensures within { result ≤ length tokens.now }
@@ -113,7 +114,7 @@ pub fn label_len(tokens: &[Token<'_>]) -> usize
     };
     if is_colon(first) {
         1
-    } else if is_label_name(first) && begins_with_colon(behind) {
+    } else if begins_with_colon(behind) && is_label_name(first) {
         2
     } else {
         0
@@ -121,6 +122,7 @@ pub fn label_len(tokens: &[Token<'_>]) -> usize
 }
 
 /// The directive of expansion that a token is.
+#[inline(always)]
 pub fn directive_in(token: &Token<'_>) -> Option<Directive>
     ensures { result ≡ directive_in (lexeme_of token.now) }
 {
@@ -131,6 +133,7 @@ pub fn directive_in(token: &Token<'_>) -> Option<Directive>
 }
 
 /// The directive of expansion at the front.
+#[inline(always)]
 pub fn front_directive(tokens: &[Token<'_>]) -> Option<Directive>
     ensures { result ≡ front_directive (lexemes tokens.now) }
 {

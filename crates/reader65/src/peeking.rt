@@ -1,13 +1,14 @@
 //! Lines of a file that are read where they stand, in the place of a line that the caller keeps, before they are taken.
 
-ghost use Rattle.std.specs.Prelude.{◌≡◌, ◌<◌, IfNone, IfOk, IfSome, IsTrue, List, Ok, Some, drop, false};
+ghost use Rattle.std.specs.Prelude.{◌≡◌, ◌<◌, ◌≤◌, ◌+◌, IfNone, IfOk, IfSome, IsTrue, List, Ok, Some, drop, false};
 ghost use Rattle.base65.specs.Store.{Files};
+ghost use Rattle.syntax65.specs.Held.{HoldsNothing, held};
 ghost use Rattle.syntax65.specs.Tokens.{Lexeme};
 ghost use Rattle.source65.specs.declared.place.Place.{Place};
 ghost use Rattle.reader65.specs.Inside.{is_call, left_in, left_of, mark_of};
 ghost use Rattle.reader65.specs.Kept.{tokens_in};
 ghost use Rattle.reader65.specs.Naming.{IsNamed, NamesFiles};
-ghost use Rattle.reader65.specs.Peeking.{IsAtHand, IsFront, TakesWritten};
+ghost use Rattle.reader65.specs.Peeking.{IsAtHand, IsFront, TakesWritten, next_number};
 ghost use Rattle.reader65.specs.Reading.{left_in_file};
 ghost use Rattle.reader65.specs.Taking.{Takes};
 
@@ -17,6 +18,32 @@ use crate::line::Line;
 use crate::passing::trimmed;
 use crate::reader::Reader;
 use std::alloc::{AllocError, Global};
+use syntax65::LineTokens;
+
+/// A line at hand: how many bytes it has, and its number.
+#[derive(Clone, Copy)]
+pub struct Peeked {
+    pub len: usize,
+    pub number: u32,
+}
+
+/// The tokens of the first line of bytes, where its end is there; how many bytes it has.
+#[inline(always)]
+fn peek_tokens<'a>(alloc: Global, bytes: &'a [u8], tokens: &mut LineTokens<'a>) -> Option<usize>
+    requires { HoldsNothing tokens.old }
+    ensures front { IfSome result (λ n. IsFront bytes.now n (held tokens.new)) }
+    ensures within { tokens.new.count ≤ 8 }
+{
+    let len = line_len(bytes);
+    if len >= bytes.len() {
+        return None;
+    }
+    let (front, _) = bytes.split_at(len);
+    match tokens.read(alloc, trimmed(front)) {
+        Ok(()) => Some(len),
+        Err(_) => None,
+    }
+}
 
 /// Reads the first line of bytes in the place of another, where its end is there; how many bytes it has.
 #[inline(always)]
@@ -36,6 +63,24 @@ fn peek(alloc: Global, bytes: &[u8], line: &mut Line) -> Result<Option<usize>, A
 }
 
 impl OpenFile {
+    /// The tokens of the next line, where all of it is at hand.
+    #[inline(always)]
+    fn peek_tokens<'a>(&'a self, alloc: Global, tokens: &mut LineTokens<'a>) -> Option<Peeked>
+        requires { HoldsNothing tokens.old }
+        ensures front { IfSome result (λ p.
+            IsFront (drop self.now.at self.now.buffer.items) p.len (held tokens.new)) }
+        ensures number { IfSome result (λ p. p.number ≡ self.now.line + 1) }
+        ensures within { tokens.new.count ≤ 8 }
+    {
+        if self.at >= self.buffer.len() {
+            return None;
+        }
+        let number = self.line.checked_add(1)?;
+        let (_, rest) = self.buffer.split_at(self.at);
+        let len = peek_tokens(alloc, rest, tokens)?;
+        Some(Peeked { len, number })
+    }
+
     /// Reads the next line in the place of another, where all of it is at hand; how many bytes it has.
     #[inline(always)]
     fn peek(&self, alloc: Global, line: &mut Line) -> Result<Option<usize>, AllocError>
@@ -55,6 +100,7 @@ impl OpenFile {
         ensures taken { (m : Files) (ts : List Lexeme) →
             IsFront (drop self.old.at self.old.buffer.items) len ts →
             IfSome result (λ n. TakesWritten (left_in_file m self.old) n ts (left_in_file m self.new)) }
+        ensures number { IfSome result (λ n. n ≡ self.old.line + 1) }
         ensures name { self.new.name ≡ self.old.name }
         ensures none { IfNone result (self.new ≡ self.old) }
     {
@@ -67,6 +113,20 @@ impl OpenFile {
 }
 
 impl Source {
+    /// The tokens of the next line, where it is a file's and all of it is at hand.
+    #[inline(always)]
+    fn peek_tokens<'a>(&'a self, alloc: Global, tokens: &mut LineTokens<'a>) -> Option<Peeked>
+        requires { HoldsNothing tokens.old }
+        ensures front { IfSome result (λ p. IsAtHand self.now p.len (held tokens.new)) }
+        ensures number { IfSome result (λ p. p.number ≡ next_number self.now) }
+        ensures within { tokens.new.count ≤ 8 }
+    {
+        match self {
+            Source::File(file) => file.peek_tokens(alloc, tokens),
+            Source::Call(_) | Source::Repeat(_, _, _) => None,
+        }
+    }
+
     /// Reads the next line in the place of another, where it is a file's and all of it is at hand; how many bytes it has.
     #[inline(always)]
     fn peek(&self, alloc: Global, line: &mut Line) -> Result<Option<usize>, AllocError>
@@ -83,6 +143,7 @@ impl Source {
     fn take_peeked(&mut self, len: usize) -> Option<u32>
         ensures taken { (m : Files) (ts : List Lexeme) → IsAtHand self.old len ts →
             IfSome result (λ n. TakesWritten (left_in m self.old) n ts (left_in m self.new)) }
+        ensures number { IfSome result (λ n. n ≡ next_number self.old) }
         ensures named { (p : Place) → IsNamed self.old p → IsNamed self.new p }
         ensures call { is_call self.new ≡ is_call self.old }
         ensures none { IfNone result (self.new ≡ self.old) }
@@ -95,6 +156,20 @@ impl Source {
 }
 
 impl Reader {
+    /// The tokens of the next line, where it is a file's, all of it is at hand, and a line more may be taken.
+    #[inline(always)]
+    pub fn peek_tokens<'a>(&'a self, alloc: Global, tokens: &mut LineTokens<'a>) -> Option<Peeked>
+        requires { HoldsNothing tokens.old }
+        ensures front { IfSome result (λ p. IsAtHand self.now.top.source p.len (held tokens.new)) }
+        ensures number { IfSome result (λ p. p.number ≡ next_number self.now.top.source) }
+        ensures within { tokens.new.count ≤ 8 }
+    {
+        if self.room == 0 {
+            return None;
+        }
+        self.top.source.peek_tokens(alloc, tokens)
+    }
+
     /// Reads the next line in the place of another, where it is a file's and all of it is at hand; how many bytes it has.
     #[inline(always)]
     pub fn peek(&self, alloc: Global, line: &mut Line) -> Result<Option<usize>, AllocError>
@@ -109,6 +184,8 @@ impl Reader {
     pub fn take_peeked(&mut self, len: usize) -> bool
         ensures taken { (m : Files) (ts : List Lexeme) → IsAtHand self.old.top.source len ts →
             IsTrue result → Takes (left_of m self.old) (Ok (Some ts, left_of m self.new)) }
+        ensures place { IsTrue result → (self.new.place.file ≡ self.old.place.file) ×
+            (self.new.place.line ≡ next_number self.old.top.source) }
         ensures room { IsTrue result → self.new.room < self.old.room }
         ensures mark { mark_of self.new.top ≡ mark_of self.old.top }
         ensures outer { self.new.outer ≡ self.old.outer }

@@ -50,3 +50,6 @@ cut_off rest here text left n e front back =
     let k = prefix_len is_blank rest in
     let whole : after_blanks rest ≡ text ++ left = sym e ∙ sym (take-append-drop n here) ∙ rw (front, back) refl in
     (take k rest, sym (take-append-drop k rest) ∙ ap (λ l. take k rest ++ l) whole)
+
+pub read_behind : (line rest left : List ℕ) (a b : Bool) (ts : List Lexeme) (t : Lexeme) → ((us : List Lexeme) (end : Option LexFault) → Reads a rest us end → Reads true line (ts ++ us) end) → ((us : List Lexeme) (end : Option LexFault) → Reads b left us end → Reads a rest (t ∷ us) end) → (us : List Lexeme) (end : Option LexFault) → Reads b left us end → Reads true line ((ts ++ t ∷ []) ++ us) end
+read_behind line rest left a b ts t so_far next us end h = rw append_assoc (so_far (t ∷ us) end (next us end h))

@@ -14,6 +14,6 @@ mod tokens;
 pub use fault::LexFault;
 pub use front::{LineFront, line_front};
 pub use lexer::Lexer;
-pub use lines::{MAX_LINE, line_tokens};
+pub use lines::{LineTokens, MAX_LINE, line_tokens};
 pub use places::MAX_NAME;
 pub use tokens::{AddressSize, Mark, Token, TokenKind};

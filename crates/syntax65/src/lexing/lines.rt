@@ -1,18 +1,119 @@
 //! The tokens of a line.
 
-ghost use Rattle.std.specs.Prelude.{◌≡◌, ◌↔◌, IsTrue};
+ghost use Rattle.std.specs.Prelude.{◌≡◌, ◌≤◌, ◌↔◌, ◌++◌, ◌∷◌, [], IsTrue};
 ghost use Rattle.syntax65.specs.Faults.{is_lex_outside};
 ghost use Rattle.base65.specs.Relations.{Answers};
-ghost use Rattle.syntax65.specs.Tokens.{after_blanks, lexemes, IsEnd, IsRead};
+ghost use Rattle.syntax65.specs.Lexing.{ReadsOn};
+ghost use Rattle.syntax65.specs.Held.{HoldsNothing, held};
+ghost use Rattle.syntax65.specs.Tokens.{after_blanks, lexeme_of, lexemes, IsEnd, IsRead};
 
 use super::fault::LexFault;
 use super::lexer::Lexer;
 use super::scanning::blank_len;
-use super::tokens::Token;
-use std::alloc::Global;
+use super::tokens::{Token, TokenKind};
+use std::alloc::{AllocError, Global};
 
 /// How many bytes a line has at most.
 pub const MAX_LINE: usize = 4096;
+
+/// How many tokens most lines have at most. For so many nothing is allocated.
+const FEW_TOKENS: usize = 8;
+
+/// The tokens of a line. A few stand in their own place, and more of them in memory that is asked for.
+#[derive(Drop)]
+pub struct LineTokens<'a> {
+    pub few: [Token<'a>; FEW_TOKENS],
+    pub count: usize,
+    pub many: Option<Vec<Token<'a>>>,
+}
+
+impl<'a> LineTokens<'a> {
+    /// No tokens.
+    #[inline(always)]
+    pub fn new() -> Self
+        ensures { HoldsNothing result }
+    {
+        let blank = Token {
+            kind: TokenKind::Identifier,
+            text: b"",
+        };
+        LineTokens {
+            few: [blank; FEW_TOKENS],
+            count: 0,
+            many: None,
+        }
+    }
+
+    #[inline(always)]
+    pub fn as_slice(&self) -> &[Token<'a>]
+        requires { self.now.count ≤ 8 }
+        ensures { lexemes result.now ≡ held self.now }
+    {
+        match &self.many {
+            Some(many) => many.as_slice(),
+            None => &self.few[..self.count],
+        }
+    }
+
+    /// Reads a line.
+    ///
+    /// # Errors
+    ///
+    /// Those of `line_tokens`.
+    #[inline(always)]
+    pub fn read(&mut self, alloc: Global, line: &'a [u8]) -> Result<(), LexFault>
+        requires { HoldsNothing self.old }
+        ensures tokens { Answers is_lex_outside (λ _. held self.new) result (IsRead line.now) }
+        ensures within { self.new.count ≤ 8 }
+    {
+        let mut lexer = Lexer::new(line)?;
+        'line: loop {
+            match lexer.next()? {
+                Some(token) => {
+                    if self.count >= FEW_TOKENS {
+                        let few = self.few;
+                        self.many = Some(read_many(alloc, few, token, lexer)?);
+                        return Ok(());
+                    }
+                    self.few[self.count] = token;
+                    self.count += 1;
+                }
+                None => return Ok(()),
+            }
+        }
+    }
+}
+
+/// These tokens, one more, and those of what is left of their line.
+#[inline(never)]
+fn read_many<'a>(
+    alloc: Global,
+    few: [Token<'a>; FEW_TOKENS],
+    token: Token<'a>,
+    lexer: Lexer<'a>,
+) -> Result<Vec<Token<'a>>, LexFault>
+    ensures { ReadsOn lexer.entry (lexemes few.entry ++ lexeme_of token.entry ∷ [])
+        result (λ many. lexemes many.items) }
+{
+    let mut many = Vec::with_capacity(alloc, lexer.rest.len() / 2 + 10)?;
+    many.extend_from_slice(&few)?;
+    many.push(token)?;
+    read_on(lexer, &mut many)?;
+    Ok(many)
+}
+
+/// Reads what is left of a line.
+#[inline(always)]
+fn read_on<'a>(mut lexer: Lexer<'a>, tokens: &mut Vec<Token<'a>>) -> Result<(), LexFault>
+    ensures { ReadsOn lexer.entry (lexemes tokens.old.items) result (λ _. lexemes tokens.new.items) }
+{
+    'line: loop {
+        match lexer.next()? {
+            Some(token) => tokens.push(token)?,
+            None => return Ok(()),
+        }
+    }
+}
 
 /// The tokens of a line, each of which borrows its slice.
 ///
@@ -22,15 +123,11 @@ pub const MAX_LINE: usize = 4096;
 pub fn line_tokens(alloc: Global, line: &[u8]) -> Result<Vec<Token<'_>>, LexFault>
     ensures { Answers is_lex_outside (λ tokens. lexemes tokens.items) result (IsRead line.now) }
 {
-    let mut lexer = Lexer::new(line)?;
+    let lexer = Lexer::new(line)?;
     // A token and what parts it from the next take two bytes or more, but in lists of marks.
     let mut tokens = Vec::with_capacity(alloc, line.len() / 2 + 1)?;
-    'line: loop {
-        match lexer.next()? {
-            Some(token) => tokens.push(token)?,
-            None => return Ok(tokens),
-        }
-    }
+    read_on(lexer, &mut tokens)?;
+    Ok(tokens)
 }
 
 /// What stands behind the blanks.

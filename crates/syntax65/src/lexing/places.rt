@@ -36,6 +36,7 @@ pub fn token_at(first: bool, here: &[u8]) -> Result<(TokenKind, usize), LexFault
 }
 
 /// A size prefix or an identifier.
+#[inline(always)]
 fn word_at(first: bool, here: &[u8]) -> Result<(TokenKind, usize), LexFault>
     requires { Begins Letter here.now }
     ensures { IsAt first here.now result }
@@ -78,6 +79,7 @@ fn size_of(letter: u8) -> Option<AddressSize>
     }
 }
 
+#[inline(always)]
 fn identifier_at(first: bool, here: &[u8]) -> Result<(TokenKind, usize), LexFault>
     requires letter { Begins Letter here.now }
     requires no_prefix { IsPrefixAt first here.now None }

@@ -1,0 +1,16 @@
+use Rattle.std.proofs.Common.{◌≡◌, ◌≤◌, List, ◌++◌, length, take, None, Option, true}
+use Rattle.syntax65.specs.Tokens.{Lexeme, lexemes, Reads}
+use Rattle.syntax65.specs.declared.lexing.fault.LexFault.{LexFault}
+use Rattle.syntax65.proofs.lexing.lines.LineTokens.read.Given as goal
+
+abbrev pub invariant-line : goal.invariant-line
+invariant-line l = record {
+  short : length l.line ≤ 4096;
+  room : length l.self.few ≡ 8;
+  within : l.self.count ≤ 8;
+  few : l.self.many ≡ None;
+  so_far : (us : List Lexeme) (end : Option LexFault) → Reads l.lexer.first l.lexer.rest.now us end → Reads true l.line (lexemes (take l.self.count l.self.few) ++ us) end;
+}
+
+abbrev pub decreases-line : goal.decreases-line
+decreases-line l = length l.lexer.rest.now

@@ -14,7 +14,7 @@ use Rattle.language65.proofs.Lists.{same_bytes}
 use Rattle.module65.specs.Machine as machine
 use Rattle.module65.specs.Machine.{State, awaited, awaited_in, awaiting, entered, filled, holds, later}
 use Rattle.module65.specs.Pieces as piece
-use Rattle.module65.proofs.Resolving.{extends_same, awaited_append, filled_later, filled_next}
+use Rattle.module65.proofs.Resolving.{extends_same, awaited_append, filled_later}
 use Rattle.module65.proofs.Entries.{filled_append}
 use Rattle.sections65.specs.declared.sections.Sections.{Sections}
 use Rattle.sections65.specs.Standing.{Awaits, Feeds, Stands}

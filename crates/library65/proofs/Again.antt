@@ -42,9 +42,6 @@ second_part bytes at a b s = record {
   limit = omega (arith, s.limit, length-append a b);
 }
 
-whole_again : (n at : ℕ) (f : List ℕ) → length f ≡ n → at + length f ≤ file_limit → whole n at f ≡ Ok f
-whole_again n at f len fits = grind (arith, common_steps)
-
 pub field_again : (bytes : List ℕ) (n at : ℕ) (f : List ℕ) → length f ≡ n → Stands bytes at f → field_at n at bytes ≡ Ok f
 field_again bytes n at f len s = grind (arith, common_steps)
 

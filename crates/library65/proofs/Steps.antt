@@ -30,20 +30,10 @@ Reading A = List ℕ → Result A LibraryFault
 abbrev pub Leads : {A : Type 0} → Option Files → List ℕ → Reading A → Reading A → Type 0
 Leads known name rest all = IfSome known (λ m. IfSome (finmap.get m name) (λ bytes. rest bytes ≡ all bytes))
 
-unless : (b : Bool) {P Q : Type 0} → (P → Q) → Unless b P → Unless b Q
-unless true h p = tt
-unless false h p = h p
-
 module _ {A Y : Type 0} (name : List ℕ) (all rest : Reading A) (step : Reading Y) (k : Y → Reading A) (same : (bytes : List ℕ) → rest bytes ≡ (step bytes >>= (λ y. k y bytes))) where
-  file_goes_on : (file : Option (List ℕ)) (y : Y) → IfSome file (λ bytes. rest bytes ≡ all bytes) → in_file file step ≡ Ok y → IfSome file (λ bytes. k y bytes ≡ all bytes)
-  file_goes_on x y leads read = grind (arith, common_steps)
-
   -- a step that is taken
   pub goes_on : (known now : Option Files) (y : Y) → now ≡ known → Leads known name rest all → IfSome now (λ m. in_file (finmap.get m name) step ≡ Ok y) → Leads known name (k y) all
   goes_on x now y files leads read = grind (arith, common_steps)
-
-  file_stops : (file : Option (List ℕ)) (e : LibraryFault) → IfSome file (λ bytes. rest bytes ≡ all bytes) → Refuses is_outside e (in_file file step) → Refuses is_outside e (in_file file all)
-  file_stops x e leads refused = grind (arith, common_steps)
 
   -- a step that is refused
   pub stops : (known now : Option Files) (e : LibraryFault) → now ≡ known → Leads known name rest all → IfSome now (λ m. Refuses is_outside e (in_file (finmap.get m name) step)) → IfSome known (λ m. Refuses is_outside e (in_file (finmap.get m name) all))

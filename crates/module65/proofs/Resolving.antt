@@ -64,9 +64,6 @@ final_settles y place s why e f c final there z more = ap (λ r. r >>= used plac
 
 -- ---- Slots.
 
-pub filled_next : (slots : List Slot) (c : Content) (cs : List Content) → awaited_in slots ≡ length cs → filled (slots ++ holds c ∷ []) cs ≡ filled slots cs ++ c ∷ []
-filled_next slots c cs h = ap (filled (slots ++ holds c ∷ [])) (sym (append-nil cs)) ∙ filled_append slots (holds c ∷ []) cs [] h
-
 pub filled_later : (slots : List Slot) (c : Content) (cs : List Content) → awaited_in slots ≡ length cs → filled (slots ++ awaited ∷ []) (cs ++ c ∷ []) ≡ filled slots cs ++ c ∷ []
 filled_later slots c cs h = filled_append slots (awaited ∷ []) cs (c ∷ []) h
 

@@ -161,16 +161,6 @@ imp_reads rest x is e =
     let x_is : ◌≡◌ {A = Form × List ℕ} (imp j.0.0, j.0.1) x = cc (j.2) in
     rw (← x_is) (record { spelled = ap (λ xs. 2 ∷ xs) number.spelled; fits = omega (arith, number.fits); rest = number.rest })
 
-code1_of : (k : ℕ) → 1 ≤ k → k ≤ 6 → code1 (op1_of k) ≡ (15 + k) ∷ []
-code1_of zero some within = absurd (omega arith)
-code1_of (suc zero) some within = refl
-code1_of (suc (suc zero)) some within = refl
-code1_of (suc (suc (suc zero))) some within = refl
-code1_of (suc (suc (suc (suc zero)))) some within = refl
-code1_of (suc (suc (suc (suc (suc zero))))) some within = refl
-code1_of (suc (suc (suc (suc (suc (suc zero)))))) some within = refl
-code1_of (suc (suc (suc (suc (suc (suc (suc k))))))) some within = absurd (omega arith)
-
 number2_of : (k : ℕ) → k ≤ 18 → number2 (op2_of k) ≡ k
 number2_of zero within = refl
 number2_of (suc zero) within = refl

@@ -40,24 +40,9 @@ difference b a c =
 
 -- ---- Values.
 
-limited_is : (f h : Form) → Folding.limited f ≡ Ok h → (f ≡ h) × (nat_le (nodes f) Folding.node_limit ≡ true)
-limited_is f h e = grind (arith, common_steps)
-
 module _ {E : Type 0} (none : E) (bases : ℕ → ℤ) (imports : ℕ → Result ℤ E) where
-  prefix_kept : (op : Op1) (f h : Form) → Folding.fold_prefix op f ≡ Ok h → value_in none bases imports h ≡ value_of_one none bases imports op f
-  prefix_kept op x h e = grind (arith, common_steps)
-
-  plus_kept : (r : Result ℤ E) → r ≡ (r >>= (λ a. Ok (value1 Plus a)))
-  plus_kept x = grind (arith, common_steps)
-
   one_kept : (op : Op1) (f h : Form) → Folding.fold1 op f ≡ Ok h → value_in none bases imports h ≡ value_of_one none bases imports op f
   one_kept x f h e = grind (arith, common_steps)
-
-  literals_kept : (r : Option ℤ) (h : Form) → Folding.literal r ≡ Ok h → value_in none bases imports h ≡ or_none none r
-  literals_kept x h e = grind (arith, common_steps)
-
-  stays : (op : Op2) (f g h : Form) → Folding.limited (binary op f g) ≡ Ok h → value_in none bases imports h ≡ value_of_two none bases imports op f g
-  stays op f g h e = ap (value_in none bases imports) (sym (limited_is (binary op f g) h e).0)
 
   any_kept : (op : Op2) (f g h : Form) → Folding.fold_any op f g ≡ Ok h → value_in none bases imports h ≡ value_of_two none bases imports op f g
   any_kept op x y h e = grind (arith, common_steps)
@@ -88,43 +73,8 @@ binary_fold_law E none bases imports op f g h e = two_kept none bases imports op
 
 -- ---- What folding gives.
 
-small : (f : Form) → nat_le (nodes f) Folding.node_limit ≡ true → nodes f ≤ Folding.node_limit
-small f e = grind (arith, nat_tests)
-
-literal_normal : (r : Option ℤ) (h : Form) → Folding.literal r ≡ Ok h → IsFolded h
-literal_normal x h e = grind (arith, common_steps)
-
-prefix_stays : (op : Op1) (f h : Form) → IsFolded f → not (Folding.folds1 op f) ≡ true → Folding.limited (prefix op f) ≡ Ok h → IsFolded h
-prefix_stays op f h folded alone e = grind (arith, common_steps)
-
-binary_stays : (op : Op2) (f g h : Form) → IsFolded f → IsFolded g → not (Folding.folds2 op f g) ≡ true → Folding.limited (binary op f g) ≡ Ok h → IsFolded h
-binary_stays op f g h folded_f folded_g alone e = grind (arith, common_steps)
-
-place_normal : (k : ℕ) (a : ℤ) (h : Form) → sec k a ≡ h → IsFolded h
-place_normal k a h e = rw (← e) (refl, omega arith)
-
-prefix_normal : (op : Op1) (f h : Form) → IsFolded f → Folding.folds1 op f ≡ Folding.is_literal f → Folding.fold_prefix op f ≡ Ok h → IsFolded h
-prefix_normal op x h folded alone e = grind (arith, common_steps)
-
 one_normal : (op : Op1) (f h : Form) → IsFolded f → Folding.fold1 op f ≡ Ok h → IsFolded h
 one_normal x f h folded e = grind (arith, common_steps)
-
-any_normal : (op : Op2) (f g h : Form) → IsFolded f → IsFolded g → Folding.folds2 op f g ≡ (Folding.is_literal f && Folding.is_literal g) → Folding.fold_any op f g ≡ Ok h → IsFolded h
-any_normal op x y h folded_f folded_g alone e = grind (arith, common_steps)
-
-sum_normal : (f g h : Form) → IsFolded f → IsFolded g → Folding.fold_sum f g ≡ Ok h → IsFolded h
-sum_normal x y h folded_f folded_g e = grind (arith, common_steps)
-
-sections_normal : (k m : ℕ) (a b : ℤ) (h : Form) (t : Bool) → IsFolded (sec k a) → IsFolded (sec m b) → nat_eq k m ≡ t → cond t (Ok (lit (wrapped (a -ℤ b)))) (Folding.fold_any Subtract (sec k a) (sec m b)) ≡ Ok h → IsFolded h
-sections_normal k m a b h true folded_f folded_g t e = let same : lit (wrapped (a -ℤ b)) ≡ h = cc in rw (← same) (refl, omega arith)
-sections_normal k m a b h false folded_f folded_g t e = any_normal Subtract (sec k a) (sec m b) h folded_f folded_g t e
-
-or_false : (b : Bool) → (b || false) ≡ b
-or_false true = refl
-or_false false = refl
-
-difference_normal : (f g h : Form) → IsFolded f → IsFolded g → Folding.fold_difference f g ≡ Ok h → IsFolded h
-difference_normal x y h folded_f folded_g e = grind (arith, common_steps)
 
 two_normal : (op : Op2) (f g h : Form) → IsFolded f → IsFolded g → Folding.fold2 op f g ≡ Ok h → IsFolded h
 two_normal x f g h folded_f folded_g e = grind (arith, common_steps)
@@ -133,16 +83,6 @@ pub normal_law : NormalLaw
 normal_law = (one_normal, two_normal)
 
 -- ---- What folding leaves as it stands.
-
-first_false : (a b : Bool) → (a || b) ≡ false → a ≡ false
-first_false true b e = cc
-first_false false b e = refl
-
-limited_ok : (f : Form) → nodes f ≤ Folding.node_limit → Folding.limited f ≡ Ok f
-limited_ok f h = let within : nat_le (nodes f) Folding.node_limit ≡ true = grind (arith, nat_tests) in rw within refl
-
-prefix_alone : (op : Op1) (f : Form) → nodes (prefix op f) ≤ Folding.node_limit → Folding.is_literal f ≡ false → Folding.fold_prefix op f ≡ Ok (prefix op f)
-prefix_alone op x h alone = grind (arith, common_steps)
 
 prefix_only : (op : Op1) (f : Form) → Folding.fold_prefix op f ≡ Ok (prefix op f) → Folding.is_literal f ≡ false
 prefix_only op x e = grind (arith, common_steps)
@@ -155,34 +95,6 @@ one_only Plus f e =
     let same : f ≡ prefix Plus f = cc in
     absurd (omega (arith, ap nodes same))
 one_only op f e = prefix_only op f e
-
-any_alone : (op : Op2) (f g : Form) → nodes (binary op f g) ≤ Folding.node_limit → (Folding.is_literal f && Folding.is_literal g) ≡ false → Folding.fold_any op f g ≡ Ok (binary op f g)
-any_alone op x y h alone = grind (arith, common_steps)
-
-no_literal : (r : Option ℤ) (op : Op2) (f g : Form) → Folding.literal r ≡ Ok (binary op f g) → ⊥
-no_literal x op f g e = grind (arith, common_steps)
-
-any_only : (op : Op2) (f g : Form) → Folding.fold_any op f g ≡ Ok (binary op f g) → (Folding.is_literal f && Folding.is_literal g) ≡ false
-any_only op x y e = grind (arith, common_steps)
-
-sum_alone : (f g : Form) → nodes (binary Add f g) ≤ Folding.node_limit → Folding.folds2 Add f g ≡ false → Folding.fold_sum f g ≡ Ok (binary Add f g)
-sum_alone x y h alone = grind (arith, common_steps)
-
-sum_only : (f g : Form) → Folding.fold_sum f g ≡ Ok (binary Add f g) → Folding.folds2 Add f g ≡ false
-sum_only x y e = grind (arith, common_steps)
-
-sections_alone : (k m : ℕ) (a b : ℤ) → nodes (binary Subtract (sec k a) (sec m b)) ≤ Folding.node_limit → nat_eq k m ≡ false → Folding.fold_difference (sec k a) (sec m b) ≡ Ok (binary Subtract (sec k a) (sec m b))
-sections_alone k m a b h apart = rw apart (limited_ok (binary Subtract (sec k a) (sec m b)) h)
-
-sections_only : (k m : ℕ) (a b : ℤ) (t : Bool) → nat_eq k m ≡ t → cond t (Ok (lit (wrapped (a -ℤ b)))) (Folding.fold_any Subtract (sec k a) (sec m b)) ≡ Ok (binary Subtract (sec k a) (sec m b)) → nat_eq k m ≡ false
-sections_only k m a b true t e = cc
-sections_only k m a b false t e = t
-
-difference_alone : (f g : Form) → nodes (binary Subtract f g) ≤ Folding.node_limit → Folding.folds2 Subtract f g ≡ false → Folding.fold_difference f g ≡ Ok (binary Subtract f g)
-difference_alone x y h alone = grind (arith, common_steps)
-
-difference_only : (f g : Form) → Folding.fold_difference f g ≡ Ok (binary Subtract f g) → Folding.folds2 Subtract f g ≡ false
-difference_only x y e = grind (arith, common_steps)
 
 two_alone : (op : Op2) (f g : Form) → nodes (binary op f g) ≤ Folding.node_limit → Folding.folds2 op f g ≡ false → Folding.fold2 op f g ≡ Ok (binary op f g)
 two_alone x f g h alone = grind (arith, common_steps)

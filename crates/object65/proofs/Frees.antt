@@ -115,9 +115,6 @@ literal_free body = chosen (length body == 0) _ _ bad (ok body)
 pub fill_free : (body : List ℕ) → IsFree (Bodies.fill_of body)
 fill_free body = chosen (not (length body == 4) || little_number 4 body == 0) _ _ bad (ok (little_number 4 body))
 
-pub end_free : (body : List ℕ) → IsFree (Bodies.end_of body)
-end_free body = chosen (length body == 0) _ _ (ok tt) bad
-
 pub room_free : (r : Room) (len : ℕ) → IsFree (Scanning.room_for r len)
 room_free r len = wants_size (nat_le len (r.size - r.filled))
 
@@ -131,9 +128,6 @@ pub parts_free : (m n i : ℕ) (o : Origin) (f : Form) → IsFree (Scanning.know
 unfolding Scanning.known_parts
 parts_free m n i o f = bound _ _ (known_file_free m o) (λ u. known_free n i f)
 
-pub file_free : (names : List (List ℕ)) (name : List ℕ) → IsFree (Scanning.new_file names name)
-file_free names name = wants_canonical (is_utf8 name && not (is_among names name))
-
 pub name_free : (names : List (List ℕ)) (name : List ℕ) → IsFree (Scanning.new_name names name)
 name_free names name = wants_canonical (is_name name && not (is_among names name))
 
@@ -142,9 +136,6 @@ canonical_free f = wants_canonical (is_normal f && nat_le (nodes f) node_limit)
 
 pub open_free : (f : Form) → IsFree (Scanning.canonical_open f)
 open_free f = wants_canonical (is_normal f && nat_le (nodes f) node_limit && not (is_literal f))
-
-pub section_free : (body : List ℕ) → IsFree (Bodies.section_of body)
-section_free body = chosen _ _ _ bad (chosen _ _ _ bad (ok _))
 
 line_free : (bytes : List ℕ) → IsFree (Bodies.line_at bytes)
 unfolding Bodies.line_at

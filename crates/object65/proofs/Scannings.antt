@@ -114,9 +114,6 @@ ends_push fs f = fill_last (fs ++ f ∷ []) 0 ∙ last_push fs f (Fill 0)
 literal_ends : (fs : List Fragment) (bytes : List ℕ) → is_none bytes ≡ false → Scanning.ends_in_fill (fs ++ closing bytes) ≡ false
 literal_ends fs bytes some = rw (closing_is bytes some) (ends_push fs (Literal bytes))
 
-abbrev last_at : (b c : Bool) → Last
-last_at b c = if not b then last.Short else if c then last.Fill else last.Other
-
 abbrev pub whole : List ℕ → Bool
 whole bytes = length bytes % body_limit == 0
 

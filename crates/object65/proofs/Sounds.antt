@@ -68,9 +68,6 @@ front-ends p (x ∷ xs) (suc i) d stops h = step_ends (p x) i (prefix_len p xs) 
 
 -- ---- The items of records make what the records make.
 
-regrouped : (s : State) (i : Item) (r : Result (List Item) ObjectFault) → ((r >>= (λ is. Ok (i ∷ is))) >>= (λ is. Ok (with_items s is))) ≡ (r >>= (λ is. Ok (with_items (with_item s i) is)))
-regrouped s i x = grind (arith, common_steps)
-
 one_step : (s : State) (es : List Entry) (last : Bool) (q : Result (Outline × Item) ObjectFault) → Leads s last q → ((t : State) → (items_of (outline_of t) es >>= (λ is. Ok (with_items t is))) ≡ after_all t es) → ((q >>= (λ x. items_of x.0 es >>= (λ is. Ok (x.1 ∷ is)))) >>= (λ is. Ok (with_items s is))) ≡ ((q >>= (λ x. Ok (with_item s x.1))) >>= (λ t. after_all t es))
 one_step s es last x a rest = grind (arith, common_steps)
 

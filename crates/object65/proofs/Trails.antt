@@ -128,13 +128,6 @@ other : {A : Type 0} (b : Bool) (x y : A) → b ≡ false → (if b then x else 
 other true x y e = cc
 other false x y e = refl
 
-nil : (xs : List ℕ) → xs ++ [] ≡ xs
-nil [] = refl
-nil (x ∷ xs) = ap (λ ys. x ∷ ys) (nil xs)
-
-first_taken : (s u : State) (e : Entry) (es : List Entry) (t : State) → after s e ≡ Ok u → after_all u es ≡ Ok t → after_all s (e ∷ es) ≡ Ok t
-first_taken s u e es t h k = ap (λ r. r >>= (λ v. after_all v es)) h ∙ k
-
 read_entry : (bytes : List ℕ) (limit at : ℕ) (x : Entry × ℕ) → IsBytes (room bytes at limit) → TakesRecord bytes at limit x → IsReadEntry x.0
 read_entry bytes limit at x is read =
     let inside : IsBytes (entry_bytes x.0 ++ room bytes x.1 limit) = λ i. subst (λ (ys : List ℕ). get_or ys i 0 < 256) read.spelled (is i) in

@@ -108,10 +108,6 @@ pub after_free : (s : State) (e : Entry) → after s e ≡ Err FileError → ⊥
 unfolding after
 after_free s e = grind (arith, common_steps, leads)
 
-unless : (b : Bool) {P Q : Type 0} → (P → Q) → Unless b P → Unless b Q
-unless true h p = tt
-unless false h p = h p
-
 pub taken_from : (s : State) (o : Scanning.Outline) (e : Entry) (new : Scanning.Outline) (result : Result Item ObjectFault) → o ≡ Scanning.outline_of s → Gives is_memory (λ i. (new, i)) result (Scanning.scanned o e) → Gives is_memory (λ i. with_item s i) result (after s e)
 unfolding after
 taken_from s o e new x same h = grind (arith, common_steps)
@@ -198,9 +194,6 @@ room_next s o e x r same h =
 
 texts_next : (s : State) (o : Scanning.Outline) (i : Item) → list_all (λ a. is_small_text a.text) s.asserts ≡ true → Scanning.IsWithin o i → list_all (λ a. is_small_text a.text) (with_item s i).asserts ≡ true
 texts_next s o x small h = grind (arith, common_steps)
-
-abbrev marked : State → Scanning.Outline → State
-marked s o = record s { begun = o.begun; ended = o.ended }
 
 -- what the parts and the scan beside them stand for behind an item
 pub joined_next : (p q : Parts) (o n : Scanning.Outline) (i : Item) → state_of q ≡ unmarked (with_item (state_of p) i) → n ≡ Scanning.outline_of (with_item (state_in p o) i) → state_in q n ≡ with_item (state_in p o) i

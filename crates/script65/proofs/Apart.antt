@@ -90,9 +90,6 @@ unfolding names_exist
 exist_by_name rows [] = refl
 exist_by_name rows (n ∷ ns) = ap (λ z. cond (has_row rows n.name) z (Err (NoRow n.name))) (exist_by_name rows ns)
 
-abbrev unplaced_by : Option ℕ → Spot
-unplaced_by size = record { size = size; run = 0; load = 0 }
-
 rows_alike : (needs others : List SegmentNeed) → ((name : List ℕ) → size_of needs name ≡ size_of others name) → (rows : List Row) → map (unplaced needs) rows ≡ map (unplaced others) rows
 rows_alike needs others h [] = refl
 rows_alike needs others h (r ∷ rows) = grind (arith, common_steps, (rows_alike needs others h rows))
@@ -110,12 +107,6 @@ abbrev size_in : Spot → ℕ
 size_in s = unwrap_or s.size 0
 
 -- a row in an area
-
-not_below : (x y : ℕ) → nat_lt x y ≡ false → y ≤ x
-not_below x y h = grind (arith, nat_tests)
-
-other_test : (x j k : ℕ) → j ≢ k → (x == j) ≡ true → (x == k) ≡ false
-other_test x j k apart h = grind (arith, nat_tests)
 
 -- an address behind the cursor at which a row was placed
 pub record Placed (k : ℕ) (b : Bounds) (r : Row) (s : Spot) (cursor : ℕ) (x : Spot × ℕ) : Type 0 where

@@ -78,9 +78,6 @@ each_end f done xs inv at = grind (arith, common_steps, drop_end, append_none)
 
 -- the same where a loop goes by the place of an item
 
-pub rest_at : {A : Type 0} (xs : List A) (i : ℕ) (d : A) → i < length xs → drop i xs ≡ get_or xs i d ∷ drop (i + 1) xs
-rest_at xs i d lt = rw add-one (drop-cons xs i d lt)
-
 pub each_next : {E A B : Type 0} (f : A → Result B E) (done : List B) (xs : List A) (i : ℕ) (d : A) (y : B) → i < length xs → behind done (each f (drop i xs)) ≡ each f xs → f (get_or xs i d) ≡ Ok y → behind (done ++ y ∷ []) (each f (drop (i + 1) xs)) ≡ each f xs
 each_next f done xs i d y lt inv e = grind (arith, common_steps)
 
@@ -118,9 +115,6 @@ part_stops bytes ps at e goes h = stops ps at e goes (ap (λ x. x >>= λ p. Ok (
 
 pub part_more : (bytes : List ℕ) (ps : List Part) (at next : ℕ) (p : Part) (r : Result (List Part × ℕ) Stop) → ends_sum bytes at ≡ false → Ok (p, next) ≡ signed_part bytes at → Parts bytes (ps ++ p ∷ []) next r → Parts bytes ps at r
 part_more bytes ps at next p r goes h rest = more ps (ps ++ p ∷ []) at next r goes (ap (λ x. x >>= λ p. Ok (ps ++ p.0 ∷ [], p.1)) h) rest
-
-abbrev Reached : Type 0
-Reached = Result (Draft × ℕ) Stop
 
 -- whether an entry passes at its `;`
 abbrev pub checked : Option Fault → Token → Result (Unit {0}) Stop

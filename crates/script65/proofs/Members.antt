@@ -24,9 +24,6 @@ use Rattle.script65.specs.declared.reading.table.Entry.{Entry}
 abbrev pub with_if : Bool → ℕ → List ℕ → List ℕ
 with_if b i m = if b then m ++ i ∷ [] else m
 
-never_both : (run load k : ℕ) → load ≢ run → (run == k) ≡ true → (load == k) ≡ true → ⊥
-never_both run load k apart a b = grind (arith, nat_tests)
-
 pub added_twice : (k i : ℕ) (r : Row) (o : Option (List ℕ)) → r.load ≢ r.run → option_map (with_if (r.load == k) i) (option_map (with_if (r.run == k) i) o) ≡ option_map (with_if (is_in k r) i) o
 unfolding is_in
 added_twice k i r x apart = grind (arith, common_steps)
@@ -53,11 +50,6 @@ collects_all k rows i o le h = h.1 ∙ ap Some (sym (ap (λ l. h.0 ++ places_in 
 or_false : (b : Bool) → (b || false) ≡ b
 or_false true = refl
 or_false false = refl
-
-or_step : (b old rest : Bool) → (cond b true old || rest) ≡ (old || (b || rest))
-or_step true true rest = refl
-or_step true false rest = refl
-or_step false old rest = refl
 
 pub name_step : (rows : List Row) (i : ℕ) (r : Row) (name : List ℕ) (old new : Bool) → i < length rows → r ≡ get_or rows i r → new ≡ cond (bytes_eq r.name name) true old → (old || has_row (drop i rows) name) ≡ has_row rows name → (new || has_row (drop (i + 1) rows) name) ≡ has_row rows name
 unfolding has_row

@@ -28,13 +28,6 @@ use Rattle.script65.specs.Scripts.{area_of, area_index, area_with, found, is_exc
 
 -- ---- Lists of what was made in turn.
 
-below : (x k : ℕ) → nat_lt x k ≡ true → x < k
-below x k h = grind (arith, nat_tests)
-
--- a place that was found is one of the list
-pub within : {A : Type 0} (p : A → Bool) (xs : List A) (k : ℕ) → position p xs ≡ Some k → k < length xs
-within p xs k h = grind (arith, common_steps)
-
 -- what follows a good answer
 pub and_then : {E A B : Type 0} (r : Result A E) (f : A → Result B E) (y : B) → (r >>= f) ≡ Ok y → (x : A) × (r ≡ Ok x) × (f x ≡ Ok y)
 and_then x f y h = grind (arith, common_steps)
@@ -68,17 +61,8 @@ always (x ∷ xs) = (tt, always xs)
 abbrev Names : ℕ → ℕ → Option Operand → Type 0
 Names areas rows found = (o : Operand) → found ≡ Some o → IsThere areas rows o
 
-either_names : (areas rows : ℕ) (p q : Option Operand) → Names areas rows p → Names areas rows q → Names areas rows (option_or p q)
-either_names areas rows x q f g o h = grind (arith, common_steps)
-
 export_is : (areas rows : ℕ) (symbols : List (List ℕ × Entry)) (name : List ℕ) → Names areas rows (export_named symbols name)
 export_is areas rows symbols name = grind (arith, common_steps)
-
-area_is : (rows : ℕ) (areas : List (List ℕ × Entry)) (name : List ℕ) (part : AreaPart) → Names (length areas) rows (area_named areas name part)
-area_is rows areas name part = grind (arith, common_steps)
-
-row_is : (areas : ℕ) (rows : List (List ℕ × Entry)) (name : List ℕ) (part : RowPart) → Names areas (length rows) (row_named rows name part)
-row_is areas rows name part = grind (arith, common_steps)
 
 area_part_is : (rows : ℕ) (areas : List (List ℕ × Entry)) (name : List ℕ) → Names (length areas) rows (area_part_named areas name)
 area_part_is rows areas name = grind (arith, common_steps)
@@ -128,12 +112,6 @@ names_of bytes d e a h =
     let start : x.0.0 ≡ a.start = ap (λ (b : Area). b.start) made in
     let size : x.0.1 ≡ a.size = ap (λ (b : Area). b.size) made in
     (subst (AreThere (length d.areas) (length d.rows)) start (terms_are bytes d attribute.Start e.1.given x.0.0 g.start), subst (AreThere (length d.areas) (length d.rows)) size (terms_are bytes d attribute.Size e.1.given x.0.1 g.size))
-
-found_is : (d : Draft) (p : Option ℕ) (e : Entry) (k : ℕ) → ((j : ℕ) → p ≡ Some j → j < length d.areas) → found p e ≡ Ok k → k < length d.areas
-found_is d x e k inside h = grind (arith, common_steps)
-
-place_is : (d : Draft) (name : List ℕ) (k : ℕ) → area_index d name ≡ Some k → k < length d.areas
-place_is d name k h = within (λ e. bytes_eq name e.0) d.areas k h
 
 load_is : (bytes : List ℕ) (d : Draft) (e : Entry) (k : ℕ) → load_place bytes d e ≡ Ok k → k < length d.areas
 load_is bytes d e k h = grind (arith, common_steps)

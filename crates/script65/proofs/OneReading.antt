@@ -63,17 +63,11 @@ entry_one bytes block d at = grind (arith, common_steps, first_one, then_one, at
 entries_one : (bytes : List ℕ) (block : Block) → IsOne (Entries bytes block)
 entries_one bytes block = many_one (stands bytes form.Close) (IsEntry bytes block) (entry_one bytes block)
 
-abbrev behind_block : List ℕ → Draft × ℕ → Result (Draft × ℕ) Stop
-behind_block bytes x = Ok (x.0, (token_at bytes x.1).to)
-
 block_one : (bytes : List ℕ) → IsOne (IsBlock bytes)
 block_one bytes d at = grind (arith, common_steps, first_one, then_one, entries_one)
 
 blocks_one : (bytes : List ℕ) → IsOne (Blocks bytes)
 blocks_one bytes = many_one (stands bytes form.End) (IsBlock bytes) (block_one bytes)
-
-abbrev drafted : Draft × ℕ → Result Draft Stop
-drafted x = Ok x.0
 
 drafts_one : (bytes : List ℕ) (r q : Result Draft Stop) → Drafts bytes r → Drafts bytes q → r ≡ q
 drafts_one bytes = grind (arith, common_steps, first_one, then_one, blocks_one)

@@ -46,9 +46,6 @@ Settled k [] ss ts = ⊤
 stays_same : (k : ℕ) (r : Row) (s : Spot) → Stays k r s s
 stays_same k r s = record { size = refl; run = λ lt. refl; load = λ lt. refl }
 
-other : (x j k : ℕ) → x < j → j ≤ k → (x == k) ≡ false
-other x j k lt le = grind (arith, nat_tests)
-
 moved_stays : (j k at : ℕ) (r : Row) (s t : Spot) → j ≤ k → t ≡ moved k r at s → Stays j r s t
 unfolding moved
 moved_stays j k at r s t le e = grind (arith, common_steps)
@@ -83,9 +80,6 @@ rows_settled j k a b (r ∷ rs) (s ∷ ss) ts cursor last le h = by (is_in k r) 
         let e = same_pair (s ∷ y.0, y.1) (ts, last) g.2 in
         subst (Settled j (r ∷ rs) (s ∷ ss)) (ap (λ z. z.0) e) (stays_same j r s, again cursor y.0 y.1 g.1)
 
-below : (x k : ℕ) → nat_lt x k ≡ true → x < k
-below x k h = grind (arith, nat_tests)
-
 part_stays : (k : ℕ) (part : RowPart) (r : Row) (s t : Spot) → Stays k r s t → row_known k part r ≡ true → row_value part (row_place t) ≡ row_value part (row_place s)
 part_stays k x r s t h known = grind (arith, common_steps)
 
@@ -99,9 +93,6 @@ value_stays k part (r ∷ rs) (s ∷ ss) (t ∷ ts) zero h known = part_stays k 
 value_stays k part (r ∷ rs) (s ∷ ss) (t ∷ ts) (suc i) h known = value_stays k part rs ss ts i h.1 known
 
 -- ---- What a sum that is found says.
-
-at_most : (x k : ℕ) → nat_le x k ≡ true → x ≤ k
-at_most x k h = grind (arith, nat_tests)
 
 the_difference : (added taken n : ℕ) → difference added taken ≡ Some n → (taken + n ≡ added) × (n < 2 ^ 32)
 the_difference added taken n h = grind (arith, common_steps)

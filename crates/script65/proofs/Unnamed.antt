@@ -269,9 +269,6 @@ record Ends (given : List Given) : Type 0 where
   pub size : has attribute.Size given ≡ true
   pub inside : area_end given ≤ 2 ^ 32
 
-not_beyond : (x : ℕ) → nat_lt (2 ^ 32) x ≡ false → x ≤ 2 ^ 32
-not_beyond x h = grind (arith, nat_tests)
-
 ends_of : (given : List Given) → area_fault given ≡ None → Ends given
 ends_of given h = grind (arith, common_steps)
 

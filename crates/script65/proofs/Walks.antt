@@ -225,9 +225,6 @@ bind_ok x f y h = grind (arith, common_steps)
 
 -- ---- Bounds.
 
-not_above : (x y : ℕ) → nat_lt x y ≡ false → y ≤ x
-not_above x y h = grind (arith, nat_tests)
-
 -- an area that is spanned begins there and has that size
 pub record Spans (start size : ℕ) (b : Bounds) : Type 0 where
   pub starts : b.start ≡ start

@@ -53,18 +53,6 @@ one_changed key g h keys ds i d e same distinct at is new = grind (arith, common
 
 -- ---- A section keeps its segment.
 
-grown_segment : (d : Draft) (l : Option Fragment) (f : Fragment) → (grown d l f).segment ≡ d.segment
-grown_segment d x y = grind (arith, common_steps)
-
-fragment_segment : (d : Draft) (f : Fragment) → (with_fragment d f).segment ≡ d.segment
-fragment_segment d f = grind (arith, common_steps)
-
-put_segment : (g : ℕ) (f : Fragment) (d : Draft) → (if nat_eq g d.segment then with_fragment d f else d).segment ≡ d.segment
-put_segment g f d = grind (arith, common_steps)
-
-pub front : (f : Fragment) (fs : List Fragment) → filter (λ f. not (is_empty f)) (f ∷ []) ++ filter (λ f. not (is_empty f)) fs ≡ filter (λ f. not (is_empty f)) (f ∷ fs)
-front f fs = grind (arith, common_steps)
-
 -- what a fragment that is put into a segment adds to those of another one
 abbrev pub fragment_put : (h g : ℕ) → Fragment → List Fragment
 fragment_put h g f = if nat_eq g h then filter (λ f. not (is_empty f)) (f ∷ []) else []
@@ -99,12 +87,6 @@ module _ (s i : List ℕ) where
   behind None fs = all_joined fs
   behind (Some f) fs = joined f fs
 
-  grown_joined : (g : ℕ) (done : List Fragment) (l : Option Fragment) (f : Fragment) (rest : List Fragment) → let d : Draft = record { segment = g; done = done; last = l } in (grown d l f).done ++ behind (grown d l f).last rest ≡ done ++ behind l (f ∷ rest)
-  grown_joined g done x f rest = grind (arith, common_steps)
-
-  fragment_joined : (d : Draft) (f : Fragment) (rest : List Fragment) → (with_fragment d f).done ++ behind (with_fragment d f).last rest ≡ d.done ++ behind d.last (filter (λ f. not (is_empty f)) (f ∷ []) ++ rest)
-  fragment_joined d f rest = grind (arith, common_steps)
-
   ends : (done : List Fragment) (l : Option Fragment) (g : ℕ) → let d : Draft = record { segment = g; done = done; last = l } in all_of_draft d ≡ done ++ behind l []
   ends done x g = grind (arith, common_steps)
 
@@ -117,9 +99,6 @@ module _ (s i : List ℕ) where
 
   abbrev pub fragments_put : ℕ → List Entry → List Fragment
   fragments_put h es = flat_map (entry_fragments h) es
-
-  put_joined : (g : ℕ) (f : Fragment) (d : Draft) (rest : List Fragment) → let e : Draft = if nat_eq g d.segment then with_fragment d f else d in e.done ++ behind e.last rest ≡ d.done ++ behind d.last (fragment_put d.segment g f ++ rest)
-  put_joined g f d rest = grind (arith, common_steps)
 
   entry_joined : (e : Entry) (d : Draft) (rest : List Fragment) → (with_entry s i e d).done ++ behind (with_entry s i e d).last rest ≡ d.done ++ behind d.last (entry_fragments d.segment e ++ rest)
   entry_joined x d rest = grind (arith, common_steps)

@@ -138,9 +138,6 @@ module _ (at : Place → Origin) (s i : List ℕ) where
   all_joined_apart : (fs : List Fragment) → are_apart (all_joined fs) ≡ true
   all_joined_apart x = grind (arith, common_steps, joined_apart)
 
-  place_small : (n : ℕ) → unwrap_or (cond (nat_lt n 16) (Some n) None) 0 ≤ 15
-  place_small n = grind (arith, common_steps)
-
   power_small : (o : Option Segment) → segment_power o ≤ 15
   power_small x = grind (arith, common_steps)
 

@@ -43,9 +43,6 @@ filled_grown files later ws (Told o ss ∷ es) h =
 
 -- ---- Entries that stand in files.
 
-file_grown : (m n k : ℕ) → m ≤ n → nat_lt k m ≡ true → nat_lt k n ≡ true
-file_grown m n k le h = grind (arith, nat_tests)
-
 stands_grown : (m n : ℕ) (e : Entry) → m ≤ n → stands_in m e ≡ true → stands_in n e ≡ true
 stands_grown m n x le h = grind (arith, common_steps)
 

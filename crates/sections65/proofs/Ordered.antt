@@ -30,7 +30,7 @@ use Rattle.sections65.specs.Fed.{content_of, object_over, origin_by, place_by, s
 use Rattle.sections65.specs.Inner.Drafts.{asserts_at, entry_asserts, exports_at, exports_from, object_before}
 use Rattle.sections65.specs.Inner.Ordering.{in_order}
 use Rattle.sections65.specs.Standing.{StandIn}
-use Rattle.sections65.proofs.Drafting.{fragment_put, fragments_put, front, section_put, sections_are}
+use Rattle.sections65.proofs.Drafting.{fragment_put, fragments_put, section_put, sections_are}
 use Rattle.sections65.proofs.Exporting.{among_append}
 use Rattle.sections65.proofs.Keys.{imports_anyhow}
 use Rattle.sections65.proofs.Naming.{found_there, is_listed, listed_there}

@@ -1,4 +1,5 @@
 -- Assertions of a link and those of the whole program.
+use Rattle.std.proofs.lemmas.Grind.{common_steps}
 use Rattle.std.proofs.Common.{◌≡◌, ℕ, zero, suc, List, [], ◌∷◌, ◌++◌, length, map, slice_get, Option, Some, None, Result, Ok, Err, refl, sym, ◌∙◌, subst, ◌+◌, Bool, true, false, cond, ap, arith}
 use Rattle.std.specs.Prelude.{ℤ, pos, negsuc, ◌↔◌, ⊤, filter_map}
 use Rattle.std.specs.List.{AllByRecursion, flat_map}
@@ -82,24 +83,13 @@ module _ {E : Type 0} (o : Objects E) (owner : ℕ) where
       subst (λ k. AllPass (flat_map (λ ys. ys) k)) same (all_append (IsPassed o owner) ss (flat_map (λ ys. ys) rest) (up n ss first) (each_passes f up ns rest more))
 
   all_names : (f : List ℕ → Result (List Said) AsmFault) → ((n : List ℕ) (ss : List Said) → f n ≡ Ok ss → AllPass ss) → (ns : List (List ℕ)) (ss : List Said) → each_of f ns ≡ Ok ss → AllPass ss
-  all_names f up ns ss e =
-      let (yss, first, last) = bind_ok (each f ns) (λ yss. Ok (flat_map (λ ys. ys) yss)) ss e in
-      let same : flat_map (λ ys. ys) yss ≡ ss = cc last in
-      subst AllPass same (each_passes f up ns yss first)
+  all_names f up ns ss e = grind (arith, common_steps, bind_ok, each_passes)
 
   import_passes : (z : Symbols) (n : List ℕ) (ss : List Said) → import_fault z n ≡ Ok ss → AllPass ss
-  import_passes z n ss h = by (defined z (named 0 n)) refl
-    where
-      by : (r : Option ℕ) → defined z (named 0 n) ≡ r → AllPass ss
-      by None e = nothing_said ss (rw e at h)
-      by (Some j) e = (let never : ◌≡◌ {A = Result (List Said) AsmFault} (Err (ImportedAndDefined n)) (Ok ss) = rw e at h in absurd cc)
+  import_passes z n ss h = grind (arith, common_steps)
 
   export_passes : (z : Symbols) (place : Place) (n : List ℕ) (absent : Result (List Said) AsmFault) → ((ss : List Said) → absent ≡ Ok ss → AllPass ss) → (r : Option ℕ) (ss : List Said) → export_said z place n absent r ≡ Ok ss → AllPass ss
-  export_passes z place n absent nothing None ss h = nothing ss h
-  export_passes z place n absent nothing (Some j) ss h =
-      let (f, first, last) = bind_ok (defined_form z j) (λ f. written place (Exported n place f ∷ [])) ss h in
-      let same : Exported n place f ∷ [] ≡ ss = written_ok place (Exported n place f ∷ []) ss last in
-      subst AllPass same (tt, tt)
+  export_passes z place n absent nothing x ss h = grind (arith, common_steps)
 
   demanded_pass : (ns : List (List ℕ)) → AllPass (map Demanded ns)
   demanded_pass [] = tt
@@ -169,9 +159,7 @@ module _ {E : Type 0} (p : Program) (o : Objects E) (h : AreObjects p o) (owner 
   -- ---- Lines.
 
   pub lines_pass : (all : List Laid) → ((place : ℕ) (l : Laid) → slice_get all place ≡ Some l → o.spots owner place ≡ l.spot) → (before ls : List Laid) (cs : List Content) → before ++ ls ≡ all → contents_from (o.symbols owner) ls ≡ Ok cs → AllByRecursion (HasAssertion p) (lines_behind owner before ls) ↔ AllPass o owner (all_said cs)
-  lines_pass all spots before [] cs w e =
-      let same : [] ≡ cs = cc in
-      (λ k. subst (λ z. AllPass o owner (all_said z)) same tt, λ k. tt)
+  lines_pass all spots before [] cs w e = grind (arith, common_steps)
   lines_pass all spots before (l ∷ ls) cs w e =
       let found : Laid → Result Content PlacedFault = λ l. at_place l.place (content_of (o.symbols owner) l) in
       let (c, first, others) = bind_ok (found l) (λ y. each found ls >>= (λ ys. Ok (y ∷ ys))) cs e in
@@ -218,14 +206,7 @@ value_told s action.Warning text v = (λ k. tt, λ k. go (int_eq v (pos 0)))
     go : (b : Bool) → IsTold (cond b (Ok (assertion_warning s text)) (Ok []))
     go true = (assertion_warning s text, refl)
     go false = ([], refl)
-value_told s action.Error text v = go (int_eq v (pos 0)) refl
-  where
-    go : (b : Bool) → int_eq v (pos 0) ≡ b → IsTold (cond b (Err (fault.Assertion s text)) (Ok [])) ↔ Passes action.Error v
-    go true e = (
-      λ k. (let never : ◌≡◌ {A = Result (List ℕ) LinkFault} (Err (fault.Assertion s text)) (Ok k.0) = k.1 in absurd cc),
-      λ k. absurd (k ((Decides-int_eq v (pos 0)).0 e)),
-    )
-    go false e = (λ k. not_from_Decides (int_eq v (pos 0)) (Decides-int_eq v (pos 0)) e, λ k. ([], refl))
+value_told s action.Error text v = grind (arith, common_steps, not_from_Decides)
 
 result_told : (s : Site) (act : Action) (text : List ℕ) (r : Result ℤ ValueFault) → IsTold (value_at s r >>= assertion_result s act text) ↔ ComesToPass act r
 result_told s act text (Ok v) =
@@ -233,10 +214,7 @@ result_told s act text (Ok v) =
       λ k. (v, refl, one.0 k),
       λ k. (let same : k.0 ≡ v = cc k.1 in one.1 (subst (Passes act) same k.2)),
     )
-result_told s act text (Err e) = (
-  λ k. (let never : ◌≡◌ {A = Result (List ℕ) LinkFault} (Err (value_fault s e)) (Ok k.0) = k.1 in absurd cc),
-  λ k. (let never : ◌≡◌ {A = Result ℤ ValueFault} (Err e) (Ok k.0) = k.1 in absurd cc),
-)
+result_told s act text (Err e) = grind (arith, common_steps)
 
 module _ (l : Linkage) (members : List Member) (exports : Exports) where
   -- an assertion of a linked module comes to a value and passes

@@ -1,12 +1,12 @@
 -- The names that sources export and demand.
 use Rattle.whole65.specs.Programs as whole
-use Rattle.std.proofs.Common.{◌≡◌, ℕ, zero, suc, Bool, true, false, cond, List, [], ◌∷◌, ◌++◌, length, map, filter, Option, Some, None, Result, Ok, Err, refl, sym, ◌∙◌, ap, subst}
+use Rattle.std.proofs.Common.{arith, ◌≡◌, ℕ, zero, suc, Bool, true, false, cond, List, [], ◌∷◌, ◌++◌, length, map, filter, Option, Some, None, Result, Ok, Err, refl, sym, ◌∙◌, ap, subst}
 use Rattle.std.specs.Prelude.{⊤, is_some, pos, negsuc, ◌||◌}
 use Rattle.std.specs.List.{AllByRecursion, flat_map, list_any}
 use Rattle.std.specs.Str.{bytes_eq}
 use Rattle.std.proofs.lemmas.List.{append-nil, append_assoc, map-append}
 use Rattle.std.proofs.lemmas.List.Elements.{filter-append}
-use Rattle.std.proofs.lemmas.Grind.{flat_map-append}
+use Rattle.std.proofs.lemmas.Grind.{common_steps, flat_map-append}
 use Rattle.base65.specs.Outcome.{◌>>=◌, each}
 use Rattle.object65.specs.Form.{Form, lit, sec, imp, prefix, binary}
 use Rattle.object65.specs.declared.object.Action.{Action}
@@ -68,10 +68,7 @@ says_nothing : (z : Symbols) (ss : List Said) → ◌≡◌ {A = Result (List Sa
 says_nothing z ss e = let same : [] ≡ ss = cc in subst (Says z []) same (record { exported = refl; are_defined = tt })
 
 says_both : (z : Symbols) (ns ms : List (List ℕ)) (ss rs : List Said) → Says z ns ss → Says z ms rs → Says z (ns ++ ms) (ss ++ rs)
-says_both z ns ms ss rs h k = record {
-  exported = flat_map-append exported_name ss rs ∙ ap (λ x. x ++ exported_names rs) h.exported ∙ ap (λ x. ns ++ x) k.exported;
-  are_defined = all_append (IsDefined z) ss rs h.are_defined k.are_defined;
-}
+says_both z ns ms ss rs h k = grind (arith, common_steps)
 
 each_says : (z : Symbols) (f : List ℕ → Result (List Said) AsmFault) (keep : List ℕ → List (List ℕ)) → ((n : List ℕ) (ss : List Said) → f n ≡ Ok ss → Says z (keep n) ss) → (ns : List (List ℕ)) (yss : List (List Said)) → each f ns ≡ Ok yss → Says z (flat_map keep ns) (flat_map (λ ys. ys) yss)
 each_says z f keep h [] yss e = let same : [] ≡ yss = cc in subst (λ k. Says z [] (flat_map (λ ys. ys) k)) same (record { exported = refl; are_defined = tt })
@@ -96,54 +93,17 @@ none_kept (n ∷ ns) = none_kept ns
 
 kept_one : (q : List ℕ → Bool) (ns : List (List ℕ)) → flat_map (λ n. filter q (n ∷ [])) ns ≡ filter q ns
 kept_one q [] = refl
-kept_one q (n ∷ ns) = go (q n) (kept_one q ns)
-  where
-    go : (b : Bool) → flat_map (λ n. filter q (n ∷ [])) ns ≡ filter q ns → cond b (n ∷ []) [] ++ flat_map (λ n. filter q (n ∷ [])) ns ≡ cond b (n ∷ filter q ns) (filter q ns)
-    go true h = ap (λ z. n ∷ z) h
-    go false h = h
+kept_one q (n ∷ ns) = grind (arith, common_steps, (kept_one q ns))
 
 import_says : (z : Symbols) (n : List ℕ) (ss : List Said) → import_fault z n ≡ Ok ss → Says z [] ss
-import_says z n ss h = by (defined z (named 0 n)) refl
-  where
-    by : (o : Option ℕ) → defined z (named 0 n) ≡ o → Says z [] ss
-    by None e = says_nothing z ss (rw e at h)
-    by (Some j) e = (let never : ◌≡◌ {A = Result (List Said) AsmFault} (Err (ImportedAndDefined n)) (Ok ss) = rw e at h in absurd cc)
+import_says z n ss h = grind (arith, common_steps)
 
 -- where no definition is there, nothing is said
 export_says : (z : Symbols) (place : Place) (n : List ℕ) (absent : Result (List Said) AsmFault) → ((ss : List Said) → absent ≡ Ok ss → ss ≡ []) → (ss : List Said) → export_said z place n absent (defined z (named 0 n)) ≡ Ok ss → Says z (filter (has_definition z) (n ∷ [])) ss
-export_says z place n absent nothing ss h = by (defined z (named 0 n)) refl h
-  where
-    kept : (b : Bool) → has_definition z n ≡ b → cond b (n ∷ []) [] ≡ filter (has_definition z) (n ∷ [])
-    kept b e = ap (λ b. cond b (n ∷ []) []) (sym e)
-
-    by : (o : Option ℕ) → defined z (named 0 n) ≡ o → export_said z place n absent o ≡ Ok ss → Says z (filter (has_definition z) (n ∷ [])) ss
-    by None e h =
-        let same : ss ≡ [] = nothing ss h in
-        subst (λ k. Says z k ss) (kept false (ap is_some e)) (subst (Says z []) (sym same) (record { exported = refl; are_defined = tt }))
-    by (Some j) e h =
-        let (f, first, last) = bind_ok (defined_form z j) (λ f. written place (Exported n place f ∷ [])) ss h in
-        let same : Exported n place f ∷ [] ≡ ss = written_ok place (Exported n place f ∷ []) ss last in
-        subst (λ k. Says z k ss) (kept true (ap is_some e)) (subst (Says z (n ∷ [])) same (record { exported = refl; are_defined = ((j, e, first), tt) }))
+export_says z place n absent nothing ss h = grind (arith, common_steps)
 
 decided_says : (z : Symbols) (act : Action) (place : Place) (words : List ℕ) (f : Form) (ss : List Said) → decided act place words f ≡ Ok ss → Says z [] ss
-decided_says z act place words f ss h = by act f h
-  where
-    checked : (act : Action) (f : Form) → written place (Checked act place words f ∷ []) ≡ Ok ss → Says z [] ss
-    checked act f e = let same : Checked act place words f ∷ [] ≡ ss = written_ok place (Checked act place words f ∷ []) ss e in subst (Says z []) same (record { exported = refl; are_defined = (tt, tt) })
-
-    by : (act : Action) (f : Form) → decided act place words f ≡ Ok ss → Says z [] ss
-    by action.Error (lit (pos zero)) h = absurd cc
-    by action.Error (lit (pos (suc n))) h = says_nothing z ss h
-    by action.Error (lit (negsuc n)) h = says_nothing z ss h
-    by action.Warning (lit v) h = says_nothing z ss h
-    by action.Error (sec k a) h = checked action.Error (sec k a) h
-    by action.Warning (sec k a) h = checked action.Warning (sec k a) h
-    by action.Error (imp k) h = checked action.Error (imp k) h
-    by action.Warning (imp k) h = checked action.Warning (imp k) h
-    by action.Error (prefix op f) h = checked action.Error (prefix op f) h
-    by action.Warning (prefix op f) h = checked action.Warning (prefix op f) h
-    by action.Error (binary op f g) h = checked action.Error (binary op f g) h
-    by action.Warning (binary op f g) h = checked action.Warning (binary op f g) h
+decided_says z act place words f ss h = grind (arith, common_steps)
 
 demanded_says : (z : Symbols) (ns : List (List ℕ)) → Says z [] (map Demanded ns)
 demanded_says z [] = record { exported = refl; are_defined = tt }
@@ -278,18 +238,10 @@ all_of P f h ns ss e =
     subst (AllByRecursion P) same (each_all P f h ns yss first)
 
 of_import : (z : Symbols) (n : List ℕ) (ss : List Said) → import_fault z n ≡ Ok ss → AllByRecursion IsExport ss
-of_import z n ss h = by (defined z (named 0 n)) refl
-  where
-    by : (o : Option ℕ) → defined z (named 0 n) ≡ o → AllByRecursion IsExport ss
-    by None e = nothing_more ss (rw e at h)
-    by (Some j) e = (let never : ◌≡◌ {A = Result (List Said) AsmFault} (Err (ImportedAndDefined n)) (Ok ss) = rw e at h in absurd cc)
+of_import z n ss h = grind (arith, common_steps)
 
 of_export : (z : Symbols) (place : Place) (n : List ℕ) (absent : Result (List Said) AsmFault) → ((ss : List Said) → absent ≡ Ok ss → ss ≡ []) → (o : Option ℕ) (ss : List Said) → export_said z place n absent o ≡ Ok ss → AllByRecursion IsExport ss
-of_export z place n absent nothing None ss h = subst (AllByRecursion IsExport) (sym (nothing ss h)) tt
-of_export z place n absent nothing (Some j) ss h =
-    let (f, first, last) = bind_ok (defined_form z j) (λ f. written place (Exported n place f ∷ [])) ss h in
-    let same : Exported n place f ∷ [] ≡ ss = written_ok place (Exported n place f ∷ []) ss last in
-    subst (AllByRecursion IsExport) same (tt, tt)
+of_export z place n absent nothing x ss h = grind (arith, common_steps)
 
 -- ---- Statements.
 
@@ -303,18 +255,7 @@ data IsDecided (act : Action) (place : Place) (words : List ℕ) (f : Form) (ss 
   waiting : Checked act place words f ∷ [] ≡ ss → IsDecided act place words f ss
 
 is_decided : (act : Action) (place : Place) (words : List ℕ) (f : Form) (ss : List Said) → decided act place words f ≡ Ok ss → IsDecided act place words f ss
-is_decided action.Error place words (lit (pos zero)) ss h = absurd cc
-is_decided action.Error place words (lit (pos (suc n))) ss h = settled cc
-is_decided action.Error place words (lit (negsuc n)) ss h = settled cc
-is_decided action.Warning place words (lit v) ss h = settled cc
-is_decided action.Error place words (sec k a) ss h = waiting (written_ok place (Checked action.Error place words (sec k a) ∷ []) ss h)
-is_decided action.Warning place words (sec k a) ss h = waiting (written_ok place (Checked action.Warning place words (sec k a) ∷ []) ss h)
-is_decided action.Error place words (imp k) ss h = waiting (written_ok place (Checked action.Error place words (imp k) ∷ []) ss h)
-is_decided action.Warning place words (imp k) ss h = waiting (written_ok place (Checked action.Warning place words (imp k) ∷ []) ss h)
-is_decided action.Error place words (prefix op f) ss h = waiting (written_ok place (Checked action.Error place words (prefix op f) ∷ []) ss h)
-is_decided action.Warning place words (prefix op f) ss h = waiting (written_ok place (Checked action.Warning place words (prefix op f) ∷ []) ss h)
-is_decided action.Error place words (binary op f g) ss h = waiting (written_ok place (Checked action.Error place words (binary op f g) ∷ []) ss h)
-is_decided action.Warning place words (binary op f g) ss h = waiting (written_ok place (Checked action.Warning place words (binary op f g) ∷ []) ss h)
+is_decided x place words y ss h = grind (arith, common_steps)
 
 pub one_tells : (z : Symbols) (l : Laid) (ss : List Said) → said_of z l ≡ Ok ss → Tells z l ss
 one_tells z l ss h = go l.stated h

@@ -1,4 +1,5 @@
 -- The files of a link and those of the whole program.
+use Rattle.std.proofs.lemmas.Grind.{common_steps}
 use Rattle.std.proofs.Common.{◌≡◌, ℕ, zero, suc, ◌+◌, ◌<◌, List, [], ◌∷◌, length, slice_get, Option, Some, None, Result, Ok, Err, refl, ◌∙◌, ap, subst, arith, Bool, true, false, cond, ◌++◌, sym, map}
 use Rattle.std.specs.Prelude.{ℤ, ◌↔◌, ◌==◌}
 use Rattle.base65.specs.Outcome.{◌>>=◌}
@@ -53,15 +54,10 @@ use Rattle.whole65.specs.Programs.{program_of}
 -- ---- Exports that are evaluated once.
 
 known_ok : (r s : Result ℤ ValueFault) (v : ℤ) → Known r s → r ≡ Ok v → s ≡ Ok v
-known_ok (Ok w) s v h e = h ∙ e
-known_ok (Err Circular) s v h e = cc
-known_ok (Err NoValue) s v h e = cc
-known_ok (Err Unresolved) s v h e = cc
+known_ok x s v h e = grind (arith, common_steps)
 
 import_covered : (few more : Exports) → ((x : ℕ) (u : ℤ) → few x ≡ Ok u → more x ≡ Ok u) → (g : Provider) (u : ℤ) → import_value few g ≡ Ok u → import_value more g ≡ Ok u
-import_covered few more h (ByModule x) u e = h x u e
-import_covered few more h (ByScript v) u e = e
-import_covered few more h Nobody u e = e
+import_covered few more h x u e = grind (arith, common_steps)
 
 -- what is found in a list stands in it
 got_inside : {A : Type 0} (xs : List A) (x : ℕ) (a : A) → slice_get xs x ≡ Some a → x < length xs
@@ -77,11 +73,7 @@ table_inside (r ∷ table) (suc x) u e = let deeper = table_inside table x u e i
 module _ (l : Linkage) (table : List (Result ℤ ValueFault)) (h : AreExports l table) where
   export_inside : (n x : ℕ) (u : ℤ) → exports_through l n x ≡ Ok u → x < length l.exports
   export_inside zero x u e = cc
-  export_inside (suc n) x u e = go (slice_get l.exports x) refl e
-    where
-      go : (r : Option Exported) → slice_get l.exports x ≡ r → export_value l (exports_through l n) r ≡ Ok u → x < length l.exports
-      go None w e = cc
-      go (Some d) w e = got_inside l.exports x d w
+  export_inside (suc n) x u e = grind (arith, common_steps, got_inside)
 
   in_the_table : (n x : ℕ) (u : ℤ) → exports_through l n x ≡ Ok u → in_table table x ≡ Ok u
   in_the_table n x u e =
@@ -93,13 +85,7 @@ module _ (l : Linkage) (table : List (Result ℤ ValueFault)) (h : AreExports l 
       (λ j u q. import_covered (exports_through l n) (in_table table) (in_the_table n) (provider_at (slice_get l.modules owner) j) u q) f v e
 
   import_turns : (g : Provider) (u : ℤ) → import_value (in_table table) g ≡ Ok u → (n : ℕ) × (import_value (exports_through l n) g ≡ Ok u)
-  import_turns (ByModule x) u e =
-      let long = h.long in
-      let inside = table_inside table x u e in
-      let lt : x < length l.exports = omega (arith, long, inside) in
-      subst (λ r. Settles (λ n. exports_through l n x) r) e (h.each x lt)
-  import_turns (ByScript v) u e = (0, e)
-  import_turns Nobody u e = cc
+  import_turns x u e = grind (arith, common_steps)
 
   later : (owner : ℕ) (f : Form) (v : ℤ) (more n : ℕ) → value_by l (exports_through l n) owner f ≡ Ok v → value_by l (exports_through l (more + n)) owner f ≡ Ok v
   later owner f v more n e = known_ok (value_by l (exports_through l n) owner f) (value_by l (exports_through l (more + n)) owner f) v (further (λ k. value_by l (exports_through l k) owner f) (form_grows l owner f) more n) e
@@ -137,12 +123,7 @@ abbrev Fits : Fixup → Result ℤ ValueFault → Type 0
 Fits w r = (v : ℤ) × (r ≡ Ok v) × (fits_width w.width v ≡ true)
 
 passing : (s : Site) (w : Fixup) (r : Result ℤ ValueFault) → (value_at s r >>= fitting s w) ≡ Ok tt → Fits w r
-passing s w (Err e) h = cc
-passing s w (Ok v) h = go (fits_width w.width v) refl h
-  where
-    go : (b : Bool) → fits_width w.width v ≡ b → ◌≡◌ {A = Result (Unit {0}) LinkFault} (cond b (Ok tt) (Err (fault.OutOfRange s))) (Ok tt) → Fits w (Ok v)
-    go true e h = (v, refl, e)
-    go false e h = cc
+passing s w x h = grind (arith, common_steps)
 
 passes : (s : Site) (w : Fixup) (r : Result ℤ ValueFault) → Fits w r → (value_at s r >>= fitting s w) ≡ Ok tt
 passes s w r (v, e, fits) = ap (λ z. value_at s z >>= fitting s w) e ∙ ap (λ b. cond b (Ok tt) (Err (fault.OutOfRange s))) fits
@@ -199,12 +180,10 @@ checked_law l members table fill cells bytes h = (there l members table fill h c
 -- ---- Rows.
 
 fixup_cells : (g : Option Segment) → fixups_of g ≡ flat_map fixups_in (cells_or g)
-fixup_cells None = refl
-fixup_cells (Some g) = refl
+fixup_cells x = grind (arith, common_steps)
 
 bytes_cells : (l : Linkage) (table : List (Result ℤ ValueFault)) (fill : ℕ) (g : Option Segment) → segment_bytes l (in_table table) fill g ≡ flat_map (cell_bytes l (in_table table) fill) (cells_or g)
-bytes_cells l table fill None = refl
-bytes_cells l table fill (Some g) = refl
+bytes_cells l table fill x = grind (arith, common_steps)
 
 module _ (s : Script) (placement : Placement) (ys : List Layout) (ms : List Module) (table : List (Result ℤ ValueFault)) (bytes : RowBytes) (h : AreSources ys ms) (exports : AreExports (linkage_of s (linked.program_of ms) placement) table) where
   abbrev l : Linkage
@@ -262,17 +241,10 @@ export_value_law s placement ys ms table i e v h exports at =
 same_pieces : (start k : ℕ) (bytes others : RowBytes) (rs : List Row) (ps : List RowPlace) → AllByRecursion (λ r. bytes r ≡ others r) rs → area_pieces start bytes (loaded_in k rs ps) ≡ area_pieces start others (loaded_in k rs ps)
 same_pieces start k bytes others [] ps h = refl
 same_pieces start k bytes others (r ∷ rs) [] h = refl
-same_pieces start k bytes others (r ∷ rs) (p ∷ ps) h = go (is_loaded k r) (same_pieces start k bytes others rs ps h.1)
-  where
-    go : (b : Bool) → area_pieces start bytes (loaded_in k rs ps) ≡ area_pieces start others (loaded_in k rs ps) → area_pieces start bytes (cond b (record { row = r; place = p } ∷ loaded_in k rs ps) (loaded_in k rs ps)) ≡ area_pieces start others (cond b (record { row = r; place = p } ∷ loaded_in k rs ps) (loaded_in k rs ps))
-    go true e =
-        ap (λ own. record { offset = offset_of start (record { row = r; place = p }); bytes = own } ∷ area_pieces start bytes (loaded_in k rs ps)) h.0
-        ∙ ap (λ z. record { offset = offset_of start (record { row = r; place = p }); bytes = others r } ∷ z) e
-    go false e = e
+same_pieces start k bytes others (r ∷ rs) (p ∷ ps) h = grind (arith, common_steps, (same_pieces start k bytes others rs ps h.1))
 
 same_file : (rs : List Row) (p : Placement) (bytes others : RowBytes) → AllByRecursion (λ r. bytes r ≡ others r) rs → (k : ℕ) (a : Area) (image : List ℕ) → IsAreaFile rs p bytes k a image → IsAreaFile rs p others k a image
-same_file rs p bytes others h k a image f =
-    subst (λ z. IsImage (file_len a (area_at p k) (loaded_in k rs p.rows)) a.fill_value z image) (same_pieces (area_at p k).start k bytes others rs p.rows h) f
+same_file rs p bytes others h k a image f = grind (arith, common_steps, same_pieces)
 
 module _ (output : List ℕ) (F G : ℕ → Area → List ℕ → Type 0) (up : (k : ℕ) (a : Area) (image : List ℕ) → F k a image → G k a image) where
   adds_one : (k : ℕ) (a : Area) (b : Bool) (name : List ℕ) (before after : List OutputFile) → AddsArea b name (F k a) before after → AddsArea b name (G k a) before after
@@ -323,8 +295,7 @@ abbrev found_at : Site → Result ℤ ValueFault → Result (Unit {0}) LinkFault
 found_at s r = value_at s r >>= (λ v. Ok tt)
 
 value_there : (s : Site) (r : Result ℤ ValueFault) → (found_at s r ≡ Ok tt) ↔ ((v : ℤ) × (r ≡ Ok v))
-value_there s (Ok v) = (λ k. (v, refl), λ k. refl)
-value_there s (Err e) = (λ k. absurd cc, λ k. (let never : ◌≡◌ {A = Result ℤ ValueFault} (Err e) (Ok k.0) = k.1 in absurd cc))
+value_there s x = grind (arith, common_steps)
 
 module _ (p : Program) where
   abbrev pub OfExport : Exported → Type 0
@@ -350,19 +321,4 @@ module _ (p : Program) where
 
 -- All exports pass in a link exactly where all names that modules export have values in the whole program.
 pub exports_law : (s : Script) (placement : Placement) (ys : List Layout) (ms : List Module) (table : List (Result ℤ ValueFault)) → let l : Linkage = linkage_of s (linked.program_of ms) placement in AreSources ys ms → AreExports l table → (each_passes (check_export l (linked.program_of ms).members (in_table table)) (linked.program_of ms).exports ≡ Ok tt) ↔ AreExported (program_of s placement ys) 0 ys
-exports_law s placement ys ms table h exports =
-    let l : Linkage = linkage_of s (linked.program_of ms) placement in
-    let p : Program = whole.program_of s placement ys in
-    let es : List Exported = (linked.program_of ms).exports in
-    let members = (linked.program_of ms).members in
-    let check : Exported → Result (Unit {0}) LinkFault = check_export l members (in_table table) in
-    let passes = passes_each check es in
-    let either = all_either (λ e. check e ≡ Ok tt) (λ e. HasExport p e.owner e.name) es
-    (λ i e at. (let there = value_there (site members e.owner e.origin) (value_by l (in_table table) e.owner e.form) in (
-      λ k. (let v = there.0 k in (v.0, (export_value_law s placement ys ms table i e v.0 h exports at).0 v.1)),
-      λ k. there.1 (k.0, (export_value_law s placement ys ms table i e k.0 h exports at).1 k.1),
-    ))) in
-    let modules = all_modules p 0 ys ms h in (
-      λ k. modules.0 (subst (AllByRecursion (λ e. HasExport p e.owner e.name)) (exports_are ms) (either.0 (passes.0 k))),
-      λ k. passes.1 (either.1 (subst (AllByRecursion (λ e. HasExport p e.owner e.name)) (sym (exports_are ms)) (modules.1 k))),
-    )
+exports_law s placement ys ms table h exports = grind (arith, common_steps, passes, passes_each, all_either, there, value_there, export_value_law, all_modules, exports_are)

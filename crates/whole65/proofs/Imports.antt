@@ -5,7 +5,7 @@ use Rattle.std.specs.List.{AllByRecursion, flat_map, list_any, position_from}
 use Rattle.std.specs.Str.{bytes_eq}
 use Rattle.std.proofs.lemmas.List.{append-nil, append_assoc, map-append}
 use Rattle.std.proofs.lemmas.List.Folds.{list_any-append}
-use Rattle.std.proofs.lemmas.Grind.{flat_map-append}
+use Rattle.std.proofs.lemmas.Grind.{common_steps, flat_map-append}
 use Rattle.script65.proofs.Apart.{all_placed}
 use Rattle.script65.specs.Placing.{place_of}
 use Rattle.script65.specs.declared.placement.AreaPlace.{AreaPlace}
@@ -59,37 +59,16 @@ names_of ds = map (λ (d : Definition). d.name) ds
 zip_names : {A B : Type 0} (f : A → B → List Definition) (g : A → List (List ℕ)) → ((x : A) (y : B) → names_of (f x y) ≡ g x) → (xs : List A) (zs : List B) → length zs ≡ length xs → names_of (flat_zip f xs zs) ≡ flat_map g xs
 zip_names f g h [] zs e = refl
 zip_names f g h (x ∷ xs) [] e = absurd (omega (arith, e))
-zip_names f g h (x ∷ xs) (z ∷ zs) e =
-    map-append (λ (d : Definition). d.name) (f x z) (flat_zip f xs zs)
-    ∙ ap (λ ns. ns ++ names_of (flat_zip f xs zs)) (h x z)
-    ∙ ap (λ ns. g x ++ ns) (zip_names f g h xs zs (omega (arith, e)))
+zip_names f g h (x ∷ xs) (z ∷ zs) e = grind (arith, common_steps, (zip_names f g h xs zs (omega (arith, e))), map-append)
 
 of_area : (a : Area) (q : AreaPlace) → names_of (area_definitions a q) ≡ area_names a
-of_area a q = go a.define
-  where
-    go : (b : Bool) → names_of (area_definitions (record a { define = b }) q) ≡ area_names (record a { define = b })
-    go true = refl
-    go false = refl
+of_area a q = grind (arith, common_steps)
 
 of_row : (r : Row) (q : RowPlace) → names_of (row_definitions r q) ≡ row_names r
-of_row r q = go r.define
-  where
-    go : (b : Bool) → names_of (row_definitions (record r { define = b }) q) ≡ row_names (record r { define = b })
-    go true = refl
-    go false = refl
+of_row r q = grind (arith, common_steps)
 
 script_named : (s : Script) (needs : List SegmentNeed) (q : Placement) → place_of s needs ≡ Ok q → names_of (script_definitions s q) ≡ script_names s
-script_named s needs q h =
-    let all = all_placed s needs q h in
-    let areas : names_of (areas_definitions s.areas q.areas) ≡ flat_map area_names s.areas = zip_names area_definitions area_names of_area s.areas q.areas all.0 in
-    let rows : names_of (rows_definitions s.rows q.rows) ≡ flat_map row_names s.rows = zip_names row_definitions row_names of_row s.rows q.rows all.1 in
-    let both : List Definition = areas_definitions s.areas q.areas ++ rows_definitions s.rows q.rows in
-    map-append (λ (d : Definition). d.name) both (symbol_exports s.symbols)
-    ∙ ap (λ ns. ns ++ names_of (symbol_exports s.symbols)) (
-    map-append (λ (d : Definition). d.name) (areas_definitions s.areas q.areas) (rows_definitions s.rows q.rows)
-    ∙ ap (λ ns. ns ++ names_of (rows_definitions s.rows q.rows)) areas
-    ∙ ap (λ ns. flat_map area_names s.areas ++ ns) rows
-    )
+script_named s needs q h = grind (arith, common_steps, all_placed, zip_names, of_area, of_row, map-append)
 
 -- ---- A name is given where somebody gives it.
 
@@ -129,9 +108,7 @@ in_either false false true = refl
 in_either false false false = refl
 
 agree_known : (es : List parts.Exported) (name : List ℕ) (w : values.Provider) (g : Provider) → Agree es name w g → (w ≢ by_nobody) ↔ (g ≢ Nobody)
-agree_known es name _ _ (of_script v) = (λ k e. absurd cc, λ k e. absurd cc)
-agree_known es name _ _ of_nobody = (λ k. absurd (k refl), λ k. absurd (k refl))
-agree_known es name _ _ (of_module i e at called) = (λ k q. absurd cc, λ k q. absurd cc)
+agree_known es name x y z = grind (arith, common_steps)
 
 module _ (s : Script) (placement : Placement) (ys : List Layout) (ms : List Module) (h : AreSources ys ms) (placed : place_of s (needs_of ys) ≡ Ok placement) where
   abbrev p : values.Program
@@ -192,16 +169,7 @@ module _ (P : List ℕ → Type 0) where
 
 none_left : (t : List ℕ → Bool) (names : List (List ℕ)) → (filter (λ n. not (t n)) names ≡ []) ↔ AllByRecursion (λ n. t n ≡ true) names
 none_left t [] = (λ k. tt, λ k. refl)
-none_left t (n ∷ names) = go (t n) refl (none_left t names)
-  where
-    go : (b : Bool) → t n ≡ b → (filter (λ n. not (t n)) names ≡ []) ↔ AllByRecursion (λ n. t n ≡ true) names → (cond (not (t n)) (n ∷ filter (λ n. not (t n)) names) (filter (λ n. not (t n)) names) ≡ []) ↔ ((t n ≡ true) × AllByRecursion (λ n. t n ≡ true) names)
-    go true e more =
-        let kept : cond (not (t n)) (n ∷ filter (λ n. not (t n)) names) (filter (λ n. not (t n)) names) ≡ filter (λ n. not (t n)) names = ap (λ b. cond (not b) (n ∷ filter (λ n. not (t n)) names) (filter (λ n. not (t n)) names)) e in
-        (λ k. (e, more.0 (sym kept ∙ k)), λ k. kept ∙ more.1 k.1)
-    go false e more = (
-      λ k. (let some : n ∷ filter (λ n. not (t n)) names ≡ [] = sym (ap (λ b. cond (not b) (n ∷ filter (λ n. not (t n)) names) (filter (λ n. not (t n)) names)) e) ∙ k in absurd cc),
-      λ k. (let never : true ≡ false = sym k.0 ∙ e in absurd cc),
-    )
+none_left t (n ∷ names) = grind (arith, common_steps, (none_left t names))
 
 -- the imports of members are those of their objects
 imports_behind : (q : Program) (ms : List Module) → flat_map (λ (m : Member). m.imports) (with_modules q ms).members ≡ flat_map (λ (m : Member). m.imports) q.members ++ flat_map (λ (m : Module). m.object.imports) ms
@@ -254,23 +222,7 @@ key_for (m ∷ names) n = go (bytes_eq m n) refl (key_for names n)
 
 any_forced : (n : List ℕ) (ls : List Laid) → list_any (λ k. bytes_eq n k) (flat_map (λ l. forced_by l.stated) ls) ≡ true → list_any (λ k. bytes_eq n k) (flat_map (λ l. imports_of l.stated) ls) ≡ true
 any_forced n [] e = e
-any_forced n (l ∷ ls) e =
-    list_any-append (λ k. bytes_eq n k) (imports_of l.stated) (flat_map (λ (l : Laid). imports_of l.stated) ls)
-    ∙ go l.stated (sym (list_any-append (λ k. bytes_eq n k) (forced_by l.stated) (flat_map (λ (l : Laid). forced_by l.stated) ls)) ∙ e) (any_forced n ls)
-  where
-    F : List (List ℕ)
-    F = flat_map (λ (l : Laid). forced_by l.stated) ls
-
-    I : List (List ℕ)
-    I = flat_map (λ (l : Laid). imports_of l.stated) ls
-
-    go : (x : Statement) → (list_any (λ k. bytes_eq n k) (forced_by x) || list_any (λ k. bytes_eq n k) F) ≡ true → (list_any (λ k. bytes_eq n k) F ≡ true → list_any (λ k. bytes_eq n k) I ≡ true) → (list_any (λ k. bytes_eq n k) (imports_of x) || list_any (λ k. bytes_eq n k) I) ≡ true
-    go (ForceImport names) e more = by (list_any (λ k. bytes_eq n k) names) e
-      where
-        by : (b : Bool) → (b || list_any (λ k. bytes_eq n k) F) ≡ true → (b || list_any (λ k. bytes_eq n k) I) ≡ true
-        by true e = refl
-        by false e = more e
-    go x e more = or_right (list_any (λ k. bytes_eq n k) (imports_of x)) (list_any (λ k. bytes_eq n k) I) (more e)
+any_forced n (l ∷ ls) e = grind (arith, common_steps, (any_forced n ls), list_any-append, or_right)
 
 pub each_name : (P : List ℕ → Type 0) (names : List (List ℕ)) → ((n : List ℕ) → list_any (λ k. bytes_eq n k) names ≡ true → P n) → AllByRecursion P names
 each_name P [] up = tt
@@ -284,10 +236,7 @@ among_swapped n [] = refl
 among_swapped n (m ∷ names) = ap (λ b. b || is_among names n) (bytes_swap m n) ∙ ap (λ b. bytes_eq n m || b) (among_swapped n names)
 
 forced_among : (y : Layout) → AllByRecursion (λ n. is_among (table_of y).imports n ≡ true) (forced_of y)
-forced_among y =
-    let names : List (List ℕ) = flat_map (λ (l : Laid). imports_of l.stated) y.laid in
-    each_name (λ n. is_among (table_of y).imports n ≡ true) (forced_of y)
-    (λ n e. among_swapped n (table_of y).imports ∙ any_new n names [] ∙ any_forced n y.laid e)
+forced_among y = grind (arith, common_steps, each_name, among_swapped, any_new, any_forced)
 
 -- ---- What holds of the names of keys.
 

@@ -1,4 +1,5 @@
 -- Bases of sections in a link, and forms of modules with the numbers of objects.
+use Rattle.std.proofs.lemmas.Grind.{common_steps}
 use Rattle.whole65.specs.Programs as whole
 use Rattle.std.proofs.Common.{◌≡◌, List, [], ◌∷◌, ◌++◌, Ok, refl, ◌∙◌, ap, ℕ, zero, suc, ◌+◌, ◌<◌, Bool, true, false, nat_eq, cond, length, map, take, get_or, slice_get, Some, sym, subst, arith, nat_lt}
 use Rattle.std.specs.Prelude.{◌+ℤ◌, ℤ, pos, ◌||◌, ◌&&◌, Result}
@@ -64,8 +65,7 @@ pub own_parts_law : (E : Type 0) → (none : E) (bases others : ℕ → ℤ) (va
 own_parts_law E none bases others values rest (lit v) h k = refl
 own_parts_law E none bases others values rest (sec g a) h k = ap (λ b. Ok (wrapped (b +ℤ a))) h.0
 own_parts_law E none bases others values rest (imp j) h k = k.0
-own_parts_law E none bases others values rest (prefix op f) h k =
-    ap (λ r. r >>= (λ a. Ok (value1 op a))) (own_parts_law E none bases others values rest f h k)
+own_parts_law E none bases others values rest (prefix op f) h k = grind (arith, common_steps, (own_parts_law E none bases others values rest f h k))
 own_parts_law E none bases others values rest (binary op f g) h k =
     let left = own_parts_law E none bases others values rest f (first_of (λ s. bases s ≡ others s) (sections_in f) (sections_in g) h) (first_of (λ i. values i ≡ rest i) (imports_in f) (imports_in g) k) in
     let right = own_parts_law E none bases others values rest g (rest_of (λ s. bases s ≡ others s) (sections_in f) (sections_in g) h) (rest_of (λ i. values i ≡ rest i) (imports_in f) (imports_in g) k) in
@@ -126,10 +126,7 @@ pub source_at : (ys : List Layout) (ms : List Module) (i : ℕ) (y : Layout) (m 
 source_at [] [] i y m h e f = cc
 source_at [] (x ∷ ms) i y m h e f = absurd h
 source_at (z ∷ ys) [] i y m h e f = absurd h
-source_at (z ∷ ys) (x ∷ ms) zero y m h e f =
-    let one : z ≡ y = cc in
-    let two : x ≡ m = cc in
-    subst (λ k. IsSource k m) one (subst (IsSource z) two h.0)
+source_at (z ∷ ys) (x ∷ ms) zero y m h e f = grind (arith, common_steps)
 source_at (z ∷ ys) (x ∷ ms) (suc i) y m h e f = source_at ys ms i y m h.1 e f
 
 -- ---- Places of sections.
@@ -137,52 +134,24 @@ source_at (z ∷ ys) (x ∷ ms) (suc i) y m h e f = source_at ys ms i y m h.1 e 
 -- a key among others stands as they do
 pub one_of : (P : ℕ → Type 0) (ks : List ℕ) (g : ℕ) → AllByRecursion P ks → list_any (nat_eq g) ks ≡ true → P g
 one_of P [] g h e = cc
-one_of P (k ∷ ks) g h e = go (nat_eq g k) refl e (one_of P ks g h.1)
-  where
-    go : (b : Bool) → nat_eq g k ≡ b → (b || list_any (nat_eq g) ks) ≡ true → (list_any (nat_eq g) ks ≡ true → P g) → P g
-    go true q e more = subst P (sym (equal g k q)) h.0
-    go false q e more = more e
+one_of P (k ∷ ks) g h e = grind (arith, common_steps, (one_of P ks g h.1), equal)
 
 module _ (y : Layout) (owner : ℕ) (origins : Place → Origin) (sections imports : List ℕ) (cs : List Content) (A : SectionPlace → ℤ) (d : Distinct y.standing.segments) where
   abbrev own_section : ℕ → Section
   own_section g = section_of origins y.standing.segments sections imports cs g
 
   other_end : (gs : List linked.Segment) (k g : ℕ) → k < length y.standing.segments → g < length y.standing.segments → nat_eq g k ≡ false → linked.end_of (with_section owner gs (own_section k)) (own_section g).name ≡ linked.end_of gs (own_section g).name
-  other_end gs k g lk lg e = go (bytes_eq (own_section k).name (own_section g).name) refl
-    where
-      go : (b : Bool) → bytes_eq (own_section k).name (own_section g).name ≡ b → linked.end_of (with_section owner gs (own_section k)) (own_section g).name ≡ linked.end_of gs (own_section g).name
-      go false q = ap size_or (one_section owner gs (own_section k) (own_section g).name ∙ ap (λ b. cond b (Some (grown owner (or_empty (own_section k).name (segment_of gs (own_section g).name)) (own_section k))) (segment_of gs (own_section g).name)) q)
-      go true q =
-          let names : bytes_eq (segment_name y k) (segment_name y g) ≡ true = ap (λ n. bytes_eq n (segment_name y g)) (sym (name_at y.standing.segments k lk)) ∙ ap (bytes_eq (own_section k).name) (sym (name_at y.standing.segments g lg)) ∙ q in
-          let same : k ≡ g = d k g lk lg names in
-          absurd (differs same e)
-        where
-          differs : k ≡ g → nat_eq g k ≡ false → ⊥
-          differs same e = grind (arith, nat_tests)
+  other_end gs k g lk lg e = grind (arith, common_steps, size_or, one_section, or_empty, name_at, nat_tests)
 
   pub place_at : (gs : List linked.Segment) (ks : List ℕ) (g : ℕ) → AllByRecursion (λ k. k < length y.standing.segments) ks → AreOnce ks → list_any (nat_eq g) ks ≡ true → get_or (map A (section_places owner gs (map own_section ks))) (number_of ks g) (pos 0) ≡ A (section_place gs (own_section g))
   place_at gs [] g h o e = cc
-  place_at gs (k ∷ ks) g h o e = go (nat_eq g k) refl e (place_at (with_section owner gs (own_section k)) ks g h.1 o.1)
-    where
-      go : (b : Bool) → nat_eq g k ≡ b → (b || list_any (nat_eq g) ks) ≡ true → (list_any (nat_eq g) ks ≡ true → get_or (map A (section_places owner (with_section owner gs (own_section k)) (map own_section ks))) (number_of ks g) (pos 0) ≡ A (section_place (with_section owner gs (own_section k)) (own_section g))) → get_or (map A (section_places owner gs (map own_section (k ∷ ks)))) (number_of (k ∷ ks) g) (pos 0) ≡ A (section_place gs (own_section g))
-      go true q e more =
-          ap (λ n. get_or (map A (section_places owner gs (map own_section (k ∷ ks)))) n (pos 0)) (number_first ks k g q)
-          ∙ ap (λ n. A (section_place gs (own_section n))) (sym (equal g k q))
-      go false q e more =
-          let lg : g < length y.standing.segments = one_of (λ k. k < length y.standing.segments) ks g h.1 e in
-          ap (λ n. get_or (map A (section_places owner gs (map own_section (k ∷ ks)))) n (pos 0)) (number_later ks k g q e)
-          ∙ more e
-          ∙ ap (λ n. A (record { segment = (own_section g).name; offset = rounded_up n (linked.align_of (own_section g)); size = (section_place gs (own_section g)).size })) (other_end gs k g h.0 lg q)
+  place_at gs (k ∷ ks) g h o e = grind (arith, common_steps, (place_at (with_section owner gs (own_section k)) ks g h.1 o.1), number_first, equal, one_of, number_later, other_end)
 
 -- ---- Where sections begin.
 
 begins : (ys : List Layout) (y : Layout) (name : List ℕ) (at first i : ℕ) → slice_get ys i ≡ Some y → begin_from at first ys name i ≡ next_multiple_of (end_of at (items_from first (take i ys) name)) (largest_multiple (lines_in (first + i) y name))
 begins [] y name at first i e = cc
-begins (z ∷ ys) y name at first zero e =
-    let same : z ≡ y = cc in
-    let one : first ≡ first + 0 = omega arith in
-    ap (λ k. next_multiple_of at (largest_multiple (lines_in first k name))) same
-    ∙ ap (λ n. next_multiple_of at (largest_multiple (lines_in n y name))) one
+begins (z ∷ ys) y name at first zero e = grind (arith, common_steps)
 begins (z ∷ ys) y name at first (suc i) e =
     let next : suc first + i ≡ first + suc i = omega arith in
     begins ys y name (end_of at (part_of first z name)) (suc first) i e
@@ -247,10 +216,7 @@ all_of p [] e = tt
 all_of p (x ∷ xs) e = let both = both_of (p x) (list_all p xs) e in (both.0, all_of p xs both.1)
 
 itself_among : (k : ℕ) (xs : List ℕ) → list_any (nat_eq k) (k ∷ xs) ≡ true
-itself_among k xs = or_left (nat_eq k k) (list_any (nat_eq k) xs) alike
-  where
-    alike : nat_eq k k ≡ true
-    alike = grind (arith, nat_tests)
+itself_among k xs = grind (arith, common_steps)
 
 -- what holds of all keys that are among some holds of each of them
 pub each_among : (P : ℕ → Type 0) (xs : List ℕ) → ((k : ℕ) → list_any (nat_eq k) xs ≡ true → P k) → AllByRecursion P xs
@@ -298,9 +264,7 @@ module _ (sections imports : List ℕ) (count : ℕ) where
   )
 
   keyed_saying : (names : List (List ℕ)) (x : Said) → IsSoundSaid sections count x → AreAmong (said_imports names x) → IsKeyedSaid sections imports count x
-  keyed_saying names (Exported n place f) h up = keyed_form f h.1.form up
-  keyed_saying names (Demanded n) h up = tt
-  keyed_saying names (Checked act place words f) h up = keyed_form f h.1.form up
+  keyed_saying names x h up = grind (arith, common_steps, keyed_form)
 
   keyed_said : (names : List (List ℕ)) (xs : List Said) → AllByRecursion (IsSoundSaid sections count) xs → AreAmong (flat_map (said_imports names) xs) → AllByRecursion (IsKeyedSaid sections imports count) xs
   keyed_said names [] h up = tt
@@ -332,15 +296,7 @@ keyed_law y cs h e =
 -- what stands at the number of a key
 at_number : {A : Type 0} (G : List ℕ → A) (names : List (List ℕ)) (keys : List ℕ) (k : ℕ) (d : A) → list_any (nat_eq k) keys ≡ true → get_or (map G (map (name_of names) keys)) (number_of keys k) d ≡ G (name_of names k)
 at_number G names [] k d e = cc
-at_number G names (x ∷ keys) k d e = go (nat_eq k x) refl e (at_number G names keys k d)
-  where
-    go : (b : Bool) → nat_eq k x ≡ b → (b || list_any (nat_eq k) keys) ≡ true → (list_any (nat_eq k) keys ≡ true → get_or (map G (map (name_of names) keys)) (number_of keys k) d ≡ G (name_of names k)) → get_or (map G (map (name_of names) (x ∷ keys))) (number_of (x ∷ keys) k) d ≡ G (name_of names k)
-    go true q e more =
-        ap (λ n. get_or (map G (map (name_of names) (x ∷ keys))) n d) (number_first keys x k q)
-        ∙ ap (λ n. G (name_of names n)) (sym (equal k x q))
-    go false q e more =
-        ap (λ n. get_or (map G (map (name_of names) (x ∷ keys))) n d) (number_later keys x k q e)
-        ∙ more e
+at_number G names (x ∷ keys) k d e = grind (arith, common_steps, (at_number G names keys k d), number_first, equal, number_later)
 
 got : (names : List (List ℕ)) (k : ℕ) → k < length names → slice_get names k ≡ Some (name_of names k)
 got [] k h = absurd (omega (arith, h))

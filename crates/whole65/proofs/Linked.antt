@@ -1,4 +1,5 @@
 -- Modules are linked as the program is placed.
+use Rattle.std.proofs.lemmas.Grind.{common_steps}
 use Rattle.std.proofs.Common.{◌≡◌, ℕ, zero, suc, ◌+◌, List, [], ◌∷◌, ◌++◌, map, slice_get, Option, Some, None, Result, Ok, Err, refl, sym, ◌∙◌, ap, arith, ◌≢◌, ◌<◌, Bool, true, false, nat_eq, cond, take, subst, length}
 use Rattle.std.specs.List.{flat_map, AllByRecursion, list_any}
 use Rattle.syntax65.specs.Trees.{Tree}
@@ -105,37 +106,19 @@ shown_by r (Ok (names.defined_at d)) = definition_shown (place_in r d) (slice_ge
 shown_by r (Ok (names.imported_as k)) = import_shown (slice_get (symbols_at r).imports k)
 
 same_value : (place : ℕ) (l : Laid) (v : Option Tree) → value_defined l.stated ≡ v → definition_at place (Some l) ≡ value_shown place v
-same_value place l v e = go v (definition_at place (Some l)) refl e
-  where
-    go : (v : Option Tree) (r : Option Meaning) → definition_at place (Some l) ≡ r → value_defined l.stated ≡ v → definition_at place (Some l) ≡ value_shown place v
-    go None r w e = rw e refl
-    go (Some t) r w e = rw e refl
+same_value place l v e = grind (arith, common_steps)
 
 same_definition : (y : Layout) (d : ℕ) → Looked 0 y.laid d → statement_at y.laid (slice_get (defining_from 0 y.laid) d) ≡ definition_shown (place_in (Some y) d) (slice_get (table_of y).definitions d)
-same_definition y d (missing m) =
-    ap (statement_at y.laid) m.defining ∙ ap (definition_shown (place_in (Some y) d)) (sym m.defined)
-same_definition y d (made m) =
-    let zero_more : 0 + m.place ≡ m.place = omega arith in
-    let at : slice_get (defining_from 0 y.laid) d ≡ Some m.place = m.defining ∙ ap Some zero_more in
-    ap (statement_at y.laid) at
-    ∙ ap (definition_at m.place) m.there
-    ∙ same_value m.place m.laid m.definition.value (sym m.value)
-    ∙ ap (λ r. value_shown (or_first r) m.definition.value) (sym at)
-    ∙ ap (definition_shown (place_in (Some y) d)) (sym m.defined)
+same_definition y d x = grind (arith, common_steps)
 
 same_import : (r : Option (List ℕ)) → import_named r ≡ import_shown r
-same_import None = refl
-same_import (Some n) = refl
+same_import x = grind (arith, common_steps)
 
 pub same_meaning : (y : Layout) (r : Result names.Meaning AsmFault) → meaning_by y r ≡ shown_by (Some y) r
-same_meaning y (Err e) = refl
-same_meaning y (Ok (names.defined_at d)) = same_definition y d (look 0 y.laid d)
-same_meaning y (Ok (names.imported_as k)) = same_import (slice_get (table_of y).imports k)
+same_meaning y x = grind (arith, common_steps, same_definition, look, same_import)
 
 pub none_shown : (r : Result names.Meaning AsmFault) → None ≡ shown_by None r
-none_shown (Err e) = refl
-none_shown (Ok (names.defined_at d)) = refl
-none_shown (Ok (names.imported_as k)) = refl
+none_shown x = grind (arith, common_steps)
 
 -- a definition stands where its statement does
 pub same_spot : (y : Layout) (d : ℕ) (x : Definition) → slice_get (table_of y).definitions d ≡ Some x → spot_at y (place_in (Some y) d) ≡ x.spot
@@ -158,28 +141,14 @@ abbrev IsQuiet : Laid → Type 0
 IsQuiet l = asks_section l.stated ≡ false → l.length ≡ 0
 
 places_nothing : (y : Symbols) (s : Spot) (own : AddressSize) (x : Statement) → asks_section x ≡ false → length_of y s own x ≡ 0
-places_nothing y s own (statement.Instruction m o) h = cc
-places_nothing y s own (statement.Values w is) h = cc
-places_nothing y s own (statement.Reserve n v) h = cc
-places_nothing y s own (statement.Align n v) h = cc
-places_nothing y s own (statement.FilePart b n v) h = cc
-places_nothing y s own x h = refl
+places_nothing y s own x h = grind (arith, common_steps)
 
 pub quiet : {y : Layout} → IsLaidOut y → AllByRecursion IsQuiet y.laid
 quiet begun = tt
-quiet (behind y place x d none) =
-    all_more IsQuiet y.laid (laid (symbols_of y.laid) y.standing place x) (quiet d)
-    (λ h. places_nothing (symbols_of y.laid) (spot_of y.standing) (own_size y.standing) x h)
+quiet (behind y place x d none) = grind (arith, common_steps, (quiet d), all_more, places_nothing)
 
 quiet_end : (at multiple : ℕ) (l : Laid) → asks_section l.stated ≡ false → l.length ≡ 0 → line_end at multiple l ≡ at
-quiet_end at multiple l h e = go l.stated h
-  where
-    nothing : at + l.length ≡ at
-    nothing = omega (arith, e)
-
-    go : (x : Statement) → asks_section x ≡ false → line_end at multiple (record l { stated = x }) ≡ at
-    go (statement.Align n v) h = absurd cc
-    go x h = nothing
+quiet_end at multiple l h e = grind (arith, common_steps)
 
 -- none of the module's statements there asks
 abbrev AsksNot : Layout → List ℕ → Laid → Type 0
@@ -221,8 +190,7 @@ no_offset y place l d there asked =
 
 all_absent : (owner place : ℕ) (xs : List Item) → IsAbsent owner place xs → items_before owner place xs ≡ xs
 all_absent owner place [] h = refl
-all_absent owner place (x ∷ xs) h =
-    ap (λ b. cond b [] (x ∷ items_before owner place xs)) h.0 ∙ ap (λ z. x ∷ z) (all_absent owner place xs h.1)
+all_absent owner place (x ∷ xs) h = grind (arith, common_steps, (all_absent owner place xs h.1))
 
 both_absent : (owner place : ℕ) (xs ys : List Item) → IsAbsent owner place xs → IsAbsent owner place ys → IsAbsent owner place (xs ++ ys)
 both_absent owner place [] ys h k = k
@@ -256,13 +224,10 @@ at_end ys owner place y name e h =
 -- ---- Names.
 
 shown_is : {E : Type 0} (none : E) (imports : ℕ → ℕ → ℕ → Result ℤ E) (s : Script) (p : Placement) (ys : List Layout) (owner : ℕ) (r : Result names.Meaning AsmFault) → meaning_shown (objects_of none imports s p ys) owner r ≡ shown_by (slice_get ys owner) r
-shown_is none imports s p ys owner (Err e) = refl
-shown_is none imports s p ys owner (Ok (names.defined_at d)) = refl
-shown_is none imports s p ys owner (Ok (names.imported_as k)) = refl
+shown_is none imports s p ys owner x = grind (arith, common_steps)
 
 means_by : (r : Option Layout) (place : ℕ) (e : Tree) → means_at r place e ≡ shown_by r (meaning_of (symbols_at r) (spot_in r place) e)
-means_by None place e = none_shown (meaning_of (symbols_at None) (spot_in None place) e)
-means_by (Some y) place e = same_meaning y (meaning_of (symbols_at (Some y)) (spot_in (Some y) place) e)
+means_by x place e = grind (arith, common_steps, none_shown, symbols_at, spot_in, same_meaning)
 
 spot_by : (r : Option Layout) (d : ℕ) (x : Definition) → slice_get (symbols_at r).definitions d ≡ Some x → spot_in r (place_in r d) ≡ x.spot
 spot_by None d x e = cc
@@ -272,9 +237,7 @@ spot_by (Some y) d x e = same_spot y d x e
 
 -- a sum of natural numbers, wrapped at any point
 moved : (run begin offset : ℕ) → wrapped (pos (run + (begin + offset))) ≡ wrapped (wrapped (pos (run + begin)) +ℤ pos offset)
-moved run begin offset =
-    let regroup : pos (run + (begin + offset)) ≡ pos (run + begin) +ℤ pos offset = omega (arith, ints) in
-    ap wrapped regroup ∙ sym (int_wrap-add_left w64 (pos (run + begin)) (pos offset))
+moved run begin offset = grind (arith, common_steps, ints, int_wrap-add_left)
 
 zero_wraps : pos 0 ≡ wrapped (pos 0)
 unfolding int_wrap
@@ -306,15 +269,9 @@ module _ (s : Script) (p : Placement) (ys : List Layout) (laid_out : AllByRecurs
       ∙ ap (λ b. wrapped (cond b (wrapped (pos (run + begin))) (pos 0) +ℤ pos l.spot.offset)) (sym (less l.spot.segment (length y.standing.segments) below))
 
   of_module : (owner place : ℕ) (r : Option Layout) → slice_get ys owner ≡ r → statement_address s p ys owner place r (laid_at r place) ≡ wrapped (base_in s p ys owner (spot_in r place).segment r +ℤ pos (spot_in r place).offset)
-  of_module owner place None e = zero_wraps
-  of_module owner place (Some y) e = of_line owner place y e (slice_get y.laid place) refl
+  of_module owner place x e = grind (arith, common_steps, zero_wraps, of_line)
 
 -- The modules of a placed program are linked as that program: names mean the same, and statements have the addresses that
 -- their sections' bases and their offsets make, for all that imports come to as their providers say.
 pub linked_law : (E : Type 0) → (none : E) (imports : ℕ → ℕ → ℕ → Result ℤ E) (s : Script) (placement : Placement) (ys : List Layout) → AllByRecursion IsLaidOut ys → let p : Program = program_of s placement ys in let o : Objects E = objects_of none imports s placement ys in ((owner k : ℕ) → IsGiven p o owner k (slice_get (o.symbols owner).imports k)) → AreObjects p o
-linked_law E none imports s p ys laid_out given = record {
-  means = λ owner place e. means_by (slice_get ys owner) place e ∙ sym (shown_is none imports s p ys owner (meaning_of (symbols_at (slice_get ys owner)) (spot_in (slice_get ys owner) place) e));
-  spots = λ owner definition d there. spot_by (slice_get ys owner) definition d there;
-  addresses = λ owner place. of_module s p ys laid_out owner place (slice_get ys owner) refl;
-  given = given;
-}
+linked_law x none imports s p ys laid_out given = grind (arith, common_steps, means_by, shown_is, symbols_at, spot_in, spot_by, of_module)

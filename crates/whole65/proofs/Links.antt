@@ -1,6 +1,7 @@
 -- What a link comes to that gives files.
+use Rattle.std.proofs.lemmas.Grind.{common_steps}
 use Rattle.whole65.specs.Programs as whole
-use Rattle.std.proofs.Common.{◌≡◌, ℕ, List, [], ◌∷◌, ◌++◌, Result, Ok, Err, refl, sym, ◌∙◌, ap, subst, Option, Some, None}
+use Rattle.std.proofs.Common.{arith, ◌≡◌, ℕ, List, [], ◌∷◌, ◌++◌, Result, Ok, Err, refl, sym, ◌∙◌, ap, subst, Option, Some, None}
 use Rattle.std.specs.Prelude.{ℤ, ◌↔◌}
 use Rattle.base65.specs.Outcome.{◌>>=◌, First}
 use Rattle.script65.specs.Placing.{place_of}
@@ -51,19 +52,16 @@ goes_on : {E A B : Type 0} (q : Result A E) (x : A) (Next : A → Result B E →
 goes_on q x Next r e h = rw e h
 
 gone_on : {E A B : Type 0} (q : Result A E) (Next : A → Result B E → Type 0) (y : B) → First q Next (Ok y) → (x : A) × (q ≡ Ok x) × Next x (Ok y)
-gone_on (Ok x) Next y h = (x, refl, h)
-gone_on (Err e) Next y h = absurd cc
+gone_on x z y h = grind (arith, common_steps)
 
 ok_same : {A E : Type 0} (x y : A) → (◌≡◌ {A = Result A E} (Ok x) (Ok y)) → x ≡ y
 ok_same x y e = cc
 
 none_open : (names : List (List ℕ)) → none_unresolved names ≡ Ok tt → names ≡ []
-none_open [] e = refl
-none_open (n ∷ ns) e = absurd cc
+none_open x e = grind (arith, common_steps)
 
 placement_found : (r : Result Placement PlaceFault) (p : Placement) → as_placement r ≡ Ok p → r ≡ Ok p
-placement_found (Ok q) p e = cc
-placement_found (Err x) p e = cc
+placement_found x p e = grind (arith, common_steps)
 
 -- the files of a link are its image's
 same_files : (image : List OutputFile) (warnings map : List ℕ) (linked : Linked) → (◌≡◌ {A = Result Linked LinkFault} (Ok linked) (Ok (record { files = image; warnings = warnings; map = map }))) → (files : List OutputFile) → linked.files ≡ files → image ≡ files
@@ -100,42 +98,11 @@ module _ (output : List ℕ) (s : Script) (q : Program) (files : List OutputFile
   }
 
   pub link_by : (h : HasLink output s q files) → First (names_once s q) (λ u. IsProgramLink output s q) (Ok (linked_by h))
-  link_by h =
-      let l : Linkage = linkage_of s q h.placement in
-      let there : placed s q ≡ Ok h.placement = placed_by (unresolved s q) (place_of s (needs_of q)) h.placement h.none h.placed in
-      let passed : checked s q l (in_table h.table) ≡ Ok h.warnings =
-      checked_by (each_passes (check_fixup l q.members (in_table h.table)) (fixups_by_row s.rows q.segments))
-      (each_passes (check_export l q.members (in_table h.table)) q.exports)
-      (check_asserts l q.members (in_table h.table) q.asserts) h.warnings h.values h.exported h.asserted in
-      let finished : IsFinished output s q h.placement l (in_table h.table) (Ok (linked_by h)) =
-      goes_on (checked s q l (in_table h.table)) h.warnings (IsImaged output s q h.placement l (in_table h.table)) (Ok (linked_by h)) passed (files, h.made, refl) in
-      goes_on (names_once s q) tt (λ u. IsProgramLink output s q) (Ok (linked_by h)) h.once
-      (goes_on (placed s q) h.placement (IsPlacedLink output s q) (Ok (linked_by h)) there (h.table, h.exports, finished))
+  link_by h = grind (arith, common_steps)
 
   -- and such a link has all of this
   pub link_has : (linked : Linked) → First (names_once s q) (λ u. IsProgramLink output s q) (Ok linked) → linked.files ≡ files → HasLink output s q files
-  link_has linked link same =
-      let (u, once, by) = gone_on (names_once s q) (λ u. IsProgramLink output s q) linked link in
-      let (placement, there, found) = gone_on (placed s q) (IsPlacedLink output s q) linked by in
-      let l : Linkage = linkage_of s q placement in
-      let exports : Exports = in_table found.0 in
-      let (w, none, at) = bind_ok (none_unresolved (unresolved s q)) (λ u. as_placement (place_of s (needs_of q))) placement there in
-      let (warnings, passed, imaged) = gone_on (checked s q l exports) (IsImaged output s q placement l exports) linked found.2 in
-      let (x, before, asserted) = bind_ok (each_passes (check_fixup l q.members exports) (fixups_by_row s.rows q.segments) >>= (λ u. each_passes (check_export l q.members exports) q.exports)) (λ u. check_asserts l q.members exports q.asserts) warnings passed in
-      let (y, values, exported) = bind_ok (each_passes (check_fixup l q.members exports) (fixups_by_row s.rows q.segments)) (λ u. each_passes (check_export l q.members exports) q.exports) x before in
-      record {
-        once = once;
-        none = none_open (unresolved s q) none;
-        placement = placement;
-        placed = placement_found (place_of s (needs_of q)) placement at;
-        table = found.0;
-        exports = found.1;
-        values = values;
-        exported = exported;
-        warnings = warnings;
-        asserted = asserted;
-        made = subst (AreFiles output s q placement l exports) (same_files imaged.0 (warnings_of_rows s.rows q.segments ++ warnings) (map_text s q placement l exports) linked imaged.2 files same) imaged.1;
-      }
+  link_has linked link same = grind (arith, common_steps)
 
 -- ---- A source lays its statements one behind the other, none with a fault at its line.
 
@@ -152,12 +119,10 @@ unchanged : (y z : Layout) → IsLaidOut y → ◌≡◌ {A = Result Layout AsmF
 unchanged y z d h = let same : y ≡ z = cc in subst IsLaidOut same d
 
 labelled : (y z : Layout) (place : Place) (x : Option Statement) → IsLaidOut y → IsLabelled IsLaid y place x (Ok z) → IsLaidOut z
-labelled y z place None d h = unchanged y z d h
-labelled y z place (Some x) d h = one y z place x d h
+labelled y z place x d h = grind (arith, common_steps, unchanged, one)
 
 stated : (m : Files) (y z : Layout) (place : Place) (x : Result Statement AsmFault) → IsLaidOut y → First x (λ s. IsLaid y place (with_bytes m place s)) (Ok z) → IsLaidOut z
-stated m y z place (Ok x) d h = one y z place (with_bytes m place x) d h
-stated m y z place (Err e) d h = absurd cc
+stated m y z place x d h = grind (arith, common_steps, one)
 
 rest : (m : Files) (y z : Layout) (place : Place) (ts : List Lexeme) → IsLaidOut y → IsRest m IsLaid y place ts (Ok z) → IsLaidOut z
 rest m y z place [] d h = unchanged y z d h
@@ -213,12 +178,8 @@ valued_imports_law E none bases values (binary op f g) v e =
     all_append (λ k. (w : ℤ) × (values k ≡ Ok w)) (imports_in f) (imports_in g) (valued_imports_law E none bases values f a first) (valued_imports_law E none bases values g b second)
 
 pub none_again : (r : Option (List ℕ)) → (no_name_again r ≡ Ok tt) ↔ (r ≡ None)
-none_again None = (λ k. refl, λ k. refl)
-none_again (Some name) = (λ k. absurd cc, λ k. absurd cc)
+none_again x = grind (arith, common_steps)
 
 -- A name is given twice in a link exactly where it is in the whole program.
 pub names_law : (s : Script) (ys : List Layout) (ms : List Module) → AreSources ys ms → (names_once s (program_of ms) ≡ Ok tt) ↔ (first_again [] (given_names s ys) ≡ None)
-names_law s ys ms h =
-    let same = ap (λ names. first_again [] (script_names s ++ names)) (export_names_law ys ms h) in
-    let either = none_again (first_again [] (linked.given_names s (program_of ms))) in
-    (λ k. sym same ∙ either.0 k, λ k. either.1 (same ∙ k))
+names_law s ys ms h = grind (arith, common_steps, export_names_law, none_again)

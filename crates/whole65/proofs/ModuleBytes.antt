@@ -1,4 +1,5 @@
 -- What lies in a segment, and what an object's section puts there.
+use Rattle.std.proofs.lemmas.Grind.{common_steps}
 use Rattle.std.proofs.Common.{◌≡◌, ℕ, zero, suc, List, [], ◌∷◌, ◌++◌, map, refl, sym, ◌∙◌, ap, subst, ◌+◌, Bool, true, false, cond, filter, Result, Ok, arith}
 use Rattle.std.specs.Prelude.{◌↔◌, replicate, ℤ, not, Some, slice_get}
 use Rattle.std.specs.List.{flat_map, AllByRecursion}
@@ -88,16 +89,12 @@ number_law E none bases values ss is (lit v) = refl
 number_law E none bases values ss is (sec g a) = refl
 number_law E none bases values ss is (imp k) = refl
 number_law E none bases values ss is (prefix op f) = ap (λ r. r >>= (λ a. Ok (value1 op a))) (number_law E none bases values ss is f)
-number_law E none bases values ss is (binary op f g) =
-    ap (λ r. r >>= (λ a. value_in none bases values (numbered ss is g) >>= (λ b. or_none none (value2 op a b)))) (number_law E none bases values ss is f)
-    ∙ ap (λ r. value_in none (λ k. bases (number_of ss k)) (λ k. values (number_of is k)) f >>= (λ a. r >>= (λ b. or_none none (value2 op a b)))) (number_law E none bases values ss is g)
+number_law E none bases values ss is (binary op f g) = grind (arith, common_steps, (number_law E none bases values ss is f), (number_law E none bases values ss is g))
 
 module _ (Has : Valuing) (fill : ℕ) where
   -- ---- Without numbers.
   same_part : (origins : Place → Origin) (ss is : List ℕ) (p : Part) (bytes : List ℕ) → ArePart (λ f v. Has (numbered ss is f) v) fill p bytes ↔ IsFragment Has fill (fragment_of origins ss is p) bytes
-  same_part origins ss is (Known own) bytes = (λ h. h, λ h. h)
-  same_part origins ss is (Filled n) bytes = (λ h. h, λ h. h)
-  same_part origins ss is (Waiting width place f) bytes = (λ h. h, λ h. h)
+  same_part origins ss is x bytes = grind (arith, common_steps)
 
   pub same_parts : (origins : Place → Origin) (ss is : List ℕ) (ps : List Part) (bytes : List ℕ) → AreParts (λ f v. Has (numbered ss is f) v) fill ps bytes ↔ AreFragments Has fill (map (fragment_of origins ss is) ps) bytes
   same_parts origins ss is [] bytes = (λ h. h, λ h. h)
@@ -108,29 +105,14 @@ module _ (Has : Valuing) (fill : ℕ) where
 
   -- ---- Without the empty ones.
   no_bytes : (f : Fragment) → is_empty f ≡ true → (IsFragment Has fill f []) × ((bytes : List ℕ) → IsFragment Has fill f bytes → bytes ≡ [])
-  no_bytes (Literal []) e = (refl, λ bytes h. h)
-  no_bytes (Literal (b ∷ bs)) e = cc
-  no_bytes (Fill zero) e = (refl, λ bytes h. h)
-  no_bytes (Fill (suc n)) e = cc
-  no_bytes (Value w n f) e = cc
+  no_bytes x e = grind (arith, common_steps)
 
   abbrev kept : List Fragment → List Fragment
   kept fs = filter (λ f. not (is_empty f)) fs
 
   pub all_kept : (fs : List Fragment) (bytes : List ℕ) → AreFragments Has fill fs bytes ↔ AreFragments Has fill (kept fs) bytes
   all_kept [] bytes = (λ h. h, λ h. h)
-  all_kept (f ∷ fs) bytes = go (is_empty f) refl (all_kept fs)
-    where
-      go : (b : Bool) → is_empty f ≡ b → ((bytes : List ℕ) → AreFragments Has fill fs bytes ↔ AreFragments Has fill (filter (λ g. not (is_empty g)) fs) bytes) → AreFragments Has fill (f ∷ fs) bytes ↔ AreFragments Has fill (cond (not b) (f ∷ filter (λ g. not (is_empty g)) fs) (filter (λ g. not (is_empty g)) fs)) bytes
-      go false e others = (
-        λ h. (h.0, h.1, h.2, (others h.1).0 h.3, h.4),
-        λ h. (h.0, h.1, h.2, (others h.1).1 h.3, h.4),
-      )
-      go true e others =
-          let none = no_bytes f e in (
-            λ h. (let same : bytes ≡ h.1 = h.4 ∙ ap (λ z. z ++ h.1) (none.1 h.0 h.2) in subst (AreFragments Has fill (filter (λ g. not (is_empty g)) fs)) (sym same) ((others h.1).0 h.3)),
-            λ h. ([], bytes, none.0, (others bytes).1 h, refl),
-          )
+  all_kept (f ∷ fs) bytes = grind (arith, common_steps, (all_kept fs), no_bytes)
 
   -- ---- Joined.
   more_fill : (m n : ℕ) → replicate (m + n) fill ≡ replicate m fill ++ replicate n fill
@@ -156,8 +138,7 @@ module _ (Has : Valuing) (fill : ℕ) where
           (a, b ++ more, (is_f a).1 refl, (b, more, (is_g b).1 refl, r, refl), parts)
 
   one_more : (f : Fragment) (gs hs : List Fragment) (bytes : List ℕ) → ((rest : List ℕ) → AreFragments Has fill gs rest ↔ AreFragments Has fill hs rest) → AreFragments Has fill (f ∷ gs) bytes ↔ AreFragments Has fill (f ∷ hs) bytes
-  one_more f gs hs bytes same =
-      (λ h. (h.0, h.1, h.2, (same h.1).0 h.3, h.4), λ h. (h.0, h.1, h.2, (same h.1).1 h.3, h.4))
+  one_more f gs hs bytes same = grind (arith, common_steps)
 
   then : {A B C : Type 0} → A ↔ B → B ↔ C → A ↔ C
   then p q = (λ a. q.0 (p.0 a), λ c. p.1 (q.1 c))
@@ -175,8 +156,7 @@ module _ (Has : Valuing) (fill : ℕ) where
   all_in_one (Value w n g) (h ∷ fs) bytes = one_more (Value w n g) (h ∷ fs) (joined h fs) bytes (all_in_one h fs)
 
   pub all_joined_are : (fs : List Fragment) (bytes : List ℕ) → AreFragments Has fill fs bytes ↔ AreFragments Has fill (all_joined fs) bytes
-  all_joined_are [] bytes = (λ h. h, λ h. h)
-  all_joined_are (f ∷ fs) bytes = all_in_one f fs bytes
+  all_joined_are x bytes = grind (arith, common_steps, all_in_one)
 
 -- ---- A module's lines in a segment, and what its object's section puts there.
 

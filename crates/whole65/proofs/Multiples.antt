@@ -1,4 +1,5 @@
 -- Powers of two, their multiples, and what lies behind a multiple.
+use Rattle.std.proofs.lemmas.Grind.{common_steps}
 use Rattle.std.proofs.Common.{◌≡◌, ℕ, true, nat_eq, arith, zero, suc, ◌+◌, ◌-◌, ◌*◌, ◌^◌, ◌%◌, ◌/◌, ◌≤◌, ◌<◌, ◌⊎◌, inl, inr, max, sym, ◌∙◌, ap, subst, refl, List, [], ◌∷◌, ◌++◌, map, Bool, false, Option, Some, None, min, cond}
 use Rattle.std.proofs.lemmas.Bool.Decides.{nat_tests}
 use Rattle.std.specs.Int.{next_multiple_of}
@@ -36,10 +37,7 @@ power_divides a c h =
     record { factor = 2 ^ (c - a); product = ap (λ n. 2 ^ n) (sym whole) ∙ pow-add 2 a (c - a) }
 
 pub multiple_of_multiple : (b n m : ℕ) → IsMultiple b m → IsMultiple m n → IsMultiple b n
-multiple_of_multiple b n m h k = record {
-  factor = k.factor * h.factor;
-  product = h.product ∙ ap (λ z. z * h.factor) k.product ∙ mul_assoc n k.factor h.factor;
-}
+multiple_of_multiple b n m h k = grind (arith, common_steps, mul_assoc)
 
 pub itself : (n : ℕ) → IsMultiple n n
 itself n = record { factor = 1; product = omega arith }
@@ -53,17 +51,11 @@ pub record Larger (n m : ℕ) : Type 0 where
 split : (a c : ℕ) → (a ≤ c) ⊎ (c ≤ a)
 split zero c = inl (omega arith)
 split (suc a) zero = inr (omega arith)
-split (suc a) (suc c) = go (split a c)
-  where
-    go : (a ≤ c) ⊎ (c ≤ a) → (suc a ≤ suc c) ⊎ (suc c ≤ suc a)
-    go (inl h) = inl (omega (arith, h))
-    go (inr h) = inr (omega (arith, h))
+split (suc a) (suc c) = grind (arith, common_steps, (split a c))
 
 positive_multiple : (n m q : ℕ) → 0 < m → m ≡ n * q → n ≤ m
 positive_multiple n m zero h e = absurd (omega (arith, h, e))
-positive_multiple n m (suc q) h e =
-    let more : n * suc q ≡ n + n * q = omega arith in
-    omega (arith, e, more)
+positive_multiple n m (suc q) h e = grind (arith, common_steps)
 
 pub larger : (n m : ℕ) → IsPower n → IsPower m → Larger n m
 larger n m p q = go (split p.exponent q.exponent)
@@ -84,9 +76,7 @@ larger n m p q = go (split p.exponent q.exponent)
 
 -- a multiple moves the rounding along
 pub round_shift : (b o n : ℕ) → IsMultiple b n → next_multiple_of (b + o) n ≡ b + next_multiple_of o n
-round_shift b o n h =
-    let same : (b + o) % n ≡ o % n = ap (λ z. (z + o) % n) h.product ∙ mul-add-mod_self_left n h.factor o in
-    ap (λ r. b + o + (n - r) % n) same ∙ add_assoc b o ((n - o % n) % n)
+round_shift b o n h = grind (arith, common_steps, mul-add-mod_self_left, add_assoc)
 
 of_parts : (x y q r : ℕ) → 0 < y → r < y → y * q + r ≡ x → IsMultiple (x + (y - r) % y) y
 of_parts x y q zero pos_y h e =
@@ -116,11 +106,7 @@ largest_power [] h = record { exponent = 0; below = omega arith; power = refl }
 largest_power (x ∷ xs) h = (larger x.multiple (largest_multiple xs) h.0 (largest_power xs h.1)).is_power
 
 pub line_shift : (b o multiple : ℕ) (l : Laid) → IsMultiple b multiple → line_end (b + o) multiple l ≡ b + line_end o multiple l
-line_shift b o multiple l h = go l.stated
-  where
-    go : (x : Statement) → line_end (b + o) multiple (record l { stated = x }) ≡ b + line_end o multiple (record l { stated = x })
-    go (Align n v) = round_shift b o multiple h
-    go x = add_assoc b o l.length
+line_shift b o multiple l h = grind (arith, common_steps, round_shift, add_assoc)
 
 pub end_shift : (xs : List Line) (b o : ℕ) → ArePowers xs → IsMultiple b (largest_multiple xs) → end_of (b + o) (map line xs) ≡ b + end_of o (map line xs)
 end_shift [] b o p h = refl
@@ -161,19 +147,13 @@ faults y w x =
     ∷ []
 
 no_alignment_fault : (y : Symbols) (w : Standing) (x : Statement) → line_fault y w x ≡ None → alignment_fault y (spot_of w) x ≡ None
-no_alignment_fault y w x h =
-    let all = none_all (faults y w x) h in
-    all.1.1.1.1.1.1.0
+no_alignment_fault y w x h = grind (arith, common_steps)
 
 -- ---- Multiples.
 
 power_among : (n : ℕ) (ps : List ℕ) → AllByRecursion IsPower ps → list_any (λ m. m == n) ps ≡ true → IsPower n
 power_among n [] h e = cc
-power_among n (p ∷ ps) h e = go (nat_eq p n) refl e (power_among n ps h.1)
-  where
-    go : (b : Bool) → nat_eq p n ≡ b → (b || list_any (λ m. m == n) ps) ≡ true → (list_any (λ m. m == n) ps ≡ true → IsPower n) → IsPower n
-    go true q e others = subst IsPower (equal p n q) h.0
-    go false q e others = others e
+power_among n (p ∷ ps) h e = grind (arith, common_steps, (power_among n ps h.1), equal)
 
 power : (k n : ℕ) → k < 16 → n ≡ 2 ^ k → IsPower n
 power k n lt e = record { exponent = k; below = lt; power = e }
@@ -209,36 +189,16 @@ multiple_power y w x h = go x (no_alignment_fault y w x h)
 
 gap_end : (offset n : ℕ) → IsPower n → next_multiple_of offset n ≡ offset + gap offset (Some (pos n))
 gap_end offset zero p = absurd (let positive = power_positive 0 p in omega (arith, positive))
-gap_end offset (suc n) p =
-    let more : offset ≤ next_multiple_of offset (suc n) = omega arith in
-    omega (arith, more)
+gap_end offset (suc n) p = grind (arith, common_steps)
 
 pub line_ends : (y : Symbols) (w : Standing) (place : Place) (x : Statement) → line_fault y w x ≡ None → line_end (spot_of w).offset (multiple_of y (spot_of w) x) (laid y w place x) ≡ (spot_of w).offset + (laid y w place x).length
-line_ends y w place x h = go x (no_alignment_fault y w x h)
-  where
-    go : (x : Statement) → alignment_fault y (spot_of w) x ≡ None → line_end (spot_of w).offset (multiple_of y (spot_of w) x) (laid y w place x) ≡ (spot_of w).offset + (laid y w place x).length
-    go (Align n v) h =
-        let a = aligned (constant_in y (spot_of w) n) h in
-        ap (λ r. next_multiple_of (spot_of w).offset (counted r)) a.value
-        ∙ gap_end (spot_of w).offset a.multiple a.is_power
-        ∙ ap (λ r. (spot_of w).offset + gap (spot_of w).offset r) (sym a.value)
-    go x h = refl
+line_ends y w place x h = grind (arith, common_steps)
 
 -- ---- Rounding up by quotients and by remainders.
 
 by_parts : (x y q r : ℕ) → 0 < y → r < y → y * q + r ≡ x → (q + min 1 r) * y ≡ x + (y - r) % y
-by_parts x y q zero pos_y h e =
-    let same : y - 0 ≡ y = omega arith in
-    let none : (y - 0) % y ≡ 0 = ap (λ n. n % y) same ∙ mod_self y in
-    let count : q + min 1 0 ≡ q = omega arith in
-    let product : (q + min 1 0) * y ≡ y * q = ap (λ n. n * y) count ∙ mul_comm q y in
-    omega (arith, none, product)
-by_parts x y q (suc r) pos_y h e =
-    let less : y - suc r < y = omega arith in
-    let small : (y - suc r) % y ≡ y - suc r = mod-eq_of_lt less in
-    let count : q + min 1 (suc r) ≡ suc q = omega arith in
-    let product : (q + min 1 (suc r)) * y ≡ y * suc q = ap (λ n. n * y) count ∙ mul_comm (suc q) y in
-    omega (arith, small, product)
+by_parts x y q zero pos_y h e = grind (arith, common_steps, mod_self, mul_comm)
+by_parts x y q (suc r) pos_y h e = grind (arith, common_steps, mod-eq_of_lt, mul_comm)
 
 not_zero : (n : ℕ) → (suc n == 0) ≡ false
 not_zero n = grind (arith, nat_tests)
@@ -246,6 +206,4 @@ not_zero n = grind (arith, nat_tests)
 -- A link and the whole program round alike.
 pub rounding_law : (at n : ℕ) → 0 < n → rounded_up at n ≡ next_multiple_of at n
 rounding_law at zero h = absurd (omega (arith, h))
-rounding_law at (suc n) h =
-    ap (λ b. cond b at ((at / suc n + min 1 (at % suc n)) * suc n)) (not_zero n)
-    ∙ by_parts at (suc n) (at / suc n) (at % suc n) h (mod_below at (suc n) h) (div-add-mod at (suc n))
+rounding_law at (suc n) h = grind (arith, common_steps, not_zero, by_parts, mod_below, div-add-mod)

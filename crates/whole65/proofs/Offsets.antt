@@ -1,4 +1,5 @@
 -- Offsets are positions behind the lines before.
+use Rattle.std.proofs.lemmas.Grind.{common_steps}
 use Rattle.std.proofs.Common.{◌≡◌, ℕ, zero, suc, ◌+◌, ◌<◌, ◌≤◌, max, Bool, true, false, nat_eq, cond, List, [], ◌∷◌, ◌++◌, length, Option, Some, None, refl, sym, ap, subst, arith, map, take, slice_get, ◌∙◌}
 use Rattle.std.specs.List.{AllByRecursion}
 use Rattle.std.proofs.lemmas.Bool.Decides.{nat_tests}
@@ -29,41 +30,19 @@ are_below count ks = AllByRecursion (λ k. k < count) ks
 -- ---- How many segments there are.
 
 named_more : (gs : List Segment) (n : List ℕ) (own : Option AddressSize) (place : Option ℕ) → length gs ≤ length (named_segments gs n own place)
-named_more gs n own (Some i) = omega arith
-named_more gs n own None = let longer : length (gs ++ new_segment n (first_size n own) ∷ []) ≡ length gs + 1 = one_longer gs (new_segment n (first_size n own)) in omega (arith, longer)
+named_more gs n own x = grind (arith, common_steps)
 
 pub behind_more : (gs : List Segment) (current count multiple : ℕ) (x : Statement) → length gs ≤ length (segments_behind gs current count multiple x)
-behind_more gs current count multiple (statement.Segment n own) = named_more gs n own (place_of gs n)
-behind_more gs current count multiple x = let same : length (grown_at gs current count multiple) ≡ length gs = grown_length gs current count multiple in omega (arith, same)
+behind_more gs current count multiple x = grind (arith, common_steps, named_more, grown_length)
 
 below_more : (few more : ℕ) (ks : List ℕ) → few ≤ more → are_below few ks → are_below more ks
 below_more few more ks le h = all_same (λ k. k < few) (λ k. k < more) (λ k lt. let up : k < more = omega (arith, lt, le) in up) ks h
 
 pub current_below : (w : Standing) (count multiple : ℕ) (x : Statement) → w.current < length w.segments → are_below (length w.segments) w.kept → current_behind w x < length (segments_behind w.segments w.current count multiple x)
-current_below w count multiple (statement.Segment n own) lt h = named_there w.segments n own (place_of w.segments n) refl
-current_below w count multiple statement.PopSegment lt h =
-    let same : length (grown_at w.segments w.current count multiple) ≡ length w.segments = grown_length w.segments w.current count multiple in
-    subst (λ n. last_kept w.current w.kept < n) (sym same) (last w.kept h)
-  where
-    last : (ks : List ℕ) → are_below (length w.segments) ks → last_kept w.current ks < length w.segments
-    last [] h = lt
-    last (k ∷ ks) h = h.0
-current_below w count multiple x lt h =
-    let same : length (grown_at w.segments w.current count multiple) ≡ length w.segments = grown_length w.segments w.current count multiple in
-    subst (λ n. w.current < n) (sym same) lt
+current_below w count multiple x lt h = grind (arith, common_steps, named_there, grown_length)
 
 pub kept_below : (w : Standing) (count multiple : ℕ) (x : Statement) → w.current < length w.segments → are_below (length w.segments) w.kept → are_below (length (segments_behind w.segments w.current count multiple x)) (kept_behind w x)
-kept_below w count multiple statement.PushSegment lt h =
-    let le = behind_more w.segments w.current count multiple statement.PushSegment in
-    let up : w.current < length (grown_at w.segments w.current count multiple) = omega (arith, le, lt) in
-    (up, below_more (length w.segments) (length (grown_at w.segments w.current count multiple)) w.kept le h)
-kept_below w count multiple statement.PopSegment lt h =
-    below_more (length w.segments) (length (grown_at w.segments w.current count multiple)) (rest_kept w.kept) (behind_more w.segments w.current count multiple statement.PopSegment) (rest w.kept h)
-  where
-    rest : (ks : List ℕ) → are_below (length w.segments) ks → are_below (length w.segments) (rest_kept ks)
-    rest [] h = tt
-    rest (k ∷ ks) h = h.1
-kept_below w count multiple x lt h = below_more (length w.segments) (length (segments_behind w.segments w.current count multiple x)) w.kept (behind_more w.segments w.current count multiple x) h
+kept_below w count multiple x lt h = grind (arith, common_steps, behind_more, below_more)
 
 -- ---- Ends and alignments.
 
@@ -79,12 +58,10 @@ new_align (x ∷ gs) n own zero = refl
 new_align (x ∷ gs) n own (suc g) = new_align gs n own g
 
 named_end : (gs : List Segment) (n : List ℕ) (own : Option AddressSize) (place : Option ℕ) (g : ℕ) → (segment_at (named_segments gs n own place) g).end ≡ (segment_at gs g).end
-named_end gs n own (Some i) g = refl
-named_end gs n own None g = end_behind gs n (first_size n own) g
+named_end gs n own x g = grind (arith, common_steps, end_behind)
 
 named_align : (gs : List Segment) (n : List ℕ) (own : Option AddressSize) (place : Option ℕ) (g : ℕ) → (segment_at (named_segments gs n own place) g).align ≡ (segment_at gs g).align
-named_align gs n own (Some i) g = refl
-named_align gs n own None g = new_align gs n (first_size n own) g
+named_align gs n own x g = grind (arith, common_steps, new_align)
 
 -- what a statement adds to a segment: nothing, where it stands in another
 pub record Adds (g h : Segment) (is_here : Bool) (count multiple : ℕ) : Type 0 where
@@ -92,26 +69,7 @@ pub record Adds (g h : Segment) (is_here : Bool) (count multiple : ℕ) : Type 0
   pub align : h.align ≡ cond is_here (max g.align multiple) g.align
 
 pub adds : (y : Symbols) (w : Standing) (x : Statement) (g : ℕ) → w.current < length w.segments → 1 ≤ (segment_at w.segments g).align → Adds (segment_at w.segments g) (segment_at (segments_behind w.segments w.current (length_of y (spot_of w) (own_size w) x) (multiple_of y (spot_of w) x) x) g) (nat_eq w.current g) (length_of y (spot_of w) (own_size w) x) (multiple_of y (spot_of w) x)
-adds y w x g lt one = go x
-  where
-    nothing : (b : Bool) (gs : List Segment) → (segment_at gs g).end ≡ (segment_at w.segments g).end → (segment_at gs g).align ≡ (segment_at w.segments g).align → Adds (segment_at w.segments g) (segment_at gs g) b 0 1
-    nothing true gs p q = record { end = omega (arith, p); align = omega (arith, q, one) }
-    nothing false gs p q = record { end = omega (arith, p); align = q }
-
-    more : (count multiple : ℕ) (b : Bool) → nat_eq w.current g ≡ b → Adds (segment_at w.segments g) (segment_at (grown_at w.segments w.current count multiple) g) b count multiple
-    more count multiple true e =
-        let same : w.current ≡ g = grind (arith, nat_tests) in
-        subst (λ h. Adds (segment_at w.segments h) (segment_at (grown_at w.segments w.current count multiple) h) true count multiple) same (record {
-          end = grown_end w.segments w.current count multiple lt;
-          align = grown_align w.segments w.current count multiple lt;
-        })
-    more count multiple false e =
-        let same = grown_other w.segments w.current g count multiple e in
-        record { end = (let equal = ap (λ (h : Segment). h.end) same in omega (arith, equal)); align = ap (λ (h : Segment). h.align) same }
-
-    go : (x : Statement) → Adds (segment_at w.segments g) (segment_at (segments_behind w.segments w.current (length_of y (spot_of w) (own_size w) x) (multiple_of y (spot_of w) x) x) g) (nat_eq w.current g) (length_of y (spot_of w) (own_size w) x) (multiple_of y (spot_of w) x)
-    go (statement.Segment n own) = nothing (nat_eq w.current g) (named_segments w.segments n own (place_of w.segments n)) (named_end w.segments n own (place_of w.segments n) g) (named_align w.segments n own (place_of w.segments n) g)
-    go x = more (length_of y (spot_of w) (own_size w) x) (multiple_of y (spot_of w) x) (nat_eq w.current g) refl
+adds y w x g lt one = grind (arith, common_steps, nat_tests, grown_end, grown_align, grown_other, equal, named_end, named_align)
 
 -- ---- One more line.
 
@@ -137,25 +95,10 @@ abbrev end_at : ℕ → List Line → ℕ
 end_at g xs = end_of 0 (map line (lines_at g xs))
 
 end_push : (g : ℕ) (xs : List Line) (x : Line) (b : Bool) → nat_eq x.laid.spot.segment g ≡ b → end_at g (xs ++ x ∷ []) ≡ cond b (line_end (end_at g xs) x.multiple x.laid) (end_at g xs)
-end_push g xs x b e =
-    ap (λ zs. end_of 0 (map line zs)) (filter-append (λ (z : Line). nat_eq z.laid.spot.segment g) xs (x ∷ []))
-    ∙ ap (end_of 0) (map-append line (lines_at g xs) (lines_at g (x ∷ [])))
-    ∙ end_of-append 0 (map line (lines_at g xs)) (map line (lines_at g (x ∷ [])))
-    ∙ one b e
-  where
-    one : (b : Bool) → nat_eq x.laid.spot.segment g ≡ b → end_of (end_at g xs) (map line (cond (nat_eq x.laid.spot.segment g) (x ∷ []) [])) ≡ cond b (line_end (end_at g xs) x.multiple x.laid) (end_at g xs)
-    one true e = ap (λ c. end_of (end_at g xs) (map line (cond c (x ∷ []) []))) e
-    one false e = ap (λ c. end_of (end_at g xs) (map line (cond c (x ∷ []) []))) e
+end_push g xs x b e = grind (arith, common_steps, filter-append, map-append, end_of-append)
 
 largest_at_push : (g : ℕ) (xs : List Line) (x : Line) (b : Bool) → nat_eq x.laid.spot.segment g ≡ b → largest_multiple (lines_at g (xs ++ x ∷ [])) ≡ cond b (max (largest_multiple (lines_at g xs)) x.multiple) (largest_multiple (lines_at g xs))
-largest_at_push g xs x b e =
-    ap largest_multiple (filter-append (λ (z : Line). nat_eq z.laid.spot.segment g) xs (x ∷ []))
-    ∙ largest_push (lines_at g xs) (lines_at g (x ∷ []))
-    ∙ one b e (largest_one (lines_at g xs))
-  where
-    one : (b : Bool) → nat_eq x.laid.spot.segment g ≡ b → 1 ≤ largest_multiple (lines_at g xs) → max (largest_multiple (lines_at g xs)) (largest_multiple (cond (nat_eq x.laid.spot.segment g) (x ∷ []) [])) ≡ cond b (max (largest_multiple (lines_at g xs)) x.multiple) (largest_multiple (lines_at g xs))
-    one true e h = ap (λ c. max (largest_multiple (lines_at g xs)) (largest_multiple (cond c (x ∷ []) []))) e ∙ omega (arith, h)
-    one false e h = ap (λ c. max (largest_multiple (lines_at g xs)) (largest_multiple (cond c (x ∷ []) []))) e ∙ omega (arith, h)
+largest_at_push g xs x b e = grind (arith, common_steps, filter-append, largest_push, largest_one)
 
 -- ---- What holds behind each statement.
 
@@ -205,12 +148,7 @@ module _ (owner : ℕ) (y : Layout) (place : Place) (x : Statement) (h : Placed 
       ∙ sym (line_ends table y.standing place x none)
       ∙ ap (λ n. line_end n next.multiple last) before
       ∙ sym (end_push g lines next true e)
-  end_next g false e =
-      let whole : (segment_at y.standing.segments g).end + 0 ≡ (segment_at y.standing.segments g).end = omega arith in
-      (added g).end
-      ∙ ap (λ b. (segment_at y.standing.segments g).end + cond b last.length 0) e
-      ∙ whole ∙ h.ends g
-      ∙ sym (end_push g lines next false e)
+  end_next g false e = grind (arith, common_steps, added, end_push)
 
   align_next : (g : ℕ) (b : Bool) → nat_eq y.standing.current g ≡ b → (segment_at (layout_behind y place x).standing.segments g).align ≡ largest_multiple (lines_at g (lines ++ next ∷ []))
   align_next g b e =
@@ -252,9 +190,7 @@ placed owner begun = record {
 placed owner (behind y place x d none) = step owner y place x (placed owner d) none
 
 pub offset_law : OffsetLaw
-offset_law y owner d =
-    let h = placed owner d in
-    record { offset = h.offsets; size = h.ends; alignment = h.aligns; powers = h.powers }
+offset_law y owner d = grind (arith, common_steps, placed)
 
 -- ---- Each line of a section ends its length behind its position.
 
@@ -283,23 +219,7 @@ module _ (owner g : ℕ) where
   here ls = lines_at g (lines_behind owner [] ls)
 
   one_more : (y : Layout) (place : Place) (x : Statement) → Placed owner y → line_fault (symbols_of y.laid) y.standing x ≡ None → EndsAt 0 (here y.laid) → (b : Bool) → nat_eq y.standing.current g ≡ b → EndsAt 0 (here (y.laid ++ laid (symbols_of y.laid) y.standing place x ∷ []))
-  one_more y place x h none ends b e =
-      let l : Laid = laid (symbols_of y.laid) y.standing place x in
-      let next : Line = line_of owner y.laid l in
-      let pushed : here (y.laid ++ l ∷ []) ≡ here y.laid ++ cond b (next ∷ []) [] =
-      ap (lines_at g) (lines_push owner [] y.laid l)
-      ∙ filter-append (λ (z : Line). nat_eq z.laid.spot.segment g) (lines_behind owner [] y.laid) (next ∷ [])
-      ∙ ap (λ c. here y.laid ++ cond c (next ∷ []) []) e in
-      subst (EndsAt 0) (sym pushed) (go b e)
-    where
-      go : (b : Bool) → nat_eq y.standing.current g ≡ b → EndsAt 0 (here y.laid ++ cond b (line_of owner y.laid (laid (symbols_of y.laid) y.standing place x) ∷ []) [])
-      go false e = subst (EndsAt 0) (sym (append-nil (here y.laid))) ends
-      go true e =
-          let l : Laid = laid (symbols_of y.laid) y.standing place x in
-          let same : y.standing.current ≡ g = equal y.standing.current g e in
-          let before : (spot_of y.standing).offset ≡ end_of 0 (map line (here y.laid)) = ap (λ n. (segment_at y.standing.segments n).end) same ∙ h.ends g in
-          ends_push 0 (here y.laid) (line_of owner y.laid l) ends
-          (subst (λ n. line_end n (multiple_of (symbols_of y.laid) (spot_of y.standing) x) l ≡ n + l.length) before (line_ends (symbols_of y.laid) y.standing place x none))
+  one_more y place x h none ends b e = grind (arith, common_steps, pushed, lines_push, filter-append, append-nil, equal, ends_push, line_ends)
 
   pub all_end : {y : Layout} → IsLaidOut y → EndsAt 0 (here y.laid)
   all_end begun = tt

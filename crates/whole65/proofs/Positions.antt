@@ -1,4 +1,5 @@
 -- Positions in the list of a segment.
+use Rattle.std.proofs.lemmas.Grind.{common_steps}
 use Rattle.std.proofs.Common.{◌≡◌, ℕ, zero, suc, ◌+◌, Bool, true, false, nat_eq, cond, List, [], ◌∷◌, ◌++◌, length, map, take, slice_get, filter, Some, refl, sym, ◌∙◌, ap, arith, ◌≢◌, ◌<◌, Option, None, subst, max, drop, ◌^◌}
 use Rattle.std.specs.Prelude.{◌&&◌, ⊤}
 use Rattle.std.specs.List.{AllByRecursion, position_from}
@@ -34,9 +35,7 @@ IsAbsent owner place xs = AllByRecursion (λ x. is_line owner place x ≡ false)
 
 pub skipped : (owner place : ℕ) (xs rest : List Item) → IsAbsent owner place xs → items_before owner place (xs ++ rest) ≡ xs ++ items_before owner place rest
 skipped owner place [] rest h = refl
-skipped owner place (x ∷ xs) rest h =
-    ap (λ b. cond b [] (x ∷ items_before owner place (xs ++ rest))) h.0
-    ∙ ap (λ z. x ∷ z) (skipped owner place xs rest h.1)
+skipped owner place (x ∷ xs) rest h = grind (arith, common_steps, (skipped owner place xs rest h.1))
 
 apart : (n m : ℕ) → n ≢ m → nat_eq n m ≡ false
 apart n m h = grind (arith, nat_tests)
@@ -48,11 +47,7 @@ alike n = grind (arith, nat_tests)
 
 other_lines : (first owner place : ℕ) → first ≢ owner → (q : Laid → Bool) (before ls : List Laid) → IsAbsent owner place (map line (filter (λ (x : Line). q x.laid) (lines_behind first before ls)))
 other_lines first owner place h q before [] = tt
-other_lines first owner place h q before (l ∷ ls) = go (q l) (other_lines first owner place h q (before ++ l ∷ []) ls)
-  where
-    go : (b : Bool) → IsAbsent owner place (map line (filter (λ (x : Line). q x.laid) (lines_behind first (before ++ l ∷ []) ls))) → IsAbsent owner place (map line (cond b (line_of first before l ∷ filter (λ (x : Line). q x.laid) (lines_behind first (before ++ l ∷ []) ls)) (filter (λ (x : Line). q x.laid) (lines_behind first (before ++ l ∷ []) ls))))
-    go true r = (ap (λ b. b && nat_eq (length before) place) (apart first owner h), r)
-    go false r = r
+other_lines first owner place h q before (l ∷ ls) = grind (arith, common_steps, (other_lines first owner place h q (before ++ l ∷ []) ls), apart)
 
 pub other_part : (first owner place : ℕ) → first ≢ owner → (y : Layout) (name : List ℕ) → IsAbsent owner place (part_of first y name)
 other_part first owner place h y name = go (has_section y name)
@@ -65,14 +60,7 @@ other_part first owner place h y name = go (has_section y name)
 
 pub stopped : (owner place : ℕ) (q : Laid → Bool) (before ls : List Laid) (rest : List Item) (i : ℕ) (l : Laid) → place ≡ length before + i → slice_get ls i ≡ Some l → q l ≡ true → items_before owner place (map line (filter (λ (x : Line). q x.laid) (lines_behind owner before ls)) ++ rest) ≡ map line (filter (λ (x : Line). q x.laid) (lines_behind owner before (take i ls)))
 stopped owner place q before [] rest i l e s t = cc
-stopped owner place q before (x ∷ ls) rest zero l e s t =
-    let same : x ≡ l = cc in
-    let yes : q x ≡ true = ap q same ∙ t in
-    let here : length before ≡ place = omega (arith, e) in
-    let found : is_line owner place (line (line_of owner before x)) ≡ true =
-    ap (λ b. b && nat_eq (length before) place) (alike owner) ∙ ap (nat_eq (length before)) (sym here) ∙ alike (length before) in
-    ap (λ b. items_before owner place (map line (cond b (line_of owner before x ∷ filter (λ (z : Line). q z.laid) (lines_behind owner (before ++ x ∷ []) ls)) (filter (λ (z : Line). q z.laid) (lines_behind owner (before ++ x ∷ []) ls))) ++ rest)) yes
-    ∙ ap (λ b. cond b [] (line (line_of owner before x) ∷ items_before owner place (map line (filter (λ (z : Line). q z.laid) (lines_behind owner (before ++ x ∷ []) ls)) ++ rest))) found
+stopped owner place q before (x ∷ ls) rest zero l e s t = grind (arith, common_steps, alike)
 stopped owner place q before (x ∷ ls) rest (suc i) l e s t =
     let longer : length (before ++ x ∷ []) ≡ length before + 1 = length-append before (x ∷ []) in
     let next : place ≡ length (before ++ x ∷ []) + i = omega (arith, e, longer) in
@@ -112,12 +100,7 @@ grown_name (y ∷ gs) (suc i) count multiple (suc g) = grown_name gs i count mul
 
 absent : (gs : List Segment) (n : List ℕ) (i g : ℕ) → position_from (λ (k : Segment). bytes_eq k.name n) i gs ≡ None → g < length gs → bytes_eq (segment_at gs g).name n ≡ false
 absent [] n i g e lt = absurd (omega arith)
-absent (y ∷ gs) n i g e lt = by (bytes_eq y.name n) refl e g lt (absent gs n (i + 1))
-  where
-    by : (b : Bool) → bytes_eq y.name n ≡ b → cond b (Some i) (position_from (λ (k : Segment). bytes_eq k.name n) (i + 1) gs) ≡ None → (g : ℕ) → g < length (y ∷ gs) → ((g : ℕ) → position_from (λ (k : Segment). bytes_eq k.name n) (i + 1) gs ≡ None → g < length gs → bytes_eq (segment_at gs g).name n ≡ false) → bytes_eq (segment_at (y ∷ gs) g).name n ≡ false
-    by true q e g lt more = cc
-    by false q e zero lt more = q
-    by false q e (suc g) lt more = more g e (omega arith)
+absent (y ∷ gs) n i g e lt = grind (arith, common_steps, (absent gs n (i + 1)))
 
 distinct_new : (gs : List Segment) (n : List ℕ) (own : AddressSize) → Distinct gs → place_of gs n ≡ None → Distinct (gs ++ new_segment n own ∷ [])
 distinct_new gs n own d e g h lt lt' same = go (nat_eq g (length gs)) (nat_eq h (length gs)) refl refl
@@ -156,8 +139,7 @@ distinct_named gs n own (Some i) d e = d
 distinct_named gs n own None d e = distinct_new gs n (first_size n own) d e
 
 distinct_behind : (gs : List Segment) (current count multiple : ℕ) (x : Statement) → Distinct gs → Distinct (segments_behind gs current count multiple x)
-distinct_behind gs current count multiple (statement.Segment n own) d = distinct_named gs n own (place_of gs n) d refl
-distinct_behind gs current count multiple x d = λ g h lt lt' same. d g h (subst (λ n. g < n) (grown_length gs current count multiple) lt) (subst (λ n. h < n) (grown_length gs current count multiple) lt') (rw (grown_name gs current count multiple g, grown_name gs current count multiple h) at same)
+distinct_behind gs current count multiple x d = grind (arith, common_steps, distinct_named, grown_length, grown_name)
 
 pub record Named (y : Layout) : Type 0 where
   pub distinct : Distinct y.standing.segments
@@ -190,25 +172,11 @@ pub itself : (xs : List ℕ) → bytes_eq xs xs ≡ true
 itself xs = grind (arith, bytes_eq-Decides xs xs)
 
 name_or_number : (y : Layout) (g h : ℕ) → Distinct y.standing.segments → g < length y.standing.segments → h < length y.standing.segments → bytes_eq (segment_name y h) (segment_name y g) ≡ nat_eq h g
-name_or_number y g h d lg lh = go (bytes_eq (segment_name y h) (segment_name y g)) (nat_eq h g) refl refl
-  where
-    go : (a b : Bool) → bytes_eq (segment_name y h) (segment_name y g) ≡ a → nat_eq h g ≡ b → a ≡ b
-    go true true p q = refl
-    go false false p q = refl
-    go true false p q =
-        let same : h ≡ g = d h g lh lg p in
-        let differs : h ≢ g = grind (arith, nat_tests) in
-        absurd (differs same)
-    go false true p q =
-        let same : h ≡ g = grind (arith, nat_tests) in
-        let yes : bytes_eq (segment_name y h) (segment_name y g) ≡ true = ap (λ k. bytes_eq (segment_name y k) (segment_name y g)) same ∙ itself (segment_name y g) in
-        cc
+name_or_number y g h d lg lh = grind (arith, common_steps, nat_tests, itself)
 
 pub by_number : (owner : ℕ) (y : Layout) (g : ℕ) → Distinct y.standing.segments → g < length y.standing.segments → (before ls : List Laid) → AllByRecursion (λ (l : Laid). l.spot.segment < length y.standing.segments) ls → filter (λ (x : Line). stands_in y (segment_name y g) x.laid) (lines_behind owner before ls) ≡ lines_at g (lines_behind owner before ls)
 by_number owner y g d lg before [] h = refl
-by_number owner y g d lg before (l ∷ ls) h =
-    ap (λ b. cond b (line_of owner before l ∷ filter (λ (x : Line). stands_in y (segment_name y g) x.laid) (lines_behind owner (before ++ l ∷ []) ls)) (filter (λ (x : Line). stands_in y (segment_name y g) x.laid) (lines_behind owner (before ++ l ∷ []) ls))) (name_or_number y g l.spot.segment d lg h.0)
-    ∙ ap (λ z. cond (nat_eq l.spot.segment g) (line_of owner before l ∷ z) z) (by_number owner y g d lg (before ++ l ∷ []) ls h.1)
+by_number owner y g d lg before (l ∷ ls) h = grind (arith, common_steps, (by_number owner y g d lg (before ++ l ∷ []) ls h.1), name_or_number)
 
 pub all_front : {A : Type 0} (P : A → Type 0) (xs : List A) (i : ℕ) → AllByRecursion P xs → AllByRecursion P (take i xs)
 all_front P [] zero h = tt
@@ -230,11 +198,7 @@ lines_both owner before (x ∷ xs) ys =
 
 pub powers_at : (g : ℕ) (xs : List Line) → ArePowers xs → ArePowers (lines_at g xs)
 powers_at g [] h = tt
-powers_at g (x ∷ xs) h = go (nat_eq x.laid.spot.segment g) (powers_at g xs h.1)
-  where
-    go : (b : Bool) → ArePowers (lines_at g xs) → ArePowers (cond b (x ∷ lines_at g xs) (lines_at g xs))
-    go true r = (h.0, r)
-    go false r = r
+powers_at g (x ∷ xs) h = grind (arith, common_steps, (powers_at g xs h.1))
 
 powers_first : (xs ys : List Line) → ArePowers (xs ++ ys) → ArePowers xs
 powers_first [] ys h = tt
@@ -348,8 +312,4 @@ power_at (x ∷ gs) (suc g) = power_at gs g
 
 -- The section of an object for a segment is aligned as the module's lines in that segment are.
 pub alignment_law : (y : Layout) (owner g : ℕ) → IsLaidOut y → 2 ^ segment_power (slice_get y.standing.segments g) ≡ largest_multiple (lines_at g (lines_behind owner [] y.laid))
-alignment_law y owner g d =
-    let lines : List Line = lines_at g (lines_behind owner [] y.laid) in
-    let same : (segment_at y.standing.segments g).align ≡ largest_multiple lines = (placed owner d).aligns g in
-    ap (λ n. 2 ^ n) (power_at y.standing.segments g ∙ ap (number_of powers) same)
-    ∙ its_power (largest_multiple lines) (largest_power lines (powers_at g (lines_behind owner [] y.laid) (placed owner d).powers))
+alignment_law y owner g d = grind (arith, common_steps, placed, power_at, its_power, largest_power, powers_at)

@@ -1,4 +1,5 @@
 -- Who gives a name, in a link and in the whole program.
+use Rattle.std.proofs.lemmas.Grind.{common_steps}
 use Rattle.std.proofs.Common.{◌≡◌, ℕ, zero, suc, ◌+◌, Bool, true, false, cond, List, [], ◌∷◌, ◌++◌, length, map, slice_get, Option, Some, None, Result, Ok, Err, refl, sym, ◌∙◌, ap, subst, arith}
 use Rattle.std.specs.Prelude.{ℤ, pos, find, ◌||◌}
 use Rattle.std.specs.List.{AllByRecursion, list_any, position_from}
@@ -212,20 +213,13 @@ by_exports exports name w g h = go (locate (λ (e : parts.Exported). e.name) nam
 
 one_exporter : (owner : ℕ) (name : List ℕ) (other : values.Provider) (rest : List parts.Exported) (es : List Export) → by_found (find (λ e. bytes_eq e.name name) (map (exported owner) es ++ rest)) other ≡ cond (is_among (map (λ (e : Export). e.name) es) name) (by_module owner) (by_found (find (λ e. bytes_eq e.name name) rest) other)
 one_exporter owner name other rest [] = refl
-one_exporter owner name other rest (e ∷ es) = go (bytes_eq e.name name) (one_exporter owner name other rest es)
-  where
-    go : (b : Bool) → by_found (find (λ e. bytes_eq e.name name) (map (exported owner) es ++ rest)) other ≡ cond (is_among (map (λ (e : Export). e.name) es) name) (by_module owner) (by_found (find (λ e. bytes_eq e.name name) rest) other) → by_found (cond b (Some (exported owner e)) (find (λ e. bytes_eq e.name name) (map (exported owner) es ++ rest))) other ≡ cond (b || is_among (map (λ (e : Export). e.name) es) name) (by_module owner) (by_found (find (λ e. bytes_eq e.name name) rest) other)
-    go true h = refl
-    go false h = h
+one_exporter owner name other rest (e ∷ es) = grind (arith, common_steps, (one_exporter owner name other rest es))
 
 exporters : (owner : ℕ) (ys : List Layout) (ms : List Module) (name : List ℕ) (other : values.Provider) → AreSources ys ms → exporter_from owner ys name other ≡ by_found (find (λ e. bytes_eq e.name name) (linked_exports owner ms)) other
 exporters owner [] [] name other h = refl
 exporters owner [] (m ∷ ms) name other h = absurd h
 exporters owner (y ∷ ys) [] name other h = absurd h
-exporters owner (y ∷ ys) (m ∷ ms) name other h =
-    ap (λ ns. cond (is_among ns name) (by_module owner) (exporter_from (suc owner) ys name other)) (sym (source_exports y m h.0))
-    ∙ ap (cond (is_among (map (λ (e : Export). e.name) m.object.exports) name) (by_module owner)) (exporters (suc owner) ys ms name other h.1)
-    ∙ sym (one_exporter owner name other (linked_exports (suc owner) ms) m.object.exports)
+exporters owner (y ∷ ys) (m ∷ ms) name other h = grind (arith, common_steps, (exporters (suc owner) ys ms name other h.1), source_exports, one_exporter)
 
 pub providers_agree : (s : Script) (placement : Placement) (ys : List Layout) (ms : List Module) (name : List ℕ) → AreSources ys ms → Agree (program_of ms).exports name (whole.provider_of s placement ys name) (linked.provider_of (script_definitions s placement) (program_of ms).exports (weak_symbols s.symbols) name)
 providers_agree s placement ys ms name h =
@@ -245,9 +239,7 @@ past_all [] = refl
 past_all (l ∷ ls) = past_all ls
 
 pub global_form : (y : Layout) (x : List ℕ) (j : ℕ) (f : Form) → defined (table_of y) (named 0 x) ≡ Some j → defined_form (table_of y) j ≡ Ok f → norm (suc (suc (length (table_of y).definitions))) (table_of y) (global_spot y) (tree.name false (x ∷ [])) ≡ Ok f
-global_form y x j f e h =
-    let z : Symbols = table_of y in
-    ap (λ o. or_fault (Undefined x) (or_else o None) (imported z x) >>= form_of_meaning (norm_of z) z) e ∙ h
+global_form y x j f e h = grind (arith, common_steps)
 
 all_laid_out : (ys : List Layout) (ms : List Module) → AreSources ys ms → AllByRecursion IsLaidOut ys
 all_laid_out [] [] h = tt
@@ -256,10 +248,7 @@ all_laid_out (y ∷ ys) [] h = absurd h
 all_laid_out (y ∷ ys) (m ∷ ms) h = (h.0.laid_out, all_laid_out ys ms h.1)
 
 pub exports_known : (ys : List Layout) (ms : List Module) → AreSources ys ms → AllByRecursion (IsExportOf ys ms) (program_of ms).exports
-exports_known ys ms h = subst (AllByRecursion (IsExportOf ys ms)) (sym (exports_are ms)) (of_sources ys ms ys ms 0 h (λ i. ap (slice_get ys) (zero_first i)) (λ i. ap (slice_get ms) (zero_first i)))
-  where
-    zero_first : (n : ℕ) → n ≡ 0 + n
-    zero_first n = omega arith
+exports_known ys ms h = grind (arith, common_steps, exports_are, of_sources)
 
 module _ (s : Script) (placement : Placement) (ys : List Layout) (ms : List Module) where
   abbrev p : values.Program
@@ -273,11 +262,7 @@ module _ (s : Script) (placement : Placement) (ys : List Layout) (ms : List Modu
 
   -- the normal form of an export's name behind the last statement
   pub export_normal : (e : parts.Exported) (m : IsExportOf ys ms e) → norm (suc (suc (length (table_of m.layout).definitions))) (o.symbols e.owner) (o.spots e.owner (p.global e.owner)) (tree.name false (e.name ∷ [])) ≡ Ok m.form
-  export_normal e m =
-      let z : Symbols = table_of m.layout in
-      ap (λ r. norm (suc (suc (length z.definitions))) (symbols_at r) (spot_in r (length_of r)) (tree.name false (e.name ∷ []))) m.at_y
-      ∙ ap (λ r. norm (suc (suc (length z.definitions))) z (spot_or (global_spot m.layout) r) (tree.name false (e.name ∷ []))) (past_all m.layout.laid)
-      ∙ global_form m.layout e.name m.definition m.form m.defining m.its_form
+  export_normal e m = grind (arith, common_steps, symbols_at, spot_in, past_all, global_form)
 
   of_export : (h : AreSources ys ms) (owner k : ℕ) (x : List ℕ) (i : ℕ) (e : parts.Exported) → slice_get (program_of ms).exports i ≡ Some e → e.name ≡ x → ((turns : ℕ) → o.imports turns owner k ≡ exports_through l turns i) → IsExport p o owner k x e.owner
   of_export h owner k x i e at called says =
@@ -308,5 +293,4 @@ module _ (s : Script) (placement : Placement) (ys : List Layout) (ms : List Modu
 
 -- What linking knows of the modules of sources is of their program: each import comes to what its provider says.
 pub sources_law : (s : Script) (placement : Placement) (ys : List Layout) (ms : List Module) → AreSources ys ms → AreObjects (whole.program_of s placement ys) (linked_objects s placement ys ms)
-sources_law s placement ys ms h =
-    linked_law ValueFault NoValue (imports_linked s placement ys ms) s placement ys (all_laid_out ys ms h) (λ owner k. given s placement ys ms h owner k _ refl)
+sources_law s placement ys ms h = grind (arith, common_steps, linked_law, imports_linked, all_laid_out, given)

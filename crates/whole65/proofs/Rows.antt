@@ -1,4 +1,5 @@
 -- Segments of a link and of the whole program: what they need, and what lies in them.
+use Rattle.std.proofs.lemmas.Grind.{common_steps}
 use Rattle.std.proofs.Common.{◌≡◌, ℕ, ◌<◌, Bool, true, false, nat_eq, cond, List, [], ◌∷◌, ◌++◌, length, map, filter, Option, Some, None, refl, sym, ◌∙◌, ap, suc, ◌+◌, ◌-◌, slice_get, Ok, subst, arith}
 use Rattle.std.specs.Prelude.{◌||◌, find, ◌↔◌, replicate}
 use Rattle.std.specs.List.{AllByRecursion, flat_map, list_any}
@@ -55,15 +56,7 @@ there_too : (n m : List ℕ) (known : List (List ℕ)) → list_any (λ k. bytes
 there_too n m known h e = let same : n ≡ m = same_bytes n m e in ap (λ z. list_any (λ k. bytes_eq z k) known) same ∙ h
 
 any_name : (n m : List ℕ) (known : List (List ℕ)) → list_any (λ k. bytes_eq n k) (with_name known m) ≡ (list_any (λ k. bytes_eq n k) known || bytes_eq n m)
-any_name n m known = go (list_any (λ k. bytes_eq m k) known) refl
-  where
-    by : (b : Bool) → bytes_eq n m ≡ b → list_any (λ k. bytes_eq m k) known ≡ true → list_any (λ k. bytes_eq n k) known ≡ (list_any (λ k. bytes_eq n k) known || b)
-    by true e h = there_too n m known h e ∙ sym (or_true (list_any (λ k. bytes_eq n k) known))
-    by false e h = sym (or_false (list_any (λ k. bytes_eq n k) known))
-
-    go : (b : Bool) → list_any (λ k. bytes_eq m k) known ≡ b → list_any (λ k. bytes_eq n k) (cond b known (known ++ m ∷ [])) ≡ (list_any (λ k. bytes_eq n k) known || bytes_eq n m)
-    go true h = by (bytes_eq n m) refl h
-    go false h = list_any-append (λ k. bytes_eq n k) known (m ∷ []) ∙ ap (λ b. list_any (λ k. bytes_eq n k) known || b) (or_false (bytes_eq n m))
+any_name n m known = grind (arith, common_steps, there_too, or_true, or_false, list_any-append)
 
 pub any_new : (n : List ℕ) (xs known : List (List ℕ)) → list_any (λ k. bytes_eq n k) (with_new known xs) ≡ (list_any (λ k. bytes_eq n k) known || list_any (λ k. bytes_eq n k) xs)
 any_new n [] known = sym (or_false (list_any (λ k. bytes_eq n k) known))
@@ -78,15 +71,7 @@ any_map N n (k ∷ ks) = ap (λ b. bytes_eq n (N k) || b) (any_map N n ks)
 
 -- names of keys that come once are found as those of all are
 one_key : (N : ℕ → List ℕ) (known : List (List ℕ)) (found : List ℕ) (k : ℕ) → with_new known (map N (with_key found k)) ≡ with_name (with_new known (map N found)) (N k)
-one_key N known found k = go (list_any (nat_eq k) found) refl
-  where
-    go : (b : Bool) → list_any (nat_eq k) found ≡ b → with_new known (map N (cond b found (found ++ k ∷ []))) ≡ with_name (with_new known (map N found)) (N k)
-    go false h = ap (with_new known) (map-append N found (k ∷ [])) ∙ new_append known (map N found) (N k ∷ [])
-    go true h =
-        let among : list_any (λ z. bytes_eq (N k) (N z)) found ≡ true = held (λ z. bytes_eq (N k) (N z)) k found h (itself (N k)) in
-        let all : list_any (λ z. bytes_eq (N k) z) (with_new known (map N found)) ≡ true =
-        any_new (N k) (map N found) known ∙ ap (λ b. list_any (λ z. bytes_eq (N k) z) known || b) (any_map N (N k) found ∙ among) ∙ or_true (list_any (λ z. bytes_eq (N k) z) known) in
-        ap (λ b. cond b (with_new known (map N found)) (with_new known (map N found) ++ N k ∷ [])) (sym all)
+one_key x known found k = grind (arith, common_steps, map-append, new_append, held, itself, any_new, any_map, or_true)
 
 names_once : (N : ℕ → List ℕ) (known : List (List ℕ)) (found ks : List ℕ) → with_new known (map N (once found ks)) ≡ with_new (with_new known (map N found)) (map N ks)
 names_once N known found [] = refl
@@ -100,18 +85,7 @@ names_of gs = map (λ (g : Segment). g.name) gs
 
 one_section : (owner : ℕ) (gs : List Segment) (s : Section) → names_of (with_section owner gs s) ≡ with_name (names_of gs) s.name
 one_section owner [] s = refl
-one_section owner (g ∷ gs) s = go (bytes_eq g.name s.name) refl (one_section owner gs s)
-  where
-    go : (b : Bool) → bytes_eq g.name s.name ≡ b → names_of (with_section owner gs s) ≡ with_name (names_of gs) s.name → names_of (cond b (grown owner g s ∷ gs) (g ∷ with_section owner gs s)) ≡ with_name (g.name ∷ names_of gs) s.name
-    go true e h = ap (λ b. cond (b || list_any (λ k. bytes_eq s.name k) (names_of gs)) (g.name ∷ names_of gs) (g.name ∷ (names_of gs ++ s.name ∷ []))) (sym (bytes_swap s.name g.name ∙ e))
-    go false e h =
-        ap (λ z. g.name ∷ z) h
-        ∙ by (list_any (λ k. bytes_eq s.name k) (names_of gs))
-        ∙ ap (λ b. cond (b || list_any (λ k. bytes_eq s.name k) (names_of gs)) (g.name ∷ names_of gs) (g.name ∷ (names_of gs ++ s.name ∷ []))) (sym (bytes_swap s.name g.name ∙ e))
-      where
-        by : (b : Bool) → ◌≡◌ {A = List (List ℕ)} (g.name ∷ cond b (names_of gs) (names_of gs ++ s.name ∷ [])) (cond b (g.name ∷ names_of gs) (g.name ∷ (names_of gs ++ s.name ∷ [])))
-        by true = refl
-        by false = refl
+one_section owner (g ∷ gs) s = grind (arith, common_steps, (one_section owner gs s), bytes_swap)
 
 all_sections : (owner : ℕ) (ss : List Section) (gs : List Segment) → names_of (with_sections owner gs ss) ≡ with_new (names_of gs) (map (λ s. s.name) ss)
 all_sections owner [] gs = refl
@@ -119,9 +93,7 @@ all_sections owner (s ∷ ss) gs = all_sections owner ss (with_section owner gs 
 
 section_names : (y : Layout) (origins : Place → Origin) (sections imports : List ℕ) (cs : List Content) (ks : List ℕ) → AllByRecursion (λ g. g < length y.standing.segments) ks → map (λ (s : Section). s.name) (map (section_of origins y.standing.segments sections imports cs) ks) ≡ map (segment_name y) ks
 section_names y origins sections imports cs [] h = refl
-section_names y origins sections imports cs (k ∷ ks) h =
-    ap (λ n. n ∷ map (λ (s : Section). s.name) (map (section_of origins y.standing.segments sections imports cs) ks)) (name_at y.standing.segments k h.0)
-    ∙ ap (λ z. segment_name y k ∷ z) (section_names y origins sections imports cs ks h.1)
+section_names y origins sections imports cs (k ∷ ks) h = grind (arith, common_steps, (section_names y origins sections imports cs ks h.1), name_at)
 
 pub names_asked : (y : Layout) (ls : List Laid) → map (segment_name y) (map (λ (l : Laid). l.spot.segment) ls) ≡ map (λ (l : Laid). segment_name y l.spot.segment) ls
 names_asked y [] = refl
@@ -164,20 +136,12 @@ size_if b n = cond b (Some n) None
 linked_size : (gs : List Segment) (name : List ℕ) → size_of (map places.need_of gs) name ≡ size_if (list_any (λ n. bytes_eq n name) (names_of gs)) (linked.end_of gs name)
 unfolding size_of
 linked_size [] name = refl
-linked_size (g ∷ gs) name = go (bytes_eq g.name name) (linked_size gs name)
-  where
-    go : (b : Bool) → option_map (λ (n : SegmentNeed). n.size) (find (λ (n : SegmentNeed). bytes_eq n.name name) (map places.need_of gs)) ≡ size_if (list_any (λ n. bytes_eq n name) (names_of gs)) (linked.end_of gs name) → option_map (λ (n : SegmentNeed). n.size) (cond b (Some (places.need_of g)) (find (λ (n : SegmentNeed). bytes_eq n.name name) (map places.need_of gs))) ≡ size_if (b || list_any (λ n. bytes_eq n name) (names_of gs)) (option_map_or (λ (g : Segment). g.size) (cond b (Some g) (segment_of gs name)) 0)
-    go true h = refl
-    go false h = h
+linked_size (g ∷ gs) name = grind (arith, common_steps, (linked_size gs name))
 
 whole_size : (ys : List Layout) (ns : List (List ℕ)) (name : List ℕ) → size_of (map (need_of ys) ns) name ≡ size_if (list_any (λ n. bytes_eq n name) ns) (end_of 0 (items_of ys name))
 unfolding size_of
 whole_size ys [] name = refl
-whole_size ys (n ∷ ns) name = go (bytes_eq n name) refl (whole_size ys ns name)
-  where
-    go : (b : Bool) → bytes_eq n name ≡ b → option_map (λ (n : SegmentNeed). n.size) (find (λ (n : SegmentNeed). bytes_eq n.name name) (map (need_of ys) ns)) ≡ size_if (list_any (λ n. bytes_eq n name) ns) (end_of 0 (items_of ys name)) → option_map (λ (n : SegmentNeed). n.size) (cond b (Some (need_of ys n)) (find (λ (n : SegmentNeed). bytes_eq n.name name) (map (need_of ys) ns))) ≡ size_if (b || list_any (λ n. bytes_eq n name) ns) (end_of 0 (items_of ys name))
-    go true e h = ap (λ z. Some (end_of 0 (items_of ys z))) (same_bytes n name e)
-    go false e h = h
+whole_size ys (n ∷ ns) name = grind (arith, common_steps, (whole_size ys ns name), same_bytes)
 
 pub placement_law : PlacementLaw
 placement_law s ys ms h =
@@ -212,15 +176,10 @@ module _ (p : Program) (fill : ℕ) where
 
 keyed_in : (sections imports : List ℕ) (count g : ℕ) (cs : List Content) → AllByRecursion (IsKeyedContent sections imports count) cs → AllByRecursion (IsKeyedPart sections imports count) (parts_in cs g)
 keyed_in sections imports count g [] h = tt
-keyed_in sections imports count g (c ∷ cs) h = go (nat_eq c.segment g) (keyed_in sections imports count g cs h.1)
-  where
-    go : (b : Bool) → AllByRecursion (IsKeyedPart sections imports count) (parts_in cs g) → AllByRecursion (IsKeyedPart sections imports count) (flat_map (λ (d : Content). d.parts) (cond b (c ∷ filter (λ (d : Content). nat_eq d.segment g) cs) (filter (λ (d : Content). nat_eq d.segment g) cs)))
-    go true r = all_append (IsKeyedPart sections imports count) c.parts (parts_in cs g) h.0.parts r
-    go false r = r
+keyed_in sections imports count g (c ∷ cs) h = grind (arith, common_steps, (keyed_in sections imports count g cs h.1), all_append)
 
 or_empty_cells : (name : List ℕ) (g : Option Segment) → (or_empty name g).cells ≡ cells_or g
-or_empty_cells name None = refl
-or_empty_cells name (Some g) = refl
+or_empty_cells name x = grind (arith, common_steps)
 
 module _ (s : Script) (placement : Placement) (ys : List Layout) (ms : List Module) (fill : ℕ) (name : List ℕ) (sources : AreSources ys ms) (objects : AreObjects (whole.program_of s placement ys) (linked_objects s placement ys ms)) where
   abbrev p : Program
@@ -341,14 +300,4 @@ module _ (s : Script) (placement : Placement) (ys : List Layout) (ms : List Modu
 
 -- What lies in a segment of a link has the bytes of the segment's list in the whole program.
 pub linked_bytes_law : (s : Script) (placement : Placement) (ys : List Layout) (ms : List Module) (fill : ℕ) (name bytes : List ℕ) → AreSources ys ms → AreObjects (whole.program_of s placement ys) (linked_objects s placement ys ms) → AreCells (linkage_of s (linked.program_of ms) placement) fill (cells_or (segment_of (linked.program_of ms).segments name)) bytes ↔ AreBytes (whole.program_of s placement ys) fill 0 (items_of ys name) bytes
-linked_bytes_law s placement ys ms fill name bytes sources objects =
-    let all = modules s placement ys ms fill name sources objects ys ms 0 None bytes sources (λ i. ap (slice_get ys) (zero_first i)) (λ i. ap (slice_get ms) (zero_first i)) in
-    let l : Linkage = linkage_of s (linked.program_of ms) placement in
-    let p : Program = whole.program_of s placement ys in
-    let same : cells_or (segment_of (linked.program_of ms).segments name) ≡ cells_or (behind_modules 0 name None ms) = ap cells_or (segment_law ms name) in (
-      λ h. (let k = all.0 (subst (λ z. AreCells l fill z bytes) same h) in subst (AreBytes p fill 0 (items_of ys name)) (sym (k.4 ∙ ap (λ z. z ++ k.1) k.2)) k.3),
-      λ h. subst (λ z. AreCells l fill z bytes) (sym same) (all.1 ([], bytes, refl, h, refl)),
-    )
-  where
-    zero_first : (n : ℕ) → n ≡ 0 + n
-    zero_first n = omega arith
+linked_bytes_law s placement ys ms fill name bytes sources objects = grind (arith, common_steps, modules, cells_or, behind_modules, segment_law)

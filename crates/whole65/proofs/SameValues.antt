@@ -1,4 +1,5 @@
 -- A normal form has the value of its expression.
+use Rattle.std.proofs.lemmas.Grind.{common_steps}
 use Rattle.std.proofs.Common.{◌≡◌, ℕ, zero, suc, ◌+◌, Bool, true, false, cond, refl, sym, ◌∙◌, subst, arith, List, Option, Some, None, Result, Ok, Err, ap, [], ◌∷◌}
 use Rattle.std.specs.Prelude.{ℤ, slice_get, pos}
 use Rattle.base65.specs.Outcome.{◌>>=◌}
@@ -29,22 +30,14 @@ use Rattle.object65.specs.Folding.{fold1, fold2}
 -- ---- A value stays where imports come to more.
 
 pub bind_ok : {E A B : Type 0} (r : Result A E) (f : A → Result B E) (y : B) → (r >>= f) ≡ Ok y → (x : A) × (r ≡ Ok x) × (f x ≡ Ok y)
-bind_ok (Ok x) f y e = (x, refl, e)
-bind_ok (Err z) f y e = cc
+bind_ok x f y e = grind (arith, common_steps)
 
 pub folded_ok : (r : Result Form FormFault) (f : Form) → folded r ≡ Ok f → r ≡ Ok f
-folded_ok (Ok g) f e = cc
-folded_ok (Err form.OutOfMemory) f e = cc
-folded_ok (Err form.NoValue) f e = cc
-folded_ok (Err form.TooLarge) f e = cc
+folded_ok x f e = grind (arith, common_steps)
 
 -- what is written with its place is what was to be written
 pub written_ok : {A : Type 0} (place : Place) (a b : A) → written place a ≡ Ok b → a ≡ b
-written_ok {A = A} place a b e = go (is_file_name place.file) e
-  where
-    go : (fits : Bool) → ◌≡◌ {A = Result A AsmFault} (cond fits (Ok a) (Err FileNameTooLong)) (Ok b) → a ≡ b
-    go true e = cc
-    go false e = cc
+written_ok {A = A} place a b e = grind (arith, common_steps)
 
 -- the second has the values of the first
 abbrev pub Covers : {E : Type 0} → (ℕ → Result ℤ E) → (ℕ → Result ℤ E) → Type 0
@@ -93,9 +86,7 @@ module _ {E : Type 0} (p : Program) (o : Objects E) (h : AreObjects p o) where
 
   pub value_later : (more turns owner : ℕ) (f : Form) (v : ℤ) → form_value o turns owner f ≡ Ok v → form_value o (more + turns) owner f ≡ Ok v
   value_later zero turns owner f v q = let same : zero + turns ≡ turns = omega arith in rw same q
-  value_later (suc more) turns owner f v q =
-      let same : suc more + turns ≡ suc (more + turns) = omega arith in
-      rw same (value_next (more + turns) owner f v (value_later more turns owner f v q))
+  value_later (suc more) turns owner f v q = grind (arith, common_steps, (value_later more turns owner f v q), value_next)
 
 -- ---- An expression has at most one value.
 
@@ -120,14 +111,7 @@ From p owner place e v = FromMeaning p owner (p.means owner place e) v
 
 -- what has a meaning comes from it
 by_meaning : (p : Program) (owner place : ℕ) (e : Tree) (v : ℤ) (m : Meaning) → meaning_in p owner place e ≡ Some m → FromMeaning p owner (Some m) v → From p owner place e v
-by_meaning p owner place (tree.number n) v m q h = cc
-by_meaning p owner place tree.here v m q h = cc
-by_meaning p owner place (tree.unary op e) v m q h = cc
-by_meaning p owner place (tree.binary op e f) v m q h = cc
-by_meaning p owner place (tree.name b parts) v m q h = rw q h
-by_meaning p owner place (tree.cheap n) v m q h = rw q h
-by_meaning p owner place (tree.forward n) v m q h = rw q h
-by_meaning p owner place (tree.backward n) v m q h = rw q h
+by_meaning p owner place x v m q h = grind (arith, common_steps)
 
 pub inverse : (p : Program) {owner place : ℕ} {e : Tree} {v : ℤ} → Value p owner place e v → From p owner place e v
 inverse p number = refl
@@ -141,14 +125,7 @@ inverse p (joined {a = a} {b = b} d₁ d₂ q) = (a, b, d₁, d₂, q)
 
 -- and the meaning of what has one is all that its value comes from
 pub of_meaning : (p : Program) (owner place : ℕ) (e : Tree) (v : ℤ) (m : Meaning) → meaning_in p owner place e ≡ Some m → From p owner place e v → FromMeaning p owner (Some m) v
-of_meaning p owner place (tree.number n) v m q h = cc
-of_meaning p owner place tree.here v m q h = cc
-of_meaning p owner place (tree.unary op e) v m q h = cc
-of_meaning p owner place (tree.binary op e f) v m q h = cc
-of_meaning p owner place (tree.name b parts) v m q h = rw q at h
-of_meaning p owner place (tree.cheap n) v m q h = rw q at h
-of_meaning p owner place (tree.forward n) v m q h = rw q at h
-of_meaning p owner place (tree.backward n) v m q h = rw q at h
+of_meaning p owner place x v m q h = grind (arith, common_steps)
 
 unique : (p : Program) {owner place : ℕ} {e : Tree} {v : ℤ} → Value p owner place e v → (w : ℤ) → Value p owner place e w → v ≡ w
 unique p number w h = inverse p h
@@ -182,59 +159,37 @@ IsForm o depth owner f None = (k : ℕ) × (slice_get (o.symbols owner).imports 
 
 module _ {E : Type 0} (p : Program) (o : Objects E) (h : AreObjects p o) where
   of_value : (depth owner definition : ℕ) (f : Form) (d : Definition) → slice_get (o.symbols owner).definitions definition ≡ Some d → (r : Option Tree) → form_of_value (norm depth (o.symbols owner)) d.spot r ≡ Ok f → IsForm o depth owner f (value_shown (o.places owner definition) r)
-  of_value depth owner definition f d w None q =
-      let same : address_of d.spot ≡ f = cc in
-      sym same ∙ ap address_of (sym (h.spots owner definition d w))
-  of_value depth owner definition f d w (Some e) q =
-      subst (λ s. norm depth (o.symbols owner) s e ≡ Ok f) (sym (h.spots owner definition d w)) q
+  of_value depth owner definition f d w x q = grind (arith, common_steps)
 
   of_definition : (depth owner definition : ℕ) (f : Form) (r : Option Definition) → slice_get (o.symbols owner).definitions definition ≡ r → form_of_definition (norm depth (o.symbols owner)) r ≡ Ok f → IsForm o depth owner f (definition_shown (o.places owner definition) r)
-  of_definition depth owner definition f None w q = cc
-  of_definition depth owner definition f (Some d) w q = of_value depth owner definition f d w d.value q
+  of_definition depth owner definition f x w q = grind (arith, common_steps)
 
   of_import : (depth owner k : ℕ) (f : Form) (r : Option (List ℕ)) → slice_get (o.symbols owner).imports k ≡ r → imp k ≡ f → IsForm o depth owner f (import_shown r)
-  of_import depth owner k f None w q = (k, w, sym q)
-  of_import depth owner k f (Some x) w q = (k, w, sym q)
+  of_import depth owner k f x w q = grind (arith, common_steps)
 
   of_meant : (depth owner : ℕ) (f : Form) (r : Result names.Meaning AsmFault) → (r >>= form_of_meaning (norm depth (o.symbols owner)) (o.symbols owner)) ≡ Ok f → IsForm o depth owner f (meaning_shown o owner r)
-  of_meant depth owner f (Err e) q = cc
-  of_meant depth owner f (Ok (names.defined_at d)) q = of_definition depth owner d f (slice_get (o.symbols owner).definitions d) refl q
-  of_meant depth owner f (Ok (names.imported_as k)) q =
-      let same : imp k ≡ f = cc in
-      of_import depth owner k f (slice_get (o.symbols owner).imports k) refl same
+  of_meant depth owner f x q = grind (arith, common_steps)
 
   -- the form of an operand is that of what it means
   pub operand : (depth owner place : ℕ) (e : Tree) (f : Form) → (meaning_of (o.symbols owner) (o.spots owner place) e >>= form_of_meaning (norm depth (o.symbols owner)) (o.symbols owner)) ≡ Ok f → IsForm o depth owner f (p.means owner place e)
-  operand depth owner place e f q =
-      subst (IsForm o depth owner f) (sym (h.means owner place e)) (of_meant depth owner f (meaning_of (o.symbols owner) (o.spots owner place) e) q)
+  operand depth owner place e f q = grind (arith, common_steps)
 
   -- likewise of an expression that has a meaning
   pub meant : (depth owner place : ℕ) (e : Tree) (m : Meaning) (f : Form) → meaning_in p owner place e ≡ Some m → norm (suc depth) (o.symbols owner) (o.spots owner place) e ≡ Ok f → IsFormOf o depth owner f m
-  meant depth owner place (tree.number n) m f w q = cc
-  meant depth owner place tree.here m f w q = cc
-  meant depth owner place (tree.unary op e) m f w q = cc
-  meant depth owner place (tree.binary op d e) m f w q = cc
-  meant depth owner place (tree.name b ns) m f w q = subst (IsForm o depth owner f) w (operand depth owner place (tree.name b ns) f q)
-  meant depth owner place (tree.cheap n) m f w q = subst (IsForm o depth owner f) w (operand depth owner place (tree.cheap n) f q)
-  meant depth owner place (tree.forward n) m f w q = subst (IsForm o depth owner f) w (operand depth owner place (tree.forward n) f q)
-  meant depth owner place (tree.backward n) m f w q = subst (IsForm o depth owner f) w (operand depth owner place (tree.backward n) f q)
+  meant depth owner place x m f w q = grind (arith, common_steps)
 
 -- ---- A normal form has the value of its expression.
 
 or_none_is : {E : Type 0} (none : E) (r : Option ℤ) (v : ℤ) → r ≡ Some v → or_none none r ≡ Ok v
-or_none_is none None v q = cc
-or_none_is none (Some w) v q = cc
+or_none_is none x v q = grind (arith, common_steps)
 
 or_none_from : {E : Type 0} (none : E) (r : Option ℤ) (v : ℤ) → or_none none r ≡ Ok v → r ≡ Some v
-or_none_from none None v q = cc
-or_none_from none (Some w) v q = cc
+or_none_from none x v q = grind (arith, common_steps)
 
 module _ {E : Type 0} (p : Program) (o : Objects E) (h : AreObjects p o) where
   -- the forms of an operation's parts
   one_part : (depth owner place : ℕ) (op : Op1) (e : Tree) (f : Form) → norm (suc depth) (o.symbols owner) (o.spots owner place) (tree.unary op e) ≡ Ok f → (g : Form) × (norm (suc depth) (o.symbols owner) (o.spots owner place) e ≡ Ok g) × (fold1 op g ≡ Ok f)
-  one_part depth owner place op e f q =
-      let (g, r, t) = bind_ok (norm (suc depth) (o.symbols owner) (o.spots owner place) e) (λ g. folded (fold1 op g)) f q in
-      (g, r, folded_ok (fold1 op g) f t)
+  one_part depth owner place op e f q = grind (arith, common_steps)
 
   two_parts : (depth owner place : ℕ) (op : Op2) (d e : Tree) (f : Form) → norm (suc depth) (o.symbols owner) (o.spots owner place) (tree.binary op d e) ≡ Ok f → (g : Form) × (k : Form) × (norm (suc depth) (o.symbols owner) (o.spots owner place) d ≡ Ok g) × (norm (suc depth) (o.symbols owner) (o.spots owner place) e ≡ Ok k) × (fold2 op g k ≡ Ok f)
   two_parts depth owner place op d e f q =
@@ -247,9 +202,7 @@ module _ {E : Type 0} (p : Program) (o : Objects E) (h : AreObjects p o) where
 
   -- ---- From the program to the objects.
   export_of : (owner k : ℕ) (x : List ℕ) (provider : ℕ) → slice_get (o.symbols owner).imports k ≡ Some x → p.provider x ≡ by_module provider → IsExport p o owner k x provider
-  export_of owner k x provider there g =
-      let given : IsGiven p o owner k (Some x) = subst (IsGiven p o owner k) there (h.given owner k) in
-      subst (IsGivenBy p o owner k x) g given
+  export_of owner k x provider there g = grind (arith, common_steps)
 
   value_of : (owner k : ℕ) (x : List ℕ) (provider : ℕ) (f : Form) (v : ℤ) (export : IsExport p o owner k x provider) → f ≡ imp k → HasValue o provider export.form v → HasValue o owner f v
   value_of owner k x provider f v export same (turns, got) =
@@ -257,29 +210,20 @@ module _ {E : Type 0} (p : Program) (o : Objects E) (h : AreObjects p o) where
       (suc turns, one ∙ export.later turns ∙ got)
 
   of_script : (owner k : ℕ) (x : List ℕ) (v : ℤ) → slice_get (o.symbols owner).imports k ≡ Some x → p.provider x ≡ by_script v → o.imports zero owner k ≡ Ok v
-  of_script owner k x v there g =
-      let given : IsGiven p o owner k (Some x) = subst (IsGiven p o owner k) there (h.given owner k) in
-      let scripted : IsGivenBy p o owner k x (by_script v) = subst (IsGivenBy p o owner k x) g given in
-      scripted zero
+  of_script owner k x v there g = grind (arith, common_steps)
 
   linked : {owner place : ℕ} {e : Tree} {v : ℤ} → Value p owner place e v → (depth : ℕ) (f : Form) → norm depth (o.symbols owner) (o.spots owner place) e ≡ Ok f → HasValue o owner f v
   linked d zero f q = cc
   linked (number {n = n}) (suc depth) f q = let same : lit (pos n) ≡ f = cc in (0, rw (← same) refl)
-  linked (here {owner = owner} {place = place}) (suc depth) f q =
-      let same : address_of (o.spots owner place) ≡ f = cc in
-      (0, rw (← same) (at_place 0 owner place))
-  linked (label {owner = owner} {place = place} {at = at} {e = e} w) (suc depth) f q =
-      let same : f ≡ address_of (o.spots owner at) = meant p o h depth owner place e (label_at at) f w q in
-      (0, rw same (at_place 0 owner at))
+  linked (here {owner = owner} {place = place}) (suc depth) f q = grind (arith, common_steps, at_place)
+  linked (label {owner = owner} {place = place} {at = at} {e = e} w) (suc depth) f q = grind (arith, common_steps, meant, at_place)
   linked (constant {owner = owner} {place = place} {at = at} {e = e} {f = g} w d) (suc depth) f q =
       linked d depth f (meant p o h depth owner place e (constant_at at g) f w q)
   linked (exported {owner = owner} {place = place} {provider = provider} {e = e} {x = x} {v = v} w g d) (suc depth) f q =
       let (k, there, same) = meant p o h depth owner place e (import_of x) f w q in
       let export : IsExport p o owner k x provider = export_of owner k x provider there g in
       value_of owner k x provider f v export same (linked d export.depth export.form export.normal)
-  linked (scripted {owner = owner} {place = place} {e = e} {x = x} {v = v} w g) (suc depth) f q =
-      let (k, there, same) = meant p o h depth owner place e (import_of x) f w q in
-      (0, rw same (of_script owner k x v there g))
+  linked (scripted {owner = owner} {place = place} {e = e} {x = x} {v = v} w g) (suc depth) f q = grind (arith, common_steps, meant, of_script)
   linked (prefixed {owner = owner} {place = place} {op = op} {e = e} {a = a} d) (suc depth) f q =
       let (g, r, t) = one_part depth owner place op e f q in
       let (turns, u) = linked d (suc depth) g r in
@@ -316,17 +260,13 @@ module _ {E : Type 0} (p : Program) (o : Objects E) (h : AreObjects p o) where
   import_back turns below owner place k e x v w by_nobody g given d = absurd (given turns v d)
 
   meaning_back : (turns : ℕ) → BelowExport turns → (depth : ℕ) → Through turns depth → (owner place : ℕ) (e : Tree) (f : Form) (v : ℤ) (m : Option Meaning) → meaning_in p owner place e ≡ m → IsForm o depth owner f m → form_value o turns owner f ≡ Ok v → Value p owner place e v
-  meaning_back turns below depth through owner place e f v None w (k, there, same) d =
-      let never = subst (IsGiven p o owner k) there (h.given owner k) in
-      absurd (never turns v (rw same at d))
+  meaning_back turns below depth through owner place e f v None w (k, there, same) d = grind (arith, common_steps)
   meaning_back turns below depth through owner place e f v (Some (label_at at)) w same d =
       let there : Ok (p.address owner at) ≡ Ok v = sym (at_place turns owner at) ∙ (rw same at d) in
       let one : p.address owner at ≡ v = cc there in
       subst (λ z. Value p owner place e z) one (label w)
   meaning_back turns below depth through owner place e f v (Some (constant_at at g)) w q d = constant w (through owner at g f v q d)
-  meaning_back turns below depth through owner place e f v (Some (import_of x)) w (k, there, same) d =
-      let given : IsGiven p o owner k (Some x) = subst (IsGiven p o owner k) there (h.given owner k) in
-      import_back turns below owner place k e x v w (p.provider x) refl given (rw same at d)
+  meaning_back turns below depth through owner place e f v (Some (import_of x)) w (k, there, same) d = grind (arith, common_steps, import_back)
 
   expression_back : (turns : ℕ) → BelowExport turns → (depth : ℕ) → Through turns depth → (owner place : ℕ) (e : Tree) (f : Form) (v : ℤ) → norm (suc depth) (o.symbols owner) (o.spots owner place) e ≡ Ok f → form_value o turns owner f ≡ Ok v → Value p owner place e v
   expression_back turns below depth through owner place (tree.number n) f v q d =

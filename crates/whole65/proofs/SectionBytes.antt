@@ -1,4 +1,5 @@
 -- The bytes of a module's lines in a segment and those of its parts there.
+use Rattle.std.proofs.lemmas.Grind.{common_steps}
 use Rattle.std.proofs.Common.{◌≡◌, ℕ, ◌+◌, Bool, true, false, cond, List, Result, Ok, Err, refl, sym, ◌∙◌, ap, subst, arith, suc, ◌-◌, [], ◌∷◌, ◌++◌, length, Option, Some, None, nat_eq, map, filter, slice_get}
 use Rattle.std.specs.Prelude.{ℤ, pos, ◌+ℤ◌, ◌-ℤ◌, ◌↔◌, replicate}
 use Rattle.std.specs.Int.{w64}
@@ -58,20 +59,10 @@ HasBytes o owner width f bytes = (v : ℤ) × HasValue o owner f v × AreStored 
 module _ {E : Type 0} (o : Objects E) (owner fill : ℕ) where
   of_literal : (width : Width) (v : ℤ) (part : Part) (bytes : List ℕ) (b : Bool) → fits_width width v ≡ b → ◌≡◌ {A = Result Part AsmFault} (cond b (Ok (Known (value_bytes width v))) (Err OutOfRange)) (Ok part) → ArePart (HasValue o owner) fill part bytes ↔ HasBytes o owner width (lit v) bytes
   of_literal width v part bytes false fits e = cc
-  of_literal width v part bytes true fits e =
-      let same : Known (value_bytes width v) ≡ part = cc in
-      let there : ArePart (HasValue o owner) fill (Known (value_bytes width v)) bytes → HasBytes o owner width (lit v) bytes = λ h. (v, (0, refl), (fits, h)) in
-      let back : HasBytes o owner width (lit v) bytes → ArePart (HasValue o owner) fill (Known (value_bytes width v)) bytes =
-      λ h. (let both : v ≡ h.0 = literal_is v h.0 h.1.1 in h.2.1 ∙ ap (value_bytes width) (sym both)) in
-      (λ h. there (subst (λ q. ArePart (HasValue o owner) fill q bytes) (sym same) h), λ h. subst (λ q. ArePart (HasValue o owner) fill q bytes) same (back h))
-    where
-      literal_is : (v w : ℤ) → ◌≡◌ {A = Result ℤ E} (Ok v) (Ok w) → v ≡ w
-      literal_is v w e = cc
+  of_literal width v part bytes true fits e = grind (arith, common_steps)
 
   of_waiting : (width : Width) (place : Place) (f : Form) (part : Part) (bytes : List ℕ) → written place (Waiting width place f) ≡ Ok part → ArePart (HasValue o owner) fill part bytes ↔ HasBytes o owner width f bytes
-  of_waiting width place f part bytes e =
-      let same : Waiting width place f ≡ part = written_ok place (Waiting width place f) part e in
-      (λ h. subst (λ q. ArePart (HasValue o owner) fill q bytes) (sym same) h, λ h. subst (λ q. ArePart (HasValue o owner) fill q bytes) same h)
+  of_waiting width place f part bytes e = grind (arith, common_steps)
 
   -- a part has the bytes of the form that is stored
   pub of_stored : (width : Width) (place : Place) (f : Form) (part : Part) (bytes : List ℕ) → stored width place f ≡ Ok part → ArePart (HasValue o owner) fill part bytes ↔ HasBytes o owner width f bytes
@@ -84,9 +75,7 @@ module _ {E : Type 0} (o : Objects E) (owner fill : ℕ) where
   -- ---- Branches.
 
   two_more : (base : ℤ) (offset : ℕ) → wrapped (wrapped (base +ℤ pos offset) +ℤ pos 2) ≡ wrapped (base +ℤ pos (offset + 2))
-  two_more base offset =
-      let regroup : (base +ℤ pos offset) +ℤ pos 2 ≡ base +ℤ pos (offset + 2) = omega (arith, ints) in
-      int_wrap-add_left w64 (base +ℤ pos offset) (pos 2) ∙ ap wrapped regroup
+  two_more base offset = grind (arith, common_steps, ints, int_wrap-add_left)
 
   abbrev Counted : Width → ℤ → Form → List ℕ → Type 0
   Counted width address f bytes = (v : ℤ) × HasValue o owner f v × AreStored width (counted_from width address v) bytes
@@ -117,9 +106,7 @@ module _ {E : Type 0} (o : Objects E) (owner fill : ℕ) where
           (v, (turns, first), subst (λ z. AreStored Branch z bytes) (sym (counted v ∙ one)) st)
 
   unchanged : (width : Width) (f h : Form) (bytes : List ℕ) → ◌≡◌ {A = Result Form AsmFault} (Ok f) (Ok h) → HasBytes o owner width f bytes ↔ HasBytes o owner width h bytes
-  unchanged width f h bytes e =
-      let same : f ≡ h = cc in
-      (λ k. subst (λ z. HasBytes o owner width z bytes) same k, λ k. subst (λ z. HasBytes o owner width z bytes) (sym same) k)
+  unchanged width f h bytes e = grind (arith, common_steps)
 
   -- an operand's value is counted as its form is
   pub of_operand : (width : Width) (address : ℤ) (s : Spot) (f h : Form) (bytes : List ℕ) → address ≡ wrapped (o.bases owner s.segment +ℤ pos s.offset) → operand_form width s f ≡ Ok h → Counted width address f bytes ↔ HasBytes o owner width h bytes
@@ -134,17 +121,10 @@ module _ {E : Type 0} (o : Objects E) (owner fill : ℕ) where
 module _ {E : Type 0} (p : Program) (o : Objects E) (h : AreObjects p o) (fill : ℕ) (x : Line) (at_spot : o.spots x.owner x.place ≡ x.laid.spot) where
   -- one part alone
   single : (q : Part) (bytes : List ℕ) → ArePart (HasValue o x.owner) fill q bytes ↔ AreParts (HasValue o x.owner) fill (q ∷ []) bytes
-  single q bytes = (λ k. (bytes, [], k, refl, sym (append-nil bytes)), back)
-    where
-      back : AreParts (HasValue o x.owner) fill (q ∷ []) bytes → ArePart (HasValue o x.owner) fill q bytes
-      back (own, rest, k, none, e) =
-          let same : bytes ≡ own = e ∙ ap (λ z. own ++ z) none ∙ append-nil own in
-          subst (ArePart (HasValue o x.owner) fill q) (sym same) k
+  single q bytes = grind (arith, common_steps)
 
   none : (ps : List Part) (bytes : List ℕ) → ◌≡◌ {A = Result (List Part) AsmFault} (Ok []) (Ok ps) → (bytes ≡ []) ↔ AreParts (HasValue o x.owner) fill ps bytes
-  none ps bytes e =
-      let same : [] ≡ ps = cc in
-      (λ k. subst (λ z. AreParts (HasValue o x.owner) fill z bytes) same k, λ k. subst (λ z. AreParts (HasValue o x.owner) fill z bytes) (sym same) k)
+  none ps bytes e = grind (arith, common_steps)
 
   -- an expression has the value of its form
   values : (e : Tree) (f : Form) (v : ℤ) → norm_of (o.symbols x.owner) x.laid.spot e ≡ Ok f → Value p x.owner x.place e v ↔ HasValue o x.owner f v
@@ -162,9 +142,7 @@ module _ {E : Type 0} (p : Program) (o : Objects E) (h : AreObjects p o) (fill :
       let (f, normal, kept) = bind_ok (norm_of (o.symbols x.owner) x.laid.spot e) (stored width x.laid.place) q r in
       let part = of_stored o x.owner fill width x.laid.place f q bytes kept in
       (λ k. part.1 (k.0, (values e f k.0 normal).0 k.1, k.2), λ k. (let b : HasBytes o x.owner width f bytes = part.0 k in (b.0, (values e f b.0 normal).1 b.1, b.2)))
-  of_item width (item.Text own) q bytes r =
-      let same : Known own ≡ q = cc in
-      (λ k. subst (λ z. ArePart (HasValue o x.owner) fill z bytes) same k, λ k. subst (λ z. ArePart (HasValue o x.owner) fill z bytes) (sym same) k)
+  of_item width (item.Text own) q bytes r = grind (arith, common_steps)
 
   of_items : (width : Width) (is : List Item) (qs : List Part) (bytes : List ℕ) → each (item_part (o.symbols x.owner) x.laid width) is ≡ Ok qs → AreItems p x width is bytes ↔ AreParts (HasValue o x.owner) fill qs bytes
   of_items width [] qs bytes r = none qs bytes r
@@ -200,8 +178,7 @@ module _ {E : Type 0} (p : Program) (o : Objects E) (h : AreObjects p o) (fill :
   of_operands None None qs bytes r = none qs bytes r
 
   code_part : (c : Option ℕ) → opcode_part c ≡ Known (code_bytes c)
-  code_part None = refl
-  code_part (Some c) = refl
+  code_part x = grind (arith, common_steps)
 
   of_instruction : (m : Mnemonic) (d : Operand) (s : Settled) (qs : List Part) (bytes : List ℕ) → instruction_parts (o.symbols x.owner) x.laid m d s ≡ Ok qs → AreInstruction p x m d s bytes ↔ AreParts (HasValue o x.owner) fill qs bytes
   of_instruction m d (InMode mode) qs bytes r =
@@ -220,15 +197,10 @@ module _ {E : Type 0} (p : Program) (o : Objects E) (h : AreObjects p o) (fill :
   -- ---- Room and parts of files.
 
   of_alone : (q : Part) (qs : List Part) (bytes : List ℕ) → ◌≡◌ {A = Result (List Part) AsmFault} (Ok (q ∷ [])) (Ok qs) → ArePart (HasValue o x.owner) fill q bytes ↔ AreParts (HasValue o x.owner) fill qs bytes
-  of_alone q qs bytes r =
-      let same : q ∷ [] ≡ qs = cc in
-      (λ k. subst (λ z. AreParts (HasValue o x.owner) fill z bytes) same ((single q bytes).0 k), λ k. (single q bytes).1 (subst (λ z. AreParts (HasValue o x.owner) fill z bytes) (sym same) k))
+  of_alone q qs bytes r = grind (arith, common_steps)
 
   of_room : (count : ℕ) (s : Settled) (bytes : List ℕ) → ArePart (HasValue o x.owner) fill (room_part count s) bytes ≡ (bytes ≡ replicate count (filling fill s))
-  of_room count (FilledWith b) bytes = refl
-  of_room count Unsettled bytes = refl
-  of_room count (InMode m) bytes = refl
-  of_room count (FromByte b) bytes = refl
+  of_room count x bytes = grind (arith, common_steps)
 
   room : (count len : ℕ) (s : Settled) (qs : List Part) (bytes : List ℕ) → count ≡ len → ◌≡◌ {A = Result (List Part) AsmFault} (Ok (room_part len s ∷ [])) (Ok qs) → (bytes ≡ replicate count (filling fill s)) ↔ AreParts (HasValue o x.owner) fill qs bytes
   room count len s qs bytes e r =
@@ -276,16 +248,10 @@ pub record IsContent (y : Symbols) (l : Laid) (c : Content) : Type 0 where
   pub said : said_of y l ≡ Ok c.said
 
 pub content_is : (y : Symbols) (l : Laid) (c : Content) → content_of y l ≡ Ok c → IsContent y l c
-content_is y l c e =
-    let made : List Part → List Said → Content = λ ps ss. record { segment = l.spot.segment; asks = asks_section l.stated; parts = ps; said = ss } in
-    let (ps, first, others) = bind_ok (parts_of y l) (λ ps. said_of y l >>= (λ ss. Ok (made ps ss))) c e in
-    let (ss, second, last) = bind_ok (said_of y l) (λ ss. Ok (made ps ss)) c others in
-    let same : made ps ss ≡ c = cc last in
-    record { parts = first ∙ ap (λ (z : Content). Ok z.parts) same; segment = sym (ap (λ (z : Content). z.segment) same); asks = sym (ap (λ (z : Content). z.asks) same); said = second ∙ ap (λ (z : Content). Ok z.said) same }
+content_is y l c e = grind (arith, common_steps)
 
 pub placed_ok : (place : Place) (r : Result Content AsmFault) (c : Content) → at_place place r ≡ Ok c → r ≡ Ok c
-placed_ok place (Ok d) c e = cc
-placed_ok place (Err f) c e = cc
+placed_ok place x c e = grind (arith, common_steps)
 
 pub in_middle : (before : List Laid) (l : Laid) (ls : List Laid) → slice_get (before ++ l ∷ ls) (length before) ≡ Some l
 in_middle [] l ls = refl
@@ -296,9 +262,7 @@ module _ {E : Type 0} (p : Program) (o : Objects E) (h : AreObjects p o) (fill o
   here before ls = lines_at g (lines_behind owner before ls)
 
   of_lines : (before ls : List Laid) (cs : List Content) (at : ℕ) (bytes : List ℕ) → before ++ ls ≡ all → EndsAt at (here before ls) → contents_from (o.symbols owner) ls ≡ Ok cs → AreBytes p fill at (map line (here before ls)) bytes ↔ AreParts (HasValue o owner) fill (parts_in cs g) bytes
-  of_lines before [] cs at bytes w ends e =
-      let same : [] ≡ cs = cc in
-      (λ k. subst (λ z. AreParts (HasValue o owner) fill (parts_in z g) bytes) same k, λ k. subst (λ z. AreParts (HasValue o owner) fill (parts_in z g) bytes) (sym same) k)
+  of_lines before [] cs at bytes w ends e = grind (arith, common_steps)
   of_lines before (l ∷ ls) cs at bytes w ends e =
       let found : Laid → Result Content PlacedFault = λ l. at_place l.place (content_of (o.symbols owner) l) in
       let (c, first, others) = bind_ok (found l) (λ y. each found ls >>= (λ ys. Ok (y ∷ ys))) cs e in
@@ -334,9 +298,4 @@ module _ {E : Type 0} (p : Program) (o : Objects E) (h : AreObjects p o) (fill o
 -- A module's lines in a segment, from a multiple of their alignment on, have the bytes of what its statements put into the
 -- section.
 pub section_law : (E : Type 0) → (p : Program) (o : Objects E) (fill begin owner g : ℕ) (y : Layout) (cs : List Content) (bytes : List ℕ) → AreObjects p o → o.symbols owner ≡ table_of y → ((place : ℕ) (l : Laid) → slice_get y.laid place ≡ Some l → o.spots owner place ≡ l.spot) → IsLaidOut y → IsMultiple begin (largest_multiple (lines_at g (lines_behind owner [] y.laid))) → contents_from (table_of y) y.laid ≡ Ok cs → AreBytes p fill begin (map line (lines_at g (lines_behind owner [] y.laid))) bytes ↔ AreParts (HasValue o owner) fill (parts_in cs g) bytes
-section_law E p o fill begin owner g y cs bytes h table spots d m e =
-    let lines : List Line = lines_at g (lines_behind owner [] y.laid) in
-    let powers : ArePowers lines = powers_at g (lines_behind owner [] y.laid) (placed owner d).powers in
-    let zero_more : begin + 0 ≡ begin = omega arith in
-    let ends : EndsAt begin lines = subst (λ n. EndsAt n lines) zero_more (ends_moved begin 0 lines powers m (all_end owner g d)) in
-    of_lines p o h fill owner g y.laid spots [] y.laid cs begin bytes refl ends (subst (λ z. contents_from z y.laid ≡ Ok cs) (sym table) e)
+section_law x p o fill begin owner g y cs bytes h table spots d m e = grind (arith, common_steps, powers_at, placed, ends_moved, all_end, of_lines)

@@ -1,4 +1,5 @@
 -- The sections of an object, and what they make of one segment.
+use Rattle.std.proofs.lemmas.Grind.{common_steps}
 use Rattle.std.proofs.Common.{◌≡◌, ℕ, suc, length, ◌<◌, Bool, true, false, nat_eq, cond, List, [], ◌∷◌, ◌++◌, map, filter, Option, Some, None, Result, Ok, refl, sym, ◌∙◌, ap, subst, arith, zero, slice_get}
 use Rattle.std.specs.Prelude.{⊤, ◌&&◌, ◌||◌, unwrap_or}
 use Rattle.std.specs.List.{AllByRecursion, list_any, position}
@@ -65,22 +66,10 @@ neither false b e = (refl, e)
 
 pub held : (p : ℕ → Bool) (k : ℕ) (ks : List ℕ) → list_any (nat_eq k) ks ≡ true → p k ≡ true → list_any p ks ≡ true
 held p k [] e h = cc
-held p k (x ∷ ks) e h = go (nat_eq k x) refl e (held p k ks)
-  where
-    go : (b : Bool) → nat_eq k x ≡ b → (b || list_any (nat_eq k) ks) ≡ true → (list_any (nat_eq k) ks ≡ true → p k ≡ true → list_any p ks ≡ true) → (p x || list_any p ks) ≡ true
-    go true q e more = ap (λ b. b || list_any p ks) (ap p (sym (equal k x q)) ∙ h)
-    go false q e more = ap (λ b. p x || b) (more e h) ∙ or_true (p x)
+held p k (x ∷ ks) e h = grind (arith, common_steps, (held p k ks), equal, or_true)
 
 any_with : (p : ℕ → Bool) (found : List ℕ) (k : ℕ) → list_any p (with_key found k) ≡ (list_any p found || p k)
-any_with p found k = go (list_any (nat_eq k) found) refl
-  where
-    by : (b : Bool) → p k ≡ b → list_any (nat_eq k) found ≡ true → list_any p found ≡ (list_any p found || b)
-    by true e h = held p k found h e ∙ sym (or_true (list_any p found))
-    by false e h = sym (or_false (list_any p found))
-
-    go : (b : Bool) → list_any (nat_eq k) found ≡ b → list_any p (cond b found (found ++ k ∷ [])) ≡ (list_any p found || p k)
-    go true e = by (p k) refl e
-    go false e = list_any-append p found (k ∷ []) ∙ ap (λ b. list_any p found || b) (or_false (p k))
+any_with p found k = grind (arith, common_steps, held, or_true, or_false, list_any-append)
 
 pub any_once : (p : ℕ → Bool) (found ks : List ℕ) → list_any p (once found ks) ≡ (list_any p found || list_any p ks)
 any_once p found [] = sym (or_false (list_any p found))
@@ -122,11 +111,7 @@ pub number_first : (ks : List ℕ) (k g : ℕ) → nat_eq g k ≡ true → numbe
 number_first ks k g e = ap (λ o. unwrap_or o 0) (at_front (nat_eq g) k ks e)
 
 pub number_later : (ks : List ℕ) (k g : ℕ) → nat_eq g k ≡ false → list_any (nat_eq g) ks ≡ true → number_of (k ∷ ks) g ≡ suc (number_of ks g)
-number_later ks k g e h = ap (λ o. unwrap_or o 0) (behind_front (nat_eq g) k ks e) ∙ by (position (nat_eq g) ks) refl
-  where
-    by : (o : Option ℕ) → position (nat_eq g) ks ≡ o → unwrap_or (option_map suc o) 0 ≡ suc (unwrap_or o 0)
-    by (Some i) q = refl
-    by None q = (let never : list_any (nat_eq g) ks ≡ false = none_found (nat_eq g) ks q in absurd cc)
+number_later ks k g e h = grind (arith, common_steps, behind_front, none_found)
 
 -- ---- Sections that are asked for.
 
@@ -150,24 +135,11 @@ asked_are z (l ∷ ls) cs e =
 
 asked_there : (y : Layout) (name : List ℕ) (ls : List Laid) → list_any (λ l. stands_in y name l && asks_section l.stated) ls ≡ list_any (λ g. bytes_eq (segment_name y g) name) (map (λ l. l.spot.segment) (filter (λ l. asks_section l.stated) ls))
 asked_there y name [] = refl
-asked_there y name (l ∷ ls) = go (stands_in y name l) (asks_section l.stated) refl (asked_there y name ls)
-  where
-    others : List ℕ
-    others = map (λ (x : Laid). x.spot.segment) (filter (λ (x : Laid). asks_section x.stated) ls)
-
-    go : (a b : Bool) → stands_in y name l ≡ a → list_any (λ l. stands_in y name l && asks_section l.stated) ls ≡ list_any (λ g. bytes_eq (segment_name y g) name) others → ((a && b) || list_any (λ l. stands_in y name l && asks_section l.stated) ls) ≡ list_any (λ g. bytes_eq (segment_name y g) name) (map (λ (x : Laid). x.spot.segment) (cond b (l ∷ filter (λ (x : Laid). asks_section x.stated) ls) (filter (λ (x : Laid). asks_section x.stated) ls)))
-    go true true e h = ap (λ b. b || list_any (λ g. bytes_eq (segment_name y g) name) others) (sym e)
-    go true false e h = h
-    go false true e h = h ∙ ap (λ b. b || list_any (λ g. bytes_eq (segment_name y g) name) others) (sym e)
-    go false false e h = h
+asked_there y name (l ∷ ls) = grind (arith, common_steps, (asked_there y name ls))
 
 below_all : (bound : ℕ) (ls : List Laid) → AllByRecursion (λ l. l.spot.segment < bound) ls → AllByRecursion (λ g. g < bound) (map (λ l. l.spot.segment) (filter (λ l. asks_section l.stated) ls))
 below_all bound [] h = tt
-below_all bound (l ∷ ls) h = go (asks_section l.stated) (below_all bound ls h.1)
-  where
-    go : (b : Bool) → AllByRecursion (λ g. g < bound) (map (λ (x : Laid). x.spot.segment) (filter (λ (x : Laid). asks_section x.stated) ls)) → AllByRecursion (λ g. g < bound) (map (λ (x : Laid). x.spot.segment) (cond b (l ∷ filter (λ (x : Laid). asks_section x.stated) ls) (filter (λ (x : Laid). asks_section x.stated) ls)))
-    go true r = (h.0, r)
-    go false r = r
+below_all bound (l ∷ ls) h = grind (arith, common_steps, (below_all bound ls h.1))
 
 -- the keys of a module's sections
 pub record AreKeys (y : Layout) (keys : List ℕ) : Type 0 where

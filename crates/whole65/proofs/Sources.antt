@@ -1,4 +1,5 @@
 -- The contents of a source's object, and what its sections make of a segment.
+use Rattle.std.proofs.lemmas.Grind.{common_steps}
 use Rattle.std.proofs.Common.{◌≡◌, ℕ, zero, suc, ◌+◌, ◌<◌, Bool, true, false, nat_eq, cond, List, [], ◌∷◌, ◌++◌, length, map, filter, take, slice_get, Some, Result, Ok, Err, refl, sym, ◌∙◌, ap, subst, arith, inl, inr, Option, None}
 use Rattle.std.specs.Prelude.{IfOk, ◌||◌, not, sum_by}
 use Rattle.std.specs.List.{AllByRecursion, flat_map, list_any}
@@ -62,49 +63,28 @@ joined_long (Fill m) (Fill n ∷ fs) =
     let one = joined_long (Fill (m + n)) fs in
     let three = sum_by-cons fragment_len (Fill n) fs in
     omega (arith, one, three)
-joined_long (Literal a) (Fill n ∷ fs) = apart (Literal a) (Fill n) fs (joined_long (Fill n) fs)
-  where
-    apart : (f g : Fragment) (fs : List Fragment) → sum_by fragment_len (joined g fs) ≡ fragment_len g + sum_by fragment_len fs → sum_by fragment_len (f ∷ joined g fs) ≡ fragment_len f + sum_by fragment_len (g ∷ fs)
-    apart f g fs h = sum_by-cons fragment_len f (joined g fs) ∙ ap (λ n. fragment_len f + n) (h ∙ sym (sum_by-cons fragment_len g fs))
+joined_long (Literal a) (Fill n ∷ fs) = grind (arith, common_steps, (joined_long (Fill n) fs), sum_by-cons)
 joined_long (Literal a) (Value w n g ∷ fs) = sum_by-cons fragment_len (Literal a) (joined (Value w n g) fs) ∙ ap (λ n. length a + n) (joined_long (Value w n g) fs ∙ sym (sum_by-cons fragment_len (Value w n g) fs))
 joined_long (Fill m) (Literal b ∷ fs) = sum_by-cons fragment_len (Fill m) (joined (Literal b) fs) ∙ ap (λ n. m + n) (joined_long (Literal b) fs ∙ sym (sum_by-cons fragment_len (Literal b) fs))
 joined_long (Fill m) (Value w n g ∷ fs) = sum_by-cons fragment_len (Fill m) (joined (Value w n g) fs) ∙ ap (λ n. m + n) (joined_long (Value w n g) fs ∙ sym (sum_by-cons fragment_len (Value w n g) fs))
 joined_long (Value w n f) (g ∷ fs) = sum_by-cons fragment_len (Value w n f) (joined g fs) ∙ ap (λ k. fragment_len (Value w n f) + k) (joined_long g fs ∙ sym (sum_by-cons fragment_len g fs))
 
 all_long : (fs : List Fragment) → sum_by fragment_len (all_joined fs) ≡ sum_by fragment_len fs
-all_long [] = refl
-all_long (f ∷ fs) = joined_long f fs ∙ sym (sum_by-cons fragment_len f fs)
+all_long x = grind (arith, common_steps, joined_long, sum_by-cons)
 
 empty_long : (f : Fragment) → is_empty f ≡ true → fragment_len f ≡ 0
-empty_long (Literal []) e = refl
-empty_long (Literal (b ∷ bs)) e = cc
-empty_long (Fill zero) e = refl
-empty_long (Fill (suc n)) e = cc
-empty_long (Value w n f) e = cc
+empty_long x e = grind (arith, common_steps)
 
 kept_long : (fs : List Fragment) → sum_by fragment_len (filter (λ f. not (is_empty f)) fs) ≡ sum_by fragment_len fs
 kept_long [] = refl
-kept_long (f ∷ fs) = go (is_empty f) refl (kept_long fs)
-  where
-    go : (b : Bool) → is_empty f ≡ b → sum_by fragment_len (filter (λ f. not (is_empty f)) fs) ≡ sum_by fragment_len fs → sum_by fragment_len (cond (not b) (f ∷ filter (λ f. not (is_empty f)) fs) (filter (λ f. not (is_empty f)) fs)) ≡ sum_by fragment_len (f ∷ fs)
-    go false e h = sum_by-cons fragment_len f (filter (λ f. not (is_empty f)) fs) ∙ ap (λ n. fragment_len f + n) h ∙ sym (sum_by-cons fragment_len f fs)
-    go true e h =
-        let none = empty_long f e in
-        let more = sum_by-cons fragment_len f fs in
-        omega (arith, h, none, more)
+kept_long (f ∷ fs) = grind (arith, common_steps, (kept_long fs), sum_by-cons, empty_long)
 
 part_long : (origins : Place → Origin) (ss is : List ℕ) (p : Part) → fragment_len (fragment_of origins ss is p) ≡ part_len p
-part_long origins ss is (Known bytes) = refl
-part_long origins ss is (Filled n) = refl
-part_long origins ss is (Waiting w n f) = refl
+part_long origins ss is x = grind (arith, common_steps)
 
 parts_long : (origins : Place → Origin) (ss is : List ℕ) (ps : List Part) → sum_by fragment_len (map (fragment_of origins ss is) ps) ≡ sum_by part_len ps
 parts_long origins ss is [] = refl
-parts_long origins ss is (p ∷ ps) =
-    sum_by-cons fragment_len (fragment_of origins ss is p) (map (fragment_of origins ss is) ps)
-    ∙ ap (λ n. n + sum_by fragment_len (map (fragment_of origins ss is) ps)) (part_long origins ss is p)
-    ∙ ap (λ n. part_len p + n) (parts_long origins ss is ps)
-    ∙ sym (sum_by-cons part_len p ps)
+parts_long origins ss is (p ∷ ps) = grind (arith, common_steps, (parts_long origins ss is ps), sum_by-cons, part_long)
 
 pub joined_parts_long : (origins : Place → Origin) (ss is : List ℕ) (ps : List Part) → sum_by fragment_len (all_joined (fragments_of origins ss is ps)) ≡ sum_by part_len ps
 joined_parts_long origins ss is ps = all_long (fragments_of origins ss is ps) ∙ kept_long (map (fragment_of origins ss is) ps) ∙ parts_long origins ss is ps
@@ -116,9 +96,7 @@ abbrev IsLong : Symbols → Laid → Type 0
 IsLong z l = IfOk (parts_of z l) (λ ps. sum_by part_len ps ≡ l.length)
 
 imports_below : (y : Symbols) (n : List ℕ) (k : ℕ) → imported y n ≡ Some k → below (length y.imports) k ≡ true
-imports_below y n k e =
-    let lt : k < length y.imports = (position-Some (λ m. bytes_eq n m) y.imports k [] e).0 in
-    grind (arith, nat_tests)
+imports_below y n k e = grind (arith, common_steps)
 
 asked_somewhere : (ls : List Laid) → AllByRecursion (Asks (asked_in (map (λ l. l.spot.segment) ls))) ls
 asked_somewhere ls = go ls (λ g h. h)
@@ -135,8 +113,7 @@ asked_somewhere ls = go ls (λ g h. h)
         or_right false b h = h
 
 second_of : (asked : List ℕ) (count len : ℕ) (r : Result (List Part) AsmFault) → IfOk r (PartsOf asked count len) → IfOk r (λ ps. sum_by part_len ps ≡ len)
-second_of asked count len (Ok ps) h = h.1
-second_of asked count len (Err e) h = h
+second_of asked count len x h = grind (arith, common_steps)
 
 all_lines_long : (y : Layout) → IsSoundLayout y → AllByRecursion (IsLong (table_of y)) y.laid
 all_lines_long y s =
@@ -158,16 +135,10 @@ module _ (z : Symbols) (owner g : ℕ) where
   here before ls = lines_at g (lines_behind owner before ls)
 
   long_parts : (l : Laid) (c : Content) → IsContent z l c → IsLong z l → sum_by part_len c.parts ≡ l.length
-  long_parts l c content h = go (parts_of z l) content.parts h
-    where
-      go : (r : Result (List Part) AsmFault) → r ≡ Ok c.parts → IfOk r (λ ps. sum_by part_len ps ≡ l.length) → sum_by part_len c.parts ≡ l.length
-      go (Ok ps) e h = (let same : ps ≡ c.parts = cc in ap (sum_by part_len) (sym same) ∙ h)
-      go (Err f) e h = absurd cc
+  long_parts l c content h = grind (arith, common_steps)
 
   lines_long : (before ls : List Laid) (cs : List Content) (at : ℕ) → EndsAt at (here before ls) → AllByRecursion (IsLong z) ls → contents_from z ls ≡ Ok cs → end_of at (map line (here before ls)) ≡ at + sum_by part_len (parts_in cs g)
-  lines_long before [] cs at ends long e =
-      let same : [] ≡ cs = cc in
-      sym (zero_more at) ∙ ap (λ ds. at + sum_by part_len (parts_in ds g)) same
+  lines_long before [] cs at ends long e = grind (arith, common_steps, zero_more)
   lines_long before (l ∷ ls) cs at ends long e =
       let found : Laid → Result Content PlacedFault = λ l. at_place l.place (content_of z l) in
       let (c, first, others) = bind_ok (found l) (λ y. each found ls >>= (λ ys. Ok (y ∷ ys))) cs e in
@@ -249,8 +220,7 @@ abbrev pub size_or : Option linked.Segment → ℕ
 size_or g = option_map_or (λ (g : linked.Segment). g.size) g 0
 
 pub size_or_empty : (name : List ℕ) (g : Option linked.Segment) → (or_empty name g).size ≡ size_or g
-size_or_empty name None = refl
-size_or_empty name (Some g) = refl
+size_or_empty name x = grind (arith, common_steps)
 
 -- what a section makes of a segment, or that there is none
 pub data Behind (y : Layout) (m : Module) (origins : Place → Origin) (cs : List Content) (owner : ℕ) (name : List ℕ) (g : Option linked.Segment) : Type 0 where
@@ -287,10 +257,7 @@ pub in_segment : (owner : ℕ) (y : Layout) (g : ℕ) → IsLaidOut y → g < le
 in_segment owner y g d lt = by_number owner y g (named d).distinct lt [] y.laid (named d).standing
 
 pub section_begin : (y : Layout) (owner key at : ℕ) (origins : Place → Origin) (sections imports : List ℕ) (cs : List Content) → IsLaidOut y → rounded_up at (linked.align_of (section_of origins y.standing.segments sections imports cs key)) ≡ next_multiple_of at (largest_multiple (lines_at key (lines_behind owner [] y.laid)))
-section_begin y owner key at origins sections imports cs d =
-    let lines : List Line = lines_at key (lines_behind owner [] y.laid) in
-    let positive : 0 < largest_multiple lines = power_positive (largest_multiple lines) (largest_power lines (powers_at key (lines_behind owner [] y.laid) (placed owner d).powers)) in
-    ap (rounded_up at) (alignment_law y owner key d) ∙ rounding_law at (largest_multiple lines) positive
+section_begin y owner key at origins sections imports cs d = grind (arith, common_steps, power_positive, largest_power, powers_at, placed, alignment_law, rounding_law)
 
 pub begin_is_multiple : (y : Layout) (owner key at : ℕ) → IsLaidOut y → IsMultiple (next_multiple_of at (largest_multiple (lines_at key (lines_behind owner [] y.laid)))) (largest_multiple (lines_at key (lines_behind owner [] y.laid)))
 begin_is_multiple y owner key at d =
@@ -299,10 +266,7 @@ begin_is_multiple y owner key at d =
 
 -- the part of a module that has a section
 pub whole_part : (y : Layout) (owner key : ℕ) (name : List ℕ) → IsLaidOut y → key < length y.standing.segments → segment_name y key ≡ name → has_section y name ≡ true → part_of owner y name ≡ rounding (largest_multiple (lines_at key (lines_behind owner [] y.laid))) ∷ map line (lines_at key (lines_behind owner [] y.laid))
-whole_part y owner key name d lt called has =
-    let lines : lines_in owner y name ≡ lines_at key (lines_behind owner [] y.laid) = ap (lines_in owner y) (sym called) ∙ in_segment owner y key d lt in
-    ap (λ b. cond b (rounding (largest_multiple (lines_in owner y name)) ∷ map line (lines_in owner y name)) []) has
-    ∙ ap (λ xs. rounding (largest_multiple xs) ∷ map line xs) lines
+whole_part y owner key name d lt called has = grind (arith, common_steps, in_segment)
 
 pub no_part : (y : Layout) (owner : ℕ) (name : List ℕ) → has_section y name ≡ false → part_of owner y name ≡ []
 no_part y owner name has = ap (λ b. cond b (rounding (largest_multiple (lines_in owner y name)) ∷ map line (lines_in owner y name)) []) has

@@ -1,4 +1,5 @@
 -- A link leaves names open exactly where the whole program lacks some that have to be given.
+use Rattle.std.proofs.lemmas.Grind.{common_steps}
 use Rattle.std.proofs.Common.{◌≡◌, ℕ, suc, Bool, true, false, nat_eq, cond, List, [], ◌∷◌, ◌++◌, length, map, filter, slice_get, Option, Some, None, Result, Ok, refl, sym, ◌∙◌, ap, subst, zero, ◌+◌, ◌<◌, arith}
 use Rattle.std.specs.Prelude.{⊤, ℤ, unwrap_or, ◌||◌}
 use Rattle.std.specs.List.{AllByRecursion, flat_map, list_any}
@@ -65,15 +66,7 @@ abbrev IsQuiet : Content → Type 0
 IsQuiet c = c.asks ≡ false → c.parts ≡ []
 
 quiet_parts : (z : Symbols) (l : Laid) (ps : List Part) → asks_section l.stated ≡ false → parts_of z l ≡ Ok ps → ps ≡ []
-quiet_parts z l ps none h = go l.stated none h
-  where
-    go : (x : Statement) → asks_section x ≡ false → parts_of z (record l { stated = x }) ≡ Ok ps → ps ≡ []
-    go (statement.Instruction m o) none h = absurd cc
-    go (statement.Values w is) none h = absurd cc
-    go (statement.Reserve n v) none h = absurd cc
-    go (statement.Align n v) none h = absurd cc
-    go (statement.FilePart b n v) none h = absurd cc
-    go x none h = cc
+quiet_parts z l ps none h = grind (arith, common_steps)
 
 quiet_contents : (z : Symbols) (ls : List Laid) (cs : List Content) → contents_from z ls ≡ Ok cs → AllByRecursion IsQuiet cs
 quiet_contents z [] cs e = let same : [] ≡ cs = cc in subst (AllByRecursion IsQuiet) same tt
@@ -171,9 +164,7 @@ module _ (s : Script) (placement : Placement) (ys : List Layout) (ms : List Modu
   form_given f (v, (turns, e)) = each_given turns (imports_in f) (valued_imports_law ValueFault NoValue (o.bases owner) (o.imports turns owner) f v e)
 
   part_given : (x : Part) → IsValuedPart x → OfPart (IsGiven p) z.imports x
-  part_given (Known own) k = tt
-  part_given (Filled n) k = tt
-  part_given (Waiting width place f) k = form_given f k
+  part_given x k = grind (arith, common_steps, form_given)
 
   parts_given : (xs : List Part) → AllByRecursion IsValuedPart xs → AllByRecursion (OfPart (IsGiven p) z.imports) xs
   parts_given [] k = tt
@@ -184,11 +175,7 @@ module _ (s : Script) (placement : Placement) (ys : List Layout) (ms : List Modu
   all_parts_given (c ∷ cs) k = (parts_given c.parts k.0, all_parts_given cs k.1)
 
   demand_given : (n : List ℕ) → IsGiven p n → AllByRecursion (OfKey (IsGiven p) z.imports) (optional_key (key_of z.imports n))
-  demand_given n k = go (key_for z.imports n)
-    where
-      go : KeyFor z.imports n → AllByRecursion (OfKey (IsGiven p) z.imports) (optional_key (key_of z.imports n))
-      go (at_key j q called) = subst (λ r. AllByRecursion (OfKey (IsGiven p) z.imports) (optional_key r)) (sym q) (subst (IsGiven p) (sym called) k, tt)
-      go (no_key q none) = subst (λ r. AllByRecursion (OfKey (IsGiven p) z.imports) (optional_key r)) (sym q) tt
+  demand_given n k = grind (arith, common_steps, key_for, at_key, no_key)
 
   said_given : (ss : List Said) → AllByRecursion (IsGiven p) (demanded_names ss) → AllByRecursion IsValuedExport ss → AllByRecursion IsValuedCheck ss → AllByRecursion (OfSaid (IsGiven p) z.imports) ss
   said_given [] d e a = tt
@@ -276,35 +263,18 @@ given_law s placement ys ms h placed none =
 
 row_exists : (rows : List Row) (ys : List Layout) (names : List (List ℕ)) (name : List ℕ) → AllByRecursion (λ (n : SegmentNeed). has_row rows n.name ≡ true) (map (need_of ys) names) → list_any (λ k. bytes_eq name k) names ≡ true → has_row rows name ≡ true
 row_exists rows ys [] name h e = absurd cc
-row_exists rows ys (n ∷ names) name h e = by (bytes_eq name n) refl e (row_exists rows ys names name h.1)
-  where
-    by : (b : Bool) → bytes_eq name n ≡ b → (b || list_any (λ k. bytes_eq name k) names) ≡ true → (list_any (λ k. bytes_eq name k) names ≡ true → has_row rows name ≡ true) → has_row rows name ≡ true
-    by true same e more = ap (has_row rows) (same_bytes name n same) ∙ h.0
-    by false other e more = more e
+row_exists rows ys (n ∷ names) name h e = grind (arith, common_steps, (row_exists rows ys names name h.1), same_bytes)
 
 any_at : (name : List ℕ) (ys : List Layout) (i : ℕ) (y : Layout) → slice_get ys i ≡ Some y → list_any (λ k. bytes_eq name k) (asked_by y) ≡ true → list_any (λ k. bytes_eq name k) (flat_map asked_by ys) ≡ true
 any_at name [] i y at e = absurd cc
-any_at name (x ∷ ys) zero y at e =
-    let same : x ≡ y = cc in
-    list_any-append (λ k. bytes_eq name k) (asked_by x) (flat_map asked_by ys)
-    ∙ ap (λ b. b || list_any (λ k. bytes_eq name k) (flat_map asked_by ys)) (ap (λ k. list_any (λ n. bytes_eq name n) (asked_by k)) same ∙ e)
-any_at name (x ∷ ys) (suc i) y at e =
-    list_any-append (λ k. bytes_eq name k) (asked_by x) (flat_map asked_by ys)
-    ∙ later (list_any (λ k. bytes_eq name k) (asked_by x)) (any_at name ys i y at e)
-  where
-    later : (a : Bool) → list_any (λ k. bytes_eq name k) (flat_map asked_by ys) ≡ true → (a || list_any (λ k. bytes_eq name k) (flat_map asked_by ys)) ≡ true
-    later true h = refl
-    later false h = h
+any_at name (x ∷ ys) zero y at e = grind (arith, common_steps, list_any-append)
+any_at name (x ∷ ys) (suc i) y at e = grind (arith, common_steps, (any_at name ys i y at e), list_any-append)
 
 -- what holds of all rows holds of one of a name, if it is there
 row_of : (P : Row → Type 0) (rows : List Row) (name : List ℕ) → AllByRecursion P rows → has_row rows name ≡ true → (r : Row) × P r × (r.name ≡ name)
 unfolding has_row
 row_of P [] name h e = absurd cc
-row_of P (r ∷ rows) name h e = go (bytes_eq r.name name) refl e (row_of P rows name h.1)
-  where
-    go : (b : Bool) → bytes_eq r.name name ≡ b → (b || list_any (λ (r : Row). bytes_eq r.name name) rows) ≡ true → (list_any (λ (r : Row). bytes_eq r.name name) rows ≡ true → (r : Row) × P r × (r.name ≡ name)) → (r : Row) × P r × (r.name ≡ name)
-    go true q e more = (r, h.0, same_bytes r.name name q)
-    go false q e more = more e
+row_of P (r ∷ rows) name h e = grind (arith, common_steps, (row_of P rows name h.1), same_bytes)
 
 -- ---- A module's part of a segment's bytes.
 
@@ -380,9 +350,4 @@ module _ (s : Script) (placement : Placement) (ys : List Layout) (ms : List Modu
 -- A link leaves no name open where they are given, and all that has to have a value in the whole program has one: rows, exports
 -- and assertions.
 pub resolved_law : (s : Script) (placement : Placement) (ys : List Layout) (ms : List Module) (bytes : RowBytes) → let p : Program = program_of s placement ys in AreSources ys ms → place_of s (needs_of ys) ≡ Ok placement → AllByRecursion (IsGiven p) (symbol_imports s.symbols) → AreForced p ys → AreExported p 0 ys → AreAsserted p 0 ys → AllByRecursion (AreRow p ys bytes) s.rows → unresolved s (linked.program_of ms) ≡ []
-resolved_law s placement ys ms bytes h placed own forced exported asserted rows =
-    (none_open s placement ys ms h placed).1
-    (own, modules_given s placement ys ms bytes h placed rows ys ms 0 h (λ i. ap (slice_get ys) (zero_first i)) forced exported asserted)
-  where
-    zero_first : (n : ℕ) → n ≡ 0 + n
-    zero_first n = omega arith
+resolved_law s placement ys ms bytes h placed own forced exported asserted rows = grind (arith, common_steps, none_open, modules_given)

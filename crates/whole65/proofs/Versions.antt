@@ -1,5 +1,6 @@
 -- The object of version 1 of statements, as one of those that places' origins make.
-use Rattle.std.proofs.Common.{◌≡◌, ℕ, ◌+◌, Bool, true, false, not, cond, List, [], ◌∷◌, ◌++◌, map, filter, refl, sym, ◌∙◌, ap}
+use Rattle.std.proofs.lemmas.Grind.{common_steps}
+use Rattle.std.proofs.Common.{arith, ◌≡◌, ℕ, ◌+◌, Bool, true, false, not, cond, List, [], ◌∷◌, ◌++◌, map, filter, refl, sym, ◌∙◌, ap}
 use Rattle.std.specs.Prelude.{filter_map, ◌||◌}
 use Rattle.std.specs.List.{list_any}
 use Rattle.std.specs.Str.{bytes_eq}
@@ -28,24 +29,14 @@ joined_in_one (Fill m) (Value w o g ∷ fs) = ap (λ z. Fill m ∷ z) (joined_in
 joined_in_one (Value w o f) (g ∷ fs) = ap (λ z. Value w (line_alone o) f ∷ z) (joined_in_one g fs)
 
 all_joined_in_one : (fs : List Fragment) → map fragment_in_one (all_joined fs) ≡ all_joined (map fragment_in_one fs)
-all_joined_in_one [] = refl
-all_joined_in_one (f ∷ fs) = joined_in_one f fs
+all_joined_in_one x = grind (arith, common_steps, joined_in_one)
 
 empty_in_one : (f : Fragment) → is_empty (fragment_in_one f) ≡ is_empty f
-empty_in_one (Literal bytes) = refl
-empty_in_one (Fill n) = refl
-empty_in_one (Value w o f) = refl
+empty_in_one x = grind (arith, common_steps)
 
 kept_in_one : (fs : List Fragment) → map fragment_in_one (filter (λ f. not (is_empty f)) fs) ≡ filter (λ f. not (is_empty f)) (map fragment_in_one fs)
 kept_in_one [] = refl
-kept_in_one (f ∷ fs) = go (is_empty f) (kept_in_one fs) ∙ ap (λ b. cond (not b) (fragment_in_one f ∷ kept) kept) (sym (empty_in_one f))
-  where
-    kept : List Fragment
-    kept = filter (λ f. not (is_empty f)) (map fragment_in_one fs)
-
-    go : (b : Bool) → map fragment_in_one (filter (λ f. not (is_empty f)) fs) ≡ kept → map fragment_in_one (cond (not b) (f ∷ filter (λ f. not (is_empty f)) fs) (filter (λ f. not (is_empty f)) fs)) ≡ cond (not b) (fragment_in_one f ∷ kept) kept
-    go true h = h
-    go false h = ap (λ z. fragment_in_one f ∷ z) h
+kept_in_one (f ∷ fs) = grind (arith, common_steps, (kept_in_one fs), empty_in_one)
 
 module _ (origins : Place → Origin) (sections imports : List ℕ) where
   -- places without their files
@@ -53,26 +44,18 @@ module _ (origins : Place → Origin) (sections imports : List ℕ) where
   lines place = line_alone (origins place)
 
   part_by_line : (p : Part) → fragment_in_one (fragment_of origins sections imports p) ≡ fragment_of lines sections imports p
-  part_by_line (Known bytes) = refl
-  part_by_line (Filled n) = refl
-  part_by_line (Waiting width place f) = refl
+  part_by_line x = grind (arith, common_steps)
 
   parts_by_line : (ps : List Part) → map fragment_in_one (map (fragment_of origins sections imports) ps) ≡ map (fragment_of lines sections imports) ps
   parts_by_line [] = refl
-  parts_by_line (p ∷ ps) =
-      ap (λ z. z ∷ map fragment_in_one (map (fragment_of origins sections imports) ps)) (part_by_line p)
-      ∙ ap (λ z. fragment_of lines sections imports p ∷ z) (parts_by_line ps)
+  parts_by_line (p ∷ ps) = grind (arith, common_steps, (parts_by_line ps), part_by_line)
 
   fragments_by_line : (ps : List Part) → map fragment_in_one (all_joined (fragments_of origins sections imports ps)) ≡ all_joined (fragments_of lines sections imports ps)
-  fragments_by_line ps =
-      all_joined_in_one (fragments_of origins sections imports ps)
-      ∙ ap all_joined (kept_in_one (map (fragment_of origins sections imports) ps) ∙ ap (filter (λ f. not (is_empty f))) (parts_by_line ps))
+  fragments_by_line ps = grind (arith, common_steps, all_joined_in_one, kept_in_one, parts_by_line)
 
   sections_by_line : (gs : List Segment) (cs : List Content) (ks : List ℕ) → map section_in_one (map (section_of origins gs sections imports cs) ks) ≡ map (section_of lines gs sections imports cs) ks
   sections_by_line gs cs [] = refl
-  sections_by_line gs cs (k ∷ ks) =
-      ap (λ fs. record (section_of lines gs sections imports cs k) { fragments = fs } ∷ map section_in_one (map (section_of origins gs sections imports cs) ks)) (fragments_by_line (parts_in cs k))
-      ∙ ap (λ z. section_of lines gs sections imports cs k ∷ z) (sections_by_line gs cs ks)
+  sections_by_line gs cs (k ∷ ks) = grind (arith, common_steps, (sections_by_line gs cs ks), fragments_by_line)
 
   -- ---- Exports and assertions.
 

@@ -87,11 +87,7 @@ fn take_next<S: Store>(
 
 /// Takes the next statement where it is a line of a file, at hand, that begins with no label; whether it was.
 #[inline(always)]
-fn take_at_hand<S: Store>(
-    alloc: Global,
-    store: &mut S,
-    run: &mut Run,
-) -> Result<bool, AsmFault>
+fn take_at_hand<S: Store>(alloc: Global, store: &mut S, run: &mut Run) -> Result<bool, AsmFault>
     requires { IsRunning run.old }
     ensures next { TakesNextIf (S.files store.old) (S.blamed store.new) run.old run.new result }
     ensures files { S.files store.new ≡ S.files store.old }

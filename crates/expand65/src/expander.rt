@@ -262,7 +262,9 @@ impl Expander {
         if self.failed || !self.front.is_nothing() {
             return None;
         }
-        self.rewriter.reader.peek_tokens(self.rewriter.alloc, tokens)
+        self.rewriter
+            .reader
+            .peek_tokens(self.rewriter.alloc, tokens)
     }
 
     /// Whether tokens are a statement without a label.

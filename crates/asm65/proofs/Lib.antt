@@ -12,6 +12,7 @@ pub mod Runs
 pub mod Sources
 pub mod Waitings
 pub mod Namings
+pub mod Ahead
 pub mod Comings
 pub mod Goings
 pub mod Conclusions

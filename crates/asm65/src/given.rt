@@ -60,7 +60,7 @@ fn take_sound(
 }
 
 /// Takes what stands behind a label.
-fn take_rest<S: Store>(
+pub fn take_rest<S: Store>(
     alloc: Global,
     store: &mut S,
     assembler: &mut Assembler,

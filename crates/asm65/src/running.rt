@@ -14,15 +14,16 @@ ghost use Rattle.module65.specs.Machine.{State, Takes, begun};
 ghost use Rattle.module65.specs.Reading.{AreDefined, IsGiven, Job, no_line};
 ghost use Rattle.asm65.specs.Failing.{StopsAll};
 ghost use Rattle.asm65.specs.Unread.{Without};
-ghost use Rattle.asm65.specs.Inner.Running.{IsHeldBy, IsReachedBy, IsRoomy, IsRunning, Ran, StopsQuietly, TakesBy, Told, tokens_of};
+ghost use Rattle.asm65.specs.Inner.Running.{IsHeldBy, IsReachedBy, IsRoomy, IsRunning, Ran, StopsQuietly, TakesBy, TakesNextIf, Told, tokens_of};
 
 use crate::assembler::Assembler;
-use crate::given::take_given;
+use crate::given::{take_given, take_rest};
 use crate::knowing::Knowledge;
 use base65::Store;
 use expand65::{ExpandFault, Expander, Statement};
 use language65::{AsmFault, At, GLOBAL_SCOPE};
 use std::alloc::Global;
+use syntax65::LineTokens;
 
 /// A source that is being assembled.
 #[derive(Drop)]
@@ -84,6 +85,33 @@ fn take_next<S: Store>(
     take_given(alloc, store, &mut run.assembler, at, statement)
 }
 
+/// Takes the next statement where it is a line of a file, at hand, that begins with no label; whether it was.
+#[inline(always)]
+fn take_at_hand<S: Store>(alloc: Global, store: &mut S, run: &mut Run) -> Result<bool, AsmFault>
+    requires { IsRunning run.old }
+    ensures next { TakesNextIf (S.files store.old) (S.blamed store.new) run.old run.new result }
+    ensures files { S.files store.new ≡ S.files store.old }
+    ensures count { PassesBy is_failure (S.failures store.old) (S.failures store.new) result }
+{
+    let mut tokens = LineTokens::new();
+    let Some(line) = run.expander.peek(&mut tokens) else {
+        return Ok(false);
+    };
+    if !run.expander.is_statement(tokens.as_slice()) {
+        return Ok(false);
+    }
+    let (file, _) = run.expander.place();
+    let at = At {
+        file,
+        line: line.number,
+    };
+    let taken = take_rest(alloc, store, &mut run.assembler, at, tokens.as_slice());
+    drop(tokens);
+    run.expander.take_peeked(line.len);
+    taken?;
+    Ok(true)
+}
+
 /// Refuses a scope that is open.
 fn check_closed(run: &Run) -> Result<(), AsmFault>
     ensures { result ≡ (if is_open run.now.assembler.standing.scope then Err BadScope else Ok tt) }
@@ -110,6 +138,9 @@ pub fn take_all<S: Store>(alloc: Global, store: &mut S, run: &mut Run) -> Result
 {
     let mut statement = Statement::new(alloc);
     'statements: loop {
+        if take_at_hand(alloc, store, run)? {
+            continue;
+        }
         if !next(run, store, &mut statement)? {
             return check_closed(run);
         }

@@ -182,7 +182,7 @@ stops_behind_lines {A} B (Some m) blamed k old mid new r f is same named gone h 
 
 -- a line that is taken where it stands
 pub peeked_given : (m : Files) (k : Meaning) (old : Expander) (reader : Reader) (n : ℕ) (ts : List Lexeme) (x : Statement) → IsAhead old n ts → IsOfKind kind.Statement old.rewriter ts → stated x ≡ plain ts → (NamesFiles old.rewriter.reader → NamesFiles reader) → ((n : Files) → Takes (left_of n old.rewriter.reader) (Ok (Some ts, left_of n reader))) → FollowsFrom m k old (Ok (Some x)) (record { rewriter = record { alloc = old.rewriter.alloc; reader = reader; macros = old.rewriter.macros; conditions = old.rewriter.conditions; expansions = old.rewriter.expansions; folders = old.rewriter.folders }; front = old.front; failed = old.failed })
-peeked_given m k old reader n ts x (right, none, _) is given_as named taken =
+peeked_given m k old reader n ts x (right, none, _, _) is given_as named taken =
     let new : Rewriter = record { alloc = old.rewriter.alloc; reader = reader; macros = old.rewriter.macros; conditions = old.rewriter.conditions; expansions = old.rewriter.expansions; folders = old.rewriter.folders } in
     let after : Expander = record { rewriter = new; front = old.front; failed = old.failed } in
     follows_given (Some m) k old after x right refl named (λ n l.

@@ -1,5 +1,5 @@
 -- Lines of files that are taken where they stand.
-use Rattle.std.specs.Prelude.{◌≡◌, ℕ, zero, suc, false, List, [], ◌∷◌, take, drop, ⊤}
+use Rattle.std.specs.Prelude.{◌≡◌, ◌<◌, ℕ, zero, suc, false, List, [], ◌∷◌, take, drop, ⊤}
 use Rattle.base65.specs.Store.{Files}
 use Rattle.syntax65.specs.Tokens.{Lexeme}
 use Rattle.reader65.specs.Fronts.{is_mislabelled, label_len}
@@ -45,6 +45,6 @@ ReachesBy m k s kind.Statement ts t = Reaches m k s (statement (plain ts) t)
 ReachesBy m k s (kind.Label n) ts t = Reaches m k s (statement (label (take n ts)) (rested n ts t))
 ReachesBy m k s kind.Other ts t = Goes m k s t
 
--- what stands next is a line at hand of so many bytes and these tokens
+-- what stands next is a line at hand of so many bytes and these tokens, and it may be taken
 abbrev pub IsAhead : Expander → ℕ → List Lexeme → Type 0
-IsAhead e n ts = (e.failed ≡ false) × (e.front ≡ Nothing) × IsAtHand e.rewriter.reader.top.source n ts
+IsAhead e n ts = (e.failed ≡ false) × (e.front ≡ Nothing) × IsAtHand e.rewriter.reader.top.source n ts × (0 < e.rewriter.reader.room)

@@ -52,9 +52,7 @@ impl Rewriter {
         match tokens.split_first() {
             None => false,
             Some((first, _)) => {
-                !self.is_macro(first)
-                    && label_len(tokens) == 0
-                    && front_directive(tokens).is_none()
+                !self.is_macro(first) && label_len(tokens) == 0 && front_directive(tokens).is_none()
             }
         }
     }

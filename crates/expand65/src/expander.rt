@@ -257,12 +257,14 @@ impl Expander {
         ensures next { IfSome result (λ p. IsAhead self.now p.len (held tokens.new)) }
         ensures number { IfSome result (λ p.
             p.number ≡ next_number self.now.rewriter.reader.top.source) }
-        ensures within { tokens.new.count ≤ 8 }
+        ensures within { tokens.new.few.count ≤ 8 }
     {
         if self.failed || !self.front.is_nothing() {
             return None;
         }
-        self.rewriter.reader.peek_tokens(self.rewriter.alloc, tokens)
+        self.rewriter
+            .reader
+            .peek_tokens(self.rewriter.alloc, tokens)
     }
 
     /// Whether tokens are a statement without a label.
@@ -273,12 +275,14 @@ impl Expander {
         self.rewriter.is_statement(tokens)
     }
 
-    /// Takes the next line, which has so many bytes and is a statement, unless no line more may be taken; whether it was.
+    /// Takes the next line, which has so many bytes and is a statement; whether it was, which it is where it is ahead.
     #[inline(always)]
     pub fn take_peeked(&mut self, len: usize) -> bool
         ensures next { (ts : List Lexeme) (x : Statement) → IsAhead self.old len ts →
             IsOfKind Kind.Statement self.old.rewriter ts → stated x ≡ plain ts → IsTrue result →
             (m : Files) (k : Meaning) → FollowsFrom m k self.old (Ok (Some x)) self.new }
+        ensures sure { (ts : List Lexeme) → IsAhead self.old len ts →
+            next_number self.old.rewriter.reader.top.source ≤ 4294967295 → IsTrue result }
         ensures place { IsTrue result →
             ((place_of self.new).file ≡ (place_of self.old).file) ×
             ((place_of self.new).line ≡ next_number self.old.rewriter.reader.top.source) }

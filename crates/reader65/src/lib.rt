@@ -18,7 +18,8 @@ pub use blocks::BranchLine;
 pub use directives::{Directive, Test};
 pub use file::OpenFile;
 pub use fronts::{
-    behind_first, closes_brace, front_directive, is_comma, label_len, name_in, opens_brace, opens_parenthesis, string_of,
+    behind_first, closes_brace, front_directive, is_comma, label_len, name_in, opens_brace,
+    opens_parenthesis, string_of,
 };
 pub use input::{Source, number_line};
 pub use line::Line;

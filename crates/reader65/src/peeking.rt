@@ -32,7 +32,7 @@ pub struct Peeked {
 fn peek_tokens<'a>(alloc: Global, bytes: &'a [u8], tokens: &mut LineTokens<'a>) -> Option<usize>
     requires { HoldsNothing tokens.old }
     ensures front { IfSome result (λ n. IsFront bytes.now n (held tokens.new)) }
-    ensures within { tokens.new.count ≤ 8 }
+    ensures within { tokens.new.few.count ≤ 8 }
 {
     let len = line_len(bytes);
     if len >= bytes.len() {
@@ -70,7 +70,7 @@ impl OpenFile {
         ensures front { IfSome result (λ p.
             IsFront (drop self.now.at self.now.buffer.items) p.len (held tokens.new)) }
         ensures number { IfSome result (λ p. p.number ≡ self.now.line + 1) }
-        ensures within { tokens.new.count ≤ 8 }
+        ensures within { tokens.new.few.count ≤ 8 }
     {
         if self.at >= self.buffer.len() {
             return None;
@@ -101,6 +101,8 @@ impl OpenFile {
             IsFront (drop self.old.at self.old.buffer.items) len ts →
             IfSome result (λ n. TakesWritten (left_in_file m self.old) n ts (left_in_file m self.new)) }
         ensures number { IfSome result (λ n. n ≡ self.old.line + 1) }
+        ensures sure { (ts : List Lexeme) → IsFront (drop self.old.at self.old.buffer.items) len ts →
+            self.old.line < 4294967295 → IfNone result ⊥ }
         ensures name { self.new.name ≡ self.old.name }
         ensures none { IfNone result (self.new ≡ self.old) }
     {
@@ -119,7 +121,7 @@ impl Source {
         requires { HoldsNothing tokens.old }
         ensures front { IfSome result (λ p. IsAtHand self.now p.len (held tokens.new)) }
         ensures number { IfSome result (λ p. p.number ≡ next_number self.now) }
-        ensures within { tokens.new.count ≤ 8 }
+        ensures within { tokens.new.few.count ≤ 8 }
     {
         match self {
             Source::File(file) => file.peek_tokens(alloc, tokens),
@@ -144,6 +146,8 @@ impl Source {
         ensures taken { (m : Files) (ts : List Lexeme) → IsAtHand self.old len ts →
             IfSome result (λ n. TakesWritten (left_in m self.old) n ts (left_in m self.new)) }
         ensures number { IfSome result (λ n. n ≡ next_number self.old) }
+        ensures sure { (ts : List Lexeme) → IsAtHand self.old len ts → next_number self.old ≤ 4294967295 →
+            IfNone result ⊥ }
         ensures named { (p : Place) → IsNamed self.old p → IsNamed self.new p }
         ensures call { is_call self.new ≡ is_call self.old }
         ensures none { IfNone result (self.new ≡ self.old) }
@@ -162,7 +166,8 @@ impl Reader {
         requires { HoldsNothing tokens.old }
         ensures front { IfSome result (λ p. IsAtHand self.now.top.source p.len (held tokens.new)) }
         ensures number { IfSome result (λ p. p.number ≡ next_number self.now.top.source) }
-        ensures within { tokens.new.count ≤ 8 }
+        ensures room { IfSome result (λ _. 0 < self.now.room) }
+        ensures within { tokens.new.few.count ≤ 8 }
     {
         if self.room == 0 {
             return None;
@@ -184,6 +189,8 @@ impl Reader {
     pub fn take_peeked(&mut self, len: usize) -> bool
         ensures taken { (m : Files) (ts : List Lexeme) → IsAtHand self.old.top.source len ts →
             IsTrue result → Takes (left_of m self.old) (Ok (Some ts, left_of m self.new)) }
+        ensures sure { (ts : List Lexeme) → IsAtHand self.old.top.source len ts →
+            next_number self.old.top.source ≤ 4294967295 → 0 < self.old.room → IsTrue result }
         ensures place { IsTrue result → (self.new.place.file ≡ self.old.place.file) ×
             (self.new.place.line ≡ next_number self.old.top.source) }
         ensures room { IsTrue result → self.new.room < self.old.room }

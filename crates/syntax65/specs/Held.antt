@@ -10,8 +10,8 @@ held_by None count few = take count few
 held_by (Some many) count few = many.items
 
 abbrev pub held : LineTokens → List Lexeme
-held t = lexemes (held_by t.many t.count t.few)
+held t = lexemes (held_by t.many t.few.count t.few.room)
 
 -- none yet, and a few have room
 abbrev pub HoldsNothing : LineTokens → Type 0
-HoldsNothing t = (t.count ≡ 0) × (t.many ≡ None) × (length t.few ≡ 8)
+HoldsNothing t = (t.few.count ≡ 0) × (t.many ≡ None) × (length t.few.room ≡ 8)

@@ -15,6 +15,6 @@ pub use expressions::{
 };
 pub use instructions::{Mnemonic, Mode, mnemonic, opcode};
 pub use lexing::{
-    AddressSize, LexFault, Lexer, LineFront, LineTokens, MAX_LINE, MAX_NAME, Mark, Token, TokenKind,
-    line_front, line_tokens,
+    AddressSize, LexFault, Lexer, LineFront, LineTokens, MAX_LINE, MAX_NAME, Mark, Token,
+    TokenKind, line_front, line_tokens,
 };

@@ -1,24 +1,27 @@
 -- What an assembler has taken of a source while it takes its statements.
-use Rattle.std.specs.Prelude.{◌≡◌, ℕ, ◌+◌, ◌*◌, ◌≤◌, List, Option, Some, None, IfErr, IfSome, true, Result, Ok, Err, ⊤}
+use Rattle.std.specs.Prelude.{◌≡◌, ℕ, ◌+◌, ◌*◌, ◌≤◌, ◌<◌, List, Option, Some, None, IfErr, IfSome, Bool, true, false, Result, Ok, Err, ⊤}
 use Rattle.base65.specs.Outcome.{Unless}
 use Rattle.base65.specs.Store.{Files}
 use Rattle.syntax65.specs.Tokens.{Lexeme}
 use Rattle.syntax65.specs.Trees.{number}
 use Rattle.expand65.specs.State as expand
-use Rattle.expand65.specs.Standing.{measure_of, place_of}
+use Rattle.expand65.specs.Standing.{FollowsFrom, measure_of, place_of, stated}
+use Rattle.expand65.specs.declared.expander.Statement as expander
 use Rattle.source65.specs.declared.place.Place.{Place}
 use Rattle.language65.specs.declared.fault.AsmFault.{AsmFault}
 use Rattle.language65.specs.declared.fault.AsmFault.TheVariants.{FileError, FileNotFound}
 use Rattle.language65.specs.Faults.{is_failure, is_outside}
 use Rattle.language65.specs.declared.language.Statement.{Statement}
 use Rattle.language65.specs.declared.language.Statement.TheVariants.{Constant}
-use Rattle.language65.specs.Sound.{IsSound}
+use Rattle.language65.specs.Sound.{AreNamed, IsSound}
 use Rattle.module65.specs.Machine.{Runs, State, Takes, begun}
-use Rattle.module65.specs.Reading.{Define, Job, stopped}
+use Rattle.module65.specs.Knowing.{known_at}
+use Rattle.module65.specs.Reading.{Define, IsGiven, Job, stopped}
 use Rattle.asm65.specs.declared.assembler.Assembler.{Assembler}
 use Rattle.asm65.specs.declared.running.Run.{Run}
 use Rattle.layout65.specs.Counting.{opening_limit}
 use Rattle.asm65.specs.Inner.Holding.{Holds}
+use Rattle.asm65.specs.Unread.{Without}
 
 -- ---- What a call that takes statements leaves.
 
@@ -134,3 +137,27 @@ Ran m job new (Err e) = Unless (is_outside e)
 abbrev pub tokens_of : expand.Stated → List Lexeme
 tokens_of (expand.label ts) = ts
 tokens_of (expand.plain ts) = ts
+
+-- The next statement of a run is taken: it is this one, and behind it that is left.
+pub record TakesNext (o : Option Files) (blamed : Option (List ℕ)) (old new : Run) (r : Result (Unit {0}) AsmFault) : Type 0 where
+  pub statement : expander.Statement
+  pub behind : Run
+  pub same : behind.assembler ≡ old.assembler
+  pub less : measure_of behind.expander < measure_of old.expander
+  pub stays : new.expander ≡ behind.expander
+  pub next :
+      IfSome o (λ m. (t : State) → IsHeldBy t old →
+      FollowsFrom m (known_at t.symbols t.standing) old.expander (Ok (Some statement)) behind.expander)
+  pub taken :
+      TakesBy (AreNamed (tokens_of (stated statement)))
+      (Told o (λ m t. IsGiven m Takes t (place_of behind.expander) (stated statement)))
+      2 behind.assembler new.assembler r
+  pub stopped :
+      StopsQuietly (Without blamed (λ m t. IsGiven m Takes t (place_of behind.expander) (stated statement)))
+      2 behind.assembler new.assembler r
+
+-- it is, or none is
+abbrev pub TakesNextIf : Option Files → Option (List ℕ) → Run → Run → Result Bool AsmFault → Type 0
+TakesNextIf o blamed old new (Ok true) = TakesNext o blamed old new (Ok tt)
+TakesNextIf o blamed old new (Ok false) = new ≡ old
+TakesNextIf o blamed old new (Err e) = TakesNext o blamed old new (Err e)

@@ -19,11 +19,17 @@ pub const MAX_LINE: usize = 4096;
 /// How many tokens most lines have at most. For so many nothing is allocated.
 const FEW_TOKENS: usize = 8;
 
+/// Room for a few tokens, and how many of them are there.
+#[derive(Drop)]
+pub struct FewTokens<'a> {
+    pub room: [Token<'a>; FEW_TOKENS],
+    pub count: usize,
+}
+
 /// The tokens of a line. A few stand in their own place, and more of them in memory that is asked for.
 #[derive(Drop)]
 pub struct LineTokens<'a> {
-    pub few: [Token<'a>; FEW_TOKENS],
-    pub count: usize,
+    pub few: FewTokens<'a>,
     pub many: Option<Vec<Token<'a>>>,
 }
 
@@ -38,20 +44,22 @@ impl<'a> LineTokens<'a> {
             text: b"",
         };
         LineTokens {
-            few: [blank; FEW_TOKENS],
-            count: 0,
+            few: FewTokens {
+                room: [blank; FEW_TOKENS],
+                count: 0,
+            },
             many: None,
         }
     }
 
     #[inline(always)]
     pub fn as_slice(&self) -> &[Token<'a>]
-        requires { self.now.count ≤ 8 }
+        requires { self.now.few.count ≤ 8 }
         ensures { lexemes result.now ≡ held self.now }
     {
         match &self.many {
             Some(many) => many.as_slice(),
-            None => &self.few[..self.count],
+            None => &self.few.room[..self.few.count],
         }
     }
 
@@ -64,19 +72,19 @@ impl<'a> LineTokens<'a> {
     pub fn read(&mut self, alloc: Global, line: &'a [u8]) -> Result<(), LexFault>
         requires { HoldsNothing self.old }
         ensures tokens { Answers is_lex_outside (λ _. held self.new) result (IsRead line.now) }
-        ensures within { self.new.count ≤ 8 }
+        ensures within { self.new.few.count ≤ 8 }
     {
         let mut lexer = Lexer::new(line)?;
         'line: loop {
             match lexer.next()? {
                 Some(token) => {
-                    if self.count >= FEW_TOKENS {
-                        let few = self.few;
+                    if self.few.count >= FEW_TOKENS {
+                        let few = self.few.room;
                         self.many = Some(read_many(alloc, few, token, lexer)?);
                         return Ok(());
                     }
-                    self.few[self.count] = token;
-                    self.count += 1;
+                    self.few.room[self.few.count] = token;
+                    self.few.count += 1;
                 }
                 None => return Ok(()),
             }

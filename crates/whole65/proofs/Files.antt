@@ -65,11 +65,6 @@ got_inside [] x a e = cc
 got_inside (y ∷ xs) zero a e = omega arith
 got_inside (y ∷ xs) (suc x) a e = let deeper = got_inside xs x a e in omega (arith, deeper)
 
-table_inside : (table : List (Result ℤ ValueFault)) (x : ℕ) (u : ℤ) → in_table table x ≡ Ok u → x < length table
-table_inside [] x u e = cc
-table_inside (r ∷ table) zero u e = omega arith
-table_inside (r ∷ table) (suc x) u e = let deeper = table_inside table x u e in omega (arith, deeper)
-
 module _ (l : Linkage) (table : List (Result ℤ ValueFault)) (h : AreExports l table) where
   export_inside : (n x : ℕ) (u : ℤ) → exports_through l n x ≡ Ok u → x < length l.exports
   export_inside zero x u e = cc

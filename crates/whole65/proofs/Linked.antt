@@ -105,9 +105,6 @@ shown_by r (Err e) = None
 shown_by r (Ok (names.defined_at d)) = definition_shown (place_in r d) (slice_get (symbols_at r).definitions d)
 shown_by r (Ok (names.imported_as k)) = import_shown (slice_get (symbols_at r).imports k)
 
-same_value : (place : ℕ) (l : Laid) (v : Option Tree) → value_defined l.stated ≡ v → definition_at place (Some l) ≡ value_shown place v
-same_value place l v e = grind (arith, common_steps)
-
 same_definition : (y : Layout) (d : ℕ) → Looked 0 y.laid d → statement_at y.laid (slice_get (defining_from 0 y.laid) d) ≡ definition_shown (place_in (Some y) d) (slice_get (table_of y).definitions d)
 same_definition y d x = grind (arith, common_steps)
 

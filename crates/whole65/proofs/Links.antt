@@ -48,31 +48,6 @@ use Rattle.whole65.specs.Sources.{AreSources}
 
 -- ---- One thing first, and then another.
 
-goes_on : {E A B : Type 0} (q : Result A E) (x : A) (Next : A → Result B E → Type 0) (r : Result B E) → q ≡ Ok x → Next x r → First q Next r
-goes_on q x Next r e h = rw e h
-
-gone_on : {E A B : Type 0} (q : Result A E) (Next : A → Result B E → Type 0) (y : B) → First q Next (Ok y) → (x : A) × (q ≡ Ok x) × Next x (Ok y)
-gone_on x z y h = grind (arith, common_steps)
-
-ok_same : {A E : Type 0} (x y : A) → (◌≡◌ {A = Result A E} (Ok x) (Ok y)) → x ≡ y
-ok_same x y e = cc
-
-none_open : (names : List (List ℕ)) → none_unresolved names ≡ Ok tt → names ≡ []
-none_open x e = grind (arith, common_steps)
-
-placement_found : (r : Result Placement PlaceFault) (p : Placement) → as_placement r ≡ Ok p → r ≡ Ok p
-placement_found x p e = grind (arith, common_steps)
-
--- the files of a link are its image's
-same_files : (image : List OutputFile) (warnings map : List ℕ) (linked : Linked) → (◌≡◌ {A = Result Linked LinkFault} (Ok linked) (Ok (record { files = image; warnings = warnings; map = map }))) → (files : List OutputFile) → linked.files ≡ files → image ≡ files
-same_files image warnings map linked e files same = sym (ap (λ (z : Linked). z.files) (ok_same linked (record { files = image; warnings = warnings; map = map }) e)) ∙ same
-
-placed_by : (names : List (List ℕ)) (r : Result Placement PlaceFault) (p : Placement) → names ≡ [] → r ≡ Ok p → (none_unresolved names >>= (λ u. as_placement r)) ≡ Ok p
-placed_by names r p e f = rw (e, f) refl
-
-checked_by : (a b : Result (Unit {0}) LinkFault) (c : Result (List ℕ) LinkFault) (text : List ℕ) → a ≡ Ok tt → b ≡ Ok tt → c ≡ Ok text → (a >>= (λ u. b) >>= (λ u. c)) ≡ Ok text
-checked_by a b c text d e f = rw (d, e, f) refl
-
 -- ---- A link that gives files.
 
 -- no name is given twice, none is left open, rows are placed, exports come to a table, all checks pass, and the files are made

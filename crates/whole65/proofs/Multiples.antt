@@ -124,28 +124,6 @@ shift_law xs b p h = let same : b ≡ b + 0 = omega arith in ap (λ n. end_of n 
 
 -- ---- A line ends its length behind its offset, and aligns to a power of two.
 
-none_all : (os : List (Option AsmFault)) → first_fault os ≡ None → AllByRecursion (λ o. o ≡ None) os
-none_all [] h = tt
-none_all (None ∷ os) h = (refl, none_all os h)
-none_all (Some e ∷ os) h = absurd cc
-
-abbrev faults : Symbols → Standing → Statement → List (Option AsmFault)
-faults y w x =
-    when (stands_outside x && is_open (spot_of w).scope) NotUnderstood
-    ∷ lost_scopes y.scopes (spot_of w).scope (trees_of x)
-    ∷ opened_twice y.scopes (spot_of w).scope (scope_name x)
-    ∷ defined_twice y (key_defined (spot_of w) x)
-    ∷ form_fault y (spot_of w) (own_size w) x
-    ∷ operand_fault y (spot_of w) x
-    ∷ alignment_fault y (spot_of w) x
-    ∷ missing_file x
-    ∷ part_fault y (spot_of w) x
-    ∷ size_fault w.segments x
-    ∷ block_fault y.scopes (spot_of w).scope x
-    ∷ pop_fault w.kept x
-    ∷ when (nat_lt section_limit ((spot_of w).offset + length_of y (spot_of w) (own_size w) x)) SectionTooLarge
-    ∷ []
-
 no_alignment_fault : (y : Symbols) (w : Standing) (x : Statement) → line_fault y w x ≡ None → alignment_fault y (spot_of w) x ≡ None
 no_alignment_fault y w x h = grind (arith, common_steps)
 
@@ -186,10 +164,6 @@ multiple_power y w x h = go x (no_alignment_fault y w x h)
     go x h = record { exponent = 0; below = omega arith; power = refl }
 
 -- ---- Ends.
-
-gap_end : (offset n : ℕ) → IsPower n → next_multiple_of offset n ≡ offset + gap offset (Some (pos n))
-gap_end offset zero p = absurd (let positive = power_positive 0 p in omega (arith, positive))
-gap_end offset (suc n) p = grind (arith, common_steps)
 
 pub line_ends : (y : Symbols) (w : Standing) (place : Place) (x : Statement) → line_fault y w x ≡ None → line_end (spot_of w).offset (multiple_of y (spot_of w) x) (laid y w place x) ≡ (spot_of w).offset + (laid y w place x).length
 line_ends y w place x h = grind (arith, common_steps)

@@ -158,18 +158,6 @@ IsForm o depth owner f (Some m) = IsFormOf o depth owner f m
 IsForm o depth owner f None = (k : ℕ) × (slice_get (o.symbols owner).imports k ≡ None) × (f ≡ imp k)
 
 module _ {E : Type 0} (p : Program) (o : Objects E) (h : AreObjects p o) where
-  of_value : (depth owner definition : ℕ) (f : Form) (d : Definition) → slice_get (o.symbols owner).definitions definition ≡ Some d → (r : Option Tree) → form_of_value (norm depth (o.symbols owner)) d.spot r ≡ Ok f → IsForm o depth owner f (value_shown (o.places owner definition) r)
-  of_value depth owner definition f d w x q = grind (arith, common_steps)
-
-  of_definition : (depth owner definition : ℕ) (f : Form) (r : Option Definition) → slice_get (o.symbols owner).definitions definition ≡ r → form_of_definition (norm depth (o.symbols owner)) r ≡ Ok f → IsForm o depth owner f (definition_shown (o.places owner definition) r)
-  of_definition depth owner definition f x w q = grind (arith, common_steps)
-
-  of_import : (depth owner k : ℕ) (f : Form) (r : Option (List ℕ)) → slice_get (o.symbols owner).imports k ≡ r → imp k ≡ f → IsForm o depth owner f (import_shown r)
-  of_import depth owner k f x w q = grind (arith, common_steps)
-
-  of_meant : (depth owner : ℕ) (f : Form) (r : Result names.Meaning AsmFault) → (r >>= form_of_meaning (norm depth (o.symbols owner)) (o.symbols owner)) ≡ Ok f → IsForm o depth owner f (meaning_shown o owner r)
-  of_meant depth owner f x q = grind (arith, common_steps)
-
   -- the form of an operand is that of what it means
   pub operand : (depth owner place : ℕ) (e : Tree) (f : Form) → (meaning_of (o.symbols owner) (o.spots owner place) e >>= form_of_meaning (norm depth (o.symbols owner)) (o.symbols owner)) ≡ Ok f → IsForm o depth owner f (p.means owner place e)
   operand depth owner place e f q = grind (arith, common_steps)

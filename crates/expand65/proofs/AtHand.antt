@@ -147,6 +147,12 @@ none_given m k s mid new f x ts e h (inr i) r =
 
 -- ---- From what an expander stands for.
 
+pub follows_given : (o : Option Files) (k : Meaning) (old new : Expander) (x : Statement) → old.failed ≡ false → new.failed ≡ old.failed → (NamesFiles old.rewriter.reader → NamesFiles new.rewriter.reader) → ((m : Files) (l : Meaning) → Reaches m l (state_in m old) (statement (stated x) (state_in m new))) → IfSome o (λ m. FollowsFrom m k old (Ok (Some x)) new)
+follows_given None k old new x right same named h = tt
+follows_given (Some m) k old new x right same named h = λ s stands.
+    let P : State → Type 0 = λ z. Reaches m k z (statement (stated x) (state_in m new)) in
+    (state_in m new, subst P stands.1 (h m k), (same ∙ right, refl, named stands.2))
+
 pub follows_behind : (o : Option Files) (k : Meaning) (old mid new : Expander) (r : Result (Option Statement) ExpandFault) → mid.failed ≡ old.failed → (NamesFiles old.rewriter.reader → NamesFiles mid.rewriter.reader) → ((m : Files) (l : Meaning) → Goes m l (state_in m old) (state_in m mid)) → IfSome o (λ m. FollowsFrom m k mid r new) → IfSome o (λ m. FollowsFrom m k old r new)
 follows_behind None k old mid new r same named gone h = tt
 follows_behind (Some m) k old mid new (Ok (Some x)) same named gone h = λ s stands.

@@ -1,12 +1,13 @@
 -- What calls lead a linker to, and what it keeps of the modules that have ended.
-use Rattle.std.proofs.Common.{◌≡◌, ◌∙◌, List, length, map, take, inl, inr, Option, sym, ap, ◌<◌, ◌&&◌, ℕ, suc, false, ◌∷◌, drop, get_or, [], ◌++◌, Some, None, Bool, true, Result, Ok, Err, if◌then◌else◌, refl, subst}
+use Rattle.std.proofs.lemmas.Grind.{common_steps}
+use Rattle.std.proofs.Common.{arith, ◌≡◌, ◌∙◌, List, length, map, take, inl, inr, Option, sym, ap, ◌<◌, ◌&&◌, ℕ, suc, false, ◌∷◌, drop, get_or, [], ◌++◌, Some, None, Bool, true, Result, Ok, Err, if◌then◌else◌, refl, subst}
 use Rattle.std.proofs.Math.Seq.{take-append_seam, drop-cons, drop-append_seam}
 use Rattle.link65.specs.Names.{given_names, first_again}
 use Rattle.link65.specs.Growing.{Growth, at_rest, ended, grown_by}
 use Rattle.link65.specs.Programs.{Module, exported, program_of, Program, with_module, with_modules}
 use Rattle.link65.specs.Inner.Fields.{ended_exports, Comes, are_listed, exports_from, matched}
 use Rattle.link65.specs.Standing.{Feeding, HaveEnded, Opened, IsFed, IsFeeding, Leads, agreed, agrees_with, as_link, joined, listed_of, module_of, opening, whole, all_once}
-use Rattle.link65.proofs.GivenLemmas.{map_behind, module_gives, once_behind, once_of}
+use Rattle.link65.proofs.GivenLemmas.{map_behind, module_gives, once_behind}
 use Rattle.std.specs.Str.{bytes_eq}
 use Rattle.library65.specs.Libraries.{are_same}
 use Rattle.link65.specs.declared.parts.Exported.{Exported}
@@ -38,32 +39,17 @@ use Rattle.link65.specs.declared.feeding.Listed.{Listed}
 
 -- their members
 pub their_members : (f : Feeding) (modules : List Module) → HaveEnded f modules → (program_of modules).members ≡ f.growth.program.members
-their_members f modules (inl fed) = ap (λ (g : Growth). g.program.members) (sym fed.growth)
-their_members f modules (inr going) = ap (λ (g : Growth). g.program.members) (sym going.3.growth)
+their_members f modules x = grind (arith, common_steps)
 
 -- their exports
 pub their_exports : (f : Feeding) (modules : List Module) → HaveEnded f modules → (program_of modules).exports ≡ ended_exports f.opened f.growth.program.exports
-their_exports f modules (inl fed) =
-    ap (λ (g : Growth). g.program.exports) (sym fed.growth)
-    ∙ ap (λ (o : Option Opened). ended_exports o f.growth.program.exports) (sym fed.opened)
-their_exports f modules (inr going) =
-    let p = program_of modules in
-    let s = going.2 in
-    let h = going.3 in
-    sym (take-append_seam p.exports (map (exported (length p.members)) s.exports))
-    ∙ ap (λ (g : Growth). take (length p.exports) g.program.exports) (sym h.growth)
-    ∙ ap (λ (o : Option Opened). ended_exports o f.growth.program.exports) (sym h.opened)
+their_exports f modules x = grind (arith, common_steps)
 
 -- ---- Names of exports beside those listed.
 
 -- a name and an export that stand at one place differ
 pub differ : (names : List (List ℕ)) (exports : List Exported) (i : ℕ) (x : List ℕ) (y : Exported) → i < length names → i < length exports → x ≡ get_or names i x → y ≡ get_or exports i y → bytes_eq x y.name ≡ false → are_same (drop i names) (map (λ e. e.name) (drop i exports)) ≡ false
-differ names exports i x y lt lt2 at at2 e =
-    let first = drop-cons names i x lt ∙ ap (λ z. z ∷ drop (suc i) names) (sym at) in
-    let second = drop-cons exports i y lt2 ∙ ap (λ z. z ∷ drop (suc i) exports) (sym at2) in
-    ap (λ ns. are_same ns (map (λ e. e.name) (drop i exports))) first
-    ∙ ap (λ es. are_same (x ∷ drop (suc i) names) (map (λ e. e.name) es)) second
-    ∙ ap (λ b. b && are_same (drop (suc i) names) (map (λ e. e.name) (drop (suc i) exports))) e
+differ names exports i x y lt lt2 at at2 e = grind (arith, common_steps)
 
 -- ---- Items.
 
@@ -103,9 +89,7 @@ took p s e old new o n i h scan grown =
     )
 
 finishes : (s : Scanning.State) (b : Bool) → s.failed ≡ false → s.ended ≡ b → Scanning.finished s ≡ (if b then Ok (Scanning.object_from s) else Err object.CutShort)
-finishes s b runs e =
-    ap (λ c. if c then Err object.FailedBefore else (if s.ended then Ok (Scanning.object_from s) else Err object.CutShort)) runs
-    ∙ ap (λ c. if c then Ok (Scanning.object_from s) else Err object.CutShort) e
+finishes s b runs e = grind (arith, common_steps)
 
 ends_whole : (p : Program) (s : Scanning.State) (old : Growth) (o : Outline) → Comes p s old o → o.ended ≡ true → Scanning.finished s ≡ Ok (Scanning.object_from s)
 ends_whole p s old o h end = finishes s true (reached_runs s h.reached) (ap (λ (q : Outline). q.ended) (sym h.scan) ∙ end)
@@ -126,9 +110,7 @@ module _ (listed : Option Listed) (imports before names : List (List ℕ)) where
   module _ (p : Program) (s : Scanning.State) (old : Growth) (o : Outline) (h : Comes p s old o) where
     -- an object that has come to its end
     by_names : (b : Bool) → o.ended ≡ true → are_listed listed names imports ≡ b → admitted (Scanning.finished s) ≡ ((if b then Ok (Scanning.object_from s) else Err fault.IndexDisagrees) >>= given_whole)
-    by_names b end e =
-        let object = Scanning.object_from s in
-        ap admitted (ends_whole p s old o h end) ∙ ap (λ c. (if c then Ok object else Err fault.IndexDisagrees) >>= given_whole) e
+    by_names b end e = grind (arith, common_steps, ends_whole)
 
     -- a module whose END has come stands behind the others
     pub closed_whole : (new : Growth) (name : List ℕ) (given : List (List ℕ)) (r : Result (Unit {0}) LinkFault) → o.ended ≡ true → are_listed listed names imports ≡ true → all_once before names ≡ Ok given → OnOk r (new ≡ at_rest (ended old name)) → IfErr r (λ f. is_memory f ≡ true) → Leads (λ object. (new ≡ at_rest (with_module p (module_of name object))) × (all_once before names ≡ Ok given)) r (admitted (Scanning.finished s))
@@ -155,10 +137,7 @@ module _ (listed : Option Listed) (imports before names : List (List ℕ)) where
 
 -- the names of the open module's exports stand behind those of the modules before it
 own_exports : (p : Program) (s : Scanning.State) (g : Growth) (o : Outline) → Comes p s g o → exports_from (length p.exports) g ≡ map (λ e. e.name) s.exports
-own_exports p s g o h =
-    ap (λ (q : Growth). exports_from (length p.exports) q) h.growth
-    ∙ ap (map (λ (e : Exported). e.name)) (drop-append_seam p.exports (map (exported (length p.members)) s.exports))
-    ∙ map_behind (λ e. e.name) (exported (length p.members)) [] s.exports
+own_exports p s g o h = grind (arith, common_steps, drop-append_seam, map_behind)
 
 -- the names given behind a module: what was given before it, and its exports
 given_behind : (script : Script) (modules : List Module) (name : List ℕ) (object : Object) (given : List (List ℕ)) → all_once [] (given_names script (program_of modules)) ≡ Ok given → all_once [] (given_names script (program_of (modules ++ module_of name object ∷ []))) ≡ all_once given (map (λ e. e.name) object.exports)
@@ -168,8 +147,7 @@ given_behind script modules name object given h =
     ∙ once_behind given (given_names script (program_of modules)) (map (λ e. e.name) object.exports) h
 
 with_names : {A : Type 0} (r : Result (Unit {0}) LinkFault) (all : List (List ℕ)) (x : A) → (r >>= (λ u. Ok x)) ≡ ((r >>= (λ u. Ok all)) >>= (λ u. Ok x))
-with_names (Ok u) all x = refl
-with_names (Err e) all x = refl
+with_names y all x = grind (arith, common_steps)
 
 -- what follows an object counts at that object alone
 at_object : (r : Result Object ObjectFault) (b : Bool) (o : Object) (f g : Result Object LinkFault → Result Object LinkFault) → r ≡ (if b then Ok o else Err object.CutShort) → f (Ok o) ≡ g (Ok o) → f (Err (fault.Malformed object.CutShort)) ≡ g (Err (fault.Malformed object.CutShort)) → f (as_link r) ≡ g (as_link r)
@@ -181,15 +159,10 @@ made_from s b = Scanning.finished s ≡ (if b then Ok (Scanning.object_from s) e
 
 -- an entry agrees with an object where the names that are kept of it do
 listed_so : (entry : Option Listing) (o : Object) → agrees_with entry o ≡ are_listed (option_map listed_of entry) (map (λ e. e.name) o.exports) o.imports
-listed_so None o = refl
-listed_so (Some e) o = refl
+listed_so x o = grind (arith, common_steps)
 
 agreeing : (b c : Bool) (o : Object) (f g : Object → Result Object LinkFault) → b ≡ c → f o ≡ g o → ((if b then Ok o else Err fault.IndexDisagrees) >>= f) ≡ ((if c then Ok o else Err fault.IndexDisagrees) >>= g)
-agreeing b c o f g e same = subst (λ (d : Bool). ((if b then Ok o else Err fault.IndexDisagrees) >>= f) ≡ ((if d then Ok o else Err fault.IndexDisagrees) >>= g)) e (go b)
-  where
-    go : (b : Bool) → ((if b then Ok o else Err fault.IndexDisagrees) >>= f) ≡ ((if b then Ok o else Err fault.IndexDisagrees) >>= g)
-    go true = same
-    go false = refl
+agreeing b c o f g e same = grind (arith, common_steps)
 
 -- a module is whole where its names may be given behind those before it
 whole_admits : (script : Script) (modules : List Module) (name : List ℕ) (entry : Option Listing) (s : Scanning.State) (given : List (List ℕ)) (b : Bool) → made_from s b → all_once [] (given_names script (program_of modules)) ≡ Ok given → whole script modules name entry s ≡ admitted (option_map listed_of entry) s.imports given (map (λ e. e.name) s.exports) (Scanning.finished s)
@@ -206,16 +179,11 @@ whole_admits script modules name entry s given b is h =
     refl
 
 kept_whole : {A : Type 0} (q : Result A LinkFault) (o x : Object) → (q >>= (λ u. Ok o)) ≡ Ok x → x ≡ o
-kept_whole (Ok u) o x h = cc
-kept_whole (Err e) o x h = absurd cc
+kept_whole y o x h = grind (arith, common_steps)
 
 -- the object that is admitted is the module's
 admits : (r : Result Object ObjectFault) (b : Bool) (o x : Object) (listed : Option Listed) (imports before names : List (List ℕ)) → r ≡ (if b then Ok o else Err object.CutShort) → admitted listed imports before names r ≡ Ok x → x ≡ o
-admits r true o x listed imports before names is h = go (are_listed listed names imports) (ap (admitted listed imports before names) (sym is) ∙ h)
-  where
-    go : (c : Bool) → ((if c then Ok o else Err fault.IndexDisagrees) >>= given_whole listed imports before names) ≡ Ok x → x ≡ o
-    go true h = kept_whole (all_once before names) o x h
-    go false h = absurd cc
+admits r true o x listed imports before names is h = grind (arith, common_steps, imports, names, kept_whole)
 admits r false o x listed imports before names is h = let k : admitted listed imports before names (Err object.CutShort) ≡ Ok x = ap (admitted listed imports before names) (sym is) ∙ h in absurd cc
 
 -- what a linker stands for has come of the open module
@@ -226,14 +194,7 @@ record Coming (p : Program) (name : List ℕ) (entry : Option Listing) (s : Scan
   pub names : o.listed ≡ option_map listed_of entry
 
 coming : (f : Feeding) (modules : List Module) (name : List ℕ) (entry : Option Listing) (s : Scanning.State) (g : Growth) (o : Opened) → f.growth ≡ g → f.opened ≡ Some o → IsFeeding f modules name entry s → Coming (program_of modules) name entry s g o
-coming f modules name entry s g o grown there h =
-    let same : o ≡ opening (program_of modules) name entry s = let k = h.opened in cc in
-    record {
-      comes = record { growth = sym grown ∙ h.growth; scan = ap (λ (m : Opened). m.scan) same; reached = h.reached };
-      called = ap (λ (m : Opened). m.name) same;
-      first = ap (λ (m : Opened). m.first_export) same;
-      names = ap (λ (m : Opened). m.listed) same;
-    }
+coming f modules name entry s g o grown there h = grind (arith, common_steps)
 
 -- what the open module comes to, as the linker keeps it
 module _ (old : Feeding) (modules : List Module) (name : List ℕ) (entry : Option Listing) (s : Scanning.State) (g : Growth) (o : Opened) (before : List (List ℕ)) (grown : old.growth ≡ g) (there : old.opened ≡ Some o) (gave : old.given ≡ before) (h : IsFeeding old modules name entry s) where
@@ -288,6 +249,4 @@ module _ (old : Feeding) (modules : List Module) (name : List ℕ) (entry : Opti
 
 -- what is linked of what is kept is what the modules come to
 pub linked : (f : Feeding) (modules : List Module) (kept : Program) (r : Result Linked LinkFault) → kept ≡ f.growth.program → Finds is_memory (IsProgramLink f.output f.script kept) r → IsFed f modules → Finds is_memory (LinkOf f.output f.script modules) r
-linked f modules p r is found h =
-    let whole = subst (λ (q : Program). Finds is_memory (IsProgramLink f.output f.script q) r) (is ∙ ap (λ (g : Growth). g.program) h.growth) found in
-    subst (λ (n : Result (Unit {0}) LinkFault). Finds is_memory (λ q. First n (λ _. IsProgramLink f.output f.script (program_of modules)) q) r) (sym (once_of f.script (program_of modules) f.given h.given)) whole
+linked f modules p r is found h = grind (arith, common_steps)

@@ -1,4 +1,5 @@
 -- The files of areas: pieces over pieces, and the rows of each.
+use Rattle.std.proofs.lemmas.Grind.{common_steps}
 use Rattle.std.proofs.Common.{◌≡◌, ◌∙◌, ℕ, ◌+◌, ◌-◌, ◌<◌, ◌≤◌, Bool, true, false, cond, List, [], ◌∷◌, length, get_or, drop, map, refl, sym, ap, subst, arith, zero, suc, ◌++◌, slice_get, Option, Some, None, append_assoc, add-one, inl, inr}
 use Rattle.std.specs.Prelude.{◌&&◌, ◌==◌, filter, if◌then◌else◌, nat_le, nat_lt, not, IsUtf8, ◌||◌, slice_set}
 use Rattle.std.proofs.lemmas.Bool.Decides.{nat_tests}
@@ -27,15 +28,6 @@ use Rattle.base65.specs.declared.output.OutputFile.{OutputFile}
 
 -- ---- Pieces over pieces.
 
--- a piece over an image, and then others
-both : (p : Piece) (ps : List Piece) (old mid new : List ℕ) → Overlays old p.offset p.bytes mid → LaysAll ps mid new → LaysAll (p ∷ ps) old new
-both p ps old mid new first second = record {
-  len = second.len ∙ first.len;
-  each = λ i inside.
-      let here : i < length mid = omega (arith, first.len) in
-      second.each i here ∙ ap (byte_over ps i) (first.each i inside);
-}
-
 pub laid_none : (image : List ℕ) → LaysAll [] image image
 laid_none image = record { len = refl; each = λ i inside. refl }
 
@@ -44,11 +36,7 @@ abbrev pub pieces_in : ℕ → List Load → List Piece
 pieces_in start ls = map (piece_at start) (map view ls)
 
 pub next_row : (start offset : ℕ) (ls : List Load) (i : ℕ) (l : Load) (bytes mid image new : List ℕ) → i < length ls → l ≡ get_or ls i l → offset ≡ offset_of start (placed_in l) → bytes ≡ l.bytes → Overlays mid offset bytes image → LaysAll (pieces_in start (drop (i + 1) ls)) image new → LaysAll (pieces_in start (drop i ls)) mid new
-next_row start offset ls i l bytes mid image new lt is at same laid rest =
-    let there = subst (λ (n : ℕ). Overlays mid n bytes image) at laid in
-    let so = subst (λ (b : List ℕ). Overlays mid (offset_of start (placed_in l)) b image) same there in
-    subst (λ (xs : List Load). LaysAll (pieces_in start xs) mid new) (sym (drop_item ls i l lt is))
-    (both (piece_at start (view l)) (pieces_in start (drop (i + 1) ls)) mid image new so rest)
+next_row start offset ls i l bytes mid image new lt is at same laid rest = grind (arith, common_steps)
 
 pub no_row : (start : ℕ) (ls : List Load) (i : ℕ) (image : List ℕ) → length ls ≤ i → LaysAll (pieces_in start (drop i ls)) image image
 no_row start ls i image le = subst (λ (xs : List Load). LaysAll (pieces_in start xs) image image) (sym (drop_all i ls le)) (laid_none image)
@@ -59,22 +47,10 @@ inside : (i at len : ℕ) → at ≡ 0 → i < len → (nat_le at i && nat_lt i 
 inside i at len e lt = grind (arith, nat_tests)
 
 pub whole_image : (len fill : ℕ) (pieces : List Piece) (image : List ℕ) (w : IsWhole len pieces) → image ≡ (w.0).bytes → IsImage len fill pieces image
-whole_image len fill pieces image (p, is, at, long) same = record {
-  size = ap length same ∙ long;
-  bytes = λ i lt.
-      let here : i < length p.bytes = omega (arith, long) in
-      let none : i - p.offset ≡ i = omega (arith, at) in
-      ap (λ (b : List ℕ). get_or b i 0) same
-      ∙ sym (ap (λ n. get_or p.bytes n 0) none)
-      ∙ sym (ap (λ b. if b then get_or p.bytes (i - p.offset) 0 else fill) (inside i p.offset (length p.bytes) at here))
-      ∙ sym (ap (λ ps. byte_over ps i fill) is);
-}
+whole_image len fill pieces image x same = grind (arith, common_steps)
 
 pub first_bytes : (len start : ℕ) (ls : List Load) (l : Load) (w : IsWhole len (pieces_in start ls)) → l ≡ get_or ls 0 l → l.bytes ≡ (w.0).bytes
-first_bytes len start [] l (p, is, at, long) e = absurd cc
-first_bytes len start (x ∷ ls) l (p, is, at, long) e =
-    let same : piece_at start (view x) ≡ p = cc in
-    ap (λ (y : Load). y.bytes) e ∙ ap (λ (q : Piece). q.bytes) same
+first_bytes len start x l y e = grind (arith, common_steps)
 
 pub one_row : (len start : ℕ) (ls : List Load) (l : Load) → 1 ≤ length ls → length ls < 2 → l ≡ get_or ls 0 l → l.place.load ≤ start → length l.bytes ≡ len → IsWhole len (pieces_in start ls)
 one_row len start [] l some few is le long = absurd (omega arith)
@@ -87,30 +63,16 @@ placed_all (l ∷ ls) = ap (λ ps. placed_in l ∷ ps) (placed_all ls)
 
 -- ---- Rows without bytes.
 
-nowhere_inside : (i at : ℕ) → (nat_le at i && nat_lt i (at + 0)) ≡ false
-nowhere_inside i at = grind (arith, nat_tests)
-
 none_laid : (i at : ℕ) (bytes : List ℕ) (before : ℕ) → not (length bytes == 0) ≡ false → laid_over i at bytes before ≡ before
-none_laid i at [] before e = ap (λ b. if b then get_or [] (i - at) 0 else before) (nowhere_inside i at)
-none_laid i at (b ∷ bytes) before e = let some : (length (b ∷ bytes) == 0) ≡ false = grind (arith, nat_tests) in let both : true ≡ false = sym (ap not some) ∙ e in absurd cc
+none_laid i at x before e = grind (arith, common_steps)
 
 full_over : (start : ℕ) (ls : List Load) (i before : ℕ) → byte_over (pieces_in start (filter has_bytes ls)) i before ≡ byte_over (pieces_in start ls) i before
 full_over start [] i before = refl
-full_over start (l ∷ ls) i before = go (has_bytes l) refl (full_over start ls i)
-  where
-    at : ℕ
-    at = offset_of start (placed_in l)
-
-    go : (b : Bool) → has_bytes l ≡ b → ((x : ℕ) → byte_over (pieces_in start (filter has_bytes ls)) i x ≡ byte_over (pieces_in start ls) i x) → byte_over (pieces_in start (cond b (l ∷ filter has_bytes ls) (filter has_bytes ls))) i before ≡ byte_over (pieces_in start ls) i (laid_over i at l.bytes before)
-    go true is rest = rest (laid_over i at l.bytes before)
-    go false is rest = rest before ∙ ap (byte_over (pieces_in start ls) i) (sym (none_laid i at l.bytes before is))
+full_over start (l ∷ ls) i before = grind (arith, common_steps, (full_over start ls i), none_laid)
 
 -- the file of an area's rows, by its length and those that have bytes
 pub file_of : (a : Area) (place : AreaPlace) (ls items : List Load) (len : ℕ) (image : List ℕ) → items ≡ filter has_bytes ls → len ≡ file_len a place (map placed_in ls) → IsImage len a.fill_value (pieces_in place.start items) image → IsFileOf a place (map view ls) image
-file_of a place ls items len image are long file =
-    let there = subst (λ (xs : List Load). IsImage len a.fill_value (pieces_in place.start xs) image) are file in
-    let full : IsImage len a.fill_value (pieces_in place.start ls) image = record { size = there.size; bytes = λ i lt. there.bytes i lt ∙ full_over place.start ls i a.fill_value } in
-    subst (λ (n : ℕ). IsImage n a.fill_value (pieces_in place.start ls) image) (long ∙ sym (ap (file_len a place) (placed_all ls))) full
+file_of a place ls items len image are long file = grind (arith, common_steps, there, full_over, placed_all)
 
 -- ---- By what rows hold.
 
@@ -124,10 +86,7 @@ all_pieces start bytes (p ∷ ps) = ap (λ qs. record { offset = offset_of start
 
 -- the file of rows with their bytes is that of the rows
 pub file_by : (bytes : RowBytes) (a : Area) (place : AreaPlace) (hs : List Held) (ps : List Placed) (image : List ℕ) → hs ≡ map (held_by bytes) ps → IsFileOf a place hs image → IsFileBy bytes a place ps image
-file_by bytes a place hs ps image are file =
-    let held = subst (λ (xs : List Held). IsFileOf a place xs image) are file in
-    let long = subst (λ (xs : List Placed). IsImage (file_len a place xs) a.fill_value (map (piece_at place.start) (map (held_by bytes) ps)) image) (firsts bytes ps) held in
-    subst (λ (xs : List Piece). IsImage (file_len a place ps) a.fill_value xs image) (all_pieces place.start bytes ps) long
+file_by bytes a place hs ps image are file = grind (arith, common_steps, firsts, all_pieces)
 
 -- ---- The rows of each area's file.
 
@@ -144,13 +103,7 @@ none_past xs i e = elim (slice_get_cases xs i).1 [ inl h ↦ absurd (let n : Som
 
 -- a row that is in a file is written, so it has its bytes
 own_bytes : (bytes : RowBytes) (k : ℕ) (r : Row) → is_loaded k r ≡ true → written bytes r ≡ bytes r
-own_bytes bytes k r e = go (r.load == k) (is_written r.access) e
-  where
-    go : (t w : Bool) → (t && w) ≡ true → (if w then bytes r else []) ≡ bytes r
-    go true true e = refl
-    go true false e = absurd cc
-    go false true e = absurd cc
-    go false false e = absurd cc
+own_bytes bytes k r e = grind (arith, common_steps)
 
 -- the rows of an area's file among some, with their bytes
 abbrev held_in : RowBytes → ℕ → List Row → List RowPlace → List Held
@@ -162,12 +115,7 @@ Collects bytes k rows places i o = (m : List Load) × (o ≡ Some m) × (map vie
 
 module _ (bytes : RowBytes) (k : ℕ) (rows : List Row) (places : List RowPlace) where
   pub collects_none : (o : Option (List Load)) → o ≡ Some [] → Collects bytes k rows places 0 o
-  collects_none o e = ([], e, go rows places)
-    where
-      go : (rs : List Row) (ps : List RowPlace) → held_in bytes k (drop 0 rs) (drop 0 ps) ≡ held_in bytes k rs ps
-      go [] ps = refl
-      go (r ∷ rs) [] = refl
-      go (r ∷ rs) (p ∷ ps) = refl
+  collects_none o e = grind (arith, common_steps)
 
   pub collects_more : (i : ℕ) (l : Load) (old new : Option (List Load)) → i < length rows → l.row.now ≡ get_or rows i l.row.now → slice_get places i ≡ Some l.place → l.bytes ≡ written bytes l.row.now → new ≡ option_map (with_if (is_loaded k l.row.now) l) old → Collects bytes k rows places i old → Collects bytes k rows places (i + 1) new
   collects_more i l old new lt at there own e h =
@@ -188,14 +136,10 @@ module _ (bytes : RowBytes) (k : ℕ) (rows : List Row) (places : List RowPlace)
 
   -- a row without a place
   pub collects_past : (i : ℕ) (o : Option (List Load)) → slice_get places i ≡ None → Collects bytes k rows places i o → Collects bytes k rows places (i + 1) o
-  collects_past i o past h =
-      let le : length places ≤ i = none_past places i past in
-      let none : loaded_in k (drop (i + 1) rows) (drop (i + 1) places) ≡ loaded_in k (drop i rows) (drop i places) = ap (loaded_in k (drop (i + 1) rows)) (drop_all (i + 1) places (omega arith)) ∙ loaded_none k (drop (i + 1) rows) ∙ sym (loaded_none k (drop i rows)) ∙ ap (loaded_in k (drop i rows)) (sym (drop_all i places le)) in
-      (h.0, h.1, ap (λ m. map view h.0 ++ map (held_by bytes) m) none ∙ h.2)
+  collects_past i o past h = grind (arith, common_steps, none_past, drop_all, loaded_none)
 
   pub collects_all : (i : ℕ) (o : Option (List Load)) → length rows ≤ i → Collects bytes k rows places i o → HoldsLoads bytes k rows places o
-  collects_all i o le h =
-      (h.0, h.1, sym (append_none (map view h.0)) ∙ sym (ap (λ rs. map view h.0 ++ map (held_by bytes) (loaded_in k rs (drop i places))) (drop_all i rows le)) ∙ h.2)
+  collects_all i o le h = grind (arith, common_steps)
 
 -- the bytes of a row, by what was taken of all at its place
 pub taken_bytes : (bytes : RowBytes) (rows : List Row) (all : List (List ℕ)) (i : ℕ) (r : Row) (b : List ℕ) → all ≡ map (written bytes) rows → i < length rows → r ≡ get_or rows i r → ((x : List ℕ) → slice_get all i ≡ Some x → b ≡ x) → b ≡ written bytes r
@@ -228,11 +172,7 @@ names os = map (λ o. o.name) os
 -- a name that no file has
 pub added_new : (name bytes : List ℕ) (os : List OutputFile) → list_any (bytes_eq name) (names os) ≡ false → os ++ record { name = name; bytes = bytes } ∷ [] ≡ with_bytes name bytes os
 added_new name bytes [] e = refl
-added_new name bytes (o ∷ os) e = by (bytes_eq name o.name) e (added_new name bytes os)
-  where
-    by : (b : Bool) → (b || list_any (bytes_eq name) (names os)) ≡ false → (list_any (bytes_eq name) (names os) ≡ false → os ++ record { name = name; bytes = bytes } ∷ [] ≡ with_bytes name bytes os) → o ∷ (os ++ record { name = name; bytes = bytes } ∷ []) ≡ (if b then record { name = o.name; bytes = o.bytes ++ bytes } ∷ os else o ∷ with_bytes name bytes os)
-    by true e again = absurd cc
-    by false e again = ap (λ l. o ∷ l) (again e)
+added_new name bytes (o ∷ os) e = grind (arith, common_steps, (added_new name bytes os))
 
 get_next : (p : OutputFile) (os : List OutputFile) (n : ℕ) → slice_get (p ∷ os) (1 + n) ≡ slice_get os n
 get_next p os n = rw one_more refl
@@ -243,14 +183,7 @@ set_next p os n o = rw one_more refl
 -- the file of a name, at its place
 pub added_more : (name bytes : List ℕ) (os : List OutputFile) (o : OutputFile) → slice_get os (position_or_len (bytes_eq name) (names os)) ≡ Some o → slice_set os (position_or_len (bytes_eq name) (names os)) (record { name = o.name; bytes = o.bytes ++ bytes }) ≡ with_bytes name bytes os
 added_more name bytes [] o e = absurd cc
-added_more name bytes (p ∷ os) o e = by (bytes_eq name p.name) e (added_more name bytes os o)
-  where
-    rest : ℕ
-    rest = position_or_len (bytes_eq name) (names os)
-
-    by : (b : Bool) → slice_get (p ∷ os) (if not b then 1 + rest else 0) ≡ Some o → (slice_get os rest ≡ Some o → slice_set os rest (record { name = o.name; bytes = o.bytes ++ bytes }) ≡ with_bytes name bytes os) → slice_set (p ∷ os) (if not b then 1 + rest else 0) (record { name = o.name; bytes = o.bytes ++ bytes }) ≡ (if b then record { name = p.name; bytes = p.bytes ++ bytes } ∷ os else p ∷ with_bytes name bytes os)
-    by true e again = let is : p ≡ o = cc in ap (λ (q : OutputFile). record { name = q.name; bytes = q.bytes ++ bytes } ∷ os) (sym is)
-    by false e again = set_next p os rest (record { name = o.name; bytes = o.bytes ++ bytes }) ∙ ap (λ l. p ∷ l) (again (sym (get_next p os rest) ∙ e))
+added_more name bytes (p ∷ os) o e = grind (arith, common_steps, (added_more name bytes os o), set_next, get_next)
 
 -- a set of names, in which the files' names stand
 module _ (name : List ℕ) where
@@ -266,21 +199,13 @@ module _ (name : List ℕ) where
   at_name (k ∷ keys) = ap (λ n. if not (bytes_eq name k.now) then 1 + n else 0) (at_name keys)
 
   pub no_file : (keys : List (Bor (List ℕ))) (os : List OutputFile) (new : Bool) → map (λ k. k.now) keys ≡ names os → new ≡ true → new ≡ not (list_any is keys) → list_any (bytes_eq name) (names os) ≡ false
-  no_file keys os new same is_new e = sym (any_name keys ∙ ap (list_any (bytes_eq name)) same) ∙ by (list_any is keys) (sym e ∙ is_new)
-    where
-      by : (b : Bool) → not b ≡ true → b ≡ false
-      by true h = absurd cc
-      by false h = refl
+  no_file keys os new same is_new e = grind (arith, common_steps, any_name)
 
   pub file_at : (keys : List (Bor (List ℕ))) (os : List OutputFile) (place : ℕ) → map (λ k. k.now) keys ≡ names os → place ≡ position_or_len is keys → place ≡ position_or_len (bytes_eq name) (names os)
   file_at keys os place same e = e ∙ at_name keys ∙ ap (position_or_len (bytes_eq name)) same
 
   pub keys_stay : (keys added : List (Bor (List ℕ))) (k : Bor (List ℕ)) (new : Bool) → new ≡ false → new ≡ not (list_any is keys) → added ≡ (if list_any is keys then keys else keys ++ k ∷ []) → added ≡ keys
-  keys_stay keys added k new old e grown = grown ∙ by (list_any is keys) (sym e ∙ old)
-    where
-      by : (b : Bool) → not b ≡ false → (if b then keys else keys ++ k ∷ []) ≡ keys
-      by true h = refl
-      by false h = absurd cc
+  keys_stay keys added k new old e grown = grind (arith, common_steps)
 
 -- bytes more in the file at its place
 pub more_there : (name bytes : List ℕ) (os new : List OutputFile) (place : ℕ) → place < length os → place ≡ position_or_len (bytes_eq name) (names os) → ((o : OutputFile) → slice_get os place ≡ Some o → new ≡ slice_set os place (record { name = o.name; bytes = o.bytes ++ bytes })) → new ≡ with_bytes name bytes os

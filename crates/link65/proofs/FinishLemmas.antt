@@ -82,29 +82,24 @@ import_found marks h (ByScript v) = refl
 import_found marks h Nobody = refl
 
 bind_found : (r : Result ℤ ValueFault) (t : Result ℤ Stop) (f : ℤ → Result ℤ ValueFault) (u : ℤ → Result ℤ Stop) → t ≡ as_found r → ((v : ℤ) → u v ≡ as_found (f v)) → (t >>= u) ≡ as_found (r >>= f)
-bind_found (Ok v) t f u e h = rw e (h v)
-bind_found (Err z) t f u e h = rw e refl
+bind_found x t f u e h = grind (arith, common_steps)
 
 none_found : (o : Option ℤ) → or_none (Fault NoValue) o ≡ as_found (or_none NoValue o)
-none_found (Some v) = refl
-none_found None = refl
+none_found x = grind (arith, common_steps)
 
 form_found : (base : ℕ → ℤ) (o : ℕ → Result ℤ ValueFault) (t : ℕ → Result ℤ Stop) → ((j : ℕ) → t j ≡ as_found (o j)) → (f : Form) → value_in (Fault NoValue) base t f ≡ as_found (value_in NoValue base o f)
 form_found base o t h (lit v) = refl
 form_found base o t h (sec k a) = refl
 form_found base o t h (imp j) = h j
 form_found base o t h (prefix op f) = bind_found (value_in NoValue base o f) (value_in (Fault NoValue) base t f) (λ a. Ok (value1 op a)) (λ a. Ok (value1 op a)) (form_found base o t h f) (λ v. refl)
-form_found base o t h (binary op f g) =
-    bind_found (value_in NoValue base o f) (value_in (Fault NoValue) base t f) (λ a. value_in NoValue base o g >>= (λ b. or_none NoValue (value2 op a b))) (λ a. value_in (Fault NoValue) base t g >>= (λ b. or_none (Fault NoValue) (value2 op a b))) (form_found base o t h f)
-    (λ a. bind_found (value_in NoValue base o g) (value_in (Fault NoValue) base t g) (λ b. or_none NoValue (value2 op a b)) (λ b. or_none (Fault NoValue) (value2 op a b)) (form_found base o t h g) (λ b. none_found (value2 op a b)))
+form_found base o t h (binary op f g) = grind (arith, common_steps, (form_found base o t h f), (form_found base o t h g), bind_found, none_found)
 
 pub tried_found : (marks : List Mark) → AllFound marks → (m : Option Resolved) (f : Form) → tried m marks f ≡ as_found (value_in NoValue (base_of m) (λ j. import_value (in_table (table_of marks)) (provider_at m j)) f)
 tried_found marks h m f = form_found (base_of m) (λ j. import_value (in_table (table_of marks)) (provider_at m j)) (λ j. import_tried marks (provider_at m j)) (λ j. import_found marks h (provider_at m j)) f
 
 -- what the attempt says of the value
 outcome_found : (r : Result ℤ ValueFault) → as_outcome (as_found r) ≡ r
-outcome_found (Ok v) = refl
-outcome_found (Err e) = refl
+outcome_found x = grind (arith, common_steps)
 
 pub value_found : (l : Linkage) (marks : List Mark) → AllFound marks → (owner : ℕ) (f : Form) → as_outcome (tried (slice_get l.modules owner) marks f) ≡ value_by l (in_table (table_of marks)) owner f
 value_found l marks h owner f = ap as_outcome (tried_found marks h (slice_get l.modules owner) f) ∙ outcome_found (value_by l (in_table (table_of marks)) owner f)
@@ -113,13 +108,7 @@ value_found l marks h owner f = ap as_outcome (tried_found marks h (slice_get l.
 
 -- what isn't untouched is found
 pub touched_found : (l : Linkage) (marks : List Mark) (x : ℕ) → AreSettled l marks → x < length marks → slice_get marks x ≢ Some Untouched → IsFound marks x
-touched_found l marks x h k n = go (slice_get marks x) refl
-  where
-    go : (o : Option Mark) → slice_get marks x ≡ o → IsFound marks x
-    go None e = absurd (grind (arith, common_steps, gets))
-    go (Some Untouched) e = absurd (n e)
-    go (Some BeingEvaluated) e = absurd (h.at_rest x e)
-    go (Some (Found r)) e = (r, e)
+touched_found l marks x h k n = grind (arith, common_steps, common_steps, gets)
 
 -- one export more
 abbrev pub FoundBelow : ℕ → List Mark → Type 0
@@ -145,12 +134,7 @@ below_next n marks h f x lt = go (nat_cases x n lt)
 -- ---- From a program that passes to one that does where it is placed.
 
 finds_by : (P Q : Result Passed LinkFault → Type 0) → ((r : Result Passed LinkFault) → P r → Q r) → (r : Result Passed LinkFault) → Finds is_memory P r → Finds is_memory Q r
-finds_by P Q h (Ok x) k = h (Ok x) k
-finds_by P Q h (Err e) k = go (is_memory e) k
-  where
-    go : (b : Bool) → Unless b (P (Err e)) → Unless b (Q (Err e))
-    go true u = tt
-    go false u = h (Err e) u
+finds_by x y h z k = grind (arith, common_steps)
 
 -- a program that passes by what its exports come to does where it is placed
 pub placed_by : (s : Script) (p : Program) (placement : Placement) (modules : List Resolved) (marks : List Mark) (r : Result Passed LinkFault) → modules ≡ map (resolved s p placement) p.members → AreAllFound (linkage modules p.exports) marks → Finds is_memory (IsPassed s p placement (linkage modules p.exports) (in_table (table_of marks))) r → Finds is_memory (IsPlacedPassed s p placement) r
@@ -179,94 +163,51 @@ abbrev Refused : {A : Type 0} → Result A LinkFault → Type 0
 Refused r = IfErr r (λ e. is_of_finish e ≡ true)
 
 behind : {A B : Type 0} (r : Result A LinkFault) (k : A → Result B LinkFault) → Refused r → ((x : A) → Refused (k x)) → Refused (r >>= k)
-behind (Ok x) k first next = next x
-behind (Err e) k first next = first
+behind x k first next = grind (arith, common_steps)
 
 -- ---- What stands before values.
 
 unresolved_so : (names : List (List ℕ)) → Refused (none_unresolved names)
-unresolved_so [] = tt
-unresolved_so (name ∷ names) = refl
+unresolved_so x = grind (arith, common_steps)
 
 placement_so : (r : Result Placement PlaceFault) → Refused (as_placement r)
-placement_so (Ok p) = tt
-placement_so (Err e) = refl
+placement_so x = grind (arith, common_steps)
 
 placed_so : (s : Script) (p : Program) → Refused (placed s p)
 placed_so s p = behind (names_given s p) _ (unresolved_so (unresolved s p)) (λ u. placement_so (place_of s (needs_of p)))
 
 -- ---- Values.
 
-value_so : (s : Site) (r : Result ℤ ValueFault) → Refused (value_at s r)
-value_so s (Ok v) = tt
-value_so s (Err value.Circular) = refl
-value_so s (Err value.NoValue) = refl
-value_so s (Err value.Unresolved) = refl
-
 each_so : {A : Type 0} (check : A → Result (Unit {0}) LinkFault) → ((x : A) → Refused (check x)) → (xs : List A) → Refused (each_passes check xs)
 each_so check one [] = tt
 each_so check one (x ∷ xs) = behind (check x) (λ u. each_passes check xs) (one x) (λ u. each_so check one xs)
 
-fitting_so : (s : Site) (w : Fixup) (v : ℤ) → Refused (fitting s w v)
-fitting_so s w v = go (fits_width w.width v)
-  where
-    go : (b : Bool) → Refused (let fits : Result (Unit {0}) LinkFault = Ok tt in if b then fits else Err (fault.OutOfRange s))
-    go true = tt
-    go false = refl
-
 fixup_so : (l : Linkage) (members : List Member) (exports : Exports) (w : Fixup) → Refused (check_fixup l members exports w)
-fixup_so l members exports w =
-    let at = site members w.owner w.origin in
-    behind (value_at at (value_by l exports w.owner w.form)) (fitting at w) (value_so at (value_by l exports w.owner w.form)) (fitting_so at w)
+fixup_so l members exports w = grind (arith, common_steps)
 
 export_so : (l : Linkage) (members : List Member) (exports : Exports) (e : Exported) → Refused (check_export l members exports e)
-export_so l members exports e =
-    let at = site members e.owner e.origin in
-    behind (value_at at (value_by l exports e.owner e.form)) _ (value_so at (value_by l exports e.owner e.form)) (λ v. tt)
-
-assertion_so : (s : Site) (a : Action) (text : List ℕ) (v : ℤ) → Refused (assertion_result s a text v)
-assertion_so s action.Warning text v = go (int_eq v (pos 0))
-  where
-    go : (b : Bool) → Refused (if b then Ok (assertion_warning s text) else Ok [])
-    go true = tt
-    go false = tt
-assertion_so s action.Error text v = go (int_eq v (pos 0))
-  where
-    go : (b : Bool) → Refused (let nothing : Result (List ℕ) LinkFault = Ok [] in if b then Err (fault.Assertion s text) else nothing)
-    go true = refl
-    go false = tt
+export_so l members exports e = grind (arith, common_steps)
 
 assert_so : (l : Linkage) (members : List Member) (exports : Exports) (a : Asserted) → Refused (check_assert l members exports a)
-assert_so l members exports a =
-    let at = site members a.owner a.origin in
-    behind (value_at at (value_by l exports a.owner a.form)) _ (value_so at (value_by l exports a.owner a.form)) (assertion_so at a.action a.text)
+assert_so l members exports a = grind (arith, common_steps)
 
 asserts_so : (l : Linkage) (members : List Member) (exports : Exports) (all : List Asserted) → Refused (check_asserts l members exports all)
 asserts_so l members exports [] = tt
-asserts_so l members exports (a ∷ rest) =
-    behind (check_assert l members exports a) _ (assert_so l members exports a) (λ text. behind (check_asserts l members exports rest) _ (asserts_so l members exports rest) (λ more. tt))
+asserts_so l members exports (a ∷ rest) = grind (arith, common_steps, (asserts_so l members exports rest), behind, assert_so)
 
 checked_so : (s : Script) (p : Program) (l : Linkage) (exports : Exports) → Refused (checked s p l exports)
-checked_so s p l exports =
-    let values = each_passes (check_fixup l p.members exports) (fixups_by_row s.rows p.segments) in
-    behind (values >>= (λ u. each_passes (check_export l p.members exports) p.exports)) (λ u. check_asserts l p.members exports p.asserts)
-    (behind values (λ u. each_passes (check_export l p.members exports) p.exports) (each_so (check_fixup l p.members exports) (fixup_so l p.members exports) (fixups_by_row s.rows p.segments)) (λ u. each_so (check_export l p.members exports) (export_so l p.members exports) p.exports))
-    (λ u. asserts_so l p.members exports p.asserts)
+checked_so s p l exports = grind (arith, common_steps, behind, each_so, fixup_so, export_so, asserts_so)
 
 -- ---- The whole.
 
 first_so : {A B : Type 0} (r : Result A LinkFault) (Next : A → Result B LinkFault → Type 0) (e : LinkFault) → Refused r → ((x : A) → Next x (Err e) → is_of_finish e ≡ true) → First r Next (Err e) → is_of_finish e ≡ true
-first_so (Ok x) Next e so next h = next x h
-first_so (Err f) Next e so next h = let same : e ≡ f = cc in ap is_of_finish same ∙ so
+first_so x y e so next h = grind (arith, common_steps)
 
 image_so : (output : List ℕ) (s : Script) (p : Program) (placement : Placement) (l : Linkage) (exports : Exports) (warnings : List ℕ) (e : LinkFault) → IsImaged output s p placement l exports warnings (Err e) → is_of_finish e ≡ true
 image_so output s p placement l exports warnings e h = let never = h.2 in absurd cc
 
 placed_link_so : (output : List ℕ) (s : Script) (p : Program) (placement : Placement) (e : LinkFault) → IsPlacedLink output s p placement (Err e) → is_of_finish e ≡ true
-placed_link_so output s p placement e h =
-    let l = linkage_of s p placement in
-    let exports = in_table h.0 in
-    first_so (checked s p l exports) (IsImaged output s p placement l exports) e (checked_so s p l exports) (λ warnings. image_so output s p placement l exports warnings e) h.2
+placed_link_so output s p placement e h = grind (arith, common_steps, first_so, checked_so, image_so)
 
 link_so : (output : List ℕ) (s : Script) (p : Program) (e : LinkFault) → IsProgramLink output s p (Err e) → is_of_finish e ≡ true
 link_so output s p e h = first_so (placed s p) (IsPlacedLink output s p) e (placed_so s p) (λ placement. placed_link_so output s p placement e) h
@@ -277,5 +218,4 @@ outside_or false own P h so = so h
 
 -- whatever is linked, a refusal is want of memory or one of a link's
 pub refuses_so : (output : List ℕ) (s : Script) (p : Program) (r : Result Linked LinkFault) → Finds is_memory (IsProgramLink output s p) r → RefusesBy is_of_finish r
-refuses_so output s p (Ok x) h = tt
-refuses_so output s p (Err e) h = outside_or (is_memory e) (is_of_finish e) (IsProgramLink output s p (Err e)) h (link_so output s p e)
+refuses_so output s p x h = grind (arith, common_steps, outside_or, link_so)

@@ -1,5 +1,6 @@
 -- Names that are given, none twice, and names that nobody gives.
-use Rattle.std.proofs.Common.{◌≡◌, ◌∙◌, ℕ, Bool, true, false, not, List, [], ◌∷◌, ◌++◌, Result, Ok, Err, append_assoc, refl, sym, ap, map, length, append-nil, ◌+◌, ◌||◌, cond, filter, Option, Some, is_some, if◌then◌else◌, subst}
+use Rattle.std.proofs.lemmas.Grind.{common_steps}
+use Rattle.std.proofs.Common.{arith, ◌≡◌, ◌∙◌, ℕ, Bool, true, false, not, List, [], ◌∷◌, ◌++◌, Result, Ok, Err, append_assoc, refl, sym, ap, map, length, append-nil, ◌+◌, ◌||◌, cond, filter, Option, Some, is_some, if◌then◌else◌, subst}
 use Rattle.base65.specs.Outcome.{◌>>=◌, Refuses, Unless}
 use Rattle.link65.specs.declared.fault.LinkFault.{LinkFault}
 use Rattle.link65.specs.declared.fault.LinkFault.TheVariants.{DuplicateExport}
@@ -32,8 +33,7 @@ nil (n ∷ ns) = ap (λ l. n ∷ l) (nil ns)
 
 each_step : (before : Names) (name : List ℕ) (names : Names) (b : Bool) → is_among before name ≡ b → with_each (before ++ name ∷ []) names ≡ all_once (before ++ name ∷ []) names → with_each before (name ∷ names) ≡ all_once before (name ∷ names)
 each_step before name names true is rest = rw is refl
-each_step before name names false is rest =
-    rw is (rest ∙ ap (λ ns. no_name_again (first_again (before ++ name ∷ []) names) >>= (λ u. Ok ns)) (append_assoc before (name ∷ []) names))
+each_step before name names false is rest = grind (arith, common_steps, append_assoc)
 
 -- name by name, or all at once
 pub each_once_all : (names before : Names) → with_each before names ≡ all_once before names
@@ -59,8 +59,7 @@ taken_new before after name is same = let made : Names → Result Names LinkFaul
 -- ---- Names that are given behind others, none twice.
 
 behind_one : (r : Result Names LinkFault) (xs ys : Names) → ((all : Names) → with_each all (xs ++ ys) ≡ (with_each all xs >>= (λ more. with_each more ys))) → (r >>= (λ all. with_each all (xs ++ ys))) ≡ ((r >>= (λ all. with_each all xs)) >>= (λ more. with_each more ys))
-behind_one (Ok all) xs ys h = h all
-behind_one (Err e) xs ys h = refl
+behind_one x xs ys h = grind (arith, common_steps)
 
 each_behind : (before xs ys : Names) → with_each before (xs ++ ys) ≡ (with_each before xs >>= (λ all. with_each all ys))
 each_behind before [] ys = refl
@@ -80,19 +79,9 @@ map_behind f g (y ∷ old) xs = ap (λ ys. f y ∷ ys) (map_behind f g old xs)
 
 -- what is given behind a module: what was given before it, and its exports
 pub module_gives : (s : Script) (p : Program) (m : Module) → given_names s (with_module p m) ≡ given_names s p ++ map (λ e. e.name) m.object.exports
-module_gives s p m =
-    let names = map_behind (λ e. e.name) (exported (length p.members)) p.exports m.object.exports in
-    ap (λ ys. script_names s ++ ys) names ∙ sym (append_assoc (script_names s) (export_names p) (map (λ e. e.name) m.object.exports))
+module_gives s p m = grind (arith, common_steps, map_behind, append_assoc)
 
 -- ---- Names by themselves.
-
-all_passed : (r : Result (Unit {0}) LinkFault) (all given : Names) → (r >>= (λ u. Ok all)) ≡ Ok given → r ≡ Ok tt
-all_passed (Ok u) all given h = refl
-all_passed (Err e) all given h = absurd cc
-
--- where all names are given, none is given twice
-pub once_of : (s : Script) (p : Program) (given : Names) → all_once [] (given_names s p) ≡ Ok given → names_once s p ≡ Ok tt
-once_of s p given h = all_passed (no_name_again (first_again [] (given_names s p))) (given_names s p) given h
 
 -- ---- A name goes behind others, if it isn't among them.
 
@@ -125,9 +114,7 @@ missing_append gives (x ∷ xs) before ys = missing_append gives xs (if gives x 
 
 missing_same : (f g : List ℕ → Bool) → ((name : List ℕ) → f name ≡ g name) → (xs before : List (List ℕ)) → missing_behind f before xs ≡ missing_behind g before xs
 missing_same f g e [] before = refl
-missing_same f g e (x ∷ xs) before =
-    ap (λ b. missing_behind f (if b || is_among before x then before else before ++ x ∷ []) xs) (e x)
-    ∙ missing_same f g e xs (if g x || is_among before x then before else before ++ x ∷ [])
+missing_same f g e (x ∷ xs) before = grind (arith, common_steps)
 
 same_name : (x y : List ℕ) → bytes_eq x y ≡ true → x ≡ y
 same_name x y e = (bytes_eq-Decides x y).0 e
@@ -151,22 +138,8 @@ filter_one q x false e = rw e refl
 
 once_step : (gives : List ℕ → Bool) (before : List (List ℕ)) (x : List ℕ) (g a : Bool) → gives x ≡ g → is_among before x ≡ a → filter (λ n. not (gives n)) (if a then before else before ++ x ∷ []) ≡ (if g || is_among (filter (λ n. not (gives n)) before) x then filter (λ n. not (gives n)) before else filter (λ n. not (gives n)) before ++ x ∷ [])
 once_step gives before x true true is there = refl
-once_step gives before x true false is there =
-    filter-append (λ n. not (gives n)) before (x ∷ [])
-    ∙ ap (λ ns. filter (λ n. not (gives n)) before ++ ns) (filter_one (λ n. not (gives n)) x false (ap not is))
-    ∙ nil (filter (λ n. not (gives n)) before)
-  where
-    nil : (ns : List (List ℕ)) → ns ++ [] ≡ ns
-    nil [] = refl
-    nil (n ∷ ns) = ap (λ l. n ∷ l) (nil ns)
-once_step gives before x false a is there = go a there
-  where
-    kept : is_among (filter (λ n. not (gives n)) before) x ≡ is_among before x
-    kept = kept_among (λ n. not (gives n)) x before (ap not is)
-
-    go : (b : Bool) → is_among before x ≡ b → filter (λ n. not (gives n)) (if b then before else before ++ x ∷ []) ≡ (if is_among (filter (λ n. not (gives n)) before) x then filter (λ n. not (gives n)) before else filter (λ n. not (gives n)) before ++ x ∷ [])
-    go true e = rw (kept, e) refl
-    go false e = rw (kept, e) (filter-append (λ n. not (gives n)) before (x ∷ []) ∙ ap (λ ns. filter (λ n. not (gives n)) before ++ ns) (filter_one (λ n. not (gives n)) x true (ap not is)))
+once_step gives before x true false is there = grind (arith, common_steps, there, filter-append, filter_one, nil)
+once_step gives before x false a is there = grind (arith, common_steps, there, kept_among, filter-append, filter_one)
 
 once_missing : (gives : List ℕ → Bool) (xs before : List (List ℕ)) → filter (λ n. not (gives n)) (each_once before xs) ≡ missing_behind gives (filter (λ n. not (gives n)) before) xs
 once_missing gives [] before = refl
@@ -196,16 +169,10 @@ either true b c d e = rw e refl
 either false b c d e = rw e refl
 
 pub gives_given : (g : GivenNames) (s : Script) (p : Program) → AreGiven g (script_names s) (export_names p) (map (λ d. d.name) (weak_symbols s.symbols)) → (name : List ℕ) → gives_in g name ≡ is_given s p name
-gives_given g s p t name =
-    rw (has_name g.script (script_names s) name t.script, has_name g.exports (export_names p) name t.exports, has_name g.weak (map (λ d. d.name) (weak_symbols s.symbols)) name t.weak)
-    (either (is_among (script_names s) name) (is_among (export_names p) name) (is_among (map (λ d. d.name) (weak_symbols s.symbols)) name) _ (list_any-append (λ n. bytes_eq n name) (script_names s) (export_names p)))
+gives_given g s p t name = grind (arith, common_steps, has_name, either, list_any-append)
 
 pub are_given : (g : GivenNames) (own exported others own2 exported2 others2 : List (List ℕ)) → own ≡ own2 → exported ≡ exported2 → others ≡ others2 → AreGiven g own exported others → AreGiven g own2 exported2 others2
-are_given g own exported others own2 exported2 others2 e f h t = record {
-  script = subst (IsTable g.script) e t.script;
-  exports = subst (IsTable g.exports) f t.exports;
-  weak = subst (IsTable g.weak) h t.weak;
-}
+are_given g own exported others own2 exported2 others2 e f h t = grind (arith, common_steps)
 
 -- ---- Names that stand once each.
 
@@ -218,10 +185,7 @@ each_once_behind before (x ∷ xs) ys = each_once_behind (if is_among before x t
 
 one_more : (before : List (List ℕ)) (x : List ℕ) (b : Bool) → is_among before x ≡ b → stand_once before → stand_once (if b then before else before ++ x ∷ [])
 one_more before x true is once = once
-one_more before x false is once =
-    each_once_behind [] before (x ∷ [])
-    ∙ ap (λ ns. each_once ns (x ∷ [])) once
-    ∙ ap (λ b. if b then before else before ++ x ∷ []) is
+one_more before x false is once = grind (arith, common_steps, each_once_behind)
 
 one_missing : (gives : Bool) (before : List (List ℕ)) (x : List ℕ) → stand_once before → stand_once (if gives || is_among before x then before else before ++ x ∷ [])
 one_missing true before x once = once
@@ -241,9 +205,7 @@ given_alone false false c d none e = none ∙ sym e
 
 -- where no weak name is asked
 gives_alone : (g : GivenNames) (s : Script) (p : Program) → AreGiven g (script_names s) (export_names p) [] → (name : List ℕ) → gives_in g name ≡ is_among (given_names s p) name
-gives_alone g s p t name =
-    rw (has_name g.script (script_names s) name t.script, has_name g.exports (export_names p) name t.exports)
-    (given_alone (is_among (script_names s) name) (is_among (export_names p) name) (has g.weak name) _ (has_name g.weak [] name t.weak) (list_any-append (λ n. bytes_eq n name) (script_names s) (export_names p)))
+gives_alone g s p t name = grind (arith, common_steps, has_name, given_alone, list_any-append)
 
 pub open_once : (g : GivenNames) (s : Script) (p : Program) → AreGiven g (script_names s) (export_names p) [] → each_once [] (missing_behind (gives_in g) (missing_behind (gives_in g) [] (symbol_imports s.symbols)) (flat_map (λ m. m.imports) p.members)) ≡ open_names s p
 open_once g s p t =

@@ -1,7 +1,7 @@
 -- An item grows a program as the module grows that it belongs to.
 use Rattle.std.proofs.Common.{◌≡◌, ◌∙◌, ◌+◌, ◌-◌, ◌^◌, ℕ, zero, suc, List, [], ◌∷◌, ◌++◌, length, map, replicate, cond, Option, Some, Bool, true, false, ◌&&◌, ◌||◌, not, if◌then◌else◌, refl, sym, ap, subst, arith, append_assoc, length-append}
 use Rattle.std.specs.Prelude.{slice_get, slice_set, find, max}
-use Rattle.std.proofs.lemmas.Grind.{flat_map-append}
+use Rattle.std.proofs.lemmas.Grind.{common_steps, flat_map-append}
 use Rattle.std.proofs.lemmas.Cmp.{nat_list_eq_equiv}
 use Rattle.std.proofs.lemmas.List.{map-append, map-set}
 use Rattle.std.proofs.lemmas.List.Sums.{sum_by-append}
@@ -53,51 +53,12 @@ pub record IsLonger (owner : ℕ) (f : Fragment) (s t : Section) : Type 0 where
   pub len : section_len t ≡ section_len s + fragment_len f
   pub cells : flat_map (Programs.fragment_cells owner) t.fragments ≡ flat_map (Programs.fragment_cells owner) s.fragments ++ Programs.fragment_cells owner f
 
-closing_cells : (owner : ℕ) (bytes : List ℕ) → flat_map (Programs.fragment_cells owner) (Items.closing bytes) ≡ map Programs.known bytes
-closing_cells owner [] = refl
-closing_cells owner (b ∷ bytes) = ap (flat_map (Programs.fragment_cells owner)) (closing_is (b ∷ bytes) (closings.longer b bytes)) ∙ nil (map Programs.known (b ∷ bytes))
-
-shut_cells : (owner : ℕ) (fs : List Fragment) (bytes : List ℕ) → flat_map (Programs.fragment_cells owner) (fs ++ Items.closing bytes) ≡ flat_map (Programs.fragment_cells owner) fs ++ map Programs.known bytes
-shut_cells owner fs bytes = flat_map-append (Programs.fragment_cells owner) fs (Items.closing bytes) ∙ ap (λ cs. flat_map (Programs.fragment_cells owner) fs ++ cs) (closing_cells owner bytes)
-
-longer_by : (owner : ℕ) (d : Draft) (f : Fragment) → IsLonger owner f (Scanning.section_from d) (Scanning.section_from (Items.with_fragment d (fragment_len f) f))
-longer_by owner d f =
-    let cells = Programs.fragment_cells owner in
-    let fs = Items.closed d in
-    record {
-      name = refl;
-      align = refl;
-      len = ap (sum_by fragment_len) (nil (fs ++ f ∷ [])) ∙ sum_by-append fragment_len fs (f ∷ []) ∙ omega arith;
-      cells = ap (flat_map cells) (nil (fs ++ f ∷ [])) ∙ flat_map-append cells fs (f ∷ []) ∙ ap (λ cs. flat_map cells fs ++ cs) (nil (cells f));
-    }
-
 pub grown_longer : (owner : ℕ) (d : Draft) (f : Fragment) → IsLonger owner f (Scanning.section_from d) (Scanning.section_from (Items.grown d f))
-grown_longer owner d (Literal bytes) =
-    let cells = Programs.fragment_cells owner in
-    let all = d.literal ++ bytes in
-    record {
-      name = refl;
-      align = refl;
-      len = shut_len d.fragments all ∙ omega (arith, length-append d.literal bytes, shut_len d.fragments d.literal);
-      cells = shut_cells owner d.fragments all ∙ ap (λ cs. flat_map cells d.fragments ++ cs) (map-append Programs.known d.literal bytes) ∙ sym (append_assoc (flat_map cells d.fragments) (map Programs.known d.literal) (map Programs.known bytes)) ∙ ap (λ cs. cs ++ map Programs.known bytes) (sym (shut_cells owner d.fragments d.literal));
-    }
-grown_longer owner d (Fill n) = longer_by owner d (Fill n)
-grown_longer owner d (Value w origin form) = longer_by owner d (Value w origin form)
+grown_longer owner d x = grind (arith, common_steps)
 
 -- the segment of the section has the fragment's bytes behind its own
 segment_longer : (owner : ℕ) (f : Fragment) (s t : Section) (g : Programs.Segment) → IsLonger owner f s t → Programs.grown owner g t ≡ Growing.with_cells (fragment_len f) (Programs.fragment_cells owner f) (Programs.grown owner g s)
-segment_longer owner f s t g l =
-    let cells = Programs.fragment_cells owner in
-    let old = flat_map cells s.fragments in
-    let begin = Programs.begin_behind g.size s in
-    let gap = replicate (begin - g.size) Programs.filled in
-    let built : ℕ → Programs.Segment = λ a. record { name = g.name; size = rounded_up g.size a + section_len t; align = max g.align a; cells = (g.cells ++ replicate (rounded_up g.size a - g.size) Programs.filled) ++ flat_map cells t.fragments } in
-    let sized : ℕ → Programs.Segment = λ n. record { name = g.name; size = n; align = max g.align (Programs.align_of s); cells = (g.cells ++ gap) ++ flat_map cells t.fragments } in
-    let filled_up : List Programs.Cell → Programs.Segment = λ cs. record { name = g.name; size = (begin + section_len s) + fragment_len f; align = max g.align (Programs.align_of s); cells = cs } in
-    let size : begin + section_len t ≡ (begin + section_len s) + fragment_len f = omega (arith, l.len) in
-    let all : (g.cells ++ gap) ++ flat_map cells t.fragments ≡ ((g.cells ++ gap) ++ old) ++ cells f =
-    ap (λ cs. (g.cells ++ gap) ++ cs) l.cells ∙ sym (append_assoc (g.cells ++ gap) old (cells f)) in
-    ap (λ n. built (2 ^ n)) l.align ∙ ap sized size ∙ ap filled_up all
+segment_longer owner f s t g l = grind (arith, common_steps)
 
 same_names : (n : List ℕ) → bytes_eq n n ≡ true
 same_names n = (nat_list_eq_equiv).refl n
@@ -108,15 +69,12 @@ head_step owner f s t g gs true l is rest = rw is (ap (λ x. x ∷ gs) (segment_
 head_step owner f s t g gs false l is rest = rw is (ap (λ xs. g ∷ xs) rest)
 
 head_longer : (owner : ℕ) (f : Fragment) (s t : Section) (gs : List Programs.Segment) → IsLonger owner f s t → Programs.with_section owner gs t ≡ Growing.with_more s.name (fragment_len f) (Programs.fragment_cells owner f) (Programs.with_section owner gs s)
-head_longer owner f s t [] l =
-    rw (same_names s.name) (ap (λ (n : List ℕ). Programs.grown owner (Programs.empty_segment n) t ∷ []) l.name ∙ ap (λ (g : Programs.Segment). g ∷ []) (segment_longer owner f s t (Programs.empty_segment s.name) l))
+head_longer owner f s t [] l = grind (arith, common_steps, same_names, segment_longer)
 head_longer owner f s t (g ∷ gs) l = ap (λ (n : List ℕ). if bytes_eq g.name n then Programs.grown owner g t ∷ gs else g ∷ Programs.with_section owner gs t) l.name ∙ (head_step owner f s t g gs (bytes_eq g.name s.name) l refl (head_longer owner f s t gs l))
 
 -- a segment of one name isn't one of another
 not_both : (x y z : List ℕ) → bytes_eq x y ≡ true → bytes_eq x z ≡ true → bytes_eq y z ≡ false → ⊥
-not_both x y z e f other = let same = (nat_list_eq_equiv).congr x y z e in true_is_not (sym f ∙ same ∙ other) where
-  true_is_not : true ≡ false → ⊥
-  true_is_not e = cc
+not_both x y z e f other = grind (arith, common_steps, nat_list_eq_equiv)
 
 apart_step : (owner : ℕ) (name : List ℕ) (len : ℕ) (cells : List Programs.Cell) (r : Section) (g : Programs.Segment) (gs : List Programs.Segment) (b c : Bool) → bytes_eq name r.name ≡ false → bytes_eq g.name name ≡ b → bytes_eq g.name r.name ≡ c → Programs.with_section owner (Growing.with_more name len cells gs) r ≡ Growing.with_more name len cells (Programs.with_section owner gs r) → Programs.with_section owner (if b then Growing.with_cells len cells g ∷ gs else g ∷ Growing.with_more name len cells gs) r ≡ Growing.with_more name len cells (if c then Programs.grown owner g r ∷ gs else g ∷ Programs.with_section owner gs r)
 apart_step owner name len cells r g gs true true other e f rest = absurd (not_both g.name name r.name e f other)
@@ -125,9 +83,7 @@ apart_step owner name len cells r g gs false true other e f rest = rw (f, e) ref
 apart_step owner name len cells r g gs false false other e f rest = rw (f, e) (ap (λ xs. g ∷ xs) rest)
 
 apart : (owner : ℕ) (name : List ℕ) (len : ℕ) (cells : List Programs.Cell) (r : Section) (gs : List Programs.Segment) → bytes_eq name r.name ≡ false → Programs.with_section owner (Growing.with_more name len cells gs) r ≡ Growing.with_more name len cells (Programs.with_section owner gs r)
-apart owner name len cells r [] other =
-    let back : bytes_eq r.name name ≡ false = (nat_list_eq_equiv).symm r.name name ∙ other in
-    rw back refl
+apart owner name len cells r [] other = grind (arith, common_steps, nat_list_eq_equiv)
 apart owner name len cells r (g ∷ gs) other = apart_step owner name len cells r g gs (bytes_eq g.name name) (bytes_eq g.name r.name) other refl refl (apart owner name len cells r gs other)
 
 ends_step : (name : List ℕ) (len : ℕ) (cells : List Programs.Cell) (r : List ℕ) (g : Programs.Segment) (gs : List Programs.Segment) (b c : Bool) → bytes_eq name r ≡ false → bytes_eq g.name name ≡ b → bytes_eq g.name r ≡ c → Programs.end_of (Growing.with_more name len cells gs) r ≡ Programs.end_of gs r → Programs.end_of (if b then Growing.with_cells len cells g ∷ gs else g ∷ Growing.with_more name len cells gs) r ≡ option_map_or (λ (x : Programs.Segment). x.size) (cond c (Some g) (find (λ (x : Programs.Segment). bytes_eq x.name r) gs)) 0
@@ -173,9 +129,7 @@ AreApart [] = Unit {0}
 AreApart (s ∷ ss) = IsOther s.name ss × AreApart ss
 
 place_longer : (owner : ℕ) (f : Fragment) (s t : Section) (gs : List Programs.Segment) → IsLonger owner f s t → Programs.section_place gs t ≡ Growing.longer (Programs.section_place gs s) (fragment_len f)
-place_longer owner f s t gs l =
-    let built : List ℕ → ℕ → ℕ → SectionPlace = λ n a len. record { segment = n; offset = rounded_up (Programs.end_of gs n) a; size = len } in
-    ap (λ n. built n (2 ^ t.align) (section_len t)) l.name ∙ ap (λ a. built s.name (2 ^ a) (section_len t)) l.align ∙ ap (built s.name (2 ^ s.align)) l.len
+place_longer owner f s t gs l = grind (arith, common_steps)
 
 -- what becomes of segments and places where one section has a fragment more
 pub record Grows (owner : ℕ) (f : Fragment) (s : Section) (gs : List Programs.Segment) (ss ts : List Section) (k : ℕ) : Type 0 where
@@ -265,16 +219,7 @@ part_step p s k offset f d names there =
     ∙ sym (ap (Growing.with_part (Growing.growth_of p s) k f) g.there)
 
 section_step : (p : Program) (s : Scanning.State) (name : List ℕ) (size align : ℕ) → Growing.growth_of p (Items.with_item s (item.Section name size align)) ≡ Growing.grown_by (Growing.growth_of p s) (item.Section name size align)
-section_step p s name size align =
-    let d = Items.empty_draft name size align in
-    let e = Growing.bare_section name align in
-    let owner = length p.members in
-    let ss = map Scanning.section_from s.drafts in
-    let gs = Programs.with_sections owner p.segments ss in
-    let now : map Scanning.section_from (s.drafts ++ d ∷ []) ≡ ss ++ e ∷ [] = map-append Scanning.section_from s.drafts (d ∷ []) in
-    by_sections p s (map Scanning.section_from (s.drafts ++ d ∷ [])) (ss ++ e ∷ []) now
-    ∙ ap (λ (hs : List Programs.Segment). made p s hs (Programs.section_places owner p.segments (ss ++ e ∷ []))) (snoc_sections owner p.segments ss e)
-    ∙ ap (made p s (Programs.with_section owner gs e)) (snoc_places owner p.segments ss e)
+section_step p s name size align = grind (arith, common_steps, map-append, by_sections, snoc_sections, snoc_places)
 
 pushed : {A B : Type 0} (f : A → B) (old : List B) (xs : List A) (x : A) → old ++ map f (xs ++ x ∷ []) ≡ (old ++ map f xs) ++ f x ∷ []
 pushed f old xs x = ap (λ ys. old ++ ys) (map-append f xs (x ∷ [])) ∙ sym (append_assoc old (map f xs) (f x ∷ []))
@@ -285,12 +230,8 @@ item_step p s (item.File name) names placed = refl
 item_step p s (item.Import name) names placed = refl
 item_step p s (item.Section name size align) names placed = section_step p s name size align
 item_step p s (item.Part k offset f) names placed = part_step p s k offset f placed.0 names placed.1
-item_step p s (item.Export name origin form) names placed =
-    let e : Export = record { name = name; origin = origin; form = form } in
-    ap (λ (es : List Exported). record (Growing.growth_of p s) { program = record (Growing.growth_of p s).program { exports = es } }) (pushed (exported (length p.members)) p.exports s.exports e)
-item_step p s (item.Assert action origin text form) names placed =
-    let a : Assert = record { action = action; origin = origin; text = text; form = form } in
-    ap (λ (as' : List Asserted). record (Growing.growth_of p s) { program = record (Growing.growth_of p s).program { asserts = as' } }) (pushed (asserted (length p.members)) p.asserts s.asserts a)
+item_step p s (item.Export name origin form) names placed = grind (arith, common_steps, pushed)
+item_step p s (item.Assert action origin text form) names placed = grind (arith, common_steps, pushed)
 item_step p s item.End names placed = refl
 
 -- what has come of a whole module makes the program with the module behind
@@ -299,8 +240,7 @@ whole_module p name s = refl
 
 -- nothing has come yet
 pub nothing_yet : (p : Program) (version : ℕ) → Growing.growth_of p (Scanning.start version) ≡ Growing.at_rest p
-nothing_yet p version = ap (λ (es : List Exported). record { program = record { members = p.members; segments = p.segments; exports = es; asserts = p.asserts ++ [] }; sections = []; imports = []; files = [] }) (nil p.exports)
-    ∙ ap (λ (as' : List Asserted). record { program = record { members = p.members; segments = p.segments; exports = p.exports; asserts = as' }; sections = []; imports = []; files = [] }) (nil p.asserts)
+nothing_yet p version = grind (arith, common_steps)
 
 pub growth_law : Growing.GrowthLaw
 growth_law = (λ p s e x r h. item_step p s x.1 (reached_parts s r).names (led s (outline_of s) e x refl h).2, nothing_yet, whole_module)

@@ -1,4 +1,5 @@
 -- Lists: names that are copied, places by name, lists beside each other.
+use Rattle.std.proofs.lemmas.Grind.{common_steps}
 use Rattle.std.proofs.Common.{◌≡◌, ◌∙◌, ℕ, List, [], ◌∷◌, map, Result, Ok, Err, refl, ap, vec_len, ◌<◌, ◌≤◌, ◌-◌, ◌+◌, Bool, cond, length, drop, slice_get, add-one, Option, Some, None, sym, arith, zero, suc, ◌++◌, get_or, append_assoc}
 use Rattle.std.specs.Prelude.{IfOk, MatchResult}
 use Rattle.std.specs.Global.{Vec}
@@ -35,8 +36,7 @@ same_names (v ∷ vs) (w ∷ ws) h =
     ap (λ a. a ∷ map (λ n. n.items) ws) one ∙ ap (λ b. v.items ∷ b) more
 
 pub copied : {S E : Type 0} (keys : S → List (Vec ℕ)) (old : List (Vec ℕ)) (r : Result S E) (Q : E → Type 0) → MatchResult r (λ s. AllZip IsCopy old (keys s)) Q → IfOk r (λ s. map (λ n. n.items) (keys s) ≡ map (λ n. n.items) old)
-copied keys old (Ok s) Q h = same_names old (keys s) h
-copied keys old (Err e) Q h = tt
+copied keys old x y h = grind (arith, common_steps, same_names)
 
 -- ---- Places by name.
 
@@ -77,27 +77,13 @@ module _ {A B C : Type 0} (f : A → B → List C) where
   drop_none (y ∷ ys) (suc i) e = drop_none ys i e
 
   beside : (xs : List A) (ys : List B) (i : ℕ) (x : A) (o : Option B) → i < length xs → x ≡ get_or xs i x → slice_get ys i ≡ o → flat_zip f (drop i xs) (drop i ys) ≡ with_beside f x o ++ flat_zip f (drop (i + 1) xs) (drop (i + 1) ys)
-  beside xs ys i x None lt at e =
-      let gone = drop_none ys i e in
-      let past : drop (i + 1) ys ≡ [] = rw add-one gone.1 in
-      ap (flat_zip f (drop i xs)) gone.0 ∙ none_left (drop i xs)
-      ∙ sym (ap (flat_zip f (drop (i + 1) xs)) past ∙ none_left (drop (i + 1) xs))
-  beside xs ys i x (Some y) lt at e =
-      let there : drop i ys ≡ y ∷ drop (i + 1) ys = rw add-one (drop_at ys i y e) in
-      ap (λ l. flat_zip f l (drop i ys)) (drop_item xs i x lt at) ∙ ap (flat_zip f (x ∷ drop (i + 1) xs)) there
+  beside xs ys i x y lt at e = grind (arith, common_steps, drop_none, none_left, drop_at, drop_item)
 
   pub zip_next : (xs : List A) (ys : List B) (i : ℕ) (x : A) (o : Option B) (before done next whole : List C) → i < length xs → x ≡ get_or xs i x → o ≡ slice_get ys i → next ≡ done ++ with_beside f x o → done ++ flat_zip f (drop i xs) (drop i ys) ≡ before ++ whole → next ++ flat_zip f (drop (i + 1) xs) (drop (i + 1) ys) ≡ before ++ whole
-  zip_next xs ys i x o before done next whole lt at e more inv =
-      ap (λ l. l ++ flat_zip f (drop (i + 1) xs) (drop (i + 1) ys)) more
-      ∙ append_assoc done (with_beside f x o) (flat_zip f (drop (i + 1) xs) (drop (i + 1) ys))
-      ∙ sym (ap (λ l. done ++ l) (beside xs ys i x o lt at (sym e)))
-      ∙ inv
+  zip_next xs ys i x o before done next whole lt at e more inv = grind (arith, common_steps, append_assoc, beside)
 
   pub zip_end : (xs : List A) (ys : List B) (i : ℕ) (before done whole : List C) → length xs ≤ i → done ++ flat_zip f (drop i xs) (drop i ys) ≡ before ++ whole → done ≡ before ++ whole
-  zip_end xs ys i before done whole le inv =
-      sym (append_none done)
-      ∙ sym (ap (λ l. done ++ flat_zip f l (drop i ys)) (drop_all i xs le))
-      ∙ inv
+  zip_end xs ys i before done whole le inv = grind (arith, common_steps)
 
 -- what stands beside each item is made of it
 pub zip_mapped : {A B C : Type 0} (f : A → B → List C) (g : A → B) (h : A → List C) → ((x : A) → f x (g x) ≡ h x) → (xs : List A) → flat_zip f xs (map g xs) ≡ flat_map h xs

@@ -16,7 +16,7 @@ use Rattle.link65.specs.Links.{IsFinished, IsImaged, IsPlacedLink, IsProgramLink
 use Rattle.link65.specs.Texts.{map_text, warnings_of_rows}
 use Rattle.link65.specs.Programs.{Module, Program, program_of, position_in}
 use Rattle.link65.proofs.Tries.{exports_grow, settles_once}
-use Rattle.std.proofs.lemmas.Grind.{flat_map-append}
+use Rattle.std.proofs.lemmas.Grind.{common_steps, flat_map-append}
 use Rattle.std.proofs.lemmas.List.{append-nil, map-append}
 use Rattle.std.proofs.lemmas.List.Folds.{list_any-append}
 use Rattle.std.proofs.lemmas.Cmp.{nat_list_eq_equiv}
@@ -91,8 +91,7 @@ program_once : (output : List ℕ) (s : Script) (p : Program) (r q : Result Link
 program_once output s p r q h k = first_once (placed s p) (IsPlacedLink output s p) r q (λ x. placed_once output s p x r q) h k
 
 pub link_once : (output : List ℕ) (s : Script) (modules : List Module) (r q : Result Linked LinkFault) → LinkOf output s modules r → LinkOf output s modules q → r ≡ q
-link_once output s modules r q h k =
-    first_once (names_once s (program_of modules)) (λ u. IsProgramLink output s (program_of modules)) r q (λ u. program_once output s (program_of modules) r q) h k
+link_once output s modules r q h k = grind (arith, common_steps, first_once, program_once)
 
 -- ---- The symbols of a script with one more weak name.
 
@@ -103,17 +102,11 @@ symbol name value = record { name = name; kind = kind.Weak value }
 abbrev definition : List ℕ → ℕ → Definition
 definition name value = record { name = name; value = cast_signed w64 value }
 
-exports_same : (symbols : List Symbol) (name : List ℕ) (value : ℕ) → symbol_exports (symbols ++ symbol name value ∷ []) ≡ symbol_exports symbols
-exports_same symbols name value =
-    flat_map-append (λ s. export_definition s.kind s.name) symbols (symbol name value ∷ []) ∙ append-nil (symbol_exports symbols)
-
 imports_same : (symbols : List Symbol) (name : List ℕ) (value : ℕ) → symbol_imports (symbols ++ symbol name value ∷ []) ≡ symbol_imports symbols
-imports_same symbols name value =
-    flat_map-append (λ s. import_name s.kind s.name) symbols (symbol name value ∷ []) ∙ append-nil (symbol_imports symbols)
+imports_same symbols name value = grind (arith, common_steps)
 
 weak_more : (symbols : List Symbol) (name : List ℕ) (value : ℕ) → weak_symbols (symbols ++ symbol name value ∷ []) ≡ weak_symbols symbols ++ definition name value ∷ []
-weak_more symbols name value =
-    flat_map-append (λ s. weak_definition s.kind s.name) symbols (symbol name value ∷ [])
+weak_more symbols name value = grind (arith, common_steps)
 
 -- ---- A name that isn't among names.
 
@@ -175,11 +168,7 @@ found_before p i (n ∷ names) name e = ap (cond (p n) (Some i)) (found_before p
 
 found_inside : (p : List ℕ → Bool) (i : ℕ) (names : List (List ℕ)) (k : ℕ) → position_from p i names ≡ Some k → k < i + length names
 found_inside p i [] k e = cc
-found_inside p i (n ∷ names) k e = step (p n) e (found_inside p (i + 1) names k)
-  where
-    step : (b : Bool) → cond b (Some i) (position_from p (i + 1) names) ≡ Some k → (position_from p (i + 1) names ≡ Some k → k < (i + 1) + length names) → k < i + length (n ∷ names)
-    step true h rest = let same : i ≡ k = cc in omega (arith, same)
-    step false h rest = let below : k < (i + 1) + length names = rest h in omega (arith, below)
+found_inside p i (n ∷ names) k e = grind (arith, common_steps, (found_inside p (i + 1) names k))
 
 get_before : (ds more : List Definition) (i : ℕ) → i < length ds → slice_get (ds ++ more) i ≡ slice_get ds i
 get_before [] more i lt = absurd (omega arith)
@@ -187,54 +176,38 @@ get_before (d ∷ ds) more zero lt = refl
 get_before (d ∷ ds) more (suc i) lt = get_before ds more i (omega arith)
 
 by_same : (ds : List Definition) (d : Definition) (o : Option ℕ) (other : Provider) → ((k : ℕ) → o ≡ Some k → k < length ds) → by_definition (ds ++ d ∷ []) o other ≡ by_definition ds o other
-by_same ds d None other inside = refl
-by_same ds d (Some i) other inside = ap (λ x. ByScript (option_map_or (λ y. y.value) x (pos 0))) (get_before ds (d ∷ []) i (inside i refl))
+by_same ds d x other inside = grind (arith, common_steps, get_before)
 
 length_names : (ds : List Definition) → length (map (λ d. d.name) ds) ≡ length ds
 length_names [] = refl
 length_names (d ∷ ds) = ap suc (length_names ds)
 
 at_same : (ds : List Definition) (d : Definition) (n : List ℕ) → bytes_eq n d.name ≡ false → defined_at (ds ++ d ∷ []) n ≡ defined_at ds n
-at_same ds d n e =
-    ap (λ names. position_in names n) (map-append (λ y. y.name) ds (d ∷ []))
-    ∙ found_before (λ m. bytes_eq m n) 0 (map (λ y. y.name) ds) d.name (nat_list_eq_equiv.symm d.name n ∙ e)
+at_same ds d n e = grind (arith, common_steps, map-append, found_before, nat_list_eq_equiv)
 
 at_inside : (ds : List Definition) (n : List ℕ) (k : ℕ) → defined_at ds n ≡ Some k → k < length ds
-at_inside ds n k e =
-    let below : k < 0 + length (map (λ y. y.name) ds) = found_inside (λ m. bytes_eq m n) 0 (map (λ y. y.name) ds) k e in
-    omega (arith, below, length_names ds)
+at_inside ds n k e = grind (arith, common_steps, found_inside, length_names)
 
 provider_same : (own : List Definition) (exports : List Exported) (ds : List Definition) (d : Definition) → AgreeBut d.name (provider_of own exports (ds ++ d ∷ [])) (provider_of own exports ds)
-provider_same own exports ds d n e =
-    ap (λ g. by_definition own (defined_at own n) (by_export (exported_at exports n) g))
-    (ap (λ o. by_definition (ds ++ d ∷ []) o Nobody) (at_same ds d n e) ∙ by_same ds d (defined_at ds n) Nobody (at_inside ds n))
+provider_same own exports ds d n e = grind (arith, common_steps, at_same, by_same, at_inside)
 
 -- ---- What the script gives, and who gives each import.
 
 given_same : (s : Script) (p : Program) (name : List ℕ) (value : ℕ) → given_names (with_weak s name value) p ≡ given_names s p
-given_same s p name value =
-    ap (λ ds. (flat_map area_names s.areas ++ flat_map row_names s.rows ++ map (λ d. d.name) ds) ++ export_names p) (exports_same s.symbols name value)
+given_same s p name value = grind (arith, common_steps)
 
 definitions_same : (s : Script) (pl : Placement) (name : List ℕ) (value : ℕ) → script_definitions (with_weak s name value) pl ≡ script_definitions s pl
-definitions_same s pl name value =
-    ap (λ ds. areas_definitions s.areas pl.areas ++ rows_definitions s.rows pl.rows ++ ds) (exports_same s.symbols name value)
+definitions_same s pl name value = grind (arith, common_steps)
 
 or_false : (b : Bool) → (b || false) ≡ b
 or_false true = refl
 or_false false = refl
 
 weak_among : (symbols : List Symbol) (name : List ℕ) (value : ℕ) → AgreeBut name (is_among (map (λ d. d.name) (weak_symbols (symbols ++ symbol name value ∷ [])))) (is_among (map (λ d. d.name) (weak_symbols symbols)))
-weak_among symbols name value n e =
-    ap (λ ds. is_among (map (λ d. d.name) ds) n) (weak_more symbols name value)
-    ∙ ap (λ names. is_among names n) (map-append (λ d. d.name) (weak_symbols symbols) (definition name value ∷ []))
-    ∙ list_any-append (λ m. bytes_eq m n) (map (λ d. d.name) (weak_symbols symbols)) (name ∷ [])
-    ∙ ap (λ b. is_among (map (λ d. d.name) (weak_symbols symbols)) n || (b || false)) (nat_list_eq_equiv.symm name n ∙ e)
-    ∙ or_false (is_among (map (λ d. d.name) (weak_symbols symbols)) n)
+weak_among symbols name value n e = grind (arith, common_steps, weak_more, map-append, list_any-append, nat_list_eq_equiv, or_false)
 
 is_given_same : (s : Script) (p : Program) (name : List ℕ) (value : ℕ) → AgreeBut name (is_given (with_weak s name value) p) (is_given s p)
-is_given_same s p name value n e =
-    ap (λ names. is_among names n || is_among (map (λ d. d.name) (weak_symbols (s.symbols ++ symbol name value ∷ []))) n) (given_same s p name value)
-    ∙ ap (λ b. is_among (given_names s p) n || b) (weak_among s.symbols name value n e)
+is_given_same s p name value n e = grind (arith, common_steps, given_same, weak_among)
 
 unresolved_same : (s : Script) (p : Program) (name : List ℕ) (value : ℕ) → is_used s p name ≡ false → unresolved (with_weak s name value) p ≡ unresolved s p
 unresolved_same s p name value e =
@@ -242,15 +215,7 @@ unresolved_same s p name value e =
     ∙ filter_same (λ n. not (is_given (with_weak s name value) p n)) (λ n. not (is_given s p n)) name (λ n f. ap not (is_given_same s p name value n f)) (references s p) (once_without (symbol_imports s.symbols ++ flat_map (λ m. m.imports) p.members) [] name refl e)
 
 resolved_same : (s : Script) (p : Program) (pl : Placement) (name : List ℕ) (value : ℕ) (m : Member) → is_among m.imports name ≡ false → resolved (with_weak s name value) p pl m ≡ resolved s p pl m
-resolved_same s p pl name value m e =
-    let made : List Provider → Resolved = λ gs. record { bases = map (address_of s.rows pl.rows) m.sections; providers = gs } in
-    ap made (map_same (provider_of (script_definitions (with_weak s name value) pl) p.exports (weak_symbols (s.symbols ++ symbol name value ∷ []))) (provider_of (script_definitions s pl) p.exports (weak_symbols s.symbols)) name agree m.imports e)
-  where
-    agree : AgreeBut name (provider_of (script_definitions (with_weak s name value) pl) p.exports (weak_symbols (s.symbols ++ symbol name value ∷ []))) (provider_of (script_definitions s pl) p.exports (weak_symbols s.symbols))
-    agree n f =
-        ap (λ ds. provider_of ds p.exports (weak_symbols (s.symbols ++ symbol name value ∷ [])) n) (definitions_same s pl name value)
-        ∙ ap (λ ds. provider_of (script_definitions s pl) p.exports ds n) (weak_more s.symbols name value)
-        ∙ provider_same (script_definitions s pl) p.exports (weak_symbols s.symbols) (definition name value) n f
+resolved_same s p pl name value m e = grind (arith, common_steps, map_same, definitions_same, weak_more, provider_same)
 
 members_same : (f g : Member → Resolved) (name : List ℕ) → ((m : Member) → is_among m.imports name ≡ false → f m ≡ g m) → (members : List Member) → is_among (flat_map (λ m. m.imports) members) name ≡ false → map f members ≡ map g members
 members_same f g name same [] e = refl
@@ -277,9 +242,7 @@ LinksAlike Answers r = (q : Result Linked LinkFault) × Answers q × SameImages 
 
 first_alike : {A : Type 0} (head : Result A LinkFault) (Next Other : A → Result Linked LinkFault → Type 0) (r : Result Linked LinkFault) → ((x : A) → Next x r → LinksAlike (Other x) r) → First head Next r → LinksAlike (First head Other) r
 first_alike (Ok x) Next Other r step h = step x h
-first_alike (Err e) Next Other r step h =
-    let P : Result Linked LinkFault → Type 0 = λ z. SameImages z (Err e) in
-    (Err e, refl, subst P (sym h) refl)
+first_alike (Err e) Next Other r step h = grind (arith, common_steps)
 
 imaged_alike : (output : List ℕ) (s : Script) (name : List ℕ) (value : ℕ) (p : Program) (pl : Placement) (l : Linkage) (exports : Exports) (warnings : List ℕ) (r : Result Linked LinkFault) → IsImaged output s p pl l exports warnings r → LinksAlike (IsImaged output (with_weak s name value) p pl l exports warnings) r
 imaged_alike output s name value p pl l exports warnings r (files, h, e) =

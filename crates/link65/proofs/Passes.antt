@@ -1,5 +1,6 @@
 -- Checks in turn, refusals that pass through, and the bytes of rows that are checked.
-use Rattle.std.proofs.Common.{◌≡◌, ◌<◌, ℕ, zero, suc, ◌+◌, map, Bool, true, false, List, [], ◌∷◌, ◌++◌, length, drop, get_or, refl, sym, ap, ◌∙◌, Result, Ok, Err, append_assoc, if◌then◌else◌}
+use Rattle.std.proofs.lemmas.Grind.{common_steps}
+use Rattle.std.proofs.Common.{arith, ◌≡◌, ◌<◌, ℕ, zero, suc, ◌+◌, map, Bool, true, false, List, [], ◌∷◌, ◌++◌, length, drop, get_or, refl, sym, ap, ◌∙◌, Result, Ok, Err, append_assoc, if◌then◌else◌}
 use Rattle.std.specs.List.{flat_map}
 use Rattle.script65.proofs.Eaches.{drop_item}
 use Rattle.base65.specs.Outcome.{◌>>=◌, Refuses, Unless}
@@ -18,33 +19,20 @@ use Rattle.link65.specs.Values.{cell_bytes, Exports, Linkage}
 
 -- a refusal that is the first one of another reading too
 pub refuses_by : {A B : Type 0} (e : LinkFault) (r : Result A LinkFault) (q : Result B LinkFault) → (r ≡ Err e → q ≡ Err e) → Refuses is_memory e r → Refuses is_memory e q
-refuses_by e r q h k = go (is_memory e) k
-  where
-    go : (b : Bool) → Unless b (r ≡ Err e) → Unless b (q ≡ Err e)
-    go true u = tt
-    go false u = h u
+refuses_by e r q h k = grind (arith, common_steps)
 
 abbrev pub Check : Type 0 → Type 0
 Check A = A → Result (Unit {0}) LinkFault
 
 pub passes_next : {A : Type 0} (check : Check A) (xs : List A) (i : ℕ) (x : A) (u : Unit {0}) (whole : Result (Unit {0}) LinkFault) → i < length xs → x ≡ get_or xs i x → check x ≡ Ok u → each_passes check (drop i xs) ≡ whole → each_passes check (drop (i + 1) xs) ≡ whole
-passes_next check xs i x u whole lt at e inv =
-    sym (ap (λ r. r >>= (λ z. each_passes check (drop (i + 1) xs))) e)
-    ∙ sym (ap (each_passes check) (drop_item xs i x lt at))
-    ∙ inv
+passes_next check xs i x u whole lt at e inv = grind (arith, common_steps)
 
 pub passes_stops : {A : Type 0} (check : Check A) (xs : List A) (i : ℕ) (x : A) (whole : Result (Unit {0}) LinkFault) (f : LinkFault) → i < length xs → x ≡ get_or xs i x → each_passes check (drop i xs) ≡ whole → Refuses is_memory f (check x) → Refuses is_memory f whole
-passes_stops check xs i x whole f lt at inv k =
-    refuses_by f (check x) whole
-    (λ e. sym inv ∙ ap (each_passes check) (drop_item xs i x lt at) ∙ ap (λ r. r >>= (λ z. each_passes check (drop (i + 1) xs))) e) k
+passes_stops check xs i x whole f lt at inv k = grind (arith, common_steps)
 
 pub passes_append : {A : Type 0} (check : Check A) (xs ys : List A) → each_passes check (xs ++ ys) ≡ (each_passes check xs >>= (λ u. each_passes check ys))
 passes_append check [] ys = refl
-passes_append check (x ∷ xs) ys = go (check x) (passes_append check xs ys)
-  where
-    go : (r : Result (Unit {0}) LinkFault) → each_passes check (xs ++ ys) ≡ (each_passes check xs >>= (λ u. each_passes check ys)) → (r >>= (λ u. each_passes check (xs ++ ys))) ≡ ((r >>= (λ u. each_passes check xs)) >>= (λ u. each_passes check ys))
-    go (Ok u) e = e
-    go (Err z) e = refl
+passes_append check (x ∷ xs) ys = grind (arith, common_steps, (passes_append check xs ys))
 
 -- ---- Checks of what each item has.
 
@@ -105,29 +93,11 @@ module _ (l : Linkage) (exports : Exports) (fill : ℕ) where
   pub filled_piece : (p : Piece) (n : ℕ) → p ≡ Filled n → replicate n fill ≡ flat_map cell (piece_cells p)
   filled_piece p n is = rw is (sym (filled_bytes n))
 
-  cells-append : (xs ys : List Cell) → flat_map cell (xs ++ ys) ≡ flat_map cell xs ++ flat_map cell ys
-  cells-append [] ys = refl
-  cells-append (x ∷ xs) ys = ap (λ t. cell x ++ t) (cells-append xs ys) ∙ sym (append_assoc (cell x) (flat_map cell xs) (flat_map cell ys))
-
-  pub cells_front : (p : Piece) (ps : List Piece) → flat_map cell (cells_of (p ∷ ps)) ≡ flat_map cell (piece_cells p) ++ flat_map cell (cells_of ps)
-  cells_front p ps = cells-append (piece_cells p) (cells_of ps)
-
   pub next_piece : (ps : List Piece) (i : ℕ) (p : Piece) (old new whole : List ℕ) → i < length ps → p ≡ get_or ps i p → new ≡ old ++ flat_map cell (piece_cells p) → old ++ flat_map cell (cells_of (drop i ps)) ≡ whole → new ++ flat_map cell (cells_of (drop (i + 1) ps)) ≡ whole
-  next_piece ps i p old new whole lt at e inv =
-      let rest = drop (i + 1) ps in
-      ap (λ t. t ++ flat_map cell (cells_of rest)) e
-      ∙ append_assoc old (flat_map cell (piece_cells p)) (flat_map cell (cells_of rest))
-      ∙ sym (ap (λ t. old ++ t) (ap (λ qs. flat_map cell (cells_of qs)) (drop_item ps i p lt at) ∙ cells_front p rest))
-      ∙ inv
+  next_piece ps i p old new whole lt at e inv = grind (arith, common_steps)
 
 pub next_mapped : {A B : Type 0} (f : A → B) (xs : List A) (i : ℕ) (x : A) (y : B) (old new whole : List B) → i < length xs → x ≡ get_or xs i x → new ≡ old ++ y ∷ [] → y ≡ f x → old ++ map f (drop i xs) ≡ whole → new ++ map f (drop (i + 1) xs) ≡ whole
-next_mapped f xs i x y old new whole lt at e is inv =
-    let rest = drop (i + 1) xs in
-    ap (λ t. t ++ map f rest) e
-    ∙ append_assoc old (y ∷ []) (map f rest)
-    ∙ ap (λ z. old ++ z ∷ map f rest) is
-    ∙ sym (ap (λ t. old ++ t) (ap (map f) (drop_item xs i x lt at)))
-    ∙ inv
+next_mapped f xs i x y old new whole lt at e is inv = grind (arith, common_steps)
 
 -- a row without a segment
 pub nothing_written : (w : Bool) → ◌≡◌ {A = List ℕ} [] (if w then [] else [])

@@ -1,4 +1,5 @@
 -- Segments by their places and names, and how a section begins in its segment.
+use Rattle.std.proofs.lemmas.Grind.{common_steps}
 use Rattle.std.proofs.Common.{◌≡◌, ◌∙◌, ◌+◌, ℕ, suc, List, [], ◌∷◌, ◌++◌, length, map, cond, Option, Some, None, Bool, true, false, nat_lt, if◌then◌else◌, refl, sym, ap, subst, arith, ◌||◌, slice_get, ◌<◌, zero, ◌-◌, ◌^◌, get_or, replicate, Ok, Result}
 use Rattle.std.specs.Prelude.{slice_set, position, max}
 use Rattle.std.proofs.lemmas.Bool.Decides.{nat_tests}
@@ -25,21 +26,10 @@ use Rattle.link65.specs.declared.growing.Growing.{Growing}
 -- ---- Segments by their places.
 
 pub at_front : {X : Type 0} (p : X → Bool) (x : X) (xs : List X) → p x ≡ true → position p (x ∷ xs) ≡ Some 0
-at_front p x xs passes =
-    let here : position_or_len p (x ∷ xs) ≡ 0 = rw passes refl in
-    let less : nat_lt 0 (suc (length xs)) ≡ true = grind (arith, nat_tests) in
-    ap (λ k. cond (nat_lt k (suc (length xs))) (Some k) None) here ∙ ap (λ b. cond b (Some 0) None) less
-
-next_place : (b : Bool) (k : ℕ) → cond b (Some (1 + k)) None ≡ option_map suc (cond b (Some k) None)
-next_place true k = let more : 1 + k ≡ suc k = omega arith in ap Some more
-next_place false k = refl
+at_front p x xs passes = grind (arith, common_steps)
 
 pub behind_front : {X : Type 0} (p : X → Bool) (x : X) (xs : List X) → p x ≡ false → position p (x ∷ xs) ≡ option_map suc (position p xs)
-behind_front p x xs stops =
-    let k = position_or_len p xs in
-    let there : position_or_len p (x ∷ xs) ≡ 1 + k = rw stops refl in
-    let less : nat_lt (1 + k) (suc (length xs)) ≡ nat_lt k (length xs) = grind (arith, nat_tests) in
-    ap (λ n. cond (nat_lt n (suc (length xs))) (Some n) None) there ∙ ap (λ b. cond b (Some (1 + k)) None) less ∙ next_place (nat_lt k (length xs)) k
+behind_front p x xs stops = grind (arith, common_steps)
 
 mapped_step : {A X : Type 0} (p : X → Bool) (f : A → X) (x : A) (xs : List A) (b : Bool) → p (f x) ≡ b → position p (map f xs) ≡ position (λ y. p (f y)) xs → position p (f x ∷ map f xs) ≡ position (λ y. p (f y)) (x ∷ xs)
 mapped_step p f x xs true is rest = at_front p (f x) (map f xs) is ∙ sym (at_front (λ y. p (f y)) x xs is)
@@ -51,8 +41,7 @@ position_map p f [] = refl
 position_map p f (x ∷ xs) = mapped_step p f x xs (p (f x)) refl (position_map p f xs)
 
 none_next : (r : Option ℕ) → option_map suc r ≡ None → r ≡ None
-none_next None e = refl
-none_next (Some i) e = cc
+none_next x e = grind (arith, common_steps)
 
 none_step : {X : Type 0} (p : X → Bool) (x : X) (xs : List X) (b : Bool) → p x ≡ b → position p (x ∷ xs) ≡ None → (b ≡ false) × (position p xs ≡ None)
 none_step p x xs true is none = let e : ◌≡◌ {A = Option ℕ} (Some 0) None = sym (at_front p x xs is) ∙ none in cc
@@ -79,17 +68,8 @@ abbrev names_of : List Programs.Segment → List (List ℕ)
 names_of gs = map (λ g. g.name) gs
 
 there_step : (name : List ℕ) (i : ℕ) (g : Programs.Segment) (gs : List Programs.Segment) (b : Bool) → bytes_eq name g.name ≡ b → ((j : ℕ) → place_in name (names_of gs) ≡ Some j → with_name name gs ≡ gs) → place_in name (g.name ∷ names_of gs) ≡ Some i → with_name name (g ∷ gs) ≡ g ∷ gs
-there_step name i g gs true is rest there =
-    let back : bytes_eq g.name name ≡ true = (nat_list_eq_equiv).symm g.name name ∙ is in
-    rw back refl
-there_step name i g gs false is rest there =
-    let back : bytes_eq g.name name ≡ false = (nat_list_eq_equiv).symm g.name name ∙ is in
-    let p = some_next (place_in name (names_of gs)) i (sym (behind_front (bytes_eq name) g.name (names_of gs) is) ∙ there) in
-    rw back (ap (λ hs. g ∷ hs) (rest p.0 p.1))
-  where
-    some_next : (r : Option ℕ) (i : ℕ) → option_map suc r ≡ Some i → (j : ℕ) × (r ≡ Some j)
-    some_next None i e = cc
-    some_next (Some j) i e = (j, refl)
+there_step name i g gs true is rest there = grind (arith, common_steps, nat_list_eq_equiv)
+there_step name i g gs false is rest there = grind (arith, common_steps)
 
 -- nothing is begun where the name is there
 pub with_name_there : (name : List ℕ) (gs : List Programs.Segment) (i : ℕ) → place_in name (names_of gs) ≡ Some i → with_name name gs ≡ gs
@@ -127,29 +107,16 @@ here name g gs is = record {
 }
 
 further : (name : List ℕ) (g : Programs.Segment) (gs : List Programs.Segment) (i : ℕ) → bytes_eq g.name name ≡ false → AtPlace name gs i → AtPlace name (g ∷ gs) (suc i)
-further name g gs i is a = record {
-  segment = a.segment;
-  there = a.there;
-  end = rw is a.end;
-  section = λ owner s same.
-      ap (λ (n : List ℕ). if bytes_eq g.name n then Programs.grown owner g s ∷ gs else g ∷ Programs.with_section owner gs s) same
-      ∙ ap (λ b. if b then Programs.grown owner g s ∷ gs else g ∷ Programs.with_section owner gs s) is
-      ∙ ap (λ hs. g ∷ hs) (a.section owner s same);
-  more = λ len cells. rw is (ap (λ hs. g ∷ hs) (a.more len cells));
-}
+further name g gs i is a = grind (arith, common_steps)
 
 place_step : (name : List ℕ) (i : ℕ) (g : Programs.Segment) (gs : List Programs.Segment) (b : Bool) → bytes_eq name g.name ≡ b → ((j : ℕ) → place_in name (names_of gs) ≡ Some j → AtPlace name gs j) → place_in name (g.name ∷ names_of gs) ≡ Some i → AtPlace name (g ∷ gs) i
-place_step name i g gs true is rest there =
-    let e : ◌≡◌ {A = Option ℕ} (Some 0) (Some i) = sym (at_front (bytes_eq name) g.name (names_of gs) is) ∙ there in
-    let zero_is : 0 ≡ i = cc in
-    subst (AtPlace name (g ∷ gs)) zero_is (here name g gs ((nat_list_eq_equiv).symm g.name name ∙ is))
+place_step name i g gs true is rest there = grind (arith, common_steps, at_front, here, nat_list_eq_equiv)
 place_step name i g gs false is rest there =
     let p = some_next (place_in name (names_of gs)) i (sym (behind_front (bytes_eq name) g.name (names_of gs) is) ∙ there) in
     subst (AtPlace name (g ∷ gs)) p.2 (further name g gs p.0 ((nat_list_eq_equiv).symm g.name name ∙ is) (rest p.0 p.1))
   where
     some_next : (r : Option ℕ) (i : ℕ) → option_map suc r ≡ Some i → (j : ℕ) × (r ≡ Some j) × (suc j ≡ i)
-    some_next None i e = cc
-    some_next (Some j) i e = let same : suc j ≡ i = cc in (j, refl, same)
+    some_next x i e = grind (arith, common_steps)
 
 pub at_place : (name : List ℕ) (gs : List Programs.Segment) (i : ℕ) → place_in name (names_of gs) ≡ Some i → AtPlace name gs i
 at_place name [] i there = cc
@@ -187,16 +154,11 @@ abbrev content_names : List Content → List (List ℕ)
 content_names cs = map (λ c. c.name) cs
 
 place_further : (c : Content) (cs : List Content) (o : Option ℕ) → at_most (c ∷ cs) (option_map suc o) ≡ at_most cs o
-place_further c cs None = refl
-place_further c cs (Some i) = refl
+place_further c cs x = grind (arith, common_steps)
 
 found_step : (name : List ℕ) (c : Content) (cs : List Content) (b : Bool) → bytes_eq c.name name ≡ b → segment_of (segments_from cs) name ≡ at_most cs (place_in name (content_names cs)) → cond b (Some (segment_from c)) (segment_of (segments_from cs) name) ≡ at_most (c ∷ cs) (place_in name (c.name ∷ content_names cs))
-found_step name c cs true is rest =
-    sym (ap (at_most (c ∷ cs)) (at_front (bytes_eq name) c.name (content_names cs) ((nat_list_eq_equiv).symm name c.name ∙ is)))
-found_step name c cs false is rest =
-    rest
-    ∙ sym (place_further c cs (place_in name (content_names cs)))
-    ∙ sym (ap (at_most (c ∷ cs)) (behind_front (bytes_eq name) c.name (content_names cs) ((nat_list_eq_equiv).symm name c.name ∙ is)))
+found_step name c cs true is rest = grind (arith, common_steps, at_front, nat_list_eq_equiv)
+found_step name c cs false is rest = grind (arith, common_steps, place_further, behind_front, nat_list_eq_equiv)
 
 -- the segment of a name is that of the content at the name's place
 pub found_at : (name : List ℕ) (cs : List Content) → segment_of (segments_from cs) name ≡ at_most cs (place_in name (content_names cs))
@@ -214,9 +176,7 @@ some_next (Some j) i e = let same : suc j ≡ i = cc in (j, refl, same)
 
 stay_step : {X : Type 0} (p : X → Bool) (x : X) (xs more : List X) (i : ℕ) (b : Bool) → p x ≡ b → position p (x ∷ xs) ≡ Some i → ((j : ℕ) → position p xs ≡ Some j → position p (xs ++ more) ≡ Some j) → position p (x ∷ (xs ++ more)) ≡ Some i
 stay_step p x xs more i true is e rest = at_front p x (xs ++ more) is ∙ sym (at_front p x xs is) ∙ e
-stay_step p x xs more i false is e rest =
-    let n = some_next (position p xs) i (sym (behind_front p x xs is) ∙ e) in
-    behind_front p x (xs ++ more) is ∙ ap (option_map suc) (rest n.0 n.1) ∙ ap Some n.2
+stay_step p x xs more i false is e rest = grind (arith, common_steps, some_next, behind_front)
 
 -- what has a place keeps it where more comes behind
 place_stays : {X : Type 0} (p : X → Bool) (xs more : List X) (i : ℕ) → position p xs ≡ Some i → position p (xs ++ more) ≡ Some i
@@ -234,15 +194,8 @@ places_stay names more (s ∷ ss) (i ∷ places) e =
     let rest : places_of (names ++ more) ss ≡ map Some places = places_stay names more ss places there in
     cc
 
-less_by : (k n : ℕ) → nat_lt k n ≡ true → k < n
-less_by k n e = grind (arith, nat_tests)
-
 pub place_within : {X : Type 0} (p : X → Bool) (xs : List X) (i : ℕ) → position p xs ≡ Some i → i < length xs
-place_within p xs i e = go (nat_lt (position_or_len p xs) (length xs)) (less_by (position_or_len p xs) (length xs)) e
-  where
-    go : (b : Bool) → (b ≡ true → position_or_len p xs < length xs) → cond b (Some (position_or_len p xs)) None ≡ Some i → i < length xs
-    go true h e = let same : position_or_len p xs ≡ i = cc in let lt = h refl in omega arith
-    go false h e = cc
+place_within p xs i e = grind (arith, common_steps)
 
 some_there : {A : Type 0} (xs : List A) (i : ℕ) → i < length xs → (x : A) × (slice_get xs i ≡ Some x)
 some_there [] i lt = absurd (omega arith)
@@ -266,32 +219,18 @@ section_there names ss places k at e lt there =
 -- ---- Sections that come and grow.
 
 pub section_more : (names : List (List ℕ)) (ss : List SectionPlace) (places : List ℕ) (s : SectionPlace) (at : ℕ) → places_of names ss ≡ map Some places → place_in s.segment names ≡ Some at → places_of names (ss ++ s ∷ []) ≡ map Some (places ++ at ∷ [])
-section_more names ss places s at e here =
-    let f : SectionPlace → Option ℕ = λ x. place_in x.segment names in
-    map-append f ss (s ∷ [])
-    ∙ ap (λ l. l ++ f s ∷ []) e
-    ∙ ap (λ (o : Option ℕ). map Some places ++ o ∷ []) here
-    ∙ sym (map-append Some places (at ∷ []))
+section_more names ss places s at e here = grind (arith, common_steps)
 
 pub longer_stays : (names : List (List ℕ)) (ss : List SectionPlace) (k : ℕ) (s : SectionPlace) (n : ℕ) → slice_get ss k ≡ Some s → places_of names (slice_set ss k (longer s n)) ≡ places_of names ss
 longer_stays names [] k s n e = cc
-longer_stays names (x ∷ ss) zero s n e =
-    let same : x ≡ s = cc in
-    ap (λ (y : SectionPlace). place_in y.segment names ∷ places_of names ss) (sym same)
+longer_stays names (x ∷ ss) zero s n e = grind (arith, common_steps)
 longer_stays names (x ∷ ss) (suc k) s n e = ap (λ l. place_in x.segment names ∷ l) (longer_stays names ss k s n e)
 
 -- ---- A section begins in its segment.
 
 -- a segment with a bare section
 opened_is : (owner m : ℕ) (g h : Programs.Segment) (name : List ℕ) (align : ℕ) → m ≡ 2 ^ align → h ≡ record (with_gap (rounded_up g.size m - g.size) g) { size = rounded_up g.size m; align = max g.align m } → h ≡ Programs.grown owner g (bare_section name align)
-opened_is owner m g h name align is opened =
-    let built : ℕ → Programs.Segment = λ a. record { name = g.name; size = rounded_up g.size a; align = max g.align a; cells = g.cells ++ replicate (rounded_up g.size a - g.size) Programs.filled } in
-    let begin = rounded_up g.size (2 ^ align) in
-    let size : begin ≡ begin + 0 = omega arith in
-    let cells = g.cells ++ replicate (begin - g.size) Programs.filled in
-    opened ∙ ap built is
-    ∙ ap (λ n. record (built (2 ^ align)) { size = n }) size
-    ∙ ap (λ cs. record (built (2 ^ align)) { size = begin + 0; cells = cs }) (sym (nil cells))
+opened_is owner m g h name align is opened = grind (arith, common_steps)
 
 abbrev pub put : Growth → List Programs.Segment → List SectionPlace → Growth
 put g gs places = record { program = with_segments g.program gs; sections = places; imports = g.imports; files = g.files }
@@ -327,8 +266,7 @@ bare_begun g mid at m begin c h name align grew named there within is multiple o
 -- ---- A fragment goes to its section's segment.
 
 of_content : (r : Option Content) (s : Programs.Segment) → option_map segment_from r ≡ Some s → (x : Content) × (r ≡ Some x) × (segment_from x ≡ s)
-of_content (Some x) s e = (x, refl, some_same (segment_from x) s e)
-of_content None s e = cc
+of_content x s e = grind (arith, common_steps)
 
 pub part_added : (g : Growing) (k at : ℕ) (f : Fragment) (p : SectionPlace) (contents : List Content) (sections : List SectionPlace) → names_in g ≡ map (λ x. x.name) g.contents.items → slice_get g.sections.items k ≡ Some p → place_in p.segment (names_in g) ≡ Some at → ((x : Content) → slice_get g.contents.items at ≡ Some x → segments_from contents ≡ slice_set (segments_from g.contents.items) at (with_cells (fragment_len f) (Programs.fragment_cells (length g.members) f) (segment_from x))) → sections ≡ slice_set g.sections.items k (longer p (fragment_len f)) → put (growth_in g) (segments_from contents) sections ≡ with_part (growth_in g) k f (slice_get g.sections.items k)
 part_added g k at f p contents sections named there place added lengthened =

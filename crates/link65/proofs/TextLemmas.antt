@@ -1,4 +1,5 @@
 -- Texts: hex digits, lines, names as they are printed.
+use Rattle.std.proofs.lemmas.Grind.{common_steps}
 use Rattle.std.proofs.Common.{◌≡◌, ◌∙◌, ◌<◌, ◌≤◌, ◌/◌, ◌%◌, ◌-◌, ◌+◌, ◌*◌, ◌^◌, ℕ, zero, suc, List, [], ◌∷◌, ◌++◌, length, refl, sym, ap, arith, drop, get_or, append_assoc, take, add-one, false, map, nat_eq}
 use Rattle.std.proofs.Math.Nat.{div-one}
 use Rattle.std.proofs.lemmas.Nat.{pow-add}
@@ -51,11 +52,7 @@ one_more count n left now d digits new some within is before digit after = (
 -- ---- Lines one behind the other.
 
 pub lines_next : {A : Type 0} (f : A → List ℕ) (xs : List A) (i : ℕ) (x : A) (text line new whole : List ℕ) → i < length xs → x ≡ get_or xs i x → new ≡ text ++ line → line ≡ f x → text ++ flat_map f (drop i xs) ≡ whole → new ++ flat_map f (drop (i + 1) xs) ≡ whole
-lines_next f xs i x text line new whole lt at more same inv =
-    ap (λ t. t ++ flat_map f (drop (i + 1) xs)) (more ∙ ap (λ t. text ++ t) same)
-    ∙ append_assoc text (f x) (flat_map f (drop (i + 1) xs))
-    ∙ sym (ap (λ l. text ++ flat_map f l) (drop_item xs i x lt at))
-    ∙ inv
+lines_next f xs i x text line new whole lt at more same inv = grind (arith, common_steps)
 
 -- ---- Names as they are printed.
 
@@ -66,40 +63,25 @@ encoded (x ∷ a) b = ap (λ l. encode_utf8 x ++ l) (encoded a b) ∙ sym (appen
 listed_push : (names : List (List ℕ)) (name : List ℕ) → listed (names ++ name ∷ []) ≡ listed names ++ (separator_behind names ++ name)
 listed_push [] name = refl
 listed_push (x ∷ []) name = append_assoc x (codes ", ") name
-listed_push (x ∷ y ∷ names) name =
-    ap (λ l. (x ++ codes ", ") ++ l) (listed_push (y ∷ names) name)
-    ∙ sym (append_assoc (x ++ codes ", ") (listed (y ∷ names)) (codes ", " ++ name))
+listed_push (x ∷ y ∷ names) name = grind (arith, common_steps, (listed_push (y ∷ names) name), append_assoc)
 
 separator_encoded : (names : List (List ℕ)) → encode_utf8_all (separator_behind names) ≡ separator_behind names
 unfolding lib.Utf8.encode
-separator_encoded [] = refl
-separator_encoded (x ∷ names) = refl
+separator_encoded x = grind (arith, common_steps)
 
 pub next_names : (names : List (List ℕ)) (i : ℕ) (name : List ℕ) → i < length names → name ≡ get_or names i name → take i names ++ name ∷ [] ≡ take (i + 1) names
 next_names names i name lt at = sym (rw add-one (take_more names i name _ (drop_item names i name lt at)))
 
 -- one name more
 pub names_more : (names : List (List ℕ)) (i : ℕ) (name separator : List ℕ) → i < length names → name ≡ get_or names i name → separator ≡ separator_behind (take i names) → encode_utf8_all (listed (take i names)) ++ (separator ++ encode_utf8_all name) ≡ encode_utf8_all (listed (take (i + 1) names))
-names_more names i name separator lt at is =
-    let before = take i names in
-    ap (λ s. encode_utf8_all (listed before) ++ (s ++ encode_utf8_all name)) (is ∙ sym (separator_encoded before))
-    ∙ ap (λ l. encode_utf8_all (listed before) ++ l) (sym (encoded (separator_behind before) name))
-    ∙ sym (encoded (listed before) (separator_behind before ++ name))
-    ∙ ap encode_utf8_all (sym (listed_push before name))
-    ∙ ap (λ ns. encode_utf8_all (listed ns)) (next_names names i name lt at)
+names_more names i name separator lt at is = grind (arith, common_steps, separator_encoded, encoded, listed_push, next_names)
 
 pub next_separator : (names : List (List ℕ)) (name : List ℕ) → codes ", " ≡ separator_behind (names ++ name ∷ [])
-next_separator [] name = refl
-next_separator (x ∷ names) name = refl
+next_separator x name = grind (arith, common_steps)
 
 -- the same as bytes
 pub next_listed : (names : List (List ℕ)) (i : ℕ) (name separator : List ℕ) → i < length names → name ≡ get_or names i name → separator ≡ separator_behind (take i names) → (listed (take i names) ++ separator) ++ name ≡ listed (take (i + 1) names)
-next_listed names i name separator lt at is =
-    let before = take i names in
-    append_assoc (listed before) separator name
-    ∙ ap (λ s. listed before ++ (s ++ name)) is
-    ∙ sym (listed_push before name)
-    ∙ ap listed (next_names names i name lt at)
+next_listed names i name separator lt at is = grind (arith, common_steps, append_assoc, listed_push, next_names)
 
 -- ---- Data in pieces.
 

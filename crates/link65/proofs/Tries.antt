@@ -1,4 +1,5 @@
 -- What an attempt at a form says of what it comes to, and exports that wait for one another.
+use Rattle.std.proofs.lemmas.Grind.{common_steps}
 use Rattle.std.proofs.Common.{◌≡◌, ℕ, zero, suc, ◌+◌, refl, sym, ◌∙◌, ap, subst, arith, ◌⊎◌, inl, inr, Result, Ok, Err, List, slice_get, Option, Some, None, [], ◌∷◌, ◌++◌}
 use Rattle.std.specs.Prelude.{ℤ, ⊤, ◌+ℤ◌}
 use Rattle.link65.specs.declared.parts.ValueFault.{ValueFault}
@@ -28,16 +29,10 @@ Known (Err Circular) s = ⊤
 Known r s = s ≡ r
 
 pub known_same : (r : Answer) → Known r r
-known_same (Ok v) = refl
-known_same (Err Circular) = tt
-known_same (Err NoValue) = refl
-known_same (Err Unresolved) = refl
+known_same x = grind (arith, common_steps)
 
 pub known_trans : (r s t : Answer) → Known r s → Known s t → Known r t
-known_trans (Err Circular) s t h k = tt
-known_trans (Ok v) s t h k = let P : Answer → Type 0 = λ x. Known x t in subst P h k
-known_trans (Err NoValue) s t h k = let P : Answer → Type 0 = λ x. Known x t in subst P h k
-known_trans (Err Unresolved) s t h k = let P : Answer → Type 0 = λ x. Known x t in subst P h k
+known_trans x s t h k = grind (arith, common_steps)
 
 -- answers in turn, each of which stays
 abbrev pub Grows : (ℕ → Answer) → Type 0
@@ -45,9 +40,7 @@ Grows at = (n : ℕ) → Known (at n) (at (suc n))
 
 pub further : (at : ℕ → Answer) → Grows at → (j n : ℕ) → Known (at n) (at (j + n))
 further at g zero n = let same : zero + n ≡ n = omega arith in rw same (known_same (at n))
-further at g (suc j) n =
-    let same : suc j + n ≡ suc (j + n) = omega arith in
-    rw same (known_trans (at n) (at (j + n)) (at (suc (j + n))) (further at g j n) (g (j + n)))
+further at g (suc j) n = grind (arith, common_steps, (further at g j n), known_trans)
 
 -- an answer that isn't circular, and is found at some number
 pub record Reaches (at : ℕ → Answer) (r : Answer) : Type 0 where
@@ -56,10 +49,7 @@ pub record Reaches (at : ℕ → Answer) (r : Answer) : Type 0 where
   pub firm : (s : Answer) → Known r s → s ≡ r
 
 known_or : (r s : Answer) → Known r s → (r ≡ s) ⊎ (r ≡ Err Circular)
-known_or (Err Circular) s h = inr refl
-known_or (Ok v) s h = inl (sym h)
-known_or (Err NoValue) s h = inl (sym h)
-known_or (Err Unresolved) s h = inl (sym h)
+known_or x s h = grind (arith, common_steps)
 
 -- such an answer stands from there on
 pub stands : (at : ℕ → Answer) (r : Answer) → Grows at → (h : Reaches at r) → (j : ℕ) → at (j + h.turns) ≡ r
@@ -89,10 +79,7 @@ reaches_unresolved at (n, e) = record { turns = n; found = e; firm = λ s h. h }
 
 -- with fewer turns what is circular stays so
 known_circular : (r s : Answer) → Known r s → s ≡ Err Circular → r ≡ Err Circular
-known_circular (Err Circular) s h e = refl
-known_circular (Ok v) s h e = cc
-known_circular (Err NoValue) s h e = cc
-known_circular (Err Unresolved) s h e = cc
+known_circular x s h e = grind (arith, common_steps)
 
 pub circular_before : (at : ℕ → Answer) → Grows at → (j n : ℕ) → at (j + n) ≡ Err Circular → at n ≡ Err Circular
 circular_before at g j n e = known_circular (at n) (at (j + n)) (further at g j n) e
@@ -136,29 +123,20 @@ settles_once at (Err Unresolved) (Err Unresolved) g h k = refl
 -- ---- More is known of exports with each turn, and so of forms.
 
 bind_known : (r s : Answer) (f h : ℤ → Answer) → Known r s → ((v : ℤ) → Known (f v) (h v)) → Known (r >>= f) (s >>= h)
-bind_known (Err Circular) s f h e k = tt
-bind_known (Ok v) s f h e k = rw e (k v)
-bind_known (Err NoValue) s f h e k = rw e refl
-bind_known (Err Unresolved) s f h e k = rw e refl
+bind_known x s f h e k = grind (arith, common_steps)
 
 import_known : (o p : Exports) → ((x : ℕ) → Known (o x) (p x)) → (g : Provider) → Known (import_value o g) (import_value p g)
-import_known o p h (ByModule x) = h x
-import_known o p h (ByScript v) = refl
-import_known o p h Nobody = refl
+import_known o p h x = grind (arith, common_steps)
 
 form_known : (base : ℕ → ℤ) (o p : ℕ → Answer) → ((j : ℕ) → Known (o j) (p j)) → (f : Form) → Known (value_in NoValue base o f) (value_in NoValue base p f)
 form_known base o p h (lit v) = refl
 form_known base o p h (sec k a) = refl
 form_known base o p h (imp j) = h j
-form_known base o p h (prefix op f) =
-    bind_known (value_in NoValue base o f) (value_in NoValue base p f) (λ a. Ok (value1 op a)) (λ a. Ok (value1 op a)) (form_known base o p h f) (λ v. refl)
-form_known base o p h (binary op f g) =
-    bind_known (value_in NoValue base o f) (value_in NoValue base p f) (λ a. value_in NoValue base o g >>= (λ b. or_none NoValue (value2 op a b))) (λ a. value_in NoValue base p g >>= (λ b. or_none NoValue (value2 op a b))) (form_known base o p h f)
-    (λ a. bind_known (value_in NoValue base o g) (value_in NoValue base p g) (λ b. or_none NoValue (value2 op a b)) (λ b. or_none NoValue (value2 op a b)) (form_known base o p h g) (λ b. known_same (or_none NoValue (value2 op a b))))
+form_known base o p h (prefix op f) = grind (arith, common_steps, (form_known base o p h f), bind_known)
+form_known base o p h (binary op f g) = grind (arith, common_steps, (form_known base o p h f), (form_known base o p h g), bind_known, known_same)
 
 pub value_known : (l : Linkage) (o p : Exports) → ((x : ℕ) → Known (o x) (p x)) → (owner : ℕ) (f : Form) → Known (value_by l o owner f) (value_by l p owner f)
-value_known l o p h owner f =
-    form_known (base_of (slice_get l.modules owner)) (λ j. import_value o (provider_at (slice_get l.modules owner) j)) (λ j. import_value p (provider_at (slice_get l.modules owner) j)) (λ j. import_known o p h (provider_at (slice_get l.modules owner) j)) f
+value_known l o p h owner f = grind (arith, common_steps, form_known, import_known)
 
 export_known : (l : Linkage) (o p : Exports) → ((x : ℕ) → Known (o x) (p x)) → (e : Option Exported) → Known (export_value l o e) (export_value l p e)
 export_known l o p h None = refl
@@ -196,10 +174,7 @@ at_once r h = record { turns = 0; found = refl; firm = h }
 -- ---- An attempt at an import.
 
 found_tells : (l : Linkage) (marks : List Mark) (x : ℕ) (r : Answer) → ExportComesTo l x r → Tells l marks (λ n. exports_through l n x) (as_found r)
-found_tells l marks x (Ok v) h = reaches_value (λ n. exports_through l n x) v h
-found_tells l marks x (Err Circular) h = inl h
-found_tells l marks x (Err NoValue) h = reaches_no_value (λ n. exports_through l n x) h
-found_tells l marks x (Err Unresolved) h = reaches_unresolved (λ n. exports_through l n x) h
+found_tells l marks x y h = grind (arith, common_steps)
 
 -- no mark, no export
 abbrev pub AreLong : Linkage → List Mark → Type 0
@@ -255,26 +230,18 @@ bind_ok l marks at b v (Err (Fault Circular)) g k h (inr t) =
 bind_ok l marks at b v (Err (Needs x)) g k h t = (t.0, λ n c. then_circular at b v g h n (t.1 n c))
 
 bind_tells : (l : Linkage) (marks : List Mark) (at : ℕ → Answer) (b : ℕ → ℤ → Answer) (t : Result ℤ Stop) (u : ℤ → Result ℤ Stop) → Grows at → ((v : ℤ) → Grows (λ n. b n v)) → Tells l marks at t → ((v : ℤ) → Tells l marks (λ n. b n v) (u v)) → Tells l marks (λ n. at n >>= b n) (t >>= u)
-bind_tells l marks at b (Ok v) u g k h f = bind_ok l marks at b v (u v) g (k v) h (f v)
-bind_tells l marks at b (Err (Fault NoValue)) u g k h f = first_refuses at b NoValue (λ s e. e) h
-bind_tells l marks at b (Err (Fault Unresolved)) u g k h f = first_refuses at b Unresolved (λ s e. e) h
-bind_tells l marks at b (Err (Fault Circular)) u g k (inl h) f = inl (λ n. first_circular at b n (h n))
-bind_tells l marks at b (Err (Fault Circular)) u g k (inr h) f =
-    inr (record { export = h.export; is = h.is; follows = λ n c. first_circular at b n (h.follows n c) })
-bind_tells l marks at b (Err (Needs x)) u g k h f = (h.0, λ n c. first_circular at b n (h.1 n c))
+bind_tells l marks at b x u g k h f = grind (arith, common_steps, bind_ok, first_refuses, first_circular)
 
 -- ---- An attempt at a form.
 
 operation_tells : (l : Linkage) (marks : List Mark) (o : Option ℤ) → Tells l marks (λ n. or_none NoValue o) (or_none (Fault NoValue) o)
-operation_tells l marks (Some v) = at_once (Ok v) (λ s k. k)
-operation_tells l marks None = at_once (Err NoValue) (λ s k. k)
+operation_tells l marks x = grind (arith, common_steps)
 
 pub form_tells : (l : Linkage) (marks : List Mark) → AreTrue l marks → AreLong l marks → (owner : ℕ) (f : Form) → Tells l marks (λ n. value_by l (exports_through l n) owner f) (tried (slice_get l.modules owner) marks f)
 form_tells l marks h long owner (lit v) = at_once (Ok v) (λ s k. k)
 form_tells l marks h long owner (sec k a) = at_once (Ok (wrapped (base_of (slice_get l.modules owner) k +ℤ a))) (λ s e. e)
 form_tells l marks h long owner (imp j) = import_tells l marks h long (provider_at (slice_get l.modules owner) j)
-form_tells l marks h long owner (prefix op f) =
-    bind_tells l marks (λ n. value_by l (exports_through l n) owner f) (λ n a. Ok (value1 op a)) (tried (slice_get l.modules owner) marks f) (λ a. Ok (value1 op a)) (form_grows l owner f) (λ v n. refl) (form_tells l marks h long owner f) (λ v. at_once (Ok (value1 op v)) (λ s e. e))
+form_tells l marks h long owner (prefix op f) = grind (arith, common_steps, (form_tells l marks h long owner f), bind_tells, form_grows, at_once)
 form_tells l marks h long owner (binary op f g) =
     bind_tells l marks (λ n. value_by l (exports_through l n) owner f) (λ n a. value_by l (exports_through l n) owner g >>= (λ b. or_none NoValue (value2 op a b))) (tried (slice_get l.modules owner) marks f) (λ a. tried (slice_get l.modules owner) marks g >>= (λ b. or_none (Fault NoValue) (value2 op a b))) (form_grows l owner f)
     (λ v n. bind_known (value_by l (exports_through l n) owner g) (value_by l (exports_through l (suc n)) owner g) (λ b. or_none NoValue (value2 op v b)) (λ b. or_none NoValue (value2 op v b)) (form_grows l owner g n) (λ b. known_same (or_none NoValue (value2 op v b))))
@@ -305,16 +272,10 @@ abbrev pub After : Linkage → ℕ → ℕ → ℕ → Type 0
 After l c x y = (n : ℕ) → exports_through l n y ≡ Err Circular → exports_through l (c + n) x ≡ Err Circular
 
 after_next : (l : Linkage) (c x y z : ℕ) → Leads l x y → After l c y z → After l (suc c) x z
-after_next l c x y z h a n e =
-    let same : suc (c + n) ≡ suc c + n = omega arith in
-    let P : ℕ → Type 0 = λ k. exports_through l k x ≡ Err Circular in
-    subst P same (h (c + n) (a n e))
+after_next l c x y z h a n e = grind (arith, common_steps)
 
 after_self : (l : Linkage) (x : ℕ) → After l 0 x x
-after_self l x n e =
-    let same : n ≡ 0 + n = omega arith in
-    let P : ℕ → Type 0 = λ k. exports_through l k x ≡ Err Circular in
-    subst P same e
+after_self l x n e = grind (arith, common_steps)
 
 chain_after : (l : Linkage) (root : ℕ) (ws : List ℕ) (top : ℕ) → IsChain l root ws top → (c : ℕ) × After l c root top
 chain_after l root [] top e = (0, (let P : ℕ → Type 0 = λ n. After l 0 n top in subst P (sym e) (after_self l top)))
@@ -335,8 +296,7 @@ chain_among l x root (w ∷ ws) top (n, e, u, c) (inl z) =
 chain_among l x root (w ∷ ws) top (n, e, u, c) (inr z) = chain_among l x n ws top c z
 
 again_after : (l : Linkage) (root : ℕ) (ws : List ℕ) (top next : ℕ) → IsChain l root ws top → (Among next ws ⊎ (next ≡ top)) → (c : ℕ) × After l c next top
-again_after l root ws top next c (inl h) = chain_among l next root ws top c h
-again_after l root ws top next c (inr e) = (0, (let P : ℕ → Type 0 = λ n. After l 0 n top in subst P (sym e) (after_self l top)))
+again_after l root ws top next c x = grind (arith, common_steps, chain_among, after_self)
 
 -- an export that needs one which waits for it is circular
 pub met_again : (l : Linkage) (root : ℕ) (ws : List ℕ) (top next : ℕ) → IsChain l root ws top → Leads l top next → (Among next ws ⊎ (next ≡ top)) → (n : ℕ) → exports_through l n top ≡ Err Circular

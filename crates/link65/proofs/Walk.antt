@@ -38,29 +38,10 @@ pub long_marks : (l : Linkage) (marks : List Mark) → length marks ≡ length l
 long_marks l marks h x e = grind (arith, common_steps, gets)
 
 found_true : (l : Linkage) (marks : List Mark) (top : ℕ) (r : Result ℤ ValueFault) → top < length marks → AreTrue l marks → ExportComesTo l top r → AreTrue l (slice_set marks top (Found r))
-found_true l marks top r h t c x q e = go (nat_eq x top) refl
-  where
-    go : (b : Bool) → nat_eq x top ≡ b → ExportComesTo l x q
-    go true b =
-        let one : x ≡ top = grind (arith, nat_tests) in
-        let there : slice_get (slice_set marks top (Found r)) x ≡ Some (Found r) = rw one (get_set_same marks top (Found r) h) in
-        let same : r ≡ q = cc in
-        (let P : ℕ → Type 0 = λ n. ExportComesTo l n q in subst P (sym one) (let Q : Result ℤ ValueFault → Type 0 = λ z. ExportComesTo l top z in subst Q same c))
-    go false b =
-        let other : x ≢ top = grind (arith, nat_tests) in
-        t x q (sym (get_set_other marks top x (Found r) other) ∙ e)
+found_true l marks top r h t c x q e = grind (arith, common_steps, nat_tests, get_set_same, get_set_other)
 
 begun_true : (l : Linkage) (marks : List Mark) (next : ℕ) → next < length marks → AreTrue l marks → AreTrue l (slice_set marks next BeingEvaluated)
-begun_true l marks next h t x q e = go (nat_eq x next) refl
-  where
-    go : (b : Bool) → nat_eq x next ≡ b → ExportComesTo l x q
-    go true b =
-        let one : x ≡ next = grind (arith, nat_tests) in
-        let there : slice_get (slice_set marks next BeingEvaluated) x ≡ Some BeingEvaluated = rw one (get_set_same marks next BeingEvaluated h) in
-        cc
-    go false b =
-        let other : x ≢ next = grind (arith, nat_tests) in
-        t x q (sym (get_set_other marks next x BeingEvaluated other) ∙ e)
+begun_true l marks next h t x q e = grind (arith, common_steps, nat_tests, get_set_same, get_set_other)
 
 found_kept : (old marks : List Mark) (top : ℕ) (r : Result ℤ ValueFault) → top < length marks → KeepsFound old marks → KeepsFound old (slice_set marks top (Found r))
 found_kept old marks top r h k x f = go (nat_eq x top) refl (k x f)
@@ -98,23 +79,15 @@ among_cases : (x w : ℕ) (ws : List ℕ) → Among x (ws ++ w ∷ []) → Among
 among_cases x w [] (inl e) = inr e
 among_cases x w [] (inr h) = absurd h
 among_cases x w (v ∷ ws) (inl e) = inl (inl e)
-among_cases x w (v ∷ ws) (inr h) = go (among_cases x w ws h)
-  where
-    go : (Among x ws ⊎ (x ≡ w)) → Among x (v ∷ ws) ⊎ (x ≡ w)
-    go (inl k) = inl (inr k)
-    go (inr e) = inr e
+among_cases x w (v ∷ ws) (inr h) = grind (arith, common_steps, (among_cases x w ws h))
 
 -- ---- What an attempt at the top gives.
 
 attempt_settled : (t : Result ℤ Stop) (r : Result ℤ ValueFault) → attempt_of t ≡ attempt.Settled r → ((v : ℤ) × (t ≡ Ok v) × (r ≡ Ok v)) ⊎ ((e : ValueFault) × (t ≡ Err (Fault e)) × (r ≡ Err e))
-attempt_settled (Ok v) r e = inl (v, refl, cc)
-attempt_settled (Err (Fault f)) r e = inr (f, refl, cc)
-attempt_settled (Err (Needs x)) r e = cc
+attempt_settled x r e = grind (arith, common_steps)
 
 attempt_needs : (t : Result ℤ Stop) (x : ℕ) → attempt_of t ≡ attempt.Needs x → t ≡ Err (Needs x)
-attempt_needs (Ok v) x e = cc
-attempt_needs (Err (Fault f)) x e = cc
-attempt_needs (Err (Needs y)) x e = let same : y ≡ x = cc in ap (λ z. Err (Needs z)) same
+attempt_needs y x e = grind (arith, common_steps)
 
 -- the form of an export
 abbrev pub form_at : Linkage → Exported → ℕ → Result ℤ ValueFault

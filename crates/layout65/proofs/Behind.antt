@@ -1,4 +1,5 @@
 -- What stands behind a statement.
+use Rattle.std.proofs.lemmas.Grind.{common_steps}
 use Rattle.std.proofs.Common.{◌≡◌, ◌∙◌, ℕ, zero, suc, ◌+◌, ◌<◌, ◌≤◌, nat_lt, Bool, true, false, List, [], ◌∷◌, ◌++◌, length, Option, Some, None, refl, sym, ap, arith}
 use Rattle.std.specs.Prelude.{Ok, Err, slice_get, if◌then◌else◌}
 use Rattle.std.specs.List.{AllByRecursion}
@@ -40,46 +41,21 @@ enclosing_below count (suc i) cs h = within_below count i cs h
 
 -- a statement's scope is opened within one of so many
 pub inside_behind : (count scope : ℕ) (cs : List Scope) (x : Statement) → scope ≤ count → AreInside count cs → AreInside (count + opened_by x) (cs ++ scope_opened scope x)
-inside_behind count scope cs x le h = by x
-  where
-    wide : (many : ℕ) → count ≤ many → AreInside many cs
-    wide many more = all_same (λ (c : Scope). c.within ≤ count) (λ (c : Scope). c.within ≤ many) (λ c less. omega (arith, less, more)) cs h
-
-    alone : (many : ℕ) (ds : List Scope) → AreInside many ds → AreInside many (ds ++ [])
-    alone many [] g = tt
-    alone many (d ∷ ds) g = (g.0, alone many ds g.1)
-
-    by : (x : Statement) → AreInside (count + opened_by x) (cs ++ scope_opened scope x)
-    by (statement.OpenScope n) = all_more (λ (c : Scope). c.within ≤ count + 1) cs (record { within = scope; name = n; is_proc = false }) (wide (count + 1) (omega arith)) (omega (arith, le))
-    by (statement.OpenProc n) = all_more (λ (c : Scope). c.within ≤ count + 1) cs (record { within = scope; name = Some n; is_proc = true }) (wide (count + 1) (omega arith)) (omega (arith, le))
-    by (statement.Label n) = alone (count + 1) cs (wide (count + 1) (omega arith))
-    by statement.UnnamedLabel = alone (count + 1) cs (wide (count + 1) (omega arith))
-    by (statement.Segment n own) = alone (count + 1) cs (wide (count + 1) (omega arith))
-    by _ = alone (count + 0) cs (wide (count + 0) (omega arith))
+inside_behind count scope cs x le h = grind (arith, common_steps, all_same, all_more)
 
 -- ---- What is counted.
 
 scopes_behind : (x : Statement) (n count : ℕ) → n ≤ count → (if opens_scope x then n + 1 else n) ≤ count + opened_by x
-scopes_behind (statement.OpenScope m) n count le = omega (arith, le)
-scopes_behind (statement.OpenProc m) n count le = omega (arith, le)
-scopes_behind _ n count le = omega (arith, le)
+scopes_behind x n count le = grind (arith, common_steps)
 
 regions_behind : (x : Statement) (n count : ℕ) → n ≤ count → (if opens_region x then n + 1 else n) ≤ count + opened_by x
-regions_behind (statement.Label m) n count le = omega (arith, le)
-regions_behind (statement.OpenProc m) n count le = omega (arith, le)
-regions_behind _ n count le = omega (arith, le)
+regions_behind x n count le = grind (arith, common_steps)
 
 unnamed_behind : (x : Statement) (n count : ℕ) → n ≤ count → (if is_unnamed x then n + 1 else n) ≤ count + opened_by x
-unnamed_behind statement.UnnamedLabel n count le = omega (arith, le)
-unnamed_behind _ n count le = omega (arith, le)
+unnamed_behind x n count le = grind (arith, common_steps)
 
 segments_counted : (x : Statement) (gs : List Segment) (current len multiple count : ℕ) → length gs ≤ count + 1 → length (segments_behind gs current len multiple x) ≤ count + opened_by x + 1
-segments_counted (statement.Segment n own) gs current len multiple count le = by (place_of gs n)
-  where
-    by : (place : Option ℕ) → length (named_segments gs n own place) ≤ count + 1 + 1
-    by (Some i) = omega (arith, le)
-    by None = rw (length-append gs (new_segment n (first_size n own) ∷ [])) (omega (arith, le))
-segments_counted _ gs current len multiple count le = rw (grown_length gs current len multiple) (omega (arith, le))
+segments_counted x gs current len multiple count le = grind (arith, common_steps, length-append, grown_length)
 
 open_behind : (x : Statement) (y : Symbols) (w : Standing) (count : ℕ) → w.scope ≤ count → w.opened ≤ count → AreInside count y.scopes → scope_behind y w x ≤ count + opened_by x
 open_behind (statement.OpenScope n) y w count le less h = omega (arith, less)
@@ -100,15 +76,7 @@ counted_behind y v w x len multiple count counted inside e = record {
 
 -- below the limit, there are numbers for one more
 pub has_numbers : (count : ℕ) (y : Symbols) (w : code.Standing) → IsCounted count w → AreInside count y.scopes → count < opening_limit → HasNumbers y w
-has_numbers count y w counted inside less =
-    let around = enclosing_below count w.scope y.scopes inside in
-    record {
-      segments = (let many = counted.segments in omega (arith, many, less));
-      opened = (let many = counted.scopes in omega (arith, many, less));
-      region = (let many = counted.regions in omega (arith, many, less));
-      unnamed = (let many = counted.unnamed in omega (arith, many, less));
-      enclosing = omega (arith, around, less);
-    }
+has_numbers count y w counted inside less = grind (arith, common_steps, enclosing_below)
 
 -- ---- What is measured.
 
@@ -120,11 +88,7 @@ module _ (y : Symbols) (w : Standing) (x : Statement) where
   is_measured m e = (no_fault (line_fault y w x) (measure_of y w x) m e).1
 
   pub with_fault : (e : AsmFault) → measured y w x ≡ Err e → line_fault y w x ≡ Some e
-  with_fault e p = by (line_fault y w x) p
-    where
-      by : (f : Option AsmFault) → unless_fault f (measure_of y w x) ≡ Err e → f ≡ Some e
-      by None h = absurd cc
-      by (Some d) h = let same : d ≡ e = cc in ap (λ k. Some k) same
+  with_fault e p = grind (arith, common_steps)
 
   -- where the next statement stands
   pub behind_measured : (m : Measured) → measured y w x ≡ Ok m → advanced y w x m.length m.multiple ≡ standing_behind y w x

@@ -1,4 +1,5 @@
 -- Faults one after the other.
+use Rattle.std.proofs.lemmas.Grind.{common_steps}
 use Rattle.std.proofs.Common.{◌≡◌, ℕ, zero, suc, ◌+◌, ◌*◌, ◌<◌, ◌≤◌, nat_lt, arith, drop, get_or, add-one, Bool, true, false, List, [], ◌∷◌, length, map, Option, Some, None, refl, sym, ap, subst, ◌∙◌}
 use Rattle.std.specs.Prelude.{◌&&◌, ◌++◌, Result, Ok, Err, IfOk}
 use Rattle.std.proofs.lemmas.Bool.Decides.{nat_tests}
@@ -41,8 +42,7 @@ use Rattle.layout65.proofs.Steps.{unless_then}
 
 -- the second fault is looked for where there is no first
 pub two_faults : {A : Type 0} (f g : Option AsmFault) (x : A) → unless_fault (or_then f g) x ≡ (unless_fault {A = Unit {0}} f tt >>= λ u. unless_fault g x)
-two_faults None g x = refl
-two_faults (Some e) g x = refl
+two_faults y g x = grind (arith, common_steps)
 
 -- a refusal for the first of two faults
 pub refused_first : {A : Type 0} (e : AsmFault) (f g : Option AsmFault) (x : A) → Unless (is_memory e) (unless_fault {A = Unit {0}} f tt ≡ Err e) → Unless (is_memory e) (unless_fault (or_then f g) x ≡ Err e)
@@ -54,18 +54,12 @@ refused_same e r s q h = unless_then (is_memory e) (λ p. q ∙ p) h
 
 -- what is left where the first of two faults isn't there
 pub left_behind : {A : Type 0} (f g : Option AsmFault) (x y : A) → unless_fault f x ≡ Ok y → or_then f g ≡ g
-left_behind None g x y h = refl
-left_behind (Some e) g x y h = absurd cc
+left_behind z g x y h = grind (arith, common_steps)
 
 -- ---- Lists of values.
 
-or_none : (a b : Option AsmFault) → or_then (or_then a None) b ≡ or_then a b
-or_none None b = refl
-or_none (Some e) b = refl
-
 first_item : (cs : List Scope) (scope : ℕ) (item : Item) (items : List Item) → lost_scopes cs scope (item_trees (item ∷ items)) ≡ or_then (lost_scopes cs scope (item_trees (item ∷ []))) (lost_scopes cs scope (item_trees items))
-first_item cs scope (Value e) items = sym (or_none (lost_scope cs scope e) (lost_scopes cs scope (item_trees items)))
-first_item cs scope (Text bytes) items = refl
+first_item cs scope x items = grind (arith, common_steps)
 
 -- what the items from a place on are refused for
 pub items_lost : (cs : List Scope) (scope : ℕ) (items : List Item) (i : ℕ) (item : Item) → i < length items → item ≡ get_or items i item → lost_scopes cs scope (item_trees (drop i items)) ≡ or_then (lost_scopes cs scope (item_trees (item ∷ []))) (lost_scopes cs scope (item_trees (drop (i + 1) items)))
@@ -74,13 +68,7 @@ items_lost cs scope items i item lt e = rw add-one (ap (λ is. lost_scopes cs sc
 -- ---- What a section has room for.
 
 pub same_test : (offset room len : ℕ) → offset + room ≡ section_limit → nat_lt section_limit (offset + len) ≡ nat_lt room len
-same_test offset room len e = by (nat_lt section_limit (offset + len)) (nat_lt room len) refl refl
-  where
-    by : (a b : Bool) → nat_lt section_limit (offset + len) ≡ a → nat_lt room len ≡ b → a ≡ b
-    by true true p q = refl
-    by false false p q = refl
-    by true false p q = absurd (grind (arith, nat_tests))
-    by false true p q = absurd (grind (arith, nat_tests))
+same_test offset room len e = grind (arith, common_steps)
 
 -- ---- Segments and blocks.
 
@@ -109,8 +97,7 @@ numbers_len width (n ∷ ns) =
 
 -- what is left behind so many bytes, if there is room for them
 pub what_is_left : (o : Option ℕ) (room len n : ℕ) → len ≡ n → SomeIff o (len ≤ room) (room - len) → MatchOption o (room < n) (λ left. left + n ≡ room)
-what_is_left None room len n e h = omega (arith, e, h)
-what_is_left (Some x) room len n e h = omega (arith, e, h.0, h.1)
+what_is_left x room len n e h = grind (arith, common_steps)
 
 -- and they have no names
 pub numbers_keep : (cs : List Scope) (scope : ℕ) (ns : List ℕ) → lost_scopes cs scope (item_trees (map numbered ns)) ≡ None
@@ -120,8 +107,7 @@ numbers_keep cs scope (n ∷ ns) = numbers_keep cs scope ns
 -- ---- Instructions.
 
 pub last_of_two : (f : Option AsmFault) → or_then f None ≡ f
-last_of_two None = refl
-last_of_two (Some e) = refl
+last_of_two x = grind (arith, common_steps)
 
 -- ---- Room.
 
@@ -141,16 +127,12 @@ reserved_as y w n v k e = ap (reserved w (is_byte_value (optional_value y (spot_
 
 -- a byte that is refused, where the number is one
 pub bad_fill : (w : Standing) (b : Bool) (st : Settled) (k : Option ℤ) (m : ℕ) (e : AsmFault) → unless_fault (when (not (is_count k)) BadOperand) (counted k) ≡ Ok m → Unless (is_memory e) (unless_fault {A = Unit {0}} (when (not b) BadOperand) tt ≡ Err e) → Unless (is_memory e) (reserved w b st k ≡ Err e)
-bad_fill w b st None m e t h = absurd cc
-bad_fill w b st (Some (negsuc j)) m e t h = absurd cc
-bad_fill w true st (Some (pos j)) m e t h = unless_then (is_memory e) (λ p. absurd cc) h
-bad_fill w false st (Some (pos j)) m e t h = unless_then (is_memory e) (λ p. let same : BadOperand ≡ e = cc in ap (λ k. Err k) same) h
+bad_fill w b st x m e t h = grind (arith, common_steps)
 
 -- ---- Alignment.
 
 pub no_fault : {A : Type 0} (f : Option AsmFault) (x y : A) → unless_fault f x ≡ Ok y → (f ≡ None) × (x ≡ y)
-no_fault None x y h = (refl, cc)
-no_fault (Some e) x y h = absurd cc
+no_fault z x y h = grind (arith, common_steps)
 
 -- what `.align` places, by the value of its multiple, and whether its other value is a byte
 abbrev pub aligned : Standing → Bool → Settled → Option ℤ → Result Measured AsmFault
@@ -179,14 +161,10 @@ bad_multiple w b st k e t h g = refused_third (is_there k) b (multiple_fault k) 
 
 -- a byte that is refused, where the multiple is constant
 pub bad_byte : (w : Standing) (b : Bool) (st : Settled) (k : Option ℤ) (e : AsmFault) → unless_fault {A = Unit {0}} (when (not (is_there k)) BadOperand) tt ≡ Ok tt → Unless (is_memory e) (unless_fault {A = Unit {0}} (when (not b) BadOperand) tt ≡ Err e) → Unless (is_memory e) (aligned w b st k ≡ Err e)
-bad_byte w b st None e t h = absurd cc
-bad_byte w true st (Some v) e t h = unless_then (is_memory e) (λ p. absurd cc) h
-bad_byte w false st (Some v) e t h = unless_then (is_memory e) (λ p. let same : BadOperand ≡ e = cc in ap (λ k. Err k) same) h
+bad_byte w b st x e t h = grind (arith, common_steps)
 
 all_well : {A : Type 0} (f r : Option AsmFault) (x : A) → f ≡ None → r ≡ None → unless_fault (first_fault (None ∷ None ∷ f ∷ None ∷ None ∷ None ∷ None ∷ None ∷ r ∷ [])) x ≡ Ok x
-all_well None None x p q = refl
-all_well (Some e) r x p q = absurd cc
-all_well None (Some e) x p q = absurd cc
+all_well y z x p q = grind (arith, common_steps)
 
 abbrev pub as_ok : ℕ → AddressSize → ℕ → Settled → Result Measured AsmFault
 as_ok len own multiple st = Ok (record { length = len; size = own; multiple = multiple; settled = st })
@@ -195,22 +173,12 @@ pub aligned_well : (w : Standing) (b : Bool) (st : Settled) (k : Option ℤ) (m 
 aligned_well w false st k m g len h hm hg hf = absurd cc
 aligned_well w true st None m g len h hm hg hf = absurd cc
 aligned_well w true st (Some (negsuc j)) m g len h hm hg hf = absurd cc
-aligned_well w true st (Some (pos j)) m g len h hm hg hf =
-    let p = no_fault (multiple_fault (Some (pos j))) j m hm in
-    let q = no_fault (when (nat_lt section_limit ((spot_of w).offset + g)) SectionTooLarge) g len hf in
-    let same : gap (spot_of w).offset (Some (pos j)) ≡ g = ap (λ i. gap (spot_of w).offset (Some (pos i))) p.1 ∙ sym hg in
-    all_well (multiple_fault (Some (pos j))) _ _ p.0 (ap (λ n. when (nat_lt section_limit ((spot_of w).offset + n)) SectionTooLarge) same ∙ q.0)
-    ∙ ap (λ n. as_ok n (own_size w) j st) (same ∙ q.1)
-    ∙ ap (λ i. as_ok len (own_size w) i st) p.1
+aligned_well w true st (Some (pos j)) m g len h hm hg hf = grind (arith, common_steps, no_fault, all_well)
 
 -- ---- All faults.
 
 four_first : (a b c d : Option AsmFault) (rest : List (Option AsmFault)) → first_fault (a ∷ b ∷ c ∷ d ∷ rest) ≡ or_then (or_then a (or_then b (or_then c d))) (first_fault rest)
-four_first (Some e) b c d rest = refl
-four_first None (Some e) c d rest = refl
-four_first None None (Some e) d rest = refl
-four_first None None None (Some e) rest = refl
-four_first None None None None rest = refl
+four_first x b c d rest = grind (arith, common_steps)
 
 module _ (y : Symbols) (w : Standing) (x : Statement) where
   pub faults_are : line_fault y w x ≡ or_then (naming_fault y (spot_of w) x) (first_fault (placing_faults y w x))
@@ -226,23 +194,6 @@ module _ (y : Symbols) (w : Standing) (x : Statement) where
 
 -- ---- Room for what is placed.
 
-last_fault : {A : Type 0} (fs : List (Option AsmFault)) (l : Option AsmFault) (x y : A) → unless_fault (first_fault (fs ++ l ∷ [])) x ≡ Ok y → (l ≡ None) × (x ≡ y)
-last_fault [] None x y h = (refl, cc)
-last_fault [] (Some e) x y h = absurd cc
-last_fault (None ∷ fs) l x y h = last_fault fs l x y h
-last_fault (Some e ∷ fs) l x y h = absurd cc
-
-fits : (count : ℕ) → when (nat_lt section_limit count) SectionTooLarge ≡ None → count ≤ section_limit
-fits count h = by (nat_lt section_limit count) refl h
-  where
-    by : (b : Bool) → nat_lt section_limit count ≡ b → when b SectionTooLarge ≡ None → count ≤ section_limit
-    by true is k = absurd cc
-    by false is k = grind (arith, nat_tests)
-
 -- what is placed has room
 pub room_of : (y : Symbols) (w : Standing) (x : Statement) (r : Result code.Measured AsmFault) → Gives is_memory (λ m. m) r (placed y w x) → IfOk r (λ m. (spot_of w).offset + m.length ≤ section_limit)
-room_of y w x (Err e) h = tt
-room_of y w x (Ok m) h =
-    let s = spot_of w in
-    let found = last_fault (form_fault y s (own_size w) x ∷ operand_fault y s x ∷ alignment_fault y s x ∷ missing_file x ∷ part_fault y s x ∷ size_fault w.segments x ∷ block_fault y.scopes s.scope x ∷ pop_fault w.kept x ∷ []) (when (nat_lt section_limit (s.offset + length_of y s (own_size w) x)) SectionTooLarge) (measure_of y w x) m h in
-    subst (λ n. s.offset + n ≤ section_limit) (ap (λ (q : Measured). q.length) found.1) (fits (s.offset + length_of y s (own_size w) x) found.0)
+room_of y w x z h = grind (arith, common_steps)

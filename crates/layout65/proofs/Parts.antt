@@ -1,5 +1,6 @@
 -- What a part of a file places, or its first fault.
-use Rattle.std.proofs.Common.{◌≡◌, ◌∙◌, ℕ, ◌+◌, nat_le, nat_lt, Bool, true, false, not, List, [], ◌∷◌, length, Option, Some, None, refl, sym, ap, subst}
+use Rattle.std.proofs.lemmas.Grind.{common_steps}
+use Rattle.std.proofs.Common.{arith, ◌≡◌, ◌∙◌, ℕ, ◌+◌, nat_le, nat_lt, Bool, true, false, not, List, [], ◌∷◌, length, Option, Some, None, refl, sym, ap, subst}
 use Rattle.std.specs.Prelude.{◌&&◌, ◌++◌, ℤ, pos, Result, Ok, Err}
 use Rattle.object65.specs.Objects.{section_limit}
 use Rattle.base65.specs.Outcome.{Unless}
@@ -21,39 +22,11 @@ use Rattle.layout65.proofs.Steps.{unless_then}
 
 -- ---- Ranges.
 
--- what a file of so many bytes refuses a part for
-abbrev range_fault : ℕ → Option ℤ → Option ℤ → Option AsmFault
-range_fault count start len =
-    let from : Option ℤ = Some (or_default start (pos 0)) in
-    when (not (nat_le count file_limit && is_part count from (Some (or_default len (left_from count from))))) BadPart
-
-abbrev refuses : ℕ → Option ℤ → Option ℤ → Bool → Option AsmFault
-refuses count from more few = when (not (few && is_part count from more)) BadPart
-
 -- ---- A part.
-
-and_false : (a b : Bool) → b ≡ false → (a && b) ≡ false
-and_false true b e = e
-and_false false b e = refl
 
 module _ (y : Symbols) (w : Standing) (start len : Option Tree) where
   abbrev there : Bool
   there = is_there (optional_value y (spot_of w) start (pos 0)) && is_there (optional_value y (spot_of w) len (pos 0))
-
-  -- by whether both are constant, the file is there, and it has the part
-  abbrev by_faults : Option (List ℕ) → Bool → Option AsmFault → Option AsmFault → Result Measured AsmFault
-  by_faults bytes constant missing bad =
-      let count : ℕ = part_len y (spot_of w) bytes start len in
-      unless_fault (first_fault (
-      None
-      ∷ when (not constant) BadOperand
-      ∷ None ∷ missing ∷ bad ∷ None ∷ None ∷ None
-      ∷ when (nat_lt section_limit ((spot_of w).offset + count)) SectionTooLarge
-      ∷ []))
-      (record { length = count; size = own_size w; multiple = 1; settled = FromByte (part_start y (spot_of w) start) })
-
-  not_constant : (bytes : Option (List ℕ)) → there ≡ false → placed y w (FilePart bytes start len) ≡ Err BadOperand
-  not_constant bytes e = subst (λ b. by_faults bytes b (unless_there bytes FileNotFound) (part_fault y (spot_of w) (FilePart bytes start len)) ≡ Err BadOperand) (sym e) refl
 
 module _ (y : Symbols) (w : Standing) (start len : Option Tree) (s : Spot) (at : s ≡ spot_of w) where
   found_here : (value : Option Tree) (r : Result (Option ℤ) AsmFault) → IsFound (optional_value y s value) r → IsFound (optional_value y (spot_of w) value) r
@@ -61,17 +34,11 @@ module _ (y : Symbols) (w : Standing) (start len : Option Tree) (s : Spot) (at :
 
   -- a start that isn't constant
   pub bad_start : (bytes : Option (List ℕ)) (e : AsmFault) → IsFound (optional_value y s start) (Err e) → Unless (is_memory e) (placed y w (FilePart bytes start len) ≡ Err e)
-  bad_start bytes e h =
-      unless_then (is_memory e)
-      (λ f. not_constant y w start len bytes (ap (λ k. is_there k && is_there (optional_value y (spot_of w) len (pos 0))) (f.1 (pos 0))) ∙ ap (λ d. Err d) (sym f.0))
-      (found_here start (Err e) h)
+  bad_start bytes e h = grind (arith, common_steps)
 
   -- a length that isn't
   pub bad_len : (bytes : Option (List ℕ)) (e : AsmFault) → IsFound (optional_value y s len) (Err e) → Unless (is_memory e) (placed y w (FilePart bytes start len) ≡ Err e)
-  bad_len bytes e h =
-      unless_then (is_memory e)
-      (λ f. not_constant y w start len bytes (and_false (is_there (optional_value y (spot_of w) start (pos 0))) _ (ap is_there (f.1 (pos 0)))) ∙ ap (λ d. Err d) (sym f.0))
-      (found_here len (Err e) h)
+  bad_len bytes e h = grind (arith, common_steps)
 
   module _ (v n : Option ℤ) (first : IsFound (optional_value y s start) (Ok v)) (second : IsFound (optional_value y s len) (Ok n)) where
     from : (d : ℤ) → optional_value y (spot_of w) start d ≡ Some (or_default v d)
@@ -83,21 +50,9 @@ module _ (y : Symbols) (w : Standing) (start len : Option Tree) (s : Spot) (at :
     both : there y w start len ≡ true
     both = ap (λ k. is_there k && is_there (optional_value y (spot_of w) len (pos 0))) (from (pos 0)) ∙ ap is_there (more (pos 0))
 
-    fault_is : (bytes : List ℕ) → part_fault y (spot_of w) (FilePart (Some bytes) start len) ≡ range_fault (length bytes) v n
-    fault_is bytes =
-        ap (λ k. refuses (length bytes) k (optional_value y (spot_of w) len (left_from (length bytes) k)) (nat_le (length bytes) file_limit)) (from (pos 0))
-        ∙ ap (λ k. refuses (length bytes) (Some (or_default v (pos 0))) k (nat_le (length bytes) file_limit)) (more (left_from (length bytes) (Some (or_default v (pos 0)))))
-
-    constant : (bytes : Option (List ℕ)) → placed y w (FilePart bytes start len) ≡ by_faults y w start len bytes true (unless_there bytes FileNotFound) (part_fault y (spot_of w) (FilePart bytes start len))
-    constant bytes = ap (λ b. by_faults y w start len bytes b (unless_there bytes FileNotFound) (part_fault y (spot_of w) (FilePart bytes start len))) both
-
     -- a part that the file hasn't
     refused_so : (bytes : List ℕ) (e : AsmFault) → ranged (length bytes) v n ≡ Err e → placed y w (FilePart (Some bytes) start len) ≡ Err e
-    refused_so bytes e h = constant (Some bytes) ∙ ap (λ f. by_faults y w start len (Some bytes) true None f) (fault_is bytes) ∙ by _ (range_fault (length bytes) v n) h
-      where
-        by : {A : Type 0} (x : A) (f : Option AsmFault) → unless_fault f x ≡ Err e → by_faults y w start len (Some bytes) true None f ≡ Err e
-        by x None h = absurd cc
-        by x (Some d) h = cc
+    refused_so bytes e h = grind (arith, common_steps)
 
     pub refused : (bytes : List ℕ) (e : AsmFault) → Unless (is_memory e) (ranged (length bytes) v n ≡ Err e) → Unless (is_memory e) (placed y w (FilePart (Some bytes) start len) ≡ Err e)
     refused bytes e h = unless_then (is_memory e) (λ p. refused_so bytes e p) h
@@ -112,30 +67,19 @@ module _ (y : Symbols) (w : Standing) (start len : Option Tree) (s : Spot) (at :
 
   -- a name whose scope isn't there
   pub unread_lost : (scope : ℕ) (e : AsmFault) → scope ≡ w.scope → Unless (is_memory e) (checks (lost scope) ≡ Err e) → Unless (is_memory e) (checks (unread_fault y w start len) ≡ Err e)
-  unread_lost scope e here h =
-      refused_first e (lost w.scope) (operand_fault y (spot_of w) (FilePart None start len)) tt
-      (subst (λ k. Unless (is_memory e) (checks (lost k) ≡ Err e)) here h)
+  unread_lost scope e here h = grind (arith, common_steps)
 
   module _ (scope : ℕ) (here : scope ≡ w.scope) (none : checks (lost scope) ≡ Ok tt) where
     behind_lost : checks (unread_fault y w start len) ≡ checks (when (not (there y w start len)) BadOperand)
     behind_lost = ap checks (left_behind (lost w.scope) (operand_fault y (spot_of w) (FilePart None start len)) tt tt (subst (λ k. checks (lost k) ≡ Ok tt) here none))
 
-    not_there : (e : AsmFault) → there y w start len ≡ false → e ≡ BadOperand → checks (unread_fault y w start len) ≡ Err e
-    not_there e not_so is = behind_lost ∙ ap (λ b. checks (when (not b) BadOperand)) not_so ∙ ap (λ d. Err d) (sym is)
-
     -- a start that isn't constant
     pub unread_start : (e : AsmFault) → IsFound (optional_value y s start) (Err e) → Unless (is_memory e) (checks (unread_fault y w start len) ≡ Err e)
-    unread_start e h =
-        unless_then (is_memory e)
-        (λ f. not_there e (ap (λ k. is_there k && is_there (optional_value y (spot_of w) len (pos 0))) (f.1 (pos 0))) f.0)
-        (found_here start (Err e) h)
+    unread_start e h = grind (arith, common_steps)
 
     -- a length that isn't
     pub unread_len : (e : AsmFault) → IsFound (optional_value y s len) (Err e) → Unless (is_memory e) (checks (unread_fault y w start len) ≡ Err e)
-    unread_len e h =
-        unless_then (is_memory e)
-        (λ f. not_there e (and_false (is_there (optional_value y (spot_of w) start (pos 0))) _ (ap is_there (f.1 (pos 0)))) f.0)
-        (found_here len (Err e) h)
+    unread_len e h = grind (arith, common_steps)
 
     -- nothing is wrong
     pub unread_well : (v n : Option ℤ) → IsFound (optional_value y s start) (Ok v) → IsFound (optional_value y s len) (Ok n) → checks (unread_fault y w start len) ≡ Ok tt

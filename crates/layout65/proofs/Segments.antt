@@ -1,4 +1,5 @@
 -- Segments whose sections grow.
+use Rattle.std.proofs.lemmas.Grind.{common_steps}
 use Rattle.std.proofs.Common.{◌≡◌, ◌∙◌, ℕ, zero, suc, ◌+◌, ◌<◌, ◌≤◌, List, [], ◌∷◌, ◌++◌, length, map, position, get_or, set, refl, sym, ap, subst, arith}
 use Rattle.std.proofs.Math.Path.{fun_ext}
 use Rattle.std.specs.Prelude.{Bool, true, false, cond, ◌||◌, Some, None}
@@ -72,13 +73,7 @@ sound_grown w v count multiple sound within room e at names kept =
     (rw names (sound.names ∙ sym (grown_names w.segments.items w.current count multiple))) (rw (kept, long) sound.kept)
 
 pub sound_begun : (w v : Standing) (n : List ℕ) (g : Segment) → IsSoundStanding w → AreWithin w.segments.items → g.name ≡ n → g.end ≡ 0 → v.segments.items ≡ w.segments.items ++ g ∷ [] → v.current ≡ length w.segments.items → v.kept ≡ w.kept → map (λ k. k.items) v.names.keys ≡ map (λ k. k.items) w.names.keys ++ n ∷ [] → IsSoundStanding v
-sound_begun w v n g sound within name end e at kept names =
-    let gs = w.segments.items ++ g ∷ [] in
-    let long : length gs ≡ length w.segments.items + 1 = length-append w.segments.items (g ∷ []) in
-    let low : g.end ≤ section_limit = rw end (omega arith) in
-    sound_of v gs (length w.segments.items) e at (omega (arith, long)) (all_more (λ (h : Segment). h.end ≤ section_limit) w.segments.items g within low)
-    (names ∙ ap (λ ns. ns ++ n ∷ []) sound.names ∙ ap (λ m. map (λ (h : Segment). h.name) w.segments.items ++ m ∷ []) (sym name) ∙ sym (map-append (λ (h : Segment). h.name) w.segments.items (g ∷ [])))
-    (rw kept (all_same (λ k. k < length w.segments.items) (λ k. k < length gs) (λ k lt. omega (arith, lt, long)) w.kept.items sound.kept))
+sound_begun w v n g sound within name end e at kept names = grind (arith, common_steps, length-append, sound_of, all_more, map-append, all_same)
 
 -- a name that no segment has is new among theirs
 pub new_name : (n : List ℕ) (w : Standing) → IsSoundStanding w → place_of w.segments.items n ≡ None → list_any (λ k. bytes_eq n k) (map (λ k. k.items) w.names.keys) ≡ false
@@ -96,7 +91,4 @@ new_name n w sound none = absent (map (λ k. k.items) w.names.keys) (position_ma
     absent ns e = go 0 ns (sym (position_from-zero (bytes_eq n) ns) ∙ e)
 
 pub sound_back : (w v : Standing) (k : ℕ) → IsSoundStanding w → AreWithin w.segments.items → w.kept.items ≡ v.kept.items ++ k ∷ [] → v.segments ≡ w.segments → v.current ≡ k → v.names ≡ w.names → IsSoundStanding v
-sound_back w v k sound within kept segments at names =
-    let whole : AllByRecursion (λ j. j < length w.segments.items) (v.kept.items ++ k ∷ []) = subst (AllByRecursion (λ j. j < length w.segments.items)) kept sound.kept in
-    let parts = all_before (λ j. j < length w.segments.items) v.kept.items k whole in
-    sound_of v w.segments.items k (rw segments refl) at parts.1 within (rw names sound.names) parts.0
+sound_back w v k sound within kept segments at names = grind (arith, common_steps, all_before, sound_of)

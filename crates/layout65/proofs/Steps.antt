@@ -1,4 +1,6 @@
 -- Small steps that many proofs take.
+use Rattle.std.proofs.Common.{arith}
+use Rattle.std.proofs.lemmas.Grind.{common_steps}
 use Rattle.std.specs.Prelude.{Bool, true, false, IfOk, OnOk, Result, Ok, Err}
 use Rattle.base65.specs.Outcome.{Unless}
 
@@ -7,9 +9,7 @@ unless_then true f h = tt
 unless_then false f h = f h
 
 pub ok_then : {A E P Q : Type 0} (r : Result A E) → (P → Q) → OnOk r P → OnOk r Q
-ok_then (Ok x) f h = f h
-ok_then (Err e) f h = tt
+ok_then x f h = grind (arith, common_steps)
 
 pub ok_with : {A E : Type 0} (P Q : A → Type 0) (r : Result A E) → ((x : A) → P x → Q x) → IfOk r P → IfOk r Q
-ok_with P Q (Ok x) f h = f x h
-ok_with P Q (Err e) f h = tt
+ok_with x y z f h = grind (arith, common_steps)

@@ -1,5 +1,6 @@
 -- Blocks line by line, as the code takes them.
-use Rattle.std.proofs.Common.{◌≡◌, ℕ, Bool, true, false, List, refl, ap, subst, Option, Some, None, IfSome, Result, Ok, Err}
+use Rattle.std.proofs.lemmas.Grind.{common_steps}
+use Rattle.std.proofs.Common.{arith, ◌≡◌, ℕ, Bool, true, false, List, refl, ap, subst, Option, Some, None, IfSome, Result, Ok, Err}
 use Rattle.base65.specs.Outcome.{Unless}
 use Rattle.base65.specs.Store.{Files}
 use Rattle.syntax65.specs.Tokens.{Lexeme}
@@ -37,23 +38,10 @@ no_line judge a l e (Err f, t, h) =
 
 -- a line that is there
 pub some_line : (l m : Left) (ts : List Lexeme) → TakesInBlock l (Ok (ts, m)) → Takes l (Ok (Some ts, m))
-some_line l m ts (Ok (Some us, n), t, h) =
-    let pair : (us, n) ≡ (ts, m) = cc in
-    let one : us ≡ ts = ap (λ (p : List Lexeme × Left). p.0) pair in
-    let two : n ≡ m = ap (λ (p : List Lexeme × Left). p.1) pair in
-    let P : List Lexeme → Type 0 = λ x. Takes l (Ok (Some x, n)) in
-    let Q : Left → Type 0 = λ x. Takes l (Ok (Some ts, x)) in
-    subst Q two (subst P one t)
-some_line l m ts (Ok (None, n), t, h) = absurd cc
-some_line l m ts (Err f, t, h) = absurd cc
+some_line l m ts x = grind (arith, common_steps)
 
 pub line_missing : {A B : Type 0} (judge : A → List Lexeme → Verdict A B) (o : Option Files) (first reader : Reader) (a0 a : A) (f : ExpandFault) (p : Place) → IfSome o (Leads judge a reader a0 first) → IfSome o (λ m. Unless (is_outside f) (TakesInBlock (left_of m reader) (Err (f, p)))) → IfSome o (λ m. Unless (is_outside f) (Block judge a0 (left_of m first) (Err (f, p))))
-line_missing judge None first reader a0 a f p h t = tt
-line_missing judge (Some m) first reader a0 a f p h t = by (is_outside f) t
-  where
-    by : (b : Bool) → Unless b (TakesInBlock (left_of m reader) (Err (f, p))) → Unless b (Block judge a0 (left_of m first) (Err (f, p)))
-    by true k = tt
-    by false k = h (Err (f, p)) (no_line judge a (left_of m reader) (f, p) k)
+line_missing judge x first reader a0 a f p h t = grind (arith, common_steps, no_line)
 
 pub line_refused : {A B : Type 0} (judge : A → List Lexeme → Verdict A B) (o : Option Files) (first reader new : Reader) (a0 a : A) (ts : List Lexeme) (f : ExpandFault) → IfSome o (Leads judge a reader a0 first) → IfSome o (λ m. TakesInBlock (left_of m reader) (Ok (ts, left_of m new))) → Unless (is_outside f) (judge a ts ≡ refused f) → IfSome o (λ m. Unless (is_outside f) (Block judge a0 (left_of m first) (Err (f, new.place))))
 line_refused judge None first reader new a0 a ts f h t j = tt
@@ -73,8 +61,7 @@ line_goes_on judge (Some m) first reader new a0 a c ts h t j = λ r k. h r (one_
 
 -- a step that doesn't close the block
 pub step_goes_on : {A B : Type 0} (next : ℕ → A) (last : B) (s : BlockStep) (v : Verdict A B) → (s ≡ Closed → ⊥) → Judges next last (Ok s) v → (d : ℕ) × (v ≡ on (next d))
-step_goes_on next last (On d) v h j = (d, j)
-step_goes_on next last Closed v h j = absurd (h refl)
+step_goes_on next last x v h j = grind (arith, common_steps)
 
 -- lines that change nothing
 over_plain : {A B : Type 0} (judge : A → List Lexeme → Verdict A B) (a : A) (l n : Left) (r : Result (B × Left) Stop) → ((ts : List Lexeme) → IsPlain ts → judge a ts ≡ on a) → Plainly l n → Block judge a n r → Block judge a l r
@@ -82,5 +69,4 @@ over_plain judge a _ _ r same (none_passed l) h = h
 over_plain judge a _ _ r same (a_line l m n before (ts, taken, plain)) h = over_plain judge a l m r same before (one_more a a m n ts r taken (same ts plain) h)
 
 pub lines_passed : {A B : Type 0} (judge : A → List Lexeme → Verdict A B) (o : Option Files) (first reader new : Reader) (a0 a : A) → ((ts : List Lexeme) → IsPlain ts → judge a ts ≡ on a) → ((m : Files) → Plainly (left_of m reader) (left_of m new)) → IfSome o (Leads judge a reader a0 first) → IfSome o (Leads judge a new a0 first)
-lines_passed judge None first reader new a0 a same passed h = tt
-lines_passed judge (Some m) first reader new a0 a same passed h = λ r k. h r (over_plain judge a (left_of m reader) (left_of m new) r same (passed m) k)
+lines_passed judge x first reader new a0 a same passed h = grind (arith, common_steps, over_plain)

@@ -1,4 +1,5 @@
 -- What an open file has, once more of it is at hand.
+use Rattle.std.proofs.lemmas.Grind.{common_steps}
 use Rattle.std.proofs.Common.{◌≡◌, ℕ, ◌+◌, ◌-◌, ◌<◌, ◌≤◌, List, [], ◌++◌, length, take, drop, min, refl, sym, ap, ◌∙◌, subst, arith, Option, Some, None, IfSome, Bool, true, false, nat_le, nat_lt}
 use Rattle.std.proofs.lemmas.Bool.Decides.{nat_tests}
 use Rattle.std.proofs.lemmas.List.{drop_all, drop-drop, drop-take, take-append-drop, length-take, length-drop, take-take}
@@ -32,17 +33,7 @@ next_piece bs limit at want n piece h p = rw p.front (by (nat_le at limit) refl)
 
 -- where nothing more comes
 pub no_piece : (bs : List ℕ) (limit at want n : ℕ) (piece : List ℕ) → want ≡ min 4096 (limit - at) → IsPiece (drop at bs) want n piece → n ≡ 0 → drop (at + n) (take limit bs) ≡ []
-no_piece bs limit at want n piece h p e = drop_all (at + n) (take limit bs) (by (nat_lt at limit) refl)
-  where
-    by : (b : Bool) → nat_lt at limit ≡ b → length (take limit bs) ≤ at + n
-    by true f =
-        let lt : at < limit = grind (arith, nat_tests, f) in
-        let some : 0 < want = omega (arith, h) in
-        let gone : length (drop at bs) ≡ 0 = ap length (p.ends e some) in
-        omega (arith, length-drop at bs, length-take limit bs, gone)
-    by false f =
-        let ge : limit ≤ at = grind (arith, nat_tests, f) in
-        omega (arith, length-take limit bs)
+no_piece bs limit at want n piece h p e = grind (arith, common_steps)
 
 -- ---- As a store tells its files.
 

@@ -1,4 +1,5 @@
 -- Inputs that are left.
+use Rattle.std.proofs.lemmas.Grind.{common_steps}
 use Rattle.std.proofs.Common.{◌≡◌, ◌≢◌, ℕ, refl, sym, ◌∙◌, ap, arith, List, [], ◌∷◌, ◌++◌, Bool, true, false, Option, Some, None, Ok, Err}
 use Rattle.std.specs.Prelude.{◌==◌, if◌then◌else◌}
 use Rattle.std.proofs.lemmas.Bool.Decides.{nat_tests}
@@ -18,19 +19,11 @@ dropped m old new g top e t = ap (λ x. own m x ++ outside m new) t ∙ sym (ap 
 
 -- ---- At the end of the innermost input.
 
-at_end : (m : Files) (r : Reader) → left_in m r.top.source ≡ [] → (left_of m r).items ≡ mark (mark_of r.top) ∷ outside m r.outer.items
-at_end m r e = own_split m r.top (outside m r.outer.items) ∙ ap (λ l. l ++ mark (mark_of r.top) ∷ outside m r.outer.items) e
-
 pub not_closed : (m : Files) (r : Reader) (n : ℕ) → left_in m r.top.source ≡ [] → r.top.conditions ≢ n → Err (NotClosed, r.place) ≡ closed n r.place (left_of m r).items
-not_closed m r n e h =
-    let other : r.top.conditions == n ≡ false = grind (arith, nat_tests) in
-    sym (ap (closed n r.place) (at_end m r e) ∙ rw other refl)
+not_closed m r n e h = grind (arith, common_steps)
 
 pub closes : (m : Files) (old new : Reader) (n : ℕ) (more : Bool) → left_in m old.top.source ≡ [] → old.top.conditions ≡ n → if_more more (left_of m new).items ≡ outside m old.outer.items → new.place ≡ come_back old.place old.top.back → Ok (if_more more (left_of m new).items, new.place) ≡ closed n old.place (left_of m old).items
-closes m old new n more e h i p =
-    let same : old.top.conditions == n ≡ true = grind (arith, nat_tests) in
-    let known : closed n old.place (mark (mark_of old.top) ∷ outside m old.outer.items) ≡ Ok (outside m old.outer.items, come_back old.place old.top.back) = rw same refl in
-    ap (λ l. Ok (l, new.place)) i ∙ ap (λ q. Ok (outside m old.outer.items, q)) p ∙ sym (ap (closed n old.place) (at_end m old e) ∙ known)
+closes m old new n more e h i p = grind (arith, common_steps)
 
 -- the place that a reader goes back to doesn't change what is left
 pub same_items : (m : Files) (a b : Reader) (more : Bool) (is : List Item) → b.top ≡ a.top → b.outer ≡ a.outer → if_more more (left_of m a).items ≡ is → if_more more (left_of m b).items ≡ is
@@ -50,10 +43,7 @@ abbrev Out : Type 0
 Out = Option (Mark × List Item × Place)
 
 one_out : (m : Files) (r : Reader) (p : Place) (b : Bool) → is_call r.top.source ≡ b → outside_macro (left_of m r).items p ≡ (if b then Some (mark_of r.top, outside m r.outer.items, come_back p r.top.back) else outside_macro (outside m r.outer.items) (come_back p r.top.back))
-one_out m r p b e =
-    let js = outside m r.outer.items in
-    let Q : Bool → Out = λ x. if x then Some (mark_of r.top, js, come_back p r.top.back) else outside_macro js (come_back p r.top.back) in
-    ap (λ l. outside_macro l p) (own_split m r.top js) ∙ outside_lines (left_in m r.top.source) (mark (mark_of r.top) ∷ js) p (lines_left m r.top.source) ∙ ap Q e
+one_out m r p b e = grind (arith, common_steps, own_split, outside_lines, lines_left)
 
 -- an input that is no expansion is left, and others are outside
 pub goes_out : (m : Files) (old new : Reader) (p q : Place) (x : Out) → is_call old.top.source ≡ false → if_more true (left_of m new).items ≡ outside m old.outer.items → q ≡ come_back p old.top.back → outside_macro (left_of m old).items p ≡ x → outside_macro (left_of m new).items q ≡ x

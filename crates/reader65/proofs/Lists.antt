@@ -18,11 +18,7 @@ position_mapped p f xs = position_from-zero p (map f xs) ∙ from_mapped p f 0 x
 -- a table seen by other keys and values
 pub lookup_mapped : {K L X Y : Type 0} (p : L → Bool) (f : K → L) (g : X → Y) (es : List (K × X)) → lookup p (map (λ e. (f e.0, g e.1)) es) ≡ option_map g (lookup (λ k. p (f k)) es)
 lookup_mapped p f g [] = refl
-lookup_mapped p f g (e ∷ es) = by (p (f e.0)) (lookup_mapped p f g es)
-  where
-    by : (b : Bool) → lookup p (map (λ d. (f d.0, g d.1)) es) ≡ option_map g (lookup (λ k. p (f k)) es) → cond b (Some (g e.1)) (lookup p (map (λ d. (f d.0, g d.1)) es)) ≡ option_map g (cond b (Some e.1) (lookup (λ k. p (f k)) es))
-    by true h = refl
-    by false h = h
+lookup_mapped p f g (e ∷ es) = grind (arith, common_steps, (lookup_mapped p f g es))
 
 -- the front of a list is what stands last in the list the other way round
 pub reverse_take : {A : Type 0} (n : ℕ) (xs : List A) → reverse (take n xs) ≡ drop (length (reverse xs) - n) (reverse xs)

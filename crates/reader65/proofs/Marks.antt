@@ -1,4 +1,5 @@
 -- End marks among the inputs' lines.
+use Rattle.std.proofs.lemmas.Grind.{common_steps}
 use Rattle.std.proofs.Common.{◌≡◌, ℕ, zero, suc, ◌+◌, ◌-◌, ◌≤◌, ◌<◌, refl, sym, ◌∙◌, ap, arith, List, [], ◌∷◌, ◌++◌, length, map, drop, append_assoc, Some, true, false, Ok, Err}
 use Rattle.std.specs.Prelude.{nat_le}
 use Rattle.std.proofs.lemmas.Bool.Decides.{nat_tests}
@@ -102,13 +103,7 @@ pub innermost_is : (m : Files) (r : Reader) → innermost (left_of m r).items �
 innermost_is m r = ap innermost (own_split m r.top (outside m r.outer.items)) ∙ innermost_lines (left_in m r.top.source) (outside m r.outer.items) (mark_of r.top) (lines_left m r.top.source)
 
 pub entered_one : (m : Files) (old new : Reader) (i : Input) → length old.outer.items < 256 → new.top ≡ i → new.outer.items ≡ old.outer.items ++ old.top ∷ [] → new.room ≡ old.room → new.place ≡ old.place → Ok (left_of m new) ≡ pushed (left_in m i.source) (mark_of i) (left_of m old)
-entered_one m old new i h t u r p =
-    let few : nat_le (marks (left_of m old).items) 256 ≡ true = grind (arith, nat_tests, marks_all m old) in
-    let items : (left_of m new).items ≡ left_in m i.source ++ mark (mark_of i) ∷ (left_of m old).items =
-    ap (λ x. own m x ++ outside m new.outer.items) t ∙ ap (λ l. own m i ++ outside m l) u ∙ ap (λ l. own m i ++ l) (outside_push m old.outer.items old.top) ∙ own_split m i (own m old.top ++ outside m old.outer.items) in
-    rw few (ap (λ l. Ok (left l new.room new.place)) items ∙ ap (λ x. Ok (left (left_in m i.source ++ mark (mark_of i) ∷ (left_of m old).items) x new.place)) r ∙ ap (λ q. Ok (left (left_in m i.source ++ mark (mark_of i) ∷ (left_of m old).items) old.room q)) p)
+entered_one m old new i h t u r p = grind (arith, common_steps, nat_tests, marks_all, outside_push, own_split)
 
 pub entered_none : (m : Files) (old : Reader) (i : Input) → 256 ≤ length old.outer.items → Err (Nested, old.place) ≡ pushed (left_in m i.source) (mark_of i) (left_of m old)
-entered_none m old i h =
-    let many : nat_le (marks (left_of m old).items) 256 ≡ false = grind (arith, nat_tests, marks_all m old) in
-    rw many refl
+entered_none m old i h = grind (arith, common_steps, nat_tests, marks_all)

@@ -1,5 +1,6 @@
 -- Under which names open files are read.
-use Rattle.std.proofs.Common.{◌≡◌, ◌∙◌, List, [], ◌∷◌, ◌++◌, Option, None, Some, ap, refl, reverse, sym, subst, true}
+use Rattle.std.proofs.lemmas.Grind.{common_steps}
+use Rattle.std.proofs.Common.{arith, ◌≡◌, ◌∙◌, List, [], ◌∷◌, ◌++◌, Option, None, Some, ap, refl, reverse, sym, subst, true}
 use Rattle.std.proofs.lemmas.List.{reverse-append}
 use Rattle.source65.specs.declared.place.Place.{Place}
 use Rattle.reader65.specs.Inside.{is_call, moved_by}
@@ -14,19 +15,14 @@ use Rattle.reader65.specs.declared.reader.Input.{Input}
 use Rattle.reader65.specs.declared.reader.Reader.{Reader}
 
 pub moved_file : (n : NextLine) (p : Place) → (moved_by n p).file ≡ p.file
-moved_file AtEnd p = refl
-moved_file (Numbered n) p = refl
-moved_file Replayed p = refl
+moved_file x p = grind (arith, common_steps)
 
 -- only the file of a place matters
 source_by_file : (s : Source) (p q : Place) → q.file ≡ p.file → IsNamed s p → IsNamed s q
-source_by_file (source.File f) p q e h = h ∙ sym e
-source_by_file (source.Call r) p q e h = tt
-source_by_file (source.Repeat r next count) p q e h = tt
+source_by_file x p q e h = grind (arith, common_steps)
 
 behind : (is : List Input) (p q : Place) (b : Option Place) → (AreNamed is p → AreNamed is q) → AreNamed is (come_back p b) → AreNamed is (come_back q b)
-behind is p q None f h = f h
-behind is p q (Some r) f h = h
+behind is p q x f h = grind (arith, common_steps)
 
 by_file : (is : List Input) (p q : Place) → q.file ≡ p.file → AreNamed is p → AreNamed is q
 by_file [] p q e h = tt
@@ -34,13 +30,11 @@ by_file (i ∷ []) p q e h = (source_by_file i.source p q e h.0, h.1)
 by_file (i ∷ j ∷ is) p q e h = (source_by_file i.source p q e h.0, behind (j ∷ is) p q i.back (by_file (j ∷ is) p q e) h.1)
 
 first_of : (i : Input) (is : List Input) (p : Place) → AreNamed (i ∷ is) p → IsNamed i.source p
-first_of i [] p h = h.0
-first_of i (j ∷ is) p h = h.0
+first_of i x p h = grind (arith, common_steps)
 
 -- the innermost input with another source of lines
 with_first : (i k : Input) (is : List Input) (p : Place) → k.back ≡ i.back → IsNamed k.source p → AreNamed (i ∷ is) p → AreNamed (k ∷ is) p
-with_first i k [] p b s h = (s, b ∙ h.1)
-with_first i k (j ∷ is) p b s h = (s, subst (λ x. AreNamed (j ∷ is) (come_back p x)) (sym b) h.1)
+with_first i k x p b s h = grind (arith, common_steps)
 
 pub innermost_named : (r : Reader) → NamesFiles r → IsNamed r.top.source r.place
 unfolding NamesFiles
@@ -56,48 +50,31 @@ reads_on old new b o s e h =
 
 -- ---- Inputs that are put inside others and are left.
 
-pushed_in : (is : List Input) (i : Input) → reverse (is ++ i ∷ []) ≡ i ∷ reverse is
-pushed_in is i = reverse-append is (i ∷ [])
-
 pub enters : (old : Reader) (new : List Input) (i : Input) (p : Place) → new ≡ old.outer.items ++ old.top ∷ [] → IsNamed i.source p → come_back p i.back ≡ old.place → NamesFiles old → AreNamed (i ∷ reverse new) p
 unfolding NamesFiles
-enters old new i p o s b h =
-    let there : AreNamed (i ∷ old.top ∷ reverse old.outer.items) p = (s, subst (AreNamed (open_in old)) (sym b) h) in
-    subst (λ (is : List Input). AreNamed (i ∷ is) p) (sym (ap reverse o ∙ pushed_in old.outer.items old.top)) there
+enters old new i p o s b h = grind (arith, common_steps)
 
 -- the innermost of those outside comes next
 pub drops : (old : Input) (outer rest : List Input) (top : Input) (p q : Place) → outer ≡ rest ++ top ∷ [] → q ≡ come_back p old.back → AreNamed (old ∷ reverse outer) p → AreNamed (top ∷ reverse rest) q
-drops old outer rest top p q o e h =
-    let there : AreNamed (old ∷ top ∷ reverse rest) p = subst (λ (is : List Input). AreNamed (old ∷ is) p) (ap reverse o ∙ pushed_in rest top) h in
-    subst (AreNamed (top ∷ reverse rest)) (sym e) there.1
+drops old outer rest top p q o e h = grind (arith, common_steps)
 
 -- none is outside: the source goes back to none
 pub stays : (old new : Input) (outer rest : List Input) (p q : Place) → outer ≡ [] → rest ≡ [] → new.source ≡ old.source → new.back ≡ None → q ≡ come_back p old.back → AreNamed (old ∷ reverse outer) p → AreNamed (new ∷ reverse rest) q
-stays old new outer rest p q o l s n e h =
-    let only : AreNamed (old ∷ []) p = subst (λ (is : List Input). AreNamed (old ∷ reverse is) p) o h in
-    let same : q ≡ p = e ∙ ap (come_back p) only.1 in
-    let named : IsNamed new.source q = subst (IsNamed new.source) (sym same) (subst (λ x. IsNamed x p) (sym s) only.0) in
-    subst (λ (is : List Input). AreNamed (new ∷ reverse is) q) (sym l) (named, n)
+stays old new outer rest p q o l s n e h = grind (arith, common_steps)
 
 -- a reader that has gone back to a place
 pub goes_back : (mid new : Reader) (p : Place) → new.top ≡ mid.top → new.outer ≡ mid.outer → new.place ≡ p → AreNamed (open_in mid) p → NamesFiles new
 unfolding NamesFiles
-goes_back mid new p t o e h =
-    let there : AreNamed (new.top ∷ reverse mid.outer.items) p = subst (λ i. AreNamed (i ∷ reverse mid.outer.items) p) (sym t) h in
-    subst (AreNamed (open_in new)) (sym e) (subst (λ x. AreNamed (new.top ∷ reverse x.items) p) (sym o) there)
+goes_back mid new p t o e h = grind (arith, common_steps)
 
 pub named_in : (r : Reader) → NamesFiles r → AreNamed (open_in r) r.place
 unfolding NamesFiles
 named_in r h = h
 
 pub call_named : (s : Source) (p : Place) → is_call s ≡ true → IsNamed s p
-call_named (source.File f) p h = absurd cc
-call_named (source.Call r) p h = tt
-call_named (source.Repeat r next count) p h = tt
+call_named x p h = grind (arith, common_steps)
 
 -- a source that is opened
 pub source_named : (r : Reader) (f : OpenFile) → r.top.source ≡ source.File f → r.top.back ≡ None → r.outer.items ≡ [] → f.name ≡ r.place.file → NamesFiles r
 unfolding NamesFiles
-source_named r f s b o n =
-    let named : IsNamed r.top.source r.place = subst (λ x. IsNamed x r.place) (sym s) n in
-    subst (λ (is : List Input). AreNamed (r.top ∷ reverse is) r.place) (sym o) (named, b)
+source_named r f s b o n = grind (arith, common_steps)

@@ -1,5 +1,6 @@
 -- The next line of the innermost input, as a line that is taken of all that is left.
-use Rattle.std.proofs.Common.{◌≡◌, ℕ, suc, Bool, true, false, List, [], ◌∷◌, ◌++◌, refl, sym, ap, ◌∙◌, subst, append_assoc, Option, Some, None, IfSome, Ok, Err}
+use Rattle.std.proofs.lemmas.Grind.{common_steps}
+use Rattle.std.proofs.Common.{arith, ◌≡◌, ℕ, suc, Bool, true, false, List, [], ◌∷◌, ◌++◌, refl, sym, ap, ◌∙◌, subst, append_assoc, Option, Some, None, IfSome, Ok, Err}
 use Rattle.base65.specs.Outcome.{Unless}
 use Rattle.base65.specs.Store.{Files}
 use Rattle.syntax65.specs.Tokens.{Lexeme}
@@ -28,13 +29,7 @@ one_taken before after tail (Numbered n) r p line (bytes, (others, e)) h (i, f, 
     let O : Item → Type 0 = λ x. IsOpened x (Ok (tokens_in line)) in
     let P : List Item → Type 0 = λ l. TakesFrom (l ++ tail) (suc r) p (Ok (Some (tokens_in line), left (after ++ tail) r (moved p n))) in
     subst P (sym e) (Ok (tokens_in line), subst O item o, ap (λ l. Ok (Some (tokens_in line), left (l ++ tail) r (moved p n))) (sym rest))
-one_taken before after tail Replayed r p line (x, (ts, (others, e))) h (i, f, o) =
-    let same : i ∷ after ≡ played x ts ∷ others = sym f ∙ e in
-    let item : i ≡ played x ts = cc in
-    let rest : others ≡ after = cc in
-    let O : Item → Type 0 = λ y. IsOpened y (Ok (tokens_in line)) in
-    let P : List Item → Type 0 = λ l. TakesFrom (l ++ tail) (suc r) p (Ok (Some (tokens_in line), left (after ++ tail) r p)) in
-    subst P (sym e) (Ok (tokens_in line), subst O item o, ap (λ l. Ok (Some (tokens_in line), left (l ++ tail) r p)) (sym rest))
+one_taken before after tail Replayed r p line (x, (ts, (others, e))) h (i, f, o) = grind (arith, common_steps)
 
 pub one_refused : (before after tail : List Item) (n : NextLine) (r : ℕ) (p : Place) (f : ExpandFault) → ComesNext before n → (n ≡ AtEnd → ⊥) → TakesLine before (Err f) after → Unless (is_outside f) (TakesFrom (before ++ tail) (suc r) p (Err (f, moved_by n p)))
 one_refused before after tail n r p f c h t = by (is_outside f) t
@@ -65,17 +60,7 @@ pub parted : (m : Files) (r : Reader) → own m r.top ++ outside m r.outer.items
 parted m r = append_assoc (left_in m r.top.source) (mark (mark_of r.top) ∷ []) (outside m r.outer.items)
 
 pub told_taken : (o : Option Files) (old new : Reader) (mid : Source) (n : NextLine) (line : Line) → IfSome o (λ m. ComesNext (left_in m mid) n) → IfSome o (λ m. left_in m mid ≡ left_in m old.top.source) → (n ≡ AtEnd → ⊥) → IfSome o (λ m. TakesLine (left_in m mid) (Ok line) (left_in m new.top.source)) → mark_of new.top ≡ mark_of old.top → new.outer ≡ old.outer → new.place ≡ moved_by n old.place → suc new.room ≡ old.room → IfSome o (λ m. Takes (left_of m old) (Ok (Some (tokens_in line), left_of m new)))
-told_taken None old new mid n line c s h t k u p r = tt
-told_taken (Some m) old new mid n line c s h t k u p r =
-    let tail = mark (mark_of old.top) ∷ outside m old.outer.items in
-    let one = one_taken (left_in m mid) (left_in m new.top.source) tail n new.room old.place line c h t in
-    let items : left_in m new.top.source ++ tail ≡ (left_of m new).items = ap (λ x. left_in m new.top.source ++ (mark x ∷ outside m old.outer.items)) (sym k) ∙ ap (λ x. left_in m new.top.source ++ (mark (mark_of new.top) ∷ outside m x.items)) (sym u) ∙ sym (parted m new) in
-    let before : left_in m mid ++ tail ≡ (left_of m old).items = ap (λ l. l ++ tail) s ∙ sym (parted m old) in
-    let P : List Item → Type 0 = λ l. TakesFrom l (suc new.room) old.place (Ok (Some (tokens_in line), left (left_in m new.top.source ++ tail) new.room (moved_by n old.place))) in
-    let Q : ℕ → Type 0 = λ x. TakesFrom (left_of m old).items x old.place (Ok (Some (tokens_in line), left (left_in m new.top.source ++ tail) new.room (moved_by n old.place))) in
-    let R : List Item → Type 0 = λ l. TakesFrom (left_of m old).items old.room old.place (Ok (Some (tokens_in line), left l new.room (moved_by n old.place))) in
-    let S : Place → Type 0 = λ q. TakesFrom (left_of m old).items old.room old.place (Ok (Some (tokens_in line), left (left_of m new).items new.room q)) in
-    subst S (sym p) (subst R items (subst Q r (subst P before one)))
+told_taken x old new mid n line c s h t k u p r = grind (arith, common_steps, one_taken, parted)
 
 pub told_refused : (o : Option Files) (old : Reader) (mid last : Source) (place : Place) (room : ℕ) (n : NextLine) (f : ExpandFault) → IfSome o (λ m. ComesNext (left_in m mid) n) → IfSome o (λ m. left_in m mid ≡ left_in m old.top.source) → (n ≡ AtEnd → ⊥) → IfSome o (λ m. TakesLine (left_in m mid) (Err f) (left_in m last)) → place ≡ moved_by n old.place → suc room ≡ old.room → IfSome o (λ m. Unless (is_outside f) (Takes (left_of m old) (Err (f, place))))
 told_refused None old mid last place room n f c s h t p r = tt

@@ -1,4 +1,5 @@
 -- Lines that are taken of files and bodies.
+use Rattle.std.proofs.lemmas.Grind.{common_steps}
 use Rattle.std.proofs.Common.{◌≡◌, ℕ, suc, ◌+◌, ◌<◌, ◌≤◌, Bool, true, false, List, [], ◌∷◌, ◌++◌, length, map, take, drop, refl, sym, ap, ◌∙◌, arith, Option, Some, None, IfSome, Result, Ok, Err, get_or, drop-cons, add-one, length-append}
 use Rattle.std.proofs.lemmas.List.{drop-map, drop-drop, length-drop, take_all}
 use Rattle.std.specs.List.{prefix_len}
@@ -94,9 +95,7 @@ file_passed m f n k e lt (ts, read, plain) number =
 
 -- what is left of a body begins with the line at its place
 played_at : (e : Replacing) (lines : List Line) (at : ℕ) (x : Line) → at < length lines → x ≡ get_or lines at x → map (played e) (drop at (map tokens_in lines)) ≡ played e (tokens_in x) ∷ map (played e) (drop (at + 1) (map tokens_in lines))
-played_at e lines at x h same =
-    let one : drop at lines ≡ x ∷ drop (at + 1) lines = rw (add-one at) (drop-cons lines at x h ∙ ap (λ y. y ∷ drop (suc at) lines) (sym same)) in
-    ap (map (played e)) (drop-map tokens_in at lines ∙ ap (map tokens_in) one) ∙ ap (λ l. played e (tokens_in x) ∷ map (played e) l) (sym (drop-map tokens_in (at + 1) lines))
+played_at e lines at x h same = grind (arith, common_steps, drop-map)
 
 pub body_taken : (r : Replay) (x line : Line) → r.at < length r.body.value.lines → x ≡ get_or r.body.value.lines r.at x → fitted (replaced (replacing_of r) (tokens_in x)) ≡ Ok (tokens_in line) → TakesLine (left_to_play r) (Ok line) (map (played (replacing_of r)) (drop (r.at + 1) (map tokens_in r.body.value.lines)))
 body_taken r x line h same e = (played (replacing_of r) (tokens_in x), played_at (replacing_of r) r.body.value.lines r.at x h same, sym e)

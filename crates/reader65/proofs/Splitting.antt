@@ -1,4 +1,5 @@
 -- The first line of bytes.
+use Rattle.std.proofs.lemmas.Grind.{common_steps}
 use Rattle.std.proofs.Common.{◌≡◌, ℕ, suc, ◌+◌, ◌<◌, Bool, true, false, List, [], ◌∷◌, length, take, drop, slice_get, refl, ap, sym, ◌∙◌, arith, ◌++◌, length-append, append_assoc, add-one, one-add, length-drop, subst, ◌≤◌}
 use Rattle.std.specs.List.{prefix_len}
 use Rattle.std.proofs.lemmas.List.{take_all, drop_all, take_at, length-take, take-append-drop, append-nil, drop-drop}
@@ -18,11 +19,7 @@ lines_more : (b : ℕ) (bs : List ℕ) → is_line_end b ≡ false → is_return
 lines_more b bs e r = rw (e, r) refl
 
 lines_inside : (b c : ℕ) (bs : List ℕ) → is_line_end b ≡ false → is_line_end c ≡ false → lines_of (b ∷ c ∷ bs) ≡ put_before b (lines_of (c ∷ bs))
-lines_inside b c bs e f = go (is_return b) refl
-  where
-    go : (t : Bool) → is_return b ≡ t → lines_of (b ∷ c ∷ bs) ≡ put_before b (lines_of (c ∷ bs))
-    go true r = rw (e, r, f) refl
-    go false r = lines_more b (c ∷ bs) e r
+lines_inside b c bs e f = grind (arith, common_steps)
 
 prefix_end : (b : ℕ) (bs : List ℕ) → is_line_end b ≡ true → prefix_len is_inside (b ∷ bs) ≡ 0
 prefix_end b bs e = rw e refl
@@ -32,20 +29,8 @@ prefix_more b bs e = rw e (one-add (prefix_len is_inside bs))
 
 -- a line that doesn't end
 pub last_line : (b : ℕ) (bs : List ℕ) → prefix_len is_inside (b ∷ bs) ≡ length (b ∷ bs) → lines_of (b ∷ bs) ≡ (b ∷ bs) ∷ []
-last_line b [] h = go (is_line_end b) (is_return b) refl refl
-  where
-    go : (t r : Bool) → is_line_end b ≡ t → is_return b ≡ r → lines_of (b ∷ []) ≡ (b ∷ []) ∷ []
-    go true r e f = let x = sym (prefix_end b [] e) ∙ h in absurd cc
-    go false true e f = rw (e, f) refl
-    go false false e f = rw (e, f) refl
-last_line b (c ∷ bs) h = go (is_line_end b) (is_line_end c) (last_line c bs) refl refl
-  where
-    go : (t u : Bool) → (prefix_len is_inside (c ∷ bs) ≡ length (c ∷ bs) → lines_of (c ∷ bs) ≡ (c ∷ bs) ∷ []) → is_line_end b ≡ t → is_line_end c ≡ u → lines_of (b ∷ c ∷ bs) ≡ (b ∷ c ∷ bs) ∷ []
-    go true u next e f = let x = sym (prefix_end b (c ∷ bs) e) ∙ h in absurd cc
-    go false true next e f = let x = sym (prefix_more b (c ∷ bs) e ∙ ap suc (prefix_end c bs f)) ∙ h in absurd cc
-    go false false next e f =
-        let x : prefix_len is_inside (c ∷ bs) ≡ length (c ∷ bs) = let y = sym (prefix_more b (c ∷ bs) e) ∙ h in cc in
-        lines_inside b c bs e f ∙ ap (put_before b) (next x)
+last_line b [] h = grind (arith, common_steps, prefix_end)
+last_line b (c ∷ bs) h = grind (arith, common_steps, (last_line c bs), prefix_end, prefix_more, lines_inside)
 
 -- ---- A CR at the end.
 
@@ -56,14 +41,7 @@ no_return_alone : (b : ℕ) → is_return b ≡ false → without_return (b ∷ 
 no_return_alone b r = rw r refl
 
 return_behind : (b c : ℕ) (bs : List ℕ) → without_return (b ∷ c ∷ bs) ≡ b ∷ without_return (c ∷ bs)
-return_behind b c bs =
-    let e : length (b ∷ c ∷ bs) - 1 ≡ suc (length (c ∷ bs) - 1) = omega arith in
-    ap (λ n. if unwrap_or (option_map is_return (slice_get (b ∷ c ∷ bs) n)) false then take n (b ∷ c ∷ bs) else b ∷ c ∷ bs) e
-    ∙ go (ends_in_return (c ∷ bs)) refl
-  where
-    go : (t : Bool) → ends_in_return (c ∷ bs) ≡ t → (if ends_in_return (c ∷ bs) then b ∷ take (length (c ∷ bs) - 1) (c ∷ bs) else b ∷ c ∷ bs) ≡ b ∷ without_return (c ∷ bs)
-    go true h = rw h refl
-    go false h = rw h refl
+return_behind b c bs = grind (arith, common_steps)
 
 -- ---- The first line's end.
 
@@ -130,13 +108,7 @@ IsPart bs = prefix_len is_inside bs ≡ length bs
 
 pub prefix_append : (front more : List ℕ) → IsPart front → prefix_len is_inside (front ++ more) ≡ length front + prefix_len is_inside more
 prefix_append [] more h = omega arith
-prefix_append (b ∷ bs) more h = by (is_line_end b) refl (prefix_append bs more)
-  where
-    by : (t : Bool) → is_line_end b ≡ t → (IsPart bs → prefix_len is_inside (bs ++ more) ≡ length bs + prefix_len is_inside more) → prefix_len is_inside (b ∷ (bs ++ more)) ≡ length (b ∷ bs) + prefix_len is_inside more
-    by true e next = let x = sym (prefix_end b bs e) ∙ h in absurd cc
-    by false e next =
-        let x : prefix_len is_inside bs ≡ length bs = let y = sym (prefix_more b bs e) ∙ h in cc in
-        prefix_more b (bs ++ more) e ∙ ap suc (next x) ∙ omega arith
+prefix_append (b ∷ bs) more h = grind (arith, common_steps, (prefix_append bs more), prefix_end, prefix_more)
 
 -- more of a line
 pub part_append : (front more : List ℕ) → IsPart front → IsPart more → IsPart (front ++ more)
@@ -156,19 +128,11 @@ part_is_last [] some h = absurd (some refl)
 part_is_last (b ∷ bs) some h = last_line b bs h
 
 almost : (line : List ℕ) → length line ≤ length (without_return line) + 1
-almost line = by (ends_in_return line) refl
-  where
-    by : (t : Bool) → ends_in_return line ≡ t → length line ≤ length (without_return line) + 1
-    by true e = rw e (omega (arith, length-take (length line - 1) line))
-    by false e = rw e (omega arith)
+almost line = grind (arith, common_steps)
 
 prefix_within : (bs : List ℕ) → prefix_len is_inside bs ≤ length bs
 prefix_within [] = omega arith
-prefix_within (b ∷ bs) = by (is_line_end b) refl (prefix_within bs)
-  where
-    by : (t : Bool) → is_line_end b ≡ t → prefix_len is_inside bs ≤ length bs → prefix_len is_inside (b ∷ bs) ≤ length (b ∷ bs)
-    by true e next = omega (arith, prefix_end b bs e)
-    by false e next = omega (arith, prefix_more b bs e, next)
+prefix_within (b ∷ bs) = grind (arith, common_steps, (prefix_within bs), prefix_end, prefix_more)
 
 whole : (bs : List ℕ) → 0 < length bs → prefix_len is_inside bs ≡ length bs → lines_of bs ≡ bs ∷ []
 whole [] some h = absurd (omega arith)
@@ -197,13 +161,7 @@ part_is_long front more h long = by (nat_lt (prefix_len is_inside (front ++ more
 -- the bytes before a line's end
 pub front_is_part : (bs : List ℕ) → IsPart (take (prefix_len is_inside bs) bs)
 front_is_part [] = refl
-front_is_part (b ∷ bs) = by (is_line_end b) refl (front_is_part bs)
-  where
-    by : (t : Bool) → is_line_end b ≡ t → IsPart (take (prefix_len is_inside bs) bs) → IsPart (take (prefix_len is_inside (b ∷ bs)) (b ∷ bs))
-    by true e next = let P : ℕ → Type 0 = λ k. IsPart (take k (b ∷ bs)) in subst P (sym (prefix_end b bs e)) refl
-    by false e next =
-        let P : ℕ → Type 0 = λ k. IsPart (take k (b ∷ bs)) in
-        subst P (sym (prefix_more b bs e)) (prefix_more b (take (prefix_len is_inside bs) bs) e ∙ ap suc next)
+front_is_part (b ∷ bs) = grind (arith, common_steps, (front_is_part bs), prefix_end, prefix_more)
 
 -- ---- A piece of a line at hand.
 
@@ -222,11 +180,7 @@ piece_too_long line here behind n h e le long =
 -- what stands behind the bytes before a line's end
 stops : (bs : List ℕ) (b : ℕ) (cs : List ℕ) → drop (prefix_len is_inside bs) bs ≡ b ∷ cs → is_line_end b ≡ true
 stops [] b cs e = absurd cc
-stops (a ∷ bs) b cs e = by (is_line_end a) refl (stops bs b cs)
-  where
-    by : (t : Bool) → is_line_end a ≡ t → (drop (prefix_len is_inside bs) bs ≡ b ∷ cs → is_line_end b ≡ true) → is_line_end b ≡ true
-    by true f next = let P : ℕ → Type 0 = λ k. drop k (a ∷ bs) ≡ b ∷ cs in let x : a ∷ bs ≡ b ∷ cs = subst P (prefix_end a bs f) e in let same : a ≡ b = cc in ap is_line_end (sym same) ∙ f
-    by false f next = let P : ℕ → Type 0 = λ k. drop k (a ∷ bs) ≡ b ∷ cs in next (subst P (prefix_more a bs f) e)
+stops (a ∷ bs) b cs e = grind (arith, common_steps, (stops bs b cs), prefix_end, prefix_more)
 
 -- it ends the line
 pub piece_ends : (line here behind : List ℕ) (n : ℕ) → IsPart line → n ≡ prefix_len is_inside here → n < length here → lines_of (line ++ (here ++ behind)) ≡ without_return (line ++ take n here) ∷ lines_of (drop (n + 1) here ++ behind)

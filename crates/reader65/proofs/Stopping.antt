@@ -1,5 +1,6 @@
 -- Where lines were being read when the store failed.
-use Rattle.std.proofs.Common.{◌≡◌, ◌∙◌, ℕ, true, List, [], ◌∷◌, ◌++◌, refl, sym, ap, subst, Option, Some, None, IfSome, false, Ok}
+use Rattle.std.proofs.lemmas.Grind.{common_steps}
+use Rattle.std.proofs.Common.{arith, ◌≡◌, ◌∙◌, ℕ, true, List, [], ◌∷◌, ◌++◌, refl, sym, ap, subst, Option, Some, None, IfSome, false, Ok}
 use Rattle.base65.specs.Store.{Files, IsBlamed}
 use Rattle.syntax65.specs.Tokens.{Lexeme}
 use Rattle.source65.specs.declared.fault.ExpandFault.{ExpandFault}
@@ -30,9 +31,7 @@ asked_numbered n [] k is h = h
 asked_numbered n (line ∷ lines) k is h = tt
 
 asked_in : (m : Files) (s : Source) (k : Mark) (is : List Item) → k.is_macro ≡ is_call s → IsFile s → IsAsked (left_in m s ++ mark k ∷ is)
-asked_in m (source.File f) k is e h = asked_numbered f.line (lines_of (rest_of m f)) k is e
-asked_in m (source.Call r) k is e h = absurd h
-asked_in m (source.Repeat r next count) k is e h = absurd h
+asked_in m x k is e h = grind (arith, common_steps, asked_numbered)
 
 pub fails_before : (o : Option Files) (blamed : Option (List ℕ)) (old : Reader) → IsFile old.top.source → IsBlamed blamed old.place.file → IfSome o (λ m. FailsAtLine blamed (left_of m old) old.place)
 fails_before None blamed old h a = tt
@@ -62,8 +61,7 @@ fails_within (Some m) blamed old mid place n h c s more p a =
 
 -- a reader that stopped there
 pub stopped_so : (o : Option Files) (IsThere : Files → Place → Type 0) (old new : Reader) (f : ExpandFault) → mark_of new.top ≡ mark_of old.top → (is_failure f ≡ true → IfSome o (λ m. IsThere m new.place)) → IfSome o (λ m. is_failure f ≡ true → HasStopped (IsThere m) old new)
-stopped_so None IsThere old new f k h = tt
-stopped_so (Some m) IsThere old new f k h = λ failed. record { there = h failed; mark = k }
+stopped_so x y old new f k h = grind (arith, common_steps)
 
 -- ---- Blocks.
 
@@ -81,8 +79,7 @@ over_plainly blamed judge a _ _ p same (no_line l) h = h
 over_plainly blamed judge a _ _ p same (a_line l m n passed (ts, taken, plain)) h = over_plainly blamed judge a l m p same passed (behind_line a a m n ts p taken (same ts plain) h)
 
 pub plainly_read : {A B : Type 0} (judge : A → List Lexeme → Verdict A B) (o : Option Files) (first reader new : Reader) (a0 a : A) → ((ts : List Lexeme) → IsPlain ts → judge a ts ≡ on a) → ((m : Files) → Plainly (left_of m reader) (left_of m new)) → IfSome o (Fails judge a reader a0 first) → IfSome o (Fails judge a new a0 first)
-plainly_read judge None first reader new a0 a same passed h = tt
-plainly_read judge (Some m) first reader new a0 a same passed h = λ blamed p k. h blamed p (over_plainly blamed judge a (left_of m reader) (left_of m new) p same (passed m) k)
+plainly_read judge x first reader new a0 a same passed h = grind (arith, common_steps, over_plainly)
 
 -- a reader that stopped at a line of a block
 pub stops_on : {A B : Type 0} (blamed : Option (List ℕ)) (judge : A → List Lexeme → Verdict A B) (o : Option Files) (first reader new : Reader) (a0 a : A) (f : ExpandFault) → IfSome o (Fails judge a reader a0 first) → mark_of reader.top ≡ mark_of first.top → IfSome o (λ m. is_failure f ≡ true → HasStopped (FailsAtLine blamed (left_of m reader)) reader new) → IfSome o (λ m. is_failure f ≡ true → HasStopped (FailsInBlock blamed judge a0 (left_of m first)) first new)
@@ -91,5 +88,4 @@ stops_on blamed judge (Some m) first reader new a0 a f h k s = λ failed. (let s
 
 -- a fault that isn't the store's
 pub not_stopped : (o : Option Files) (IsThere : Files → Place → Type 0) (first new : Reader) (f : ExpandFault) → is_failure f ≡ false → IfSome o (λ m. is_failure f ≡ true → HasStopped (IsThere m) first new)
-not_stopped None IsThere first new f h = tt
-not_stopped (Some m) IsThere first new f h = λ failed. absurd cc
+not_stopped x y first new f h = grind (arith, common_steps)

@@ -1,5 +1,6 @@
 -- Tables of names: an expansion's own, and the macros.
-use Rattle.std.proofs.Common.{◌≡◌, ℕ, ◌+◌, ◌<◌, Bool, true, false, List, [], ◌∷◌, ◌++◌, length, map, take, drop, get_or, Bor, refl, sym, ap, ◌∙◌, Vec, Global}
+use Rattle.std.proofs.lemmas.Grind.{common_steps}
+use Rattle.std.proofs.Common.{arith, ◌≡◌, ℕ, ◌+◌, ◌<◌, Bool, true, false, List, [], ◌∷◌, ◌++◌, length, map, take, drop, get_or, Bor, refl, sym, ap, ◌∙◌, Vec, Global}
 use Rattle.std.specs.Str.{bytes_eq}
 use Rattle.std.specs.declared.rc.Rc.{Rc}
 use Rattle.indexmap.specs.IndexMap.{insert_entry}
@@ -24,11 +25,7 @@ local_of e = (e.0.items, tokens_in e.1)
 
 pub inserted : (es : List (Vec ℕ Global × Line)) (k : Vec ℕ Global) (v : Line) → map local_of (insert_entry same_name es k v) ≡ with_local (map local_of es) k.items (tokens_in v)
 inserted [] k v = refl
-inserted (e ∷ es) k v = by (bytes_eq k.items e.0.items) refl (inserted es k v)
-  where
-    by : (b : Bool) → bytes_eq k.items e.0.items ≡ b → map local_of (insert_entry same_name es k v) ≡ with_local (map local_of es) k.items (tokens_in v) → map local_of (insert_entry same_name (e ∷ es) k v) ≡ with_local (map local_of (e ∷ es)) k.items (tokens_in v)
-    by true h ih = rw h refl
-    by false h ih = rw h (ap (λ l. local_of e ∷ l) ih)
+inserted (e ∷ es) k v = grind (arith, common_steps, (inserted es k v))
 
 -- other names of an expansion's own
 abbrev pub own_locals : Replacing → List (List ℕ × List Lexeme) → Replacing

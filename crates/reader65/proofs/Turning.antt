@@ -1,4 +1,5 @@
 -- The turns of a repeat.
+use Rattle.std.proofs.lemmas.Grind.{common_steps}
 use Rattle.std.proofs.Common.{◌≡◌, ℕ, zero, suc, ◌+◌, ◌-◌, ◌<◌, ◌≤◌, List, [], ◌∷◌, ◌++◌, length, map, drop, refl, sym, ap, ◌∙◌, arith, ◌⊎◌, inl, inr, Bool, true, false, Result, Ok, Err}
 use Rattle.std.proofs.lemmas.List.{length-map}
 use Rattle.base65.specs.Outcome.{Unless}
@@ -26,14 +27,7 @@ same_turns e s body t zero = refl
 same_turns e s body t (suc n) = ap (λ l. map (played (in_turn e t)) body ++ l) (same_turns e s body (t + 1) n)
 
 pub turns_over : (r : Replay) (next count : ℕ) → left_to_play r ≡ [] → (length r.body.value.lines ≡ 0) ⊎ (count ≤ next) → turns_left r next count ≡ []
-turns_over r next count e (inl h) = ap (λ l. l ++ turns (replacing_of r) (map tokens_in r.body.value.lines) next (count - next)) e ∙ none r.body.value.lines h
-  where
-    none : (lines : List Line) → length lines ≡ 0 → turns (replacing_of r) (map tokens_in lines) next (count - next) ≡ []
-    none [] h = no_lines (replacing_of r) next (count - next)
-    none (l ∷ ls) h = absurd (omega arith)
-turns_over r next count e (inr h) =
-    let z : count - next ≡ 0 = omega arith in
-    ap (λ l. l ++ turns (replacing_of r) (map tokens_in r.body.value.lines) next (count - next)) e ∙ ap (turns (replacing_of r) (map tokens_in r.body.value.lines) next) z
+turns_over r next count e x = grind (arith, common_steps, no_lines)
 
 pub next_turn : (old new : Replay) (next count : ℕ) → left_to_play old ≡ [] → next < count → new.body ≡ old.body → new.at ≡ 0 → replacing_of new ≡ in_turn (replacing_of old) next → turns_left new (next + 1) count ≡ turns_left old next count
 next_turn old new next count e lt body at r =
@@ -73,9 +67,4 @@ turn_begins r next count h =
 
 -- a line that is taken before others
 pub takes_before : (before after more rest : List Item) (r : Result Line ExpandFault) → TakesLine before r after → more ≡ rest → TakesLine (before ++ more) r (after ++ rest)
-takes_before before after more rest (Ok line) (i, e, o) same = (i, ap (λ l. l ++ more) e ∙ ap (λ l. i ∷ (after ++ l)) same, o)
-takes_before before after more rest (Err f) h same = by (is_outside f) h
-  where
-    by : (b : Bool) → Unless b ((i : Item) × ((others : List Item) × (before ≡ i ∷ others) × IsOpened i (Err f))) → Unless b ((i : Item) × ((others : List Item) × (before ++ more ≡ i ∷ others) × IsOpened i (Err f)))
-    by true k = tt
-    by false (i, (others, e, o)) = (i, (others ++ more, ap (λ l. l ++ more) e, o))
+takes_before before after more rest x y same = grind (arith, common_steps)

@@ -1,4 +1,5 @@
 -- What stays whatever statements follow.
+use Rattle.std.proofs.lemmas.Grind.{common_steps}
 use Rattle.std.proofs.Common.{◌≡◌, ℕ, zero, suc, ◌+◌, ◌-◌, ◌≤◌, Bool, true, false, List, [], ◌∷◌, length, take, position, is_some, Option, Some, None, IfSome, IfOk, slice_get, Result, Ok, Err, refl, sym, ap, ◌∙◌, arith}
 use Rattle.std.specs.Prelude.{nat_le, if◌then◌else◌}
 use Rattle.std.proofs.lemmas.Bool.Decides.{nat_tests}
@@ -80,8 +81,7 @@ own_member y s global parts q i plain le found h = by_key y s (name global parts
 -- ---- Expressions.
 
 folds : (r : Result Form FormFault) (f : Form) → result_ok r ≡ Some f → folded r ≡ Ok f
-folds (Ok g) f q = (let same : g ≡ f = cc in ap Ok same)
-folds (Err e) f q = absurd cc
+folds x f q = grind (arith, common_steps)
 
 -- where the part of an operation stays, so does the whole
 pub prefix_stays : (n : ℕ) (y : Symbols) (s : Spot) (op : Op1) (e : Tree) (o : Option Form) → ((g : Form) → o ≡ Some g → IsFinalWithin n y s e g) → (f : Form) → prefix_form op o ≡ Some f → IsFinalWithin n y s (unary op e) f
@@ -96,17 +96,8 @@ binary_stays n y s op e g (Some x) (Some w) h k f q = λ z more.
     ∙ ap (λ r. r >>= (λ v. folded (fold2 op x v))) (k w refl z more)
     ∙ folds (fold2 op x w) f q
 
--- the form that is known of a definition is its own
-known_ok : (j : ℕ) (o : Option State) (f : Form) → known_form j o ≡ Ok f → o ≡ Some (Found f)
-known_ok j None f e = absurd cc
-known_ok j (Some Unknown) f e = absurd cc
-known_ok j (Some Waiting) f e = absurd cc
-known_ok j (Some (Hangs k)) f e = absurd cc
-known_ok j (Some (Found g)) f e = (let same : g ≡ f = cc in ap (λ x. Some (Found x)) same)
-
 value_ok : (n : ℕ) (z : Symbols) (j : ℕ) (k : Option State) (d : Definition) (f : Form) → ((g : Form) → k ≡ Some (Found g) → form_of_definition (norm n z) (Some d) ≡ Ok g) → (v : Option Tree) → d.value ≡ v → attempt_value (λ q e. known_form j k) d.spot v ≡ Ok f → form_of_definition (norm n z) (Some d) ≡ Ok f
-value_ok n z j k d f h None w q = (let same : address_of d.spot ≡ f = cc in ap (form_of_value (norm n z) d.spot) w ∙ ap Ok same)
-value_ok n z j k d f h (Some e) w q = h f (known_ok j k f q)
+value_ok n z j k d f h x w q = grind (arith, common_steps)
 
 module _ (t : code.Symbols) (s : Spot) where
   abbrev pub y : Symbols
@@ -145,23 +136,14 @@ within_final y s e f h z more =
 -- ---- As the code finds them.
 
 pub by_place : (P : ℕ → Type 0) (o : Option ℕ) → ((j : ℕ) → o ≡ Some j → P j) → IfSome o P
-by_place P None h = tt
-by_place P (Some j) h = h j refl
+by_place x y h = grind (arith, common_steps)
 
 pub some_place : (y : Symbols) (s : Spot) (e : Tree) (o : Option ℕ) → IfSome o (MeansAlways y s e) → is_some o ≡ true → MeansFinally y s e
 some_place y s e None h q = absurd cc
 some_place y s e (Some j) h q = (j, h)
 
 pub operands_of : (P : Tree → Type 0) (e : Tree) → IsReference e → P e → Operands P e
-operands_of P (number v) r p = absurd r
-operands_of P here r p = absurd r
-operands_of P (unary op e) r p = absurd r
-operands_of P (binary op e f) r p = absurd r
-operands_of P (name global parts) r p = p
-operands_of P (cheap n) r p = p
-operands_of P (forward n) r p = p
-operands_of P (backward n) r p = p
+operands_of x y r p = grind (arith, common_steps)
 
 pub more_ok : {A E : Type 0} (P Q : A → Type 0) (r : Result A E) → ((x : A) → P x → Q x) → IfOk r P → IfOk r Q
-more_ok P Q (Ok x) h p = h x p
-more_ok P Q (Err e) h p = tt
+more_ok x y z h p = grind (arith, common_steps)

@@ -21,17 +21,7 @@ set_length states w = grind (arith, common_steps)
 
 -- what is known now was known before, at another place
 set_before : (states : List State) (w j : ℕ) (x : State) → (x ≡ Unknown → ⊥) → slice_get (slice_set states w Unknown) j ≡ Some x → (slice_get states j ≡ Some x) × (j ≡ w → ⊥)
-set_before states w j x differs e = by (nat_eq j w) refl
-  where
-    by : (b : Bool) → nat_eq j w ≡ b → (slice_get states j ≡ Some x) × (j ≡ w → ⊥)
-    by true b =
-        let one : j ≡ w = grind (arith, nat_tests) in
-        let in_set : j < length (slice_set states w Unknown) = slice_get_within (slice_set states w Unknown) j x e in
-        let long = set_length states w in
-        let now : slice_get (slice_set states w Unknown) w ≡ Some Unknown = get_same states w Unknown (omega (arith, in_set, long, one)) in
-        let same : x ≡ Unknown = (let both : Some x ≡ Some Unknown = sym e ∙ ap (slice_get (slice_set states w Unknown)) one ∙ now in cc) in
-        absurd (differs same)
-    by false b = let other : j ≢ w = grind (arith, nat_tests) in (sym (get_other states j w Unknown other) ∙ e, λ same. other same)
+set_before states w j x differs e = grind (arith, common_steps, nat_tests, slice_get_within, set_length, get_same, get_other)
 
 without_length : (states : List State) (ws : List ℕ) → length (without states ws) ≡ length states
 without_length states [] = refl
@@ -39,17 +29,7 @@ without_length states (w ∷ ws) = without_length (slice_set states w Unknown) w
 
 without_before : (states : List State) (ws : List ℕ) (j : ℕ) (x : State) → (x ≡ Unknown → ⊥) → slice_get (without states ws) j ≡ Some x → (slice_get states j ≡ Some x) × (Among j ws → ⊥)
 without_before states [] j x differs e = (e, λ h. h)
-without_before states (w ∷ ws) j x differs e = by (without_before (slice_set states w Unknown) ws j x differs e)
-  where
-    by : (slice_get (slice_set states w Unknown) j ≡ Some x) × (Among j ws → ⊥) → (slice_get states j ≡ Some x) × (Among j (w ∷ ws) → ⊥)
-    by (now, rest) = at (set_before states w j x differs now)
-      where
-        neither : (j ≡ w → ⊥) → Among j (w ∷ ws) → ⊥
-        neither other (inl same) = other same
-        neither other (inr h) = rest h
-
-        at : (slice_get states j ≡ Some x) × (j ≡ w → ⊥) → (slice_get states j ≡ Some x) × (Among j (w ∷ ws) → ⊥)
-        at (before, other) = (before, neither other)
+without_before states (w ∷ ws) j x differs e = grind (arith, common_steps, (without_before (slice_set states w Unknown) ws j x differs e), set_before)
 
 without_unknown : (states : List State) (ws : List ℕ) → ((j : ℕ) → Among j ws → j < length states) → unknown (without states ws) ≤ unknown states + length ws
 without_unknown states [] inside = omega arith

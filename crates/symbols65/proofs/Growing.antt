@@ -1,4 +1,5 @@
 -- Tables with one word, one definition or one scope more.
+use Rattle.std.proofs.lemmas.Grind.{common_steps}
 use Rattle.std.proofs.Common.{◌≡◌, ℕ, zero, suc, ◌+◌, ◌<◌, Bool, true, false, cond, List, [], ◌∷◌, ◌++◌, length, map, get_or, position, Option, Some, None, option_map, ◌⊎◌, inl, inr, refl, sym, ap, ◌∙◌, subst, arith}
 use Rattle.std.specs.Prelude.{slice_get, ◌==◌, ◌&&◌, OnOk, OnErr, Result, Ok, Err, if◌then◌else◌}
 use Rattle.std.specs.List.{position_from}
@@ -24,7 +25,7 @@ use Rattle.language65.specs.Norms.{form_of_value, norm}
 use Rattle.language65.specs.Extending.{Extends}
 use Rattle.symbols65.specs.Finals.{formed}
 use Rattle.symbols65.specs.Tables.{AreCounted, AreDistinct, AreFinal, AreNumbered, Begins, HasNumber, IsCounted, IsOpening, KeepsFinal, definition_in, entry_of, first_number, key_in, place_of_opening, same_opening, scope_by, scope_opened, table_without_imports, word_at, word_of, word_opened}
-use Rattle.symbols65.proofs.Places.{position_none, first_within, first_passes, get_more, map_appended, map_same, position_same, position_stays}
+use Rattle.symbols65.proofs.Places.{position_none, first_within, first_passes, get_more, map_same, position_same, position_stays}
 use Rattle.symbols65.proofs.Words.{finds_opened, get_word, keys_get}
 use Rattle.language65.proofs.Lists.{same_bytes}
 
@@ -69,13 +70,10 @@ module _ (ws more : List (List ℕ)) where
   number_stays (Some w) h = ap (λ n. position (bytes_eq n) (ws ++ more)) (word_stays w h) ∙ position_stays (bytes_eq (word_at ws w)) ws more w h
 
   key_stays : (k : Entry) → first_number ws (word_of k) ≡ word_of k → key_in (ws ++ more) k ≡ key_in ws k
-  key_stays (entry.Named s w) h = ap (named s) (word_stays w h)
-  key_stays (entry.Cheap r w) h = ap (cheap_in r) (word_stays w h)
-  key_stays (entry.Unnamed c) h = refl
+  key_stays x h = grind (arith, common_steps)
 
   scope_stays : (k : Opening) (is_proc : Bool) → first_number ws (word_opened k) ≡ word_opened k → scope_by (ws ++ more) k is_proc ≡ scope_by ws k is_proc
-  scope_stays (opening.Named s w) is_proc h = ap (λ n. record { within = s; name = Some n; is_proc = is_proc }) (word_stays w h)
-  scope_stays (opening.Nameless s w) is_proc h = refl
+  scope_stays x is_proc h = grind (arith, common_steps)
 
   definition_stays : (e : Entry × Definition) → first_number ws (word_of e.0) ≡ word_of e.0 → definition_in (ws ++ more) e ≡ definition_in ws e
   definition_stays e h = ap (λ k. record { key = k; value = (definition_in ws e).value; spot = (definition_in ws e).spot; size = (definition_in ws e).size }) (key_stays e.0 h)
@@ -90,13 +88,7 @@ module _ (ws more : List (List ℕ)) where
   scopes_stay ss h = map_same (scope_opened (ws ++ more)) (scope_opened ws) ss (λ i e at. scope_stays e.0 e.1 (h i e.0 (keys_get ws ss i e at)))
 
   pub final_more : (es : List (Entry × Definition)) (ss : List (Opening × Bool)) → AreNumbered word_of ws (keys_of es) → AreNumbered word_opened ws (keys_of ss) → AreFinal ws es ss → AreFinal (ws ++ more) es ss
-  final_more es ss entered scoped h = λ j e at f is z extends.
-      (let was = h j e at f is z (record {
-        later_definitions = extends.later_definitions;
-        definitions = extends.definitions ∙ ap (λ ds. ds ++ extends.later_definitions) (definitions_stay es entered);
-        later_scopes = extends.later_scopes;
-        scopes = extends.scopes ∙ ap (λ cs. cs ++ extends.later_scopes) (scopes_stay ss scoped);
-      }) in was)
+  final_more es ss entered scoped h = grind (arith, common_steps, definitions_stay, scopes_stay)
 
 -- what a new table of words gives
 pub begun : (P : List (List ℕ) → Type 0) (ws new : List (List ℕ)) → Begins ws new → ((more : List (List ℕ)) → P (ws ++ more)) → P new
@@ -105,50 +97,24 @@ begun P ws new h k = subst P (sym h.1) (k h.0)
 -- ---- One definition or scope more.
 
 pub numbered_pushed : {K V : Type 0} (word : K → Option ℕ) (ws : List (List ℕ)) (es : List (K × V)) (k : K) (v : V) → AreNumbered word ws (keys_of es) → first_number ws (word k) ≡ word k → AreNumbered word ws (keys_of (es ++ (k, v) ∷ []))
-numbered_pushed {K} word ws es k v h own = λ i q at. by i q (get_more (keys_of es) k q i (ap (λ l. slice_get l i) (sym (keys_pushed es k v)) ∙ at))
-  where
-    by : (i : ℕ) (q : K) → (slice_get (keys_of es) i ≡ Some q) ⊎ ((i ≡ length (keys_of es)) × (k ≡ q)) → first_number ws (word q) ≡ word q
-    by i q (inl at) = h i q at
-    by i q (inr e) = subst (λ x. first_number ws (word x) ≡ word x) e.1 own
+numbered_pushed {K} word ws es k v h own = grind (arith, common_steps, get_more, keys_pushed)
 
 pub counted_pushed : {V : Type 0} (es : List (Entry × V)) (k : Entry) (v : V) → AreCounted (keys_of es) → IsCounted k → AreCounted (keys_of (es ++ (k, v) ∷ []))
-counted_pushed es k v h own = λ i q at. by i q (get_more (keys_of es) k q i (ap (λ l. slice_get l i) (sym (keys_pushed es k v)) ∙ at))
-  where
-    by : (i : ℕ) (q : Entry) → (slice_get (keys_of es) i ≡ Some q) ⊎ ((i ≡ length (keys_of es)) × (k ≡ q)) → IsCounted q
-    by i q (inl at) = h i q at
-    by i q (inr e) = subst IsCounted e.1 own
+counted_pushed es k v h own = grind (arith, common_steps, get_more, keys_pushed)
 
 pub distinct_pushed : (ss : List (Opening × Bool)) (k : Opening) (v : Bool) → AreDistinct (keys_of ss) → HasNumber (length ss) k → AreDistinct (keys_of (ss ++ (k, v) ∷ []))
-distinct_pushed ss k v h own = λ i within number at. by i within number (get_more (keys_of ss) k (opening.Nameless within number) i (ap (λ l. slice_get l i) (sym (keys_pushed ss k v)) ∙ at))
-  where
-    by : (i within number : ℕ) → (slice_get (keys_of ss) i ≡ Some (opening.Nameless within number)) ⊎ ((i ≡ length (keys_of ss)) × (k ≡ opening.Nameless within number)) → number ≡ i
-    by i within number (inl at) = h i within number at
-    by i within number (inr e) = own within number e.1 ∙ sym (keys_length ss) ∙ sym e.0
+distinct_pushed ss k v h own = grind (arith, common_steps, get_more, keys_pushed, keys_length)
 
 module _ (ws : List (List ℕ)) (es : List (Entry × Definition)) (ss : List (Opening × Bool)) where
   -- what extends a table with one definition more extends the table
   less_definition : (e : Entry × Definition) (z : l.Symbols) → Extends (table_without_imports ws (es ++ e ∷ []) ss) z → Extends (table_without_imports ws es ss) z
-  less_definition e z h = record {
-    later_definitions = definition_in ws e ∷ h.later_definitions;
-    definitions = h.definitions ∙ ap (λ ds. ds ++ h.later_definitions) (map_appended (definition_in ws) es e) ∙ append_assoc (map (definition_in ws) es) (definition_in ws e ∷ []) h.later_definitions;
-    later_scopes = h.later_scopes;
-    scopes = h.scopes;
-  }
+  less_definition e z h = grind (arith, common_steps)
 
   less_scope : (s : Opening × Bool) (z : l.Symbols) → Extends (table_without_imports ws es (ss ++ s ∷ [])) z → Extends (table_without_imports ws es ss) z
-  less_scope s z h = record {
-    later_definitions = h.later_definitions;
-    definitions = h.definitions;
-    later_scopes = scope_opened ws s ∷ h.later_scopes;
-    scopes = h.scopes ∙ ap (λ cs. cs ++ h.later_scopes) (map_appended (scope_opened ws) ss s) ∙ append_assoc (map (scope_opened ws) ss) (scope_opened ws s ∷ []) h.later_scopes;
-  }
+  less_scope s z h = grind (arith, common_steps)
 
   pub final_pushed : (e : Entry × Definition) → AreFinal ws es ss → KeepsFinal (table_without_imports ws es ss) (length es) (definition_in ws e) e.1.form → AreFinal ws (es ++ e ∷ []) ss
-  final_pushed e h own = λ j d at f is z extends. by j d f is z (less_definition e z extends) (get_more es e d j at)
-    where
-      by : (j : ℕ) (d : Entry × Definition) (f : Form) → d.1.form ≡ Some f → (z : l.Symbols) → Extends (table_without_imports ws es ss) z → (slice_get es j ≡ Some d) ⊎ ((j ≡ length es) × (e ≡ d)) → formed (form_of_value (norm (suc j) z) (definition_in ws d).spot (definition_in ws d).value) ≡ Some f
-      by j d f is z extends (inl at) = h j d at f is z extends
-      by j d f is z extends (inr same) = subst (λ x. KeepsFinal (table_without_imports ws es ss) x (definition_in ws d) d.1.form) (sym same.0) (subst (λ x. KeepsFinal (table_without_imports ws es ss) (length es) (definition_in ws x) x.1.form) same.1 own) f is z extends
+  final_pushed e h own = grind (arith, common_steps, less_definition, get_more)
 
   pub final_scoped : (s : Opening × Bool) → AreFinal ws es ss → AreFinal ws es (ss ++ s ∷ [])
   final_scoped s h = λ j d at f is z extends. h j d at f is z (less_scope s z extends)
@@ -200,8 +166,7 @@ module _ (ws : List (List ℕ)) (s : ℕ) (k : Opening) where
   opening_numbered count (Some n) h = (opening_is ws s n k false h).0
 
   pub opening_distinct : (count : ℕ) (name : Option (List ℕ)) → IsOpening ws count s name k → HasNumber count k
-  opening_distinct count None h = λ within number e. (let same : opening.Nameless within number ≡ opening.Nameless s count = sym e ∙ h in cc)
-  opening_distinct count (Some n) h = (opening_is ws s n k false h).2 count
+  opening_distinct count x h = grind (arith, common_steps)
 
   pub opening_scope : (count : ℕ) (name : Option (List ℕ)) (is_proc : Bool) → IsOpening ws count s name k → scope_by ws k is_proc ≡ record { within = s; name = name; is_proc = is_proc }
   opening_scope count None is_proc h = ap (λ x. scope_by ws x is_proc) h
@@ -210,27 +175,8 @@ module _ (ws : List (List ℕ)) (s : ℕ) (k : Opening) where
   -- a scope is opened once by its opening
   pub opened_once : (ss : List (Opening × Bool)) (name : Option (List ℕ)) → AreNumbered word_opened ws (keys_of ss) → AreDistinct (keys_of ss) → IsOpening ws (length ss) s name k →
       opened_twice (map (scope_opened ws) ss) s name ≡ None → position (same_opening k) (keys_of ss) ≡ None
-  opened_once ss None numbers distinct h e = position_none (same_opening k) (keys_of ss) (λ i x at. subst (λ y. same_opening y x ≡ false) (sym h) (differs i x at))
-    where
-      differs : (i : ℕ) (x : Opening) → slice_get (keys_of ss) i ≡ Some x → same_opening (opening.Nameless s (length ss)) x ≡ false
-      differs i (opening.Named within w) at = refl
-      differs i (opening.Nameless within number) at =
-          let place : number ≡ i = distinct i within number at in
-          let inside : i < length (keys_of ss) = slice_get_within (keys_of ss) i (opening.Nameless within number) at in
-          let long = keys_length ss in
-          let other : (length ss == number) ≡ false = grind (arith, nat_tests, place, inside, long) in
-          ap (λ b. s == within && b) other ∙ none (s == within)
-        where
-          none : (b : Bool) → (b && false) ≡ false
-          none true = refl
-          none false = refl
-  opened_once ss (Some n) numbers distinct h e = by (position (λ c. c.within == s && is_named n c.name) (map (scope_opened ws) ss)) refl
-    where
-      by : (o : Option ℕ) → position (λ c. c.within == s && is_named n c.name) (map (scope_opened ws) ss) ≡ o → position (same_opening k) (keys_of ss) ≡ None
-      by None is = sym (ap (place_of_opening ss) h) ∙ finds_opened ws ss s n numbers ∙ is
-      by (Some j) is = absurd (let there : Some (ScopeTwice n) ≡ None = sym (ap (λ o. where_there (numbered o) (ScopeTwice n)) is) ∙ e in cc)
+  opened_once ss x numbers distinct h e = grind (arith, common_steps, position_none, slice_get_within, keys_length, nat_tests, finds_opened)
 
 -- what follows after a call, whether it succeeded or not
 pub after : {A E P Q R : Type 0} (r : Result A E) → (P → R) → (Q → R) → OnOk r P → OnErr r Q → R
-after (Ok x) f g p q = f p
-after (Err e) f g p q = g q
+after x f g p q = grind (arith, common_steps)

@@ -23,40 +23,20 @@ extends_itself y = record { later_definitions = []; definitions = sym (append-ni
 -- ---- What is known but for what hangs.
 
 open_bare : (x : State) → is_open (bare x) ≡ is_open x
-open_bare Unknown = refl
-open_bare Waiting = refl
-open_bare (Hangs k) = refl
-open_bare (Found f) = refl
+open_bare x = grind (arith, common_steps)
 
 unknown_bare : (xs : List State) → unknown (map bare xs) ≡ unknown xs
 unknown_bare [] = refl
-unknown_bare (x ∷ xs) =
-    let one = open_bare x in
-    let rest = unknown_bare xs in
-    let sum : unknown (x ∷ xs) ≡ is_open x + unknown xs = sum_by-cons is_open x xs in
-    let other : unknown (bare x ∷ map bare xs) ≡ is_open (bare x) + unknown (map bare xs) = sum_by-cons is_open (bare x) (map bare xs) in
-    omega (arith, one, rest, sum, other)
+unknown_bare (x ∷ xs) = grind (arith, common_steps, open_bare, sum_by-cons)
 
 found_bare : (o : Option State) → is_found (option_map bare o) ≡ is_found o
-found_bare None = refl
-found_bare (Some Unknown) = refl
-found_bare (Some Waiting) = refl
-found_bare (Some (Hangs k)) = refl
-found_bare (Some (Found f)) = refl
+found_bare x = grind (arith, common_steps)
 
 waiting_back : (o : Option State) → option_map bare o ≡ Some Waiting → o ≡ Some Waiting
-waiting_back None e = absurd cc
-waiting_back (Some Unknown) e = absurd cc
-waiting_back (Some Waiting) e = refl
-waiting_back (Some (Hangs k)) e = absurd cc
-waiting_back (Some (Found f)) e = absurd cc
+waiting_back x e = grind (arith, common_steps)
 
 found_back : (o : Option State) (f : Form) → option_map bare o ≡ Some (Found f) → o ≡ Some (Found f)
-found_back None f e = absurd cc
-found_back (Some Unknown) f e = absurd cc
-found_back (Some Waiting) f e = absurd cc
-found_back (Some (Hangs k)) f e = absurd cc
-found_back (Some (Found g)) f e = e
+found_back x f e = grind (arith, common_steps)
 
 -- two tables that know the same but for what hangs
 module _ (xs ys : List State) (same : map bare ys ≡ map bare xs) where
@@ -108,22 +88,13 @@ not_found xs ys same i j only none e = by (slice_get xs i) refl (ap (λ (q : ℕ
 -- ---- A constant that hangs on another.
 
 pub if_some : {P Q : ℕ → Type 0} (o : Option ℕ) → ((k : ℕ) → P k → Q k) → IfSome o P → IfSome o Q
-if_some None f h = tt
-if_some (Some k) f h = f k h
+if_some x f h = grind (arith, common_steps)
 
 pub hung_is : (o : Option State) (k : ℕ) → Some k ≡ hung_on o → o ≡ Some (Hangs k)
-hung_is None k e = absurd cc
-hung_is (Some Unknown) k e = absurd cc
-hung_is (Some Waiting) k e = absurd cc
-hung_is (Some (Hangs m)) k e = (let same : m ≡ k = cc in ap (λ (q : ℕ). Some (Hangs q)) same)
-hung_is (Some (Found f)) k e = absurd cc
+hung_is x k e = grind (arith, common_steps)
 
 pub open_is : (o : Option State) → may_be_looked_for o ≡ true → (x : State) × (o ≡ Some x) × (bare x ≡ Unknown)
-open_is None e = absurd cc
-open_is (Some Unknown) e = (Unknown, refl, refl)
-open_is (Some Waiting) e = absurd cc
-open_is (Some (Hangs k)) e = (Hangs k, refl, refl)
-open_is (Some (Found f)) e = absurd cc
+open_is x e = grind (arith, common_steps)
 
 -- it is open still
 pub bare_put : (states : List State) (j k : ℕ) (x : State) → slice_get states j ≡ Some x → bare x ≡ Unknown → map bare (slice_set states j (Hangs k)) ≡ map bare states
@@ -167,12 +138,7 @@ hung_lost y states j h = λ i m e. by i m e (nat_eq i j) refl
 
 -- what hangs hangs whatever statements follow
 extends_both : (x y z : Symbols) → Extends x y → Extends y z → Extends x z
-extends_both x y z h k = record {
-  later_definitions = h.later_definitions ++ k.later_definitions;
-  definitions = k.definitions ∙ ap (λ (ds : List Definition). ds ++ k.later_definitions) h.definitions ∙ append_assoc x.definitions h.later_definitions k.later_definitions;
-  later_scopes = h.later_scopes ++ k.later_scopes;
-  scopes = k.scopes ∙ ap (λ (cs : List Scope). cs ++ k.later_scopes) h.scopes ∙ append_assoc x.scopes h.later_scopes k.later_scopes;
-}
+extends_both x y z h k = grind (arith, common_steps)
 
 pub hung_later : (x y : Symbols) (states : List State) → Extends x y → AreHung x states → AreHung y states
 hung_later x y states more h = λ j k e z further. h j k e z (extends_both x y z more further)

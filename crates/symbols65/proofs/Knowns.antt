@@ -38,46 +38,10 @@ get_same states j x lt = grind (arith, common_steps, gets)
 
 -- what isn't found at its place needn't be noted
 pub noted_less : (states : List State) (noted : List ℕ) (place : ℕ) → AreNoted states (noted ++ place ∷ []) → AreNoted (slice_set states place Unknown) noted
-noted_less states noted place h = λ j e. by j e (nat_eq j place) refl
-  where
-    last : (j : ℕ) (b : Bool) → list_any (λ i. i == j) (place ∷ []) ≡ false → b || list_any (λ i. i == j) (place ∷ []) ≡ true → b ≡ true
-    last j true isnt e = refl
-    last j false isnt e = absurd (let never : true ≡ false = sym e ∙ isnt in cc)
-
-    by : (j : ℕ) → is_found (slice_get (slice_set states place Unknown) j) ≡ true → (b : Bool) → nat_eq j place ≡ b → list_any (λ i. i == j) noted ≡ true
-    by j e true b =
-        let one : j ≡ place = grind (arith, nat_tests) in
-        let at_place : is_found (slice_get (slice_set states place Unknown) place) ≡ true = subst (λ (k : ℕ). is_found (slice_get (slice_set states place Unknown) k) ≡ true) one e in
-        absurd (never (slice_get (slice_set states place Unknown) place) refl at_place)
-      where
-        never : (o : Option State) → slice_get (slice_set states place Unknown) place ≡ o → is_found o ≡ true → ⊥
-        never None is k = cc
-        never (Some x) is k =
-            let lt : place < length states = (let in_set : place < length (slice_set states place Unknown) = slice_get_within (slice_set states place Unknown) place x is in let long : length (slice_set states place Unknown) ≡ length states = grind (arith, common_steps) in omega (arith, in_set, long)) in
-            let now : Some x ≡ Some Unknown = sym is ∙ get_same states place Unknown lt in
-            let no : true ≡ false = sym k ∙ ap is_found now in cc
-    by j e false b =
-        let other : j ≢ place = grind (arith, nat_tests) in
-        let test : (place == j) ≡ false = grind (arith, nat_tests) in
-        let before : is_found (slice_get states j) ≡ true = sym (ap is_found (get_other states j place Unknown other)) ∙ e in
-        last j (list_any (λ i. i == j) noted) (ap (λ b. b || false) test) (sym (list_any-append (λ i. i == j) noted (place ∷ [])) ∙ h j before)
+noted_less states noted place h = grind (arith, common_steps, nat_tests, slice_get_within, common_steps, get_same, get_other, list_any-append)
 
 found_at_set : (states : List State) (place j : ℕ) (x : State) → is_found (Some x) ≡ false → is_found (slice_get (slice_set states place x) j) ≡ true → is_found (slice_get states j) ≡ true
-found_at_set states place j x isnt e = by (nat_eq j place) refl
-  where
-    never : (o : Option State) → slice_get (slice_set states place x) place ≡ o → is_found o ≡ true → ⊥
-    never None is k = cc
-    never (Some y) is k =
-        let in_set : place < length (slice_set states place x) = slice_get_within (slice_set states place x) place y is in
-        let long : length (slice_set states place x) ≡ length states = grind (arith, common_steps) in
-        let now : Some y ≡ Some x = sym is ∙ get_same states place x (omega (arith, in_set, long)) in
-        let same : true ≡ false = sym k ∙ ap is_found now ∙ isnt in cc
-
-    by : (b : Bool) → nat_eq j place ≡ b → is_found (slice_get states j) ≡ true
-    by true b =
-        let one : j ≡ place = grind (arith, nat_tests) in
-        absurd (never (slice_get (slice_set states place x) place) refl (subst (λ (k : ℕ). is_found (slice_get (slice_set states place x) k) ≡ true) one e))
-    by false b = let other : j ≢ place = grind (arith, nat_tests) in sym (ap is_found (get_other states j place x other)) ∙ e
+found_at_set states place j x isnt e = grind (arith, common_steps, slice_get_within, common_steps, get_same, nat_tests, get_other)
 
 -- what isn't found needs no note
 pub noted_set : (states : List State) (noted : List ℕ) (place : ℕ) (x : State) → is_found (Some x) ≡ false → AreNoted states noted → AreNoted (slice_set states place x) noted
@@ -85,19 +49,7 @@ noted_set states noted place x isnt h = λ j e. h j (found_at_set states place j
 
 -- what is found is noted
 pub noted_found : (states : List State) (noted : List ℕ) (place : ℕ) (x : State) → AreNoted states noted → AreNoted (slice_set states place x) (noted ++ place ∷ [])
-noted_found states noted place x h = λ j e. by j e (nat_eq j place) refl
-  where
-    last : (b c : Bool) → c ≡ true → (b || c) ≡ true
-    last true c e = refl
-    last false c e = e
-
-    by : (j : ℕ) → is_found (slice_get (slice_set states place x) j) ≡ true → (b : Bool) → nat_eq j place ≡ b → list_any (λ i. i == j) (noted ++ place ∷ []) ≡ true
-    by j e true b =
-        let test : (place == j) ≡ true = grind (arith, nat_tests) in
-        list_any-append (λ i. i == j) noted (place ∷ []) ∙ last (list_any (λ i. i == j) noted) (list_any (λ i. i == j) (place ∷ [])) (ap (λ b. b || false) test)
-    by j e false b =
-        let other : j ≢ place = grind (arith, nat_tests) in
-        noted_one_more states noted place h j (sym (ap is_found (get_other states j place x other)) ∙ e)
+noted_found states noted place x h = grind (arith, common_steps, nat_tests, list_any-append, noted_one_more, get_other)
 
 pub noted_without : (states : List State) (noted ws : List ℕ) → AreNoted states noted → AreNoted (without states ws) noted
 noted_without states noted [] h = h
@@ -119,16 +71,7 @@ none_known x y states h idle hung more e = blank_table y states (none_noted stat
 
 -- nothing more waits where nothing is known of one more place
 pub idle_set : (states : List State) (place : ℕ) → ((j : ℕ) → slice_get states j ≡ Some Waiting → ⊥) → (j : ℕ) → slice_get (slice_set states place Unknown) j ≡ Some Waiting → ⊥
-idle_set states place idle j e = by (nat_eq j place) refl
-  where
-    by : (b : Bool) → nat_eq j place ≡ b → ⊥
-    by true b =
-        let one : j ≡ place = grind (arith, nat_tests) in
-        let in_set : j < length (slice_set states place Unknown) = slice_get_within (slice_set states place Unknown) j Waiting e in
-        let long : length (slice_set states place Unknown) ≡ length states = grind (arith, common_steps) in
-        let now : slice_get (slice_set states place Unknown) place ≡ Some Unknown = get_same states place Unknown (omega (arith, in_set, long, one)) in
-        let same : Some Waiting ≡ Some Unknown = sym e ∙ ap (slice_get (slice_set states place Unknown)) one ∙ now in cc
-    by false b = let other : j ≢ place = grind (arith, nat_tests) in idle j (sym (get_other states j place Unknown other) ∙ e)
+idle_set states place idle j e = grind (arith, common_steps, nat_tests, slice_get_within, common_steps, get_same, get_other)
 
 -- a list written over by one as long is that one
 pub written_over : {A : Type 0} (n : ℕ) (xs ys : List A) → length xs ≡ length ys → n ≡ length ys → take n (xs ++ drop (length xs) ys) ≡ xs

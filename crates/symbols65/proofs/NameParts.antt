@@ -1,5 +1,6 @@
 -- The parts of names.
-use Rattle.std.proofs.Common.{◌≡◌, ℕ, Bool, true, false, List, [], ◌∷◌, ◌++◌, Option, Some, None, refl, sym, ap, ◌∙◌}
+use Rattle.std.proofs.lemmas.Grind.{common_steps}
+use Rattle.std.proofs.Common.{arith, ◌≡◌, ℕ, Bool, true, false, List, [], ◌∷◌, ◌++◌, Option, Some, None, refl, sym, ap, ◌∙◌}
 use Rattle.std.specs.Prelude.{codes}
 use Rattle.std.proofs.lemmas.List.{append_assoc}
 use Rattle.syntax65.specs.Trees.{name}
@@ -21,11 +22,7 @@ last_behind (m ∷ []) n = refl
 last_behind (m ∷ k ∷ rest) n = last_behind (k ∷ rest) n
 
 pub joined_first : (n : List ℕ) (names : List (List ℕ)) → joined (n ∷ names) ≡ n ++ joined_behind names
-joined_first n [] = sym (append_nil n)
-  where
-    append_nil : (l : List ℕ) → l ++ [] ≡ l
-    append_nil [] = refl
-    append_nil (x ∷ l) = ap (λ m. x ∷ m) (append_nil l)
+joined_first n [] = grind (arith, common_steps)
 joined_first n (m ∷ names) = append_assoc n (codes "::") (joined (m ∷ names)) ∙ ap (λ l. n ++ l) (ap (λ l. codes "::" ++ l) (joined_first m names) ∙ sym (append_assoc (codes "::") m (joined_behind names)))
 
 pub name_is : (y : Symbols) (s : Spot) (global : Bool) (parts : List (List ℕ)) → meaning_of y s (name global parts) ≡ name_meaning y s global parts
@@ -36,15 +33,11 @@ name_is y s true [] = refl
 name_is y s true (n ∷ names) = refl
 
 defined_first : (e : AsmFault) (o other : Option ℕ) → o ≡ defined_place (or_fault e o other)
-defined_first e (Some i) other = refl
-defined_first e None (Some k) = refl
-defined_first e None None = refl
+defined_first e x other = grind (arith, common_steps)
 
 -- what a plain name means is defined where a scope from its own outward defines it
 pub defined_outward_at : (y : Symbols) (s : Spot) (global : Bool) (parts : List (List ℕ)) (n : List ℕ) → plain_part global parts ≡ Some n → first_found (λ c. defined y (named c n)) (scopes_from y.scopes s.scope) ≡ defined_place (meaning_of y s (name global parts))
 defined_outward_at y s false [] n e = absurd cc
-defined_outward_at y s false (m ∷ []) n e =
-    let same : m ≡ n = cc in
-    defined_first (Undefined n) (first_found (λ c. defined y (named c n)) (scopes_from y.scopes s.scope)) (imported y n) ∙ ap (λ k. defined_place (plain_meaning y s.scope k)) (sym same)
+defined_outward_at y s false (m ∷ []) n e = grind (arith, common_steps, defined_first)
 defined_outward_at y s false (m ∷ k ∷ parts) n e = absurd cc
 defined_outward_at y s true parts n e = absurd cc

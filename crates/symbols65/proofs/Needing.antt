@@ -1,5 +1,6 @@
 -- An expression hangs on the constant that its attempt with final forms needs.
-use Rattle.std.proofs.Common.{◌≡◌, ℕ, ◌<◌, List, length, Option, Some, None, slice_get, Result, Ok, Err, refl, sym, ap, ◌∙◌, subst}
+use Rattle.std.proofs.lemmas.Grind.{common_steps}
+use Rattle.std.proofs.Common.{arith, ◌≡◌, ℕ, ◌<◌, List, length, Option, Some, None, slice_get, Result, Ok, Err, refl, sym, ap, ◌∙◌, subst}
 use Rattle.std.specs.Prelude.{IfSome}
 use Rattle.std.proofs.lemmas.Option.{slice_get_within}
 use Rattle.base65.specs.Outcome.{◌>>=◌}
@@ -35,9 +36,7 @@ tried_same P a b s h (cheap n) p = h (cheap n) p
 tried_same P a b s h (forward n) p = h (forward n) p
 tried_same P a b s h (backward n) p = h (backward n) p
 tried_same P a b s h (unary op e) p = ap (λ (r : Result Form Stop). r >>= (λ f. stopped (folded (fold1 op f)))) (tried_same P a b s h e p)
-tried_same P a b s h (binary op e g) p =
-    ap (λ (r : Result Form Stop). r >>= (λ f. tried_by a s g >>= (λ k. stopped (folded (fold2 op f k))))) (tried_same P a b s h e p.0)
-    ∙ ap (λ (q : Result Form Stop). tried_by b s e >>= (λ f. q >>= (λ k. stopped (folded (fold2 op f k))))) (tried_same P a b s h g p.1)
+tried_same P a b s h (binary op e g) p = grind (arith, common_steps, (tried_same P a b s h e p.0), (tried_same P a b s h g p.1))
 
 module _ (t : Symbols) where
   abbrev y : l.Symbols
@@ -45,10 +44,7 @@ module _ (t : Symbols) where
 
   -- an operand that means the same whatever follows
   operand_stays : (s : Spot) (z : l.Symbols) → Extends y z → (u : Tree) → MeansFinally y s u → operand_form (known_by t Finals) z s u ≡ operand_form (known_by t Finals) y s u
-  operand_stays s z more u (j, (lt, means)) =
-      ap (λ m. stopped m >>= meaning_form (known_by t Finals) z) (means z more)
-      ∙ ap (attempt_definition (λ q e. known_form j (known_by t Finals j))) (ap (λ (ds : List l.Definition). slice_get ds j) more.definitions ∙ get_stays y.definitions more.later_definitions j lt)
-      ∙ sym (ap (λ m. stopped m >>= meaning_form (known_by t Finals) y) (means y (extends_itself y)))
+  operand_stays s z more u x = grind (arith, common_steps, get_stays, extends_itself)
 
   finals_later : (z : l.Symbols) → Extends y z → FoundBy (length y.definitions) z (known_by t Finals)
   finals_later z more = λ j f h. final_among t z more (length y.definitions) j f (known_inside t j f h) h
@@ -58,15 +54,7 @@ module _ (t : Symbols) where
 
   -- so does one by what an attempt at it needs
   pub needed_is : (s : Spot) (e : Tree) (o : Option ℕ) → Operands (MeansFinally y s) e → o ≡ needed_in (tried (known_by t Finals) y s e) → IfSome o (λ k. ExpressionHangsOn y s e k)
-  needed_is s e o p is = by (tried (known_by t Finals) y s e) refl o is
-    where
-      by : (r : Result Form Stop) → tried (known_by t Finals) y s e ≡ r → (o : Option ℕ) → o ≡ needed_in r → IfSome o (λ k. ExpressionHangsOn y s e k)
-      by (Ok f) at None h = tt
-      by (Ok f) at (Some k) h = absurd cc
-      by (Err (Fault z)) at None h = tt
-      by (Err (Fault z)) at (Some k) h = absurd cc
-      by (Err (Needs j)) at None h = tt
-      by (Err (Needs j)) at (Some k) h = let same : k ≡ j = cc in subst (λ i. ExpressionHangsOn y s e i) (sym same) (needed_hangs s e j p at)
+  needed_is s e o p is = grind (arith, common_steps, needed_hangs)
 
 -- a constant hangs on that on which its expression does
 pub constant_hangs : (y : l.Symbols) (j k : ℕ) (d : l.Definition) (e : Tree) → slice_get y.definitions j ≡ Some d → d.value ≡ Some e → ExpressionHangsOn y d.spot e k → HangsOn y j k

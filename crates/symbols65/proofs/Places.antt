@@ -1,4 +1,5 @@
 -- The first places at which tests pass.
+use Rattle.std.proofs.lemmas.Grind.{common_steps}
 use Rattle.std.proofs.Common.{◌≡◌, ℕ, zero, suc, ◌+◌, ◌-◌, ◌<◌, ◌≤◌, Bool, true, false, cond, List, [], ◌∷◌, ◌++◌, length, map, position, Some, None, ◌⊎◌, inl, inr, refl, sym, ap, ◌∙◌, arith}
 use Rattle.std.specs.Prelude.{slice_get, ◌==◌}
 use Rattle.std.specs.List.{position_from}
@@ -74,15 +75,7 @@ pub get_more : {A : Type 0} (xs : List A) (x y : A) (i : ℕ) → slice_get (xs 
 get_more [] x y zero e = inr (refl, (let same : x ≡ y = cc in same))
 get_more [] x y (suc i) e = absurd cc
 get_more (z ∷ xs) x y zero e = inl e
-get_more (z ∷ xs) x y (suc i) e = by (get_more xs x y i e)
-  where
-    by : (slice_get xs i ≡ Some y) ⊎ ((i ≡ length xs) × (x ≡ y)) → (slice_get xs i ≡ Some y) ⊎ ((suc i ≡ suc (length xs)) × (x ≡ y))
-    by (inl h) = inl h
-    by (inr h) = inr (ap suc h.0, h.1)
-
-pub map_appended : {A B : Type 0} (f : A → B) (xs : List A) (x : A) → map f (xs ++ x ∷ []) ≡ map f xs ++ f x ∷ []
-map_appended f [] x = refl
-map_appended f (y ∷ xs) x = ap (λ l. f y ∷ l) (map_appended f xs x)
+get_more (z ∷ xs) x y (suc i) e = grind (arith, common_steps, (get_more xs x y i e))
 
 -- functions that agree on the items
 pub map_same : {A B : Type 0} (f g : A → B) (xs : List A) → ((i : ℕ) (x : A) → slice_get xs i ≡ Some x → f x ≡ g x) → map f xs ≡ map g xs

@@ -25,12 +25,10 @@ use Rattle.symbols65.proofs.Tries.{Near, Agrees, IsAttempt, at_turn, last_course
 -- ---- One constant needs another.
 
 near_so : (r s : Result Form AsmFault) → Near ⊥ r s → r ≡ s
-near_so r s (inl h) = absurd h.0
-near_so r s (inr e) = e
+near_so r s x = grind (arith, common_steps)
 
 near_circular : (r : Result Form AsmFault) → Near ⊤ r (Err Circular) → r ≡ Err Circular
-near_circular r (inl h) = h.1
-near_circular r (inr e) = e
+near_circular r x = grind (arith, common_steps)
 
 pub leads_from : (c : ℕ) (table : Symbols) (known : ℕ → Option State) (v : Course) (a : Result Form Stop) (j : ℕ) → IsAttempt c table known v a → a ≡ Err (Needs j) → Leads table v j
 leads_from c table known v a j t e = record {
@@ -93,9 +91,7 @@ chain_fault table v (w ∷ ws) z (l, h) e = l.faults z (chain_fault table (const
 
 chain_circular : (table : Symbols) (v : Course) (ws : List ℕ) (k : ℕ) → IsChain table v ws → last_course table v ws k ≡ Err Circular → v (length ws + k) ≡ Err Circular
 chain_circular table v [] k h e = let same : 0 + k ≡ k = omega arith in ap v same ∙ e
-chain_circular table v (w ∷ ws) k (l, h) e =
-    let same : suc (length ws) + k ≡ suc (length ws + k) = omega arith in
-    ap v same ∙ l.circular (length ws + k) (chain_circular table (constant_course table w) ws k h e)
+chain_circular table v (w ∷ ws) k (l, h) e = grind (arith, common_steps, (chain_circular table (constant_course table w) ws k h e), constant_course)
 
 -- ---- A constant that is met again.
 
@@ -116,11 +112,7 @@ among_cases : (x w : ℕ) (ws : List ℕ) → Among x (ws ++ w ∷ []) → Among
 among_cases x w [] (inl e) = inr e
 among_cases x w [] (inr h) = absurd h
 among_cases x w (v ∷ ws) (inl e) = inl (inl e)
-among_cases x w (v ∷ ws) (inr h) = go (among_cases x w ws h)
-  where
-    go : (Among x ws ⊎ (x ≡ w)) → Among x (v ∷ ws) ⊎ (x ≡ w)
-    go (inl k) = inl (inr k)
-    go (inr e) = inr e
+among_cases x w (v ∷ ws) (inr h) = grind (arith, common_steps, (among_cases x w ws h))
 
 -- the constant j is circular d turns after the last that waits
 abbrev pub After : Symbols → ℕ → ℕ → Course → Type 0
@@ -160,44 +152,19 @@ pub record IsPursuit (table : Symbols) (states : List State) (v : Course) (ws : 
   pub hung : AreHung table states
 
 pub pursuit_starts : (table : Symbols) (states : List State) (v : Course) → IsTable table states → IsPursuit table states v []
-pursuit_starts table states v t = record {
-  turns = t.turns;
-  long = t.long;
-  room = (let room = t.room in omega (arith, room));
-  found = t.found;
-  chain = tt;
-  marked = λ j e. absurd (t.idle j e);
-  inside = λ j h. absurd h;
-  hung = t.hung;
-}
+pursuit_starts table states v t = grind (arith, common_steps)
 
 pub pursuit_ends : (table : Symbols) (states : List State) (v : Course) → IsPursuit table states v [] → IsTable table states
-pursuit_ends table states v p = record {
-  long = p.long;
-  turns = p.turns;
-  room = (let room = p.room in omega (arith, room));
-  found = p.found;
-  idle = λ j e. p.marked j e;
-  hung = p.hung;
-}
+pursuit_ends table states v p = grind (arith, common_steps)
 
 open_is : (o : Option State) → may_be_looked_for o ≡ true → (x : State) × (o ≡ Some x) × (is_open x ≡ 1)
-open_is None e = absurd cc
-open_is (Some Unknown) e = (Unknown, refl, refl)
-open_is (Some Waiting) e = absurd cc
-open_is (Some (Hangs k)) e = (Hangs k, refl, refl)
-open_is (Some (Found f)) e = absurd cc
+open_is x e = grind (arith, common_steps)
 
 pub open_within : (states : List State) (j : ℕ) → may_be_looked_for (slice_get states j) ≡ true → j < length states
 open_within states j e = let (x, is, one) = open_is (slice_get states j) e in slice_get_within states j x is
 
 fewer : (states : List State) (j : ℕ) → may_be_looked_for (slice_get states j) ≡ true → unknown (slice_set states j Waiting) + 1 ≡ unknown states
-fewer states j e =
-    let (x, is, one) = open_is (slice_get states j) e in
-    let change = sum_by-set is_open states j Waiting Unknown (slice_get_within states j x is) in
-    let old : get_or states j Unknown ≡ x = grind (arith, common_steps, gets) in
-    let same : is_open (get_or states j Unknown) ≡ 1 = ap is_open old ∙ one in
-    omega (arith, change, same)
+fewer states j e = grind (arith, common_steps, open_is, sum_by-set, slice_get_within, common_steps, gets)
 
 no_more : (states : List State) (j : ℕ) (f : Form) → j < length states → unknown (slice_set states j (Found f)) ≤ unknown states
 no_more states j f lt =
@@ -310,20 +277,14 @@ pursuit_leads table states v ws a i j p t e reaches = leads_on table (last_cours
 
 -- what it leads to waits, where it may not be looked for
 pub pursuit_meets : (table : Symbols) (states : List State) (v : Course) → IsCourse v → (ws : List ℕ) (j : ℕ) (p : IsPursuit table states v ws) → Leads table (last_course table v ws) j → (is_found (slice_get states j) ≡ true → ⊥) → (o : Option State) → slice_get states j ≡ o → may_be_looked_for o ≡ false → v (suc (length table.definitions)) ≡ Err Circular
-pursuit_meets table states v s ws j p l unfound None q known =
-    let past : length states ≤ j = grind (arith, common_steps, gets) in
-    let long = p.long in
-    let none : slice_get table.definitions j ≡ None = slice_get_past table.definitions j (omega (arith, past, long)) in
-    let never : Err NoSuchLabel ≡ Err Circular = sym (ap (form_of_definition (norm 0 table)) none) ∙ l.starts in
-    absurd cc
+pursuit_meets table states v s ws j p l unfound None q known = grind (arith, common_steps, common_steps, gets, slice_get_past)
 pursuit_meets table states v s ws j p l unfound (Some Unknown) q known = absurd cc
 pursuit_meets table states v s ws j p l unfound (Some (Hangs k)) q known = absurd cc
 pursuit_meets table states v s ws j p l unfound (Some Waiting) q known = met_again table v s ws j p.chain l (p.marked j q) (length table.definitions)
 pursuit_meets table states v s ws j p l unfound (Some (Found f)) q known = absurd (unfound (ap is_found q))
 
 pub pursuit_needs : (table : Symbols) (states : List State) (v : Course) (ws more : List ℕ) (j : ℕ) (p : IsPursuit table states v ws) → Leads table (last_course table v ws) j → may_be_looked_for (slice_get states j) ≡ true → more ≡ ws ++ j ∷ [] → IsPursuit table (slice_set states j Waiting) v more
-pursuit_needs table states v ws more j p l q pushed =
-    subst (IsPursuit table (slice_set states j Waiting) v) (sym pushed) (pursuit_down table states v ws j p l q)
+pursuit_needs table states v ws more j p l q pushed = grind (arith, common_steps, pursuit_down)
 
 -- the expression's form is found
 pub pursuit_done : (table : Symbols) (states : List State) (v : Course) (ws : List ℕ) (a : Result Form Stop) (f : Form) (p : IsPursuit table states v ws) → IsAttempt p.turns table (slice_get states) (last_course table v ws) a → a ≡ Ok f → ws ≡ [] → v (suc (length table.definitions)) ≡ Ok f
@@ -351,13 +312,7 @@ unless_more true f h = tt
 unless_more false f h = f h
 
 pub down_smaller : (states : List State) (ws more : List ℕ) (j : ℕ) → may_be_looked_for (slice_get states j) ≡ true → more ≡ ws ++ j ∷ [] → 2 * unknown (slice_set states j Waiting) + length more < 2 * unknown states + length ws
-down_smaller states ws more j e pushed =
-    let less = fewer states j e in
-    let grown : length more ≡ length ws + 1 = ap length pushed ∙ length-append ws (j ∷ []) in
-    omega (arith, less, grown)
+down_smaller states ws more j e pushed = grind (arith, common_steps, fewer, length-append)
 
 pub up_smaller : (states : List State) (ws others : List ℕ) (j : ℕ) (f : Form) → j < length states → ws ≡ others ++ j ∷ [] → 2 * unknown (slice_set states j (Found f)) + length others < 2 * unknown states + length ws
-up_smaller states ws others j f lt q =
-    let more = no_more states j f lt in
-    let grown : length ws ≡ length others + 1 = ap length q ∙ length-append others (j ∷ []) in
-    omega (arith, more, grown)
+up_smaller states ws others j f lt q = grind (arith, common_steps, no_more, length-append)

@@ -1,5 +1,6 @@
 -- Kinds of expressions that are references.
-use Rattle.std.proofs.Common.{◌≡◌, ℕ, List, ◌⊎◌, inl, inr, subst, sym}
+use Rattle.std.proofs.lemmas.Grind.{common_steps}
+use Rattle.std.proofs.Common.{arith, ◌≡◌, ℕ, List, ◌⊎◌, inl, inr, subst, sym}
 use Rattle.syntax65.specs.Trees.{Tree}
 use Rattle.syntax65.specs.Kinds.{tree_of}
 use Rattle.syntax65.specs.declared.expressions.trees.ExprKind.{ExprKind}
@@ -12,11 +13,4 @@ abbrev pub Taken : ExprKind → Type 0
 Taken k = ((x : List ℕ) × (k ≡ kind.Plain x)) ⊎ (((x : Name) × (k ≡ kind.Scoped x)) ⊎ (((x : List ℕ) × (k ≡ kind.Cheap x)) ⊎ (((x : ℕ) × (k ≡ kind.Forward x)) ⊎ ((x : ℕ) × (k ≡ kind.Backward x)))))
 
 pub reference : (k : ExprKind) (e : Tree) → tree_of k ≡ e → Taken k → IsReference e
-reference k e is taken = subst IsReference is (by_kind k taken)
-  where
-    by_kind : (k : ExprKind) → Taken k → IsReference (tree_of k)
-    by_kind k (inl (x, q)) = subst (λ z. IsReference (tree_of z)) (sym q) tt
-    by_kind k (inr (inl (x, q))) = subst (λ z. IsReference (tree_of z)) (sym q) tt
-    by_kind k (inr (inr (inl (x, q)))) = subst (λ z. IsReference (tree_of z)) (sym q) tt
-    by_kind k (inr (inr (inr (inl (x, q))))) = subst (λ z. IsReference (tree_of z)) (sym q) tt
-    by_kind k (inr (inr (inr (inr (x, q))))) = subst (λ z. IsReference (tree_of z)) (sym q) tt
+reference k e is taken = grind (arith, common_steps)

@@ -1,4 +1,5 @@
 -- Scopes, and names that are found in them.
+use Rattle.std.proofs.lemmas.Grind.{common_steps}
 use Rattle.std.proofs.Common.{◌≡◌, ℕ, zero, suc, ◌+◌, ◌-◌, ◌<◌, ◌≤◌, Bool, true, false, cond, nat_lt, List, [], ◌∷◌, take, position, Option, Some, None, refl, sym, ap, ◌∙◌, arith}
 use Rattle.std.specs.Prelude.{slice_get}
 use Rattle.std.specs.List.{position_from}
@@ -13,11 +14,7 @@ use Rattle.language65.specs.Symbols.{Scope}
 
 from_above : {A : Type 0} (p : A → Bool) (k : ℕ) (xs : List A) (j : ℕ) → position_from p k xs ≡ Some j → k ≤ j
 from_above p k [] j e = absurd cc
-from_above {A = A} p k (x ∷ xs) j e = by (p x) e (from_above p (k + 1) xs j)
-  where
-    by : (b : Bool) → cond b (Some k) (position_from p (k + 1) xs) ≡ Some j → (position_from p (k + 1) xs ≡ Some j → k + 1 ≤ j) → k ≤ j
-    by true e rest = (let same : k ≡ j = cc in omega (arith, same))
-    by false e rest = (let le = rest e in omega (arith, le))
+from_above {A = A} p k (x ∷ xs) j e = grind (arith, common_steps, (from_above p (k + 1) xs j))
 
 -- a place below a bound
 abbrev pub below : ℕ → Option ℕ → Option ℕ
@@ -25,8 +22,7 @@ below i None = None
 below i (Some j) = cond (nat_lt j i) (Some j) None
 
 below_none : (i : ℕ) (o : Option ℕ) → ((j : ℕ) → o ≡ Some j → i ≤ j) → None ≡ below i o
-below_none i None h = refl
-below_none i (Some j) h = (let le = h j refl in let past : nat_lt j i ≡ false = grind (arith, nat_tests, le) in sym (ap (λ b. cond b (Some j) None) past))
+below_none i x h = grind (arith, common_steps)
 
 pub position_before : {A : Type 0} (p : A → Bool) (i : ℕ) (xs : List A) → position p (take i xs) ≡ below i (position p xs)
 position_before {A = A} p i xs = position_from-zero p (take i xs) ∙ go 0 i xs ∙ ap (λ n. below n (position_from p 0 xs)) (let none : 0 + i ≡ i = omega arith in none) ∙ ap (below i) (sym (position_from-zero p xs))
@@ -45,25 +41,13 @@ position_before {A = A} p i xs = position_from-zero p (take i xs) ∙ go 0 i xs 
 
 module _ (cs : List Scope) (opened s : ℕ) (n : List ℕ) where
   pub scope_before : (i : ℕ) → scope_in cs s n ≡ Some i → i ≤ opened → scope_in (take opened cs) s n ≡ Some i
-  scope_before i e le = ap numbered (position_before _ opened cs) ∙ by (position _ cs) e
-    where
-      by : (o : Option ℕ) → numbered o ≡ Some i → numbered (below opened o) ≡ Some i
-      by None h = absurd cc
-      by (Some j) h = (let same : suc j ≡ i = cc in let under : nat_lt j opened ≡ true = grind (arith, nat_tests, same, le) in ap (λ b. numbered (cond b (Some j) None)) under ∙ h)
+  scope_before i e le = grind (arith, common_steps, position_before, nat_tests)
 
   pub scope_behind : (i : ℕ) → scope_in cs s n ≡ Some i → opened < i → scope_in (take opened cs) s n ≡ None
-  scope_behind i e lt = ap numbered (position_before _ opened cs) ∙ by (position _ cs) e
-    where
-      by : (o : Option ℕ) → numbered o ≡ Some i → numbered (below opened o) ≡ None
-      by None h = absurd cc
-      by (Some j) h = (let same : suc j ≡ i = cc in let past : nat_lt j opened ≡ false = grind (arith, nat_tests, same, lt) in ap (λ b. numbered (cond b (Some j) None)) past)
+  scope_behind i e lt = grind (arith, common_steps, position_before, nat_tests)
 
   pub no_scope : scope_in cs s n ≡ None → scope_in (take opened cs) s n ≡ None
-  no_scope e = ap numbered (position_before _ opened cs) ∙ by (position _ cs) e
-    where
-      by : (o : Option ℕ) → numbered o ≡ None → numbered (below opened o) ≡ None
-      by None h = refl
-      by (Some j) h = absurd cc
+  no_scope e = grind (arith, common_steps, position_before)
 
 get_before : {A : Type 0} (xs : List A) (n i : ℕ) → i < n → slice_get (take n xs) i ≡ slice_get xs i
 get_before xs zero i lt = absurd (omega arith)
@@ -86,5 +70,4 @@ enclosing_behind cs opened zero lt = absurd (omega arith)
 enclosing_behind cs opened (suc i) lt = ap within (get_behind cs opened i (omega arith))
 
 pub inside_none : (cs : List Scope) (names : List (List ℕ)) → inside cs names None ≡ None
-inside_none cs [] = refl
-inside_none cs (n ∷ names) = refl
+inside_none cs x = grind (arith, common_steps)

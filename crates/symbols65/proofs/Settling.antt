@@ -1,4 +1,5 @@
 -- Forms by those that are final.
+use Rattle.std.proofs.lemmas.Grind.{common_steps}
 use Rattle.std.proofs.Common.{◌≡◌, ℕ, suc, ◌<◌, length, Option, Some, None, option_map, slice_get, Result, Ok, Err, refl, sym, subst, ap, ◌∙◌, arith}
 use Rattle.std.proofs.lemmas.Option.{slice_get_within}
 use Rattle.base65.specs.Outcome.{Gives}
@@ -31,16 +32,14 @@ use Rattle.symbols65.proofs.Tries.{attempt_first, meant_tried}
 use Rattle.symbols65.proofs.Turns.{constant_course, constant_is, expression_course, ok_later}
 
 has_form : (r : Result Form AsmFault) (f : Form) → formed r ≡ Some f → r ≡ Ok f
-has_form (Ok g) f e = (let same : g ≡ f = cc in ap Ok same)
-has_form (Err z) f e = absurd cc
+has_form x f e = grind (arith, common_steps)
 
 -- imports are free
 without_imports : (t : Symbols) (z : l.Symbols) → Extends (table_of t) z → Extends (table_without_imports (words_of t) t.definitions.entries t.scopes.entries) z
 without_imports t z h = record { later_definitions = h.later_definitions; definitions = h.definitions; later_scopes = h.later_scopes; scopes = h.scopes }
 
 kept_is : (o : Option Form) (f : Form) → option_map Found o ≡ Some (Found f) → o ≡ Some f
-kept_is None f e = absurd cc
-kept_is (Some g) f e = (let same : g ≡ f = cc in ap Some same)
+kept_is x f e = grind (arith, common_steps)
 
 module _ (t : Symbols) where
   -- a final form is found with one expression more than stand before it, in each table that extends this one
@@ -62,11 +61,7 @@ module _ (t : Symbols) where
   final_among z more n j f lt h = ok_later (constant_course z j) (constant_is z j) (suc j) n f (omega (arith, lt)) (final_in z more j f h)
 
   pub known_inside : (j : ℕ) (f : Form) → known_by t Finals j ≡ Some (Found f) → j < length (table_of t).definitions
-  known_inside j f h = by (slice_get t.definitions.entries j) refl h
-    where
-      by : (o : Option (Entry × Definition)) → slice_get t.definitions.entries j ≡ o → kept (option_map (λ e. e.1) o) ≡ Some (Found f) → j < length (table_of t).definitions
-      by None is e = absurd cc
-      by (Some e) is q = slice_get_within (table_of t).definitions j (definition_in (words_of t) e) (get_mapped (definition_in (words_of t)) t.definitions.entries j e is)
+  known_inside j f h = grind (arith, common_steps, slice_get_within, get_mapped)
 
   finals_found : FoundBy (length (table_of t).definitions) (table_of t) (known_by t Finals)
   finals_found = λ j f h. final_among (table_of t) (extends_itself (table_of t)) (length (table_of t).definitions) j f (known_inside j f h) h

@@ -1,5 +1,6 @@
 -- Folding forms that may be missing gives the normal forms of expressions.
-use Rattle.std.proofs.Common.{◌≡◌, ap, refl, sym, ◌∙◌, length, Result, Ok, Err}
+use Rattle.std.proofs.lemmas.Grind.{common_steps}
+use Rattle.std.proofs.Common.{arith, ◌≡◌, ap, refl, sym, ◌∙◌, length, Result, Ok, Err}
 use Rattle.std.specs.Result.{result_ok}
 use Rattle.base65.specs.Outcome.{◌>>=◌}
 use Rattle.syntax65.specs.Trees.{Tree, number, here, name, cheap, forward, backward, unary, binary}
@@ -20,35 +21,17 @@ use Rattle.symbols65.specs.Inner.Settling.{IsPlaceOf}
 use Rattle.symbols65.specs.Forms.{IsReference, binary_form, literal_of, prefix_form}
 
 pub literal_known : (r : Result Form AsmFault) → literal_of (result_ok r) ≡ literal_in r
-literal_known (Ok f) = refl
-literal_known (Err e) = refl
-
-folded_known : (r : Result Form FormFault) → result_ok r ≡ result_ok (folded r)
-folded_known (Ok f) = refl
-folded_known (Err form.OutOfMemory) = refl
-folded_known (Err form.NoValue) = refl
-folded_known (Err form.TooLarge) = refl
+literal_known x = grind (arith, common_steps)
 
 pub prefix_known : (op : Op1) (r : Result Form AsmFault) → prefix_form op (result_ok r) ≡ result_ok (r >>= (λ f. folded (fold1 op f)))
-prefix_known op (Ok f) = folded_known (fold1 op f)
-prefix_known op (Err e) = refl
+prefix_known op x = grind (arith, common_steps)
 
 pub binary_known : (op : Op2) (r s : Result Form AsmFault) → binary_form op (result_ok r) (result_ok s) ≡ result_ok (r >>= (λ f. s >>= (λ g. folded (fold2 op f g))))
-binary_known op (Ok f) (Ok g) = folded_known (fold2 op f g)
-binary_known op (Ok f) (Err e) = refl
-binary_known op (Err e) (Ok g) = refl
-binary_known op (Err e) (Err d) = refl
+binary_known op x y = grind (arith, common_steps)
 
 -- what has no meaning has no form
 pub meaningless : (y : Symbols) (s : Spot) (e : Tree) (z : AsmFault) → IsReference e → meaning_of y s e ≡ Err z → norm_of y s e ≡ Err z
-meaningless y s (number v) z n h = absurd n
-meaningless y s here z n h = absurd n
-meaningless y s (unary op e) z n h = absurd n
-meaningless y s (binary op e f) z n h = absurd n
-meaningless y s (name global parts) z n h = ap (λ r. r >>= form_of_meaning (norm (length y.definitions) y) y) h
-meaningless y s (cheap x) z n h = ap (λ r. r >>= form_of_meaning (norm (length y.definitions) y) y) h
-meaningless y s (forward x) z n h = ap (λ r. r >>= form_of_meaning (norm (length y.definitions) y) y) h
-meaningless y s (backward x) z n h = ap (λ r. r >>= form_of_meaning (norm (length y.definitions) y) y) h
+meaningless y s x z n h = grind (arith, common_steps)
 
 -- what means a place has the size of that
 pub place_size : (y : Symbols) (s : Spot) (e : Tree) (m : Meaning) (a : AddressSize) → IsReference e → meaning_of y s e ≡ Ok m → IsPlaceOf y m a → a ≡ size_by (size_of_meaning y (meaning_of y s e)) (constant_in y s e)

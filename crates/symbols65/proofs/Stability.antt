@@ -1,4 +1,5 @@
 -- With one expression more than definitions, one inside the other, no more of them change anything.
+use Rattle.std.proofs.lemmas.Grind.{common_steps}
 use Rattle.std.proofs.Common.{◌≡◌, ◌≢◌, ℕ, zero, suc, ◌+◌, ◌-◌, ◌≤◌, refl, sym, ap, ◌∙◌, arith, List, [], ◌∷◌, length, Option, Some, None, slice_get, Bool, true, false, nat_eq, Result, Ok, Err, inl, inr}
 use Rattle.std.proofs.Math.Path.{fun_ext}
 use Rattle.std.specs.Prelude.{sum_by}
@@ -23,14 +24,10 @@ is_circular (Err Circular) = 1
 is_circular _ = 0
 
 at_most_one : (r : Result Form AsmFault) → is_circular r ≤ 1
-at_most_one (Ok f) = omega arith
-at_most_one (Err Circular) = omega arith
-at_most_one (Err _) = omega arith
+at_most_one x = grind (arith, common_steps)
 
 circular_is : (r : Result Form AsmFault) → 1 ≤ is_circular r → r ≡ Err Circular
-circular_is (Ok f) h = absurd (omega (arith, h))
-circular_is (Err Circular) h = refl
-circular_is (Err _) h = absurd (omega (arith, h))
+circular_is x h = grind (arith, common_steps)
 
 module _ (y : Symbols) where
   abbrev course_of : ℕ → Definition → Result Form AsmFault
@@ -47,11 +44,7 @@ module _ (y : Symbols) where
   count n ds = sum_by (circular_at n) ds
 
   fewer_at : (n : ℕ) (d : Definition) → circular_at (suc n) d ≤ circular_at n d
-  fewer_at n d = by (course_of n d) (course_of (suc n) d) (course_known n d)
-    where
-      by : (r s : Result Form AsmFault) → Known r s → is_circular s ≤ is_circular r
-      by r s (inl e) = (let one = at_most_one s in let same : is_circular r ≡ 1 = ap is_circular e in omega (arith, one, same))
-      by r s (inr e) = (let same : is_circular r ≡ is_circular s = ap is_circular e in omega (arith, same))
+  fewer_at n d = grind (arith, common_steps, course_known, at_most_one)
 
   fewer : (n : ℕ) (ds : List Definition) → count (suc n) ds ≤ count n ds
   fewer n [] = omega arith
@@ -72,13 +65,7 @@ module _ (y : Symbols) where
 
   -- where as many are, each comes to the same
   same_at : (n : ℕ) (d : Definition) → circular_at n d ≤ circular_at (suc n) d → course_of n d ≡ course_of (suc n) d
-  same_at n d le = by (course_known n d)
-    where
-      by : Known (course_of n d) (course_of (suc n) d) → course_of n d ≡ course_of (suc n) d
-      by (inr e) = e
-      by (inl e) =
-          let one : is_circular (course_of n d) ≡ 1 = ap is_circular e in
-          e ∙ sym (circular_is (course_of (suc n) d) (omega (arith, le, one)))
+  same_at n d le = grind (arith, common_steps, course_known, circular_is)
 
   same_all : (n : ℕ) (ds : List Definition) → count n ds ≡ count (suc n) ds → (j : ℕ) → form_of_definition (norm n y) (slice_get ds j) ≡ form_of_definition (norm (suc n) y) (slice_get ds j)
   same_all n [] e j = refl
@@ -115,9 +102,7 @@ module _ (y : Symbols) where
           (m, omega (arith, le_m), still)
 
   operand_still : (n : ℕ) → IsStill n → (m : Result Meaning AsmFault) → (m >>= form_of_meaning (norm n y) y) ≡ (m >>= form_of_meaning (norm (suc n) y) y)
-  operand_still n h (Err e) = refl
-  operand_still n h (Ok (imported_as k)) = refl
-  operand_still n h (Ok (defined_at j)) = h j
+  operand_still n h x = grind (arith, common_steps)
 
   form_still : (n : ℕ) → IsStill n → (s : Spot) (e : Tree) → norm (suc n) y s e ≡ norm (suc (suc n)) y s e
   form_still n h s e =

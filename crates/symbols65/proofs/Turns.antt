@@ -1,4 +1,5 @@
 -- Normal forms at different numbers of turns.
+use Rattle.std.proofs.lemmas.Grind.{common_steps}
 use Rattle.std.proofs.Common.{◌≡◌, ℕ, zero, suc, ◌+◌, ◌-◌, ◌≤◌, refl, sym, ap, ◌∙◌, arith, Option, Some, None, slice_get, Result, Ok, Err, ◌⊎◌, inl, inr}
 use Rattle.base65.specs.Outcome.{◌>>=◌}
 use Rattle.syntax65.specs.Trees.{Tree, number, here, name, cheap, forward, backward, unary, binary}
@@ -16,12 +17,7 @@ abbrev pub Known : Result Form AsmFault → Result Form AsmFault → Type 0
 Known r s = (r ≡ Err Circular) ⊎ (r ≡ s)
 
 pub known_then : (r s : Result Form AsmFault) (f g : Form → Result Form AsmFault) → Known r s → ((x : Form) → Known (f x) (g x)) → Known (r >>= f) (s >>= g)
-known_then r s f g (inl e) h = inl (ap (λ z. z >>= f) e)
-known_then (Ok x) s f g (inr e) h = go (h x)
-  where
-    go : Known (f x) (g x) → Known (f x) (s >>= g)
-    go k = rw (sym e) k
-known_then (Err x) s f g (inr e) h = inr (ap (λ z. z >>= g) e)
+known_then r s f g x h = grind (arith, common_steps)
 
 known_form : (a b : Tree → Result Form AsmFault) (s : Spot) → ((t : Tree) → Known (a t) (b t)) → (e : Tree) → Known (form_by a s e) (form_by b s e)
 known_form a b s h (number v) = inr refl
@@ -31,25 +27,16 @@ known_form a b s h (cheap n) = h (cheap n)
 known_form a b s h (forward n) = h (forward n)
 known_form a b s h (backward n) = h (backward n)
 known_form a b s h (unary op e) = known_then (form_by a s e) (form_by b s e) (λ f. folded (fold1 op f)) (λ f. folded (fold1 op f)) (known_form a b s h e) (λ x. inr refl)
-known_form a b s h (binary op e g) =
-    known_then (form_by a s e) (form_by b s e) (λ f. form_by a s g >>= (λ k. folded (fold2 op f k))) (λ f. form_by b s g >>= (λ k. folded (fold2 op f k))) (known_form a b s h e)
-    (λ f. known_then (form_by a s g) (form_by b s g) (λ k. folded (fold2 op f k)) (λ k. folded (fold2 op f k)) (known_form a b s h g) (λ x. inr refl))
-
-pub known_value : (a b : Spot → Tree → Result Form AsmFault) → ((s : Spot) (e : Tree) → Known (a s e) (b s e)) → (s : Spot) (x : Option Tree) → Known (form_of_value a s x) (form_of_value b s x)
-known_value a b h s (Some e) = h s e
-known_value a b h s _ = inr refl
+known_form a b s h (binary op e g) = grind (arith, common_steps, (known_form a b s h e), (known_form a b s h g), known_then)
 
 pub known_definition : (a b : Spot → Tree → Result Form AsmFault) → ((s : Spot) (e : Tree) → Known (a s e) (b s e)) → (o : Option Definition) → Known (form_of_definition a o) (form_of_definition b o)
-known_definition a b h None = inr refl
-known_definition a b h (Some l) = known_value a b h l.spot l.value
+known_definition a b h x = grind (arith, common_steps)
 
 known_meaning : (a b : Spot → Tree → Result Form AsmFault) (table : Symbols) → ((s : Spot) (e : Tree) → Known (a s e) (b s e)) → (m : Meaning) → Known (form_of_meaning a table m) (form_of_meaning b table m)
-known_meaning a b table h (imported_as k) = inr refl
-known_meaning a b table h (defined_at j) = known_definition a b h (slice_get table.definitions j)
+known_meaning a b table h x = grind (arith, common_steps, known_definition)
 
 known_result : (a b : Spot → Tree → Result Form AsmFault) (table : Symbols) → ((s : Spot) (e : Tree) → Known (a s e) (b s e)) → (m : Result Meaning AsmFault) → Known (m >>= form_of_meaning a table) (m >>= form_of_meaning b table)
-known_result a b table h (Ok m) = known_meaning a b table h m
-known_result a b table h (Err z) = inr refl
+known_result a b table h x = grind (arith, common_steps, known_meaning)
 
 pub norm_known : (n : ℕ) (table : Symbols) (s : Spot) (e : Tree) → Known (norm n table s e) (norm (suc n) table s e)
 norm_known zero table s e = inl refl
@@ -81,14 +68,7 @@ constant_is table j n = known_definition (norm n table) (norm (suc n) table) (no
 
 pub further : (v : Course) → IsCourse v → (d k : ℕ) → Known (v k) (v (d + k))
 further v h zero k = let same : zero + k ≡ k = omega arith in rw same (inr refl)
-further v h (suc d) k =
-    let same : suc d + k ≡ suc (d + k) = omega arith in
-    rw same (go (further v h d k) (h (d + k)))
-  where
-    go : Known (v k) (v (d + k)) → Known (v (d + k)) (v (suc (d + k))) → Known (v k) (v (suc (d + k)))
-    go (inl e) b = inl e
-    go (inr e) (inl f) = inl (e ∙ f)
-    go (inr e) (inr f) = inr (e ∙ f)
+further v h (suc d) k = grind (arith, common_steps, (further v h d k))
 
 -- a form stays
 pub ok_later : (v : Course) → IsCourse v → (k n : ℕ) (f : Form) → k ≤ n → v k ≡ Ok f → v n ≡ Ok f

@@ -1,4 +1,5 @@
 -- Names by their numbers, and what is found by them.
+use Rattle.std.proofs.lemmas.Grind.{common_steps}
 use Rattle.std.proofs.Common.{◌≡◌, ℕ, zero, suc, ◌≤◌, ◌^◌, Bool, true, false, List, [], ◌∷◌, map, position, Option, Some, None, option_map, refl, sym, ap, ◌∙◌, arith}
 use Rattle.std.specs.Prelude.{slice_get, ◌==◌, ◌&&◌, ◌||◌}
 use Rattle.std.specs.List.{list_any}
@@ -53,32 +54,26 @@ and_false true = refl
 and_false false = refl
 
 named_test : (s t v : ℕ) (o : Option ℕ) → tests (option_map (entry.Named s) o) (entry.Named t v) ≡ (s == t && is_number o v)
-named_test s t v None = sym (and_false (s == t))
-named_test s t v (Some w) = refl
+named_test s t v x = grind (arith, common_steps)
 
 cheap_test : (s t v : ℕ) (o : Option ℕ) → tests (option_map (entry.Cheap s) o) (entry.Cheap t v) ≡ (s == t && is_number o v)
-cheap_test s t v None = sym (and_false (s == t))
-cheap_test s t v (Some w) = refl
+cheap_test s t v x = grind (arith, common_steps)
 
 other_named : (s : ℕ) (o : Option ℕ) (k : Entry) → ((w : ℕ) → same_entry (entry.Named s w) k ≡ false) → tests (option_map (entry.Named s) o) k ≡ false
-other_named s None k h = refl
-other_named s (Some w) k h = h w
+other_named s x k h = grind (arith, common_steps)
 
 other_cheap : (s : ℕ) (o : Option ℕ) (k : Entry) → ((w : ℕ) → same_entry (entry.Cheap s w) k ≡ false) → tests (option_map (entry.Cheap s) o) k ≡ false
-other_cheap s None k h = refl
-other_cheap s (Some w) k h = h w
+other_cheap s x k h = grind (arith, common_steps)
 
 abbrev opens : Option Opening → Opening → Bool
 opens None k = false
 opens (Some q) k = same_opening q k
 
 opened_test : (s t v : ℕ) (o : Option ℕ) → opens (option_map (opening.Named s) o) (opening.Named t v) ≡ (s == t && is_number o v)
-opened_test s t v None = sym (and_false (s == t))
-opened_test s t v (Some w) = refl
+opened_test s t v x = grind (arith, common_steps)
 
 other_opened : (s t v : ℕ) (o : Option ℕ) → opens (option_map (opening.Named s) o) (opening.Nameless t v) ≡ false
-other_opened s t v None = refl
-other_opened s t v (Some w) = refl
+other_opened s t v x = grind (arith, common_steps)
 
 module _ (ws : List (List ℕ)) where
   entry_test : (q : Key) (k : Entry) → first_number ws (word_of k) ≡ word_of k → tests (entry_of ws q) k ≡ same_key (key_in ws k) q
@@ -120,8 +115,7 @@ module _ (ws : List (List ℕ)) where
   -- ---- Scopes.
 
   opening_test : (s : ℕ) (n : List ℕ) (k : Opening) (is_proc : Bool) → first_number ws (word_opened k) ≡ word_opened k → opens (option_map (opening.Named s) (position (bytes_eq n) ws)) k ≡ ((scope_by ws k is_proc).within == s && is_named n (scope_by ws k is_proc).name)
-  opening_test s n (opening.Named t v) is_proc h = opened_test s t v (position (bytes_eq n) ws) ∙ ap (λ b. b && is_number (position (bytes_eq n) ws) v) (swapped s t) ∙ ap (λ b. t == s && b) (word_test ws n v h)
-  opening_test s n (opening.Nameless t v) is_proc h = other_opened s t v (position (bytes_eq n) ws) ∙ sym (and_false (t == s))
+  opening_test s n x is_proc h = grind (arith, common_steps, opened_test, swapped, word_test, other_opened, and_false)
 
   -- what is found by the number of its name is what the table opened
   pub finds_opened : (ss : List (Opening × Bool)) (s : ℕ) (n : List ℕ) → AreNumbered word_opened ws (keys_of ss) →

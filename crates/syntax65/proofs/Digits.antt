@@ -1,4 +1,5 @@
 -- What the rest of some digits makes of the value so far.
+use Rattle.std.proofs.lemmas.Grind.{common_steps}
 use Rattle.std.proofs.Common.{◌≡◌, ℕ, ◌+◌, ◌*◌, ◌^◌, ◌<◌, ◌≤◌, Bool, true, false, List, [], ◌∷◌, length, drop, get_or, Option, Some, None, refl, sym, ap, ◌∙◌, arith, nat_lt, add-one}
 use Rattle.std.specs.Prelude.{◌&&◌, if◌then◌else◌}
 use Rattle.std.specs.List.{list_all}
@@ -30,17 +31,11 @@ grows : (radix v : ℕ) (ds : List ℕ) → 0 < radix → v ≤ digits_value_aft
 grows radix v [] h = omega arith
 grows radix v (d ∷ ds) h = omega (arith, grows radix (v * radix + digit_value d) ds h, le-mul_of_pos_right v h)
 
-pub all_digits : (radix : ℕ) (text : List ℕ) → 0 < length text → digits_from radix 0 text ≡ digits radix text
-all_digits radix [] h = absurd (omega arith)
-all_digits radix (b ∷ bs) h = refl
-
 pub one_digit : (radix v d : ℕ) (ds : List ℕ) → digit_value d < radix → digits_from radix v (d ∷ ds) ≡ digits_from radix (v * radix + digit_value d) ds
 one_digit radix v d ds h = let e : nat_lt (digit_value d) radix ≡ true = test_true _ _ h in rw e refl
 
 pub too_large : (radix v d : ℕ) (ds : List ℕ) → 0 < radix → 2 ^ 32 ≤ v * radix + digit_value d → digits_from radix v (d ∷ ds) ≡ None
-too_large radix v d ds pos h =
-    let e : nat_lt (digits_value_after radix (v * radix + digit_value d) ds) (2 ^ 32) ≡ false = test_false _ _ (omega (arith, grows radix (v * radix + digit_value d) ds pos)) in
-    rw e (rw (and_false (list_all (is_digit radix) (d ∷ ds))) refl)
+too_large radix v d ds pos h = grind (arith, common_steps, test_false, grows, and_false)
 
 pub no_more_digits : (radix v : ℕ) → v < 2 ^ 32 → digits_from radix v [] ≡ Some v
 no_more_digits radix v h = let e : nat_lt v (2 ^ 32) ≡ true = test_true _ _ h in rw e refl
@@ -49,8 +44,7 @@ pub next_digit : (text : List ℕ) (i : ℕ) → i < length text → drop i text
 next_digit text i h = rw add-one (drop-cons text i 0 h)
 
 pub stops : (text : List ℕ) (i v radix : ℕ) → i < length text → digits_from radix v (drop i text) ≡ digits radix text → 0 < radix → 2 ^ 32 ≤ v * radix + digit_value (get_or text i 0) → digits radix text ≡ None
-stops text i v radix lt inv pos large =
-    sym inv ∙ ap (digits_from radix v) (next_digit text i lt) ∙ too_large radix v (get_or text i 0) (drop (i + 1) text) pos large
+stops text i v radix lt inv pos large = grind (arith, common_steps, next_digit, too_large)
 
 pub ends : (text : List ℕ) (i v radix : ℕ) → length text ≤ i → digits_from radix v (drop i text) ≡ digits radix text → v < 2 ^ 32 → digits radix text ≡ Some v
 ends text i v radix le inv small = sym inv ∙ ap (digits_from radix v) (drop_all i text le) ∙ no_more_digits radix v small

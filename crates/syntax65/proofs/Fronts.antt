@@ -1,4 +1,5 @@
 -- What stands at the front of some bytes, and that nothing longer does.
+use Rattle.std.proofs.lemmas.Grind.{common_steps}
 use Rattle.std.proofs.Common.{◌≡◌, ◌≢◌, ◌⊎◌, inl, inr, ℕ, zero, suc, ◌+◌, ◌<◌, ◌≤◌, Bool, true, false, cond, List, [], ◌∷◌, length, take, drop, get_or, refl, sym, ap, subst, ◌∙◌, arith, eqb}
 use Rattle.std.specs.Prelude.{◌&&◌, ⊤}
 use Rattle.std.specs.List.{prefix_len, list_all}
@@ -23,9 +24,7 @@ and_both true b h = (refl, h)
 and_both false b h = absurd (cc)
 
 front_step : (p : ℕ → Bool) (x : ℕ) (xs : List ℕ) (b : Bool) → p x ≡ b → list_all p (take (prefix_len p xs) xs) ≡ true → list_all p (take (cond b (1 + prefix_len p xs) 0) (x ∷ xs)) ≡ true
-front_step p x xs true e h =
-    let one : 1 + prefix_len p xs ≡ suc (prefix_len p xs) = omega arith in
-    rw one (rw e h)
+front_step p x xs true e h = grind (arith, common_steps)
 front_step p x xs false e h = refl
 
 -- the longest front that passes p passes
@@ -46,11 +45,6 @@ not_all p (x ∷ xs) (suc n) lt le h =
 pub eqb_is : (x y : ℕ) → eqb x y ≡ true → x ≡ y
 eqb_is x y h = grind (arith, nat_tests)
 
-pub take_some : (n : ℕ) (xs : List ℕ) → 0 < n → n ≤ length xs → take n xs ≢ []
-take_some zero xs p q = absurd (omega arith)
-take_some (suc n) [] p q = absurd (omega arith)
-take_some (suc n) (x ∷ xs) p q = λ e. cc
-
 take_size : (n k : ℕ) (xs ys : List ℕ) → n ≤ length xs → take n xs ≡ ys → length ys ≡ k → n ≡ k
 take_size n k xs ys le e s = sym (length-take-le n xs le) ∙ ap length e ∙ s
 
@@ -70,15 +64,10 @@ Behind Other (Symbol m) bs = ⊤
 Behind _ _ bs = ⊥
 
 number_behind : (c : Class) (v : ℕ) (bs : List ℕ) → StartsNumber c → AllWord bs → Behind c (Number v) bs
-number_behind Digit v bs s w = w
-number_behind Radix v bs s w = w
-number_behind _ v bs s w = absurd s
+number_behind x v bs s w = grind (arith, common_steps)
 
 pub size_letter : (s : AddressSize) (b : ℕ) → IsSizeLetter s b → class_of b ≡ Letter
-size_letter ZeroPage b (inl e) = ap class_of e
-size_letter ZeroPage b (inr e) = ap class_of e
-size_letter Absolute b (inl e) = ap class_of e
-size_letter Absolute b (inr e) = ap class_of e
+size_letter x b y = grind (arith, common_steps)
 
 mark_behind : (m : Mark) → Behind (class_of (get_or (spelling m) 0 0)) (Symbol m) (drop 1 (spelling m))
 mark_behind Scope = (λ e. absurd (omega arith), λ e. absurd (omega arith))
@@ -86,8 +75,7 @@ mark_behind Define = (λ e. absurd (omega arith), λ e. absurd (omega arith))
 mark_behind _ = tt
 
 pub mark_size : (m : Mark) → length (spelling m) ≤ 2
-mark_size Scope = omega arith
-mark_size _ = omega arith
+mark_size x = grind (arith, common_steps)
 
 pub behind : (j : TokenKind) (b : ℕ) (bs : List ℕ) → IsForm j (b ∷ bs) → Behind (class_of b) j bs
 behind Identifier b bs h = subst (λ (c : Class). Behind c Identifier bs) (sym h.0) h.1
@@ -132,16 +120,8 @@ identifier_here first (b ∷ rest) n h never e =
       longest = identifier_longest first b rest h never;
     })
 
-pub colon_is_no_word : (x : ℕ) (bs : List ℕ) → x ≡ 58 → AllWord (x ∷ bs) → ⊥
-colon_is_no_word x bs e w =
-    let yes : is_word x ≡ true = (and_both (is_word x) (list_all is_word bs) w).0 in
-    let never : is_word x ≡ false = ap is_word e in
-    cc
-
 after_prefix : (j : TokenKind) (m x : ℕ) (rest : List ℕ) → x ≡ 58 → 0 < m → m ≤ length rest → Behind Letter j (x ∷ take m rest) → ⊥
-after_prefix Identifier m x rest e lt le w = colon_is_no_word x (take m rest) e w
-after_prefix (SizePrefix s) m x rest e lt le w = take_some m rest lt le (cc)
-after_prefix _ m x rest e lt le w = w
+after_prefix y m x rest e lt le w = grind (arith, common_steps)
 
 prefix_longest : (first : Bool) (b x : ℕ) (rest : List ℕ) → class_of b ≡ Letter → x ≡ 58 → (j : TokenKind) (m : ℕ) → 2 < m → Stands first j m (b ∷ x ∷ rest) → ⊥
 prefix_longest first b x rest s e j zero lt h = absurd (omega arith)
@@ -151,12 +131,7 @@ prefix_longest first b x rest s e j (suc (suc m)) lt h =
     after_prefix j m x rest e (omega arith) (omega arith) (at_class Letter first j (suc m) b (x ∷ rest) s h)
 
 pub prefix_here : (first : Bool) (s : AddressSize) (here : List ℕ) → Stands first (SizePrefix s) 2 here → IsLongest first (SizePrefix s) 2 here
-prefix_here first s [] h = let le : 2 ≤ length {A = ℕ} [] = h.room in absurd (omega arith)
-prefix_here first s (b ∷ []) h = let le : 2 ≤ length (b ∷ []) = h.room in absurd (omega arith)
-prefix_here first s (b ∷ x ∷ rest) h =
-    let f : IsSizeLetter s b × (x ∷ [] ≡ 58 ∷ []) = h.form in
-    let e : x ∷ [] ≡ 58 ∷ [] = f.1 in
-    record { stands = h; longest = prefix_longest first b x rest (size_letter s b f.0) (cc) }
+prefix_here first s x h = grind (arith, common_steps, prefix_longest, size_letter)
 
 -- Cheap names and directives
 
@@ -164,8 +139,7 @@ letter_is_word : (x : ℕ) → class_of x ≡ Letter → is_word x ≡ true
 letter_is_word x e = rw e refl
 
 name_words : (bs : List ℕ) → IsName bs → AllWord bs
-name_words [] h = refl
-name_words (b ∷ bs) h = rw (letter_is_word b h.0) h.1
+name_words x h = grind (arith, common_steps)
 
 name_front : (xs : List ℕ) → Begins Letter xs → IsName (take (prefix_len is_word xs) xs)
 name_front [] h = h
@@ -186,12 +160,10 @@ signed_longest c first b rest e only j (suc m) lt h =
     not_all is_word rest m (omega arith) (omega arith) (name_words (take m rest) (only j (take m rest) (at_class c first j m b rest e h)))
 
 only_cheap : (j : TokenKind) (bs : List ℕ) → Behind At j bs → IsName bs
-only_cheap CheapName bs h = h
-only_cheap _ bs h = absurd h
+only_cheap x bs h = grind (arith, common_steps)
 
 only_directive : (j : TokenKind) (bs : List ℕ) → Behind Dot j bs → IsName bs
-only_directive Directive bs h = h
-only_directive _ bs h = absurd h
+only_directive x bs h = grind (arith, common_steps)
 
 pub name_here : (first : Bool) (k : TokenKind) (here : List ℕ) (n : ℕ) → BeginsSigned k here → Begins Letter (drop 1 here) → n ≡ prefix_len is_word (drop 1 here) → IsLongest first k (1 + n) here
 name_here first CheapName [] n s h e = absurd s
@@ -224,17 +196,11 @@ no_name_here first _ here s never = absurd s
 -- Numbers
 
 number_words : (c : Class) (j : TokenKind) (bs : List ℕ) → StartsNumber c → Behind c j bs → AllWord bs
-number_words Digit (Number v) bs s h = h
-number_words Digit _ bs s h = absurd h
-number_words Radix (Number v) bs s h = h
-number_words Radix _ bs s h = absurd h
-number_words _ j bs s h = absurd s
+number_words x y bs s h = grind (arith, common_steps)
 
 number_longest : (first : Bool) (b : ℕ) (rest : List ℕ) → StartsNumber (class_of b) → (j : TokenKind) (m : ℕ) → suc (prefix_len is_word rest) < m → Stands first j m (b ∷ rest) → ⊥
 number_longest first b rest s j zero lt h = absurd (omega arith)
-number_longest first b rest s j (suc m) lt h =
-    let le : suc m ≤ length (b ∷ rest) = h.room in
-    not_all is_word rest m (omega arith) (omega arith) (number_words (class_of b) j (take m rest) s (at_class (class_of b) first j m b rest refl h))
+number_longest first b rest s j (suc m) lt h = grind (arith, common_steps, not_all, number_words, at_class)
 
 pub number_here : (first : Bool) (here : List ℕ) (v n : ℕ) → BeginsNumber here → n ≡ 1 + prefix_len is_word (drop 1 here) → IsLongest first (Number v) n here
 number_here first [] v n h e = absurd h
@@ -248,8 +214,7 @@ number_here first (b ∷ rest) v n h e =
 -- Characters
 
 only_character : (j : TokenKind) (bs : List ℕ) → Behind Apostrophe j bs → (c : ℕ) × (bs ≡ c ∷ 39 ∷ [])
-only_character (Character c) bs h = (c, h)
-only_character _ bs h = absurd h
+only_character x bs h = grind (arith, common_steps)
 
 character_longest : (first : Bool) (b : ℕ) (rest : List ℕ) → class_of b ≡ Apostrophe → (j : TokenKind) (m : ℕ) → 3 < m → Stands first j m (b ∷ rest) → ⊥
 character_longest first b rest e j zero lt h = absurd (omega arith)
@@ -260,13 +225,7 @@ character_longest first b rest e j (suc m) lt h =
     omega arith
 
 pub character_here : (first : Bool) (here : List ℕ) → Begins Apostrophe here → 2 < length here → get_or here 2 0 ≡ 39 → IsLongest first (Character (get_or here 1 0)) 3 here
-character_here first [] h lt e = absurd h
-character_here first (b ∷ []) h lt e = absurd (omega arith)
-character_here first (b ∷ x ∷ []) h lt e = absurd (omega arith)
-character_here first (b ∷ x ∷ y ∷ rest) h lt e = record {
-  stands = record { room = omega arith; form = (h, ap (λ z. x ∷ z ∷ []) e); allowed = tt };
-  longest = character_longest first b (x ∷ y ∷ rest) h;
-}
+character_here first x h lt e = grind (arith, common_steps, character_longest)
 
 third_byte : (m b c : ℕ) (rest : List ℕ) → take m rest ≡ c ∷ 39 ∷ [] → (2 < length (b ∷ rest)) × (get_or (b ∷ rest) 2 0 ≡ 39)
 third_byte zero b c rest e = absurd (cc)
@@ -283,8 +242,7 @@ no_character first b rest e never j (suc m) h =
     never third.0 third.1
 
 pub no_character_here : (first : Bool) (here : List ℕ) → Begins Apostrophe here → (2 < length here → get_or here 2 0 ≡ 39 → ⊥) → FaultAt first here BadCharacter
-no_character_here first [] h never = absurd h
-no_character_here first (b ∷ rest) h never = (no_character first b rest h never, λ e. cc)
+no_character_here first x h never = grind (arith, common_steps, no_character)
 
 -- Strings
 
@@ -315,22 +273,17 @@ closes_at (x ∷ y ∷ ys) (suc (suc m)) le h =
 closes_step : (x : ℕ) (xs : List ℕ) (b : Bool) → is_no_quote x ≡ b → (prefix_len is_no_quote xs < length xs → ClosesText (take (suc (prefix_len is_no_quote xs)) xs)) → cond b (1 + prefix_len is_no_quote xs) 0 < suc (length xs) → ClosesText (take (suc (cond b (1 + prefix_len is_no_quote xs) 0)) (x ∷ xs))
 closes_step x xs false e ih lt = quote_is x e
 closes_step x [] true e ih lt = absurd (omega arith)
-closes_step x (y ∷ ys) true e ih lt =
-    let one : 1 + prefix_len is_no_quote (y ∷ ys) ≡ suc (prefix_len is_no_quote (y ∷ ys)) = omega arith in
-    subst (λ (n : ℕ). ClosesText (take (suc n) (x ∷ y ∷ ys))) (sym one) (no_quote_is x e, ih (omega arith))
+closes_step x (y ∷ ys) true e ih lt = grind (arith, common_steps, no_quote_is)
 
 closes : (rest : List ℕ) → prefix_len is_no_quote rest < length rest → ClosesText (take (suc (prefix_len is_no_quote rest)) rest)
 closes [] lt = absurd (omega arith)
 closes (x ∷ xs) lt = closes_step x xs (is_no_quote x) refl (closes xs) lt
 
 only_text : (j : TokenKind) (bs : List ℕ) → Behind Quote j bs → ClosesText bs
-only_text Text bs h = h
-only_text _ bs h = absurd h
+only_text x bs h = grind (arith, common_steps)
 
 text_size : (first : Bool) (j : TokenKind) (m b : ℕ) (rest : List ℕ) → class_of b ≡ Quote → Stands first j (suc m) (b ∷ rest) → m ≡ suc (prefix_len is_no_quote rest)
-text_size first j m b rest e h =
-    let le : suc m ≤ length (b ∷ rest) = h.room in
-    closes_at rest m (omega arith) (only_text j (take m rest) (at_class Quote first j m b rest e h))
+text_size first j m b rest e h = grind (arith, common_steps, closes_at, only_text, at_class)
 
 text_longest : (first : Bool) (b : ℕ) (rest : List ℕ) → class_of b ≡ Quote → (j : TokenKind) (m : ℕ) → suc (suc (prefix_len is_no_quote rest)) < m → Stands first j m (b ∷ rest) → ⊥
 text_longest first b rest e j zero lt h = absurd (omega arith)
@@ -347,14 +300,10 @@ text_here first (b ∷ rest) n h e lt =
 
 no_text : (first : Bool) (b : ℕ) (rest : List ℕ) → class_of b ≡ Quote → length rest ≤ prefix_len is_no_quote rest → NoForm first (b ∷ rest)
 no_text first b rest e le j zero h = empty first j (b ∷ rest) h
-no_text first b rest e le j (suc m) h =
-    let size = text_size first j m b rest e h in
-    let room : suc m ≤ length (b ∷ rest) = h.room in
-    omega arith
+no_text first b rest e le j (suc m) h = grind (arith, common_steps, text_size)
 
 pub open_text_here : (first : Bool) (here : List ℕ) → Begins Quote here → length (drop 1 here) ≤ prefix_len is_no_quote (drop 1 here) → FaultAt first here StringNotClosed
-open_text_here first [] h le = absurd h
-open_text_here first (b ∷ rest) h le = (no_text first b rest h le, h)
+open_text_here first x h le = grind (arith, common_steps, no_text)
 
 -- Tokens
 
@@ -365,11 +314,7 @@ behind_first : (n : ℕ) (here : List ℕ) → 1 + n ≤ length here → length 
 behind_first n here le = omega (arith, length-drop 1 (take (1 + n) here), length-take-le (1 + n) here le)
 
 pub name_size : (first : Bool) (k : TokenKind) (n : ℕ) (here : List ℕ) → BeginsSigned k here → IsLongest first k (1 + n) here → length (name_in k (take (1 + n) here)) ≡ n
-name_size first CheapName n here s h = behind_first n here h.stands.room
-name_size first Directive n here s h = behind_first n here h.stands.room
-name_size first _ n here s h = absurd s
+name_size first x n here s h = grind (arith, common_steps, behind_first)
 
 pub name_value : (k : TokenKind) (here text : List ℕ) → BeginsSigned k here → HasValue k text
-name_value CheapName here text s = tt
-name_value Directive here text s = tt
-name_value _ here text s = absurd s
+name_value x here text s = grind (arith, common_steps)

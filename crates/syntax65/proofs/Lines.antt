@@ -1,4 +1,5 @@
 -- The tokens of a line, one after the other.
+use Rattle.std.proofs.lemmas.Grind.{common_steps}
 use Rattle.std.proofs.Common.{◌≡◌, ℕ, zero, suc, ◌+◌, ◌<◌, ◌≤◌, Bool, true, false, cond, List, [], ◌∷◌, ◌++◌, length, take, drop, Option, Some, refl, sym, ap, ◌∙◌, arith, append_assoc}
 use Rattle.std.proofs.lemmas.List.{take-append-drop}
 use Rattle.std.specs.List.{prefix_len}
@@ -19,9 +20,7 @@ FirstFails p [] = Unit {0}
 FirstFails p (x ∷ xs) = p x ≡ false
 
 behind_step : (p : ℕ → Bool) (x : ℕ) (xs : List ℕ) (b : Bool) → p x ≡ b → FirstFails p (drop (prefix_len p xs) xs) → FirstFails p (drop (cond b (1 + prefix_len p xs) 0) (x ∷ xs))
-behind_step p x xs true e h =
-    let one : 1 + prefix_len p xs ≡ suc (prefix_len p xs) = omega arith in
-    rw one h
+behind_step p x xs true e h = grind (arith, common_steps)
 behind_step p x xs false e h = e
 
 behind : (p : ℕ → Bool) (xs : List ℕ) → FirstFails p (drop (prefix_len p xs) xs)
@@ -29,20 +28,14 @@ behind p [] = tt
 behind p (x ∷ xs) = behind_step p x xs (p x) refl (behind p xs)
 
 no_blank : (here : List ℕ) → FirstFails is_blank here → Begins Blank here → ⊥
-no_blank [] h b = b
-no_blank (x ∷ xs) h b = let blank : is_blank x ≡ true = ap is_blank_class b in cc
+no_blank x h b = grind (arith, common_steps)
 
 -- no blank stands behind the blanks
 pub no_blank_behind : (line : List ℕ) → Begins Blank (after_blanks line) → ⊥
 no_blank_behind line = no_blank (after_blanks line) (behind is_blank line)
 
 pub refuse : (first : Bool) (line here : List ℕ) (ts : List Lexeme) (fault : LexFault) → length line ≤ 4096 → FaultAt first here fault → Reads true line ts (Some fault) → Unless (is_lex_outside fault) (IsRead line (Err fault))
-refuse first line here ts OutOfMemory short h reads = tt
-refuse first line here ts BadCharacter short h reads = (short, (ts, reads))
-refuse first line here ts BadNumber short h reads = (short, (ts, reads))
-refuse first line here ts StringNotClosed short h reads = (short, (ts, reads))
-refuse first line here ts LineTooLong short h reads = absurd h
-refuse first line here ts NameTooLong short h reads = (short, (ts, reads))
+refuse first line here ts x short h reads = grind (arith, common_steps)
 
 -- a token that stands behind blanks is cut off
 pub cut_off : (rest here text left : List ℕ) (n : ℕ) → here ≡ after_blanks rest → text ≡ take n here → left ≡ drop n here → IsCutOff rest text left

@@ -1,4 +1,5 @@
 -- What stands at a `:` or at a byte that only a mark can begin.
+use Rattle.std.proofs.lemmas.Grind.{common_steps}
 use Rattle.std.proofs.Common.{◌≡◌, ◌⊎◌, inl, inr, ℕ, zero, suc, ◌+◌, ◌<◌, ◌≤◌, Bool, true, List, [], ◌∷◌, length, take, drop, get_or, refl, sym, ap, subst, ◌∙◌, arith, IsTrue, eqb, eq-eqb}
 use Rattle.std.specs.Prelude.{⊤}
 use Rattle.std.specs.List.{prefix_len, list_all}
@@ -41,9 +42,7 @@ sign_run c rest (inl e) = inl (λ same. cc, subst (λ (d : ℕ). IsTrue (list_al
 sign_run c rest (inr e) = inr (λ same. cc, subst (λ (d : ℕ). IsTrue (list_all (λ b. eqb b d) (c ∷ take (prefix_len (λ b. eqb b c) rest) rest))) e (run_size c rest))
 
 no_more : (c d : ℕ) (rest : List ℕ) (m : ℕ) → prefix_len (λ b. eqb b c) rest < m → m ≤ length rest → IsRunOf d (c ∷ take m rest) → ⊥
-no_more c d rest m lt le h =
-    let same : c ≡ d = run_begins d c (take m rest) h in
-    not_all (λ b. eqb b c) rest m lt le (subst (λ (x : ℕ). IsTrue (list_all (λ b. eqb b x) (take m rest))) (sym same) (and_both (eqb c d) _ h.1).1)
+no_more c d rest m lt le h = grind (arith, common_steps, run_begins, not_all, and_both)
 
 after_sign : (first : Bool) (j : TokenKind) (m b c : ℕ) (rest : List ℕ) → prefix_len (λ x. eqb x c) rest < m → m ≤ length rest → Stands first j (suc (suc m)) (b ∷ c ∷ rest) → Behind Colon j (c ∷ take m rest) → ⊥
 after_sign first Unnamed m b c rest lt le h (inl r) = no_more c 43 rest m lt le r
@@ -54,9 +53,7 @@ after_sign first _ m b c rest lt le h r = r
 unnamed_longest : (first : Bool) (b c : ℕ) (rest : List ℕ) → class_of b ≡ Colon → (j : TokenKind) (m : ℕ) → suc (suc (prefix_len (λ x. eqb x c) rest)) < m → Stands first j m (b ∷ c ∷ rest) → ⊥
 unnamed_longest first b c rest e j zero lt h = absurd (omega arith)
 unnamed_longest first b c rest e j (suc zero) lt h = absurd (omega arith)
-unnamed_longest first b c rest e j (suc (suc m)) lt h =
-    let le : suc (suc m) ≤ length (b ∷ c ∷ rest) = h.room in
-    after_sign first j m b c rest (omega arith) (omega arith) h (at_class Colon first j (suc m) b (c ∷ rest) e h)
+unnamed_longest first b c rest e j (suc (suc m)) lt h = grind (arith, common_steps, after_sign, at_class)
 
 pub unnamed_here : (first : Bool) (here : List ℕ) (c n : ℕ) → Begins Colon here → 1 < length here → get_or here 1 0 ≡ c → IsSign c → n ≡ prefix_len (λ b. eqb b c) (drop 2 here) → IsLongest first Unnamed (2 + n) here
 unnamed_here first [] c n h lt e s size = absurd h
@@ -75,21 +72,11 @@ abbrev IsMark : TokenKind → Type 0
 IsMark (Symbol m) = ⊤
 IsMark _ = ⊥
 
-no_run : (c m : ℕ) (xs : List ℕ) → IsSign c → NoSign xs → IsRunOf c (take m xs) → ⊥
-no_run c zero xs s never h = h.0 refl
-no_run c (suc m) [] s never h = h.0 refl
-no_run c (suc m) (x ∷ xs) (inl e) never h = never.0 (run_begins c x (take m xs) h ∙ e)
-no_run c (suc m) (x ∷ xs) (inr e) never h = never.1 (run_begins c x (take m xs) h ∙ e)
-
 only_other : (j : TokenKind) (bs : List ℕ) → Behind Other j bs → IsMark j
-only_other (Symbol m) bs h = tt
-only_other _ bs h = h
+only_other x bs h = grind (arith, common_steps)
 
 only_colon : (j : TokenKind) (m : ℕ) (xs : List ℕ) → NoSign xs → Behind Colon j (take m xs) → IsMark j
-only_colon (Symbol m) n xs never h = tt
-only_colon Unnamed n xs never (inl h) = no_run 43 n xs (inl refl) never h
-only_colon Unnamed n xs never (inr h) = no_run 45 n xs (inr refl) never h
-only_colon _ n xs never h = h
+only_colon x n xs never h = grind (arith, common_steps)
 
 -- only a mark stands here
 only_mark : (first : Bool) (j : TokenKind) (n : ℕ) (here : List ℕ) → BeginsMark here → Stands first j n here → IsMark j
@@ -115,10 +102,7 @@ short_longest first _ n here k never lt h = k
 pub short_here : (first : Bool) (here : List ℕ) (m : Mark) → BeginsMark here → spelling m ≡ get_or here 0 0 ∷ [] → ((m : Mark) (f : Bool) → Stands f (Symbol m) 2 here → ⊥) → IsLongest first (Symbol m) 1 here
 short_here first [] m (inl b) e never = absurd b
 short_here first [] m (inr b) e never = absurd b.0
-short_here first (x ∷ xs) m b e never = record {
-  stands = record { room = omega arith; form = sym e; allowed = tt };
-  longest = λ j n lt s. short_longest first j n (x ∷ xs) (only_mark first j n (x ∷ xs) b s) never lt s;
-}
+short_here first (x ∷ xs) m b e never = grind (arith, common_steps, short_longest, only_mark)
 
 no_mark : (first : Bool) (j : TokenKind) (n : ℕ) (here : List ℕ) → IsMark j → ((m : Mark) → spelling m ≡ get_or here 0 0 ∷ [] → ⊥) → ((m : Mark) (f : Bool) → Stands f (Symbol m) 2 here → ⊥) → Stands first j n here → ⊥
 no_mark first (Symbol m) zero here k one two h = empty first (Symbol m) here h
@@ -128,10 +112,7 @@ no_mark first (Symbol m) (suc (suc n)) here k one two h = short_longest first (S
 no_mark first _ n here k one two h = k
 
 mark_is_no_quote : (here : List ℕ) → BeginsMark here → Begins Quote here → ⊥
-mark_is_no_quote [] (inl e) q = e
-mark_is_no_quote [] (inr e) q = e.0
-mark_is_no_quote (x ∷ xs) (inl e) q = cc
-mark_is_no_quote (x ∷ xs) (inr e) q = let f = e.0 in cc
+mark_is_no_quote x y q = grind (arith, common_steps)
 
 pub no_mark_here : (first : Bool) (here : List ℕ) → BeginsMark here → ((m : Mark) → spelling m ≡ get_or here 0 0 ∷ [] → ⊥) → ((m : Mark) (f : Bool) → Stands f (Symbol m) 2 here → ⊥) → FaultAt first here BadCharacter
 no_mark_here first here b one two = (λ j n s. no_mark first j n here (only_mark first j n here b s) one two s, mark_is_no_quote here b)

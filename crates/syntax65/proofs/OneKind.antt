@@ -1,4 +1,5 @@
 -- A text is of one kind at most.
+use Rattle.std.proofs.lemmas.Grind.{common_steps}
 use Rattle.std.proofs.Common.{◌≡◌, ◌⊎◌, inl, inr, ℕ, Bool, true, false, List, [], ◌∷◌, refl, sym, ap, ◌∙◌, arith, eqb}
 use Rattle.std.specs.Prelude.{◌==◌, if◌then◌else◌}
 use Rattle.std.specs.List.{list_all}
@@ -41,67 +42,8 @@ kind_behind Quote bs = Text
 kind_behind Colon bs = if begins_sign bs then Unnamed else Symbol Scope
 kind_behind _ bs = Symbol Scope
 
-run_has_sign : (c : ℕ) (bs : List ℕ) → (c ≡ 43) ⊎ (c ≡ 45) → IsRunOf c bs → begins_sign bs ≡ true
-run_has_sign c [] s h = absurd (h.0 refl)
-run_has_sign c (b ∷ bs) s h =
-    let t : eqb b c ≡ true = (and_both (eqb b c) _ h.1).0 in
-    grind (arith, nat_tests)
-
-no_sign : (bs : List ℕ) → NoSign bs → begins_sign bs ≡ false
-no_sign [] h = refl
-no_sign (b ∷ bs) h = grind (arith, nat_tests)
-
-letters_kind : (j : TokenKind) (bs : List ℕ) → Behind Letter j bs → bare j ≡ kind_behind Letter bs
-letters_kind Identifier bs h = let e : list_all is_word bs ≡ true = h in rw e refl
-letters_kind (SizePrefix s) bs h = rw h refl
-letters_kind _ bs h = absurd h
-
-colons_kind : (j : TokenKind) (bs : List ℕ) → Behind Colon j bs → bare j ≡ kind_behind Colon bs
-colons_kind Unnamed bs (inl h) = rw (run_has_sign 43 bs (inl refl) h) refl
-colons_kind Unnamed bs (inr h) = rw (run_has_sign 45 bs (inr refl) h) refl
-colons_kind (Symbol m) bs h = rw (no_sign bs h) refl
-colons_kind _ bs h = absurd h
-
-numbers_kind : (j : TokenKind) (bs : List ℕ) → Behind Digit j bs → bare j ≡ Number 0
-numbers_kind (Number v) bs h = refl
-numbers_kind _ bs h = absurd h
-
-radix_kind : (j : TokenKind) (bs : List ℕ) → Behind Radix j bs → bare j ≡ Number 0
-radix_kind (Number v) bs h = refl
-radix_kind _ bs h = absurd h
-
-cheap_kind : (j : TokenKind) (bs : List ℕ) → Behind At j bs → bare j ≡ CheapName
-cheap_kind CheapName bs h = refl
-cheap_kind _ bs h = absurd h
-
-directive_kind : (j : TokenKind) (bs : List ℕ) → Behind Dot j bs → bare j ≡ Directive
-directive_kind Directive bs h = refl
-directive_kind _ bs h = absurd h
-
-character_kind : (j : TokenKind) (bs : List ℕ) → Behind Apostrophe j bs → bare j ≡ Character 0
-character_kind (Character c) bs h = refl
-character_kind _ bs h = absurd h
-
-text_kind : (j : TokenKind) (bs : List ℕ) → Behind Quote j bs → bare j ≡ Text
-text_kind Text bs h = refl
-text_kind _ bs h = absurd h
-
-other_kind : (j : TokenKind) (bs : List ℕ) → Behind Other j bs → bare j ≡ Symbol Scope
-other_kind (Symbol m) bs h = refl
-other_kind _ bs h = absurd h
-
 kind_of_class : (c : Class) (j : TokenKind) (bs : List ℕ) → Behind c j bs → bare j ≡ kind_behind c bs
-kind_of_class Letter j bs h = letters_kind j bs h
-kind_of_class Digit j bs h = numbers_kind j bs h
-kind_of_class Radix j bs h = radix_kind j bs h
-kind_of_class At j bs h = cheap_kind j bs h
-kind_of_class Dot j bs h = directive_kind j bs h
-kind_of_class Apostrophe j bs h = character_kind j bs h
-kind_of_class Quote j bs h = text_kind j bs h
-kind_of_class Colon j bs h = colons_kind j bs h
-kind_of_class Semicolon j bs h = absurd h
-kind_of_class Blank j bs h = absurd h
-kind_of_class Other j bs h = other_kind j bs h
+kind_of_class x j bs h = grind (arith, common_steps)
 
 -- a text is of one form at most
 pub one_form : (j k : TokenKind) (text : List ℕ) → IsForm j text → IsForm k text → bare j ≡ bare k
@@ -144,23 +86,13 @@ mark_of (b ∷ []) = mark_of_byte b
 mark_of (b ∷ c ∷ bs) = mark_of_pair b c
 
 spelled_back : (m : Mark) → mark_of (spelling m) ≡ m
-spelled_back Scope = refl
-spelled_back _ = refl
+spelled_back x = grind (arith, common_steps)
 
 one_mark : (m n : Mark) → spelling m ≡ spelling n → m ≡ n
 one_mark m n e = sym (spelled_back m) ∙ ap mark_of e ∙ spelled_back n
 
 one_size : (s t : AddressSize) (b : ℕ) → IsSizeLetter s b → IsSizeLetter t b → s ≡ t
-one_size ZeroPage ZeroPage b h g = refl
-one_size Absolute Absolute b h g = refl
-one_size ZeroPage Absolute b (inl h) (inl g) = absurd (omega arith)
-one_size ZeroPage Absolute b (inl h) (inr g) = absurd (omega arith)
-one_size ZeroPage Absolute b (inr h) (inl g) = absurd (omega arith)
-one_size ZeroPage Absolute b (inr h) (inr g) = absurd (omega arith)
-one_size Absolute ZeroPage b (inl h) (inl g) = absurd (omega arith)
-one_size Absolute ZeroPage b (inl h) (inr g) = absurd (omega arith)
-one_size Absolute ZeroPage b (inr h) (inl g) = absurd (omega arith)
-one_size Absolute ZeroPage b (inr h) (inr g) = absurd (omega arith)
+one_size x y b h g = grind (arith, common_steps)
 
 same_kind : (j k : TokenKind) (text : List ℕ) → IsForm j text → HasValue j text → IsForm k text → HasValue k text → bare j ≡ bare k → j ≡ k
 same_kind j k [] h v g w e = absurd h
@@ -181,8 +113,4 @@ one_kind j k text h v g w = same_kind j k text h v g w (one_form j k text h g)
 
 -- one text at most is the longest at a place
 pub one_length : (first : Bool) (j k : TokenKind) (m n : ℕ) (here : List ℕ) → IsLongest first j m here → IsLongest first k n here → m ≡ n
-one_length first j k m n here h g = elim (cases_order m n) [
-  | inl e ↦ e
-  | inr (inl lt) ↦ absurd (h.longest k n lt g.stands)
-  | inr (inr lt) ↦ absurd (g.longest j m lt h.stands)
-]
+one_length first j k m n here h g = grind (arith, common_steps)

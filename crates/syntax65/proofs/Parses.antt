@@ -1,4 +1,5 @@
 -- Tokens are parsed in one way: each phrase and each stop is a reading from left to right.
+use Rattle.std.proofs.lemmas.Grind.{common_steps}
 use Rattle.std.proofs.Common.{◌≡◌, ◌≢◌, ℕ, zero, suc, ◌+◌, ◌<◌, ◌≤◌, true, false, List, Option, Some, None, refl, sym, ap, subst, ◌∙◌, arith}
 use Rattle.std.specs.Prelude.{slice_get, Ok, Err}
 use Rattle.syntax65.specs.Tokens.{Lexeme}
@@ -17,22 +18,14 @@ use Rattle.syntax65.specs.declared.expressions.fault.ExprFault.TheVariants.{Oper
 use Rattle.syntax65.proofs.Phrases.{low_level}
 use Rattle.syntax65.proofs.Runs.{Answer, whole_at, level_at, rest_at, Run, r_leaf, r_name, r_global, r_none, r_deep, r_prefix, r_enclosed, r_first, r_lost, r_end, r_next, r_next_lost, r_plain, r_negated, r_negation_deep, closed, one_answer}
 
--- a `)` is no operator
-close_kind : (k : TokenKind) (text : List ℕ) → is_close k ≡ true → binary_of k text ≡ None
-close_kind (token.Symbol CloseParenthesis) text h = refl
-close_kind (token.Symbol _) text h = absurd (cc)
-close_kind _ text h = absurd (cc)
-
 close_token : (o : Option Lexeme) → close_in o ≡ true → binary_in o ≡ None
-close_token None h = refl
-close_token (Some t) h = close_kind t.0 t.1 h
+close_token x h = grind (arith, common_steps)
 
 close_quiet : (ts : List Lexeme) (n j : ℕ) → closes_at ts j ≡ true → NoOperator ts n j
 close_quiet ts n j h = λ op at. (let none : binary_at ts j ≡ None = close_token (slice_get ts j) h in absurd (cc))
 
 parts_begin : (ts : List Lexeme) (i j : ℕ) (p : List (List ℕ)) → Parts ts i j p → opening_at ts i ≡ Name
-parts_begin ts _ _ _ (last_part i h stop) = h
-parts_begin ts _ _ _ (next_part i j p h scope n) = h
+parts_begin ts x y z u = grind (arith, common_steps)
 
 leaf_is_plain : (o : Opening) (text : List ℕ) (t : Tree) → leaf_of o text ≡ Some t → o ≢ Negation
 leaf_is_plain o text t h e = let none : leaf_of o text ≡ None = ap (λ x. leaf_of x text) e in cc
@@ -153,8 +146,7 @@ lost ts _ _ _ _ _ (in_negated room i k f h s) =
     )
 
 run_of : (ts : List Lexeme) (r : Answer) → IsParsed ts r → Run ts (whole_at 64 0) r
-run_of ts (Ok x) h = let w : Whole ts 64 6 0 x.1 x.0 = whole ts 64 6 0 x.1 x.0 h.phrase in w.1 refl h.ends
-run_of ts (Err f) h = (lost ts 64 6 0 h.0 f h.1).1 refl
+run_of ts x h = grind (arith, common_steps, whole, lost)
 
 pub one_parse : OneParse
 one_parse ts r s h g = one_answer ts (whole_at 64 0) r s (run_of ts r h) (run_of ts s g)

@@ -1,4 +1,5 @@
 -- One step of a reader, as one rule of the grammar.
+use Rattle.std.proofs.lemmas.Grind.{common_steps}
 use Rattle.std.proofs.Common.{◌≡◌, ◌≢◌, ℕ, zero, suc, ◌+◌, ◌-◌, ◌<◌, ◌≤◌, true, false, List, [], ◌∷◌, ◌++◌, Option, Some, None, refl, sym, ap, subst, ◌∙◌, arith, append_assoc}
 use Rattle.std.specs.Prelude.{Result, Ok, Err}
 use Rattle.syntax65.specs.Tokens.{Lexeme}
@@ -17,8 +18,7 @@ use Rattle.syntax65.specs.declared.expressions.fault.ExprFault.{ExprFault}
 use Rattle.syntax65.specs.declared.expressions.fault.ExprFault.TheVariants.{OutOfMemory, OperandExpected, ParenthesisExpected, TooDeep}
 
 level_pos : (op : Op2) → 0 < level_of op
-level_pos Multiply = omega arith
-level_pos _ = omega arith
+level_pos x = grind (arith, common_steps)
 
 level_zero : (ts : List Lexeme) (j : ℕ) → NoOperator ts 0 j
 level_zero ts j op h = level_pos op
@@ -75,8 +75,7 @@ enclosed_phrase ts room i j t pos h inner close =
     }
 
 pub low_level : (op : Op2) → level_of op ≤ 5
-low_level Multiply = omega arith
-low_level _ = omega arith
+low_level x = grind (arith, common_steps)
 
 -- a phrase that is no negation
 pub whole_phrase : (ts : List Lexeme) (room i j : ℕ) (t : Tree) → IsPhrase ts room 5 i j t → IsPhrase ts room 6 i j t
@@ -86,10 +85,7 @@ whole_phrase ts room i j t p = record { phrase = of_level room 5 i j t p.phrase;
 
 -- a stop inside is a stop of the whole
 lift_stop : (ts : List Lexeme) (room n i room' n' i' : ℕ) (f : ExprFault) → ((k : ℕ) (g : ExprFault) → Stops ts room n i k g → Stops ts room' n' i' k g) → IsStop ts room n i f → IsStop ts room' n' i' f
-lift_stop ts room n i room' n' i' OutOfMemory up h = tt
-lift_stop ts room n i room' n' i' OperandExpected up h = (h.0, up h.0 OperandExpected h.1)
-lift_stop ts room n i room' n' i' ParenthesisExpected up h = (h.0, up h.0 ParenthesisExpected h.1)
-lift_stop ts room n i room' n' i' TooDeep up h = (h.0, up h.0 TooDeep h.1)
+lift_stop ts room n i room' n' i' x up h = grind (arith, common_steps)
 
 pub name_stop : (ts : List Lexeme) (room i : ℕ) (f : ExprFault) → opening_at ts i ≡ Name → IsMissing ts i f → IsStop ts room 0 i f
 name_stop ts room i OutOfMemory h s = tt
@@ -133,17 +129,7 @@ pub deep_negation : (ts : List Lexeme) (room i : ℕ) → room ≡ 0 → opening
 deep_negation ts room i r h = rw r (i, negation_too_deep i h)
 
 none_begins : (o : Opening) (text : List ℕ) → leaf_of o text ≡ None → o ≢ Name → o ≢ Scope → ((op : Op1) → o ≢ Prefix op) → o ≢ Parenthesis → BeginsOperand o → ⊥
-none_begins (Number v) text e a b c d h = cc
-none_begins Here text e a b c d h = cc
-none_begins Cheap text e a b c d h = cc
-none_begins (Forward n) text e a b c d h = cc
-none_begins (Backward n) text e a b c d h = cc
-none_begins Name text e a b c d h = a refl
-none_begins Scope text e a b c d h = b refl
-none_begins (Prefix op) text e a b c d h = c op refl
-none_begins Parenthesis text e a b c d h = d refl
-none_begins Negation text e a b c d h = h
-none_begins Nothing text e a b c d h = h
+none_begins x text e a b c d h = grind (arith, common_steps)
 
 pub bad_operand : (ts : List Lexeme) (room i : ℕ) (o : Opening) → o ≡ opening_at ts i → leaf_of o (text_at ts i) ≡ None → o ≢ Name → o ≢ Scope → ((op : Op1) → o ≢ Prefix op) → o ≢ Parenthesis → IsStop ts room 0 i OperandExpected
 bad_operand ts room i o e n a b c d = (i, no_operand room i (λ h. none_begins o (text_at ts i) n a b c d (subst BeginsOperand (sym e) h)))
@@ -219,16 +205,11 @@ pub whole_part : (ts : List Lexeme) (room n i j : ℕ) (t : Tree) → IsPart ts 
 whole_part ts room n i j t p none = record { phrase = raised ts room p.own n i j t p.most p.phrase; ends = none }
 
 pub whole_result : (ts : List Lexeme) (room i : ℕ) (r : Result (Tree × ℕ) ExprFault) → opening_at ts i ≢ Negation → ReadsLevel ts room 5 i r → ReadsLevel ts room 6 i r
-whole_result ts room i (Ok x) h p = whole_phrase ts room i x.1 x.0 p
-whole_result ts room i (Err f) h s = whole_stop ts room i f h s
+whole_result ts room i x h p = grind (arith, common_steps, whole_phrase, whole_stop)
 
 pub leaf_made : (ts : List Lexeme) (i : ℕ) (o : Opening) (text : List ℕ) (made : Option Tree) → o ≡ opening_at ts i → text ≡ text_at ts i → made ≡ leaf_of o text → leaf_at ts i ≡ made
 leaf_made ts i o text made a b e = sym (e ∙ ap (λ p. leaf_of p text) a ∙ ap (leaf_of (opening_at ts i)) b)
 
 -- a reader's answer, as what the tokens are read as
 pub parsed : (ts : List Lexeme) (r : Result (Tree × ℕ) ExprFault) → ReadsLevel ts 64 6 0 r → Answers is_expr_outside (λ x. x) r (IsParsed ts)
-parsed ts (Ok x) h = h
-parsed ts (Err OutOfMemory) h = tt
-parsed ts (Err OperandExpected) h = h
-parsed ts (Err ParenthesisExpected) h = h
-parsed ts (Err TooDeep) h = h
+parsed ts x h = grind (arith, common_steps)

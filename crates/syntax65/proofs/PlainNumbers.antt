@@ -1,4 +1,5 @@
 -- Numbers whose digits go on up to their end.
+use Rattle.std.proofs.lemmas.Grind.{common_steps}
 use Rattle.std.proofs.Common.{◌≡◌, ◌≢◌, ◌∙◌, ℕ, ◌+◌, ◌-◌, ◌*◌, ◌<◌, ◌≤◌, ◌^◌, Bool, true, false, List, [], ◌∷◌, length, map, take, drop, get_or, Option, Some, None, refl, sym, ap, arith, nat_lt, one-add}
 use Rattle.std.specs.Prelude.{◌==◌, if◌then◌else◌, slice_get, slice_index, IfSome}
 use Rattle.std.specs.Char.{digit_value}
@@ -11,27 +12,12 @@ use Rattle.std.proofs.lemmas.List.Sums.{prefix_len_passes, prefix_len_stops}
 use Rattle.syntax65.specs.Bytes.{is_word}
 use Rattle.syntax65.specs.Numbers.{digits, is_digit, number_of, plain_number_of}
 use Rattle.syntax65.specs.Inner.Places.{AreDigitsAhead, IsPlainNumber}
-use Rattle.syntax65.proofs.Digits.{digits_from, all_digits, one_digit, no_more_digits, next_digit}
+use Rattle.syntax65.proofs.Digits.{digits_from, one_digit, no_more_digits, next_digit}
 
 -- ---- Digits are bytes of words.
 
-abbrev is_kept : ℕ → Bool
-is_kept b = if nat_lt (digit_value b) 16 then is_word b else true
-
-all_kept : map is_kept (range_with_len 0 256) ≡ map (λ b. true) (range_with_len 0 256)
-all_kept = refl
-
-kept : (b : ℕ) → b < 256 → is_kept b ≡ true
-kept b h =
-    let here : get_or (map is_kept (range_with_len 0 256)) b false ≡ is_kept b = get_or-map-range_with_len is_kept 0 256 b b false h (omega arith) in
-    let there : get_or (map (λ n. true) (range_with_len 0 256)) b false ≡ true = get_or-map-range_with_len (λ n. true) 0 256 b b false h (omega arith) in
-    sym here ∙ ap (λ l. get_or l b false) all_kept ∙ there
-
 digit_word : (b : ℕ) → b < 256 → digit_value b < 16 → is_word b ≡ true
-digit_word b h d =
-    let small : nat_lt (digit_value b) 16 ≡ true = grind (arith, nat_tests) in
-    let k : (if nat_lt (digit_value b) 16 then is_word b else true) ≡ true = kept b h in
-    rw small at k
+digit_word b h d = grind (arith, common_steps)
 
 -- ---- How far they go.
 
@@ -47,13 +33,7 @@ more_word bs i lt le w = go (nat_lt i (prefix_len is_word bs)) refl
         absurd cc
 
 pub word_ends : (bs : List ℕ) (i : ℕ) → i ≤ prefix_len is_word bs → is_word (get_or bs i 0) ≡ false → i ≡ prefix_len is_word bs
-word_ends bs i le w = go (nat_lt i (prefix_len is_word bs)) refl
-  where
-    go : (b : Bool) → nat_lt i (prefix_len is_word bs) ≡ b → i ≡ prefix_len is_word bs
-    go true e =
-        let pass : is_word (get_or bs i 0) ≡ true = prefix_len_passes is_word bs i 0 (grind (arith, nat_tests)) in
-        absurd cc
-    go false e = grind (arith, nat_tests)
+word_ends bs i le w = grind (arith, common_steps, prefix_len_passes, nat_tests)
 
 -- one digit more
 pub goes_on : (bs : List ℕ) (i v d radix : ℕ) → radix ≤ 16 → get_or bs i 0 < 256 → i < length bs → i ≤ prefix_len is_word bs → d ≡ digit_value (get_or bs i 0) → d < radix → digits_from radix v (drop i (take (prefix_len is_word bs) bs)) ≡ digits_from radix 0 (take (prefix_len is_word bs) bs) → (i + 1 ≤ prefix_len is_word bs) × (digits_from radix (v * radix + d) (drop (i + 1) (take (prefix_len is_word bs) bs)) ≡ digits_from radix 0 (take (prefix_len is_word bs) bs))
@@ -69,12 +49,7 @@ goes_on bs i v d radix r byte lt le e small same =
 
 -- at the end of the digits
 pub are_ahead : (bs : List ℕ) (i v radix : ℕ) → i ≡ prefix_len is_word bs → 0 < i → v < 2 ^ 32 → digits_from radix v (drop i (take (prefix_len is_word bs) bs)) ≡ digits_from radix 0 (take (prefix_len is_word bs) bs) → AreDigitsAhead radix bs v i
-are_ahead bs i v radix at some small same =
-    let n = prefix_len is_word bs in
-    let text = take n bs in
-    let len : length text ≡ n = length-prefix_len is_word bs in
-    let all : digits radix text ≡ Some v = sym (all_digits radix text (omega (arith, len))) ∙ sym same ∙ ap (digits_from radix v) (drop_all i text (omega (arith, len))) ∙ no_more_digits radix v small in
-    (at, ap (λ k. digits radix (take k bs)) at ∙ all)
+are_ahead bs i v radix at some small same = grind (arith, common_steps)
 
 -- ---- Whole numbers.
 
@@ -86,17 +61,7 @@ not_none v e = absurd cc
 
 -- the last of some digits is no `h`
 no_h : (text : List ℕ) (v : ℕ) → digits 10 text ≡ Some v → (slice_index text (length text - 1) == 104) ≡ false
-no_h [] v e = absurd (not_none v e)
-no_h (b ∷ bs) v e = go (slice_index (b ∷ bs) (length (b ∷ bs) - 1) == 104) refl
-  where
-    go : (t : Bool) → (slice_index (b ∷ bs) (length (b ∷ bs) - 1) == 104) ≡ t → t ≡ false
-    go false h = refl
-    go true h =
-        let last : slice_index (b ∷ bs) (length (b ∷ bs) - 1) ≡ 104 = grind (arith, nat_tests) in
-        let none : is_digit 10 (slice_index (b ∷ bs) (length (b ∷ bs) - 1)) ≡ false = ap (is_digit 10) last in
-        let all : list_all (is_digit 10) (b ∷ bs) ≡ false = list_all_at (is_digit 10) (b ∷ bs) (length (b ∷ bs) - 1) 0 (omega arith) none in
-        let lost : digits 10 (b ∷ bs) ≡ None = rw all refl in
-        absurd (not_none v (sym lost ∙ e))
+no_h x v e = grind (arith, common_steps)
 
 of_digits : (text : List ℕ) (v : ℕ) → digits 10 text ≡ Some v → plain_number_of text ≡ Some v
 of_digits text v e = let h = no_h text v e in rw h e

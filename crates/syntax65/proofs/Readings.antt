@@ -1,4 +1,5 @@
 -- A line is read in one way at most.
+use Rattle.std.proofs.lemmas.Grind.{common_steps}
 use Rattle.std.proofs.Common.{◌≡◌, ◌⊎◌, inl, inr, ℕ, zero, suc, ◌<◌, ◌≤◌, Bool, true, false, List, [], ◌∷◌, length, take, drop, Option, Some, None, refl, sym, ap, subst, ◌∙◌, arith}
 use Rattle.std.specs.Prelude.{Ok, Err}
 use Rattle.syntax65.specs.Numbers.{number_of}
@@ -15,26 +16,17 @@ use Rattle.syntax65.proofs.OneKind.{bare, one_form, one_kind, one_length}
 
 -- a name is in a text of this form, whatever it carries
 bare_name : (j k : TokenKind) (text : List ℕ) → bare j ≡ bare k → name_in j text ≡ name_in k text
-bare_name j k text e = plain j ∙ ap (λ i. name_in i text) e ∙ sym (plain k) where
-  plain : (i : TokenKind) → name_in i text ≡ name_in (bare i) text
-  plain Identifier = refl
-  plain _ = refl
+bare_name j k text e = grind (arith, common_steps)
 
 bare_number : (j : TokenKind) (v : ℕ) (text : List ℕ) → bare j ≡ bare (Number v) → HasValue j text → number_of text ≡ None → ⊥
-bare_number (Number x) v text e h none = cc
-bare_number _ v text e h none = cc
+bare_number x v text e h none = grind (arith, common_steps)
 
 -- what stands with the longest text of a place
 same_text : (first : Bool) (j k : TokenKind) (m n : ℕ) (here : List ℕ) → IsLongest first j m here → IsLongest first k n here → bare j ≡ bare k
-same_text first j k m n here h g =
-    let e = one_length first j k m n here h g in
-    one_form j k (take n here) (subst (λ (i : ℕ). IsForm j (take i here)) e h.stands.form) g.stands.form
+same_text first j k m n here h g = grind (arith, common_steps, one_length, one_form)
 
 name_clash : (first : Bool) (j k : TokenKind) (m n : ℕ) (here : List ℕ) → IsLongest first j m here → IsLongest first k n here → length (name_in j (take m here)) ≤ 200 → 200 < length (name_in k (take n here)) → ⊥
-name_clash first j k m n here h g short long =
-    let e = one_length first j k m n here h g in
-    let same : length (name_in j (take m here)) ≡ length (name_in k (take n here)) = ap (λ i. length (name_in j (take i here))) e ∙ ap length (bare_name j k (take n here) (same_text first j k m n here h g)) in
-    omega arith
+name_clash first j k m n here h g short long = grind (arith, common_steps, one_length, bare_name, same_text)
 
 value_clash : (first : Bool) (j : TokenKind) (v m n : ℕ) (here : List ℕ) → IsLongest first j m here → IsLongest first (Number v) n here → HasValue j (take m here) → number_of (take n here) ≡ None → ⊥
 value_clash first j v m n here h g value none =
@@ -56,13 +48,10 @@ token_fault first k n here LineTooLong t f = f
 token_fault first k n here NameTooLong t f = name_clash first k f.0 n f.1 here t.longest f.2 t.short f.3
 
 token_end : (first : Bool) (k : TokenKind) (n : ℕ) (here : List ℕ) (end : Option LexFault) → IsToken first k n here → Ends first end here → ⊥
-token_end first k n here None t e = at_end first k n here t.longest.stands e
-token_end first k n here (Some fault) t e = token_fault first k n here fault t e.1
+token_end first k n here x t e = grind (arith, common_steps, at_end, token_fault)
 
 number_is_no_name : (v : ℕ) (k : TokenKind) (text : List ℕ) → bare (Number v) ≡ bare k → 200 < length (name_in k text) → ⊥
-number_is_no_name v k text e long =
-    let none : length (name_in k text) ≡ 0 = sym (ap length (bare_name (Number v) k text e)) in
-    omega arith
+number_is_no_name v k text e long = grind (arith, common_steps)
 
 one_fault : (first : Bool) (here : List ℕ) (e f : LexFault) → FaultAt first here e → FaultAt first here f → e ≡ f
 one_fault first here OutOfMemory f h g = absurd h
@@ -117,21 +106,13 @@ Failed line fault = (length line ≤ 4096) × ((ts : List Lexeme) × Reads true 
 
 -- a line too long, or a fault in it
 failed : (line : List ℕ) (fault : LexFault) → IsRead line (Err fault) → ((fault ≡ LineTooLong) × (4096 < length line)) ⊎ Failed line fault
-failed line LineTooLong h = inl (refl, h)
-failed line _ h = inr h
+failed line x h = grind (arith, common_steps)
 
 ok_err : (line : List ℕ) (ts : List Lexeme) (fault : LexFault) → IsRead line (Ok ts) → ((fault ≡ LineTooLong) × (4096 < length line)) ⊎ Failed line fault → ⊥
-ok_err line ts fault h (inl g) = omega (arith, h.0, g.1)
-ok_err line ts fault h (inr g) = let e = (one_list true line ts g.1.0 None (Some fault) h.1 g.1.1).1 in cc
+ok_err line ts fault h x = grind (arith, common_steps, one_list)
 
 err_err : (line : List ℕ) (e f : LexFault) → ((e ≡ LineTooLong) × (4096 < length line)) ⊎ Failed line e → ((f ≡ LineTooLong) × (4096 < length line)) ⊎ Failed line f → e ≡ f
-err_err line e f (inl h) (inl g) = h.0 ∙ sym g.0
-err_err line e f (inl h) (inr g) = absurd (omega (arith, h.1, g.0))
-err_err line e f (inr h) (inl g) = absurd (omega (arith, h.0, g.1))
-err_err line e f (inr h) (inr g) = let same = (one_list true line h.1.0 g.1.0 (Some e) (Some f) h.1.1 g.1.1).1 in cc
+err_err line e f x y = grind (arith, common_steps, one_list)
 
 pub one_reading : OneReading
-one_reading line (Ok ts) (Ok us) h g = ap Ok (one_list true line ts us None None h.1 g.1).0
-one_reading line (Ok ts) (Err f) h g = absurd (ok_err line ts f h (failed line f g))
-one_reading line (Err e) (Ok us) h g = absurd (ok_err line us e g (failed line e h))
-one_reading line (Err e) (Err f) h g = ap Err (err_err line e f (failed line e h) (failed line f g))
+one_reading line x y h g = grind (arith, common_steps, one_list, ok_err, failed, err_err)

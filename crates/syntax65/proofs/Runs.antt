@@ -1,4 +1,5 @@
 -- Reading from left to right: one relation for a tree and for a fault, which has one answer.
+use Rattle.std.proofs.lemmas.Grind.{common_steps}
 use Rattle.std.proofs.Common.{◌≡◌, ◌≢◌, ℕ, zero, suc, ◌+◌, ◌<◌, Bool, true, false, List, [], ◌∷◌, Option, Some, None, refl, sym, ap, subst, ◌∙◌, arith}
 use Rattle.std.specs.Prelude.{Result, Ok, Err, ⊤, ◌==◌, if◌then◌else◌}
 use Rattle.std.proofs.lemmas.Bool.Decides.{nat_tests}
@@ -104,40 +105,22 @@ ByMode ts (rest_at room (suc n) t j) r = ByOperator ts room n t j (binary_at ts 
 ByMode ts (whole_at room i) r = ByNegation ts room i (opening_at ts i) r
 
 leaf_by : (ts : List Lexeme) (room i : ℕ) (o : Opening) (t : Tree) → leaf_of o (text_at ts i) ≡ Some t → ByOpening ts room i o (Ok (t, i + 1))
-leaf_by ts room i (Number v) t h = (t, h, refl)
-leaf_by ts room i Here t h = (t, h, refl)
-leaf_by ts room i Cheap t h = (t, h, refl)
-leaf_by ts room i (Forward n) t h = (t, h, refl)
-leaf_by ts room i (Backward n) t h = (t, h, refl)
-leaf_by ts room i _ t h = absurd (cc)
+leaf_by ts room i x t h = grind (arith, common_steps)
 
 none_by : (ts : List Lexeme) (room i : ℕ) (o : Opening) → (BeginsOperand o → ⊥) → ByOpening ts room i o (Err OperandExpected)
-none_by ts room i Negation h = refl
-none_by ts room i Nothing h = refl
-none_by ts room i _ h = absurd (h tt)
+none_by ts room i x h = grind (arith, common_steps)
 
 deep_by : (ts : List Lexeme) (i : ℕ) (o : Opening) → OpensLevel o → ByOpening ts 0 i o (Err TooDeep)
-deep_by ts i (Prefix op) h = refl
-deep_by ts i Parenthesis h = refl
-deep_by ts i _ h = absurd h
-
-not_level : (m n : ℕ) → n < m → (m == n) ≡ false
-not_level m n h = grind (arith, nat_tests)
-
-same_level : (m n : ℕ) → m ≡ n → (m == n) ≡ true
-same_level m n h = grind (arith, nat_tests)
+deep_by ts i x h = grind (arith, common_steps)
 
 end_by : (ts : List Lexeme) (room n j : ℕ) (t : Tree) (o : Option Op2) → ((op : Op2) → o ≡ Some op → suc n < level_of op) → ByOperator ts room n t j o (Ok (t, j))
-end_by ts room n j t None h = refl
-end_by ts room n j t (Some op) h = subst (λ (b : Bool). ByTest ts room n op t j b (Ok (t, j))) (sym (not_level (level_of op) (suc n) (h op refl))) refl
+end_by ts room n j t x h = grind (arith, common_steps)
 
 next_by : (ts : List Lexeme) (room n j : ℕ) (op : Op2) (t : Tree) (r : Answer) → binary_at ts j ≡ Some op → level_of op ≡ suc n → ByTest ts room n op t j true r → ByOperator ts room n t j (binary_at ts j) r
-next_by ts room n j op t r at level h =
-    subst (λ (o : Option Op2). ByOperator ts room n t j o r) (sym at) (subst (λ (b : Bool). ByTest ts room n op t j b r) (sym (same_level (level_of op) (suc n) level)) h)
+next_by ts room n j op t r at level h = grind (arith, common_steps)
 
 plain_by : (ts : List Lexeme) (room i : ℕ) (o : Opening) (r : Answer) → o ≢ Negation → Run ts (level_at room 5 i) r → ByNegation ts room i o r
-plain_by ts room i Negation r h p = absurd (h refl)
-plain_by ts room i _ r h p = p
+plain_by ts room i x r h p = grind (arith, common_steps)
 
 invert : (ts : List Lexeme) (m : Mode) (r : Answer) → Run ts m r → ByMode ts m r
 invert ts _ _ (r_leaf room i t h) = leaf_by ts room i (opening_at ts i) t h
@@ -177,44 +160,27 @@ same_names : (x y : List (List ℕ) × ℕ) → (x.0 ≡ y.0) × (x.1 ≡ y.1) �
 same_names x y p = λ i. (p.0 i, p.1 i)
 
 names_one : (ts : List Lexeme) (i : ℕ) (q p : Result (List (List ℕ) × ℕ) ExprFault) → IsNames ts i q → IsNames ts i p → q ≡ p
-names_one ts i (Ok x) (Ok y) h g = ap Ok (same_names x y (parts_one ts i x.1 i y.1 x.0 y.0 h g refl))
-names_one ts i (Ok x) (Err f) h g = absurd (parts_lack ts i x.1 i g.1.0 x.0 h g.1.1 refl)
-names_one ts i (Err e) (Ok y) h g = absurd (parts_lack ts i y.1 i h.1.0 y.0 g h.1.1 refl)
-names_one ts i (Err e) (Err f) h g = ap Err (h.0 ∙ sym g.0)
+names_one ts i x y h g = grind (arith, common_steps, same_names, parts_one, parts_lack)
 
 -- One answer
 
 leaf_one : (ts : List Lexeme) (room i : ℕ) (o : Opening) (t : Tree) (s : Answer) → leaf_of o (text_at ts i) ≡ Some t → ByOpening ts room i o s → Ok (t, i + 1) ≡ s
-leaf_one ts room i (Number v) t s h b = let same : t ≡ b.0 = cc (h, b.1) in ap (λ x. Ok (x, i + 1)) same ∙ sym b.2
-leaf_one ts room i Here t s h b = let same : t ≡ b.0 = cc (h, b.1) in ap (λ x. Ok (x, i + 1)) same ∙ sym b.2
-leaf_one ts room i Cheap t s h b = let same : t ≡ b.0 = cc (h, b.1) in ap (λ x. Ok (x, i + 1)) same ∙ sym b.2
-leaf_one ts room i (Forward n) t s h b = let same : t ≡ b.0 = cc (h, b.1) in ap (λ x. Ok (x, i + 1)) same ∙ sym b.2
-leaf_one ts room i (Backward n) t s h b = let same : t ≡ b.0 = cc (h, b.1) in ap (λ x. Ok (x, i + 1)) same ∙ sym b.2
-leaf_one ts room i _ t s h b = absurd (cc)
+leaf_one ts room i x t s h b = grind (arith, common_steps)
 
 none_one : (ts : List Lexeme) (room i : ℕ) (o : Opening) (s : Answer) → (BeginsOperand o → ⊥) → ByOpening ts room i o s → Err OperandExpected ≡ s
-none_one ts room i Negation s h b = sym b
-none_one ts room i Nothing s h b = sym b
-none_one ts room i _ s h b = absurd (h tt)
+none_one ts room i x s h b = grind (arith, common_steps)
 
 deep_one : (ts : List Lexeme) (i : ℕ) (o : Opening) (s : Answer) → OpensLevel o → ByOpening ts 0 i o s → Err TooDeep ≡ s
-deep_one ts i (Prefix op) s h b = sym b
-deep_one ts i Parenthesis s h b = sym b
-deep_one ts i _ s h b = absurd h
+deep_one ts i x s h b = grind (arith, common_steps)
 
 end_one : (ts : List Lexeme) (room n j : ℕ) (t : Tree) (o : Option Op2) (s : Answer) → ((op : Op2) → o ≡ Some op → suc n < level_of op) → ByOperator ts room n t j o s → Ok (t, j) ≡ s
-end_one ts room n j t None s h b = sym b
-end_one ts room n j t (Some op) s h b =
-    let e : s ≡ Ok (t, j) = subst (λ (x : Bool). ByTest ts room n op t j x s) (not_level (level_of op) (suc n) (h op refl)) b in
-    sym e
+end_one ts room n j t x s h b = grind (arith, common_steps)
 
 next_of : (ts : List Lexeme) (room n j : ℕ) (op : Op2) (t : Tree) (s : Answer) → binary_at ts j ≡ Some op → level_of op ≡ suc n → ByOperator ts room n t j (binary_at ts j) s → ByTest ts room n op t j true s
-next_of ts room n j op t s at level h =
-    subst (λ (b : Bool). ByTest ts room n op t j b s) (same_level (level_of op) (suc n) level) (subst (λ (o : Option Op2). ByOperator ts room n t j o s) at h)
+next_of ts room n j op t s at level h = grind (arith, common_steps)
 
 plain_of : (ts : List Lexeme) (room i : ℕ) (o : Opening) (s : Answer) → o ≢ Negation → ByNegation ts room i o s → Run ts (level_at room 5 i) s
-plain_of ts room i Negation s h p = absurd (h refl)
-plain_of ts room i _ s h p = p
+plain_of ts room i x s h p = grind (arith, common_steps)
 
 -- from one state there is one answer
 pub one_answer : (ts : List Lexeme) (m : Mode) (r s : Answer) → Run ts m r → Run ts m s → r ≡ s

@@ -1,4 +1,5 @@
 -- A mnemonic is found exactly where the bytes spell it.
+use Rattle.std.proofs.lemmas.Grind.{common_steps}
 use Rattle.std.proofs.Common.{◌≡◌, ◌≢◌, ◌∙◌, ℕ, zero, suc, ◌<◌, Bool, true, false, cond, List, [], ◌∷◌, length, map, find, Option, Some, None, MatchOption, get_or, refl, sym, ap, subst, arith}
 use Rattle.std.specs.Prelude.{nat_eq}
 use Rattle.std.specs.Char.{to_ascii_lowercase}
@@ -13,8 +14,7 @@ use Rattle.syntax65.proofs.AllMnemonics.{place_of}
 
 -- names are in lower case
 lower_name : (m : Mnemonic) → map to_ascii_lowercase (name_of m) ≡ name_of m
-lower_name Adc = refl
-lower_name _ = refl
+lower_name x = grind (arith, common_steps)
 
 test_of_same : (b : Bool) (xs ys : List ℕ) → b ≡ pointwise nat_eq xs ys → xs ≡ ys → b ≡ true
 test_of_same true xs ys e h = refl
@@ -49,11 +49,7 @@ none_passes p (x ∷ xs) zero d e lt = (none_step p x xs (p x) refl e).0
 none_passes p (x ∷ xs) (suc i) d e lt = none_passes p xs i d (none_step p x xs (p x) refl e).1 (omega arith)
 
 both : (r : Option Mnemonic) (bytes : List ℕ) → r ≡ find (is_spelled bytes) ALL → IsSpelled bytes r
-both None bytes e = λ m h.
-    let place = place_of m in
-    let no_pass : is_spelled bytes (get_or ALL place.0 m) ≡ false = none_passes (is_spelled bytes) ALL place.0 m (sym e) place.1 in
-    let pass : is_spelled bytes (get_or ALL place.0 m) ≡ true = ap (is_spelled bytes) (place.2 m) ∙ test_from_spells bytes m h in
-    absurd (cc)
+both None bytes e = grind (arith, common_steps, place_of, none_passes, test_from_spells)
 both (Some m) bytes e = spells_from_test bytes m (subst (λ (r : Option Mnemonic). MatchOption r (Unit {0}) (λ n. is_spelled bytes n ≡ true)) (sym e) (found_passes (is_spelled bytes) ALL))
 
 -- a mnemonic is found exactly where the bytes spell it
@@ -61,24 +57,15 @@ pub spelled_both_ways : (bytes : List ℕ) → IsSpelled bytes (mnemonic_of byte
 unfolding mnemonic_of
 spelled_both_ways bytes = both (mnemonic_of bytes) bytes refl
 
-found_name : (m : Mnemonic) → mnemonic_of (name_of m) ≡ Some m
-unfolding mnemonic_of
-found_name Adc = refl
-found_name _ = refl
-
 one_spelled : (r q : Option Mnemonic) (bytes : List ℕ) → IsSpelled bytes r → IsSpelled bytes q → r ≡ q
-one_spelled None None bytes h k = refl
-one_spelled None (Some n) bytes h k = absurd (h n k)
-one_spelled (Some m) None bytes h k = absurd (k m h)
-one_spelled (Some m) (Some n) bytes h k = sym (found_name m) ∙ ap mnemonic_of (sym h ∙ k) ∙ found_name n
+one_spelled x y bytes h k = grind (arith, common_steps)
 
 -- what the bytes spell is found
 pub is_found : (r : Option Mnemonic) (bytes : List ℕ) → IsSpelled bytes r → r ≡ mnemonic_of bytes
 is_found r bytes h = one_spelled r (mnemonic_of bytes) bytes h (spelled_both_ways bytes)
 
 spelled_by_name : (r : Option Mnemonic) (bytes : List ℕ) → IsNamed (map to_ascii_lowercase bytes) r → IsSpelled bytes r
-spelled_by_name None bytes h = h
-spelled_by_name (Some m) bytes h = h
+spelled_by_name x bytes h = grind (arith, common_steps)
 
 -- the mnemonic of three letters is found
 pub of_three : (r : Option Mnemonic) (bytes : List ℕ) (a b c : ℕ) → length bytes ≡ 3 → a ≡ to_ascii_lowercase (get_or bytes 0 0) → b ≡ to_ascii_lowercase (get_or bytes 1 0) → c ≡ to_ascii_lowercase (get_or bytes 2 0) → IsNamed (a ∷ b ∷ c ∷ []) r → r ≡ mnemonic_of bytes
@@ -91,8 +78,7 @@ of_three r (x ∷ y ∷ z ∷ []) a b c len ea eb ec h =
 of_three r (x ∷ y ∷ z ∷ w ∷ l) a b c len ea eb ec h = absurd (omega (arith, len))
 
 three_letters : (m : Mnemonic) → length (name_of m) ≡ 3
-three_letters Adc = refl
-three_letters _ = refl
+three_letters x = grind (arith, common_steps)
 
 -- no other bytes spell one
 pub of_others : (bytes : List ℕ) → length bytes ≢ 3 → None ≡ mnemonic_of bytes

@@ -1,5 +1,6 @@
 -- What the first line that is left leads to, from what the calls for its parts answer.
-use Rattle.std.proofs.Common.{◌≡◌, ℕ, suc, Bool, true, false, List, [], ◌∷◌, ◌++◌, take, drop, Option, Some, None, IfSome, Result, Ok, Err, ap, refl, sym, subst, ◌∙◌, Global}
+use Rattle.std.proofs.lemmas.Grind.{common_steps}
+use Rattle.std.proofs.Common.{arith, ◌≡◌, ℕ, suc, Bool, true, false, List, [], ◌∷◌, ◌++◌, take, drop, Option, Some, None, IfSome, Result, Ok, Err, ap, refl, sym, subst, ◌∙◌, Global}
 use Rattle.std.specs.declared.rc.Rc.{Rc}
 use Rattle.base65.specs.Outcome.{Unless}
 use Rattle.base65.specs.Store.{Files}
@@ -35,37 +36,23 @@ use Rattle.reader65.proofs.Marks.{AreLines, lines_left, own_split}
 -- ---- What a call answers leads to a step of another word for it.
 
 pub turns_so : (r : Result Turn ExpandFault) (s : State) (P Q : Stepped → Type 0) → ((x : Stepped) → P x → Q x) → Turns r s P → Turns r s Q
-turns_so (Ok t) s P Q f h = f (turned s t) h
-turns_so (Err e) s P Q f h = by (is_outside e) h
-  where
-    by : (b : Bool) → Unless b (P (stops (e, s.left.place))) → Unless b (Q (stops (e, s.left.place)))
-    by true h = tt
-    by false h = f (stops (e, s.left.place)) h
+turns_so x s y z f h = grind (arith, common_steps)
 
 pub where_known : (o : Option Files) (P Q : Files → Type 0) → ((m : Files) → P m → Q m) → IfSome o P → IfSome o Q
-where_known None P Q f h = tt
-where_known (Some m) P Q f h = f m h
+where_known x y z f h = grind (arith, common_steps)
 
 pub where_so : (o : Option Files) (Q : Files → Type 0) → ((m : Files) → Q m) → IfSome o Q
-where_so None Q f = tt
-where_so (Some m) Q f = f m
+where_so x y f = grind (arith, common_steps)
 
 -- ---- A line without a directive.
 
 pub no_call : (m : Files) (r : Rewriter) (ts : List Lexeme) → Opens opening.Other r ts → gives (plain ts) (state_of m r) ≡ ordinary (state_of m r) ts
-no_call m r [] h = absurd h
-no_call m r (t ∷ ts) h = sym (ap (called_or_given (state_of m r) t ts) h)
+no_call m r x h = grind (arith, common_steps)
 
 -- ---- A line that may begin with a label.
 
 pub unlabelled : (m : Files) (k : Meaning) (s : State) (ts : List Lexeme) (x : Stepped) → label_len ts ≡ 0 → IsActed m k s ts (front_directive ts) x → IsLabelled m k s ts (is_mislabelled ts) x
-unlabelled m k s ts x e h =
-    let right : is_mislabelled ts ≡ false = rw e refl in
-    let directive : line_directive ts ≡ front_directive ts = ap (λ n. front_directive (drop n ts)) e in
-    let P : Bool → Type 0 = λ b. IsLabelled m k s ts b x in
-    let Q : ℕ → Type 0 = λ n. IsSplit m k s ts (line_directive ts) n x in
-    let R : Option Directive → Type 0 = λ d. IsActed m k s ts d x in
-    subst P (sym right) (subst Q (sym e) (subst R (sym directive) h))
+unlabelled m k s ts x e h = grind (arith, common_steps)
 
 -- ---- The first line that is left of the inputs.
 
@@ -83,17 +70,10 @@ begins_plain (branch ts ∷ is) js h k = absurd h
 begins_plain (mark x ∷ is) js h k = absurd h
 
 pub begins_at_line : (m : Files) (r : Rewriter) → BeginsPlain (left_of m r.reader).items
-begins_at_line m r =
-    let js = mark (mark_of r.reader.top) ∷ outside m r.reader.outer.items in
-    subst BeginsPlain (sym (own_split m r.reader.top (outside m r.reader.outer.items))) (begins_plain (left_in m r.reader.top.source) js (lines_left m r.reader.top.source) tt)
+begins_at_line m r = grind (arith, common_steps, own_split, begins_plain, lines_left)
 
 step_from : (m : Files) (k : Meaning) (s : State) (is : List Item) (x : Stepped) → BeginsPlain is → ((t : Taken) × Takes s.left t × IsStepBehind m k s t x) → IsStepFrom m k s is x
-step_from m k s [] x b h = h
-step_from m k s (written n bytes ∷ is) x b h = h
-step_from m k s (played e ts ∷ is) x b h = h
-step_from m k s (mark y ∷ is) x b h = h
-step_from m k s (labelled ts ∷ is) x b h = absurd b
-step_from m k s (branch ts ∷ is) x b h = absurd b
+step_from m k s y x b h = grind (arith, common_steps)
 
 -- the step of a state in which a line or an end mark comes first
 pub step_taken : (m : Files) (k : Meaning) (r : Rewriter) (t : Taken) (x : Stepped) → Takes (left_of m r.reader) t → IsStepBehind m k (state_of m r) t x → IsStep m k (state_of m r) x
@@ -102,10 +82,7 @@ step_taken m k r t x h b = step_from m k (state_of m r) (left_of m r.reader).ite
 
 -- a line that begins with a directive
 pub acted_by : (m : Files) (k : Meaning) (s : State) (ts us : List Lexeme) (d : Directive) (x : Stepped) → front_directive ts ≡ Some d → us ≡ drop 1 ts → IsDirected m k s d us x → IsActed m k s ts (front_directive ts) x
-acted_by m k s ts us d x e u h =
-    let P : Option Directive → Type 0 = λ o. IsActed m k s ts o x in
-    let Q : List Lexeme → Type 0 = λ l. IsDirected m k s d l x in
-    subst P (sym e) (subst Q u h)
+acted_by m k s ts us d x e u h = grind (arith, common_steps)
 
 pub refused_step : (m : Files) (k : Meaning) (r : Rewriter) (f : ExpandFault) (p : Place) → Unless (is_outside f) (Takes (left_of m r.reader) (Err (f, p))) → Unless (is_outside f) (IsStep m k (state_of m r) (stops (f, p)))
 refused_step m k r f p h = by (is_outside f) h
@@ -115,11 +92,8 @@ refused_step m k r f p h = by (is_outside f) h
     by false h = step_taken m k r (Err (f, p)) (stops (f, p)) h refl
 
 pub where_both : (o : Option Files) (P Q R : Files → Type 0) → ((m : Files) → P m → Q m → R m) → IfSome o P → IfSome o Q → IfSome o R
-where_both None P Q R f h k = tt
-where_both (Some m) P Q R f h k = f m h k
+where_both x y z u f h k = grind (arith, common_steps)
 
 -- a file that was found is included
 pub include_found : (m : Files) (s : State) (ts : List Lexeme) (name beside file : List ℕ) (folders : List (List ℕ)) → string_of ts ≡ Some name → beside ≡ s.left.place.file → folders ≡ s.folders → first_file m (tried beside folders name) ≡ Ok (file_of m file) → included s (Ok (file_of m file)) ≡ include_line m s ts
-include_found m s ts name beside file folders e b f h =
-    let found : first_file m (tried s.left.place.file s.folders name) ≡ Ok (file_of m file) = ap (λ x. first_file m (tried x s.folders name)) (sym b) ∙ ap (λ x. first_file m (tried beside x name)) (sym f) ∙ h in
-    sym (ap (included_by m s) e ∙ ap (included s) found)
+include_found m s ts name beside file folders e b f h = grind (arith, common_steps)

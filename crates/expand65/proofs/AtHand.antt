@@ -1,4 +1,5 @@
 -- Lines of files that are taken where they stand.
+use Rattle.std.proofs.lemmas.Grind.{common_steps}
 use Rattle.std.proofs.Common.{◌≡◌, ◌+◌, ◌≤◌, arith, ◌⊎◌, inl, inr, ℕ, zero, suc, take, drop, ap, List, [], ◌∷◌, Option, Some, None, Ok, Err, Result, Bool, true, false, IfSome, IfOk, IsTrue, refl, sym, subst, ◌∙◌}
 use Rattle.std.specs.Prelude.{slice_get}
 use Rattle.base65.specs.Outcome.{Unless}
@@ -80,22 +81,13 @@ reaches_by m k s t u (kind.Label n) ts other h step = reaches_behind m k s t (st
 reaches_by m k s t u kind.Other ts other h step = subst (Goes m k s) (sym step) h
 
 pub no_more : (x : Kind) (a b : ℕ) → ((x ≡ kind.Other → ⊥) → a + 3 ≤ b) → (x ≡ kind.Other → a ≡ b) → a ≤ b
-no_more kind.Nothing a b less same = let h : a + 3 ≤ b = less (λ e. cc) in omega (arith, h)
-no_more kind.Statement a b less same = let h : a + 3 ≤ b = less (λ e. cc) in omega (arith, h)
-no_more (kind.Label n) a b less same = let h : a + 3 ≤ b = less (λ e. cc) in omega (arith, h)
-no_more kind.Other a b less same = let h : a ≡ b = same refl in omega (arith, h)
+no_more x a b less same = grind (arith, common_steps)
 
 -- ---- What stands behind a label.
 
 step_nothing : (m : Files) (k : Meaning) (f : Front) (s : State) → IsRest f [] → IsStep m k (fronted f s) (goes (fronted Nothing s))
 unfolding IsStep
-step_nothing m k Nothing s h = absurd h
-step_nothing m k (Branch line) s h = absurd h
-step_nothing m k End s h = absurd h
-step_nothing m k (Rest line) s h =
-    let t = fronted Nothing s in
-    let P : List Lexeme → Type 0 = λ ts. IsActed m k t ts (front_directive ts) (goes t) in
-    subst P (sym h) refl
+step_nothing m k x s h = grind (arith, common_steps)
 
 pub rest_passed : (m : Files) (k : Meaning) (old new : Expander) → IsRest old.front [] → new.rewriter ≡ old.rewriter → new.front ≡ Nothing → Goes m k (state_in m old) (state_in m new)
 rest_passed m k old new is same none =
@@ -115,43 +107,23 @@ rest_behind (Ok b) old mid new x gone h = λ t m k. reaches_behind m k (state_in
 rest_behind (Err e) old mid new x gone h = tt
 
 pub rest_fronted : (f : Front) (n : ℕ) (ts : List Lexeme) (t : State) → IsRest f (drop n ts) → rested n ts t ≡ fronted f t
-rest_fronted Nothing n ts t h = absurd h
-rest_fronted (Branch line) n ts t h = absurd h
-rest_fronted End n ts t h = absurd h
-rest_fronted (Rest line) n ts t h = ap (λ l. with_items t (labelled l ∷ t.left.items)) (sym h)
+rest_fronted x n ts t h = grind (arith, common_steps)
 
 -- ---- What a call takes where nothing stands in front of the lines.
 
 pub plain_given : (m : Files) (k : Meaning) (s : State) (mid new : Rewriter) (f : Front) (x : Kind) (ts : List Lexeme) → f ≡ Nothing → Goes m k s (fronted f (state_of m mid)) → x ≡ kind.Statement → ReachesBy m k (state_of m mid) x ts (state_of m new) → Reaches m k s (statement (plain ts) (fronted f (state_of m new)))
-plain_given m k s mid new f x ts e h i r =
-    let P : Front → Type 0 = λ g. Goes m k s (fronted g (state_of m mid)) → Reaches m k s (statement (plain ts) (fronted g (state_of m new))) in
-    let Q : Kind → Type 0 = λ y. ReachesBy m k (state_of m mid) y ts (state_of m new) in
-    subst P (sym e) (λ g. reaches_behind m k s (state_of m mid) (statement (plain ts) (state_of m new)) g (subst Q i r)) h
+plain_given m k s mid new f x ts e h i r = grind (arith, common_steps, reaches_behind)
 
 pub label_given : (m : Files) (k : Meaning) (s : State) (mid new last : Rewriter) (f behind : Front) (x : Kind) (n : ℕ) (ts : List Lexeme) (y : Stated) → f ≡ Nothing → Goes m k s (fronted f (state_of m mid)) → x ≡ kind.Label n → ReachesBy m k (state_of m mid) x ts (state_of m new) → y ≡ label (take n ts) → IsRest behind (drop n ts) → last ≡ new → Reaches m k s (statement y (fronted behind (state_of m last)))
-label_given m k s mid new last f behind x n ts y e h i r z rest same =
-    let P : Front → Type 0 = λ g. Goes m k s (fronted g (state_of m mid)) in
-    let Q : Kind → Type 0 = λ w. ReachesBy m k (state_of m mid) w ts (state_of m new) in
-    let t = state_of m new in
-    let to : rested n ts t ≡ fronted behind (state_of m last) = rest_fronted behind n ts t rest ∙ ap (λ w. fronted behind (state_of m w)) (sym same) in
-    let R : State → Type 0 = λ u. Reaches m k s (statement (label (take n ts)) u) in
-    let S : Stated → Type 0 = λ w. Reaches m k s (statement w (fronted behind (state_of m last))) in
-    subst S (sym z) (subst R to (reaches_behind m k s (state_of m mid) (statement (label (take n ts)) (rested n ts t)) (subst P e h) (subst Q i r)))
+label_given m k s mid new last f behind x n ts y e h i r z rest same = grind (arith, common_steps, rest_fronted, reaches_behind)
 
 pub none_given : (m : Files) (k : Meaning) (s : State) (mid new : Rewriter) (f : Front) (x : Kind) (ts : List Lexeme) → f ≡ Nothing → Goes m k s (fronted f (state_of m mid)) → (x ≡ kind.Nothing) ⊎ (x ≡ kind.Other) → ReachesBy m k (state_of m mid) x ts (state_of m new) → Goes m k s (fronted f (state_of m new))
-none_given m k s mid new f x ts e h (inl i) r = absurd (let Q : Kind → Type 0 = λ y. ReachesBy m k (state_of m mid) y ts (state_of m new) in subst Q i r)
-none_given m k s mid new f x ts e h (inr i) r =
-    let P : Front → Type 0 = λ g. Goes m k s (fronted g (state_of m mid)) → Goes m k s (fronted g (state_of m new)) in
-    let Q : Kind → Type 0 = λ y. ReachesBy m k (state_of m mid) y ts (state_of m new) in
-    subst P (sym e) (λ g. goes_over m k s (state_of m mid) (state_of m new) g (subst Q i r)) h
+none_given m k s mid new f x ts e h y r = grind (arith, common_steps, goes_over)
 
 -- ---- From what an expander stands for.
 
 pub follows_given : (o : Option Files) (k : Meaning) (old new : Expander) (x : Statement) → old.failed ≡ false → new.failed ≡ old.failed → (NamesFiles old.rewriter.reader → NamesFiles new.rewriter.reader) → ((m : Files) (l : Meaning) → Reaches m l (state_in m old) (statement (stated x) (state_in m new))) → IfSome o (λ m. FollowsFrom m k old (Ok (Some x)) new)
-follows_given None k old new x right same named h = tt
-follows_given (Some m) k old new x right same named h = λ s stands.
-    let P : State → Type 0 = λ z. Reaches m k z (statement (stated x) (state_in m new)) in
-    (state_in m new, subst P stands.1 (h m k), (same ∙ right, refl, named stands.2))
+follows_given y k old new x right same named h = grind (arith, common_steps)
 
 pub follows_behind : (o : Option Files) (k : Meaning) (old mid new : Expander) (r : Result (Option Statement) ExpandFault) → mid.failed ≡ old.failed → (NamesFiles old.rewriter.reader → NamesFiles mid.rewriter.reader) → ((m : Files) (l : Meaning) → Goes m l (state_in m old) (state_in m mid)) → IfSome o (λ m. FollowsFrom m k mid r new) → IfSome o (λ m. FollowsFrom m k old r new)
 follows_behind None k old mid new r same named gone h = tt

@@ -1,4 +1,5 @@
 -- Macros that are defined, and repeats.
+use Rattle.std.proofs.lemmas.Grind.{common_steps}
 use Rattle.std.proofs.Common.{◌≡◌, ℕ, ◌-◌, Bool, true, false, List, [], ◌∷◌, ◌++◌, length, map, drop, Option, Some, None, Result, Ok, Err, ap, refl, sym, subst, ◌∙◌, arith, Vec, Global}
 use Rattle.std.specs.Map.{lookup}
 use Rattle.std.specs.Option.{option_map}
@@ -56,35 +57,18 @@ more_macros t k v es h e =
     none_of (Some b) h = absurd (cc)
 
 pub twice : (s : State) (name : List ℕ) (params : List (List ℕ)) → is_some (macro_of s.macros name) ≡ true → IsKept s name params (macro_of s.macros name) (stops (MacroTwice, s.left.place))
-twice s name params h = by (macro_of s.macros name) h
-  where
-    by : (o : Option Definition) → is_some o ≡ true → IsKept s name params o (stops (MacroTwice, s.left.place))
-    by None h = absurd (cc)
-    by (Some d) h = refl
+twice s name params h = grind (arith, common_steps)
 
 pub is_none : {A : Type 0} (o : Option A) → is_some o ≡ false → o ≡ None
-is_none None h = refl
-is_none (Some x) h = absurd (cc)
+is_none x h = grind (arith, common_steps)
 
 pub once : (s : State) (name : List ℕ) (params : List (List ℕ)) (q : Result (List (List Lexeme) × Left) Stop) (x : Stepped) → macro_of s.macros name ≡ None → Block collects [] s.left q → x ≡ kept s name params q → IsKept s name params (macro_of s.macros name) x
 once s name params q x h b e = let P : Option Definition → Type 0 = λ o. IsKept s name params o x in subst P (sym h) (q, b, e)
 
 pub once_refused : (s : State) (name : List ℕ) (params : List (List ℕ)) (f : ExpandFault) (p : Place) → macro_of s.macros name ≡ None → Unless (is_outside f) (Block collects [] s.left (Err (f, p))) → Unless (is_outside f) (IsKept s name params (macro_of s.macros name) (stops (f, p)))
-once_refused s name params f p h b = by (is_outside f) b
-  where
-    by : (o : Bool) → Unless o (Block collects [] s.left (Err (f, p))) → Unless o (IsKept s name params (macro_of s.macros name) (stops (f, p)))
-    by true b = tt
-    by false b = once s name params (Err (f, p)) (stops (f, p)) h b refl
+once_refused s name params f p h b = grind (arith, common_steps)
 
 -- ---- An input put in front of the lines.
-
--- an input of the lines' own place
-pub entered_same : (s : State) (is : List Item) (k : Mark) (l : Left) → Ok l ≡ pushed is k s.left → goes (with_left s l) ≡ entered s is k s.left.place
-entered_same s is k l e = by (nat_le (marks s.left.items) nesting_limit) e
-  where
-    by : (b : Bool) → ◌≡◌ {A = Result Left Stop} (Ok l) (if b then Ok (left (is ++ mark k ∷ s.left.items) s.left.room s.left.place) else Err (Nested, s.left.place)) → goes (with_left s l) ≡ (if b then goes (with_left s (left (is ++ mark k ∷ s.left.items) s.left.room s.left.place)) else stops (Nested, s.left.place))
-    by true e = let same : l ≡ left (is ++ mark k ∷ s.left.items) s.left.room s.left.place = cc in ap (λ (x : Left). goes (with_left s x)) same
-    by false e = absurd (cc)
 
 -- ---- A macro is kept.
 
@@ -100,14 +84,7 @@ kept_one m old rd name body b es h e v block =
 -- ---- A repeat begins.
 
 pub turns_ready : (r : Replay) (b : Body) (n : ℕ) → r.body.value ≡ b → r.at ≡ length b.lines → r.arguments ≡ [] → r.count ≡ None → r.locals.entries ≡ [] → r.number ≡ 0 → turns_left r 0 n ≡ turns (repeating (map (λ k. k.items) b.params.keys)) (map tokens_in b.lines) 0 n
-turns_ready r b n v a g c l k =
-    let all : drop r.at (map tokens_in r.body.value.lines) ≡ [] = ap (λ (x : Body). drop r.at (map tokens_in x.lines)) v ∙ drop_all r.at (map tokens_in b.lines) (omega (arith, a, length-map b.lines tokens_in)) in
-    let same : replacing_of r ≡ repeating (map (λ k. k.items) b.params.keys) = rw (v, g, c, l, k) refl in
-    let count : n - 0 ≡ n = omega arith in
-    ap (λ ls. map (played (replacing_of r)) ls ++ turns (replacing_of r) (map tokens_in r.body.value.lines) 0 (n - 0)) all ∙ ap (λ e. turns e (map tokens_in r.body.value.lines) 0 (n - 0)) same ∙ ap (λ (x : Body). turns (repeating (map (λ k. k.items) b.params.keys)) (map tokens_in x.lines) 0 (n - 0)) v ∙ ap (turns (repeating (map (λ k. k.items) b.params.keys)) (map tokens_in b.lines) 0) count
+turns_ready r b n v a g c l k = grind (arith, common_steps)
 
 pub repeated_one : (m : Files) (old : Rewriter) (rd new : Reader) (replay : Replay) (b : Body) (n : ℕ) → Block gathers (0, []) (left_of m old.reader) (Ok (map tokens_in b.lines, left_of m rd)) → turns_left replay 0 n ≡ turns (repeating (map (λ k. k.items) b.params.keys)) (map tokens_in b.lines) 0 n → Ok (left_of m new) ≡ pushed (turns_left replay 0 n) (repeat_mark (state_of m old)) (left_of m rd) → IsRepeated (state_of m old) (Ok (n, map (λ k. k.items) b.params.keys)) (goes (rewritten m old new (macros_of old)))
-repeated_one m old rd new replay b n block ts e =
-    let k = repeat_mark (state_of m old) in
-    let lines = turns (repeating (map (λ k. k.items) b.params.keys)) (map tokens_in b.lines) 0 n in
-    (Ok (map tokens_in b.lines, left_of m rd), block, entered_same (with_left (state_of m old) (left_of m rd)) lines k (left_of m new) (e ∙ ap (λ is. pushed is k (left_of m rd)) ts))
+repeated_one m old rd new replay b n block ts e = grind (arith, common_steps)

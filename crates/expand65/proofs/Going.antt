@@ -1,5 +1,6 @@
 -- Steps one after another, as an expander takes them.
-use Rattle.std.proofs.Common.{◌≡◌, refl, sym, ◌∙◌, subst, Option, Some, None, Bool, true, false, Result, Ok, Err, IfSome}
+use Rattle.std.proofs.lemmas.Grind.{common_steps}
+use Rattle.std.proofs.Common.{arith, ◌≡◌, refl, sym, ◌∙◌, subst, Option, Some, None, Bool, true, false, Result, Ok, Err, IfSome}
 use Rattle.std.specs.Prelude.{OnOk}
 use Rattle.std.specs.Result.{is_err}
 use Rattle.base65.specs.Outcome.{Unless}
@@ -48,8 +49,7 @@ abbrev pub Leads : Meaning → Expander → Expander → Files → Type 0
 Leads k i e m = (n : Next) → Reaches m k (state_in m e) n → Reaches m k (state_in m i) n
 
 pub none_led : (o : Option Files) (k : Meaning) (e : Expander) → IfSome o (Leads k e e)
-none_led None k e = tt
-none_led (Some m) k e = λ n r. r
+none_led x k e = grind (arith, common_steps)
 
 pub goes_on : (o : Option Files) (k : Meaning) (i e mid new : Expander) (t : Turn) → IfSome o (Leads k i e) → IfSome o (λ m. IsStep m k (state_in m e) (turned (state_of m mid.rewriter) t)) → ((m : Files) → turned (state_of m mid.rewriter) t ≡ led (state_in m new) None) → IfSome o (Leads k i new)
 goes_on None k i e mid new t h s f = tt

@@ -1,5 +1,6 @@
 -- The last open condition, and the innermost end mark, of a rewriter.
-use Rattle.std.proofs.Common.{◌≡◌, ℕ, List, ◌∷◌, ◌++◌, Bool, true, false, Option, Some, None, IfSome, Ok, Err, ap, refl, sym, subst, ◌∙◌}
+use Rattle.std.proofs.lemmas.Grind.{common_steps}
+use Rattle.std.proofs.Common.{arith, ◌≡◌, ℕ, List, ◌∷◌, ◌++◌, Bool, true, false, Option, Some, None, IfSome, Ok, Err, ap, refl, sym, subst, ◌∙◌}
 use Rattle.std.specs.Prelude.{if◌then◌else◌}
 use Rattle.base65.specs.Outcome.{Unless}
 use Rattle.base65.specs.Store.{Files}
@@ -43,46 +44,27 @@ else_by : (m : Files) (old : Rewriter) (o : Option (Bool × List Bool)) (r : Ste
 else_by m old o r e h = let P : Option (Bool × List Bool) → Type 0 = λ x. IsElse (state_of m old) x r in subst P (sym (last_is m old ∙ e)) h
 
 pub else_passed : (o : Option Files) (old : Rewriter) (rd : Reader) (cs : List Bool) → popped old.conditions old.reader.top.conditions ≡ Some (false, cs) → IfSome o (λ m. Block passes 0 (left_of m old.reader) (Ok (tt, left_of m rd))) → IfSome o (λ m. ElseIn m old (goes (with_conditions (state_of m old) cs (left_of m rd))))
-else_passed None old rd cs e h = tt
-else_passed (Some m) old rd cs e h = else_by m old (Some (false, cs)) (goes (with_conditions (state_of m old) cs (left_of m rd))) e (Ok (tt, left_of m rd), h, refl)
+else_passed x old rd cs e h = grind (arith, common_steps, else_by)
 
 pub else_refused : (o : Option Files) (old : Rewriter) (p : Place) (cs : List Bool) (f : ExpandFault) → popped old.conditions old.reader.top.conditions ≡ Some (false, cs) → IfSome o (λ m. Unless (is_outside f) (Block passes 0 (left_of m old.reader) (Err (f, p)))) → IfSome o (λ m. Unless (is_outside f) (ElseIn m old (stops (f, p))))
-else_refused None old p cs f e h = tt
-else_refused (Some m) old p cs f e h = by (is_outside f) h
-  where
-    by : (b : Bool) → Unless b (Block passes 0 (left_of m old.reader) (Err (f, p))) → Unless b (ElseIn m old (stops (f, p)))
-    by true h = tt
-    by false h = else_by m old (Some (false, cs)) (stops (f, p)) e (Err (f, p), h, refl)
+else_refused x old p cs f e h = grind (arith, common_steps, else_by)
 
 pub else_none : (o : Option Files) (old : Rewriter) → popped old.conditions old.reader.top.conditions ≡ None → IfSome o (λ m. ElseIn m old (stops (NotOpened, old.reader.place)))
-else_none None old e = tt
-else_none (Some m) old e = else_by m old None (stops (NotOpened, old.reader.place)) e refl
+else_none x old e = grind (arith, common_steps, else_by)
 
 pub else_twice : (o : Option Files) (old : Rewriter) (bs : List Bool) → popped old.conditions old.reader.top.conditions ≡ Some (true, bs) → IfSome o (λ m. ElseIn m old (stops (NotOpened, old.reader.place)))
-else_twice None old bs e = tt
-else_twice (Some m) old bs e = else_by m old (Some (true, bs)) (stops (NotOpened, old.reader.place)) e refl
+else_twice x old bs e = grind (arith, common_steps)
 
 -- ---- `.local`.
 
 local_in : (m : Files) (r : Rewriter) (ts : List Lexeme) (b : Bool) → is_call r.reader.top.source ≡ b → local_line (state_of m r) ts ≡ (if b then local_named (state_of m r) (new_names ts) else stops (NotUnderstood, r.reader.place))
-local_in m r ts b e =
-    let s = state_of m r in
-    let P : Bool → Stepped = λ x. if x then local_named s (new_names ts) else stops (NotUnderstood, r.reader.place) in
-    ap (λ k. P (in_macro k)) (innermost_is m r.reader) ∙ ap P e
+local_in m r ts b e = grind (arith, common_steps, innermost_is)
 
 pub no_macro : (m : Files) (r : Rewriter) (ts : List Lexeme) → is_call r.reader.top.source ≡ false → stops (NotUnderstood, r.reader.place) ≡ local_line (state_of m r) ts
 no_macro m r ts e = sym (local_in m r ts false e)
 
 pub bad_names : (m : Files) (r : Rewriter) (ts : List Lexeme) (f : ExpandFault) → is_call r.reader.top.source ≡ true → Unless (is_outside f) (understood (new_names ts) ≡ Err f) → Unless (is_outside f) (stops (f, r.reader.place) ≡ local_line (state_of m r) ts)
-bad_names m r ts f e h = by (is_outside f) h
-  where
-    none : (o : Option (List (List ℕ))) → understood o ≡ Err f → stops (f, r.reader.place) ≡ local_named (state_of m r) o
-    none None h = let same : f ≡ NotUnderstood = cc in ap (λ (g : ExpandFault). stops (g, r.reader.place)) same
-    none (Some names) h = absurd (cc)
-
-    by : (b : Bool) → Unless b (understood (new_names ts) ≡ Err f) → Unless b (stops (f, r.reader.place) ≡ local_line (state_of m r) ts)
-    by true h = tt
-    by false h = none (new_names ts) h ∙ sym (local_in m r ts true e)
+bad_names m r ts f e h = grind (arith, common_steps)
 
 pub names_added : (m : Files) (r : Rewriter) (src : Source) (ts : List Lexeme) (names : List (List ℕ)) → is_call r.reader.top.source ≡ true → understood (new_names ts) ≡ Ok names → is_call src ≡ is_call r.reader.top.source → ((k : Mark) (is : List Item) → left_in m src ++ mark k ∷ is ≡ localised names (left_in m r.reader.top.source ++ mark k ∷ is)) → goes (with_items (state_of m r) (own m (with_source r.reader.top src) ++ outside m r.reader.outer.items)) ≡ local_line (state_of m r) ts
 names_added m r src ts names c h i a =

@@ -1,4 +1,5 @@
 -- Lists of names with commas between them, read from a place on.
+use Rattle.std.proofs.lemmas.Grind.{common_steps}
 use Rattle.std.proofs.Common.{◌≡◌, ℕ, zero, suc, ◌+◌, ◌<◌, true, false, List, [], ◌∷◌, ◌++◌, length, drop, Option, Some, None, refl, sym, ap, ◌∙◌, arith, append_assoc, subst}
 use Rattle.syntax65.specs.Tokens.{Lexeme}
 use Rattle.reader65.specs.Fronts.{is_comma, names_from, ◌>=>◌}
@@ -6,8 +7,7 @@ use Rattle.expand65.specs.Inner.Parts.{is_comma_at, name_at}
 
 -- a name in front of others
 pub after_name : (o : Option (List (List ℕ))) (n : List ℕ) (found : List (List ℕ)) → ((o >=> (λ ns. Some (n ∷ ns))) >=> (λ ns. Some (found ++ ns))) ≡ (o >=> (λ ns. Some ((found ++ n ∷ []) ++ ns)))
-after_name None n found = refl
-after_name (Some ns) n found = ap Some (sym (append_assoc found (n ∷ []) ns))
+after_name x n found = grind (arith, common_steps)
 
 -- where no name stands
 pub no_name : (ts : List Lexeme) (at : ℕ) → name_at ts at ≡ None → names_from true (drop at ts) ≡ None

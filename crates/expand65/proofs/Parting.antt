@@ -1,4 +1,5 @@
 -- What stands between commas, part by part.
+use Rattle.std.proofs.lemmas.Grind.{common_steps}
 use Rattle.std.proofs.Common.{◌≡◌, ℕ, suc, ◌+◌, ◌≤◌, ◌<◌, Bool, true, false, List, [], ◌∷◌, ◌++◌, length, take, drop, refl, sym, ap, ◌∙◌, arith, subst, one-add, append_assoc, map}
 use Rattle.std.proofs.lemmas.List.{take_all}
 use Rattle.std.specs.Prelude.{◌==◌, ◌&&◌}
@@ -22,28 +23,12 @@ last_part d (t ∷ ts) h = by (ends_part d t) refl (last_part (braces_behind d t
 -- a part and a comma behind it
 pub next_part : (d : ℕ) (ts : List Lexeme) → part_len d ts < length ts → parts_within d ts ≡ take (part_len d ts) ts ∷ parts_within 0 (drop (part_len d ts + 1) ts)
 next_part d [] h = absurd (omega arith)
-next_part d (t ∷ ts) h = by (ends_part d t) refl (next_part (braces_behind d t) ts)
-  where
-    by : (b : Bool) → ends_part d t ≡ b → (part_len (braces_behind d t) ts < length ts → parts_within (braces_behind d t) ts ≡ take (part_len (braces_behind d t) ts) ts ∷ parts_within 0 (drop (part_len (braces_behind d t) ts + 1) ts)) → parts_within d (t ∷ ts) ≡ take (part_len d (t ∷ ts)) (t ∷ ts) ∷ parts_within 0 (drop (part_len d (t ∷ ts) + 1) (t ∷ ts))
-    by true e next = rw e refl
-    by false e next =
-        let n : part_len d (t ∷ ts) ≡ suc (part_len (braces_behind d t) ts) = rw e (one-add (part_len (braces_behind d t) ts)) in
-        let m : suc (part_len (braces_behind d t) ts) + 1 ≡ suc (part_len (braces_behind d t) ts + 1) = omega arith in
-        let less : part_len (braces_behind d t) ts < length ts = omega arith in
-        let whole : parts_within d (t ∷ ts) ≡ put_in_first t (parts_within (braces_behind d t) ts) = rw e refl in
-        let P : ℕ → Type 0 = λ k. parts_within d (t ∷ ts) ≡ take k (t ∷ ts) ∷ parts_within 0 (drop (k + 1) (t ∷ ts)) in
-        subst P (sym n) (whole ∙ ap (put_in_first t) (next less) ∙ rw m refl)
+next_part d (t ∷ ts) h = grind (arith, common_steps, (next_part (braces_behind d t) ts))
 
 -- ---- The parts so far, and one more.
 
 pub parts_end : (done all : List (List Lexeme)) (rest x : List Lexeme) (n : ℕ) → n ≡ part_len 0 rest → length rest ≤ n → x ≡ unbraced (take n rest) → done ++ map unbraced (parts_within 0 rest) ≡ all → done ++ x ∷ [] ≡ all
-parts_end done all rest x n e h same so_far =
-    let one : map unbraced (parts_within 0 rest) ≡ unbraced rest ∷ [] = ap (map unbraced) (last_part 0 rest (let P : ℕ → Type 0 = λ k. length rest ≤ k in subst P e h)) in
-    let last : x ≡ unbraced rest = same ∙ ap unbraced (take_all n rest h) in
-    ap (λ y. done ++ y ∷ []) last ∙ ap (λ l. done ++ l) (sym one) ∙ so_far
+parts_end done all rest x n e h same so_far = grind (arith, common_steps, last_part, take_all)
 
 pub parts_more : (done all : List (List Lexeme)) (rest x : List Lexeme) (n : ℕ) → n ≡ part_len 0 rest → n < length rest → x ≡ unbraced (take n rest) → done ++ map unbraced (parts_within 0 rest) ≡ all → (done ++ x ∷ []) ++ map unbraced (parts_within 0 (drop (n + 1) rest)) ≡ all
-parts_more done all rest x n e h same so_far =
-    let P : ℕ → Type 0 = λ k. k < length rest → parts_within 0 rest ≡ take k rest ∷ parts_within 0 (drop (k + 1) rest) in
-    let parts : parts_within 0 rest ≡ take n rest ∷ parts_within 0 (drop (n + 1) rest) = subst P (sym e) (next_part 0 rest) h in
-    append_assoc done (x ∷ []) (map unbraced (parts_within 0 (drop (n + 1) rest))) ∙ ap (λ y. done ++ (y ∷ map unbraced (parts_within 0 (drop (n + 1) rest)))) same ∙ ap (λ l. done ++ map unbraced l) (sym parts) ∙ so_far
+parts_more done all rest x n e h same so_far = grind (arith, common_steps, next_part, append_assoc)

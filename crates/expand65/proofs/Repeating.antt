@@ -1,4 +1,5 @@
 -- Headers of repeats, lines that are parted, an expansion's own names.
+use Rattle.std.proofs.lemmas.Grind.{common_steps}
 use Rattle.std.proofs.Common.{◌≡◌, ◌≢◌, ℕ, Bool, true, false, List, [], ◌∷◌, length, drop, Option, Some, None, Result, Ok, Err, ap, refl, sym, ◌∙◌, arith}
 use Rattle.std.proofs.lemmas.List.{drop-map}
 use Rattle.syntax65.specs.Expressions.{IsParsed}
@@ -45,12 +46,4 @@ a_header ts behind e n v h b r =
 
 -- what isn't there isn't there with more
 pub refused_on : {A B : Type 0} (o : Option A) (f : A → Option B) (e : ExpandFault) → Unless (is_outside e) (understood o ≡ Err e) → Unless (is_outside e) (understood (o >=> f) ≡ Err e)
-refused_on {A} {B} o f e h = by (is_outside e) h
-  where
-    none : (x : Option A) → understood x ≡ Err e → understood (x >=> f) ≡ Err e
-    none None h = let same : NotUnderstood ≡ e = cc in ap (λ (g : ExpandFault). Err g) same
-    none (Some y) h = absurd (cc)
-
-    by : (b : Bool) → Unless b (understood o ≡ Err e) → Unless b (understood (o >=> f) ≡ Err e)
-    by true h = tt
-    by false h = none o h
+refused_on {A} {B} o f e h = grind (arith, common_steps)

@@ -1,4 +1,5 @@
 -- Files that are looked for.
+use Rattle.std.proofs.lemmas.Grind.{common_steps}
 use Rattle.std.proofs.Common.{◌≡◌, ◌≢◌, ◌<◌, ◌≤◌, ℕ, ◌+◌, ◌-◌, Bool, true, false, List, [], ◌∷◌, ◌++◌, length, take, drop, get_or, Option, Some, None, Result, Ok, Err, ap, refl, sym, subst, ◌∙◌, arith, inl, inr, map, suc, zero}
 use Rattle.std.specs.FinMap as fmap
 use Rattle.std.specs.List.{list_any}
@@ -40,13 +41,7 @@ too_long (Some bytes) buf n h e =
 pub folder_push : (xs : List ℕ) (b : ℕ) (c : Bool) → is_slash b ≡ c → folder_of (xs ++ b ∷ []) ≡ (if c then xs ++ b ∷ [] else folder_of xs)
 folder_push [] b true e = rw e refl
 folder_push [] b false e = rw e refl
-folder_push (x ∷ xs) b true e =
-    let some : list_any is_slash (x ∷ xs ++ b ∷ []) ≡ true = list_any-append is_slash (x ∷ xs) (b ∷ []) ∙ rw e (or_true (is_slash x || list_any is_slash xs)) in
-    rw some (ap (λ l. x ∷ l) (folder_push xs b true e))
-  where
-    or_true : (y : Bool) → (y || true) ≡ true
-    or_true true = refl
-    or_true false = refl
+folder_push (x ∷ xs) b true e = grind (arith, common_steps, (folder_push xs b true e), list_any-append)
 folder_push (x ∷ xs) b false e =
     let same : list_any is_slash (x ∷ xs ++ b ∷ []) ≡ list_any is_slash (x ∷ xs) = list_any-append is_slash (x ∷ xs) (b ∷ []) ∙ rw e (or_false (is_slash x || list_any is_slash xs)) in
     rw (same, folder_push xs b false e) refl
@@ -76,10 +71,7 @@ err_is_not : {a : ExpandFault} {b : List ℕ × List ℕ} → ◌≡◌ {A = Res
 err_is_not e = absurd (cc)
 
 few_found : (m : Files) (x bytes name : List ℕ) (b : Bool) → nat_le (length bytes) 16777216 ≡ b → (if b then Ok (x, bytes) else Err FileTooLong) ≡ Ok (file_of m name) → length (bytes_of m name) ≤ 16777216
-few_found m x bytes name true h e =
-    let pairs : (x, bytes) ≡ file_of m name = ok_is e in
-    let within : length bytes ≤ 16777216 = grind (arith, nat_tests) in
-    subst (λ (l : List ℕ). length l ≤ 16777216) (ap (λ (p : List ℕ × List ℕ). p.1) pairs) within
+few_found m x bytes name true h e = grind (arith, common_steps, ok_is, nat_tests)
 few_found m x bytes name false h e = absurd (err_is_not e)
 
 pub found_fits : (m : Files) (names : List (List ℕ)) (name : List ℕ) → first_file m names ≡ Ok (file_of m name) → length (bytes_of m name) ≤ 16777216
@@ -99,45 +91,14 @@ not_utf8 bytes h = by (is_utf8 bytes) refl
     by true e = absurd (h (IsUtf8-from_is_utf8 bytes e))
     by false e = refl
 
-named : (m : Files) (name : List ℕ) → is_utf8 name ≡ true → file_named m name ≡ fmap.get m name
-named m name h = rw h refl
-
 pub is_found : (m : Files) (name found : List ℕ) (others : Result (List ℕ × List ℕ) ExpandFault) → is_utf8 name ≡ true → is_there (fmap.get m name) ≡ Ok true → found ≡ name → found_or name (file_named m name) others ≡ Ok (file_of m found)
-is_found m name found others u h e = ap (λ o. found_or name o others) (named m name u) ∙ by (fmap.get m name) refl h ∙ ap (λ n. Ok (file_of m n)) (sym e)
-  where
-    by : (o : Option (List ℕ)) → fmap.get m name ≡ o → is_there o ≡ Ok true → found_or name o others ≡ Ok (file_of m name)
-    by None g h = absurd (cc)
-    by (Some bytes) g h = few (nat_le (length bytes) 16777216) refl h
-      where
-        few : (b : Bool) → nat_le (length bytes) 16777216 ≡ b → (if b then Ok true else Err FileTooLong) ≡ Ok true → found_or name (Some bytes) others ≡ Ok (file_of m name)
-        few true k h = rw k (ap (λ (o : Option (List ℕ)). Ok (name, unwrap_or o [])) (sym g))
-        few false k h = absurd (cc)
+is_found m name found others u h e = grind (arith, common_steps)
 
 pub is_missing : (m : Files) (name : List ℕ) (others : Result (List ℕ × List ℕ) ExpandFault) → is_utf8 name ≡ true → is_there (fmap.get m name) ≡ Ok false → found_or name (file_named m name) others ≡ others
-is_missing m name others u h = ap (λ o. found_or name o others) (named m name u) ∙ by (fmap.get m name) h
-  where
-    by : (o : Option (List ℕ)) → is_there o ≡ Ok false → found_or name o others ≡ others
-    by None h = refl
-    by (Some bytes) h = few (nat_le (length bytes) 16777216) h
-      where
-        few : (b : Bool) → (if b then Ok true else Err FileTooLong) ≡ Ok false → found_or name (Some bytes) others ≡ others
-        few true h = absurd (cc)
-        few false h = absurd (cc)
+is_missing m name others u h = grind (arith, common_steps)
 
 pub is_refused : (m : Files) (name : List ℕ) (others : Result (List ℕ × List ℕ) ExpandFault) (f : ExpandFault) → is_utf8 name ≡ true → Unless (is_outside f) (is_there (fmap.get m name) ≡ Err f) → Unless (is_outside f) (found_or name (file_named m name) others ≡ Err f)
-is_refused m name others f u h = out (is_outside f) h
-  where
-    out : (b : Bool) → Unless b (is_there (fmap.get m name) ≡ Err f) → Unless b (found_or name (file_named m name) others ≡ Err f)
-    out true h = tt
-    out false h = ap (λ o. found_or name o others) (named m name u) ∙ by (fmap.get m name) h
-      where
-        by : (o : Option (List ℕ)) → is_there o ≡ Err f → found_or name o others ≡ Err f
-        by None h = absurd (cc)
-        by (Some bytes) h = few (nat_le (length bytes) 16777216) refl h
-          where
-            few : (b : Bool) → nat_le (length bytes) 16777216 ≡ b → (if b then Ok true else Err FileTooLong) ≡ Err f → found_or name (Some bytes) others ≡ Err f
-            few true k h = absurd (cc)
-            few false k h = let same : FileTooLong ≡ f = cc in rw k (ap (λ (x : ExpandFault). Err x) same)
+is_refused m name others f u h = grind (arith, common_steps)
 
 -- ---- The name that was asked for.
 

@@ -1,5 +1,6 @@
 -- Where expansion was when the store failed.
-use Rattle.std.proofs.Common.{◌≡◌, ℕ, ◌∙◌, ◌∷◌, [], List, Bool, drop, true, false, inr, Option, Some, None, Result, Ok, Err, IfSome, refl, sym, ap, subst}
+use Rattle.std.proofs.lemmas.Grind.{common_steps}
+use Rattle.std.proofs.Common.{arith, ◌≡◌, ℕ, ◌∙◌, ◌∷◌, [], List, Bool, drop, true, false, inr, Option, Some, None, Result, Ok, Err, IfSome, refl, sym, ap, subst}
 use Rattle.base65.specs.Store.{Files}
 use Rattle.syntax65.specs.Tokens.{Lexeme}
 use Rattle.source65.specs.Faults.{is_failure}
@@ -38,51 +39,32 @@ use Rattle.expand65.proofs.Innermost.{last_is}
 -- ---- Of a reader.
 
 pub stops_so : {A : Type 0} (o : Option Files) (P Q : Files → Place → Type 0) (old new : Reader) (r : Result A ExpandFault) → ((m : Files) (p : Place) → P m p → Q m p) → IfSome o (λ m. StopsAt (P m) old new r) → IfSome o (λ m. StopsAt (Q m) old new r)
-stops_so None P Q old new r f h = tt
-stops_so (Some m) P Q old new (Ok x) f h = tt
-stops_so (Some m) P Q old new (Err e) f h = λ failed. (let so = h failed in record { there = f m new.place so.there; mark = so.mark })
+stops_so x y z old new r f h = grind (arith, common_steps)
 
 -- where nothing was read
 pub stood : (A : Type 0) (o : Option Files) (P : Files → Place → Type 0) (reader : Reader) (f : ExpandFault) → ((m : Files) → is_failure f ≡ true → P m reader.place) → IfSome o (λ m. StopsAt {A = A} (P m) reader reader (Err f))
-stood A None P reader f h = tt
-stood A (Some m) P reader f h = λ failed. record { there = h m failed; mark = refl }
+stood x y z reader f h = grind (arith, common_steps)
 
 pub only_error : (f : ExpandFault) → is_failure f ≡ true → f ≡ FileError
-only_error FileError h = refl
-only_error _ h = absurd cc
+only_error x h = grind (arith, common_steps)
 
 -- behind a line
 pub stops_behind : {A : Type 0} (o : Option Files) (blamed : Option (List ℕ)) (k : Meaning) (old mid : Rewriter) (new : Reader) (ts : List Lexeme) (r : Result A ExpandFault) → IfSome o (λ m. Takes (left_of m old.reader) (Ok (Some ts, left_of m mid.reader))) → ((m : Files) → state_of m mid ≡ with_left (state_of m old) (left_of m mid.reader)) → mark_of mid.reader.top ≡ mark_of old.reader.top → IfSome o (λ m. StopsAt (FailsUnlabelled blamed k (state_of m mid) ts) mid.reader new r) → IfSome o (λ m. StopsAt (FailsTaking blamed k (state_of m old)) old.reader new r)
-stops_behind None blamed k old mid new ts r t e same h = tt
-stops_behind (Some m) blamed k old mid new ts (Ok x) t e same h = tt
-stops_behind (Some m) blamed k old mid new ts (Err f) t e same h = λ failed.
-    let so = h failed in
-    let there : FailsUnlabelled blamed k (with_left (state_of m old) (left_of m mid.reader)) ts new.place = subst (λ s. FailsUnlabelled blamed k s ts new.place) (e m) so.there in
-    record { there = inr (ts, (left_of m mid.reader, t, there)); mark = so.mark ∙ same }
+stops_behind x blamed k old mid new ts r t e same h = grind (arith, common_steps)
 
 -- ---- Of one line.
 
 -- the branches behind one that was taken are passed over
 pub stops_at_else : {A : Type 0} (o : Option Files) (blamed : Option (List ℕ)) (old : Rewriter) (new : Reader) (cs : List Bool) (r : Result A ExpandFault) → popped old.conditions old.reader.top.conditions ≡ Some (false, cs) → IfSome o (λ m. StopsAt (FailsInBlock blamed passes 0 (left_of m old.reader)) old.reader new r) → IfSome o (λ m. StopsAt (FailsAtElse blamed (state_of m old) (last_condition (state_of m old))) old.reader new r)
-stops_at_else o blamed old new cs r e h =
-    let Q : Files → Place → Option (Bool × List Bool) → Type 0 = λ m p x. FailsAtElse blamed (state_of m old) x p in
-    stops_so o (λ m. FailsInBlock blamed passes 0 (left_of m old.reader)) (λ m. FailsAtElse blamed (state_of m old) (last_condition (state_of m old))) old.reader new r (λ m p k. subst (Q m p) (sym (last_is m old ∙ e)) k) h
+stops_at_else o blamed old new cs r e h = grind (arith, common_steps, stops_so, last_is)
 
 pub stops_acting : {A : Type 0} (o : Option Files) (blamed : Option (List ℕ)) (k : Meaning) (old : Rewriter) (new : Reader) (ts us : List Lexeme) (d : Directive) (r : Result A ExpandFault) → front_directive ts ≡ Some d → us ≡ drop 1 ts → IfSome o (λ m. StopsAt (FailsBy blamed k (state_of m old) d us) old.reader new r) → IfSome o (λ m. StopsAt (FailsActing blamed k (state_of m old) ts (front_directive ts)) old.reader new r)
-stops_acting o blamed k old new ts us d r e u h =
-    let P : Files → Place → Option Directive → Type 0 = λ m p x. FailsActing blamed k (state_of m old) ts x p in
-    let Q : Files → Place → List Lexeme → Type 0 = λ m p l. FailsBy blamed k (state_of m old) d l p in
-    stops_so o (λ m. FailsBy blamed k (state_of m old) d us) (λ m. FailsActing blamed k (state_of m old) ts (front_directive ts)) old.reader new r (λ m p w. subst (P m p) (sym e) (subst (Q m p) u w)) h
+stops_acting o blamed k old new ts us d r e u h = grind (arith, common_steps)
 
 -- ---- Of one step, by what stands in front of the lines.
 
 fails_from : (blamed : Option (List ℕ)) (k : Meaning) (s : State) (is : List Item) (p : Place) → BeginsPlain is → FailsTaking blamed k s p → FailsFrom blamed k s is p
-fails_from blamed k s [] p b h = h
-fails_from blamed k s (written n bytes ∷ is) p b h = h
-fails_from blamed k s (played e ts ∷ is) p b h = h
-fails_from blamed k s (end_mark y ∷ is) p b h = h
-fails_from blamed k s (labelled ts ∷ is) p b h = absurd b
-fails_from blamed k s (branch ts ∷ is) p b h = absurd b
+fails_from blamed k s x p b h = grind (arith, common_steps)
 
 fails_plain : (blamed : Option (List ℕ)) (m : Files) (k : Meaning) (r : Rewriter) (p : Place) → FailsTaking blamed k (state_of m r) p → FailsAt blamed k (fronted Nothing (state_of m r)) p
 unfolding FailsAt
@@ -137,14 +119,6 @@ goes_over m k s _ _ g (no_step t) = g
 goes_over m k s t _ g (one_more _ v u h step) = one_more s v u (goes_over m k s t v g h) step
 
 pub stops_later : {A : Type 0} (B : Type 0) (o : Option Files) (blamed : Option (List ℕ)) (k : Meaning) (i e : Expander) (mark : Mark) (place : Place) (r : Result A ExpandFault) (f : ExpandFault) → r ≡ Err f → IfSome o (HasGone k i e) → IfSome o (λ m. StopsReading {A = B} m blamed k (state_in m e) (Err f) mark place) → IfSome o (λ m. StopsReading m blamed k (state_in m i) r mark place)
-stops_later B None blamed k i e mark place r f is h s = tt
-stops_later {A} B (Some m) blamed k i e mark place r f is h s =
-    let P : Result A ExpandFault → Type 0 = λ q. StopsReading m blamed k (state_in m i) q mark place in
-    subst P (sym is) (λ failed. (let so = s failed in record {
-      state = so.state;
-      goes = goes_over m k (state_in m i) (state_in m e) so.state h so.goes;
-      fails = so.fails;
-      within = so.within;
-    }))
+stops_later x y blamed k i e mark place r f is h s = grind (arith, common_steps, goes_over)
 
 -- ---- At the place of the line that was read last.

@@ -1,5 +1,6 @@
 -- From a state one thing at most comes next.
-use Rattle.std.proofs.Common.{◌≡◌, ℕ, zero, suc, Bool, true, false, List, [], ◌∷◌, drop, refl, sym, ap, ◌∙◌, subst, Option, Some, None, Result, Ok, Err, length, not}
+use Rattle.std.proofs.lemmas.Grind.{common_steps}
+use Rattle.std.proofs.Common.{arith, ◌≡◌, ℕ, zero, suc, Bool, true, false, List, [], ◌∷◌, drop, refl, sym, ap, ◌∙◌, subst, Option, Some, None, Result, Ok, Err, length, not}
 use Rattle.base65.specs.Outcome.{◌>>=◌}
 use Rattle.base65.specs.Store.{Files}
 use Rattle.syntax65.specs.Tokens.{Lexeme}
@@ -34,11 +35,7 @@ both e f = e ∙ sym f
 -- ---- Lines.
 
 one_opened : (i : Item) (q r : Result (List Lexeme) ExpandFault) → IsOpened i q → IsOpened i r → q ≡ r
-one_opened (written n bytes) q r (x, h, e) (y, k, f) = e ∙ ap lexed (one_reading bytes x y h k) ∙ sym f
-one_opened (played e ts) q r h k = both h k
-one_opened (labelled ts) q r h k = absurd h
-one_opened (branch ts) q r h k = absurd h
-one_opened (mark k) q r h j = absurd h
+one_opened x q r y z = grind (arith, common_steps, one_reading, both)
 
 one_taken : (is : List Item) (r : ℕ) (p : Place) (a b : Taken) → TakesFrom is r p a → TakesFrom is r p b → a ≡ b
 one_taken [] r p a b h k = both h k
@@ -65,17 +62,10 @@ After judge a (Ok (None, m)) r = r ≡ Err (NotClosed, m.place)
 After judge a (Ok (Some ts, m)) r = AfterLine judge (judge a ts) m r
 
 opened_block : {A B : Type 0} (judge : A → List Lexeme → Verdict A B) (a : A) (l : Left) (r : Result (B × Left) Stop) → Block judge a l r → (t : Taken) × Takes l t × After judge a t r
-opened_block judge a l r (a_fault _ _ e t) = (Err e, t, refl)
-opened_block judge a l r (a_mark _ _ m t) = (Ok (None, m), t, refl)
-opened_block {B = B} judge a l r (a_refusal _ _ m ts f t e) = let P : Verdict _ B → Type 0 = λ v. AfterLine judge v m (Err (f, m.place)) in (Ok (Some ts, m), t, subst P (sym e) refl)
-opened_block {B = B} judge a l r (the_last _ _ m ts b t e) = let P : Verdict _ B → Type 0 = λ v. AfterLine judge v m (Ok (b, m)) in (Ok (Some ts, m), t, subst P (sym e) refl)
-opened_block {B = B} judge a l r (one_more _ c _ m ts q t e k) = let P : Verdict _ B → Type 0 = λ v. AfterLine judge v m r in (Ok (Some ts, m), t, subst P (sym e) k)
+opened_block judge a l r x = grind (arith, common_steps)
 
 after_taken : {A B : Type 0} (judge : A → List Lexeme → Verdict A B) (a : A) (l : Left) (t : Taken) (r : Result (B × Left) Stop) → Takes l t → Block judge a l r → After judge a t r
-after_taken judge a l t r h k =
-    let x = opened_block judge a l r k in
-    let P : Taken → Type 0 = λ u. After judge a u r in
-    subst P (one_taken l.items l.room l.place x.0 t x.1 h) x.2
+after_taken judge a l t r h k = grind (arith, common_steps, opened_block, one_taken)
 
 one_block : {A B : Type 0} (judge : A → List Lexeme → Verdict A B) (a : A) (l : Left) (q r : Result (B × Left) Stop) → Block judge a l q → Block judge a l r → q ≡ r
 one_block judge a l q r (a_fault _ _ e t) k = sym (after_taken judge a l (Err e) r t k)
@@ -87,49 +77,33 @@ one_block {B = B} judge a l q r (one_more _ c _ m ts _ t e h) k = let P : Verdic
 -- ---- Conditions.
 
 one_condition : (k : Meaning) (test : Test) (ts : List Lexeme) (a b : Result Bool ExpandFault) → IsCondition k test ts a → IsCondition k test ts b → a ≡ b
-one_condition k True ts a b (q, h, e) (r, j, f) = e ∙ ap (λ x. whole (length ts) x >>= (λ t. truth (k.value t))) (one_parse ts q r h j) ∙ sym f
-one_condition k Defined ts a b (q, h, e) (r, j, f) = e ∙ ap (defined_in k ts) (one_parse ts q r h j) ∙ sym f
-one_condition k NotDefined ts a b (q, h, e) (r, j, f) = e ∙ ap (λ x. defined_in k ts x >>= (λ t. Ok (not t))) (one_parse ts q r h j) ∙ sym f
-one_condition k Blank ts a b h j = both h j
-one_condition k NotBlank ts a b h j = both h j
+one_condition k x ts a b y z = grind (arith, common_steps, one_parse, both)
 
 one_decided : (s : State) (c : Result Bool ExpandFault) (a b : Stepped) → IsDecided s c a → IsDecided s c b → a ≡ b
-one_decided s (Err f) a b h j = both h j
-one_decided s (Ok true) a b h j = both h j
-one_decided s (Ok false) a b (q, h, e) (r, j, f) = e ∙ ap (found s) (one_block skips 0 s.left q r h j) ∙ sym f
+one_decided s x a b h j = grind (arith, common_steps, both, one_block)
 
 one_if : (k : Meaning) (s : State) (test : Test) (ts : List Lexeme) (a b : Stepped) → IsIf k s test ts a → IsIf k s test ts b → a ≡ b
-one_if k s test ts a b (c, h, e) (d, j, f) =
-    let P : Result Bool ExpandFault → Type 0 = λ x. IsDecided s x b in
-    one_decided s c a b e (subst P (one_condition k test ts d c j h) f)
+one_if k s test ts a b x y = grind (arith, common_steps, one_decided, one_condition)
 
 one_else : (s : State) (o : Option (Bool × List Bool)) (a b : Stepped) → IsElse s o a → IsElse s o b → a ≡ b
-one_else s None a b h j = both h j
-one_else s (Some (true, bs)) a b h j = both h j
-one_else s (Some (false, bs)) a b (q, h, e) (r, j, f) = e ∙ ap (passed s bs) (one_block passes 0 s.left q r h j) ∙ sym f
+one_else s x a b h j = grind (arith, common_steps, both, one_block)
 
 one_else_line : (s : State) (ts : List Lexeme) (a b : Stepped) → IsElseLine s ts a → IsElseLine s ts b → a ≡ b
-one_else_line s [] a b h j = one_else s (last_condition s) a b h j
-one_else_line s (t ∷ ts) a b h j = both h j
+one_else_line s x a b h j = grind (arith, common_steps, one_else, both)
 
 -- ---- Macros and repeats.
 
 one_kept : (s : State) (name : List ℕ) (params : List (List ℕ)) (o : Option Definition) (a b : Stepped) → IsKept s name params o a → IsKept s name params o b → a ≡ b
-one_kept s name params (Some m) a b h j = both h j
-one_kept s name params None a b (q, h, e) (r, j, f) = e ∙ ap (kept s name params) (one_block collects [] s.left q r h j) ∙ sym f
+one_kept s name params x a b h j = grind (arith, common_steps, both, one_block)
 
 one_defined : (s : State) (o : Option (List ℕ × List (List ℕ))) (a b : Stepped) → IsDefined s o a → IsDefined s o b → a ≡ b
-one_defined s None a b h j = both h j
-one_defined s (Some (name, params)) a b h j = one_kept s name params (macro_of s.macros name) a b h j
+one_defined s x a b h j = grind (arith, common_steps, both, one_kept)
 
 one_repeated : (s : State) (c : Result (ℕ × List (List ℕ)) ExpandFault) (a b : Stepped) → IsRepeated s c a → IsRepeated s c b → a ≡ b
-one_repeated s (Err f) a b h j = both h j
-one_repeated s (Ok (n, v)) a b (q, h, e) (r, j, f) = e ∙ ap (repeated s n v) (one_block gathers (0, []) s.left q r h j) ∙ sym f
+one_repeated s x a b h j = grind (arith, common_steps, both, one_block)
 
 one_repeat : (k : Meaning) (s : State) (ts : List Lexeme) (a b : Stepped) → IsRepeat k s ts a → IsRepeat k s ts b → a ≡ b
-one_repeat k s ts a b (q, h, e) (r, j, f) =
-    let P : Result (Tree × ℕ) ExprFault → Type 0 = λ x. IsRepeated s (repeat_of k ts x) b in
-    one_repeated s (repeat_of k ts q) a b e (subst P (one_parse ts r q j h) f)
+one_repeat k s ts a b x y = grind (arith, common_steps, one_repeated, one_parse)
 
 -- ---- Steps.
 
@@ -166,9 +140,7 @@ one_behind m k s (Ok (Some ts, l)) a b h j = one_labelled m k (with_left s l) ts
 one_behind m k s (Ok (None, l)) a b h j = both h j
 
 one_after : (m : Files) (k : Meaning) (s : State) (a b : Stepped) → ((t : Taken) × Takes s.left t × IsStepBehind m k s t a) → ((t : Taken) × Takes s.left t × IsStepBehind m k s t b) → a ≡ b
-one_after m k s a b (t, h, e) (u, j, f) =
-    let P : Taken → Type 0 = λ x. IsStepBehind m k s x b in
-    one_behind m k s t a b e (subst P (one_taken s.left.items s.left.room s.left.place u t j h) f)
+one_after m k s a b x y = grind (arith, common_steps, one_behind, one_taken)
 
 one_from : (m : Files) (k : Meaning) (s : State) (is : List Item) (a b : Stepped) → IsStepFrom m k s is a → IsStepFrom m k s is b → a ≡ b
 one_from m k s [] a b h j = one_after m k s a b h j

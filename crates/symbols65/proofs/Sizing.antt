@@ -1,5 +1,5 @@
 -- Folding forms that may be missing gives the normal forms of expressions.
-use Rattle.std.proofs.Common.{◌≡◌, ap, refl, sym, ◌∙◌, length, Result, Ok, Err}
+use Rattle.std.proofs.Common.{◌≡◌, ap, refl, length, Result, Ok, Err}
 use Rattle.std.specs.Result.{result_ok}
 use Rattle.base65.specs.Outcome.{◌>>=◌}
 use Rattle.syntax65.specs.Trees.{Tree, number, here, name, cheap, forward, backward, unary, binary}
@@ -11,12 +11,9 @@ use Rattle.object65.specs.declared.folding.FormFault.{FormFault}
 use Rattle.object65.specs.declared.folding.FormFault.TheVariants as form
 use Rattle.language65.specs.declared.fault.AsmFault.{AsmFault}
 use Rattle.language65.specs.declared.laid.Spot.{Spot}
-use Rattle.language65.specs.Names.{Meaning, meaning_of}
-use Rattle.language65.specs.Norms.{constant_in, folded, form_of_meaning, literal_in, norm, norm_of}
-use Rattle.language65.specs.Sizes.{size_by, size_of_meaning}
+use Rattle.language65.specs.Names.{meaning_of}
+use Rattle.language65.specs.Norms.{folded, form_of_meaning, literal_in, norm, norm_of}
 use Rattle.language65.specs.Symbols.{Symbols}
-use Rattle.syntax65.specs.declared.lexing.tokens.AddressSize.{AddressSize}
-use Rattle.symbols65.specs.Inner.Settling.{IsPlaceOf}
 use Rattle.symbols65.specs.Forms.{IsReference, binary_form, literal_of, prefix_form}
 
 pub literal_known : (r : Result Form AsmFault) → literal_of (result_ok r) ≡ literal_in r
@@ -49,20 +46,3 @@ meaningless y s (name global parts) z n h = ap (λ r. r >>= form_of_meaning (nor
 meaningless y s (cheap x) z n h = ap (λ r. r >>= form_of_meaning (norm (length y.definitions) y) y) h
 meaningless y s (forward x) z n h = ap (λ r. r >>= form_of_meaning (norm (length y.definitions) y) y) h
 meaningless y s (backward x) z n h = ap (λ r. r >>= form_of_meaning (norm (length y.definitions) y) y) h
-
--- what means a place has the size of that
-pub place_size : (y : Symbols) (s : Spot) (e : Tree) (m : Meaning) (a : AddressSize) → IsReference e → meaning_of y s e ≡ Ok m → IsPlaceOf y m a → a ≡ size_by (size_of_meaning y (meaning_of y s e)) (constant_in y s e)
-place_size y s e m a r h (same, none) = same ∙ sym (ap (λ o. size_by (size_of_meaning y (Ok m)) o) (none (length y.definitions))) ∙ sym (by e r h)
-  where
-    part : Result Meaning AsmFault → AddressSize
-    part q = size_by (size_of_meaning y q) (literal_in (q >>= form_of_meaning (norm (length y.definitions) y) y))
-
-    by : (e : Tree) → IsReference e → meaning_of y s e ≡ Ok m → size_by (size_of_meaning y (meaning_of y s e)) (constant_in y s e) ≡ part (Ok m)
-    by (number v) n h = absurd n
-    by here n h = absurd n
-    by (unary op e) n h = absurd n
-    by (binary op e f) n h = absurd n
-    by (name global parts) n h = ap part h
-    by (cheap x) n h = ap part h
-    by (forward x) n h = ap part h
-    by (backward x) n h = ap part h

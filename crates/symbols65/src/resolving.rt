@@ -18,7 +18,7 @@ pub use definitions::definition_of;
 pub use finals::final_form;
 pub use folding::{binary_form, prefix_form};
 pub use known::Known;
-pub use meaning::{Meaning, meaning_of};
+pub use meaning::{Meaning, meaning_of, plain_part, scopes_in};
 pub use numbers::number_of;
 pub use operands::operand_form;
 pub use scopes::scope_of;

@@ -4,12 +4,11 @@ use Rattle.std.specs.Prelude.{Ok}
 use Rattle.base65.specs.Store.{Files}
 use Rattle.std.proofs.Math.Seq.{drop-append_seam, take-append_seam}
 use Rattle.syntax65.specs.Tokens.{Lexeme}
-use Rattle.reader65.specs.Kept.{tokens_in}
+use Rattle.reader65.specs.Playing.{tokens_in}
 use Rattle.reader65.specs.declared.line.Line.{Line}
 use Rattle.reader65.specs.declared.line.Word.{Word}
-use Rattle.expand65.specs.Meaning.{Meaning}
+use Rattle.expand65.specs.State.{Meaning, plain}
 use Rattle.expand65.specs.Standing.{FollowsFrom, measure_of, place_of, stated}
-use Rattle.expand65.specs.State.{plain}
 use Rattle.expand65.specs.declared.expander.Expander.{Expander}
 use Rattle.expand65.specs.declared.expander.Statement.{Statement}
 use Rattle.expand65.specs.declared.expander.Statement.TheVariants.{Plain}

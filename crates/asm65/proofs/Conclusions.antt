@@ -1,31 +1,177 @@
--- What an assembler comes to behind the last line.
-use Rattle.std.proofs.Common.{◌≡◌, ◌∙◌, ℕ, true, false, List, [], ◌++◌, map, string_bytes, sym, ap, subst}
-use Rattle.std.specs.Prelude.{IfErr, IfOk, Result, Ok, Err, None}
+-- What waits comes to, and an assembler behind the last line.
+use Rattle.std.proofs.Common.{◌≡◌, ◌∙◌, ◌||◌, ℕ, Bool, true, false, List, refl, sym, ap, [], ◌∷◌, ◌++◌, subst, append_assoc, suc, map, string_bytes}
+use Rattle.base65.specs.Outcome.{◌>>=◌, Unless}
+use Rattle.syntax65.specs.Trees.{Tree}
+use Rattle.source65.specs.declared.place.Place.{Place}
+use Rattle.language65.specs.declared.fault.AsmFault.{AsmFault}
+use Rattle.language65.specs.Faults.{is_failure, is_memory, is_outside}
+use Rattle.language65.specs.declared.laid.Spot.{Spot}
+use Rattle.language65.specs.Norms.{defined_form, form_of_definition, form_of_value, norm_of}
+use Rattle.language65.specs.Symbols.{Symbols}
+use Rattle.module65.specs.Machine as machine
+use Rattle.module65.specs.Machine.{before_it, resolved, Finished, State, concluded, filled, finished}
+use Rattle.module65.specs.Pieces as piece
+use Rattle.module65.specs.Pieces.{Made, made_of, used}
+use Rattle.asm65.specs.declared.assembler.Piece.{Piece}
+use Rattle.asm65.specs.declared.assembler.Piece.TheVariants.{Datum, Operand, Constant, Assertion, Import, Demand, Export}
+use Rattle.asm65.specs.declared.assembler.Waiting.{Waiting}
+use Rattle.asm65.specs.Inner.Holding.{IsConstant, IsPiece, IsWaiting, AreAwaited, AreWaiting, Holds}
+use Rattle.asm65.specs.Inner.Resolving.{coming, AreFaulty, AreSettled, IsFaulty, IsSettled, ReceivesAll, SettlesAll}
+use Rattle.std.specs.Prelude.{IfOk, Result, Ok, Err, IfErr, None}
 use Rattle.std.proofs.lemmas.List.{append-nil}
-use Rattle.base65.specs.Outcome.{◌>>=◌}
+use Rattle.language65.specs.Parts.{Content}
+use Rattle.module65.specs.Places.{PlacedFault}
+use Rattle.module65.proofs.Resolving.{made_asks, resolved_more, resolved_stops}
+use Rattle.sections65.specs.Standing.{Stands}
+use Rattle.asm65.specs.declared.concluding.Ending.{Ending}
+use Rattle.asm65.specs.declared.texts.AsmRefusal.{AsmRefusal}
+use Rattle.asm65.specs.Assembly.{is_outside_refusal, placed_of, in_places, is_from_outside}
+use Rattle.layout65.proofs.Measures.{unless_then}
 use Rattle.object65.specs.declared.object.Object.{Object}
 use Rattle.object65.specs.Objects.{is_good_object}
-use Rattle.language65.specs.Parts.{Content}
 use Rattle.language65.specs.declared.contents.Segment.{Segment}
 use Rattle.language65.specs.Layout.{Standing}
 use Rattle.language65.specs.Numbering.{object_with}
 use Rattle.language65.specs.Sound.{AreSound}
-use Rattle.language65.specs.Symbols.{Symbols}
-use Rattle.module65.specs.Machine as machine
-use Rattle.module65.specs.Machine.{Finished, State, concluded, filled, finished, resolved}
 use Rattle.module65.specs.Module.{Outcome}
-use Rattle.module65.specs.Places.{PlacedFault}
-use Rattle.sections65.specs.Standing.{Stands}
 use Rattle.symbols65.specs.Resolving.{IsTable}
 use Rattle.symbols65.specs.Views.{table_of}
 use Rattle.asm65.specs.declared.assembler.Assembler.{Assembler}
-use Rattle.asm65.specs.declared.concluding.Ending.{Ending}
-use Rattle.asm65.specs.declared.refusal.AsmRefusal.{AsmRefusal}
-use Rattle.asm65.specs.Assembly.{in_places, is_from_outside, is_outside_refusal, placed_of}
-use Rattle.asm65.specs.Inner.Holding.{AreWaiting, Holds}
-use Rattle.asm65.specs.Inner.Resolving.{AreFaulty, AreSettled, SettlesAll}
-use Rattle.layout65.specs.Views.{standing_of}
-use Rattle.asm65.proofs.Goings.{awaited}
+use Rattle.layout65.specs.Sounds.{standing_of}
+
+-- ---- Faults from outside.
+
+pub unless : (b : Bool) (P : Type 0) → (b ≡ false → P) → Unless b P
+unless true P h = tt
+unless false P h = h refl
+
+either_false : (b c : Bool) → (b || c) ≡ false → b ≡ false
+either_false true c h = absurd cc
+either_false false c h = refl
+
+pub certain : (b : Bool) (P : Type 0) → Unless b P → b ≡ false → P
+certain true P u e = absurd cc
+certain false P u e = u
+
+-- a fault that isn't from outside is the one that was found
+pub found_inside : (e : AsmFault) (P : Type 0) → Unless (is_memory e) P → is_outside e ≡ false → P
+found_inside e P h k = certain (is_memory e) P h (either_false (is_memory e) (is_failure e) k)
+
+pub no_more : (b c : Bool) → (b ≡ true → c ≡ true) → c ≡ false → b ≡ false
+no_more true c h e = absurd (let both : true ≡ false = sym (h refl) ∙ e in cc)
+no_more false c h e = refl
+
+-- ---- What a piece comes to.
+
+constant_form : (y : Symbols) (s : Spot) (at : ℕ) (e : Tree) → IsConstant y s at e → defined_form y at ≡ norm_of y s e
+constant_form y s at e k =
+    ap (form_of_definition (norm_of y)) k.there
+    ∙ ap (form_of_value (norm_of y) k.definition.spot) k.value
+    ∙ ap (λ (z : Spot). norm_of y z e) k.spot
+
+pub comes_to : (y : Symbols) (place : Place) (s : Spot) (w : Piece) (p : piece.Piece) → IsPiece y s w p → coming y place s w ≡ made_of y place s p
+comes_to y place s (Datum width e) p h = ap (made_of y place s) (sym h)
+comes_to y place s (Operand width e) p h = ap (made_of y place s) (sym h)
+comes_to y place s (Constant at) p h = ap (λ r. r >>= used place s piece.equated) (constant_form y s at h.0 h.1) ∙ ap (made_of y place s) (sym h.2)
+comes_to y place s (Assertion act words e) p h = ap (made_of y place s) (sym h)
+comes_to y place s (Import n) p h = ap (made_of y place s) (sym h)
+comes_to y place s (Demand n) p h = ap (made_of y place s) (sym h)
+comes_to y place s (Export must n) p h = ap (made_of y place s) (sym h)
+
+pub waiting_comes : (y : Symbols) (files : List (List ℕ)) (w : Waiting) (v : machine.Waiting) (here : Place) → IsWaiting y files w v → here ≡ v.place → coming y here w.spot w.piece ≡ made_of y v.place v.spot v.piece
+waiting_comes y files w v here h same =
+    ap (λ (s : Spot). coming y here s w.piece) (sym h.spot)
+    ∙ ap (λ (p : Place). coming y p v.spot w.piece) same
+    ∙ comes_to y v.place v.spot w.piece v.piece h.piece
+
+-- ---- What waits is settled one behind the other.
+
+abbrev pub done_with : List Content → List ℕ → Finished Content
+done_with cs said = record { found = Ok cs; warned = said }
+
+-- some of what waits is settled, and the others are left
+pub record SoFar (y : Symbols) (files : List (List ℕ)) (vs : List machine.Waiting) (left : List Waiting) (old new : Ending) : Type 0 where
+  pub done : List machine.Waiting
+  pub rest : List machine.Waiting
+  pub all : done ++ rest ≡ vs
+  pub waits : AreWaiting y files left rest
+  pub contents : List Content
+  pub warned : List ℕ
+  pub found : resolved y done ≡ done_with contents warned
+  pub sections : ReceivesAll old.sections new.sections contents
+  pub err : new.err ≡ old.err ++ warned
+
+pub begins : (y : Symbols) (files : List (List ℕ)) (vs : List machine.Waiting) (left : List Waiting) (e : Ending) → AreWaiting y files left vs → SoFar y files vs left e e
+begins y files vs left e h = record {
+  done = [];
+  rest = vs;
+  all = refl;
+  waits = h;
+  contents = [];
+  warned = [];
+  found = refl;
+  sections = λ cs rest s. s;
+  err = sym (append-nil e.err);
+}
+
+pub goes_on : (y : Symbols) (files : List (List ℕ)) (vs : List machine.Waiting) (w : Waiting) (left : List Waiting) (old mid new : Ending) → SoFar y files vs (w ∷ left) old mid → ((v : machine.Waiting) → IsWaiting y files w v → IsSettled y v mid new) → SoFar y files vs left old new
+goes_on y files vs w left old mid new so settled = by so.rest so.all so.waits
+  where
+    by : (rest : List machine.Waiting) → so.done ++ rest ≡ vs → AreWaiting y files (w ∷ left) rest → SoFar y files vs left old new
+    by [] all waits = absurd waits
+    by (v ∷ rest) all waits =
+        let k = settled v waits.0 in
+        record {
+          done = so.done ++ v ∷ [];
+          rest = rest;
+          all = append_assoc so.done (v ∷ []) rest ∙ all;
+          waits = waits.1;
+          contents = so.contents ++ k.made.content ∷ [];
+          warned = so.warned ++ k.made.warning;
+          found = resolved_more y so.done v so.contents so.warned k.made so.found k.found;
+          sections = λ cs more s. k.sections cs more (so.sections cs (k.made.content ∷ more) (subst (λ (ws : List Content). Stands cs ws old.sections) (append_assoc so.contents (k.made.content ∷ []) more) s));
+          err = k.err ∙ ap (λ (e : List ℕ). e ++ k.made.warning) so.err ∙ append_assoc old.err so.warned k.made.warning;
+        }
+
+pub stops : (y : Symbols) (files : List (List ℕ)) (vs : List machine.Waiting) (w : Waiting) (left : List Waiting) (old mid new : Ending) (e : AsmRefusal) → SoFar y files vs (w ∷ left) old mid → ((v : machine.Waiting) → IsWaiting y files w v → Unless (is_outside_refusal e) (IsFaulty y v e mid new)) → Unless (is_outside_refusal e) (AreFaulty y vs e old new)
+stops y files vs w left old mid new e so faulty = by so.rest so.all so.waits
+  where
+    one : (v : machine.Waiting) (rest : List machine.Waiting) → so.done ++ v ∷ rest ≡ vs → IsFaulty y v e mid new → AreFaulty y vs e old new
+    one v rest all k =
+        let stopped : resolved y vs ≡ record { found = Err (record { place = v.place; fault = (placed_of e).fault }); warned = so.warned } = ap (resolved y) (sym all) ∙ resolved_stops y so.done rest v so.contents so.warned (placed_of e).fault so.found k.found in
+        let at : Place → Result (List Content) PlacedFault = λ p. Err (record { place = p; fault = (placed_of e).fault }) in
+        record {
+          found = ap (λ (r : Finished Content). r.found) stopped ∙ ap at (sym k.place);
+          err = k.err ∙ so.err ∙ ap (λ (r : Finished Content). old.err ++ r.warned) (sym stopped);
+        }
+
+    by : (rest : List machine.Waiting) → so.done ++ rest ≡ vs → AreWaiting y files (w ∷ left) rest → Unless (is_outside_refusal e) (AreFaulty y vs e old new)
+    by [] all waits = absurd waits
+    by (v ∷ rest) all waits = unless_then (is_outside_refusal e) (one v rest all) (faulty v waits.0)
+
+pub ends : (y : Symbols) (files : List (List ℕ)) (vs : List machine.Waiting) (old new : Ending) → SoFar y files vs [] old new → AreSettled y vs old new
+ends y files vs old new so =
+    let all : so.done ≡ vs = sym (append-nil so.done) ∙ ap (λ ws. so.done ++ ws) (sym so.waits) ∙ so.all in
+    let done : resolved y vs ≡ done_with so.contents so.warned = ap (resolved y) (sym all) ∙ so.found in
+    record {
+      contents = so.contents;
+      found = ap (λ (r : Finished Content). r.found) done;
+      sections = so.sections;
+      err = so.err ∙ ap (λ (r : Finished Content). old.err ++ r.warned) (sym done);
+    }
+
+-- ---- The contents of what waits.
+
+pub awaited : (y : Symbols) (vs : List machine.Waiting) (cs : List Content) → (resolved y vs).found ≡ Ok cs → AreAwaited vs cs
+awaited y [] cs h = let same : [] ≡ cs = cc in subst (AreAwaited []) same (refl, tt)
+awaited y (v ∷ vs) cs h = by (made_of y v.place v.spot v.piece) (resolved y vs).found refl (made_asks y v.place v.spot v.piece) (awaited y vs) h
+  where
+    by : (r : Result Made AsmFault) (s : Result (List Content) PlacedFault) → (resolved y vs).found ≡ s → IfOk r (λ m. m.content.asks ≡ false) → ((ds : List Content) → (resolved y vs).found ≡ Ok ds → AreAwaited vs ds) → (before_it v.place r (record { found = s; warned = (resolved y vs).warned })).found ≡ Ok cs → AreAwaited (v ∷ vs) cs
+    by (Ok m) (Ok ds) e asks more k = let same : m.content ∷ ds ≡ cs = cc in subst (AreAwaited (v ∷ vs)) same (ap suc (more ds e).0, (asks, (more ds e).1))
+    by (Ok m) (Err f) e asks more k = absurd cc
+    by (Err f) s e asks more k = absurd cc
+
+-- ---- What an assembler comes to behind the last line.
 
 -- what is settled, of an assembler
 abbrev pub ending_of : Assembler → Ending

@@ -11,7 +11,7 @@ use Rattle.module65.specs.Machine.{State, Takes, begun}
 use Rattle.module65.specs.Reading.{Answers, AreDefined, Define}
 use Rattle.module65.proofs.Taken.{faulty_constant, first_constant, next_constant}
 use Rattle.asm65.specs.declared.assembler.Assembler.{Assembler}
-use Rattle.asm65.specs.declared.assembly.Define as code
+use Rattle.asm65.specs.declared.assembling.Define as code
 use Rattle.asm65.specs.Assembly.{define_of}
 use Rattle.layout65.specs.Counting.{opening_limit}
 use Rattle.asm65.specs.Inner.Holding.{Holds}

@@ -28,7 +28,7 @@ use Rattle.sections65.proofs.Pieces.{runs, runs_stand}
 use Rattle.sections65.proofs.Standings.{asked_same}
 use Rattle.symbols65.specs.Views.{table_of}
 use Rattle.asm65.specs.declared.assembler.Assembler.{Assembler}
-use Rattle.asm65.specs.declared.waiting.Piece as held
+use Rattle.asm65.specs.declared.assembler.Piece as held
 use Rattle.asm65.specs.Inner.Holding.{Enters, IsPiece}
 use Rattle.asm65.specs.Inner.Putting.{AreStored, IsPut, IsTried, Waits, operand_stored}
 use Rattle.asm65.proofs.Puttings.{stored_is}

@@ -35,8 +35,8 @@ use Rattle.module65.specs.Pieces.{Made, Purpose, absent_of, as_part, as_said, ma
 use Rattle.language65.specs.LineFaults.{unless_fault}
 use Rattle.layout65.specs.declared.measuring.Measured.{Measured}
 use Rattle.layout65.specs.Measuring.{measure_of, measured, unread_fault}
-use Rattle.asm65.specs.declared.waiting.Piece.{Piece}
-use Rattle.asm65.specs.declared.waiting.Piece.TheVariants.{Datum, Operand, Constant, Assertion, Import, Demand, Export}
+use Rattle.asm65.specs.declared.assembler.Piece.{Piece}
+use Rattle.asm65.specs.declared.assembler.Piece.TheVariants.{Datum, Operand, Constant, Assertion, Import, Demand, Export}
 use Rattle.asm65.specs.Inner.Resolving.{coming, lost}
 
 abbrev pub IsInside : {A : Type 0} → Result A AsmFault → Type 0

@@ -1,27 +1,47 @@
--- What is held when names become known.
-use Rattle.std.proofs.Common.{◌≡◌, ◌∙◌, ℕ, zero, suc, ◌+◌, ◌<◌, ◌≤◌, add-one, get_or, List, [], ◌∷◌, ◌++◌, length, map, take, refl, sym, ap, subst, append-nil, arith}
-use Rattle.std.specs.Prelude.{string_bytes, slice_get, Some, Bool, OnOk, Result, Ok, Err}
+-- What is held when names become known, and what each kind of statement adds.
+use Rattle.std.proofs.Common.{◌≡◌, ◌∙◌, ℕ, ap, zero, suc, ◌+◌, ◌<◌, ◌≤◌, add-one, get_or, List, [], ◌∷◌, ◌++◌, length, map, take, refl, sym, subst, append-nil, arith}
+use Rattle.language65.specs.declared.laid.Spot.{Spot}
+use Rattle.language65.specs.Layout.{spot_of}
+use Rattle.module65.specs.Knowing.{known_at}
+use Rattle.module65.specs.Machine.{State, Puts, PutsAll, awaiting, at_once, later, symbols_behind}
+use Rattle.symbols65.specs.Views.{table_of, with_definition, with_names, with_scope}
+use Rattle.layout65.specs.Sounds.{standing_of, AreWithin, IsCounted, IsSoundStanding}
+use Rattle.asm65.specs.declared.assembler.Assembler.{Assembler}
+use Rattle.asm65.specs.Inner.Holding.{Holds, AreBefore, Enters}
+use Rattle.asm65.specs.Inner.Putting.{known_where, KeepsTables}
+use Rattle.std.specs.Prelude.{string_bytes, slice_get, Some, Bool, OnOk, Result, Ok, Err, true, false, Option}
 use Rattle.std.proofs.lemmas.List.{take_all}
 use Rattle.language65.proofs.Lists.{map_length}
 use Rattle.source65.specs.declared.place.Place.{Place}
 use Rattle.language65.specs.Extending.{Extends}
-use Rattle.language65.specs.declared.laid.Spot.{Spot}
 use Rattle.language65.specs.Layout as layout
-use Rattle.language65.specs.Symbols.{Definition, Scope, Symbols}
+use Rattle.language65.specs.Symbols.{Definition, Scope, Symbols, cheap_in, named, unnamed_at, with_new}
 use Rattle.layout65.specs.declared.standing.Standing.{Standing}
-use Rattle.layout65.specs.Sounds.{AreWithin, IsCounted, IsSoundStanding}
-use Rattle.layout65.specs.Views.{standing_of}
-use Rattle.module65.specs.Machine.{Puts, PutsAll, State, awaiting, at_once, later}
 use Rattle.module65.specs.Pieces as piece
 use Rattle.symbols65.specs.Resolving.{IsTable}
 use Rattle.symbols65.specs.Tables.{Begins}
-use Rattle.symbols65.specs.Views.{table_of, with_definition, with_names, with_scope}
-use Rattle.asm65.specs.declared.assembler.Assembler.{Assembler}
-use Rattle.asm65.specs.Inner.Holding.{AreBefore, Enters, Holds}
 use Rattle.layout65.specs.Counting.{AreInside}
-use Rattle.asm65.specs.Inner.Putting.{KeepsTables}
-use Rattle.asm65.specs.Inner.Taking.{KeepsPut, Mentions, Turns, all_awaiting, with_symbols}
+use Rattle.asm65.specs.Inner.Taking.{KeepsPut, Mentions, Turns, all_awaiting, with_symbols, is_for_zero_page, label_at, laid_as}
 use Rattle.asm65.proofs.Waitings.{waiting_stays}
+use Rattle.std.specs.declared.alloc.AllocError.{AllocError}
+use Rattle.syntax65.specs.declared.lexing.tokens.AddressSize.{AddressSize}
+use Rattle.syntax65.specs.declared.lexing.tokens.AddressSize.TheVariants as size
+use Rattle.syntax65.specs.Trees.{Tree}
+use Rattle.language65.specs.declared.language.Statement.{Statement}
+use Rattle.language65.specs.declared.language.Statement.TheVariants.{CheapLabel, Constant, ForceImport, Global, Import, Label, OpenProc, OpenScope, UnnamedLabel}
+use Rattle.layout65.specs.declared.measuring.Measured.{Measured}
+use Rattle.layout65.proofs.Measures.{ok_then}
+use Rattle.module65.specs.Pieces.{demanded, equated, exported, imported, pieces_of, valued}
+
+-- ---- What a name or an expression means at a spot.
+
+-- what is known where the next statement stands is what is known behind the state that is held
+pub known_held : (count : ℕ) (t : State) (a : Assembler) (s : Spot) → Holds count t a → s ≡ spot_of (standing_of a.standing) → known_where (table_of a.symbols) s ≡ known_at t.symbols t.standing
+known_held count t a s h at =
+    let here : s ≡ spot_of t.standing = at ∙ ap spot_of h.standing in
+    let first : known_where (table_of a.symbols) s ≡ known_where t.symbols s = ap (λ y. known_where y s) h.symbols in
+    let then_ : known_where t.symbols s ≡ known_where t.symbols (spot_of t.standing) = ap (known_where t.symbols) here in
+    first ∙ then_
 
 -- ---- More names.
 
@@ -170,3 +190,62 @@ same_as ds cs is zs = record { definitions = ds; scopes = cs; imports = is; zero
 
 pub table_with : (ds es : List Definition) (cs bs : List Scope) (is zs : List (List ℕ)) → ds ≡ es → cs ≡ bs → same_as ds cs is zs ≡ same_as es bs is zs
 table_with ds es cs bs is zs p q = ap (λ (xs : List Definition). same_as xs cs is zs) p ∙ ap (λ (xs : List Scope). same_as es xs is zs) q
+
+-- ---- What each kind of statement adds: its pieces, and then its names.
+
+-- nothing more is known
+pub nothing_behind : (y : Symbols) → y ≡ same_as (y.definitions ++ []) (y.scopes ++ []) y.imports y.zero_page
+nothing_behind y = table_with y.definitions (y.definitions ++ []) y.scopes (y.scopes ++ []) y.imports y.zero_page (sym (append-nil y.definitions)) (sym (append-nil y.scopes))
+
+-- a definition more
+defined_behind : (y : Symbols) (d : Definition) → with_definition y d ≡ same_as (y.definitions ++ d ∷ []) (y.scopes ++ []) y.imports y.zero_page
+defined_behind y d = table_with (y.definitions ++ d ∷ []) (y.definitions ++ d ∷ []) y.scopes (y.scopes ++ []) y.imports y.zero_page refl (sym (append-nil y.scopes))
+
+opened_behind : (y : Symbols) (b : Scope) → with_scope y b ≡ same_as (y.definitions ++ []) (y.scopes ++ b ∷ []) y.imports y.zero_page
+opened_behind y b = table_with y.definitions (y.definitions ++ []) (y.scopes ++ b ∷ []) (y.scopes ++ b ∷ []) y.imports y.zero_page (sym (append-nil y.definitions)) refl
+
+named_behind : (y : Symbols) (is zs : List (List ℕ)) → same_as y.definitions y.scopes is zs ≡ same_as (y.definitions ++ []) (y.scopes ++ []) is zs
+named_behind y is zs = table_with y.definitions (y.definitions ++ []) y.scopes (y.scopes ++ []) is zs (sym (append-nil y.definitions)) (sym (append-nil y.scopes))
+
+module _ (place : Place) (s : Spot) (m : Measured) (old new : Assembler) where
+  abbrev pub Adds : Statement → Type 0
+  Adds x = Turns place s (pieces_of m.length m.settled x) (λ y. symbols_behind y (laid_as place s m x)) old new
+
+  pub adds_pieces : (x : Statement) → ((y : Symbols) → y ≡ symbols_behind y (laid_as place s m x)) → Enters place s (pieces_of m.length m.settled x) old new → Adds x
+  adds_pieces x none h = turns_as place s (pieces_of m.length m.settled x) (λ y. y) (λ y. symbols_behind y (laid_as place s m x)) old new none (turns_same place s (pieces_of m.length m.settled x) old new h)
+
+  adds_names : (x : Statement) (f : Symbols → Symbols) → ((y : Symbols) → f y ≡ symbols_behind y (laid_as place s m x)) → Turns place s (pieces_of m.length m.settled x) f old new → Adds x
+  adds_names x f same h = turns_as place s (pieces_of m.length m.settled x) f (λ y. symbols_behind y (laid_as place s m x)) old new same h
+
+  pub adds_label : (n : List ℕ) → Turns place s [] (λ y. with_definition y (label_at (named s.scope n) s m.size)) old new → Adds (Label n)
+  adds_label n h = adds_names (Label n) (λ y. with_definition y (label_at (named s.scope n) s m.size)) (λ y. defined_behind y (label_at (named s.scope n) s m.size)) h
+
+  pub adds_cheap : (n : List ℕ) → Turns place s [] (λ y. with_definition y (label_at (cheap_in s.region n) s m.size)) old new → Adds (CheapLabel n)
+  adds_cheap n h = adds_names (CheapLabel n) (λ y. with_definition y (label_at (cheap_in s.region n) s m.size)) (λ y. defined_behind y (label_at (cheap_in s.region n) s m.size)) h
+
+  pub adds_unnamed : Turns place s [] (λ y. with_definition y (label_at (unnamed_at s.unnamed) s m.size)) old new → Adds UnnamedLabel
+  adds_unnamed h = adds_names UnnamedLabel (λ y. with_definition y (label_at (unnamed_at s.unnamed) s m.size)) (λ y. defined_behind y (label_at (unnamed_at s.unnamed) s m.size)) h
+
+  pub adds_constant : (n : List ℕ) (e : Tree) → Turns place s (valued equated e ∷ []) (λ y. with_definition y (record { key = named s.scope n; value = Some e; spot = s; size = m.size })) old new → Adds (Constant n e)
+  adds_constant n e h = adds_names (Constant n e) (λ y. with_definition y (record { key = named s.scope n; value = Some e; spot = s; size = m.size })) (λ y. defined_behind y (record { key = named s.scope n; value = Some e; spot = s; size = m.size })) h
+
+  pub adds_scope : (n : Option (List ℕ)) → Turns place s [] (λ y. with_scope y (record { within = s.scope; name = n; is_proc = false })) old new → Adds (OpenScope n)
+  adds_scope n h = adds_names (OpenScope n) (λ y. with_scope y (record { within = s.scope; name = n; is_proc = false })) (λ y. opened_behind y (record { within = s.scope; name = n; is_proc = false })) h
+
+  pub adds_proc : (n : List ℕ) → Turns place s [] (λ y. with_scope (with_definition y (label_at (named s.scope n) s m.size)) (record { within = s.scope; name = Some n; is_proc = true })) old new → Adds (OpenProc n)
+  adds_proc n h = adds_names (OpenProc n) (λ y. with_scope (with_definition y (label_at (named s.scope n) s m.size)) (record { within = s.scope; name = Some n; is_proc = true })) (λ y. refl) h
+
+  pub adds_imports : (own : AddressSize) (names : List (List ℕ)) → Turns place s (map imported names) (λ y. with_names y (is_for_zero_page own) names) old new → Adds (Import own names)
+  adds_imports size.ZeroPage names h = adds_names (Import size.ZeroPage names) (λ y. with_names y true names) (λ y. named_behind y (with_new y.imports names) (with_new y.zero_page names)) h
+  adds_imports size.Absolute names h = adds_names (Import size.Absolute names) (λ y. with_names y false names) (λ y. named_behind y (with_new y.imports names) y.zero_page) h
+
+  pub adds_globals : (own : AddressSize) (names : List (List ℕ)) → Turns place s (map (exported false) names) (λ y. with_names y (is_for_zero_page own) names) old new → Adds (Global own names)
+  adds_globals size.ZeroPage names h = adds_names (Global size.ZeroPage names) (λ y. with_names y true names) (λ y. named_behind y (with_new y.imports names) (with_new y.zero_page names)) h
+  adds_globals size.Absolute names h = adds_names (Global size.Absolute names) (λ y. with_names y false names) (λ y. named_behind y (with_new y.imports names) y.zero_page) h
+
+  pub adds_forced : (names : List (List ℕ)) → Turns place s (map imported names ++ map demanded names) (λ y. with_names y false names) old new → Adds (ForceImport names)
+  adds_forced names h = adds_names (ForceImport names) (λ y. with_names y false names) (λ y. named_behind y (with_new y.imports names) y.zero_page) h
+
+  -- what a call adds, for the statement that it is
+  pub taken_as : {P : Type 0} (r : Result (Unit {0}) AllocError) (x z : Statement) → x ≡ z → (P → Adds x) → OnOk r P → OnOk r (Adds z)
+  taken_as r x z e f h = subst (λ (w : Statement). OnOk r (Adds w)) e (ok_then r f h)

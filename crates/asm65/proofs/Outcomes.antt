@@ -34,8 +34,8 @@ use Rattle.module65.proofs.SoundLayouts as layouts
 use Rattle.module65.proofs.SoundLayouts.{IsGood, good_statement, nothing_good}
 use Rattle.sections65.proofs.GoodObjects.{good_object}
 use Rattle.asm65.specs.declared.assembler.Assembler.{Assembler}
-use Rattle.asm65.specs.declared.assembly.Assembly.{Assembly}
-use Rattle.asm65.specs.declared.refusal.AsmRefusal.{AsmRefusal}
+use Rattle.asm65.specs.declared.assembling.Assembly.{Assembly}
+use Rattle.asm65.specs.declared.texts.AsmRefusal.{AsmRefusal}
 use Rattle.asm65.specs.declared.running.Run.{Run}
 use Rattle.asm65.specs.Assembly.{Concludes, IsAssembled, answer_of, has_failed, is_from_memory, is_from_outside, is_outside_refusal, placed_of}
 use Rattle.asm65.specs.Failing.{StopsAll, Stops, StopsSo, StopsBehind, StopsFrom}

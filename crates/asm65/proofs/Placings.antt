@@ -9,12 +9,11 @@ use Rattle.language65.specs.declared.language.Statement.{Statement}
 use Rattle.language65.specs.Layout.{Standing, spot_of, standing_behind}
 use Rattle.language65.specs.LineFaults.{line_fault}
 use Rattle.language65.specs.Symbols.{Symbols}
-use Rattle.layout65.specs.Advancing.{advanced}
+use Rattle.layout65.specs.Measuring.{advanced, measured}
 use Rattle.layout65.specs.declared.measuring.Measured.{Measured}
-use Rattle.layout65.specs.Measuring.{measured}
-use Rattle.layout65.specs.Views.{standing_of}
+use Rattle.layout65.specs.Sounds.{standing_of}
 use Rattle.layout65.proofs.Behind.{behind_measured, is_measured, with_fault, without_fault}
-use Rattle.layout65.proofs.Steps.{unless_then}
+use Rattle.layout65.proofs.Measures.{unless_then}
 use Rattle.module65.specs.Machine.{State}
 use Rattle.symbols65.specs.Views.{table_of}
 use Rattle.asm65.specs.declared.assembler.Assembler.{Assembler}

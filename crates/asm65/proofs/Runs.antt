@@ -5,7 +5,7 @@ use Rattle.std.proofs.lemmas.List.{append-nil}
 use Rattle.base65.specs.Outcome.{First, Unless}
 use Rattle.base65.specs.Store.{Files}
 use Rattle.syntax65.specs.Tokens.{Lexeme}
-use Rattle.reader65.specs.Kept.{tokens_in}
+use Rattle.reader65.specs.Playing.{tokens_in}
 use Rattle.expand65.specs.Standing.{stated}
 use Rattle.expand65.specs.State as expand
 use Rattle.expand65.specs.declared.expander.Statement as given
@@ -33,7 +33,7 @@ use Rattle.module65.proofs.Taken.{label_quiet}
 use Rattle.module65.proofs.SoundSources.{label_sound}
 use Rattle.asm65.specs.declared.assembler.Assembler.{Assembler}
 use Rattle.asm65.specs.declared.texts.Texts.{Texts}
-use Rattle.layout65.proofs.Steps.{unless_then}
+use Rattle.layout65.proofs.Measures.{unless_then}
 use Rattle.layout65.specs.Counting.{opened_by, opening_limit}
 use Rattle.asm65.specs.Inner.Holding.{Holds}
 use Rattle.asm65.specs.Inner.Files.{IsRefusedUnread, read_bytes}

@@ -11,7 +11,7 @@ use Rattle.expand65.specs.Expansion.{Reaches, statement, fault, opened_in}
 use Rattle.source65.specs.Faults as expansion
 use Rattle.expand65.specs.Standing.{FollowsFrom, Opens, StandsFor, measure_of, place_of, stated}
 use Rattle.expand65.specs.State as expand
-use Rattle.expand65.specs.Stopping.{StopsOnItsWay}
+use Rattle.expand65.specs.Failing.{StopsOnItsWay}
 use Rattle.language65.specs.declared.fault.AsmFault.{AsmFault}
 use Rattle.language65.specs.declared.fault.AsmFault.TheVariants.{BadScope, Expansion}
 use Rattle.language65.specs.Faults.{is_failure, is_outside}

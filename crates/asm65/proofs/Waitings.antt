@@ -22,16 +22,15 @@ use Rattle.symbols65.specs.declared.resolving.known.Known.{Known}
 use Rattle.symbols65.specs.Resolving.{IsTable}
 use Rattle.symbols65.specs.Tables.{Begins}
 use Rattle.symbols65.specs.Views.{table_of}
-use Rattle.symbols65.proofs.Places.{first_passes}
+use Rattle.symbols65.proofs.Words.{first_passes}
 use Rattle.asm65.specs.declared.assembler.Assembler.{Assembler}
 use Rattle.layout65.specs.declared.standing.Standing.{Standing}
-use Rattle.asm65.specs.declared.waiting.Piece.{Piece}
-use Rattle.asm65.specs.declared.waiting.Piece.TheVariants.{Datum, Operand, Constant, Assertion, Import, Demand, Export}
-use Rattle.asm65.specs.declared.waiting.Waiting.{Waiting}
+use Rattle.asm65.specs.declared.assembler.Piece.{Piece}
+use Rattle.asm65.specs.declared.assembler.Piece.TheVariants.{Datum, Operand, Constant, Assertion, Import, Demand, Export}
+use Rattle.asm65.specs.declared.assembler.Waiting.{Waiting}
 use Rattle.asm65.specs.Inner.Holding.{AreAwaited, AreWaiting, Enters, Holds, IsConstant, IsPiece, IsWaiting}
 use Rattle.asm65.specs.Inner.Putting.{KeepsTables, Waits}
-use Rattle.layout65.specs.Sounds.{AreWithin, IsCounted, IsSoundStanding}
-use Rattle.layout65.specs.Views.{standing_of}
+use Rattle.layout65.specs.Sounds.{AreWithin, IsCounted, IsSoundStanding, standing_of}
 use Rattle.layout65.proofs.Segments.{all_before}
 
 -- ---- What waits.

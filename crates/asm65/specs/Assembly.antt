@@ -7,10 +7,10 @@ use Rattle.language65.specs.Faults.{is_failure, is_memory, is_outside}
 use Rattle.module65.specs.Module.{IsOutcome, Outcome}
 use Rattle.module65.specs.Places.{PlacedFault}
 use Rattle.module65.specs.Reading.{Define, Job}
-use Rattle.asm65.specs.declared.assembly.AsmJob.{AsmJob}
-use Rattle.asm65.specs.declared.assembly.Assembly.{Assembly}
-use Rattle.asm65.specs.declared.assembly.Define as code
-use Rattle.asm65.specs.declared.refusal.AsmRefusal.{AsmRefusal}
+use Rattle.asm65.specs.declared.assembling.AsmJob.{AsmJob}
+use Rattle.asm65.specs.declared.assembling.Assembly.{Assembly}
+use Rattle.asm65.specs.declared.assembling.Define as code
+use Rattle.asm65.specs.declared.texts.AsmRefusal.{AsmRefusal}
 
 abbrev pub define_of : code.Define → Define
 define_of d = (d.name.now, d.value)

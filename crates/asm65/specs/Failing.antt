@@ -4,7 +4,7 @@ use Rattle.base65.specs.Store.{Files, IsBlamed}
 use Rattle.expand65.specs.Expansion.{Reaches, opened_in, statement}
 use Rattle.expand65.specs.Standing.{Opens, place_of}
 use Rattle.expand65.specs.State as expand
-use Rattle.expand65.specs.Stopping.{IsOnItsWay}
+use Rattle.expand65.specs.Failing.{IsOnItsWay}
 use Rattle.source65.specs.declared.fault.ExpandFault.TheVariants as expansion
 use Rattle.source65.specs.declared.place.Place.{Place}
 use Rattle.language65.specs.declared.fault.AsmFault.{AsmFault}
@@ -17,7 +17,7 @@ use Rattle.module65.specs.Reading.{AreDefined, IsGiven, Job, no_line}
 use Rattle.asm65.specs.Assembly.{has_failed, placed_of}
 use Rattle.asm65.specs.Inner.Running.{IsHeldBy}
 use Rattle.asm65.specs.Unread.{IsUnread}
-use Rattle.asm65.specs.declared.assembly.Assembly.{Assembly}
+use Rattle.asm65.specs.declared.assembling.Assembly.{Assembly}
 use Rattle.asm65.specs.declared.running.Run.{Run}
 
 -- Of a source the constants and some of its first statements have been taken, as expansion gives them

@@ -1,12 +1,80 @@
-//! What the assembler holds between two statements.
+//! What the assembler holds between two statements, and what waits.
+
+ghost use Rattle.symbols65.specs.Views.{table_of};
+ghost use Rattle.asm65.specs.Inner.Putting.{known_where};
 
 use crate::texts::Texts;
-use crate::waiting::Waiting;
+use base65::Sequence;
+use expand65::Knows;
 use indexmap::IndexSet;
+use language65::Spot;
 use layout65::Standing;
+use object65::{Action, Width};
 use sections65::Sections;
 use std::alloc::{AllocError, Global};
-use symbols65::{Known, Symbols};
+use symbols65::knowing::constant_now;
+use symbols65::{Known, Symbols, definition_of};
+use syntax65::{Expr, Name};
+
+/// What waits of a statement.
+#[derive(Drop)]
+pub enum Piece {
+    /// A value of a list.
+    Datum {
+        width: Width,
+        value: Expr,
+    },
+    /// The value of an instruction's operand.
+    Operand {
+        width: Width,
+        value: Expr,
+    },
+    /// The constant that is defined at a place of the symbol table: its expression may have a fault.
+    Constant(usize),
+    Assertion {
+        action: Action,
+        text: Sequence<u8>,
+        value: Expr,
+    },
+    /// A name that the module may not define.
+    Import(Sequence<u8>),
+    /// A name that is imported though nothing may use it.
+    Demand(Sequence<u8>),
+    /// A name that is exported where it is defined, or has to be.
+    Export {
+        must: bool,
+        name: Sequence<u8>,
+    },
+}
+
+/// A piece of a statement that waits, and where the statement stands.
+#[derive(Drop)]
+pub struct Waiting {
+    /// The file, by its place among those that are named.
+    pub file: usize,
+    pub line: u32,
+    pub spot: Spot,
+    pub piece: Piece,
+}
+
+/// What is known of names and expressions at a spot, by the definitions before it.
+#[derive(Clone, Copy)]
+pub struct Knowledge<'a> {
+    pub symbols: &'a Symbols,
+    pub spot: Spot,
+}
+
+impl Knows for Knowledge<'_> {
+    ghost meaning = { λ k. known_where (table_of k.symbols.now) k.spot };
+
+    fn value(&self, alloc: Global, expr: &Expr) -> Result<Option<i64>, AllocError> {
+        constant_now(alloc, self.symbols, self.spot, expr)
+    }
+
+    fn defined(&self, name: &Name) -> bool {
+        definition_of(self.symbols, self.spot, name).is_some()
+    }
+}
 
 /// What the assembler holds between two statements.
 #[derive(Drop)]

@@ -1,31 +1,98 @@
-//! From a source to its object.
+//! From a source to its object: what is assembled, and what that gives.
 
-ghost use Rattle.std.specs.Prelude.{◌≡◌, ◌≤◌, false, true, IfErr, IfOk, IfSome, IsErrOf, Ok, Some, []};
+ghost use Rattle.std.specs.Prelude.{◌≡◌, false, IfErr, ⊤, ◌≤◌, true, IfOk, IfSome, IsErrOf, Ok, Some, []};
+ghost use Rattle.language65.specs.Faults.{is_failure, is_outside};
+ghost use Rattle.module65.specs.Machine.{Takes, begun, State, concluded};
+ghost use Rattle.module65.specs.Reading.{AreDefined, no_line, Job};
+ghost use Rattle.asm65.specs.Assembly.{define_of, job_of, Concludes, IsAssembled, answer_of, has_failed, is_from_memory, is_from_outside, is_outside_refusal, placed_of};
+ghost use Rattle.asm65.specs.Inner.Holding.{Holds};
+ghost use Rattle.asm65.specs.Inner.Running.{DefinesBy, IsRoomy, Leaves, IsHeldBy, IsRunning, SaysAs};
+ghost use Rattle.language65.specs.Views.{place_in};
 ghost use Rattle.base65.specs.Outcome.{Finds};
 ghost use Rattle.base65.specs.Store.{Asks, IsBlamed, Passes, PassesBy};
 ghost use Rattle.object65.specs.Objects.{ObjectFits, is_good_object};
 ghost use Rattle.expand65.specs.Expansion.{opened_in};
 ghost use Rattle.expand65.specs.Standing.{Opens, measure_of, place_of};
 ghost use Rattle.source65.specs.Faults.{is_outside as is_expand_outside};
-ghost use Rattle.language65.specs.Faults.{is_failure, is_outside};
-ghost use Rattle.module65.specs.Machine.{State, Takes, begun, concluded};
-ghost use Rattle.module65.specs.Reading.{AreDefined, Job, no_line};
-ghost use Rattle.asm65.specs.Assembly.{Concludes, IsAssembled, answer_of, has_failed, is_from_memory, is_from_outside, is_outside_refusal, job_of, placed_of};
 ghost use Rattle.asm65.specs.Failing.{StopsSo, StopsFrom};
-ghost use Rattle.asm65.specs.Inner.Holding.{Holds};
-ghost use Rattle.asm65.specs.Inner.Running.{IsHeldBy, IsRunning, SaysAs};
-ghost use Rattle.language65.specs.Views.{place_in};
 
+use crate::AsmRefusal;
 use crate::assembler::Assembler;
-use crate::assembly::{AsmJob, Assembly};
-use crate::defining::define_all;
-use crate::refusal::AsmRefusal;
 use crate::running::{Run, take_all};
-use crate::texts::Texts;
+use crate::texts::{AsmRefusal, Texts};
 use base65::{Sequence, Store, Text};
 use expand65::{ExpandFault, Expander, Options, Place};
-use language65::{AsmFault, At};
+use language65::{AsmFault, At, Statement};
+use object65::Object;
 use std::alloc::Global;
+use syntax65::{Expr, ExprKind};
+
+/// A constant of the command line.
+#[derive(Clone, Copy)]
+pub struct Define<'a> {
+    pub name: &'a [u8],
+    pub value: u32,
+}
+
+/// What is assembled.
+#[derive(Clone, Copy)]
+pub struct AsmJob<'a> {
+    /// The source's file.
+    pub source: &'a str,
+    /// The folders in which included files are looked for, behind that of the file that includes them.
+    pub include: &'a [Text],
+    /// Constants of the global scope, which stand before the first line.
+    pub defines: &'a [Define<'a>],
+}
+
+/// What assembling gives.
+#[derive(Drop)]
+pub struct Assembly {
+    /// The object, or the first fault.
+    pub result: Result<Object, AsmRefusal>,
+    /// What goes to standard output, up to there.
+    pub out: Sequence<u8>,
+    /// What goes to standard error, up to there.
+    pub err: Sequence<u8>,
+}
+
+/// Takes a constant.
+fn define(
+    alloc: Global,
+    assembler: &mut Assembler,
+    at: At<'_>,
+    define: &Define<'_>,
+) -> Result<(), AsmFault>
+    requires { IsRoomy 1 assembler.old }
+    ensures taken { DefinesBy (place_in at.entry.file.now at.entry.line) (define_of define.now)
+        assembler.old assembler.new result }
+    ensures inside { IfErr result (λ e. is_failure e ≡ false) }
+{
+    let name = Sequence::from_vec(Vec::from_slice(alloc, define.name)?);
+    let value = Expr::new(ExprKind::Number(define.value));
+    assembler.take(alloc, at, Statement::Constant { name, value })
+}
+
+/// Takes the constants of a job, which stand before the first line.
+pub fn define_all(
+    alloc: Global,
+    assembler: &mut Assembler,
+    job: &AsmJob<'_>,
+) -> Result<(), AsmFault>
+    requires { Holds 0 begun assembler.old }
+    ensures defined { Leaves ⊤ (AreDefined Takes begun (no_line (job_of job.now).source)
+        (job_of job.now).defines) 0 begun assembler.new result }
+    ensures inside { IfErr result (λ e. is_failure e ≡ false) }
+{
+    let at = At {
+        file: job.source,
+        line: 0,
+    };
+    for one in job.defines {
+        define(alloc, assembler, at, one)?;
+    }
+    Ok(())
+}
 
 /// Whether the store failed.
 fn is_failure(fault: &AsmFault) -> bool

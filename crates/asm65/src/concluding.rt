@@ -18,12 +18,10 @@ ghost use Rattle.asm65.specs.Inner.Resolving.{Settles, SettlesAll, content_of, w
 ghost use Rattle.asm65.specs.Inner.Running.{SaysAs};
 ghost use Rattle.language65.specs.Views.{place_in};
 
-use crate::assembler::Assembler;
-use crate::assembly::Assembly;
-use crate::refusal::AsmRefusal;
+use crate::assembler::{Assembler, Waiting};
+use crate::assembling::Assembly;
 use crate::resolving::{Filling, Made, resolve};
-use crate::texts::{Texts, warn};
-use crate::waiting::Waiting;
+use crate::texts::{AsmRefusal, Texts, warn};
 use base65::Sequence;
 use indexmap::IndexSet;
 use language65::{AsmFault, At, Segment};

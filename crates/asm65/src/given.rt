@@ -10,13 +10,13 @@ ghost use Rattle.language65.specs.Sound.{AreNamed, IsSound};
 ghost use Rattle.language65.specs.Views.{place_in};
 ghost use Rattle.module65.specs.Machine.{Takes};
 ghost use Rattle.module65.specs.Reading.{IsGiven, IsLabel, IsLabelled, IsRest};
-ghost use Rattle.reader65.specs.Kept.{tokens_in};
+ghost use Rattle.reader65.specs.Playing.{tokens_in};
 ghost use Rattle.asm65.specs.Inner.Running.{IsRoomy, IsSoundIf, StopsQuietly, TakesBy, Told, tokens_of};
 ghost use Rattle.asm65.specs.Unread.{Without};
 
 use crate::assembler::Assembler;
 use crate::files::read_part;
-use crate::sound::is_sound;
+use crate::taking::is_sound;
 use base65::Store;
 use expand65::Statement as Given;
 use language65::{AsmFault, At, Statement};

@@ -3,7 +3,6 @@
 mod parts;
 mod statements;
 mod values;
-mod waits;
 
 use language65::{At, Spot};
 

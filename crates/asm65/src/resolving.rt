@@ -13,8 +13,8 @@ ghost use Rattle.symbols65.specs.Resolving.{IsTable};
 ghost use Rattle.symbols65.specs.Views.{table_of};
 ghost use Rattle.asm65.specs.Inner.Resolving.{coming, lost, made_in, noted};
 
-use crate::forms::{is_file_name, literal_of, stored};
-use crate::waiting::{Piece, Waiting};
+use crate::assembler::{Piece, Waiting};
+use crate::putting::values::{is_file_name, literal_of, stored};
 use base65::Sequence;
 use language65::{AsmFault, At, GLOBAL_SCOPE, Part, Said, Spot};
 use object65::{Action, Norm, Width};

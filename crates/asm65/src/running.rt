@@ -3,7 +3,7 @@
 ghost use Rattle.std.specs.Prelude.{◌≡◌, ◌+◌, ◌<◌, ◌≤◌, ℕ, false, IfErr, IfOk, IfSome, IsTrue, Ok, OnOk, Err, if◌then◌else◌};
 ghost use Rattle.base65.specs.Store.{Passes, PassesBy};
 ghost use Rattle.expand65.specs.Expansion.{opened_in};
-ghost use Rattle.expand65.specs.Stopping.{StopsOnItsWay};
+ghost use Rattle.expand65.specs.Failing.{StopsOnItsWay};
 ghost use Rattle.expand65.specs.Standing.{FollowsFrom, Opens, given_in, measure_of, place_of, stated};
 ghost use Rattle.language65.specs.declared.fault.AsmFault.TheVariants.{BadScope};
 ghost use Rattle.language65.specs.Faults.{is_failure};
@@ -16,9 +16,8 @@ ghost use Rattle.asm65.specs.Failing.{StopsAll};
 ghost use Rattle.asm65.specs.Unread.{Without};
 ghost use Rattle.asm65.specs.Inner.Running.{IsHeldBy, IsReachedBy, IsRoomy, IsRunning, Ran, StopsQuietly, TakesBy, TakesNextIf, Told, tokens_of};
 
-use crate::assembler::Assembler;
+use crate::assembler::{Assembler, Knowledge};
 use crate::given::{take_given, take_rest};
-use crate::knowing::Knowledge;
 use base65::Store;
 use expand65::{ExpandFault, Expander, Statement};
 use language65::{AsmFault, At, GLOBAL_SCOPE};

@@ -2,7 +2,7 @@
 
 ghost use Rattle.std.specs.Prelude.{◌≡◌, ◌==◌, ◌<◌, length, IfSome, map};
 ghost use Rattle.std.specs.List.{list_all, position};
-ghost use Rattle.syntax65.specs.Bytes.{is_word};
+ghost use Rattle.syntax65.specs.Forms.{is_word};
 ghost use Rattle.base65.specs.Outcome.{Gives, each};
 ghost use Rattle.cli65.specs.Defining.{begins_name, define_of, defining, is_constant_name, named_in, valued_in};
 ghost use Rattle.cli65.specs.LineFaults.{is_outside};

@@ -1,7 +1,7 @@
 //! The value of a number, as a source may spell it.
 
 ghost use Rattle.std.specs.Prelude.{◌≡◌, ◌<◌, length};
-ghost use Rattle.syntax65.specs.Numbers.{IsRadix, digits, plain_number_of};
+ghost use Rattle.syntax65.specs.Forms.{IsRadix, digits, plain_number_of};
 ghost use Rattle.cli65.specs.Defining.{number_in};
 
 /// The value of a number's text, if it is one.

@@ -10,17 +10,16 @@ use Rattle.source65.specs.declared.fault.ExpandFault.{ExpandFault}
 use Rattle.reader65.specs.Fronts.{front_directive, line_directive}
 use Rattle.reader65.specs.Inside.{left_of}
 use Rattle.reader65.specs.Left.{labelled}
-use Rattle.reader65.specs.Naming.{NamesFiles}
+use Rattle.reader65.specs.Stopping.{NamesFiles}
 use Rattle.reader65.specs.Taking.{Takes}
 use Rattle.reader65.specs.declared.reader.Reader.{Reader}
 use Rattle.expand65.specs.AtHand.{IsAhead, IsOfKind, ReachesBy, Steps, rested}
 use Rattle.expand65.specs.Expansion.{Next, Reaches, fault, further, given, nothing, statement}
-use Rattle.expand65.specs.Meaning.{Meaning}
+use Rattle.expand65.specs.State.{Meaning, State, Stated, label, plain, goes, gives, with_items}
 use Rattle.expand65.specs.Rewriting.{state_of}
 use Rattle.expand65.specs.Standing.{FollowsFrom, IsRest, fronted, place_of, state_in, stated, weight_in}
-use Rattle.expand65.specs.State.{State, Stated, label, plain, goes, gives, with_items}
 use Rattle.expand65.specs.Step.{IsActed, IsLabelled, IsSplit, IsStep}
-use Rattle.expand65.specs.Stopping.{Goes, StopsOnItsWay, no_step, one_more}
+use Rattle.expand65.specs.Failing.{Goes, StopsOnItsWay, no_step, one_more}
 use Rattle.expand65.specs.declared.at_hand.Kind.{Kind}
 use Rattle.expand65.specs.declared.at_hand.Kind.TheVariants as kind
 use Rattle.expand65.specs.declared.expander.Expander.{Expander}
@@ -29,10 +28,9 @@ use Rattle.expand65.specs.declared.expander.Front.TheVariants.{Nothing, Rest, Br
 use Rattle.expand65.specs.declared.expander.Statement.{Statement}
 use Rattle.expand65.specs.declared.rewriter.Rewriter.{Rewriter}
 use Rattle.reader65.specs.declared.directives.Directive.{Directive}
-use Rattle.expand65.proofs.Acting.{no_call, step_taken, unlabelled}
-use Rattle.expand65.proofs.Going.{step_rest}
+use Rattle.expand65.proofs.Going.{no_call, step_taken, unlabelled, step_rest}
 use Rattle.expand65.proofs.Stopping.{goes_over}
-use Rattle.reader65.specs.Kept.{tokens_in}
+use Rattle.reader65.specs.Playing.{tokens_in}
 use Rattle.reader65.specs.declared.line.Line.{Line}
 
 -- ---- One line.

@@ -1,12 +1,7 @@
-pub mod Acting
 pub mod AtHand
 pub mod Defining
-pub mod Distinct
 pub mod Going
-pub mod Innermost
-pub mod Naming
-pub mod Parting
-pub mod Repeating
+pub mod Names
 pub mod Seeking
 pub mod Stopping
 pub mod Unique

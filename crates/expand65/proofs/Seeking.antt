@@ -14,7 +14,7 @@ use Rattle.base65.specs.Store.{Files, IsBlamed, ReadsAt}
 use Rattle.source65.specs.Faults.{is_outside}
 use Rattle.expand65.specs.Failing.{IsAmong}
 use Rattle.expand65.specs.Includes.{file_named, first_file, folder_of, found_or, is_slash}
-use Rattle.reader65.specs.Reading.{bytes_of}
+use Rattle.reader65.specs.Lines.{bytes_of}
 use Rattle.expand65.specs.Inner.Seeking.{file_of, is_there}
 use Rattle.source65.specs.declared.fault.ExpandFault.{ExpandFault}
 use Rattle.source65.specs.declared.fault.ExpandFault.TheVariants.{FileTooLong}

@@ -8,8 +8,8 @@ use Rattle.syntax65.specs.Faults.{is_expr_outside}
 use Rattle.base65.specs.Outcome.{Unless}
 use Rattle.syntax65.specs.Tokens.{Lexeme, lexeme_of, lexemes}
 use Rattle.syntax65.specs.Trees.{Tree}
-use Rattle.syntax65.specs.declared.expressions.fault.ExprFault.{ExprFault}
-use Rattle.syntax65.specs.declared.expressions.fault.ExprFault.TheVariants.{OutOfMemory, OperandExpected, ParenthesisExpected, TooDeep}
+use Rattle.syntax65.specs.declared.expressions.words.ExprFault.{ExprFault}
+use Rattle.syntax65.specs.declared.expressions.words.ExprFault.TheVariants.{OutOfMemory, OperandExpected, ParenthesisExpected, TooDeep}
 use Rattle.syntax65.specs.declared.lexing.tokens.Token.{Token}
 use Rattle.expand65.specs.Conditions.{whole}
 use Rattle.source65.specs.Faults.{fault_of_parsing, is_outside}

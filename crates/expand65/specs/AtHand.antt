@@ -4,14 +4,12 @@ use Rattle.base65.specs.Store.{Files}
 use Rattle.syntax65.specs.Tokens.{Lexeme}
 use Rattle.reader65.specs.Fronts.{is_mislabelled, label_len}
 use Rattle.reader65.specs.Left.{labelled}
-use Rattle.reader65.specs.Peeking.{IsAtHand}
-use Rattle.reader65.specs.Plain.{IsPlain}
+use Rattle.reader65.specs.Plain.{IsAtHand, IsPlain}
 use Rattle.expand65.specs.Expansion.{Reaches, statement}
-use Rattle.expand65.specs.Meaning.{Meaning}
+use Rattle.expand65.specs.State.{Meaning, State, label, plain, goes, gives, with_items}
 use Rattle.expand65.specs.Rewriting.{Opens}
-use Rattle.expand65.specs.State.{State, label, plain, goes, gives, with_items}
 use Rattle.expand65.specs.Step.{IsStep}
-use Rattle.expand65.specs.Stopping.{Goes}
+use Rattle.expand65.specs.Failing.{Goes}
 use Rattle.expand65.specs.declared.at_hand.Kind.{Kind}
 use Rattle.expand65.specs.declared.at_hand.Kind.TheVariants as kind
 use Rattle.expand65.specs.declared.expander.Expander.{Expander}

@@ -4,12 +4,11 @@ use Rattle.syntax65.specs.Expressions.{IsParsed}
 use Rattle.base65.specs.Outcome.{◌>>=◌}
 use Rattle.syntax65.specs.Tokens.{Lexeme}
 use Rattle.syntax65.specs.Trees.{Tree, name}
-use Rattle.syntax65.specs.declared.expressions.fault.ExprFault.{ExprFault}
+use Rattle.syntax65.specs.declared.expressions.words.ExprFault.{ExprFault}
 use Rattle.reader65.specs.Blocks.{Block, Branch, at_elseif, at_else, at_endif, skips, passes}
 use Rattle.reader65.specs.Fronts.{opens_parenthesis, unknown}
-use Rattle.expand65.specs.Meaning.{Meaning}
+use Rattle.expand65.specs.State.{Meaning, State, Stepped, goes, stops, with_left, with_conditions}
 use Rattle.reader65.specs.Left.{Left, left, Stop, branch, Mark}
-use Rattle.expand65.specs.State.{State, Stepped, goes, stops, with_left, with_conditions}
 use Rattle.reader65.specs.declared.directives.Test.{Test}
 use Rattle.reader65.specs.declared.directives.Test.TheVariants.{True, Defined, NotDefined, Blank, NotBlank}
 use Rattle.source65.specs.declared.fault.ExpandFault.{ExpandFault}

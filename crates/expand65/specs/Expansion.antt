@@ -6,8 +6,7 @@ use Rattle.base65.specs.Store.{Files}
 use Rattle.reader65.specs.Left.{numbered, mark, Mark, Left, left, Stop}
 use Rattle.expand65.specs.Includes.{bytes_in}
 use Rattle.reader65.specs.Lines.{lines_of, line_limit}
-use Rattle.expand65.specs.Meaning.{Meaning}
-use Rattle.expand65.specs.State.{State, Stated, goes, gives, ends, stops}
+use Rattle.expand65.specs.State.{Meaning, State, Stated, goes, gives, ends, stops}
 use Rattle.expand65.specs.Step.{IsStep}
 use Rattle.source65.specs.declared.fault.ExpandFault.{ExpandFault}
 

@@ -2,8 +2,7 @@
 use Rattle.std.specs.Prelude.{◌≡◌}
 use Rattle.base65.specs.Store.{Files}
 use Rattle.expand65.specs.Expansion.{Next, Reaches}
-use Rattle.expand65.specs.Meaning.{Meaning}
-use Rattle.expand65.specs.State.{State}
+use Rattle.expand65.specs.State.{Meaning, State}
 
 -- from a state one thing at most comes next: one statement with the state behind it, the end, or one fault with its place
 abbrev pub OneNext : Type 0

@@ -1,4 +1,3 @@
-pub mod Arguments
 pub mod AtHand
 pub mod Conditions
 pub mod Expansion
@@ -7,10 +6,7 @@ pub mod Includes
 pub mod Inner
 pub mod Laws
 pub mod Macros
-pub mod Meaning
-pub mod Repeats
 pub mod Rewriting
 pub mod Standing
 pub mod State
 pub mod Step
-pub mod Stopping

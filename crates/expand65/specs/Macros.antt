@@ -1,19 +1,64 @@
--- Macros: their definitions, their calls, their own names, and leaving them.
-use Rattle.std.specs.Prelude.{◌≡◌, ℕ, ◌+◌, ◌-◌, ◌==◌, nat_le, Bool, true, false, List, [], ◌∷◌, ◌++◌, length, drop, map, Option, Some, None, Result, Ok, Err, if◌then◌else◌}
+-- Macros: their definitions, their calls with arguments, their own names, and leaving them; repeats.
+use Rattle.std.specs.Prelude.{ℕ, ◌+◌, ◌-◌, ◌==◌, ◌&&◌, Bool, false, List, [], ◌∷◌, length, take, drop, map, if◌then◌else◌, ◌≡◌, nat_le, true, ◌++◌, Option, Some, None, Result, Ok, Err, ℤ, pos, negsuc}
+use Rattle.syntax65.specs.Tokens.{Lexeme}
+use Rattle.reader65.specs.Fronts.{is_comma, opens_brace, closes_brace, name_in, names_of, ◌>=>◌, understood, unknown}
 use Rattle.std.specs.List.{list_any}
 use Rattle.std.specs.Map.{lookup}
 use Rattle.std.specs.Str.{bytes_eq}
-use Rattle.syntax65.specs.Tokens.{Lexeme}
 use Rattle.syntax65.specs.declared.lexing.tokens.TokenKind.TheVariants as token
-use Rattle.expand65.specs.Arguments.{arguments_of}
-use Rattle.reader65.specs.Blocks.{Block, collects}
-use Rattle.reader65.specs.Fronts.{name_in, names_of, ◌>=>◌}
+use Rattle.reader65.specs.Blocks.{Block, collects, gathers}
 use Rattle.reader65.specs.Lines.{nesting_limit}
-use Rattle.reader65.specs.Replacing.{Definition, Replacing, number_token}
-use Rattle.reader65.specs.Left.{Item, played, mark, Mark, Left, left, Stop, innermost, localised, marks, outside_macro}
-use Rattle.expand65.specs.State.{State, plain, Stepped, goes, gives, stops, with_left, with_items}
-use Rattle.source65.specs.declared.fault.ExpandFault.TheVariants.{Nested, TooManyArguments, MacroTwice, NotOpened, NotUnderstood}
+use Rattle.reader65.specs.Replacing.{Definition, Replacing, number_token, repeating}
+use Rattle.reader65.specs.Left.{Item, played, mark, Mark, Left, left, Stop, innermost, localised, marks, outside_macro, turns}
+use Rattle.expand65.specs.State.{State, plain, Stepped, goes, gives, stops, with_left, with_items, Meaning}
+use Rattle.source65.specs.declared.fault.ExpandFault.TheVariants.{Nested, TooManyArguments, MacroTwice, NotOpened, NotUnderstood, NotConstant, CountOutOfRange}
 use Rattle.source65.specs.declared.place.Place.{Place}
+use Rattle.syntax65.specs.Expressions.{IsParsed}
+use Rattle.base65.specs.Outcome.{◌>>=◌}
+use Rattle.syntax65.specs.Trees.{Tree}
+use Rattle.syntax65.specs.declared.expressions.words.ExprFault.{ExprFault}
+use Rattle.source65.specs.declared.fault.ExpandFault.{ExpandFault}
+
+-- ---- The arguments of a macro's call.
+
+-- how many braces are open behind a token; one that closes none is a token like others
+abbrev pub braces_behind : ℕ → Lexeme → ℕ
+braces_behind d t = if opens_brace t then d + 1 else if closes_brace t then d - 1 else d
+
+-- a token at the front of the first part
+abbrev pub put_in_first : Lexeme → List (List Lexeme) → List (List Lexeme)
+put_in_first t [] = (t ∷ []) ∷ []
+put_in_first t (part ∷ parts) = (t ∷ part) ∷ parts
+
+-- what stands between the commas that aren't within braces, so many braces being open
+abbrev pub parts_within : ℕ → List Lexeme → List (List Lexeme)
+parts_within d [] = [] ∷ []
+parts_within d (t ∷ ts) =
+    if is_comma t && (d == 0)
+    then [] ∷ parts_within 0 ts
+    else put_in_first t (parts_within (braces_behind d t) ts)
+
+-- whether the brace that was open before these tokens, so many others within it, is closed by the last of them
+abbrev pub closes_last : ℕ → List Lexeme → Bool
+closes_last d [] = false
+closes_last d (t ∷ ts) =
+    if closes_brace t && (d == 0)
+    then length ts == 0
+    else closes_last (braces_behind d t) ts
+
+-- whether one pair of braces stands round all the tokens
+abbrev pub is_braced : List Lexeme → Bool
+is_braced [] = false
+is_braced (t ∷ ts) = opens_brace t && closes_last 0 ts
+
+-- an argument without the pair of braces round it
+abbrev pub unbraced : List Lexeme → List Lexeme
+unbraced ts = if is_braced ts then take (length ts - 2) (drop 1 ts) else ts
+
+-- the arguments in the tokens behind a macro's name; where there is no token there is none
+abbrev pub arguments_of : List Lexeme → List (List Lexeme)
+arguments_of [] = []
+arguments_of ts = map unbraced (parts_within 0 ts)
 
 -- ---- What stands in front of the lines that are left.
 
@@ -139,3 +184,44 @@ exited s (Some (k, is, p)) = goes (record { left = left is s.left.room p; macros
 
 abbrev pub exit_macro : State → Stepped
 exit_macro s = exited s (outside_macro s.left.items s.left.place)
+
+-- ---- Repeats.
+
+-- how many turns a repeat has at most
+abbrev pub turn_limit : ℕ
+turn_limit = 65536
+
+-- nothing, or a comma and a name
+abbrev pub variable_of : List Lexeme → Option (List (List ℕ))
+variable_of [] = Some []
+variable_of (c ∷ t ∷ []) = if is_comma c then name_in t >=> (λ name. Some (name ∷ [])) else None
+variable_of _ = None
+
+-- the expression of a count, and the variable, if it has one
+abbrev pub repeat_header : List Lexeme → Result (Tree × ℕ) ExprFault → Result (Tree × List (List ℕ)) ExpandFault
+repeat_header ts (Err fault) = unknown
+repeat_header ts (Ok (e, n)) = understood (variable_of (drop n ts)) >>= (λ v. Ok (e, v))
+
+abbrev pub turns_of : Option ℤ → Result ℕ ExpandFault
+turns_of None = Err NotConstant
+turns_of (Some (pos n)) = if nat_le n turn_limit then Ok n else Err CountOutOfRange
+turns_of (Some (negsuc n)) = Err CountOutOfRange
+
+-- how many turns there are, and the variable, if it has one
+abbrev pub repeat_of : Meaning → List Lexeme → Result (Tree × ℕ) ExprFault → Result (ℕ × List (List ℕ)) ExpandFault
+repeat_of k ts q = repeat_header ts q >>= (λ h. turns_of (k.value h.0) >>= (λ n. Ok (n, h.1)))
+
+abbrev pub repeat_mark : State → Mark
+repeat_mark s = record { is_macro = false; conditions = length s.conditions; back = None }
+
+abbrev pub repeated : State → ℕ → List (List ℕ) → Result (List (List Lexeme) × Left) Stop → Stepped
+repeated s n variable (Err e) = stops e
+repeated s n variable (Ok (body, l)) = entered (with_left s l) (turns (repeating variable) body 0 n) (repeat_mark s) l.place
+
+abbrev pub IsRepeated : State → Result (ℕ × List (List ℕ)) ExpandFault → Stepped → Type 0
+IsRepeated s (Err f) r = r ≡ stops (f, s.left.place)
+IsRepeated s (Ok (n, variable)) r = (q : Result (List (List Lexeme) × Left) Stop) × Block gathers (0, []) s.left q × (r ≡ repeated s n variable q)
+
+-- `.repeat` and what stands behind it
+abbrev pub IsRepeat : Meaning → State → List Lexeme → Stepped → Type 0
+IsRepeat k s ts r = (q : Result (Tree × ℕ) ExprFault) × IsParsed ts q × IsRepeated s (repeat_of k ts q) r

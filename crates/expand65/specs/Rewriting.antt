@@ -7,9 +7,8 @@ use Rattle.base65.specs.Store.{Files}
 use Rattle.syntax65.specs.Tokens.{Lexeme}
 use Rattle.source65.specs.Faults.{is_outside}
 use Rattle.reader65.specs.Inside.{left_of}
-use Rattle.reader65.specs.Kept.{tokens_in}
+use Rattle.reader65.specs.Playing.{tokens_in, definition_of}
 use Rattle.expand65.specs.Macros.{macro_at}
-use Rattle.reader65.specs.Playing.{definition_of}
 use Rattle.reader65.specs.Left.{labelled, branch}
 use Rattle.reader65.specs.Replacing.{Definition}
 use Rattle.expand65.specs.State.{State, with_items, label, plain, Stepped, goes, gives, stops}

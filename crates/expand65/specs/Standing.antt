@@ -5,12 +5,11 @@ use Rattle.syntax65.specs.Tokens.{Lexeme}
 use Rattle.base65.specs.Store.{Files}
 use Rattle.expand65.specs.Expansion.{statement, nothing, fault, Reaches}
 use Rattle.source65.specs.Faults.{is_outside}
-use Rattle.reader65.specs.Kept.{tokens_in}
-use Rattle.expand65.specs.Meaning.{Meaning}
+use Rattle.reader65.specs.Playing.{tokens_in}
+use Rattle.expand65.specs.State.{Meaning, State, with_items, Stated, label, plain, Stepped, goes, gives}
 use Rattle.expand65.specs.Rewriting.{state_of, size_of}
-use Rattle.reader65.specs.Naming.{NamesFiles}
+use Rattle.reader65.specs.Stopping.{NamesFiles}
 use Rattle.reader65.specs.Left.{Item, labelled, branch}
-use Rattle.expand65.specs.State.{State, with_items, Stated, label, plain, Stepped, goes, gives}
 use Rattle.expand65.specs.declared.expander.Expander.{Expander}
 use Rattle.expand65.specs.declared.expander.Front.{Front}
 use Rattle.expand65.specs.declared.expander.Front.TheVariants.{Nothing, Rest, Branch, End}

@@ -1,8 +1,19 @@
--- The state of expansion: the lines that are left, the macros, the open conditions.
-use Rattle.std.specs.Prelude.{ℕ, List, Bool}
+-- What an expansion means, and its state.
+use Rattle.std.specs.Prelude.{ℕ, ℤ, Bool, List, Option}
+use Rattle.syntax65.specs.Trees.{Tree}
 use Rattle.syntax65.specs.Tokens.{Lexeme}
 use Rattle.reader65.specs.Left.{Item, Left, left, Stop}
 use Rattle.reader65.specs.Replacing.{Definition}
+
+-- ---- What expressions and names mean at a line.
+
+pub record Meaning : Type 0 where
+  -- the value of an expression where it is constant
+  pub value : Tree → Option ℤ
+  -- whether a name, with or without a `::` before it, is that of a label or constant
+  pub defined : Bool → List (List ℕ) → Bool
+
+-- ---- The state of expansion: the lines that are left, the macros, the open conditions.
 
 pub record State : Type 0 where
   pub left : Left

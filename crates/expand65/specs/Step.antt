@@ -5,11 +5,9 @@ use Rattle.syntax65.specs.Tokens.{Lexeme}
 use Rattle.expand65.specs.Conditions.{IsIf, IsElse, conditions_in, ended_if, popped}
 use Rattle.reader65.specs.Fronts.{front_directive, is_mislabelled, label_len, line_directive, string_of}
 use Rattle.expand65.specs.Includes.{include_line}
-use Rattle.expand65.specs.Macros.{IsMacro, exit_macro, local_line, ordinary}
-use Rattle.expand65.specs.Meaning.{Meaning}
-use Rattle.expand65.specs.Repeats.{IsRepeat}
+use Rattle.expand65.specs.Macros.{IsMacro, exit_macro, local_line, ordinary, IsRepeat}
+use Rattle.expand65.specs.State.{Meaning, State, label, Stepped, goes, gives, ends, stops, with_left, with_items}
 use Rattle.reader65.specs.Left.{Item, labelled, branch, mark, left, innermost, come_back}
-use Rattle.expand65.specs.State.{State, label, Stepped, goes, gives, ends, stops, with_left, with_items}
 use Rattle.reader65.specs.Taking.{Taken, Takes}
 use Rattle.reader65.specs.declared.directives.Directive.{Directive}
 use Rattle.reader65.specs.declared.directives.Directive.TheVariants.{Macro, EndMacro, ExitMacro, Local, Repeat, EndRepeat, If, ElseIf, Else, EndIf, Include, Error, End}

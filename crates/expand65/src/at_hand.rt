@@ -3,11 +3,11 @@
 ghost use Rattle.std.specs.Prelude.{◌≡◌, ◌≤◌, ◌+◌, IfOk, IsTrue, OnOk, is_some};
 ghost use Rattle.base65.specs.Store.{Files};
 ghost use Rattle.syntax65.specs.Tokens.{lexeme_of, lexemes};
-ghost use Rattle.reader65.specs.Kept.{tokens_in};
-ghost use Rattle.reader65.specs.Naming.{NamesFiles};
+ghost use Rattle.reader65.specs.Playing.{tokens_in};
+ghost use Rattle.reader65.specs.Stopping.{NamesFiles};
 ghost use Rattle.expand65.specs.AtHand.{IsOfKind, ReachesBy, Steps};
 ghost use Rattle.expand65.specs.Macros.{macro_at};
-ghost use Rattle.expand65.specs.Meaning.{Meaning};
+ghost use Rattle.expand65.specs.State.{Meaning};
 ghost use Rattle.expand65.specs.Rewriting.{macros_of, size_of, state_of};
 
 use crate::rewriter::Rewriter;

@@ -5,7 +5,7 @@ ghost use Rattle.syntax65.specs.Expressions.{IsParsed};
 ghost use Rattle.base65.specs.Relations.{Answers};
 ghost use Rattle.syntax65.specs.Tokens.{lexemes};
 ghost use Rattle.syntax65.specs.Trees.{Tree};
-ghost use Rattle.syntax65.specs.declared.expressions.fault.ExprFault.{ExprFault};
+ghost use Rattle.syntax65.specs.declared.expressions.words.ExprFault.{ExprFault};
 ghost use Rattle.expand65.specs.Conditions.{IsCondition, begins_enclosed, defined_tree, popped, truth, whole};
 ghost use Rattle.source65.specs.Faults.{is_failure, is_outside};
 ghost use Rattle.expand65.specs.Macros.{outermost};

@@ -4,19 +4,18 @@ ghost use Rattle.std.specs.Prelude.{◌≡◌, ◌<◌, ◌≤◌, ◌+◌, ◌*
 ghost use Rattle.base65.specs.Store.{Asks, Files, IsBlamed, Passes};
 ghost use Rattle.syntax65.specs.Held.{HoldsNothing, held};
 ghost use Rattle.syntax65.specs.Tokens.{Lexeme, lexemes};
-ghost use Rattle.reader65.specs.Peeking.{next_number};
+ghost use Rattle.reader65.specs.Plain.{next_number};
 ghost use Rattle.expand65.specs.AtHand.{IsAhead, IsOfKind};
 ghost use Rattle.expand65.specs.Standing.{Comes, FollowsFrom, IsRest, Opens, StandsFor, given_in, is_end, led, measure_of, place_of, state_in, stated, tokens_of};
 ghost use Rattle.source65.specs.Faults.{is_outside};
-ghost use Rattle.expand65.specs.Stopping.{Goes, StopsOnItsWay, StopsReading};
+ghost use Rattle.expand65.specs.Failing.{Goes, StopsOnItsWay, StopsReading};
 ghost use Rattle.expand65.specs.Expansion.{Next, Reaches, first_left, opened_in};
-ghost use Rattle.expand65.specs.Meaning.{Meaning};
-ghost use Rattle.reader65.specs.Naming.{NamesFiles};
+ghost use Rattle.expand65.specs.State.{Meaning, State, label, plain};
+ghost use Rattle.reader65.specs.Stopping.{NamesFiles};
 ghost use Rattle.reader65.specs.Inside.{left_of, mark_of};
-ghost use Rattle.reader65.specs.Kept.{tokens_in};
-ghost use Rattle.reader65.specs.Reading.{bytes_of};
+ghost use Rattle.reader65.specs.Playing.{tokens_in};
+ghost use Rattle.reader65.specs.Lines.{bytes_of};
 ghost use Rattle.expand65.specs.Rewriting.{Turns, size_of, state_of, turned, weight_of};
-ghost use Rattle.expand65.specs.State.{State, label, plain};
 ghost use Rattle.expand65.specs.Step.{IsStep};
 
 use crate::at_hand::Kind;

@@ -1,7 +1,7 @@
 //! What is known of names and expressions at a line.
 
 ghost use Rattle.std.specs.Prelude.{◌≡◌, IfOk};
-ghost use Rattle.expand65.specs.Meaning.{Meaning};
+ghost use Rattle.expand65.specs.State.{Meaning};
 
 use std::alloc::{AllocError, Global};
 use syntax65::{Expr, Name};

@@ -1,14 +1,12 @@
 //! The statements of a source: macros, repeats, conditions and includes rewritten, line by line.
 #![tactic(auto)]
 
-mod arguments;
 mod at_hand;
 mod conditions;
 mod expander;
 mod includes;
 mod knows;
 pub mod laws;
-mod locals;
 mod macros;
 mod repeats;
 mod rewriter;

@@ -1,30 +1,171 @@
-//! Macros: their definitions and their calls.
+//! Macros: their definitions, their calls and the arguments of these.
 
-ghost use Rattle.std.specs.Prelude.{◌≡◌, ◌≤◌, ◌+◌, ◌∷◌, [], false, is_some, length, map, IfErr, IfOk, IfSome, Ok, Some, OnOk};
+ghost use Rattle.std.specs.Prelude.{◌≡◌, ◌<◌, ◌≤◌, ◌+◌, ◌^◌, IfOk, IsSome, IsTrue, length, map, option_map, ◌∷◌, [], false, is_some, IfErr, IfSome, Ok, Some, OnOk};
+ghost use Rattle.syntax65.specs.Tokens.{lexeme_of, lexemes};
+ghost use Rattle.expand65.specs.Macros.{arguments_of, braces_behind, closes_last, is_braced, parts_within, unbraced, IsDefined, IsMacro, called, distinct_of, header_of, header_with, macro_of, ordinary, params_of};
+ghost use Rattle.reader65.specs.Fronts.{names_of, understood};
+ghost use Rattle.reader65.specs.Playing.{tokens_in, definition_of};
+ghost use Rattle.expand65.specs.Inner.Parts.{is_comma_at, name_at, part_len};
 ghost use Rattle.base65.specs.Outcome.{Gives};
 ghost use Rattle.base65.specs.Store.{Files, Passes};
-ghost use Rattle.syntax65.specs.Tokens.{lexeme_of, lexemes};
 ghost use Rattle.source65.specs.Faults.{is_failure, is_outside};
 ghost use Rattle.expand65.specs.Failing.{FailsDefining};
-ghost use Rattle.reader65.specs.Stopping.{StopsAt};
-ghost use Rattle.reader65.specs.Fronts.{understood};
-ghost use Rattle.expand65.specs.Arguments.{arguments_of};
-ghost use Rattle.reader65.specs.Kept.{tokens_in};
-ghost use Rattle.expand65.specs.Macros.{IsDefined, IsMacro, called, distinct_of, header_of, header_with, macro_of, ordinary, params_of};
-ghost use Rattle.reader65.specs.Playing.{definition_of};
+ghost use Rattle.reader65.specs.Stopping.{StopsAt, NamesFiles};
 ghost use Rattle.reader65.specs.Replacing.{number_token};
 ghost use Rattle.expand65.specs.Rewriting.{MacroFound, Opens, Turns, macros_of, size_of, state_of, weight_of};
-ghost use Rattle.reader65.specs.Naming.{NamesFiles};
 
-use crate::arguments::{arguments_of, names_of};
 use crate::rewriter::{Rewriter, Turn};
 use base65::{Sequence, Store};
 use indexmap::{IndexMap, IndexSet};
-use reader65::{Body, Input, Line, Replay, Source, behind_first, name_in, number_line};
+use reader65::{
+    Body, Input, Line, Replay, Source, behind_first, closes_brace, is_comma, name_in, number_line,
+    opens_brace,
+};
 use source65::ExpandFault;
 use std::alloc::{AllocError, Global};
 use std::rc::Rc;
 use syntax65::{Token, TokenKind};
+
+/// The name at a place, if one stands there.
+pub fn name_at<'a>(tokens: &[Token<'a>], at: usize) -> Option<&'a [u8]>
+    ensures name { option_map (λ s. s.now) result ≡ name_at (lexemes tokens.now) at }
+    ensures inside { IsSome result → at < length tokens.now }
+{
+    match tokens.get(at) {
+        Some(token) => name_in(token),
+        None => None,
+    }
+}
+
+/// Whether a comma stands at a place.
+pub fn is_comma_at(tokens: &[Token<'_>], at: usize) -> bool
+    ensures comma { result ≡ is_comma_at (lexemes tokens.now) at }
+    ensures inside { IsTrue result → at < length tokens.now }
+{
+    match tokens.get(at) {
+        Some(token) => is_comma(token),
+        None => false,
+    }
+}
+
+/// One name or more with commas between them.
+pub fn names_of<'a>(
+    alloc: Global,
+    tokens: &[Token<'a>],
+) -> Result<Option<Vec<&'a [u8]>>, AllocError>
+    ensures { IfOk result
+        (λ names. option_map (λ v. map (λ s. s.now) v.items) names ≡ names_of
+        (lexemes tokens.now)) }
+{
+    let mut names = Vec::new(alloc);
+    let mut at = 0;
+    'names: loop {
+        let name = match name_at(tokens, at) {
+            Some(name) => name,
+            None => return Ok(None),
+        };
+        names.push(name)?;
+        if at + 1 == tokens.len() {
+            return Ok(Some(names));
+        }
+        if !is_comma_at(tokens, at + 1) {
+            return Ok(None);
+        }
+        at += 2;
+    }
+}
+
+/// How many braces are open behind a token.
+fn braces_behind(depth: usize, token: &Token<'_>) -> usize
+    requires { depth < 2 ^ 62 }
+    ensures { result ≡ braces_behind depth (lexeme_of token.now) }
+{
+    if opens_brace(token) {
+        depth + 1
+    } else if closes_brace(token) {
+        depth.saturating_sub(1)
+    } else {
+        depth
+    }
+}
+
+/// How many tokens stand before the first comma that isn't within braces.
+fn part_len(tokens: &[Token<'_>]) -> usize
+    ensures count { result ≡ part_len 0 (lexemes tokens.now) }
+    ensures within { result ≤ length tokens.now }
+{
+    let mut depth = 0;
+    for (place, token) in tokens.iter().enumerate() {
+        if is_comma(token) && depth == 0 {
+            return place;
+        }
+        depth = braces_behind(depth, token);
+    }
+    tokens.len()
+}
+
+/// Whether the brace that was opened before these tokens is closed by the last of them.
+fn closes_last(tokens: &[Token<'_>]) -> bool
+    ensures { result ≡ closes_last 0 (lexemes tokens.now) }
+{
+    let mut depth = 0;
+    for (place, token) in tokens.iter().enumerate() {
+        if closes_brace(token) && depth == 0 {
+            return place + 1 == tokens.len();
+        }
+        depth = braces_behind(depth, token);
+    }
+    false
+}
+
+/// Whether one pair of braces stands round all the tokens.
+fn is_braced(tokens: &[Token<'_>]) -> bool
+    ensures { result ≡ is_braced (lexemes tokens.now) }
+{
+    match tokens.split_first() {
+        Some((first, behind)) => opens_brace(first) && closes_last(behind),
+        None => false,
+    }
+}
+
+/// An argument without the pair of braces round it.
+fn unbraced<'a, 'b>(tokens: &'b [Token<'a>]) -> &'b [Token<'a>]
+    ensures { lexemes result.now ≡ unbraced (lexemes tokens.now) }
+{
+    match tokens {
+        [_, inner @ .., _] if is_braced(tokens) => inner,
+        _ => tokens,
+    }
+}
+
+/// What stands between the commas that aren't within braces.
+fn parts_of(alloc: Global, tokens: &[Token<'_>]) -> Result<Sequence<Line>, AllocError>
+    ensures { IfOk result (λ lines. map tokens_in lines ≡ map unbraced (parts_within 0 (lexemes tokens.now))) }
+{
+    let mut lines = Sequence::new(alloc);
+    let mut at = 0;
+    'parts: loop {
+        let (_, rest) = tokens.split_at(at);
+        let len = part_len(rest);
+        let (part, behind) = rest.split_at(len);
+        let line = Line::copy_of(alloc, unbraced(part))?;
+        lines.push(line)?;
+        if behind.is_empty() {
+            return Ok(lines);
+        }
+        at += len + 1;
+    }
+}
+
+/// The arguments in the tokens behind a macro's name.
+pub fn arguments_of(alloc: Global, tokens: &[Token<'_>]) -> Result<Sequence<Line>, AllocError>
+    ensures { IfOk result (λ lines. map tokens_in lines ≡ arguments_of (lexemes tokens.now)) }
+{
+    if tokens.is_empty() {
+        return Ok(Sequence::new(alloc));
+    }
+    parts_of(alloc, tokens)
+}
 
 /// A macro's name and its parameters.
 #[derive(Drop)]

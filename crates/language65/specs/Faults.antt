@@ -2,8 +2,8 @@
 use Rattle.std.specs.Prelude.{ℕ, List, [], ◌++◌, Bool, true, false, codes, ◌||◌, encode_utf8_all}
 use Rattle.source65.specs.Faults.{expand_words}
 use Rattle.source65.specs.declared.fault.ExpandFault.TheVariants as expand
-use Rattle.syntax65.specs.declared.expressions.fault.ExprFault.{ExprFault}
-use Rattle.syntax65.specs.declared.expressions.fault.ExprFault.TheVariants as expr
+use Rattle.syntax65.specs.declared.expressions.words.ExprFault.{ExprFault}
+use Rattle.syntax65.specs.declared.expressions.words.ExprFault.TheVariants as expr
 use Rattle.base65.specs.declared.store.StoreFault.{StoreFault}
 use Rattle.base65.specs.declared.store.StoreFault.TheVariants as store
 use Rattle.language65.specs.declared.fault.AsmFault.{AsmFault}

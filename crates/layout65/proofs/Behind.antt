@@ -18,12 +18,10 @@ use Rattle.language65.specs.Names.{enclosing, within}
 use Rattle.language65.specs.Sizes.{length_of}
 use Rattle.language65.specs.Symbols.{Scope, Symbols, scope_opened}
 use Rattle.layout65.specs.declared.standing.Standing as code
-use Rattle.layout65.specs.Advancing.{advanced}
+use Rattle.layout65.specs.Measuring.{advanced, measure_of, measured, naming_fault, placing_faults}
 use Rattle.layout65.specs.Counting.{AreInside, HasNumbers, opened_by, opening_limit}
 use Rattle.layout65.specs.declared.measuring.Measured.{Measured}
-use Rattle.layout65.specs.Measuring.{measure_of, measured, naming_fault, placing_faults}
-use Rattle.layout65.specs.Sounds.{IsCounted}
-use Rattle.layout65.specs.Views.{standing_of}
+use Rattle.layout65.specs.Sounds.{IsCounted, standing_of}
 use Rattle.layout65.proofs.Measures.{faults_are, no_fault}
 use Rattle.language65.proofs.Segments.{all_more, all_same, grown_length}
 

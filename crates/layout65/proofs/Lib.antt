@@ -1,5 +1,4 @@
-pub mod Steps
+pub mod Behind
 pub mod Measures
 pub mod Parts
 pub mod Segments
-pub mod Behind

@@ -1,16 +1,14 @@
 -- Faults one after the other.
+use Rattle.std.proofs.Common.{arith, ◌≡◌, ℕ, zero, suc, ◌+◌, ◌*◌, ◌<◌, ◌≤◌, nat_lt, drop, get_or, add-one, Bool, true, false, List, [], ◌∷◌, length, map, Option, Some, None, refl, sym, ap, subst, ◌∙◌}
 use Rattle.std.proofs.lemmas.Grind.{common_steps}
-use Rattle.std.proofs.Common.{◌≡◌, ℕ, zero, suc, ◌+◌, ◌*◌, ◌<◌, ◌≤◌, nat_lt, arith, drop, get_or, add-one, Bool, true, false, List, [], ◌∷◌, length, map, Option, Some, None, refl, sym, ap, subst, ◌∙◌}
-use Rattle.std.specs.Prelude.{◌&&◌, ◌++◌, Result, Ok, Err, IfOk}
+use Rattle.std.specs.Prelude.{IfOk, OnOk, Result, Ok, Err, ◌&&◌, ◌++◌, sum_by, ℤ, pos, negsuc, not, ◌-◌, MatchOption, SomeIff}
+use Rattle.base65.specs.Outcome.{Unless, ◌>>=◌, Gives}
 use Rattle.std.proofs.lemmas.Bool.Decides.{nat_tests}
-use Rattle.std.specs.Prelude.{sum_by}
 use Rattle.std.proofs.lemmas.List.{drop_all}
 use Rattle.std.proofs.lemmas.List.Sums.{sum_by-cons}
 use Rattle.object65.specs.declared.object.Width.{Width}
 use Rattle.language65.specs.Sizes.{counted, fill_settled, gap, item_len, length_of, optional_value}
 use Rattle.language65.specs.Norms.{constant_in}
-use Rattle.std.specs.Prelude.{ℤ, pos, negsuc, not}
-use Rattle.base65.specs.Outcome.{◌>>=◌, Gives, Unless}
 use Rattle.syntax65.specs.Trees.{Tree}
 use Rattle.language65.specs.declared.fault.AsmFault.{AsmFault}
 use Rattle.language65.specs.Faults.{is_memory}
@@ -24,12 +22,10 @@ use Rattle.syntax65.specs.declared.instructions.names.Mnemonic.{Mnemonic}
 use Rattle.language65.specs.declared.language.Statement.{Statement}
 use Rattle.language65.specs.declared.language.Statement.TheVariants as statement
 use Rattle.language65.specs.declared.language.Item.TheVariants.{Text, Value}
-use Rattle.object65.specs.Objects.{width_len}
+use Rattle.object65.specs.Objects.{width_len, section_limit}
 use Rattle.language65.specs.Items.{numbered}
-use Rattle.std.specs.Prelude.{◌-◌, MatchOption, SomeIff}
 use Rattle.std.proofs.Math.Nat.{suc-mul, zero-mul}
 use Rattle.language65.proofs.Lists.{drop_item}
-use Rattle.object65.specs.Objects.{section_limit}
 use Rattle.syntax65.specs.declared.lexing.tokens.AddressSize.TheVariants.{Absolute}
 use Rattle.syntax65.specs.declared.lexing.tokens.AddressSize.{AddressSize}
 use Rattle.language65.specs.declared.contents.Segment.{Segment}
@@ -38,7 +34,20 @@ use Rattle.language65.specs.LineFaults.{alignment_fault, block_fault, first_faul
 use Rattle.layout65.specs.declared.measuring.Measured as code
 use Rattle.layout65.specs.declared.measuring.Measured.{Measured}
 use Rattle.layout65.specs.Measuring.{fitted, measure_of, measured, naming_fault, placed, placing_faults}
-use Rattle.layout65.proofs.Steps.{unless_then}
+
+-- ---- Small steps that many proofs take.
+
+pub unless_then : {P Q : Type 0} (b : Bool) → (P → Q) → Unless b P → Unless b Q
+unless_then true f h = tt
+unless_then false f h = f h
+
+pub ok_then : {A E P Q : Type 0} (r : Result A E) → (P → Q) → OnOk r P → OnOk r Q
+ok_then x f h = grind (arith, common_steps)
+
+pub ok_with : {A E : Type 0} (P Q : A → Type 0) (r : Result A E) → ((x : A) → P x → Q x) → IfOk r P → IfOk r Q
+ok_with x y z f h = grind (arith, common_steps)
+
+-- ---- Faults one after the other.
 
 -- the second fault is looked for where there is no first
 pub two_faults : {A : Type 0} (f g : Option AsmFault) (x : A) → unless_fault (or_then f g) x ≡ (unless_fault {A = Unit {0}} f tt >>= λ u. unless_fault g x)

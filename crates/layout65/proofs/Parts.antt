@@ -17,8 +17,7 @@ use Rattle.language65.specs.Sizes.{optional_value, part_len, part_start}
 use Rattle.language65.specs.Symbols.{Symbols}
 use Rattle.layout65.specs.declared.measuring.Measured.{Measured}
 use Rattle.layout65.specs.Measuring.{IsFound, or_default, placed, ranged, unread_fault}
-use Rattle.layout65.proofs.Measures.{left_behind, refused_first}
-use Rattle.layout65.proofs.Steps.{unless_then}
+use Rattle.layout65.proofs.Measures.{left_behind, refused_first, unless_then}
 
 -- ---- Ranges.
 

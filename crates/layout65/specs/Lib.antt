@@ -1,5 +1,3 @@
-pub mod Views
-pub mod Sounds
-pub mod Measuring
-pub mod Advancing
 pub mod Counting
+pub mod Measuring
+pub mod Sounds

@@ -1,11 +1,27 @@
--- What holds of the code's state between statements.
-use Rattle.std.specs.Prelude.{◌≡◌, ℕ, ◌+◌, ◌<◌, ◌≤◌, List, length, map}
+-- What stands between statements as the code has it: what holds of it.
+use Rattle.std.specs.Prelude.{reverse, ◌≡◌, ℕ, ◌+◌, ◌<◌, ◌≤◌, List, length, map}
+use Rattle.language65.specs.Layout as layout
+use Rattle.layout65.specs.declared.standing.Standing.{Standing}
 use Rattle.std.specs.List.{AllByRecursion}
 use Rattle.object65.specs.Objects.{section_limit}
 use Rattle.language65.specs.declared.contents.Segment.{Segment}
 use Rattle.language65.specs.Layout.{spot_of}
-use Rattle.layout65.specs.declared.standing.Standing.{Standing}
-use Rattle.layout65.specs.Views.{standing_of}
+
+-- ---- What stands between statements, without where it lies in memory.
+
+-- the segments that are kept stand with the last one last
+abbrev pub standing_of : Standing → layout.Standing
+standing_of w = record {
+  scope = w.scope;
+  opened = w.opened;
+  region = w.region;
+  unnamed = w.unnamed;
+  segments = w.segments.items;
+  current = w.current;
+  kept = reverse w.kept.items;
+}
+
+-- ---- What holds of the code's state between statements.
 
 -- The current segment is there, has room left, and each segment is found by its name; what is kept
 -- is there.

@@ -1,10 +1,9 @@
 //! Where a statement stands, what it places, and its first fault there.
 #![tactic(auto)]
 
-mod asking;
 mod measuring;
 mod standing;
 
-pub use asking::asks_section;
+pub use measuring::kinds::asks_section;
 pub use measuring::{Before, Measured, check_unread, measure, measure_instruction};
 pub use standing::Standing;

@@ -1,11 +1,8 @@
 //! What a statement comes to at its line, or its first fault there.
 
-mod blocks;
 mod bytes;
 mod kinds;
-mod lost;
 mod names;
-mod parts;
 mod rooms;
 mod trees;
 
@@ -20,8 +17,7 @@ ghost use Rattle.language65.specs.LineFaults.{unless_fault};
 ghost use Rattle.symbols65.specs.Resolving.{IsTable};
 ghost use Rattle.symbols65.specs.Views.{table_of};
 ghost use Rattle.layout65.specs.Measuring.{fitted, measured, naming_fault};
-ghost use Rattle.layout65.specs.Sounds.{IsSoundStanding};
-ghost use Rattle.layout65.specs.Views.{standing_of};
+ghost use Rattle.layout65.specs.Sounds.{IsSoundStanding, standing_of};
 
 use self::bytes::instruction;
 use self::kinds::place;

@@ -9,10 +9,9 @@ ghost use Rattle.language65.specs.Symbols.{Symbols as Table};
 ghost use Rattle.language65.specs.declared.language.Operand.{Operand};
 ghost use Rattle.language65.specs.declared.language.Statement.TheVariants.{Instruction};
 ghost use Rattle.symbols65.specs.Views.{table_of};
-ghost use Rattle.layout65.specs.Advancing.{advanced};
+ghost use Rattle.layout65.specs.Measuring.{advanced};
 ghost use Rattle.layout65.specs.Counting.{AreInside, HasNumbers, opened_by};
-ghost use Rattle.layout65.specs.Sounds.{AreWithin, IsCounted, IsSoundStanding};
-ghost use Rattle.layout65.specs.Views.{standing_of};
+ghost use Rattle.layout65.specs.Sounds.{AreWithin, IsCounted, IsSoundStanding, standing_of};
 
 use crate::measuring::Measured;
 use base65::Sequence;

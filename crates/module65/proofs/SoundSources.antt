@@ -8,7 +8,7 @@ use Rattle.base65.specs.Outcome.{◌>>=◌, First}
 use Rattle.base65.specs.Store.{Files}
 use Rattle.syntax65.specs.Tokens.{Lexeme}
 use Rattle.syntax65.specs.Trees.{number}
-use Rattle.syntax65.specs.Words.{is_reserved}
+use Rattle.syntax65.specs.Expressions.{is_reserved}
 use Rattle.syntax65.specs.declared.lexing.tokens.TokenKind.{TokenKind}
 use Rattle.syntax65.specs.declared.lexing.tokens.TokenKind.TheVariants as token
 use Rattle.source65.specs.declared.fault.ExpandFault.{ExpandFault}

@@ -22,7 +22,7 @@ use Rattle.source65.specs.declared.fault.ExpandFault.TheVariants.{OutOfMemory, F
 use Rattle.expand65.specs.Standing.{Opens, StandsFor, place_of}
 use Rattle.language65.specs.Faults.{is_outside}
 use Rattle.syntax65.specs.Tokens.{Lexeme, lexemes}
-use Rattle.syntax65.specs.Words.{is_reserved}
+use Rattle.syntax65.specs.Expressions.{is_reserved}
 use Rattle.syntax65.specs.declared.lexing.tokens.Token.{Token}
 use Rattle.syntax65.specs.declared.lexing.tokens.TokenKind.{TokenKind}
 use Rattle.language65.specs.declared.language.Statement.{Statement}

@@ -1,7 +1,7 @@
 -- What names and expressions mean at a line.
 use Rattle.std.specs.Prelude.{Bool, true, false, Result, Ok}
 use Rattle.syntax65.specs.Trees.{name}
-use Rattle.expand65.specs.Meaning as expand
+use Rattle.expand65.specs.State as expand
 use Rattle.language65.specs.declared.fault.AsmFault.{AsmFault}
 use Rattle.language65.specs.Layout.{Standing, spot_of}
 use Rattle.language65.specs.Names.{Meaning, defined_at, meaning_of}

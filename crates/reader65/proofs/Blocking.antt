@@ -4,13 +4,11 @@ use Rattle.std.proofs.Common.{arith, ◌≡◌, ℕ, Bool, true, false, List, re
 use Rattle.base65.specs.Outcome.{Unless}
 use Rattle.base65.specs.Store.{Files}
 use Rattle.syntax65.specs.Tokens.{Lexeme}
-use Rattle.reader65.specs.BlockLines.{TakesInBlock}
-use Rattle.reader65.specs.Blocks.{Verdict, on, closed, refused, Block, a_fault, a_mark, a_refusal, the_last, one_more}
+use Rattle.reader65.specs.Blocks.{TakesInBlock, Verdict, on, closed, refused, Block, a_fault, a_mark, a_refusal, the_last, one_more}
 use Rattle.source65.specs.Faults.{is_outside}
 use Rattle.reader65.specs.Inside.{left_of}
 use Rattle.reader65.specs.Judging.{Judges}
-use Rattle.reader65.specs.Passing.{Plainly, no_line as none_passed, a_line}
-use Rattle.reader65.specs.Plain.{IsPlain}
+use Rattle.reader65.specs.Plain.{Plainly, no_line as none_passed, a_line, IsPlain}
 use Rattle.reader65.specs.Left.{Left, Stop}
 use Rattle.reader65.specs.Taking.{Takes}
 use Rattle.reader65.specs.declared.blocks.BlockStep.{BlockStep}

@@ -5,8 +5,7 @@ use Rattle.std.proofs.lemmas.List.{take-map, drop-map}
 use Rattle.syntax65.specs.Tokens.{Lexeme, lexeme_of, lexemes}
 use Rattle.syntax65.specs.declared.lexing.tokens.Token.{Token}
 use Rattle.reader65.specs.Fronts.{is_mislabelled, label_len}
-use Rattle.reader65.specs.Kept.{tokens_in}
-use Rattle.reader65.specs.Parting.{AreParts}
+use Rattle.reader65.specs.Playing.{tokens_in, AreParts}
 use Rattle.reader65.specs.declared.line.Line.{Line}
 
 pub parts : (toks : List Token) (ts : List Lexeme) (len : ℕ) (a b : Line) → lexemes toks ≡ ts → len ≡ label_len (lexemes toks) → len ≢ 0 → is_mislabelled (lexemes toks) ≡ false → tokens_in a ≡ lexemes (take len toks) → tokens_in b ≡ lexemes (drop len toks) → (n : ℕ) × AreParts ts n a b

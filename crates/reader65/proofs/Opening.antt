@@ -12,12 +12,9 @@ use Rattle.syntax65.specs.declared.lexing.fault.LexFault.TheVariants as lex
 use Rattle.source65.specs.Faults.{fault_of_lexing, is_outside}
 use Rattle.reader65.specs.Left.{numbered, Item, written, played}
 use Rattle.reader65.specs.Inside.{ComesNext, TakesLine}
-use Rattle.reader65.specs.Kept.{tokens_in}
-use Rattle.reader65.specs.Lines.{lines_of}
-use Rattle.reader65.specs.Passing.{IsPlainLine, PassesLine}
-use Rattle.reader65.specs.Peeking.{IsFront, TakesWritten}
-use Rattle.reader65.specs.Playing.{left_to_play, replacing_of}
-use Rattle.reader65.specs.Reading.{ReadsLine, BeginsLong, content, is_inside, left_in_file, rest_of, without_return, bytes_of}
+use Rattle.reader65.specs.Playing.{tokens_in, left_to_play, replacing_of}
+use Rattle.reader65.specs.Lines.{lines_of, ReadsLine, BeginsLong, content, is_inside, left_in_file, rest_of, without_return, bytes_of}
+use Rattle.reader65.specs.Plain.{IsPlainLine, PassesLine, IsFront, TakesWritten}
 use Rattle.reader65.specs.Replacing.{Replacing, replaced}
 use Rattle.reader65.specs.Taking.{IsOpened, fitted, lexed}
 use Rattle.source65.specs.declared.fault.ExpandFault.{ExpandFault}
@@ -26,7 +23,7 @@ use Rattle.reader65.specs.declared.file.OpenFile.{OpenFile}
 use Rattle.reader65.specs.declared.input.NextLine.TheVariants.{Numbered}
 use Rattle.reader65.specs.declared.line.Line.{Line}
 use Rattle.reader65.specs.declared.playing.Replay.{Replay}
-use Rattle.reader65.proofs.Splitting.{piece_ends, some_line}
+use Rattle.reader65.proofs.Lines.{piece_ends, some_line}
 
 -- a line without tokens
 pub not_read : (bytes : List ℕ) (e : LexFault) → Unless (is_lex_outside e) (IsRead bytes (Err e)) → Unless (is_outside (fault_of_lexing e)) ((q : Result (List Lexeme) LexFault) × IsRead bytes q × (Err (fault_of_lexing e) ≡ lexed q))

@@ -5,9 +5,8 @@ use Rattle.std.specs.Prelude.{if◌then◌else◌, ◌&&◌, nat_lt, slice_get}
 use Rattle.syntax65.specs.Tokens.{Lexeme}
 use Rattle.reader65.specs.Blocks.{Verdict, on, collecting, collects, gathering, gathers, passes, passing, skips, skipping, mislabelled}
 use Rattle.reader65.specs.Fronts.{front_directive, is_colon, is_label_name, is_mislabelled, label_len, line_directive, may_follow_label, directive_in}
-use Rattle.reader65.specs.Kept.{behind_word, behind_words, cut}
-use Rattle.reader65.specs.Passing.{directive_of_first, is_colon_there}
-use Rattle.reader65.specs.Plain.{IsColonAt, IsLabel, IsOrNoneAt, IsPlain}
+use Rattle.reader65.specs.Playing.{behind_word, behind_words, cut}
+use Rattle.reader65.specs.Plain.{directive_of_first, is_colon_there, IsColonAt, IsLabel, IsOrNoneAt, IsPlain}
 use Rattle.reader65.specs.declared.directives.Directive.{Directive}
 use Rattle.reader65.specs.declared.line.Word.{Word}
 

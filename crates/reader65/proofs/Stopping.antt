@@ -6,14 +6,11 @@ use Rattle.syntax65.specs.Tokens.{Lexeme}
 use Rattle.source65.specs.declared.fault.ExpandFault.{ExpandFault}
 use Rattle.source65.specs.Faults.{is_failure}
 use Rattle.source65.specs.declared.place.Place.{Place}
-use Rattle.reader65.specs.BlockLines.{TakesInBlock}
-use Rattle.reader65.specs.Blocks.{Verdict, on}
+use Rattle.reader65.specs.Blocks.{TakesInBlock, Verdict, on}
 use Rattle.reader65.specs.Inside.{ComesNext, IsFile, is_call, left_in, left_of, mark_of, moved_by, outside}
 use Rattle.reader65.specs.Left.{Item, Left, Mark, mark, numbered, played}
-use Rattle.reader65.specs.Lines.{lines_of}
-use Rattle.reader65.specs.Passing.{Plainly, no_line, a_line}
-use Rattle.reader65.specs.Plain.{IsPlain}
-use Rattle.reader65.specs.Reading.{rest_of}
+use Rattle.reader65.specs.Lines.{lines_of, rest_of}
+use Rattle.reader65.specs.Plain.{Plainly, no_line, a_line, IsPlain}
 use Rattle.reader65.specs.Replacing.{Replacing}
 use Rattle.reader65.specs.Stopping.{FailsAtLine, FailsInBlock, HasStopped, IsAsked, at_line, before, behind_line, within}
 use Rattle.reader65.specs.declared.input.NextLine.{NextLine}
@@ -22,7 +19,7 @@ use Rattle.reader65.specs.declared.input.Source.{Source}
 use Rattle.reader65.specs.declared.input.Source.TheVariants as source
 use Rattle.reader65.specs.declared.reader.Reader.{Reader}
 use Rattle.reader65.proofs.Blocking.{some_line}
-use Rattle.reader65.proofs.Nexts.{parted}
+use Rattle.reader65.proofs.Inputs.{parted}
 
 -- ---- The next line.
 

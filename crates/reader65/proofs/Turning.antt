@@ -9,8 +9,7 @@ use Rattle.source65.specs.declared.fault.ExpandFault.{ExpandFault}
 use Rattle.reader65.specs.declared.input.NextLine.TheVariants.{Replayed}
 use Rattle.syntax65.specs.Tokens.{Lexeme}
 use Rattle.reader65.specs.Inside.{ComesNext, TakesLine, turns_left}
-use Rattle.reader65.specs.Kept.{tokens_in}
-use Rattle.reader65.specs.Playing.{left_to_play, replacing_of}
+use Rattle.reader65.specs.Playing.{tokens_in, left_to_play, replacing_of}
 use Rattle.reader65.specs.Replacing.{in_turn, Replacing}
 use Rattle.reader65.specs.Left.{turns, Item, played}
 use Rattle.reader65.specs.declared.line.Line.{Line}

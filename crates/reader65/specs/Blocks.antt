@@ -1,13 +1,26 @@
 -- Blocks: lines are taken one after another up to the one that closes the block.
-use Rattle.std.specs.Prelude.{◌≡◌, ℕ, zero, suc, List, [], ◌∷◌, ◌++◌, drop, Bool, true, false, Option, Some, None, Result, Ok, Err, if◌then◌else◌}
+use Rattle.std.specs.Prelude.{◌≡◌, List, Some, None, Result, Ok, Err, ℕ, zero, suc, [], ◌∷◌, ◌++◌, drop, Bool, true, false, Option, if◌then◌else◌}
 use Rattle.syntax65.specs.Tokens.{Lexeme}
-use Rattle.reader65.specs.Fronts.{is_mislabelled, is_nothing, line_directive}
 use Rattle.reader65.specs.Left.{Left, Stop}
-use Rattle.reader65.specs.Taking.{Takes}
+use Rattle.reader65.specs.Taking.{Taken, Takes}
+use Rattle.source65.specs.declared.fault.ExpandFault.TheVariants.{NotClosed, MacroInside, NotUnderstood}
+use Rattle.reader65.specs.Fronts.{is_mislabelled, is_nothing, line_directive}
 use Rattle.reader65.specs.declared.directives.Directive.{Directive}
 use Rattle.reader65.specs.declared.directives.Directive.TheVariants.{Macro, EndMacro, Repeat, EndRepeat, If, ElseIf, Else, EndIf}
 use Rattle.source65.specs.declared.fault.ExpandFault.{ExpandFault}
-use Rattle.source65.specs.declared.fault.ExpandFault.TheVariants.{NotClosed, MacroInside, NotUnderstood}
+
+-- ---- The next line of a block.
+
+-- a block has to be closed before an end mark
+abbrev pub within_block : Taken → Result (List Lexeme × Left) Stop
+within_block (Ok (Some ts, l)) = Ok (ts, l)
+within_block (Ok (None, l)) = Err (NotClosed, l.place)
+within_block (Err e) = Err e
+
+abbrev pub TakesInBlock : Left → Result (List Lexeme × Left) Stop → Type 0
+TakesInBlock l r = (t : Taken) × Takes l t × (r ≡ within_block t)
+
+-- ---- Blocks: lines are taken one after another up to the one that closes the block.
 
 -- whether a block goes on behind a line, is closed by it, or the line is refused
 pub data Verdict (A B : Type 0) : Type 0 where

@@ -1,7 +1,7 @@
 -- What stands at the front of a line's tokens: a label, a directive; and what single tokens are.
 use Rattle.std.specs.Prelude.{ℕ, Bool, true, false, not, nat_lt, ◌-◌, ◌&&◌, List, [], ◌∷◌, length, take, drop, Option, Some, None, Result, Ok, Err, if◌then◌else◌}
 use Rattle.syntax65.specs.Tokens.{Lexeme}
-use Rattle.syntax65.specs.Words.{is_reserved}
+use Rattle.syntax65.specs.Expressions.{is_reserved}
 use Rattle.syntax65.specs.declared.lexing.tokens.Mark.TheVariants.{Colon, Comma, OpenBrace, CloseBrace, OpenParenthesis}
 use Rattle.syntax65.specs.declared.lexing.tokens.TokenKind.TheVariants as token
 use Rattle.reader65.specs.Directives.{directive_of}

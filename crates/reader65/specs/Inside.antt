@@ -4,9 +4,8 @@ use Rattle.base65.specs.Outcome.{Unless}
 use Rattle.base65.specs.Store.{Files}
 use Rattle.syntax65.specs.Tokens.{Lexeme}
 use Rattle.source65.specs.Faults.{is_outside}
-use Rattle.reader65.specs.Kept.{tokens_in}
-use Rattle.reader65.specs.Playing.{left_to_play, replacing_of}
-use Rattle.reader65.specs.Reading.{left_in_file}
+use Rattle.reader65.specs.Playing.{tokens_in, left_to_play, replacing_of}
+use Rattle.reader65.specs.Lines.{left_in_file}
 use Rattle.reader65.specs.Left.{turns, Item, written, played, mark, Mark, Left, left, moved, Stop}
 use Rattle.reader65.specs.Replacing.{Replacing}
 use Rattle.reader65.specs.Taking.{IsOpened}

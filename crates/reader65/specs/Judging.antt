@@ -3,7 +3,7 @@ use Rattle.std.specs.Prelude.{◌≡◌, ℕ, suc, Bool, true, false, Result, Ok
 use Rattle.base65.specs.Outcome.{Unless}
 use Rattle.reader65.specs.Blocks.{Verdict, on, closed, refused, Branch, at_elseif, at_else, at_endif}
 use Rattle.source65.specs.Faults.{is_outside}
-use Rattle.reader65.specs.Kept.{tokens_in}
+use Rattle.reader65.specs.Playing.{tokens_in}
 use Rattle.reader65.specs.declared.blocks.BlockStep.{BlockStep}
 use Rattle.reader65.specs.declared.blocks.BlockStep.TheVariants.{On, Closed}
 use Rattle.reader65.specs.declared.blocks.BranchLine.{BranchLine}

@@ -1,15 +1,40 @@
--- Where lines were being read when the store failed.
-use Rattle.std.specs.Prelude.{◌≡◌, ℕ, ◌==◌, true, false, List, ◌∷◌, Some, Option, Result, Ok, IfErr, if◌then◌else◌, ⊤}
+-- Where lines were being read when the store failed, and under which names.
+use Rattle.std.specs.Prelude.{◌≡◌, List, [], ◌∷◌, None, reverse, ⊤, ℕ, ◌==◌, true, false, Some, Option, Result, Ok, IfErr, if◌then◌else◌}
+use Rattle.source65.specs.declared.place.Place.{Place}
+use Rattle.reader65.specs.Left.{come_back, Item, Left, mark, moved, written}
+use Rattle.reader65.specs.declared.input.Source.{Source}
+use Rattle.reader65.specs.declared.input.Source.TheVariants as source
+use Rattle.reader65.specs.declared.reader.Input.{Input}
+use Rattle.reader65.specs.declared.reader.Reader.{Reader}
 use Rattle.base65.specs.Store.{IsBlamed}
 use Rattle.syntax65.specs.Tokens.{Lexeme}
 use Rattle.source65.specs.Faults.{is_failure}
 use Rattle.source65.specs.declared.fault.ExpandFault.{ExpandFault}
-use Rattle.source65.specs.declared.place.Place.{Place}
 use Rattle.reader65.specs.Blocks.{Verdict, on}
 use Rattle.reader65.specs.Inside.{mark_of}
-use Rattle.reader65.specs.Left.{Item, Left, come_back, mark, moved, written}
 use Rattle.reader65.specs.Taking.{Takes}
-use Rattle.reader65.specs.declared.reader.Reader.{Reader}
+
+-- ---- Under which names open files are read.
+
+-- a file is read under the name that the places of its lines have
+abbrev pub IsNamed : Source → Place → Type 0
+IsNamed (source.File f) p = f.name ≡ p.file
+IsNamed _ p = ⊤
+
+-- So are inputs one inside the other, from the innermost on, where reading is at a place; the source goes back to none.
+abbrev pub AreNamed : List Input → Place → Type 0
+AreNamed [] p = ⊤
+AreNamed (i ∷ []) p = IsNamed i.source p × (i.back ≡ None)
+AreNamed (i ∷ j ∷ is) p = IsNamed i.source p × AreNamed (j ∷ is) (come_back p i.back)
+
+-- what is open in a reader, from the innermost on
+abbrev pub open_in : Reader → List Input
+open_in r = r.top ∷ reverse r.outer.items
+
+unfoldable pub NamesFiles : Reader → Type 0
+NamesFiles r = AreNamed (open_in r) r.place
+
+-- ---- Where lines were being read when the store failed.
 
 -- a line of a file or its end comes next: only there the store is asked
 abbrev pub IsAsked : List Item → Type 0

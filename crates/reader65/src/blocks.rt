@@ -3,14 +3,13 @@
 ghost use Rattle.std.specs.Prelude.{◌≡◌, ◌∷◌, ◌++◌, [], ◌<◌, ◌↔◌, List, IsTrue, false, drop, map, IfErr, IfSome, OnOk};
 ghost use Rattle.syntax65.specs.Tokens.{Lexeme, lexemes};
 ghost use Rattle.base65.specs.Store.{Passes};
-ghost use Rattle.reader65.specs.Stopping.{FailsInBlock, StopsAt};
+ghost use Rattle.reader65.specs.Stopping.{FailsInBlock, StopsAt, NamesFiles};
 ghost use Rattle.reader65.specs.Inside.{Answers, left_of, mark_of};
 ghost use Rattle.reader65.specs.Blocks.{Block, collects, gathers, passes, skipping, skips};
 ghost use Rattle.source65.specs.Faults.{is_failure};
 ghost use Rattle.reader65.specs.Judging.{IsDeeper, IsSkipDeeper, Judges, JudgesSkip, alone_or, branch_of};
 ghost use Rattle.reader65.specs.Fronts.{is_nothing};
-ghost use Rattle.reader65.specs.Naming.{NamesFiles};
-ghost use Rattle.reader65.specs.Kept.{tokens_in};
+ghost use Rattle.reader65.specs.Playing.{tokens_in};
 
 use crate::directives::Directive;
 use crate::fronts::{behind_first, is_mislabelled, is_nothing, line_directive};

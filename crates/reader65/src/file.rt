@@ -6,8 +6,7 @@ ghost use Rattle.std.specs.List.{prefix_len};
 ghost use Rattle.base65.specs.Store.{Files, Fills, IsBlamed, Passes};
 ghost use Rattle.source65.specs.Faults.{is_failure, is_outside};
 ghost use Rattle.reader65.specs.Left.{numbered};
-ghost use Rattle.reader65.specs.Lines.{lines_of};
-ghost use Rattle.reader65.specs.Reading.{IsPiece, ReadsLine, TakesPiece, bytes_of, is_inside, left_in_file, rest_of, without_return};
+ghost use Rattle.reader65.specs.Lines.{lines_of, IsPiece, ReadsLine, TakesPiece, bytes_of, is_inside, left_in_file, rest_of, without_return};
 
 use base65::{Sequence, Store, StoreFault, Text};
 use memchr::memchr;

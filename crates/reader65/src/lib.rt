@@ -8,9 +8,7 @@ mod file;
 mod fronts;
 mod input;
 mod line;
-mod locals;
 mod passing;
-mod peeking;
 mod playing;
 mod reader;
 
@@ -23,6 +21,6 @@ pub use fronts::{
 };
 pub use input::{Source, number_line};
 pub use line::Line;
-pub use peeking::Peeked;
+pub use passing::Peeked;
 pub use playing::{Body, Replay};
 pub use reader::{Input, Reader};

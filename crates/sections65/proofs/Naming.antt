@@ -1,24 +1,53 @@
 -- Names of files by their places in a table in which none stands twice.
-use borrow.Author.Rules.{rules}
-use Rattle.std.proofs.lemmas.Grind.{common_steps}
-use Rattle.std.proofs.Common.{◌≡◌, ◌∙◌, ℕ, ◌+◌, ◌<◌, Bool, true, false, not, ◌||◌, cond, List, [], ◌∷◌, ◌++◌, length, map, get_or, position, Option, Some, None, nat_eq, nat_lt, refl, sym, ap, subst, arith}
-use Rattle.std.specs.Prelude.{if◌then◌else◌}
-use Rattle.std.specs.List.{AllByRecursion, IsDistinct, list_any, position_or_len}
+use Rattle.std.proofs.Common.{◌≡◌, ◌∙◌, ℕ, ◌<◌, Bool, true, false, cond, get_or, List, [], ◌∷◌, ◌++◌, length, map, position, Some, None, refl, sym, ap, arith, append-nil, ◌+◌, not, ◌||◌, Option, nat_eq, nat_lt, subst}
+use Rattle.std.specs.Prelude.{slice_get, if◌then◌else◌}
+use Rattle.std.specs.List.{position_or_len, AllByRecursion, IsDistinct, list_any}
 use Rattle.std.specs.Str.{bytes_eq}
 use Rattle.std.proofs.lemmas.Bool.Decides.{nat_tests}
+use Rattle.std.proofs.lemmas.List.Sums.{passes_at_first, position_or_len_is}
+use Rattle.std.proofs.lemmas.Option.{slice_get-get_or, unwrap_or-slice_get}
+use Rattle.language65.proofs.Lists.{same_bytes, bytes_swap, position_mapped}
+use Rattle.sections65.specs.Standing.{Begins}
+use borrow.Author.Rules.{rules}
+use Rattle.std.proofs.lemmas.Grind.{common_steps}
 use Rattle.std.proofs.lemmas.List.{map-append}
 use Rattle.std.proofs.lemmas.List.Folds.{list_any_at}
-use Rattle.std.proofs.lemmas.List.Sums.{passes_at_first, position_or_len_is}
 use Rattle.std.proofs.lemmas.Map.Keys.{apart_from_distinct}
-use Rattle.std.proofs.lemmas.Option.{unwrap_or-slice_get}
 use Rattle.std.proofs.lemmas.Slice.Eq.{bytes_eq-Decides}
 use Rattle.source65.specs.declared.place.Place.{Place}
 use Rattle.object65.specs.declared.object.Origin.{Origin}
-use Rattle.language65.proofs.Lists.{bytes_swap, position_mapped, same_bytes}
 use Rattle.language65.specs.Numbering.{in_files, name_of, names_once, number_of, once, optional_key}
 use Rattle.sections65.specs.Inner.Ordering.{origin_by}
 use Rattle.sections65.proofs.Fitting.{all_more}
 use Rattle.sections65.proofs.Renumbering.{HasAll, has, left, number_is, place_below}
+
+-- ---- A table of files, in which each name stands once.
+
+-- the name at the place at which it is found
+pub named_there : (names : List (List ℕ)) (n : List ℕ) (i : ℕ) → position (bytes_eq n) names ≡ Some i → slice_get names i ≡ Some n
+named_there names n i e = by (nat_lt at (length names)) refl e
+  where
+    at : ℕ
+    at = position_or_len (bytes_eq n) names
+
+    by : (b : Bool) → nat_lt at (length names) ≡ b → cond b (Some at) None ≡ Some i → slice_get names i ≡ Some n
+    by true q e =
+        let lt : at < length names = grind (arith, nat_tests) in
+        let here : at ≡ i = cc in
+        ap (slice_get names) (sym here) ∙ slice_get-get_or names at [] lt
+        ∙ ap Some (sym (same_bytes n (get_or names at []) (passes_at_first (bytes_eq n) names [] lt)))
+    by false q e = absurd cc
+
+map_more : {A : Type 0} (f : A → List ℕ) (xs : List A) (x : A) → map f (xs ++ x ∷ []) ≡ map f xs ++ f x ∷ []
+map_more f [] x = refl
+map_more f (y ∷ xs) x = ap (λ l. f y ∷ l) (map_more f xs x)
+
+-- a name is put in behind the others, or stands there already
+pub begins_inserted : {A : Type 0} (f : A → List ℕ) (known new : List A) (x : A) (b : Bool) → new ≡ (if b then known else known ++ x ∷ []) → Begins (map f known) (map f new)
+begins_inserted f known new x true e = ([], ap (map f) e ∙ sym (append-nil (map f known)))
+begins_inserted f known new x false e = (f x ∷ [], ap (map f) e ∙ map_more f known x)
+
+-- ---- Names of files by their places in a table in which none stands twice.
 
 pub any_below : {A : Type 0} (p : A → Bool) (xs : List A) → list_any p xs ≡ true → position_or_len p xs < length xs
 any_below p [] h = absurd cc

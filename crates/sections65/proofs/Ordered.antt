@@ -1,6 +1,6 @@
--- The object of entries, in the order of its files, is that of their contents.
+-- The object of all that was fed is that of its contents.
 use Rattle.std.proofs.lemmas.Grind.{common_steps}
-use Rattle.std.proofs.Common.{◌≡◌, ◌∙◌, ℕ, ◌<◌, Bool, true, false, not, List, [], ◌∷◌, ◌++◌, length, map, position, Some, nat_eq, nat_lt, refl, sym, ap, arith}
+use Rattle.std.proofs.Common.{◌≡◌, ◌∙◌, ℕ, ◌<◌, Bool, true, false, not, List, [], ◌∷◌, ◌++◌, length, map, position, Some, nat_eq, nat_lt, refl, sym, ap, arith, subst}
 use Rattle.std.specs.Prelude.{filter_map, slice_get, if◌then◌else◌}
 use Rattle.std.specs.List.{IsDistinct, filter, flat_map, list_all, list_any}
 use Rattle.std.specs.Str.{bytes_eq}
@@ -21,21 +21,26 @@ use Rattle.language65.specs.Parts.{Content, Filled, Known, Part, Said, Waiting}
 use Rattle.language65.specs.declared.contents.Said as telled
 use Rattle.language65.specs.declared.contents.Said.TheVariants as told
 use Rattle.language65.specs.declared.contents.Segment.{Segment}
-use Rattle.language65.specs.Numbering.{all_joined, all_said, assert_of, exports_among, fragment_of, fragments_of, import_keys, in_files, is_empty, name_of, numbered, once, parts_in, section_of, segment_name, segment_power}
+use Rattle.language65.specs.Numbering.{all_joined, all_said, assert_of, exports_among, fragment_of, fragments_of, import_keys, in_files, is_empty, name_of, numbered, once, parts_in, section_of, segment_name, segment_power, object_with}
 use Rattle.language65.specs.Views.{said_at}
 use Rattle.sections65.specs.declared.entries.Entry.{Entry}
 use Rattle.sections65.specs.declared.entries.Entry.TheVariants.{Bytes, Room, Value, Told, Open}
 use Rattle.sections65.specs.declared.entries.SourcePos.{SourcePos}
-use Rattle.sections65.specs.Fed.{content_of, object_over, origin_by, place_by, stands_in}
+use Rattle.sections65.specs.Fed.{content_of, object_over, origin_by, place_by, stands_in, AreAlike, filled}
 use Rattle.sections65.specs.Inner.Drafts.{asserts_at, entry_asserts, exports_at, exports_from, object_before}
 use Rattle.sections65.specs.Inner.Ordering.{in_order}
-use Rattle.sections65.specs.Standing.{StandIn}
+use Rattle.sections65.specs.Standing.{StandIn, Stands, contents_in, names_in}
 use Rattle.sections65.proofs.Drafting.{fragment_put, fragments_put, section_put, sections_are}
 use Rattle.sections65.proofs.Exporting.{among_append}
 use Rattle.sections65.proofs.Keys.{imports_anyhow}
 use Rattle.sections65.proofs.Naming.{found_there, is_listed, listed_there}
 use Rattle.sections65.proofs.Reordering.{is_listed_part, is_listed_said, object_at, ordered}
 use Rattle.sections65.proofs.Renumbering.{and, left, right}
+use Rattle.sections65.specs.declared.sections.Sections.{Sections}
+use Rattle.sections65.proofs.Alikes.{alike_trans, same_object}
+use Rattle.sections65.proofs.Fillings.{nothing_waits}
+
+-- ---- The object of entries, in the order of its files, is that of their contents.
 
 module _ (files : List (List ℕ)) (apart : IsDistinct bytes_eq files) where
   abbrev at : Place → Origin
@@ -175,3 +180,14 @@ module _ (files : List (List ℕ)) (apart : IsDistinct bytes_eq files) where
       let imports : i ≡ import_keys names (contents es) = ap (once []) (imports_anyhow names [] files es) in
       ap (in_order files) (before_at s i segments names es standing)
       ∙ ordered files apart s i segments names (contents es) imports (λ g. parts_listed s i g es standing) (said_listed s i es standing)
+
+-- ---- The object of all that was fed.
+
+-- the object of all entries is that of what they stand for
+pub finished : (segments : List Segment) (names : List (List ℕ)) (s : Sections) (es : List Entry) (cs : List Content) → IsDistinct bytes_eq (names_in s.files) → Stands cs [] s → AreAlike (contents_in (names_in s.files) [] s.entries) (filled (names_in s.files) [] es) → (StandIn (length (names_in s.files)) s.entries.done.items → StandIn (length (names_in s.files)) es) → in_order (names_in s.files) (object_before segments names s.asked.keys (import_keys names (map (content_of []) es)) es) ≡ object_with segments names cs
+finished segments names s es cs apart h same standing =
+    let files = names_in s.files in
+    entries_ordered files apart segments names s.asked.keys es (standing h.standing)
+    ∙ sym (same_object segments names s.asked.keys cs (map (content_of files) es)
+    (subst (λ (ds : List Content). AreAlike cs ds) (nothing_waits files es) (alike_trans cs (contents_in files [] s.entries) (filled files [] es) h.alike same)))
+    ∙ ap (λ ks. object_over segments names ks cs) (sym h.asked)

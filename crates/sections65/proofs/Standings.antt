@@ -18,9 +18,8 @@ use Rattle.language65.specs.Contents.{asking, put}
 use Rattle.sections65.specs.Fed.{AreAlike, content_of, filled, is_open, open_count, stands_in}
 use Rattle.sections65.specs.Standing.{Begins, DefersIn, IsAdded, IsEntry, IsSettled, SettlesIn, StandIn, Stands, TakesIn, contents_in, growing, names_in}
 use Rattle.sections65.proofs.Alikes.{alike_back, alike_front, alike_nothing, alike_same, alike_sym, alike_trans, bytes_alike, empty_alike, no_bytes_alike, no_room_alike, room_alike}
-use Rattle.sections65.proofs.Fillings.{count_closed, count_more, count_settled, filled_deferred, filled_more, filled_settled, none_counted, none_up_to, settled_at}
+use Rattle.sections65.proofs.Fillings.{count_closed, count_more, count_settled, filled_deferred, filled_more, filled_settled, none_counted, none_up_to, settled_at, begins_long, filled_grown, standing_grown, standing_more, standing_settled}
 use Rattle.sections65.proofs.Keys.{once_append}
-use Rattle.sections65.proofs.Listings.{begins_long, filled_grown, standing_grown, standing_more, standing_settled}
 
 -- ---- What may grow.
 

@@ -11,8 +11,6 @@ ghost use Rattle.language65.specs.Numbering.{import_keys, name_of, number_of, se
 mod drafts;
 mod exports;
 mod keys;
-mod names;
-mod numbers;
 mod ordering;
 
 use crate::entries::Entry;
@@ -20,10 +18,9 @@ use base65::Sequence;
 use drafts::{Draft, filled};
 use exports::{asserts_of, exports_of};
 use indexmap::IndexSet;
-use keys::import_keys;
+pub use keys::narrow;
+use keys::{Numbers, import_keys};
 use language65::Segment;
-use numbers::Numbers;
-pub use numbers::narrow;
 use object65::{Fragment, Object, Section};
 pub use ordering::in_order;
 use std::alloc::{AllocError, Global};

@@ -1,8 +1,8 @@
 -- The faults of expansion: their words, and which of them come from outside.
 use Rattle.std.specs.Prelude.{ℕ, List, [], codes, Bool, true, false}
 use Rattle.syntax65.specs.Faults.{lex_fault_words}
-use Rattle.syntax65.specs.declared.expressions.fault.ExprFault.{ExprFault}
-use Rattle.syntax65.specs.declared.expressions.fault.ExprFault.TheVariants as expr
+use Rattle.syntax65.specs.declared.expressions.words.ExprFault.{ExprFault}
+use Rattle.syntax65.specs.declared.expressions.words.ExprFault.TheVariants as expr
 use Rattle.syntax65.specs.declared.lexing.fault.LexFault.{LexFault}
 use Rattle.syntax65.specs.declared.lexing.fault.LexFault.TheVariants as lex
 use Rattle.base65.specs.declared.store.StoreFault.{StoreFault}

@@ -1,6 +1,5 @@
 pub mod Each
 pub mod Lone
-pub mod Naming
 pub mod OneStatements
 pub mod Parts
 pub mod Ranges

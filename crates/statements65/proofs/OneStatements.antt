@@ -1,12 +1,11 @@
 -- Tokens say one statement at most, and so does a line.
 use Rattle.std.proofs.Common.{◌≡◌, ◌∙◌, ℕ, Bool, true, false, List, [], ◌∷◌, Option, Some, None, refl, sym, ap, subst}
-use Rattle.std.specs.Prelude.{Result, Ok, Err, length}
-use Rattle.syntax65.specs.Expressions.{IsParsed}
+use Rattle.std.specs.Prelude.{Result, Ok, Err, length, codes}
+use Rattle.syntax65.specs.Expressions.{IsParsed, is_reserved}
 use Rattle.syntax65.specs.Mnemonics.{mnemonic_of}
 use Rattle.base65.specs.Outcome.{◌>>=◌, First}
 use Rattle.syntax65.specs.Tokens.{Lexeme}
 use Rattle.syntax65.specs.Trees.{Tree}
-use Rattle.syntax65.specs.Words.{is_reserved}
 use Rattle.syntax65.specs.declared.instructions.names.Mnemonic.{Mnemonic}
 use Rattle.syntax65.specs.declared.lexing.tokens.AddressSize.{AddressSize}
 use Rattle.syntax65.specs.declared.lexing.tokens.TokenKind.{TokenKind}
@@ -26,7 +25,6 @@ use Rattle.language65.specs.declared.language.Statement.TheVariants as statement
 use Rattle.language65.specs.declared.language.Operand.TheVariants as operand
 use Rattle.language65.specs.declared.language.Item.TheVariants as item
 use Rattle.statements65.specs.Parsing as p
-use Rattle.std.specs.Prelude.{codes}
 
 abbrev Answer : Type 0
 Answer = Result Statement AsmFault

@@ -9,11 +9,11 @@ use Rattle.std.specs.Result.{IsErrAnd}
 use Rattle.base65.specs.Outcome.{◌>>=◌, First, Unless}
 use Rattle.base65.specs.Relations.{Answers}
 use Rattle.language65.specs.declared.fault.AsmFault.{AsmFault}
-use Rattle.syntax65.specs.declared.expressions.fault.ExprFault.TheVariants.{OutOfMemory, OperandExpected, ParenthesisExpected, TooDeep}
+use Rattle.syntax65.specs.declared.expressions.words.ExprFault.TheVariants.{OutOfMemory, OperandExpected, ParenthesisExpected, TooDeep}
 use Rattle.language65.specs.Faults.{is_outside, of_expr}
 use Rattle.syntax65.specs.Tokens.{Lexeme, lexeme_of, lexemes}
 use Rattle.syntax65.specs.Trees.{Tree, number}
-use Rattle.syntax65.specs.declared.expressions.fault.ExprFault.{ExprFault}
+use Rattle.syntax65.specs.declared.expressions.words.ExprFault.{ExprFault}
 use Rattle.syntax65.specs.declared.lexing.tokens.Token.{Token}
 use Rattle.statements65.specs.Parsing.{before_parts, is_comma, parts_of, string_of, unknown, whole, words_of, IsAmount, IsExpression, IsFront, IsItem, Then}
 use Rattle.statements65.specs.declared.reading.words.Elements.{Elements}

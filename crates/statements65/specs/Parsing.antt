@@ -3,14 +3,13 @@ use Rattle.std.specs.Prelude.{◌≡◌, ℕ, ◌-◌, nat_le, Bool, true, false
 use Rattle.std.specs.Char.{is_ascii_alphabetic, is_ascii_digit}
 use Rattle.std.specs.List.{list_all}
 use Rattle.std.specs.Str.{bytes_eq, str_eq_ignore_ascii_case}
-use Rattle.syntax65.specs.Expressions.{IsParsed}
+use Rattle.syntax65.specs.Expressions.{IsParsed, is_reserved}
 use Rattle.syntax65.specs.Mnemonics.{mnemonic_of}
 use Rattle.base65.specs.Outcome.{◌>>=◌, First}
 use Rattle.base65.specs.Relations.{Answers}
 use Rattle.syntax65.specs.Tokens.{Lexeme}
 use Rattle.syntax65.specs.Trees.{Tree}
-use Rattle.syntax65.specs.Words.{is_reserved}
-use Rattle.syntax65.specs.declared.expressions.fault.ExprFault.{ExprFault}
+use Rattle.syntax65.specs.declared.expressions.words.ExprFault.{ExprFault}
 use Rattle.syntax65.specs.declared.instructions.names.Mnemonic.{Mnemonic}
 use Rattle.syntax65.specs.declared.lexing.tokens.AddressSize.{AddressSize}
 use Rattle.syntax65.specs.declared.lexing.tokens.AddressSize.TheVariants as size

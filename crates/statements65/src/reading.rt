@@ -1,11 +1,6 @@
 //! From the tokens of a line to its label and its statement.
 
 mod amounts;
-mod assertions;
-mod directives;
-mod files;
-mod items;
-mod labels;
 mod lists;
 mod messages;
 mod operands;
@@ -15,6 +10,5 @@ mod statements;
 mod tokens;
 mod words;
 
-pub use labels::label;
 pub use operands::operand;
-pub use statements::{instruction_front, statement};
+pub use statements::{instruction_front, label, statement};

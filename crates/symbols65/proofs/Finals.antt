@@ -23,14 +23,13 @@ use Rattle.symbols65.specs.declared.resolving.attempt.State.{State}
 use Rattle.symbols65.specs.declared.resolving.attempt.State.TheVariants.{Unknown, Waiting, Hangs, Found}
 use Rattle.symbols65.specs.declared.table.symbols.Symbols as code
 use Rattle.language65.specs.Extending.{Extends}
-use Rattle.symbols65.specs.Finals.{IsFinalWithin}
-use Rattle.symbols65.specs.Forms.{IsReference, binary_form, prefix_form}
+use Rattle.symbols65.specs.Finals.{IsFinalWithin, IsReference, binary_form, prefix_form}
 use Rattle.symbols65.specs.Resolving.{attempt_definition, attempt_value, known_form, plain_part}
 use Rattle.symbols65.specs.Inner.Settling.{MeansAlways, MeansFinally, Operands}
-use Rattle.symbols65.specs.Inner.Sources.{known_by}
+use Rattle.symbols65.specs.Inner.Knowns.{known_by}
 use Rattle.symbols65.specs.Views.{table_of}
-use Rattle.symbols65.proofs.NameParts.{name_is}
-use Rattle.symbols65.proofs.Places.{first_within, get_stays, position_stays}
+use Rattle.symbols65.proofs.Scopes.{name_is}
+use Rattle.symbols65.proofs.Words.{first_within, get_stays, position_stays}
 use Rattle.symbols65.proofs.Hanging.{extends_itself}
 use Rattle.symbols65.proofs.Settling.{final_among}
 use Rattle.symbols65.proofs.Turns.{expression_course, expression_is, ok_later}

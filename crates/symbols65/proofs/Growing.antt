@@ -25,8 +25,7 @@ use Rattle.language65.specs.Norms.{form_of_value, norm}
 use Rattle.language65.specs.Extending.{Extends}
 use Rattle.symbols65.specs.Finals.{formed}
 use Rattle.symbols65.specs.Tables.{AreCounted, AreDistinct, AreFinal, AreNumbered, Begins, HasNumber, IsCounted, IsOpening, KeepsFinal, definition_in, entry_of, first_number, key_in, place_of_opening, same_opening, scope_by, scope_opened, table_without_imports, word_at, word_of, word_opened}
-use Rattle.symbols65.proofs.Places.{position_none, first_within, first_passes, get_more, map_same, position_same, position_stays}
-use Rattle.symbols65.proofs.Words.{finds_opened, get_word, keys_get}
+use Rattle.symbols65.proofs.Words.{position_none, first_within, first_passes, get_more, map_same, position_same, position_stays, finds_opened, get_word, keys_get}
 use Rattle.language65.proofs.Lists.{same_bytes}
 
 -- ---- Maps.

@@ -16,7 +16,7 @@ use Rattle.symbols65.specs.Hanging.{AreHung, HangsOn}
 use Rattle.symbols65.specs.Resolving.{IsTable, is_open}
 use Rattle.symbols65.proofs.Beginnings.{AreOpen, blank_table}
 use Rattle.symbols65.proofs.Hanging.{hung_later}
-use Rattle.symbols65.proofs.Places.{get_more}
+use Rattle.symbols65.proofs.Words.{get_more}
 
 -- nothing hangs at one more place
 pub hung_more : (y : Symbols) (states : List State) → AreHung y states → AreHung y (states ++ Unknown ∷ [])

@@ -5,17 +5,11 @@ pub mod Growing
 pub mod Hanging
 pub mod Knowns
 pub mod Lasts
-pub mod NameParts
-pub mod NameTables
 pub mod Needing
-pub mod Numbers
-pub mod Places
 pub mod Pursuits
-pub mod References
 pub mod Scopes
 pub mod Settling
 pub mod Sizing
-pub mod Stability
 pub mod Tries
 pub mod Turns
 pub mod Words

@@ -18,10 +18,10 @@ use Rattle.symbols65.specs.declared.table.symbols.Symbols.{Symbols}
 use Rattle.symbols65.specs.Hanging.{ExpressionHangsOn, HangsOn, Leads, needed_in}
 use Rattle.symbols65.specs.Resolving.{FoundBy, attempt_definition, known_form, meaning_form, operand_form, stopped, tried, tried_by}
 use Rattle.symbols65.specs.Inner.Settling.{MeansFinally, Operands}
-use Rattle.symbols65.specs.Inner.Sources.{known_by}
+use Rattle.symbols65.specs.Inner.Knowns.{known_by}
 use Rattle.symbols65.specs.Views.{table_of}
 use Rattle.symbols65.proofs.Hanging.{extends_itself}
-use Rattle.symbols65.proofs.Places.{get_stays}
+use Rattle.symbols65.proofs.Words.{get_stays}
 use Rattle.symbols65.proofs.Pursuits.{leads_from}
 use Rattle.symbols65.proofs.Settling.{final_among, known_inside}
 use Rattle.symbols65.proofs.Tries.{attempt_first}

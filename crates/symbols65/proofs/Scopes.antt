@@ -1,12 +1,65 @@
--- Scopes, and names that are found in them.
+-- Scopes, and the parts of names that are found in them.
 use Rattle.std.proofs.lemmas.Grind.{common_steps}
-use Rattle.std.proofs.Common.{◌≡◌, ℕ, zero, suc, ◌+◌, ◌-◌, ◌<◌, ◌≤◌, Bool, true, false, cond, nat_lt, List, [], ◌∷◌, take, position, Option, Some, None, refl, sym, ap, ◌∙◌, arith}
-use Rattle.std.specs.Prelude.{slice_get}
+use Rattle.std.proofs.Common.{arith, ◌≡◌, ℕ, List, ◌⊎◌, inl, inr, subst, sym, Bool, true, false, [], ◌∷◌, ◌++◌, Option, Some, None, refl, ap, ◌∙◌, zero, suc, ◌+◌, ◌-◌, ◌<◌, ◌≤◌, cond, nat_lt, take, position}
+use Rattle.syntax65.specs.Trees.{Tree, name}
+use Rattle.syntax65.specs.Kinds.{tree_of}
+use Rattle.syntax65.specs.declared.expressions.trees.ExprKind.{ExprKind}
+use Rattle.syntax65.specs.declared.expressions.trees.ExprKind.TheVariants as kind
+use Rattle.syntax65.specs.declared.expressions.trees.Name.{Name}
+use Rattle.symbols65.specs.Finals.{IsReference}
+use Rattle.std.specs.Prelude.{codes, slice_get}
+use Rattle.std.proofs.lemmas.List.{append_assoc}
+use Rattle.language65.specs.declared.laid.Spot.{Spot}
+use Rattle.language65.specs.declared.fault.AsmFault.{AsmFault}
+use Rattle.language65.specs.declared.fault.AsmFault.TheVariants.{Undefined}
+use Rattle.language65.specs.Symbols.{Symbols, defined, imported, named, Scope}
+use Rattle.language65.specs.Names.{first_found, joined, last_of, meaning_of, or_fault, plain_meaning, scopes_from, scopes_of, enclosing, inside, numbered, or_else, outward_from, scope_in, within}
+use Rattle.symbols65.specs.Resolving.{defined_place, joined_behind, name_meaning, plain_part}
 use Rattle.std.specs.List.{position_from}
 use Rattle.std.proofs.lemmas.Bool.Decides.{nat_tests}
 use Rattle.std.proofs.lemmas.Iterator.Adapters.{position_from-zero}
-use Rattle.language65.specs.Names.{enclosing, first_found, inside, numbered, or_else, outward_from, scope_in, within}
-use Rattle.language65.specs.Symbols.{Scope}
+
+-- ---- Kinds of expressions that are references.
+
+-- a kind that a match over references takes
+abbrev pub Taken : ExprKind → Type 0
+Taken k = ((x : List ℕ) × (k ≡ kind.Plain x)) ⊎ (((x : Name) × (k ≡ kind.Scoped x)) ⊎ (((x : List ℕ) × (k ≡ kind.Cheap x)) ⊎ (((x : ℕ) × (k ≡ kind.Forward x)) ⊎ ((x : ℕ) × (k ≡ kind.Backward x)))))
+
+pub reference : (k : ExprKind) (e : Tree) → tree_of k ≡ e → Taken k → IsReference e
+reference k e is taken = grind (arith, common_steps)
+
+-- ---- The parts of names.
+
+pub scopes_before : (rest : List (List ℕ)) (n : List ℕ) → scopes_of (rest ++ n ∷ []) ≡ rest
+scopes_before [] n = refl
+scopes_before (m ∷ []) n = refl
+scopes_before (m ∷ k ∷ rest) n = ap (λ l. m ∷ l) (scopes_before (k ∷ rest) n)
+
+pub last_behind : (rest : List (List ℕ)) (n : List ℕ) → last_of (rest ++ n ∷ []) ≡ n
+last_behind [] n = refl
+last_behind (m ∷ []) n = refl
+last_behind (m ∷ k ∷ rest) n = last_behind (k ∷ rest) n
+
+pub joined_first : (n : List ℕ) (names : List (List ℕ)) → joined (n ∷ names) ≡ n ++ joined_behind names
+joined_first n [] = grind (arith, common_steps)
+joined_first n (m ∷ names) = append_assoc n (codes "::") (joined (m ∷ names)) ∙ ap (λ l. n ++ l) (ap (λ l. codes "::" ++ l) (joined_first m names) ∙ sym (append_assoc (codes "::") m (joined_behind names)))
+
+pub name_is : (y : Symbols) (s : Spot) (global : Bool) (parts : List (List ℕ)) → meaning_of y s (name global parts) ≡ name_meaning y s global parts
+name_is y s false [] = refl
+name_is y s false (n ∷ []) = refl
+name_is y s false (n ∷ m ∷ names) = refl
+name_is y s true [] = refl
+name_is y s true (n ∷ names) = refl
+
+defined_first : (e : AsmFault) (o other : Option ℕ) → o ≡ defined_place (or_fault e o other)
+defined_first e x other = grind (arith, common_steps)
+
+-- what a plain name means is defined where a scope from its own outward defines it
+pub defined_outward_at : (y : Symbols) (s : Spot) (global : Bool) (parts : List (List ℕ)) (n : List ℕ) → plain_part global parts ≡ Some n → first_found (λ c. defined y (named c n)) (scopes_from y.scopes s.scope) ≡ defined_place (meaning_of y s (name global parts))
+defined_outward_at y s false [] n e = absurd cc
+defined_outward_at y s false (m ∷ []) n e = grind (arith, common_steps, defined_first)
+defined_outward_at y s false (m ∷ k ∷ parts) n e = absurd cc
+defined_outward_at y s true parts n e = absurd cc
 
 -- ---- Outward.
 

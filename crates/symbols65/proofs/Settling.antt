@@ -22,10 +22,10 @@ use Rattle.language65.specs.Extending.{Extends}
 use Rattle.symbols65.specs.Finals.{formed}
 use Rattle.symbols65.specs.Resolving.{FoundBy, lacks_memory, meaning_form, tried}
 use Rattle.symbols65.specs.Inner.Settling.{Settles}
-use Rattle.symbols65.specs.Inner.Sources.{kept, known_by}
+use Rattle.symbols65.specs.Inner.Knowns.{kept, known_by}
 use Rattle.symbols65.specs.Tables.{definition_in, table_without_imports}
 use Rattle.symbols65.specs.Views.{table_of, words_of}
-use Rattle.symbols65.proofs.Places.{get_mapped, get_stays}
+use Rattle.symbols65.proofs.Words.{get_mapped, get_stays}
 use Rattle.symbols65.proofs.Hanging.{extends_itself}
 use Rattle.symbols65.proofs.Pursuits.{fault_from, form_from, unless_more}
 use Rattle.symbols65.proofs.Tries.{attempt_first, meant_tried}

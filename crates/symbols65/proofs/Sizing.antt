@@ -1,9 +1,18 @@
--- Folding forms that may be missing gives the normal forms of expressions.
+-- Folding forms that may be missing, and those of numbers alone.
+use Rattle.std.proofs.Common.{◌≡◌, length, Some, ap, arith, refl, sym, ◌∙◌, Result, Ok, Err}
+use Rattle.std.specs.Prelude.{ℤ, pos, if◌then◌else◌}
+use Rattle.syntax65.specs.Trees.{Tree, number, here, name, cheap, forward, backward, unary, binary}
+use Rattle.syntax65.specs.declared.lexing.tokens.AddressSize.{AddressSize}
+use Rattle.syntax65.specs.declared.lexing.tokens.AddressSize.TheVariants as size
+use Rattle.language65.specs.declared.laid.Spot.{Spot}
+use Rattle.language65.specs.Names.{meaning_of, Meaning}
+use Rattle.language65.specs.Norms.{constant_in, literal_in, folded, form_of_meaning, norm, norm_of}
+use Rattle.language65.specs.Sizes.{larger, size_by, size_of, size_of_meaning, size_of_value, takes_byte}
+use Rattle.language65.specs.Symbols.{Symbols}
+use Rattle.symbols65.specs.Inner.Settling.{IsNumber, IsPlaceOf}
 use Rattle.std.proofs.lemmas.Grind.{common_steps}
-use Rattle.std.proofs.Common.{arith, ◌≡◌, ap, refl, sym, ◌∙◌, length, Result, Ok, Err}
 use Rattle.std.specs.Result.{result_ok}
 use Rattle.base65.specs.Outcome.{◌>>=◌}
-use Rattle.syntax65.specs.Trees.{Tree, number, here, name, cheap, forward, backward, unary, binary}
 use Rattle.base65.specs.declared.values.Op1.{Op1}
 use Rattle.base65.specs.declared.values.Op2.{Op2}
 use Rattle.object65.specs.Form.{Form}
@@ -11,14 +20,25 @@ use Rattle.object65.specs.Folding.{fold1, fold2}
 use Rattle.object65.specs.declared.folding.FormFault.{FormFault}
 use Rattle.object65.specs.declared.folding.FormFault.TheVariants as form
 use Rattle.language65.specs.declared.fault.AsmFault.{AsmFault}
-use Rattle.language65.specs.declared.laid.Spot.{Spot}
-use Rattle.language65.specs.Names.{Meaning, meaning_of}
-use Rattle.language65.specs.Norms.{constant_in, folded, form_of_meaning, literal_in, norm, norm_of}
-use Rattle.language65.specs.Sizes.{size_by, size_of_meaning}
-use Rattle.language65.specs.Symbols.{Symbols}
-use Rattle.syntax65.specs.declared.lexing.tokens.AddressSize.{AddressSize}
-use Rattle.symbols65.specs.Inner.Settling.{IsPlaceOf}
-use Rattle.symbols65.specs.Forms.{IsReference, binary_form, literal_of, prefix_form}
+use Rattle.symbols65.specs.Finals.{IsReference, binary_form, literal_of, prefix_form}
+
+-- ---- What expressions of numbers alone come to.
+
+-- the value of such an expression has its size
+pub number_size : (y : Symbols) (s : Spot) (own : AddressSize) (e : Tree) (v : ℤ) → IsNumber e v → size_of y s own e ≡ size_of_value v
+number_size y s own e v h = by e (ap literal_in (h (length y.definitions) y s))
+  where
+    by : (e : Tree) → constant_in y s e ≡ Some v → size_of y s own e ≡ size_of_value v
+    by (number m) k = (let same : pos m ≡ v = cc in ap size_of_value same)
+    by here k = absurd cc
+    by (unary op e) k = ap (size_by (if takes_byte op then size.ZeroPage else size_of y s own e)) k
+    by (binary op e f) k = ap (size_by (larger (size_of y s own e) (size_of y s own f))) k
+    by (name global parts) k = ap (size_by (size_of_meaning y (meaning_of y s (name global parts)))) k
+    by (cheap n) k = ap (size_by (size_of_meaning y (meaning_of y s (cheap n)))) k
+    by (forward n) k = ap (size_by (size_of_meaning y (meaning_of y s (forward n)))) k
+    by (backward n) k = ap (size_by (size_of_meaning y (meaning_of y s (backward n)))) k
+
+-- ---- Folding forms that may be missing gives the normal forms of expressions.
 
 pub literal_known : (r : Result Form AsmFault) → literal_of (result_ok r) ≡ literal_in r
 literal_known x = grind (arith, common_steps)

@@ -16,7 +16,7 @@ use Rattle.language65.specs.declared.laid.Spot.{Spot}
 use Rattle.language65.specs.Symbols.{Symbols, Definition}
 use Rattle.language65.specs.Names.{Meaning, defined_at, imported_as, meaning_of}
 use Rattle.language65.specs.Norms.{folded, form_by, form_of_value, form_of_definition, form_of_meaning, norm}
-use Rattle.symbols65.specs.Forms.{IsReference}
+use Rattle.symbols65.specs.Finals.{IsReference}
 use Rattle.symbols65.specs.Resolving.{stopped, known_form, attempt_value, attempt_definition, meaning_form, operand_form, tried_by, tried, tried_at, tried_last, FoundBy}
 use Rattle.symbols65.proofs.Turns.{Known, Course, expression_course, constant_course, constant_is, ok_later, ok_before}
 

@@ -1,6 +1,6 @@
 -- Normal forms at different numbers of turns.
 use Rattle.std.proofs.lemmas.Grind.{common_steps}
-use Rattle.std.proofs.Common.{◌≡◌, ℕ, zero, suc, ◌+◌, ◌-◌, ◌≤◌, refl, sym, ap, ◌∙◌, arith, Option, Some, None, slice_get, Result, Ok, Err, ◌⊎◌, inl, inr}
+use Rattle.std.proofs.Common.{◌≡◌, ℕ, zero, suc, ◌+◌, ◌-◌, ◌≤◌, refl, sym, ap, ◌∙◌, arith, Option, Some, None, slice_get, Result, Ok, Err, ◌⊎◌, inl, inr, ◌≢◌, List, [], ◌∷◌, length, Bool, true, false, nat_eq}
 use Rattle.base65.specs.Outcome.{◌>>=◌}
 use Rattle.syntax65.specs.Trees.{Tree, number, here, name, cheap, forward, backward, unary, binary}
 use Rattle.object65.specs.Form.{Form}
@@ -10,7 +10,14 @@ use Rattle.language65.specs.declared.fault.AsmFault.TheVariants.{Circular}
 use Rattle.language65.specs.declared.laid.Spot.{Spot}
 use Rattle.language65.specs.Symbols.{Symbols, Definition}
 use Rattle.language65.specs.Names.{Meaning, defined_at, imported_as, meaning_of}
-use Rattle.language65.specs.Norms.{folded, form_by, form_of_value, form_of_definition, form_of_meaning, norm}
+use Rattle.language65.specs.Norms.{folded, form_by, form_of_value, form_of_definition, form_of_meaning, norm, norm_of}
+use Rattle.std.proofs.Math.Path.{fun_ext}
+use Rattle.std.specs.Prelude.{sum_by}
+use Rattle.std.proofs.lemmas.Bool.Decides.{nat_tests}
+use Rattle.std.proofs.lemmas.List.Sums.{sum_by-cons}
+use Rattle.symbols65.specs.Hanging.{Comes}
+
+-- ---- Normal forms at different numbers of turns.
 
 -- the second is the first, unless the first is circular
 abbrev pub Known : Result Form AsmFault → Result Form AsmFault → Type 0
@@ -97,3 +104,125 @@ circular_before v h k n le e = go (further v h (n - k) k)
     go : Known (v k) (v (n - k + k)) → v k ≡ Err Circular
     go (inl c) = c
     go (inr same) = let here' : n - k + k ≡ n = omega arith in same ∙ ap v here' ∙ e
+
+-- ---- Which definitions are circular.
+
+abbrev is_circular : Result Form AsmFault → ℕ
+is_circular (Err Circular) = 1
+is_circular _ = 0
+
+at_most_one : (r : Result Form AsmFault) → is_circular r ≤ 1
+at_most_one x = grind (arith, common_steps)
+
+circular_is : (r : Result Form AsmFault) → 1 ≤ is_circular r → r ≡ Err Circular
+circular_is x h = grind (arith, common_steps)
+
+module _ (y : Symbols) where
+  abbrev course_of : ℕ → Definition → Result Form AsmFault
+  course_of n d = form_of_definition (norm n y) (Some d)
+
+  course_known : (n : ℕ) (d : Definition) → Known (course_of n d) (course_of (suc n) d)
+  course_known n d = known_definition (norm n y) (norm (suc n) y) (norm_known n y) (Some d)
+
+  abbrev circular_at : ℕ → Definition → ℕ
+  circular_at n d = is_circular (course_of n d)
+
+  -- how many of them are circular
+  abbrev count : ℕ → List Definition → ℕ
+  count n ds = sum_by (circular_at n) ds
+
+  fewer_at : (n : ℕ) (d : Definition) → circular_at (suc n) d ≤ circular_at n d
+  fewer_at n d = grind (arith, common_steps, course_known, at_most_one)
+
+  fewer : (n : ℕ) (ds : List Definition) → count (suc n) ds ≤ count n ds
+  fewer n [] = omega arith
+  fewer n (d ∷ ds) =
+      let one = fewer_at n d in
+      let rest = fewer n ds in
+      let sum : count n (d ∷ ds) ≡ circular_at n d + count n ds = sum_by-cons (circular_at n) d ds in
+      let later : count (suc n) (d ∷ ds) ≡ circular_at (suc n) d + count (suc n) ds = sum_by-cons (circular_at (suc n)) d ds in
+      omega (arith, one, rest, sum, later)
+
+  at_most_all : (n : ℕ) (ds : List Definition) → count n ds ≤ length ds
+  at_most_all n [] = omega arith
+  at_most_all n (d ∷ ds) =
+      let one = at_most_one (course_of n d) in
+      let rest = at_most_all n ds in
+      let sum : count n (d ∷ ds) ≡ circular_at n d + count n ds = sum_by-cons (circular_at n) d ds in
+      omega (arith, one, rest, sum)
+
+  -- where as many are, each comes to the same
+  same_at : (n : ℕ) (d : Definition) → circular_at n d ≤ circular_at (suc n) d → course_of n d ≡ course_of (suc n) d
+  same_at n d le = grind (arith, common_steps, course_known, circular_is)
+
+  same_all : (n : ℕ) (ds : List Definition) → count n ds ≡ count (suc n) ds → (j : ℕ) → form_of_definition (norm n y) (slice_get ds j) ≡ form_of_definition (norm (suc n) y) (slice_get ds j)
+  same_all n [] e j = refl
+  same_all n (d ∷ ds) e zero =
+      let sum : count n (d ∷ ds) ≡ circular_at n d + count n ds = sum_by-cons (circular_at n) d ds in
+      let later : count (suc n) (d ∷ ds) ≡ circular_at (suc n) d + count (suc n) ds = sum_by-cons (circular_at (suc n)) d ds in
+      let rest = fewer n ds in
+      same_at n d (omega (arith, e, sum, later, rest))
+  same_all n (d ∷ ds) e (suc j) =
+      let sum : count n (d ∷ ds) ≡ circular_at n d + count n ds = sum_by-cons (circular_at n) d ds in
+      let later : count (suc n) (d ∷ ds) ≡ circular_at (suc n) d + count (suc n) ds = sum_by-cons (circular_at (suc n)) d ds in
+      let rest = fewer n ds in
+      let one = fewer_at n d in
+      same_all n ds (omega (arith, e, sum, later, rest, one)) j
+
+  -- each constant comes to the same with one expression more
+  abbrev IsStill : ℕ → Type 0
+  IsStill n = (j : ℕ) → constant_course y j n ≡ constant_course y j (suc n)
+
+  still_somewhere : (d n : ℕ) → count n y.definitions ≤ d → (m : ℕ) × (m ≤ n + d) × IsStill m
+  still_somewhere zero n le =
+      let fewer_there = fewer n y.definitions in
+      (n, omega arith, same_all n y.definitions (omega (arith, le, fewer_there)))
+  still_somewhere (suc d) n le = by (nat_eq (count n y.definitions) (count (suc n) y.definitions)) refl (λ less. still_somewhere d (suc n) less)
+    where
+      by : (b : Bool) → nat_eq (count n y.definitions) (count (suc n) y.definitions) ≡ b → (count (suc n) y.definitions ≤ d → (m : ℕ) × (m ≤ suc n + d) × IsStill m) → (m : ℕ) × (m ≤ n + suc d) × IsStill m
+      by true b rest =
+          let same : count n y.definitions ≡ count (suc n) y.definitions = grind (arith, nat_tests) in
+          (n, omega arith, same_all n y.definitions same)
+      by false b rest =
+          let other : count n y.definitions ≢ count (suc n) y.definitions = grind (arith, nat_tests) in
+          let fewer_there = fewer n y.definitions in
+          let (m, le_m, still) = rest (omega (arith, le, fewer_there, other)) in
+          (m, omega (arith, le_m), still)
+
+  operand_still : (n : ℕ) → IsStill n → (m : Result Meaning AsmFault) → (m >>= form_of_meaning (norm n y) y) ≡ (m >>= form_of_meaning (norm (suc n) y) y)
+  operand_still n h x = grind (arith, common_steps)
+
+  form_still : (n : ℕ) → IsStill n → (s : Spot) (e : Tree) → norm (suc n) y s e ≡ norm (suc (suc n)) y s e
+  form_still n h s e =
+      let a : Tree → Result Form AsmFault = λ t. meaning_of y s t >>= form_of_meaning (norm n y) y in
+      let b : Tree → Result Form AsmFault = λ t. meaning_of y s t >>= form_of_meaning (norm (suc n) y) y in
+      let same : a ≡ b = fun_ext (λ t. operand_still n h (meaning_of y s t)) in
+      ap (λ (o : Tree → Result Form AsmFault). form_by o s e) same
+
+  value_still : (n : ℕ) → IsStill n → (o : Option Definition) → form_of_definition (norm (suc n) y) o ≡ form_of_definition (norm (suc (suc n)) y) o
+  value_still n h None = refl
+  value_still n h (Some d) = at d.value
+    where
+      at : (v : Option Tree) → form_of_value (norm (suc n) y) d.spot v ≡ form_of_value (norm (suc (suc n)) y) d.spot v
+      at None = refl
+      at (Some e) = form_still n h d.spot e
+
+  still_later : (n : ℕ) → IsStill n → IsStill (suc n)
+  still_later n h = λ j. value_still n h (slice_get y.definitions j)
+
+  still_further : (d n : ℕ) → IsStill n → (s : Spot) (e : Tree) → norm (suc n) y s e ≡ norm (suc (d + n)) y s e
+  still_further zero n h s e = let same : zero + n ≡ n = omega arith in rw same refl
+  still_further (suc d) n h s e =
+      let same : suc d + n ≡ d + suc n = omega arith in
+      form_still n h s e ∙ still_further d (suc n) (still_later n h) s e ∙ ap (λ (k : ℕ). norm (suc k) y s e) (sym same)
+
+  -- what an expression comes to is its normal form
+  pub comes_to_norm : (s : Spot) (e : Tree) (r : Result Form AsmFault) → Comes (expression_course y s e) r → norm_of y s e ≡ r
+  comes_to_norm s e r (n, h) =
+      let whole : ℕ = length y.definitions in
+      let (m, le, still) = still_somewhere whole 0 (at_most_all 0 y.definitions) in
+      let there : whole - m + m ≡ whole = omega (arith, le) in
+      let far : n + whole - m + m ≡ n + whole = omega (arith, le) in
+      sym (still_further (whole - m) m still s e ∙ ap (λ (k : ℕ). norm (suc k) y s e) there)
+      ∙ still_further (n + whole - m) m still s e ∙ ap (λ (k : ℕ). norm (suc k) y s e) far
+      ∙ h (suc (n + whole)) (omega arith)

@@ -1,11 +1,13 @@
 -- Names by their numbers, and what is found by them.
 use Rattle.std.proofs.lemmas.Grind.{common_steps}
-use Rattle.std.proofs.Common.{◌≡◌, ℕ, zero, suc, ◌≤◌, ◌^◌, Bool, true, false, List, [], ◌∷◌, map, position, Option, Some, None, option_map, refl, sym, ap, ◌∙◌, arith}
-use Rattle.std.specs.Prelude.{slice_get, ◌==◌, ◌&&◌, ◌||◌}
-use Rattle.std.specs.List.{list_any}
+use Rattle.std.proofs.Common.{◌≡◌, ℕ, zero, suc, ◌+◌, ◌-◌, ◌<◌, ◌≤◌, Bool, true, false, cond, List, [], ◌∷◌, ◌++◌, length, map, position, Some, None, ◌⊎◌, inl, inr, refl, sym, ap, ◌∙◌, arith, ◌^◌, Option, option_map, append-nil}
+use Rattle.std.specs.Prelude.{slice_get, ◌==◌, ◌&&◌, ◌||◌, not, if◌then◌else◌}
+use Rattle.std.specs.List.{position_from, list_any, position_or_len}
+use Rattle.std.proofs.lemmas.Bool.Decides.{nat_tests}
+use Rattle.std.proofs.lemmas.Iterator.Adapters.{position_from-zero}
+use Rattle.std.proofs.lemmas.Option.{slice_get_within}
 use Rattle.std.specs.Map.{keys_of}
 use Rattle.std.specs.Str.{bytes_eq}
-use Rattle.std.proofs.lemmas.Bool.Decides.{nat_tests}
 use Rattle.std.proofs.lemmas.Slice.Eq.{bytes_eq-Decides}
 use Rattle.language65.specs.Symbols.{Key, Scope, named, cheap_in, unnamed_at, same_key}
 use Rattle.language65.specs.Names.{is_named}
@@ -15,8 +17,95 @@ use Rattle.symbols65.specs.declared.table.entries.Entry.TheVariants as entry
 use Rattle.symbols65.specs.declared.table.entries.Opening.{Opening}
 use Rattle.symbols65.specs.declared.table.entries.Opening.TheVariants as opening
 use Rattle.symbols65.specs.declared.table.definition.Definition.{Definition}
-use Rattle.symbols65.specs.Tables.{AreCounted, AreNumbered, IsCounted, definition_in, entry_of, first_number, key_in, place_of_entry, place_of_opening, same_entry, same_opening, scope_by, scope_opened, word_at, word_of, word_opened}
-use Rattle.symbols65.proofs.Places.{first_passes, position_none, position_same, same_test, swapped}
+use Rattle.symbols65.specs.Tables.{AreCounted, AreNumbered, IsCounted, definition_in, entry_of, first_number, key_in, place_of_entry, place_of_opening, same_entry, same_opening, scope_by, scope_opened, word_at, word_of, word_opened, Begins}
+use Rattle.indexmap.specs.IndexSet.{insert_key}
+
+-- ---- Tests.
+
+pub same_test : (b c : Bool) → (b ≡ true → c ≡ true) → (c ≡ true → b ≡ true) → b ≡ c
+same_test true true f g = refl
+same_test false false f g = refl
+same_test true false f g = sym (f refl)
+same_test false true f g = g refl
+
+pub swapped : (m n : ℕ) → (m == n) ≡ (n == m)
+swapped m n = same_test (m == n) (n == m) (λ e. grind (arith, nat_tests)) (λ e. grind (arith, nat_tests))
+
+-- ---- Places.
+
+-- the item at the first place passes the test
+pub first_passes : {A : Type 0} (p : A → Bool) (xs : List A) (j : ℕ) → position p xs ≡ Some j → (x : A) × (slice_get xs j ≡ Some x) × (p x ≡ true)
+first_passes {A = A} p xs j e = (let (x, at, passes, le) = go 0 xs j (sym (position_from-zero p xs) ∙ e) in (x, ap (slice_get xs) (let whole : j ≡ j - 0 = omega arith in whole) ∙ at, passes))
+  where
+    go : (i : ℕ) (ys : List A) (j : ℕ) → position_from p i ys ≡ Some j → (x : A) × (slice_get ys (j - i) ≡ Some x) × (p x ≡ true) × (i ≤ j)
+    go i [] j e = absurd cc
+    go i (y ∷ ys) j e = step (p y) refl e (go (i + 1) ys j)
+      where
+        step : (b : Bool) → p y ≡ b → cond b (Some i) (position_from p (i + 1) ys) ≡ Some j → (position_from p (i + 1) ys ≡ Some j → (x : A) × (slice_get ys (j - (i + 1)) ≡ Some x) × (p x ≡ true) × (i + 1 ≤ j)) → (x : A) × (slice_get (y ∷ ys) (j - i) ≡ Some x) × (p x ≡ true) × (i ≤ j)
+        step true q e rest = (let same : i ≡ j = cc in (y, ap (slice_get (y ∷ ys)) (let here : j - i ≡ 0 = omega (arith, same) in here), q, omega (arith, same)))
+        step false q e rest = (let (x, at, passes, le) = rest e in (x, ap (slice_get (y ∷ ys)) (let more : j - i ≡ suc (j - (i + 1)) = omega (arith, le) in more) ∙ at, passes, omega (arith, le)))
+
+pub first_within : {A : Type 0} (p : A → Bool) (xs : List A) (j : ℕ) → position p xs ≡ Some j → j < length xs
+first_within p xs j e = (let (x, at, passes) = first_passes p xs j e in slice_get_within xs j x at)
+
+-- tests that agree on the items
+pub position_same : {A : Type 0} (p q : A → Bool) (xs : List A) → ((i : ℕ) (x : A) → slice_get xs i ≡ Some x → p x ≡ q x) → position p xs ≡ position q xs
+position_same {A = A} p q xs h = position_from-zero p xs ∙ go 0 xs h ∙ sym (position_from-zero q xs)
+  where
+    go : (k : ℕ) (ys : List A) → ((i : ℕ) (x : A) → slice_get ys i ≡ Some x → p x ≡ q x) → position_from p k ys ≡ position_from q k ys
+    go k [] h = refl
+    go k (y ∷ ys) h = ap (λ b. cond b (Some k) (position_from p (k + 1) ys)) (h zero y refl) ∙ ap (cond (q y) (Some k)) (go (k + 1) ys (λ i x e. h (suc i) x e))
+
+-- no item passes
+pub position_none : {A : Type 0} (p : A → Bool) (xs : List A) → ((i : ℕ) (x : A) → slice_get xs i ≡ Some x → p x ≡ false) → position p xs ≡ None
+position_none {A = A} p xs h = position_same p (λ x. false) xs h ∙ position_from-zero (λ (x : A). false) xs ∙ go 0 xs
+  where
+    go : (k : ℕ) (ys : List A) → position_from (λ (x : A). false) k ys ≡ None
+    go k [] = refl
+    go k (y ∷ ys) = go (k + 1) ys
+
+-- the first place stays with more behind
+pub position_stays : {A : Type 0} (p : A → Bool) (xs ys : List A) (j : ℕ) → position p xs ≡ Some j → position p (xs ++ ys) ≡ Some j
+position_stays {A = A} p xs ys j e = position_from-zero p (xs ++ ys) ∙ go 0 xs (sym (position_from-zero p xs) ∙ e)
+  where
+    go : (k : ℕ) (zs : List A) → position_from p k zs ≡ Some j → position_from p k (zs ++ ys) ≡ Some j
+    go k [] e = absurd cc
+    go k (z ∷ zs) e = step (p z) e (go (k + 1) zs)
+      where
+        step : (b : Bool) → cond b (Some k) (position_from p (k + 1) zs) ≡ Some j → (position_from p (k + 1) zs ≡ Some j → position_from p (k + 1) (zs ++ ys) ≡ Some j) → cond b (Some k) (position_from p (k + 1) (zs ++ ys)) ≡ Some j
+        step true e rest = e
+        step false e rest = rest e
+
+-- ---- Items.
+
+pub get_stays : {A : Type 0} (xs ys : List A) (i : ℕ) → i < length xs → slice_get (xs ++ ys) i ≡ slice_get xs i
+get_stays [] ys i lt = absurd (omega arith)
+get_stays (x ∷ xs) ys zero lt = refl
+get_stays (x ∷ xs) ys (suc i) lt = get_stays xs ys i (omega arith)
+
+-- an item of a list with one more is one of the list, or the last
+pub get_more : {A : Type 0} (xs : List A) (x y : A) (i : ℕ) → slice_get (xs ++ x ∷ []) i ≡ Some y → (slice_get xs i ≡ Some y) ⊎ ((i ≡ length xs) × (x ≡ y))
+get_more [] x y zero e = inr (refl, (let same : x ≡ y = cc in same))
+get_more [] x y (suc i) e = absurd cc
+get_more (z ∷ xs) x y zero e = inl e
+get_more (z ∷ xs) x y (suc i) e = grind (arith, common_steps, (get_more xs x y i e))
+
+-- functions that agree on the items
+pub map_same : {A B : Type 0} (f g : A → B) (xs : List A) → ((i : ℕ) (x : A) → slice_get xs i ≡ Some x → f x ≡ g x) → map f xs ≡ map g xs
+map_same f g [] h = refl
+map_same f g (x ∷ xs) h = ap (λ y. y ∷ map f xs) (h zero x refl) ∙ ap (λ l. g x ∷ l) (map_same f g xs (λ i y e. h (suc i) y e))
+
+pub get_mapped : {A B : Type 0} (f : A → B) (xs : List A) (i : ℕ) (x : A) → slice_get xs i ≡ Some x → slice_get (map f xs) i ≡ Some (f x)
+get_mapped f [] i x e = absurd cc
+get_mapped f (y ∷ xs) zero x e = (let same : y ≡ x = cc in ap (λ z. Some (f z)) same)
+get_mapped f (y ∷ xs) (suc i) x e = get_mapped f xs i x e
+
+pub get_mapped_none : {A B : Type 0} (f : A → B) (xs : List A) (i : ℕ) → slice_get xs i ≡ None → slice_get (map f xs) i ≡ None
+get_mapped_none f [] i e = refl
+get_mapped_none f (y ∷ xs) zero e = absurd cc
+get_mapped_none f (y ∷ xs) (suc i) e = get_mapped_none f xs i e
+
+-- ---- Names by their numbers, and what is found by them.
 
 pub itself : (n : List ℕ) → bytes_eq n n ≡ true
 itself n = grind (arith, bytes_eq-Decides n n)
@@ -133,3 +222,61 @@ module _ (ws : List (List ℕ)) where
 pub any_swapped : {K : Type 0} (f : K → List ℕ) (n : List ℕ) (ks : List K) → list_any (λ k. bytes_eq n (f k)) ks ≡ list_any (λ m. bytes_eq m n) (map f ks)
 any_swapped f n [] = refl
 any_swapped f n (k ∷ ks) = ap (λ b. b || list_any (λ k. bytes_eq n (f k)) ks) (bytes_swap n (f k)) ∙ ap (λ b. bytes_eq (f k) n || b) (any_swapped f n ks)
+
+-- ---- Names that stand once each.
+
+-- the names that are known after one more
+abbrev pub with_one : List (List ℕ) → List ℕ → List (List ℕ)
+with_one known n = if list_any (λ k. bytes_eq n k) known then known else known ++ n ∷ []
+
+module _ {K : Type 0} (f : K → List ℕ) where
+  any_mapped : (n : List ℕ) (known : List K) → list_any (λ k. bytes_eq n (f k)) known ≡ list_any (λ k. bytes_eq n k) (map f known)
+  any_mapped n [] = refl
+  any_mapped n (k ∷ known) = ap (λ b. bytes_eq n (f k) || b) (any_mapped n known)
+
+  append_mapped : (n : K) (known : List K) → map f (known ++ n ∷ []) ≡ map f known ++ f n ∷ []
+  append_mapped n [] = refl
+  append_mapped n (k ∷ known) = ap (λ l. f k ∷ l) (append_mapped n known)
+
+  -- the keys of a set of names after one is put in
+  pub insert_name : (known : List K) (n : K) → map f (insert_key (λ a b. bytes_eq (f a) (f b)) known n) ≡ with_one (map f known) (f n)
+  insert_name known n = by (list_any (λ k. bytes_eq (f n) (f k)) known) ∙ ap (λ b. if b then map f known else map f known ++ f n ∷ []) (any_mapped (f n) known)
+    where
+      by : (b : Bool) → map f (if b then known else known ++ n ∷ []) ≡ (if b then map f known else map f known ++ f n ∷ [])
+      by true = refl
+      by false = append_mapped n known
+
+  pub number_mapped : (n : List ℕ) (ks : List K) → position_or_len (bytes_eq n) (map f ks) ≡ position_or_len (λ k. bytes_eq n (f k)) ks
+  number_mapped n [] = refl
+  number_mapped n (k ∷ ks) = ap (λ m. cond (not (bytes_eq n (f k))) (1 + m) 0) (number_mapped n ks)
+
+pub one_begins : (ks : List (List ℕ)) (n : List ℕ) → Begins ks (with_one ks n)
+one_begins ks n = by (list_any (λ k. bytes_eq n k) ks)
+  where
+    by : (b : Bool) → Begins ks (if b then ks else ks ++ n ∷ [])
+    by true = ([], sym (append-nil ks))
+    by false = (n ∷ [], refl)
+
+-- it is found at its number
+pub one_found : (ks : List (List ℕ)) (n : List ℕ) → position (bytes_eq n) (with_one ks n) ≡ Some (position_or_len (bytes_eq n) ks)
+one_found ks n = position_from-zero (bytes_eq n) (with_one ks n) ∙ by (list_any (λ k. bytes_eq n k) ks) refl
+  where
+    there : (i : ℕ) (ys : List (List ℕ)) → list_any (λ k. bytes_eq n k) ys ≡ true → position_from (bytes_eq n) i ys ≡ Some (i + position_or_len (bytes_eq n) ys)
+    there i [] e = absurd cc
+    there i (y ∷ ys) e = step (bytes_eq n y) e (there (i + 1) ys)
+      where
+        step : (b : Bool) → (b || list_any (λ k. bytes_eq n k) ys) ≡ true → (list_any (λ k. bytes_eq n k) ys ≡ true → position_from (bytes_eq n) (i + 1) ys ≡ Some (i + 1 + position_or_len (bytes_eq n) ys)) → cond b (Some i) (position_from (bytes_eq n) (i + 1) ys) ≡ Some (i + cond (not b) (1 + position_or_len (bytes_eq n) ys) 0)
+        step true e rest = ap Some (omega arith)
+        step false e rest = rest e ∙ ap Some (omega arith)
+
+    new : (i : ℕ) (ys : List (List ℕ)) → list_any (λ k. bytes_eq n k) ys ≡ false → position_from (bytes_eq n) i (ys ++ n ∷ []) ≡ Some (i + position_or_len (bytes_eq n) ys)
+    new i [] e = ap (λ b. cond b (Some i) None) (itself n) ∙ ap Some (omega arith)
+    new i (y ∷ ys) e = step (bytes_eq n y) e (new (i + 1) ys)
+      where
+        step : (b : Bool) → (b || list_any (λ k. bytes_eq n k) ys) ≡ false → (list_any (λ k. bytes_eq n k) ys ≡ false → position_from (bytes_eq n) (i + 1) (ys ++ n ∷ []) ≡ Some (i + 1 + position_or_len (bytes_eq n) ys)) → cond b (Some i) (position_from (bytes_eq n) (i + 1) (ys ++ n ∷ [])) ≡ Some (i + cond (not b) (1 + position_or_len (bytes_eq n) ys) 0)
+        step true e rest = absurd cc
+        step false e rest = rest e ∙ ap Some (omega arith)
+
+    by : (b : Bool) → list_any (λ k. bytes_eq n k) ks ≡ b → position_from (bytes_eq n) 0 (if b then ks else ks ++ n ∷ []) ≡ Some (position_or_len (bytes_eq n) ks)
+    by true e = there 0 ks e ∙ ap Some (omega arith)
+    by false e = new 0 ks e ∙ ap Some (omega arith)

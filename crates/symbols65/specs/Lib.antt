@@ -1,5 +1,4 @@
 pub mod Finals
-pub mod Forms
 pub mod Hanging
 pub mod Inner
 pub mod Resolving

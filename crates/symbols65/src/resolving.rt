@@ -1,26 +1,16 @@
 //! What names mean, and what forms expressions have, by a symbol table.
 
 mod attempt;
-mod definitions;
 mod finals;
-mod folding;
 mod hanging;
 mod known;
 mod meaning;
-mod numbers;
-mod operands;
 mod scopes;
 mod settling;
-mod showing;
 
 pub use attempt::{State, Stop, address};
-pub use definitions::definition_of;
-pub use finals::final_form;
-pub use folding::{binary_form, prefix_form};
+pub use finals::{binary_form, final_form, number_of, prefix_form};
 pub use known::Known;
-pub use meaning::{Meaning, meaning_of};
-pub use numbers::number_of;
-pub use operands::operand_form;
-pub use scopes::scope_of;
+pub use meaning::{Meaning, definition_of, meaning_of, operand_form};
+pub use scopes::{scope_of, shown};
 pub use settling::{defined_norm, meant_norm, norm, settled};
-pub use showing::shown;

@@ -1,16 +1,17 @@
 -- What stands at the front of some bytes, and that nothing longer does.
+use Rattle.std.proofs.Common.{◌≡◌, ◌∙◌, ℕ, ◌<◌, false, map, get_or, refl, ap, arith, ◌≢◌, ◌⊎◌, inl, inr, zero, suc, ◌+◌, ◌≤◌, Bool, true, cond, List, [], ◌∷◌, length, take, drop, sym, subst, eqb}
+use Rattle.std.proofs.lemmas.List.FromFn.{get_or-map-range_with_len}
+use Rattle.std.specs.List.{range_with_len, prefix_len, list_all}
+use Rattle.syntax65.specs.Forms.{is_word, class_of, is_no_quote, AllWord, IsName, IsRunOf, ClosesText, StartsNumber, IsSizeLetter, spelling, IsForm, Stands, IsLongest, NoForm, Begins, FaultAt, name_in, HasValue}
+use Rattle.syntax65.specs.declared.lexing.places.TheConstants.{WORDS}
 use Rattle.std.proofs.lemmas.Grind.{common_steps}
-use Rattle.std.proofs.Common.{◌≡◌, ◌≢◌, ◌⊎◌, inl, inr, ℕ, zero, suc, ◌+◌, ◌<◌, ◌≤◌, Bool, true, false, cond, List, [], ◌∷◌, length, take, drop, get_or, refl, sym, ap, subst, ◌∙◌, arith, eqb}
 use Rattle.std.specs.Prelude.{◌&&◌, ⊤}
-use Rattle.std.specs.List.{prefix_len, list_all}
 use Rattle.std.proofs.lemmas.Bool.Decides.{nat_tests}
 use Rattle.std.proofs.lemmas.List.{length-take-le, length-drop}
 use Rattle.std.proofs.lemmas.List.Sums.{prefix_len-le-length}
-use Rattle.syntax65.specs.Bytes.{class_of, is_word, is_no_quote}
-use Rattle.syntax65.specs.Forms.{AllWord, IsName, IsRunOf, ClosesText, StartsNumber, IsSizeLetter, spelling, IsForm, Stands, IsLongest, NoForm, Begins, FaultAt, name_in, HasValue}
 use Rattle.syntax65.specs.Inner.Places.{BeginsNumber, BeginsSigned, NoSign}
-use Rattle.syntax65.specs.declared.lexing.classes.Class.{Class}
-use Rattle.syntax65.specs.declared.lexing.classes.Class.TheVariants.{Letter, Digit, Radix, At, Dot, Apostrophe, Quote, Colon, Other}
+use Rattle.syntax65.specs.declared.lexing.places.Class.{Class}
+use Rattle.syntax65.specs.declared.lexing.places.Class.TheVariants.{Letter, Digit, Radix, At, Dot, Apostrophe, Quote, Colon, Other}
 use Rattle.syntax65.specs.declared.lexing.tokens.AddressSize.{AddressSize}
 use Rattle.syntax65.specs.declared.lexing.tokens.AddressSize.TheVariants.{ZeroPage, Absolute}
 use Rattle.syntax65.specs.declared.lexing.tokens.Mark.{Mark}
@@ -18,6 +19,16 @@ use Rattle.syntax65.specs.declared.lexing.tokens.Mark.TheVariants.{Scope, Define
 use Rattle.syntax65.specs.declared.lexing.tokens.TokenKind.{TokenKind}
 use Rattle.syntax65.specs.declared.lexing.tokens.TokenKind.TheVariants.{Identifier, CheapName, Directive, Number, Character, Text, Unnamed, SizePrefix, Symbol}
 use Rattle.syntax65.specs.declared.lexing.fault.LexFault.TheVariants.{BadCharacter, StringNotClosed}
+
+-- ---- The table of the bytes of words.
+
+table_is_rule : WORDS ≡ map is_word (range_with_len 0 256)
+table_is_rule = refl
+
+pub of_table : (b : ℕ) → b < 256 → get_or WORDS b false ≡ is_word b
+of_table b h = ap (λ l. get_or l b false) table_is_rule ∙ get_or-map-range_with_len is_word 0 256 b b false h (omega arith)
+
+-- ---- What stands at the front of some bytes, and that nothing longer does.
 
 pub and_both : (a b : Bool) → (a && b) ≡ true → (a ≡ true) × (b ≡ true)
 and_both true b h = (refl, h)

@@ -4,13 +4,11 @@ use Rattle.std.proofs.Common.{◌≡◌, ℕ, zero, suc, ◌+◌, ◌<◌, ◌�
 use Rattle.std.proofs.lemmas.List.{take-append-drop}
 use Rattle.std.specs.List.{prefix_len}
 use Rattle.std.specs.Prelude.{Err}
-use Rattle.syntax65.specs.Bytes.{is_blank, is_blank_class}
-use Rattle.syntax65.specs.Forms.{Begins, IsToken, FaultAt}
+use Rattle.syntax65.specs.Forms.{is_blank, is_blank_class, Begins, IsToken, FaultAt}
 use Rattle.syntax65.specs.Faults.{is_lex_outside}
 use Rattle.base65.specs.Outcome.{Unless}
-use Rattle.syntax65.specs.Lexing.{IsCutOff}
-use Rattle.syntax65.specs.Tokens.{Lexeme, after_blanks, Reads, IsRead}
-use Rattle.syntax65.specs.declared.lexing.classes.Class.TheVariants.{Blank}
+use Rattle.syntax65.specs.Tokens.{IsCutOff, Lexeme, after_blanks, Reads, IsRead}
+use Rattle.syntax65.specs.declared.lexing.places.Class.TheVariants.{Blank}
 use Rattle.syntax65.specs.declared.lexing.tokens.TokenKind.{TokenKind}
 use Rattle.syntax65.specs.declared.lexing.fault.LexFault.{LexFault}
 use Rattle.syntax65.specs.declared.lexing.fault.LexFault.TheVariants.{OutOfMemory, BadCharacter, BadNumber, StringNotClosed, LineTooLong, NameTooLong}

@@ -6,15 +6,14 @@ use Rattle.std.proofs.lemmas.Bool.Decides.{nat_tests}
 use Rattle.base65.specs.Outcome.{◌>>=◌}
 use Rattle.syntax65.specs.Tokens.{Lexeme}
 use Rattle.syntax65.specs.Trees.{Tree, name, unary, binary}
-use Rattle.syntax65.specs.Words.{level_of}
-use Rattle.syntax65.specs.Expressions.{opening_at, binary_at, text_at, leaf_of, closes_at, Parts, last_part, next_part, LacksPart, no_part, behind_part, NoOperator, BeginsOperand, OpensLevel}
+use Rattle.syntax65.specs.Expressions.{level_of, opening_at, binary_at, text_at, leaf_of, closes_at, Parts, last_part, next_part, LacksPart, no_part, behind_part, NoOperator, BeginsOperand, OpensLevel}
 use Rattle.base65.specs.declared.values.Op1.{Op1}
 use Rattle.base65.specs.declared.values.Op1.TheVariants.{Not}
 use Rattle.base65.specs.declared.values.Op2.{Op2}
 use Rattle.syntax65.specs.declared.expressions.words.Opening.{Opening}
 use Rattle.syntax65.specs.declared.expressions.words.Opening.TheVariants.{Number, Here, Cheap, Forward, Backward, Name, Scope, Prefix, Parenthesis, Negation, Nothing}
-use Rattle.syntax65.specs.declared.expressions.fault.ExprFault.{ExprFault}
-use Rattle.syntax65.specs.declared.expressions.fault.ExprFault.TheVariants.{OperandExpected, ParenthesisExpected, TooDeep}
+use Rattle.syntax65.specs.declared.expressions.words.ExprFault.{ExprFault}
+use Rattle.syntax65.specs.declared.expressions.words.ExprFault.TheVariants.{OperandExpected, ParenthesisExpected, TooDeep}
 
 abbrev pub Answer : Type 0
 Answer = Result (Tree × ℕ) ExprFault

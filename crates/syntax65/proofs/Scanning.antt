@@ -2,8 +2,7 @@
 use Rattle.std.proofs.Common.{◌≡◌, ℕ, ◌≤◌, Bool, true, false, List, [], ◌∷◌, ◌++◌, length, take, drop, Option, Some, None, Ok, Err, refl, subst}
 use Rattle.std.proofs.lemmas.List.{append-nil}
 use Rattle.syntax65.specs.Forms.{IsToken, FaultAt}
-use Rattle.syntax65.specs.Scanned.{IsFront}
-use Rattle.syntax65.specs.Tokens.{Lexeme, lexeme_of, after_blanks, Reads, IsEnd, IsRead}
+use Rattle.syntax65.specs.Tokens.{IsFront, Lexeme, lexeme_of, after_blanks, Reads, IsEnd, IsRead}
 use Rattle.syntax65.specs.declared.lexing.fault.LexFault.{LexFault}
 use Rattle.syntax65.specs.declared.lexing.fault.LexFault.TheVariants.{OutOfMemory, BadCharacter, BadNumber, StringNotClosed, LineTooLong, NameTooLong}
 use Rattle.syntax65.specs.declared.lexing.front.LineFront.{LineFront}

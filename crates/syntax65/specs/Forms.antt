@@ -1,10 +1,10 @@
--- The forms of tokens, and the longest one at a place.
-use Rattle.std.specs.Prelude.{Option, ◌≡◌, ◌≢◌, ◌==◌, ◌⊎◌, ℕ, ◌<◌, ◌≤◌, Bool, false, IsTrue, List, [], ◌∷◌, length, take, drop, codes, Some, None, ⊤}
+-- The classes of bytes, the values of numbers, the forms of tokens, and the longest one at a place.
+use Rattle.std.specs.Prelude.{ℕ, not, Bool, true, false, ◌==◌, if◌then◌else◌, ◌-◌, ◌^◌, ◌≤◌, ◌&&◌, List, [], ◌∷◌, length, take, slice_index, Option, Some, None, nat_lt, ◌≡◌, ◌≢◌, ◌⊎◌, ◌<◌, IsTrue, drop, codes, ⊤}
+use Rattle.std.specs.Char.{is_ascii_alphabetic, is_ascii_digit, digit_value}
+use Rattle.syntax65.specs.declared.lexing.places.Class.{Class}
+use Rattle.syntax65.specs.declared.lexing.places.Class.TheVariants.{Letter, Digit, Radix, At, Dot, Apostrophe, Quote, Colon, Semicolon, Blank, Other}
 use Rattle.std.specs.List.{list_all}
-use Rattle.syntax65.specs.Bytes.{class_of, is_word}
-use Rattle.syntax65.specs.Numbers.{number_of}
-use Rattle.syntax65.specs.declared.lexing.classes.Class.{Class}
-use Rattle.syntax65.specs.declared.lexing.classes.Class.TheVariants.{Letter, Digit, Radix, At, Dot, Apostrophe, Quote, Colon}
+use Rattle.std.specs.Str.Parse.{digits_value}
 use Rattle.syntax65.specs.declared.lexing.tokens.AddressSize.{AddressSize}
 use Rattle.syntax65.specs.declared.lexing.tokens.AddressSize.TheVariants.{ZeroPage, Absolute}
 use Rattle.syntax65.specs.declared.lexing.tokens.Mark.{Mark}
@@ -13,6 +13,77 @@ use Rattle.syntax65.specs.declared.lexing.tokens.TokenKind.{TokenKind}
 use Rattle.syntax65.specs.declared.lexing.tokens.TokenKind.TheVariants.{Identifier, CheapName, Directive, Number, Character, Text, Unnamed, SizePrefix, Symbol}
 use Rattle.syntax65.specs.declared.lexing.fault.LexFault.{LexFault}
 use Rattle.syntax65.specs.declared.lexing.fault.LexFault.TheVariants.{OutOfMemory, BadCharacter, BadNumber, StringNotClosed, LineTooLong, NameTooLong}
+
+-- ---- The classes of bytes, by what a byte may begin.
+
+-- letters and `_`, digits, `$` and `%`, then one byte each, and blank and tab
+abbrev pub class_of : ℕ → Class
+class_of b =
+    if is_ascii_alphabetic b then Letter
+    else (if b == 95 then Letter
+    else (if is_ascii_digit b then Digit
+    else (if b == 36 then Radix
+    else (if b == 37 then Radix
+    else (if b == 64 then At
+    else (if b == 46 then Dot
+    else (if b == 39 then Apostrophe
+    else (if b == 34 then Quote
+    else (if b == 58 then Colon
+    else (if b == 59 then Semicolon
+    else (if b == 32 then Blank
+    else (if b == 9 then Blank else Other))))))))))))
+
+abbrev pub is_word_class : Class → Bool
+is_word_class Letter = true
+is_word_class Digit = true
+is_word_class _ = false
+
+abbrev pub is_blank_class : Class → Bool
+is_blank_class Blank = true
+is_blank_class _ = false
+
+-- a letter, a digit or `_`
+abbrev pub is_word : ℕ → Bool
+is_word b = is_word_class (class_of b)
+
+abbrev pub is_blank : ℕ → Bool
+is_blank b = is_blank_class (class_of b)
+
+abbrev pub is_no_quote : ℕ → Bool
+is_no_quote b = not (b == 34)
+
+-- ---- The value of a number's text.
+
+abbrev pub IsRadix : ℕ → Type 0
+IsRadix r = (2 ≤ r) × (r ≤ 16)
+
+abbrev pub is_digit : ℕ → ℕ → Bool
+is_digit radix b = nat_lt (digit_value b) radix
+
+-- the value of one digit or more, below 2 ^ 32
+abbrev pub digits : ℕ → List ℕ → Option ℕ
+digits radix [] = None
+digits radix (b ∷ bs) =
+    if list_all (is_digit radix) (b ∷ bs) && nat_lt (digits_value radix (b ∷ bs)) (2 ^ 32)
+    then Some (digits_value radix (b ∷ bs))
+    else None
+
+-- hex digits and `h`, or decimal digits
+abbrev pub plain_number_of : List ℕ → Option ℕ
+plain_number_of text =
+    if slice_index text (length text - 1) == 104
+    then digits 16 (take (length text - 1) text)
+    else digits 10 text
+
+-- `$` and hex digits, `%` and binary digits, hex digits and `h`, or decimal digits
+abbrev pub number_of : List ℕ → Option ℕ
+number_of [] = None
+number_of (b ∷ bs) =
+    if b == 36 then digits 16 bs
+    else (if b == 37 then digits 2 bs
+    else plain_number_of (b ∷ bs))
+
+-- ---- The forms of tokens, and the longest one at a place.
 
 -- only letters, digits and `_`
 abbrev pub AllWord : List ℕ → Type 0

@@ -4,7 +4,7 @@ use Rattle.syntax65.specs.Tokens.{Lexeme, IsRead}
 use Rattle.syntax65.specs.Trees.{Tree}
 use Rattle.syntax65.specs.Expressions.{IsParsed}
 use Rattle.syntax65.specs.declared.lexing.fault.LexFault.{LexFault}
-use Rattle.syntax65.specs.declared.expressions.fault.ExprFault.{ExprFault}
+use Rattle.syntax65.specs.declared.expressions.words.ExprFault.{ExprFault}
 
 -- a line is read in one way at most: as one list of tokens, or as one fault
 abbrev pub OneReading : Type 0

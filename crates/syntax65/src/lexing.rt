@@ -1,14 +1,10 @@
 //! The tokens of a source line.
 
-mod classes;
 mod fault;
 mod front;
 mod lexer;
 mod lines;
-mod marks;
-mod numbers;
 mod places;
-mod scanning;
 mod tokens;
 
 pub use fault::LexFault;

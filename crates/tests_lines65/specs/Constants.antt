@@ -4,7 +4,7 @@ use Rattle.syntax65.specs.Trees.{Tree, number, unary, binary}
 use Rattle.base65.specs.Values.{value1, value2}
 use Rattle.base65.specs.declared.values.Op1.{Op1}
 use Rattle.base65.specs.declared.values.Op2.{Op2}
-use Rattle.expand65.specs.Meaning.{Meaning}
+use Rattle.expand65.specs.State.{Meaning}
 
 abbrev pub of_one : Op1 → Option ℤ → Option ℤ
 of_one op None = None

@@ -6,7 +6,7 @@ use Rattle.std.specs.Result.{IsErrAnd}
 use Rattle.base65.specs.Outcome.{Finds, Gives, Refuses}
 use Rattle.base65.specs.Store.{Asks, Files, HasFailed, PassesBy, last_count}
 use Rattle.object65.specs.declared.object.Object.{Object}
-use Rattle.asm65.specs.declared.refusal.AsmRefusal.{AsmRefusal}
+use Rattle.asm65.specs.declared.texts.AsmRefusal.{AsmRefusal}
 use Rattle.asm65.specs.Assembly.{IsAssembled, has_failed, in_places, is_outside_refusal, placed_of}
 use Rattle.asm65.specs.Failing.{Stops}
 use Rattle.module65.specs.Places.{PlacedFault}

@@ -9,7 +9,7 @@ use Rattle.output65.specs.declared.outcome.Outcome.{Outcome}
 use Rattle.output65.specs.declared.outcome.Status.{Status}
 use Rattle.output65.specs.declared.outcome.Status.TheVariants.{Failure}
 use Rattle.object65.specs.declared.object.Object.{Object}
-use Rattle.asm65.specs.declared.refusal.AsmRefusal.{AsmRefusal}
+use Rattle.asm65.specs.declared.texts.AsmRefusal.{AsmRefusal}
 use Rattle.asm65.specs.Assembly.{IsAssembled, has_failed, in_places, is_outside_refusal, placed_of}
 use Rattle.language65.specs.Faults.{is_memory as is_asm_memory}
 use Rattle.output65.specs.Outputs.{failing}

@@ -13,12 +13,11 @@ use Rattle.sections65.specs.Standing.{Stands}
 use Rattle.symbols65.specs.Resolving.{IsTable}
 use Rattle.symbols65.specs.Views.{table_of}
 use Rattle.asm65.specs.declared.assembler.Assembler.{Assembler}
-use Rattle.asm65.specs.declared.waiting.Piece.{Piece}
-use Rattle.asm65.specs.declared.waiting.Piece.TheVariants.{Datum, Operand, Constant, Assertion, Import, Demand, Export}
-use Rattle.asm65.specs.declared.waiting.Waiting.{Waiting}
+use Rattle.asm65.specs.declared.assembler.Piece.{Piece}
+use Rattle.asm65.specs.declared.assembler.Piece.TheVariants.{Datum, Operand, Constant, Assertion, Import, Demand, Export}
+use Rattle.asm65.specs.declared.assembler.Waiting.{Waiting}
 use Rattle.layout65.specs.Counting.{AreInside}
-use Rattle.layout65.specs.Sounds.{AreWithin, IsCounted, IsSoundStanding}
-use Rattle.layout65.specs.Views.{standing_of}
+use Rattle.layout65.specs.Sounds.{AreWithin, IsCounted, IsSoundStanding, standing_of}
 
 -- ---- What waits.
 

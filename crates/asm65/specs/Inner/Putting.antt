@@ -1,8 +1,14 @@
--- What is put into sections at a line, and what waits.
+-- What names mean at a spot, what is put into sections at a line, and what waits.
+use Rattle.syntax65.specs.Trees.{name, Tree}
+use Rattle.expand65.specs.State.{Meaning}
+use Rattle.language65.specs.declared.laid.Spot.{Spot}
+use Rattle.language65.specs.Names.{meaning_of}
+use Rattle.language65.specs.Norms.{constant_in}
+use Rattle.language65.specs.Symbols.{Symbols}
+use Rattle.module65.specs.Knowing.{is_definition}
 use Rattle.std.specs.Prelude.{◌≡◌, ℕ, ℤ, Bool, true, false, List, [], ◌∷◌, pos, Option, Some, None, Result, Ok, Err, ⊤}
 use Rattle.std.specs.List.{flat_map, list_all}
 use Rattle.base65.specs.Outcome.{◌>>=◌}
-use Rattle.syntax65.specs.Trees.{Tree}
 use Rattle.source65.specs.declared.place.Place.{Place}
 use Rattle.object65.specs.Form.{Form, lit}
 use Rattle.object65.specs.Objects.{fits_width, value_bytes}
@@ -11,16 +17,23 @@ use Rattle.language65.specs.Parts.{Part}
 use Rattle.language65.specs.declared.fault.AsmFault.{AsmFault}
 use Rattle.language65.specs.Contents.{operand_form, put, stored}
 use Rattle.language65.specs.Extending.{IsFinal}
-use Rattle.language65.specs.declared.laid.Spot.{Spot}
-use Rattle.language65.specs.Symbols.{Symbols}
 use Rattle.module65.specs.Machine.{State, awaiting}
 use Rattle.module65.specs.Pieces as piece
 use Rattle.sections65.specs.Standing.{Feeds}
 use Rattle.sections65.specs.declared.sections.Sections.{Sections}
 use Rattle.symbols65.specs.Views.{table_of}
 use Rattle.asm65.specs.declared.assembler.Assembler.{Assembler}
-use Rattle.asm65.specs.declared.waiting.Piece.{Piece}
+use Rattle.asm65.specs.declared.assembler.Piece.{Piece}
 use Rattle.asm65.specs.Inner.Holding.{Enters, Holds, IsPiece}
+
+-- ---- What names and expressions mean at a spot.
+
+-- by the definitions before it
+abbrev pub known_where : Symbols → Spot → Meaning
+known_where y s = record {
+  value = constant_in y s;
+  defined = λ global parts. is_definition (meaning_of y s (name global parts));
+}
 
 -- ---- What waits.
 

@@ -17,12 +17,12 @@ use Rattle.module65.specs.Pieces.{Made, absent_of, as_said, made_of, used}
 use Rattle.sections65.specs.Standing.{Receives, Stands}
 use Rattle.sections65.specs.declared.sections.Sections.{Sections}
 use Rattle.asm65.specs.declared.concluding.Ending.{Ending}
-use Rattle.asm65.specs.declared.refusal.AsmRefusal.{AsmRefusal}
+use Rattle.asm65.specs.declared.texts.AsmRefusal.{AsmRefusal}
 use Rattle.asm65.specs.declared.resolving.Filling.{Filling}
 use Rattle.asm65.specs.declared.resolving.Filling.TheVariants.{Part, Told}
 use Rattle.asm65.specs.declared.resolving.Made as code
-use Rattle.asm65.specs.declared.waiting.Piece.{Piece}
-use Rattle.asm65.specs.declared.waiting.Piece.TheVariants.{Datum, Operand, Constant, Assertion, Import, Demand, Export}
+use Rattle.asm65.specs.declared.assembler.Piece.{Piece}
+use Rattle.asm65.specs.declared.assembler.Piece.TheVariants.{Datum, Operand, Constant, Assertion, Import, Demand, Export}
 use Rattle.asm65.specs.Assembly.{is_outside_refusal, placed_of}
 
 -- ---- What a piece comes to.

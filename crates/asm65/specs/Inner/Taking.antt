@@ -19,8 +19,8 @@ use Rattle.layout65.specs.Measuring.{measure_of}
 use Rattle.module65.specs.Machine.{PutsAll, State, awaiting, entered}
 use Rattle.module65.specs.Pieces as piece
 use Rattle.asm65.specs.declared.assembler.Assembler.{Assembler}
-use Rattle.asm65.specs.declared.naming.mentions.Mention.{Mention}
-use Rattle.asm65.specs.declared.naming.mentions.Mention.TheVariants.{Demanded, Exported, Imported}
+use Rattle.asm65.specs.declared.naming.stating.Mention.{Mention}
+use Rattle.asm65.specs.declared.naming.stating.Mention.TheVariants.{Demanded, Exported, Imported}
 use Rattle.asm65.specs.Inner.Holding.{AreBefore, Holds}
 use Rattle.layout65.specs.Counting.{AreInside, opening_limit}
 

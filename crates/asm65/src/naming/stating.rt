@@ -1,18 +1,118 @@
-//! Statements that define, open and import names.
+//! Statements that define, open, import and mention names.
 
-ghost use Rattle.std.specs.Prelude.{◌≡◌, None};
-ghost use Rattle.language65.specs.Symbols.{Key as DefinedKey};
+ghost use Rattle.std.specs.Prelude.{◌≡◌, IfOk, OnOk, map, None};
+ghost use Rattle.language65.specs.declared.laid.Spot.{Spot};
+ghost use Rattle.language65.specs.Symbols.{Symbols, Key as DefinedKey};
+ghost use Rattle.asm65.specs.Inner.Holding.{IsPiece};
+ghost use Rattle.asm65.specs.Inner.Taking.{mentioned, is_for_zero_page, label_at};
 ghost use Rattle.symbols65.specs.Tables.{definition_seen};
-ghost use Rattle.asm65.specs.Inner.Taking.{is_for_zero_page, label_at};
 
-use crate::assembler::Assembler;
-use crate::naming::mentions::Mention;
+use crate::assembler::{Assembler, Piece};
 use crate::putting::Stand;
 use base65::Sequence;
 use language65::Spot;
 use std::alloc::{AllocError, Global};
-use symbols65::{Definition, Key};
-use syntax65::AddressSize;
+use symbols65::{Definition, Key, final_form};
+use syntax65::{AddressSize, Expr};
+
+/// How a statement mentions a name.
+#[derive(Clone, Copy)]
+pub enum Mention {
+    Imported,
+    /// It is imported though nothing may use it.
+    Demanded,
+    /// It is exported where it is defined, or has to be.
+    Exported { must: bool },
+}
+
+/// What waits of a name that is mentioned.
+fn piece_of(alloc: Global, mention: Mention, name: &[u8]) -> Result<Piece, AllocError>
+    ensures { IfOk result (λ p. (y : Symbols) (s : Spot) → IsPiece y s p (mentioned mention name.now)) }
+{
+    let name = Sequence::from_vec(Vec::from_slice(alloc, name)?);
+    match mention {
+        Mention::Imported => Ok(Piece::Import(name)),
+        Mention::Demanded => Ok(Piece::Demand(name)),
+        Mention::Exported { must } => Ok(Piece::Export { must, name }),
+    }
+}
+
+impl Assembler {
+    ghost use Rattle.language65.specs.Views.{place_in};
+    ghost use Rattle.asm65.specs.Inner.Putting.{KeepsTables};
+    ghost use Rattle.asm65.specs.Inner.Taking.{Mentions};
+
+    /// Names that are mentioned wait, one behind the other.
+    #[inline(never)]
+    pub fn mention(
+        &mut self,
+        alloc: Global,
+        stand: Stand<'_>,
+        mention: Mention,
+        names: &[Sequence<u8>],
+    ) -> Result<(), AllocError>
+        ensures mentioned { OnOk result (Mentions
+            (place_in stand.entry.at.file.now stand.entry.at.line) stand.entry.spot
+            (map (mentioned mention) names.now) self.old self.new) }
+        ensures tables { KeepsTables self.old self.new }
+    {
+        for name in names {
+            let piece = piece_of(alloc, mention, name.as_slice())?;
+            self.wait(alloc, stand, piece)?;
+        }
+        Ok(())
+    }
+}
+
+impl Assembler {
+    ghost use Rattle.std.specs.Prelude.{◌≡◌, ◌∷◌, [], None, OnOk, Some};
+    ghost use Rattle.language65.specs.Symbols.{defined, named};
+    ghost use Rattle.language65.specs.Views.{place_in};
+    ghost use Rattle.module65.specs.Pieces.{equated, valued};
+    ghost use Rattle.symbols65.specs.Resolving.{IsTable};
+    ghost use Rattle.symbols65.specs.Views.{table_of, with_definition};
+    ghost use Rattle.asm65.specs.Inner.Taking.{Turns};
+
+    /// A constant is defined. Where its form isn't final it waits: its expression may have a fault.
+    #[inline(never)]
+    pub fn define_constant(
+        &mut self,
+        alloc: Global,
+        stand: Stand<'_>,
+        size: AddressSize,
+        name: &[u8],
+        value: Expr,
+    ) -> Result<(), AllocError>
+        requires known { IsTable (table_of self.old.symbols) self.old.known.states.items }
+        requires new { defined (table_of self.old.symbols) (named stand.spot.scope name.now) ≡ None }
+        ensures { OnOk result (Turns (place_in stand.entry.at.file.now stand.entry.at.line)
+            stand.entry.spot (valued equated value ∷ [])
+            (λ y. with_definition y (record {
+              key = named stand.entry.spot.scope name.now;
+              value = Some value;
+              spot = stand.entry.spot;
+              size = size;
+            }))
+            self.old self.new) }
+    {
+        let spot = stand.spot;
+        let form = final_form(alloc, &self.symbols, spot, &value)?;
+        let waits = form.is_none();
+        let place = self.symbols.definitions.len();
+        let scope = spot.scope as usize;
+        let definition = Definition {
+            value: Some(value),
+            spot,
+            size,
+            form,
+        };
+        self.define(alloc, Key::Named { scope, name }, definition)?;
+        if waits {
+            self.wait(alloc, stand, Piece::Constant(place))?;
+        }
+        Ok(())
+    }
+}
 
 fn is_for_zero_page(size: AddressSize) -> bool
     ensures { result ≡ is_for_zero_page size }

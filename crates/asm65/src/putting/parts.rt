@@ -11,7 +11,7 @@ ghost use Rattle.sections65.specs.Standing.{Feeds};
 ghost use Rattle.asm65.specs.Inner.Putting.{AreStored, IsFaultless, IsPut, operand_stored};
 
 use super::Stand;
-use crate::forms::{is_file_name, literal_of};
+use super::values::{is_file_name, literal_of};
 use base65::Sequence;
 use language65::{At, Item, Settled, Spot};
 use object65::{Norm, Width, fits, put};

@@ -8,9 +8,8 @@ ghost use Rattle.asm65.specs.Inner.Putting.{IsSo};
 
 use super::Stand;
 use super::parts::{bytes_of, items_of, put_code, put_part, put_room};
-use crate::assembler::Assembler;
-use crate::forms::literal_of;
-use crate::waiting::Piece;
+use super::values::literal_of;
+use crate::assembler::{Assembler, Piece};
 use base65::Sequence;
 use language65::{Item, Items, ItemsKind, Operand, Settled, Spot};
 use object65::{Action, Width};
@@ -70,8 +69,7 @@ impl Assembler {
     ghost use Rattle.language65.specs.declared.laid.Settled.TheVariants.{InMode};
     ghost use Rattle.language65.specs.Views.{place_in};
     ghost use Rattle.syntax65.specs.Opcodes.{opcode_of};
-    ghost use Rattle.module65.specs.Pieces.{asserted, given, instruction_pieces, valued};
-    ghost use Rattle.module65.specs.Pieces.{item_piece, operand_pieces};
+    ghost use Rattle.module65.specs.Pieces.{asserted, given, instruction_pieces, valued, item_piece, operand_pieces};
     ghost use Rattle.language65.specs.Items.{numbered};
     ghost use Rattle.asm65.specs.Inner.Holding.{Enters};
 

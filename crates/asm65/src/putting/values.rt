@@ -1,13 +1,134 @@
 //! Values, which are put at once where they are settled without a fault, or wait.
 
+ghost use Rattle.std.specs.Prelude.{◌≡◌, IfOk, IfSome, OnOk, Some, map, slice_get, string_bytes};
+ghost use Rattle.base65.specs.Outcome.{Gives};
+ghost use Rattle.language65.specs.Contents.{stored};
+ghost use Rattle.language65.specs.Faults.{is_memory};
+ghost use Rattle.language65.specs.Views.{part_at, place_in};
+ghost use Rattle.object65.specs.Objects.{is_file_name};
+ghost use Rattle.asm65.specs.Inner.Putting.{literal_of};
+ghost use Rattle.symbols65.specs.Tables.{Begins};
+
 use super::Stand;
 use super::parts::{put_form, put_operand};
-use crate::assembler::Assembler;
-use crate::waiting::Piece;
-use object65::Width;
+use crate::assembler::{Assembler, Piece, Waiting};
+use base65::Sequence;
+use indexmap::IndexSet;
+use language65::{AsmFault, At, Part};
+use object65::format::FILE_NAME_LIMIT;
+use object65::{Node, Norm, Width, fits, put};
 use std::alloc::{AllocError, Global};
 use symbols65::final_form;
 use syntax65::Expr;
+
+/// The value of a form that is a literal.
+pub fn literal_of(form: &Norm) -> Option<i64>
+    ensures { result ≡ literal_of form.now }
+{
+    match form.node() {
+        Node::Lit(value) => Some(*value),
+        _ => None,
+    }
+}
+
+/// Whether an object can hold the name of a file.
+pub fn is_file_name(name: &str) -> bool
+    ensures { result ≡ is_file_name name.now }
+{
+    name.len() <= FILE_NAME_LIMIT
+}
+
+/// What is stored of a value: its bytes where it is a literal.
+pub fn stored(alloc: Global, width: Width, at: At<'_>, form: Norm) -> Result<Part, AsmFault>
+    ensures { Gives is_memory (part_at (place_in at.entry.file.now at.entry.line)) result
+        (stored width (place_in at.entry.file.now at.entry.line) form) }
+{
+    match literal_of(&form) {
+        Some(value) => {
+            if !fits(width, value) {
+                return Err(AsmFault::OutOfRange);
+            }
+            let bytes = Vec::from_slice(alloc, &put(width, value))?;
+            Ok(Part::Known(Sequence::from_vec(bytes)))
+        }
+        None => {
+            if !is_file_name(at.file) {
+                return Err(AsmFault::FileNameTooLong);
+            }
+            Ok(Part::Waiting { width, form })
+        }
+    }
+}
+
+/// A place among files, where the file at it has this name.
+fn same_place(files: &IndexSet<String>, place: Option<usize>, name: &str) -> Option<usize>
+    ensures { IfSome result (λ i.
+        slice_get (map string_bytes files.now.keys) i ≡ Some name.now) }
+{
+    let place = place?;
+    let file = files.get_index(place)?;
+    if file.as_str() == name {
+        Some(place)
+    } else {
+        None
+    }
+}
+
+/// The place of a file among those that are named, where it is put in if it is new. It is mostly the one of
+/// the piece before, and then it isn't looked up.
+fn place_of_file(
+    alloc: Global,
+    files: &mut IndexSet<String>,
+    last: Option<usize>,
+    name: &str,
+) -> Result<usize, AllocError>
+    ensures more { Begins (map string_bytes files.old.keys) (map string_bytes files.new.keys) }
+    ensures place { IfOk result (λ i.
+        slice_get (map string_bytes files.new.keys) i ≡ Some name.now) }
+{
+    if let Some(place) = same_place(files, last, name) {
+        return Ok(place);
+    }
+    match files.get_index_of(name) {
+        Some(place) => Ok(place),
+        None => {
+            let (place, _) = files.insert_full(String::from_str(alloc, name)?)?;
+            Ok(place)
+        }
+    }
+}
+
+impl Assembler {
+    ghost use Rattle.language65.specs.Views.{place_in};
+    ghost use Rattle.asm65.specs.Inner.Putting.{KeepsTables, Waits};
+
+    /// The place of the file in which the last piece waits.
+    fn last_file(&self) -> Option<usize> {
+        let last = self.waiting.as_slice().last()?;
+        Some(last.file)
+    }
+
+    /// A piece of a statement waits.
+    #[inline(never)]
+    pub fn wait(&mut self, alloc: Global, stand: Stand<'_>, piece: Piece) -> Result<(), AllocError>
+        ensures waits { OnOk result (Waits
+            (place_in stand.entry.at.file.now stand.entry.at.line) stand.entry.spot
+            piece self.old self.new) }
+        ensures tables { KeepsTables self.old self.new }
+    {
+        let last = self.last_file();
+        let file = place_of_file(alloc, &mut self.files, last, stand.at.file)?;
+        let line = stand.at.line;
+        let spot = stand.spot;
+        self.waiting.push(Waiting {
+            file,
+            line,
+            spot,
+            piece,
+        })?;
+        self.sections.defer()
+    }
+}
 
 impl Assembler {
     ghost use Rattle.std.specs.Prelude.{◌∷◌, [], IfOk, OnOk};

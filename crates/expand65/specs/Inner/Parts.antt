@@ -1,7 +1,7 @@
 -- What stands at a place of a list of tokens, and how far the first argument goes.
 use Rattle.std.specs.Prelude.{ℕ, ◌+◌, ◌==◌, ◌&&◌, Bool, false, List, [], ◌∷◌, slice_get, Option, Some, None, if◌then◌else◌}
 use Rattle.syntax65.specs.Tokens.{Lexeme}
-use Rattle.expand65.specs.Arguments.{braces_behind}
+use Rattle.expand65.specs.Macros.{braces_behind}
 use Rattle.reader65.specs.Fronts.{is_comma, name_in, ◌>=>◌}
 
 -- the name at a place

@@ -3,8 +3,7 @@ use Rattle.std.specs.Prelude.{◌≡◌, List, ℕ, nat_le, length, Bool, true, 
 use Rattle.base65.specs.Outcome.{Unless}
 use Rattle.base65.specs.Store.{Files}
 use Rattle.source65.specs.Faults.{is_outside}
-use Rattle.reader65.specs.Lines.{file_limit}
-use Rattle.reader65.specs.Reading.{bytes_of}
+use Rattle.reader65.specs.Lines.{file_limit, bytes_of}
 use Rattle.source65.specs.declared.fault.ExpandFault.{ExpandFault}
 use Rattle.source65.specs.declared.fault.ExpandFault.TheVariants.{FileTooLong}
 

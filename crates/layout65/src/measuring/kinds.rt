@@ -1,6 +1,7 @@
-//! What statements place, by their kinds.
+//! What statements place, by their kinds, and which ask for a section.
 
 ghost use Rattle.std.specs.Prelude.{◌≡◌, ℕ, List, OnOk, true};
+ghost use Rattle.language65.specs.Laid.{asks_section, has_here};
 ghost use Rattle.base65.specs.Outcome.{Gives};
 ghost use Rattle.language65.specs.Faults.{is_memory};
 ghost use Rattle.language65.specs.declared.language.Statement.TheVariants.{CloseProc, CloseScope, Constant, PopSegment, Segment};
@@ -8,19 +9,62 @@ ghost use Rattle.language65.specs.Symbols.{Symbols as Table};
 ghost use Rattle.symbols65.specs.Resolving.{IsTable};
 ghost use Rattle.symbols65.specs.Views.{table_of};
 ghost use Rattle.layout65.specs.Measuring.{is_bare, placed};
-ghost use Rattle.layout65.specs.Sounds.{IsSoundStanding};
-ghost use Rattle.layout65.specs.Views.{standing_of};
+ghost use Rattle.layout65.specs.Sounds.{IsSoundStanding, standing_of};
 
-use super::blocks::{check_kept, check_proc, check_scope, check_segment};
-use super::bytes::{instruction, values};
-use super::parts::file_part;
-use super::rooms::{align, reserve};
-use super::{Before, Measured, nothing};
+use super::bytes::{file_part, instruction, values};
+use super::rooms::{align, check_kept, check_proc, check_scope, check_segment, reserve};
+use crate::measuring::{Before, Measured, nothing};
 use crate::standing::Standing;
 use language65::{AsmFault, PartRange, Statement};
 use std::alloc::Global;
 use symbols65::{Known, knowing};
-use syntax65::{AddressSize, Expr};
+use syntax65::{AddressSize, Expr, ExprKind};
+
+/// Whether an expression has a `*`.
+fn has_here(value: &Expr) -> bool
+    ensures { result ≡ has_here value.now }
+{
+    match value.kind() {
+        ExprKind::Here => true,
+        ExprKind::Prefix(_, part) => has_here(part),
+        ExprKind::Binary(_, operands) => has_here(&operands.left) || has_here(&operands.right),
+        _ => false,
+    }
+}
+
+/// Whether a statement asks for a section of the segment in which it stands.
+pub fn asks_section(statement: &Statement) -> bool
+    ensures { result ≡ asks_section statement.now }
+{
+    match statement {
+        Statement::Label(_)
+        | Statement::CheapLabel(_)
+        | Statement::UnnamedLabel
+        | Statement::OpenProc(_)
+        | Statement::Instruction {
+            mnemonic: _,
+            operand: _,
+        }
+        | Statement::Values { width: _, items: _ }
+        | Statement::Reserve { count: _, value: _ }
+        | Statement::Align {
+            multiple: _,
+            value: _,
+        }
+        | Statement::FilePart {
+            bytes: _,
+            start: _,
+            len: _,
+        } => true,
+        Statement::Constant { name: _, value } => has_here(value),
+        Statement::Assert {
+            value,
+            action: _,
+            text: _,
+        } => has_here(value),
+        _ => false,
+    }
+}
 
 /// What a constant places and defines.
 #[inline(never)]

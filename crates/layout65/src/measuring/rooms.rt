@@ -1,26 +1,123 @@
-//! Statements that place room.
+//! Segments and blocks, and statements that place room.
 
-ghost use Rattle.std.specs.Prelude.{◌≡◌, ◌<◌, ◌≤◌, IfOk, not, OnOk, pos, Some};
+ghost use Rattle.std.specs.Prelude.{◌≡◌, ◌&&◌, not, slice_get, ◌<◌, ◌≤◌, IfOk, OnOk, pos, Some};
+ghost use Rattle.language65.specs.Layout.{place_of, segment_at, spot_of as standing_spot};
+ghost use Rattle.language65.specs.LineFaults.{changed_size, is_kept, is_open, is_scope, opened_as, same_size, when, unless_fault, is_byte_value, is_count, is_there, multiple_fault};
+ghost use Rattle.language65.specs.declared.fault.AsmFault.TheVariants.{BadScope, PopWithoutPush, BadOperand};
+ghost use Rattle.symbols65.specs.Views.{table_of};
+ghost use Rattle.layout65.specs.Sounds.{IsSoundStanding, standing_of};
 ghost use Rattle.std.specs.Option.{option_map};
 ghost use Rattle.base65.specs.Outcome.{Gives};
-ghost use Rattle.language65.specs.declared.fault.AsmFault.TheVariants.{BadOperand};
 ghost use Rattle.language65.specs.Faults.{is_memory};
 ghost use Rattle.language65.specs.declared.language.Statement.TheVariants.{Align, Reserve};
-ghost use Rattle.language65.specs.Layout.{spot_of as standing_spot};
-ghost use Rattle.language65.specs.LineFaults.{is_byte_value, is_count, is_there, multiple_fault, when, unless_fault};
 ghost use Rattle.language65.specs.Sizes.{counted, fill_settled, gap, optional_value};
 ghost use Rattle.symbols65.specs.Resolving.{IsTable};
-ghost use Rattle.symbols65.specs.Views.{table_of};
 ghost use Rattle.layout65.specs.Measuring.{any_settled, placed};
-ghost use Rattle.layout65.specs.Sounds.{IsSoundStanding};
-ghost use Rattle.layout65.specs.Views.{standing_of};
 
-use super::{Before, Measured, fit};
+use crate::measuring::{Before, Measured, fit};
 use crate::standing::Standing;
-use language65::{AsmFault, OptionalExpr, Settled, Spot};
+use language65::{AsmFault, OptionalExpr, Segment, Settled, Spot};
 use std::alloc::Global;
 use symbols65::{Known, Symbols, knowing};
-use syntax65::Expr;
+use syntax65::{AddressSize, Expr};
+
+/// Whether the scope at a place was opened by `.scope`.
+fn is_scope_at(symbols: &Symbols, place: usize) -> bool
+    ensures { result ≡ is_scope (slice_get (table_of symbols.now).scopes place) }
+{
+    match symbols.scopes.get_index(place) {
+        Some((_, is_proc)) => !*is_proc,
+        None => false,
+    }
+}
+
+/// Whether a scope was opened by `.scope`.
+fn is_scope(symbols: &Symbols, scope: usize) -> bool
+    ensures { result ≡ is_scope (opened_as (table_of symbols.now).scopes scope) }
+{
+    match scope.checked_sub(1) {
+        None => false,
+        Some(place) => is_scope_at(symbols, place),
+    }
+}
+
+/// Refuses the end of a scope where no scope is open.
+pub fn check_scope(symbols: &Symbols, scope: usize) -> Result<(), AsmFault>
+    ensures { result ≡ unless_fault (when (not (is_open scope
+        && is_scope (opened_as (table_of symbols.now).scopes scope))) BadScope) tt }
+{
+    if scope != 0 && is_scope(symbols, scope) {
+        Ok(())
+    } else {
+        Err(AsmFault::BadScope)
+    }
+}
+
+/// Refuses the end of a proc where no proc is open.
+pub fn check_proc(symbols: &Symbols, scope: usize) -> Result<(), AsmFault>
+    ensures { result ≡ unless_fault (when (not (is_open scope
+        && not (is_scope (opened_as (table_of symbols.now).scopes scope)))) BadScope) tt }
+{
+    if scope != 0 && !is_scope(symbols, scope) {
+        Ok(())
+    } else {
+        Err(AsmFault::BadScope)
+    }
+}
+
+/// Refuses to go back to a segment where none was kept.
+pub fn check_kept(standing: &Standing) -> Result<(), AsmFault>
+    ensures { result ≡ unless_fault
+        (when (not (is_kept (standing_of standing.now).kept)) PopWithoutPush) tt }
+{
+    if standing.kept.is_empty() {
+        Err(AsmFault::PopWithoutPush)
+    } else {
+        Ok(())
+    }
+}
+
+fn same_size(one: AddressSize, other: AddressSize) -> bool
+    ensures { result ≡ same_size one other }
+{
+    match (one, other) {
+        (AddressSize::ZeroPage, AddressSize::ZeroPage) => true,
+        (AddressSize::Absolute, AddressSize::Absolute) => true,
+        _ => false,
+    }
+}
+
+fn size_at(segments: &[Segment], place: usize) -> AddressSize
+    ensures { result ≡ (segment_at segments.now place).size }
+{
+    match segments.get(place) {
+        Some(segment) => segment.size,
+        None => AddressSize::Absolute,
+    }
+}
+
+/// Refuses another size for a segment that has one.
+pub fn check_segment(
+    standing: &Standing,
+    name: &[u8],
+    size: Option<AddressSize>,
+) -> Result<(), AsmFault>
+    requires { IsSoundStanding standing.now }
+    ensures { result ≡ unless_fault (changed_size standing.now.segments.items size
+        (place_of standing.now.segments.items name.now)) tt }
+{
+    let Some(size) = size else {
+        return Ok(());
+    };
+    let Some(place) = standing.place_of(name) else {
+        return Ok(());
+    };
+    if same_size(size, size_at(&standing.segments, place)) {
+        Ok(())
+    } else {
+        Err(AsmFault::SizeChanged)
+    }
+}
 
 /// A value as the byte that fills room.
 fn byte_of(value: Option<i64>) -> Result<u8, AsmFault>

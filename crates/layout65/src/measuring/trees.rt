@@ -1,17 +1,111 @@
-//! The expressions of statements.
+//! The expressions of statements, and names whose scope isn't there.
 
+ghost use Rattle.std.specs.Prelude.{◌≡◌, List, None, false, ℕ, [], ◌∷◌, ◌++◌, map};
 ghost use Rattle.std.specs.Option.{option_map};
-ghost use Rattle.std.specs.Prelude.{[], ◌∷◌, ◌++◌, map};
 ghost use Rattle.base65.specs.Outcome.{Gives};
+ghost use Rattle.syntax65.specs.Trees.{name};
 ghost use Rattle.language65.specs.Faults.{is_memory};
-ghost use Rattle.language65.specs.LineFaults.{item_trees, lost_scopes, operand_trees, optional_tree, trees_of, unless_fault};
+ghost use Rattle.language65.specs.LineFaults.{lost_scope, unless_fault, item_trees, lost_scopes, operand_trees, optional_tree, trees_of};
+ghost use Rattle.language65.specs.Names.{scopes_of};
+ghost use Rattle.language65.specs.Symbols.{Scope};
+ghost use Rattle.symbols65.specs.Resolving.{plain_part};
 ghost use Rattle.symbols65.specs.Views.{table_of};
+ghost use Rattle.layout65.specs.Measuring.{lost_parts};
 
-use super::lost::{check_scopes, names_scopes};
+use base65::Sequence;
 use language65::{AsmFault, Item, Items, ItemsKind, Operand, OptionalExpr, PartRange, Statement};
 use std::alloc::Global;
-use symbols65::Symbols;
-use syntax65::{Expr, ExprKind};
+use symbols65::{Symbols, scope_of, shown};
+use syntax65::{Expr, ExprKind, Name};
+
+/// The parts that name scopes: all but the last.
+fn scopes_in(parts: &[Sequence<u8>]) -> &[Sequence<u8>]
+    ensures { result.now ≡ scopes_of parts.now }
+{
+    match parts.split_last() {
+        Some((_, scopes)) => scopes,
+        None => &[],
+    }
+}
+
+/// Refuses a name with `::` whose scope isn't there.
+fn check_parts(alloc: Global, symbols: &Symbols, scope: usize, name: &Name) -> Result<(), AsmFault>
+    ensures { Gives is_memory (λ u. u) result (unless_fault (lost_parts
+        (table_of symbols.now).scopes scope name.now.is_global name.now.parts) tt) }
+{
+    let parts = name.parts.as_slice();
+    let opened = symbols.scope_count();
+    match scope_of(symbols, opened, scope, name.is_global, scopes_in(parts)) {
+        Some(_) => Ok(()),
+        None => {
+            let name = shown(alloc, name.is_global, parts)?;
+            Err(AsmFault::NoSuchScope(name))
+        }
+    }
+}
+
+/// The one part of a plain name.
+fn plain_part(name: &Name) -> Option<&[u8]>
+    ensures { option_map (λ n. n.now) result ≡ plain_part name.now.is_global name.now.parts }
+{
+    match name.parts.as_slice() {
+        [part] if !name.is_global => Some(part.as_slice()),
+        _ => None,
+    }
+}
+
+#[inline(never)]
+fn check_name(
+    alloc: Global,
+    symbols: &Symbols,
+    scope: usize,
+    written: &Name,
+) -> Result<(), AsmFault>
+    ensures { Gives is_memory (λ u. u) result (unless_fault (lost_scope
+        (table_of symbols.now).scopes scope
+        (name written.now.is_global written.now.parts)) tt) }
+{
+    match plain_part(written) {
+        Some(_) => Ok(()),
+        None => check_parts(alloc, symbols, scope, written),
+    }
+}
+
+/// Whether an expression has names with `::`. What has none names no scope.
+pub fn names_scopes(value: &Expr) -> bool
+    ensures { result ≡ false → (cs : List Scope) (scope : ℕ) →
+        lost_scope cs scope value.now ≡ None }
+{
+    match value.kind() {
+        ExprKind::Scoped(_) => true,
+        ExprKind::Prefix(_, part) => names_scopes(part),
+        ExprKind::Binary(_, operands) => {
+            names_scopes(&operands.left) || names_scopes(&operands.right)
+        }
+        _ => false,
+    }
+}
+
+/// Refuses an expression with a name whose scope isn't there.
+pub fn check_scopes(
+    alloc: Global,
+    symbols: &Symbols,
+    scope: usize,
+    value: &Expr,
+) -> Result<(), AsmFault>
+    ensures { Gives is_memory (λ u. u) result (unless_fault (lost_scope
+        (table_of symbols.now).scopes scope value.now) tt) }
+{
+    match value.kind() {
+        ExprKind::Scoped(name) => check_name(alloc, symbols, scope, name),
+        ExprKind::Prefix(_, part) => check_scopes(alloc, symbols, scope, part),
+        ExprKind::Binary(_, operands) => {
+            check_scopes(alloc, symbols, scope, &operands.left)?;
+            check_scopes(alloc, symbols, scope, &operands.right)
+        }
+        _ => Ok(()),
+    }
+}
 
 fn check_one(alloc: Global, symbols: &Symbols, scope: usize, value: &Expr) -> Result<(), AsmFault>
     ensures { Gives is_memory (λ u. u) result (unless_fault (lost_scopes

@@ -22,7 +22,7 @@ use Rattle.sections65.specs.declared.entries.Entry.TheVariants.{Bytes, Room, Val
 use Rattle.sections65.specs.Fed.{origin_by}
 use Rattle.sections65.specs.declared.numbering.drafts.Draft.{Draft}
 use Rattle.sections65.specs.declared.numbering.exports.Exports.{Exports}
-use Rattle.sections65.specs.declared.numbering.names.ImportTable.{ImportTable}
+use Rattle.sections65.specs.declared.numbering.keys.ImportTable.{ImportTable}
 
 -- each import's key is found by its name
 abbrev pub IsTable : ImportTable → Type 0

@@ -5,7 +5,7 @@ ghost use Rattle.std.specs.List.{AllByRecursion, IsDistinct};
 ghost use Rattle.object65.specs.declared.object.Fragment.TheVariants.{Fill, Literal};
 ghost use Rattle.sections65.specs.Inner.Drafts.{begun, new_draft, segment_of, DraftFits, with_entry, with_entries, with_fragment, with_put};
 
-use super::numbers::{Numbers, numbered};
+use super::keys::{Numbers, numbered};
 use crate::entries::{Entry, sum_of};
 use base65::Sequence;
 use object65::Fragment;

@@ -4,7 +4,7 @@ ghost use Rattle.std.specs.Prelude.{◌≡◌, ◌++◌, ◌∷◌, [], IfOk, On
 ghost use Rattle.std.specs.List.{AllByRecursion, flat_map};
 ghost use Rattle.sections65.specs.Inner.Drafts.{asserts_at, AreNamed, AssertFits, entry_asserts, exports_at, ExportFits, exports_from};
 
-use super::numbers::{Numbers, numbered};
+use super::keys::{Numbers, numbered};
 use crate::entries::Entry;
 use base65::Sequence;
 use indexmap::IndexSet;

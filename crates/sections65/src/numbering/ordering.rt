@@ -9,7 +9,7 @@ ghost use Rattle.sections65.specs.Inner.Drafts.{AssertFits, ExportFits, SectionF
 ghost use Rattle.sections65.specs.Inner.Ordering.{assert_by, assert_key, export_by, export_key, fragment_by, fragment_keys, HasLast, in_order, order_of, origin_by, parts_by, section_by, section_files};
 ghost use Rattle.sections65.specs.Standing.{names_in};
 
-use super::numbers::{narrow, number_of};
+use super::keys::{narrow, number_of};
 use crate::files::Files;
 use base65::Sequence;
 use indexmap::IndexSet;

@@ -1,19 +1,128 @@
-//! Statements with lists of values or names.
+//! Lists of data and of names, and the statements that have them.
 
-ghost use Rattle.std.specs.Prelude.{◌≡◌, false, IfErr};
+ghost use Rattle.std.specs.Prelude.{◌≡◌, ◌<◌, ◌∷◌, [], false, length, map, option_map, take, IfErr, IfOk, IfSome, None, Ok};
 ghost use Rattle.syntax65.specs.Tokens.{lexemes};
 ghost use Rattle.language65.specs.Faults.{is_failure};
-ghost use Rattle.statements65.specs.Parsing.{ended, names_statement, parts_of, EachIs, IsList, IsName, IsNames, Parses};
+ghost use Rattle.language65.specs.Items.{numbered};
+ghost use Rattle.statements65.specs.declared.reading.words.Elements.{Elements};
+ghost use Rattle.statements65.specs.Parsing.{parts_behind, parts_of, string_of, EachIs, IsItem, IsValue, Parses, ended, names_statement, IsList, IsName, IsNames};
 
-use super::items::items;
-use super::parts::first_part;
-use super::tokens::{name_of, needed_string};
+use super::parts::{expression, first_part, number_in};
+use super::tokens::{is_comma, name_of, needed_string, string_of};
 use super::words::{Elements, Names};
 use base65::Sequence;
 use language65::{AsmFault, Item, Items, ItemsKind, Statement};
 use object65::Width;
-use std::alloc::Global;
+use std::alloc::{AllocError, Global};
 use syntax65::Token;
+
+/// An element that is a value.
+#[tactic(auto, using(crate::proofs::Parts::then_fault))]
+fn value_item(alloc: Global, tokens: &[Token<'_>]) -> Result<Item, AsmFault>
+    ensures value { Parses result (IsValue (lexemes tokens.now)) }
+    ensures inside { IfErr result (λ e. is_failure e ≡ false) }
+{
+    Ok(Item::Value(expression(alloc, tokens)?))
+}
+
+/// An element of a list.
+fn item(alloc: Global, elements: Elements, tokens: &[Token<'_>]) -> Result<Item, AsmFault>
+    ensures value { Parses result (IsItem elements (lexemes tokens.now)) }
+    ensures inside { IfErr result (λ e. is_failure e ≡ false) }
+{
+    match elements {
+        Elements::Values => value_item(alloc, tokens),
+        Elements::ValuesAndTexts => match string_of(tokens) {
+            Some(text) => Ok(Item::Text(Sequence::copy_of(alloc, text)?)),
+            None => value_item(alloc, tokens),
+        },
+    }
+}
+
+/// No numbers, with room for those of so many tokens: a comma stands between each two.
+fn no_numbers(alloc: Global, count: usize) -> Result<Sequence<u32>, AllocError>
+    ensures { IfOk result (λ numbers. numbers ≡ []) }
+{
+    Ok(Sequence::from_vec(Vec::with_capacity(alloc, count / 2 + 1)?))
+}
+
+/// The same of any elements.
+fn no_items(alloc: Global, count: usize) -> Result<Sequence<Item>, AllocError>
+    ensures { IfOk result (λ items. items ≡ []) }
+{
+    Ok(Sequence::from_vec(Vec::with_capacity(alloc, count / 2 + 1)?))
+}
+
+/// The number before the first comma, where it stands there by itself, and the tokens behind that comma, if there is one.
+#[inline(always)]
+fn first_number<'a, 'b>(tokens: &'b [Token<'a>]) -> Option<(u32, Option<&'b [Token<'a>]>)>
+    ensures parts { IfSome result (λ x. parts_of (lexemes tokens.now) ≡ lexemes (take 1 tokens.now)
+        ∷ parts_behind (option_map (λ rest. lexemes rest.now) x.1)) }
+    ensures item { IfSome result (λ x. (elements : Elements) →
+        IsItem elements (lexemes (take 1 tokens.now)) (Ok (numbered x.0))) }
+    ensures shorter { IfSome result (λ x. IfSome x.1 (λ rest. length rest.now < length tokens.now)) }
+{
+    let (first, behind) = tokens.split_first()?;
+    let number = number_in(first)?;
+    match behind.split_first() {
+        None => Some((number, None)),
+        Some((comma, rest)) => {
+            if is_comma(comma) {
+                Some((number, Some(rest)))
+            } else {
+                None
+            }
+        }
+    }
+}
+
+/// The numbers of a list that has nothing else, with a comma between each two.
+fn numbers(alloc: Global, tokens: &[Token<'_>]) -> Result<Option<Sequence<u32>>, AllocError>
+    ensures { IfOk result (λ numbers. IfSome numbers (λ ns. (elements : Elements) →
+        EachIs (IsItem elements) (parts_of (lexemes tokens.now)) (Ok (map numbered ns)))) }
+{
+    let mut numbers = no_numbers(alloc, tokens.len())?;
+    let mut rest = Some(tokens);
+    'parts: while let Some(left) = rest {
+        let Some((number, behind)) = first_number(left) else {
+            return Ok(None);
+        };
+        numbers.push(number)?;
+        rest = behind;
+    }
+    Ok(Some(numbers))
+}
+
+/// The elements of a list, whatever they are.
+fn mixed(
+    alloc: Global,
+    elements: Elements,
+    tokens: &[Token<'_>],
+) -> Result<Sequence<Item>, AsmFault>
+    ensures value { Parses result (EachIs (IsItem elements) (parts_of (lexemes tokens.now))) }
+    ensures inside { IfErr result (λ e. is_failure e ≡ false) }
+{
+    let mut items = no_items(alloc, tokens.len())?;
+    let mut rest = Some(tokens);
+    'parts: while let Some(left) = rest {
+        let (part, behind) = first_part(left);
+        items.push(item(alloc, elements, part)?)?;
+        rest = behind;
+    }
+    Ok(items)
+}
+
+/// The elements of a list, with a comma between each two.
+pub fn items(alloc: Global, elements: Elements, tokens: &[Token<'_>]) -> Result<Items, AsmFault>
+    ensures value { Parses result (EachIs (IsItem elements) (parts_of (lexemes tokens.now))) }
+    ensures inside { IfErr result (λ e. is_failure e ≡ false) }
+{
+    if let Some(numbers) = numbers(alloc, tokens)? {
+        return Ok(Items::new(ItemsKind::Numbers(numbers)));
+    }
+    let items = mixed(alloc, elements, tokens)?;
+    Ok(Items::new(ItemsKind::Mixed(items)))
+}
 
 /// `.byte` and the like.
 pub fn list(

@@ -1,25 +1,101 @@
-//! The sizes of expressions.
+//! The sizes of expressions, the values of those that are constant at a line, and of forms.
 
-ghost use Rattle.std.specs.Prelude.{◌≡◌, IfOk, IfSome, Ok, OnOk, slice_get};
-ghost use Rattle.std.specs.Result.{result_ok};
-ghost use Rattle.language65.specs.Names.{meaning_of};
-ghost use Rattle.language65.specs.Norms.{constant_in, norm_of};
-ghost use Rattle.language65.specs.Sizes.{is_byte, larger, size_by, size_defined, size_of, size_of_import, size_of_meaning, size_of_value, takes_byte};
-ghost use Rattle.symbols65.specs.Forms.{IsReference, literal_of};
-ghost use Rattle.symbols65.specs.Inner.Settling.{IsPlaceOf};
+ghost use Rattle.std.specs.Prelude.{◌≡◌, false, Ok, OnOk, IfOk, IfSome, slice_get};
+ghost use Rattle.language65.specs.Faults.{is_memory};
+ghost use Rattle.language65.specs.Norms.{literal_in, constant_in, norm_of};
+ghost use Rattle.symbols65.specs.Finals.{literal_of, IsReference};
 ghost use Rattle.symbols65.specs.Resolving.{IsTable, meaning_in};
 ghost use Rattle.symbols65.specs.Views.{table_of};
+ghost use Rattle.std.specs.Result.{result_ok};
+ghost use Rattle.language65.specs.Names.{meaning_of};
+ghost use Rattle.language65.specs.Sizes.{is_byte, larger, size_by, size_defined, size_of, size_of_import, size_of_meaning, size_of_value, takes_byte};
+ghost use Rattle.symbols65.specs.Inner.Settling.{IsPlaceOf};
 
-use super::forms::{literal_of, pass_on_memory};
 use crate::resolving::{
-    Known, Meaning, address, binary_form, meaning_of, meant_norm, number_of, prefix_form,
+    Known, Meaning, Stop, address, binary_form, meaning_of, meant_norm, norm, number_of,
+    prefix_form, settled,
 };
 use crate::table::Symbols;
 use base65::Op1;
-use language65::Spot;
+use language65::{AsmFault, Spot};
 use object65::{Node, Norm};
 use std::alloc::{AllocError, Global};
 use syntax65::{AddressSize, Expr, ExprKind};
+
+/// The value of a form that is a number.
+pub fn literal(form: &Norm) -> Option<i64>
+    ensures { result ≡ literal_in (Ok form.now) }
+{
+    match form.node() {
+        Node::Lit(value) => Some(*value),
+        _ => None,
+    }
+}
+
+/// The value of a form that is there and is a number.
+pub fn literal_of(form: &Option<Norm>) -> Option<i64>
+    ensures { result ≡ literal_of form.now }
+{
+    match form {
+        Some(form) => literal(form),
+        None => None,
+    }
+}
+
+/// Passes on want of memory, and takes any other fault for a form that is missing.
+pub fn pass_on_memory(fault: &AsmFault) -> Result<(), AllocError>
+    ensures { OnOk result (is_memory fault.now ≡ false) }
+{
+    if fault.is_memory() {
+        return Err(AllocError);
+    }
+    Ok(())
+}
+
+/// The value of an expression where it is constant by a symbol table.
+pub fn constant(
+    alloc: Global,
+    symbols: &Symbols,
+    known: &mut Known,
+    spot: Spot,
+    value: &Expr,
+) -> Result<Option<i64>, AllocError>
+    requires { IsTable (table_of symbols.now) known.old.states.items }
+    ensures value { IfOk result (λ v. v ≡ constant_in (table_of symbols.now) spot value.now) }
+    ensures table { OnOk result (IsTable (table_of symbols.now) known.new.states.items) }
+{
+    match norm(alloc, symbols, known, spot, value) {
+        Ok(form) => Ok(literal(&form)),
+        Err(fault) => {
+            pass_on_memory(&fault)?;
+            // An expression without a form is no constant.
+            Ok(None)
+        }
+    }
+}
+
+/// The same where no table of forms is kept: one is made only where the final forms of what the operands mean now aren't
+/// enough.
+pub fn constant_now(
+    alloc: Global,
+    symbols: &Symbols,
+    spot: Spot,
+    value: &Expr,
+) -> Result<Option<i64>, AllocError>
+    ensures { IfOk result (λ v. v ≡ constant_in (table_of symbols.now) spot value.now) }
+{
+    match settled(alloc, symbols, spot, value) {
+        Ok(form) => Ok(literal(&form)),
+        Err(Stop::Fault(fault)) => {
+            pass_on_memory(&fault)?;
+            Ok(None)
+        }
+        Err(Stop::Needs(_)) => {
+            let mut known = Known::unknown(alloc, symbols)?;
+            constant(alloc, symbols, &mut known, spot, value)
+        }
+    }
+}
 
 fn is_byte(value: i64) -> bool
     ensures { result ≡ is_byte value }

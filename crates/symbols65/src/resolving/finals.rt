@@ -1,24 +1,83 @@
-//! Forms that are final: that stay whatever statements follow.
+//! Forms that are final: that stay whatever statements follow; and those of numbers alone.
 
-ghost use Rattle.std.specs.Prelude.{◌≡◌, ◌∷◌, [], IfOk, IfSome, None, Some, false, length, true};
-ghost use Rattle.syntax65.specs.Trees.{name as name_tree, cheap as cheap_tree, backward as backward_tree};
+ghost use Rattle.std.specs.Prelude.{IfSome, ◌≡◌, IfOk, Result, ◌∷◌, [], None, Some, false, length, true};
+ghost use Rattle.symbols65.specs.Inner.Settling.{IsNumber, MeansAlways, MeansFinally, Operands};
+ghost use Rattle.std.specs.Result.{result_ok};
+ghost use Rattle.base65.specs.Outcome.{Gives};
 ghost use Rattle.object65.specs.Form.{Form};
+ghost use Rattle.object65.specs.Folding.{lacks_memory};
+ghost use Rattle.object65.specs.declared.folding.FormFault.{FormFault};
+ghost use Rattle.symbols65.specs.Finals.{binary_form, prefix_form, IsFinalWithin};
+ghost use Rattle.syntax65.specs.Trees.{name as name_tree, cheap as cheap_tree, backward as backward_tree};
 ghost use Rattle.language65.specs.Extending.{IsFinal};
-ghost use Rattle.symbols65.specs.Finals.{IsFinalWithin};
 ghost use Rattle.symbols65.specs.Resolving.{plain_part};
-ghost use Rattle.symbols65.specs.Inner.Settling.{MeansAlways, MeansFinally, Operands};
 ghost use Rattle.symbols65.specs.Views.{table_of};
 
 use super::attempt::{Source, Stop, address, defined};
-use super::folding::{binary_form, prefix_form};
 use super::meaning::{last_in, plain_part, scopes_in};
-use super::numbers::number_of;
 use super::scopes::scope_of;
 use crate::table::{Key, Symbols};
+use base65::{Op1, Op2, apply1, apply2};
 use language65::Spot;
-use object65::{Node, Norm};
+use object65::{FormFault, Node, Norm};
 use std::alloc::{AllocError, Global};
 use syntax65::{Expr, ExprKind, Name};
+
+/// The value of an expression of numbers alone, which no symbol table changes, if it has one.
+pub fn number_of(value: &Expr) -> Option<i64>
+    ensures { IfSome result (IsNumber value.now) }
+{
+    match value.kind() {
+        ExprKind::Number(number) => Some(i64::from(*number)),
+        ExprKind::Prefix(op, part) => {
+            let part = number_of(part)?;
+            Some(apply1(*op, part))
+        }
+        ExprKind::Binary(op, operands) => {
+            let left = number_of(&operands.left)?;
+            let right = number_of(&operands.right)?;
+            apply2(*op, left, right)
+        }
+        _ => None,
+    }
+}
+
+/// What folding gives, if anything.
+fn folded(form: Result<Norm, FormFault>) -> Result<Option<Norm>, AllocError>
+    ensures { (r : Result Form FormFault) → Gives lacks_memory (λ f. f) form r →
+        IfOk result (λ f. f ≡ result_ok r) }
+{
+    match form {
+        Ok(form) => Ok(Some(form)),
+        Err(FormFault::OutOfMemory) => Err(AllocError),
+        Err(FormFault::NoValue | FormFault::TooLarge) => Ok(None),
+    }
+}
+
+/// The form of a prefix operation, if it and its part have one.
+pub fn prefix_form(alloc: Global, op: Op1, part: Option<Norm>) -> Result<Option<Norm>, AllocError>
+    ensures { IfOk result (λ f. f ≡ prefix_form op part) }
+{
+    match part {
+        Some(part) => folded(Norm::prefix(alloc, op, part)),
+        None => Ok(None),
+    }
+}
+
+/// The form of an operation, if it and both its parts have one.
+pub fn binary_form(
+    alloc: Global,
+    op: Op2,
+    left: Option<Norm>,
+    right: Option<Norm>,
+) -> Result<Option<Norm>, AllocError>
+    ensures { IfOk result (λ f. f ≡ binary_form op left right) }
+{
+    match (left, right) {
+        (Some(left), Some(right)) => folded(Norm::binary(alloc, op, left, right)),
+        _ => Ok(None),
+    }
+}
 
 /// The place of what a plain name means whatever follows: the very scope of the use defines it.
 fn own_name(symbols: &Symbols, spot: Spot, name: &[u8]) -> Option<usize>

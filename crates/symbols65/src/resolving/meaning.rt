@@ -1,23 +1,80 @@
-//! What operands mean.
+//! What operands and the definitions of names mean.
 
-ghost use Rattle.std.specs.Prelude.{◌≡◌, ◌+◌, ◌-◌, ◌^◌, ◌≤◌, IfNone, IfSome, Some};
-ghost use Rattle.std.specs.Option.{option_map};
 ghost use Rattle.base65.specs.Outcome.{Gives};
+ghost use Rattle.base65.specs.declared.values.Op2.TheVariants.{Subtract};
+ghost use Rattle.object65.specs.Folding.{fold2};
+ghost use Rattle.language65.specs.Contents.{operand_form};
+ghost use Rattle.language65.specs.Faults.{is_memory};
+ghost use Rattle.language65.specs.Norms.{folded};
+ghost use Rattle.std.specs.Prelude.{◌≡◌, ◌+◌, ◌-◌, ◌^◌, ◌≤◌, IfNone, IfSome, Some};
+ghost use Rattle.syntax65.specs.Trees.{name as name_tree};
+ghost use Rattle.language65.specs.Names.{meaning_of, scoped_meaning, backward_meaning, cheap_meaning, last_of, member_meaning, or_fault, plain_meaning, scopes_of, unnamed_meaning};
+ghost use Rattle.symbols65.specs.Resolving.{defined_place, meaning_in, name_meaning, or_absent, plain_part};
+ghost use Rattle.symbols65.specs.Views.{table_of};
+ghost use Rattle.std.specs.Option.{option_map};
 ghost use Rattle.language65.specs.declared.fault.AsmFault.{AsmFault};
 ghost use Rattle.language65.specs.declared.fault.AsmFault.TheVariants.{NoSuchLabel, Undefined};
-ghost use Rattle.language65.specs.Faults.{is_memory};
-ghost use Rattle.language65.specs.Names.{backward_meaning, cheap_meaning, last_of, meaning_of, member_meaning, or_fault, plain_meaning, scoped_meaning, scopes_of, unnamed_meaning};
 ghost use Rattle.language65.specs.Symbols.{imported};
-ghost use Rattle.symbols65.specs.Resolving.{meaning_in, name_meaning, or_absent, plain_part};
-ghost use Rattle.symbols65.specs.Views.{table_of};
 
-use super::scopes::{defined_outward, scope_of};
-use super::showing::shown;
+use super::scopes::{defined_outward, scope_of, shown};
 use crate::table::{Key, Symbols};
-use base65::Sequence;
+use base65::{Op2, Sequence};
 use language65::{AsmFault, Spot};
+use object65::{FormFault, Node, Norm, Width};
 use std::alloc::Global;
 use syntax65::{Expr, ExprKind, Name};
+
+fn difference(alloc: Global, left: Norm, right: Norm) -> Result<Norm, AsmFault>
+    ensures { Gives is_memory (λ f. f) result (folded (fold2 Subtract left right)) }
+{
+    match Norm::binary(alloc, Op2::Subtract, left, right) {
+        Ok(form) => Ok(form),
+        Err(FormFault::OutOfMemory) => Err(AsmFault::OutOfMemory),
+        Err(FormFault::NoValue) => Err(AsmFault::NoValue),
+        Err(FormFault::TooLarge) => Err(AsmFault::TooLarge),
+    }
+}
+
+/// The form that is stored of an operand: of a branch, how far its target lies from behind it.
+pub fn operand_form(alloc: Global, width: Width, spot: Spot, form: Norm) -> Result<Norm, AsmFault>
+    ensures { Gives is_memory (λ f. f) result (operand_form width spot form) }
+{
+    match width {
+        Width::Branch => {
+            let behind = Norm::new(Node::Sec(spot.segment, i64::from(spot.offset) + 2));
+            difference(alloc, form, behind)
+        }
+        _ => Ok(form),
+    }
+}
+
+/// The place of the definition that a name means with `::`, if it means one.
+fn scoped_definition(symbols: &Symbols, spot: Spot, name: &Name) -> Option<usize>
+    ensures { result ≡ defined_place (scoped_meaning (table_of symbols.now) spot
+        name.now.is_global name.now.parts) }
+{
+    let parts = name.parts.as_slice();
+    let opened = spot.opened as usize;
+    let scope = spot.scope as usize;
+    match scope_of(symbols, opened, scope, name.is_global, scopes_in(parts)) {
+        Some(scope) => {
+            let name = last_in(parts);
+            symbols.defined(Key::Named { scope, name })
+        }
+        None => None,
+    }
+}
+
+/// The place of the definition that a name means where it stands, if it means one: none where it is imported.
+pub fn definition_of(symbols: &Symbols, spot: Spot, name: &Name) -> Option<usize>
+    ensures { result ≡ defined_place (meaning_of (table_of symbols.now) spot
+        (name_tree name.now.is_global name.now.parts)) }
+{
+    match plain_part(name) {
+        Some(part) => defined_outward(symbols, spot.scope as usize, part),
+        None => scoped_definition(symbols, spot, name),
+    }
+}
 
 /// What a name means.
 #[derive(Clone, Copy)]

@@ -1,13 +1,57 @@
-//! Scopes, and what is found in them.
+//! Scopes, what is found in them, and names as they are shown.
 
-ghost use Rattle.std.specs.Prelude.{◌≡◌, Some, take};
-ghost use Rattle.language65.specs.Names.{enclosing, first_found, inside, scope_from, scope_in, scopes_from};
+ghost use Rattle.std.specs.Prelude.{◌≡◌, ◌++◌, IfOk, OnOk, Some, take};
+ghost use Rattle.language65.specs.Names.{joined, shown, enclosing, first_found, inside, scope_from, scope_in, scopes_from};
+ghost use Rattle.symbols65.specs.Resolving.{joined_behind};
 ghost use Rattle.language65.specs.Symbols.{defined, named};
 ghost use Rattle.symbols65.specs.Views.{table_of};
 
 use crate::table::{Key, Symbols};
 use base65::Sequence;
 use language65::GLOBAL_SCOPE;
+use std::alloc::{AllocError, Global};
+
+/// What stands between two parts of a name.
+const BETWEEN: &[u8] = b"::";
+
+/// Adds the parts behind the first.
+fn add_behind(text: &mut Sequence<u8>, parts: &[Sequence<u8>]) -> Result<(), AllocError>
+    ensures { OnOk result (text.new ≡ text.old ++ joined_behind parts.now) }
+{
+    for part in parts {
+        text.extend_from_slice(BETWEEN)?;
+        text.extend_from_slice(part.as_slice())?;
+    }
+    Ok(())
+}
+
+fn add_joined(text: &mut Sequence<u8>, parts: &[Sequence<u8>]) -> Result<(), AllocError>
+    ensures { OnOk result (text.new ≡ text.old ++ joined parts.now) }
+{
+    match parts.split_first() {
+        None => Ok(()),
+        Some((first, behind)) => {
+            text.extend_from_slice(first.as_slice())?;
+            add_behind(text, behind)
+        }
+    }
+}
+
+/// The parts of a name with `::` between them, and before them if it begins so.
+pub fn shown(
+    alloc: Global,
+    is_global: bool,
+    parts: &[Sequence<u8>],
+) -> Result<Sequence<u8>, AllocError>
+    ensures { IfOk result (λ text. text ≡ shown is_global parts.now) }
+{
+    let mut text = Sequence::new(alloc);
+    if is_global {
+        text.extend_from_slice(BETWEEN)?;
+    }
+    add_joined(&mut text, parts)?;
+    Ok(text)
+}
 
 /// The number of the global scope.
 const GLOBAL: usize = GLOBAL_SCOPE as usize;

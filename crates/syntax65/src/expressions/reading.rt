@@ -1,19 +1,44 @@
-//! Reading expressions.
+//! Reading expressions, and names with `::` between them.
 
-ghost use Rattle.std.specs.Prelude.{◌≡◌, ◌<◌, ◌≤◌, length, IfOk};
+ghost use Rattle.std.specs.Prelude.{◌<◌, ◌≤◌, length, IfOk, ◌≡◌};
+ghost use Rattle.syntax65.specs.Expressions.{ReadsNames, IsParsed, ReadsLevel, opening_at, leaf_of};
+ghost use Rattle.syntax65.specs.Tokens.{lexemes};
 ghost use Rattle.syntax65.specs.Faults.{is_expr_outside};
 ghost use Rattle.base65.specs.Relations.{Answers};
-ghost use Rattle.syntax65.specs.Expressions.{IsParsed, ReadsLevel, opening_at, leaf_of};
-ghost use Rattle.syntax65.specs.Tokens.{lexemes};
 ghost use Rattle.syntax65.specs.declared.expressions.words.Opening.TheVariants as opening;
 
-use super::fault::ExprFault;
-use super::names::read_parts;
-use super::places::{closes_at, is_negation, is_scope, opening_at, operator_at, text_at};
 use super::trees::{Expr, ExprKind, Identifier, Name, Operands};
-use super::words::Opening;
-use crate::{Op1, Token};
+use super::words::{
+    ExprFault, Opening, closes_at, is_name, is_negation, is_scope, opening_at, operator_at, text_at,
+};
+use crate::{Op1, Sequence, Token};
 use std::alloc::{AllocError, Global};
+
+/// The names from a place on, as far as `::` goes on, and where they end.
+pub fn read_parts(
+    alloc: Global,
+    tokens: &[Token<'_>],
+    at: usize,
+) -> Result<(Sequence<Sequence<u8>>, usize), ExprFault>
+    requires { at ≤ length tokens.now }
+    ensures parts { ReadsNames (lexemes tokens.now) at result }
+    ensures further { IfOk result (λ r. at < r.1) }
+    ensures inside { IfOk result (λ r. r.1 ≤ length tokens.now) }
+{
+    let mut parts = Sequence::new(alloc);
+    let mut end = at;
+    'parts: loop {
+        if !is_name(tokens, end) {
+            return Err(ExprFault::OperandExpected);
+        }
+        let part = Vec::from_slice(alloc, text_at(tokens, end))?;
+        parts.push(Sequence::from_vec(part))?;
+        if !is_scope(tokens, end + 1) {
+            return Ok((parts, end + 1));
+        }
+        end += 2;
+    }
+}
 
 /// How deep parentheses, prefix operators and negations nest together.
 pub const MAX_DEPTH: u8 = 64;

@@ -1,10 +1,151 @@
-//! What a token means within an expression.
+//! What stands at a place of a list of tokens within an expression, and why there is none.
 
-ghost use Rattle.std.specs.Prelude.{◌≡◌};
-ghost use Rattle.syntax65.specs.Words.{is_register, is_reserved, unnamed, opening_of_mark, opening_of_word, opening_of, binary_of_mark, binary_of_word, binary_of, level_of};
+ghost use Rattle.std.specs.Prelude.{◌≡◌, ◌≢◌, ◌<◌, ◌↔◌, length, slice_get, IfSome, IsSome, IsTrue};
+ghost use Rattle.syntax65.specs.declared.expressions.words.ExprFault.TheVariants.{OutOfMemory};
+ghost use Rattle.std.specs.Option.{option_map};
+ghost use Rattle.syntax65.specs.Expressions.{opening_at, binary_at, text_at, closes_at, IsOperatorUpTo, is_register, is_reserved, unnamed, opening_of_mark, opening_of_word, opening_of, binary_of_mark, binary_of_word, binary_of, level_of};
+ghost use Rattle.syntax65.specs.Tokens.{lexeme_of, lexemes};
 
 use crate::spelling::is_word;
-use crate::{Mark, Op1, Op2, TokenKind, mnemonic};
+use crate::{Mark, Op1, Op2, Token, TokenKind, mnemonic};
+use std::alloc::{AllocError, AllocFailed};
+use std::fmt;
+
+/// Why tokens are no expression.
+#[derive(Clone, Copy, Debug, PartialEq, Eq)]
+pub enum ExprFault {
+    OutOfMemory = 1,
+    OperandExpected = 6,
+    ParenthesisExpected = 7,
+    TooDeep = 8,
+}
+
+impl ExprFault {
+    ghost use Rattle.syntax65.specs.Faults.{expr_fault_words};
+
+    /// The words of a message.
+    pub fn words(self) -> &'static str
+        ensures { result.now ≡ expr_fault_words self }
+    {
+        match self {
+            ExprFault::OutOfMemory => "out of memory",
+            ExprFault::OperandExpected => "operand expected",
+            ExprFault::ParenthesisExpected => "parenthesis expected",
+            ExprFault::TooDeep => "nested too deep",
+        }
+    }
+}
+
+impl fmt::Display for ExprFault {
+    ghost use Rattle.std.specs.Prelude.{Some};
+    ghost use Rattle.syntax65.specs.Faults.{expr_fault_words};
+
+    ghost output = { λ e. Some (expr_fault_words e) };
+
+    fn fmt<W: fmt::Write>(&self, f: &mut fmt::Formatter<W>) -> fmt::Result {
+        f.write_str(self.words())
+    }
+}
+
+impl std::error::Error for ExprFault {}
+
+impl From<AllocError> for ExprFault {
+    ghost from_gives = { λ _ e. e ≡ OutOfMemory };
+
+    fn from(_e: AllocError) -> ExprFault {
+        ExprFault::OutOfMemory
+    }
+}
+
+impl<T: Drop> From<AllocFailed<T>> for ExprFault {
+    ghost from_gives = { λ _ e. e ≡ OutOfMemory };
+
+    fn from(_e: AllocFailed<T>) -> ExprFault {
+        ExprFault::OutOfMemory
+    }
+}
+
+fn token_at<'a>(tokens: &[Token<'a>], at: usize) -> Option<Token<'a>>
+    ensures value { option_map lexeme_of result ≡ slice_get (lexemes tokens.now) at }
+    ensures inside { IsSome result → at < length tokens.now }
+{
+    tokens.get(at).copied()
+}
+
+/// How the token at a place can begin an operand.
+pub fn opening_at(tokens: &[Token<'_>], at: usize) -> Opening
+    ensures value { result ≡ opening_at (lexemes tokens.now) at }
+    ensures inside { result ≢ Opening.Nothing → at < length tokens.now }
+{
+    match token_at(tokens, at) {
+        Some(token) => opening_of(token.kind, token.text),
+        None => Opening::Nothing,
+    }
+}
+
+/// Whether a name stands at a place.
+pub fn is_name(tokens: &[Token<'_>], at: usize) -> bool
+    ensures value { IsTrue result ↔ (opening_at (lexemes tokens.now) at ≡ Opening.Name) }
+    ensures inside { IsTrue result → at < length tokens.now }
+{
+    matches!(opening_at(tokens, at), Opening::Name)
+}
+
+/// Whether a `::` stands at a place.
+pub fn is_scope(tokens: &[Token<'_>], at: usize) -> bool
+    ensures value { IsTrue result ↔ (opening_at (lexemes tokens.now) at ≡ Opening.Scope) }
+    ensures inside { IsTrue result → at < length tokens.now }
+{
+    matches!(opening_at(tokens, at), Opening::Scope)
+}
+
+/// Whether a `!` stands at a place.
+pub fn is_negation(tokens: &[Token<'_>], at: usize) -> bool
+    ensures value { IsTrue result ↔ (opening_at (lexemes tokens.now) at ≡ Opening.Negation) }
+    ensures inside { IsTrue result → at < length tokens.now }
+{
+    matches!(opening_at(tokens, at), Opening::Negation)
+}
+
+/// The bytes of the token at a place, none where there is no token.
+pub fn text_at<'a>(tokens: &[Token<'a>], at: usize) -> &'a [u8]
+    ensures { result.now ≡ text_at (lexemes tokens.now) at }
+{
+    match token_at(tokens, at) {
+        Some(token) => token.text,
+        None => b"",
+    }
+}
+
+/// The operator at a place, and its level, where that is at most `level`.
+pub fn operator_at(tokens: &[Token<'_>], level: u8, at: usize) -> Option<(Op2, u8)>
+    ensures value { IsOperatorUpTo (lexemes tokens.now) level at result }
+    ensures some { IfSome result (λ x. 0 < x.1) }
+    ensures inside { IsSome result → at < length tokens.now }
+{
+    let op = binary_at(tokens, at)?;
+    let own = level_of(op);
+    if own <= level { Some((op, own)) } else { None }
+}
+
+fn binary_at(tokens: &[Token<'_>], at: usize) -> Option<Op2>
+    ensures value { result ≡ binary_at (lexemes tokens.now) at }
+    ensures inside { IsSome result → at < length tokens.now }
+{
+    let token = token_at(tokens, at)?;
+    binary_of(token.kind, token.text)
+}
+
+/// Whether a `)` stands at a place.
+pub fn closes_at(tokens: &[Token<'_>], at: usize) -> bool
+    ensures value { result ≡ closes_at (lexemes tokens.now) at }
+    ensures inside { IsTrue result → at < length tokens.now }
+{
+    match token_at(tokens, at) {
+        Some(token) => matches!(token.kind, TokenKind::Symbol(Mark::CloseParenthesis)),
+        None => false,
+    }
+}
 
 /// How a token can begin an operand, or what it is in its place.
 #[derive(Clone, Copy)]

@@ -1,8 +1,7 @@
 //! What a line begins with, where its tokens aren't kept.
 
 ghost use Rattle.std.specs.Prelude.{◌∷◌, ◌++◌, [], List};
-ghost use Rattle.syntax65.specs.Tokens.{Lexeme, lexeme_of};
-ghost use Rattle.syntax65.specs.Scanned.{IsFront, IsScanned};
+ghost use Rattle.syntax65.specs.Tokens.{Lexeme, lexeme_of, IsFront, IsScanned};
 
 use super::fault::LexFault;
 use super::lexer::Lexer;

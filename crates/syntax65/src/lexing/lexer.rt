@@ -1,7 +1,7 @@
 //! The tokens of a line, one after the other.
 
 ghost use Rattle.std.specs.Prelude.{◌<◌, IfOk, IfSome, length};
-ghost use Rattle.syntax65.specs.Lexing.{IsCutOff, IsNext, IsStart};
+ghost use Rattle.syntax65.specs.Tokens.{IsCutOff, IsNext, IsStart};
 
 use super::fault::LexFault;
 use super::lines::{MAX_LINE, is_end, skip_blanks};

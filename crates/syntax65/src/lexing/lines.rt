@@ -3,13 +3,12 @@
 ghost use Rattle.std.specs.Prelude.{◌≡◌, ◌≤◌, ◌↔◌, ◌++◌, ◌∷◌, [], IsTrue};
 ghost use Rattle.syntax65.specs.Faults.{is_lex_outside};
 ghost use Rattle.base65.specs.Relations.{Answers};
-ghost use Rattle.syntax65.specs.Lexing.{ReadsOn};
+ghost use Rattle.syntax65.specs.Tokens.{ReadsOn, after_blanks, lexeme_of, lexemes, IsEnd, IsRead};
 ghost use Rattle.syntax65.specs.Held.{HoldsNothing, held};
-ghost use Rattle.syntax65.specs.Tokens.{after_blanks, lexeme_of, lexemes, IsEnd, IsRead};
 
 use super::fault::LexFault;
 use super::lexer::Lexer;
-use super::scanning::blank_len;
+use super::places::blank_len;
 use super::tokens::{Token, TokenKind};
 use std::alloc::{AllocError, Global};
 

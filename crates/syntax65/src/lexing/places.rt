@@ -1,17 +1,250 @@
-//! The token at a place.
+//! The token at a place: its class, its marks, its number.
 
-ghost use Rattle.std.specs.Prelude.{◌↔◌, Bool, None, IsTrue};
-ghost use Rattle.syntax65.specs.Forms.{Begins, IsSize, NotColonOrEqual};
-ghost use Rattle.syntax65.specs.Inner.Places.{IsAt, IsPrefixAt, IsLongMarkAt, BeginsNumber, BeginsSigned, BeginsMark};
+ghost use Rattle.std.specs.Prelude.{◌≡◌, ◌==◌, ◌≤◌, length, ◌∷◌, [], ◌<◌, ◌+◌, IfSome, ◌↔◌, Bool, None, IsTrue};
+ghost use Rattle.syntax65.specs.Forms.{class_of, is_word, is_blank, is_no_quote, IsMark, Begins, IsSize, NotColonOrEqual, IsRadix, digits, number_of, plain_number_of};
+ghost use Rattle.std.specs.List.{prefix_len};
+ghost use Rattle.syntax65.specs.Inner.Places.{AreDigitsAhead, IsPlainNumber, IsAt, IsPrefixAt, IsLongMarkAt, BeginsNumber, BeginsSigned, BeginsMark};
 ghost use Rattle.syntax65.specs.Tokens.{IsEnd};
-ghost use Rattle.syntax65.specs.declared.lexing.classes.Class.TheVariants.{Letter, Apostrophe, Quote, Colon, Blank};
+ghost use Rattle.syntax65.specs.declared.lexing.places.Class.TheVariants.{Letter, Apostrophe, Quote, Colon, Blank};
 
-use super::classes::{Class, class_of};
 use super::fault::LexFault;
-use super::marks::{mark_of_one, mark_of_two};
-use super::numbers::{number_of, plain_digits};
-use super::scanning::{run_len, text_len, word_len};
 use super::tokens::{AddressSize, Mark, TokenKind};
+
+/// What a byte may begin.
+#[derive(Clone, Copy)]
+pub enum Class {
+    Letter,
+    Digit,
+    Radix,
+    At,
+    Dot,
+    Apostrophe,
+    Quote,
+    Colon,
+    Semicolon,
+    Blank,
+    Other,
+}
+
+/// The class of a byte.
+#[inline(always)]
+pub fn class_of(b: u8) -> Class
+    ensures { result ≡ class_of b }
+{
+    // Most bytes of a source are small letters.
+    if b.is_ascii_lowercase() {
+        return Class::Letter;
+    }
+    match b {
+        b'a'..=b'z' | b'A'..=b'Z' | b'_' => Class::Letter,
+        b'0'..=b'9' => Class::Digit,
+        b'$' | b'%' => Class::Radix,
+        b'@' => Class::At,
+        b'.' => Class::Dot,
+        b'\'' => Class::Apostrophe,
+        b'"' => Class::Quote,
+        b':' => Class::Colon,
+        b';' => Class::Semicolon,
+        b' ' | b'\t' => Class::Blank,
+        _ => Class::Other,
+    }
+}
+
+/// Whether each byte is a letter, a digit or `_`.
+const WORDS: [bool; 256] = [
+    false, false, false, false, false, false, false, false, false, false, false, false, false,
+    false, false, false, false, false, false, false, false, false, false, false, false, false,
+    false, false, false, false, false, false, false, false, false, false, false, false, false,
+    false, false, false, false, false, false, false, false, false, true, true, true, true, true,
+    true, true, true, true, true, false, false, false, false, false, false, false, true, true,
+    true, true, true, true, true, true, true, true, true, true, true, true, true, true, true, true,
+    true, true, true, true, true, true, true, true, false, false, false, false, true, false, true,
+    true, true, true, true, true, true, true, true, true, true, true, true, true, true, true, true,
+    true, true, true, true, true, true, true, true, true, false, false, false, false, false, false,
+    false, false, false, false, false, false, false, false, false, false, false, false, false,
+    false, false, false, false, false, false, false, false, false, false, false, false, false,
+    false, false, false, false, false, false, false, false, false, false, false, false, false,
+    false, false, false, false, false, false, false, false, false, false, false, false, false,
+    false, false, false, false, false, false, false, false, false, false, false, false, false,
+    false, false, false, false, false, false, false, false, false, false, false, false, false,
+    false, false, false, false, false, false, false, false, false, false, false, false, false,
+    false, false, false, false, false, false, false, false, false, false, false, false, false,
+    false, false, false, false, false, false, false, false, false, false, false, false, false,
+    false, false, false, false, false, false, false, false, false, false,
+];
+
+/// Whether the byte may stand behind the first of a name or number.
+#[inline(always)]
+pub fn is_word(b: u8) -> bool
+    ensures { result ≡ is_word b }
+{
+    WORDS[usize::from(b)]
+}
+
+/// Whether the byte parts tokens.
+#[inline]
+pub fn is_blank(b: u8) -> bool
+    ensures { result ≡ is_blank b }
+{
+    b == b' ' || b == b'\t'
+}
+
+/// How many bytes at the front are letters, digits or `_`.
+pub fn word_len(bytes: &[u8]) -> usize
+    ensures count { result ≡ prefix_len is_word bytes.now }
+    ensures within { result ≤ length bytes.now }
+{
+    bytes.iter().take_while(|b| is_word(**b)).count()
+}
+
+/// How many bytes at the front are this one.
+pub fn run_len(byte: u8, bytes: &[u8]) -> usize
+    ensures count { result ≡ prefix_len (λ b. b == byte) bytes.now }
+    ensures within { result ≤ length bytes.now }
+{
+    bytes.iter().take_while(|b| **b == byte).count()
+}
+
+/// How many bytes at the front are blanks or tabs.
+pub fn blank_len(bytes: &[u8]) -> usize
+    ensures count { result ≡ prefix_len is_blank bytes.now }
+    ensures within { result ≤ length bytes.now }
+{
+    bytes.iter().take_while(|b| is_blank(**b)).count()
+}
+
+/// How many bytes at the front are no `"`.
+pub fn text_len(bytes: &[u8]) -> usize
+    ensures count { result ≡ prefix_len is_no_quote bytes.now }
+    ensures within { result ≤ length bytes.now }
+{
+    bytes.iter().take_while(|b| **b != b'"').count()
+}
+
+/// The mark of these two bytes.
+pub fn mark_of_two(first: u8, second: u8) -> Option<Mark>
+    ensures { IsMark (first ∷ second ∷ []) result }
+{
+    match (first, second) {
+        (b':', b':') => Some(Mark::Scope),
+        (b':', b'=') => Some(Mark::Define),
+        (b'<', b'>') => Some(Mark::NotEqual),
+        (b'<', b'=') => Some(Mark::LessOrEqual),
+        (b'>', b'=') => Some(Mark::GreaterOrEqual),
+        (b'<', b'<') => Some(Mark::ShiftLeft),
+        (b'>', b'>') => Some(Mark::ShiftRight),
+        (b'&', b'&') => Some(Mark::BothTrue),
+        (b'|', b'|') => Some(Mark::EitherTrue),
+        _ => None,
+    }
+}
+
+/// The mark of this byte.
+pub fn mark_of_one(byte: u8) -> Option<Mark>
+    ensures { IsMark (byte ∷ []) result }
+{
+    Some(match byte {
+        b':' => Mark::Colon,
+        b'+' => Mark::Plus,
+        b'-' => Mark::Minus,
+        b'*' => Mark::Star,
+        b'/' => Mark::Slash,
+        b'&' => Mark::Ampersand,
+        b'|' => Mark::Bar,
+        b'^' => Mark::Caret,
+        b'~' => Mark::Tilde,
+        b'<' => Mark::Less,
+        b'>' => Mark::Greater,
+        b'=' => Mark::Equal,
+        b'!' => Mark::Exclamation,
+        b'(' => Mark::OpenParenthesis,
+        b')' => Mark::CloseParenthesis,
+        b'#' => Mark::Hash,
+        b',' => Mark::Comma,
+        b'{' => Mark::OpenBrace,
+        b'}' => Mark::CloseBrace,
+        _ => return None,
+    })
+}
+
+/// The value of a number's text, if it is one.
+pub fn number_of(text: &[u8]) -> Option<u32>
+    ensures { result ≡ number_of text.now }
+{
+    match *text.first()? {
+        b'$' => digits_value(16, &text[1..]),
+        b'%' => digits_value(2, &text[1..]),
+        _ => plain_number(text),
+    }
+}
+
+/// The value and the length of a number at the front whose digits go on up to its end, without an `h`.
+pub fn plain_digits(here: &[u8]) -> Option<(u32, usize)>
+    ensures { IfSome result (λ r. IsPlainNumber here.now r.0 r.1) }
+{
+    match *here.first()? {
+        b'$' => behind_sign(digits_ahead(16, &here[1..])?),
+        b'%' => behind_sign(digits_ahead(2, &here[1..])?),
+        _ => digits_ahead(10, here),
+    }
+}
+
+/// The same with the sign before the digits.
+fn behind_sign(digits: (u32, usize)) -> Option<(u32, usize)>
+    ensures { IfSome result (λ r. (r.0 ≡ digits.0) × (r.1 ≡ 1 + digits.1)) }
+{
+    Some((digits.0, digits.1.checked_add(1)?))
+}
+
+/// The value of one digit or more at the front, and how many there are, where none of a name's bytes stands behind them.
+fn digits_ahead(radix: u32, bytes: &[u8]) -> Option<(u32, usize)>
+    requires { IsRadix radix }
+    ensures { IfSome result (λ r. AreDigitsAhead radix bytes.now r.0 r.1) }
+{
+    let mut number = 0u32;
+    let mut len = 0;
+    'digits: while len < bytes.len() {
+        let byte = bytes[len];
+        let Some(digit) = char::from(byte).to_digit(radix) else {
+            if len == 0 || is_word(byte) {
+                return None;
+            }
+            return Some((number, len));
+        };
+        number = number.checked_mul(radix)?.checked_add(digit)?;
+        len += 1;
+    }
+    if len == 0 { None } else { Some((number, len)) }
+}
+
+/// The value of hex digits and `h`, or of decimal digits.
+fn plain_number(text: &[u8]) -> Option<u32>
+    requires { 0 < length text.now }
+    ensures { result ≡ plain_number_of text.now }
+{
+    let last = text.len() - 1;
+    if text[last] == b'h' {
+        digits_value(16, &text[..last])
+    } else {
+        digits_value(10, text)
+    }
+}
+
+/// The value of one digit or more, if it is below 2 ^ 32.
+fn digits_value(radix: u32, text: &[u8]) -> Option<u32>
+    requires { IsRadix radix }
+    ensures { result ≡ digits radix text.now }
+{
+    if text.is_empty() {
+        return None;
+    }
+    let mut value = 0u32;
+    for byte in text {
+        let digit = char::from(*byte).to_digit(radix)?;
+        value = value.checked_mul(radix)?.checked_add(digit)?;
+    }
+    Some(value)
+}
 
 /// How many bytes a name has at most, without its `@` or `.`.
 pub const MAX_NAME: usize = 200;

@@ -13,7 +13,7 @@ use Rattle.asm65.specs.Inner.Resolving.{IsFaulty, made_in}
 use Rattle.language65.specs.Views.{place_in}
 use Rattle.asm65.specs.declared.resolving.Made.{Made as CodeMade}
 use Rattle.asm65.proofs.Insides.{resolved_inside}
-use Rattle.asm65.proofs.Comings.{found_inside, no_more, unless, waiting_comes}
+use Rattle.asm65.proofs.Conclusions.{found_inside, no_more, unless, waiting_comes}
 use Rattle.asm65.proofs.concluding.settle.Goals as goal
 
 pub returns-in-Ok-take_made-clause-settled : goal.returns-in-Ok-take_made-clause-settled

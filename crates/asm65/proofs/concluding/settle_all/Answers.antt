@@ -4,9 +4,9 @@ use Rattle.std.proofs.lemmas.Grind.{common_steps}
 use Rattle.std.specs.Vec.Iter.{into_iter_items}
 use Rattle.module65.specs.Machine as machine
 use Rattle.symbols65.specs.Views.{table_of}
-use Rattle.asm65.specs.declared.waiting.Waiting.{Waiting}
+use Rattle.asm65.specs.declared.assembler.Waiting.{Waiting}
 use Rattle.asm65.specs.Inner.Holding.{AreWaiting}
-use Rattle.asm65.proofs.Goings.{SoFar, begins, ends, goes_on, stops}
+use Rattle.asm65.proofs.Conclusions.{SoFar, begins, ends, goes_on, stops}
 use Rattle.asm65.proofs.concluding.settle_all.Goals as goal
 
 pub loop-one-init : goal.loop-one-init

@@ -4,7 +4,7 @@ use Rattle.module65.specs.Machine as machine
 use Rattle.symbols65.specs.Resolving.{IsTable}
 use Rattle.symbols65.specs.Views.{table_of}
 use Rattle.asm65.specs.Inner.Holding.{AreWaiting}
-use Rattle.asm65.proofs.Goings.{SoFar}
+use Rattle.asm65.proofs.Conclusions.{SoFar}
 use Rattle.asm65.proofs.concluding.settle_all.Given as goal
 
 abbrev pub invariant-loop-one : goal.invariant-loop-one

@@ -3,9 +3,9 @@ use Rattle.std.proofs.lemmas.Result.{err_from_is_err_and}
 use Rattle.base65.specs.Store.{IsBlamed}
 use Rattle.expand65.specs.Includes.{beside, file_named}
 use Rattle.language65.specs.Views.{place_in}
-use Rattle.asm65.proofs.NamedFiles.{part_read}
+use Rattle.asm65.proofs.WholeFiles.{part_read}
 use Rattle.asm65.proofs.Runs.{told_then}
-use Rattle.asm65.proofs.UnreadFiles.{failed_unread, refused_unread}
+use Rattle.asm65.proofs.Takings.{failed_unread, refused_unread}
 use Rattle.asm65.proofs.files.with_bytes.Goals as goal
 
 pub returns-in_err-check_unread-in-NamedPart-clause-refused : goal.returns-in_err-check_unread-in-NamedPart-clause-refused

@@ -5,7 +5,7 @@ use Rattle.language65.specs.Faults.{is_outside}
 use Rattle.language65.specs.Sound.{AreNamed}
 use Rattle.language65.specs.declared.language.Statement.{Statement}
 use Rattle.language65.specs.declared.language.Statement.TheVariants.{Instruction}
-use Rattle.layout65.proofs.Steps.{unless_then}
+use Rattle.layout65.proofs.Measures.{unless_then}
 use Rattle.statements65.specs.Parsing.{IsOperand}
 use Rattle.asm65.specs.Inner.Files.{read_bytes}
 use Rattle.language65.specs.Views.{place_in}

@@ -3,8 +3,8 @@ use Rattle.std.specs.Prelude.{IfSome}
 use Rattle.std.proofs.lemmas.Result.{err_from_is_err_and}
 use Rattle.syntax65.specs.Held.{held}
 use Rattle.syntax65.specs.Tokens.{Lexeme}
-use Rattle.reader65.specs.Peeking.{next_number}
-use Rattle.reader65.specs.declared.peeking.Peeked.{Peeked}
+use Rattle.reader65.specs.Plain.{next_number}
+use Rattle.reader65.specs.declared.passing.Peeked.{Peeked}
 use Rattle.expand65.specs.AtHand.{IsAhead, IsOfKind}
 use Rattle.expand65.specs.Standing.{place_of}
 use Rattle.expand65.specs.declared.at_hand.Kind.TheVariants as kind

@@ -1,6 +1,6 @@
 use Rattle.std.proofs.Common.{arith, sym, ap}
 use Rattle.std.specs.Char.{digit_value}
-use Rattle.syntax65.proofs.Digits.{stops, ends}
+use Rattle.syntax65.proofs.Numbers.{stops, ends}
 use Rattle.cli65.proofs.numbers.digits_value.Goals as goal
 
 pub returns-in_err-checked_mul : goal.returns-in_err-checked_mul

@@ -1,6 +1,6 @@
 use Rattle.std.proofs.Common.{◌≡◌, ◌<◌, ◌^◌, drop}
-use Rattle.syntax65.specs.Numbers.{digits}
-use Rattle.syntax65.proofs.Digits.{digits_from}
+use Rattle.syntax65.specs.Forms.{digits}
+use Rattle.syntax65.proofs.Numbers.{digits_from}
 use Rattle.cli65.proofs.numbers.digits_value.Given as goal
 
 abbrev pub invariant-loop-byte : goal.invariant-loop-byte

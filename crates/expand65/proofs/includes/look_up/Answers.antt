@@ -6,7 +6,7 @@ use Rattle.source65.specs.Faults.{is_outside}
 use Rattle.expand65.specs.Includes.{file_named, found_or}
 use Rattle.expand65.specs.Inner.Seeking.{file_of, is_there}
 use Rattle.source65.specs.declared.fault.ExpandFault.{ExpandFault}
-use Rattle.expand65.proofs.Acting.{where_known}
+use Rattle.expand65.proofs.Going.{where_known}
 use Rattle.expand65.proofs.Seeking.{is_found, is_missing, is_refused}
 use Rattle.expand65.proofs.includes.look_up.Goals as goal
 

@@ -1,6 +1,6 @@
 use Rattle.std.proofs.Common.{ap}
 use Rattle.reader65.specs.Fronts.{understood}
-use Rattle.expand65.proofs.Distinct.{names_again, names_more}
+use Rattle.expand65.proofs.Names.{names_again, names_more}
 use Rattle.expand65.proofs.macros.distinct.Goals as goal
 
 pub returns-then-not-is_new-clause-set : goal.returns-then-not-is_new-clause-set

@@ -2,7 +2,7 @@ use Rattle.std.proofs.Common.{Some}
 use Rattle.std.proofs.lemmas.Result.{err_from_is_err_and}
 use Rattle.syntax65.specs.Tokens.{lexemes}
 use Rattle.expand65.specs.Macros.{params_of}
-use Rattle.expand65.proofs.Repeating.{refused_on}
+use Rattle.expand65.proofs.Defining.{refused_on}
 use Rattle.expand65.proofs.macros.header_with.Goals as goal
 
 pub returns-in_err-params-clause-header : goal.returns-in_err-params-clause-header

@@ -5,7 +5,7 @@ use Rattle.language65.specs.declared.fault.AsmFault.{AsmFault}
 use Rattle.language65.specs.Faults.{is_memory}
 use Rattle.language65.specs.declared.laid.Spot.{Spot}
 use Rattle.language65.specs.LineFaults.{unless_fault}
-use Rattle.layout65.specs.Views.{standing_of}
+use Rattle.layout65.specs.Sounds.{standing_of}
 use Rattle.layout65.specs.declared.measuring.Measured.{Measured}
 use Rattle.layout65.specs.Measuring.{naming_fault}
 use Rattle.symbols65.specs.Views.{table_of}

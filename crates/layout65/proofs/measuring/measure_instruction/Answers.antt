@@ -7,7 +7,7 @@ use Rattle.language65.specs.Faults.{is_memory}
 use Rattle.language65.specs.declared.laid.Spot.{Spot}
 use Rattle.language65.specs.Layout.{spot_of}
 use Rattle.language65.specs.LineFaults.{lost_scopes, operand_trees, unless_fault}
-use Rattle.layout65.specs.Views.{standing_of}
+use Rattle.layout65.specs.Sounds.{standing_of}
 use Rattle.layout65.specs.declared.measuring.Measured.{Measured}
 use Rattle.symbols65.specs.Views.{table_of}
 use Rattle.layout65.proofs.Measures.{last_of_two, measured_named, measured_refused, refused_same, room_of}

@@ -1,4 +1,4 @@
-use Rattle.reader65.specs.Kept.{tokens_in}
+use Rattle.reader65.specs.Playing.{tokens_in}
 use Rattle.reader65.proofs.Plainly.{plain_passed}
 use Rattle.reader65.proofs.blocks.passed.Goals as goal
 

@@ -1,4 +1,4 @@
-use Rattle.reader65.specs.Kept.{tokens_in}
+use Rattle.reader65.specs.Playing.{tokens_in}
 use Rattle.reader65.proofs.Plainly.{plain_skipped}
 use Rattle.reader65.proofs.blocks.skipped.Goals as goal
 

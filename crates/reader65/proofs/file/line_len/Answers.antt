@@ -1,5 +1,5 @@
 use Rattle.std.proofs.Common.{◌∙◌, sym}
-use Rattle.reader65.proofs.LineEnds.{line_end, within}
+use Rattle.reader65.proofs.Lines.{line_end, within}
 use Rattle.reader65.proofs.file.line_len.Goals as goal
 
 pub returns-clause-count : goal.returns-clause-count

@@ -1,6 +1,5 @@
 use Rattle.std.proofs.Common.{◌+◌, ◌∷◌, [], ◌++◌, map, ap, ◌∙◌, arith, refl, inl, inr, length}
-use Rattle.reader65.specs.Kept.{tokens_in}
-use Rattle.reader65.specs.Playing.{replacing_of}
+use Rattle.reader65.specs.Playing.{tokens_in, replacing_of}
 use Rattle.reader65.specs.Replacing.{Replacing}
 use Rattle.reader65.specs.declared.playing.Replay.{Replay}
 use Rattle.reader65.proofs.Turning.{turns_over, next_turn, turn_begins}

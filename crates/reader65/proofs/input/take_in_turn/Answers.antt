@@ -1,6 +1,5 @@
 use Rattle.std.proofs.Common.{◌-◌, map, ap, sym, ◌∙◌}
-use Rattle.reader65.specs.Kept.{tokens_in}
-use Rattle.reader65.specs.Playing.{left_to_play, replacing_of}
+use Rattle.reader65.specs.Playing.{tokens_in, left_to_play, replacing_of}
 use Rattle.reader65.specs.Left.{turns}
 use Rattle.reader65.proofs.Turning.{takes_before}
 use Rattle.reader65.proofs.input.take_in_turn.Goals as goal

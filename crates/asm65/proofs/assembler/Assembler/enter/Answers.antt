@@ -4,8 +4,7 @@ use Rattle.language65.specs.declared.language.Statement.{Statement}
 use Rattle.language65.specs.declared.language.Statement.TheVariants as statement
 use Rattle.language65.specs.Views.{place_in}
 use Rattle.module65.specs.Pieces.{exported}
-use Rattle.asm65.proofs.Namings.{mentions_enter}
-use Rattle.asm65.proofs.Statements.{adds_cheap, adds_constant, adds_forced, adds_globals, adds_imports, adds_label, adds_pieces, adds_proc, adds_scope, adds_unnamed, nothing_behind, taken_as}
+use Rattle.asm65.proofs.Namings.{mentions_enter, adds_cheap, adds_constant, adds_forced, adds_globals, adds_imports, adds_label, adds_pieces, adds_proc, adds_scope, adds_unnamed, nothing_behind, taken_as}
 use Rattle.asm65.proofs.assembler.Assembler.enter.Goals as goal
 
 pub returns-in-Instruction : goal.returns-in-Instruction

@@ -1,6 +1,6 @@
 use Rattle.language65.specs.Contents.{opcode_part}
 use Rattle.asm65.proofs.Enterings.{given_enters}
-use Rattle.layout65.proofs.Steps.{ok_then}
+use Rattle.layout65.proofs.Measures.{ok_then}
 use Rattle.asm65.proofs.assembler.Assembler.enter_code.Goals as goal
 
 pub returns : goal.returns

@@ -7,7 +7,7 @@ use Rattle.language65.specs.Views.{place_in}
 use Rattle.module65.specs.Pieces.{given, operand_pieces}
 use Rattle.asm65.specs.Inner.Holding.{Enters}
 use Rattle.asm65.proofs.Enterings.{enters_both}
-use Rattle.layout65.proofs.Steps.{ok_then}
+use Rattle.layout65.proofs.Measures.{ok_then}
 use Rattle.asm65.proofs.assembler.Assembler.enter_instruction.Goals as goal
 
 pub returns : goal.returns

@@ -4,7 +4,7 @@ use Rattle.language65.specs.Parts.{Known}
 use Rattle.language65.specs.Views.{place_in}
 use Rattle.sections65.specs.Standing.{Feeds}
 use Rattle.asm65.proofs.Enterings.{given_enters}
-use Rattle.layout65.proofs.Steps.{ok_then}
+use Rattle.layout65.proofs.Measures.{ok_then}
 use Rattle.asm65.proofs.assembler.Assembler.enter_item.Goals as goal
 
 pub returns-in-Value : goal.returns-in-Value

@@ -5,7 +5,7 @@ use Rattle.language65.specs.Items.{numbered}
 use Rattle.language65.specs.Parts.{Known}
 use Rattle.language65.specs.Views.{place_in}
 use Rattle.language65.specs.declared.language.Item.{Item}
-use Rattle.layout65.proofs.Steps.{ok_then}
+use Rattle.layout65.proofs.Measures.{ok_then}
 use Rattle.module65.specs.Pieces.{item_piece}
 use Rattle.sections65.specs.Standing.{Feeds}
 use Rattle.asm65.specs.Inner.Holding.{Enters}

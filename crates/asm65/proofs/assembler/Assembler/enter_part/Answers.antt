@@ -1,7 +1,7 @@
 use Rattle.language65.specs.Parts.{Known}
 use Rattle.language65.specs.Contents.{file_bytes}
 use Rattle.asm65.proofs.Enterings.{given_enters}
-use Rattle.layout65.proofs.Steps.{ok_then}
+use Rattle.layout65.proofs.Measures.{ok_then}
 use Rattle.asm65.proofs.assembler.Assembler.enter_part.Goals as goal
 
 pub returns : goal.returns

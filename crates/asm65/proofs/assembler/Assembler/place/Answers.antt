@@ -9,11 +9,10 @@ use Rattle.language65.specs.Layout as layout
 use Rattle.language65.specs.Layout.{Standing}
 use Rattle.language65.specs.Symbols.{Symbols}
 use Rattle.language65.specs.Views.{place_in}
-use Rattle.layout65.specs.Advancing.{advanced}
+use Rattle.layout65.specs.Measuring.{advanced}
 use Rattle.layout65.specs.Counting.{AreInside, HasNumbers}
 use Rattle.layout65.specs.declared.measuring.Measured.{Measured}
-use Rattle.layout65.specs.Sounds.{IsCounted}
-use Rattle.layout65.specs.Views.{standing_of}
+use Rattle.layout65.specs.Sounds.{IsCounted, standing_of}
 use Rattle.layout65.specs.declared.standing.Standing as code
 use Rattle.layout65.specs.declared.measuring.Measured as found
 use Rattle.layout65.proofs.Behind.{has_numbers, without_fault}

@@ -4,7 +4,7 @@ use Rattle.module65.specs.Pieces.{datum, valued}
 use Rattle.asm65.specs.declared.assembler.Assembler.{Assembler}
 use Rattle.asm65.specs.Inner.Putting.{IsPut, IsTried}
 use Rattle.asm65.proofs.Enterings.{datum_tried}
-use Rattle.layout65.proofs.Steps.{ok_with}
+use Rattle.layout65.proofs.Measures.{ok_with}
 use Rattle.asm65.proofs.assembler.Assembler.put_datum.Goals as goal
 
 pub returns-in-Some : goal.returns-in-Some

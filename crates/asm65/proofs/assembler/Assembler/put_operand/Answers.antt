@@ -3,7 +3,7 @@ use Rattle.module65.specs.Pieces.{operand, valued}
 use Rattle.asm65.specs.declared.assembler.Assembler.{Assembler}
 use Rattle.asm65.specs.Inner.Putting.{IsPut, IsTried, operand_stored}
 use Rattle.asm65.proofs.Enterings.{operand_tried}
-use Rattle.layout65.proofs.Steps.{ok_with}
+use Rattle.layout65.proofs.Measures.{ok_with}
 use Rattle.asm65.proofs.assembler.Assembler.put_operand.Goals as goal
 
 pub returns-in-Some : goal.returns-in-Some

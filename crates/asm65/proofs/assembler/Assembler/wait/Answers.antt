@@ -1,8 +1,8 @@
 use Rattle.std.proofs.Common.{refl}
 use Rattle.language65.specs.Views.{place_in}
 use Rattle.asm65.specs.declared.assembler.Assembler.{Assembler}
-use Rattle.asm65.specs.declared.waiting.Waiting.{Waiting}
-use Rattle.layout65.proofs.Steps.{ok_then}
+use Rattle.asm65.specs.declared.assembler.Waiting.{Waiting}
+use Rattle.layout65.proofs.Measures.{ok_then}
 use Rattle.asm65.proofs.Waitings.{waits_behind}
 use Rattle.asm65.proofs.assembler.Assembler.wait.Goals as goal
 

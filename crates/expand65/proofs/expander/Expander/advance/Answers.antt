@@ -6,10 +6,10 @@ use Rattle.expand65.specs.Rewriting.{state_of, turned}
 use Rattle.expand65.specs.Standing.{led, place_of, state_in}
 use Rattle.expand65.specs.State.{stops}
 use Rattle.expand65.specs.Step.{IsStep}
-use Rattle.expand65.specs.Stopping.{StopsReading}
+use Rattle.expand65.specs.Failing.{StopsReading}
 use Rattle.expand65.specs.declared.rewriter.Turn.{Turn}
 use Rattle.reader65.specs.Inside.{mark_of}
-use Rattle.reader65.proofs.Gathering.{moved_to}
+use Rattle.reader65.proofs.Lines.{moved_to}
 use Rattle.expand65.proofs.Going.{came_to_end, came_to_fault, gave, goes_on, none_led}
 use Rattle.expand65.proofs.Stopping.{gone_on, none_gone, stops_later}
 use Rattle.expand65.proofs.expander.Expander.advance.Goals as goal

@@ -1,6 +1,6 @@
 use Rattle.std.proofs.Common.{refl}
 use Rattle.expand65.specs.Standing.{state_in}
-use Rattle.expand65.specs.Stopping.{no_step}
+use Rattle.expand65.specs.Failing.{no_step}
 use Rattle.expand65.specs.declared.expander.Expander.{Expander}
 use Rattle.expand65.specs.declared.expander.Front.TheVariants.{Nothing}
 use Rattle.expand65.proofs.AtHand.{rest_passed}

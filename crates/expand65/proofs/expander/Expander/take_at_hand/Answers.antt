@@ -1,6 +1,6 @@
-use Rattle.reader65.specs.Kept.{tokens_in}
+use Rattle.reader65.specs.Playing.{tokens_in}
 use Rattle.expand65.specs.Standing.{state_in, stated}
-use Rattle.expand65.specs.Stopping.{no_step}
+use Rattle.expand65.specs.Failing.{no_step}
 use Rattle.expand65.proofs.AtHand.{label_given, none_given, plain_given, rest_behind}
 use Rattle.expand65.proofs.expander.Expander.take_at_hand.Goals as goal
 

@@ -1,5 +1,5 @@
 use Rattle.std.proofs.Common.{◌≡◌, sym, subst}
-use Rattle.reader65.specs.Kept.{tokens_in}
+use Rattle.reader65.specs.Playing.{tokens_in}
 use Rattle.expand65.specs.AtHand.{IsOfKind}
 use Rattle.expand65.specs.Expansion.{Reaches, statement}
 use Rattle.expand65.specs.Rewriting.{state_of}

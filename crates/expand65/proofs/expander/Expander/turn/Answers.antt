@@ -1,13 +1,12 @@
 use Rattle.std.proofs.Common.{◌∙◌, sym}
 use Rattle.expand65.specs.Conditions.{IsIf}
 use Rattle.reader65.specs.Fronts.{front_directive}
-use Rattle.reader65.specs.Kept.{tokens_in}
+use Rattle.reader65.specs.Playing.{tokens_in}
 use Rattle.expand65.specs.Rewriting.{Turns, state_of}
 use Rattle.expand65.specs.Standing.{state_in}
 use Rattle.expand65.specs.Step.{IsActed, IsStep}
 use Rattle.reader65.specs.declared.directives.Test.TheVariants.{True}
-use Rattle.expand65.proofs.Acting.{turns_so, where_known}
-use Rattle.expand65.proofs.Going.{step_branch, step_rest}
+use Rattle.expand65.proofs.Going.{turns_so, where_known, step_branch, step_rest}
 use Rattle.expand65.proofs.Stopping.{stops_branch, stops_plain, stops_rest}
 use Rattle.expand65.proofs.expander.Expander.turn.Goals as goal
 

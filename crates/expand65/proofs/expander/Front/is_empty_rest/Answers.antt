@@ -1,5 +1,5 @@
 use Rattle.std.proofs.Common.{[], sym, subst}
-use Rattle.reader65.specs.Kept.{tokens_in}
+use Rattle.reader65.specs.Playing.{tokens_in}
 use Rattle.expand65.specs.Standing.{IsRest}
 use Rattle.expand65.specs.declared.expander.Front.{Front}
 use Rattle.expand65.proofs.AtHand.{no_first}

@@ -9,7 +9,7 @@ use Rattle.expand65.specs.declared.rewriter.Turn.{Turn}
 use Rattle.expand65.specs.Includes.{first_file, include_line, included, tried}
 use Rattle.expand65.specs.Rewriting.{Turns, state_of}
 use Rattle.expand65.specs.Inner.Seeking.{file_of}
-use Rattle.expand65.proofs.Acting.{include_found, turns_so, where_known}
+use Rattle.expand65.proofs.Going.{include_found, turns_so, where_known}
 use Rattle.expand65.proofs.Seeking.{found_fits}
 use Rattle.expand65.proofs.Stopping.{only_error, stood}
 use Rattle.expand65.proofs.rewriter.Rewriter.include.Goals as goal

@@ -1,4 +1,4 @@
-use Rattle.reader65.specs.Kept.{tokens_in}
+use Rattle.reader65.specs.Playing.{tokens_in}
 use Rattle.expand65.proofs.AtHand.{no_first}
 use Rattle.expand65.proofs.rewriter.Rewriter.kind_of.Goals as goal
 

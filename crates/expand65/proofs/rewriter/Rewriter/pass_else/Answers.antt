@@ -1,7 +1,6 @@
 use Rattle.std.proofs.Common.{Err}
 use Rattle.std.proofs.lemmas.Result.{err_from_is_err_and}
-use Rattle.expand65.proofs.Innermost.{else_passed, else_refused, else_none, else_twice}
-use Rattle.expand65.proofs.Stopping.{stops_at_else}
+use Rattle.expand65.proofs.Stopping.{else_passed, else_refused, else_none, else_twice, stops_at_else}
 use Rattle.expand65.specs.declared.rewriter.Turn.{Turn}
 use Rattle.expand65.proofs.rewriter.Rewriter.pass_else.Goals as goal
 

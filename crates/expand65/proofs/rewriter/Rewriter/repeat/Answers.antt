@@ -1,14 +1,14 @@
 use Rattle.std.proofs.Common.{◌≡◌, ℕ, [], false, None, Ok, map, refl, subst}
 use Rattle.reader65.specs.Blocks.{Block, gathers}
-use Rattle.reader65.specs.Entering.{pushed}
+use Rattle.reader65.specs.Taking.{pushed}
 use Rattle.reader65.specs.Inside.{left_of, turns_left}
-use Rattle.reader65.specs.Kept.{tokens_in}
-use Rattle.expand65.specs.Repeats.{IsRepeated}
+use Rattle.reader65.specs.Playing.{tokens_in}
+use Rattle.expand65.specs.Macros.{IsRepeated}
 use Rattle.expand65.specs.Rewriting.{macros_of, state_of}
 use Rattle.expand65.specs.State.{goes}
 use Rattle.reader65.specs.declared.playing.Body.{Body}
 use Rattle.reader65.specs.declared.playing.Replay.{Replay}
-use Rattle.expand65.proofs.Acting.{where_known}
+use Rattle.expand65.proofs.Going.{where_known}
 use Rattle.expand65.proofs.Defining.{repeated_one, rewritten, turns_ready}
 use Rattle.reader65.proofs.Naming.{goes_back}
 use Rattle.expand65.proofs.rewriter.Rewriter.repeat.Goals as goal

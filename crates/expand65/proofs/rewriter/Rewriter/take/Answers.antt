@@ -7,7 +7,7 @@ use Rattle.source65.specs.Faults.{is_outside}
 use Rattle.reader65.specs.Inside.{left_in, left_of}
 use Rattle.reader65.specs.Stopping.{StopsAt}
 use Rattle.reader65.specs.Fronts.{is_mislabelled}
-use Rattle.reader65.specs.Kept.{tokens_in}
+use Rattle.reader65.specs.Playing.{tokens_in}
 use Rattle.expand65.specs.Failing.{FailsUnlabelled}
 use Rattle.expand65.specs.Rewriting.{Turns, state_of}
 use Rattle.expand65.specs.Step.{IsLabelled, IsStep, at_mark}
@@ -15,8 +15,8 @@ use Rattle.expand65.specs.State.{stops}
 use Rattle.reader65.specs.Taking.{Takes}
 use Rattle.reader65.specs.declared.line.Line.{Line}
 use Rattle.expand65.specs.declared.rewriter.Rewriter.{Rewriter}
-use Rattle.expand65.proofs.Acting.{refused_step, step_taken, turns_so, where_both, where_known}
-use Rattle.reader65.proofs.Gathering.{moved_to}
+use Rattle.expand65.proofs.Going.{refused_step, step_taken, turns_so, where_both, where_known}
+use Rattle.reader65.proofs.Lines.{moved_to}
 use Rattle.expand65.proofs.Stopping.{stops_behind}
 use Rattle.expand65.proofs.rewriter.Rewriter.take.Goals as goal
 

@@ -1,6 +1,6 @@
 use Rattle.std.proofs.Common.{◌≡◌, ◌<◌, ℕ, Option, IfSome, ap, arith, length, subst}
-use Rattle.reader65.specs.Kept.{tokens_in}
-use Rattle.reader65.specs.Peeking.{IsAtHand}
+use Rattle.reader65.specs.Playing.{tokens_in}
+use Rattle.reader65.specs.Plain.{IsAtHand}
 use Rattle.expand65.proofs.AtHand.{steps_at_hand}
 use Rattle.expand65.proofs.rewriter.Rewriter.take_at_hand.Goals as goal
 

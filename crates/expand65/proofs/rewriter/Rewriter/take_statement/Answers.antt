@@ -1,8 +1,8 @@
 use Rattle.std.proofs.Common.{◌≡◌, ◌≤◌, ◌+◌, ◌∙◌, ap, arith, sym}
-use Rattle.reader65.specs.Kept.{tokens_in}
+use Rattle.reader65.specs.Playing.{tokens_in}
 use Rattle.expand65.specs.Rewriting.{size_of, state_of}
 use Rattle.expand65.specs.declared.at_hand.Kind.TheVariants.{Nothing, Other}
-use Rattle.expand65.specs.Stopping.{no_step}
+use Rattle.expand65.specs.Failing.{no_step}
 use Rattle.expand65.proofs.AtHand.{goes_on_by, no_more, reaches_by}
 use Rattle.expand65.proofs.rewriter.Rewriter.take_statement.Goals as goal
 

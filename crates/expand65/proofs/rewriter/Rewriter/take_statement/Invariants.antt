@@ -1,9 +1,9 @@
 use Rattle.std.proofs.Common.{◌≤◌}
 use Rattle.base65.specs.Store.{Files}
-use Rattle.reader65.specs.Naming.{NamesFiles}
-use Rattle.expand65.specs.Meaning.{Meaning}
+use Rattle.reader65.specs.Stopping.{NamesFiles}
+use Rattle.expand65.specs.State.{Meaning}
 use Rattle.expand65.specs.Rewriting.{size_of, state_of}
-use Rattle.expand65.specs.Stopping.{Goes}
+use Rattle.expand65.specs.Failing.{Goes}
 use Rattle.expand65.proofs.rewriter.Rewriter.take_statement.Given as goal
 
 abbrev pub invariant-lines : goal.invariant-lines

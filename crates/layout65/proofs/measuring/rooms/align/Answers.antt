@@ -5,7 +5,7 @@ use Rattle.syntax65.specs.Trees.{Tree}
 use Rattle.language65.specs.declared.fault.AsmFault.TheVariants.{BadOperand}
 use Rattle.language65.specs.declared.laid.Spot.{Spot}
 use Rattle.language65.specs.Layout.{spot_of}
-use Rattle.layout65.specs.Views.{standing_of}
+use Rattle.layout65.specs.Sounds.{standing_of}
 use Rattle.language65.specs.LineFaults.{is_byte_value, when, unless_fault}
 use Rattle.language65.specs.Norms.{constant_in}
 use Rattle.language65.specs.Sizes.{fill_settled, optional_value}

@@ -9,7 +9,7 @@ use Rattle.language65.specs.LineFaults.{is_byte_value, when, unless_fault}
 use Rattle.language65.specs.Norms.{constant_in}
 use Rattle.language65.specs.Sizes.{fill_settled, optional_value}
 use Rattle.symbols65.specs.Views.{table_of}
-use Rattle.layout65.specs.Views.{standing_of}
+use Rattle.layout65.specs.Sounds.{standing_of}
 use Rattle.layout65.proofs.Measures.{bad_fill, refused_same, reserved_as}
 use Rattle.layout65.proofs.measuring.rooms.reserve.Goals as goal
 

@@ -1,7 +1,7 @@
 use Rattle.std.proofs.Common.{◌∙◌, ◌++◌, ◌∷◌, [], ap, map, refl, rules}
 use Rattle.std.specs.Prelude.{if◌then◌else◌}
 use Rattle.language65.specs.declared.contents.Segment.{Segment}
-use Rattle.symbols65.proofs.NameTables.{insert_name, with_one}
+use Rattle.symbols65.proofs.Words.{insert_name, with_one}
 use Rattle.layout65.proofs.Segments.{new_name, sound_begun}
 use Rattle.layout65.proofs.standing.Standing.begin.Goals as goal
 

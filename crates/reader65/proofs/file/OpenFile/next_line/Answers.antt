@@ -1,7 +1,6 @@
 use Rattle.std.proofs.Common.{◌≡◌, ℕ, ◌<◌, rules, Bool, List, [], ◌∷◌, length, drop, sym, ◌∙◌, subst, arith, Ok, IfSome}
-use Rattle.reader65.specs.Lines.{lines_of}
-use Rattle.reader65.specs.Reading.{TakesPiece, rest_of}
-use Rattle.reader65.proofs.Gathering.{moved_to, line_ends, line_goes_on, with_more, line_is_last, given_that}
+use Rattle.reader65.specs.Lines.{lines_of, TakesPiece, rest_of}
+use Rattle.reader65.proofs.Lines.{moved_to, line_ends, line_goes_on, with_more, line_is_last, given_that}
 use Rattle.reader65.proofs.file.OpenFile.next_line.Goals as goal
 
 pub returns-then-branch-clause-read : goal.returns-then-branch-clause-read

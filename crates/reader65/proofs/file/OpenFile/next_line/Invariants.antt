@@ -1,7 +1,7 @@
 use Rattle.std.proofs.Common.{◌≡◌, ◌<◌, ◌≤◌, ◌-◌, ◌++◌, length}
 use Rattle.std.specs.Prelude.{IfSome}
 use Rattle.std.specs.List.{prefix_len}
-use Rattle.reader65.specs.Reading.{is_inside, rest_of}
+use Rattle.reader65.specs.Lines.{is_inside, rest_of}
 use Rattle.reader65.proofs.file.OpenFile.next_line.Given as goal
 
 abbrev pub invariant-pieces : goal.invariant-pieces

@@ -1,5 +1,5 @@
 use Rattle.std.proofs.Common.{List, ℕ, Some, drop, ap, ◌∙◌, subst}
-use Rattle.reader65.specs.Passing.{IsPlainFront}
+use Rattle.reader65.specs.Plain.{IsPlainFront}
 use Rattle.reader65.proofs.Opening.{file_passed}
 use Rattle.reader65.proofs.file.OpenFile.pass_line.Goals as goal
 

@@ -1,6 +1,6 @@
 use Rattle.std.proofs.Common.{ℕ, List, IfSome, drop, subst}
-use Rattle.reader65.specs.Reading.{IsPiece, bytes_of}
-use Rattle.reader65.proofs.Filling.{told_kept, told_none}
+use Rattle.reader65.specs.Lines.{IsPiece, bytes_of}
+use Rattle.reader65.proofs.Lines.{told_kept, told_none}
 use Rattle.reader65.proofs.file.OpenFile.read_on.Goals as goal
 
 pub returns-clause-kept : goal.returns-clause-kept

@@ -1,6 +1,6 @@
 use Rattle.std.proofs.Common.{◌≡◌, ◌+◌, ℕ, arith, subst}
-use Rattle.reader65.specs.Peeking.{TakesWritten}
-use Rattle.reader65.specs.Reading.{left_in_file}
+use Rattle.reader65.specs.Plain.{TakesWritten}
+use Rattle.reader65.specs.Lines.{left_in_file}
 use Rattle.reader65.proofs.Opening.{file_peeked}
 use Rattle.reader65.proofs.file.OpenFile.take_peeked.Goals as goal
 

@@ -2,9 +2,8 @@ use Rattle.std.proofs.Common.{◌≡◌, ℕ, ◌+◌, ◌≤◌, ◌<◌, ◌++
 use Rattle.std.proofs.lemmas.Bool.Decides.{nat_tests}
 use Rattle.std.proofs.lemmas.List.{length-drop, drop-drop}
 use Rattle.std.specs.List.{prefix_len}
-use Rattle.reader65.specs.Lines.{lines_of}
-use Rattle.reader65.specs.Reading.{is_inside, without_return}
-use Rattle.reader65.proofs.Splitting.{piece_too_long, piece_ends, piece_is_part}
+use Rattle.reader65.specs.Lines.{lines_of, is_inside, without_return}
+use Rattle.reader65.proofs.Lines.{piece_too_long, piece_ends, piece_is_part}
 use Rattle.reader65.proofs.file.OpenFile.take_piece.Goals as goal
 
 pub returns-then-len-clause-read : goal.returns-then-len-clause-read

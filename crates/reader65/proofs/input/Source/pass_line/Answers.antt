@@ -1,7 +1,7 @@
 use Rattle.std.proofs.Common.{IfSome, subst, sym}
 use Rattle.reader65.specs.Inside.{left_in}
-use Rattle.reader65.specs.Passing.{PassesLine}
-use Rattle.reader65.specs.Reading.{left_in_file}
+use Rattle.reader65.specs.Plain.{PassesLine}
+use Rattle.reader65.specs.Lines.{left_in_file}
 use Rattle.reader65.specs.declared.input.Source.{Source}
 use Rattle.reader65.proofs.input.Source.pass_line.Goals as goal
 

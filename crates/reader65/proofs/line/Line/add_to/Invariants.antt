@@ -1,6 +1,6 @@
 use Rattle.std.proofs.Common.{◌≡◌, ◌++◌, drop}
 use Rattle.syntax65.specs.Tokens.{lexemes}
-use Rattle.reader65.specs.Kept.{cut}
+use Rattle.reader65.specs.Playing.{cut}
 use Rattle.reader65.proofs.line.Line.add_to.Given as goal
 
 abbrev pub invariant-loop-word : goal.invariant-loop-word

@@ -2,7 +2,7 @@ use Rattle.std.proofs.Common.{◌≡◌, ◌++◌, ℕ, ◌≤◌, List, [], len
 use Rattle.std.proofs.lemmas.List.{append-nil, take_all}
 use Rattle.syntax65.specs.Tokens.{lexemes}
 use Rattle.syntax65.specs.declared.lexing.tokens.Token.{Token}
-use Rattle.reader65.specs.Kept.{cut}
+use Rattle.reader65.specs.Playing.{cut}
 use Rattle.reader65.specs.declared.line.Word.{Word}
 use Rattle.reader65.proofs.line.Line.copy_of.Goals as goal
 

@@ -1,6 +1,6 @@
 use Rattle.std.proofs.Common.{◌≡◌, ◌++◌, ℕ, List, take}
 use Rattle.syntax65.specs.Tokens.{lexemes}
-use Rattle.reader65.specs.Kept.{cut}
+use Rattle.reader65.specs.Playing.{cut}
 use Rattle.reader65.specs.declared.line.Word.{Word}
 use Rattle.reader65.proofs.line.Line.copy_of.Given as goal
 

@@ -1,6 +1,6 @@
 use Rattle.std.proofs.Common.{sym, subst, ℕ, ◌∙◌}
 use Rattle.syntax65.specs.Tokens.{lexeme_of}
-use Rattle.reader65.specs.Kept.{tokens_in}
+use Rattle.reader65.specs.Playing.{tokens_in}
 use Rattle.reader65.specs.Plain.{IsLabel, IsOrNoneAt}
 use Rattle.reader65.proofs.Plainly.{colon_label, name_label}
 use Rattle.reader65.proofs.line.Line.label_len.Goals.{then-is_colon, else-is_colon+then-is_label_name+then-is_colon_at}

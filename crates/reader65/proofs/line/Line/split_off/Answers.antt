@@ -1,6 +1,6 @@
 use Rattle.std.proofs.Common.{◌≡◌, ◌≤◌, ◌∙◌, length, sym, ap, take, drop}
 use Rattle.std.proofs.lemmas.List.{drop_all, take_all}
-use Rattle.reader65.specs.Kept.{behind_words, cut, tokens_in}
+use Rattle.reader65.specs.Playing.{behind_words, cut, tokens_in}
 use Rattle.reader65.proofs.Plainly.{as_many, front_cut, rest_cut}
 use Rattle.reader65.proofs.line.Line.split_off.Goals as goal
 

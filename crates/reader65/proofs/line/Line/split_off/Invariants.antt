@@ -1,5 +1,5 @@
 use Rattle.std.proofs.Common.{◌≡◌, drop}
-use Rattle.reader65.specs.Kept.{behind_words}
+use Rattle.reader65.specs.Playing.{behind_words}
 use Rattle.reader65.proofs.line.Line.split_off.Given as goal
 
 abbrev pub invariant-loop-word : goal.invariant-loop-word

@@ -2,8 +2,8 @@ use Rattle.std.proofs.Common.{ap, sym, ◌∙◌}
 use Rattle.std.specs.Option.{option_map}
 use Rattle.std.specs.Prelude.{option_copied}
 use Rattle.std.specs.Str.{bytes_eq}
-use Rattle.reader65.specs.Kept.{tokens_in}
-use Rattle.reader65.proofs.Lists.{lookup_mapped}
+use Rattle.reader65.specs.Playing.{tokens_in}
+use Rattle.reader65.proofs.Tables.{lookup_mapped}
 use Rattle.reader65.proofs.playing.Replay.own.Goals as goal
 
 pub returns-in-Some : goal.returns-in-Some

@@ -1,7 +1,6 @@
 use Rattle.std.proofs.Common.{◌≡◌, ◌≤◌, ◌++◌, drop, length}
 use Rattle.syntax65.specs.Tokens.{lexemes}
-use Rattle.reader65.specs.Kept.{tokens_in}
-use Rattle.reader65.specs.Playing.{replacing_of}
+use Rattle.reader65.specs.Playing.{tokens_in, replacing_of}
 use Rattle.reader65.specs.Replacing.{replaced}
 use Rattle.reader65.proofs.playing.Replay.replaced.Given as goal
 

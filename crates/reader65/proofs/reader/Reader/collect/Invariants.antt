@@ -2,8 +2,8 @@ use Rattle.std.proofs.Common.{◌≡◌, ◌≤◌, [], map}
 use Rattle.std.specs.Prelude.{IfSome}
 use Rattle.reader65.specs.Blocks.{collects}
 use Rattle.reader65.specs.Inside.{mark_of}
-use Rattle.reader65.specs.Kept.{tokens_in}
-use Rattle.reader65.specs.Naming.{NamesFiles}
+use Rattle.reader65.specs.Playing.{tokens_in}
+use Rattle.reader65.specs.Stopping.{NamesFiles}
 use Rattle.reader65.proofs.Blocking.{Leads}
 use Rattle.reader65.proofs.Stopping.{Fails}
 use Rattle.reader65.proofs.reader.Reader.collect.Given as goal

@@ -2,7 +2,7 @@ use Rattle.std.proofs.Common.{◌≡◌, ◌∙◌, ◌++◌, ◌∷◌, [], ap,
 use Rattle.reader65.specs.Left.{come_back}
 use Rattle.reader65.specs.declared.reader.Input.{Input}
 use Rattle.reader65.proofs.Naming.{drops, stays}
-use Rattle.reader65.proofs.Leaving.{dropped}
+use Rattle.reader65.proofs.Inputs.{dropped}
 use Rattle.reader65.proofs.reader.Reader.drop_top.Goals as goal
 
 pub returns-in-Some-clause-left : goal.returns-in-Some-clause-left

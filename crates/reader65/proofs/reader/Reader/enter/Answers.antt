@@ -1,8 +1,8 @@
 use Rattle.std.proofs.Common.{◌∙◌, ◌<◌, ◌≤◌, ◌++◌, ◌∷◌, [], ap, refl, arith, length, reverse, subst, sym}
-use Rattle.reader65.specs.Naming.{AreNamed}
+use Rattle.reader65.specs.Stopping.{AreNamed}
 use Rattle.reader65.proofs.Naming.{enters}
 use Rattle.reader65.specs.declared.reader.Reader.{Reader}
-use Rattle.reader65.proofs.Marks.{entered_one, entered_none}
+use Rattle.reader65.proofs.Inputs.{entered_one, entered_none}
 use Rattle.reader65.proofs.reader.Reader.enter.Goals as goal
 
 pub returns-then-len-ge-MAX_NESTING-clause-entered : goal.returns-then-len-ge-MAX_NESTING-clause-entered

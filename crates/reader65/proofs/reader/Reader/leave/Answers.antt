@@ -1,7 +1,7 @@
 use Rattle.std.proofs.Common.{◌∙◌, ap}
 use Rattle.reader65.specs.Inside.{outside}
 use Rattle.reader65.specs.Left.{come_back}
-use Rattle.reader65.proofs.Leaving.{closes, not_closed, same_items}
+use Rattle.reader65.proofs.Inputs.{closes, not_closed, same_items}
 use Rattle.reader65.proofs.Naming.{goes_back, named_in}
 use Rattle.reader65.proofs.reader.Reader.leave.Goals as goal
 

@@ -5,10 +5,10 @@ use Rattle.reader65.specs.Left.{Mark}
 use Rattle.reader65.specs.Stopping.{FailsAtLine}
 use Rattle.reader65.specs.declared.input.NextLine.TheVariants.{AtEnd}
 use Rattle.reader65.specs.declared.reader.Reader.{Reader}
-use Rattle.reader65.proofs.Gathering.{moved_to}
+use Rattle.reader65.proofs.Lines.{moved_to}
 use Rattle.source65.specs.declared.place.Place.{Place}
 use Rattle.reader65.proofs.Naming.{innermost_named, moved_file, reads_on}
-use Rattle.reader65.proofs.Nexts.{told_taken, told_refused}
+use Rattle.reader65.proofs.Inputs.{told_taken, told_refused}
 use Rattle.reader65.proofs.Stopping.{fails_before, fails_within, stopped_so}
 use Rattle.reader65.proofs.reader.Reader.next_line.Goals as goal
 

@@ -2,7 +2,7 @@ use Rattle.std.proofs.Common.{◌≡◌, ◌≤◌}
 use Rattle.std.specs.Prelude.{IfSome}
 use Rattle.reader65.specs.Blocks.{passes}
 use Rattle.reader65.specs.Inside.{mark_of}
-use Rattle.reader65.specs.Naming.{NamesFiles}
+use Rattle.reader65.specs.Stopping.{NamesFiles}
 use Rattle.reader65.proofs.Blocking.{Leads}
 use Rattle.reader65.proofs.Stopping.{Fails}
 use Rattle.reader65.proofs.reader.Reader.pass.Given as goal

@@ -2,7 +2,7 @@ use Rattle.std.proofs.Common.{◌≡◌, ap, refl, suc, arith, ◌-◌}
 use Rattle.reader65.specs.Left.{Mark}
 use Rattle.reader65.specs.declared.reader.Reader.{Reader}
 use Rattle.reader65.proofs.Naming.{reads_on}
-use Rattle.reader65.proofs.Nexts.{line_passed}
+use Rattle.reader65.proofs.Inputs.{line_passed}
 use Rattle.reader65.proofs.reader.Reader.pass_line.Goals as goal
 
 pub returns-in-Some-clause-passed : goal.returns-in-Some-clause-passed

@@ -1,16 +1,15 @@
 use Rattle.std.proofs.Common.{◌≡◌, true, ◌∙◌, subst, rules, Ok, Err, arith}
 use Rattle.std.proofs.lemmas.Result.{err_from_is_err_and}
 use Rattle.base65.specs.Outcome.{Unless}
-use Rattle.reader65.specs.BlockLines.{TakesInBlock}
-use Rattle.reader65.specs.Blocks.{skips}
+use Rattle.reader65.specs.Blocks.{TakesInBlock, skips}
 use Rattle.source65.specs.Faults.{is_failure, is_outside}
 use Rattle.reader65.specs.Inside.{left_of}
 use Rattle.reader65.specs.Stopping.{FailsAtLine, FailsInBlock, HasStopped}
 use Rattle.reader65.specs.Judging.{JudgesSkip, branch_of}
-use Rattle.reader65.specs.Kept.{tokens_in}
+use Rattle.reader65.specs.Playing.{tokens_in}
 use Rattle.reader65.specs.declared.blocks.SkipStep.{SkipStep}
 use Rattle.reader65.proofs.Blocking.{lines_passed, line_missing, line_refused, line_closes, line_goes_on}
-use Rattle.reader65.proofs.Gathering.{moved_to}
+use Rattle.reader65.proofs.Lines.{moved_to}
 use Rattle.reader65.proofs.Stopping.{line_read, not_stopped, plainly_read, stops_on}
 use Rattle.reader65.proofs.Plainly.{plain_skipped}
 use Rattle.reader65.proofs.reader.Reader.skip.Goals as goal

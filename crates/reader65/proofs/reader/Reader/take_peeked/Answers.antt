@@ -2,7 +2,7 @@ use Rattle.std.proofs.Common.{◌≡◌, ap, arith, refl, suc, ◌-◌}
 use Rattle.reader65.specs.Left.{Mark}
 use Rattle.reader65.specs.declared.reader.Reader.{Reader}
 use Rattle.reader65.proofs.Naming.{reads_on}
-use Rattle.reader65.proofs.Nexts.{written_taken}
+use Rattle.reader65.proofs.Inputs.{written_taken}
 use Rattle.reader65.proofs.reader.Reader.take_peeked.Goals as goal
 
 pub returns-in-Some-clause-taken : goal.returns-in-Some-clause-taken

@@ -4,7 +4,7 @@ use Rattle.std.specs.List.{list_any}
 use Rattle.std.specs.Str.{bytes_eq}
 use Rattle.std.proofs.lemmas.Option.{slice_get-map}
 use Rattle.language65.proofs.Lists.{position_mapped, same_bytes}
-use Rattle.sections65.proofs.Tables.{begins_inserted, named_there}
+use Rattle.sections65.proofs.Naming.{begins_inserted, named_there}
 use Rattle.sections65.proofs.files.Files.look_up.Goals as goal
 
 pub returns-in-Some-clause-place : goal.returns-in-Some-clause-place

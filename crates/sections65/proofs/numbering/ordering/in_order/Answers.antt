@@ -2,7 +2,7 @@ use Rattle.std.proofs.Common.{◌≡◌, ◌∙◌, map, subst}
 use Rattle.std.specs.Prelude.{string_bytes}
 use Rattle.language65.specs.Numbering.{name_of}
 use Rattle.sections65.specs.Inner.Ordering.{order_of, parts_by}
-use Rattle.sections65.proofs.Ordering.{IsInPlace, distinct_mapped, parts_same}
+use Rattle.sections65.proofs.Reordering.{IsInPlace, distinct_mapped, parts_same}
 use Rattle.sections65.proofs.numbering.ordering.in_order.Goals as goal
 
 pub returns-then-is_same-clause-object : goal.returns-then-is_same-clause-object

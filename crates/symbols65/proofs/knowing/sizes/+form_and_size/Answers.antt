@@ -4,7 +4,7 @@ use Rattle.syntax65.specs.Trees.{unary, binary}
 use Rattle.syntax65.specs.Kinds.{tree_of}
 use Rattle.language65.specs.Norms.{literal_in, norm_of}
 use Rattle.language65.specs.Sizes.{larger, size_by, size_of}
-use Rattle.symbols65.specs.Forms.{binary_form, literal_of, prefix_form}
+use Rattle.symbols65.specs.Finals.{binary_form, literal_of, prefix_form}
 use Rattle.symbols65.specs.Views.{table_of}
 use Rattle.symbols65.proofs.Sizing.{binary_known, literal_known, prefix_known}
 use Rattle.symbols65.proofs.knowing.sizes.+form_and_size.Goals as goal

@@ -3,9 +3,9 @@ use Rattle.object65.specs.Form.{Form}
 use Rattle.base65.specs.Outcome.{Gives}
 use Rattle.symbols65.specs.declared.resolving.attempt.Stop.{Stop}
 use Rattle.symbols65.specs.Resolving.{lacks_memory, operand_form}
-use Rattle.symbols65.specs.Inner.Sources.{known_by}
+use Rattle.symbols65.specs.Inner.Knowns.{known_by}
 use Rattle.symbols65.specs.Views.{table_of}
-use Rattle.symbols65.proofs.References.{reference}
+use Rattle.symbols65.proofs.Scopes.{reference}
 use Rattle.symbols65.proofs.Tries.{operand_tried}
 use Rattle.symbols65.proofs.resolving.attempt.+try_norm.Goals as goal
 

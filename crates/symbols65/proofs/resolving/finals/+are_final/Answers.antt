@@ -2,7 +2,7 @@ use Rattle.std.proofs.Common.{sym, ◌∙◌}
 use Rattle.symbols65.specs.Inner.Settling.{MeansFinally}
 use Rattle.symbols65.specs.Views.{table_of}
 use Rattle.symbols65.proofs.Finals.{operands_of, some_place}
-use Rattle.symbols65.proofs.References.{reference}
+use Rattle.symbols65.proofs.Scopes.{reference}
 use Rattle.symbols65.proofs.resolving.finals.+are_final.Goals as goal
 
 pub returns-in-Plain : goal.returns-in-Plain

@@ -6,7 +6,7 @@ use Rattle.language65.specs.Faults.{is_memory}
 use Rattle.language65.specs.Names.{Meaning, meaning_of}
 use Rattle.symbols65.specs.Resolving.{meaning_in}
 use Rattle.symbols65.specs.Views.{table_of}
-use Rattle.symbols65.proofs.NameParts.{name_is}
+use Rattle.symbols65.proofs.Scopes.{name_is}
 use Rattle.symbols65.proofs.resolving.meaning.meaning_of.Goals as goal
 
 pub returns-in-Scoped : goal.returns-in-Scoped

@@ -2,7 +2,7 @@ use Rattle.std.proofs.Common.{Some, map, position, sym, ap, subst, ◌∙◌}
 use Rattle.std.specs.Str.{bytes_eq}
 use Rattle.language65.proofs.Lists.{position_mapped}
 use Rattle.symbols65.specs.Tables.{Begins}
-use Rattle.symbols65.proofs.NameTables.{insert_name, number_mapped, one_begins, one_found, with_one}
+use Rattle.symbols65.proofs.Words.{insert_name, number_mapped, one_begins, one_found, with_one}
 use Rattle.symbols65.proofs.table.adding.intern.Goals as goal
 
 pub returns-in-Some-clause-number : goal.returns-in-Some-clause-number

@@ -1,5 +1,5 @@
 use Rattle.std.proofs.Common.{arith}
-use Rattle.syntax65.proofs.Spelled.{of_three, of_others}
+use Rattle.syntax65.proofs.Mnemonics.{of_three, of_others}
 use Rattle.syntax65.proofs.instructions.lookup.mnemonic.Goals as goal
 
 pub returns-in-len3-clause-value : goal.returns-in-len3-clause-value

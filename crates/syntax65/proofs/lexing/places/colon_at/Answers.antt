@@ -1,7 +1,7 @@
 use Rattle.std.proofs.Common.{get_or, arith, refl, sym, ◌∙◌, inl, inr}
 use Rattle.std.proofs.lemmas.List.{take_rest}
 use Rattle.syntax65.proofs.Fronts.{eqb_is}
-use Rattle.syntax65.proofs.Marks.{unnamed_here, IsSign}
+use Rattle.syntax65.proofs.OneKind.{unnamed_here, IsSign}
 use Rattle.syntax65.proofs.lexing.places.colon_at.Goals as goal
 use Rattle.syntax65.proofs.lexing.places.colon_at.Goals.{then-here-eq43, else-here-eq43}
 

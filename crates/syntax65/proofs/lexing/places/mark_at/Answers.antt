@@ -1,5 +1,5 @@
 use Rattle.std.proofs.Common.{arith}
-use Rattle.syntax65.proofs.Marks.{long_here, short_here, no_mark_here}
+use Rattle.syntax65.proofs.OneKind.{long_here, short_here, no_mark_here}
 use Rattle.syntax65.proofs.lexing.places.mark_at.Goals as goal
 
 pub returns-in-Some : goal.returns-in-Some

@@ -1,7 +1,7 @@
 use Rattle.std.proofs.Common.{◌≡◌, ◌+◌, arith, subst, sym, true}
 use Rattle.std.proofs.lemmas.List.{take_rest}
 use Rattle.syntax65.specs.Forms.{IsLongest, Begins}
-use Rattle.syntax65.specs.declared.lexing.classes.Class.TheVariants.{Letter}
+use Rattle.syntax65.specs.declared.lexing.places.Class.TheVariants.{Letter}
 use Rattle.syntax65.proofs.Fronts.{name_here, no_name_here, name_size, name_value}
 use Rattle.syntax65.proofs.lexing.places.name_at.Goals as goal
 

@@ -1,7 +1,6 @@
 use Rattle.std.proofs.Common.{◌≡◌, ◌+◌, ◌∙◌, ap, sym, arith, take, Some}
 use Rattle.std.proofs.lemmas.List.{take_rest}
-use Rattle.syntax65.specs.Numbers.{number_of}
-use Rattle.syntax65.specs.Forms.{IsLongest}
+use Rattle.syntax65.specs.Forms.{number_of, IsLongest}
 use Rattle.syntax65.specs.declared.lexing.tokens.TokenKind.TheVariants.{Number}
 use Rattle.syntax65.proofs.Fronts.{number_here}
 use Rattle.syntax65.proofs.lexing.places.spelled_number_at.Goals as goal

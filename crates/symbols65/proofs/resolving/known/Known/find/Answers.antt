@@ -14,9 +14,8 @@ use Rattle.base65.specs.Outcome.{Refuses, Unless}
 use Rattle.symbols65.specs.Resolving.{IsTable, lacks_memory, may_be_looked_for, tried, tried_last}
 use Rattle.symbols65.specs.Hanging.{AreHung, Leads, Reaches, bare}
 use Rattle.symbols65.proofs.Hanging.{not_found, same_table, same_unknown}
-use Rattle.symbols65.proofs.Stability.{comes_to_norm}
+use Rattle.symbols65.proofs.Turns.{comes_to_norm, expression_course, expression_is}
 use Rattle.symbols65.proofs.GivenUp.{pursuit_lost, pursuit_same}
-use Rattle.symbols65.proofs.Turns.{expression_course, expression_is}
 use Rattle.symbols65.proofs.Tries.{IsAttempt, attempt_first, attempt_last, last_course}
 use Rattle.symbols65.proofs.Pursuits.{IsPursuit, pursuit_starts, pursuit_done, pursuit_faults, pursuit_inside, pursuit_leads, pursuit_meets, pursuit_needs, pursuit_pops, pursuit_table, open_within, unless_more, down_smaller, up_smaller}
 use Rattle.symbols65.proofs.resolving.known.Known.find.Goals as goal

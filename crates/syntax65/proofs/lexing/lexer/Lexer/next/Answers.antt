@@ -2,7 +2,7 @@ use Rattle.std.proofs.Common.{sym, subst, false, IsTrue}
 use Rattle.std.proofs.lemmas.Result.{err_from_is_err_and}
 use Rattle.syntax65.specs.Forms.{Begins, FaultAt}
 use Rattle.syntax65.specs.Tokens.{IsEnd, after_blanks}
-use Rattle.syntax65.specs.declared.lexing.classes.Class.TheVariants.{Blank}
+use Rattle.syntax65.specs.declared.lexing.places.Class.TheVariants.{Blank}
 use Rattle.syntax65.proofs.Lines.{cut_off, no_blank_behind}
 use Rattle.syntax65.proofs.lexing.lexer.Lexer.next.Goals as goal
 

@@ -1,0 +1,22 @@
+use Rattle.std.proofs.Common.{◌∙◌, ℕ, ◌+◌, ◌<◌, List, subst}
+use Rattle.syntax65.specs.Trees.{Tree, number}
+use Rattle.language65.specs.declared.language.Statement.TheVariants.{Constant}
+use Rattle.module65.specs.Machine.{State, Takes}
+use Rattle.module65.specs.Reading.{Answers}
+use Rattle.asm65.specs.Assembly.{define_of}
+use Rattle.layout65.specs.Counting.{opening_limit}
+use Rattle.asm65.specs.Inner.Holding.{Holds}
+use Rattle.language65.specs.Views.{place_in}
+use Rattle.asm65.proofs.Defines.{defines_by}
+use Rattle.asm65.proofs.assembling.define.Goals as goal
+
+pub returns-clause-taken : goal.returns-clause-taken
+returns-clause-taken c =
+    let place = place_in c.args.at.file.now c.args.at.line in
+    let d = c.args.define.now in
+    let old = c.args.assembler.now in
+    let new = c.take.new.self in
+    let r = c.take.result in
+    let P : List ℕ → Tree → Type 0 = λ n e. (count : ℕ) (t : State) → Holds count t old → count < opening_limit → Answers (Takes t place (Constant n e)) (λ u. Holds (count + 0) u new) r in
+    let numbered : P c.from_vec-name.result (number d.value) = subst (P c.from_vec-name.result) c.new-value.ensures c.take.ensures.taken in
+    defines_by place (define_of d) old new r (subst (λ n. P n (number d.value)) (c.from_vec-name.ensures ∙ c.in_ok-from_slice.ensures.items) numbered) c.take.ensures.texts

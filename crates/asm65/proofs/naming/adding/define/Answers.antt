@@ -1,0 +1,34 @@
+use Rattle.std.proofs.Common.{◌≡◌, ◌∙◌, ℕ, length, sym, ap, subst}
+use Rattle.language65.specs.Symbols.{Key, Symbols, defined}
+use Rattle.language65.proofs.Lists.{map_length, on_ok}
+use Rattle.symbols65.specs.Tables.{KeepsFinal, definition_in, definition_seen, key_of, place_of_entry}
+use Rattle.symbols65.specs.Views.{table_of, with_definition, words_of}
+use Rattle.symbols65.proofs.Growing.{entry_is}
+use Rattle.symbols65.proofs.Words.{finds}
+use Rattle.asm65.proofs.naming.adding.define.Goals as goal
+
+pub put-requires-clause-number : goal.put-requires-clause-number
+put-requires-clause-number c = (entry_is (words_of c.entry.new.symbols) (key_of c.args.key) c.in_ok-entry.entry c.in_ok-entry.ensures.entry).0
+
+pub put-requires-clause-form : goal.put-requires-clause-form
+put-requires-clause-form c =
+    let t = c.entry.new.symbols in
+    let key = (entry_is (words_of t) (key_of c.args.key) c.in_ok-entry.entry c.in_ok-entry.ensures.entry).1 in
+    let long : length (table_of t).definitions ≡ length t.definitions.entries = map_length (definition_in (words_of t)) t.definitions.entries in
+    subst (λ (k : Key). KeepsFinal (table_of t) (length t.definitions.entries) (definition_seen k c.args.definition) c.args.definition.form) (sym key)
+    (subst (λ (n : ℕ). KeepsFinal (table_of t) n (definition_seen (key_of c.args.key) c.args.definition) c.args.definition.form) long
+    (subst (λ (y : Symbols). KeepsFinal y (length y.definitions) (definition_seen (key_of c.args.key) c.args.definition) c.args.definition.form) (sym c.in_ok-entry.ensures.table) c.requires))
+
+pub returns : goal.returns
+returns c =
+    let t = c.entry.new.symbols in
+    let k = c.in_ok-entry.entry in
+    let at = c.in_ok-entry.ensures.entry in
+    let key = (entry_is (words_of t) (key_of c.args.key) k at).1 in
+    on_ok c.put.result (λ h once.
+    h (ap (place_of_entry t.definitions.entries) (sym at)
+    ∙ finds (words_of t) t.definitions.entries (key_of c.args.key) t.entries_numbered
+    ∙ ap (λ y. defined y (key_of c.args.key)) c.in_ok-entry.ensures.table
+    ∙ once)
+    ∙ ap (λ y. with_definition y (definition_in (words_of t) (k, c.args.definition))) c.in_ok-entry.ensures.table
+    ∙ ap (λ q. with_definition (table_of c.args.symbols.now) (definition_seen q c.args.definition)) key) c.put.ensures

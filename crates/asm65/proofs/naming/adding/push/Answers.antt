@@ -1,0 +1,21 @@
+use Rattle.std.proofs.Common.{◌≡◌, ◌∙◌, refl}
+use Rattle.symbols65.specs.contracts.table.entries.EntryPartialEq.TheImpl.{eq-value}
+use Rattle.symbols65.specs.declared.table.entries.Entry.{Entry}
+use Rattle.symbols65.specs.declared.table.entries.Entry.TheVariants as entry
+use Rattle.symbols65.specs.Tables.{same_entry}
+use Rattle.symbols65.proofs.Growing.{inserted_by}
+use Rattle.asm65.proofs.naming.adding.push.Goals as goal
+
+agree : (x y : Entry) → eq-value.it x y ≡ same_entry x y
+agree (entry.Named s w) (entry.Named t v) = refl
+agree (entry.Named s w) (entry.Cheap t v) = refl
+agree (entry.Named s w) (entry.Unnamed d) = refl
+agree (entry.Cheap s w) (entry.Named t v) = refl
+agree (entry.Cheap s w) (entry.Cheap t v) = refl
+agree (entry.Cheap s w) (entry.Unnamed d) = refl
+agree (entry.Unnamed c) (entry.Named t v) = refl
+agree (entry.Unnamed c) (entry.Cheap t v) = refl
+agree (entry.Unnamed c) (entry.Unnamed d) = refl
+
+pub returns-in-Ok-clause-pushed : goal.returns-in-Ok-clause-pushed
+returns-in-Ok-clause-pushed c = c.in-Ok.ensures.entries ∙ inserted_by eq-value.it same_entry agree c.args.definitions.now.entries c.args.entry c.args.definition c.requires

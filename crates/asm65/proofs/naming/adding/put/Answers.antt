@@ -1,0 +1,27 @@
+use Rattle.std.proofs.Common.{List, sym, subst}
+use Rattle.std.specs.Map.{keys_of}
+use Rattle.symbols65.specs.declared.table.definition.Definition.{Definition}
+use Rattle.symbols65.specs.declared.table.entries.Entry.{Entry}
+use Rattle.symbols65.specs.Tables.{AreCounted, AreFinal, AreNumbered, word_of}
+use Rattle.symbols65.specs.Views.{words_of}
+use Rattle.symbols65.proofs.Growing.{after, counted_pushed, final_pushed, numbered_pushed}
+use Rattle.asm65.proofs.naming.adding.put.Goals as goal
+
+pub invariant_of-symbols : goal.invariant_of-symbols
+invariant_of-symbols c =
+    let t = c.args.symbols.now in
+    let ws = words_of t in
+    let es = t.definitions.entries in
+    let ss = t.scopes.entries in
+    let Numbered : List (Entry × Definition) → Type 0 = λ l. AreNumbered word_of ws (keys_of l) in
+    let Counted : List (Entry × Definition) → Type 0 = λ l. AreCounted (keys_of l) in
+    let Final : List (Entry × Definition) → Type 0 = λ l. AreFinal ws l ss in
+    let pushed = c.push.ensures.pushed in
+    let unchanged = c.push.ensures.unchanged in
+    record {
+      entries_numbered = after c.push.result (λ e. subst Numbered (sym e) (numbered_pushed word_of ws es c.args.entry c.args.definition t.entries_numbered c.requires.number)) (λ e. subst Numbered (sym e) t.entries_numbered) pushed unchanged;
+      counts_fit = after c.push.result (λ e. subst Counted (sym e) (counted_pushed es c.args.entry c.args.definition t.counts_fit c.requires.counted)) (λ e. subst Counted (sym e) t.counts_fit) pushed unchanged;
+      openings_numbered = t.openings_numbered;
+      openings_distinct = t.openings_distinct;
+      forms_final = after c.push.result (λ e. subst Final (sym e) (final_pushed ws es ss (c.args.entry, c.args.definition) t.forms_final (λ f is z more. c.requires.form f is z (record { later_definitions = more.later_definitions; definitions = more.definitions; later_scopes = more.later_scopes; scopes = more.scopes })))) (λ e. subst Final (sym e) t.forms_final) pushed unchanged;
+    }

@@ -14,7 +14,7 @@ use Rattle.reader65.specs.Left.{numbered, Item, written, played}
 use Rattle.reader65.specs.Inside.{ComesNext, TakesLine}
 use Rattle.reader65.specs.Playing.{tokens_in, left_to_play, replacing_of}
 use Rattle.reader65.specs.Lines.{lines_of, ReadsLine, BeginsLong, content, is_inside, left_in_file, rest_of, without_return, bytes_of}
-use Rattle.reader65.specs.Plain.{IsPlainLine, PassesLine, IsFront, TakesWritten}
+use Rattle.reader65.specs.Plain.{IsPlainLine, PassesLine, IsFirstLine, TakesWritten}
 use Rattle.reader65.specs.Replacing.{Replacing, replaced}
 use Rattle.reader65.specs.Taking.{IsOpened, fitted, lexed}
 use Rattle.source65.specs.declared.fault.ExpandFault.{ExpandFault}
@@ -76,7 +76,7 @@ first_at_hand m f n k e lt =
     piece_ends [] here behind n refl e lt ∙ ap (λ l. without_return (take n here) ∷ lines_of (l ++ behind)) gone
 
 -- a line that is read where it stands
-pub file_peeked : (m : Files) (f : OpenFile) (n k : ℕ) (ts : List Lexeme) → IsFront (drop f.at f.buffer.items) n ts → k ≡ f.line + 1 → TakesWritten (left_in_file m f) k ts (left_in_file m (record { name = f.name; buffer = f.buffer; at = f.at + (n + 1); next = f.next; line = k; spare = f.spare }))
+pub file_peeked : (m : Files) (f : OpenFile) (n k : ℕ) (ts : List Lexeme) → IsFirstLine (drop f.at f.buffer.items) n ts → k ≡ f.line + 1 → TakesWritten (left_in_file m f) k ts (left_in_file m (record { name = f.name; buffer = f.buffer; at = f.at + (n + 1); next = f.next; line = k; spare = f.spare }))
 file_peeked m f n k ts (e, lt, read) number =
     let behind = drop f.next (content m f.name) in
     let line = without_return (take n (drop f.at f.buffer.items)) in

@@ -81,12 +81,12 @@ pub data Plainly : Left → Left → Type 0 where
 -- ---- A line of a file that is read where it stands, before it is taken.
 
 -- these bytes begin with a line that is read so, and that ends behind n of them
-abbrev pub IsFront : List ℕ → ℕ → List Lexeme → Type 0
-IsFront bytes n ts = (n ≡ prefix_len is_inside bytes) × (n < length bytes) × IsRead (without_return (take n bytes)) (Ok ts)
+abbrev pub IsFirstLine : List ℕ → ℕ → List Lexeme → Type 0
+IsFirstLine bytes n ts = (n ≡ prefix_len is_inside bytes) × (n < length bytes) × IsRead (without_return (take n bytes)) (Ok ts)
 
 -- so does what is at hand of a file
 abbrev pub IsAtHand : Source → ℕ → List Lexeme → Type 0
-IsAtHand (source.File f) n ts = IsFront (drop f.at f.buffer.items) n ts
+IsAtHand (source.File f) n ts = IsFirstLine (drop f.at f.buffer.items) n ts
 IsAtHand _ n ts = ⊥
 
 -- the number of its next line

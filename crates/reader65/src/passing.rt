@@ -7,7 +7,7 @@ ghost use Rattle.std.specs.Option.{option_map};
 ghost use Rattle.reader65.specs.Inside.{is_call, left_in, left_of, mark_of};
 ghost use Rattle.source65.specs.declared.place.Place.{Place};
 ghost use Rattle.reader65.specs.Stopping.{IsNamed, NamesFiles};
-ghost use Rattle.reader65.specs.Plain.{IsPlainLine, PassesLine, PassesPlain, Plainly, directive_of_first, is_colon_there, IsPlainFront, IsPlain, IsAtHand, IsFront, TakesWritten, next_number};
+ghost use Rattle.reader65.specs.Plain.{IsPlainLine, PassesLine, PassesPlain, Plainly, directive_of_first, is_colon_there, IsPlainFront, IsPlain, IsAtHand, IsFirstLine, TakesWritten, next_number};
 ghost use Rattle.reader65.specs.Lines.{left_in_file, without_return};
 ghost use Rattle.syntax65.specs.Held.{HoldsNothing, held};
 ghost use Rattle.reader65.specs.Playing.{tokens_in};
@@ -178,7 +178,7 @@ pub struct Peeked {
 #[inline(always)]
 fn peek_tokens<'a>(alloc: Global, bytes: &'a [u8], tokens: &mut LineTokens<'a>) -> Option<usize>
     requires { HoldsNothing tokens.old }
-    ensures front { IfSome result (λ n. IsFront bytes.now n (held tokens.new)) }
+    ensures front { IfSome result (λ n. IsFirstLine bytes.now n (held tokens.new)) }
     ensures within { tokens.new.few.count ≤ 8 }
 {
     let len = line_len(bytes);
@@ -195,7 +195,7 @@ fn peek_tokens<'a>(alloc: Global, bytes: &'a [u8], tokens: &mut LineTokens<'a>) 
 /// Reads the first line of bytes in the place of another, where its end is there; how many bytes it has.
 #[inline(always)]
 fn peek(alloc: Global, bytes: &[u8], line: &mut Line) -> Result<Option<usize>, AllocError>
-    ensures { IfOk result (λ len. IfSome len (λ n. IsFront bytes.now n (tokens_in line.new))) }
+    ensures { IfOk result (λ len. IfSome len (λ n. IsFirstLine bytes.now n (tokens_in line.new))) }
 {
     let len = line_len(bytes);
     if len >= bytes.len() {
@@ -215,7 +215,7 @@ impl OpenFile {
     fn peek_tokens<'a>(&'a self, alloc: Global, tokens: &mut LineTokens<'a>) -> Option<Peeked>
         requires { HoldsNothing tokens.old }
         ensures front { IfSome result (λ p.
-            IsFront (drop self.now.at self.now.buffer.items) p.len (held tokens.new)) }
+            IsFirstLine (drop self.now.at self.now.buffer.items) p.len (held tokens.new)) }
         ensures number { IfSome result (λ p. p.number ≡ self.now.line + 1) }
         ensures within { tokens.new.few.count ≤ 8 }
     {
@@ -232,7 +232,7 @@ impl OpenFile {
     #[inline(always)]
     fn peek(&self, alloc: Global, line: &mut Line) -> Result<Option<usize>, AllocError>
         ensures { IfOk result (λ len. IfSome len (λ n.
-            IsFront (drop self.now.at self.now.buffer.items) n (tokens_in line.new))) }
+            IsFirstLine (drop self.now.at self.now.buffer.items) n (tokens_in line.new))) }
     {
         if self.at >= self.buffer.len() {
             return Ok(None);
@@ -245,10 +245,10 @@ impl OpenFile {
     #[inline(always)]
     fn take_peeked(&mut self, len: usize) -> Option<u32>
         ensures taken { (m : Files) (ts : List Lexeme) →
-            IsFront (drop self.old.at self.old.buffer.items) len ts →
+            IsFirstLine (drop self.old.at self.old.buffer.items) len ts →
             IfSome result (λ n. TakesWritten (left_in_file m self.old) n ts (left_in_file m self.new)) }
         ensures number { IfSome result (λ n. n ≡ self.old.line + 1) }
-        ensures sure { (ts : List Lexeme) → IsFront (drop self.old.at self.old.buffer.items) len ts →
+        ensures sure { (ts : List Lexeme) → IsFirstLine (drop self.old.at self.old.buffer.items) len ts →
             self.old.line < 4294967295 → IfNone result ⊥ }
         ensures name { self.new.name ≡ self.old.name }
         ensures none { IfNone result (self.new ≡ self.old) }

@@ -5,6 +5,7 @@
 mod mem_store;
 mod output;
 mod reading;
+mod seed;
 mod sequence;
 mod store;
 mod text;
@@ -13,6 +14,7 @@ mod values;
 pub use mem_store::MemStore;
 pub use output::OutputFile;
 pub use reading::read_front;
+pub use seed::Seed;
 pub use sequence::Sequence;
 pub use store::{Store, StoreFault, read_full};
 pub use text::Text;

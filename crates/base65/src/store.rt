@@ -6,6 +6,7 @@ ghost use Rattle.base65.specs.declared.store.StoreFault.TheVariants.{OutOfMemory
 ghost use Rattle.base65.specs.StoreFaults.{is_outside_store};
 ghost use Rattle.base65.specs.Store.{Files, Asks, Blames, IsBlamed, Counts, ReadsAt, Creates, Appends, Tells, ReadsFull, Passes};
 
+use crate::seed::Seed;
 use std::alloc::{AllocError, AllocFailed};
 use std::fmt;
 
@@ -58,6 +59,11 @@ pub trait Store {
 
     /// Which name the last failed call asked for, where the store tells it.
     ghost blamed: { Self → Option (List ℕ) };
+
+    /// What tables of names begin their hashes with in a run over these files.
+    fn seed(&self) -> Seed {
+        Seed::default()
+    }
 
     /// Reads what a file has from a place on into the front of a buffer, and answers how many bytes it read.
     fn read_at(&mut self, name: &str, at: u64, buf: &mut [u8]) -> Result<usize, StoreFault>

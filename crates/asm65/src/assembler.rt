@@ -4,7 +4,7 @@ ghost use Rattle.symbols65.specs.Views.{table_of};
 ghost use Rattle.asm65.specs.Inner.Putting.{known_where};
 
 use crate::texts::Texts;
-use base65::Sequence;
+use base65::{Seed, Sequence};
 use expand65::Knows;
 use indexmap::IndexSet;
 use language65::Spot;
@@ -88,7 +88,7 @@ pub struct Assembler {
     /// What waits, in the order of the source.
     pub waiting: Vec<Waiting>,
     /// The files in which something waits.
-    pub files: IndexSet<String>,
+    pub files: IndexSet<String, Seed>,
     pub texts: Texts,
 }
 
@@ -98,16 +98,16 @@ impl Assembler {
     ghost use Rattle.asm65.specs.Inner.Holding.{Holds};
 
     /// The assembler before the first statement.
-    pub fn new(alloc: Global) -> Result<Self, AllocError>
+    pub fn new(alloc: Global, seed: Seed) -> Result<Self, AllocError>
         ensures { IfOk result (Holds 0 begun) }
     {
         Ok(Assembler {
-            symbols: Symbols::new(alloc),
+            symbols: Symbols::new(alloc, seed),
             known: Known::new(alloc),
             standing: Standing::start(alloc)?,
             sections: Sections::new(alloc),
             waiting: Vec::new(alloc),
-            files: IndexSet::new(alloc),
+            files: IndexSet::with_hasher(alloc, seed),
             texts: Texts::new(alloc),
         })
     }

@@ -307,7 +307,7 @@ pub fn assemble<S: Store>(alloc: Global, store: &mut S, job: &AsmJob<'_>) -> Ass
     // Where memory runs out nothing is said.
     ensures silent { is_from_memory result.result ≡ true → (result.out ≡ []) × (result.err ≡ []) }
 {
-    match Assembler::new(alloc) {
+    match Assembler::new(alloc, store.seed()) {
         Ok(assembler) => assembled(alloc, store, job, assembler),
         Err(_) => refused_outside(alloc, AsmFault::OutOfMemory),
     }

@@ -23,10 +23,9 @@ use crate::assembling::Assembly;
 use crate::resolving::{Filling, Made, resolve};
 use crate::texts::{AsmRefusal, Texts, warn};
 use base65::Sequence;
-use indexmap::IndexSet;
 use language65::{AsmFault, At, Segment};
 use object65::Object;
-use sections65::Sections;
+use sections65::{Imports, Sections};
 use std::alloc::{AllocError, Global};
 use symbols65::{Known, Symbols};
 
@@ -142,36 +141,22 @@ fn settle_all(
     Ok(())
 }
 
-/// The names of imports.
-fn names_of(alloc: Global, imports: IndexSet<Vec<u8>>) -> Result<Vec<Sequence<u8>>, AllocError>
-    ensures { IfOk result (λ names. names.items ≡ map (λ k. k.items) imports.keys) }
-{
-    let mut names = Vec::new(alloc);
-    for name in imports {
-        names.push(Sequence::from_vec(name))?;
-    }
-    Ok(names)
-}
-
 /// The object of sections in which nothing waits.
 fn object_of(
     alloc: Global,
     segments: &[Segment],
-    imports: IndexSet<Vec<u8>>,
+    imports: &Imports,
     sections: Sections,
 ) -> Result<Object, AsmRefusal>
     ensures object { IfOk result (λ o. (cs : List Content) → Stands cs [] sections →
-        o ≡ object_with segments.now (map (λ k. k.items) imports.keys) cs) }
+        o ≡ object_with segments.now (map (λ k. k.items) imports.now.keys) cs) }
     ensures numbers { IfOk result ObjectFits }
     ensures good { IfOk result (λ o. (cs : List Content) → Stands cs [] sections →
-        AreSound segments.now (map (λ k. k.items) imports.keys) cs → is_good_object o ≡ true) }
+        AreSound segments.now (map (λ k. k.items) imports.now.keys) cs → is_good_object o ≡ true) }
     ensures inside { IfErr result (λ e. is_outside_refusal e ≡ true) }
     ensures failed { IfErr result (λ e. has_failed e ≡ false) }
 {
-    let Ok(names) = names_of(alloc, imports) else {
-        return Err(AsmRefusal::without_memory());
-    };
-    match sections.finish(alloc, segments, names.as_slice()) {
+    match sections.finish(alloc, segments, imports) {
         Ok(object) => Ok(object),
         Err(_) => Err(AsmRefusal::without_memory()),
     }
@@ -253,7 +238,7 @@ impl Assembler {
         match settled {
             Ok(()) => {
                 let segments = standing.segments.as_slice();
-                let object = object_of(alloc, segments, symbols.imports, sections);
+                let object = object_of(alloc, segments, &symbols.imports, sections);
                 answered(alloc, object, texts)
             }
             Err(refusal) => answered(alloc, Err(refusal), texts),

@@ -4,7 +4,7 @@
 use std::io::ErrorKind;
 use std::process::ExitCode;
 use std::{env, io};
-use tools65::{DiskStore, Status, print, run};
+use tools65::{DiskStore, Seed, Status, print, run};
 
 /// Runs the program's words as a command. It fails where memory runs out before they are there, or where some word isn't
 /// text.
@@ -13,7 +13,9 @@ fn run_words(rt: &HostRuntime) -> io::Result<Status> {
     for word in env::args(rt)? {
         words.push(word)?;
     }
-    let mut store = DiskStore::new(rt.alloc(), rt.clone()?);
+    // Without random bytes the seed is that of no number.
+    let seed = Seed::random(rt).unwrap_or_default();
+    let mut store = DiskStore::new(rt.alloc(), rt.clone()?).with_seed(seed);
     let mut out = rt.stdout();
     let mut err = rt.stderr();
     Ok(run(rt.alloc(), words.as_slice(), &mut store, &mut out, &mut err))

@@ -166,7 +166,7 @@ impl Expander {
             rewriter: Rewriter {
                 alloc,
                 reader,
-                macros: IndexMap::new(alloc),
+                macros: IndexMap::with_hasher(alloc, store.seed()),
                 conditions: Conditions::new(alloc),
                 expansions: 0,
                 folders,

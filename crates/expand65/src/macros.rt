@@ -343,7 +343,7 @@ impl Rewriter {
             at: 0,
             arguments,
             count: Some(count),
-            locals: IndexMap::new(self.alloc),
+            locals: IndexMap::with_hasher(self.alloc, *self.macros.hasher()),
             number,
         };
         self.reader.enter(Input {

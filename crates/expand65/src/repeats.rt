@@ -218,7 +218,7 @@ impl Rewriter {
         };
         let body = Rc::new(self.alloc, body)?;
         let arguments = Sequence::new(self.alloc);
-        let locals = IndexMap::new(self.alloc);
+        let locals = IndexMap::with_hasher(self.alloc, *self.macros.hasher());
         let replay = Replay {
             body,
             at,

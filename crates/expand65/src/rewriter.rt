@@ -20,7 +20,7 @@ ghost use Rattle.expand65.specs.Step.{IsActed, IsDirected, IsLabelled, IsStep, a
 use crate::conditions::{Conditions, condition};
 use crate::includes::find_file;
 use crate::knows::Knows;
-use base65::{Sequence, Store, Text};
+use base65::{Seed, Sequence, Store, Text};
 use indexmap::IndexMap;
 use reader65::{
     Body, BranchLine, Directive, Input, Line, OpenFile, Reader, Source, Test, behind_first,
@@ -50,7 +50,7 @@ pub enum Turn {
 pub struct Rewriter {
     pub alloc: Global,
     pub reader: Reader,
-    pub macros: IndexMap<Vec<u8>, Rc<Body>>,
+    pub macros: IndexMap<Vec<u8>, Rc<Body>, Seed>,
     pub conditions: Conditions,
     /// How many macros were called.
     pub expansions: u64,

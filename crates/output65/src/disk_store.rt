@@ -5,7 +5,7 @@ mod read_ahead;
 ghost use Rattle.std.specs.Prelude.{◌≡◌, ◌<◌, ◌-◌, ◌+◌, ◌≤◌, ◌^◌, None, IfOk, IfErr, length};
 
 use crate::disk_store::read_ahead::ReadAhead;
-use base65::{Store, StoreFault, Text};
+use base65::{Seed, Store, StoreFault, Text};
 use std::alloc::Global;
 use std::fs::OpenOptions;
 use std::io::{ErrorKind, Write};
@@ -26,6 +26,7 @@ pub struct DiskStore<R: Files> {
     alloc: Global,
     files: R,
     failures: u64,
+    seed: Seed,
     reading: Option<ReadAhead<R::File>>,
     writing: Option<Writing<R::File>>,
 }
@@ -94,9 +95,15 @@ impl<R: Files> DiskStore<R> {
             alloc,
             files,
             failures: 0,
+            seed: Seed::default(),
             reading: None,
             writing: None,
         }
+    }
+
+    /// The store with a seed for tables of names.
+    pub fn with_seed(self, seed: Seed) -> Self {
+        DiskStore { seed, ..self }
     }
 
     /// Opens a file to be read, unless it is the one that was read last.
@@ -167,6 +174,10 @@ impl<R: Files> Store for DiskStore<R> {
     ghost failures = { λ s. s.failures };
 
     ghost blamed = { λ _. None };
+
+    fn seed(&self) -> Seed {
+        self.seed
+    }
 
     fn read_at(&mut self, name: &str, at: u64, buf: &mut [u8]) -> Result<usize, StoreFault> {
         if self.failures == u64::MAX {

@@ -15,7 +15,7 @@ ghost use Rattle.reader65.specs.Taking.{fitted};
 
 use crate::input::Source;
 use crate::line::Line;
-use base65::Sequence;
+use base65::{Seed, Sequence};
 use indexmap::{IndexMap, IndexSet};
 use source65::ExpandFault;
 use std::alloc::{AllocError, Global};
@@ -101,7 +101,7 @@ pub struct Replay {
     pub arguments: Sequence<Line>,
     /// What stands for `.paramcount`.
     pub count: Option<Line>,
-    pub locals: IndexMap<Vec<u8>, Line>,
+    pub locals: IndexMap<Vec<u8>, Line, Seed>,
     pub number: u64,
 }
 

@@ -1,6 +1,8 @@
 -- What is fed to sections in the making: contents in the order of the source, of which some wait.
 use Rattle.std.specs.Prelude.{◌≡◌, ℕ, ◌+◌, nat_lt, Bool, true, false, List, [], ◌∷◌, ◌++◌, map, filter_map, Some}
 use Rattle.std.specs.List.{flat_map}
+use Rattle.std.specs.Global.{Vec}
+use Rattle.indexmap.specs.IndexSet.{IndexSet}
 use Rattle.source65.specs.declared.place.Place.{Place}
 use Rattle.object65.specs.declared.object.Fragment.{Fragment}
 use Rattle.object65.specs.declared.object.Object.{Object}
@@ -13,6 +15,10 @@ use Rattle.language65.specs.Views.{place_in, said_at}
 use Rattle.sections65.specs.declared.entries.Entry.{Entry}
 use Rattle.sections65.specs.declared.entries.Entry.TheVariants.{Bytes, Room, Value, Told, Open}
 use Rattle.sections65.specs.declared.entries.SourcePos.{SourcePos}
+
+-- the names of imports, in the order of their keys
+abbrev pub names_of : {S : Type 0} → IndexSet (Vec ℕ) S → List (List ℕ)
+names_of s = map (λ k. k.items) s.keys
 
 -- ---- What one call feeds, as a content of its own.
 

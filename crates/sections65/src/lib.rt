@@ -7,4 +7,5 @@ pub mod laws;
 mod numbering;
 mod sections;
 
+pub use numbering::Imports;
 pub use sections::Sections;

@@ -4,7 +4,7 @@ ghost use Rattle.std.specs.Prelude.{◌≡◌, [], map, nat_eq, slice_get, optio
 ghost use Rattle.std.specs.List.{IsDistinct};
 ghost use Rattle.object65.specs.Objects.{ObjectFits};
 ghost use Rattle.sections65.specs.Inner.Drafts.{all_of_draft, object_before, section_from};
-ghost use Rattle.sections65.specs.Fed.{content_of};
+ghost use Rattle.sections65.specs.Fed.{content_of, names_of};
 ghost use Rattle.language65.specs.Layout.{powers};
 ghost use Rattle.language65.specs.Numbering.{import_keys, name_of, number_of, segment_name, segment_power};
 
@@ -18,7 +18,7 @@ use base65::Sequence;
 use drafts::{Draft, filled};
 use exports::{asserts_of, exports_of};
 use indexmap::IndexSet;
-pub use keys::narrow;
+pub use keys::{Imports, narrow};
 use keys::{Numbers, import_keys};
 use language65::Segment;
 use object65::{Fragment, Object, Section};
@@ -113,10 +113,10 @@ fn finish_sections(
 }
 
 /// The name of an import, empty where it has none.
-fn import_name(alloc: Global, names: &[Sequence<u8>], key: u32) -> Result<Sequence<u8>, AllocError>
-    ensures { IfOk result (λ name. name ≡ name_of names.now key) }
+fn import_name(alloc: Global, imports: &Imports, key: u32) -> Result<Sequence<u8>, AllocError>
+    ensures { IfOk result (λ name. name ≡ name_of (names_of imports.now) key) }
 {
-    match names.get(key as usize) {
+    match imports.get_index(key as usize) {
         Some(name) => Sequence::copy_of(alloc, name.as_slice()),
         None => Ok(Sequence::new(alloc)),
     }
@@ -125,14 +125,14 @@ fn import_name(alloc: Global, names: &[Sequence<u8>], key: u32) -> Result<Sequen
 /// The names of imports.
 fn import_names(
     alloc: Global,
-    names: &[Sequence<u8>],
+    imports: &Imports,
     keys: &[u32],
 ) -> Result<Sequence<Sequence<u8>>, AllocError>
-    ensures { IfOk result (λ found. found ≡ map (name_of names.now) keys.now) }
+    ensures { IfOk result (λ found. found ≡ map (name_of (names_of imports.now)) keys.now) }
 {
     let mut found = Sequence::new(alloc);
     for key in keys {
-        found.push(import_name(alloc, names, *key)?)?;
+        found.push(import_name(alloc, imports, *key)?)?;
     }
     Ok(found)
 }
@@ -141,22 +141,22 @@ fn import_names(
 fn numbered_object(
     alloc: Global,
     segments: &[Segment],
-    names: &[Sequence<u8>],
+    imports: &Imports,
     numbers: &Numbers,
     entries: Vec<Entry>,
 ) -> Result<Object, AllocError>
     requires { IsDistinct nat_eq numbers.now.sections.keys }
-    ensures object { IfOk result (λ o. o ≡ object_before segments.now names.now
-        numbers.now.sections.keys numbers.now.imports.keys entries.items) }
+    ensures object { IfOk result (λ o. o ≡ object_before segments.now
+        (names_of imports.now) numbers.now.sections.keys numbers.now.imports.keys entries.items) }
     ensures fits { IfOk result ObjectFits }
 {
-    let exports = exports_of(alloc, numbers, entries.as_slice())?;
+    let exports = exports_of(alloc, *imports.hasher(), numbers, entries.as_slice())?;
     let asserts = asserts_of(alloc, numbers, entries.as_slice())?;
     let drafts = filled(alloc, numbers, entries)?;
     Ok(Object {
         version: 2,
         files: Sequence::new(alloc),
-        imports: import_names(alloc, names, numbers.imports.as_slice())?,
+        imports: import_names(alloc, imports, numbers.imports.as_slice())?,
         sections: finish_sections(alloc, segments, drafts)?,
         exports,
         asserts,
@@ -168,18 +168,18 @@ fn numbered_object(
 pub fn object_of(
     alloc: Global,
     segments: &[Segment],
-    names: &[Sequence<u8>],
+    imports: &Imports,
     asked: IndexSet<u32>,
     entries: Vec<Entry>,
 ) -> Result<Object, AllocError>
-    ensures object { IfOk result (λ o. o ≡ object_before segments.now names.now asked.keys
-        (import_keys names.now (map (content_of []) entries.items)) entries.items) }
+    ensures object { IfOk result (λ o. o ≡ object_before segments.now
+        (names_of imports.now) asked.keys
+        (import_keys (names_of imports.now) (map (content_of []) entries.items)) entries.items) }
     ensures fits { IfOk result ObjectFits }
 {
-    let imports = import_keys(alloc, names, entries.as_slice())?;
     let numbers = Numbers {
         sections: asked,
-        imports,
+        imports: import_keys(alloc, imports, entries.as_slice())?,
     };
-    numbered_object(alloc, segments, names, &numbers, entries)
+    numbered_object(alloc, segments, imports, &numbers, entries)
 }

@@ -8,11 +8,12 @@ ghost use Rattle.language65.specs.Numbering.{object_with};
 ghost use Rattle.language65.specs.Sound.{AreSound};
 ghost use Rattle.language65.specs.Contents.{asking, put, telling};
 ghost use Rattle.language65.specs.Views.{part_at, place_in, said_at};
+ghost use Rattle.sections65.specs.Fed.{names_of};
 ghost use Rattle.sections65.specs.Standing.{Awaits, Feeds, Receives, Stands};
 
 use crate::entries::Entries;
 use crate::files::Files;
-use crate::numbering::{in_order, object_of};
+use crate::numbering::{Imports, in_order, object_of};
 use base65::Sequence;
 use indexmap::IndexSet;
 use language65::{At, Part, Said, Segment};
@@ -145,13 +146,13 @@ impl Sections {
         self,
         alloc: Global,
         segments: &[Segment],
-        names: &[Sequence<u8>],
+        imports: &Imports,
     ) -> Result<Object, AllocError>
         ensures object { IfOk result (λ o. (cs : List Content) → Stands cs [] self →
-            o ≡ object_with segments.now names.now cs) }
+            o ≡ object_with segments.now (names_of imports.now) cs) }
         ensures numbers { IfOk result ObjectFits }
         ensures good { IfOk result (λ o. (cs : List Content) → Stands cs [] self →
-            AreSound segments.now names.now cs → is_good_object o ≡ true) }
+            AreSound segments.now (names_of imports.now) cs → is_good_object o ≡ true) }
     {
         let Sections {
             asked,
@@ -160,7 +161,7 @@ impl Sections {
             entries,
         } = self;
         let entries = entries.into_list()?;
-        let object = object_of(alloc, segments, names, asked, entries)?;
+        let object = object_of(alloc, segments, imports, asked, entries)?;
         in_order(alloc, &files, object)
     }
 }

@@ -6,7 +6,7 @@ mod assembling;
 pub mod laws;
 mod running;
 
-pub use base65::OutputFile;
+pub use base65::{OutputFile, Seed};
 pub use cli65::{
     ArchiveLine, AssembleLine, Define, Line, LineFault, LinkLine, Operation, read_line,
 };

@@ -7,7 +7,7 @@ ghost use Rattle.symbols65.specs.Tables.{IsCounted, KeepsFinal, definition_in, d
 ghost use Rattle.symbols65.specs.Views.{table_of, with_definition, words_of};
 
 use crate::assembler::Assembler;
-use base65::Sequence;
+use base65::{Seed, Sequence};
 use indexmap::IndexMap;
 use std::alloc::{AllocError, Global};
 use symbols65::{Definition, Entry, Key, Symbols};
@@ -34,7 +34,7 @@ fn entry(alloc: Global, symbols: &mut Symbols, key: Key<'_>) -> Result<Entry, Al
 
 /// Adds a definition behind all others, where there is none by its entry.
 fn push(
-    definitions: &mut IndexMap<Entry, Definition>,
+    definitions: &mut IndexMap<Entry, Definition, Seed>,
     entry: Entry,
     definition: Definition,
 ) -> Result<(), AllocError>

@@ -12,7 +12,7 @@ ghost use Rattle.symbols65.specs.Tables.{Begins};
 use super::Stand;
 use super::parts::{put_form, put_operand};
 use crate::assembler::{Assembler, Piece, Waiting};
-use base65::Sequence;
+use base65::{Seed, Sequence};
 use indexmap::IndexSet;
 use language65::{AsmFault, At, Part};
 use object65::format::FILE_NAME_LIMIT;
@@ -61,7 +61,7 @@ pub fn stored(alloc: Global, width: Width, at: At<'_>, form: Norm) -> Result<Par
 }
 
 /// A place among files, where the file at it has this name.
-fn same_place(files: &IndexSet<String>, place: Option<usize>, name: &str) -> Option<usize>
+fn same_place(files: &IndexSet<String, Seed>, place: Option<usize>, name: &str) -> Option<usize>
     ensures { IfSome result (λ i.
         slice_get (map string_bytes files.now.keys) i ≡ Some name.now) }
 {
@@ -78,7 +78,7 @@ fn same_place(files: &IndexSet<String>, place: Option<usize>, name: &str) -> Opt
 /// the piece before, and then it isn't looked up.
 fn place_of_file(
     alloc: Global,
-    files: &mut IndexSet<String>,
+    files: &mut IndexSet<String, Seed>,
     last: Option<usize>,
     name: &str,
 ) -> Result<usize, AllocError>

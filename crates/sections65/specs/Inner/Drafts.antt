@@ -22,11 +22,6 @@ use Rattle.sections65.specs.declared.entries.Entry.TheVariants.{Bytes, Room, Val
 use Rattle.sections65.specs.Fed.{origin_by}
 use Rattle.sections65.specs.declared.numbering.drafts.Draft.{Draft}
 use Rattle.sections65.specs.declared.numbering.exports.Exports.{Exports}
-use Rattle.sections65.specs.declared.numbering.keys.ImportTable.{ImportTable}
-
--- each import's key is found by its name
-abbrev pub IsTable : ImportTable → Type 0
-IsTable t = (name : List ℕ) → get_by (λ k. bytes_eq name k.now) t.by_name ≡ key_of t.all.now name
 
 -- the names are those of the exports
 abbrev pub AreNamed : Exports → Type 0

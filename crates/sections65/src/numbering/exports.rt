@@ -6,7 +6,7 @@ ghost use Rattle.sections65.specs.Inner.Drafts.{asserts_at, AreNamed, AssertFits
 
 use super::keys::{Numbers, numbered};
 use crate::entries::Entry;
-use base65::Sequence;
+use base65::{Seed, Sequence};
 use indexmap::IndexSet;
 use language65::Said;
 use object65::{Assert, Export, Origin};
@@ -16,7 +16,7 @@ use std::alloc::{AllocError, Global};
 #[derive(Drop)]
 pub struct Exports<'a> {
     pub all: Sequence<Export>,
-    pub names: IndexSet<&'a [u8]>,
+    pub names: IndexSet<&'a [u8], Seed>,
 }
 
 /// Adds the assertion that a statement makes at this origin, if it makes one.
@@ -172,6 +172,7 @@ fn add_entry_exports<'a>(
 /// The exports of a module.
 pub fn exports_of(
     alloc: Global,
+    seed: Seed,
     numbers: &Numbers,
     entries: &[Entry],
 ) -> Result<Sequence<Export>, AllocError>
@@ -181,7 +182,7 @@ pub fn exports_of(
 {
     let mut exports = Exports {
         all: Sequence::new(alloc),
-        names: IndexSet::new(alloc),
+        names: IndexSet::with_hasher(alloc, seed),
     };
     for entry in entries {
         add_entry_exports(alloc, numbers, &mut exports, entry)?;

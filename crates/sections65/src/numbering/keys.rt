@@ -1,51 +1,31 @@
 //! The keys of imports, by name and in the order of their numbers, and the numbers of sections.
 
 ghost use Rattle.std.specs.Prelude.{◌≡◌, IfOk, option_copied, [], map, nat_eq, OnOk};
-ghost use Rattle.sections65.specs.Inner.Drafts.{IsTable, anywhere};
+ghost use Rattle.sections65.specs.Inner.Drafts.{anywhere};
 ghost use Rattle.language65.specs.Numbering.{key_of, number_of, numbered, content_imports, import_keys, imports_in, once, optional_key, said_imports};
 ghost use Rattle.object65.specs.Objects.{FitsBits};
 ghost use Rattle.std.specs.List.{flat_map};
 ghost use Rattle.indexmap.specs.IndexSet.{IsUnique};
-ghost use Rattle.sections65.specs.Fed.{content_of};
+ghost use Rattle.sections65.specs.Fed.{content_of, names_of};
 ghost use Rattle.language65.specs.Views.{said_at};
 
 use crate::entries::Entry;
-use base65::Sequence;
-use indexmap::{IndexMap, IndexSet};
+use base65::Seed;
+use indexmap::IndexSet;
 use language65::Said;
 use object65::{Node, Norm};
 use std::alloc::{AllocError, Global};
 
-/// The imports, by name.
-#[derive(Drop)]
-pub struct ImportTable<'a> {
-    pub all: &'a [Sequence<u8>],
-    pub by_name: IndexMap<&'a [u8], u32>,
-}
+/// The names of imports, each once. The key of one is its place.
+pub type Imports = IndexSet<Vec<u8>, Seed>;
 
-impl<'a> ImportTable<'a> {
-    /// A table of imports. Of two of one name the first counts, so it comes last.
-    pub fn of(alloc: Global, names: &'a [Sequence<u8>]) -> Result<Self, AllocError>
-        ensures table { IfOk result IsTable }
-        ensures all { IfOk result (λ t. t.all.now ≡ names.entry.now) }
-    {
-        let mut by_name = IndexMap::new(alloc);
-        for i in (0..names.len()).rev() {
-            let name = &names[i];
-            by_name.insert(name.as_slice(), narrow(i)?)?;
-        }
-        Ok(ImportTable {
-            all: names,
-            by_name,
-        })
-    }
-
-    /// The key of an import, if there is one of that name.
-    pub fn get(&self, name: &[u8]) -> Option<u32>
-        requires { IsTable self.now }
-        ensures { result ≡ key_of self.now.all.now name.now }
-    {
-        self.by_name.get(name).copied()
+/// The key of an import, if there is one of that name.
+fn key_of(imports: &Imports, name: &[u8]) -> Result<Option<u32>, AllocError>
+    ensures { IfOk result (λ key. key ≡ key_of (names_of imports.now) name.now) }
+{
+    match imports.get_index_of(name) {
+        Some(place) => Ok(Some(narrow(place)?)),
+        None => Ok(None),
     }
 }
 
@@ -118,33 +98,24 @@ fn add_form(keys: &mut IndexSet<u32>, form: &Norm) -> Result<(), AllocError>
 }
 
 /// Adds the import of a name, if there is one.
-fn add_name(
-    keys: &mut IndexSet<u32>,
-    names: &ImportTable<'_>,
-    name: &[u8],
-) -> Result<(), AllocError>
-    requires { IsTable names.now }
-    ensures { OnOk result (keys.new.keys ≡ once keys.old.keys (optional_key (key_of names.now.all.now name.now))) }
+fn add_name(keys: &mut IndexSet<u32>, imports: &Imports, name: &[u8]) -> Result<(), AllocError>
+    ensures { OnOk result (keys.new.keys ≡ once keys.old.keys
+        (optional_key (key_of (names_of imports.now) name.now))) }
 {
-    if let Some(key) = names.get(name) {
+    if let Some(key) = key_of(imports, name)? {
         keys.insert(key)?;
     }
     Ok(())
 }
 
 /// Adds the imports of what a statement says.
-fn add_saying(
-    keys: &mut IndexSet<u32>,
-    names: &ImportTable<'_>,
-    said: &Said,
-) -> Result<(), AllocError>
-    requires { IsTable names.now }
+fn add_saying(keys: &mut IndexSet<u32>, imports: &Imports, said: &Said) -> Result<(), AllocError>
     ensures { OnOk result (keys.new.keys ≡ once keys.old.keys
-        (said_imports names.now.all.now (said_at anywhere said.now))) }
+        (said_imports (names_of imports.now) (said_at anywhere said.now))) }
 {
     match said {
         Said::Exported { name: _, form } => add_form(keys, form),
-        Said::Demanded(name) => add_name(keys, names, name.as_slice()),
+        Said::Demanded(name) => add_name(keys, imports, name.as_slice()),
         Said::Checked {
             action: _,
             text: _,
@@ -154,34 +125,24 @@ fn add_saying(
 }
 
 /// Adds the imports of all that a statement says.
-fn add_said(
-    keys: &mut IndexSet<u32>,
-    names: &ImportTable<'_>,
-    said: &[Said],
-) -> Result<(), AllocError>
-    requires { IsTable names.now }
+fn add_said(keys: &mut IndexSet<u32>, imports: &Imports, said: &[Said]) -> Result<(), AllocError>
     ensures { OnOk result (keys.new.keys ≡ once keys.old.keys
-        (flat_map (said_imports names.now.all.now) (map (said_at anywhere) said.now))) }
+        (flat_map (said_imports (names_of imports.now)) (map (said_at anywhere) said.now))) }
 {
     for saying in said {
-        add_saying(keys, names, saying)?;
+        add_saying(keys, imports, saying)?;
     }
     Ok(())
 }
 
 /// Adds the imports of an entry.
-fn add_entry(
-    keys: &mut IndexSet<u32>,
-    names: &ImportTable<'_>,
-    entry: &Entry,
-) -> Result<(), AllocError>
-    requires { IsTable names.now }
+fn add_entry(keys: &mut IndexSet<u32>, imports: &Imports, entry: &Entry) -> Result<(), AllocError>
     ensures { OnOk result (keys.new.keys
-        ≡ once keys.old.keys (content_imports names.now.all.now (content_of [] entry.now))) }
+        ≡ once keys.old.keys (content_imports (names_of imports.now) (content_of [] entry.now))) }
 {
     match entry {
         Entry::Value { form, .. } => add_form(keys, form),
-        Entry::Told { spot: _, said } => add_said(keys, names, said.as_slice()),
+        Entry::Told { spot: _, said } => add_said(keys, imports, said.as_slice()),
         Entry::Bytes { .. } | Entry::Room { .. } | Entry::Open => Ok(()),
     }
 }
@@ -189,15 +150,15 @@ fn add_entry(
 /// The imports that the object has.
 pub fn import_keys(
     alloc: Global,
-    names: &[Sequence<u8>],
+    imports: &Imports,
     entries: &[Entry],
 ) -> Result<IndexSet<u32>, AllocError>
-    ensures { IfOk result (λ s. s.keys ≡ import_keys names.now (map (content_of []) entries.now)) }
+    ensures { IfOk result (λ s. s.keys ≡
+        import_keys (names_of imports.now) (map (content_of []) entries.now)) }
 {
-    let table = ImportTable::of(alloc, names)?;
     let mut keys = IndexSet::new(alloc);
     for entry in entries {
-        add_entry(&mut keys, &table, entry)?;
+        add_entry(&mut keys, imports, entry)?;
     }
     Ok(keys)
 }

@@ -11,12 +11,16 @@ ghost use Rattle.symbols65.specs.Views.{table_of, with_names, with_scope, words_
 
 use super::entries::Opening;
 use super::symbols::Symbols;
-use base65::Sequence;
+use base65::{Seed, Sequence};
 use indexmap::{IndexMap, IndexSet};
 use std::alloc::{AllocError, Global};
 
 /// The number of a name, which is put in where it is new.
-fn intern(alloc: Global, words: &mut IndexSet<Vec<u8>>, name: &[u8]) -> Result<usize, AllocError>
+fn intern(
+    alloc: Global,
+    words: &mut IndexSet<Vec<u8>, Seed>,
+    name: &[u8],
+) -> Result<usize, AllocError>
     ensures more { Begins (map (λ k. k.items) words.old.keys) (map (λ k. k.items) words.new.keys) }
     ensures number { IfOk result (λ w. position (bytes_eq name.now) (map (λ k. k.items) words.new.keys) ≡ Some w) }
 {
@@ -31,7 +35,7 @@ fn intern(alloc: Global, words: &mut IndexSet<Vec<u8>>, name: &[u8]) -> Result<u
 
 /// Adds a scope behind all others, where there is none by its opening.
 fn push_scope(
-    scopes: &mut IndexMap<Opening, bool>,
+    scopes: &mut IndexMap<Opening, bool, Seed>,
     opening: Opening,
     is_proc: bool,
 ) -> Result<(), AllocError>
@@ -48,7 +52,7 @@ fn push_scope(
 /// Adds names, each once.
 fn add_names(
     alloc: Global,
-    known: &mut IndexSet<Vec<u8>>,
+    known: &mut IndexSet<Vec<u8>, Seed>,
     names: &[Sequence<u8>],
 ) -> Result<(), AllocError>
     ensures { OnOk result (map (λ k. k.items) known.new.keys ≡ with_new (map (λ k. k.items) known.old.keys) names.now) }

@@ -6,6 +6,7 @@ ghost use Rattle.symbols65.specs.Tables.{AreCounted, AreDistinct, AreFinal, AreF
 
 use super::definition::Definition;
 use super::entries::{Entry, Opening};
+use base65::Seed;
 use indexmap::{IndexMap, IndexSet};
 use std::alloc::Global;
 
@@ -13,16 +14,16 @@ use std::alloc::Global;
 #[derive(Drop)]
 pub struct Symbols {
     /// Each name once. It is looked up as it stands, so no search makes a copy of one.
-    pub words: IndexSet<Vec<u8>>,
+    pub words: IndexSet<Vec<u8>, Seed>,
     /// Each definition, in the order of the source.
-    pub definitions: IndexMap<Entry, Definition>,
+    pub definitions: IndexMap<Entry, Definition, Seed>,
     /// Each scope but the global one, in the order in which they were opened, and whether it was opened by `.proc`. The
     /// one of number i + 1 is at i.
-    pub scopes: IndexMap<Opening, bool>,
+    pub scopes: IndexMap<Opening, bool, Seed>,
     /// The imports in the order in which they were first named.
-    pub imports: IndexSet<Vec<u8>>,
+    pub imports: IndexSet<Vec<u8>, Seed>,
     /// Those that were imported for the zero page.
-    pub zero_page: IndexSet<Vec<u8>>,
+    pub zero_page: IndexSet<Vec<u8>, Seed>,
     ghost entries_numbered: { AreNumbered word_of (map (λ k. k.items) words.keys) (keys definitions) },
     ghost counts_fit: { AreCounted (keys definitions) },
     ghost openings_numbered: { AreNumbered word_opened (map (λ k. k.items) words.keys) (keys scopes) },
@@ -35,15 +36,15 @@ impl Symbols {
     ghost use Rattle.symbols65.specs.Views.{nothing_defined, table_of};
 
     /// The table of no statement.
-    pub fn new(alloc: Global) -> Self
+    pub fn new(alloc: Global, seed: Seed) -> Self
         ensures { table_of result ≡ nothing_defined }
     {
         Symbols {
-            words: IndexSet::new(alloc),
-            definitions: IndexMap::new(alloc),
-            scopes: IndexMap::new(alloc),
-            imports: IndexSet::new(alloc),
-            zero_page: IndexSet::new(alloc),
+            words: IndexSet::with_hasher(alloc, seed),
+            definitions: IndexMap::with_hasher(alloc, seed),
+            scopes: IndexMap::with_hasher(alloc, seed),
+            imports: IndexSet::with_hasher(alloc, seed),
+            zero_page: IndexSet::with_hasher(alloc, seed),
         }
     }
 }

@@ -5,6 +5,7 @@ use Rattle.object65.specs.declared.object.Assert.{Assert}
 use Rattle.object65.specs.declared.object.Export.{Export}
 use Rattle.object65.specs.declared.object.Object.{Object}
 use Rattle.object65.specs.declared.object.Section.{Section}
+use Rattle.sections65.specs.Fed.{names_of}
 use Rattle.sections65.specs.Inner.Drafts.{SectionFits, entry_asserts, exports_from, section_from}
 use Rattle.language65.specs.Numbering.{name_of}
 use Rattle.sections65.proofs.Fitting.{sections_fit}
@@ -13,7 +14,7 @@ use Rattle.sections65.proofs.numbering.numbered_object.Goals as goal
 pub returns-clause-object : goal.returns-clause-object
 returns-clause-object c =
     let segments = c.args.segments.now in
-    let names = c.args.names.now in
+    let names = names_of c.args.imports.now in
     let s = c.args.numbers.now.sections.keys in
     let i = c.args.numbers.now.imports.keys in
     let made : List (List ℕ) → List (List ℕ) → List Section → List Export → List Assert → Object = λ f a b e t. record { version = 2; files = f; imports = a; sections = b; exports = e; asserts = t } in

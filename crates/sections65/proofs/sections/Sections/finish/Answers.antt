@@ -1,6 +1,7 @@
 use Rattle.std.proofs.Common.{◌∙◌, [], ap}
 use Rattle.std.proofs.lemmas.Result.{IfOk-weaker}
 use Rattle.object65.specs.Objects.{is_good_object}
+use Rattle.sections65.specs.Fed.{names_of}
 use Rattle.sections65.specs.Inner.Ordering.{in_order}
 use Rattle.sections65.specs.Standing.{names_in}
 use Rattle.sections65.proofs.Ordered.{finished}
@@ -12,7 +13,7 @@ returns-clause-object c =
     let files = names_in c.args.self.files in
     let entries = c.in_ok-entries.ensures in
     IfOk-weaker c.in_order.result _ _
-    (λ o made cs stands. made ∙ ap (in_order files) c.in_ok-object.ensures.object ∙ finished c.args.segments.now c.args.names.now c.args.self c.in_ok-entries.entries.items cs c.in_order.ensures.distinct stands (entries.alike files []) (entries.standing files))
+    (λ o made cs stands. made ∙ ap (in_order files) c.in_ok-object.ensures.object ∙ finished c.args.segments.now (names_of c.args.imports.now) c.args.self c.in_ok-entries.entries.items cs c.in_order.ensures.distinct stands (entries.alike files []) (entries.standing files))
     c.in_order.ensures.object
 
 pub returns-clause-good : goal.returns-clause-good
@@ -21,6 +22,6 @@ returns-clause-good c =
     let entries = c.in_ok-entries.ensures in
     IfOk-weaker c.in_order.result _ _
     (λ o made cs stands sound.
-    ap is_good_object (made ∙ ap (in_order files) c.in_ok-object.ensures.object ∙ finished c.args.segments.now c.args.names.now c.args.self c.in_ok-entries.entries.items cs c.in_order.ensures.distinct stands (entries.alike files []) (entries.standing files))
-    ∙ good_object c.args.segments.now c.args.names.now cs sound)
+    ap is_good_object (made ∙ ap (in_order files) c.in_ok-object.ensures.object ∙ finished c.args.segments.now (names_of c.args.imports.now) c.args.self c.in_ok-entries.entries.items cs c.in_order.ensures.distinct stands (entries.alike files []) (entries.standing files))
+    ∙ good_object c.args.segments.now (names_of c.args.imports.now) cs sound)
     c.in_order.ensures.object

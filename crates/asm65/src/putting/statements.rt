@@ -83,6 +83,7 @@ impl Assembler {
     }
 
     /// Enters the value of an operand, if there is one.
+    #[inline(always)]
     fn enter_operand_of(
         &mut self,
         alloc: Global,

@@ -132,6 +132,7 @@ fn operand_from(
 }
 
 /// What stands behind a mnemonic.
+#[inline(always)]
 pub fn operand(alloc: Global, tokens: &[Token<'_>]) -> Result<Operand, AsmFault>
     ensures value { Parses result (IsOperand (lexemes tokens.now)) }
     ensures inside { IfErr result (λ e. is_failure e ≡ false) }

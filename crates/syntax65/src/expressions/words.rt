@@ -96,7 +96,10 @@ pub fn is_scope(tokens: &[Token<'_>], at: usize) -> bool
     ensures value { IsTrue result ↔ (opening_at (lexemes tokens.now) at ≡ Opening.Scope) }
     ensures inside { IsTrue result → at < length tokens.now }
 {
-    matches!(opening_at(tokens, at), Opening::Scope)
+    match token_at(tokens, at) {
+        Some(token) => matches!(token.kind, TokenKind::Symbol(Mark::Scope)),
+        None => false,
+    }
 }
 
 /// Whether a `!` stands at a place.
@@ -104,7 +107,21 @@ pub fn is_negation(tokens: &[Token<'_>], at: usize) -> bool
     ensures value { IsTrue result ↔ (opening_at (lexemes tokens.now) at ≡ Opening.Negation) }
     ensures inside { IsTrue result → at < length tokens.now }
 {
-    matches!(opening_at(tokens, at), Opening::Negation)
+    match token_at(tokens, at) {
+        Some(
+            Token {
+                kind: TokenKind::Symbol(mark),
+                ..
+            },
+        ) => matches!(mark, Mark::Exclamation),
+        Some(
+            Token {
+                kind: TokenKind::Directive,
+                text,
+            },
+        ) => matches!(opening_of_word(text), Opening::Negation),
+        _ => false,
+    }
 }
 
 /// The bytes of the token at a place, none where there is no token.

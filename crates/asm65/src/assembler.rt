@@ -2,6 +2,9 @@
 
 ghost use Rattle.symbols65.specs.Views.{table_of};
 ghost use Rattle.asm65.specs.Inner.Putting.{known_where};
+ghost use Rattle.std.specs.Prelude.{IfOk};
+ghost use Rattle.module65.specs.Machine.{begun};
+ghost use Rattle.asm65.specs.Inner.Holding.{Holds};
 
 use crate::texts::Texts;
 use base65::{Seed, Sequence};
@@ -93,10 +96,6 @@ pub struct Assembler {
 }
 
 impl Assembler {
-    ghost use Rattle.std.specs.Prelude.{IfOk};
-    ghost use Rattle.module65.specs.Machine.{begun};
-    ghost use Rattle.asm65.specs.Inner.Holding.{Holds};
-
     /// The assembler before the first statement.
     pub fn new(alloc: Global, seed: Seed) -> Result<Self, AllocError>
         ensures { IfOk result (Holds 0 begun) }

@@ -7,7 +7,7 @@ ghost use Rattle.module65.specs.Reading.{AreDefined, no_line, Job};
 ghost use Rattle.asm65.specs.Assembly.{define_of, job_of, Concludes, IsAssembled, answer_of, has_failed, is_from_memory, is_from_outside, is_outside_refusal, placed_of};
 ghost use Rattle.asm65.specs.Inner.Holding.{Holds};
 ghost use Rattle.asm65.specs.Inner.Running.{DefinesBy, IsRoomy, Leaves, IsHeldBy, IsRunning, SaysAs};
-ghost use Rattle.language65.specs.Views.{place_in};
+ghost use Rattle.language65.specs.Views.{place_at};
 ghost use Rattle.base65.specs.Outcome.{Finds};
 ghost use Rattle.base65.specs.Store.{Asks, IsBlamed, Passes, PassesBy};
 ghost use Rattle.object65.specs.Objects.{ObjectFits, is_good_object};
@@ -18,7 +18,7 @@ ghost use Rattle.asm65.specs.Failing.{StopsSo, StopsFrom};
 
 use crate::assembler::Assembler;
 use crate::running::{Run, take_all};
-use crate::texts::{AsmRefusal, Texts};
+use crate::texts::{AsmRefusal, Texts, is_failure, is_outside};
 use base65::{Sequence, Store, Text};
 use expand65::{ExpandFault, Expander, Options, Place};
 use language65::{AsmFault, At, Statement};
@@ -63,7 +63,7 @@ fn define(
     define: &Define<'_>,
 ) -> Result<(), AsmFault>
     requires { IsRoomy 1 assembler.old }
-    ensures taken { DefinesBy (place_in at.entry.file.now at.entry.line) (define_of define.now)
+    ensures taken { DefinesBy (place_at at.entry) (define_of define.now)
         assembler.old assembler.new result }
     ensures inside { IfErr result (λ e. is_failure e ≡ false) }
 {
@@ -91,23 +91,6 @@ pub fn define_all(
         define(alloc, assembler, at, one)?;
     }
     Ok(())
-}
-
-/// Whether the store failed.
-fn is_failure(fault: &AsmFault) -> bool
-    ensures { result ≡ is_failure fault.now }
-{
-    matches!(
-        fault,
-        AsmFault::FileError | AsmFault::Expansion(ExpandFault::FileError)
-    )
-}
-
-/// Whether memory ran out, or the store failed.
-fn is_outside(fault: &AsmFault) -> bool
-    ensures { result ≡ is_outside fault.now }
-{
-    fault.is_memory() || is_failure(fault)
 }
 
 /// A refusal from outside before a line was read, with which nothing is said.
@@ -156,7 +139,7 @@ fn stopped(expander: Expander, assembler: Assembler, fault: AsmFault) -> Assembl
 fn refused(alloc: Global, assembler: Assembler, at: At<'_>, fault: AsmFault) -> Assembly
     ensures refused { is_outside fault ≡ false → (t : State) → SaysAs t assembler →
         Concludes (concluded t (Some (record {
-          place = place_in at.entry.file.now at.entry.line;
+          place = place_at at.entry;
           fault = fault;
         }))) result }
     ensures outside { is_outside fault ≡ true → is_from_outside result.result ≡ true }

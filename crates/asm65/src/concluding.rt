@@ -16,7 +16,7 @@ ghost use Rattle.asm65.specs.Assembly.{Concludes, has_failed, in_places, is_from
 ghost use Rattle.asm65.specs.Inner.Holding.{AreWaiting, Holds, IsWaiting};
 ghost use Rattle.asm65.specs.Inner.Resolving.{Settles, SettlesAll, content_of, warning_in};
 ghost use Rattle.asm65.specs.Inner.Running.{SaysAs};
-ghost use Rattle.language65.specs.Views.{place_in};
+ghost use Rattle.language65.specs.Views.{place_at};
 
 use crate::assembler::{Assembler, Waiting};
 use crate::assembling::Assembly;
@@ -62,7 +62,7 @@ fn file_at(files: &[String], place: usize) -> &str
 /// The first that waited, in a statement that stands here, has its content.
 fn fill(sections: &mut Sections, at: At<'_>, filling: Filling) -> Result<(), AllocError>
     ensures { OnOk result (Receives sections.old sections.new
-        (content_of (place_in at.entry.file.now at.entry.line) filling)) }
+        (content_of (place_at at.entry) filling)) }
 {
     match filling {
         Filling::Part { segment, part } => sections.settle(segment, at, part),
@@ -72,8 +72,7 @@ fn fill(sections: &mut Sections, at: At<'_>, filling: Filling) -> Result<(), All
 
 /// Warns of an assertion with this text, where one failed.
 fn warn_of(err: &mut Sequence<u8>, at: At<'_>, text: Option<Sequence<u8>>) -> Result<(), AllocError>
-    ensures { OnOk result
-        (err.new ≡ err.old ++ warning_in (place_in at.entry.file.now at.entry.line) text) }
+    ensures { OnOk result (err.new ≡ err.old ++ warning_in (place_at at.entry) text) }
 {
     match text {
         Some(text) => warn(err, at.file, at.line, text.as_slice()),
@@ -84,9 +83,9 @@ fn warn_of(err: &mut Sequence<u8>, at: At<'_>, text: Option<Sequence<u8>>) -> Re
 /// The first that waited, in a statement that stands here, has what it came to.
 fn take_made(ending: &mut Ending, at: At<'_>, made: Made) -> Result<(), AllocError>
     ensures sections { OnOk result (Receives ending.old.sections ending.new.sections
-        (content_of (place_in at.entry.file.now at.entry.line) made.filling)) }
+        (content_of (place_at at.entry) made.filling)) }
     ensures err { OnOk result (ending.new.err ≡
-        ending.old.err ++ warning_in (place_in at.entry.file.now at.entry.line) made.warning) }
+        ending.old.err ++ warning_in (place_at at.entry) made.warning) }
     ensures known { ending.new.known ≡ ending.old.known }
 {
     let Made { filling, warning } = made;
@@ -178,8 +177,7 @@ fn answered(alloc: Global, answer: Result<Object, AsmRefusal>, texts: Texts) -> 
     ensures concluded { (o : Outcome) → (is_from_outside answer ≡ false →
         record { result = in_places answer; out = texts.out; err = texts.err } ≡ o) →
         Concludes o result }
-    ensures silent { is_from_outside result.result ≡ true →
-        (result.out ≡ []) × (result.err ≡ []) }
+    ensures silent { is_from_outside result.result ≡ true → (result.out ≡ []) × (result.err ≡ []) }
 {
     if is_from_outside(&answer) {
         return Assembly {
@@ -229,11 +227,7 @@ impl Assembler {
             files: files.as_slice(),
         };
         let settled = settle_all(alloc, whole, &mut ending, waiting);
-        let Ending {
-            known: _,
-            sections,
-            err,
-        } = ending;
+        let Ending { sections, err, .. } = ending;
         let texts = Texts { out, err };
         match settled {
             Ok(()) => {
@@ -249,7 +243,7 @@ impl Assembler {
     pub fn refuse(self, alloc: Global, at: At<'_>, fault: AsmFault) -> Assembly
         ensures refused { is_outside fault ≡ false → (t : State) → SaysAs t self →
             Concludes (concluded t (Some (record {
-              place = place_in at.entry.file.now at.entry.line;
+              place = place_at at.entry;
               fault = fault;
             }))) result }
         ensures none { IfOk result.result (λ o. ⊥) }

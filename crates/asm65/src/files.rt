@@ -6,12 +6,15 @@ ghost use Rattle.base65.specs.Store.{Files, IsBlamed, PassesBy};
 ghost use Rattle.expand65.specs.Includes.{beside, file_named};
 ghost use Rattle.source65.specs.declared.place.Place.{Place};
 ghost use Rattle.language65.specs.declared.fault.AsmFault.TheVariants.{FileError};
-ghost use Rattle.language65.specs.Faults.{is_failure, is_outside};
-ghost use Rattle.language65.specs.Views.{place_in};
+ghost use Rattle.language65.specs.Faults.{is_failure, is_outside, is_memory};
+ghost use Rattle.language65.specs.Views.{place_at};
 ghost use Rattle.module65.specs.Machine.{State};
 ghost use Rattle.asm65.specs.Inner.Files.{IsRefusedUnread, read_bytes};
 ghost use Rattle.asm65.specs.Inner.Holding.{Holds};
 ghost use Rattle.asm65.specs.Inner.Taking.{IsHeld};
+ghost use Rattle.base65.specs.Outcome.{Gives};
+ghost use Rattle.language65.specs.LineFaults.{unless_fault};
+ghost use Rattle.layout65.specs.Measuring.{unread_fault};
 
 use crate::assembler::Assembler;
 use base65::{Sequence, Store, StoreFault, read_front};
@@ -51,12 +54,6 @@ fn bytes_beside<S: Store>(
 }
 
 impl Assembler {
-    ghost use Rattle.std.specs.Prelude.{OnOk, false};
-    ghost use Rattle.base65.specs.Outcome.{Gives};
-    ghost use Rattle.language65.specs.Faults.{is_memory};
-    ghost use Rattle.language65.specs.LineFaults.{unless_fault};
-    ghost use Rattle.layout65.specs.Measuring.{unread_fault};
-
     /// Refuses a part of a file for what is wrong with it whatever the file has.
     #[inline(never)]
     fn check_unread(&mut self, alloc: Global, range: PartRange<'_>) -> Result<(), AsmFault>
@@ -89,11 +86,11 @@ fn with_bytes<S: Store>(
 ) -> Result<Statement, AsmFault>
     requires { IsHeld assembler.old }
     ensures bytes { IfSome (S.files store.old) (λ m. IfOk result (λ x. x ≡ read_bytes m
-        (place_in at.entry.file.now at.entry.line) statement)) }
+        (place_at at.entry) statement)) }
     ensures held { (count : ℕ) (t : State) → Holds count t assembler.old →
         OnOk result (Holds count t assembler.new) }
     ensures refused { (count : ℕ) (t : State) → Holds count t assembler.old → IfErr result
-        (IsRefusedUnread (S.blamed store.new) t (place_in at.entry.file.now at.entry.line)
+        (IsRefusedUnread (S.blamed store.new) t (place_at at.entry)
         statement) }
     ensures texts { assembler.new.texts ≡ assembler.old.texts }
     ensures failed { IfErr result (λ e. is_failure e ≡ true → e ≡ FileError) }
@@ -141,11 +138,11 @@ pub fn read_part<S: Store>(
 ) -> Result<(), AsmFault>
     requires { IsHeld assembler.old }
     ensures bytes { IfSome (S.files store.old) (λ m. OnOk result (statement.new ≡
-        read_bytes m (place_in at.entry.file.now at.entry.line) statement.old)) }
+        read_bytes m (place_at at.entry) statement.old)) }
     ensures held { (count : ℕ) (t : State) → Holds count t assembler.old →
         OnOk result (Holds count t assembler.new) }
     ensures refused { (count : ℕ) (t : State) → Holds count t assembler.old → IfErr result
-        (IsRefusedUnread (S.blamed store.new) t (place_in at.entry.file.now at.entry.line)
+        (IsRefusedUnread (S.blamed store.new) t (place_at at.entry)
         statement.old) }
     ensures texts { assembler.new.texts ≡ assembler.old.texts }
     ensures failed { IfErr result (λ e. is_failure e ≡ true → e ≡ FileError) }

@@ -7,7 +7,7 @@ ghost use Rattle.expand65.specs.Standing.{stated};
 ghost use Rattle.language65.specs.declared.fault.AsmFault.TheVariants.{NotUnderstood};
 ghost use Rattle.language65.specs.Faults.{is_failure};
 ghost use Rattle.language65.specs.Sound.{AreNamed, IsSound};
-ghost use Rattle.language65.specs.Views.{place_in};
+ghost use Rattle.language65.specs.Views.{place_at};
 ghost use Rattle.module65.specs.Machine.{Takes};
 ghost use Rattle.module65.specs.Reading.{IsGiven, IsLabel, IsLabelled, IsRest};
 ghost use Rattle.reader65.specs.Playing.{tokens_in};
@@ -48,7 +48,7 @@ fn take_sound(
 ) -> Result<(), AsmFault>
     requires { IsRoomy 1 assembler.old }
     ensures taken { TakesBy (IsSound statement) (λ t. Takes t
-        (place_in at.entry.file.now at.entry.line) statement)
+        (place_at at.entry) statement)
         1 assembler.old assembler.new result }
     ensures inside { IfErr result (λ e. is_failure e ≡ false) }
 {
@@ -69,10 +69,10 @@ pub fn take_rest<S: Store>(
 ) -> Result<(), AsmFault>
     requires { IsRoomy 1 assembler.old }
     ensures taken { TakesBy (AreNamed (lexemes tokens.now)) (Told (S.files store.old)
-        (λ m t. IsRest m Takes t (place_in at.entry.file.now at.entry.line) (lexemes tokens.now)))
+        (λ m t. IsRest m Takes t (place_at at.entry) (lexemes tokens.now)))
         1 assembler.old assembler.new result }
     ensures stopped { StopsQuietly (Without (S.blamed store.new)
-        (λ m t. IsRest m Takes t (place_in at.entry.file.now at.entry.line) (lexemes tokens.now)))
+        (λ m t. IsRest m Takes t (place_at at.entry) (lexemes tokens.now)))
         1 assembler.old assembler.new result }
     ensures files { S.files store.new ≡ S.files store.old }
     ensures count { PassesBy is_failure (S.failures store.old) (S.failures store.new) result }
@@ -98,7 +98,7 @@ fn take_front(
 ) -> Result<(), AsmFault>
     requires { IsRoomy 1 assembler.old }
     ensures taken { TakesBy (IsSoundIf label) (λ t. IsLabelled Takes t
-        (place_in at.entry.file.now at.entry.line) label)
+        (place_at at.entry) label)
         1 assembler.old assembler.new result }
     ensures inside { IfErr result (λ e. is_failure e ≡ false) }
 {
@@ -119,10 +119,10 @@ fn take_label<S: Store>(
 ) -> Result<(), AsmFault>
     requires { IsRoomy 2 assembler.old }
     ensures taken { TakesBy (AreNamed (lexemes tokens.now)) (Told (S.files store.old)
-        (λ m t. IsLabel m Takes t (place_in at.entry.file.now at.entry.line) (lexemes tokens.now)))
+        (λ m t. IsLabel m Takes t (place_at at.entry) (lexemes tokens.now)))
         2 assembler.old assembler.new result }
     ensures stopped { StopsQuietly (Without (S.blamed store.new)
-        (λ m t. IsLabel m Takes t (place_in at.entry.file.now at.entry.line) (lexemes tokens.now)))
+        (λ m t. IsLabel m Takes t (place_at at.entry) (lexemes tokens.now)))
         2 assembler.old assembler.new result }
     ensures files { S.files store.new ≡ S.files store.old }
     ensures count { PassesBy is_failure (S.failures store.old) (S.failures store.new) result }
@@ -142,10 +142,10 @@ fn take_line<S: Store>(
 ) -> Result<(), AsmFault>
     requires { IsRoomy 1 assembler.old }
     ensures taken { TakesBy (AreNamed (tokens_in line.now)) (Told (S.files store.old)
-        (λ m t. IsRest m Takes t (place_in at.entry.file.now at.entry.line) (tokens_in line.now)))
+        (λ m t. IsRest m Takes t (place_at at.entry) (tokens_in line.now)))
         1 assembler.old assembler.new result }
     ensures stopped { StopsQuietly (Without (S.blamed store.new)
-        (λ m t. IsRest m Takes t (place_in at.entry.file.now at.entry.line) (tokens_in line.now)))
+        (λ m t. IsRest m Takes t (place_at at.entry) (tokens_in line.now)))
         1 assembler.old assembler.new result }
     ensures files { S.files store.new ≡ S.files store.old }
     ensures count { PassesBy is_failure (S.failures store.old) (S.failures store.new) result }
@@ -174,10 +174,10 @@ pub fn take_given<S: Store>(
 ) -> Result<(), AsmFault>
     requires { IsRoomy 2 assembler.old }
     ensures taken { TakesBy (AreNamed (tokens_of (stated given.now))) (Told (S.files store.old)
-        (λ m t. IsGiven m Takes t (place_in at.entry.file.now at.entry.line) (stated given.now)))
+        (λ m t. IsGiven m Takes t (place_at at.entry) (stated given.now)))
         2 assembler.old assembler.new result }
     ensures stopped { StopsQuietly (Without (S.blamed store.new)
-        (λ m t. IsGiven m Takes t (place_in at.entry.file.now at.entry.line) (stated given.now)))
+        (λ m t. IsGiven m Takes t (place_at at.entry) (stated given.now)))
         2 assembler.old assembler.new result }
     ensures files { S.files store.new ≡ S.files store.old }
     ensures count { PassesBy is_failure (S.failures store.old) (S.failures store.new) result }

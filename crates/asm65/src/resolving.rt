@@ -7,7 +7,7 @@ ghost use Rattle.language65.specs.Contents.{telling};
 ghost use Rattle.language65.specs.Faults.{is_memory};
 ghost use Rattle.language65.specs.declared.laid.Spot.{Spot as Stand};
 ghost use Rattle.language65.specs.Symbols.{defined, named};
-ghost use Rattle.language65.specs.Views.{place_in, said_at};
+ghost use Rattle.language65.specs.Views.{place_at, said_at};
 ghost use Rattle.module65.specs.Pieces.{asserted, datum, imported, made_of, operand, quietly, used};
 ghost use Rattle.symbols65.specs.Resolving.{IsTable};
 ghost use Rattle.symbols65.specs.Views.{table_of};
@@ -63,8 +63,8 @@ fn told(alloc: Global, saying: Said) -> Result<Made, AllocError>
 
 /// One thing is said in a file whose name an object can hold.
 fn written(alloc: Global, at: At<'_>, saying: Said) -> Result<Made, AsmFault>
-    ensures { Gives is_memory (made_in (place_in at.entry.file.now at.entry.line)) result
-        (noted (place_in at.entry.file.now at.entry.line) saying) }
+    ensures { Gives is_memory (made_in (place_at at.entry)) result
+        (noted (place_at at.entry) saying) }
 {
     if !is_file_name(at.file) {
         return Err(AsmFault::FileNameTooLong);
@@ -80,8 +80,8 @@ fn use_datum(
     spot: Spot,
     form: Norm,
 ) -> Result<Made, AsmFault>
-    ensures { Gives is_memory (made_in (place_in at.entry.file.now at.entry.line)) result
-        (used (place_in at.entry.file.now at.entry.line) spot (datum width) form) }
+    ensures { Gives is_memory (made_in (place_at at.entry)) result
+        (used (place_at at.entry) spot (datum width) form) }
 {
     let part = stored(alloc, width, at, form)?;
     Ok(Made {
@@ -101,8 +101,8 @@ fn use_operand(
     spot: Spot,
     form: Norm,
 ) -> Result<Made, AsmFault>
-    ensures { Gives is_memory (made_in (place_in at.entry.file.now at.entry.line)) result
-        (used (place_in at.entry.file.now at.entry.line) spot (operand width) form) }
+    ensures { Gives is_memory (made_in (place_at at.entry)) result
+        (used (place_at at.entry) spot (operand width) form) }
 {
     let form = operand_form(alloc, width, spot, form)?;
     use_datum(alloc, width, at, spot, form)
@@ -117,8 +117,8 @@ fn use_assertion(
     form: Norm,
 ) -> Result<Made, AsmFault>
     ensures { (s : Stand) →
-        Gives is_memory (made_in (place_in at.entry.file.now at.entry.line)) result
-        (used (place_in at.entry.file.now at.entry.line) s (asserted action text) form) }
+        Gives is_memory (made_in (place_at at.entry)) result
+        (used (place_at at.entry) s (asserted action text) form) }
 {
     match literal_of(&form) {
         Some(0) => match action {
@@ -173,17 +173,12 @@ pub fn resolve(
     waiting: Waiting,
 ) -> Result<Made, AsmFault>
     requires { IsTable (table_of symbols.now) known.old.states.items }
-    ensures made { Gives is_memory (made_in (place_in at.entry.file.now at.entry.line)) result
-        (coming (table_of symbols.now) (place_in at.entry.file.now at.entry.line)
+    ensures made { Gives is_memory (made_in (place_at at.entry)) result
+        (coming (table_of symbols.now) (place_at at.entry)
         waiting.spot waiting.piece) }
     ensures table { OnOk result (IsTable (table_of symbols.now) known.new.states.items) }
 {
-    let Waiting {
-        file: _,
-        line: _,
-        spot,
-        piece,
-    } = waiting;
+    let Waiting { spot, piece, .. } = waiting;
     match piece {
         Piece::Datum { width, value } => {
             let form = norm(alloc, symbols, known, spot, &value)?;

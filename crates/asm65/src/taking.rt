@@ -1,9 +1,22 @@
 //! One statement of the source is taken, of names and texts that objects can hold.
 
-ghost use Rattle.std.specs.Prelude.{◌≡◌, true, Err};
+ghost use Rattle.std.specs.Prelude.{◌≡◌, true, Err, ◌+◌, ◌<◌, ℕ, IfErr, IfOk, OnOk, false};
 ghost use Rattle.std.specs.List.{list_all};
 ghost use Rattle.object65.specs.Objects.{is_name, is_printed};
 ghost use Rattle.language65.specs.Sound.{IsSound};
+ghost use Rattle.source65.specs.declared.place.Place.{Place};
+ghost use Rattle.language65.specs.declared.language.Statement.TheVariants.{Instruction};
+ghost use Rattle.language65.specs.Faults.{is_failure, is_outside};
+ghost use Rattle.language65.specs.Views.{place_at};
+ghost use Rattle.layout65.specs.Counting.{opened_by, opening_limit};
+ghost use Rattle.module65.specs.Machine.{State, Takes, symbols_behind};
+ghost use Rattle.module65.specs.Pieces.{instruction_pieces, pieces_of};
+ghost use Rattle.module65.specs.Reading.{Answers};
+ghost use Rattle.symbols65.specs.Resolving.{IsTable};
+ghost use Rattle.symbols65.specs.Views.{table_of};
+ghost use Rattle.asm65.specs.Inner.Holding.{Enters, Holds};
+ghost use Rattle.asm65.specs.Inner.Putting.{KeepsTables};
+ghost use Rattle.asm65.specs.Inner.Taking.{Asks, IsHeld, IsNew, IsPlaced, IsRefused, Turns, laid_as, stepped};
 
 use crate::assembler::Assembler;
 use crate::naming::Mention;
@@ -44,16 +57,12 @@ pub fn is_sound(statement: &Statement) -> bool
     ensures all { IsSound statement.now → result ≡ true }
 {
     match statement {
-        Statement::Segment { name, size: _ } => is_name(name.as_slice()),
-        Statement::Import { size: _, names } => are_names(names.as_slice()),
+        Statement::Segment { name, .. } => is_name(name.as_slice()),
+        Statement::Import { names, .. } => are_names(names.as_slice()),
         Statement::Export(names) => are_names(names.as_slice()),
-        Statement::Global { size: _, names } => are_names(names.as_slice()),
+        Statement::Global { names, .. } => are_names(names.as_slice()),
         Statement::ForceImport(names) => are_names(names.as_slice()),
-        Statement::Assert {
-            value: _,
-            action: _,
-            text,
-        } => text.len() < LEN_LIMIT,
+        Statement::Assert { text, .. } => text.len() < LEN_LIMIT,
         _ => true,
     }
 }
@@ -82,21 +91,6 @@ fn refused_operand(_operand: Operand, fault: AsmFault) -> Result<(), AsmFault>
 }
 
 impl Assembler {
-    ghost use Rattle.source65.specs.declared.place.Place.{Place};
-    ghost use Rattle.language65.specs.declared.language.Statement.TheVariants.{Instruction};
-    ghost use Rattle.std.specs.Prelude.{◌+◌, ◌<◌, ℕ, IfErr, IfOk, OnOk, false};
-    ghost use Rattle.language65.specs.Faults.{is_failure, is_outside};
-    ghost use Rattle.language65.specs.Views.{place_in};
-    ghost use Rattle.layout65.specs.Counting.{opened_by, opening_limit};
-    ghost use Rattle.module65.specs.Machine.{State, Takes, symbols_behind};
-    ghost use Rattle.module65.specs.Pieces.{instruction_pieces, pieces_of};
-    ghost use Rattle.module65.specs.Reading.{Answers};
-    ghost use Rattle.symbols65.specs.Resolving.{IsTable};
-    ghost use Rattle.symbols65.specs.Views.{table_of};
-    ghost use Rattle.asm65.specs.Inner.Holding.{Enters, Holds};
-    ghost use Rattle.asm65.specs.Inner.Putting.{KeepsTables};
-    ghost use Rattle.asm65.specs.Inner.Taking.{Asks, IsHeld, IsNew, IsPlaced, IsRefused, Turns, laid_as, stepped};
-
     /// A statement asks for its section, where it asks for one.
     #[inline(always)]
     fn ask(&mut self, segment: u32, statement: &Statement) -> Result<(), AllocError>
@@ -120,7 +114,7 @@ impl Assembler {
         operand: Operand,
     ) -> Result<(), AllocError>
         ensures { OnOk result (Enters
-            (place_in stand.entry.at.file.now stand.entry.at.line) stand.entry.spot
+            (place_at stand.entry.at) stand.entry.spot
             (instruction_pieces mnemonic operand settled)
             self.old self.new) }
     {
@@ -141,13 +135,13 @@ impl Assembler {
     ) -> Result<(), AllocError>
         requires known { IsTable (table_of self.old.symbols) self.old.known.states.items }
         requires new { IsNew (table_of self.old.symbols) stand.spot statement }
-        ensures { OnOk result (let place = place_in stand.entry.at.file.now stand.entry.at.line in
+        ensures { OnOk result (let place = place_at stand.entry.at in
             let s = stand.entry.spot in let m = measured in
             Turns place s (pieces_of m.length m.settled statement)
             (λ y. symbols_behind y (laid_as place s m statement))
             self.old self.new) }
     {
-        let Stand { at: _, spot } = stand;
+        let Stand { spot, .. } = stand;
         let scope = spot.scope as usize;
         let size = measured.size;
         match statement {
@@ -155,18 +149,13 @@ impl Assembler {
                 self.enter_settled(alloc, stand, measured.settled, mnemonic, operand)
             }
             Statement::Values { width, items } => self.enter_values(alloc, stand, width, items),
-            Statement::Reserve { count: _, value: _ } => {
+            Statement::Reserve { .. } => {
                 self.enter_room(spot, measured.length, measured.settled)
             }
-            Statement::Align {
-                multiple: _,
-                value: _,
-            } => self.enter_room(spot, measured.length, measured.settled),
-            Statement::FilePart {
-                bytes,
-                start: _,
-                len: _,
-            } => { self.enter_part(spot, measured.length, measured.settled, bytes) }
+            Statement::Align { .. } => self.enter_room(spot, measured.length, measured.settled),
+            Statement::FilePart { bytes, .. } => {
+                self.enter_part(spot, measured.length, measured.settled, bytes)
+            }
             Statement::Assert {
                 value,
                 action,
@@ -207,12 +196,8 @@ impl Assembler {
                 )
             }
             // A part has its file's bytes before it is taken.
-            Statement::NamedPart {
-                name: _,
-                start: _,
-                len: _,
-            } => Ok(()),
-            Statement::Segment { name: _, size: _ }
+            Statement::NamedPart { .. } => Ok(()),
+            Statement::Segment { .. }
             | Statement::PushSegment
             | Statement::PopSegment
             | Statement::CloseScope
@@ -237,14 +222,13 @@ impl Assembler {
             IsPlaced t statement.now p.spot p.measured) }
         ensures holds { (count : ℕ) (t : State) → Holds count t self.old → OnOk result
             (Holds (count + opened_by statement.now)
-            (stepped t (place_in at.entry.file.now at.entry.line) statement.now)
+            (stepped t (place_at at.entry) statement.now)
             self.new) }
         ensures refused { (count : ℕ) (t : State) → Holds count t self.old → IfErr result
             (IsRefused t statement.now) }
         ensures known { OnOk result
             (IsTable (table_of self.new.symbols) self.new.known.states.items) }
-        ensures new { IfOk result (λ p.
-            IsNew (table_of self.new.symbols) p.spot statement.now) }
+        ensures new { IfOk result (λ p. IsNew (table_of self.new.symbols) p.spot statement.now) }
         ensures texts { IfErr result (λ e. is_outside e ≡ false → self.new.texts ≡ self.old.texts) }
         ensures inside { IfErr result (λ e. is_failure e ≡ false) }
     {
@@ -302,7 +286,7 @@ impl Assembler {
     ) -> Result<(), AsmFault>
         requires { IsHeld self.old }
         ensures taken { (count : ℕ) (t : State) → Holds count t self.old → count < opening_limit →
-            Answers (Takes t (place_in at.entry.file.now at.entry.line)
+            Answers (Takes t (place_at at.entry)
             (Instruction mnemonic operand))
             (λ u. Holds (count + opened_by (Instruction mnemonic operand)) u self.new) result }
         ensures texts { IfErr result (λ e. is_outside e ≡ false → self.new.texts ≡ self.old.texts) }
@@ -322,7 +306,7 @@ impl Assembler {
     pub fn take(&mut self, alloc: Global, at: At<'_>, statement: Statement) -> Result<(), AsmFault>
         requires { IsHeld self.old }
         ensures taken { (count : ℕ) (t : State) → Holds count t self.old → count < opening_limit →
-            Answers (Takes t (place_in at.entry.file.now at.entry.line) statement)
+            Answers (Takes t (place_at at.entry) statement)
             (λ u. Holds (count + opened_by statement) u self.new) result }
         ensures texts { IfErr result (λ e. is_outside e ≡ false → self.new.texts ≡ self.old.texts) }
         ensures inside { IfErr result (λ e. is_failure e ≡ false) }

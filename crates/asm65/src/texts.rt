@@ -3,7 +3,7 @@
 ghost use Rattle.std.specs.Prelude.{◌≡◌, [], false, true, unwrap_or, ◌++◌, codes, OnOk};
 ghost use Rattle.language65.specs.Faults.{is_failure, is_outside};
 ghost use Rattle.asm65.specs.Assembly.{has_failed, is_outside_refusal, placed_of};
-ghost use Rattle.language65.specs.Views.{place_in};
+ghost use Rattle.language65.specs.Views.{place_at, place_in};
 ghost use Rattle.module65.specs.Module.{out_of, warning_at, warning_of};
 
 use base65::{Sequence, Text};
@@ -11,6 +11,23 @@ use expand65::ExpandFault;
 use itoa::Buffer;
 use language65::{AsmFault, At, Statement};
 use std::alloc::{AllocError, Global};
+
+/// Whether the store failed.
+pub fn is_failure(fault: &AsmFault) -> bool
+    ensures { result ≡ is_failure fault.now }
+{
+    matches!(
+        fault,
+        AsmFault::FileError | AsmFault::Expansion(ExpandFault::FileError)
+    )
+}
+
+/// Whether memory ran out, or the store failed.
+pub fn is_outside(fault: &AsmFault) -> bool
+    ensures { result ≡ is_outside fault.now }
+{
+    fault.is_memory() || is_failure(fault)
+}
 
 /// Why a source has no object, and where: the line is 0 where none was read.
 #[derive(Drop)]
@@ -37,7 +54,7 @@ impl AsmRefusal {
     /// The refusal of a fault at a line.
     pub fn of_fault(alloc: Global, at: At<'_>, fault: AsmFault) -> Self
         ensures placed { is_outside_refusal result ≡ false → placed_of result ≡
-            record { place = place_in at.entry.file.now at.entry.line; fault = fault } }
+            record { place = place_at at.entry; fault = fault } }
         ensures outside { is_outside fault ≡ true → is_outside_refusal result ≡ true }
         ensures inside { is_failure fault ≡ false → has_failed result ≡ false }
         ensures kept { is_outside fault ≡ false → has_failed result ≡ false }
@@ -66,11 +83,7 @@ impl AsmRefusal {
     pub fn is_outside(&self) -> bool
         ensures { result ≡ is_outside_refusal self.now }
     {
-        let is_failure = matches!(
-            self.fault,
-            AsmFault::FileError | AsmFault::Expansion(ExpandFault::FileError)
-        );
-        self.fault.is_memory() || is_failure
+        is_outside(&self.fault)
     }
 }
 
@@ -97,7 +110,7 @@ impl Texts {
     pub fn say(&mut self, at: At<'_>, statement: &Statement) -> Result<(), AllocError>
         ensures out { OnOk result (self.new.out ≡ self.old.out ++ out_of statement.now) }
         ensures err { OnOk result (self.new.err ≡
-            self.old.err ++ warning_of (place_in at.entry.file.now at.entry.line)
+            self.old.err ++ warning_of (place_at at.entry)
             statement.now) }
     {
         match statement {

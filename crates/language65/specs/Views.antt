@@ -5,10 +5,14 @@ use Rattle.language65.specs.declared.contents.Part.{Part}
 use Rattle.language65.specs.declared.contents.Part.TheVariants as part
 use Rattle.language65.specs.declared.contents.Said.{Said}
 use Rattle.language65.specs.declared.contents.Said.TheVariants as said
+use Rattle.language65.specs.declared.laid.At.{At}
 use Rattle.language65.specs.Parts as parts
 
 abbrev pub place_in : List ℕ → ℕ → Place
 place_in file line = record { file = file; line = line }
+
+abbrev pub place_at : At → Place
+place_at at = place_in at.file.now at.line
 
 -- a part, and what is said, of a statement that stands here
 abbrev pub part_at : Place → Part → parts.Part

@@ -4,7 +4,11 @@ ghost use Rattle.std.specs.Prelude.{◌≡◌, ◌++◌, ◌∷◌, [], IfOk, No
 ghost use Rattle.indexmap.specs.IndexMap.{keys};
 ghost use Rattle.language65.specs.Symbols.{defined};
 ghost use Rattle.symbols65.specs.Tables.{IsCounted, KeepsFinal, definition_in, definition_seen, entry_of, first_number, key_of, same_entry, word_of};
-ghost use Rattle.symbols65.specs.Views.{table_of, with_definition, words_of};
+ghost use Rattle.symbols65.specs.Views.{table_of, with_definition, words_of, with_names, with_scope};
+ghost use Rattle.std.specs.Option.{option_map};
+ghost use Rattle.language65.specs.LineFaults.{opened_twice};
+ghost use Rattle.symbols65.specs.Resolving.{IsTable};
+ghost use Rattle.asm65.specs.Inner.Taking.{KeepsPut};
 
 use crate::assembler::Assembler;
 use base65::{Seed, Sequence};
@@ -83,15 +87,6 @@ pub fn define(
 }
 
 impl Assembler {
-    ghost use Rattle.std.specs.Prelude.{◌≡◌, None, OnOk, length};
-    ghost use Rattle.std.specs.Option.{option_map};
-    ghost use Rattle.language65.specs.LineFaults.{opened_twice};
-    ghost use Rattle.language65.specs.Symbols.{defined};
-    ghost use Rattle.symbols65.specs.Resolving.{IsTable};
-    ghost use Rattle.symbols65.specs.Tables.{KeepsFinal, definition_seen, key_of};
-    ghost use Rattle.symbols65.specs.Views.{table_of, with_definition, with_names, with_scope};
-    ghost use Rattle.asm65.specs.Inner.Taking.{KeepsPut};
-
     /// A new key is defined.
     pub fn define(
         &mut self,

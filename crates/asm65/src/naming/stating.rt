@@ -1,11 +1,19 @@
 //! Statements that define, open, import and mention names.
 
-ghost use Rattle.std.specs.Prelude.{◌≡◌, IfOk, OnOk, map, None};
+ghost use Rattle.std.specs.Prelude.{◌≡◌, IfOk, OnOk, map, None, ◌∷◌, [], Some, ◌++◌, false, true};
 ghost use Rattle.language65.specs.declared.laid.Spot.{Spot};
-ghost use Rattle.language65.specs.Symbols.{Symbols, Key as DefinedKey};
+ghost use Rattle.language65.specs.Symbols.{Symbols, Key as DefinedKey, defined, named};
 ghost use Rattle.asm65.specs.Inner.Holding.{IsPiece};
-ghost use Rattle.asm65.specs.Inner.Taking.{mentioned, is_for_zero_page, label_at};
-ghost use Rattle.symbols65.specs.Tables.{definition_seen};
+ghost use Rattle.asm65.specs.Inner.Taking.{mentioned, is_for_zero_page, label_at, Mentions, Turns};
+ghost use Rattle.symbols65.specs.Tables.{definition_seen, key_of};
+ghost use Rattle.language65.specs.Views.{place_at};
+ghost use Rattle.asm65.specs.Inner.Putting.{KeepsTables};
+ghost use Rattle.module65.specs.Pieces.{equated, valued, demanded, imported};
+ghost use Rattle.symbols65.specs.Resolving.{IsTable};
+ghost use Rattle.symbols65.specs.Views.{table_of, with_definition, with_names, with_scope};
+ghost use Rattle.std.specs.Option.{option_map};
+ghost use Rattle.source65.specs.declared.place.Place.{Place};
+ghost use Rattle.language65.specs.LineFaults.{opened_twice};
 
 use crate::assembler::{Assembler, Piece};
 use crate::putting::Stand;
@@ -38,10 +46,6 @@ fn piece_of(alloc: Global, mention: Mention, name: &[u8]) -> Result<Piece, Alloc
 }
 
 impl Assembler {
-    ghost use Rattle.language65.specs.Views.{place_in};
-    ghost use Rattle.asm65.specs.Inner.Putting.{KeepsTables};
-    ghost use Rattle.asm65.specs.Inner.Taking.{Mentions};
-
     /// Names that are mentioned wait, one behind the other.
     #[inline(never)]
     pub fn mention(
@@ -52,7 +56,7 @@ impl Assembler {
         names: &[Sequence<u8>],
     ) -> Result<(), AllocError>
         ensures mentioned { OnOk result (Mentions
-            (place_in stand.entry.at.file.now stand.entry.at.line) stand.entry.spot
+            (place_at stand.entry.at) stand.entry.spot
             (map (mentioned mention) names.now) self.old self.new) }
         ensures tables { KeepsTables self.old self.new }
     {
@@ -65,14 +69,6 @@ impl Assembler {
 }
 
 impl Assembler {
-    ghost use Rattle.std.specs.Prelude.{◌≡◌, ◌∷◌, [], None, OnOk, Some};
-    ghost use Rattle.language65.specs.Symbols.{defined, named};
-    ghost use Rattle.language65.specs.Views.{place_in};
-    ghost use Rattle.module65.specs.Pieces.{equated, valued};
-    ghost use Rattle.symbols65.specs.Resolving.{IsTable};
-    ghost use Rattle.symbols65.specs.Views.{table_of, with_definition};
-    ghost use Rattle.asm65.specs.Inner.Taking.{Turns};
-
     /// A constant is defined. Where its form isn't final it waits: its expression may have a fault.
     #[inline(never)]
     pub fn define_constant(
@@ -85,7 +81,7 @@ impl Assembler {
     ) -> Result<(), AllocError>
         requires known { IsTable (table_of self.old.symbols) self.old.known.states.items }
         requires new { defined (table_of self.old.symbols) (named stand.spot.scope name.now) ≡ None }
-        ensures { OnOk result (Turns (place_in stand.entry.at.file.now stand.entry.at.line)
+        ensures { OnOk result (Turns (place_at stand.entry.at)
             stand.entry.spot (valued equated value ∷ [])
             (λ y. with_definition y (record {
               key = named stand.entry.spot.scope name.now;
@@ -134,18 +130,6 @@ fn label(spot: Spot, size: AddressSize) -> Definition
 }
 
 impl Assembler {
-    ghost use Rattle.std.specs.Prelude.{[], ◌++◌, OnOk, Some, false, map, true};
-    ghost use Rattle.std.specs.Option.{option_map};
-    ghost use Rattle.source65.specs.declared.place.Place.{Place};
-    ghost use Rattle.language65.specs.LineFaults.{opened_twice};
-    ghost use Rattle.language65.specs.Symbols.{defined, named};
-    ghost use Rattle.module65.specs.Pieces.{demanded, imported};
-    ghost use Rattle.symbols65.specs.Resolving.{IsTable};
-    ghost use Rattle.symbols65.specs.Tables.{key_of};
-    ghost use Rattle.symbols65.specs.Views.{table_of, with_definition, with_names, with_scope};
-    ghost use Rattle.asm65.specs.Inner.Taking.{Turns, mentioned};
-    ghost use Rattle.language65.specs.Views.{place_in};
-
     /// A label is defined where it stands.
     #[inline(never)]
     pub fn define_label(
@@ -222,7 +206,7 @@ impl Assembler {
     ) -> Result<(), AllocError>
         requires { IsTable (table_of self.old.symbols) self.old.known.states.items }
         ensures { OnOk result (Turns
-            (place_in stand.entry.at.file.now stand.entry.at.line) stand.entry.spot
+            (place_at stand.entry.at) stand.entry.spot
             (map (mentioned mention) names.now)
             (λ y. with_names y (is_for_zero_page size) names.now) self.old self.new) }
     {
@@ -240,7 +224,7 @@ impl Assembler {
     ) -> Result<(), AllocError>
         requires { IsTable (table_of self.old.symbols) self.old.known.states.items }
         ensures { OnOk result (Turns
-            (place_in stand.entry.at.file.now stand.entry.at.line) stand.entry.spot
+            (place_at stand.entry.at) stand.entry.spot
             (map imported names.now ++ map demanded names.now)
             (λ y. with_names y false names.now) self.old self.new) }
     {

@@ -6,7 +6,7 @@ ghost use Rattle.source65.specs.declared.place.Place.{Place};
 ghost use Rattle.language65.specs.Contents.{file_bytes, opcode_part, operand_form, put, room_part, stored};
 ghost use Rattle.language65.specs.Items.{numbered};
 ghost use Rattle.language65.specs.Parts.{Known};
-ghost use Rattle.language65.specs.Views.{place_in};
+ghost use Rattle.language65.specs.Views.{place_at};
 ghost use Rattle.sections65.specs.Standing.{Feeds};
 ghost use Rattle.asm65.specs.Inner.Putting.{AreStored, IsFaultless, IsPut, operand_stored};
 
@@ -51,7 +51,10 @@ pub fn bytes_of(
         if !fits(width, number) {
             return Ok(None);
         }
-        bytes.extend_from_slice(&put(width, number))?;
+        match put(width, number).as_slice() {
+            [byte] => bytes.push(*byte)?,
+            all => bytes.extend_from_slice(all)?,
+        }
     }
     Ok(Some(bytes))
 }
@@ -76,7 +79,7 @@ pub fn put_form(
     form: Norm,
 ) -> Result<bool, AllocError>
     ensures { IfOk result (IsPut sections.old sections.new segment
-        (stored width (place_in at.entry.file.now at.entry.line) form)) }
+        (stored width (place_at at.entry) form)) }
 {
     match literal_of(&form) {
         Some(value) => put_literal(sections, segment, width, value),
@@ -121,7 +124,7 @@ pub fn put_operand(
 ) -> Result<bool, AllocError>
     ensures { IfOk result (IsPut sections.old sections.new stand.entry.spot.segment
         (operand_stored width stand.entry.spot
-        (place_in stand.entry.at.file.now stand.entry.at.line) form)) }
+        (place_at stand.entry.at) form)) }
 {
     match faultless_form(alloc, width, stand.spot, form)? {
         Some(form) => put_form(sections, stand.spot.segment, width, stand.at, form),

@@ -1,10 +1,18 @@
 //! What statements that define no name put into sections.
 
-ghost use Rattle.std.specs.Prelude.{◌≡◌, IfOk, true};
-ghost use Rattle.language65.specs.Contents.{operand_tree};
+ghost use Rattle.std.specs.Prelude.{◌≡◌, IfOk, true, ◌∷◌, [], OnOk, map};
+ghost use Rattle.language65.specs.Contents.{operand_tree, file_bytes, opcode_part, room_part};
 ghost use Rattle.language65.specs.Sizes.{width_of};
 ghost use Rattle.symbols65.specs.Views.{table_of};
 ghost use Rattle.asm65.specs.Inner.Putting.{IsSo};
+ghost use Rattle.source65.specs.declared.place.Place.{Place};
+ghost use Rattle.language65.specs.Parts.{Known};
+ghost use Rattle.language65.specs.declared.laid.Settled.TheVariants.{InMode};
+ghost use Rattle.language65.specs.Views.{place_at};
+ghost use Rattle.syntax65.specs.Opcodes.{opcode_of};
+ghost use Rattle.module65.specs.Pieces.{asserted, given, instruction_pieces, valued, item_piece, operand_pieces};
+ghost use Rattle.language65.specs.Items.{numbered};
+ghost use Rattle.asm65.specs.Inner.Holding.{Enters};
 
 use super::Stand;
 use super::parts::{bytes_of, items_of, put_code, put_part, put_room};
@@ -36,11 +44,7 @@ fn operand_value(operand: Operand) -> Option<Expr>
     match operand {
         Operand::Absent | Operand::Accumulator => None,
         Operand::Immediate(value)
-        | Operand::Address {
-            prefix: _,
-            value,
-            index: _,
-        }
+        | Operand::Address { value, .. }
         | Operand::Indirect(value)
         | Operand::IndirectX(value)
         | Operand::IndirectY(value) => Some(value),
@@ -49,8 +53,7 @@ fn operand_value(operand: Operand) -> Option<Expr>
 
 /// Whether a value is another one than 0, whatever statements follow.
 fn is_so(alloc: Global, symbols: &Symbols, spot: Spot, value: &Expr) -> Result<bool, AllocError>
-    ensures { IfOk result (λ so. so ≡ true →
-        IsSo (table_of symbols.now) spot value.now) }
+    ensures { IfOk result (λ so. so ≡ true → IsSo (table_of symbols.now) spot value.now) }
 {
     match final_form(alloc, symbols, spot, value)? {
         Some(form) => match literal_of(&form) {
@@ -62,17 +65,6 @@ fn is_so(alloc: Global, symbols: &Symbols, spot: Spot, value: &Expr) -> Result<b
 }
 
 impl Assembler {
-    ghost use Rattle.std.specs.Prelude.{◌∷◌, [], OnOk, map};
-    ghost use Rattle.source65.specs.declared.place.Place.{Place};
-    ghost use Rattle.language65.specs.Contents.{file_bytes, opcode_part, room_part};
-    ghost use Rattle.language65.specs.Parts.{Known};
-    ghost use Rattle.language65.specs.declared.laid.Settled.TheVariants.{InMode};
-    ghost use Rattle.language65.specs.Views.{place_in};
-    ghost use Rattle.syntax65.specs.Opcodes.{opcode_of};
-    ghost use Rattle.module65.specs.Pieces.{asserted, given, instruction_pieces, valued, item_piece, operand_pieces};
-    ghost use Rattle.language65.specs.Items.{numbered};
-    ghost use Rattle.asm65.specs.Inner.Holding.{Enters};
-
     /// Enters the code of an instruction.
     #[inline(always)]
     fn enter_code(&mut self, spot: Spot, code: Option<u8>) -> Result<(), AllocError>
@@ -92,7 +84,7 @@ impl Assembler {
         value: Option<Expr>,
     ) -> Result<(), AllocError>
         ensures { OnOk result (Enters
-            (place_in stand.entry.at.file.now stand.entry.at.line) stand.entry.spot
+            (place_at stand.entry.at) stand.entry.spot
             (operand_pieces width value) self.old self.new) }
     {
         match (width, value) {
@@ -112,7 +104,7 @@ impl Assembler {
         operand: Operand,
     ) -> Result<(), AllocError>
         ensures { OnOk result (Enters
-            (place_in stand.entry.at.file.now stand.entry.at.line) stand.entry.spot
+            (place_at stand.entry.at) stand.entry.spot
             (instruction_pieces mnemonic operand (InMode mode))
             self.old self.new) }
     {
@@ -129,7 +121,7 @@ impl Assembler {
         item: Item,
     ) -> Result<(), AllocError>
         ensures { OnOk result (Enters
-            (place_in stand.entry.at.file.now stand.entry.at.line) stand.entry.spot
+            (place_at stand.entry.at) stand.entry.spot
             (item_piece width item ∷ []) self.old self.new) }
     {
         match item {
@@ -147,7 +139,7 @@ impl Assembler {
         items: Sequence<Item>,
     ) -> Result<(), AllocError>
         ensures { OnOk result (Enters
-            (place_in stand.entry.at.file.now stand.entry.at.line) stand.entry.spot
+            (place_at stand.entry.at) stand.entry.spot
             (map (item_piece width) items) self.old self.new) }
     {
         for item in items.into_vec() {
@@ -165,7 +157,7 @@ impl Assembler {
         numbers: &[u32],
     ) -> Result<(), AllocError>
         ensures { OnOk result (Enters
-            (place_in stand.entry.at.file.now stand.entry.at.line) stand.entry.spot
+            (place_at stand.entry.at) stand.entry.spot
             (map (item_piece width) (map numbered numbers.now)) self.old self.new) }
     {
         match bytes_of(alloc, width, numbers)? {
@@ -184,7 +176,7 @@ impl Assembler {
         items: Items,
     ) -> Result<(), AllocError>
         ensures { OnOk result (Enters
-            (place_in stand.entry.at.file.now stand.entry.at.line) stand.entry.spot
+            (place_at stand.entry.at) stand.entry.spot
             (map (item_piece width) items) self.old self.new) }
     {
         match items.into_kind() {
@@ -230,7 +222,7 @@ impl Assembler {
         value: Expr,
     ) -> Result<(), AllocError>
         ensures { OnOk result (Enters
-            (place_in stand.entry.at.file.now stand.entry.at.line) stand.entry.spot
+            (place_at stand.entry.at) stand.entry.spot
             (valued (asserted action text) value ∷ []) self.old self.new) }
     {
         if is_so(alloc, &self.symbols, stand.spot, &value)? {

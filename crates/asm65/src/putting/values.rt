@@ -1,13 +1,15 @@
 //! Values, which are put at once where they are settled without a fault, or wait.
 
-ghost use Rattle.std.specs.Prelude.{◌≡◌, IfOk, IfSome, OnOk, Some, map, slice_get, string_bytes};
+ghost use Rattle.std.specs.Prelude.{◌≡◌, IfOk, IfSome, OnOk, Some, map, slice_get, string_bytes, ◌∷◌, []};
 ghost use Rattle.base65.specs.Outcome.{Gives};
 ghost use Rattle.language65.specs.Contents.{stored};
 ghost use Rattle.language65.specs.Faults.{is_memory};
-ghost use Rattle.language65.specs.Views.{part_at, place_in};
+ghost use Rattle.language65.specs.Views.{part_at, place_at};
 ghost use Rattle.object65.specs.Objects.{is_file_name};
-ghost use Rattle.asm65.specs.Inner.Putting.{literal_of};
+ghost use Rattle.asm65.specs.Inner.Putting.{literal_of, KeepsTables, Waits, IsTried};
 ghost use Rattle.symbols65.specs.Tables.{Begins};
+ghost use Rattle.module65.specs.Pieces.{datum, operand, valued};
+ghost use Rattle.asm65.specs.Inner.Holding.{Enters};
 
 use super::Stand;
 use super::parts::{put_form, put_operand};
@@ -40,8 +42,8 @@ pub fn is_file_name(name: &str) -> bool
 
 /// What is stored of a value: its bytes where it is a literal.
 pub fn stored(alloc: Global, width: Width, at: At<'_>, form: Norm) -> Result<Part, AsmFault>
-    ensures { Gives is_memory (part_at (place_in at.entry.file.now at.entry.line)) result
-        (stored width (place_in at.entry.file.now at.entry.line) form) }
+    ensures { Gives is_memory (part_at (place_at at.entry)) result
+        (stored width (place_at at.entry) form) }
 {
     match literal_of(&form) {
         Some(value) => {
@@ -62,8 +64,7 @@ pub fn stored(alloc: Global, width: Width, at: At<'_>, form: Norm) -> Result<Par
 
 /// A place among files, where the file at it has this name.
 fn same_place(files: &IndexSet<String, Seed>, place: Option<usize>, name: &str) -> Option<usize>
-    ensures { IfSome result (λ i.
-        slice_get (map string_bytes files.now.keys) i ≡ Some name.now) }
+    ensures { IfSome result (λ i. slice_get (map string_bytes files.now.keys) i ≡ Some name.now) }
 {
     let place = place?;
     let file = files.get_index(place)?;
@@ -99,9 +100,6 @@ fn place_of_file(
 }
 
 impl Assembler {
-    ghost use Rattle.language65.specs.Views.{place_in};
-    ghost use Rattle.asm65.specs.Inner.Putting.{KeepsTables, Waits};
-
     /// The place of the file in which the last piece waits.
     fn last_file(&self) -> Option<usize> {
         let last = self.waiting.as_slice().last()?;
@@ -112,7 +110,7 @@ impl Assembler {
     #[inline(never)]
     pub fn wait(&mut self, alloc: Global, stand: Stand<'_>, piece: Piece) -> Result<(), AllocError>
         ensures waits { OnOk result (Waits
-            (place_in stand.entry.at.file.now stand.entry.at.line) stand.entry.spot
+            (place_at stand.entry.at) stand.entry.spot
             piece self.old self.new) }
         ensures tables { KeepsTables self.old self.new }
     {
@@ -131,12 +129,6 @@ impl Assembler {
 }
 
 impl Assembler {
-    ghost use Rattle.std.specs.Prelude.{◌∷◌, [], IfOk, OnOk};
-    ghost use Rattle.language65.specs.Views.{place_in};
-    ghost use Rattle.module65.specs.Pieces.{datum, operand, valued};
-    ghost use Rattle.asm65.specs.Inner.Holding.{Enters};
-    ghost use Rattle.asm65.specs.Inner.Putting.{IsTried};
-
     /// Puts a value of a list, if it is settled without a fault.
     fn put_datum(
         &mut self,
@@ -146,7 +138,7 @@ impl Assembler {
         value: &Expr,
     ) -> Result<bool, AllocError>
         ensures { IfOk result (IsTried
-            (place_in stand.entry.at.file.now stand.entry.at.line) stand.entry.spot
+            (place_at stand.entry.at) stand.entry.spot
             (valued (datum width) value.now) self.old self.new) }
     {
         let segment = stand.spot.segment;
@@ -165,7 +157,7 @@ impl Assembler {
         value: &Expr,
     ) -> Result<bool, AllocError>
         ensures { IfOk result (IsTried
-            (place_in stand.entry.at.file.now stand.entry.at.line) stand.entry.spot
+            (place_at stand.entry.at) stand.entry.spot
             (valued (operand width) value.now) self.old self.new) }
     {
         match final_form(alloc, &self.symbols, stand.spot, value)? {
@@ -183,7 +175,7 @@ impl Assembler {
         value: Expr,
     ) -> Result<(), AllocError>
         ensures { OnOk result (Enters
-            (place_in stand.entry.at.file.now stand.entry.at.line) stand.entry.spot
+            (place_at stand.entry.at) stand.entry.spot
             (valued (datum width) value ∷ []) self.old self.new) }
     {
         if self.put_datum(alloc, stand, width, &value)? {
@@ -202,7 +194,7 @@ impl Assembler {
         value: Expr,
     ) -> Result<(), AllocError>
         ensures { OnOk result (Enters
-            (place_in stand.entry.at.file.now stand.entry.at.line) stand.entry.spot
+            (place_at stand.entry.at) stand.entry.spot
             (valued (operand width) value ∷ []) self.old self.new) }
     {
         if self.put_operand(alloc, stand, width, &value)? {

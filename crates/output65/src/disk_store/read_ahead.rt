@@ -34,13 +34,7 @@ impl<F: Read + Seek + Drop> ReadAhead<F> {
 
     /// Another file of this name, of which nothing is read yet, with the same buffer.
     pub fn with_file(self, name: Text, file: F) -> Self {
-        let ReadAhead {
-            name: _,
-            file: _,
-            buffer,
-            start: _,
-            filled: _,
-        } = self;
+        let ReadAhead { buffer, .. } = self;
         ReadAhead {
             name,
             buffer,

@@ -140,6 +140,7 @@ pub fn mark_of_two(first: u8, second: u8) -> Option<Mark>
 }
 
 /// The mark of this byte.
+#[inline(always)]
 pub fn mark_of_one(byte: u8) -> Option<Mark>
     ensures { IsMark (byte ∷ []) result }
 {

@@ -9,7 +9,10 @@ use std::io::{Read, Seek, SeekFrom};
 
 const BUFFER: usize = 8192;
 
-/// An open file, with a buffer that holds what it has from a place on.
+/// How many bytes are read past the buffer at least.
+const LARGE: usize = 4096;
+
+/// An open file, with a buffer that holds what it has from a place on once a small part of it was read.
 #[derive(Drop)]
 pub struct ReadAhead<F> {
     name: Text,
@@ -25,7 +28,7 @@ impl<F: Read + Seek + Drop> ReadAhead<F> {
     pub fn new(alloc: Global, name: &str, file: F) -> Result<Self, AllocError> {
         Ok(ReadAhead {
             name: Text::copy_of(alloc, name)?,
-            buffer: vec![in alloc; 0; BUFFER]?,
+            buffer: Vec::new(alloc),
             file,
             start: 0,
             filled: 0,
@@ -52,6 +55,9 @@ impl<F: Read + Seek + Drop> ReadAhead<F> {
     /// Reads what stands from a place on into the buffer.
     fn fill(&mut self, at: u64) -> io::Result<()> {
         self.filled = 0;
+        if self.buffer.is_empty() {
+            self.buffer.resize(BUFFER, 0)?;
+        }
         self.file.seek(SeekFrom::Start(at))?;
         self.filled = self.file.read(&mut self.buffer)?;
         self.start = at;
@@ -64,6 +70,10 @@ impl<F: Read + Seek + Drop> ReadAhead<F> {
         ensures { IfOk result (λ n. n ≤ length buf.new) }
     {
         if at < self.start || at - self.start >= self.filled as u64 {
+            if buf.len() >= LARGE {
+                self.file.seek(SeekFrom::Start(at))?;
+                return self.file.read(buf);
+            }
             self.fill(at)?;
         }
         let from = at.saturating_sub(self.start) as usize;

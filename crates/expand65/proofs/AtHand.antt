@@ -1,6 +1,7 @@
 -- Lines of files that are given as they stand.
 use Rattle.std.proofs.lemmas.Grind.{common_steps}
 use Rattle.std.proofs.Common.{◌≡◌, ◌+◌, ◌-◌, ◌≤◌, ◌<◌, ◌++◌, arith, ℕ, zero, suc, length, take, drop, ap, List, [], ◌∷◌, Option, Some, None, Ok, Bool, true, false, IfSome, refl, sym, subst}
+use Rattle.std.specs.Prelude.{◌&&◌, nat_lt}
 use Rattle.std.proofs.Math.Seq.{drop-append_seam, take-append_seam}
 use Rattle.base65.specs.Store.{Files}
 use Rattle.syntax65.specs.Tokens.{Lexeme}
@@ -59,6 +60,10 @@ with_reader r reader = record { alloc = r.alloc; reader = reader; macros = r.mac
 abbrev pub behind : Expander → Reader → Front → Expander
 behind e reader f = record { rewriter = with_reader e.rewriter reader; front = f; failed = e.failed }
 
+not_both : (b : Bool) → b && false ≡ false
+not_both true = refl
+not_both false = refl
+
 module _ (m : Files) (k : Meaning) (old : Rewriter) (reader : Reader) (ts : List Lexeme) (taken : Takes (left_of m old.reader) (Ok (Some ts, left_of m reader))) where
   abbrev t : State
   t = state_of m (with_reader old reader)
@@ -71,7 +76,7 @@ module _ (m : Files) (k : Meaning) (old : Rewriter) (reader : Reader) (ts : List
   step_labelled : (n : ℕ) → label_len ts ≡ suc n → front_directive (drop (suc n) ts) ≡ None → IsStep m k (state_of m old) (gives (label (take (suc n) ts)) (with_items t (labelled (drop (suc n) ts) ∷ t.left.items)))
   step_labelled n e d =
       let x = gives (label (take (suc n) ts)) (with_items t (labelled (drop (suc n) ts) ∷ t.left.items)) in
-      let right : is_mislabelled ts ≡ false = rw e (rw d refl) in
+      let right : is_mislabelled ts ≡ false = rw e (rw d (not_both (nat_lt 0 (suc n)))) in
       let P : Bool → Type 0 = λ b. IsLabelled m k t ts b x in
       let Q : ℕ → Type 0 = λ j. IsSplit m k t ts (line_directive ts) j x in
       step_taken m k old (Ok (Some ts, left_of m reader)) x taken (subst P (sym right) (subst Q (sym e) refl))

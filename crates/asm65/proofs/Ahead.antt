@@ -1,80 +1,70 @@
--- A line that is read where it stands, as the statement that it is.
-use Rattle.std.proofs.Common.{◌≡◌, ℕ, Bool, true, false, ◌+◌, ◌<◌, ◌≤◌, ◌++◌, List, [], ◌∷◌, length, take, drop, refl, sym, ap, subst, arith, Option, Some}
-use Rattle.std.specs.Prelude.{Ok}
+-- The statements of a line that is taken where it stands.
+use Rattle.std.proofs.Common.{◌≡◌, ℕ, Bool, true, false, ◌+◌, ◌*◌, ◌<◌, ◌≤◌, List, [], ◌∷◌, refl, sym, subst, arith, Option}
+use Rattle.std.specs.Prelude.{Ok, Err}
 use Rattle.base65.specs.Store.{Files}
-use Rattle.std.proofs.Math.Seq.{drop-append_seam, take-append_seam}
 use Rattle.syntax65.specs.Tokens.{Lexeme}
-use Rattle.reader65.specs.Playing.{tokens_in}
-use Rattle.reader65.specs.declared.line.Line.{Line}
-use Rattle.reader65.specs.declared.line.Word.{Word}
-use Rattle.expand65.specs.State.{Meaning, plain}
-use Rattle.expand65.specs.Standing.{FollowsFrom, measure_of, place_of, stated}
+use Rattle.expand65.specs.AtHand.{IsAhead, given_behind, given_parts}
+use Rattle.expand65.specs.Standing.{measure_of}
 use Rattle.expand65.specs.declared.expander.Expander.{Expander}
-use Rattle.expand65.specs.declared.expander.Statement.{Statement}
-use Rattle.expand65.specs.declared.expander.Statement.TheVariants.{Plain}
-use Rattle.expand65.specs.declared.expander.Front.TheVariants.{Nothing}
-use Rattle.language65.specs.Sound.{AreNamed}
-use Rattle.module65.specs.Knowing.{known_at}
-use Rattle.module65.specs.Machine.{State, Takes}
-use Rattle.module65.specs.Reading.{IsRest}
+use Rattle.expand65.specs.State.{label, plain}
+use Rattle.reader65.specs.declared.passing.Peeked.{Peeked}
 use Rattle.source65.specs.declared.place.Place.{Place}
-use Rattle.asm65.proofs.Runs.{Answer, GivenBy, GivenStops, RestBy, given_plain, plain_given_stops}
-use Rattle.asm65.proofs.Sources.{some_all}
-use Rattle.asm65.specs.Inner.Running.{IsHeldBy, IsRoomy, IsRunning, StopsQuietly, TakesBy, TakesNext, TakesNextIf, running_limit, tokens_of}
+use Rattle.language65.specs.Sound.{AreNamed}
+use Rattle.language65.specs.declared.fault.AsmFault.{AsmFault}
+use Rattle.module65.specs.Machine.{State, Takes}
+use Rattle.module65.specs.Reading.{IsLabel, IsRest}
+use Rattle.asm65.proofs.Runs.{Answer, LabelBy, RestBy, stops_wider, wider}
+use Rattle.asm65.specs.Inner.Running.{IsRoomy, IsRunning, StopsQuietly, TakesAll, TakesBy, TakesLine, TakesLineIf, none, one_more, refused, running_limit}
 use Rattle.asm65.specs.Unread.{Without}
 use Rattle.asm65.specs.declared.assembler.Assembler.{Assembler}
 use Rattle.asm65.specs.declared.running.Run.{Run}
 use Rattle.layout65.specs.Counting.{opening_limit}
 
-abbrev words_of : List Lexeme → List Word
-words_of [] = []
-words_of (t ∷ ts) = record { kind = t.0; blanks = 0; len = length t.1 } ∷ words_of ts
-
-abbrev bytes_of : List Lexeme → List ℕ
-bytes_of [] = []
-bytes_of (t ∷ ts) = t.1 ++ bytes_of ts
-
--- a line of these tokens
-abbrev pub line_of : List Lexeme → Line
-line_of ts = record { words = words_of ts; bytes = bytes_of ts }
-
-pub line_kept : (ts : List Lexeme) → tokens_in (line_of ts) ≡ ts
-line_kept [] = refl
-line_kept (t ∷ ts) =
-    let own : take (length t.1) (t.1 ++ bytes_of ts) ≡ t.1 = take-append_seam t.1 (bytes_of ts) in
-    let behind : drop (length t.1) (t.1 ++ bytes_of ts) ≡ bytes_of ts = drop-append_seam t.1 (bytes_of ts) in
-    rw (own, behind) (ap (λ l. t ∷ l) (line_kept ts))
-
--- a statement more may be taken
-pub roomy_ahead : (run : Run) → run.expander.front ≡ Nothing → IsRunning run → IsRoomy 1 run.assembler
-roomy_ahead run none (t, reached, h) = (h.count, t, omega (arith, h.room, some), h.holds)
+-- the statements of a line more may be taken
+pub roomy_ahead : (run : Run) (p : Peeked) (ts : List Lexeme) → IsAhead run.expander p ts → IsRunning run → IsRoomy 4 run.assembler
+roomy_ahead run p ts (right, bare, there, some) (t, reached, h) = (h.count, t, omega (arith, h.room, left), h.holds)
   where
-    some : 0 < measure_of run.expander
-    some = rw none (omega arith)
+    left : 2 ≤ measure_of run.expander
+    left = rw bare (omega (arith, some))
 
--- such a line is the next statement that is taken
-pub took : (o : Option Files) (blamed : Option (List ℕ)) (old : Run) (expander : Expander) (assembler : Assembler) (ts : List Lexeme) (place : Place) (r : Answer) → ((x : Statement) → stated x ≡ plain ts → (m : Files) (k : Meaning) → FollowsFrom m k old.expander (Ok (Some x)) expander) → measure_of expander < measure_of old.expander → place ≡ place_of expander → TakesBy (AreNamed ts) (RestBy o place ts) 1 old.assembler assembler r → StopsQuietly (Without blamed (λ m t. IsRest m Takes t place ts)) 1 old.assembler assembler r → TakesNext o blamed old (record { expander = expander; assembler = assembler }) r
-took o blamed old expander assembler ts place r next less at taken stops =
-    let line = line_of ts in
-    let x : Statement = Plain line in
-    let here = sym (line_kept ts) in
-    let P : Place → Type 0 = λ p. TakesBy (AreNamed (tokens_of (stated x))) (GivenBy o p (stated x)) 2 old.assembler assembler r in
-    let Q : Place → Type 0 = λ p. GivenStops blamed p x old.assembler assembler r in
-    record {
-      statement = x;
-      behind = record { expander = expander; assembler = old.assembler };
-      same = refl;
-      less = less;
-      stays = refl;
-      next = some_all (λ m. (t : State) → IsHeldBy t old → FollowsFrom m (known_at t.symbols t.standing) old.expander (Ok (Some x)) expander) o (λ m t held. next x (ap plain (line_kept ts)) m (known_at t.symbols t.standing));
-      taken = subst P at (given_plain o place x line ts old.assembler assembler r refl here taken);
-      stopped = subst Q at (plain_given_stops blamed place x line ts old.assembler assembler r refl here stops);
-    }
+-- and what stands behind one that was
+pub roomy_behind : (AreSo : Type 0) (Is : State → _ → Type 0) (old new : Assembler) → IsRoomy 4 old → TakesBy AreSo Is 2 old new (Ok tt) → IsRoomy 1 new
+roomy_behind AreSo Is old new (count, t, room, holds) taken =
+    let b = taken count t (omega (arith, room)) holds in
+    (b.3.0, b.0, omega (arith, room, b.3.1), b.3.2)
 
-pub one_taken : (o : Option Files) (blamed : Option (List ℕ)) (old new : Run) (b : Bool) → b ≡ true → TakesNextIf o blamed old new (Ok b) → TakesNext o blamed old new (Ok tt)
-one_taken o blamed old new true e h = h
-one_taken o blamed old new false e h = absurd cc
+module _ (o : Option Files) (blamed : Option (List ℕ)) (place : Place) where
+  abbrev RestStops : List Lexeme → Assembler → Assembler → Answer → Type 0
+  RestStops ts = StopsQuietly (Without blamed (λ m t. IsRest m Takes t place ts)) 1
 
-pub none_taken : (o : Option Files) (blamed : Option (List ℕ)) (old new : Run) (b : Bool) → b ≡ false → TakesNextIf o blamed old new (Ok b) → new ≡ old
-none_taken o blamed old new true e h = absurd cc
-none_taken o blamed old new false e h = h
+  abbrev LabelStops : List Lexeme → Assembler → Assembler → Answer → Type 0
+  LabelStops ts = StopsQuietly (Without blamed (λ m t. IsLabel m Takes t place ts)) 2
+
+  pub none_behind : (ts : List Lexeme) (a : Assembler) → ts ≡ [] → TakesAll o blamed place (given_behind ts) a a (Ok tt)
+  none_behind ts a e = rw e (none a)
+
+  pub taken_behind : (ts : List Lexeme) (old new : Assembler) (r : Answer) → (ts ≡ [] → ⊥) → TakesBy (AreNamed ts) (RestBy o place ts) 1 old new r → RestStops ts old new r → TakesAll o blamed place (given_behind ts) old new r
+  taken_behind [] old new r some taken stops = absurd (some refl)
+  taken_behind (t ∷ ts) old new (Ok v) some taken stops = one_more old new new (plain (t ∷ ts)) [] (Ok tt) (record { taken = wider (AreNamed (t ∷ ts)) (RestBy o place (t ∷ ts)) old new (Ok v) taken; stopped = tt }) (none new)
+  taken_behind (t ∷ ts) old new (Err e) some taken stops = refused old new (plain (t ∷ ts)) [] e (record { taken = wider (AreNamed (t ∷ ts)) (RestBy o place (t ∷ ts)) old new (Err e) taken; stopped = stops_wider (Without blamed (λ m s. IsRest m Takes s place (t ∷ ts))) old new (Err e) stops })
+
+  pub only_rest : (ls ts : List Lexeme) (old new : Assembler) (r : Answer) → ls ≡ [] → TakesAll o blamed place (given_behind ts) old new r → TakesAll o blamed place (given_parts ls ts) old new r
+  only_rest ls ts old new r e h = rw e h
+
+  pub label_refused : (ls ts : List Lexeme) (old new : Assembler) (e : AsmFault) → (ls ≡ [] → ⊥) → TakesBy (AreNamed ls) (LabelBy o place ls) 2 old new (Err e) → LabelStops ls old new (Err e) → TakesAll o blamed place (given_parts ls ts) old new (Err e)
+  label_refused [] ts old new e some taken stops = absurd (some refl)
+  label_refused (l ∷ ls) ts old new e some taken stops = refused old new (label (l ∷ ls)) (given_behind ts) e (record { taken = taken; stopped = stops })
+
+  pub label_taken : (ls ts : List Lexeme) (old mid new : Assembler) (v : Unit {0}) (r : Answer) → (ls ≡ [] → ⊥) → TakesBy (AreNamed ls) (LabelBy o place ls) 2 old mid (Ok v) → TakesAll o blamed place (given_behind ts) mid new r → TakesAll o blamed place (given_parts ls ts) old new r
+  label_taken [] ts old mid new v r some taken rest = absurd (some refl)
+  label_taken (l ∷ ls) ts old mid new v r some taken rest = one_more old mid new (label (l ∷ ls)) (given_behind ts) r (record { taken = taken; stopped = tt }) rest
+
+-- ---- Whether a line was taken.
+
+pub line_taken : (o : Option Files) (blamed : Option (List ℕ)) (old new : Run) (b : Bool) → b ≡ true → TakesLineIf o blamed old new (Ok b) → TakesLine o blamed old new (Ok tt)
+line_taken o blamed old new true e h = h
+line_taken o blamed old new false e h = absurd cc
+
+pub no_line_taken : (o : Option Files) (blamed : Option (List ℕ)) (old new : Run) (b : Bool) → b ≡ false → TakesLineIf o blamed old new (Ok b) → new ≡ old
+no_line_taken o blamed old new true e h = absurd cc
+no_line_taken o blamed old new false e h = h

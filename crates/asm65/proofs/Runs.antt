@@ -305,7 +305,7 @@ given_label f place g line ts old new r is same h =
     let Q : List Lexeme → Type 0 = λ ts. TakesBy (AreNamed ts) (LabelBy f place ts) 2 old new r in
     subst P (sym is) (subst Q same h)
 
-wider : (AreSo : Type 0) (Is : State → Result State AsmFault → Type 0) (old new : Assembler) (r : Answer) → TakesBy AreSo Is 1 old new r → TakesBy AreSo Is 2 old new r
+pub wider : (AreSo : Type 0) (Is : State → Result State AsmFault → Type 0) (old new : Assembler) (r : Answer) → TakesBy AreSo Is 1 old new r → TakesBy AreSo Is 2 old new r
 wider AreSo Is old new (Ok v) taken = λ count t room h.
     (let a = taken count t (omega (arith, room)) h in
     let few = a.3.1 in
@@ -328,7 +328,7 @@ label_given_stops blamed place g line ts old new r is same h =
     let Q : List Lexeme → Type 0 = λ ts. StopsQuietly (Without blamed (λ m t. IsLabel m Takes t place ts)) 2 old new r in
     subst (λ g. GivenStops blamed place g old new r) (sym is) (subst Q same h)
 
-stops_wider : (Is : State → Result State AsmFault → Type 0) (old new : Assembler) (r : Answer) → StopsQuietly Is 1 old new r → StopsQuietly Is 2 old new r
+pub stops_wider : (Is : State → Result State AsmFault → Type 0) (old new : Assembler) (r : Answer) → StopsQuietly Is 1 old new r → StopsQuietly Is 2 old new r
 stops_wider Is old new (Ok v) h = tt
 stops_wider Is old new (Err e) h = λ failed.
     (let q = h failed in

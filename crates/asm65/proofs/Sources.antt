@@ -7,11 +7,15 @@ use Rattle.expand65.specs.declared.expander.Statement.{Statement}
 use Rattle.expand65.specs.declared.expander.Statement.TheVariants.{Label, Plain}
 use Rattle.source65.specs.declared.fault.ExpandFault.{ExpandFault}
 use Rattle.source65.specs.declared.fault.ExpandFault.TheVariants as fault_of
-use Rattle.expand65.specs.Expansion.{Reaches, statement, fault, opened_in}
+use Rattle.expand65.specs.Expansion.{Reaches, statement, nothing, fault, opened_in}
 use Rattle.source65.specs.Faults as expansion
-use Rattle.expand65.specs.Standing.{FollowsFrom, Opens, StandsFor, measure_of, place_of, stated}
+use Rattle.expand65.specs.Standing.{Answered, FollowsFrom, Opens, StandsFor, measure_of, place_of, state_in, stated}
 use Rattle.expand65.specs.State as expand
-use Rattle.expand65.specs.Failing.{StopsOnItsWay}
+use Rattle.expand65.specs.AtHand.{Gives, Passes, none as no_more, one_more as gives_more}
+use Rattle.expand65.specs.Failing.{Goes as Walks, IsOnItsWay, StopsOnItsWay, no_step}
+use Rattle.expand65.proofs.AtHand.{reaches_behind}
+use Rattle.expand65.proofs.Stopping.{goes_over}
+use Rattle.expand65.specs.declared.expander.Expander.{Expander}
 use Rattle.language65.specs.declared.fault.AsmFault.{AsmFault}
 use Rattle.language65.specs.declared.fault.AsmFault.TheVariants.{BadScope, Expansion}
 use Rattle.language65.specs.Faults.{is_failure, is_outside}
@@ -33,7 +37,7 @@ use Rattle.layout65.specs.Counting.{opening_limit}
 use Rattle.asm65.specs.Failing.{IsTakenTo, at_first, further, IsWhere, StopsAll, StopsBehind}
 use Rattle.asm65.specs.Unread.{IsUnread, Without}
 use Rattle.asm65.specs.Inner.Holding.{Holds}
-use Rattle.asm65.specs.Inner.Running.{HoldsWithin, IsHeldBy, IsReachedBy, IsRoomy, IsRunning, Ran, SaysAs, StopsQuietly, TakesBy, running_limit, tokens_of}
+use Rattle.asm65.specs.Inner.Running.{HoldsWithin, IsHeldBy, IsReachedBy, IsRoomy, IsRunning, Ran, SaysAs, StopsQuietly, TakesAll, TakesBy, TakesLine, TakesOne, none, one_more, refused, running_limit, tokens_of}
 use Rattle.asm65.proofs.Runs.{Answer, GivenBy}
 
 pub some_then : (P Q : Files → Type 0) (o : Option Files) → ((m : Files) → P m → Q m) → IfSome o P → IfSome o Q
@@ -83,10 +87,13 @@ module _ (old mid : Run) (same : mid.assembler ≡ old.assembler) (less : measur
 
 -- ---- Where files are told.
 
--- what is left comes, behind a state that is held, to what all comes to
+-- What is left comes, behind a state that is held, to what all comes to. The expander may stand some steps further on,
+-- none of which gave a statement.
 pub record Stays (m : Files) (job : Job) (run : Run) (u : State) : Type 0 where
   pub left : expand.State
-  pub stands : StandsFor m run.expander left
+  pub here : expand.State
+  pub walks : (k : expand.Meaning) → Walks m k left here
+  pub stands : StandsFor m run.expander here
   pub fit : IsStateFit 0 left
   pub goes : GoesOn m running (IsSource m running job begun) left u
   pub taken : IsTakenTo m job left u
@@ -106,7 +113,7 @@ abbrev pub NextBy : Files → Run → Result (Option Statement) ExpandFault → 
 NextBy m old r mid = (t : State) → IsHeldBy t old → FollowsFrom m (known_at t.symbols t.standing) old.expander r mid.expander
 
 -- where the store failed on the way to it
-abbrev pub StopsBy : Files → Option (List ℕ) → Run → Result Bool ExpandFault → Run → Type 0
+abbrev pub StopsBy : Files → Option (List ℕ) → Run → Result (Option Statement) ExpandFault → Run → Type 0
 StopsBy m blamed old r mid = (t : State) → IsHeldBy t old → StopsOnItsWay m blamed (known_at t.symbols t.standing) old.expander r mid.expander
 
 pub goes_first : (m : Files) (run : Run) → Goes m run run
@@ -114,6 +121,8 @@ goes_first m run job t opens defined held = (
   t,
   record {
     left = opens.0;
+    here = opens.0;
+    walks = λ k. no_step opens.0;
     stands = opens.2;
     fit = opened_fit m job.source job.include opens.0 opens.1;
     goes = begins m running job opens.0 begun t opens.1 defined;
@@ -147,6 +156,16 @@ of_store (fault_of.Error t) h = absurd cc
 of_store fault_of.NotUnderstood h = absurd cc
 of_store fault_of.LineTooLong h = absurd cc
 
+-- what comes next of where the expander stands comes next of what is left
+answered_from : (m : Files) (k : expand.Meaning) (s here : expand.State) (r : Result (Option Statement) ExpandFault) (new : Expander) → Walks m k s here → Answered m k here r new → Answered m k s r new
+answered_from m k s here (Ok (Some x)) new walks (t, reaches, stands) = (t, reaches_behind m k s here (statement (stated x) t) walks reaches, stands)
+answered_from m k s here (Ok None) new walks (t, reaches, stands) = (t, reaches_behind m k s here (nothing t) walks reaches, stands)
+answered_from m k s here (Err f) new walks answer = by (expansion.is_outside f) answer
+  where
+    by : (b : Bool) → Unless b (Reaches m k here (fault (f, place_of new))) → Unless b (Reaches m k s (fault (f, place_of new)))
+    by true h = tt
+    by false h = reaches_behind m k s here (fault (f, place_of new)) walks h
+
 module _ (m : Files) (first old mid : Run) (same : mid.assembler ≡ old.assembler) where
   -- a statement that is taken
   pub goes_further : (x : Statement) (new : Run) (v : Unit {0}) → measure_of mid.expander < measure_of old.expander → NextBy m old (Ok (Some x)) mid → TakesBy (AreNamed (tokens_of (stated x))) (λ t. IsGiven m Takes t (place_of mid.expander) (stated x)) 2 mid.assembler new.assembler (Ok v) → new.expander ≡ mid.expander → Goes m first old → Goes m first new
@@ -155,7 +174,7 @@ module _ (m : Files) (first old mid : Run) (same : mid.assembler ≡ old.assembl
       let u = now.0 in
       let s = now.1 in
       let h = s.held in
-      let a = next u h s.left s.stands in
+      let a = answered_from m (known_at u.symbols u.standing) s.left s.here (Ok (Some x)) mid.expander (s.walks (known_at u.symbols u.standing)) (next u h s.here s.stands) in
       let fits = next_fit m (known_at u.symbols u.standing) s.left (statement (stated x) a.0) s.fit a.1 in
       let room = few_opened h.count (measure_of old.expander) h.room (some_left (measure_of old.expander) (measure_of mid.expander) less) in
       let b = taken h.count u room (holds_same h.count u old.assembler mid.assembler same h.holds) in
@@ -163,6 +182,8 @@ module _ (m : Files) (first old mid : Run) (same : mid.assembler ≡ old.assembl
         b.0,
         record {
           left = a.0;
+          here = a.0;
+          walks = λ k. no_step a.0;
           stands = subst (λ e. StandsFor m e a.0) (sym stays) a.2;
           fit = fits.1;
           goes = goes_on m running (IsSource m running job begun) s.left a.0 (stated x) u b.0 s.goes a.1 (subst (λ p. IsGiven m Takes u p (stated x) (Ok b.0)) (sym place) b.1);
@@ -178,7 +199,7 @@ module _ (m : Files) (first old mid : Run) (same : mid.assembler ≡ old.assembl
       let u = now.0 in
       let s = now.1 in
       let h = s.held in
-      let a = next u h s.left s.stands in
+      let a = answered_from m (known_at u.symbols u.standing) s.left s.here (Ok (Some x)) mid.expander (s.walks (known_at u.symbols u.standing)) (next u h s.here s.stands) in
       let fits = next_fit m (known_at u.symbols u.standing) s.left (statement (stated x) a.0) s.fit a.1 in
       let room = few_opened h.count (measure_of old.expander) h.room (some_left (measure_of old.expander) (measure_of mid.expander) less) in
       let b = taken h.count u room (holds_same h.count u old.assembler mid.assembler same h.holds) in
@@ -197,7 +218,7 @@ module _ (m : Files) (first old mid : Run) (same : mid.assembler ≡ old.assembl
       let now = so_far job t opens defined begun_held in
       let u = now.0 in
       let s = now.1 in
-      subst (Ran m job mid) (sym fails) (by u s (expansion.is_outside e) (is_outside (Expansion e)) (same_outside e) (next u s.held s.left s.stands))
+      subst (Ran m job mid) (sym fails) (by u s (expansion.is_outside e) (is_outside (Expansion e)) (same_outside e) (answered_from m (known_at u.symbols u.standing) s.left s.here (Err e) mid.expander (s.walks (known_at u.symbols u.standing)) (next u s.held s.here s.stands)))
     where
       by : (u : State) (s : Stays m job old u) (a b : Bool) → a ≡ b → Unless a (Reaches m (known_at u.symbols u.standing) s.left (fault (e, place_of mid.expander))) → Unless b ((w : State) × Runs m job (stopped w (place_of mid.expander) (Expansion e)) × SaysAs w mid.assembler)
       by u s a true eq h = tt
@@ -211,7 +232,7 @@ module _ (m : Files) (first old mid : Run) (same : mid.assembler ≡ old.assembl
       let u = now.0 in
       let s = now.1 in
       let h = s.held in
-      let a = next u h s.left s.stands in
+      let a = answered_from m (known_at u.symbols u.standing) s.left s.here (Ok None) mid.expander (s.walks (known_at u.symbols u.standing)) (next u h s.here s.stands) in
       let holds = holds_same h.count u old.assembler mid.assembler same h.holds in
       let scope : mid.assembler.standing.scope ≡ u.standing.scope = ap (λ (w : Standing). w.scope) holds.standing in
       let place = same_place m mid.expander a.0 a.2 in
@@ -232,7 +253,9 @@ module _ (m : Files) (first old mid : Run) (same : mid.assembler ≡ old.assembl
           let u = now.0 in
           let s = now.1 in
           let says = says_held s.held.count u old.assembler mid.assembler same s.held.holds in
-          record { left = s.left; behind = u; taken = s.taken; where_it_is = where_it_is u s.held s.left s.stands failed; says_out = says.0; says_err = says.1 }
+          let k = known_at u.symbols u.standing in
+          let walked : IsOnItsWay m blamed k s.here (place_of mid.expander) → IsOnItsWay m blamed k s.left (place_of mid.expander) = λ so. record { state = so.state; reading = so.reading; goes = goes_over m k s.left s.here so.state (s.walks k) so.goes; fails = so.fails; at = so.at } in
+          record { left = s.left; behind = u; taken = s.taken; where_it_is = walked (where_it_is u s.held s.here s.stands failed); says_out = says.0; says_err = says.1 }
 
   -- it fails while a statement is taken
   pub stops_wrong : (blamed : Option (List ℕ)) (x : Statement) (new : Run) (e : AsmFault) (r : Answer) → r ≡ Err e → NextBy m old (Ok (Some x)) mid → measure_of mid.expander < measure_of old.expander → StopsQuietly (Without blamed (λ m t. IsGiven m Takes t (place_of mid.expander) (stated x))) 2 mid.assembler new.assembler (Err e) → new.expander ≡ mid.expander → Goes m first old → StopsAll m blamed first new r
@@ -244,7 +267,7 @@ module _ (m : Files) (first old mid : Run) (same : mid.assembler ≡ old.assembl
           let s = now.1 in
           let q = quiet failed in
           let says = says_held s.held.count u old.assembler mid.assembler same s.held.holds in
-          let a = next u s.held s.left s.stands in
+          let a = answered_from m (known_at u.symbols u.standing) s.left s.here (Ok (Some x)) mid.expander (s.walks (known_at u.symbols u.standing)) (next u s.held s.here s.stands) in
           let at_new : place_of new.expander ≡ a.0.left.place = ap place_of stays ∙ sym (same_place m mid.expander a.0 a.2) in
           let room = few_opened s.held.count (measure_of old.expander) s.held.room (some_left (measure_of old.expander) (measure_of mid.expander) less) in
           let unread = q.unread s.held.count u room (holds_same s.held.count u old.assembler mid.assembler same s.held.holds) in
@@ -303,3 +326,71 @@ module _ (o p : Option Files) (told : p ≡ o) (first old mid : Run) (same : mid
       all_wrong e r fails taken =
           some_both (λ m. Goes m first old × NextBy m old (Ok (Some x)) mid) (TakesIn (Err e)) (λ m. RanAll m first new r) o (λ m so t. goes_wrong m first old mid same x new e r fails less so.1 t stays so.0)
           (some_both (λ m. Goes m first old) (λ m. NextBy m old (Ok (Some x)) mid) (λ m. Goes m first old × NextBy m old (Ok (Some x)) mid) o (λ m so n. (so, n)) so_far (given (Some x) is)) (told_taken (Err e) taken)
+
+-- ---- The statements of a line.
+
+abbrev run_of : Expander → Assembler → Run
+run_of e a = record { expander = e; assembler = a }
+
+held_passed : (t : State) (e f : Expander) (a : Assembler) → Passes e f → IsHeldBy t (run_of e a) → IsHeldBy t (run_of f a)
+held_passed t e f a passes h = record { count = h.count; room = omega (arith, h.room, passes.size); holds = h.holds }
+
+goes_passed : (m : Files) (first : Run) (e f : Expander) (a : Assembler) → Passes e f → Goes m first (run_of e a) → Goes m first (run_of f a)
+goes_passed m first e f a passes so_far job t opens defined held =
+    let now = so_far job t opens defined held in
+    let s = now.1 in (
+      now.0,
+      record {
+        left = s.left;
+        here = state_in m f;
+        walks = λ k. goes_over m k s.left s.here (state_in m f) (s.walks k) (subst (λ z. Walks m k z (state_in m f)) s.stands.1 (passes.goes m k));
+        stands = (passes.failed ∙ s.stands.0, refl, passes.named s.stands.2);
+        fit = s.fit;
+        goes = s.goes;
+        taken = s.taken;
+        held = held_passed now.0 e f a passes s.held;
+      },
+    )
+
+module _ (o : Option Files) (blamed : Option (List ℕ)) (place : Place) where
+  -- at the place of the expander behind a statement
+  taken_at : (x : expand.Stated) (mid f : Expander) (a b : Assembler) (r : Answer) → place ≡ place_of f → place_of mid ≡ place_of f → TakesOne o blamed place x a b r → TakesOne o blamed (place_of mid) x a b r
+  taken_at x mid f a b r here at h = subst (λ p. TakesOne o blamed p x a b r) (here ∙ sym at) h
+
+  pub line_running : (xs : List expand.Stated) (e f : Expander) (a b : Assembler) → Gives e xs f → TakesAll o blamed place xs a b (Ok tt) → place ≡ place_of f → IsRunning (run_of e a) → IsRunning (run_of f b)
+  line_running [] e f a b (no_more _ _ passes) (none _) here (t, reached, held) = (t, reached, held_passed t e f a passes held)
+  line_running _ e f a b (gives_more _ mid _ x xs follows at given) (one_more _ c _ _ _ _ one all) here held =
+      line_running xs mid f c b given all here (still_running (run_of e a) (run_of mid a) refl follows.less o x (run_of mid c) tt (taken_at (stated x) mid f a c (Ok tt) here at one).taken refl held)
+
+module _ (m : Files) (blamed : Option (List ℕ)) (place : Place) (first : Run) where
+  line_goes_on : (xs : List expand.Stated) (e f : Expander) (a b : Assembler) → Gives e xs f → TakesAll (Some m) blamed place xs a b (Ok tt) → place ≡ place_of f → Goes m first (run_of e a) → Goes m first (run_of f b)
+  line_goes_on [] e f a b (no_more _ _ passes) (none _) here so_far = goes_passed m first e f a passes so_far
+  line_goes_on _ e f a b (gives_more _ mid _ x xs follows at given) (one_more _ c _ _ _ _ one all) here so_far =
+      line_goes_on xs mid f c b given all here (goes_further m first (run_of e a) (run_of mid a) refl x (run_of mid c) tt follows.less (λ t held. follows.next m (known_at t.symbols t.standing)) (taken_at (Some m) blamed place (stated x) mid f a c (Ok tt) here at one).taken refl so_far)
+
+  line_refused : (xs : List expand.Stated) (e f : Expander) (a b : Assembler) (g : AsmFault) → Gives e xs f → TakesAll (Some m) blamed place xs a b (Err g) → place ≡ place_of f → Goes m first (run_of e a) → RanAll m first (run_of f b) (Err g) × StopsAll m blamed first (run_of f b) (Err g)
+  line_refused _ e f a b g (gives_more _ mid _ x xs follows at given) (refused _ _ _ _ _ one) here so_far =
+      let here_one = taken_at (Some m) blamed place (stated x) mid f a b (Err g) here at one in
+      let next : NextBy m (run_of e a) (Ok (Some x)) (run_of mid a) = λ t held. follows.next m (known_at t.symbols t.standing) in
+      let wrong = goes_wrong m first (run_of e a) (run_of mid a) refl x (run_of mid b) g (Err g) refl follows.less next here_one.taken refl so_far in
+      let stops = stops_wrong m first (run_of e a) (run_of mid a) refl blamed x (run_of mid b) g (Err g) refl next follows.less here_one.stopped refl so_far in (
+        λ job t opens defined held. subst (λ p. Unless (is_outside g) ((w : State) × Runs m job (stopped w p g) × SaysAs w b)) at (wrong job t opens defined held),
+        λ failed job begins. subst (λ p. StopsBehind m blamed job (record { place = p; fault = g }) b.texts.out b.texts.err) at (stops failed job begins),
+      )
+  line_refused _ e f a b g (gives_more _ mid _ x xs follows at given) (one_more _ c _ _ _ _ one all) here so_far =
+      line_refused xs mid f c b g given all here (goes_further m first (run_of e a) (run_of mid a) refl x (run_of mid c) tt follows.less (λ t held. follows.next m (known_at t.symbols t.standing)) (taken_at (Some m) blamed place (stated x) mid f a c (Ok tt) here at one).taken refl so_far)
+
+module _ (o : Option Files) (blamed : Option (List ℕ)) (first old new : Run) where
+  pub all_on : TakesLine o blamed old new (Ok tt) → IfSome o (λ m. Goes m first old) → IfSome o (λ m. Goes m first new)
+  all_on line so_far = by o line so_far
+    where
+      by : (p : Option Files) → TakesLine p blamed old new (Ok tt) → IfSome p (λ m. Goes m first old) → IfSome p (λ m. Goes m first new)
+      by None l h = tt
+      by (Some m) l h = line_goes_on m blamed (place_of new.expander) first l.statements old.expander new.expander old.assembler new.assembler l.given l.taken refl h
+
+  pub all_refused : (e : AsmFault) (r : Answer) → r ≡ Err e → TakesLine o blamed old new (Err e) → IfSome o (λ m. Goes m first old) → IfSome o (λ m. RanAll m first new r) × IfSome o (λ m. StopsAll m blamed first new r)
+  all_refused e r fails line so_far = rw fails (by o line so_far)
+    where
+      by : (p : Option Files) → TakesLine p blamed old new (Err e) → IfSome p (λ m. Goes m first old) → IfSome p (λ m. RanAll m first new (Err e)) × IfSome p (λ m. StopsAll m blamed first new (Err e))
+      by None l h = (tt, tt)
+      by (Some m) l h = line_refused m blamed (place_of new.expander) first l.statements old.expander new.expander old.assembler new.assembler e l.given l.taken refl h

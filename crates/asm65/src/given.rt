@@ -3,6 +3,7 @@
 ghost use Rattle.std.specs.Prelude.{◌≡◌, false, Err, IfErr};
 ghost use Rattle.base65.specs.Store.{PassesBy};
 ghost use Rattle.syntax65.specs.Tokens.{lexemes};
+ghost use Rattle.expand65.specs.AtHand.{given_behind, given_parts};
 ghost use Rattle.expand65.specs.Standing.{stated};
 ghost use Rattle.language65.specs.declared.fault.AsmFault.TheVariants.{NotUnderstood};
 ghost use Rattle.language65.specs.Faults.{is_failure};
@@ -11,7 +12,7 @@ ghost use Rattle.language65.specs.Views.{place_at};
 ghost use Rattle.module65.specs.Machine.{Takes};
 ghost use Rattle.module65.specs.Reading.{IsGiven, IsLabel, IsLabelled, IsRest};
 ghost use Rattle.reader65.specs.Playing.{tokens_in};
-ghost use Rattle.asm65.specs.Inner.Running.{IsRoomy, IsSoundIf, StopsQuietly, TakesBy, Told, tokens_of};
+ghost use Rattle.asm65.specs.Inner.Running.{IsRoomy, IsSoundIf, StopsQuietly, TakesAll, TakesBy, Told, tokens_of};
 ghost use Rattle.asm65.specs.Unread.{Without};
 
 use crate::assembler::Assembler;
@@ -130,6 +131,59 @@ fn take_label<S: Store>(
     let (label, rest) = label(alloc, tokens)?;
     take_front(alloc, assembler, at, label)?;
     take_rest(alloc, store, assembler, at, rest)
+}
+
+/// A line of a file: its label, if it has one, and what stands behind it.
+#[derive(Clone, Copy)]
+pub struct Parts<'a, 'b> {
+    pub label: &'b [Token<'a>],
+    pub rest: &'b [Token<'a>],
+}
+
+/// Takes what stands behind a label, if anything does.
+#[inline(always)]
+fn take_behind<S: Store>(
+    alloc: Global,
+    store: &mut S,
+    assembler: &mut Assembler,
+    at: At<'_>,
+    tokens: &[Token<'_>],
+) -> Result<(), AsmFault>
+    requires { IsRoomy 1 assembler.old }
+    ensures taken { TakesAll (S.files store.old) (S.blamed store.new)
+        (place_in at.entry.file.now at.entry.line) (given_behind (lexemes tokens.now))
+        assembler.old assembler.new result }
+    ensures files { S.files store.new ≡ S.files store.old }
+    ensures count { PassesBy is_failure (S.failures store.old) (S.failures store.new) result }
+{
+    if tokens.is_empty() {
+        return Ok(());
+    }
+    take_rest(alloc, store, assembler, at, tokens)
+}
+
+/// Takes the statements of a line.
+#[inline(always)]
+pub fn take_parts<S: Store>(
+    alloc: Global,
+    store: &mut S,
+    assembler: &mut Assembler,
+    at: At<'_>,
+    parts: Parts<'_, '_>,
+) -> Result<(), AsmFault>
+    requires { IsRoomy 4 assembler.old }
+    ensures taken { TakesAll (S.files store.old) (S.blamed store.new)
+        (place_in at.entry.file.now at.entry.line)
+        (given_parts (lexemes parts.entry.label.now) (lexemes parts.entry.rest.now))
+        assembler.old assembler.new result }
+    ensures files { S.files store.new ≡ S.files store.old }
+    ensures count { PassesBy is_failure (S.failures store.old) (S.failures store.new) result }
+{
+    if parts.label.is_empty() {
+        return take_behind(alloc, store, assembler, at, parts.rest);
+    }
+    take_label(alloc, store, assembler, at, parts.label)?;
+    take_behind(alloc, store, assembler, at, parts.rest)
 }
 
 /// Takes a line without a label.

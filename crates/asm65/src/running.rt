@@ -1,10 +1,10 @@
 //! The statements of a source, taken one behind the other.
 
-ghost use Rattle.std.specs.Prelude.{◌≡◌, ◌+◌, ◌<◌, ◌≤◌, ℕ, false, IfErr, IfOk, IfSome, IsTrue, Ok, OnOk, Err, if◌then◌else◌};
+ghost use Rattle.std.specs.Prelude.{◌≡◌, ◌<◌, IfOk, IfSome, Ok, OnOk, Err, if◌then◌else◌};
 ghost use Rattle.base65.specs.Store.{Passes, PassesBy};
 ghost use Rattle.expand65.specs.Expansion.{opened_in};
 ghost use Rattle.expand65.specs.Failing.{StopsOnItsWay};
-ghost use Rattle.expand65.specs.Standing.{FollowsFrom, Opens, given_in, measure_of, place_of, stated};
+ghost use Rattle.expand65.specs.Standing.{FollowsFrom, Opens, measure_of, place_of, stated};
 ghost use Rattle.language65.specs.declared.fault.AsmFault.TheVariants.{BadScope};
 ghost use Rattle.language65.specs.Faults.{is_failure};
 ghost use Rattle.language65.specs.LineFaults.{is_open};
@@ -14,10 +14,10 @@ ghost use Rattle.module65.specs.Machine.{State, Takes, begun};
 ghost use Rattle.module65.specs.Reading.{AreDefined, IsGiven, Job, no_line};
 ghost use Rattle.asm65.specs.Failing.{StopsAll};
 ghost use Rattle.asm65.specs.Unread.{Without};
-ghost use Rattle.asm65.specs.Inner.Running.{IsHeldBy, IsReachedBy, IsRoomy, IsRunning, Ran, StopsQuietly, TakesBy, TakesNextIf, Told, tokens_of};
+ghost use Rattle.asm65.specs.Inner.Running.{IsHeldBy, IsReachedBy, IsRoomy, IsRunning, Ran, StopsQuietly, TakesBy, TakesLineIf, Told, tokens_of};
 
 use crate::assembler::{Assembler, Knowledge};
-use crate::given::{take_given, take_rest};
+use crate::given::{Parts, take_given, take_parts};
 use base65::Store;
 use expand65::{ExpandFault, Expander, Statement};
 use language65::{AsmFault, At, GLOBAL_SCOPE};
@@ -33,23 +33,17 @@ pub struct Run {
     pub assembler: Assembler,
 }
 
-/// The next statement, by what is known before it, in the place of another; false where no line is left.
-#[inline(always)]
-fn next<S: Store>(
-    run: &mut Run,
-    store: &mut S,
-    statement: &mut Statement,
-) -> Result<bool, ExpandFault>
+/// The next statement, by what is known before it, or none where no line is left.
+fn next<S: Store>(run: &mut Run, store: &mut S) -> Result<Option<Statement>, ExpandFault>
     requires { IsRunning run.old }
     ensures next { IfSome (S.files store.old) (λ m. (t : State) → IsHeldBy t run.old →
-        FollowsFrom m (known_at t.symbols t.standing) run.old.expander
-        (given_in result statement.new) run.new.expander) }
+        FollowsFrom m (known_at t.symbols t.standing) run.old.expander result run.new.expander) }
     ensures stopped { IfSome (S.files store.old) (λ m. (t : State) → IsHeldBy t run.old →
         StopsOnItsWay m (S.blamed store.new) (known_at t.symbols t.standing)
         run.old.expander result run.new.expander) }
     ensures same { run.new.assembler ≡ run.old.assembler }
-    ensures size { IfOk result (λ b. IsTrue b →
-        measure_of run.new.expander < measure_of run.old.expander) }
+    ensures size { IfOk result (λ o. IfSome o (λ _.
+        measure_of run.new.expander < measure_of run.old.expander)) }
     ensures files { S.files store.new ≡ S.files store.old }
     ensures count { Passes ExpandFault.FileError (S.failures store.old) (S.failures store.new) result }
 {
@@ -57,7 +51,7 @@ fn next<S: Store>(
         symbols: &run.assembler.symbols,
         spot: run.assembler.standing.spot(),
     };
-    run.expander.next_into(store, &knowledge, statement)
+    run.expander.next(store, &knowledge)
 }
 
 /// Takes a statement where it stands.
@@ -84,11 +78,11 @@ fn take_next<S: Store>(
     take_given(alloc, store, &mut run.assembler, at, statement)
 }
 
-/// Takes the next statement where it is a line of a file, at hand, that begins with no label; whether it was.
+/// Takes the statements of the next line where it is one of a file, at hand, and given as it stands; whether it was.
 #[inline(always)]
 fn take_at_hand<S: Store>(alloc: Global, store: &mut S, run: &mut Run) -> Result<bool, AsmFault>
     requires { IsRunning run.old }
-    ensures next { TakesNextIf (S.files store.old) (S.blamed store.new) run.old run.new result }
+    ensures next { TakesLineIf (S.files store.old) (S.blamed store.new) run.old run.new result }
     ensures files { S.files store.new ≡ S.files store.old }
     ensures count { PassesBy is_failure (S.failures store.old) (S.failures store.new) result }
 {
@@ -96,17 +90,19 @@ fn take_at_hand<S: Store>(alloc: Global, store: &mut S, run: &mut Run) -> Result
     let Some(line) = run.expander.peek(&mut tokens) else {
         return Ok(false);
     };
-    if !run.expander.is_statement(tokens.as_slice()) {
+    let Some(len) = run.expander.label_of_given(tokens.as_slice()) else {
         return Ok(false);
-    }
+    };
     let (file, _) = run.expander.place();
     let at = At {
         file,
         line: line.number,
     };
-    let taken = take_rest(alloc, store, &mut run.assembler, at, tokens.as_slice());
+    let (label, rest) = tokens.as_slice().split_at(len);
+    let parts = Parts { label, rest };
+    let taken = take_parts(alloc, store, &mut run.assembler, at, parts);
     drop(tokens);
-    run.expander.take_peeked(line.len);
+    run.expander.take_peeked(line);
     taken?;
     Ok(true)
 }
@@ -135,14 +131,13 @@ pub fn take_all<S: Store>(alloc: Global, store: &mut S, run: &mut Run) -> Result
     ensures files { S.files store.new ≡ S.files store.old }
     ensures count { PassesBy is_failure (S.failures store.old) (S.failures store.new) result }
 {
-    let mut statement = Statement::new(alloc);
     'statements: loop {
         if take_at_hand(alloc, store, run)? {
             continue;
         }
-        if !next(run, store, &mut statement)? {
-            return check_closed(run);
+        match next(run, store)? {
+            Some(statement) => take_next(alloc, store, run, &statement)?,
+            None => return check_closed(run),
         }
-        take_next(alloc, store, run, &statement)?;
     }
 }

@@ -1,48 +1,57 @@
--- Lines of files that are taken where they stand.
-use Rattle.std.specs.Prelude.{◌≡◌, ◌<◌, ℕ, zero, suc, false, List, [], ◌∷◌, take, drop, ⊤}
+-- Lines of files that are given as they stand.
+use Rattle.std.specs.Prelude.{◌≡◌, ◌<◌, ◌≤◌, ℕ, false, List, [], ◌∷◌, drop, Ok, Some, None}
 use Rattle.base65.specs.Store.{Files}
 use Rattle.syntax65.specs.Tokens.{Lexeme}
-use Rattle.reader65.specs.Fronts.{is_mislabelled, label_len}
-use Rattle.reader65.specs.Left.{labelled}
-use Rattle.reader65.specs.Plain.{IsAtHand, IsPlain}
-use Rattle.expand65.specs.Expansion.{Reaches, statement}
-use Rattle.expand65.specs.State.{Meaning, State, label, plain, goes, gives, with_items}
-use Rattle.expand65.specs.Rewriting.{Opens}
-use Rattle.expand65.specs.Step.{IsStep}
+use Rattle.reader65.specs.Fronts.{front_directive, label_len}
+use Rattle.reader65.specs.Plain.{IsNext}
+use Rattle.reader65.specs.Stopping.{NamesFiles}
+use Rattle.reader65.specs.declared.passing.Peeked.{Peeked}
+use Rattle.expand65.specs.Macros.{macro_at}
+use Rattle.expand65.specs.State.{Meaning, Stated, label, plain}
+use Rattle.expand65.specs.Rewriting.{macros_of}
+use Rattle.expand65.specs.Standing.{FollowsFrom, measure_of, place_of, state_in, stated}
 use Rattle.expand65.specs.Failing.{Goes}
-use Rattle.expand65.specs.declared.at_hand.Kind.{Kind}
-use Rattle.expand65.specs.declared.at_hand.Kind.TheVariants as kind
 use Rattle.expand65.specs.declared.expander.Expander.{Expander}
 use Rattle.expand65.specs.declared.expander.Front.TheVariants.{Nothing}
-use Rattle.expand65.specs.declared.macros.Opening.TheVariants as opening
+use Rattle.expand65.specs.declared.expander.Statement.{Statement}
 use Rattle.expand65.specs.declared.rewriter.Rewriter.{Rewriter}
 
--- what tokens are, as far as it is told
-abbrev pub IsOfKind : Kind → Rewriter → List Lexeme → Type 0
-IsOfKind kind.Nothing r ts = ts ≡ []
-IsOfKind kind.Statement r ts = IsPlain ts × Opens opening.Other r ts
-IsOfKind (kind.Label zero) r ts = ⊥
-IsOfKind (kind.Label (suc n)) r ts = (label_len ts ≡ suc n) × (is_mislabelled ts ≡ false)
-IsOfKind kind.Other r ts = ⊤
+-- what stands next is this line at hand of these tokens, and it may be taken
+abbrev pub IsAhead : Expander → Peeked → List Lexeme → Type 0
+IsAhead e p ts = (e.failed ≡ false) × (e.front ≡ Nothing) × IsNext e.rewriter.reader p ts
 
--- a state with the rest of a line in front, behind so many tokens
-abbrev pub rested : ℕ → List Lexeme → State → State
-rested n ts t = with_items t (labelled (drop n ts) ∷ t.left.items)
+-- tokens call no macro
+abbrev pub CallsNone : Rewriter → List Lexeme → Type 0
+CallsNone r [] = Unit {0}
+CallsNone r (t ∷ ts) = macro_at (macros_of r) t ≡ None
 
--- the step from a state to another that is such a line; or none
-abbrev pub Steps : Files → Meaning → State → Kind → List Lexeme → State → Type 0
-Steps m k s kind.Nothing ts t = IsStep m k s (goes t)
-Steps m k s kind.Statement ts t = IsStep m k s (gives (plain ts) t)
-Steps m k s (kind.Label n) ts t = IsStep m k s (gives (label (take n ts)) (rested n ts t))
-Steps m k s kind.Other ts t = t ≡ s
+-- a line with a label of so many tokens, behind which nothing is rewritten
+abbrev pub IsGivenAs : ℕ → Rewriter → List Lexeme → Type 0
+IsGivenAs n r ts = (label_len ts ≡ n) × (front_directive (drop n ts) ≡ None) × CallsNone r (drop n ts)
 
--- the lines from a state up to such a line, which none of them but the last is; or up to where none is at hand
-abbrev pub ReachesBy : Files → Meaning → State → Kind → List Lexeme → State → Type 0
-ReachesBy m k s kind.Nothing ts t = ⊥
-ReachesBy m k s kind.Statement ts t = Reaches m k s (statement (plain ts) t)
-ReachesBy m k s (kind.Label n) ts t = Reaches m k s (statement (label (take n ts)) (rested n ts t))
-ReachesBy m k s kind.Other ts t = Goes m k s t
+-- what stands behind a label, if anything does
+abbrev pub given_behind : List Lexeme → List Stated
+given_behind [] = []
+given_behind (t ∷ ts) = plain (t ∷ ts) ∷ []
 
--- what stands next is a line at hand of so many bytes and these tokens, and it may be taken
-abbrev pub IsAhead : Expander → ℕ → List Lexeme → Type 0
-IsAhead e n ts = (e.failed ≡ false) × (e.front ≡ Nothing) × IsAtHand e.rewriter.reader.top.source n ts × (0 < e.rewriter.reader.room)
+-- the statements of a line: the label, if there is one, and what stands behind it
+abbrev pub given_parts : List Lexeme → List Lexeme → List Stated
+given_parts [] rest = given_behind rest
+given_parts (t ∷ ts) rest = label (t ∷ ts) ∷ given_behind rest
+
+-- steps lead on, none of which gives a statement
+pub record Passes (old new : Expander) : Type 0 where
+  pub goes : (m : Files) (k : Meaning) → Goes m k (state_in m old) (state_in m new)
+  pub failed : new.failed ≡ old.failed
+  pub named : NamesFiles old.rewriter.reader → NamesFiles new.rewriter.reader
+  pub size : measure_of new ≤ measure_of old
+
+-- a statement comes next, whatever names and expressions mean
+pub record Follows (old : Expander) (x : Statement) (new : Expander) : Type 0 where
+  pub next : (m : Files) (k : Meaning) → FollowsFrom m k old (Ok (Some x)) new
+  pub less : measure_of new < measure_of old
+
+-- these statements come one behind the other, all at one place
+pub data Gives : Expander → List Stated → Expander → Type 0 where
+  none : (old new : Expander) → Passes old new → Gives old [] new
+  one_more : (old mid new : Expander) (x : Statement) (xs : List Stated) → Follows old x mid → place_of mid ≡ place_of new → Gives mid xs new → Gives old (stated x ∷ xs) new

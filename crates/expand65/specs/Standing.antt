@@ -51,15 +51,6 @@ abbrev pub stated : Statement → Stated
 stated (Label line) = label (tokens_in line)
 stated (Plain line) = plain (tokens_in line)
 
-abbrev pub tokens_of : Stated → List Lexeme
-tokens_of (label ts) = ts
-tokens_of (plain ts) = ts
-
--- what stands behind a label is this
-abbrev pub IsRest : Front → List Lexeme → Type 0
-IsRest (Rest line) ts = tokens_in line ≡ ts
-IsRest _ ts = ⊥
-
 -- ---- What its calls answer.
 
 -- a source that was opened stands for its first state, unless it was refused from outside
@@ -81,12 +72,6 @@ Answered m k s (Err f) new = Unless (is_outside f) (Reaches m k s (fault (f, pla
 
 abbrev pub FollowsFrom : Files → Meaning → Expander → Result (Option Statement) ExpandFault → Expander → Type 0
 FollowsFrom m k old r new = (s : State) → StandsFor m old s → Answered m k s r new
-
--- what a call answered that puts the next statement in the place of another
-abbrev pub given_in : Result Bool ExpandFault → Statement → Result (Option Statement) ExpandFault
-given_in (Ok true) x = Ok (Some x)
-given_in (Ok false) x = Ok None
-given_in (Err f) x = Err f
 
 -- ---- One step.
 

@@ -1,32 +1,14 @@
-//! Lines of files that are taken where they stand, in the place of a line that the caller keeps.
+//! Lines of files that are given as they stand.
 
-ghost use Rattle.std.specs.Prelude.{◌≡◌, ◌≤◌, ◌+◌, IfOk, IsTrue, OnOk, is_some};
-ghost use Rattle.base65.specs.Store.{Files};
+ghost use Rattle.std.specs.Prelude.{◌≡◌, ◌≤◌, IfSome, is_some, length};
 ghost use Rattle.syntax65.specs.Tokens.{lexeme_of, lexemes};
-ghost use Rattle.reader65.specs.Playing.{tokens_in};
-ghost use Rattle.reader65.specs.Stopping.{NamesFiles};
-ghost use Rattle.expand65.specs.AtHand.{IsOfKind, ReachesBy, Steps};
+ghost use Rattle.expand65.specs.AtHand.{IsGivenAs};
 ghost use Rattle.expand65.specs.Macros.{macro_at};
-ghost use Rattle.expand65.specs.State.{Meaning};
-ghost use Rattle.expand65.specs.Rewriting.{macros_of, size_of, state_of};
+ghost use Rattle.expand65.specs.Rewriting.{macros_of};
 
 use crate::rewriter::Rewriter;
-use reader65::{Line, front_directive, label_len};
-use std::alloc::AllocError;
+use reader65::{front_directive, label_len};
 use syntax65::{Token, TokenKind};
-
-/// What a line at hand is.
-#[derive(Clone, Copy)]
-pub enum Kind {
-    /// It has no token.
-    Nothing,
-    /// A statement without a label.
-    Statement,
-    /// It begins with a label of so many tokens.
-    Label(usize),
-    /// It begins with a directive of expansion, or calls a macro; or no line is at hand.
-    Other,
-}
 
 impl Rewriter {
     /// Whether a token names a macro.
@@ -44,82 +26,20 @@ impl Rewriter {
         }
     }
 
-    /// Whether tokens are a statement without a label.
+    /// How many tokens the label has of a line that is given as it stands: behind it stands nothing, or a statement.
     #[inline(always)]
-    pub fn is_statement(&self, tokens: &[Token<'_>]) -> bool
-        ensures { IsTrue result → IsOfKind Kind.Statement self.now (lexemes tokens.now) }
+    pub fn label_of_given(&self, tokens: &[Token<'_>]) -> Option<usize>
+        ensures given { IfSome result (λ n. IsGivenAs n self.now (lexemes tokens.now)) }
+        ensures within { IfSome result (λ n. n ≤ length tokens.now) }
     {
-        match tokens.split_first() {
-            None => false,
-            Some((first, _)) => {
-                !self.is_macro(first) && label_len(tokens) == 0 && front_directive(tokens).is_none()
-            }
+        let len = label_len(tokens);
+        let (_, rest) = tokens.split_at(len);
+        if front_directive(rest).is_some() {
+            return None;
         }
-    }
-
-    /// What a line is.
-    #[inline(always)]
-    pub fn kind_of(&self, line: &Line) -> Kind
-        ensures { IsOfKind result self.now (tokens_in line.now) }
-    {
-        match line.first() {
-            None => Kind::Nothing,
-            Some(first) => {
-                if self.is_macro(&first) {
-                    return Kind::Other;
-                }
-                if line.is_plain() {
-                    return Kind::Statement;
-                }
-                match line.label_len() {
-                    0 => Kind::Other,
-                    len => Kind::Label(len),
-                }
-            }
-        }
-    }
-
-    /// Takes the next line in the place of another, where it is a file's, all of it is at hand, and it is nothing, a
-    /// statement, or begins with a label.
-    #[inline(always)]
-    fn take_at_hand(&mut self, line: &mut Line) -> Result<Kind, AllocError>
-        ensures steps { (m : Files) (k : Meaning) → IfOk result (λ x.
-            Steps m k (state_of m self.old) x (tokens_in line.new) (state_of m self.new)) }
-        ensures named { NamesFiles self.old.reader → NamesFiles self.new.reader }
-        ensures less { IfOk result (λ x. (x ≡ Kind.Other → ⊥) → size_of self.new + 3 ≤ size_of self.old) }
-        ensures none { IfOk result (λ x. x ≡ Kind.Other → self.new ≡ self.old) }
-    {
-        let Some(len) = self.reader.peek(self.alloc, line)? else {
-            return Ok(Kind::Other);
-        };
-        match self.kind_of(line) {
-            Kind::Other => Ok(Kind::Other),
-            kind => {
-                if self.reader.take_peeked(len) {
-                    Ok(kind)
-                } else {
-                    Ok(Kind::Other)
-                }
-            }
-        }
-    }
-
-    /// Takes the next line in the place of another, where it is a file's, at hand, and a statement or begins with a
-    /// label; which of them it was. Lines without tokens in front of it are passed over.
-    #[inline(always)]
-    pub fn take_statement(&mut self, line: &mut Line) -> Result<Kind, AllocError>
-        ensures taken { (m : Files) (k : Meaning) → IfOk result (λ x.
-            ReachesBy m k (state_of m self.old) x (tokens_in line.new) (state_of m self.new)) }
-        ensures named { OnOk result (NamesFiles self.old.reader → NamesFiles self.new.reader) }
-        ensures less { IfOk result (λ x.
-            (x ≡ Kind.Other → ⊥) → size_of self.new + 3 ≤ size_of self.old) }
-        ensures size { OnOk result (size_of self.new ≤ size_of self.old) }
-    {
-        'lines: loop {
-            match self.take_at_hand(line)? {
-                Kind::Nothing => {}
-                kind => return Ok(kind),
-            }
+        match rest.split_first() {
+            Some((first, _)) if self.is_macro(first) => None,
+            _ => Some(len),
         }
     }
 }

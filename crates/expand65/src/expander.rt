@@ -1,24 +1,22 @@
 //! The statements of a source, one after another.
 
-ghost use Rattle.std.specs.Prelude.{◌≡◌, ◌<◌, ◌≤◌, ◌+◌, ◌*◌, [], true, false, length, take, drop, Err, IfOk, IfSome, IsErrOf, IsTrue, List, Ok, OnErr, OnOk, Some};
+ghost use Rattle.std.specs.Prelude.{◌≡◌, ◌<◌, ◌≤◌, ◌+◌, ◌*◌, true, false, length, take, drop, Err, IfOk, IfSome, IsErrOf, IsTrue, List, OnErr, OnOk, ℕ};
 ghost use Rattle.base65.specs.Store.{Asks, Files, IsBlamed, Passes};
 ghost use Rattle.syntax65.specs.Held.{HoldsNothing, held};
 ghost use Rattle.syntax65.specs.Tokens.{Lexeme, lexemes};
-ghost use Rattle.reader65.specs.Plain.{next_number};
-ghost use Rattle.expand65.specs.AtHand.{IsAhead, IsOfKind};
-ghost use Rattle.expand65.specs.Standing.{Comes, FollowsFrom, IsRest, Opens, StandsFor, given_in, is_end, led, measure_of, place_of, state_in, stated, tokens_of};
+ghost use Rattle.expand65.specs.AtHand.{Gives, IsAhead, IsGivenAs, given_parts};
+ghost use Rattle.expand65.specs.Standing.{Comes, FollowsFrom, Opens, StandsFor, is_end, led, measure_of, place_of, state_in};
 ghost use Rattle.source65.specs.Faults.{is_outside};
-ghost use Rattle.expand65.specs.Failing.{Goes, StopsOnItsWay, StopsReading};
-ghost use Rattle.expand65.specs.Expansion.{Next, Reaches, first_left, opened_in};
-ghost use Rattle.expand65.specs.State.{Meaning, State, label, plain};
+ghost use Rattle.expand65.specs.Failing.{StopsOnItsWay, StopsReading};
+ghost use Rattle.expand65.specs.Expansion.{first_left, opened_in};
+ghost use Rattle.expand65.specs.State.{State};
 ghost use Rattle.reader65.specs.Stopping.{NamesFiles};
 ghost use Rattle.reader65.specs.Inside.{left_of, mark_of};
-ghost use Rattle.reader65.specs.Playing.{tokens_in};
+ghost use Rattle.reader65.specs.Left.{moved};
 ghost use Rattle.reader65.specs.Lines.{bytes_of};
 ghost use Rattle.expand65.specs.Rewriting.{Turns, size_of, state_of, turned, weight_of};
 ghost use Rattle.expand65.specs.Step.{IsStep};
 
-use crate::at_hand::Kind;
 use crate::conditions::Conditions;
 use crate::includes::is_there;
 use crate::knows::Knows;
@@ -62,45 +60,6 @@ pub enum Front {
     End,
 }
 
-impl Statement {
-    /// A statement without tokens, for the first call that gives one in its place.
-    pub fn new(alloc: Global) -> Statement
-        ensures { stated result ≡ plain [] }
-    {
-        Statement::Plain(Line::new(alloc))
-    }
-
-    /// Takes the line out.
-    fn take_line(&mut self, alloc: Global) -> Line
-        ensures { tokens_in result ≡ tokens_of (stated self.old) }
-    {
-        match self {
-            Statement::Label(line) | Statement::Plain(line) => {
-                mem::replace(line, Line::new(alloc))
-            }
-        }
-    }
-
-    /// Puts a statement of another line's tokens in its place.
-    fn put(&mut self, alloc: Global, line: &Line) -> Result<(), AllocError>
-        ensures { OnOk result (stated self.new ≡ plain (tokens_in line.now)) }
-    {
-        let mut own = self.take_line(alloc);
-        own.copy_from(alloc, line)?;
-        *self = Statement::Plain(own);
-        Ok(())
-    }
-
-    /// Makes a label's line one without a label, for the next to be put in its place.
-    #[inline(always)]
-    fn forget_label(&mut self, alloc: Global) {
-        if matches!(self, Statement::Label(_)) {
-            let line = self.take_line(alloc);
-            *self = Statement::Plain(line);
-        }
-    }
-}
-
 impl Front {
     fn is_end(&self) -> bool
         ensures { result ≡ is_end self.now }
@@ -112,20 +71,6 @@ impl Front {
         ensures { IsTrue result → self.now ≡ Front.Nothing }
     {
         matches!(self, Front::Nothing)
-    }
-
-    /// Whether it is what stands behind a label, and that is nothing.
-    #[inline(always)]
-    fn is_empty_rest(&self) -> bool
-        ensures { IsTrue result → IsRest self.now [] }
-    {
-        match self {
-            Front::Rest(line) => match line.first() {
-                None => true,
-                Some(_) => false,
-            },
-            _ => false,
-        }
     }
 }
 
@@ -210,173 +155,40 @@ impl Expander {
         result
     }
 
-    /// The next statement, which is what `next` gives, in the place of another, whose memory is used again; false where
-    /// no line is left.
-    ///
-    /// # Errors
-    /// Those of `next`.
-    #[inline(always)]
-    pub fn next_into<S: Store, K: Knows>(
-        &mut self,
-        store: &mut S,
-        knows: &K,
-        statement: &mut Statement,
-    ) -> Result<bool, ExpandFault>
-        ensures next { IfSome (S.files store.old) (λ m.
-            FollowsFrom m (K.meaning knows.now) self.old (given_in result statement.new) self.new) }
-        ensures stopped { IfSome (S.files store.old) (λ m.
-            StopsOnItsWay m (S.blamed store.new) (K.meaning knows.now) self.old result self.new) }
-        ensures failed { OnErr result (self.new.failed ≡ true) }
-        ensures before { self.old.failed ≡ true → result ≡ Err ExpandFault.FailedBefore }
-        ensures size { IfOk result (λ b. IsTrue b → measure_of self.new < measure_of self.old) }
-        ensures files { S.files store.new ≡ S.files store.old }
-        ensures count { Passes ExpandFault.FileError (S.failures store.old) (S.failures store.new) result }
-    {
-        match self.take_at_hand(statement) {
-            Ok(true) => return Ok(true),
-            Ok(false) => {}
-            Err(_) => {
-                self.failed = true;
-                return Err(ExpandFault::OutOfMemory);
-            }
-        }
-        match self.next(store, knows)? {
-            Some(next) => {
-                *statement = next;
-                Ok(true)
-            }
-            None => Ok(false),
-        }
-    }
-
-    /// The tokens of the next line, where it is a file's and all of it is at hand; how long it is, and its number.
+    /// The next line, where it is a file's and all of it is at hand, and its tokens.
     #[inline(always)]
     pub fn peek<'a>(&'a self, tokens: &mut LineTokens<'a>) -> Option<Peeked>
         requires { HoldsNothing tokens.old }
-        ensures next { IfSome result (λ p. IsAhead self.now p.len (held tokens.new)) }
-        ensures number { IfSome result (λ p.
-            p.number ≡ next_number self.now.rewriter.reader.top.source) }
+        ensures ahead { IfSome result (λ p. IsAhead self.now p (held tokens.new)) }
         ensures within { tokens.new.few.count ≤ 8 }
     {
         if self.failed || !self.front.is_nothing() {
             return None;
         }
-        self.rewriter
-            .reader
-            .peek_tokens(self.rewriter.alloc, tokens)
+        self.rewriter.reader.peek(self.rewriter.alloc, tokens)
     }
 
-    /// Whether tokens are a statement without a label.
+    /// How many tokens the label has of a line that is given as it stands: behind it stands nothing, or a statement. None
+    /// where it begins with a directive of expansion there, or calls a macro.
     #[inline(always)]
-    pub fn is_statement(&self, tokens: &[Token<'_>]) -> bool
-        ensures { IsTrue result → IsOfKind Kind.Statement self.now.rewriter (lexemes tokens.now) }
+    pub fn label_of_given(&self, tokens: &[Token<'_>]) -> Option<usize>
+        ensures given { IfSome result (λ n. IsGivenAs n self.now.rewriter (lexemes tokens.now)) }
+        ensures within { IfSome result (λ n. n ≤ length tokens.now) }
     {
-        self.rewriter.is_statement(tokens)
+        self.rewriter.label_of_given(tokens)
     }
 
-    /// Takes the next line, which has so many bytes and is a statement; whether it was, which it is where it is ahead.
+    /// Takes the next line, which is this one.
     #[inline(always)]
-    pub fn take_peeked(&mut self, len: usize) -> bool
-        ensures next { (ts : List Lexeme) (x : Statement) → IsAhead self.old len ts →
-            IsOfKind Kind.Statement self.old.rewriter ts → stated x ≡ plain ts → IsTrue result →
-            (m : Files) (k : Meaning) → FollowsFrom m k self.old (Ok (Some x)) self.new }
-        ensures sure { (ts : List Lexeme) → IsAhead self.old len ts →
-            next_number self.old.rewriter.reader.top.source ≤ 4294967295 → IsTrue result }
-        ensures place { IsTrue result →
-            ((place_of self.new).file ≡ (place_of self.old).file) ×
-            ((place_of self.new).line ≡ next_number self.old.rewriter.reader.top.source) }
-        ensures less { IsTrue result → measure_of self.new < measure_of self.old }
+    pub fn take_peeked(&mut self, line: Peeked)
+        ensures given { (n : ℕ) (ts : List Lexeme) → IsAhead self.old line ts →
+            IsGivenAs n self.old.rewriter ts →
+            Gives self.old (given_parts (take n ts) (drop n ts)) self.new }
+        ensures place { place_of self.new ≡ moved (place_of self.old) line.number }
+        ensures less { (ts : List Lexeme) → IsAhead self.old line ts →
+            measure_of self.new < measure_of self.old }
     {
-        self.rewriter.reader.take_peeked(len)
-    }
-
-    /// Takes the next statement in the place of another, where it is a whole line of a file, at hand, or the label of
-    /// one; whether it was. Lines without tokens in front of it are passed over.
-    #[inline(always)]
-    fn take_at_hand(&mut self, statement: &mut Statement) -> Result<bool, AllocError>
-        ensures given { IfOk result (λ b. IsTrue b → (m : Files) (k : Meaning) → Reaches m k
-            (state_in m self.old) (Next.statement (stated statement.new) (state_in m self.new))) }
-        ensures gone { IfOk result (λ b. b ≡ false → (m : Files) (k : Meaning) →
-            Goes m k (state_in m self.old) (state_in m self.new)) }
-        ensures right { IfOk result (λ b. IsTrue b → self.old.failed ≡ false) }
-        ensures before { self.old.failed ≡ true → OnErr result ⊥ }
-        ensures failed { self.new.failed ≡ self.old.failed }
-        ensures named { OnOk result
-            (NamesFiles self.old.rewriter.reader → NamesFiles self.new.rewriter.reader) }
-        ensures less { IfOk result (λ b. IsTrue b → measure_of self.new < measure_of self.old) }
-        ensures size { OnOk result (measure_of self.new ≤ measure_of self.old) }
-    {
-        if self.failed {
-            return Ok(false);
-        }
-        self.pass_rest();
-        if !self.front.is_nothing() {
-            return self.take_rest(statement);
-        }
-        statement.forget_label(self.rewriter.alloc);
-        match statement {
-            Statement::Plain(line) => match self.rewriter.take_statement(line)? {
-                Kind::Statement => Ok(true),
-                Kind::Label(len) => {
-                    self.part(statement, len)?;
-                    Ok(true)
-                }
-                Kind::Nothing | Kind::Other => Ok(false),
-            },
-            Statement::Label(_) => Ok(false),
-        }
-    }
-
-    /// Passes over what stands behind a label, where that is nothing.
-    #[inline(always)]
-    fn pass_rest(&mut self)
-        ensures gone { (m : Files) (k : Meaning) →
-            Goes m k (state_in m self.old) (state_in m self.new) }
-        ensures rewriter { self.new.rewriter ≡ self.old.rewriter }
-        ensures failed { self.new.failed ≡ self.old.failed }
-        ensures size { measure_of self.new ≤ measure_of self.old }
-    {
-        if self.front.is_empty_rest() {
-            self.front = Front::Nothing;
-        }
-    }
-
-    /// Takes what stands behind a label in the place of a statement, where it is one; whether it was.
-    fn take_rest(&mut self, statement: &mut Statement) -> Result<bool, AllocError>
-        ensures given { IfOk result (λ b. IsTrue b → (m : Files) (k : Meaning) → Reaches m k
-            (state_in m self.old) (Next.statement (stated statement.new) (state_in m self.new))) }
-        ensures same { IfOk result (λ b. b ≡ false → self.new ≡ self.old) }
-        ensures rewriter { self.new.rewriter ≡ self.old.rewriter }
-        ensures failed { self.new.failed ≡ self.old.failed }
-        ensures less { IfOk result (λ b. IsTrue b → measure_of self.new < measure_of self.old) }
-    {
-        let Front::Rest(line) = &self.front else {
-            return Ok(false);
-        };
-        match self.rewriter.kind_of(line) {
-            Kind::Statement => {
-                statement.put(self.rewriter.alloc, line)?;
-                self.front = Front::Nothing;
-                Ok(true)
-            }
-            Kind::Nothing | Kind::Label(_) | Kind::Other => Ok(false),
-        }
-    }
-
-    /// Leaves a label of so many tokens in a statement, and puts what stands behind it in front of the lines.
-    fn part(&mut self, statement: &mut Statement, len: usize) -> Result<(), AllocError>
-        ensures label { OnOk result
-            (stated statement.new ≡ label (take len (tokens_of (stated statement.old)))) }
-        ensures rest { OnOk result
-            (IsRest self.new.front (drop len (tokens_of (stated statement.old)))) }
-        ensures rewriter { self.new.rewriter ≡ self.old.rewriter }
-        ensures failed { self.new.failed ≡ self.old.failed }
-    {
-        let mut line = statement.take_line(self.rewriter.alloc);
-        let rest = line.split_off(self.rewriter.alloc, len)?;
-        *statement = Statement::Label(line);
-        self.front = Front::Rest(rest);
-        Ok(())
+        self.rewriter.reader.take_peeked(line);
     }
 
     /// The innermost open file and the number of its line that was read last, 0 before the first. Behind a statement it

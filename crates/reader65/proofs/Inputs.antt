@@ -20,7 +20,7 @@ use Rattle.reader65.specs.declared.reader.Reader.{Reader}
 use Rattle.source65.specs.declared.place.Place.{Place}
 use Rattle.base65.specs.Outcome.{Unless}
 use Rattle.source65.specs.Faults.{is_outside}
-use Rattle.reader65.specs.Plain.{PassesLine, PassesPlain, TakesWritten}
+use Rattle.reader65.specs.Plain.{TakesWritten}
 use Rattle.source65.specs.declared.fault.ExpandFault.{ExpandFault}
 use Rattle.reader65.specs.declared.input.NextLine.{NextLine}
 use Rattle.reader65.specs.declared.input.NextLine.TheVariants.{AtEnd, Numbered, Replayed}
@@ -231,7 +231,3 @@ written_taken m old new n ts (bytes, e, read) k u p r =
     let R : List Item → Type 0 = λ l. TakesFrom (left_of m old).items old.room old.place (Ok (Some ts, left l new.room (moved old.place n))) in
     let S : Place → Type 0 = λ q. TakesFrom (left_of m old).items old.room old.place (Ok (Some ts, left (left_of m new).items new.room q)) in
     subst S (sym p) (subst R items (subst Q r (subst P before one)))
-
--- one that is passed over where it stands
-pub line_passed : (m : Files) (old new : Reader) (n : ℕ) → PassesLine (left_in m old.top.source) n (left_in m new.top.source) → mark_of new.top ≡ mark_of old.top → new.outer ≡ old.outer → new.place ≡ moved old.place n → suc new.room ≡ old.room → PassesPlain (left_of m old) (left_of m new)
-line_passed m old new n (bytes, e, (ts, read, plain)) k u p r = (ts, written_taken m old new n ts (bytes, e, read) k u p r, plain)

@@ -14,7 +14,7 @@ use Rattle.reader65.specs.Left.{numbered, Item, written, played}
 use Rattle.reader65.specs.Inside.{ComesNext, TakesLine}
 use Rattle.reader65.specs.Playing.{tokens_in, left_to_play, replacing_of}
 use Rattle.reader65.specs.Lines.{lines_of, ReadsLine, BeginsLong, content, is_inside, left_in_file, rest_of, without_return, bytes_of}
-use Rattle.reader65.specs.Plain.{IsPlainLine, PassesLine, IsFirstLine, TakesWritten}
+use Rattle.reader65.specs.Plain.{IsFirstLine, TakesWritten}
 use Rattle.reader65.specs.Replacing.{Replacing, replaced}
 use Rattle.reader65.specs.Taking.{IsOpened, fitted, lexed}
 use Rattle.source65.specs.declared.fault.ExpandFault.{ExpandFault}
@@ -81,12 +81,6 @@ file_peeked m f n k ts (e, lt, read) number =
     let behind = drop f.next (content m f.name) in
     let line = without_return (take n (drop f.at f.buffer.items)) in
     (line, ap (numbered f.line) (first_at_hand m f n k e lt) ∙ ap (λ j. written j line ∷ numbered j (lines_of (drop (f.at + (n + 1)) f.buffer.items ++ behind))) (sym number), read)
-
--- one that is passed over there
-pub file_passed : (m : Files) (f : OpenFile) (n k : ℕ) → n ≡ prefix_len is_inside (drop f.at f.buffer.items) → n < length (drop f.at f.buffer.items) → IsPlainLine (without_return (take n (drop f.at f.buffer.items))) → k ≡ f.line + 1 → PassesLine (left_in_file m f) k (left_in_file m (record { name = f.name; buffer = f.buffer; at = f.at + (n + 1); next = f.next; line = k; spare = f.spare }))
-file_passed m f n k e lt (ts, read, plain) number =
-    let taken = file_peeked m f n k ts (e, lt, read) number in
-    (taken.0, taken.1, (ts, taken.2, plain))
 
 -- ---- Lines of bodies.
 

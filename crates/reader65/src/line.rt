@@ -1,21 +1,20 @@
 //! Lines that are kept.
 
-ghost use Rattle.std.specs.Prelude.{◌≡◌, ◌≤◌, ◌∷◌, ◌++◌, [], false, length, slice_get, option_map, take, drop, IsTrue, IfErr, IfOk, IfSome, List, Ok, OnOk, Result};
+ghost use Rattle.std.specs.Prelude.{◌≡◌, ◌≤◌, ◌++◌, [], false, length, slice_get, option_map, take, IsTrue, IfErr, IfOk, IfSome, List, OnOk, Result};
 ghost use Rattle.base65.specs.Relations.{Answers};
 ghost use Rattle.syntax65.specs.Tokens.{IsRead, Lexeme, lexeme_of, lexemes};
 ghost use Rattle.syntax65.specs.declared.lexing.fault.LexFault.{LexFault};
 ghost use Rattle.source65.specs.Faults.{is_failure, is_outside};
 ghost use Rattle.reader65.specs.Fronts.{front_directive, label_len};
 ghost use Rattle.reader65.specs.Playing.{behind_word, cut, text_of, tokens_in, IsParted};
-ghost use Rattle.reader65.specs.Plain.{IsColon, IsColonAt, IsLabel, IsOrNone, IsOrNoneAt, IsPlain};
+ghost use Rattle.reader65.specs.Plain.{IsColon, IsColonAt, IsOrNone, IsPlain};
 ghost use Rattle.reader65.specs.Taking.{lexed};
 
 use crate::directives::Directive;
-use crate::fronts::{directive_in, is_colon, is_label_name, is_mislabelled, label_len};
+use crate::fronts::{directive_in, is_mislabelled, label_len};
 use base65::Sequence;
 use source65::ExpandFault;
 use std::alloc::{AllocError, Global};
-use std::mem;
 use syntax65::{Lexer, Mark, Token, TokenKind};
 
 /// What a token of a line is, how many of the line's bytes part it from the token before, and how many are its own.
@@ -105,16 +104,6 @@ impl Line {
         })
     }
 
-    /// A line without tokens.
-    pub fn new(alloc: Global) -> Line
-        ensures { tokens_in result ≡ [] }
-    {
-        Line {
-            words: Sequence::new(alloc),
-            bytes: Sequence::new(alloc),
-        }
-    }
-
     /// The tokens of a line of a file.
     #[inline(always)]
     pub fn read(alloc: Global, bytes: &[u8]) -> Result<Line, ExpandFault>
@@ -131,43 +120,6 @@ impl Line {
             words: Sequence::from_vec(words),
             bytes: Sequence::from_vec(kept),
         })
-    }
-
-    /// Reads the tokens of a line of a file in the place of the line's own; false where the line has a fault.
-    #[inline(always)]
-    pub fn fill(&mut self, alloc: Global, bytes: &[u8]) -> Result<bool, AllocError>
-        ensures { IfOk result (λ b. IsTrue b → IsRead bytes.now (Ok (tokens_in self.new))) }
-    {
-        let mut words = mem::replace(&mut self.words, Sequence::new(alloc)).into_vec();
-        let mut kept = mem::replace(&mut self.bytes, Sequence::new(alloc)).into_vec();
-        words.clear(); // Those of the line before.
-        kept.clear();
-        match read_words(bytes, &mut words) {
-            Ok(len) => {
-                let (front, _) = bytes.split_at(len);
-                kept.extend_from_slice(front)?;
-                self.words = Sequence::from_vec(words);
-                self.bytes = Sequence::from_vec(kept);
-                Ok(true)
-            }
-            Err(ExpandFault::OutOfMemory) => Err(AllocError),
-            Err(_) => Ok(false),
-        }
-    }
-
-    /// Puts another line's tokens in the place of the line's own.
-    pub fn copy_from(&mut self, alloc: Global, line: &Line) -> Result<(), AllocError>
-        ensures { OnOk result (tokens_in self.new ≡ tokens_in line.now) }
-    {
-        let mut words = mem::replace(&mut self.words, Sequence::new(alloc)).into_vec();
-        let mut kept = mem::replace(&mut self.bytes, Sequence::new(alloc)).into_vec();
-        words.clear();
-        kept.clear();
-        words.extend_from_slice(line.words.as_slice())?;
-        kept.extend_from_slice(line.bytes.as_slice())?;
-        self.words = Sequence::from_vec(words);
-        self.bytes = Sequence::from_vec(kept);
-        Ok(())
     }
 
     /// Puts the line's tokens behind others.
@@ -225,16 +177,6 @@ impl Line {
         directive_in(&token)
     }
 
-    /// Whether a word is there at a place, and is a directive.
-    fn is_directive_at(&self, at: usize) -> bool
-        ensures { IsOrNoneAt self.now.words at result }
-    {
-        match self.words.as_slice().get(at) {
-            Some(word) => word.is_directive(),
-            None => false,
-        }
-    }
-
     /// Whether a word is there at a place, and is a colon.
     fn is_colon_at(&self, at: usize) -> bool
         ensures { IsColonAt self.now.words at result }
@@ -262,50 +204,6 @@ impl Line {
         ensures { IsTrue result → IsPlain (tokens_in self.now) }
     {
         self.has_no_colon() && self.directive().is_none()
-    }
-
-    /// How many tokens the label at the front has, where no directive stands behind it; 0 where there is none.
-    pub fn label_len(&self) -> usize
-        ensures { IsLabel (tokens_in self.now) result }
-    {
-        let Some(first) = self.first() else {
-            return 0;
-        };
-        let len = if is_colon(&first) {
-            1
-        } else if is_label_name(&first) && self.is_colon_at(1) {
-            2
-        } else {
-            return 0;
-        };
-        if self.is_directive_at(len) {
-            return 0;
-        }
-        len
-    }
-
-    /// Leaves so many tokens at the front; a line of those behind them.
-    pub fn split_off(&mut self, alloc: Global, count: usize) -> Result<Line, AllocError>
-        ensures front { IfOk result (λ _. tokens_in self.new ≡ take count (tokens_in self.old)) }
-        ensures behind { IfOk result (λ rest. tokens_in rest ≡ drop count (tokens_in self.old)) }
-    {
-        if self.words.len() <= count {
-            return Ok(Line::new(alloc));
-        }
-        let (front, behind) = self.words.as_slice().split_at(count);
-        let mut bytes = self.bytes.as_slice();
-        for word in front {
-            let (_, left) = word.token(bytes);
-            bytes = left;
-        }
-        let rest = Line {
-            words: Sequence::copy_of(alloc, behind)?,
-            bytes: Sequence::copy_of(alloc, bytes)?,
-        };
-        let mut words = mem::replace(&mut self.words, Sequence::new(alloc)).into_vec();
-        words.truncate(count);
-        self.words = Sequence::from_vec(words);
-        Ok(rest)
     }
 
     /// The label at the front and what stands behind it, if there is a label.

@@ -1,12 +1,12 @@
 -- What an assembler has taken of a source while it takes its statements.
-use Rattle.std.specs.Prelude.{◌≡◌, ℕ, ◌+◌, ◌*◌, ◌≤◌, ◌<◌, List, Option, Some, None, IfErr, IfSome, Bool, true, false, Result, Ok, Err, ⊤}
+use Rattle.std.specs.Prelude.{◌≡◌, ℕ, ◌+◌, ◌*◌, ◌≤◌, ◌<◌, List, [], ◌∷◌, Option, Some, None, IfErr, IfSome, Bool, true, false, Result, Ok, Err, ⊤}
 use Rattle.base65.specs.Outcome.{Unless}
 use Rattle.base65.specs.Store.{Files}
 use Rattle.syntax65.specs.Tokens.{Lexeme}
 use Rattle.syntax65.specs.Trees.{number}
+use Rattle.expand65.specs.AtHand.{Gives}
 use Rattle.expand65.specs.State as expand
-use Rattle.expand65.specs.Standing.{FollowsFrom, measure_of, place_of, stated}
-use Rattle.expand65.specs.declared.expander.Statement as expander
+use Rattle.expand65.specs.Standing.{measure_of, place_of}
 use Rattle.source65.specs.declared.place.Place.{Place}
 use Rattle.language65.specs.declared.fault.AsmFault.{AsmFault}
 use Rattle.language65.specs.declared.fault.AsmFault.TheVariants.{FileError, FileNotFound}
@@ -15,7 +15,6 @@ use Rattle.language65.specs.declared.language.Statement.{Statement}
 use Rattle.language65.specs.declared.language.Statement.TheVariants.{Constant}
 use Rattle.language65.specs.Sound.{AreNamed, IsSound}
 use Rattle.module65.specs.Machine.{Runs, State, Takes, begun}
-use Rattle.module65.specs.Knowing.{known_at}
 use Rattle.module65.specs.Reading.{Define, IsGiven, Job, stopped}
 use Rattle.asm65.specs.declared.assembler.Assembler.{Assembler}
 use Rattle.asm65.specs.declared.running.Run.{Run}
@@ -138,26 +137,33 @@ abbrev pub tokens_of : expand.Stated → List Lexeme
 tokens_of (expand.label ts) = ts
 tokens_of (expand.plain ts) = ts
 
--- The next statement of a run is taken: it is this one, and behind it that is left.
-pub record TakesNext (o : Option Files) (blamed : Option (List ℕ)) (old new : Run) (r : Result (Unit {0}) AsmFault) : Type 0 where
-  pub statement : expander.Statement
-  pub behind : Run
-  pub same : behind.assembler ≡ old.assembler
-  pub less : measure_of behind.expander < measure_of old.expander
-  pub stays : new.expander ≡ behind.expander
-  pub next :
-      IfSome o (λ m. (t : State) → IsHeldBy t old →
-      FollowsFrom m (known_at t.symbols t.standing) old.expander (Ok (Some statement)) behind.expander)
-  pub taken :
-      TakesBy (AreNamed (tokens_of (stated statement)))
-      (Told o (λ m t. IsGiven m Takes t (place_of behind.expander) (stated statement)))
-      2 behind.assembler new.assembler r
-  pub stopped :
-      StopsQuietly (Without blamed (λ m t. IsGiven m Takes t (place_of behind.expander) (stated statement)))
-      2 behind.assembler new.assembler r
+-- A statement that expansion gives at a place is taken.
+pub record TakesOne (o : Option Files) (blamed : Option (List ℕ)) (place : Place) (x : expand.Stated) (old new : Assembler) (r : Result (Unit {0}) AsmFault) : Type 0 where
+  pub taken : TakesBy (AreNamed (tokens_of x)) (Told o (λ m t. IsGiven m Takes t place x)) 2 old new r
+  pub stopped : StopsQuietly (Without blamed (λ m t. IsGiven m Takes t place x)) 2 old new r
 
--- it is, or none is
-abbrev pub TakesNextIf : Option Files → Option (List ℕ) → Run → Run → Result Bool AsmFault → Type 0
-TakesNextIf o blamed old new (Ok true) = TakesNext o blamed old new (Ok tt)
-TakesNextIf o blamed old new (Ok false) = new ≡ old
-TakesNextIf o blamed old new (Err e) = TakesNext o blamed old new (Err e)
+-- such statements are taken one behind the other, up to the first that is refused
+pub data TakesAll (o : Option Files) (blamed : Option (List ℕ)) (place : Place) :
+    List expand.Stated → Assembler → Assembler → Result (Unit {0}) AsmFault → Type 0 where
+  none : (a : Assembler) → TakesAll o blamed place [] a a (Ok tt)
+  refused :
+      (old new : Assembler) (x : expand.Stated) (xs : List expand.Stated) (e : AsmFault) →
+      TakesOne o blamed place x old new (Err e) → TakesAll o blamed place (x ∷ xs) old new (Err e)
+  one_more :
+      (old mid new : Assembler) (x : expand.Stated) (xs : List expand.Stated)
+      (r : Result (Unit {0}) AsmFault) →
+      TakesOne o blamed place x old mid (Ok tt) → TakesAll o blamed place xs mid new r →
+      TakesAll o blamed place (x ∷ xs) old new r
+
+-- The statements of the next line of a run are taken.
+pub record TakesLine (o : Option Files) (blamed : Option (List ℕ)) (old new : Run) (r : Result (Unit {0}) AsmFault) : Type 0 where
+  pub statements : List expand.Stated
+  pub given : Gives old.expander statements new.expander
+  pub taken : TakesAll o blamed (place_of new.expander) statements old.assembler new.assembler r
+  pub less : measure_of new.expander < measure_of old.expander
+
+-- they are, or nothing is done
+abbrev pub TakesLineIf : Option Files → Option (List ℕ) → Run → Run → Result Bool AsmFault → Type 0
+TakesLineIf o blamed old new (Ok true) = TakesLine o blamed old new (Ok tt)
+TakesLineIf o blamed old new (Ok false) = new ≡ old
+TakesLineIf o blamed old new (Err e) = TakesLine o blamed old new (Err e)

@@ -1,13 +1,20 @@
-use Rattle.std.proofs.Common.{◌≡◌, ◌<◌, Some, ap, arith, length, subst, sym}
-use Rattle.expand65.proofs.AtHand.{peeked_given}
+use Rattle.std.proofs.Common.{◌<◌, subst, sym, take, drop}
+use Rattle.expand65.specs.AtHand.{Gives, given_parts}
+use Rattle.expand65.specs.declared.expander.Front.{Front}
+use Rattle.expand65.specs.Standing.{measure_of}
+use Rattle.expand65.proofs.AtHand.{behind, less_behind, line_given}
 use Rattle.expand65.proofs.expander.Expander.take_peeked.Goals as goal
 
-pub returns-clause-next : goal.returns-clause-next
-returns-clause-next c = λ ts x ahead is given_as taken m k.
-    peeked_given m k c.args.self.now c.take_peeked.new.self c.args.len ts x ahead is given_as c.take_peeked.ensures.named (λ n. c.take_peeked.ensures.taken n ts ahead.2 taken)
+pub returns-clause-given : goal.returns-clause-given
+returns-clause-given c = λ n ts (right, bare, next) is.
+    let old = c.args.self.now in
+    let e = c.take_peeked.ensures in
+    let P : Front → Type 0 = λ f. Gives old (given_parts (take n ts) (drop n ts)) (behind old c.take_peeked.new.self f) in
+    subst P (sym bare) (line_given old c.take_peeked.new.self right bare e.named next.1 e.room e.outer n ts is (λ m. e.taken m ts next))
 
 pub returns-clause-less : goal.returns-clause-less
-returns-clause-less c = λ taken.
-    let less : c.take_peeked.new.self.room < c.args.self.now.rewriter.reader.room = c.take_peeked.ensures.room taken in
-    let as_many : length c.take_peeked.new.self.outer.items ≡ length c.args.self.now.rewriter.reader.outer.items = ap (λ x. length x.items) c.take_peeked.ensures.outer in
-    omega (arith, less, as_many)
+returns-clause-less c = λ ts (right, bare, next).
+    let old = c.args.self.now in
+    let e = c.take_peeked.ensures in
+    let P : Front → Type 0 = λ f. measure_of (behind old c.take_peeked.new.self f) < measure_of old in
+    subst P (sym bare) (less_behind old c.take_peeked.new.self right bare e.named next.1 e.room e.outer)

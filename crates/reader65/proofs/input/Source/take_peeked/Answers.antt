@@ -1,4 +1,4 @@
-use Rattle.std.proofs.Common.{IfSome, sym, subst}
+use Rattle.std.proofs.Common.{sym, subst}
 use Rattle.reader65.specs.Inside.{left_in}
 use Rattle.reader65.specs.Plain.{IsAtHand, TakesWritten}
 use Rattle.reader65.specs.Lines.{left_in_file}
@@ -7,5 +7,5 @@ use Rattle.reader65.proofs.input.Source.take_peeked.Goals as goal
 
 pub returns-in-File-clause-taken : goal.returns-in-File-clause-taken
 returns-in-File-clause-taken c = λ m ts.
-    let P : Source → Type 0 = λ s. IsAtHand s c.args.len ts → IfSome c.take_peeked.result (λ n. TakesWritten (left_in m s) n ts (left_in_file m c.take_peeked.new.self)) in
+    let P : Source → Type 0 = λ s. IsAtHand s c.args.line ts → TakesWritten (left_in m s) c.args.line.number ts (left_in_file m c.take_peeked.new.self) in
     subst P (sym c.in-File.is) (c.take_peeked.ensures.taken m ts)

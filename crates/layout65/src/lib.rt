@@ -4,6 +4,7 @@
 mod measuring;
 mod standing;
 
-pub use measuring::kinds::asks_section;
-pub use measuring::{Before, Measured, check_unread, measure, measure_instruction};
+pub use measuring::{
+    Before, Measured, asks_section, check_unread, measure, measure_instruction,
+};
 pub use standing::Standing;

@@ -19,10 +19,11 @@ ghost use Rattle.symbols65.specs.Views.{table_of};
 ghost use Rattle.layout65.specs.Measuring.{fitted, measured, naming_fault};
 ghost use Rattle.layout65.specs.Sounds.{IsSoundStanding, standing_of};
 
+pub use self::bytes::check_unread;
 use self::bytes::instruction;
+pub use self::kinds::asks_section;
 use self::kinds::place;
 use self::names::{check_defined, check_opened, check_outside};
-pub use self::parts::check_unread;
 use self::trees::{check_operand, check_trees};
 use crate::standing::Standing;
 use language65::{AsmFault, Operand, Settled, Spot, Statement};

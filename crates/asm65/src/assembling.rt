@@ -16,7 +16,6 @@ ghost use Rattle.expand65.specs.Standing.{Opens, measure_of, place_of};
 ghost use Rattle.source65.specs.Faults.{is_outside as is_expand_outside};
 ghost use Rattle.asm65.specs.Failing.{StopsSo, StopsFrom};
 
-use crate::AsmRefusal;
 use crate::assembler::Assembler;
 use crate::running::{Run, take_all};
 use crate::texts::{AsmRefusal, Texts};

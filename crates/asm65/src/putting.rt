@@ -2,7 +2,7 @@
 
 mod parts;
 mod statements;
-mod values;
+pub mod values;
 
 use language65::{At, Spot};
 

@@ -4,7 +4,5 @@
 mod measuring;
 mod standing;
 
-pub use measuring::{
-    Before, Measured, asks_section, check_unread, measure, measure_instruction,
-};
+pub use measuring::{Before, Measured, asks_section, check_unread, measure, measure_instruction};
 pub use standing::Standing;

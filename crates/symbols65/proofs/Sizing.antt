@@ -1,15 +1,15 @@
 -- Folding forms that may be missing, and those of numbers alone.
-use Rattle.std.proofs.Common.{◌≡◌, length, Some, ap, arith, refl, sym, ◌∙◌, Result, Ok, Err}
+use Rattle.std.proofs.Common.{◌≡◌, length, Some, ap, arith, Result, Err}
 use Rattle.std.specs.Prelude.{ℤ, pos, if◌then◌else◌}
 use Rattle.syntax65.specs.Trees.{Tree, number, here, name, cheap, forward, backward, unary, binary}
 use Rattle.syntax65.specs.declared.lexing.tokens.AddressSize.{AddressSize}
 use Rattle.syntax65.specs.declared.lexing.tokens.AddressSize.TheVariants as size
 use Rattle.language65.specs.declared.laid.Spot.{Spot}
-use Rattle.language65.specs.Names.{meaning_of, Meaning}
-use Rattle.language65.specs.Norms.{constant_in, literal_in, folded, form_of_meaning, norm, norm_of}
+use Rattle.language65.specs.Names.{meaning_of}
+use Rattle.language65.specs.Norms.{constant_in, literal_in, folded, norm_of}
 use Rattle.language65.specs.Sizes.{larger, size_by, size_of, size_of_meaning, size_of_value, takes_byte}
 use Rattle.language65.specs.Symbols.{Symbols}
-use Rattle.symbols65.specs.Inner.Settling.{IsNumber, IsPlaceOf}
+use Rattle.symbols65.specs.Inner.Settling.{IsNumber}
 use Rattle.std.proofs.lemmas.Grind.{common_steps}
 use Rattle.std.specs.Result.{result_ok}
 use Rattle.base65.specs.Outcome.{◌>>=◌}
@@ -52,20 +52,3 @@ binary_known op x y = grind (arith, common_steps)
 -- what has no meaning has no form
 pub meaningless : (y : Symbols) (s : Spot) (e : Tree) (z : AsmFault) → IsReference e → meaning_of y s e ≡ Err z → norm_of y s e ≡ Err z
 meaningless y s x z n h = grind (arith, common_steps)
-
--- what means a place has the size of that
-pub place_size : (y : Symbols) (s : Spot) (e : Tree) (m : Meaning) (a : AddressSize) → IsReference e → meaning_of y s e ≡ Ok m → IsPlaceOf y m a → a ≡ size_by (size_of_meaning y (meaning_of y s e)) (constant_in y s e)
-place_size y s e m a r h (same, none) = same ∙ sym (ap (λ o. size_by (size_of_meaning y (Ok m)) o) (none (length y.definitions))) ∙ sym (by e r h)
-  where
-    part : Result Meaning AsmFault → AddressSize
-    part q = size_by (size_of_meaning y q) (literal_in (q >>= form_of_meaning (norm (length y.definitions) y) y))
-
-    by : (e : Tree) → IsReference e → meaning_of y s e ≡ Ok m → size_by (size_of_meaning y (meaning_of y s e)) (constant_in y s e) ≡ part (Ok m)
-    by (number v) n h = absurd n
-    by here n h = absurd n
-    by (unary op e) n h = absurd n
-    by (binary op e f) n h = absurd n
-    by (name global parts) n h = ap part h
-    by (cheap x) n h = ap part h
-    by (forward x) n h = ap part h
-    by (backward x) n h = ap part h

@@ -8,6 +8,6 @@ mod table;
 
 pub use resolving::{
     Known, Meaning, State, defined_norm, definition_of, final_form, meaning_of, norm, operand_form,
-    scope_of, shown,
+    plain_part, scope_of, scopes_in, shown,
 };
 pub use table::{Definition, Entry, Key, Opening, Symbols};

@@ -1,32 +1,18 @@
 //! The expressions of statements, and names whose scope isn't there.
 
 ghost use Rattle.std.specs.Prelude.{◌≡◌, List, None, false, ℕ, [], ◌∷◌, ◌++◌, map};
-ghost use Rattle.std.specs.Option.{option_map};
 ghost use Rattle.base65.specs.Outcome.{Gives};
 ghost use Rattle.syntax65.specs.Trees.{name};
 ghost use Rattle.language65.specs.Faults.{is_memory};
 ghost use Rattle.language65.specs.LineFaults.{lost_scope, unless_fault, item_trees, lost_scopes, operand_trees, optional_tree, trees_of};
-ghost use Rattle.language65.specs.Names.{scopes_of};
 ghost use Rattle.language65.specs.Symbols.{Scope};
-ghost use Rattle.symbols65.specs.Resolving.{plain_part};
 ghost use Rattle.symbols65.specs.Views.{table_of};
 ghost use Rattle.layout65.specs.Measuring.{lost_parts};
 
-use base65::Sequence;
 use language65::{AsmFault, Item, Items, ItemsKind, Operand, OptionalExpr, PartRange, Statement};
 use std::alloc::Global;
-use symbols65::{Symbols, scope_of, shown};
+use symbols65::{Symbols, plain_part, scope_of, scopes_in, shown};
 use syntax65::{Expr, ExprKind, Name};
-
-/// The parts that name scopes: all but the last.
-fn scopes_in(parts: &[Sequence<u8>]) -> &[Sequence<u8>]
-    ensures { result.now ≡ scopes_of parts.now }
-{
-    match parts.split_last() {
-        Some((_, scopes)) => scopes,
-        None => &[],
-    }
-}
 
 /// Refuses a name with `::` whose scope isn't there.
 fn check_parts(alloc: Global, symbols: &Symbols, scope: usize, name: &Name) -> Result<(), AsmFault>
@@ -41,16 +27,6 @@ fn check_parts(alloc: Global, symbols: &Symbols, scope: usize, name: &Name) -> R
             let name = shown(alloc, name.is_global, parts)?;
             Err(AsmFault::NoSuchScope(name))
         }
-    }
-}
-
-/// The one part of a plain name.
-fn plain_part(name: &Name) -> Option<&[u8]>
-    ensures { option_map (λ n. n.now) result ≡ plain_part name.now.is_global name.now.parts }
-{
-    match name.parts.as_slice() {
-        [part] if !name.is_global => Some(part.as_slice()),
-        _ => None,
     }
 }
 

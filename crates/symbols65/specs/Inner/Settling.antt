@@ -1,15 +1,13 @@
 -- What is known of forms by those that are final.
-use Rattle.std.specs.Prelude.{◌≡◌, ℕ, suc, ℤ, ◌<◌, length, Result, Ok, Err, None, ⊤}
+use Rattle.std.specs.Prelude.{◌≡◌, ℕ, suc, ℤ, ◌<◌, length, Result, Ok, Err, ⊤}
 use Rattle.base65.specs.Outcome.{Unless}
 use Rattle.syntax65.specs.Trees.{Tree, number, here, unary, binary}
-use Rattle.syntax65.specs.declared.lexing.tokens.AddressSize.{AddressSize}
 use Rattle.object65.specs.Form.{Form, lit}
 use Rattle.language65.specs.declared.fault.AsmFault.{AsmFault}
 use Rattle.language65.specs.Faults.{is_memory}
 use Rattle.language65.specs.declared.laid.Spot.{Spot}
-use Rattle.language65.specs.Names.{Meaning, defined_at, meaning_of}
-use Rattle.language65.specs.Norms.{form_of_meaning, literal_in, norm}
-use Rattle.language65.specs.Sizes.{size_of_meaning}
+use Rattle.language65.specs.Names.{defined_at, meaning_of}
+use Rattle.language65.specs.Norms.{norm}
 use Rattle.language65.specs.Symbols.{Symbols}
 use Rattle.symbols65.specs.declared.resolving.attempt.Stop.{Stop}
 use Rattle.symbols65.specs.declared.resolving.attempt.Stop.TheVariants.{Needs, Fault}
@@ -40,7 +38,3 @@ MeansFinally y s e = (j : ℕ) × MeansAlways y s e j
 -- an expression has this value by any table, and needs no other expression for it
 abbrev pub IsNumber : Tree → ℤ → Type 0
 IsNumber e v = (n : ℕ) (y : Symbols) (s : Spot) → norm (suc n) y s e ≡ Ok (lit v)
-
--- what a name means is no constant, and has this size
-abbrev pub IsPlaceOf : Symbols → Meaning → AddressSize → Type 0
-IsPlaceOf y m a = (a ≡ size_of_meaning y (Ok m)) × ((n : ℕ) → literal_in (form_of_meaning (norm n y) y m) ≡ None)

@@ -1,6 +1,6 @@
 //! The sizes of expressions, the values of those that are constant at a line, and of forms.
 
-ghost use Rattle.std.specs.Prelude.{◌≡◌, false, Ok, OnOk, IfOk, IfSome, slice_get};
+ghost use Rattle.std.specs.Prelude.{◌≡◌, false, Ok, OnOk, IfOk, slice_get};
 ghost use Rattle.language65.specs.Faults.{is_memory};
 ghost use Rattle.language65.specs.Norms.{literal_in, constant_in, norm_of};
 ghost use Rattle.symbols65.specs.Finals.{literal_of, IsReference};
@@ -9,7 +9,6 @@ ghost use Rattle.symbols65.specs.Views.{table_of};
 ghost use Rattle.std.specs.Result.{result_ok};
 ghost use Rattle.language65.specs.Names.{meaning_of};
 ghost use Rattle.language65.specs.Sizes.{is_byte, larger, size_by, size_defined, size_of, size_of_import, size_of_meaning, size_of_value, takes_byte};
-ghost use Rattle.symbols65.specs.Inner.Settling.{IsPlaceOf};
 
 use crate::resolving::{
     Known, Meaning, Stop, address, binary_form, meaning_of, meant_norm, norm, number_of,
@@ -304,55 +303,9 @@ fn form_and_size(
     }
 }
 
-/// The size of what a name means, where that is no constant: then no form is needed.
-fn size_of_place(symbols: &Symbols, meaning: Meaning) -> Option<AddressSize>
-    ensures { IfSome result (IsPlaceOf (table_of symbols.now) (meaning_in meaning)) }
-{
-    match meaning {
-        Meaning::Defined(place) => match symbols.definition(place) {
-            Some(definition) => match &definition.value {
-                None => Some(definition.size),
-                Some(_) => None,
-            },
-            None => None,
-        },
-        Meaning::Imported(key) => Some(size_of_import(symbols, key)),
-    }
-}
-
-/// The size of a reference.
-fn reference_size(
-    alloc: Global,
-    symbols: &Symbols,
-    known: &mut Known,
-    spot: Spot,
-    operand: &Expr,
-) -> Result<AddressSize, AllocError>
-    requires table { IsTable (table_of symbols.now) known.old.states.items }
-    requires reference { IsReference operand.now }
-    ensures size { IfOk result (λ z. z ≡ size_by
-        (size_of_meaning (table_of symbols.now)
-        (meaning_of (table_of symbols.now) spot operand.now))
-        (constant_in (table_of symbols.now) spot operand.now)) }
-    ensures table { OnOk result (IsTable (table_of symbols.now) known.new.states.items) }
-{
-    match meaning_of(alloc, symbols, spot, operand) {
-        Ok(meaning) => match size_of_place(symbols, meaning) {
-            Some(size) => Ok(size),
-            None => {
-                let found = meant_form_and_size(alloc, symbols, known, spot, operand, meaning)?;
-                Ok(found.size)
-            }
-        },
-        Err(fault) => {
-            pass_on_memory(&fault)?;
-            Ok(AddressSize::Absolute)
-        }
-    }
-}
-
-/// The size of an expression that may have operators.
-fn size_of_other(
+/// The size of an expression by a symbol table, where the segment has this size.
+#[inline(never)]
+pub fn size(
     alloc: Global,
     symbols: &Symbols,
     known: &mut Known,
@@ -370,29 +323,4 @@ fn size_of_other(
     }
     let found = form_and_size(alloc, symbols, known, spot, own, value)?;
     Ok(found.size)
-}
-
-/// The size of an expression by a symbol table, where the segment has this size.
-#[inline(never)]
-pub fn size(
-    alloc: Global,
-    symbols: &Symbols,
-    known: &mut Known,
-    spot: Spot,
-    own: AddressSize,
-    value: &Expr,
-) -> Result<AddressSize, AllocError>
-    requires { IsTable (table_of symbols.now) known.old.states.items }
-    ensures size { IfOk result (λ s.
-        s ≡ size_of (table_of symbols.now) spot own value.now) }
-    ensures table { OnOk result (IsTable (table_of symbols.now) known.new.states.items) }
-{
-    match value.kind() {
-        ExprKind::Plain(_)
-        | ExprKind::Scoped(_)
-        | ExprKind::Cheap(_)
-        | ExprKind::Forward(_)
-        | ExprKind::Backward(_) => reference_size(alloc, symbols, known, spot, value),
-        _ => size_of_other(alloc, symbols, known, spot, own, value),
-    }
 }

@@ -3,3 +3,5 @@ pub mod Chunks
 pub mod Outcome
 pub mod Wraps
 pub mod Places
+pub mod Digit
+pub mod Texts

@@ -1,3 +1,4 @@
+pub mod Digit
 pub mod MemStore
 pub mod Outcome
 pub mod Reading

@@ -1,6 +1,7 @@
 //! Text that contracts see as its bytes.
 
 ghost use Rattle.std.specs.Prelude.{◌≡◌, IfOk};
+ghost use Rattle.std.specs.Str.{is_utf8};
 
 use std::alloc::{AllocError, Global};
 use std::marker::Model;
@@ -34,5 +35,15 @@ impl Text {
         ensures { result.now ≡ self.now }
     {
         self.text.as_str()
+    }
+}
+
+/// Whether bytes are text.
+pub fn is_utf8(bytes: &[u8]) -> bool
+    ensures { result ≡ is_utf8 bytes.now }
+{
+    match std::str::from_utf8(bytes) {
+        Ok(_) => true,
+        Err(_) => false,
     }
 }

@@ -19,7 +19,7 @@ use Rattle.std.specs.Borrow.{Bor}
 use Rattle.std.specs.List.{list_any, position_or_len}
 use Rattle.std.specs.Str.{bytes_eq}
 use Rattle.std.proofs.lemmas.Str.{is_utf8-from_IsUtf8}
-use Rattle.script65.proofs.Digits.{not_utf8}
+use Rattle.base65.proofs.Texts.{not_utf8}
 use Rattle.script65.proofs.Walks.{drop_suc, there}
 use Rattle.script65.specs.declared.placement.Placement.{Placement}
 use Rattle.script65.specs.declared.script.AreaFile.{AreaFile}

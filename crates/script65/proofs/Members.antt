@@ -15,8 +15,8 @@ use Rattle.std.specs.List.{position_or_len}
 use Rattle.std.proofs.lemmas.Slice.Eq.{bytes_eq-Decides}
 use Rattle.std.proofs.Math.Path.{fun_ext}
 use Rattle.std.proofs.Math.Seq.{drop-append_seam}
-use Rattle.script65.specs.AreaSums.{part_name}
 use Rattle.script65.specs.declared.reading.table.Entry.{Entry}
+use Rattle.script65.specs.Naming.{place_of_part}
 
 -- ---- The rows of each area.
 
@@ -107,9 +107,13 @@ no_ending rest n end e is = grind (arith, common_steps, length-append, drop-appe
 pub same_rest : (a b : List ℕ) → codes "__" ++ a ≡ codes "__" ++ b → a ≡ b
 same_rest a b e = cc
 
--- names for one part are the same where the names in them are
-inner_name : (n m part : List ℕ) → bytes_eq (part_name n part) (part_name m part) ≡ bytes_eq n m
-inner_name n m part = grind (arith, common_steps, append_cancel_right, same_rest, same_bytes, itself, bytes_eq-Decides)
+-- the name that stands for a part of what has a name
+abbrev pub part_name : List ℕ → List ℕ → List ℕ
+part_name name end = codes "__" ++ (name ++ end)
+
+-- names with one ending are the same where the names in them are
+inner_name : (n m end : List ℕ) → bytes_eq (part_name n end) (part_name m end) ≡ bytes_eq n m
+inner_name n m end = grind (arith, common_steps, append_cancel_right, same_rest, same_bytes, itself, bytes_eq-Decides)
 
 to_false : (b : Bool) → (b ≡ true → ⊥) → b ≡ false
 to_false true h = absurd (h refl)
@@ -125,14 +129,14 @@ not_less n = grind (arith, nat_tests)
 nowhere : {A : Type 0} (xs : List A) → position (λ x. false) xs ≡ None
 nowhere xs = ap (λ n. cond (nat_lt n (length xs)) (Some n) None) (past_all xs) ∙ ap (λ b. cond b (Some (length xs)) None) (not_less (length xs))
 
--- a name that is none for this part of anything
-pub named_nowhere : (es : List (List ℕ × Entry)) (name part : List ℕ) → ((n : List ℕ) → name ≢ part_name n part) → position (λ e. bytes_eq name (part_name e.0 part)) es ≡ None
-named_nowhere es name part never =
-    let P : (List ℕ × Entry) → Bool = λ e. bytes_eq name (part_name e.0 part) in
+-- a name that has no such ending
+pub named_nowhere : (es : List (List ℕ × Entry)) (name end : List ℕ) → ((n : List ℕ) → name ≢ part_name n end) → place_of_part es name end ≡ None
+named_nowhere es name end never =
+    let P : (List ℕ × Entry) → Bool = λ e. bytes_eq name (part_name e.0 end) in
     let Q : (List ℕ × Entry) → Bool = λ e. false in
-    let same : P ≡ Q = fun_ext (λ e. to_false (P e) (λ t. never e.0 (same_bytes name (part_name e.0 part) t))) in
+    let same : P ≡ Q = fun_ext (λ e. to_false (P e) (λ t. never e.0 (same_bytes name (part_name e.0 end) t))) in
     ap (λ p. position p es) same ∙ nowhere es
 
--- a name that is that for this part of something
-pub named_there : (es : List (List ℕ × Entry)) (name n part : List ℕ) → name ≡ part_name n part → position (λ e. bytes_eq name (part_name e.0 part)) es ≡ position (λ e. bytes_eq n e.0) es
-named_there es name n part is = grind (arith, common_steps, fun_ext, inner_name)
+-- a name that has it behind a name
+pub named_there : (es : List (List ℕ × Entry)) (name n end : List ℕ) → name ≡ part_name n end → place_of_part es name end ≡ position (λ e. bytes_eq n e.0) es
+named_there es name n end is = grind (arith, common_steps, fun_ext, inner_name)

@@ -1,6 +1,6 @@
 -- What rows and sums name is there.
 use Rattle.std.proofs.lemmas.Grind.{common_steps}
-use Rattle.std.proofs.Common.{◌≡◌, ◌<◌, ℕ, suc, Bool, true, false, List, [], ◌∷◌, length, position, Option, Some, sym, ap, ◌∙◌, subst, Ok, Err, arith, nat_lt}
+use Rattle.std.proofs.Common.{◌≡◌, ◌<◌, ℕ, suc, Bool, true, false, List, [], ◌∷◌, length, Option, Some, None, sym, ap, ◌∙◌, subst, Ok, Err, arith, nat_lt}
 use Rattle.std.specs.Prelude.{Result, if◌then◌else◌}
 use Rattle.std.specs.List.{AllByRecursion}
 use Rattle.std.specs.Option.{option_or}
@@ -24,7 +24,7 @@ use Rattle.script65.specs.declared.script.Term.{Term}
 use Rattle.script65.specs.Grammar.{Draft}
 use Rattle.script65.specs.Laws.{AllThere, AreThere, IsThere}
 use Rattle.script65.specs.Naming.{area_named, export_named, extent_of, only, operand_of, parts_given, row_named, row_part_named, area_part_named, term_of, terms_given}
-use Rattle.script65.specs.Scripts.{area_of, area_index, area_with, found, is_excluded, load_place, row_areas, row_of, run_place, script_of, stop_at, with_line}
+use Rattle.script65.specs.Scripts.{area_given, area_of, area_with, is_excluded, row_areas, row_of, script_of, stop_at, with_line}
 
 -- ---- Lists of what was made in turn.
 
@@ -113,19 +113,16 @@ names_of bytes d e a h =
     let size : x.0.1 ≡ a.size = ap (λ (b : Area). b.size) made in
     (subst (AreThere (length d.areas) (length d.rows)) start (terms_are bytes d attribute.Start e.1.given x.0.0 g.start), subst (AreThere (length d.areas) (length d.rows)) size (terms_are bytes d attribute.Size e.1.given x.0.1 g.size))
 
-load_is : (bytes : List ℕ) (d : Draft) (e : Entry) (k : ℕ) → load_place bytes d e ≡ Ok k → k < length d.areas
-load_is bytes d e k h = grind (arith, common_steps)
-
-run_is : (bytes : List ℕ) (d : Draft) (e : Entry) (load k : ℕ) → load < length d.areas → run_place bytes d e load ≡ Ok k → k < length d.areas
-run_is bytes d e load k inside h = grind (arith, common_steps)
+given_is : (bytes : List ℕ) (d : Draft) (a : Attribute) (other : Option ℕ) (e : Entry) (k : ℕ) → ((m : ℕ) → other ≡ Some m → m < length d.areas) → area_given bytes d a other e ≡ Ok k → k < length d.areas
+given_is bytes d a other e k inside h = grind (arith, common_steps)
 
 areas_of : (bytes : List ℕ) (d : Draft) (e : List ℕ × Entry) (r : Row) → row_of bytes d e ≡ Ok r → (r.load < length d.areas) × (r.run < length d.areas)
 areas_of bytes d e r h =
     let x = and_then (row_areas bytes d e.1) _ r h in
-    let load = and_then (load_place bytes d e.1) _ x.0 x.1 in
-    let run = and_then (run_place bytes d e.1 load.0) _ x.0 load.2 in
-    let loads : load.0 < length d.areas = load_is bytes d e.1 load.0 load.1 in
-    let runs : run.0 < length d.areas = run_is bytes d e.1 load.0 run.0 loads run.1 in
+    let load = and_then (area_given bytes d attribute.Load None e.1) _ x.0 x.1 in
+    let run = and_then (area_given bytes d attribute.Run (Some load.0) e.1) _ x.0 load.2 in
+    let loads : load.0 < length d.areas = given_is bytes d attribute.Load None e.1 load.0 (λ m none. absurd cc) load.1 in
+    let runs : run.0 < length d.areas = given_is bytes d attribute.Run (Some load.0) e.1 run.0 (λ m some. let same : load.0 ≡ m = cc in subst (λ n. n < length d.areas) same loads) run.1 in
     let pair : (load.0, run.0) ≡ x.0 = kept (load.0, run.0) x.0 (is_excluded e.1.given load.0 run.0) run.2 in
     let made = ok_is _ r x.2 in
     let first : load.0 ≡ r.load = ap (λ (p : ℕ × ℕ). p.0) pair ∙ ap (λ (r : Row). r.load) made in

@@ -1,7 +1,7 @@
 -- Sums without names are looked at as they are read: areas of such sums alone are fixed.
 use Rattle.std.proofs.lemmas.Grind.{common_steps}
 use Rattle.std.proofs.Common.{◌≡◌, ◌≤◌, ℕ, ◌+◌, ◌^◌, Bool, false, not, List, [], ◌∷◌, ◌++◌, find, Some, None, is_some, refl, sym, ap, ◌∙◌, Ok, Err, arith, nat_lt, true, Option, unwrap_or, subst}
-use Rattle.std.specs.Prelude.{Result, if◌then◌else◌, ◌||◌}
+use Rattle.std.specs.Prelude.{Result, if◌then◌else◌, ◌||◌, ◌==◌}
 use Rattle.std.specs.List.{AllByRecursion, list_any}
 use Rattle.std.proofs.lemmas.Bool.Decides.{nat_tests}
 use Rattle.base65.specs.Outcome.{◌>>=◌, each}
@@ -20,6 +20,7 @@ use Rattle.script65.specs.declared.placing.site.Bounds.{Bounds}
 use Rattle.script65.specs.declared.placing.site.Spot.{Spot}
 use Rattle.std.specs.Option.{option_map, option_map_or, option_and_then}
 use Rattle.script65.specs.declared.fault.Fault.{Fault}
+use Rattle.script65.specs.declared.fault.Fault.TheVariants.{AttributeTwice, UnknownAttribute}
 use Rattle.script65.specs.declared.fault.Stop.{Stop}
 use Rattle.script65.specs.declared.reading.table.Entry.{Entry}
 use Rattle.script65.specs.declared.reading.tokens.Token.{Token}
@@ -30,13 +31,15 @@ use Rattle.script65.specs.declared.reading.words.Block.{Block}
 use Rattle.script65.specs.declared.reading.words.Block.TheVariants.{Memory, Segments, Symbols}
 use Rattle.script65.specs.declared.reading.words.Given.{Given}
 use Rattle.script65.specs.declared.reading.words.Part.{Part}
+use Rattle.script65.specs.declared.reading.words.Shape.{Shape}
 use Rattle.script65.specs.declared.reading.words.Shape.TheVariants as shape
 use Rattle.script65.specs.declared.reading.words.Value.{Value}
 use Rattle.script65.specs.declared.reading.words.Value.TheVariants as value
-use Rattle.script65.specs.Grammar.{Draft, Drafts, First, IsAttribute, IsBlock, IsEntry, IsSum, IsValue, Many, area_end, area_fault, block_head, entry_end, entry_head, ends, has, is_name, is_of, more, nothing, number_given, number_in, number_of_parts, part_at, sized, stands, stops, sum_end, sum_value, text_of, unless_fault, value_given}
+use Rattle.script65.specs.Grammar.{Draft, Drafts, First, IsAttribute, IsBlock, IsEntry, IsSum, IsValue, Many, area_end, area_fault, attribute_rank, attribute_word, block_head, entry_end, entry_head, ends, expect, has, is_name, is_of, more, nothing, number_given, number_in, number_of_parts, part_at, sized, some_or, stands, stop, stops, sum_end, sum_value, text_of, unless_fault, value_given}
 use Rattle.script65.specs.Naming.{extent_of, parts_given, term_of, terms_given}
 use Rattle.script65.specs.Scripts.{area_of, area_with}
-use Rattle.script65.specs.Tokens.{token_at, shape_of}
+use Rattle.script65.specs.Tokens.{token_at}
+use Rattle.script65.specs.Words.{attribute_of}
 use Rattle.script65.proofs.Named.{and_then, each_holds, extent_is, made_of, ok_is}
 
 -- ---- Areas whose sums are numbers alone.
@@ -110,9 +113,35 @@ put_behind P (y ∷ ys) x h p = (h.0, put_behind P ys x h.1 p)
 
 -- ---- Attributes of areas.
 
+abbrev takes_sum : Attribute → Bool
+takes_sum a = attribute_rank a == 0 || attribute_rank a == 1
+
+-- those of areas that take a sum
+summed_shape : (word : List ℕ) (a : Attribute × Shape) → attribute_of Memory word ≡ Some a → takes_sum a.0 ≡ true → a.1 ≡ shape.Sum
+unfolding attribute_of
+summed_shape word a h takes = grind (arith, common_steps)
+
+known_word : (o : Option (Attribute × Shape)) (t : Token) (x : Attribute × Shape) → some_or o UnknownAttribute t ≡ Ok x → o ≡ Some x
+known_word (Some y) t x h = ap Some (ok_is y x h)
+known_word None t x h = absurd cc
+
+first_given : (b : Bool) (t : Token) (x a : Attribute × Shape × ℕ) → (if b then stop AttributeTwice t else Ok x) ≡ Ok a → x ≡ a
+first_given true t x a h = absurd cc
+first_given false t x a h = ok_is x a h
+
+word_summed : (bytes : List ℕ) (given : List Given) (at : ℕ) (a : Attribute × Shape × ℕ) → attribute_word bytes Memory given at ≡ Ok a → takes_sum a.0 ≡ true → a.1 ≡ shape.Sum
+unfolding attribute_word
+word_summed bytes given at a h takes =
+    let t = and_then (expect bytes form.Word at) _ a h in
+    let b = and_then (some_or (attribute_of Memory (text_of bytes t.0)) UnknownAttribute t.0) _ a t.2 in
+    let made : (b.0.0, b.0.1, t.0.to) ≡ a = first_given (has b.0.0 given) t.0 (b.0.0, b.0.1, t.0.to) a b.2 in
+    let is : attribute_of Memory (text_of bytes t.0) ≡ Some b.0 = known_word (attribute_of Memory (text_of bytes t.0)) t.0 b.0 b.1 in
+    let same : b.0.0 ≡ a.0 = ap (λ (x : Attribute × Shape × ℕ). x.0) made in
+    sym (ap (λ (x : Attribute × Shape × ℕ). x.1) made) ∙ summed_shape (text_of bytes t.0) b.0 is (ap takes_sum same ∙ takes)
+
 -- the value of a sum is that of its parts
 abbrev pub IsSummed : Given → Type 0
-IsSummed g = (shape_of Memory g.attribute ≡ shape.Sum) → sum_value g.parts ≡ Some g.value
+IsSummed g = (takes_sum g.attribute ≡ true) → sum_value g.parts ≡ Some g.value
 
 abbrev pub AreSummed : List Given → Type 0
 AreSummed given = AllByRecursion IsSummed given
@@ -136,7 +165,7 @@ value_is : (bytes : List ℕ) (s : _) (at : ℕ) (v : Value × List Part × ℕ)
 value_is bytes s at v e h = sum_is bytes at v (subst (λ x. IsValue bytes x at (Ok v)) e h)
 
 attribute_summed : (bytes : List ℕ) (given t : List Given) (at next : ℕ) → AreSummed given → IsAttribute bytes Memory given at (Ok (t, next)) → AreSummed t
-attribute_summed bytes given t at next keeps h = grind (arith, common_steps, first_then, and_then, ok_is, put_behind, value_is)
+attribute_summed bytes given t at next keeps h = grind (arith, common_steps, first_then, and_then, ok_is, put_behind, value_is, word_summed)
 
 -- ---- Entries.
 
@@ -230,7 +259,7 @@ find_good a (g ∷ gs) s h = by (is_of a g) refl h (find_good a gs s.1)
     by true e h again = (g, refl, s.0, e)
     by false e h again = again h
 
-number_of : (bytes : List ℕ) (d : Draft) (a : Attribute) (given : List Given) (ts : List Term) → ((g : Given) → is_of a g ≡ true → shape_of Memory g.attribute ≡ shape.Sum) → AreSummed given → has a given ≡ true → NoNames (parts_given a given) → terms_given bytes d a given ≡ Ok ts → IsNumber bytes d a given ts
+number_of : (bytes : List ℕ) (d : Draft) (a : Attribute) (given : List Given) (ts : List Term) → ((g : Given) → is_of a g ≡ true → takes_sum g.attribute ≡ true) → AreSummed given → has a given ≡ true → NoNames (parts_given a given) → terms_given bytes d a given ≡ Ok ts → IsNumber bytes d a given ts
 unfolding has parts_given value_given
 number_of bytes d a given ts takes summed has_a none h =
     let g = find_good a given summed has_a in
@@ -255,10 +284,10 @@ number_of bytes d a given ts takes summed has_a none h =
         }
     by ps v e None f k same = absurd cc
 
-starts_in : (g : Given) → is_of attribute.Start g ≡ true → shape_of Memory g.attribute ≡ shape.Sum
+starts_in : (g : Given) → is_of attribute.Start g ≡ true → takes_sum g.attribute ≡ true
 starts_in g h = grind (arith, common_steps)
 
-sizes_in : (g : Given) → is_of attribute.Size g ≡ true → shape_of Memory g.attribute ≡ shape.Sum
+sizes_in : (g : Given) → is_of attribute.Size g ≡ true → takes_sum g.attribute ≡ true
 sizes_in g h = grind (arith, common_steps)
 
 -- ---- Areas.

@@ -153,15 +153,7 @@ sum_in s ts = sum_unless s ts (unknown s ts)
 
 -- the same where its own start is found
 abbrev pub with_start : Standing → ℕ → Standing
-with_start s start = record {
-  k = s.k;
-  own = s.own;
-  areas = s.areas;
-  rows = s.rows;
-  area_places = s.area_places;
-  row_places = s.row_places;
-  start = Some start;
-}
+with_start s start = record s { start = Some start }
 
 -- an area ends at the last address or before it
 abbrev pub spanned : List ℕ → ℕ → ℕ → Result Bounds PlaceFault

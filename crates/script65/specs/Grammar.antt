@@ -22,7 +22,8 @@ use Rattle.script65.specs.declared.reading.words.Value.TheVariants as value
 use Rattle.script65.specs.declared.reading.words.Given.{Given}
 use Rattle.script65.specs.declared.reading.words.Part.{Part}
 use Rattle.script65.specs.declared.reading.table.Entry.{Entry}
-use Rattle.script65.specs.Tokens.{number_of, token_at, text, block_of, attribute_of, shape_of, area_access_of, row_access_of, flag_of, role_of, is_width}
+use Rattle.script65.specs.Tokens.{number_of, token_at, text}
+use Rattle.script65.specs.Words.{attribute_of, blocks, meaning, words_of}
 use Rattle.base65.specs.Outcome.{◌>>=◌}
 use Rattle.script65.specs.AreaSums.{sum_of}
 
@@ -115,42 +116,26 @@ role_given given = option_and_then role_in (value_given attribute.Type given)
 
 -- values
 
--- a number between two others, these among them
-unfoldable pub number_at : List ℕ → ℕ → ℕ → ℕ → Result (Value × ℕ) Stop
+-- a number between two others, these among them, and its token
+unfoldable pub number_at : List ℕ → ℕ → ℕ → ℕ → Result (ℕ × Token) Stop
 number_at bytes low high at = do
   t ← expect bytes form.Number at
   n ← some_or (number_of (text_of bytes t)) OutOfRange t
-  if nat_le low n && nat_le n high then Ok (value.Number n, t.to) else stop OutOfRange t
-
-unfoldable pub byte_at : List ℕ → ℕ → Result (Value × ℕ) Stop
-byte_at bytes at = do
-  t ← expect bytes form.Number at
-  n ← some_or (number_of (text_of bytes t)) OutOfRange t
-  if nat_le n 255 then Ok (value.Byte n, t.to) else stop OutOfRange t
-
-unfoldable pub text_at : List ℕ → ℕ → Result (Value × ℕ) Stop
-text_at bytes at = do
-  t ← expect bytes form.Text at
-  Ok (value.File (t.from + 1) (t.to - 1), t.to)
-
-unfoldable pub output_at : List ℕ → ℕ → Result (Value × ℕ) Stop
-output_at bytes at = do
-  t ← expect bytes form.Output at
-  Ok (value.Output, t.to)
+  if nat_le low n && nat_le n high then Ok (n, t) else stop OutOfRange t
 
 -- the text of a string, or `%O`
+abbrev pub file_of : Token → Form → Result (Value × ℕ) Stop
+file_of t form.Text = Ok (value.File (t.from + 1) (t.to - 1), t.to)
+file_of t form.Output = Ok (value.Output, t.to)
+file_of t f = stop SyntaxError t
+
 abbrev pub file_at : List ℕ → ℕ → Result (Value × ℕ) Stop
-file_at bytes at = if stands bytes form.Text at then text_at bytes at else output_at bytes at
+file_at bytes at = file_of (token_at bytes at) (token_at bytes at).form
 
 -- what a word is to an attribute, by what the attribute takes
 abbrev pub word_value : Shape → List ℕ → Token → Option Value
-word_value shape.Flag word t = option_map value.Flag (flag_of word)
 word_value shape.Area word t = Some (value.Name t.from t.to)
-word_value shape.AreaAccess word t = option_map value.Access (area_access_of word)
-word_value shape.RowAccess word t = option_map value.Access (row_access_of word)
-word_value shape.Role word t = option_map value.Role (role_of word)
-word_value shape.Width word t = if is_width word then Some value.Width else None
-word_value _ word t = None
+word_value s word t = meaning (words_of s) word
 
 unfoldable pub word_at : List ℕ → Shape → ℕ → Result (Value × ℕ) Stop
 word_at bytes s at = do
@@ -159,28 +144,25 @@ word_at bytes s at = do
   Ok (v, t.to)
 
 abbrev pub value_at : List ℕ → Shape → ℕ → Result (Value × ℕ) Stop
-value_at bytes (shape.Number low high) at = number_at bytes low high at
-value_at bytes shape.Byte at = byte_at bytes at
+value_at bytes (shape.Number low high) at = number_at bytes low high at >>= λ n. Ok (value.Number n.0, n.1.to)
+value_at bytes shape.Byte at = number_at bytes 0 255 at >>= λ n. Ok (value.Byte n.0, n.1.to)
 value_at bytes shape.File at = file_at bytes at
 value_at bytes s at = word_at bytes s at
 
 -- sums
 
--- a number; the flag says whether the sign before it was a `-`
-unfoldable pub number_part : List ℕ → Bool → ℕ → Result (Part × ℕ) Stop
-number_part bytes minus at = do
-  t ← expect bytes form.Number at
-  n ← some_or (number_of (text_of bytes t)) OutOfRange t
-  Ok (record { minus = minus; from = t.from; to = t.to; number = Some n }, t.to)
+-- a number or a name, and its token
+unfoldable pub operand_at : List ℕ → ℕ → Result (Option ℕ × Token) Stop
+operand_at bytes at =
+    if stands bytes form.Number at
+    then (number_at bytes 0 0xffffffff at >>= λ n. Ok (Some n.0, n.1))
+    else (expect bytes form.Word at >>= λ t. Ok (None, t))
 
--- a name
-unfoldable pub name_part : List ℕ → Bool → ℕ → Result (Part × ℕ) Stop
-name_part bytes minus at = do
-  t ← expect bytes form.Word at
-  Ok (record { minus = minus; from = t.from; to = t.to; number = None }, t.to)
-
-abbrev pub part_at : List ℕ → Bool → ℕ → Result (Part × ℕ) Stop
-part_at bytes minus at = if stands bytes form.Number at then number_part bytes minus at else name_part bytes minus at
+-- the same as a part; the flag says whether the sign before it was a `-`
+unfoldable pub part_at : List ℕ → Bool → ℕ → Result (Part × ℕ) Stop
+part_at bytes minus at = do
+  x ← operand_at bytes at
+  Ok (record { minus = minus; from = x.1.from; to = x.1.to; number = x.0 }, x.1.to)
 
 -- a sum ends where no sign stands
 abbrev pub ends_sum : List ℕ → ℕ → Bool
@@ -215,12 +197,12 @@ sum_end x = valued (sum_value x.0)
 
 -- attributes
 
--- an attribute's word, which the block knows and which wasn't given yet
-unfoldable pub attribute_word : List ℕ → Block → List Given → ℕ → Result (Attribute × ℕ) Stop
+-- an attribute's word, which the block knows and which wasn't given yet, and what it takes
+unfoldable pub attribute_word : List ℕ → Block → List Given → ℕ → Result (Attribute × Shape × ℕ) Stop
 attribute_word bytes block given at = do
   t ← expect bytes form.Word at
   a ← some_or (attribute_of block (text_of bytes t)) UnknownAttribute t
-  if has a given then stop AttributeTwice t else Ok (a, t.to)
+  if has a.0 given then stop AttributeTwice t else Ok (a.0, a.1, t.to)
 
 -- an attribute behind those that were given, and behind a `,` if one stands there
 abbrev pub attribute_end : List ℕ → List Given → Attribute → Value × List Part × ℕ → Result (List Given × ℕ) Stop
@@ -295,7 +277,7 @@ entry_end bytes block name d x =
 unfoldable pub block_head : List ℕ → ℕ → Result (Block × ℕ) Stop
 block_head bytes at = do
   t ← expect bytes form.Word at
-  b ← some_or (block_of (text_of bytes t)) SyntaxError t
+  b ← some_or (meaning blocks (text_of bytes t)) SyntaxError t
   brace ← expect bytes form.Open t.to
   Ok (b, brace.to)
 
@@ -338,7 +320,7 @@ IsValue bytes s at r = r ≡ (value_at bytes s at >>= without_parts)
 abbrev pub IsAttribute : List ℕ → Block → List Given → ℕ → Result (List Given × ℕ) Stop → Type 0
 IsAttribute bytes block given at r =
     First (attribute_word bytes block given at)
-    (λ a. Then (IsValue bytes (shape_of block a.0) (behind bytes form.Equals a.1)) (attribute_end bytes given a.0)) r
+    (λ a. Then (IsValue bytes a.1 (behind bytes form.Equals a.2)) (attribute_end bytes given a.0)) r
 
 -- up to a `;`
 abbrev pub Attributes : List ℕ → Block → List Given → ℕ → Result (List Given × ℕ) Stop → Type 0

@@ -8,3 +8,4 @@ pub mod Placing
 pub mod PlacingLaws
 pub mod Scripts
 pub mod Tokens
+pub mod Words

@@ -1,5 +1,5 @@
 -- What the names of sums stand for.
-use Rattle.std.specs.Prelude.{ℕ, Bool, true, ◌||◌, if◌then◌else◌, List, [], slice_get, position, find, Option, Some, None, unwrap_or, Result, Ok, Err}
+use Rattle.std.specs.Prelude.{ℕ, Bool, true, ◌||◌, if◌then◌else◌, List, [], ◌++◌, codes, slice_get, position, find, Option, Some, None, unwrap_or, Result, Ok, Err}
 use Rattle.std.specs.Option.{option_map, option_map_or, option_and_then, option_or}
 use Rattle.std.specs.Str.{bytes_eq}
 use Rattle.script65.specs.declared.fault.Fault.{Fault}
@@ -21,7 +21,7 @@ use Rattle.script65.specs.declared.reading.words.Part.{Part}
 use Rattle.script65.specs.declared.reading.table.Entry.{Entry}
 use Rattle.script65.specs.Grammar.{Draft, is_of, number_given, role_given}
 use Rattle.base65.specs.Outcome.{◌>>=◌, each}
-use Rattle.script65.specs.AreaSums.{area_word, part_name, row_word}
+use Rattle.script65.specs.AreaSums.{area_ending, row_ending}
 use Rattle.script65.specs.Tokens.{text}
 
 -- ---- What a name stands for: an export, a part of an area, or a part of a row.
@@ -31,30 +31,28 @@ abbrev pub entry_named : List (List ℕ × Entry) → List ℕ → Option Entry
 entry_named es name =
     option_and_then (λ k. option_map (λ (e : List ℕ × Entry). e.1) (slice_get es k)) (position (λ e. bytes_eq name e.0) es)
 
-abbrev pub exported_by : Option Role → ℕ → Option Operand
-exported_by (Some role.Export) n = Some (operand.Number n)
-exported_by _ n = None
-
 -- the value of a symbol that the script exports; a weak one counts for nothing, and neither does an import
-abbrev pub exported : Entry → Option Operand
-exported e = exported_by (role_given e.given) (unwrap_or (number_given attribute.Value e.given) 0)
+abbrev pub exported : Option Role → ℕ → Option Operand
+exported (Some role.Export) n = Some (operand.Number n)
+exported _ n = None
 
 abbrev pub export_named : List (List ℕ × Entry) → List ℕ → Option Operand
-export_named symbols name = option_and_then exported (entry_named symbols name)
+export_named symbols name =
+    option_and_then (λ (e : Entry). exported (role_given e.given) (unwrap_or (number_given attribute.Value e.given) 0)) (entry_named symbols name)
 
--- the area whose name for this part is the given one
+-- the place of the entry of which a name is that for the part with this ending
+abbrev pub place_of_part : List (List ℕ × Entry) → List ℕ → List ℕ → Option ℕ
+place_of_part es name ending = position (λ e. bytes_eq name (codes "__" ++ (e.0 ++ ending))) es
+
 abbrev pub area_named : List (List ℕ × Entry) → List ℕ → AreaPart → Option Operand
-area_named areas name part =
-    option_map (λ k. operand.Area k part) (position (λ e. bytes_eq name (part_name e.0 (area_word part))) areas)
+area_named areas name part = option_map (λ k. operand.Area k part) (place_of_part areas name (area_ending part))
 
 abbrev pub area_part_named : List (List ℕ × Entry) → List ℕ → Option Operand
 area_part_named areas name =
     option_or (area_named areas name area.Start) (option_or (area_named areas name area.Size) (area_named areas name area.Last))
 
--- the row whose name for this part is the given one
 abbrev pub row_named : List (List ℕ × Entry) → List ℕ → RowPart → Option Operand
-row_named rows name part =
-    option_map (λ k. operand.Row k part) (position (λ e. bytes_eq name (part_name e.0 (row_word part))) rows)
+row_named rows name part = option_map (λ k. operand.Row k part) (place_of_part rows name (row_ending part))
 
 abbrev pub row_part_named : List (List ℕ × Entry) → List ℕ → Option Operand
 row_part_named rows name =

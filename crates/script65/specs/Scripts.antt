@@ -116,16 +116,9 @@ abbrev pub found : Option ℕ → Entry → Result ℕ Stop
 found (Some place) e = Ok place
 found None e = stop_at NoSuchArea e
 
-abbrev pub load_place : List ℕ → Draft → Entry → Result ℕ Stop
-load_place bytes d e = found (option_and_then (area_index d) (name_given bytes attribute.Load e.given)) e
-
-abbrev pub run_by : Draft → Option (List ℕ) → Entry → ℕ → Result ℕ Stop
-run_by d None e load = Ok load
-run_by d (Some name) e load = found (area_index d name) e
-
--- the area named, or the load area
-abbrev pub run_place : List ℕ → Draft → Entry → ℕ → Result ℕ Stop
-run_place bytes d e load = run_by d (name_given bytes attribute.Run e.given) e load
+-- the place of the area that an attribute names, or another where it names none
+abbrev pub area_given : List ℕ → Draft → Attribute → Option ℕ → Entry → Result ℕ Stop
+area_given bytes d a other e = found (option_map_or (area_index d) (name_given bytes a e.given) other) e
 
 -- `start` and `offset`, or two areas for what is not written
 abbrev pub is_excluded : List Given → ℕ → ℕ → Bool
@@ -158,8 +151,8 @@ row_with e load run fill = record {
 -- the areas of a row, which there are and which its attributes don't exclude
 abbrev pub row_areas : List ℕ → Draft → Entry → Result (ℕ × ℕ) Stop
 row_areas bytes d e = do
-  load ← load_place bytes d e
-  run ← run_place bytes d e load
+  load ← area_given bytes d attribute.Load None e
+  run ← area_given bytes d attribute.Run (Some load) e
   if is_excluded e.given load run then stop_at Excluded e else Ok (load, run)
 
 abbrev pub row_of : List ℕ → Draft → List ℕ × Entry → Result Row Stop

@@ -2,7 +2,7 @@
 
 ghost use Rattle.script65.specs.Faults.{is_outside, is_script_outside, Finds};
 ghost use Rattle.std.specs.Prelude.{◌≡◌, IfOk};
-ghost use Rattle.script65.specs.Scripts.{IsScript, Reads, fault_at, name_at};
+ghost use Rattle.script65.specs.Scripts.{IsScript, Reads, fault_at};
 ghost use Rattle.base65.specs.Outcome.{Unless};
 
 use crate::fault::{Fault, ScriptFault, Stop};
@@ -29,27 +29,15 @@ fn read_text(alloc: Global, bytes: &[u8]) -> Result<Script, Stop>
     make_script(alloc, bytes, &tables)
 }
 
-// The token at a place of the text, which may be none.
-fn name_at(bytes: &[u8], at: usize) -> &[u8]
-    ensures { result.now ≡ name_at bytes.now at }
-{
-    if at <= bytes.len() {
-        let token = token_at(bytes, at);
-        text(bytes, token.from, token.to)
-    } else {
-        &[]
-    }
-}
-
 // The name that a fault is one of.
 fn fault_name(alloc: Global, bytes: &[u8], stop: Stop) -> Result<Sequence<u8>, AllocError>
     ensures { IfOk result (λ name. name ≡ (fault_at bytes.now stop).name) }
 {
-    if stop.fault.names() {
-        Sequence::copy_of(alloc, name_at(bytes, stop.at))
-    } else {
-        Ok(Sequence::new(alloc))
+    if !stop.fault.names() || stop.at > bytes.len() {
+        return Ok(Sequence::new(alloc));
     }
+    let token = token_at(bytes, stop.at);
+    Sequence::copy_of(alloc, text(bytes, token.from, token.to))
 }
 
 // A fault with its line in place of its place, and with the name that it is one of.
@@ -74,8 +62,5 @@ fn fault_at(alloc: Global, bytes: &[u8], stop: Stop) -> ScriptFault
 pub fn read_script(alloc: Global, bytes: &[u8]) -> Result<Script, ScriptFault>
     ensures { Finds is_script_outside (λ s. s) (IsScript bytes.now) result }
 {
-    match read_text(alloc, bytes) {
-        Ok(script) => Ok(script),
-        Err(stop) => Err(fault_at(alloc, bytes, stop)),
-    }
+    read_text(alloc, bytes).map_err(|stop| fault_at(alloc, bytes, stop))
 }

@@ -3,7 +3,7 @@
 ghost use Rattle.std.specs.Prelude.{◌≡◌, ◌≤◌, ◌+◌, IfOk};
 ghost use Rattle.base65.specs.Outcome.{Gives};
 ghost use Rattle.script65.specs.Faults.{is_place_outside};
-ghost use Rattle.script65.specs.Placing.{begin_by, begin_in, fitted, is_in, moved, rounded_up, row_after, sized_row};
+ghost use Rattle.script65.specs.Placing.{begin_by, begin_in, fitted, moved, rounded_up, row_after, sized_row};
 
 use crate::placement::PlaceFault;
 use crate::script::{Area, Begin, Row};
@@ -31,14 +31,6 @@ pub struct Site<'a> {
     pub place: usize,
     pub area: &'a Area,
     pub bounds: Bounds,
-}
-
-/// Whether a row runs or loads in the area at a place of the script.
-#[tactic(auto, unfolding(crate::specs::Placing::is_in))]
-pub fn is_in(place: usize, row: &Row) -> bool
-    ensures { result ≡ is_in place row.now }
-{
-    row.run == place || row.load == place
 }
 
 // The least multiple of an alignment that isn't below an address.

@@ -84,10 +84,10 @@ fn row_known(place: usize, part: RowPart, row: &Row) -> bool
 fn part_name(alloc: Global, name: &[u8], ending: &[u8]) -> Result<Sequence<u8>, AllocError>
     ensures { IfOk result (λ text. text ≡ codes "__" ++ (name.now ++ ending.now)) }
 {
-    let mut text = Vec::from_slice(alloc, b"__")?;
+    let mut text = Sequence::copy_of(alloc, b"__")?;
     text.extend_from_slice(name)?;
     text.extend_from_slice(ending)?;
-    Sequence::copy_of(alloc, text.as_slice())
+    Ok(text)
 }
 
 // Where an area begins and ends.
@@ -238,13 +238,8 @@ impl Standing<'_> {
     {
         let start = self.sum(alloc, self.area.start.as_slice())?;
         let begun = Standing {
-            place: self.place,
-            area: self.area,
-            areas: self.areas,
-            rows: self.rows,
-            area_places: self.area_places,
-            spots: self.spots,
             start: Some(u64::from(start)),
+            ..*self
         };
         let size = begun.sum(alloc, self.area.size.as_slice())?;
         spanned(alloc, self.area.name.as_slice(), start, size)

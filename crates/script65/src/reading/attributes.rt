@@ -2,7 +2,7 @@
 
 ghost use Rattle.std.specs.Prelude.{◌≡◌, ◌≢◌, ◌≤◌, ◌<◌, ◌++◌, ◌∷◌, [], ℕ, IfOk, length};
 ghost use Rattle.script65.specs.Faults.{is_outside, Finds};
-ghost use Rattle.script65.specs.Grammar.{IsFurther, stands, expect, behind, number_at, byte_at, text_at, output_at, file_at, word_value, word_at, value_at, attribute_word, IsValue, IsAttribute};
+ghost use Rattle.script65.specs.Grammar.{IsFurther, stands, expect, behind, number_at, file_at, word_value, word_at, value_at, attribute_word, IsValue, IsAttribute};
 ghost use Rattle.script65.specs.declared.reading.tokens.Form.TheVariants.{End};
 
 use crate::fault::{Fault, Stop};
@@ -10,8 +10,7 @@ use crate::reading::sums::sum;
 use crate::reading::table::has;
 use crate::reading::tokens::{Form, Token, number_of, text, token_at};
 use crate::reading::words::{
-    Attribute, Block, Given, Part, Shape, Value, area_access_of, attribute_of, flag_of, is_width,
-    role_of, row_access_of, shape_of,
+    Attribute, Block, Given, Part, Shape, Value, attribute_of, meaning, words_of,
 };
 use base65::Sequence;
 use std::alloc::Global;
@@ -58,50 +57,19 @@ pub fn behind(bytes: &[u8], form: Form, at: usize) -> usize
     }
 }
 
+/// A number between two others, these among them, and its token.
 #[tactic(auto, unfolding(crate::specs::Grammar::number_at))]
-fn number_at(bytes: &[u8], low: u32, high: u32, at: usize) -> Result<(Value, usize), Stop>
+pub fn number_at(bytes: &[u8], low: u32, high: u32, at: usize) -> Result<(u32, Token), Stop>
     requires { at ≤ length bytes.now }
     ensures value { result ≡ number_at bytes.now low high at }
-    ensures further { IfOk result (λ r. IsFurther at r.1 (length bytes.now)) }
+    ensures further { IfOk result (λ r. IsFurther at r.1.to (length bytes.now)) }
+    ensures high { IfOk result (λ r. r.0 ≤ high) }
 {
     let token = expect(bytes, Form::Number, at)?;
     match number_of(text(bytes, token.from, token.to)) {
-        Some(n) if low <= n && n <= high => Ok((Value::Number(n), token.to)),
+        Some(n) if low <= n && n <= high => Ok((n, token)),
         _ => Err(token.stop(Fault::OutOfRange)),
     }
-}
-
-#[tactic(auto, unfolding(crate::specs::Grammar::byte_at))]
-fn byte_at(bytes: &[u8], at: usize) -> Result<(Value, usize), Stop>
-    requires { at ≤ length bytes.now }
-    ensures value { result ≡ byte_at bytes.now at }
-    ensures further { IfOk result (λ r. IsFurther at r.1 (length bytes.now)) }
-{
-    let token = expect(bytes, Form::Number, at)?;
-    match number_of(text(bytes, token.from, token.to)) {
-        Some(n) if n <= 255 => Ok((Value::Byte(n as u8), token.to)),
-        _ => Err(token.stop(Fault::OutOfRange)),
-    }
-}
-
-#[tactic(auto, unfolding(crate::specs::Grammar::text_at))]
-fn text_at(bytes: &[u8], at: usize) -> Result<(Value, usize), Stop>
-    requires { at ≤ length bytes.now }
-    ensures value { result ≡ text_at bytes.now at }
-    ensures further { IfOk result (λ r. IsFurther at r.1 (length bytes.now)) }
-{
-    let token = expect(bytes, Form::Text, at)?;
-    Ok((Value::File(token.from + 1, token.to - 1), token.to))
-}
-
-#[tactic(auto, unfolding(crate::specs::Grammar::output_at))]
-fn output_at(bytes: &[u8], at: usize) -> Result<(Value, usize), Stop>
-    requires { at ≤ length bytes.now }
-    ensures value { result ≡ output_at bytes.now at }
-    ensures further { IfOk result (λ r. IsFurther at r.1 (length bytes.now)) }
-{
-    let token = expect(bytes, Form::Output, at)?;
-    Ok((Value::Output, token.to))
 }
 
 fn file_at(bytes: &[u8], at: usize) -> Result<(Value, usize), Stop>
@@ -109,10 +77,11 @@ fn file_at(bytes: &[u8], at: usize) -> Result<(Value, usize), Stop>
     ensures value { result ≡ file_at bytes.now at }
     ensures further { IfOk result (λ r. IsFurther at r.1 (length bytes.now)) }
 {
-    if stands(bytes, Form::Text, at) {
-        text_at(bytes, at)
-    } else {
-        output_at(bytes, at)
+    let token = token_at(bytes, at);
+    match token.form {
+        Form::Text => Ok((Value::File(token.from + 1, token.to - 1), token.to)),
+        Form::Output => Ok((Value::Output, token.to)),
+        _ => Err(token.stop(Fault::SyntaxError)),
     }
 }
 
@@ -121,13 +90,8 @@ fn word_value(shape: Shape, word: &[u8], token: Token) -> Option<Value>
     ensures { result ≡ word_value shape word.now token }
 {
     match shape {
-        Shape::Flag => flag_of(word).map(Value::Flag),
         Shape::Area => Some(Value::Name(token.from, token.to)),
-        Shape::AreaAccess => area_access_of(word).map(Value::Access),
-        Shape::RowAccess => row_access_of(word).map(Value::Access),
-        Shape::Role => role_of(word).map(Value::Role),
-        Shape::Width => is_width(word).then_some(Value::Width),
-        Shape::Number(..) | Shape::Byte | Shape::Sum | Shape::File => None,
+        _ => meaning(words_of(shape), word),
     }
 }
 
@@ -150,8 +114,14 @@ fn value_at(bytes: &[u8], shape: Shape, at: usize) -> Result<(Value, usize), Sto
     ensures further { IfOk result (λ r. IsFurther at r.1 (length bytes.now)) }
 {
     match shape {
-        Shape::Number(low, high) => number_at(bytes, low, high, at),
-        Shape::Byte => byte_at(bytes, at),
+        Shape::Number(low, high) => {
+            let (n, token) = number_at(bytes, low, high, at)?;
+            Ok((Value::Number(n), token.to))
+        }
+        Shape::Byte => {
+            let (n, token) = number_at(bytes, 0, 255, at)?;
+            Ok((Value::Byte(n as u8), token.to))
+        }
         Shape::File => file_at(bytes, at),
         _ => word_at(bytes, shape, at),
     }
@@ -163,19 +133,20 @@ fn attribute_word(
     block: Block,
     given: &[Given],
     at: usize,
-) -> Result<(Attribute, usize), Stop>
+) -> Result<(Attribute, Shape, usize), Stop>
     requires { at ≤ length bytes.now }
     ensures value { result ≡ attribute_word bytes.now block given.now at }
-    ensures further { IfOk result (λ r. IsFurther at r.1 (length bytes.now)) }
+    ensures further { IfOk result (λ r. IsFurther at r.2 (length bytes.now)) }
 {
     let token = expect(bytes, Form::Word, at)?;
-    let Some(attribute) = attribute_of(block, text(bytes, token.from, token.to)) else {
+    let word = text(bytes, token.from, token.to);
+    let Some((attribute, shape)) = attribute_of(block, word) else {
         return Err(token.stop(Fault::UnknownAttribute));
     };
     if has(attribute, given) {
         Err(token.stop(Fault::AttributeTwice))
     } else {
-        Ok((attribute, token.to))
+        Ok((attribute, shape, token.to))
     }
 }
 
@@ -210,8 +181,7 @@ pub fn attribute(
         (IsAttribute bytes.now block given.now at) result }
     ensures further { IfOk result (λ r. IsFurther at r.1 (length bytes.now)) }
 {
-    let (attribute, end) = attribute_word(bytes, block, given, at)?;
-    let shape = shape_of(block, attribute);
+    let (attribute, shape, end) = attribute_word(bytes, block, given, at)?;
     let (value, parts, end) = value(alloc, bytes, shape, behind(bytes, Form::Equals, end))?;
     let given = Given {
         attribute,

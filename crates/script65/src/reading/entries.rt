@@ -9,7 +9,7 @@ use crate::fault::{Fault, Stop};
 use crate::reading::attributes::{attribute, expect, stands};
 use crate::reading::table::{Entry, Tables, entry_fault};
 use crate::reading::tokens::{Form, Token, text, token_at};
-use crate::reading::words::{Block, Given, block_of};
+use crate::reading::words::{BLOCKS, Block, Given, meaning};
 use base65::Sequence;
 use std::alloc::Global;
 
@@ -119,7 +119,7 @@ fn block_head(bytes: &[u8], at: usize) -> Result<(Block, usize), Stop>
     ensures further { IfOk result (λ r. IsFurther at r.1 (length bytes.now)) }
 {
     let word = expect(bytes, Form::Word, at)?;
-    let Some(block) = block_of(text(bytes, word.from, word.to)) else {
+    let Some(block) = meaning(&BLOCKS, text(bytes, word.from, word.to)) else {
         return Err(word.stop(Fault::SyntaxError));
     };
     let brace = expect(bytes, Form::Open, word.to)?;

@@ -2,7 +2,7 @@
 
 ghost use Rattle.std.specs.Prelude.{◌≡◌, IfOk, IfSome, length, map};
 ghost use Rattle.script65.specs.Faults.{is_outside};
-ghost use Rattle.script65.specs.Scripts.{area_file, area_fill, area_of, area_with, begin_of, file_in, found, is_excluded, kind_of, load_place, row_areas, row_of, row_with, run_place, script_of, symbol_of};
+ghost use Rattle.script65.specs.Scripts.{area_file, area_fill, area_given, area_of, begin_of, is_excluded, kind_of, row_areas, row_of, script_of, symbol_of};
 ghost use Rattle.base65.specs.Outcome.{Gives, each};
 ghost use Rattle.script65.specs.Inner.Tables.{draft_in, named};
 
@@ -19,48 +19,16 @@ use base65::Sequence;
 use std::alloc::{AllocError, Global};
 
 // The file that an area's attribute names.
-fn file_in(alloc: Global, bytes: &[u8], value: Value) -> Result<AreaFile, AllocError>
-    ensures { IfOk result (λ f. f ≡ file_in bytes.now value) }
-{
-    match value {
-        Value::File(from, to) => Ok(AreaFile::Named(Sequence::copy_of(
-            alloc,
-            text(bytes, from, to),
-        )?)),
-        _ => Ok(AreaFile::Output),
-    }
-}
-
 fn area_file(alloc: Global, bytes: &[u8], given: &[Given]) -> Result<AreaFile, AllocError>
     ensures { IfOk result (λ f. f ≡ area_file bytes.now given.now) }
 {
     match value_given(Attribute::File, given) {
-        Some(value) => file_in(alloc, bytes, value),
-        None => Ok(AreaFile::Output),
+        Some(Value::File(from, to)) => {
+            let name = Sequence::copy_of(alloc, text(bytes, from, to))?;
+            Ok(AreaFile::Named(name))
+        }
+        _ => Ok(AreaFile::Output),
     }
-}
-
-fn area_with(
-    alloc: Global,
-    bytes: &[u8],
-    name: &[u8],
-    entry: &Entry,
-    extent: (Sequence<Term>, Sequence<Term>),
-) -> Result<Area, AllocError>
-    ensures { IfOk result (λ a. a ≡ area_with bytes.now (name.now, entry.now) extent) }
-{
-    let given = entry.given.as_slice();
-    let (start, size) = extent;
-    Ok(Area {
-        name: Sequence::copy_of(alloc, name)?,
-        start,
-        size,
-        read_only: access_given(given).is_read_only(),
-        file: area_file(alloc, bytes, given)?,
-        fill: flag_given(Attribute::Fill, given),
-        fill_value: byte_or(0, given),
-        define: flag_given(Attribute::Define, given),
-    })
 }
 
 fn area_of(
@@ -72,8 +40,18 @@ fn area_of(
 ) -> Result<Area, Stop>
     ensures { Gives is_outside (λ x. x) result (area_of bytes.now (draft_in tables.now) (name.now, entry.now)) }
 {
-    let extent = extent_of(alloc, bytes, tables, entry.given.as_slice())?;
-    Ok(area_with(alloc, bytes, name, entry, extent)?)
+    let given = entry.given.as_slice();
+    let (start, size) = extent_of(alloc, bytes, tables, given)?;
+    Ok(Area {
+        name: Sequence::copy_of(alloc, name)?,
+        start,
+        size,
+        read_only: access_given(given).is_read_only(),
+        file: area_file(alloc, bytes, given)?,
+        fill: flag_given(Attribute::Fill, given),
+        fill_value: byte_or(0, given),
+        define: flag_given(Attribute::Define, given),
+    })
 }
 
 fn kind_of(role: Role, value: u32) -> SymbolKind
@@ -97,34 +75,24 @@ fn symbol_of(alloc: Global, name: &[u8], entry: &Entry) -> Result<Symbol, AllocE
     })
 }
 
-fn found(place: Option<usize>, entry: &Entry) -> Result<usize, Stop>
-    ensures { result ≡ found place entry.now }
+// The place of the area that an attribute names, or another where it names none.
+fn area_given(
+    bytes: &[u8],
+    tables: &Tables,
+    attribute: Attribute,
+    other: Option<usize>,
+    entry: &Entry,
+) -> Result<usize, Stop>
+    ensures { result ≡ area_given bytes.now (draft_in tables.now) attribute other entry.now }
 {
-    match place {
-        Some(place) => Ok(place),
-        None => Err(Stop {
-            fault: Fault::NoSuchArea,
-            at: entry.at,
-        }),
-    }
-}
-
-fn load_place(bytes: &[u8], tables: &Tables, entry: &Entry) -> Result<usize, Stop>
-    ensures { result ≡ load_place bytes.now (draft_in tables.now) entry.now }
-{
-    match name_given(bytes, Attribute::Load, entry.given.as_slice()) {
-        Some(name) => found(tables.areas.place_of(name), entry),
-        None => found(None, entry),
-    }
-}
-
-fn run_place(bytes: &[u8], tables: &Tables, entry: &Entry, load: usize) -> Result<usize, Stop>
-    ensures { result ≡ run_place bytes.now (draft_in tables.now) entry.now load }
-{
-    match name_given(bytes, Attribute::Run, entry.given.as_slice()) {
-        Some(name) => found(tables.areas.place_of(name), entry),
-        None => Ok(load),
-    }
+    let place = match name_given(bytes, attribute, entry.given.as_slice()) {
+        Some(name) => tables.areas.place_of(name),
+        None => other,
+    };
+    place.ok_or(Stop {
+        fault: Fault::NoSuchArea,
+        at: entry.at,
+    })
 }
 
 // Whether a row's attributes exclude each other.
@@ -140,8 +108,8 @@ fn is_excluded(given: &[Given], load: usize, run: usize) -> bool
 fn row_areas(bytes: &[u8], tables: &Tables, entry: &Entry) -> Result<(usize, usize), Stop>
     ensures { result ≡ row_areas bytes.now (draft_in tables.now) entry.now }
 {
-    let load = load_place(bytes, tables, entry)?;
-    let run = run_place(bytes, tables, entry, load)?;
+    let load = area_given(bytes, tables, Attribute::Load, None, entry)?;
+    let run = area_given(bytes, tables, Attribute::Run, Some(load), entry)?;
     if is_excluded(entry.given.as_slice(), load, run) {
         Err(Stop {
             fault: Fault::Excluded,
@@ -172,16 +140,16 @@ fn area_fill(tables: &Tables, place: usize) -> u8
     }
 }
 
-fn row_with(
+fn row_of(
     alloc: Global,
+    bytes: &[u8],
+    tables: &Tables,
     name: &[u8],
     entry: &Entry,
-    load: usize,
-    run: usize,
-    fill: u8,
-) -> Result<Row, AllocError>
-    ensures { IfOk result (λ r. r ≡ row_with (name.now, entry.now) load run fill) }
+) -> Result<Row, Stop>
+    ensures { Gives is_outside (λ x. x) result (row_of bytes.now (draft_in tables.now) (name.now, entry.now)) }
 {
+    let (load, run) = row_areas(bytes, tables, entry)?;
     let given = entry.given.as_slice();
     let start = number_given(Attribute::Start, given);
     let offset = number_given(Attribute::Offset, given);
@@ -193,24 +161,10 @@ fn row_with(
         align: number_or(1, Attribute::Align, given),
         align_load: number_or(1, Attribute::AlignLoad, given),
         begin: begin_of(start, offset),
-        fill_value: byte_or(fill, given),
+        fill_value: byte_or(area_fill(tables, load), given),
         define: flag_given(Attribute::Define, given),
         optional: flag_given(Attribute::Optional, given),
     })
-}
-
-fn row_of(
-    alloc: Global,
-    bytes: &[u8],
-    tables: &Tables,
-    name: &[u8],
-    entry: &Entry,
-) -> Result<Row, Stop>
-    ensures { Gives is_outside (λ x. x) result (row_of bytes.now (draft_in tables.now) (name.now, entry.now)) }
-{
-    let (load, run) = row_areas(bytes, tables, entry)?;
-    let fill = area_fill(tables, load);
-    Ok(row_with(alloc, name, entry, load, run, fill)?)
 }
 
 // The areas of all entries, or the first fault of a name in a sum.

@@ -2,71 +2,52 @@
 
 ghost use Rattle.std.specs.Prelude.{◌≡◌, ◌≤◌, ◌<◌, ◌∷◌, [], IfOk, length, ◌≢◌, ◌++◌, ℕ, List, MatchOption, codes};
 ghost use Rattle.script65.specs.Faults.{is_outside, Finds};
-ghost use Rattle.script65.specs.Grammar.{IsFurther, IsSum, Parts, ends_sum, is_name, last_place, name_part, number_of_parts, number_part, part_at, signed_part, sum_value};
+ghost use Rattle.script65.specs.Grammar.{IsFurther, IsSum, Parts, ends_sum, is_name, last_place, number_of_parts, operand_at, part_at, signed_part, sum_value};
 ghost use Rattle.std.specs.List.{list_any};
-ghost use Rattle.std.specs.Option.{option_copied, option_map};
-ghost use Rattle.script65.specs.Naming.{area_named, area_part_named, entry_named, export_named, exported, exported_by, extent_of, only, operand_named, operand_of, parts_given, row_named, row_part_named, starts_first, term_of, terms_given};
+ghost use Rattle.std.specs.Option.{option_map};
+ghost use Rattle.script65.specs.Naming.{area_named, area_part_named, entry_named, export_named, extent_of, only, operand_named, operand_of, parts_given, place_of_part, row_named, row_part_named, starts_first, term_of};
 ghost use Rattle.base65.specs.Outcome.{Gives, each};
 ghost use Rattle.script65.specs.Inner.Tables.{draft_in, named};
 
 use crate::fault::{Fault, Stop};
-use crate::reading::attributes::{expect, stands};
-use crate::reading::table::{Entry, Table, Tables, number_given, role_given};
-use crate::reading::tokens::{Form, number_of, text, token_at};
+use crate::reading::attributes::{expect, number_at, stands};
+use crate::reading::table::{Entry, Table, Tables, number_or, role_given};
+use crate::reading::tokens::{Form, Token, text, token_at};
 use crate::reading::words::{Attribute, Given, Part, Role, Value};
 use crate::script::{AreaPart, Operand, RowPart, Term};
 use crate::sums::difference;
 use base65::Sequence;
 use std::alloc::Global;
 
-#[tactic(auto, unfolding(crate::specs::Grammar::number_part))]
-fn number_part(bytes: &[u8], minus: bool, at: usize) -> Result<(Part, usize), Stop>
+// A number or a name, and its token.
+#[tactic(auto, unfolding(crate::specs::Grammar::operand_at))]
+fn operand_at(bytes: &[u8], at: usize) -> Result<(Option<u32>, Token), Stop>
     requires { at ≤ length bytes.now }
-    ensures value { result ≡ number_part bytes.now minus at }
-    ensures further { IfOk result (λ r. IsFurther at r.1 (length bytes.now)) }
+    ensures value { result ≡ operand_at bytes.now at }
+    ensures further { IfOk result (λ r. IsFurther at r.1.to (length bytes.now)) }
 {
-    let token = expect(bytes, Form::Number, at)?;
-    match number_of(text(bytes, token.from, token.to)) {
-        Some(n) => {
-            let part = Part {
-                minus,
-                from: token.from,
-                to: token.to,
-                number: Some(n),
-            };
-            Ok((part, token.to))
-        }
-        None => Err(token.stop(Fault::OutOfRange)),
+    if stands(bytes, Form::Number, at) {
+        let (number, token) = number_at(bytes, 0, u32::MAX, at)?;
+        Ok((Some(number), token))
+    } else {
+        Ok((None, expect(bytes, Form::Word, at)?))
     }
 }
 
-#[tactic(auto, unfolding(crate::specs::Grammar::name_part))]
-fn name_part(bytes: &[u8], minus: bool, at: usize) -> Result<(Part, usize), Stop>
-    requires { at ≤ length bytes.now }
-    ensures value { result ≡ name_part bytes.now minus at }
-    ensures further { IfOk result (λ r. IsFurther at r.1 (length bytes.now)) }
-{
-    let token = expect(bytes, Form::Word, at)?;
-    let part = Part {
-        minus,
-        from: token.from,
-        to: token.to,
-        number: None,
-    };
-    Ok((part, token.to))
-}
-
-// A number or a name.
+#[tactic(auto, unfolding(crate::specs::Grammar::part_at))]
 fn part_at(bytes: &[u8], minus: bool, at: usize) -> Result<(Part, usize), Stop>
     requires { at ≤ length bytes.now }
     ensures value { result ≡ part_at bytes.now minus at }
     ensures further { IfOk result (λ r. IsFurther at r.1 (length bytes.now)) }
 {
-    if stands(bytes, Form::Number, at) {
-        number_part(bytes, minus, at)
-    } else {
-        name_part(bytes, minus, at)
-    }
+    let (number, token) = operand_at(bytes, at)?;
+    let part = Part {
+        minus,
+        from: token.from,
+        to: token.to,
+        number,
+    };
+    Ok((part, token.to))
 }
 
 // Whether no sign stands here.
@@ -149,10 +130,7 @@ fn sum_value(parts: &[Part]) -> Option<Value>
 fn last_place(parts: &[Part]) -> usize
     ensures { result ≡ last_place parts.now }
 {
-    match parts.last() {
-        Some(part) => part.from,
-        None => 0,
-    }
+    parts.last().map_or(0, |part| part.from)
 }
 
 /// The value and the parts of a sum, and where it ends.
@@ -181,28 +159,16 @@ fn entry_named<'b>(table: &'b Table, name: &[u8]) -> Option<&'b Entry>
     Some(entry)
 }
 
-fn exported_by(role: Option<Role>, value: u32) -> Option<Operand>
-    ensures { result ≡ exported_by role value }
-{
-    match role {
-        Some(Role::Export) => Some(Operand::Number(value)),
-        _ => None,
-    }
-}
-
-// The value of an entry that exports a symbol.
-fn exported(entry: &Entry) -> Option<Operand>
-    ensures { result ≡ exported entry.now }
-{
-    let given = entry.given.as_slice();
-    let value = number_given(Attribute::Value, given).unwrap_or(0);
-    exported_by(role_given(given), value)
-}
-
+// The value of a symbol of this name that the script exports.
 fn export_named(table: &Table, name: &[u8]) -> Option<Operand>
     ensures { result ≡ export_named (named table.now) name.now }
 {
-    exported(entry_named(table, name)?)
+    let given = entry_named(table, name)?.given.as_slice();
+    let value = number_or(0, Attribute::Value, given);
+    match role_given(given) {
+        Some(Role::Export) => Some(Operand::Number(value)),
+        _ => None,
+    }
 }
 
 // What stands between `__` and an ending.
@@ -213,11 +179,17 @@ fn inside<'a>(name: &'a [u8], ending: &[u8]) -> Option<&'a [u8]>
     name.strip_prefix(b"__")?.strip_suffix(ending)
 }
 
-// This part of the area of which a name is the name for it.
+// The place of the entry of which a name is that for the part with this ending.
+fn place_of_part(table: &Table, name: &[u8], ending: &[u8]) -> Option<usize>
+    ensures { result ≡ place_of_part (named table.now) name.now ending.now }
+{
+    table.place_of(inside(name, ending)?)
+}
+
 fn area_named(areas: &Table, name: &[u8], part: AreaPart) -> Option<Operand>
     ensures { result ≡ area_named (named areas.now) name.now part }
 {
-    let place = areas.place_of(inside(name, part.ending())?)?;
+    let place = place_of_part(areas, name, part.ending())?;
     Some(Operand::Area(place, part))
 }
 
@@ -230,11 +202,10 @@ fn area_part_named(areas: &Table, name: &[u8]) -> Option<Operand>
     start.or(size.or(last))
 }
 
-// This part of the row of which a name is the name for it.
 fn row_named(rows: &Table, name: &[u8], part: RowPart) -> Option<Operand>
     ensures { result ≡ row_named (named rows.now) name.now part }
 {
-    let place = rows.place_of(inside(name, part.ending())?)?;
+    let place = place_of_part(rows, name, part.ending())?;
     Some(Operand::Row(place, part))
 }
 
@@ -342,19 +313,6 @@ fn starts_first(given: &[Given]) -> bool
     true
 }
 
-fn terms_given(
-    alloc: Global,
-    bytes: &[u8],
-    tables: &Tables,
-    attribute: Attribute,
-    given: &[Given],
-) -> Result<Sequence<Term>, Stop>
-    ensures { Gives is_outside (λ x. x) result
-        (terms_given bytes.now (draft_in tables.now) attribute given.now) }
-{
-    terms_of(alloc, bytes, tables, parts_given(attribute, given))
-}
-
 /// The terms of an area's `start` and `size`, whose names are looked at in the order of the text.
 pub fn extent_of(
     alloc: Global,
@@ -365,12 +323,12 @@ pub fn extent_of(
     ensures { Gives is_outside (λ x. x) result (extent_of bytes.now (draft_in tables.now) given.now) }
 {
     if starts_first(given) {
-        let start = terms_given(alloc, bytes, tables, Attribute::Start, given)?;
-        let size = terms_given(alloc, bytes, tables, Attribute::Size, given)?;
+        let start = terms_of(alloc, bytes, tables, parts_given(Attribute::Start, given))?;
+        let size = terms_of(alloc, bytes, tables, parts_given(Attribute::Size, given))?;
         Ok((start, size))
     } else {
-        let size = terms_given(alloc, bytes, tables, Attribute::Size, given)?;
-        let start = terms_given(alloc, bytes, tables, Attribute::Start, given)?;
+        let size = terms_of(alloc, bytes, tables, parts_given(Attribute::Size, given))?;
+        let start = terms_of(alloc, bytes, tables, parts_given(Attribute::Start, given))?;
         Ok((start, size))
     }
 }

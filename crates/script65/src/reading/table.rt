@@ -1,11 +1,11 @@
 //! Entries by their names, and their attributes.
 
-ghost use Rattle.std.specs.Prelude.{◌≡◌, ◌++◌, ◌∷◌, [], None, length, is_some, position, slice_get, OnOk, OnErr, IfOk, false};
+ghost use Rattle.std.specs.Prelude.{◌≡◌, ◌++◌, ◌∷◌, [], position, slice_get, OnOk, false};
 ghost use Rattle.std.specs.Option.{option_map, option_copied};
 ghost use Rattle.std.specs.Str.{bytes_eq};
-ghost use Rattle.script65.specs.Grammar.{added, entries_of, is_taken, nothing, has, value_given, number_in, role_in, number_given, role_given, entry_fault, area_fault, row_fault, symbol_fault};
+ghost use Rattle.script65.specs.Grammar.{added, entries_of, is_taken, nothing, has, value_given, number_given, role_given, entry_fault, area_fault, symbol_fault};
 ghost use Rattle.script65.specs.Inner.Tables.{draft_in, named};
-ghost use Rattle.script65.specs.Scripts.{access_given, access_in, byte_in, byte_or, flag_given, flag_in, name_given, name_in, number_or};
+ghost use Rattle.script65.specs.Scripts.{access_given, byte_or, flag_given, name_given, number_or};
 
 use crate::fault::Fault;
 use crate::reading::tokens::text;
@@ -35,12 +35,6 @@ impl<'a> Table<'a> {
         Table {
             entries: IndexMap::new(alloc),
         }
-    }
-
-    pub fn len(&self) -> usize
-        ensures { result ≡ length (named self.now) }
-    {
-        self.entries.len()
     }
 
     /// Whether an entry has this name.
@@ -139,62 +133,22 @@ pub fn value_given(attribute: Attribute, given: &[Given]) -> Option<Value>
     None
 }
 
-fn number_in(value: Value) -> Option<u32>
-    ensures { result ≡ number_in value }
-{
-    match value {
-        Value::Number(n) => Some(n),
-        _ => None,
-    }
-}
-
-fn role_in(value: Value) -> Option<Role>
-    ensures { result ≡ role_in value }
-{
-    match value {
-        Value::Role(role) => Some(role),
-        _ => None,
-    }
-}
-
-fn flag_in(value: Value) -> Option<bool>
-    ensures { result ≡ flag_in value }
-{
-    match value {
-        Value::Flag(flag) => Some(flag),
-        _ => None,
-    }
-}
-
-fn access_in(value: Value) -> Option<Access>
-    ensures { result ≡ access_in value }
-{
-    match value {
-        Value::Access(access) => Some(access),
-        _ => None,
-    }
-}
-
-// The bytes of a name that stands in the text.
-fn name_in(bytes: &[u8], value: Value) -> Option<&[u8]>
-    ensures { option_copied result ≡ name_in bytes.now value }
-{
-    match value {
-        Value::Name(from, to) => Some(text(bytes, from, to)),
-        _ => None,
-    }
-}
-
 pub fn number_given(attribute: Attribute, given: &[Given]) -> Option<u32>
     ensures { result ≡ number_given attribute given.now }
 {
-    number_in(value_given(attribute, given)?)
+    match value_given(attribute, given) {
+        Some(Value::Number(n)) => Some(n),
+        _ => None,
+    }
 }
 
 pub fn role_given(given: &[Given]) -> Option<Role>
     ensures { result ≡ role_given given.now }
 {
-    role_in(value_given(Attribute::Type, given)?)
+    match value_given(Attribute::Type, given) {
+        Some(Value::Role(role)) => Some(role),
+        _ => None,
+    }
 }
 
 /// The number given, or another where there is none.
@@ -204,22 +158,13 @@ pub fn number_or(other: u32, attribute: Attribute, given: &[Given]) -> u32
     number_given(attribute, given).unwrap_or(other)
 }
 
-fn byte_in(value: Value) -> Option<u8>
-    ensures { result ≡ byte_in value }
-{
-    match value {
-        Value::Byte(n) => Some(n),
-        _ => None,
-    }
-}
-
 /// The byte of gaps given, or another where there is none.
 pub fn byte_or(other: u8, given: &[Given]) -> u8
     ensures { result ≡ byte_or other given.now }
 {
     match value_given(Attribute::FillValue, given) {
-        Some(value) => byte_in(value).unwrap_or(other),
-        None => other,
+        Some(Value::Byte(n)) => n,
+        _ => other,
     }
 }
 
@@ -228,8 +173,8 @@ pub fn flag_given(attribute: Attribute, given: &[Given]) -> bool
     ensures { result ≡ flag_given attribute given.now }
 {
     match value_given(attribute, given) {
-        Some(value) => flag_in(value).unwrap_or(false),
-        None => false,
+        Some(Value::Flag(flag)) => flag,
+        _ => false,
     }
 }
 
@@ -237,8 +182,8 @@ pub fn access_given(given: &[Given]) -> Access
     ensures { result ≡ access_given given.now }
 {
     match value_given(Attribute::Type, given) {
-        Some(value) => access_in(value).unwrap_or(Access::ReadWrite),
-        None => Access::ReadWrite,
+        Some(Value::Access(access)) => access,
+        _ => Access::ReadWrite,
     }
 }
 
@@ -246,7 +191,10 @@ pub fn access_given(given: &[Given]) -> Access
 pub fn name_given<'a>(bytes: &'a [u8], attribute: Attribute, given: &[Given]) -> Option<&'a [u8]>
     ensures { option_copied result ≡ name_given bytes.now attribute given.now }
 {
-    name_in(bytes, value_given(attribute, given)?)
+    match value_given(attribute, given) {
+        Some(Value::Name(from, to)) => Some(text(bytes, from, to)),
+        _ => None,
+    }
 }
 
 fn area_fault(given: &[Given]) -> Option<Fault>
@@ -255,8 +203,8 @@ fn area_fault(given: &[Given]) -> Option<Fault>
     if !(has(Attribute::Start, given) && has(Attribute::Size, given)) {
         return Some(Fault::AttributeMissing);
     }
-    let start = number_given(Attribute::Start, given).unwrap_or(0);
-    let size = number_given(Attribute::Size, given).unwrap_or(0);
+    let start = number_or(0, Attribute::Start, given);
+    let size = number_or(0, Attribute::Size, given);
     if u64::from(start) + u64::from(size) > 1 << 32 {
         Some(Fault::OutOfRange)
     } else {
@@ -264,25 +212,13 @@ fn area_fault(given: &[Given]) -> Option<Fault>
     }
 }
 
-fn row_fault(given: &[Given]) -> Option<Fault>
-    ensures { result ≡ row_fault given.now }
-{
-    if has(Attribute::Load, given) {
-        None
-    } else {
-        Some(Fault::AttributeMissing)
-    }
-}
-
 fn symbol_fault(role: Option<Role>, valued: bool) -> Option<Fault>
     ensures { result ≡ symbol_fault role valued }
 {
     match role {
-        None => Some(Fault::AttributeMissing),
-        Some(Role::Import) if valued => Some(Fault::Excluded),
-        Some(Role::Import) => None,
+        Some(Role::Import) => valued.then_some(Fault::Excluded),
         Some(_) if valued => None,
-        Some(_) => Some(Fault::AttributeMissing),
+        _ => Some(Fault::AttributeMissing),
     }
 }
 
@@ -292,7 +228,7 @@ pub fn entry_fault(block: Block, given: &[Given]) -> Option<Fault>
 {
     match block {
         Block::Memory => area_fault(given),
-        Block::Segments => row_fault(given),
+        Block::Segments => (!has(Attribute::Load, given)).then_some(Fault::AttributeMissing),
         Block::Symbols => symbol_fault(role_given(given), has(Attribute::Value, given)),
     }
 }

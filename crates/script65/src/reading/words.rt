@@ -1,7 +1,7 @@
 //! The words of scripts, and what attributes take.
 
-ghost use Rattle.std.specs.Prelude.{◌≡◌};
-ghost use Rattle.script65.specs.Tokens.{same_word, block_of, attribute_of, memory_attribute, segment_attribute, symbol_attribute, type_shape, extent_shape, shape_of, area_access_of, row_access_of, flag_of, role_of, is_width};
+ghost use Rattle.std.specs.Prelude.{◌≡◌, map};
+ghost use Rattle.script65.specs.Words.{attribute_of, attributes_of, meaning, same_word, words_of};
 
 use crate::script::Access;
 use base65::Sequence;
@@ -99,191 +99,97 @@ fn same_word(text: &[u8], word: &str) -> bool
     text.eq_ignore_ascii_case(word.as_bytes())
 }
 
-pub fn block_of(text: &[u8]) -> Option<Block>
-    ensures { result ≡ block_of text.now }
+// What a text is the word for, of these words.
+pub fn meaning<T: Copy>(words: &[(&str, T)], text: &[u8]) -> Option<T>
+    ensures { result ≡ meaning (map (λ w. (w.0.now, w.1)) words.now) text.now }
 {
-    if same_word(text, "memory") {
-        Some(Block::Memory)
-    } else if same_word(text, "segments") {
-        Some(Block::Segments)
-    } else if same_word(text, "symbols") {
-        Some(Block::Symbols)
-    } else {
-        None
+    for (word, value) in words {
+        if same_word(text, word) {
+            return Some(*value);
+        }
+    }
+    None
+}
+
+/// The words of blocks.
+pub const BLOCKS: [(&str, Block); 3] = [
+    ("memory", Block::Memory),
+    ("segments", Block::Segments),
+    ("symbols", Block::Symbols),
+];
+
+/// The attributes of a block by their words, and what they take.
+fn attributes_of(block: Block) -> &'static [(&'static str, (Attribute, Shape))]
+    ensures { map (λ w. (w.0.now, w.1)) result.now ≡ attributes_of block }
+{
+    match block {
+        Block::Memory => &[
+            ("start", (Attribute::Start, Shape::Sum)),
+            ("size", (Attribute::Size, Shape::Sum)),
+            ("type", (Attribute::Type, Shape::AreaAccess)),
+            ("file", (Attribute::File, Shape::File)),
+            ("fill", (Attribute::Fill, Shape::Flag)),
+            ("fillval", (Attribute::FillValue, Shape::Byte)),
+            ("define", (Attribute::Define, Shape::Flag)),
+        ],
+        Block::Segments => &[
+            ("load", (Attribute::Load, Shape::Area)),
+            ("run", (Attribute::Run, Shape::Area)),
+            ("type", (Attribute::Type, Shape::RowAccess)),
+            ("align", (Attribute::Align, Shape::Number(1, 65536))),
+            (
+                "align_load",
+                (Attribute::AlignLoad, Shape::Number(1, 65536)),
+            ),
+            ("start", (Attribute::Start, Shape::Number(0, 0xffff_ffff))),
+            ("offset", (Attribute::Offset, Shape::Number(0, 0xffff_ffff))),
+            ("fillval", (Attribute::FillValue, Shape::Byte)),
+            ("define", (Attribute::Define, Shape::Flag)),
+            ("optional", (Attribute::Optional, Shape::Flag)),
+        ],
+        Block::Symbols => &[
+            ("type", (Attribute::Type, Shape::Role)),
+            ("value", (Attribute::Value, Shape::Number(0, 0xffff_ffff))),
+            ("addrsize", (Attribute::AddressSize, Shape::Width)),
+        ],
     }
 }
 
-/// The attribute that a word names in a block.
-pub fn attribute_of(block: Block, text: &[u8]) -> Option<Attribute>
+/// The attribute that a word names in a block, and what it takes.
+#[tactic(auto, unfolding(crate::specs::Words::attribute_of))]
+pub fn attribute_of(block: Block, text: &[u8]) -> Option<(Attribute, Shape)>
     ensures { result ≡ attribute_of block text.now }
 {
-    match block {
-        Block::Memory => memory_attribute(text),
-        Block::Segments => segment_attribute(text),
-        Block::Symbols => symbol_attribute(text),
-    }
+    meaning(attributes_of(block), text)
 }
 
-fn memory_attribute(text: &[u8]) -> Option<Attribute>
-    ensures { result ≡ memory_attribute text.now }
+/// The words that an attribute takes, and what they say.
+pub fn words_of(shape: Shape) -> &'static [(&'static str, Value)]
+    ensures { map (λ w. (w.0.now, w.1)) result.now ≡ words_of shape }
 {
-    if same_word(text, "start") {
-        Some(Attribute::Start)
-    } else if same_word(text, "size") {
-        Some(Attribute::Size)
-    } else if same_word(text, "type") {
-        Some(Attribute::Type)
-    } else if same_word(text, "file") {
-        Some(Attribute::File)
-    } else if same_word(text, "fill") {
-        Some(Attribute::Fill)
-    } else if same_word(text, "fillval") {
-        Some(Attribute::FillValue)
-    } else if same_word(text, "define") {
-        Some(Attribute::Define)
-    } else {
-        None
+    match shape {
+        Shape::Flag => &[("yes", Value::Flag(true)), ("no", Value::Flag(false))],
+        Shape::AreaAccess => &[
+            ("ro", Value::Access(Access::ReadOnly)),
+            ("rw", Value::Access(Access::ReadWrite)),
+        ],
+        Shape::RowAccess => &[
+            ("ro", Value::Access(Access::ReadOnly)),
+            ("rw", Value::Access(Access::ReadWrite)),
+            ("bss", Value::Access(Access::Bss)),
+            ("zp", Value::Access(Access::ZeroPage)),
+        ],
+        Shape::Role => &[
+            ("export", Value::Role(Role::Export)),
+            ("weak", Value::Role(Role::Weak)),
+            ("import", Value::Role(Role::Import)),
+        ],
+        Shape::Width => &[
+            ("zp", Value::Width),
+            ("zeropage", Value::Width),
+            ("abs", Value::Width),
+            ("absolute", Value::Width),
+        ],
+        Shape::Number(..) | Shape::Byte | Shape::Sum | Shape::Area | Shape::File => &[],
     }
-}
-
-fn segment_attribute(text: &[u8]) -> Option<Attribute>
-    ensures { result ≡ segment_attribute text.now }
-{
-    if same_word(text, "load") {
-        Some(Attribute::Load)
-    } else if same_word(text, "run") {
-        Some(Attribute::Run)
-    } else if same_word(text, "type") {
-        Some(Attribute::Type)
-    } else if same_word(text, "align") {
-        Some(Attribute::Align)
-    } else if same_word(text, "align_load") {
-        Some(Attribute::AlignLoad)
-    } else if same_word(text, "start") {
-        Some(Attribute::Start)
-    } else if same_word(text, "offset") {
-        Some(Attribute::Offset)
-    } else if same_word(text, "fillval") {
-        Some(Attribute::FillValue)
-    } else if same_word(text, "define") {
-        Some(Attribute::Define)
-    } else if same_word(text, "optional") {
-        Some(Attribute::Optional)
-    } else {
-        None
-    }
-}
-
-fn symbol_attribute(text: &[u8]) -> Option<Attribute>
-    ensures { result ≡ symbol_attribute text.now }
-{
-    if same_word(text, "type") {
-        Some(Attribute::Type)
-    } else if same_word(text, "value") {
-        Some(Attribute::Value)
-    } else if same_word(text, "addrsize") {
-        Some(Attribute::AddressSize)
-    } else {
-        None
-    }
-}
-
-fn type_shape(block: Block) -> Shape
-    ensures { result ≡ type_shape block }
-{
-    match block {
-        Block::Memory => Shape::AreaAccess,
-        Block::Segments => Shape::RowAccess,
-        Block::Symbols => Shape::Role,
-    }
-}
-
-fn extent_shape(block: Block) -> Shape
-    ensures { result ≡ extent_shape block }
-{
-    match block {
-        Block::Memory => Shape::Sum,
-        Block::Segments | Block::Symbols => Shape::Number(0, 0xffff_ffff),
-    }
-}
-
-/// What an attribute of a block takes.
-pub fn shape_of(block: Block, attribute: Attribute) -> Shape
-    ensures { result ≡ shape_of block attribute }
-{
-    match attribute {
-        Attribute::Type => type_shape(block),
-        Attribute::Start | Attribute::Size => extent_shape(block),
-        Attribute::Offset | Attribute::Value => Shape::Number(0, 0xffff_ffff),
-        Attribute::FillValue => Shape::Byte,
-        Attribute::Align | Attribute::AlignLoad => Shape::Number(1, 65536),
-        Attribute::Fill | Attribute::Define | Attribute::Optional => Shape::Flag,
-        Attribute::Load | Attribute::Run => Shape::Area,
-        Attribute::File => Shape::File,
-        Attribute::AddressSize => Shape::Width,
-    }
-}
-
-pub fn area_access_of(text: &[u8]) -> Option<Access>
-    ensures { result ≡ area_access_of text.now }
-{
-    if same_word(text, "ro") {
-        Some(Access::ReadOnly)
-    } else if same_word(text, "rw") {
-        Some(Access::ReadWrite)
-    } else {
-        None
-    }
-}
-
-pub fn row_access_of(text: &[u8]) -> Option<Access>
-    ensures { result ≡ row_access_of text.now }
-{
-    if same_word(text, "ro") {
-        Some(Access::ReadOnly)
-    } else if same_word(text, "rw") {
-        Some(Access::ReadWrite)
-    } else if same_word(text, "bss") {
-        Some(Access::Bss)
-    } else if same_word(text, "zp") {
-        Some(Access::ZeroPage)
-    } else {
-        None
-    }
-}
-
-pub fn flag_of(text: &[u8]) -> Option<bool>
-    ensures { result ≡ flag_of text.now }
-{
-    if same_word(text, "yes") {
-        Some(true)
-    } else if same_word(text, "no") {
-        Some(false)
-    } else {
-        None
-    }
-}
-
-pub fn role_of(text: &[u8]) -> Option<Role>
-    ensures { result ≡ role_of text.now }
-{
-    if same_word(text, "export") {
-        Some(Role::Export)
-    } else if same_word(text, "weak") {
-        Some(Role::Weak)
-    } else if same_word(text, "import") {
-        Some(Role::Import)
-    } else {
-        None
-    }
-}
-
-/// Whether a text names a size of addresses.
-pub fn is_width(text: &[u8]) -> bool
-    ensures { result ≡ is_width text.now }
-{
-    same_word(text, "zp")
-        || same_word(text, "zeropage")
-        || same_word(text, "abs")
-        || same_word(text, "absolute")
 }

@@ -1,6 +1,6 @@
 use Rattle.std.specs.Bool.{one_answer}
 use Rattle.std.proofs.lemmas.Slice.Eq.{bytes_eq-Decides}
-use Rattle.script65.specs.Tokens.{same_word}
+use Rattle.script65.specs.Words.{same_word}
 use Rattle.script65.proofs.reading.words.same_word.Goals as goal
 
 pub returns : goal.returns

@@ -1,7 +1,7 @@
 use Rattle.std.proofs.Common.{sym}
 use Rattle.std.proofs.lemmas.Str.{is_utf8-from_IsUtf8}
-use Rattle.script65.proofs.Digits.{not_utf8}
-use Rattle.script65.proofs.reading.tokens.is_utf8.Goals as goal
+use Rattle.base65.proofs.Texts.{not_utf8}
+use Rattle.base65.proofs.text.is_utf8.Goals as goal
 
 pub returns-in-Ok : goal.returns-in-Ok
 returns-in-Ok c = sym (is_utf8-from_IsUtf8 c.args.bytes.now c.in-Ok.ensures.cases.1)

@@ -1,7 +1,7 @@
 use Rattle.std.proofs.Common.{arith, sym, ap}
 use Rattle.std.specs.Char.{digit_value}
-use Rattle.script65.proofs.Digits.{stops, ends}
-use Rattle.script65.proofs.reading.tokens.digits.Goals as goal
+use Rattle.base65.proofs.Digit.{stops, ends}
+use Rattle.base65.proofs.numbers.digits.Goals as goal
 
 pub returns-in_err-checked_mul : goal.returns-in_err-checked_mul
 returns-in_err-checked_mul c = rw c.from_residual-in_err-checked_mul.ensures (sym (stops c.args.text.now c.loop-byte.byte-index c.loop-byte.value c.args.radix (omega arith) c.loop-byte.invariant.same (omega arith) (omega (arith, c.in_err-checked_mul.ensures))))

@@ -3,6 +3,8 @@ use Rattle.std.specs.Prelude.{ℕ, List, ◌++◌, Bool, true, false, codes, enc
 use Rattle.std.specs.Str.{is_utf8}
 use Rattle.base65.specs.declared.store.StoreFault.{StoreFault}
 use Rattle.base65.specs.declared.store.StoreFault.TheVariants as store
+use Rattle.object65.specs.declared.fault.ObjectFault.{ObjectFault}
+use Rattle.object65.specs.declared.fault.ObjectFault.TheVariants as object
 use Rattle.library65.specs.declared.fault.LibraryFault.{LibraryFault}
 use Rattle.library65.specs.declared.fault.LibraryFault.TheVariants.{OutOfMemory, NotALibrary, CutShort, BadIndex, NoSuchMember, NotAnObject, IndexDisagrees, FileError, FileNotFound, BadMemberName}
 
@@ -10,6 +12,11 @@ abbrev pub of_store : StoreFault → LibraryFault
 of_store store.OutOfMemory = OutOfMemory
 of_store store.FileNotFound = FileNotFound
 of_store store.FileError = FileError
+
+-- what an object's fault is of a member
+abbrev pub of_object : ObjectFault → LibraryFault
+of_object object.OutOfMemory = OutOfMemory
+of_object _ = NotAnObject
 
 -- memory ran out
 abbrev pub is_memory : LibraryFault → Bool

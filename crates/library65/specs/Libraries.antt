@@ -6,13 +6,12 @@ use Rattle.std.specs.Str.{bytes_eq}
 use Rattle.byteorder.specs.Endian.{little_bytes}
 use Rattle.base65.specs.Outcome.{◌>>=◌}
 use Rattle.object65.specs.declared.fault.ObjectFault.{ObjectFault}
-use Rattle.object65.specs.declared.fault.ObjectFault.TheVariants as object
 use Rattle.object65.specs.declared.object.Object.{Object}
 use Rattle.object65.specs.Reading.{file_limit, object_at}
 use Rattle.library65.specs.declared.contents.Contents.{Contents}
 use Rattle.library65.specs.declared.index.Entry.{Entry}
 use Rattle.library65.specs.declared.fault.LibraryFault.{LibraryFault}
-use Rattle.library65.specs.declared.fault.LibraryFault.TheVariants.{BadIndex, BadMemberName, CutShort, IndexDisagrees, NoSuchMember, NotAnObject, OutOfMemory}
+use Rattle.library65.specs.declared.fault.LibraryFault.TheVariants.{BadIndex, BadMemberName, CutShort, IndexDisagrees, NoSuchMember, NotAnObject}
 use Rattle.library65.specs.Spelling.{is_among, is_member_name, are_member_names, Member, library_head, listing_bytes, AreSymbols}
 use Rattle.library65.specs.Reading.{index_at}
 use Rattle.std.specs.Global.{Vec}
@@ -44,11 +43,6 @@ bytes_of (m ∷ ms) name = if bytes_eq name m.0 then Some m.1 else bytes_of ms n
 abbrev pub as_member : Result Object ObjectFault → Result Object LibraryFault
 as_member (Ok o) = Ok o
 as_member (Err e) = Err NotAnObject
-
--- what an object's fault is of a member
-abbrev pub member_fault : ObjectFault → LibraryFault
-member_fault object.OutOfMemory = OutOfMemory
-member_fault _ = NotAnObject
 
 -- the object that the bytes are
 abbrev pub object_in : List ℕ → Result Object LibraryFault

@@ -4,7 +4,7 @@ ghost use Rattle.std.specs.Prelude.{◌≡◌, Ok, IfOk, map, true, ◌≤◌, l
 ghost use Rattle.base65.specs.Outcome.{Gives};
 ghost use Rattle.object65.specs.Objects.{is_good_object};
 ghost use Rattle.library65.specs.Fault.{is_memory};
-ghost use Rattle.library65.specs.Libraries.{agrees, are_same, checked, contents_in, member_fault, object_in, contents_from};
+ghost use Rattle.library65.specs.Libraries.{agrees, are_same, checked, contents_from};
 ghost use Rattle.library65.specs.Spelling.{AreSymbols};
 ghost use Rattle.object65.specs.Record.{is_memory as is_object_memory, is_version};
 ghost use Rattle.object65.specs.Items.{with_item};
@@ -26,30 +26,8 @@ pub struct Contents {
     pub imports: Sequence<Sequence<u8>>,
 }
 
-/// What an object's fault is of a member.
-fn member_fault(fault: ObjectFault) -> LibraryFault
-    ensures { result ≡ member_fault fault }
-{
-    match fault {
-        ObjectFault::OutOfMemory => LibraryFault::OutOfMemory,
-        _ => LibraryFault::NotAnObject,
-    }
-}
-
-/// What the object that the bytes are exports and imports.
-#[tactic(auto, unfolding(crate::specs::Libraries::contents_in))]
-fn contents_of(alloc: Global, space: &mut Record, bytes: &[u8]) -> Result<Contents, LibraryFault>
-    ensures contents { Gives is_memory (λ c. c) result (contents_in bytes.now) }
-    ensures symbols { IfOk result AreSymbols }
-{
-    match read_contents(alloc, space, bytes) {
-        Ok(contents) => Ok(contents),
-        Err(fault) => Err(member_fault(fault)),
-    }
-}
-
 /// What a member of this name and these bytes exports and imports. The space takes the object's records in turn.
-#[tactic(auto, unfolding(crate::specs::Libraries::checked))]
+#[tactic(auto, unfolding(crate::specs::Libraries::checked, crate::specs::Libraries::contents_in))]
 pub fn check_member(
     alloc: Global,
     space: &mut Record,
@@ -62,10 +40,11 @@ pub fn check_member(
     if !is_file_name(name) {
         return Err(LibraryFault::BadMemberName);
     }
-    contents_of(alloc, space, bytes)
+    Ok(read_contents(alloc, space, bytes)?)
 }
 
-fn are_same(names: &[Sequence<u8>], others: &[Sequence<u8>]) -> bool
+/// Whether these are the same names in the same order.
+pub fn are_same(names: &[Sequence<u8>], others: &[Sequence<u8>]) -> bool
     ensures { result ≡ are_same names.now others.now }
 {
     if names.len() != others.len() {

@@ -4,6 +4,7 @@ ghost use Rattle.std.specs.Prelude.{◌≡◌};
 ghost use Rattle.library65.specs.declared.fault.LibraryFault.TheVariants.{OutOfMemory};
 
 use base65::{Sequence, StoreFault};
+use object65::ObjectFault;
 use std::alloc::{AllocError, AllocFailed};
 use std::error::Error;
 use std::fmt;
@@ -51,6 +52,20 @@ impl From<StoreFault> for LibraryFault {
             StoreFault::OutOfMemory => LibraryFault::OutOfMemory,
             StoreFault::FileNotFound => LibraryFault::FileNotFound,
             StoreFault::FileError => LibraryFault::FileError,
+        }
+    }
+}
+
+impl From<ObjectFault> for LibraryFault {
+    ghost use Rattle.std.specs.Prelude.{◌≡◌};
+    ghost use Rattle.library65.specs.Fault.{of_object};
+
+    ghost from_gives = { λ f e. e ≡ of_object f };
+
+    fn from(fault: ObjectFault) -> LibraryFault {
+        match fault {
+            ObjectFault::OutOfMemory => LibraryFault::OutOfMemory,
+            _ => LibraryFault::NotAnObject,
         }
     }
 }

@@ -11,6 +11,7 @@ mod loading;
 mod selecting;
 mod writing;
 
+pub use contents::are_same;
 pub use fault::LibraryFault;
 pub use index::{Entry, Index, Names};
 pub use indexing::read_index;

@@ -34,6 +34,7 @@ pub struct Stored {
 }
 
 /// A library: its members, each an object in bytes, by name and in order.
+#[derive(Drop)]
 pub struct Library {
     alloc: Global,
     members: IndexMap<Vec<u8>, Stored>,
@@ -57,17 +58,8 @@ impl Model for Library {
     ghost invariant = { λ l. IsSound l.members };
 }
 
-impl Drop for Library {
-    fn drop(self) {
-        let Library {
-            alloc: _,
-            members: _,
-            space: _,
-        } = self;
-    }
-}
-
 /// The names of a library's members, in order.
+#[derive(Drop)]
 pub struct MemberNames<'a> {
     keys: Keys<'a, Vec<u8>, Stored>,
 }
@@ -81,12 +73,6 @@ impl<'a> Model for MemberNames<'a> {
     ghost coded = { coded_list (coded_list coded_ℕ) };
 
     ghost view = { λ n. map (λ k. k.items) n.keys };
-}
-
-impl<'a> Drop for MemberNames<'a> {
-    fn drop(self) {
-        let MemberNames { keys: _ } = self;
-    }
 }
 
 impl<'a> Iterator for MemberNames<'a> {

@@ -78,17 +78,6 @@ pub struct Found {
     pub places: Vec<usize>,
 }
 
-/// No mark for any of so many members.
-fn no_marks(alloc: Global, count: usize) -> Result<Vec<bool>, AllocError>
-    ensures { IfOk result (λ marks. marks.items ≡ replicate count false) }
-{
-    let mut marks = Vec::new(alloc);
-    for _ in 0..count {
-        marks.push(false)?;
-    }
-    Ok(marks)
-}
-
 impl Found {
     /// None of so many members.
     pub fn none(alloc: Global, count: usize) -> Result<Self, AllocError>
@@ -97,7 +86,7 @@ impl Found {
         ensures count { IfOk result (λ f. length f.marks.items ≡ count) }
     {
         Ok(Found {
-            marks: no_marks(alloc, count)?,
+            marks: vec![in alloc; false; count]?,
             places: Vec::new(alloc),
         })
     }

@@ -159,6 +159,13 @@ room_value version files sections imports body r = do
   w ← canonical_open value.2
   Ok (room_behind r (width_len value.0) last.Other, Value value.0 value.1 value.2)
 
+-- the section that a record of a fragment of this kind grows: a literal, a fill or a value
+abbrev pub grow_room : Outline → ℕ → List ℕ → Room → Result (Room × Fragment) ObjectFault
+grow_room o kind body =
+    if kind == 3 then room_literal body
+    else if kind == 4 then room_fill body
+    else room_value o.version (length o.files) (length o.rooms) (length o.imports) body
+
 -- ---- One record.
 
 -- files stand before everything else; a name may be empty

@@ -1,14 +1,14 @@
 //! An object from its records.
 
-ghost use Rattle.std.specs.Prelude.{◌≡◌, ◌≤◌, ◌<◌, ◌+◌, [], Ok, OnOk, length, get_or, map, OnErr, IfOk, Err, true};
+ghost use Rattle.std.specs.Prelude.{◌≡◌, ◌≤◌, ◌<◌, ◌+◌, ◌++◌, ◌∷◌, [], Ok, OnOk, length, get_or, map, OnErr, IfOk, Err, true};
 ghost use Rattle.object65.specs.Record.{Gives, is_memory, entry_of, is_version};
-ghost use Rattle.object65.specs.Items.{closed, grown, with_fragment, with_item, with_piece, section_from, object_from};
+ghost use Rattle.object65.specs.Items.{closed, grown, with_item, with_piece, section_from, object_from};
 ghost use Rattle.object65.specs.Objects.{fragment_len, is_good_object, section_len, section_limit};
 ghost use Rattle.object65.specs.Inner.Sound.{HasPlace, HasRoom, state_of, unmarked};
 ghost use Rattle.std.specs.List.{AllByRecursion};
 ghost use Rattle.object65.specs.Scanning.{start, after, finished};
 
-use crate::filling::width_size;
+use crate::writing::fragment_size;
 use crate::{Assert, Export, Fragment, Item, Object, ObjectFault, Record, Scan, Section};
 use base65::Sequence;
 use std::alloc::Global;
@@ -54,18 +54,11 @@ fn close_literal(alloc: Global, draft: &mut Draft) -> Result<(), ObjectFault>
 }
 
 /// Puts a fragment that is no literal behind the others.
-fn push_fragment(
-    alloc: Global,
-    draft: &mut Draft,
-    len: u32,
-    fragment: Fragment,
-) -> Result<(), ObjectFault>
-    requires { draft.old.filled + len ≤ draft.old.size }
-    ensures pushed { Gives is_memory (λ _. draft.new) result (Ok (with_fragment draft.old len fragment)) }
+fn push_fragment(alloc: Global, draft: &mut Draft, fragment: Fragment) -> Result<(), ObjectFault>
+    ensures pushed { Gives is_memory (λ _. draft.new) result (Ok (record draft.old { fragments = closed draft.old ++ fragment ∷ []; literal = [] })) }
 {
     close_literal(alloc, draft)?;
     draft.fragments.push(fragment)?;
-    draft.filled += len;
     Ok(())
 }
 
@@ -74,28 +67,11 @@ fn grow(alloc: Global, draft: &mut Draft, fragment: Fragment) -> Result<(), Obje
     requires { draft.old.filled + fragment_len fragment ≤ draft.old.size }
     ensures { Gives is_memory (λ _. draft.new) result (Ok (grown draft.old fragment)) }
 {
-    match fragment {
-        Fragment::Literal(bytes) => {
-            draft.literal.extend_from_slice(bytes.as_slice())?;
-            draft.filled += bytes.len() as u32;
-            Ok(())
-        }
-        Fragment::Fill(count) => push_fragment(alloc, draft, count, Fragment::Fill(count)),
-        Fragment::Value {
-            width,
-            origin,
-            form,
-        } => push_fragment(
-            alloc,
-            draft,
-            width_size(width),
-            Fragment::Value {
-                width,
-                origin,
-                form,
-            },
-        ),
+    draft.filled += fragment_size(&fragment) as u32;
+    if let Fragment::Literal(bytes) = &fragment {
+        return Ok(draft.literal.extend_from_slice(bytes.as_slice())?);
     }
+    push_fragment(alloc, draft, fragment)
 }
 
 /// Adds a fragment to the section at a place.
@@ -148,25 +124,15 @@ pub fn add_item(parts: &mut Parts, item: Item) -> Result<(), ObjectFault>
 }
 
 /// The section, with its last literal in place.
-fn finish_section(draft: Draft) -> Result<Section, ObjectFault>
+fn finish_section(alloc: Global, draft: Draft) -> Result<Section, ObjectFault>
     ensures { Gives is_memory (λ s. s) result (Ok (section_from draft)) }
 {
-    let Draft {
-        name,
-        align,
-        size: _,
-        filled: _,
-        fragments,
-        literal,
-    } = draft;
-    let mut fragments = fragments;
-    if literal.len() > 0 {
-        fragments.push(Fragment::Literal(literal))?;
-    }
+    let mut draft = draft;
+    close_literal(alloc, &mut draft)?;
     Ok(Section {
-        name,
-        align,
-        fragments,
+        name: draft.name,
+        align: draft.align,
+        fragments: draft.fragments,
     })
 }
 
@@ -175,7 +141,7 @@ fn finish_sections(alloc: Global, drafts: Vec<Draft>) -> Result<Vec<Section>, Ob
 {
     let mut sections = Vec::new(alloc);
     for draft in drafts {
-        sections.push(finish_section(draft)?)?;
+        sections.push(finish_section(alloc, draft)?)?;
     }
     Ok(sections)
 }
@@ -262,19 +228,11 @@ impl Builder {
         if self.failed {
             return Err(ObjectFault::FailedBefore);
         }
-        match self.scan.take(next) {
-            Ok(item) => match add_item(&mut self.parts, item) {
-                Ok(()) => Ok(()),
-                Err(e) => {
-                    self.failed = true;
-                    Err(e)
-                }
-            },
-            Err(e) => {
-                self.failed = true;
-                Err(e)
-            }
-        }
+        self.failed = true;
+        let item = self.scan.take(next)?;
+        add_item(&mut self.parts, item)?;
+        self.failed = false;
+        Ok(())
     }
 
     /// Whether the END was taken.

@@ -2,7 +2,7 @@
 
 ghost use Rattle.std.specs.Prelude.{◌≡◌, ◌≤◌, ◌+◌, ◌<◌, ◌^◌, true, false, length, take, IfErr, IfOk};
 ghost use Rattle.object65.specs.Record.{Gives, is_memory, is_outside, entry_of, is_record_kind, is_version};
-ghost use Rattle.object65.specs.Reading.{front_of, head_of, record_at, room, whole};
+ghost use Rattle.object65.specs.Reading.{file_limit, front_of, head_of, record_at, record_in, room, whole};
 ghost use Rattle.object65.specs.Spelling.{body_limit};
 
 use crate::format::{END, FILE, FILE_LIMIT, IMPORT, LARGEST_BODY, MAGIC, VERSION_ONE, VERSION_TWO};
@@ -37,7 +37,7 @@ pub fn is_kind(version: u8, kind: u8) -> bool
 }
 
 /// The kind of the record with which the bytes begin, and the length of its body.
-pub fn decode_front(version: u8, bytes: &[u8]) -> Result<(u8, usize), ObjectFault>
+fn decode_front(version: u8, bytes: &[u8]) -> Result<(u8, usize), ObjectFault>
     ensures read { result ≡ front_of version (take 3 bytes.now) }
     ensures room { IfOk result (λ x. 3 ≤ length bytes.now) }
     ensures len { IfOk result (λ x. x.1 ≤ body_limit) }
@@ -58,7 +58,7 @@ pub fn decode_front(version: u8, bytes: &[u8]) -> Result<(u8, usize), ObjectFaul
 }
 
 /// The body that stands at a place.
-pub fn body_at(bytes: &[u8], at: usize, len: usize) -> Result<&[u8], ObjectFault>
+fn body_at(bytes: &[u8], at: usize, len: usize) -> Result<&[u8], ObjectFault>
     requires { at ≤ length bytes.now }
     ensures read { Gives is_memory (λ body. body.now) result
         (whole len (take len (room bytes.entry.now at (length bytes.entry.now)))) }
@@ -74,7 +74,7 @@ pub fn body_at(bytes: &[u8], at: usize, len: usize) -> Result<&[u8], ObjectFault
 }
 
 /// Puts bytes in place of a body.
-pub fn fill(body: &mut ArrayVec<u8, 4096>, bytes: &[u8])
+fn fill(body: &mut ArrayVec<u8, 4096>, bytes: &[u8])
     requires { length bytes.now ≤ body_limit }
     ensures { body.new.items ≡ bytes.now }
 {
@@ -85,8 +85,26 @@ pub fn fill(body: &mut ArrayVec<u8, 4096>, bytes: &[u8])
     }
 }
 
+/// Decodes the record with which bytes begin that stand at a place of a file, and answers where the next begins.
+#[tactic(auto, unfolding(crate::specs::Reading::record_in))]
+pub fn decode(space: &mut Record, version: u8, bytes: &[u8], at: u64) -> Result<u64, ObjectFault>
+    requires { at + length bytes.now < 2 ^ 64 }
+    ensures read { Gives is_memory (λ n. (entry_of space.new, n)) result (record_in version at bytes.now) }
+    ensures bound { IfOk result (λ n. (n ≡ at + 3 + length space.new.body.items) × (3 + length space.new.body.items ≤ length bytes.now) × (n ≤ file_limit)) }
+    ensures plain { IfErr result (λ e. is_outside e ≡ false) }
+{
+    let (kind, len) = decode_front(version, bytes)?;
+    let body = body_at(bytes, 3, len)?;
+    let next = at + 3 + len as u64;
+    if next > FILE_LIMIT {
+        return Err(ObjectFault::BadSize);
+    }
+    space.kind = kind;
+    fill(&mut space.body, body);
+    Ok(next)
+}
+
 /// Decodes the record of an object of this version at a place into the space, and answers where the next begins.
-#[tactic(auto, unfolding(crate::specs::Reading::record_at))]
 pub fn decode_record(
     space: &mut Record,
     version: u8,
@@ -100,13 +118,6 @@ pub fn decode_record(
         (n ≡ at + 3 + length space.new.body.items) × (n ≤ length bytes.now)) }
     ensures plain { IfErr result (λ e. is_outside e ≡ false) }
 {
-    let (kind, len) = decode_front(version, &bytes[at..])?;
-    let body = body_at(bytes, at + 3, len)?;
-    let next = at + 3 + len;
-    if next as u64 > FILE_LIMIT {
-        return Err(ObjectFault::BadSize);
-    }
-    space.kind = kind;
-    fill(&mut space.body, body);
-    Ok(next)
+    let next = decode(space, version, &bytes[at..], at as u64)?;
+    Ok(next as usize)
 }

@@ -4,7 +4,7 @@ ghost use Rattle.std.specs.Prelude.{◌≡◌, ◌≤◌, ◌+◌, ◌%◌, leng
 ghost use Rattle.object65.specs.Bodies.{fill_of, value_of, width_of};
 ghost use Rattle.object65.specs.Record.{Gives, is_memory};
 ghost use Rattle.object65.specs.Objects.{has_file, width_len};
-ghost use Rattle.object65.specs.Scanning.{canonical, canonical_open, known, known_file, known_parts, room_for, room_behind, room_literal, room_fill, room_value};
+ghost use Rattle.object65.specs.Scanning.{canonical, canonical_open, known_file, known_parts, room_for, room_behind, room_literal, room_fill, room_value};
 
 use crate::folding::{are_there, is_folded, is_limited, is_number};
 use crate::format::LARGEST_BODY;
@@ -32,9 +32,9 @@ fn room_behind(room: Room, len: u32, last: Last) -> Room
     ensures { result ≡ room_behind room len last }
 {
     Room {
-        size: room.size,
         filled: room.filled + len,
         last,
+        ..room
     }
 }
 
@@ -49,23 +49,14 @@ fn check_file(origin: Origin, files: usize) -> Result<(), ObjectFault>
     check(is_there, ObjectFault::IndexOutOfRange)
 }
 
-/// Refuses a form whose sections or imports aren't there.
-fn check_places(form: &Norm, sections: usize, imports: usize) -> Result<(), ObjectFault>
-    ensures { result ≡ known sections imports form.now }
-{
-    check(
-        are_there(form, sections, imports),
-        ObjectFault::IndexOutOfRange,
-    )
-}
-
 /// Refuses a part that names what isn't there in the object of which this is kept.
 #[tactic(auto, unfolding(crate::specs::Scanning::known_parts))]
 pub fn check_parts(kept: &Kept, origin: Origin, form: &Norm) -> Result<(), ObjectFault>
     ensures { result ≡ known_parts (length kept.now.files.keys) (length kept.now.rooms.items) (length kept.now.imports.keys) origin form.now }
 {
     check_file(origin, kept.files.len())?;
-    check_places(form, kept.rooms.len(), kept.imports.len())
+    let is_there = are_there(form, kept.rooms.len(), kept.imports.len());
+    check(is_there, ObjectFault::IndexOutOfRange)
 }
 
 /// Refuses a form that can be folded or is too large.
@@ -82,10 +73,8 @@ pub fn check_form(form: &Norm) -> Result<(), ObjectFault>
 pub fn check_open_form(form: &Norm) -> Result<(), ObjectFault>
     ensures { result ≡ canonical_open form.now }
 {
-    check(
-        is_folded(form) && is_limited(form) && !is_number(form),
-        ObjectFault::NotCanonical,
-    )
+    check_form(form)?;
+    check(!is_number(form), ObjectFault::NotCanonical)
 }
 
 /// How many bytes the body of a FILL asks for.

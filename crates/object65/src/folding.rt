@@ -3,7 +3,7 @@
 ghost use Rattle.std.specs.Prelude.{◌≡◌, ◌&&◌, not, nat_le};
 ghost use Rattle.object65.specs.declared.folding.FormFault.TheVariants.{OutOfMemory};
 ghost use Rattle.object65.specs.Record.{Gives};
-ghost use Rattle.object65.specs.Folding.{lacks_memory, limited, fold_prefix, fold1, fold_any, fold_sum, fold_difference, fold2, is_within, is_normal, is_literal, folds1, folds2, folds_sum, folds_difference, node_limit};
+ghost use Rattle.object65.specs.Folding.{lacks_memory, limited, fold1, fold_any, fold_sum, fold_difference, fold2, is_within, is_normal, is_literal, folds1, folds2, node_limit};
 ghost use Rattle.object65.specs.Form.{binary, nodes};
 
 use crate::form::{NODE_LIMIT, count};
@@ -42,10 +42,16 @@ impl Norm {
     pub fn prefix(alloc: Global, op: Op1, part: Norm) -> Result<Norm, FormFault>
         ensures { Gives lacks_memory (λ f. f) result (fold1 op part) }
     {
-        match op {
-            Op1::Plus => Ok(part),
-            _ => fold_prefix(alloc, op, part),
+        if let Op1::Plus = op {
+            return Ok(part);
         }
+        if let Node::Lit(value) = part.node() {
+            return Ok(Norm::new(Node::Lit(apply1(op, *value))));
+        }
+        if count(&part) >= NODE_LIMIT {
+            return Err(FormFault::TooLarge);
+        }
+        Ok(Norm::new(Node::Prefix(op, Box::new(alloc, part)?)))
     }
 
     /// The form of an operation on two forms.
@@ -58,19 +64,6 @@ impl Norm {
             _ => fold_any(alloc, op, left, right),
         }
     }
-}
-
-/// A prefix operation that does something.
-fn fold_prefix(alloc: Global, op: Op1, part: Norm) -> Result<Norm, FormFault>
-    ensures { Gives lacks_memory (λ f. f) result (fold_prefix op part) }
-{
-    if let Node::Lit(value) = part.node() {
-        return Ok(Norm::new(Node::Lit(apply1(op, *value))));
-    }
-    if count(&part) >= NODE_LIMIT {
-        return Err(FormFault::TooLarge);
-    }
-    Ok(Norm::new(Node::Prefix(op, Box::new(alloc, part)?)))
 }
 
 /// An operation that only numbers fold.
@@ -160,25 +153,6 @@ fn folds_prefix(op: Op1, part: &Norm) -> bool
     }
 }
 
-fn folds_in_sum(left: &Norm, right: &Norm) -> bool
-    ensures { result ≡ folds_sum left.now right.now }
-{
-    match (left.node(), right.node()) {
-        (Node::Sec(_, _), Node::Lit(_)) | (Node::Lit(_), Node::Sec(_, _)) => true,
-        _ => false,
-    }
-}
-
-fn folds_in_difference(left: &Norm, right: &Norm) -> bool
-    ensures { result ≡ folds_difference left.now right.now }
-{
-    match (left.node(), right.node()) {
-        (Node::Sec(k, _), Node::Sec(m, _)) => *k == *m,
-        (Node::Sec(_, _), Node::Lit(_)) => true,
-        _ => false,
-    }
-}
-
 /// Whether an operation on the two forms would be folded.
 fn folds_binary(op: Op2, left: &Norm, right: &Norm) -> bool
     ensures { result ≡ folds2 op left.now right.now }
@@ -187,8 +161,15 @@ fn folds_binary(op: Op2, left: &Norm, right: &Norm) -> bool
         return true;
     }
     match op {
-        Op2::Add => folds_in_sum(left, right),
-        Op2::Subtract => folds_in_difference(left, right),
+        Op2::Add => matches!(
+            (left.node(), right.node()),
+            (Node::Sec(..), Node::Lit(_)) | (Node::Lit(_), Node::Sec(..))
+        ),
+        Op2::Subtract => match (left.node(), right.node()) {
+            (Node::Sec(k, _), Node::Sec(m, _)) => *k == *m,
+            (Node::Sec(..), Node::Lit(_)) => true,
+            _ => false,
+        },
         _ => false,
     }
 }

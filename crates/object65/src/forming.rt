@@ -2,7 +2,7 @@
 
 ghost use Rattle.std.specs.Prelude.{◌≡◌, ◌≤◌, ◌+◌, length, Ok, IfOk, IfSome, take, drop};
 ghost use Rattle.std.specs.Int.{w64, cast_signed};
-ghost use Rattle.object65.specs.Bodies.{number_at, text_at, counted_at, op1_at, op2_at, lit_at, sec_at, imp_at, prefix_at, binary_at, operation_at, form_of_code, form_at, form_of_all, signed_at, line_at, file_line_at, origin_at};
+ghost use Rattle.object65.specs.Bodies.{number_at, text_at, counted_at, op1_at, op2_at, operation_at, form_of_code, form_at, form_of_all, signed_at, line_at, file_line_at, origin_at};
 ghost use Rattle.object65.specs.Record.{Gives, is_memory};
 
 use crate::{Node, Norm, ObjectFault, Origin};
@@ -88,31 +88,6 @@ pub fn text_of(bytes: &[u8]) -> Result<(&[u8], &[u8]), ObjectFault>
     Ok(rest.split_at(len as usize))
 }
 
-#[tactic(auto, unfolding(crate::specs::Bodies::lit_at))]
-fn read_lit(bytes: &[u8]) -> Result<(Norm, &[u8]), ObjectFault>
-    ensures { Gives is_memory (λ x. (x.0, x.1.now)) result (lit_at bytes.now) }
-{
-    let (value, rest) = i64_at(bytes)?;
-    Ok((Norm::new(Node::Lit(value)), rest))
-}
-
-#[tactic(auto, unfolding(crate::specs::Bodies::sec_at))]
-fn read_sec(bytes: &[u8]) -> Result<(Norm, &[u8]), ObjectFault>
-    ensures { Gives is_memory (λ x. (x.0, x.1.now)) result (sec_at bytes.now) }
-{
-    let (section, rest) = u32_at(bytes)?;
-    let (offset, rest) = i64_at(rest)?;
-    Ok((Norm::new(Node::Sec(section, offset)), rest))
-}
-
-#[tactic(auto, unfolding(crate::specs::Bodies::imp_at))]
-fn read_imp(bytes: &[u8]) -> Result<(Norm, &[u8]), ObjectFault>
-    ensures { Gives is_memory (λ x. (x.0, x.1.now)) result (imp_at bytes.now) }
-{
-    let (place, rest) = u32_at(bytes)?;
-    Ok((Norm::new(Node::Imp(place)), rest))
-}
-
 /// The prefix operator of a code.
 fn prefix_of(code: u8) -> Option<Op1>
     ensures { result ≡ op1_at code }
@@ -156,42 +131,9 @@ fn binary_of(code: u8) -> Option<Op2>
     }
 }
 
-/// A prefix operation whose part begins here.
-#[cycle(form)]
-#[tactic(auto, unfolding(crate::specs::Bodies::prefix_at))]
-fn read_prefix(
-    alloc: Global,
-    op: Op1,
-    bytes: &[u8],
-    depth: usize,
-) -> Result<(Norm, &[u8]), ObjectFault>
-    ensures { Gives is_memory (λ x. (x.0, x.1.now)) result (prefix_at (λ xs. form_at depth xs) op bytes.now) }
-{
-    let (part, rest) = read_form(alloc, bytes, depth)?;
-    let part = Box::new(alloc, part)?;
-    Ok((Norm::new(Node::Prefix(op, part)), rest))
-}
-
-/// An operation whose parts begin here.
-#[cycle(form)]
-#[tactic(auto, unfolding(crate::specs::Bodies::binary_at))]
-fn read_binary(
-    alloc: Global,
-    op: Op2,
-    bytes: &[u8],
-    depth: usize,
-) -> Result<(Norm, &[u8]), ObjectFault>
-    ensures { Gives is_memory (λ x. (x.0, x.1.now)) result (binary_at (λ xs. form_at depth xs) op bytes.now) }
-{
-    let (left, rest) = read_form(alloc, bytes, depth)?;
-    let (right, rest) = read_form(alloc, rest, depth)?;
-    let left = Box::new(alloc, left)?;
-    let right = Box::new(alloc, right)?;
-    Ok((Norm::new(Node::Binary(op, left, right)), rest))
-}
-
 /// The operation of a code, whose parts begin here.
 #[cycle(form)]
+#[tactic(auto, unfolding(crate::specs::Bodies::prefix_at, crate::specs::Bodies::binary_at))]
 fn read_operation(
     alloc: Global,
     code: u8,
@@ -201,16 +143,23 @@ fn read_operation(
     ensures { Gives is_memory (λ x. (x.0, x.1.now)) result (operation_at (λ xs. form_at depth xs) (op1_at code) (op2_at code) bytes.now) }
 {
     if let Some(op) = prefix_of(code) {
-        return read_prefix(alloc, op, bytes, depth);
+        let (part, rest) = read_form(alloc, bytes, depth)?;
+        let part = Box::new(alloc, part)?;
+        return Ok((Norm::new(Node::Prefix(op, part)), rest));
     }
-    match binary_of(code) {
-        Some(op) => read_binary(alloc, op, bytes, depth),
-        None => Err(ObjectFault::BadSize),
-    }
+    let Some(op) = binary_of(code) else {
+        return Err(ObjectFault::BadSize);
+    };
+    let (left, rest) = read_form(alloc, bytes, depth)?;
+    let (right, rest) = read_form(alloc, rest, depth)?;
+    let left = Box::new(alloc, left)?;
+    let right = Box::new(alloc, right)?;
+    Ok((Norm::new(Node::Binary(op, left, right)), rest))
 }
 
 /// The form of a code, behind which these bytes stand.
 #[cycle(form)]
+#[tactic(auto, unfolding(crate::specs::Bodies::lit_at, crate::specs::Bodies::sec_at, crate::specs::Bodies::imp_at))]
 fn read_behind(
     alloc: Global,
     code: u8,
@@ -220,9 +169,19 @@ fn read_behind(
     ensures { Gives is_memory (λ x. (x.0, x.1.now)) result (form_of_code (λ xs. form_at depth xs) code bytes.now) }
 {
     match code {
-        0x00 => read_lit(bytes),
-        0x01 => read_sec(bytes),
-        0x02 => read_imp(bytes),
+        0x00 => {
+            let (value, rest) = i64_at(bytes)?;
+            Ok((Norm::new(Node::Lit(value)), rest))
+        }
+        0x01 => {
+            let (section, rest) = u32_at(bytes)?;
+            let (offset, rest) = i64_at(rest)?;
+            Ok((Norm::new(Node::Sec(section, offset)), rest))
+        }
+        0x02 => {
+            let (place, rest) = u32_at(bytes)?;
+            Ok((Norm::new(Node::Imp(place)), rest))
+        }
         _ => read_operation(alloc, code, bytes, depth),
     }
 }

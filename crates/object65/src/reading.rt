@@ -1,18 +1,17 @@
 //! Reading an object from a file: its head and end, the fronts of its records, and the whole.
 
-ghost use Rattle.std.specs.Prelude.{◌≡◌, ◌≤◌, ◌+◌, ◌-◌, true, length, IfOk, IfSome, take};
+ghost use Rattle.std.specs.Prelude.{◌≡◌, ◌≤◌, ◌+◌, ◌-◌, true, length, IfOk, IfSome};
 ghost use Rattle.std.specs.FinMap as map;
 ghost use Rattle.base65.specs.Store.{Asks};
 ghost use Rattle.base65.specs.StoreFaults.{is_outside_store};
 ghost use Rattle.object65.specs.Record.{Gives, is_outside, is_version};
-ghost use Rattle.object65.specs.Reading.{Leaves, in_file, head_at, end_at, room, IsRoomRead, front_of, records_at, object_at};
-ghost use Rattle.object65.specs.Spelling.{body_limit};
+ghost use Rattle.object65.specs.Reading.{Leaves, in_file, head_at, end_at, IsRoomRead, records_at, object_at};
 ghost use Rattle.std.specs.List.{AllByRecursion};
 ghost use Rattle.object65.specs.Objects.{is_good_object, section_len, section_limit};
 ghost use Rattle.object65.specs.Scanning.{start};
 ghost use Rattle.object65.specs.declared.fault.ObjectFault.TheVariants.{FileError};
 
-use crate::decoding::{decode_front, decode_head};
+use crate::decoding::decode_head;
 use crate::{Builder, Object, ObjectFault, RecordReader};
 use base65::{Store, StoreFault, read_full};
 use std::alloc::Global;
@@ -56,25 +55,6 @@ pub fn read_head<S: Store>(
     let mut head = [0u8; 5];
     let n = read_room(store, name, at, limit, &mut head)?;
     decode_head(&head[..n], at)
-}
-
-/// Reads the front of a record: its kind and the length of its body.
-pub fn read_front<S: Store>(
-    store: &mut S,
-    name: &str,
-    version: u8,
-    at: u64,
-    limit: u64,
-) -> Result<(u8, usize), ObjectFault>
-    ensures read { IfSome (S.files store.old) (λ m. Gives is_outside (λ x. x) result (in_file (map.get m name.now) (λ bytes. front_of version (take 3 (room bytes at limit))))) }
-    ensures kept { Leaves S.files S.failures S.blamed FileError name.now store.old store.new result }
-    ensures asked { Asks is_outside (S.failures store.old) result }
-    ensures room { IfOk result (λ x. 3 ≤ limit - at) }
-    ensures len { IfOk result (λ x. x.1 ≤ body_limit) }
-{
-    let mut front = [0u8; 3];
-    let n = read_room(store, name, at, limit, &mut front)?;
-    decode_front(version, &front[..n])
 }
 
 /// Refuses bytes behind an object.

@@ -7,8 +7,8 @@ ghost use Rattle.object65.specs.Record.{Gives, is_memory, is_outside, entry_of};
 ghost use Rattle.object65.specs.Reading.{Leaves, IsAhead, from_place, has_record, record_in, in_file, record_at, room, file_limit};
 ghost use Rattle.object65.specs.declared.fault.ObjectFault.TheVariants.{FileError};
 
-use crate::decoding::{body_at, decode_front, fill};
-use crate::format::{FILE_LIMIT, LARGEST_BODY};
+use crate::decoding::decode;
+use crate::format::LARGEST_BODY;
 use crate::reading::read_room;
 use crate::{ObjectFault, Record};
 use arrayvec::ArrayVec;
@@ -48,10 +48,7 @@ impl Model for RecordReader {
 fn front(buffer: &[u8], held: usize) -> &[u8]
     ensures { result.now ≡ take held buffer.now }
 {
-    match buffer.get(..held) {
-        Some(front) => front,
-        None => buffer,
-    }
+    buffer.get(..held).unwrap_or(buffer)
 }
 
 /// Those of the bytes, of which the first stands at a place of a file, that stand at another place and behind it.
@@ -61,10 +58,7 @@ fn from_place(bytes: &[u8], begin: u64, at: u64) -> &[u8]
     if at < begin {
         return &[];
     }
-    match bytes.get((at - begin) as usize..) {
-        Some(rest) => rest,
-        None => &[],
-    }
+    bytes.get((at - begin) as usize..).unwrap_or(&[])
 }
 
 /// Whether bytes begin with a whole record.
@@ -72,25 +66,6 @@ fn has_record(bytes: &[u8]) -> bool
     ensures { result ≡ has_record bytes.now }
 {
     bytes.len() >= 3 && 3 + LittleEndian::read_u16(&bytes[1..3]) as usize <= bytes.len()
-}
-
-/// Decodes the record with which bytes begin that stand at a place of a file, and answers where the next begins.
-#[tactic(auto, unfolding(crate::specs::Reading::record_in))]
-fn decode(space: &mut Record, version: u8, bytes: &[u8], at: u64) -> Result<u64, ObjectFault>
-    requires { at + length bytes.now < 2 ^ 64 }
-    ensures read { Gives is_memory (λ n. (entry_of space.new, n)) result (record_in version at bytes.now) }
-    ensures bound { IfOk result (λ n. (n ≡ at + 3 + length space.new.body.items) × (3 + length space.new.body.items ≤ length bytes.now) × (n ≤ file_limit)) }
-    ensures plain { IfErr result (λ e. is_outside e ≡ false) }
-{
-    let (kind, len) = decode_front(version, bytes)?;
-    let body = body_at(bytes, 3, len)?;
-    let next = at + 3 + len as u64;
-    if next > FILE_LIMIT {
-        return Err(ObjectFault::BadSize);
-    }
-    space.kind = kind;
-    fill(&mut space.body, body);
-    Ok(next)
 }
 
 impl RecordReader {

@@ -8,7 +8,7 @@ ghost use Rattle.object65.specs.Items.{has_small_text, with_item};
 ghost use Rattle.object65.specs.Objects.{file_name_limit};
 ghost use Rattle.object65.specs.Small.{is_small_text};
 ghost use Rattle.object65.specs.Scanning.{scan_file, scan_import, scan_export, scan_assert, IsWithin, outline_of, scan_end, scanned, State, after, start};
-ghost use Rattle.object65.specs.Inner.Sound.{outline_in, IsSound};
+ghost use Rattle.object65.specs.Inner.Sound.{outline_in, IsSound, Takes};
 
 use crate::filling::{check_form, check_open_form, check_parts};
 use crate::forming::{byte_at, form_of, origin_at, text_of};
@@ -68,9 +68,7 @@ pub struct Kept {
 pub fn take_file(kept: &mut Kept, body: &[u8]) -> Result<Item, ObjectFault>
     requires sound { IsSound kept.old }
     requires short { length body.now ≤ file_name_limit }
-    ensures taken { Gives is_memory (λ i. (outline_in kept.new, i)) result (scan_file (outline_in kept.old) body.now) }
-    ensures small { IfOk result (λ i. has_small_text i ≡ true) }
-    ensures sound { OnOk result (IsSound kept.new) }
+    ensures { Takes kept.old kept.new result (scan_file (outline_in kept.old) body.now) }
 {
     check(
         kept.imports.len() == 0
@@ -89,9 +87,7 @@ pub fn take_file(kept: &mut Kept, body: &[u8]) -> Result<Item, ObjectFault>
 #[tactic(auto, unfolding(crate::specs::Scanning::scan_import))]
 pub fn take_import(kept: &mut Kept, body: &[u8]) -> Result<Item, ObjectFault>
     requires { IsSound kept.old }
-    ensures taken { Gives is_memory (λ i. (outline_in kept.new, i)) result (scan_import (outline_in kept.old) body.now) }
-    ensures small { IfOk result (λ i. has_small_text i ≡ true) }
-    ensures sound { OnOk result (IsSound kept.new) }
+    ensures { Takes kept.old kept.new result (scan_import (outline_in kept.old) body.now) }
 {
     check(
         kept.rooms.len() == 0 && kept.exports.len() == 0 && !kept.asserting,
@@ -119,9 +115,7 @@ fn read_export(alloc: Global, version: u8, body: &[u8]) -> Result<Export, Object
 #[tactic(auto, unfolding(crate::specs::Scanning::scan_export))]
 pub fn take_export(kept: &mut Kept, body: &[u8]) -> Result<Item, ObjectFault>
     requires { IsSound kept.old }
-    ensures taken { Gives is_memory (λ i. (outline_in kept.new, i)) result (scan_export (outline_in kept.old) body.now) }
-    ensures small { IfOk result (λ i. has_small_text i ≡ true) }
-    ensures sound { OnOk result (IsSound kept.new) }
+    ensures { Takes kept.old kept.new result (scan_export (outline_in kept.old) body.now) }
 {
     let full = all_full(kept);
     check(full && !kept.asserting, ObjectFault::OutOfOrder)?;
@@ -168,9 +162,7 @@ fn read_assert(alloc: Global, version: u8, body: &[u8]) -> Result<Assert, Object
 #[tactic(auto, unfolding(crate::specs::Scanning::scan_assert))]
 pub fn take_assert(kept: &mut Kept, body: &[u8]) -> Result<Item, ObjectFault>
     requires { IsSound kept.old }
-    ensures taken { Gives is_memory (λ i. (outline_in kept.new, i)) result (scan_assert (outline_in kept.old) body.now) }
-    ensures small { IfOk result (λ i. has_small_text i ≡ true) }
-    ensures sound { OnOk result (IsSound kept.new) }
+    ensures { Takes kept.old kept.new result (scan_assert (outline_in kept.old) body.now) }
 {
     check(all_full(kept), ObjectFault::OutOfOrder)?;
     let Assert {
@@ -262,17 +254,13 @@ impl Scan {
         if self.failed {
             return Err(ObjectFault::FailedBefore);
         }
+        self.failed = true;
         if self.kept.ended {
-            self.failed = true;
             return Err(ObjectFault::OutOfOrder);
         }
-        match take_record(&mut self.kept, next) {
-            Ok(item) => Ok(item),
-            Err(e) => {
-                self.failed = true;
-                Err(e)
-            }
-        }
+        let item = take_record(&mut self.kept, next)?;
+        self.failed = false;
+        Ok(item)
     }
 
     /// Whether the END was taken.

@@ -2,21 +2,20 @@
 
 ghost use Rattle.std.specs.Prelude.{◌≡◌, ◌≤◌, ◌<◌, ◌+◌, ◌++◌, ◌∷◌, [], ◌&&◌, ◌-◌, ◌%◌, not, length, nat_le, nat_lt, take, get_or, slice_get, slice_set, IfOk, IfErr, OnOk, Result, Ok, Err, true, false, map};
 ghost use Rattle.std.specs.List.{list_all, prefix_len};
-ghost use Rattle.std.specs.Str.{is_utf8};
 ghost use Rattle.object65.specs.Bodies.{section_of};
 ghost use Rattle.object65.specs.Record.{Gives, is_memory, entry_of};
 ghost use Rattle.object65.specs.Items.{has_small_text, is_none};
 ghost use Rattle.object65.specs.Objects.{is_name, is_printed, is_among};
-ghost use Rattle.object65.specs.Inner.Sound.{outline_in, IsSound};
+ghost use Rattle.object65.specs.Inner.Sound.{outline_in, IsSound, Takes};
 ghost use Rattle.object65.specs.declared.scan.Room.{Room};
-ghost use Rattle.object65.specs.Scanning.{is_filled, open_room, empty_room, new_file, new_name, room_literal, room_fill, room_value, scan_section, scan_part, scan_last, scan_entry, heading, wants};
+ghost use Rattle.object65.specs.Scanning.{is_filled, open_room, empty_room, grow_room, new_file, new_name, scan_section, scan_part, scan_last, scan_entry, heading, wants};
 
 use crate::decoding::is_kind;
 use crate::filling::{room_with_fill, room_with_literal, room_with_value};
 use crate::format::{ASSERT, EXPORT, FILE, FILL, IMPORT, LITERAL, SECTION, SECTION_LIMIT, VALUE};
 use crate::scan::{Kept, Last, Room, take_assert, take_export, take_file, take_import};
-use crate::{Item, ObjectFault, Record};
-use base65::Sequence;
+use crate::{Fragment, Item, ObjectFault, Record};
+use base65::{Sequence, is_utf8};
 use byteorder::{ByteOrder, LittleEndian};
 use indexmap::IndexSet;
 use std::alloc::Global;
@@ -42,15 +41,6 @@ fn is_good_name(name: &[u8]) -> bool
     !name.is_empty() && name.len() < 256 && is_printed_name(name)
 }
 
-fn is_text(bytes: &[u8]) -> bool
-    ensures { result ≡ is_utf8 bytes.now }
-{
-    match std::str::from_utf8(bytes) {
-        Ok(_) => true,
-        Err(_) => false,
-    }
-}
-
 fn has_name(names: &IndexSet<Vec<u8>>, name: &[u8]) -> bool
     ensures { result ≡ is_among (map (λ n. n.items) names.now.keys) name.now }
 {
@@ -72,7 +62,7 @@ pub fn check_file_name(names: &IndexSet<Vec<u8>>, name: &[u8]) -> Result<(), Obj
     ensures { result ≡ new_file (map (λ n. n.items) names.now.keys) name.now }
 {
     check(
-        is_text(name) && !has_name(names, name),
+        is_utf8(name) && !has_name(names, name),
         ObjectFault::NotCanonical,
     )
 }
@@ -151,44 +141,30 @@ fn put_room(kept: &mut Kept, at: usize, room: Room)
     kept.begun = true;
 }
 
-/// Takes a LITERAL.
-#[tactic(auto, unfolding(crate::specs::Scanning::scan_part))]
-fn take_literal(kept: &mut Kept, body: &[u8]) -> Result<Item, ObjectFault>
-    requires { IsSound kept.old }
-    ensures taken { Gives is_memory (λ i. (outline_in kept.new, i)) result (scan_part (outline_in kept.old) (room_literal body.now)) }
-    ensures small { IfOk result (λ i. has_small_text i ≡ true) }
-    ensures sound { OnOk result (IsSound kept.new) }
+/// Grows a section by a record of a fragment of this kind.
+fn grow_room(
+    kept: &Kept,
+    kind: u8,
+    room: Room,
+    body: &[u8],
+) -> Result<(Room, Fragment), ObjectFault>
+    ensures { Gives is_memory (λ x. x) result (grow_room (outline_in kept.now) kind body.now room) }
 {
-    let (at, room) = next_room(kept)?;
-    let (grown, fragment) = room_with_literal(kept.alloc, room, body)?;
-    put_room(kept, at, grown);
-    Ok(Item::Part(at, room.filled, fragment))
+    match kind {
+        LITERAL => room_with_literal(kept.alloc, room, body),
+        FILL => room_with_fill(room, body),
+        _ => room_with_value(kept, room, body),
+    }
 }
 
-/// Takes a FILL.
+/// Takes a LITERAL, a FILL or a VALUE.
 #[tactic(auto, unfolding(crate::specs::Scanning::scan_part))]
-fn take_fill(kept: &mut Kept, body: &[u8]) -> Result<Item, ObjectFault>
+fn take_part(kept: &mut Kept, kind: u8, body: &[u8]) -> Result<Item, ObjectFault>
     requires { IsSound kept.old }
-    ensures taken { Gives is_memory (λ i. (outline_in kept.new, i)) result (scan_part (outline_in kept.old) (room_fill body.now)) }
-    ensures small { IfOk result (λ i. has_small_text i ≡ true) }
-    ensures sound { OnOk result (IsSound kept.new) }
+    ensures { Takes kept.old kept.new result (scan_part (outline_in kept.old) (grow_room (outline_in kept.old) kind body.now)) }
 {
     let (at, room) = next_room(kept)?;
-    let (grown, fragment) = room_with_fill(room, body)?;
-    put_room(kept, at, grown);
-    Ok(Item::Part(at, room.filled, fragment))
-}
-
-/// Takes a VALUE.
-#[tactic(auto, unfolding(crate::specs::Scanning::scan_part))]
-fn take_value(kept: &mut Kept, body: &[u8]) -> Result<Item, ObjectFault>
-    requires { IsSound kept.old }
-    ensures taken { Gives is_memory (λ i. (outline_in kept.new, i)) result (scan_part (outline_in kept.old) (room_value kept.old.version (length (map (λ n. n.items) kept.old.files.keys)) (length kept.old.rooms.items) (length (map (λ n. n.items) kept.old.imports.keys)) body.now)) }
-    ensures small { IfOk result (λ i. has_small_text i ≡ true) }
-    ensures sound { OnOk result (IsSound kept.new) }
-{
-    let (at, room) = next_room(kept)?;
-    let (grown, fragment) = room_with_value(kept, room, body)?;
+    let (grown, fragment) = grow_room(kept, kind, room, body)?;
     put_room(kept, at, grown);
     Ok(Item::Part(at, room.filled, fragment))
 }
@@ -239,9 +215,7 @@ fn add_room(kept: &mut Kept, name: &[u8], size: u32) -> Result<(), ObjectFault>
 #[tactic(auto, unfolding(crate::specs::Scanning::scan_section))]
 fn take_section(kept: &mut Kept, body: &[u8]) -> Result<Item, ObjectFault>
     requires { IsSound kept.old }
-    ensures taken { Gives is_memory (λ i. (outline_in kept.new, i)) result (scan_section (outline_in kept.old) body.now) }
-    ensures small { IfOk result (λ i. has_small_text i ≡ true) }
-    ensures sound { OnOk result (IsSound kept.new) }
+    ensures { Takes kept.old kept.new result (scan_section (outline_in kept.old) body.now) }
 {
     check(
         !kept.begun && kept.exports.len() == 0 && !kept.asserting,
@@ -258,9 +232,7 @@ fn take_section(kept: &mut Kept, body: &[u8]) -> Result<Item, ObjectFault>
 #[tactic(auto, unfolding(crate::specs::Scanning::scan_last))]
 fn take_end(kept: &mut Kept, body: &[u8]) -> Result<Item, ObjectFault>
     requires { IsSound kept.old }
-    ensures taken { Gives is_memory (λ i. (outline_in kept.new, i)) result (scan_last (outline_in kept.old) body.now) }
-    ensures small { IfOk result (λ i. has_small_text i ≡ true) }
-    ensures sound { OnOk result (IsSound kept.new) }
+    ensures { Takes kept.old kept.new result (scan_last (outline_in kept.old) body.now) }
 {
     check(all_full(kept), ObjectFault::OutOfOrder)?;
     check(body.is_empty(), ObjectFault::BadSize)?;
@@ -272,9 +244,7 @@ fn take_end(kept: &mut Kept, body: &[u8]) -> Result<Item, ObjectFault>
 #[tactic(auto, unfolding(crate::specs::Scanning::scan_entry))]
 pub fn take_record(kept: &mut Kept, next: &Record) -> Result<Item, ObjectFault>
     requires { IsSound kept.old }
-    ensures taken { Gives is_memory (λ i. (outline_in kept.new, i)) result (scan_entry (outline_in kept.old) (entry_of next.now)) }
-    ensures small { IfOk result (λ i. has_small_text i ≡ true) }
-    ensures sound { OnOk result (IsSound kept.new) }
+    ensures { Takes kept.old kept.new result (scan_entry (outline_in kept.old) (entry_of next.now)) }
 {
     if !is_kind(kept.version, next.kind) {
         return Err(ObjectFault::OutOfOrder);
@@ -283,9 +253,7 @@ pub fn take_record(kept: &mut Kept, next: &Record) -> Result<Item, ObjectFault>
     match next.kind {
         IMPORT => take_import(kept, body),
         SECTION => take_section(kept, body),
-        LITERAL => take_literal(kept, body),
-        FILL => take_fill(kept, body),
-        VALUE => take_value(kept, body),
+        LITERAL | FILL | VALUE => take_part(kept, next.kind, body),
         EXPORT => take_export(kept, body),
         ASSERT => take_assert(kept, body),
         FILE => take_file(kept, body),

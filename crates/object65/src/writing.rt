@@ -10,6 +10,7 @@ ghost use Rattle.object65.specs.Operators.{number2};
 ghost use Rattle.object65.specs.Small.{is_small_text, is_small_form, is_small_fragment, is_small_section, is_small_export, is_small_assert};
 ghost use Rattle.object65.specs.Spelling.{code1, form_bytes, width_code, action_code, body_limit, entry_bytes, literal_entries, fragment_entries, fill_entry, value_entry, origin_bytes, file_entry, import_entry, section_entry, export_entry, assert_entry, entries_of, object_bytes};
 
+use crate::filling::width_size;
 use crate::format::{
     ASSERT, END, EXPORT, FILE, FILL, IMPORT, LARGEST_BODY, LITERAL, MAGIC, SECTION, VALUE,
 };
@@ -63,12 +64,7 @@ fn prefix_code(op: Op1) -> Option<u8>
 {
     match op {
         Op1::Plus => None,
-        Op1::Negate => Some(0x10),
-        Op1::BitNot => Some(0x11),
-        Op1::LowByte => Some(0x12),
-        Op1::HighByte => Some(0x13),
-        Op1::BankByte => Some(0x14),
-        Op1::Not => Some(0x15),
+        _ => Some(0x0f + op as u8),
     }
 }
 
@@ -76,27 +72,7 @@ fn prefix_code(op: Op1) -> Option<u8>
 fn binary_code(op: Op2) -> u8
     ensures { result ≡ 0x20 + number2 op }
 {
-    match op {
-        Op2::Multiply => 0x20,
-        Op2::Divide => 0x21,
-        Op2::Modulo => 0x22,
-        Op2::BitAnd => 0x23,
-        Op2::BitXor => 0x24,
-        Op2::ShiftLeft => 0x25,
-        Op2::ShiftRight => 0x26,
-        Op2::Add => 0x27,
-        Op2::Subtract => 0x28,
-        Op2::BitOr => 0x29,
-        Op2::Equal => 0x2a,
-        Op2::NotEqual => 0x2b,
-        Op2::Less => 0x2c,
-        Op2::Greater => 0x2d,
-        Op2::LessOrEqual => 0x2e,
-        Op2::GreaterOrEqual => 0x2f,
-        Op2::And => 0x30,
-        Op2::Xor => 0x31,
-        Op2::Or => 0x32,
-    }
+    0x20 + op as u8
 }
 
 /// Adds a place in a section.
@@ -246,17 +222,13 @@ fn put_imports(out: &mut Vec<u8>, imports: &[Sequence<u8>]) -> Result<(), AllocE
 }
 
 /// How many bytes a fragment takes.
-fn fragment_size(fragment: &Fragment) -> usize
+pub fn fragment_size(fragment: &Fragment) -> usize
     ensures { result ≡ fragment_len fragment.now }
 {
     match fragment {
         Fragment::Literal(bytes) => bytes.len(),
         Fragment::Fill(count) => *count as usize,
-        Fragment::Value { width, .. } => match width {
-            Width::Byte | Width::Branch => 1,
-            Width::Word | Width::HighFirst => 2,
-            Width::Dword => 4,
-        },
+        Fragment::Value { width, .. } => width_size(*width) as usize,
     }
 }
 

@@ -18,7 +18,6 @@ use Rattle.script65.specs.Faults.{Finds}
 use Rattle.std.specs.List.{list_any, position_or_len}
 use Rattle.std.specs.Map.{lookup}
 use Rattle.indexmap.specs.IndexMap.{insert_entry}
-use Rattle.script65.specs.AreaSums.{come_to}
 
 -- ---- Lists that are made item by item.
 
@@ -161,15 +160,3 @@ module _ {K V Z : Type 0} (eq : K → K → Bool) (g : K × V → Z) (k : K) (v 
   pub map-insert_entry : (es : List (K × V)) → list_any q (map g es) ≡ false → map g (insert_entry eq es k v) ≡ map g es ++ g (k, v) ∷ []
   map-insert_entry [] h = refl
   map-insert_entry (e ∷ es) h = grind (arith, common_steps, (map-insert_entry es))
-
--- ---- Sums as far as a loop has come.
-
-module _ {T : Type 0} (is : T → Bool) (number : T → ℕ) (ts : List T) (i : ℕ) (d : T) (old new whole : ℕ) where
-  pub counts : i < length ts → is (get_or ts i d) ≡ true → new ≡ old + number (get_or ts i d) → old + come_to is number (drop i ts) ≡ whole → new + come_to is number (drop (i + 1) ts) ≡ whole
-  counts lt sure added so_far = grind (arith, common_steps)
-
-  pub passes : i < length ts → is (get_or ts i d) ≡ false → new ≡ old → old + come_to is number (drop i ts) ≡ whole → new + come_to is number (drop (i + 1) ts) ≡ whole
-  passes lt other same so_far = grind (arith, common_steps)
-
-pub all_counted : {T : Type 0} (is : T → Bool) (number : T → ℕ) (ts : List T) (i old whole : ℕ) → length ts ≤ i → old + come_to is number (drop i ts) ≡ whole → old ≡ whole
-all_counted is number ts i old whole le so_far = grind (arith, common_steps)

@@ -1,5 +1,5 @@
 -- What the parts of a scan and of a builder stand for, and how they hang together.
-use Rattle.std.specs.Prelude.{◌≡◌, ◌≤◌, ◌+◌, ℕ, List, map, slice_get, Some, true, false, ⊤}
+use Rattle.std.specs.Prelude.{◌≡◌, ◌≤◌, ◌+◌, ℕ, List, map, slice_get, Some, true, false, ⊤, Result, IfOk, OnOk}
 use Rattle.std.specs.List.{list_all, prefix_len}
 use Rattle.object65.specs.declared.scan.Kept.{Kept}
 use Rattle.object65.specs.declared.builder.Parts.{Parts}
@@ -7,7 +7,10 @@ use Rattle.object65.specs.declared.builder.Draft.{Draft}
 use Rattle.object65.specs.declared.record.Item.{Item}
 use Rattle.object65.specs.declared.record.Item.TheVariants.{File, Import, Section, Part, Export, Assert, End}
 use Rattle.object65.specs.declared.object.Fragment.{Fragment}
+use Rattle.object65.specs.declared.fault.ObjectFault.{ObjectFault}
+use Rattle.object65.specs.Items.{has_small_text}
 use Rattle.object65.specs.Objects.{fragment_len}
+use Rattle.object65.specs.Record.{Gives, is_memory}
 use Rattle.object65.specs.Scanning.{Outline, is_filled, outline_of, State, IsReached}
 use Rattle.object65.specs.Small.{is_small_text}
 
@@ -30,6 +33,12 @@ pub record Stands (o : Outline) : Type 0 where
 pub record IsIntact (k : Kept) : Type 0 where
   pub sound : IsSound k
   pub stands : Stands (outline_in k)
+
+-- what a call that takes a record answers and leaves: what a scan says of it, with a text whose length is one byte
+pub record Takes (old new : Kept) (result : Result Item ObjectFault) (said : Result (Outline × Item) ObjectFault) : Type 0 where
+  pub taken : Gives is_memory (λ i. (outline_in new, i)) result said
+  pub small : IfOk result (λ i. has_small_text i ≡ true)
+  pub sound : OnOk result (IsSound new)
 
 -- ---- A builder.
 

@@ -3,7 +3,7 @@
 ghost use Rattle.std.specs.Prelude.{◌≡◌, ◌≤◌, ◌+◌, IfOk};
 ghost use Rattle.base65.specs.Outcome.{Gives};
 ghost use Rattle.script65.specs.Faults.{is_place_outside};
-ghost use Rattle.script65.specs.Placing.{begin_by, begin_in, fitted, moved, rounded_up, row_after, sized_row};
+ghost use Rattle.script65.specs.Placing.{begin_in, fitted, moved, rounded_up, row_after};
 
 use crate::placement::PlaceFault;
 use crate::script::{Area, Begin, Row};
@@ -46,19 +46,6 @@ fn rounded_up(at: u64, align: u32) -> u64
     }
 }
 
-fn begin_by(bounds: Bounds, begin: Begin, align: u32, cursor: u64) -> u64
-    requires room { cursor ≤ 8589934592 }
-    requires small { bounds.start ≤ 8589934592 }
-    ensures value { result ≡ begin_by bounds begin align cursor }
-    ensures bound { result ≤ 12884901888 }
-{
-    match begin {
-        Begin::Aligned => rounded_up(cursor, align),
-        Begin::Start(start) => u64::from(start),
-        Begin::Offset(offset) => bounds.start + u64::from(offset),
-    }
-}
-
 // Where a row begins.
 #[tactic(auto, unfolding(crate::specs::Placing::begin_in))]
 fn begin_in(place: usize, bounds: Bounds, row: &Row, cursor: u64) -> u64
@@ -67,10 +54,13 @@ fn begin_in(place: usize, bounds: Bounds, row: &Row, cursor: u64) -> u64
     ensures value { result ≡ begin_in place bounds row.now cursor }
     ensures bound { result ≤ 12884901888 }
 {
-    if row.run == place {
-        begin_by(bounds, row.begin, row.align, cursor)
-    } else {
-        rounded_up(cursor, row.align_load)
+    if row.run != place {
+        return rounded_up(cursor, row.align_load);
+    }
+    match row.begin {
+        Begin::Aligned => rounded_up(cursor, row.align),
+        Begin::Start(start) => u64::from(start),
+        Begin::Offset(offset) => bounds.start + u64::from(offset),
     }
 }
 
@@ -114,29 +104,6 @@ impl Site<'_> {
         Ok((moved(self.place, row, at, spot), at + size))
     }
 
-    fn place_sized(
-        &self,
-        alloc: Global,
-        row: &Row,
-        spot: Spot,
-        cursor: u64,
-    ) -> Result<(Spot, u64), PlaceFault>
-        requires room { cursor ≤ self.now.bounds.end }
-        requires order { self.now.bounds.start ≤ self.now.bounds.end }
-        requires small { self.now.bounds.end ≤ 8589934592 }
-        ensures value { Gives is_place_outside (λ x. x) result
-            (sized_row self.now.place self.now.area.now self.now.bounds row.now spot spot.size cursor) }
-        ensures bound { IfOk result (λ x. x.1 ≤ self.now.bounds.end) }
-    {
-        match spot.size {
-            None => Ok((moved(self.place, row, cursor, spot), cursor)),
-            Some(size) => {
-                let at = begin_in(self.place, self.bounds, row, cursor);
-                self.fit(alloc, row, spot, size, at, cursor)
-            }
-        }
-    }
-
     /// A row behind the cursor, and the cursor behind it.
     #[tactic(auto, unfolding(crate::specs::Placing::row_after))]
     pub fn place_row(
@@ -156,6 +123,12 @@ impl Site<'_> {
         if self.area.read_only && row.run == self.place && !row.access.is_read_only() {
             return Err(PlaceFault::ReadOnlyArea(Sequence::copy_of(alloc, row.name.as_slice())?));
         }
-        self.place_sized(alloc, row, spot, cursor)
+        match spot.size {
+            None => Ok((moved(self.place, row, cursor, spot), cursor)),
+            Some(size) => {
+                let at = begin_in(self.place, self.bounds, row, cursor);
+                self.fit(alloc, row, spot, size, at, cursor)
+            }
+        }
     }
 }

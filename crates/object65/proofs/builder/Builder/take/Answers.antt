@@ -7,9 +7,9 @@ pub add_item-requires : goal.add_item-requires
 add_item-requires c =
     let b = c.self.inside in
     let whole = c.self.invariant c.if-self.false in
-    room_next (state_in b.parts b.scan) b.scan (entry_of c.args.next.now) (c.take.new.self, c.in-Ok.item) whole.reached whole.scanned c.in-Ok.ensures.scanned
+    room_next (state_in b.parts b.scan) b.scan (entry_of c.args.next.now) (c.take.new.self, c.in_ok-item.item) whole.reached whole.scanned c.in_ok-item.ensures.scanned
 
-pub invariant_of-self : goal.invariant_of-self
-invariant_of-self c = λ running.
+pub invariant_of-self-2 : goal.invariant_of-self-2
+invariant_of-self-2 c = λ running.
     let b = c.self.inside in
-    whole_next b.parts c.add_item.new.parts b.scan c.take.new.self (entry_of c.args.next.now) c.in-Ok.item (c.self.invariant running) c.in-Ok.ensures.scanned c.in-Ok.ensures.within c.in-Ok-add_item.ensures
+    whole_next b.parts c.add_item.new.parts b.scan c.take.new.self (entry_of c.args.next.now) c.in_ok-item.item (c.self.invariant c.if-self.false) c.in_ok-item.ensures.scanned c.in_ok-item.ensures.within c.in_ok-add_item.ensures

@@ -12,7 +12,7 @@ use Rattle.library65.specs.Reading.{in_file}
 use Rattle.library65.specs.Spelling.{Member}
 use Rattle.cli65.specs.Line.{Archiving}
 use Rattle.ar65.specs.declared.archiving.Archived.TheVariants as archived
-use Rattle.ar65.specs.declared.extracting.MemberFile.{MemberFile}
+use Rattle.ar65.specs.declared.members.MemberFile.{MemberFile}
 use Rattle.ar65.specs.declared.refusal.Refusal.TheVariants as refusal
 use Rattle.ar65.specs.Librarian.{AreTexts, extracted, extracted_by, file_of, files_of, member_name, without_files}
 use Rattle.ar65.specs.Refusals.{is_failure, is_outside}

@@ -17,7 +17,7 @@ use Rattle.library65.specs.Reading.{in_file}
 use Rattle.library65.proofs.Edits.{checked_good, good_names}
 use Rattle.library65.proofs.Read.{library_loaded, put_last, stock_law}
 use Rattle.library65.proofs.Made.{library_is}
-use Rattle.ar65.specs.declared.extracting.MemberFile.{MemberFile}
+use Rattle.ar65.specs.declared.members.MemberFile.{MemberFile}
 use Rattle.ar65.specs.Laws.{AreWritten, PutTogetherLaw}
 use Rattle.ar65.specs.Librarian.{as_file, files_of, found, member_name, with_file, with_files}
 use Rattle.ar65.proofs.Names.{IsChecked, its_own_name, members_checked}

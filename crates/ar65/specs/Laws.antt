@@ -8,7 +8,7 @@ use Rattle.library65.specs.Libraries.{written}
 use Rattle.library65.specs.Spelling.{IsLibrary, Member}
 use Rattle.cli65.specs.Line.{Archiving}
 use Rattle.ar65.specs.declared.archiving.Archived.TheVariants as archived
-use Rattle.ar65.specs.declared.extracting.MemberFile.{MemberFile}
+use Rattle.ar65.specs.declared.members.MemberFile.{MemberFile}
 use Rattle.ar65.specs.Librarian.{archived_of, extracted, with_files}
 
 -- each file is a list of bytes

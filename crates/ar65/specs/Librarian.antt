@@ -16,7 +16,7 @@ use Rattle.cli65.specs.declared.line.Operation.TheVariants as operation
 use Rattle.cli65.specs.Line.{Archiving}
 use Rattle.ar65.specs.declared.archiving.Archived.{Archived}
 use Rattle.ar65.specs.declared.archiving.Archived.TheVariants as archived
-use Rattle.ar65.specs.declared.extracting.MemberFile.{MemberFile}
+use Rattle.ar65.specs.declared.members.MemberFile.{MemberFile}
 use Rattle.ar65.specs.declared.refusal.Refusal.{Refusal}
 use Rattle.ar65.specs.declared.refusal.Refusal.TheVariants as refusal
 

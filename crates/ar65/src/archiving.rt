@@ -9,13 +9,10 @@ ghost use Rattle.ar65.specs.Librarian.{archived_of, deleted_by, extracted_by, li
 ghost use Rattle.ar65.specs.Refusals.{is_failure, is_outside};
 ghost use Rattle.ar65.specs.Naming.{NamesEither, NamesLibrary, NamesOfLine};
 
-use crate::deleting::delete_files;
-use crate::extracting::{MemberFile, extract_files};
-use crate::listing::list_names;
-use crate::loading::load_or_begin;
+use crate::members::{
+    MemberFile, delete_files, extract_files, library_bytes, list_names, load_or_begin, put_files,
+};
 use crate::refusal::Refusal;
-use crate::replacing::put_files;
-use crate::writing::library_bytes;
 use base65::{Sequence, Store};
 use cli65::{ArchiveLine, Operation};
 use library65::Library;

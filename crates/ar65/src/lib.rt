@@ -2,17 +2,10 @@
 #![tactic(auto)]
 
 mod archiving;
-mod deleting;
-mod extracting;
 pub mod laws;
-mod listing;
-mod loading;
-mod naming;
-mod reading;
+mod members;
 mod refusal;
-mod replacing;
-mod writing;
 
 pub use archiving::{Archived, archive};
-pub use extracting::MemberFile;
+pub use members::MemberFile;
 pub use refusal::{Refusal, refusal_message};

@@ -5,7 +5,7 @@ use Rattle.cli65.specs.Line.{Archiving}
 use Rattle.base65.specs.declared.output.OutputFile.{OutputFile}
 use Rattle.ar65.specs.declared.archiving.Archived.{Archived}
 use Rattle.ar65.specs.declared.archiving.Archived.TheVariants.{Library, Names, Members}
-use Rattle.ar65.specs.declared.extracting.MemberFile.{MemberFile}
+use Rattle.ar65.specs.declared.members.MemberFile.{MemberFile}
 use Rattle.ar65.specs.declared.refusal.Refusal.{Refusal}
 use Rattle.ar65.specs.Librarian.{archived_of}
 use Rattle.ar65.specs.Refusals.{refusal_message}

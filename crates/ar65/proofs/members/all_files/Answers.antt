@@ -1,7 +1,7 @@
 use Rattle.std.proofs.Common.{◌∙◌, ap, sym, subst}
 use Rattle.ar65.specs.Librarian.{AreTexts, file_of, files_of}
 use Rattle.ar65.proofs.Turns.{ahead, each_one}
-use Rattle.ar65.proofs.extracting.all_files.Goals as goal
+use Rattle.ar65.proofs.members.all_files.Goals as goal
 
 pub loop-name-preserved : goal.loop-name-preserved
 loop-name-preserved c =

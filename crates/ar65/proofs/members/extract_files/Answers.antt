@@ -2,7 +2,7 @@ use Rattle.std.proofs.Common.{sym, subst}
 use Rattle.base65.specs.Outcome.{Gives}
 use Rattle.library65.specs.Fault.{is_memory}
 use Rattle.ar65.proofs.Takes.{some_named}
-use Rattle.ar65.proofs.extracting.extract_files.Goals as goal
+use Rattle.ar65.proofs.members.extract_files.Goals as goal
 
 pub returns-clause-found : goal.returns-clause-found
 returns-clause-found c = λ all.

@@ -1,5 +1,5 @@
 use Rattle.ar65.proofs.Names.{named_behind, named_whole}
-use Rattle.ar65.proofs.naming.member_name.Goals as goal
+use Rattle.ar65.proofs.members.member_name.Goals as goal
 
 pub returns-in-Some : goal.returns-in-Some
 returns-in-Some c = let h = c.in-Some.ensures.cases in named_behind c.args.file.now c.in-Some.name.now h.0 h.1 h.2 h.4 h.7

@@ -1,16 +1,16 @@
 use Rattle.std.proofs.Common.{◌∙◌}
 use Rattle.ar65.proofs.Puts.{not_failed, passes_on, put_of}
-use Rattle.ar65.proofs.replacing.put_file.Goals as goal
+use Rattle.ar65.proofs.members.put_file.Goals as goal
 
 pub returns-clause-put : goal.returns-clause-put
 returns-clause-put g c =
     put_of _ c.args.library.now c.args.file.now c.in_ok-bytes.bytes.items c.as_bytes.result.now c.replace.new.self c.replace.result (c.as_bytes.ensures.value ∙ c.member_name.ensures) c.in_ok-bytes.ensures.read (rw c.deref.ensures.value at c.replace.ensures.replaced)
 
-pub returns-clause-count : goal.returns-clause-count
-returns-clause-count g c =
-    passes_on _ _ _ c.in_ok-bytes.bytes c.replace.result c.in_ok-bytes.ensures.count
-    (not_failed c.args.library.now c.as_bytes.result.now c.deref.result.now c.replace.new.self c.replace.result c.replace.ensures.replaced)
-
-pub returns-clause-blamed : goal.returns-clause-blamed
-returns-clause-blamed g c =
-    λ h. absurd (not_failed c.args.library.now c.as_bytes.result.now c.deref.result.now c.replace.new.self c.replace.result c.replace.ensures.replaced h)
+pub returns-clause-kept : goal.returns-clause-kept
+returns-clause-kept g c =
+    let not = not_failed c.args.library.now c.as_bytes.result.now c.deref.result.now c.replace.new.self c.replace.result c.replace.ensures.replaced in
+    record {
+      files = c.in_ok-bytes.ensures.files;
+      count = passes_on _ _ _ c.in_ok-bytes.bytes c.replace.result c.in_ok-bytes.ensures.count not;
+      blamed = λ h. absurd (not h);
+    }

@@ -1,6 +1,6 @@
 use Rattle.std.proofs.Common.{◌≡◌, map}
 use Rattle.ar65.proofs.Puts.{IsLeft}
-use Rattle.ar65.proofs.replacing.put_files.Given as goal
+use Rattle.ar65.proofs.members.put_files.Given as goal
 
 abbrev pub invariant-loop-place : goal.invariant-loop-place
 invariant-loop-place g l = record {

@@ -1,0 +1,196 @@
+//! The members of a library: read, put in, taken out, listed, made files, and written.
+
+ghost use Rattle.std.specs.Prelude.{◌≡◌, IfErr, IfOk, IfSome, IsErrOf, map, true};
+ghost use Rattle.std.specs.FinMap as map;
+ghost use Rattle.std.specs.Str.{is_utf8};
+ghost use Rattle.base65.specs.Outcome.{Gives};
+ghost use Rattle.base65.specs.Store.{Asks, PassesBy};
+ghost use Rattle.object65.specs.Reading.{Leaves};
+ghost use Rattle.library65.specs.declared.fault.LibraryFault.TheVariants.{FileError};
+ghost use Rattle.library65.specs.Fault.{is_memory, is_outside as is_library_outside};
+ghost use Rattle.library65.specs.Libraries.{member_names, written};
+ghost use Rattle.ar65.specs.Librarian.{AreTexts, begun, extracted, file_of, files_of, member_name, names_text, with_file, with_files, without_files};
+ghost use Rattle.ar65.specs.Naming.{NamesFiles};
+ghost use Rattle.ar65.specs.Refusals.{is_failure, is_outside};
+
+use crate::refusal::Refusal;
+use base65::{Sequence, Store, Text, read_front};
+use library65::{Library, LibraryFault};
+use object65::format::FILE_LIMIT;
+use std::alloc::{AllocError, Global};
+
+/// What stands behind the last `/` of a file's name, or all of it where there is none.
+fn member_name(file: &str) -> &str
+    ensures { result.now ≡ member_name file.now }
+{
+    match file.rsplit_once('/') {
+        Some((_, name)) => name,
+        None => file,
+    }
+}
+
+/// The library of a file, or one of no member where there is no such file.
+pub fn load_or_begin<S: Store>(
+    alloc: Global,
+    store: &mut S,
+    file: &str,
+) -> Result<Library, LibraryFault>
+    ensures read { IfSome (S.files store.old) (λ m.
+        Gives is_library_outside (λ l. l) result (begun (map.get m file.now))) }
+    ensures kept { Leaves S.files S.failures S.blamed FileError file.now store.old store.new result }
+    ensures asked { Asks is_library_outside (S.failures store.old) result }
+{
+    match Library::load(alloc, store, file) {
+        Err(LibraryFault::FileNotFound) => Ok(Library::empty(alloc)),
+        loaded => loaded,
+    }
+}
+
+/// Puts the object of a file in, under the name of the file: its own faults come first, then that
+/// of the name, then those of the object. No more is read than tells that the file is too long.
+fn put_file<S: Store>(
+    alloc: Global,
+    store: &mut S,
+    library: &mut Library,
+    file: &str,
+) -> Result<(), LibraryFault>
+    ensures put { IfSome (S.files store.old) (λ m.
+        Gives is_library_outside (λ _. library.new) result (with_file m library.old file.now)) }
+    ensures kept { Leaves S.files S.failures S.blamed FileError file.now store.old store.new result }
+{
+    let bytes = read_front(alloc, store, file, FILE_LIMIT as usize + 1)?;
+    library.replace(member_name(file).as_bytes(), &bytes)
+}
+
+/// Puts the objects of files in, in order. The first fault is that of the first file that has one.
+pub fn put_files<S: Store>(
+    alloc: Global,
+    store: &mut S,
+    library: &mut Library,
+    files: &[&str],
+) -> Result<(), Refusal>
+    ensures put { IfSome (S.files store.old) (λ m.
+        Gives is_outside (λ _. library.new) result (with_files m library.old 0 (map (λ s. s.now) files.now))) }
+    ensures files { S.files store.new ≡ S.files store.old }
+    ensures count { PassesBy is_failure (S.failures store.old) (S.failures store.new) result }
+    ensures named { IfErr result (NamesFiles (S.blamed store.new) (map (λ s. s.now) files.now)) }
+{
+    for (place, file) in files.iter().enumerate() {
+        match put_file(alloc, store, library, file) {
+            Ok(()) => {}
+            Err(fault) => return Err(Refusal::File(place, fault)),
+        }
+    }
+    Ok(())
+}
+
+/// Takes the members of files' names out, in order.
+pub fn delete_files(library: &mut Library, files: &[&str]) -> Result<(), LibraryFault>
+    ensures deleted { Gives is_memory (λ _. library.new)
+        result (without_files library.old (map (λ s. s.now) files.now)) }
+    ensures cause { IsErrOf result FileError → ⊥ }
+{
+    for file in files {
+        library.delete(member_name(file).as_bytes())?;
+    }
+    Ok(())
+}
+
+/// The names of the members, one a line.
+pub fn list_names(alloc: Global, library: &Library) -> Result<Sequence<u8>, AllocError>
+    ensures { IfOk result (λ text. text ≡ names_text (member_names library.now)) }
+{
+    let mut text = Sequence::new(alloc);
+    for name in library.names() {
+        text.extend_from_slice(name)?;
+        text.push(b'\n')?;
+    }
+    Ok(text)
+}
+
+/// A member as it is written, to a file of its name.
+#[derive(Drop)]
+pub struct MemberFile {
+    pub name: Text,
+    pub bytes: Sequence<u8>,
+}
+
+/// The file of the member of a name.
+fn file_of(alloc: Global, library: &Library, name: &str) -> Result<MemberFile, LibraryFault>
+    ensures found { Gives is_memory (λ file. file) result (file_of library.now name.now) }
+    ensures cause { IsErrOf result FileError → ⊥ }
+{
+    match library.get(name.as_bytes()) {
+        Some(bytes) => Ok(MemberFile {
+            name: Text::copy_of(alloc, name)?,
+            bytes: Sequence::copy_of(alloc, bytes)?,
+        }),
+        None => Err(LibraryFault::NoSuchMember(Sequence::copy_of(alloc, name.as_bytes())?)),
+    }
+}
+
+/// The files of the members of files' names, in order.
+fn named_files(
+    alloc: Global,
+    library: &Library,
+    files: &[&str],
+) -> Result<Sequence<MemberFile>, LibraryFault>
+    ensures found { Gives is_memory (λ found. found)
+        result (files_of library.now (map member_name (map (λ s. s.now) files.now))) }
+    ensures cause { IsErrOf result FileError → ⊥ }
+{
+    let mut found = Sequence::new(alloc);
+    for file in files {
+        found.push(file_of(alloc, library, member_name(file))?)?;
+    }
+    Ok(found)
+}
+
+/// A name as text.
+fn text_of(name: &[u8]) -> &str
+    ensures { is_utf8 name.now ≡ true → result.now ≡ name.now }
+{
+    match std::str::from_utf8(name) {
+        Ok(text) => text,
+        Err(_) => "",
+    }
+}
+
+/// The files of all members of a library whose names are text, in order.
+fn all_files(alloc: Global, library: &Library) -> Result<Sequence<MemberFile>, LibraryFault>
+    ensures found { AreTexts (member_names library.now) →
+        Gives is_memory (λ found. found) result (files_of library.now (member_names library.now)) }
+    ensures cause { IsErrOf result FileError → ⊥ }
+{
+    let mut found = Sequence::new(alloc);
+    for name in library.names() {
+        found.push(file_of(alloc, library, text_of(name))?)?;
+    }
+    Ok(found)
+}
+
+/// The files of the members of files' names, in order; those of all members where no file is named.
+/// The names of a library that was read are text.
+pub fn extract_files(
+    alloc: Global,
+    library: &Library,
+    files: &[&str],
+) -> Result<Sequence<MemberFile>, LibraryFault>
+    ensures found { AreTexts (member_names library.now) →
+        Gives is_memory (λ found. found) result (extracted library.now (map (λ s. s.now) files.now)) }
+    ensures cause { IsErrOf result FileError → ⊥ }
+{
+    if files.is_empty() {
+        return all_files(alloc, library);
+    }
+    named_files(alloc, library, files)
+}
+
+/// The bytes of a library.
+pub fn library_bytes(alloc: Global, library: &Library) -> Result<Sequence<u8>, LibraryFault>
+    ensures { Gives is_memory (λ bytes. bytes) result (written library.now) }
+{
+    let mut bytes = Vec::new(alloc);
+    library.write(&mut bytes)?;
+    Ok(Sequence::from_vec(bytes))
+}

@@ -1,7 +1,0 @@
-use Rattle.std.proofs.Common.{◌≡◌, ◌++◌, drop}
-use Rattle.std.specs.List.{flat_map}
-use Rattle.link65.specs.Texts.{section_line}
-use Rattle.link65.proofs.mapping.section_lines.Given as goal
-
-abbrev pub invariant-loop-place : goal.invariant-loop-place
-invariant-loop-place l = l.text ++ flat_map section_line (drop l.place-index l.places) ≡ flat_map section_line l.places

@@ -15,7 +15,7 @@ use Rattle.reader65.specs.declared.directives.Directive.{Directive}
 use Rattle.reader65.specs.declared.line.Line.{Line}
 use Rattle.reader65.specs.declared.line.Word.{Word}
 use Rattle.reader65.specs.declared.reader.Reader.{Reader}
-use Rattle.expand65.specs.AtHand.{CallsNone, Follows, Gives, IsGivenAs, Passes, given_as, given_behind, none, one_more}
+use Rattle.expand65.specs.AtHand.{CallsNone, Follows, Gives, IsGivenAs, Passes, given_behind, given_parts, none, one_more}
 use Rattle.expand65.specs.Expansion.{Next, Reaches, further, given, statement}
 use Rattle.expand65.specs.State.{Meaning, State, Stated, Stepped, label, plain, goes, gives, with_items}
 use Rattle.expand65.specs.Rewriting.{Opens, state_of}
@@ -132,7 +132,7 @@ module _ (old : Expander) (reader : Reader) (right : old.failed ≡ false) (bare
   from : (m : Files) (P : State → Type 0) → P (state_of m old.rewriter) → P (state_in m old)
   from m P h = rw bare h
 
-  pub line_given : (n : ℕ) (ts : List Lexeme) → IsGivenAs n old.rewriter ts → ((m : Files) → Takes (left_of m old.rewriter.reader) (Ok (Some ts, left_of m reader))) → Gives old (given_as n ts) (behind old reader Nothing)
+  pub line_given : (n : ℕ) (ts : List Lexeme) → IsGivenAs n old.rewriter ts → ((m : Files) → Takes (left_of m old.rewriter.reader) (Ok (Some ts, left_of m reader))) → Gives old (given_parts (take n ts) (drop n ts)) (behind old reader Nothing)
   line_given zero [] (e, d, calls) taken =
       let new = behind old reader Nothing in
       none old new (record { goes = λ m k. goes_once (state_in m old) (state_in m old) (state_in m new) (no_step (state_in m old)) (from m (λ s. IsStep m k s (goes (state_in m new))) (step_acted m k old.rewriter reader [] (taken m) (goes (state_in m new)) e d refl)); failed = refl; named = named; size = omega (arith, less_behind) })
@@ -141,7 +141,9 @@ module _ (old : Expander) (reader : Reader) (right : old.failed ≡ false) (bare
       more old new new (Plain (line_of (t ∷ ts))) (plain (t ∷ ts)) [] (ap plain (line_kept (t ∷ ts))) right refl named (λ m k.
       let s = state_in m new in
       given (state_in m old) s (plain (t ∷ ts)) (from m (λ z. IsStep m k z (gives (plain (t ∷ ts)) s)) (step_acted m k old.rewriter reader (t ∷ ts) (taken m) (gives (plain (t ∷ ts)) s) e d (no_call m new.rewriter (t ∷ ts) calls)))) less_behind refl (none_more new)
-  line_given (suc n) ts (e, d, calls) taken =
+  line_given (suc n) [] (e, d, calls) taken = absurd cc
+  line_given (suc n) (t ∷ us) (e, d, calls) taken =
+      let ts = t ∷ us in
       let rest = drop (suc n) ts in
       let mid = behind old reader (Rest (line_of rest)) in
       more old mid (behind old reader Nothing) (Label (line_of (take (suc n) ts))) (label (take (suc n) ts)) (given_behind rest) (ap label (line_kept (take (suc n) ts))) right refl named (λ m k.

@@ -178,6 +178,6 @@ goes_over m k s _ _ g (no_step t) = g
 goes_over m k s t _ g (one_more _ v u h step) = one_more s v u (goes_over m k s t v g h) step
 
 pub stops_later : {A : Type 0} (B : Type 0) (o : Option Files) (blamed : Option (List ℕ)) (k : Meaning) (i e : Expander) (mark : Mark) (place : Place) (r : Result A ExpandFault) (f : ExpandFault) → r ≡ Err f → IfSome o (HasGone k i e) → IfSome o (λ m. StopsReading {A = B} m blamed k (state_in m e) (Err f) mark place) → IfSome o (λ m. StopsReading m blamed k (state_in m i) r mark place)
-stops_later x y blamed k i e mark place r f is h s = grind (arith, common_steps, goes_over)
+stops_later x y blamed k i e there place r f is h s = grind (arith, common_steps, goes_over)
 
 -- ---- At the place of the line that was read last.

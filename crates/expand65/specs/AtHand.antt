@@ -1,5 +1,5 @@
 -- Lines of files that are given as they stand.
-use Rattle.std.specs.Prelude.{◌≡◌, ◌<◌, ◌≤◌, ℕ, zero, suc, false, List, [], ◌∷◌, take, drop, Ok, Some, None}
+use Rattle.std.specs.Prelude.{◌≡◌, ◌<◌, ◌≤◌, ℕ, false, List, [], ◌∷◌, drop, Ok, Some, None}
 use Rattle.base65.specs.Store.{Files}
 use Rattle.syntax65.specs.Tokens.{Lexeme}
 use Rattle.reader65.specs.Fronts.{front_directive, label_len}
@@ -34,10 +34,10 @@ abbrev pub given_behind : List Lexeme → List Stated
 given_behind [] = []
 given_behind (t ∷ ts) = plain (t ∷ ts) ∷ []
 
--- its statements: the label, if there is one, and what stands behind it
-abbrev pub given_as : ℕ → List Lexeme → List Stated
-given_as zero ts = given_behind ts
-given_as (suc n) ts = label (take (suc n) ts) ∷ given_behind (drop (suc n) ts)
+-- the statements of a line: the label, if there is one, and what stands behind it
+abbrev pub given_parts : List Lexeme → List Lexeme → List Stated
+given_parts [] rest = given_behind rest
+given_parts (t ∷ ts) rest = label (t ∷ ts) ∷ given_behind rest
 
 -- steps lead on, none of which gives a statement
 pub record Passes (old new : Expander) : Type 0 where

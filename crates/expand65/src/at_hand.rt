@@ -1,6 +1,6 @@
 //! Lines of files that are given as they stand.
 
-ghost use Rattle.std.specs.Prelude.{◌≡◌, IfSome, is_some};
+ghost use Rattle.std.specs.Prelude.{◌≡◌, ◌≤◌, IfSome, is_some, length};
 ghost use Rattle.syntax65.specs.Tokens.{lexeme_of, lexemes};
 ghost use Rattle.expand65.specs.AtHand.{IsGivenAs};
 ghost use Rattle.expand65.specs.Macros.{macro_at};
@@ -29,7 +29,8 @@ impl Rewriter {
     /// How many tokens the label has of a line that is given as it stands: behind it stands nothing, or a statement.
     #[inline(always)]
     pub fn label_of_given(&self, tokens: &[Token<'_>]) -> Option<usize>
-        ensures { IfSome result (λ n. IsGivenAs n self.now (lexemes tokens.now)) }
+        ensures given { IfSome result (λ n. IsGivenAs n self.now (lexemes tokens.now)) }
+        ensures within { IfSome result (λ n. n ≤ length tokens.now) }
     {
         let len = label_len(tokens);
         let (_, rest) = tokens.split_at(len);

@@ -1,10 +1,10 @@
 //! The statements of a source, one after another.
 
-ghost use Rattle.std.specs.Prelude.{◌≡◌, ◌<◌, ◌≤◌, ◌+◌, ◌*◌, true, false, length, Err, IfOk, IfSome, IsErrOf, IsTrue, List, OnErr, OnOk, ℕ};
+ghost use Rattle.std.specs.Prelude.{◌≡◌, ◌<◌, ◌≤◌, ◌+◌, ◌*◌, true, false, length, take, drop, Err, IfOk, IfSome, IsErrOf, IsTrue, List, OnErr, OnOk, ℕ};
 ghost use Rattle.base65.specs.Store.{Asks, Files, IsBlamed, Passes};
 ghost use Rattle.syntax65.specs.Held.{HoldsNothing, held};
 ghost use Rattle.syntax65.specs.Tokens.{Lexeme, lexemes};
-ghost use Rattle.expand65.specs.AtHand.{Gives, IsAhead, IsGivenAs, given_as};
+ghost use Rattle.expand65.specs.AtHand.{Gives, IsAhead, IsGivenAs, given_parts};
 ghost use Rattle.expand65.specs.Standing.{Comes, FollowsFrom, Opens, StandsFor, is_end, led, measure_of, place_of, state_in};
 ghost use Rattle.source65.specs.Faults.{is_outside};
 ghost use Rattle.expand65.specs.Failing.{StopsOnItsWay, StopsReading};
@@ -172,7 +172,8 @@ impl Expander {
     /// where it begins with a directive of expansion there, or calls a macro.
     #[inline(always)]
     pub fn label_of_given(&self, tokens: &[Token<'_>]) -> Option<usize>
-        ensures { IfSome result (λ n. IsGivenAs n self.now.rewriter (lexemes tokens.now)) }
+        ensures given { IfSome result (λ n. IsGivenAs n self.now.rewriter (lexemes tokens.now)) }
+        ensures within { IfSome result (λ n. n ≤ length tokens.now) }
     {
         self.rewriter.label_of_given(tokens)
     }
@@ -181,7 +182,8 @@ impl Expander {
     #[inline(always)]
     pub fn take_peeked(&mut self, line: Peeked)
         ensures given { (n : ℕ) (ts : List Lexeme) → IsAhead self.old line ts →
-            IsGivenAs n self.old.rewriter ts → Gives self.old (given_as n ts) self.new }
+            IsGivenAs n self.old.rewriter ts →
+            Gives self.old (given_parts (take n ts) (drop n ts)) self.new }
         ensures place { place_of self.new ≡ moved (place_of self.old) line.number }
         ensures less { (ts : List Lexeme) → IsAhead self.old line ts →
             measure_of self.new < measure_of self.old }

@@ -1,8 +1,7 @@
-use Rattle.std.proofs.Common.{subst, sym}
-use Rattle.expand65.specs.AtHand.{Gives, given_as}
+use Rattle.std.proofs.Common.{◌<◌, subst, sym, take, drop}
+use Rattle.expand65.specs.AtHand.{Gives, given_parts}
 use Rattle.expand65.specs.declared.expander.Front.{Front}
 use Rattle.expand65.specs.Standing.{measure_of}
-use Rattle.std.proofs.Common.{◌<◌}
 use Rattle.expand65.proofs.AtHand.{behind, less_behind, line_given}
 use Rattle.expand65.proofs.expander.Expander.take_peeked.Goals as goal
 
@@ -10,7 +9,7 @@ pub returns-clause-given : goal.returns-clause-given
 returns-clause-given c = λ n ts (right, bare, next) is.
     let old = c.args.self.now in
     let e = c.take_peeked.ensures in
-    let P : Front → Type 0 = λ f. Gives old (given_as n ts) (behind old c.take_peeked.new.self f) in
+    let P : Front → Type 0 = λ f. Gives old (given_parts (take n ts) (drop n ts)) (behind old c.take_peeked.new.self f) in
     subst P (sym bare) (line_given old c.take_peeked.new.self right bare e.named next.1 e.room e.outer n ts is (λ m. e.taken m ts next))
 
 pub returns-clause-less : goal.returns-clause-less

@@ -18,7 +18,7 @@ use crate::rewriter::{Rewriter, Turn};
 use base65::{Sequence, Store};
 use indexmap::{IndexMap, IndexSet};
 use reader65::{
-    Body, Input, Line, Replay, Source, behind_first, closes_brace, is_comma, name_in, number_line,
+    BlockKind, Body, Input, Line, Replay, Source, behind_first, closes_brace, is_comma, name_in, number_line,
     opens_brace,
 };
 use source65::ExpandFault;
@@ -276,7 +276,8 @@ impl Rewriter {
         if self.has_macro(name.as_slice()) {
             return Err(ExpandFault::MacroTwice);
         }
-        let lines = self.reader.collect(self.alloc, store)?;
+        let block = self.reader.block(self.alloc, store, BlockKind::Macro)?;
+        let lines = block.lines;
         let body = Rc::new(self.alloc, Body { params, lines })?;
         self.macros.insert(name, body)?;
         Ok(Turn::Goes)

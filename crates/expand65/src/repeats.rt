@@ -21,7 +21,7 @@ use crate::macros::{is_comma_at, name_at, names_of};
 use crate::rewriter::{Rewriter, Turn};
 use base65::{Sequence, Store};
 use indexmap::{IndexMap, IndexSet};
-use reader65::{Body, Input, Replay, Source};
+use reader65::{BlockKind, Body, Input, Replay, Source};
 use source65::ExpandFault;
 use std::alloc::{AllocError, Global};
 use std::rc::Rc;
@@ -210,7 +210,8 @@ impl Rewriter {
             (Ok (count, map (λ k. k.items) variable.keys)))
             self.old.reader self.new.reader result) }
     {
-        let lines = self.reader.gather(self.alloc, store)?;
+        let block = self.reader.block(self.alloc, store, BlockKind::Repeat)?;
+        let lines = block.lines;
         let at = lines.len();
         let body = Body {
             params: variable,

@@ -23,7 +23,7 @@ use crate::knows::Knows;
 use base65::{Seed, Sequence, Store, Text};
 use indexmap::IndexMap;
 use reader65::{
-    Body, BranchLine, Directive, Input, Line, OpenFile, Reader, Source, Test, behind_first,
+    BlockEnd, BlockKind, Body, Directive, Input, Line, OpenFile, Reader, Source, Test, behind_first,
     string_of,
 };
 use source65::{ExpandFault, Place};
@@ -75,13 +75,16 @@ impl Rewriter {
             self.conditions.push(false)?;
             return Ok(Turn::Goes);
         }
-        match self.reader.skip(self.alloc, store)? {
-            BranchLine::EndIf => Ok(Turn::Goes),
-            BranchLine::Else => {
+        let skipped = self
+            .reader
+            .block(self.alloc, store, BlockKind::Skipped)?;
+        match skipped.end {
+            BlockEnd::End => Ok(Turn::Goes),
+            BlockEnd::Else => {
                 self.conditions.push(true)?;
                 Ok(Turn::Goes)
             }
-            BranchLine::ElseIf(line) => Ok(Turn::Decides(line)),
+            BlockEnd::ElseIf(line) => Ok(Turn::Decides(line)),
         }
     }
 
@@ -142,7 +145,8 @@ impl Rewriter {
             None => Err(ExpandFault::NotOpened),
             Some(true) => Err(ExpandFault::NotOpened),
             Some(false) => {
-                self.reader.pass(self.alloc, store)?;
+                self.reader
+                    .block(self.alloc, store, BlockKind::Passed)?;
                 Ok(Turn::Goes)
             }
         }

@@ -7,12 +7,10 @@ use Rattle.syntax65.specs.Tokens.{Lexeme}
 use Rattle.reader65.specs.Blocks.{TakesInBlock, Verdict, on, closed, refused, Block, a_fault, a_mark, a_refusal, the_last, one_more}
 use Rattle.source65.specs.Faults.{is_outside}
 use Rattle.reader65.specs.Inside.{left_of}
-use Rattle.reader65.specs.Judging.{Judges}
+use Rattle.reader65.specs.Judging.{IsPassedOver}
 use Rattle.reader65.specs.Plain.{Plainly, no_line as none_passed, a_line, IsPlain}
 use Rattle.reader65.specs.Left.{Left, Stop}
 use Rattle.reader65.specs.Taking.{Takes}
-use Rattle.reader65.specs.declared.blocks.BlockStep.{BlockStep}
-use Rattle.reader65.specs.declared.blocks.BlockStep.TheVariants.{On, Closed}
 use Rattle.source65.specs.declared.fault.ExpandFault.{ExpandFault}
 use Rattle.source65.specs.declared.fault.ExpandFault.TheVariants.{NotClosed}
 use Rattle.source65.specs.declared.place.Place.{Place}
@@ -57,14 +55,12 @@ pub line_goes_on : {A B : Type 0} (judge : A → List Lexeme → Verdict A B) (o
 line_goes_on judge None first reader new a0 a c ts h t j = tt
 line_goes_on judge (Some m) first reader new a0 a c ts h t j = λ r k. h r (one_more a c (left_of m reader) (left_of m new) ts r (some_line (left_of m reader) (left_of m new) ts t) j k)
 
--- a step that doesn't close the block
-pub step_goes_on : {A B : Type 0} (next : ℕ → A) (last : B) (s : BlockStep) (v : Verdict A B) → (s ≡ Closed → ⊥) → Judges next last (Ok s) v → (d : ℕ) × (v ≡ on (next d))
-step_goes_on next last x v h j = grind (arith, common_steps)
-
 -- lines that change nothing
 over_plain : {A B : Type 0} (judge : A → List Lexeme → Verdict A B) (a : A) (l n : Left) (r : Result (B × Left) Stop) → ((ts : List Lexeme) → IsPlain ts → judge a ts ≡ on a) → Plainly l n → Block judge a n r → Block judge a l r
 over_plain judge a _ _ r same (none_passed l) h = h
 over_plain judge a _ _ r same (a_line l m n before (ts, taken, plain)) h = over_plain judge a l m r same before (one_more a a m n ts r taken (same ts plain) h)
 
-pub lines_passed : {A B : Type 0} (judge : A → List Lexeme → Verdict A B) (o : Option Files) (first reader new : Reader) (a0 a : A) → ((ts : List Lexeme) → IsPlain ts → judge a ts ≡ on a) → ((m : Files) → Plainly (left_of m reader) (left_of m new)) → IfSome o (Leads judge a reader a0 first) → IfSome o (Leads judge a new a0 first)
-lines_passed judge x first reader new a0 a same passed h = grind (arith, common_steps, over_plain)
+pub lines_passed : {A B : Type 0} (judge : A → List Lexeme → Verdict A B) (o : Option Files) (first reader new : Reader) (a0 a : A) (kept : Bool) → (kept ≡ false → (ts : List Lexeme) → IsPlain ts → judge a ts ≡ on a) → ((m : Files) → IsPassedOver kept (left_of m reader) (left_of m new)) → IfSome o (Leads judge a reader a0 first) → IfSome o (Leads judge a new a0 first)
+lines_passed judge None first reader new a0 a kept same passed h = tt
+lines_passed judge (Some m) first reader new a0 a true same passed h = λ r k. h r (subst (λ l. Block judge a l r) (passed m) k)
+lines_passed judge (Some m) first reader new a0 a false same passed h = λ r k. h r (over_plain judge a (left_of m reader) (left_of m new) r (same refl) (passed m) k)

@@ -1,6 +1,6 @@
 -- Where lines were being read when the store failed.
 use Rattle.std.proofs.lemmas.Grind.{common_steps}
-use Rattle.std.proofs.Common.{arith, ◌≡◌, ◌∙◌, ℕ, true, List, [], ◌∷◌, ◌++◌, refl, sym, ap, subst, Option, Some, None, IfSome, false, Ok}
+use Rattle.std.proofs.Common.{arith, ◌≡◌, ◌∙◌, ℕ, Bool, true, List, [], ◌∷◌, ◌++◌, refl, sym, ap, subst, Option, Some, None, IfSome, false, Ok}
 use Rattle.base65.specs.Store.{Files, IsBlamed}
 use Rattle.syntax65.specs.Tokens.{Lexeme}
 use Rattle.source65.specs.declared.fault.ExpandFault.{ExpandFault}
@@ -10,6 +10,7 @@ use Rattle.reader65.specs.Blocks.{TakesInBlock, Verdict, on}
 use Rattle.reader65.specs.Inside.{ComesNext, IsFile, is_call, left_in, left_of, mark_of, moved_by, outside}
 use Rattle.reader65.specs.Left.{Item, Left, Mark, mark, numbered, played}
 use Rattle.reader65.specs.Lines.{lines_of, rest_of}
+use Rattle.reader65.specs.Judging.{IsPassedOver}
 use Rattle.reader65.specs.Plain.{Plainly, no_line, a_line, IsPlain}
 use Rattle.reader65.specs.Replacing.{Replacing}
 use Rattle.reader65.specs.Stopping.{FailsAtLine, FailsInBlock, HasStopped, IsAsked, at_line, before, behind_line, within}
@@ -75,8 +76,10 @@ over_plainly : {A B : Type 0} (blamed : Option (List ℕ)) (judge : A → List L
 over_plainly blamed judge a _ _ p same (no_line l) h = h
 over_plainly blamed judge a _ _ p same (a_line l m n passed (ts, taken, plain)) h = over_plainly blamed judge a l m p same passed (behind_line a a m n ts p taken (same ts plain) h)
 
-pub plainly_read : {A B : Type 0} (judge : A → List Lexeme → Verdict A B) (o : Option Files) (first reader new : Reader) (a0 a : A) → ((ts : List Lexeme) → IsPlain ts → judge a ts ≡ on a) → ((m : Files) → Plainly (left_of m reader) (left_of m new)) → IfSome o (Fails judge a reader a0 first) → IfSome o (Fails judge a new a0 first)
-plainly_read judge x first reader new a0 a same passed h = grind (arith, common_steps, over_plainly)
+pub plainly_read : {A B : Type 0} (judge : A → List Lexeme → Verdict A B) (o : Option Files) (first reader new : Reader) (a0 a : A) (kept : Bool) → (kept ≡ false → (ts : List Lexeme) → IsPlain ts → judge a ts ≡ on a) → ((m : Files) → IsPassedOver kept (left_of m reader) (left_of m new)) → IfSome o (Fails judge a reader a0 first) → IfSome o (Fails judge a new a0 first)
+plainly_read judge None first reader new a0 a kept same passed h = tt
+plainly_read judge (Some m) first reader new a0 a true same passed h = λ blamed p k. h blamed p (subst (λ l. FailsInBlock blamed judge a l p) (passed m) k)
+plainly_read judge (Some m) first reader new a0 a false same passed h = λ blamed p k. h blamed p (over_plainly blamed judge a (left_of m reader) (left_of m new) p (same refl) (passed m) k)
 
 -- a reader that stopped at a line of a block
 pub stops_on : {A B : Type 0} (blamed : Option (List ℕ)) (judge : A → List Lexeme → Verdict A B) (o : Option Files) (first reader new : Reader) (a0 a : A) (f : ExpandFault) → IfSome o (Fails judge a reader a0 first) → mark_of reader.top ≡ mark_of first.top → IfSome o (λ m. is_failure f ≡ true → HasStopped (FailsAtLine blamed (left_of m reader)) reader new) → IfSome o (λ m. is_failure f ≡ true → HasStopped (FailsInBlock blamed judge a0 (left_of m first)) first new)

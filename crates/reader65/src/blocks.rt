@@ -1,57 +1,61 @@
-//! Blocks of lines.
+//! Blocks of lines that are taken as a whole.
 
-ghost use Rattle.std.specs.Prelude.{◌≡◌, ◌∷◌, ◌++◌, [], ◌<◌, ◌↔◌, List, IsTrue, false, drop, map, IfErr, IfSome, OnOk};
+ghost use Rattle.std.specs.Prelude.{◌≡◌, ◌∷◌, ◌++◌, ◌<◌, ◌≤◌, [], List, ℕ, drop, false, map, IfErr, IfSome, OnOk, Some};
+ghost use Rattle.base65.specs.Store.{Files, Passes};
 ghost use Rattle.syntax65.specs.Tokens.{Lexeme, lexemes};
-ghost use Rattle.base65.specs.Store.{Passes};
-ghost use Rattle.reader65.specs.Stopping.{FailsInBlock, StopsAt, NamesFiles};
-ghost use Rattle.reader65.specs.Inside.{Answers, left_of, mark_of};
-ghost use Rattle.reader65.specs.Blocks.{Block, collects, gathers, passes, skipping, skips};
 ghost use Rattle.source65.specs.Faults.{is_failure};
-ghost use Rattle.reader65.specs.Judging.{IsDeeper, IsSkipDeeper, Judges, JudgesSkip, alone_or, branch_of};
+ghost use Rattle.reader65.specs.Blocks.{Block, collecting, gathering, passing, skipping};
 ghost use Rattle.reader65.specs.Fronts.{is_nothing};
+ghost use Rattle.reader65.specs.Inside.{Answers, left_of, mark_of};
+ghost use Rattle.reader65.specs.Judging.{IsDeeper, IsPassedOver, Judges, alone_or, answer_of, is_kept, judge_of, state_of};
 ghost use Rattle.reader65.specs.Playing.{tokens_in};
+ghost use Rattle.reader65.specs.Stopping.{FailsInBlock, NamesFiles, StopsAt};
 
 use crate::directives::Directive;
-use crate::fronts::{behind_first, is_mislabelled, is_nothing, line_directive};
+use crate::fronts::{behind_first, is_mislabelled, line_directive};
 use crate::line::Line;
 use crate::reader::Reader;
 use base65::{Sequence, Store};
 use source65::ExpandFault;
-use std::alloc::Global;
+use std::alloc::{AllocError, Global};
 use syntax65::Token;
 
-/// What a line does to the block that it stands in.
+/// What is taken as a whole.
 #[derive(Clone, Copy)]
+pub enum BlockKind {
+    /// The body of a macro.
+    Macro,
+    /// The body of a repeat.
+    Repeat,
+    /// The lines that go with a false condition, up to the next branch of its level.
+    Skipped,
+    /// The branches behind a true condition, through its `.endif`.
+    Passed,
+}
+
+/// What closes a block.
+#[derive(Drop)]
+pub enum BlockEnd {
+    /// `.elseif`, with what stands behind it.
+    ElseIf(Line),
+    Else,
+    /// The end of a macro, a repeat or a condition.
+    End,
+}
+
+/// The lines of a body, and what closed the block.
+#[derive(Drop)]
+pub struct WholeBlock {
+    pub lines: Sequence<Line>,
+    pub end: BlockEnd,
+}
+
+/// What a line does to the block that it stands in.
+#[derive(Drop)]
 pub enum BlockStep {
     /// The block goes on, with so many others open in it.
     On(u32),
-    Closed,
-}
-
-impl BlockStep {
-    /// Whether the block is closed.
-    fn is_last(self) -> bool
-        ensures { IsTrue result ↔ (self ≡ BlockStep.Closed) }
-    {
-        matches!(self, BlockStep::Closed)
-    }
-}
-
-/// The line that lines are skipped up to.
-#[derive(Drop)]
-pub enum BranchLine {
-    /// With what stands behind the directive.
-    ElseIf(Line),
-    Else,
-    EndIf,
-}
-
-/// What a line does to lines that are skipped.
-#[derive(Drop)]
-pub enum SkipStep {
-    /// They go on, with so many conditions open in them.
-    On(u32),
-    At(BranchLine),
+    Closed(BlockEnd),
 }
 
 /// A block is closed by a directive that nothing stands behind.
@@ -73,294 +77,224 @@ fn deeper(depth: u32) -> Result<BlockStep, ExpandFault>
     }
 }
 
-/// What a line does to the body of a macro.
-fn collect_step(tokens: &[Token<'_>]) -> Result<BlockStep, ExpandFault>
+/// What a directive does to the body of a macro, in which no other may be defined.
+fn macro_step(directive: Directive, tokens: &[Token<'_>]) -> Result<BlockStep, ExpandFault>
     ensures step { (body : List (List Lexeme)) →
-        Judges (λ d. body ++ lexemes tokens.now ∷ []) body result
-        (collects body (lexemes tokens.now)) }
+        Judges BlockKind.Macro body (lexemes tokens.now) result
+        (collecting body (lexemes tokens.now) (Some directive)) }
     ensures inside { IfErr result (λ e. is_failure e ≡ false) }
 {
-    if is_mislabelled(tokens) {
-        return Err(ExpandFault::NotUnderstood);
-    }
-    match line_directive(tokens) {
-        Some(Directive::EndMacro) => {
+    match directive {
+        Directive::EndMacro => {
             closed_alone(tokens)?;
-            Ok(BlockStep::Closed)
+            Ok(BlockStep::Closed(BlockEnd::End))
         }
-        Some(Directive::Macro) => Err(ExpandFault::MacroInside),
+        Directive::Macro => Err(ExpandFault::MacroInside),
         _ => Ok(BlockStep::On(0)),
     }
 }
 
-/// What a line does to the body of a repeat with so many others open in it.
-fn gather_step(tokens: &[Token<'_>], depth: u32) -> Result<BlockStep, ExpandFault>
+/// What a directive does to the body of a repeat with so many others open in it.
+fn repeat_step(
+    directive: Directive,
+    tokens: &[Token<'_>],
+    depth: u32,
+) -> Result<BlockStep, ExpandFault>
     ensures step { (body : List (List Lexeme)) →
-        Judges (λ d. (d, body ++ lexemes tokens.now ∷ [])) body result
-        (gathers (depth, body) (lexemes tokens.now)) }
+        Judges BlockKind.Repeat body (lexemes tokens.now) result
+        (gathering depth body (lexemes tokens.now) (Some directive)) }
     ensures inside { IfErr result (λ e. is_failure e ≡ false) }
 {
-    if is_mislabelled(tokens) {
-        return Err(ExpandFault::NotUnderstood);
-    }
-    match line_directive(tokens) {
-        Some(Directive::Repeat) => deeper(depth),
-        Some(Directive::EndRepeat) => {
+    match directive {
+        Directive::Repeat => deeper(depth),
+        Directive::EndRepeat => {
             if depth > 0 {
                 return Ok(BlockStep::On(depth - 1));
             }
             closed_alone(tokens)?;
-            Ok(BlockStep::Closed)
+            Ok(BlockStep::Closed(BlockEnd::End))
         }
         _ => Ok(BlockStep::On(depth)),
     }
 }
 
-/// What a line does to the lines through an `.endif` with so many conditions open in them.
-fn pass_step(tokens: &[Token<'_>], depth: u32) -> Result<BlockStep, ExpandFault>
-    ensures step { Judges (λ d. d) tt result (passes depth (lexemes tokens.now)) }
+/// What a directive does to lines through an `.endif` with so many conditions open in them.
+fn passed_step(directive: Directive, depth: u32) -> Result<BlockStep, ExpandFault>
+    ensures step { (body : List (List Lexeme)) (ts : List Lexeme) →
+        Judges BlockKind.Passed body ts result (passing depth (Some directive)) }
     ensures inside { IfErr result (λ e. is_failure e ≡ false) }
 {
-    if is_mislabelled(tokens) {
-        return Err(ExpandFault::NotUnderstood);
-    }
-    match line_directive(tokens) {
-        Some(Directive::If(_)) => deeper(depth),
-        Some(Directive::EndIf) => {
+    match directive {
+        Directive::If(_) => deeper(depth),
+        Directive::EndIf => {
             if depth > 0 {
                 Ok(BlockStep::On(depth - 1))
             } else {
-                Ok(BlockStep::Closed)
+                Ok(BlockStep::Closed(BlockEnd::End))
             }
         }
         _ => Ok(BlockStep::On(depth)),
-    }
-}
-
-/// What a kept line does to the body of a macro.
-fn collected(alloc: Global, line: &Line) -> Result<BlockStep, ExpandFault>
-    ensures step { (body : List (List Lexeme)) →
-        Judges (λ d. body ++ tokens_in line.now ∷ []) body result
-        (collects body (tokens_in line.now)) }
-    ensures inside { IfErr result (λ e. is_failure e ≡ false) }
-{
-    if line.is_plain() {
-        return Ok(BlockStep::On(0));
-    }
-    let tokens = line.tokens(alloc)?;
-    collect_step(tokens.as_slice())
-}
-
-/// What a kept line does to the body of a repeat with so many others open in it.
-fn gathered(alloc: Global, line: &Line, depth: u32) -> Result<BlockStep, ExpandFault>
-    ensures step { (body : List (List Lexeme)) →
-        Judges (λ d. (d, body ++ tokens_in line.now ∷ [])) body result
-        (gathers (depth, body) (tokens_in line.now)) }
-    ensures inside { IfErr result (λ e. is_failure e ≡ false) }
-{
-    if line.is_plain() {
-        return Ok(BlockStep::On(depth));
-    }
-    let tokens = line.tokens(alloc)?;
-    gather_step(tokens.as_slice(), depth)
-}
-
-/// What a kept line does to the lines through an `.endif` with so many conditions open in them.
-fn passed(alloc: Global, line: &Line, depth: u32) -> Result<BlockStep, ExpandFault>
-    ensures step { Judges (λ d. d) tt result (passes depth (tokens_in line.now)) }
-    ensures inside { IfErr result (λ e. is_failure e ≡ false) }
-{
-    if line.is_plain() {
-        return Ok(BlockStep::On(depth));
-    }
-    let tokens = line.tokens(alloc)?;
-    pass_step(tokens.as_slice(), depth)
-}
-
-impl Reader {
-    /// The lines up to the one that closes a macro.
-    pub fn collect<S: Store>(
-        &mut self,
-        alloc: Global,
-        store: &mut S,
-    ) -> Result<Sequence<Line>, ExpandFault>
-        ensures read { IfSome (S.files store.old) (λ m.
-            Answers (λ b. (map tokens_in b, left_of m self.new)) self.new.place result
-            (Block collects [] (left_of m self.old))) }
-        ensures room { OnOk result (self.new.room < self.old.room) }
-        ensures mark { mark_of self.new.top ≡ mark_of self.old.top }
-        ensures outer { self.new.outer ≡ self.old.outer }
-        ensures files { S.files store.new ≡ S.files store.old }
-        ensures count { Passes ExpandFault.FileError (S.failures store.old) (S.failures store.new) result }
-        ensures named { NamesFiles self.old → NamesFiles self.new }
-        ensures stopped { NamesFiles self.old → IfSome (S.files store.old) (λ m. StopsAt
-            (FailsInBlock (S.blamed store.new) collects []
-            (left_of m self.old)) self.old self.new result) }
-    {
-        let mut body = Sequence::new(alloc);
-        'lines: loop {
-            let line = self.block_line(alloc, store)?;
-            let step = collected(alloc, &line)?;
-            if step.is_last() {
-                return Ok(body);
-            }
-            body.push(line)?;
-        }
-    }
-
-    /// The lines up to the one that closes a repeat.
-    pub fn gather<S: Store>(
-        &mut self,
-        alloc: Global,
-        store: &mut S,
-    ) -> Result<Sequence<Line>, ExpandFault>
-        ensures read { IfSome (S.files store.old) (λ m.
-            Answers (λ b. (map tokens_in b, left_of m self.new)) self.new.place result
-            (Block gathers (0, []) (left_of m self.old))) }
-        ensures room { OnOk result (self.new.room < self.old.room) }
-        ensures mark { mark_of self.new.top ≡ mark_of self.old.top }
-        ensures outer { self.new.outer ≡ self.old.outer }
-        ensures files { S.files store.new ≡ S.files store.old }
-        ensures count { Passes ExpandFault.FileError (S.failures store.old) (S.failures store.new) result }
-        ensures named { NamesFiles self.old → NamesFiles self.new }
-        ensures stopped { NamesFiles self.old → IfSome (S.files store.old) (λ m. StopsAt
-            (FailsInBlock (S.blamed store.new) gathers (0, [])
-            (left_of m self.old)) self.old self.new result) }
-    {
-        let mut body = Sequence::new(alloc);
-        let mut depth = 0;
-        'lines: loop {
-            let line = self.block_line(alloc, store)?;
-            match gathered(alloc, &line, depth)? {
-                BlockStep::Closed => return Ok(body),
-                BlockStep::On(deeper) => {
-                    depth = deeper;
-                    body.push(line)?;
-                }
-            }
-        }
-    }
-
-    /// Passes over the lines through the `.endif` of a condition.
-    pub fn pass<S: Store>(&mut self, alloc: Global, store: &mut S) -> Result<(), ExpandFault>
-        ensures read { IfSome (S.files store.old) (λ m.
-            Answers (λ u. (u, left_of m self.new)) self.new.place result
-            (Block passes 0 (left_of m self.old))) }
-        ensures room { OnOk result (self.new.room < self.old.room) }
-        ensures mark { mark_of self.new.top ≡ mark_of self.old.top }
-        ensures outer { self.new.outer ≡ self.old.outer }
-        ensures files { S.files store.new ≡ S.files store.old }
-        ensures count { Passes ExpandFault.FileError (S.failures store.old) (S.failures store.new) result }
-        ensures named { NamesFiles self.old → NamesFiles self.new }
-        ensures stopped { NamesFiles self.old → IfSome (S.files store.old) (λ m. StopsAt
-            (FailsInBlock (S.blamed store.new) passes 0
-            (left_of m self.old)) self.old self.new result) }
-    {
-        let mut depth = 0;
-        'lines: loop {
-            self.pass_plain_lines();
-            let line = self.block_line(alloc, store)?;
-            match passed(alloc, &line, depth)? {
-                BlockStep::Closed => return Ok(()),
-                BlockStep::On(deeper) => depth = deeper,
-            }
-        }
-    }
-
-    /// Passes over the lines that go with a false condition, up to the next branch of its level.
-    pub fn skip<S: Store>(
-        &mut self,
-        alloc: Global,
-        store: &mut S,
-    ) -> Result<BranchLine, ExpandFault>
-        ensures read { IfSome (S.files store.old) (λ m.
-            Answers (λ b. (branch_of b, left_of m self.new)) self.new.place result
-            (Block skips 0 (left_of m self.old))) }
-        ensures room { OnOk result (self.new.room < self.old.room) }
-        ensures mark { mark_of self.new.top ≡ mark_of self.old.top }
-        ensures outer { self.new.outer ≡ self.old.outer }
-        ensures files { S.files store.new ≡ S.files store.old }
-        ensures count { Passes ExpandFault.FileError (S.failures store.old) (S.failures store.new) result }
-        ensures named { NamesFiles self.old → NamesFiles self.new }
-        ensures stopped { NamesFiles self.old → IfSome (S.files store.old) (λ m. StopsAt
-            (FailsInBlock (S.blamed store.new) skips 0
-            (left_of m self.old)) self.old self.new result) }
-    {
-        let mut depth = 0;
-        'lines: loop {
-            self.pass_plain_lines();
-            let line = self.block_line(alloc, store)?;
-            match skipped(alloc, &line, depth)? {
-                SkipStep::At(branch) => return Ok(branch),
-                SkipStep::On(deeper) => depth = deeper,
-            }
-        }
-    }
-}
-
-fn skip_deeper(depth: u32) -> Result<SkipStep, ExpandFault>
-    ensures { IsSkipDeeper depth result }
-{
-    match depth.checked_add(1) {
-        Some(depth) => Ok(SkipStep::On(depth)),
-        None => Err(ExpandFault::OutOfMemory),
     }
 }
 
 /// What a directive does to lines that are skipped with no condition open in them.
 fn branch_step(
     alloc: Global,
+    directive: Directive,
     tokens: &[Token<'_>],
-    directive: Option<Directive>,
-) -> Result<SkipStep, ExpandFault>
-    ensures step { JudgesSkip result (skipping 0 (lexemes tokens.now) directive) }
+) -> Result<BlockStep, ExpandFault>
+    ensures step { (body : List (List Lexeme)) →
+        Judges BlockKind.Skipped body (lexemes tokens.now) result
+        (skipping 0 (lexemes tokens.now) (Some directive)) }
     ensures inside { IfErr result (λ e. is_failure e ≡ false) }
 {
     match directive {
-        Some(Directive::If(_)) => Ok(SkipStep::On(1)),
-        Some(Directive::ElseIf) => {
+        Directive::If(_) => Ok(BlockStep::On(1)),
+        Directive::ElseIf => {
             let behind = Line::copy_of(alloc, behind_first(tokens))?;
-            Ok(SkipStep::At(BranchLine::ElseIf(behind)))
+            Ok(BlockStep::Closed(BlockEnd::ElseIf(behind)))
         }
-        Some(Directive::Else) => {
+        Directive::Else => {
             closed_alone(tokens)?;
-            Ok(SkipStep::At(BranchLine::Else))
+            Ok(BlockStep::Closed(BlockEnd::Else))
         }
-        Some(Directive::EndIf) => {
+        Directive::EndIf => {
             closed_alone(tokens)?;
-            Ok(SkipStep::At(BranchLine::EndIf))
+            Ok(BlockStep::Closed(BlockEnd::End))
         }
-        _ => Ok(SkipStep::On(0)),
+        _ => Ok(BlockStep::On(0)),
     }
 }
 
-/// What a line does to lines that are skipped with so many conditions open in them.
-fn skip_step(alloc: Global, tokens: &[Token<'_>], depth: u32) -> Result<SkipStep, ExpandFault>
-    ensures step { JudgesSkip result (skips depth (lexemes tokens.now)) }
+/// What a directive does to lines that are skipped with so many conditions open in them.
+fn skipped_step(
+    alloc: Global,
+    directive: Directive,
+    tokens: &[Token<'_>],
+    depth: u32,
+) -> Result<BlockStep, ExpandFault>
+    ensures step { (body : List (List Lexeme)) →
+        Judges BlockKind.Skipped body (lexemes tokens.now) result
+        (skipping depth (lexemes tokens.now) (Some directive)) }
     ensures inside { IfErr result (λ e. is_failure e ≡ false) }
 {
-    if is_mislabelled(tokens) {
-        return Err(ExpandFault::NotUnderstood);
-    }
-    let directive = line_directive(tokens);
     if depth == 0 {
-        return branch_step(alloc, tokens, directive);
+        return branch_step(alloc, directive, tokens);
     }
     match directive {
-        Some(Directive::If(_)) => skip_deeper(depth),
-        Some(Directive::EndIf) => Ok(SkipStep::On(depth - 1)),
-        _ => Ok(SkipStep::On(depth)),
+        Directive::If(_) => deeper(depth),
+        Directive::EndIf => Ok(BlockStep::On(depth - 1)),
+        _ => Ok(BlockStep::On(depth)),
     }
 }
 
-/// What a kept line does to lines that are skipped with so many conditions open in them.
-fn skipped(alloc: Global, line: &Line, depth: u32) -> Result<SkipStep, ExpandFault>
-    ensures step { JudgesSkip result (skips depth (tokens_in line.now)) }
-    ensures inside { IfErr result (λ e. is_failure e ≡ false) }
-{
-    if line.is_plain() {
-        return Ok(SkipStep::On(depth));
+impl BlockKind {
+    /// Whether the lines are kept.
+    fn is_kept(self) -> bool
+        ensures { result ≡ is_kept self }
+    {
+        matches!(self, BlockKind::Macro | BlockKind::Repeat)
     }
-    let tokens = line.tokens(alloc)?;
-    skip_step(alloc, tokens.as_slice(), depth)
+
+    /// What tokens do to the block with so many others open in it.
+    fn token_step(
+        self,
+        alloc: Global,
+        tokens: &[Token<'_>],
+        depth: u32,
+    ) -> Result<BlockStep, ExpandFault>
+        ensures step { (body : List (List Lexeme)) →
+            Judges self body (lexemes tokens.now) result
+            (judge_of self (state_of self depth body) (lexemes tokens.now)) }
+        ensures inside { IfErr result (λ e. is_failure e ≡ false) }
+    {
+        if is_mislabelled(tokens) {
+            return Err(ExpandFault::NotUnderstood);
+        }
+        let Some(directive) = line_directive(tokens) else {
+            return Ok(BlockStep::On(depth));
+        };
+        match self {
+            BlockKind::Macro => macro_step(directive, tokens),
+            BlockKind::Repeat => repeat_step(directive, tokens, depth),
+            BlockKind::Skipped => skipped_step(alloc, directive, tokens, depth),
+            BlockKind::Passed => passed_step(directive, depth),
+        }
+    }
+
+    /// What a line does to the block with so many others open in it.
+    fn step(self, alloc: Global, line: &Line, depth: u32) -> Result<BlockStep, ExpandFault>
+        ensures step { (body : List (List Lexeme)) →
+            Judges self body (tokens_in line.now) result
+            (judge_of self (state_of self depth body) (tokens_in line.now)) }
+        ensures inside { IfErr result (λ e. is_failure e ≡ false) }
+    {
+        if line.is_plain() {
+            return Ok(BlockStep::On(depth));
+        }
+        let tokens = line.tokens(alloc)?;
+        self.token_step(alloc, tokens.as_slice(), depth)
+    }
+
+    /// Puts a line behind the others, where they are kept.
+    fn keep(self, lines: &mut Sequence<Line>, line: Line) -> Result<(), AllocError>
+        ensures { OnOk result ((depth : ℕ) → state_of self depth (map tokens_in lines.new) ≡
+            state_of self depth (map tokens_in lines.old ++ tokens_in line ∷ [])) }
+    {
+        if self.is_kept() {
+            lines.push(line)?;
+        }
+        Ok(())
+    }
+}
+
+impl Reader {
+    /// Passes over plain lines where lines aren't kept.
+    fn pass_unkept(&mut self, kind: BlockKind)
+        ensures passed { (m : Files) → IsPassedOver (is_kept kind) (left_of m self.old) (left_of m self.new) }
+        ensures room { self.new.room ≤ self.old.room }
+        ensures mark { mark_of self.new.top ≡ mark_of self.old.top }
+        ensures outer { self.new.outer ≡ self.old.outer }
+        ensures named { NamesFiles self.old → NamesFiles self.new }
+    {
+        if !kind.is_kept() {
+            self.pass_plain_lines();
+        }
+    }
+
+    /// The lines of a block up to the one that closes it.
+    pub fn block<S: Store>(
+        &mut self,
+        alloc: Global,
+        store: &mut S,
+        kind: BlockKind,
+    ) -> Result<WholeBlock, ExpandFault>
+        ensures read { IfSome (S.files store.old) (λ m.
+            Answers (λ b. (answer_of kind (map tokens_in b.lines) b.end, left_of m self.new))
+            self.new.place result
+            (Block (judge_of kind) (state_of kind 0 []) (left_of m self.old))) }
+        ensures room { OnOk result (self.new.room < self.old.room) }
+        ensures mark { mark_of self.new.top ≡ mark_of self.old.top }
+        ensures outer { self.new.outer ≡ self.old.outer }
+        ensures files { S.files store.new ≡ S.files store.old }
+        ensures count { Passes ExpandFault.FileError (S.failures store.old) (S.failures store.new) result }
+        ensures named { NamesFiles self.old → NamesFiles self.new }
+        ensures stopped { NamesFiles self.old → IfSome (S.files store.old) (λ m. StopsAt
+            (FailsInBlock (S.blamed store.new) (judge_of kind) (state_of kind 0 [])
+            (left_of m self.old)) self.old self.new result) }
+    {
+        let mut lines = Sequence::new(alloc);
+        let mut depth = 0;
+        'lines: loop {
+            self.pass_unkept(kind);
+            let line = self.block_line(alloc, store)?;
+            match kind.step(alloc, &line, depth)? {
+                BlockStep::Closed(end) => return Ok(WholeBlock { lines, end }),
+                BlockStep::On(deeper) => {
+                    depth = deeper;
+                    kind.keep(&mut lines, line)?;
+                }
+            }
+        }
+    }
 }

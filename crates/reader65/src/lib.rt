@@ -12,7 +12,7 @@ mod passing;
 mod playing;
 mod reader;
 
-pub use blocks::BranchLine;
+pub use blocks::{BlockEnd, BlockKind, WholeBlock};
 pub use directives::{Directive, Test};
 pub use file::OpenFile;
 pub use fronts::{

@@ -1,7 +1,7 @@
 //! Sources and the statements that they expand to. Limits, and what else a program shows, are cases for the real program.
 
+mod at_hand;
 mod files;
-mod kept;
 mod values;
 
 use base65::{MemStore, Sequence, Store, Text};

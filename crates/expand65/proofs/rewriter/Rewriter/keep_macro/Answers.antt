@@ -22,22 +22,22 @@ returns-then-has_macro-clause-turns g c =
     let params = map (λ k. k.items) c.args.params.keys in
     where_so (g.S.Store.files c.args.store.now) (λ m. IsKept (state_of m old) name params (macro_of (macros_of old) name) (stops (MacroTwice, old.reader.place))) (λ m. twice (state_of m old) name params (ap (λ (n : List ℕ). is_some (macro_of (macros_of old) n)) (sym c.as_slice.ensures.value) ∙ sym c.has_macro.ensures ∙ c.if-has_macro.true))
 
-pub returns-in_err-lines-clause-turns : goal.returns-in_err-lines-clause-turns
-returns-in_err-lines-clause-turns g c =
+pub returns-in_err-block-clause-turns : goal.returns-in_err-block-clause-turns
+returns-in_err-block-clause-turns g c =
     let p = err_from_is_err_and c.from_residual.result c.from_residual.ensures.1 in
     let old = c.args.self.now in
-    let place = c.collect.new.self.place in
-    let f = c.in_err-lines.field-0.0 in
+    let place = c.block.new.self.place in
+    let f = c.in_err-block.field-0.0 in
     let name = c.args.name.items in
     let params = map (λ k. k.items) c.args.params.keys in
     let none = is_none (macro_of (macros_of old) name) (ap (λ (n : List ℕ). is_some (macro_of (macros_of old) n)) (sym c.as_slice.ensures.value) ∙ sym c.has_macro.ensures ∙ c.if-has_macro.false) in
-    rw (p.1, p.2) (where_known (g.S.Store.files c.args.store.now) (λ m. Unless (is_outside f) (Block collects [] (left_of m old.reader) (Err (f, place)))) (λ m. Unless (is_outside f) (IsKept (state_of m old) name params (macro_of (macros_of old) name) (stops (f, place)))) (λ m h. once_refused (state_of m old) name params f place none h) c.in_err-lines.ensures.read)
+    rw (p.1, p.2) (where_known (g.S.Store.files c.args.store.now) (λ m. Unless (is_outside f) (Block collects [] (left_of m old.reader) (Err (f, place)))) (λ m. Unless (is_outside f) (IsKept (state_of m old) name params (macro_of (macros_of old) name) (stops (f, place)))) (λ m h. once_refused (state_of m old) name params f place none h) c.in_err-block.ensures.read)
 
 pub returns-clause-turns : goal.returns-clause-turns
 returns-clause-turns g c =
     let old = c.args.self.now in
-    let new = c.collect.new.self in
-    let lines = c.in_ok-lines.lines in
+    let new = c.block.new.self in
+    let lines = c.in_ok-block.block.lines in
     let body : Body = record { params = c.args.params; lines = lines } in
     let none = is_none (macro_of (macros_of old) c.args.name.items) (ap (λ (n : List ℕ). is_some (macro_of (macros_of old) n)) (sym c.as_slice.ensures.value) ∙ sym c.has_macro.ensures ∙ c.if-has_macro.false) in
-    where_known (g.S.Store.files c.args.store.now) (λ m. Block collects [] (left_of m old.reader) (Ok (map tokens_in lines, left_of m new))) (λ m. IsKept (state_of m old) c.args.name.items (map (λ k. k.items) c.args.params.keys) (macro_of (macros_of old) c.args.name.items) (goes (rewritten m old new (map entry_of c.insert.new.self.entries)))) (λ m h. kept_one m old new c.args.name c.in_ok-body.body body c.insert.new.self.entries none c.in_ok-insert.ensures.entries c.in_ok-body.ensures.ok h) c.in_ok-lines.ensures.read
+    where_known (g.S.Store.files c.args.store.now) (λ m. Block collects [] (left_of m old.reader) (Ok (map tokens_in lines, left_of m new))) (λ m. IsKept (state_of m old) c.args.name.items (map (λ k. k.items) c.args.params.keys) (macro_of (macros_of old) c.args.name.items) (goes (rewritten m old new (map entry_of c.insert.new.self.entries)))) (λ m h. kept_one m old new c.args.name c.in_ok-body.body body c.insert.new.self.entries none c.in_ok-insert.ensures.entries c.in_ok-body.ensures.ok h) c.in_ok-block.ensures.read

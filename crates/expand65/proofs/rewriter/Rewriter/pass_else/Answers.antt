@@ -4,16 +4,16 @@ use Rattle.expand65.proofs.Stopping.{else_passed, else_refused, else_none, else_
 use Rattle.expand65.specs.declared.rewriter.Turn.{Turn}
 use Rattle.expand65.proofs.rewriter.Rewriter.pass_else.Goals as goal
 
-pub returns-in_err-pass-in-Some-false-clause-turns : goal.returns-in_err-pass-in-Some-false-clause-turns
-returns-in_err-pass-in-Some-false-clause-turns g c =
+pub returns-in_err-block-in-Some-false-clause-turns : goal.returns-in_err-block-in-Some-false-clause-turns
+returns-in_err-block-in-Some-false-clause-turns g c =
     let p = err_from_is_err_and c.from_residual.result c.from_residual.ensures.1 in
     let popped = rw c.in-Some-false.field-0-test at c.in-Some-false.ensures.pops in
-    rw (p.1, p.2) (else_refused (g.S.Store.files c.args.store.now) c.args.self.now c.pass.new.self.place c.pop_above.new.self c.in_err-pass-in-Some-false.field-0.0 popped c.in_err-pass-in-Some-false.ensures.read)
+    rw (p.1, p.2) (else_refused (g.S.Store.files c.args.store.now) c.args.self.now c.block.new.self.place c.pop_above.new.self c.in_err-block-in-Some-false.field-0.0 popped c.in_err-block-in-Some-false.ensures.read)
 
-pub returns-in_ok-pass-in-Some-false-clause-turns : goal.returns-in_ok-pass-in-Some-false-clause-turns
-returns-in_ok-pass-in-Some-false-clause-turns g c =
+pub returns-in_ok-block-in-Some-false-clause-turns : goal.returns-in_ok-block-in-Some-false-clause-turns
+returns-in_ok-block-in-Some-false-clause-turns g c =
     let popped = rw c.in-Some-false.field-0-test at c.in-Some-false.ensures.pops in
-    else_passed (g.S.Store.files c.args.store.now) c.args.self.now c.pass.new.self c.pop_above.new.self popped c.in_ok-pass-in-Some-false.ensures.read
+    else_passed (g.S.Store.files c.args.store.now) c.args.self.now c.block.new.self c.pop_above.new.self popped c.in_ok-block-in-Some-false.ensures.read
 
 pub returns-in-None-clause-turns : goal.returns-in-None-clause-turns
 returns-in-None-clause-turns g c = else_none (g.S.Store.files c.args.store.now) c.args.self.now c.in-None.ensures.pops
@@ -23,8 +23,8 @@ returns-in-Some-true-clause-turns g c =
     let popped = rw c.in-Some-true.field-0-test at c.in-Some-true.ensures.pops in
     else_twice (g.S.Store.files c.args.store.now) c.args.self.now c.pop_above.new.self popped
 
-pub returns-in_err-pass-in-Some-false-clause-stopped : goal.returns-in_err-pass-in-Some-false-clause-stopped
-returns-in_err-pass-in-Some-false-clause-stopped g c = λ names.
+pub returns-in_err-block-in-Some-false-clause-stopped : goal.returns-in_err-block-in-Some-false-clause-stopped
+returns-in_err-block-in-Some-false-clause-stopped g c = λ names.
     (let p = err_from_is_err_and c.from_residual.result c.from_residual.ensures.1 in
     let popped = rw c.in-Some-false.field-0-test at c.in-Some-false.ensures.pops in
-    rw (p.1, p.2) (stops_at_else {A = Turn} (g.S.Store.files c.args.store.now) (g.S.Store.blamed c.pass.new.store) c.args.self.now c.pass.new.self c.pop_above.new.self (Err c.in_err-pass-in-Some-false.field-0.0) popped (c.in_err-pass-in-Some-false.ensures.stopped names)))
+    rw (p.1, p.2) (stops_at_else {A = Turn} (g.S.Store.files c.args.store.now) (g.S.Store.blamed c.block.new.store) c.args.self.now c.block.new.self c.pop_above.new.self (Err c.in_err-block-in-Some-false.field-0.0) popped (c.in_err-block-in-Some-false.ensures.stopped names)))

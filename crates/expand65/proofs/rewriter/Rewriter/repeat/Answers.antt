@@ -16,18 +16,18 @@ use Rattle.expand65.proofs.rewriter.Rewriter.repeat.Goals as goal
 pub returns-clause-turns : goal.returns-clause-turns
 returns-clause-turns g c =
     let old = c.args.self.now in
-    let rd = c.gather.new.self in
+    let rd = c.block.new.self in
     let new = c.enter.new.self in
-    let lines = c.in_ok-lines.lines in
+    let lines = c.in_ok-block.block.lines in
     let body : Body = record { params = c.args.variable; lines = lines } in
     let replay : Replay = record { body = c.in_ok-body.body; at = c.len-at.result; arguments = c.new-arguments.result; count = None; locals = c.new-locals.result; number = 0 } in
     let n = c.args.count in
     let params = map (λ k. k.items) c.args.variable.keys in
     let ready = turns_ready replay body n c.in_ok-body.ensures.ok c.len-at.ensures c.new-arguments.ensures refl c.new-locals.ensures.empty refl in
-    where_known (g.S.Store.files c.args.store.now) (λ m. Block gathers (0, []) (left_of m old.reader) (Ok (map tokens_in lines, left_of m rd))) (λ m. IsRepeated (state_of m old) (Ok (n, params)) (goes (rewritten m old new (macros_of old)))) (λ m h. let P : ℕ → Type 0 = λ i. Ok (left_of m new) ≡ pushed (turns_left replay 0 n) (record { is_macro = false; conditions = i; back = None }) (left_of m rd) in repeated_one m old rd new replay body n h ready (subst P c.len.ensures (c.in_ok-enter.ensures.entered m))) c.in_ok-lines.ensures.read
+    where_known (g.S.Store.files c.args.store.now) (λ m. Block gathers (0, []) (left_of m old.reader) (Ok (map tokens_in lines, left_of m rd))) (λ m. IsRepeated (state_of m old) (Ok (n, params)) (goes (rewritten m old new (macros_of old)))) (λ m h. let P : ℕ → Type 0 = λ i. Ok (left_of m new) ≡ pushed (turns_left replay 0 n) (record { is_macro = false; conditions = i; back = None }) (left_of m rd) in repeated_one m old rd new replay body n h ready (subst P c.len.ensures (c.in_ok-enter.ensures.entered m))) c.in_ok-block.ensures.read
 
 pub returns-clause-named : goal.returns-clause-named
 returns-clause-named g c = λ h.
-    (let mid = c.gather.new.self in
+    (let mid = c.block.new.self in
     let new = c.enter.new.self in
-    goes_back new new mid.place refl refl c.enter.ensures.place (c.in_ok-enter.ensures.named mid.place tt refl (c.in_ok-lines.ensures.named h)))
+    goes_back new new mid.place refl refl c.enter.ensures.place (c.in_ok-enter.ensures.named mid.place tt refl (c.in_ok-block.ensures.named h)))

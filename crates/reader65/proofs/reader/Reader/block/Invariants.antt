@@ -1,12 +1,12 @@
 use Rattle.std.proofs.Common.{◌≡◌, ◌≤◌, [], map}
 use Rattle.std.specs.Prelude.{IfSome}
-use Rattle.reader65.specs.Blocks.{collects}
 use Rattle.reader65.specs.Inside.{mark_of}
+use Rattle.reader65.specs.Judging.{judge_of, state_of}
 use Rattle.reader65.specs.Playing.{tokens_in}
 use Rattle.reader65.specs.Stopping.{NamesFiles}
 use Rattle.reader65.proofs.Blocking.{Leads}
 use Rattle.reader65.proofs.Stopping.{Fails}
-use Rattle.reader65.proofs.reader.Reader.collect.Given as goal
+use Rattle.reader65.proofs.reader.Reader.block.Given as goal
 
 abbrev pub invariant-lines : goal.invariant-lines
 invariant-lines g l = record {
@@ -16,8 +16,8 @@ invariant-lines g l = record {
   files : g.S.Store.files l.store ≡ g.S.Store.files l.fn.store;
   count : g.S.Store.failures l.store ≡ g.S.Store.failures l.fn.store;
   named : NamesFiles l.fn.self → NamesFiles l.self;
-  reads : IfSome (g.S.Store.files l.fn.store) (Fails collects (map tokens_in l.body) l.self [] l.fn.self);
-  so_far : IfSome (g.S.Store.files l.fn.store) (Leads collects (map tokens_in l.body) l.self [] l.fn.self);
+  reads : IfSome (g.S.Store.files l.fn.store) (Fails (judge_of l.kind) (state_of l.kind l.depth (map tokens_in l.lines)) l.self (state_of l.kind 0 []) l.fn.self);
+  so_far : IfSome (g.S.Store.files l.fn.store) (Leads (judge_of l.kind) (state_of l.kind l.depth (map tokens_in l.lines)) l.self (state_of l.kind 0 []) l.fn.self);
 }
 
 abbrev pub decreases-lines : goal.decreases-lines

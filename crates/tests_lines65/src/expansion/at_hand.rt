@@ -1,11 +1,12 @@
-//! Statements that are put in the place of one that is kept.
+//! Statements of lines at hand, taken where they stand.
 
 use super::values::Constants;
 use super::{ROWS, in_folder, put_lines, refuse, spell};
 use base65::{MemStore, Store};
-use expand65::{Expander, Options, Statement};
+use expand65::{Expander, Line, Options, Statement};
 use std::alloc::{AllocError, Global};
 use std::test::Fail;
+use syntax65::LineTokens;
 
 /// Lines with nothing on them, with a CR, or with many tokens; then an arrow, and the statements.
 const LINES: &str = "\
@@ -14,19 +15,46 @@ lda #1 // .byte 1,2,3,4,5,6,7,8,9 // rts // l: inx ==> lda # 1 ;.byte 1 , 2 , 3 
 nop // ~? // nop ==> nop ;b.s:2: bad character
 ";
 
-/// Puts the statements that an expander gives behind others, each in the place of the one before, and then why it is
+/// Puts the statements of the next line behind others, where it is at hand and given as it stands; whether it was.
+fn spell_at_hand(
+    alloc: Global,
+    expander: &mut Expander,
+    out: &mut Vec<u8>,
+) -> Result<bool, AllocError> {
+    let mut tokens = LineTokens::new();
+    let Some(line) = expander.peek(&mut tokens) else {
+        return Ok(false);
+    };
+    let Some(len) = expander.label_of_given(tokens.as_slice()) else {
+        return Ok(false);
+    };
+    let (label, rest) = tokens.as_slice().split_at(len);
+    if !label.is_empty() {
+        spell(alloc, &Statement::Label(Line::copy_of(alloc, label)?), out)?;
+    }
+    if !rest.is_empty() {
+        spell(alloc, &Statement::Plain(Line::copy_of(alloc, rest)?), out)?;
+    }
+    drop(tokens);
+    expander.take_peeked(line);
+    Ok(true)
+}
+
+/// Puts the statements that an expander gives behind others, those of lines at hand as they stand, and then why it is
 /// refused, if it is.
-fn spell_kept<S: Store>(
+fn spell_ahead<S: Store>(
     alloc: Global,
     store: &mut S,
     expander: &mut Expander,
 ) -> Result<Vec<u8>, AllocError> {
     let mut out = Vec::new(alloc);
-    let mut statement = Statement::new(alloc);
     for _ in 0..70_000 {
-        match expander.next_into(store, &Constants { all: false }, &mut statement) {
-            Ok(true) => spell(alloc, &statement, &mut out)?,
-            Ok(false) => break,
+        if spell_at_hand(alloc, expander, &mut out)? {
+            continue;
+        }
+        match expander.next(store, &Constants { all: false }) {
+            Ok(Some(statement)) => spell(alloc, &statement, &mut out)?,
+            Ok(None) => break,
             Err(fault) => {
                 refuse(alloc, expander, &fault, &mut out)?;
                 break;
@@ -37,9 +65,9 @@ fn spell_kept<S: Store>(
 }
 
 /// The statements of `b.s`.
-fn kept<S: Store>(alloc: Global, store: &mut S, options: &Options) -> Result<Vec<u8>, AllocError> {
+fn ahead<S: Store>(alloc: Global, store: &mut S, options: &Options) -> Result<Vec<u8>, AllocError> {
     match Expander::open(alloc, store, "b.s", options) {
-        Ok(mut expander) => spell_kept(alloc, store, &mut expander),
+        Ok(mut expander) => spell_ahead(alloc, store, &mut expander),
         Err(fault) => Vec::from_slice(alloc, fault.words()),
     }
 }
@@ -52,7 +80,7 @@ fn count_right(alloc: Global, rows: &str) -> Result<u32, Fail> {
     for row in rows.lines() {
         let (lines, wanted) = row.split_once(" ==> ").ok_or("no arrow")?;
         put_lines(alloc, &mut store, "b.s", lines)?;
-        let found = kept(alloc, &mut store, &options)?;
+        let found = ahead(alloc, &mut store, &options)?;
         if found.as_slice() == wanted.as_bytes() {
             count = count.saturating_add(1);
         }

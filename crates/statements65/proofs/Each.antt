@@ -1,15 +1,14 @@
 -- Lists that are read part by part.
-use Rattle.std.proofs.Common.{◌≡◌, ℕ, suc, Bool, true, false, List, [], ◌∷◌, ◌++◌, length, Option, Some, None, Result, Ok, Err, refl, ap, sym, ◌∙◌, subst, append_assoc, append-nil, option_map, Bor}
+use Rattle.std.proofs.Common.{◌≡◌, ◌≢◌, ℕ, suc, Bool, true, false, List, [], ◌∷◌, ◌++◌, length, Option, Some, None, Result, Ok, Err, refl, ap, sym, ◌∙◌, subst, append_assoc, append-nil, option_map, Bor}
 use Rattle.std.specs.Result.{IsErrAnd}
 use Rattle.base65.specs.Outcome.{◌>>=◌, Unless}
 use Rattle.base65.specs.Relations.{Answers}
 use Rattle.syntax65.specs.Tokens.{Lexeme, lexemes}
 use Rattle.syntax65.specs.declared.lexing.tokens.Token.{Token}
-use Rattle.language65.specs.Faults.{is_outside}
-use Rattle.statements65.specs.Parsing.{parts_behind, parts_of, unknown, words_of, EachIs, IsAmount}
-use Rattle.language65.specs.declared.language.Statement.{Statement}
 use Rattle.syntax65.specs.Trees.{Tree}
-use Rattle.statements65.proofs.Parts.{too_many, too_many_words}
+use Rattle.language65.specs.Faults.{is_outside}
+use Rattle.statements65.specs.Parsing.{parts_behind, parts_of, unknown, words_of, EachIs, IsOneOrTwo, IsRange, Parses, Then}
+use Rattle.statements65.proofs.Parts.{some_part, too_many, too_many_words}
 use Rattle.language65.specs.declared.fault.AsmFault.{AsmFault}
 
 -- what was found, before more
@@ -58,13 +57,23 @@ ended Is all found (Some left) none goes = absurd (none left refl)
 
 -- ---- Too many parts.
 
-pub three_parts : (make : Tree → Option Tree → Statement) (ts n v : List Lexeme) (rest more : Option (Bor (List Token))) (b c : Bor (List Token)) → parts_of ts ≡ n ∷ parts_left rest → rest ≡ Some b → parts_of (lexemes b.now) ≡ v ∷ parts_left more → more ≡ Some c → IsAmount make (parts_of ts) unknown
-three_parts make ts n v rest more b c e f g h =
-    let P : List (List Lexeme) → Type 0 = λ ps. IsAmount make ps unknown in
-    let Q : List (List Lexeme) → Type 0 = λ ps. IsAmount make (n ∷ ps) unknown in
+pub three_parts : (ts n v : List Lexeme) (rest more : Option (Bor (List Token))) (b c : Bor (List Token)) → parts_of ts ≡ n ∷ parts_left rest → rest ≡ Some b → parts_of (lexemes b.now) ≡ v ∷ parts_left more → more ≡ Some c → IsOneOrTwo (parts_of ts) unknown
+three_parts ts n v rest more b c e f g h =
+    let P : List (List Lexeme) → Type 0 = λ ps. IsOneOrTwo ps unknown in
+    let Q : List (List Lexeme) → Type 0 = λ ps. IsOneOrTwo (n ∷ ps) unknown in
     let all = e ∙ ap (λ o. n ∷ parts_left o) f in
     let next = g ∙ ap (λ o. v ∷ parts_left o) h in
-    subst P (sym all) (subst Q (sym next) (too_many make n v (lexemes c.now)))
+    subst P (sym all) (subst Q (sym next) (too_many n v (lexemes c.now)))
+
+-- what stands behind a comma has a part, so a start
+pub some_range : (rest : Option (Bor (List Token))) (b : Bor (List Token)) (result : Result (Option Tree × Option Tree) AsmFault) → rest ≡ Some b → Parses result (Then (IsOneOrTwo (parts_of (lexemes b.now))) (λ x. Ok (Some x.0, x.1))) → Parses result (IsRange (parts_left rest))
+some_range rest b result e h =
+    let P : Option (Bor (List Token)) → Type 0 = λ o. Parses result (IsRange (parts_left o)) in
+    subst P (sym e) (go (parts_of (lexemes b.now)) (some_part (lexemes b.now)) h)
+  where
+    go : (ps : List (List Lexeme)) → ps ≢ [] → Parses result (Then (IsOneOrTwo ps) (λ x. Ok (Some x.0, x.1))) → Parses result (IsRange ps)
+    go [] n h = absurd (n refl)
+    go (p ∷ ps) n h = h
 
 pub two_texts : (ts part : List Lexeme) (rest : Option (Bor (List Token))) (b : Bor (List Token)) → parts_of ts ≡ part ∷ parts_left rest → rest ≡ Some b → unknown ≡ words_of (parts_of ts)
 two_texts ts part rest b e f =

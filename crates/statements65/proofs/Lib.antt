@@ -2,5 +2,4 @@ pub mod Each
 pub mod Lone
 pub mod OneStatements
 pub mod Parts
-pub mod Ranges
 pub mod Sounding

@@ -130,23 +130,18 @@ operand_one (t ∷ ts) = operand_from_one t.0 (t ∷ ts) ts
 list_one : (which : Elements) (width : Width) (ts : List Lexeme) → One (p.IsList which width ts)
 list_one which width ts = then_one (p.EachIs (p.IsItem which) (p.parts_of ts)) (λ xs. Ok (statement.Values width xs)) (each_one (p.IsItem which) (item_one which) (p.parts_of ts))
 
-amount_with_one : (make : Tree → Option Tree → Statement) (v : List Lexeme) (x : Tree) → One (p.IsAmountWith make x v)
-amount_with_one make v x = then_one (p.IsExpression v) (λ y. Ok (make x (Some y))) (expression_one v)
+one_or_two_one : (parts : List (List Lexeme)) → One (p.IsOneOrTwo parts)
+one_or_two_one [] = same_one p.unknown
+one_or_two_one (n ∷ []) = then_one (p.IsExpression n) (λ x. Ok (x, None)) (expression_one n)
+one_or_two_one (n ∷ v ∷ []) = followed_one (p.IsExpression n) (λ q. q) (λ x. p.Then (p.IsExpression v) (λ y. Ok (x, Some y))) (expression_one n) (λ x. then_one (p.IsExpression v) (λ y. Ok (x, Some y)) (expression_one v))
+one_or_two_one (n ∷ v ∷ w ∷ parts) = same_one p.unknown
 
 amount_one : (make : Tree → Option Tree → Statement) (parts : List (List Lexeme)) → One (p.IsAmount make parts)
-amount_one make [] = same_one p.unknown
-amount_one make (n ∷ []) = then_one (p.IsExpression n) (λ x. Ok (make x None)) (expression_one n)
-amount_one make (n ∷ v ∷ []) = followed_one (p.IsExpression n) (λ q. q) (λ x. p.IsAmountWith make x v) (expression_one n) (amount_with_one make v)
-amount_one make (n ∷ v ∷ w ∷ parts) = same_one p.unknown
-
-range_with_one : (n : List Lexeme) (start : Tree) → One (p.IsRangeWith start n)
-range_with_one n start = then_one (p.IsExpression n) (λ len. Ok (Some start, Some len)) (expression_one n)
+amount_one make parts = then_one (p.IsOneOrTwo parts) (λ x. Ok (make x.0 x.1)) (one_or_two_one parts)
 
 range_one : (parts : List (List Lexeme)) → One (p.IsRange parts)
 range_one [] = same_one (Ok (None, None))
-range_one (s ∷ []) = then_one (p.IsExpression s) (λ start. Ok (Some start, None)) (expression_one s)
-range_one (s ∷ n ∷ []) = followed_one (p.IsExpression s) (λ q. q) (λ start. p.IsRangeWith start n) (expression_one s) (range_with_one n)
-range_one (s ∷ n ∷ w ∷ parts) = same_one p.unknown
+range_one (n ∷ parts) = then_one (p.IsOneOrTwo (n ∷ parts)) (λ x. Ok (Some x.0, x.1)) (one_or_two_one (n ∷ parts))
 
 part_of_one : (name : Option (List ℕ)) (range : List (List Lexeme)) → One (p.IsPartOf name range)
 part_of_one None range = same_one p.unknown

@@ -1,5 +1,5 @@
 -- Parts between commas.
-use Rattle.std.proofs.Common.{◌≡◌, ◌≢◌, ℕ, zero, suc, ◌+◌, ◌-◌, ◌<◌, ◌≤◌, Bool, true, false, nat_eq, not, List, [], ◌∷◌, Option, Some, None, if◌then◌else◌, length, take, drop, Result, Ok, Err, refl, ap, sym, ◌∙◌, arith, add-one, one-add, length-drop, subst}
+use Rattle.std.proofs.Common.{◌≡◌, ◌≢◌, ℕ, zero, suc, ◌+◌, ◌-◌, ◌<◌, ◌≤◌, Bool, true, false, nat_eq, not, List, [], ◌∷◌, None, if◌then◌else◌, length, take, drop, Result, Ok, Err, refl, ap, sym, ◌∙◌, arith, add-one, one-add, length-drop, subst}
 use Rattle.std.proofs.lemmas.Bool.Decides.{nat_tests}
 use Rattle.std.specs.List.{prefix_len}
 use Rattle.std.proofs.lemmas.List.{take_all}
@@ -15,10 +15,9 @@ use Rattle.syntax65.specs.Tokens.{Lexeme, lexeme_of, lexemes}
 use Rattle.syntax65.specs.Trees.{Tree, number}
 use Rattle.syntax65.specs.declared.expressions.words.ExprFault.{ExprFault}
 use Rattle.syntax65.specs.declared.lexing.tokens.Token.{Token}
-use Rattle.statements65.specs.Parsing.{before_parts, is_comma, parts_of, string_of, unknown, whole, words_of, IsAmount, IsExpression, IsFront, IsItem, Then}
+use Rattle.statements65.specs.Parsing.{before_parts, is_comma, parts_of, string_of, unknown, whole, words_of, IsExpression, IsFront, IsItem, IsOneOrTwo, Then}
 use Rattle.statements65.specs.declared.reading.words.Elements.{Elements}
 use Rattle.statements65.specs.declared.reading.words.Elements.TheVariants.{Values, ValuesAndTexts}
-use Rattle.language65.specs.declared.language.Statement.{Statement}
 use Rattle.language65.specs.declared.language.Item.TheVariants.{Value}
 
 pub lexemes_len : (ts : List Token) → length (lexemes ts) ≡ length ts
@@ -188,10 +187,10 @@ some_part (t ∷ ts) h = go (is_comma t) (parts_of ts) refl refl
     go false [] e f = let P : Bool → Type 0 = λ b. (if b then [] ∷ parts_of ts else before_parts t (parts_of ts)) ≡ [] in let x = subst P e h in let Q : List (List Lexeme) → Type 0 = λ ps. before_parts t ps ≡ [] in let y = subst Q f x in absurd cc
     go false (p ∷ ps) e f = let P : Bool → Type 0 = λ b. (if b then [] ∷ parts_of ts else before_parts t (parts_of ts)) ≡ [] in let x = subst P e h in let Q : List (List Lexeme) → Type 0 = λ ps. before_parts t ps ≡ [] in let y = subst Q f x in absurd cc
 
-pub too_many : (make : Tree → Option Tree → Statement) (n v ts : List Lexeme) → IsAmount make (n ∷ v ∷ parts_of ts) unknown
-too_many make n v ts = go (parts_of ts) (some_part ts)
+pub too_many : (n v ts : List Lexeme) → IsOneOrTwo (n ∷ v ∷ parts_of ts) unknown
+too_many n v ts = go (parts_of ts) (some_part ts)
   where
-    go : (ps : List (List Lexeme)) → ps ≢ [] → IsAmount make (n ∷ v ∷ ps) unknown
+    go : (ps : List (List Lexeme)) → ps ≢ [] → IsOneOrTwo (n ∷ v ∷ ps) unknown
     go [] h = absurd (h refl)
     go (p ∷ ps) h = refl
 

@@ -231,18 +231,8 @@ amount_sound : (which : Amount) (n : Tree) (v : Option Tree) → IsSound (p.amou
 amount_sound amount.Reserve n v = tt
 amount_sound amount.Align n v = tt
 
-amount_with_sound : (which : Amount) (n : Tree) (v : List Lexeme) (x : Statement) → p.IsAmountWith (p.amount_statement which) n v (Ok x) → IsSound x
-amount_with_sound which n v x h = after h.0 (λ y. good (p.amount_statement which n (Some y))) x (λ y. made x (p.amount_statement which n (Some y)) (amount_sound which n (Some y))) h.2
-
-amount_first_sound : (which : Amount) (v : List Lexeme) (x : Statement) (q : Result Tree AsmFault) → First q (λ n. p.IsAmountWith (p.amount_statement which) n v) (Ok x) → IsSound x
-amount_first_sound which v x (Ok n) h = amount_with_sound which n v x h
-amount_first_sound which v x (Err e) h = cc
-
 amounts_sound : (which : Amount) (parts : List (List Lexeme)) (x : Statement) → p.IsAmount (p.amount_statement which) parts (Ok x) → IsSound x
-amounts_sound which [] x h = cc
-amounts_sound which (n ∷ []) x h = after h.0 (λ y. good (p.amount_statement which y None)) x (λ y. made x (p.amount_statement which y None) (amount_sound which y None)) h.2
-amounts_sound which (n ∷ v ∷ []) x h = amount_first_sound which v x h.0 h.2
-amounts_sound which (n ∷ v ∷ w ∷ parts) x h = cc
+amounts_sound which parts x h = after h.0 (λ (y : Tree × Option Tree). good (p.amount_statement which y.0 y.1)) x (λ y. made x (p.amount_statement which y.0 y.1) (amount_sound which y.0 y.1)) h.2
 
 part_of_sound : (name : Option (List ℕ)) (range : List (List Lexeme)) (x : Statement) → p.IsPartOf name range (Ok x) → IsSound x
 part_of_sound None range x h = cc

@@ -152,6 +152,12 @@ abbrev pub EachIs : {A B : Type 0} → (A → Result B AsmFault → Type 0) → 
 EachIs Is [] r = r ≡ Ok []
 EachIs Is (x ∷ xs) r = (q : Result _ AsmFault) × Is x q × First q (λ y s. (rest : Result (List _) AsmFault) × EachIs Is xs rest × (s ≡ (rest >>= (λ ys. Ok (y ∷ ys))))) r
 
+-- one expression or two
+abbrev pub IsOneOrTwo : List (List Lexeme) → Result (Tree × Option Tree) AsmFault → Type 0
+IsOneOrTwo (n ∷ []) r = Then (IsExpression n) (λ x. Ok (x, None)) r
+IsOneOrTwo (n ∷ v ∷ []) r = (q : Result Tree AsmFault) × IsExpression n q × First q (λ x. Then (IsExpression v) (λ y. Ok (x, Some y))) r
+IsOneOrTwo _ r = r ≡ unknown
+
 -- an element that is a value
 abbrev pub IsValue : List Lexeme → Result Item AsmFault → Type 0
 IsValue ts r = Then (IsExpression ts) (λ x. Ok (Value x)) r
@@ -250,14 +256,9 @@ lone_statement lone.Data = Segment (codes "DATA") None
 lone_statement lone.Bss = Segment (codes "BSS") None
 lone_statement lone.ZeroPage = Segment (codes "ZEROPAGE") None
 
-abbrev pub IsAmountWith : (Tree → Option Tree → Statement) → Tree → List Lexeme → Result Statement AsmFault → Type 0
-IsAmountWith make x v r = Then (IsExpression v) (λ y. Ok (make x (Some y))) r
-
 -- `n[,v]`
 abbrev pub IsAmount : (Tree → Option Tree → Statement) → List (List Lexeme) → Result Statement AsmFault → Type 0
-IsAmount make (n ∷ []) r = Then (IsExpression n) (λ x. Ok (make x None)) r
-IsAmount make (n ∷ v ∷ []) r = (q : Result Tree AsmFault) × IsExpression n q × First q (λ x. IsAmountWith make x v) r
-IsAmount make _ r = r ≡ unknown
+IsAmount make parts r = Then (IsOneOrTwo parts) (λ x. Ok (make x.0 x.1)) r
 
 abbrev pub amount_statement : Amount → Tree → Option Tree → Statement
 amount_statement amount.Reserve n v = Reserve n v
@@ -351,8 +352,9 @@ processor_of ts = understood (string_of ts) >>= (λ s. if bytes_eq s (codes "650
 
 -- ---- Directives.
 
-abbrev pub data_words : List (List ℕ × Directive)
-data_words =
+-- the directives by their words
+abbrev pub words : List (List ℕ × Directive)
+words =
     (codes ".byte", directive.List elements.ValuesAndTexts Byte)
     ∷ (codes ".byt", directive.List elements.ValuesAndTexts Byte)
     ∷ (codes ".word", directive.List elements.Values Word)
@@ -360,49 +362,29 @@ data_words =
     ∷ (codes ".dbyt", directive.List elements.Values HighFirst)
     ∷ (codes ".dword", directive.List elements.Values Dword)
     ∷ (codes ".asciiz", directive.EndedText)
-    ∷ []
-
-abbrev pub place_words : List (List ℕ × Directive)
-place_words =
-    (codes ".res", directive.Amount amount.Reserve)
+    ∷ (codes ".res", directive.Amount amount.Reserve)
     ∷ (codes ".align", directive.Amount amount.Align)
     ∷ (codes ".incbin", directive.FilePart)
     ∷ (codes ".segment", directive.Segment)
     ∷ (codes ".pushseg", directive.Lone lone.PushSegment)
     ∷ (codes ".popseg", directive.Lone lone.PopSegment)
-    ∷ []
-
-abbrev pub segment_words : List (List ℕ × Directive)
-segment_words =
-    (codes ".code", directive.Lone lone.Code)
+    ∷ (codes ".code", directive.Lone lone.Code)
     ∷ (codes ".rodata", directive.Lone lone.Rodata)
     ∷ (codes ".data", directive.Lone lone.Data)
     ∷ (codes ".bss", directive.Lone lone.Bss)
     ∷ (codes ".zeropage", directive.Lone lone.ZeroPage)
-    ∷ []
-
-abbrev pub scope_words : List (List ℕ × Directive)
-scope_words =
-    (codes ".scope", directive.Scope)
+    ∷ (codes ".scope", directive.Scope)
     ∷ (codes ".endscope", directive.Lone lone.EndScope)
     ∷ (codes ".proc", directive.Proc)
     ∷ (codes ".endproc", directive.Lone lone.EndProc)
-    ∷ []
-
-abbrev pub name_words : List (List ℕ × Directive)
-name_words =
-    (codes ".import", directive.Names (names.Import size.Absolute))
+    ∷ (codes ".import", directive.Names (names.Import size.Absolute))
     ∷ (codes ".importzp", directive.Names (names.Import size.ZeroPage))
     ∷ (codes ".export", directive.Names names.Export)
     ∷ (codes ".exportzp", directive.Names names.Export)
     ∷ (codes ".global", directive.Names (names.Global size.Absolute))
     ∷ (codes ".globalzp", directive.Names (names.Global size.ZeroPage))
     ∷ (codes ".forceimport", directive.Names names.ForceImport)
-    ∷ []
-
-abbrev pub message_words : List (List ℕ × Directive)
-message_words =
-    (codes ".assert", directive.Assert)
+    ∷ (codes ".assert", directive.Assert)
     ∷ (codes ".out", directive.Message message.Out)
     ∷ (codes ".warning", directive.Message message.Warning)
     ∷ (codes ".p02", directive.Lone lone.Processor)
@@ -413,25 +395,16 @@ abbrev pub among : List (List ℕ × Directive) → List ℕ → Option Directiv
 among [] d = None
 among ((name, w) ∷ ws) d = if str_eq_ignore_ascii_case d name then Some w else among ws d
 
-abbrev pub or_else : Option Directive → Option Directive → Option Directive
-or_else None other = other
-or_else (Some w) other = Some w
-
 -- what a directive asks for
 abbrev pub directive_of : List ℕ → Option Directive
-directive_of d = or_else (among data_words d) (or_else (among place_words d) (or_else (among segment_words d) (or_else (among scope_words d) (or_else (among name_words d) (among message_words d)))))
+directive_of d = among words d
 
 -- ---- Parts of files.
-
-abbrev pub IsRangeWith : Tree → List Lexeme → Result (Option Tree × Option Tree) AsmFault → Type 0
-IsRangeWith start n r = Then (IsExpression n) (λ len. Ok (Some start, Some len)) r
 
 -- a start and a length, each where it is there
 abbrev pub IsRange : List (List Lexeme) → Result (Option Tree × Option Tree) AsmFault → Type 0
 IsRange [] r = r ≡ Ok (None, None)
-IsRange (s ∷ []) r = Then (IsExpression s) (λ start. Ok (Some start, None)) r
-IsRange (s ∷ n ∷ []) r = (q : Result Tree AsmFault) × IsExpression s q × First q (λ start. IsRangeWith start n) r
-IsRange _ r = r ≡ unknown
+IsRange parts r = Then (IsOneOrTwo parts) (λ x. Ok (Some x.0, x.1)) r
 
 abbrev pub IsPartOf : Option (List ℕ) → List (List Lexeme) → Result Statement AsmFault → Type 0
 IsPartOf None range r = r ≡ unknown

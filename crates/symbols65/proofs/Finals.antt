@@ -16,11 +16,11 @@ use Rattle.language65.specs.declared.fault.AsmFault.{AsmFault}
 use Rattle.language65.specs.declared.fault.AsmFault.TheVariants.{NoSuchLabel, NoSuchScope, Undefined}
 use Rattle.language65.specs.declared.laid.Spot.{Spot}
 use Rattle.language65.specs.Names.{Meaning, defined_at, enclosing, first_found, last_of, meaning_of, member_meaning, or_else, or_fault, outward_from, plain_meaning, scope_from, scoped_meaning, scopes_of, shown, unnamed_meaning}
-use Rattle.language65.specs.Norms.{address_of, folded, form_of_definition, form_of_meaning, form_of_value, norm, norm_of}
+use Rattle.language65.specs.Norms.{folded, form_of_definition, form_of_meaning, norm, norm_of}
 use Rattle.language65.specs.Symbols.{Definition, Key, Symbols, cheap_in, defined, imported, named, same_key, unnamed_at}
 use Rattle.symbols65.specs.declared.resolving.attempt.Source.TheVariants.{Finals}
 use Rattle.symbols65.specs.declared.resolving.attempt.State.{State}
-use Rattle.symbols65.specs.declared.resolving.attempt.State.TheVariants.{Unknown, Waiting, Hangs, Found}
+use Rattle.symbols65.specs.declared.resolving.attempt.State.TheVariants.{Found}
 use Rattle.symbols65.specs.declared.table.symbols.Symbols as code
 use Rattle.language65.specs.Extending.{Extends}
 use Rattle.symbols65.specs.Finals.{IsFinalWithin, IsReference, binary_form, prefix_form}

@@ -1,30 +1,24 @@
 -- Tables with one word, one definition or one scope more.
 use Rattle.std.proofs.lemmas.Grind.{common_steps}
-use Rattle.std.proofs.Common.{◌≡◌, ℕ, zero, suc, ◌+◌, ◌<◌, Bool, true, false, cond, List, [], ◌∷◌, ◌++◌, length, map, get_or, position, Option, Some, None, option_map, ◌⊎◌, inl, inr, refl, sym, ap, ◌∙◌, subst, arith}
-use Rattle.std.specs.Prelude.{slice_get, ◌==◌, ◌&&◌, OnOk, OnErr, Result, Ok, Err, if◌then◌else◌}
+use Rattle.std.proofs.Common.{◌≡◌, ℕ, zero, suc, ◌+◌, ◌<◌, Bool, true, false, cond, List, [], ◌∷◌, ◌++◌, length, map, get_or, position, Option, Some, None, option_map, refl, sym, ap, ◌∙◌, subst, arith}
+use Rattle.std.specs.Prelude.{OnOk, OnErr, Result, if◌then◌else◌}
 use Rattle.std.specs.List.{position_from}
 use Rattle.std.specs.Map.{keys_of}
 use Rattle.std.specs.Str.{bytes_eq}
 use Rattle.std.proofs.lemmas.Iterator.Adapters.{position_from-zero}
 use Rattle.std.proofs.lemmas.Bool.Decides.{nat_tests}
-use Rattle.std.proofs.lemmas.List.{append_assoc}
 use Rattle.std.proofs.lemmas.Option.{slice_get_within}
 use Rattle.indexmap.specs.IndexMap.{insert_entry}
-use Rattle.object65.specs.Form.{Form}
 use Rattle.language65.specs.Symbols as l
 use Rattle.language65.specs.Symbols.{Key, named, cheap_in, unnamed_at}
-use Rattle.language65.specs.declared.fault.AsmFault.TheVariants.{ScopeTwice}
-use Rattle.language65.specs.LineFaults.{opened_twice, where_there}
-use Rattle.language65.specs.Names.{is_named, numbered}
+use Rattle.language65.specs.LineFaults.{opened_twice}
 use Rattle.symbols65.specs.declared.table.entries.Entry.{Entry}
 use Rattle.symbols65.specs.declared.table.entries.Entry.TheVariants as entry
 use Rattle.symbols65.specs.declared.table.entries.Opening.{Opening}
 use Rattle.symbols65.specs.declared.table.entries.Opening.TheVariants as opening
 use Rattle.symbols65.specs.declared.table.definition.Definition.{Definition}
-use Rattle.language65.specs.Norms.{form_of_value, norm}
 use Rattle.language65.specs.Extending.{Extends}
-use Rattle.symbols65.specs.Finals.{formed}
-use Rattle.symbols65.specs.Tables.{AreCounted, AreDistinct, AreFinal, AreNumbered, Begins, HasNumber, IsCounted, IsOpening, KeepsFinal, definition_in, entry_of, first_number, key_in, place_of_opening, same_opening, scope_by, scope_opened, table_without_imports, word_at, word_of, word_opened}
+use Rattle.symbols65.specs.Tables.{AreCounted, AreDistinct, AreFinal, AreNumbered, Begins, HasNumber, IsCounted, IsOpening, KeepsFinal, definition_in, entry_of, first_number, key_in, same_opening, scope_by, scope_opened, table_without_imports, word_at, word_of, word_opened}
 use Rattle.symbols65.proofs.Words.{position_none, first_within, first_passes, get_more, map_same, position_same, position_stays, finds_opened, get_word, keys_get}
 use Rattle.language65.proofs.Lists.{same_bytes}
 

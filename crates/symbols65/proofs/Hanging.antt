@@ -1,5 +1,5 @@
 -- Tables of forms by what they know, and constants that hang on others.
-use Rattle.std.proofs.Common.{◌≡◌, ◌≢◌, ℕ, ◌+◌, ◌<◌, refl, sym, ap, ◌∙◌, subst, arith, List, [], ◌∷◌, ◌++◌, length, map, Option, Some, None, option_map, slice_get, Bool, true, false, nat_eq, append-nil, append_assoc}
+use Rattle.std.proofs.Common.{◌≡◌, ◌≢◌, ℕ, ◌<◌, refl, sym, ap, ◌∙◌, subst, arith, List, [], ◌∷◌, length, map, Option, Some, None, option_map, slice_get, Bool, true, false, nat_eq, append-nil}
 use Rattle.std.specs.Prelude.{IfSome, slice_set}
 use Rattle.std.proofs.lemmas.Bool.Decides.{nat_tests}
 use Rattle.std.proofs.lemmas.Grind.{common_steps}
@@ -8,7 +8,7 @@ use Rattle.std.proofs.lemmas.Option.{gets, get_or_from_slice_get, slice_get-map,
 use Rattle.std.proofs.Math.Seq.{map-set_same}
 use Rattle.language65.proofs.Lists.{map_length}
 use Rattle.language65.specs.Extending.{Extends}
-use Rattle.language65.specs.Symbols.{Definition, Scope, Symbols}
+use Rattle.language65.specs.Symbols.{Symbols}
 use Rattle.object65.specs.Form.{Form}
 use Rattle.symbols65.specs.declared.resolving.attempt.State.{State}
 use Rattle.symbols65.specs.declared.resolving.attempt.State.TheVariants.{Unknown, Waiting, Hangs, Found}

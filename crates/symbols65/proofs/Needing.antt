@@ -1,22 +1,22 @@
 -- An expression hangs on the constant that its attempt with final forms needs.
 use Rattle.std.proofs.lemmas.Grind.{common_steps}
-use Rattle.std.proofs.Common.{arith, ◌≡◌, ℕ, ◌<◌, List, length, Option, Some, None, slice_get, Result, Ok, Err, refl, sym, ap, ◌∙◌, subst}
+use Rattle.std.proofs.Common.{arith, ◌≡◌, ℕ, ◌<◌, List, length, Option, Some, slice_get, Result, Err, refl, sym, ap, ◌∙◌, subst}
 use Rattle.std.specs.Prelude.{IfSome}
 use Rattle.std.proofs.lemmas.Option.{slice_get_within}
 use Rattle.base65.specs.Outcome.{◌>>=◌}
 use Rattle.syntax65.specs.Trees.{Tree, number, here, name, cheap, forward, backward, unary, binary}
 use Rattle.object65.specs.Form.{Form}
-use Rattle.object65.specs.Folding.{fold1, fold2}
+use Rattle.object65.specs.Folding.{fold1}
 use Rattle.language65.specs.Extending.{Extends}
 use Rattle.language65.specs.declared.laid.Spot.{Spot}
 use Rattle.language65.specs.Norms.{folded, form_of_definition, form_of_value, norm}
 use Rattle.language65.specs.Symbols as l
 use Rattle.symbols65.specs.declared.resolving.attempt.Source.TheVariants.{Finals}
 use Rattle.symbols65.specs.declared.resolving.attempt.Stop.{Stop}
-use Rattle.symbols65.specs.declared.resolving.attempt.Stop.TheVariants.{Fault, Needs}
+use Rattle.symbols65.specs.declared.resolving.attempt.Stop.TheVariants.{Needs}
 use Rattle.symbols65.specs.declared.table.symbols.Symbols.{Symbols}
 use Rattle.symbols65.specs.Hanging.{ExpressionHangsOn, HangsOn, Leads, needed_in}
-use Rattle.symbols65.specs.Resolving.{FoundBy, attempt_definition, known_form, meaning_form, operand_form, stopped, tried, tried_by}
+use Rattle.symbols65.specs.Resolving.{FoundBy, operand_form, stopped, tried, tried_by}
 use Rattle.symbols65.specs.Inner.Settling.{MeansFinally, Operands}
 use Rattle.symbols65.specs.Inner.Knowns.{known_by}
 use Rattle.symbols65.specs.Views.{table_of}

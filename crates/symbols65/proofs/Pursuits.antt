@@ -1,5 +1,5 @@
 -- Constants that wait for one another.
-use Rattle.std.proofs.Common.{◌≡◌, ◌≢◌, ℕ, zero, suc, ◌+◌, ◌*◌, ◌<◌, ◌≤◌, refl, sym, ap, ◌∙◌, subst, arith, List, [], ◌∷◌, ◌++◌, length, get_or, Option, Some, None, slice_get, Bool, true, false, nat_eq, Result, Ok, Err, ◌⊎◌, inl, inr, length-append}
+use Rattle.std.proofs.Common.{◌≡◌, ◌≢◌, ℕ, zero, suc, ◌+◌, ◌*◌, ◌<◌, ◌≤◌, refl, sym, ap, ◌∙◌, subst, arith, List, [], ◌∷◌, ◌++◌, length, Option, Some, None, slice_get, Bool, true, false, nat_eq, Result, Ok, Err, ◌⊎◌, inl, inr, length-append}
 use Rattle.std.specs.Prelude.{slice_set, ⊤}
 use Rattle.std.proofs.lemmas.Bool.Decides.{nat_tests}
 use Rattle.std.proofs.lemmas.Grind.{common_steps}
@@ -7,7 +7,7 @@ use Rattle.std.proofs.lemmas.List.Sums.{sum_by-set}
 use Rattle.std.proofs.lemmas.Option.{gets, slice_get_within, slice_get_past}
 use Rattle.object65.specs.Form.{Form}
 use Rattle.language65.specs.declared.fault.AsmFault.{AsmFault}
-use Rattle.language65.specs.declared.fault.AsmFault.TheVariants.{Circular, NoSuchLabel}
+use Rattle.language65.specs.declared.fault.AsmFault.TheVariants.{Circular}
 use Rattle.symbols65.specs.declared.resolving.attempt.State.{State}
 use Rattle.symbols65.specs.declared.resolving.attempt.State.TheVariants.{Unknown, Waiting, Hangs, Found}
 use Rattle.symbols65.specs.declared.resolving.attempt.Stop.{Stop}
@@ -16,7 +16,6 @@ use Rattle.language65.specs.Symbols.{Symbols}
 use Rattle.symbols65.specs.Resolving.{FoundBy, IsTable, is_open, may_be_looked_for, unknown}
 use Rattle.symbols65.specs.Hanging.{AreHung, Comes, HangsOn, Leads, Reaches}
 use Rattle.symbols65.specs.Inner.Knowns.{is_found}
-use Rattle.language65.specs.Norms.{form_of_definition, norm}
 use Rattle.symbols65.proofs.Hanging.{extends_itself}
 use Rattle.base65.specs.Outcome.{Unless}
 use Rattle.symbols65.proofs.Turns.{Course, IsCourse, constant_course, constant_is, ok_later, circular_before}

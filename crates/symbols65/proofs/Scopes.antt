@@ -1,6 +1,6 @@
 -- Scopes, and the parts of names that are found in them.
 use Rattle.std.proofs.lemmas.Grind.{common_steps}
-use Rattle.std.proofs.Common.{arith, ◌≡◌, ℕ, List, ◌⊎◌, inl, inr, subst, sym, Bool, true, false, [], ◌∷◌, ◌++◌, Option, Some, None, refl, ap, ◌∙◌, zero, suc, ◌+◌, ◌-◌, ◌<◌, ◌≤◌, cond, nat_lt, take, position}
+use Rattle.std.proofs.Common.{arith, ◌≡◌, ℕ, List, ◌⊎◌, sym, Bool, true, false, [], ◌∷◌, ◌++◌, Option, Some, None, refl, ap, ◌∙◌, zero, suc, ◌+◌, ◌<◌, ◌≤◌, cond, nat_lt, take, position}
 use Rattle.syntax65.specs.Trees.{Tree, name}
 use Rattle.syntax65.specs.Kinds.{tree_of}
 use Rattle.syntax65.specs.declared.expressions.trees.ExprKind.{ExprKind}
@@ -11,9 +11,8 @@ use Rattle.std.specs.Prelude.{codes, slice_get}
 use Rattle.std.proofs.lemmas.List.{append_assoc}
 use Rattle.language65.specs.declared.laid.Spot.{Spot}
 use Rattle.language65.specs.declared.fault.AsmFault.{AsmFault}
-use Rattle.language65.specs.declared.fault.AsmFault.TheVariants.{Undefined}
-use Rattle.language65.specs.Symbols.{Symbols, defined, imported, named, Scope}
-use Rattle.language65.specs.Names.{first_found, joined, last_of, meaning_of, or_fault, plain_meaning, scopes_from, scopes_of, enclosing, inside, numbered, or_else, outward_from, scope_in, within}
+use Rattle.language65.specs.Symbols.{Symbols, defined, named, Scope}
+use Rattle.language65.specs.Names.{first_found, joined, last_of, meaning_of, or_fault, scopes_from, scopes_of, enclosing, inside, scope_in, within}
 use Rattle.symbols65.specs.Resolving.{defined_place, joined_behind, name_meaning, plain_part}
 use Rattle.std.specs.List.{position_from}
 use Rattle.std.proofs.lemmas.Bool.Decides.{nat_tests}

@@ -17,8 +17,6 @@ use Rattle.base65.specs.declared.values.Op1.{Op1}
 use Rattle.base65.specs.declared.values.Op2.{Op2}
 use Rattle.object65.specs.Form.{Form}
 use Rattle.object65.specs.Folding.{fold1, fold2}
-use Rattle.object65.specs.declared.folding.FormFault.{FormFault}
-use Rattle.object65.specs.declared.folding.FormFault.TheVariants as form
 use Rattle.language65.specs.declared.fault.AsmFault.{AsmFault}
 use Rattle.symbols65.specs.Finals.{IsReference, binary_form, literal_of, prefix_form}
 

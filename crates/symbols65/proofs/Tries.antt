@@ -1,23 +1,23 @@
 -- What an attempt at a form says of the form at each number of turns.
 use Rattle.std.proofs.lemmas.Grind.{common_steps}
-use Rattle.std.proofs.Common.{arith, ◌≡◌, ℕ, suc, ◌≤◌, refl, sym, ap, ◌∙◌, subst, List, [], ◌∷◌, Option, Some, None, slice_get, Result, Ok, Err, ◌⊎◌, inl, inr}
+use Rattle.std.proofs.Common.{arith, ◌≡◌, ℕ, suc, ◌≤◌, refl, List, [], ◌∷◌, Option, Some, None, slice_get, Result, Ok, Err, ◌⊎◌, inl, inr}
 use Rattle.std.specs.Prelude.{⊤}
 use Rattle.base65.specs.Outcome.{◌>>=◌}
 use Rattle.syntax65.specs.Trees.{Tree, number, here, name, cheap, forward, backward, unary, binary}
 use Rattle.object65.specs.Form.{Form}
-use Rattle.object65.specs.Folding.{fold1, fold2}
+use Rattle.object65.specs.Folding.{fold1}
 use Rattle.language65.specs.declared.fault.AsmFault.{AsmFault}
 use Rattle.language65.specs.declared.fault.AsmFault.TheVariants.{Circular}
 use Rattle.symbols65.specs.declared.resolving.attempt.State.{State}
-use Rattle.symbols65.specs.declared.resolving.attempt.State.TheVariants.{Unknown, Waiting, Hangs, Found}
+use Rattle.symbols65.specs.declared.resolving.attempt.State.TheVariants.{Found}
 use Rattle.symbols65.specs.declared.resolving.attempt.Stop.{Stop}
 use Rattle.symbols65.specs.declared.resolving.attempt.Stop.TheVariants.{Needs, Fault}
 use Rattle.language65.specs.declared.laid.Spot.{Spot}
 use Rattle.language65.specs.Symbols.{Symbols, Definition}
-use Rattle.language65.specs.Names.{Meaning, defined_at, imported_as, meaning_of}
-use Rattle.language65.specs.Norms.{folded, form_by, form_of_value, form_of_definition, form_of_meaning, norm}
+use Rattle.language65.specs.Names.{Meaning, meaning_of}
+use Rattle.language65.specs.Norms.{folded, form_by, form_of_definition, form_of_meaning, norm}
 use Rattle.symbols65.specs.Finals.{IsReference}
-use Rattle.symbols65.specs.Resolving.{stopped, known_form, attempt_value, attempt_definition, meaning_form, operand_form, tried_by, tried, tried_at, tried_last, FoundBy}
+use Rattle.symbols65.specs.Resolving.{stopped, attempt_definition, meaning_form, operand_form, tried_by, tried, tried_at, tried_last, FoundBy}
 use Rattle.symbols65.proofs.Turns.{Known, Course, expression_course, constant_course, constant_is, ok_later, ok_before}
 
 -- the first is the second, or, where that may be, circular

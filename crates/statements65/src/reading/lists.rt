@@ -8,7 +8,7 @@ ghost use Rattle.statements65.specs.declared.reading.words.Elements.{Elements};
 ghost use Rattle.statements65.specs.Parsing.{parts_behind, parts_of, string_of, EachIs, IsItem, IsValue, Parses, ended, names_statement, IsList, IsName, IsNames};
 
 use super::parts::{expression, first_part, number_in};
-use super::tokens::{is_comma, name_of, needed_string, string_of};
+use super::tokens::{is_comma, name_of, needed, string_of};
 use super::words::{Elements, Names};
 use base65::Sequence;
 use language65::{AsmFault, Item, Items, ItemsKind, Statement};
@@ -39,16 +39,9 @@ fn item(alloc: Global, elements: Elements, tokens: &[Token<'_>]) -> Result<Item,
     }
 }
 
-/// No numbers, with room for those of so many tokens: a comma stands between each two.
-fn no_numbers(alloc: Global, count: usize) -> Result<Sequence<u32>, AllocError>
-    ensures { IfOk result (λ numbers. numbers ≡ []) }
-{
-    Ok(Sequence::from_vec(Vec::with_capacity(alloc, count / 2 + 1)?))
-}
-
-/// The same of any elements.
-fn no_items(alloc: Global, count: usize) -> Result<Sequence<Item>, AllocError>
-    ensures { IfOk result (λ items. items ≡ []) }
+/// No elements, with room for those of so many tokens: a comma stands between each two.
+fn no_elements<T: Drop>(alloc: Global, count: usize) -> Result<Sequence<T>, AllocError>
+    ensures { IfOk result (λ elements. elements ≡ []) }
 {
     Ok(Sequence::from_vec(Vec::with_capacity(alloc, count / 2 + 1)?))
 }
@@ -81,7 +74,7 @@ fn numbers(alloc: Global, tokens: &[Token<'_>]) -> Result<Option<Sequence<u32>>,
     ensures { IfOk result (λ numbers. IfSome numbers (λ ns. (elements : Elements) →
         EachIs (IsItem elements) (parts_of (lexemes tokens.now)) (Ok (map numbered ns)))) }
 {
-    let mut numbers = no_numbers(alloc, tokens.len())?;
+    let mut numbers = no_elements(alloc, tokens.len())?;
     let mut rest = Some(tokens);
     'parts: while let Some(left) = rest {
         let Some((number, behind)) = first_number(left) else {
@@ -102,7 +95,7 @@ fn mixed(
     ensures value { Parses result (EachIs (IsItem elements) (parts_of (lexemes tokens.now))) }
     ensures inside { IfErr result (λ e. is_failure e ≡ false) }
 {
-    let mut items = no_items(alloc, tokens.len())?;
+    let mut items = no_elements(alloc, tokens.len())?;
     let mut rest = Some(tokens);
     'parts: while let Some(left) = rest {
         let (part, behind) = first_part(left);
@@ -143,7 +136,7 @@ pub fn ended_text(alloc: Global, tokens: &[Token<'_>]) -> Result<Statement, AsmF
     ensures value { Parses result (λ r. r ≡ ended (lexemes tokens.now)) }
     ensures inside { IfErr result (λ e. is_failure e ≡ false) }
 {
-    let text = needed_string(tokens)?;
+    let text = needed(string_of(tokens))?;
     let mut bytes = Sequence::new(alloc);
     bytes.extend_from_slice(text)?;
     bytes.push(0)?;

@@ -7,7 +7,7 @@ ghost use Rattle.statements65.specs.Parsing.{action_of, action_word, asserted, o
 ghost use Rattle.language65.specs.declared.language.Statement.TheVariants.{Segment};
 
 use super::parts::{expression, first_part};
-use super::tokens::{needed_string, needed_word};
+use super::tokens::{needed, string_of, word_of};
 use super::words::{Lone, Message};
 use base65::Sequence;
 use language65::{AsmFault, Statement};
@@ -34,7 +34,7 @@ fn action_of(tokens: &[Token<'_>]) -> Result<Action, AsmFault>
     ensures value { Parses result (λ r. r ≡ action_of (lexemes tokens.now)) }
     ensures inside { IfErr result (λ e. is_failure e ≡ false) }
 {
-    action_word(needed_word(tokens)?)
+    action_word(needed(word_of(tokens))?)
 }
 
 /// An assertion's own text.
@@ -42,7 +42,7 @@ fn own_text(alloc: Global, tokens: &[Token<'_>]) -> Result<Sequence<u8>, AsmFaul
     ensures value { Parses result (λ r. r ≡ own_words (lexemes tokens.now)) }
     ensures inside { IfErr result (λ e. is_failure e ≡ false) }
 {
-    let text = needed_string(tokens)?;
+    let text = needed(string_of(tokens))?;
     if text.len() > MAX_TEXT {
         return Err(AsmFault::NotUnderstood);
     }
@@ -164,7 +164,7 @@ pub fn message(alloc: Global, which: Message, tokens: &[Token<'_>]) -> Result<St
     ensures value { Parses result (λ r. r ≡ told which (lexemes tokens.now)) }
     ensures inside { IfErr result (λ e. is_failure e ≡ false) }
 {
-    let text = Sequence::copy_of(alloc, needed_string(tokens)?)?;
+    let text = Sequence::copy_of(alloc, needed(string_of(tokens))?)?;
     Ok(match which {
         Message::Out => Statement::Out(text),
         Message::Warning => Statement::Warning(text),
@@ -176,7 +176,7 @@ pub fn processor(tokens: &[Token<'_>]) -> Result<Statement, AsmFault>
     ensures value { Parses result (λ r. r ≡ processor_of (lexemes tokens.now)) }
     ensures inside { IfErr result (λ e. is_failure e ≡ false) }
 {
-    if needed_string(tokens)? == b"6502".as_slice() {
+    if needed(string_of(tokens))? == b"6502".as_slice() {
         Ok(Statement::Nothing)
     } else {
         Err(AsmFault::NotUnderstood)

@@ -17,15 +17,8 @@ fn index_of(tokens: &[Token<'_>]) -> Result<Option<Index>, AsmFault>
 {
     match tokens {
         [] => Ok(None),
-        [comma, register] => {
-            if is_comma(comma) && spells(register, b"x") {
-                Ok(Some(Index::X))
-            } else if is_comma(comma) && spells(register, b"y") {
-                Ok(Some(Index::Y))
-            } else {
-                Err(AsmFault::NotUnderstood)
-            }
-        }
+        [comma, register] if is_comma(comma) && spells(register, b"x") => Ok(Some(Index::X)),
+        [comma, register] if is_comma(comma) && spells(register, b"y") => Ok(Some(Index::Y)),
         _ => Err(AsmFault::NotUnderstood),
     }
 }

@@ -1,6 +1,6 @@
 //! Expressions of whole lists of tokens, and lists with commas.
 
-ghost use Rattle.std.specs.Prelude.{◌≡◌, ◌<◌, ◌≤◌, ◌∷◌, false, length, not, option_map, IfErr, IfOk, IfSome, IsTrue, None, Ok, Some};
+ghost use Rattle.std.specs.Prelude.{◌≡◌, ◌<◌, ◌≤◌, ◌∷◌, [], false, length, not, option_map, IfErr, IfOk, IfSome, IsTrue, None, Ok, Some};
 ghost use Rattle.std.specs.List.{prefix_len};
 ghost use Rattle.syntax65.specs.Expressions.{IsParsed, binary_at, opening_in};
 ghost use Rattle.syntax65.specs.Faults.{is_expr_outside};
@@ -9,10 +9,10 @@ ghost use Rattle.syntax65.specs.Tokens.{lexeme_of, lexemes};
 ghost use Rattle.syntax65.specs.Trees.{number};
 ghost use Rattle.syntax65.specs.declared.expressions.words.Opening.TheVariants.{Number};
 ghost use Rattle.language65.specs.Faults.{is_failure, is_outside};
-ghost use Rattle.statements65.specs.Parsing.{is_comma, parts_behind, parts_of, quoted_in, IsExpression, IsFront, Parses};
+ghost use Rattle.statements65.specs.Parsing.{is_comma, parts_behind, parts_of, quoted_in, IsExpression, IsFront, IsOneOrTwo, Parses};
 
 use super::tokens::{is_close, is_comma};
-use language65::AsmFault;
+use language65::{AsmFault, OptionalExpr};
 use std::alloc::Global;
 use syntax65::{Expr, ExprFault, ExprKind, Token, TokenKind, read_expr};
 
@@ -70,15 +70,11 @@ pub fn expression(alloc: Global, tokens: &[Token<'_>]) -> Result<Expr, AsmFault>
     ensures value { Parses result (IsExpression (lexemes tokens.now)) }
     ensures inside { IfErr result (λ e. is_failure e ≡ false) }
 {
-    match parsed(alloc, tokens) {
-        Ok((value, count)) => {
-            if count == tokens.len() {
-                Ok(value)
-            } else {
-                Err(AsmFault::NotUnderstood)
-            }
-        }
-        Err(fault) => Err(AsmFault::from(fault)),
+    let (value, count) = parsed(alloc, tokens)?;
+    if count == tokens.len() {
+        Ok(value)
+    } else {
+        Err(AsmFault::NotUnderstood)
     }
 }
 
@@ -110,8 +106,36 @@ pub fn front<'a, 'b>(
     ensures value { Answers is_outside (λ x. (x.0, lexemes x.1.now)) result (IsFront (lexemes tokens.now)) }
     ensures inside { IfErr result (λ e. is_failure e ≡ false) }
 {
-    match parsed(alloc, tokens) {
-        Ok((value, count)) => Ok((value, &tokens[count..])),
-        Err(fault) => Err(AsmFault::from(fault)),
+    let (value, count) = parsed(alloc, tokens)?;
+    Ok((value, &tokens[count..]))
+}
+
+/// Two expressions, the second where one may be left out.
+fn two(
+    alloc: Global,
+    first: &[Token<'_>],
+    second: &[Token<'_>],
+) -> Result<(Expr, OptionalExpr), AsmFault>
+    ensures value { Parses result (IsOneOrTwo (lexemes first.now ∷ lexemes second.now ∷ [])) }
+    ensures inside { IfErr result (λ e. is_failure e ≡ false) }
+{
+    let first = expression(alloc, first)?;
+    let second = expression(alloc, second)?;
+    Ok((first, OptionalExpr::some(alloc, second)?))
+}
+
+/// One expression or two, with a comma between them.
+pub fn one_or_two(alloc: Global, tokens: &[Token<'_>]) -> Result<(Expr, OptionalExpr), AsmFault>
+    ensures value { Parses result (IsOneOrTwo (parts_of (lexemes tokens.now))) }
+    ensures inside { IfErr result (λ e. is_failure e ≡ false) }
+{
+    let (first, behind) = first_part(tokens);
+    let Some(behind) = behind else {
+        return Ok((expression(alloc, first)?, OptionalExpr::none()));
+    };
+    let (second, behind) = first_part(behind);
+    match behind {
+        None => two(alloc, first, second),
+        Some(_) => Err(AsmFault::NotUnderstood),
     }
 }

@@ -6,7 +6,7 @@ ghost use Rattle.syntax65.specs.Tokens.{lexemes};
 ghost use Rattle.language65.specs.Faults.{is_failure};
 ghost use Rattle.statements65.specs.Parsing.{is_identifier, is_letter, is_letter_or_digit, proc_of, scope_of, segment_named, segment_of, size_behind, size_word, Parses};
 
-use super::tokens::{is_colon, name_of, needed_quoted, needed_word};
+use super::tokens::{is_colon, name_of, needed, quoted_in, word_of};
 use base65::Sequence;
 use language65::{AsmFault, Statement};
 use std::alloc::Global;
@@ -35,7 +35,7 @@ fn size_behind(tokens: &[Token<'_>]) -> Result<Option<AddressSize>, AsmFault>
     if !is_colon(colon) {
         return Err(AsmFault::NotUnderstood);
     }
-    let word = needed_word(behind)?;
+    let word = needed(word_of(behind))?;
     Ok(Some(size_word(word)?))
 }
 
@@ -93,7 +93,7 @@ pub fn segment(alloc: Global, tokens: &[Token<'_>]) -> Result<Statement, AsmFaul
     let Some((first, behind)) = tokens.split_first() else {
         return Err(AsmFault::NotUnderstood);
     };
-    let name = needed_quoted(first)?;
+    let name = needed(quoted_in(first))?;
     let size = size_behind(behind)?;
     segment_named(alloc, name, size)
 }

@@ -105,34 +105,13 @@ pub fn spells(token: &Token<'_>, name: &[u8]) -> bool
     is_spelled(word_in(token), name)
 }
 
-/// The bytes of a string, which the token has to be.
-pub fn needed_quoted<'a>(token: &Token<'a>) -> Result<&'a [u8], AsmFault>
-    ensures value { Answers is_outside (λ s. s.now) result (λ r. r ≡ understood (quoted_in (lexeme_of token.now))) }
+/// What was looked for, which has to be there.
+pub fn needed(found: Option<&[u8]>) -> Result<&[u8], AsmFault>
+    ensures value { Answers is_outside (λ s. s.now) result
+        (λ r. r ≡ understood (option_map (λ s. s.now) found.entry)) }
     ensures inside { IfErr result (λ e. is_failure e ≡ false) }
 {
-    match quoted_in(token) {
-        Some(text) => Ok(text),
-        None => Err(AsmFault::NotUnderstood),
-    }
-}
-
-/// The bytes of one string, which has to be there.
-pub fn needed_string<'a>(tokens: &[Token<'a>]) -> Result<&'a [u8], AsmFault>
-    ensures value { Answers is_outside (λ s. s.now) result (λ r. r ≡ understood (string_of (lexemes tokens.now))) }
-    ensures inside { IfErr result (λ e. is_failure e ≡ false) }
-{
-    match string_of(tokens) {
-        Some(text) => Ok(text),
-        None => Err(AsmFault::NotUnderstood),
-    }
-}
-
-/// The bytes of one identifier, which has to be there.
-pub fn needed_word<'a>(tokens: &[Token<'a>]) -> Result<&'a [u8], AsmFault>
-    ensures value { Answers is_outside (λ s. s.now) result (λ r. r ≡ understood (word_of (lexemes tokens.now))) }
-    ensures inside { IfErr result (λ e. is_failure e ≡ false) }
-{
-    match word_of(tokens) {
+    match found {
         Some(text) => Ok(text),
         None => Err(AsmFault::NotUnderstood),
     }
@@ -143,7 +122,7 @@ pub fn name_of(alloc: Global, tokens: &[Token<'_>]) -> Result<Sequence<u8>, AsmF
     ensures value { Parses result (λ r. r ≡ name_of (lexemes tokens.now)) }
     ensures inside { IfErr result (λ e. is_failure e ≡ false) }
 {
-    let name = needed_word(tokens)?;
+    let name = needed(word_of(tokens))?;
     if is_reserved(name) {
         return Err(AsmFault::NotUnderstood);
     }

@@ -186,39 +186,6 @@ fn sized_by_value(form: Option<Norm>, other: AddressSize) -> FormAndSize
     FormAndSize { form, size }
 }
 
-/// What is found of a reference that means this.
-fn meant_form_and_size(
-    alloc: Global,
-    symbols: &Symbols,
-    known: &mut Known,
-    spot: Spot,
-    operand: &Expr,
-    meaning: Meaning,
-) -> Result<FormAndSize, AllocError>
-    requires table { IsTable (table_of symbols.now) known.old.states.items }
-    requires meaning { meaning_of (table_of symbols.now) spot operand.now
-        ≡ Ok (meaning_in meaning) }
-    ensures form { IfOk result (λ r. r.form ≡ result_ok
-        (norm_of (table_of symbols.now) spot operand.now)) }
-    ensures size { IfOk result (λ r. r.size ≡ size_by
-        (size_of_meaning (table_of symbols.now)
-        (meaning_of (table_of symbols.now) spot operand.now))
-        (constant_in (table_of symbols.now) spot operand.now)) }
-    ensures table { OnOk result (IsTable (table_of symbols.now) known.new.states.items) }
-{
-    let other = size_of_meaning(symbols, meaning);
-    match meant_norm(alloc, symbols, known, spot, operand, meaning) {
-        Ok(form) => Ok(sized_by_value(Some(form), other)),
-        Err(fault) => {
-            pass_on_memory(&fault)?;
-            Ok(FormAndSize {
-                form: None,
-                size: other,
-            })
-        }
-    }
-}
-
 /// What is found of a reference.
 fn reference_form_and_size(
     alloc: Global,
@@ -238,14 +205,20 @@ fn reference_form_and_size(
     ensures table { OnOk result (IsTable (table_of symbols.now) known.new.states.items) }
 {
     match meaning_of(alloc, symbols, spot, operand) {
-        Ok(meaning) => meant_form_and_size(alloc, symbols, known, spot, operand, meaning),
+        Ok(meaning) => {
+            let other = size_of_meaning(symbols, meaning);
+            match meant_norm(alloc, symbols, known, spot, operand, meaning) {
+                Ok(form) => Ok(sized_by_value(Some(form), other)),
+                Err(fault) => {
+                    pass_on_memory(&fault)?;
+                    Ok(sized_by_value(None, other))
+                }
+            }
+        }
         Err(fault) => {
             pass_on_memory(&fault)?;
             // What has no meaning yet may come to lie anywhere.
-            Ok(FormAndSize {
-                form: None,
-                size: AddressSize::Absolute,
-            })
+            Ok(sized_by_value(None, AddressSize::Absolute))
         }
     }
 }

@@ -86,21 +86,6 @@ impl Known {
         Ok(())
     }
 
-    /// Constants wait no more, though their forms aren't found.
-    fn lose(&mut self, waiting: &[usize])
-        ensures { self.new.states.items ≡ without self.old.states.items waiting.now }
-    {
-        lose_all(&mut self.states, waiting);
-    }
-
-    /// Lets constants hang on others, where their forms aren't found.
-    fn hang(&mut self, alloc: Global, symbols: &Symbols, places: &[usize]) -> Result<(), AllocError>
-        ensures same { map bare self.new.states.items ≡ map bare self.old.states.items }
-        ensures hung { AreHung (table_of symbols.now) self.old.states.items → AreHung (table_of symbols.now) self.new.states.items }
-    {
-        hang_all(alloc, symbols, &mut self.states, places)
-    }
-
     /// The last constant waits no more, and those before it hang on others.
     fn give_up(
         &mut self,
@@ -111,10 +96,10 @@ impl Known {
         ensures same { map bare self.new.states.items ≡ map bare (without self.old.states.items waiting.now) }
         ensures hung { AreHung (table_of symbols.now) (without self.old.states.items waiting.now) → AreHung (table_of symbols.now) self.new.states.items }
     {
-        self.lose(waiting);
+        lose_all(&mut self.states, waiting);
         // The last one's fault is its own.
         match waiting.split_last() {
-            Some((_, others)) => self.hang(alloc, symbols, others),
+            Some((_, others)) => hang_all(alloc, symbols, &mut self.states, others),
             None => Ok(()),
         }
     }

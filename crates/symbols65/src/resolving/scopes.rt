@@ -67,10 +67,7 @@ pub fn defined_outward(symbols: &Symbols, scope: usize, name: &[u8]) -> Option<u
         if let Some(place) = symbols.defined(Key::Named { scope, name }) {
             return Some(place);
         }
-        if scope == GLOBAL {
-            return None;
-        }
-        if left == 0 {
+        if scope == GLOBAL || left == 0 {
             return None;
         }
         left -= 1;
@@ -109,10 +106,7 @@ fn scope_outward(symbols: &Symbols, opened: usize, scope: usize, name: &[u8]) ->
         if let Some(inner) = scope_in(symbols, opened, scope, name) {
             return Some(inner);
         }
-        if scope == GLOBAL {
-            return None;
-        }
-        if left == 0 {
+        if scope == GLOBAL || left == 0 {
             return None;
         }
         left -= 1;

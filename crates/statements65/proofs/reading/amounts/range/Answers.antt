@@ -1,7 +1,7 @@
-use Rattle.syntax65.specs.Tokens.{lexemes}
-use Rattle.statements65.proofs.Ranges.{three_parts}
+use Rattle.statements65.proofs.Each.{some_range}
+use Rattle.statements65.proofs.Parts.{then_fault}
 use Rattle.statements65.proofs.reading.amounts.range.Goals as goal
 
-pub returns-in-Some-behind-clause-value : goal.returns-in-Some-behind-clause-value
-returns-in-Some-behind-clause-value c =
-    three_parts (lexemes c.args.tokens.now) (lexemes c.first_part.result.0.now) (lexemes c.first_part-in-Some.result.0.now) c.first_part.result.1 c.first_part-in-Some.result.1 c.in-Some.behind c.in-Some-behind.field-0 c.first_part.ensures.parts c.in-Some.is c.first_part-in-Some.ensures.parts c.in-Some-behind.is
+pub returns-in_err-start-clause-value : goal.returns-in_err-start-clause-value
+returns-in_err-start-clause-value c =
+    some_range c.args.behind c.in-Some.behind c.from_residual.result c.in-Some.is (then_fault _ _ _ c.from_residual.result c.in_err-start.field-0.0 c.from_residual.ensures.1 c.in_err-start.ensures.value)

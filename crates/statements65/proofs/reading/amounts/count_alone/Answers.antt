@@ -1,5 +1,0 @@
-use Rattle.statements65.proofs.Parts.{then_fault}
-use Rattle.statements65.proofs.reading.amounts.count_alone.Goals as goal
-
-pub returns-in_err-count-clause-value : goal.returns-in_err-count-clause-value
-returns-in_err-count-clause-value c = then_fault _ _ _ c.from_residual.result c.in_err-count.field-0.0 c.from_residual.ensures.1 c.in_err-count.ensures.value

@@ -1,10 +1,11 @@
 -- The statements of a line that is taken where it stands.
-use Rattle.std.proofs.Common.{◌≡◌, ℕ, Bool, true, false, ◌+◌, ◌*◌, ◌<◌, ◌≤◌, List, [], ◌∷◌, refl, sym, subst, arith, Option}
-use Rattle.std.specs.Prelude.{Ok, Err}
+use Rattle.std.proofs.Common.{◌≡◌, ℕ, Bool, true, false, ◌+◌, ◌*◌, ◌<◌, ◌≤◌, List, [], ◌∷◌, length, take, drop, refl, subst, arith, Option}
+use Rattle.std.specs.Prelude.{Ok, Err, ◌==◌}
 use Rattle.base65.specs.Store.{Files}
-use Rattle.syntax65.specs.Tokens.{Lexeme}
-use Rattle.expand65.specs.AtHand.{IsAhead, given_behind, given_parts}
-use Rattle.expand65.specs.Standing.{measure_of}
+use Rattle.syntax65.specs.Tokens.{Lexeme, lexemes}
+use Rattle.syntax65.specs.declared.lexing.tokens.Token.{Token}
+use Rattle.expand65.specs.AtHand.{Gives, IsAhead, given_behind, given_parts}
+use Rattle.expand65.specs.Standing.{measure_of, place_of}
 use Rattle.expand65.specs.declared.expander.Expander.{Expander}
 use Rattle.expand65.specs.State.{label, plain}
 use Rattle.reader65.specs.declared.passing.Peeked.{Peeked}
@@ -27,11 +28,18 @@ roomy_ahead run p ts (right, bare, there, some) (t, reached, h) = (h.count, t, o
     left : 2 ≤ measure_of run.expander
     left = rw bare (omega (arith, some))
 
+pub roomy_less : (less more : ℕ) (a : Assembler) → IsRoomy (more + less) a → IsRoomy more a
+roomy_less less more a (count, t, room, holds) = (count, t, omega (arith, room), holds)
+
 -- and what stands behind one that was
 pub roomy_behind : (AreSo : Type 0) (Is : State → _ → Type 0) (old new : Assembler) → IsRoomy 4 old → TakesBy AreSo Is 2 old new (Ok tt) → IsRoomy 1 new
 roomy_behind AreSo Is old new (count, t, room, holds) taken =
     let b = taken count t (omega (arith, room)) holds in
     (b.3.0, b.0, omega (arith, room, b.3.1), b.3.2)
+
+pub no_tokens : (tokens : List Token) → true ≡ (length tokens == 0) → lexemes tokens ≡ []
+no_tokens [] e = refl
+no_tokens (t ∷ ts) e = absurd cc
 
 module _ (o : Option Files) (blamed : Option (List ℕ)) (place : Place) where
   abbrev RestStops : List Lexeme → Assembler → Assembler → Answer → Type 0
@@ -68,3 +76,10 @@ line_taken o blamed old new false e h = absurd cc
 pub no_line_taken : (o : Option Files) (blamed : Option (List ℕ)) (old new : Run) (b : Bool) → b ≡ false → TakesLineIf o blamed old new (Ok b) → new ≡ old
 no_line_taken o blamed old new true e h = absurd cc
 no_line_taken o blamed old new false e h = h
+
+pub line_is : (o : Option Files) (blamed : Option (List ℕ)) (old : Run) (expander : Expander) (assembler : Assembler) (n : ℕ) (ts ls us : List Lexeme) (place : Place) (r : Answer) → Gives old.expander (given_parts (take n ts) (drop n ts)) expander → measure_of expander < measure_of old.expander → ls ≡ take n ts → us ≡ drop n ts → place ≡ place_of expander → TakesAll o blamed place (given_parts ls us) old.assembler assembler r → TakesLine o blamed old (record { expander = expander; assembler = assembler }) r
+line_is o blamed old expander assembler n ts ls us place r given less front behind at taken =
+    let P : List Lexeme → Type 0 = λ l. TakesAll o blamed place (given_parts l us) old.assembler assembler r in
+    let Q : List Lexeme → Type 0 = λ l. TakesAll o blamed place (given_parts (take n ts) l) old.assembler assembler r in
+    let S : Place → Type 0 = λ p. TakesAll o blamed p (given_parts (take n ts) (drop n ts)) old.assembler assembler r in
+    record { statements = given_parts (take n ts) (drop n ts); given = given; taken = subst S at (subst Q behind (subst P front taken)); less = less }

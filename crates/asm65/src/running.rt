@@ -135,9 +135,9 @@ pub fn take_all<S: Store>(alloc: Global, store: &mut S, run: &mut Run) -> Result
         if take_at_hand(alloc, store, run)? {
             continue;
         }
-        match next(run, store)? {
-            Some(statement) => take_next(alloc, store, run, &statement)?,
-            None => return check_closed(run),
-        }
+        let Some(statement) = next(run, store)? else {
+            return check_closed(run);
+        };
+        take_next(alloc, store, run, &statement)?;
     }
 }

@@ -18,8 +18,8 @@ use crate::rewriter::{Rewriter, Turn};
 use base65::{Sequence, Store};
 use indexmap::{IndexMap, IndexSet};
 use reader65::{
-    BlockKind, Body, Input, Line, Replay, Source, behind_first, closes_brace, is_comma, name_in, number_line,
-    opens_brace,
+    BlockKind, Body, Input, Line, Replay, Source, behind_first, closes_brace, is_comma, name_in,
+    number_line, opens_brace,
 };
 use source65::ExpandFault;
 use std::alloc::{AllocError, Global};

@@ -23,8 +23,8 @@ use crate::knows::Knows;
 use base65::{Seed, Sequence, Store, Text};
 use indexmap::IndexMap;
 use reader65::{
-    BlockEnd, BlockKind, Body, Directive, Input, Line, OpenFile, Reader, Source, Test, behind_first,
-    string_of,
+    BlockEnd, BlockKind, Body, Directive, Input, Line, OpenFile, Reader, Source, Test,
+    behind_first, string_of,
 };
 use source65::{ExpandFault, Place};
 use std::alloc::Global;
@@ -75,10 +75,9 @@ impl Rewriter {
             self.conditions.push(false)?;
             return Ok(Turn::Goes);
         }
-        let skipped = self
-            .reader
-            .block(self.alloc, store, BlockKind::Skipped)?;
-        match skipped.end {
+        let skipped = self.reader.block(self.alloc, store, BlockKind::Skipped)?;
+        let end = skipped.end;
+        match end {
             BlockEnd::End => Ok(Turn::Goes),
             BlockEnd::Else => {
                 self.conditions.push(true)?;
@@ -145,8 +144,7 @@ impl Rewriter {
             None => Err(ExpandFault::NotOpened),
             Some(true) => Err(ExpandFault::NotOpened),
             Some(false) => {
-                self.reader
-                    .block(self.alloc, store, BlockKind::Passed)?;
+                self.reader.block(self.alloc, store, BlockKind::Passed)?;
                 Ok(Turn::Goes)
             }
         }

@@ -1,5 +1,5 @@
 use Rattle.std.proofs.Common.{subst}
-use Rattle.expand65.specs.Standing.{FollowsFrom, given_in}
+use Rattle.expand65.specs.Standing.{FollowsFrom}
 use Rattle.expand65.specs.Failing.{StopsOnItsWay}
 use Rattle.symbols65.specs.Views.{table_of}
 use Rattle.asm65.specs.Inner.Putting.{known_where}
@@ -11,13 +11,13 @@ pub returns-clause-next : goal.returns-clause-next
 returns-clause-next g c =
     let a = c.args.run.now.assembler in
     let here = known_where (table_of a.symbols) c.spot.result in
-    some_then (λ m. FollowsFrom m here c.args.run.now.expander (given_in c.next_into.result c.next_into.new.statement) c.next_into.new.self) (λ m. NextBy m c.args.run.now (given_in c.next_into.result c.next_into.new.statement) (record { expander = c.next_into.new.self; assembler = a })) (g.S.Store.files c.args.store.now)
-    (λ m follows t held. subst (λ k. FollowsFrom m k c.args.run.now.expander (given_in c.next_into.result c.next_into.new.statement) c.next_into.new.self) (known_held held.count t a c.spot.result held.holds c.spot.ensures) follows) c.next_into.ensures.next
+    some_then (λ m. FollowsFrom m here c.args.run.now.expander c.next.result c.next.new.self) (λ m. NextBy m c.args.run.now c.next.result (record { expander = c.next.new.self; assembler = a })) (g.S.Store.files c.args.store.now)
+    (λ m follows t held. subst (λ k. FollowsFrom m k c.args.run.now.expander c.next.result c.next.new.self) (known_held held.count t a c.spot.result held.holds c.spot.ensures) follows) c.next.ensures.next
 
 pub returns-clause-stopped : goal.returns-clause-stopped
 returns-clause-stopped g c =
     let a = c.args.run.now.assembler in
     let here = known_where (table_of a.symbols) c.spot.result in
-    let blamed = g.S.Store.blamed c.next_into.new.store in
-    some_then (λ m. StopsOnItsWay m blamed here c.args.run.now.expander c.next_into.result c.next_into.new.self) (λ m. StopsBy m blamed c.args.run.now c.next_into.result (record { expander = c.next_into.new.self; assembler = a })) (g.S.Store.files c.args.store.now)
-    (λ m stops t held. subst (λ k. StopsOnItsWay m blamed k c.args.run.now.expander c.next_into.result c.next_into.new.self) (known_held held.count t a c.spot.result held.holds c.spot.ensures) stops) c.next_into.ensures.stopped
+    let blamed = g.S.Store.blamed c.next.new.store in
+    some_then (λ m. StopsOnItsWay m blamed here c.args.run.now.expander c.next.result c.next.new.self) (λ m. StopsBy m blamed c.args.run.now c.next.result (record { expander = c.next.new.self; assembler = a })) (g.S.Store.files c.args.store.now)
+    (λ m stops t held. subst (λ k. StopsOnItsWay m blamed k c.args.run.now.expander c.next.result c.next.new.self) (known_held held.count t a c.spot.result held.holds c.spot.ensures) stops) c.next.ensures.stopped

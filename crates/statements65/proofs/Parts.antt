@@ -4,16 +4,13 @@ use Rattle.std.proofs.lemmas.Bool.Decides.{nat_tests}
 use Rattle.std.specs.List.{prefix_len}
 use Rattle.std.proofs.lemmas.List.{take_all}
 use Rattle.syntax65.specs.Expressions.{IsParsed}
-use Rattle.syntax65.specs.Faults.{is_expr_outside}
 use Rattle.std.specs.Result.{IsErrAnd}
 use Rattle.base65.specs.Outcome.{◌>>=◌, First, Unless}
 use Rattle.base65.specs.Relations.{Answers}
 use Rattle.language65.specs.declared.fault.AsmFault.{AsmFault}
-use Rattle.syntax65.specs.declared.expressions.words.ExprFault.TheVariants.{OutOfMemory, OperandExpected, ParenthesisExpected, TooDeep}
-use Rattle.language65.specs.Faults.{is_outside, of_expr}
+use Rattle.language65.specs.Faults.{is_outside}
 use Rattle.syntax65.specs.Tokens.{Lexeme, lexeme_of, lexemes}
 use Rattle.syntax65.specs.Trees.{Tree, number}
-use Rattle.syntax65.specs.declared.expressions.words.ExprFault.{ExprFault}
 use Rattle.syntax65.specs.declared.lexing.tokens.Token.{Token}
 use Rattle.statements65.specs.Parsing.{before_parts, is_comma, parts_of, string_of, unknown, whole, words_of, IsExpression, IsFront, IsItem, IsOneOrTwo, Then}
 use Rattle.statements65.specs.declared.reading.words.Elements.{Elements}
@@ -38,13 +35,6 @@ whole_all e n count h = go (nat_eq n count) refl
     go true f = rw f refl
     go false f = absurd (grind (arith, nat_tests))
 
-whole_short : (e : Tree) (n count : ℕ) → n ≢ count → whole count (Ok (e, n)) ≡ unknown
-whole_short e n count h = go (nat_eq n count) refl
-  where
-    go : (t : Bool) → nat_eq n count ≡ t → whole count (Ok (e, n)) ≡ unknown
-    go true f = absurd (h (grind (arith, nat_tests)))
-    go false f = rw f refl
-
 pub is_whole : (ts : List Token) (e : Tree) (n : ℕ) → IsParsed (lexemes ts) (Ok (e, n)) → n ≡ length ts → IsExpression (lexemes ts) (Ok e)
 is_whole ts e n h f = (Ok (e, n), h, sym (whole_all e n (length (lexemes ts)) (f ∙ sym (lexemes_len ts))))
 
@@ -53,26 +43,11 @@ pub is_item : (elements : Elements) (ts : List Lexeme) (v : ℕ) → IsExpressio
 is_item Values ts v h n = (Ok (number v), h, refl)
 is_item ValuesAndTexts ts v h n = rw n (Ok (number v), h, refl)
 
-pub is_short : (ts : List Token) (e : Tree) (n : ℕ) → IsParsed (lexemes ts) (Ok (e, n)) → n ≢ length ts → IsExpression (lexemes ts) unknown
-is_short ts e n h f = (Ok (e, n), h, sym (whole_short e n (length (lexemes ts)) (λ g. f (g ∙ lexemes_len ts))))
-
-pub is_none : (ts : List Lexeme) (f : ExprFault) → Unless (is_expr_outside f) (IsParsed ts (Err f)) → Unless (is_outside (of_expr f)) (IsExpression ts (Err (of_expr f)))
-is_none ts OutOfMemory h = tt
-is_none ts OperandExpected h = (Err OperandExpected, h, refl)
-is_none ts ParenthesisExpected h = (Err ParenthesisExpected, h, refl)
-is_none ts TooDeep h = (Err TooDeep, h, refl)
-
 pub is_front : (ts : List Token) (e : Tree) (n : ℕ) → IsParsed (lexemes ts) (Ok (e, n)) → IsFront (lexemes ts) (Ok (e, lexemes (take (length ts - n) (drop n ts))))
 is_front ts e n h =
     let short : length (drop n ts) ≤ length ts - n = omega (arith, length-drop n ts) in
     let all : take (length ts - n) (drop n ts) ≡ drop n ts = take_all (length ts - n) (drop n ts) short in
     rw all (Ok (e, n), h, ap (λ us. Ok (e, us)) (sym (lexemes_drop n ts)))
-
-pub no_front : (ts : List Lexeme) (f : ExprFault) → Unless (is_expr_outside f) (IsParsed ts (Err f)) → Unless (is_outside (of_expr f)) (IsFront ts (Err (of_expr f)))
-no_front ts OutOfMemory h = tt
-no_front ts OperandExpected h = (Err OperandExpected, h, refl)
-no_front ts ParenthesisExpected h = (Err ParenthesisExpected, h, refl)
-no_front ts TooDeep h = (Err TooDeep, h, refl)
 
 -- a fault of the first part is a fault of the whole
 pub then_fault : {A B X : Type 0} (Is : Result A AsmFault → Type 0) (next : A → Result B AsmFault) (view : X → B) (result : Result X AsmFault) (e : AsmFault) → IsErrAnd result (λ f. f ≡ e) → Unless (is_outside e) (Is (Err e)) → Answers is_outside view result (Then Is next)

@@ -16,25 +16,16 @@ use object65::Width;
 use std::alloc::{AllocError, Global};
 use syntax65::Token;
 
-/// An element that is a value.
-#[tactic(auto, using(crate::proofs::Parts::then_fault))]
-fn value_item(alloc: Global, tokens: &[Token<'_>]) -> Result<Item, AsmFault>
-    ensures value { Parses result (IsValue (lexemes tokens.now)) }
-    ensures inside { IfErr result (λ e. is_failure e ≡ false) }
-{
-    Ok(Item::Value(expression(alloc, tokens)?))
-}
-
 /// An element of a list.
 fn item(alloc: Global, elements: Elements, tokens: &[Token<'_>]) -> Result<Item, AsmFault>
     ensures value { Parses result (IsItem elements (lexemes tokens.now)) }
     ensures inside { IfErr result (λ e. is_failure e ≡ false) }
 {
     match elements {
-        Elements::Values => value_item(alloc, tokens),
+        Elements::Values => Ok(Item::Value(expression(alloc, tokens)?)),
         Elements::ValuesAndTexts => match string_of(tokens) {
             Some(text) => Ok(Item::Text(Sequence::copy_of(alloc, text)?)),
-            None => value_item(alloc, tokens),
+            None => Ok(Item::Value(expression(alloc, tokens)?)),
         },
     }
 }

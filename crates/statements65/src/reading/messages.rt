@@ -30,13 +30,6 @@ fn action_word(word: &[u8]) -> Result<Action, AsmFault>
     }
 }
 
-fn action_of(tokens: &[Token<'_>]) -> Result<Action, AsmFault>
-    ensures value { Parses result (λ r. r ≡ action_of (lexemes tokens.now)) }
-    ensures inside { IfErr result (λ e. is_failure e ≡ false) }
-{
-    action_word(needed(word_of(tokens))?)
-}
-
 /// An assertion's own text.
 fn own_text(alloc: Global, tokens: &[Token<'_>]) -> Result<Sequence<u8>, AsmFault>
     ensures value { Parses result (λ r. r ≡ own_words (lexemes tokens.now)) }
@@ -54,54 +47,14 @@ fn text_of(alloc: Global, rest: Option<&[Token<'_>]>) -> Result<Sequence<u8>, As
     ensures value { Parses result (λ r. r ≡ words_of (parts_behind (option_map (λ rest. lexemes rest.now) rest.entry))) }
     ensures inside { IfErr result (λ e. is_failure e ≡ false) }
 {
-    match rest {
-        Some(rest) => only_text(alloc, rest),
-        None => Ok(Sequence::copy_of(alloc, b"assertion failed")?),
-    }
-}
-
-fn only_text(alloc: Global, tokens: &[Token<'_>]) -> Result<Sequence<u8>, AsmFault>
-    ensures value { Parses result (λ r. r ≡ words_of (parts_of (lexemes tokens.now))) }
-    ensures inside { IfErr result (λ e. is_failure e ≡ false) }
-{
-    let (part, behind) = first_part(tokens);
+    let Some(rest) = rest else {
+        return Ok(Sequence::copy_of(alloc, b"assertion failed")?);
+    };
+    let (part, behind) = first_part(rest);
     match behind {
         Some(_) => Err(AsmFault::NotUnderstood),
         None => own_text(alloc, part),
     }
-}
-
-/// An assertion by its value and its other parts.
-fn asserted(
-    alloc: Global,
-    value: Expr,
-    action: &[Token<'_>],
-    rest: Option<&[Token<'_>]>,
-) -> Result<Statement, AsmFault>
-    ensures value { Parses result (λ r. r ≡ asserted value (lexemes action.now) (parts_behind (option_map (λ rest. lexemes rest.now) rest.entry))) }
-    ensures inside { IfErr result (λ e. is_failure e ≡ false) }
-{
-    let action = action_of(action)?;
-    let text = text_of(alloc, rest)?;
-    Ok(Statement::Assert {
-        value,
-        action,
-        text,
-    })
-}
-
-/// An assertion by its parts.
-fn assertion_of(
-    alloc: Global,
-    value: &[Token<'_>],
-    action: &[Token<'_>],
-    rest: Option<&[Token<'_>]>,
-) -> Result<Statement, AsmFault>
-    ensures value { Parses result (IsAssertion (lexemes value.now ∷ lexemes action.now ∷ parts_behind (option_map (λ rest. lexemes rest.now) rest.entry))) }
-    ensures inside { IfErr result (λ e. is_failure e ≡ false) }
-{
-    let value = expression(alloc, value)?;
-    asserted(alloc, value, action, rest)
 }
 
 /// `.assert`
@@ -110,13 +63,18 @@ pub fn assertion(alloc: Global, tokens: &[Token<'_>]) -> Result<Statement, AsmFa
     ensures inside { IfErr result (λ e. is_failure e ≡ false) }
 {
     let (value, behind) = first_part(tokens);
-    match behind {
-        Some(behind) => {
-            let (action, rest) = first_part(behind);
-            assertion_of(alloc, value, action, rest)
-        }
-        None => Err(AsmFault::NotUnderstood),
-    }
+    let Some(behind) = behind else {
+        return Err(AsmFault::NotUnderstood);
+    };
+    let (action, rest) = first_part(behind);
+    let value = expression(alloc, value)?;
+    let action = action_word(needed(word_of(action))?)?;
+    let text = text_of(alloc, rest)?;
+    Ok(Statement::Assert {
+        value,
+        action,
+        text,
+    })
 }
 
 fn standard_segment(alloc: Global, name: &[u8]) -> Result<Statement, AsmFault>

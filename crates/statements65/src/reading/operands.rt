@@ -86,14 +86,6 @@ fn indirect(alloc: Global, tokens: &[Token<'_>]) -> Result<Operand, AsmFault>
     Ok(indirect_by(index, value))
 }
 
-/// What stands behind a `#`.
-fn immediate(alloc: Global, tokens: &[Token<'_>]) -> Result<Operand, AsmFault>
-    ensures value { Parses result (IsImmediate (lexemes tokens.now)) }
-    ensures inside { IfErr result (λ e. is_failure e ≡ false) }
-{
-    Ok(Operand::Immediate(expression(alloc, tokens)?))
-}
-
 /// `a`, or an address without a prefix.
 fn plain_operand(alloc: Global, tokens: &[Token<'_>]) -> Result<Operand, AsmFault>
     ensures value { Parses result (IsPlainOperand (lexemes tokens.now)) }
@@ -106,32 +98,19 @@ fn plain_operand(alloc: Global, tokens: &[Token<'_>]) -> Result<Operand, AsmFaul
     }
 }
 
-/// An operand by its first token's kind.
-fn operand_from(
-    alloc: Global,
-    kind: TokenKind,
-    tokens: &[Token<'_>],
-    behind: &[Token<'_>],
-) -> Result<Operand, AsmFault>
-    ensures value { Parses result (IsOperandFrom kind (lexemes tokens.now) (lexemes behind.now)) }
-    ensures inside { IfErr result (λ e. is_failure e ≡ false) }
-{
-    match kind {
-        TokenKind::Symbol(Mark::Hash) => immediate(alloc, behind),
-        TokenKind::Symbol(Mark::OpenParenthesis) => indirect(alloc, behind),
-        TokenKind::SizePrefix(size) => address(alloc, Some(size), behind),
-        _ => plain_operand(alloc, tokens),
-    }
-}
-
 /// What stands behind a mnemonic.
 #[inline(always)]
 pub fn operand(alloc: Global, tokens: &[Token<'_>]) -> Result<Operand, AsmFault>
     ensures value { Parses result (IsOperand (lexemes tokens.now)) }
     ensures inside { IfErr result (λ e. is_failure e ≡ false) }
 {
-    match tokens.split_first() {
-        Some((first, behind)) => operand_from(alloc, first.kind, tokens, behind),
-        None => Ok(Operand::Absent),
+    let Some((first, behind)) = tokens.split_first() else {
+        return Ok(Operand::Absent);
+    };
+    match first.kind {
+        TokenKind::Symbol(Mark::Hash) => Ok(Operand::Immediate(expression(alloc, behind)?)),
+        TokenKind::Symbol(Mark::OpenParenthesis) => indirect(alloc, behind),
+        TokenKind::SizePrefix(size) => address(alloc, Some(size), behind),
+        _ => plain_operand(alloc, tokens),
     }
 }

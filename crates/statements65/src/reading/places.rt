@@ -69,22 +69,6 @@ fn is_identifier(bytes: &[u8]) -> bool
     }
 }
 
-/// A segment by its name.
-fn segment_named(
-    alloc: Global,
-    name: &[u8],
-    size: Option<AddressSize>,
-) -> Result<Statement, AsmFault>
-    ensures value { Parses result (λ r. r ≡ segment_named name.now size) }
-    ensures inside { IfErr result (λ e. is_failure e ≡ false) }
-{
-    if !is_identifier(name) {
-        return Err(AsmFault::NotUnderstood);
-    }
-    let name = Sequence::copy_of(alloc, name)?;
-    Ok(Statement::Segment { name, size })
-}
-
 /// `.segment`
 pub fn segment(alloc: Global, tokens: &[Token<'_>]) -> Result<Statement, AsmFault>
     ensures value { Parses result (λ r. r ≡ segment_of (lexemes tokens.now)) }
@@ -95,7 +79,11 @@ pub fn segment(alloc: Global, tokens: &[Token<'_>]) -> Result<Statement, AsmFaul
     };
     let name = needed(quoted_in(first))?;
     let size = size_behind(behind)?;
-    segment_named(alloc, name, size)
+    if !is_identifier(name) {
+        return Err(AsmFault::NotUnderstood);
+    }
+    let name = Sequence::copy_of(alloc, name)?;
+    Ok(Statement::Segment { name, size })
 }
 
 /// `.scope`

@@ -4,7 +4,7 @@ ghost use Rattle.std.specs.Prelude.{◌≡◌, false, IfErr, Ok, option_map, IfS
 ghost use Rattle.base65.specs.Relations.{Answers};
 ghost use Rattle.syntax65.specs.Tokens.{lexeme_of, lexemes};
 ghost use Rattle.language65.specs.Faults.{is_failure, is_outside};
-ghost use Rattle.statements65.specs.Parsing.{front_label, label_before, label_of, named_label, Parses, directive_of, IsDirective, IsDirectiveStatement, IsConstant, IsInstruction, IsNamed, IsPlainConstant, IsStatement};
+ghost use Rattle.statements65.specs.Parsing.{front_label, label_before, label_of, named_label, Parses, directive_of, IsDirective, IsDirectiveStatement, IsConstant, IsInstruction, IsNamed, IsStatement};
 ghost use Rattle.syntax65.specs.Mnemonics.{mnemonic_of};
 ghost use Rattle.language65.specs.declared.fault.AsmFault.{AsmFault};
 ghost use Rattle.language65.specs.declared.language.Statement.{Statement};
@@ -63,26 +63,6 @@ fn label_before<'a, 'b>(
     }
 }
 
-/// The label at the front and the tokens behind it, if there is one.
-fn front_label<'a, 'b>(
-    alloc: Global,
-    tokens: &'b [Token<'a>],
-) -> Result<Option<(Statement, &'b [Token<'a>])>, AsmFault>
-    ensures value { Answers is_outside (λ label. option_map (λ x. (x.0, lexemes x.1.now)) label) result (λ r. r ≡ Ok (front_label (lexemes tokens.now))) }
-    ensures inside { IfErr result (λ e. is_failure e ≡ false) }
-{
-    match tokens.split_first() {
-        Some((first, behind)) => {
-            if is_colon(first) {
-                Ok(Some((Statement::UnnamedLabel, behind)))
-            } else {
-                label_before(alloc, first, behind)
-            }
-        }
-        None => Ok(None),
-    }
-}
-
 /// The label at the front, if there is one, and the tokens behind it.
 pub fn label<'a, 'b>(
     alloc: Global,
@@ -91,20 +71,30 @@ pub fn label<'a, 'b>(
     ensures value { Answers is_outside (λ x. (x.0, lexemes x.1.now)) result (λ r. r ≡ Ok (label_of (lexemes tokens.now))) }
     ensures inside { IfErr result (λ e. is_failure e ≡ false) }
 {
-    match front_label(alloc, tokens)? {
+    let Some((first, behind)) = tokens.split_first() else {
+        return Ok((None, tokens));
+    };
+    if is_colon(first) {
+        return Ok((Some(Statement::UnnamedLabel), behind));
+    }
+    match label_before(alloc, first, behind)? {
         Some((label, behind)) => Ok((Some(label), behind)),
         None => Ok((None, tokens)),
     }
 }
 
-fn statement_by(
+/// The statement of a directive and the tokens behind it.
+fn directive_statement(
     alloc: Global,
-    directive: Directive,
+    word: &[u8],
     tokens: &[Token<'_>],
 ) -> Result<Statement, AsmFault>
-    ensures value { Parses result (IsDirective directive (lexemes tokens.now)) }
+    ensures value { Parses result (IsDirectiveStatement (directive_of word.now) (lexemes tokens.now)) }
     ensures inside { IfErr result (λ e. is_failure e ≡ false) }
 {
+    let Some(directive) = directive_of(word) else {
+        return Err(AsmFault::NotUnderstood);
+    };
     match directive {
         Directive::List(elements, width) => list(alloc, elements, width, tokens),
         Directive::EndedText => ended_text(alloc, tokens),
@@ -121,52 +111,17 @@ fn statement_by(
     }
 }
 
-/// The statement of a directive and the tokens behind it.
-pub fn directive_statement(
-    alloc: Global,
-    word: &[u8],
-    tokens: &[Token<'_>],
-) -> Result<Statement, AsmFault>
-    ensures value { Parses result (IsDirectiveStatement (directive_of word.now) (lexemes tokens.now)) }
-    ensures inside { IfErr result (λ e. is_failure e ≡ false) }
-{
-    match directive_of(word) {
-        Some(directive) => statement_by(alloc, directive, tokens),
-        None => Err(AsmFault::NotUnderstood),
-    }
-}
-
-fn plain_constant(alloc: Global, name: &[u8], tokens: &[Token<'_>]) -> Result<Statement, AsmFault>
-    ensures value { Parses result (IsPlainConstant name.now (lexemes tokens.now)) }
-    ensures inside { IfErr result (λ e. is_failure e ≡ false) }
-{
-    let value = expression(alloc, tokens)?;
-    let name = Sequence::copy_of(alloc, name)?;
-    Ok(Statement::Constant { name, value })
-}
-
 /// `name = e`, by the name and what stands behind the mark.
 fn constant(alloc: Global, name: &[u8], tokens: &[Token<'_>]) -> Result<Statement, AsmFault>
     ensures value { Parses result (IsConstant name.now (lexemes tokens.now)) }
     ensures inside { IfErr result (λ e. is_failure e ≡ false) }
 {
     if is_reserved(name) {
-        Err(AsmFault::NotUnderstood)
-    } else {
-        plain_constant(alloc, name, tokens)
+        return Err(AsmFault::NotUnderstood);
     }
-}
-
-fn with_operand(
-    alloc: Global,
-    mnemonic: Mnemonic,
-    tokens: &[Token<'_>],
-) -> Result<Statement, AsmFault>
-    ensures value { Parses result (IsInstruction (Some mnemonic) (lexemes tokens.now)) }
-    ensures inside { IfErr result (λ e. is_failure e ≡ false) }
-{
-    let operand = operand(alloc, tokens)?;
-    Ok(Statement::Instruction { mnemonic, operand })
+    let value = expression(alloc, tokens)?;
+    let name = Sequence::copy_of(alloc, name)?;
+    Ok(Statement::Constant { name, value })
 }
 
 /// An instruction, by its name and its operand.
@@ -174,10 +129,11 @@ fn instruction(alloc: Global, name: &[u8], tokens: &[Token<'_>]) -> Result<State
     ensures value { Parses result (IsInstruction (mnemonic_of name.now) (lexemes tokens.now)) }
     ensures inside { IfErr result (λ e. is_failure e ≡ false) }
 {
-    match mnemonic(name) {
-        Some(mnemonic) => with_operand(alloc, mnemonic, tokens),
-        None => Err(AsmFault::NotUnderstood),
-    }
+    let Some(mnemonic) = mnemonic(name) else {
+        return Err(AsmFault::NotUnderstood);
+    };
+    let operand = operand(alloc, tokens)?;
+    Ok(Statement::Instruction { mnemonic, operand })
 }
 
 /// The mnemonic at the front of an instruction, and what stands behind it; nothing where another statement

@@ -56,13 +56,9 @@ fn scoped_definition(symbols: &Symbols, spot: Spot, name: &Name) -> Option<usize
     let parts = name.parts.as_slice();
     let opened = spot.opened as usize;
     let scope = spot.scope as usize;
-    match scope_of(symbols, opened, scope, name.is_global, scopes_in(parts)) {
-        Some(scope) => {
-            let name = last_in(parts);
-            symbols.defined(Key::Named { scope, name })
-        }
-        None => None,
-    }
+    let scope = scope_of(symbols, opened, scope, name.is_global, scopes_in(parts))?;
+    let name = last_in(parts);
+    symbols.defined(Key::Named { scope, name })
 }
 
 /// The place of the definition that a name means where it stands, if it means one: none where it is imported.
@@ -92,10 +88,8 @@ fn defined_or_imported(symbols: &Symbols, defined: Option<usize>, name: &[u8]) -
     if let Some(place) = defined {
         return Some(Meaning::Defined(place));
     }
-    match symbols.imported(name) {
-        Some(key) => Some(Meaning::Imported(key)),
-        None => None,
-    }
+    let key = symbols.imported(name)?;
+    Some(Meaning::Imported(key))
 }
 
 /// What a name means in one scope.
@@ -237,10 +231,8 @@ fn cheap_meaning(
 fn unnamed_label(symbols: &Symbols, count: usize) -> Option<Meaning>
     ensures { unnamed_meaning (table_of symbols.now) count ≡ or_absent NoSuchLabel result }
 {
-    match symbols.defined(Key::Unnamed(count)) {
-        Some(place) => Some(Meaning::Defined(place)),
-        None => None,
-    }
+    let place = symbols.defined(Key::Unnamed(count))?;
+    Some(Meaning::Defined(place))
 }
 
 /// How many unnamed labels stand before one behind a use before which so many stand. No table has one that no number of
@@ -269,10 +261,8 @@ fn label_behind(symbols: &Symbols, before: u32, steps: usize) -> Option<Meaning>
 fn label_before(symbols: &Symbols, before: u32, steps: usize) -> Option<Meaning>
     ensures { backward_meaning (table_of symbols.now) before steps ≡ or_absent NoSuchLabel result }
 {
-    match (before as usize).checked_sub(steps) {
-        Some(count) => unnamed_label(symbols, count),
-        None => None,
-    }
+    let count = (before as usize).checked_sub(steps)?;
+    unnamed_label(symbols, count)
 }
 
 /// What an operand means where it stands. No memory is taken where it means something.

@@ -27,14 +27,14 @@ impl Symbols {
         ensures { result ≡ entry_of (words_of self.now) (key_of key.entry) }
     {
         match key {
-            Key::Named { scope, name } => match self.word(name) {
-                Some(word) => Some(Entry::Named { scope, word }),
-                None => None,
-            },
-            Key::Cheap { region, name } => match self.word(name) {
-                Some(word) => Some(Entry::Cheap { region, word }),
-                None => None,
-            },
+            Key::Named { scope, name } => {
+                let word = self.word(name)?;
+                Some(Entry::Named { scope, word })
+            }
+            Key::Cheap { region, name } => {
+                let word = self.word(name)?;
+                Some(Entry::Cheap { region, word })
+            }
             Key::Unnamed(count) => Some(Entry::Unnamed(count)),
         }
     }

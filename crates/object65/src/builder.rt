@@ -2,9 +2,9 @@
 
 ghost use Rattle.std.specs.Prelude.{◌≡◌, ◌≤◌, ◌<◌, ◌+◌, ◌++◌, ◌∷◌, [], Ok, OnOk, length, get_or, map, OnErr, IfOk, Err, true};
 ghost use Rattle.object65.specs.Record.{Gives, is_memory, entry_of, is_version};
-ghost use Rattle.object65.specs.Items.{closed, grown, with_item, with_piece, section_from, object_from};
+ghost use Rattle.object65.specs.Items.{closed, grown, with_item, section_from, object_from};
 ghost use Rattle.object65.specs.Objects.{fragment_len, is_good_object, section_len, section_limit};
-ghost use Rattle.object65.specs.Inner.Sound.{HasPlace, HasRoom, state_of, unmarked};
+ghost use Rattle.object65.specs.Inner.Sound.{HasRoom, state_of, unmarked};
 ghost use Rattle.std.specs.List.{AllByRecursion};
 ghost use Rattle.object65.specs.Scanning.{start, after, finished};
 
@@ -74,33 +74,6 @@ fn grow(alloc: Global, draft: &mut Draft, fragment: Fragment) -> Result<(), Obje
     push_fragment(alloc, draft, fragment)
 }
 
-/// Adds a fragment to the section at a place.
-fn add_piece(parts: &mut Parts, at: usize, fragment: Fragment) -> Result<(), ObjectFault>
-    requires { HasPlace parts.old.drafts.items at fragment }
-    ensures { Gives is_memory (λ _. state_of parts.new) result (Ok (record (state_of parts.old) { drafts = with_piece parts.old.drafts.items at fragment })) }
-{
-    let alloc = parts.alloc;
-    let draft = &mut parts.drafts[at];
-    grow(alloc, draft, fragment)
-}
-
-/// Adds a section that has no fragment yet.
-fn add_draft(parts: &mut Parts, name: Sequence<u8>, size: u32, align: u8) -> Result<(), ObjectFault>
-    ensures { Gives is_memory (λ _. state_of parts.new) result (Ok (with_item (state_of parts.old) (Item.Section name size align))) }
-{
-    let fragments = Sequence::new(parts.alloc);
-    let literal = Sequence::new(parts.alloc);
-    parts.drafts.push(Draft {
-        name,
-        align,
-        size,
-        filled: 0,
-        fragments,
-        literal,
-    })?;
-    Ok(())
-}
-
 /// Adds an item.
 pub fn add_item(parts: &mut Parts, item: Item) -> Result<(), ObjectFault>
     requires { HasRoom parts.old.drafts.items item }
@@ -109,8 +82,15 @@ pub fn add_item(parts: &mut Parts, item: Item) -> Result<(), ObjectFault>
     match item {
         Item::File(name) => parts.files.push(name)?,
         Item::Import(name) => parts.imports.push(name)?,
-        Item::Section(name, size, align) => add_draft(parts, name, size, align)?,
-        Item::Part(at, _, fragment) => add_piece(parts, at, fragment)?,
+        Item::Section(name, size, align) => parts.drafts.push(Draft {
+            name,
+            align,
+            size,
+            filled: 0,
+            fragments: Sequence::new(parts.alloc),
+            literal: Sequence::new(parts.alloc),
+        })?,
+        Item::Part(at, _, fragment) => grow(parts.alloc, &mut parts.drafts[at], fragment)?,
         Item::Export(name, origin, form) => parts.exports.push(Export { name, origin, form })?,
         Item::Assert(action, origin, text, form) => parts.asserts.push(Assert {
             action,

@@ -3,8 +3,8 @@
 ghost use Rattle.std.specs.Prelude.{◌≡◌, ◌&&◌, not, nat_le};
 ghost use Rattle.object65.specs.declared.folding.FormFault.TheVariants.{OutOfMemory};
 ghost use Rattle.object65.specs.Record.{Gives};
-ghost use Rattle.object65.specs.Folding.{lacks_memory, limited, fold1, fold_any, fold_sum, fold_difference, fold2, is_within, is_normal, is_literal, folds1, folds2, node_limit};
-ghost use Rattle.object65.specs.Form.{binary, nodes};
+ghost use Rattle.object65.specs.Folding.{lacks_memory, fold1, fold_any, fold_sum, fold_difference, fold2, is_within, is_normal, is_literal, folds1, folds2, node_limit};
+ghost use Rattle.object65.specs.Form.{nodes};
 
 use crate::form::{NODE_LIMIT, count};
 use crate::{Node, Norm};
@@ -70,19 +70,12 @@ impl Norm {
 fn fold_any(alloc: Global, op: Op2, left: Norm, right: Norm) -> Result<Norm, FormFault>
     ensures { Gives lacks_memory (λ f. f) result (fold_any op left right) }
 {
-    match (left.node(), right.node()) {
-        (Node::Lit(a), Node::Lit(b)) => match apply2(op, *a, *b) {
+    if let (Node::Lit(a), Node::Lit(b)) = (left.node(), right.node()) {
+        return match apply2(op, *a, *b) {
             Some(value) => Ok(Norm::new(Node::Lit(value))),
             None => Err(FormFault::NoValue),
-        },
-        _ => join(alloc, op, left, right),
+        };
     }
-}
-
-/// The operation as it stands, within the limit.
-fn join(alloc: Global, op: Op2, left: Norm, right: Norm) -> Result<Norm, FormFault>
-    ensures { Gives lacks_memory (λ f. f) result (limited (binary op left right)) }
-{
     if count(&left).saturating_add(count(&right)) >= NODE_LIMIT {
         return Err(FormFault::TooLarge);
     }
@@ -96,10 +89,8 @@ fn fold_sum(alloc: Global, left: Norm, right: Norm) -> Result<Norm, FormFault>
     ensures { Gives lacks_memory (λ f. f) result (fold_sum left right) }
 {
     match (left.node(), right.node()) {
-        (Node::Sec(section, offset), Node::Lit(number)) => {
-            Ok(Norm::new(Node::Sec(*section, offset.wrapping_add(*number))))
-        }
-        (Node::Lit(number), Node::Sec(section, offset)) => {
+        (Node::Sec(section, offset), Node::Lit(number))
+        | (Node::Lit(number), Node::Sec(section, offset)) => {
             Ok(Norm::new(Node::Sec(*section, offset.wrapping_add(*number))))
         }
         _ => fold_any(alloc, Op2::Add, left, right),

@@ -31,11 +31,7 @@ pub fn read_room<S: Store>(
     ensures asked { Asks is_outside_store (S.failures store.old) result }
 {
     let room = limit.saturating_sub(at);
-    let want = if room < buf.len() as u64 {
-        room as usize
-    } else {
-        buf.len()
-    };
+    let want = room.min(buf.len() as u64) as usize;
     read_full(store, name, at, &mut buf[..want])
 }
 

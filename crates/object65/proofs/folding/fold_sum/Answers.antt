@@ -4,6 +4,3 @@ use Rattle.object65.proofs.folding.fold_sum.Goals as goal
 
 pub returns-in-Sec-Lit : goal.returns-in-Sec-Lit
 returns-in-Sec-Lit c = search (rules, wraps)
-
-pub returns-in-Lit-Sec : goal.returns-in-Lit-Sec
-returns-in-Lit-Sec c = search (rules, wraps)

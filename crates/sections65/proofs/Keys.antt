@@ -1,11 +1,13 @@
 -- Keys in the order in which they first come.
 use Rattle.std.proofs.lemmas.Grind.{common_steps}
-use Rattle.std.proofs.Common.{◌≡◌, ◌∙◌, ℕ, ◌+◌, ◌-◌, ◌<◌, ◌≤◌, zero, suc, cond, List, [], ◌∷◌, ◌++◌, drop, length, get_or, map, Option, Some, None, nat_eq, refl, sym, ap, arith, add-one}
-use Rattle.std.specs.List.{position_from, list_any, flat_map}
+use Rattle.std.proofs.Common.{◌≡◌, ◌∙◌, ℕ, ◌+◌, ◌-◌, ◌<◌, zero, suc, List, [], ◌∷◌, ◌++◌, drop, length, get_or, map, position, nat_eq, refl, sym, ap, arith, add-one}
+use Rattle.std.specs.List.{list_any, flat_map}
 use Rattle.std.specs.Str.{bytes_eq}
-use Rattle.std.proofs.lemmas.List.{drop_all}
 use Rattle.std.specs.Prelude.{if◌then◌else◌}
-use Rattle.std.proofs.lemmas.Iterator.Adapters.{position_from-zero}
+use Rattle.std.specs.Global.{Vec}
+use Rattle.std.proofs.lemmas.Cmp.{nat_list_eq_equiv}
+use Rattle.indexmap.specs.IndexSet.{IndexSet}
+use Rattle.language65.proofs.Lists.{position_mapped}
 use Rattle.source65.specs.declared.place.Place.{Place}
 use Rattle.language65.specs.declared.contents.Said as said
 use Rattle.language65.specs.declared.contents.Said.TheVariants as told
@@ -13,7 +15,7 @@ use Rattle.language65.specs.Numbering.{content_imports, imports_in, key_of, once
 use Rattle.language65.specs.Views.{said_at}
 use Rattle.sections65.specs.declared.entries.Entry.{Entry}
 use Rattle.sections65.specs.declared.entries.Entry.TheVariants.{Bytes, Room, Value, Told, Open}
-use Rattle.sections65.specs.Fed.{content_of, place_by}
+use Rattle.sections65.specs.Fed.{content_of, names_of, place_by}
 
 pub once_append : (ks found ls : List ℕ) → once (once found ks) ls ≡ once found (ks ++ ls)
 once_append [] found ls = refl
@@ -33,18 +35,9 @@ once_step f xs i x old all lt at inv = grind (arith, common_steps, once_append, 
 
 -- ---- Keys by name.
 
--- the key of a name among those from place i on
-abbrev pub key_from : ℕ → List (List ℕ) → List ℕ → Option ℕ
-key_from i names name = position_from (λ m. bytes_eq m name) i (drop i names)
-
-pub no_key : (names : List (List ℕ)) (name : List ℕ) → None ≡ key_from (length names) names name
-no_key names name = rw (drop_all (length names) names (omega arith)) refl
-
-pub key_step : (names : List (List ℕ)) (i : ℕ) (n key name : List ℕ) (v : ℕ) (old new : Option ℕ) → 0 < i → i ≤ length names → n ≡ get_or names (i - 1) n → key ≡ n → v ≡ i - 1 → new ≡ cond (bytes_eq key name) (Some v) old → old ≡ key_from i names name → new ≡ key_from (i - 1) names name
-key_step names i n key name v old new pos le at is place e inv = grind (arith, common_steps)
-
-pub key_end : (names : List (List ℕ)) (i : ℕ) (name : List ℕ) → i ≡ 0 → key_from i names name ≡ key_of names name
-key_end names i name none = ap (λ j. key_from j names name) none ∙ sym (position_from-zero (λ m. bytes_eq m name) names)
+-- it is found by the name's bytes
+pub key_found : {S : Type 0} (imports : IndexSet (Vec ℕ) S) (name : List ℕ) → key_of (names_of imports) name ≡ position (λ k. bytes_eq name k.items) imports.keys
+key_found imports name = position_mapped (λ m. bytes_eq m name) (λ k. k.items) imports.keys ∙ (λ i. position (λ k. nat_list_eq_equiv.symm k.items name i) imports.keys)
 
 -- ---- Imports of what is said, wherever it stands.
 

@@ -208,6 +208,7 @@ impl Builder {
         if self.failed {
             return Err(ObjectFault::FailedBefore);
         }
+        // It stays so where a call below refuses.
         self.failed = true;
         let item = self.scan.take(next)?;
         add_item(&mut self.parts, item)?;

@@ -254,6 +254,7 @@ impl Scan {
         if self.failed {
             return Err(ObjectFault::FailedBefore);
         }
+        // It stays so where the record is refused.
         self.failed = true;
         if self.kept.ended {
             return Err(ObjectFault::OutOfOrder);

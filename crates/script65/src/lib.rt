@@ -18,4 +18,3 @@ pub use script::{
     Access, Area, AreaFile, AreaPart, Begin, Operand, Row, RowPart, Script, Symbol, SymbolKind,
     Term,
 };
-pub use sums::difference;

@@ -1,9 +1,9 @@
 //! A row in an area.
 
-ghost use Rattle.std.specs.Prelude.{◌≡◌, ◌≤◌, ◌+◌, IfOk};
+ghost use Rattle.std.specs.Prelude.{◌≡◌, ◌≤◌, ◌+◌, Some, IfOk};
 ghost use Rattle.base65.specs.Outcome.{Gives};
 ghost use Rattle.script65.specs.Faults.{is_place_outside};
-ghost use Rattle.script65.specs.Placing.{begin_in, fitted, moved, rounded_up, row_after};
+ghost use Rattle.script65.specs.Placing.{begin_in, moved, rounded_up, row_after, sized_row};
 
 use crate::placement::PlaceFault;
 use crate::script::{Area, Begin, Row};
@@ -76,7 +76,7 @@ fn moved(place: usize, row: &Row, at: u64, spot: Spot) -> Spot
 }
 
 impl Site<'_> {
-    // A row of a size, which begins at an address behind the cursor.
+    // A row of a size behind the cursor.
     #[tactic(auto, unfolding(crate::specs::Placing::fitted))]
     fn fit(
         &self,
@@ -84,14 +84,15 @@ impl Site<'_> {
         row: &Row,
         spot: Spot,
         size: u64,
-        at: u64,
         cursor: u64,
     ) -> Result<(Spot, u64), PlaceFault>
-        requires { at ≤ 12884901888 }
+        requires room { cursor ≤ 8589934592 }
+        requires small { self.now.bounds.start ≤ 8589934592 }
         ensures value { Gives is_place_outside (λ x. x) result
-            (fitted self.now.place self.now.area.now self.now.bounds row.now spot size at cursor) }
+            (sized_row self.now.place self.now.area.now self.now.bounds row.now spot (Some size) cursor) }
         ensures bound { IfOk result (λ x. x.1 ≤ self.now.bounds.end) }
     {
+        let at = begin_in(self.place, self.bounds, row, cursor);
         if at < cursor {
             return Err(PlaceFault::StartBelow(Sequence::copy_of(alloc, row.name.as_slice())?));
         }
@@ -125,10 +126,7 @@ impl Site<'_> {
         }
         match spot.size {
             None => Ok((moved(self.place, row, cursor, spot), cursor)),
-            Some(size) => {
-                let at = begin_in(self.place, self.bounds, row, cursor);
-                self.fit(alloc, row, spot, size, at, cursor)
-            }
+            Some(size) => self.fit(alloc, row, spot, size, cursor),
         }
     }
 }

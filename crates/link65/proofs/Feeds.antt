@@ -1,13 +1,13 @@
 -- What calls lead a linker to, and what it keeps of the modules that have ended.
 use Rattle.std.proofs.lemmas.Grind.{common_steps}
-use Rattle.std.proofs.Common.{arith, ◌≡◌, ◌∙◌, List, length, map, take, inl, inr, Option, sym, ap, ◌<◌, ◌&&◌, ℕ, suc, false, ◌∷◌, drop, get_or, [], ◌++◌, Some, None, Bool, true, Result, Ok, Err, if◌then◌else◌, refl, subst}
+use Rattle.std.proofs.Common.{arith, ◌≡◌, ◌∙◌, List, length, map, inl, inr, Option, sym, ap, ◌<◌, ◌&&◌, ℕ, suc, false, ◌∷◌, drop, get_or, [], ◌++◌, Some, None, Bool, true, Result, Ok, Err, if◌then◌else◌, refl, subst}
 use Rattle.std.proofs.Math.Seq.{take-append_seam, drop-cons, drop-append_seam}
 use Rattle.link65.specs.Names.{given_names, first_again}
 use Rattle.link65.specs.Growing.{Growth, at_rest, ended, grown_by}
 use Rattle.link65.specs.Programs.{Module, exported, program_of, Program, with_module, with_modules}
-use Rattle.link65.specs.Inner.Fields.{ended_exports, Comes, are_listed, exports_from, matched}
+use Rattle.link65.specs.Inner.Fields.{Comes, are_listed, exports_from, matched}
 use Rattle.link65.specs.Standing.{Feeding, HaveEnded, Opened, IsFed, IsFeeding, Leads, agreed, agrees_with, as_link, joined, listed_of, module_of, opening, whole, all_once}
-use Rattle.link65.proofs.GivenLemmas.{map_behind, module_gives, once_behind}
+use Rattle.link65.proofs.GivenLemmas.{given_all, map_behind, module_gives, once_behind}
 use Rattle.std.specs.Str.{bytes_eq}
 use Rattle.library65.specs.Libraries.{are_same}
 use Rattle.link65.specs.declared.parts.Exported.{Exported}
@@ -41,9 +41,9 @@ use Rattle.link65.specs.declared.feeding.Listed.{Listed}
 pub their_members : (f : Feeding) (modules : List Module) → HaveEnded f modules → (program_of modules).members ≡ f.growth.program.members
 their_members f modules x = grind (arith, common_steps)
 
--- their exports
-pub their_exports : (f : Feeding) (modules : List Module) → HaveEnded f modules → (program_of modules).exports ≡ ended_exports f.opened f.growth.program.exports
-their_exports f modules x = grind (arith, common_steps)
+-- the names that they and the script give
+pub their_names : (f : Feeding) (modules : List Module) → HaveEnded f modules → f.given ≡ given_names f.script (program_of modules)
+their_names f modules x = grind (arith, common_steps, given_all)
 
 -- ---- Names of exports beside those listed.
 
@@ -248,5 +248,7 @@ module _ (old : Feeding) (modules : List Module) (name : List ℕ) (entry : Opti
 -- ---- The link.
 
 -- what is linked of what is kept is what the modules come to
-pub linked : (f : Feeding) (modules : List Module) (kept : Program) (r : Result Linked LinkFault) → kept ≡ f.growth.program → Finds is_memory (IsProgramLink f.output f.script kept) r → IsFed f modules → Finds is_memory (LinkOf f.output f.script modules) r
-linked f modules p r is found h = grind (arith, common_steps)
+pub linked : (f : Feeding) (modules : List Module) (kept : Program) (r : Result Linked LinkFault) → kept ≡ f.growth.program → (f.given ≡ given_names f.script kept → Finds is_memory (IsProgramLink f.output f.script kept) r) → IsFed f modules → Finds is_memory (LinkOf f.output f.script modules) r
+linked f modules p r is found h =
+    let named : f.given ≡ given_names f.script p = their_names f modules (inl h) ∙ ap (given_names f.script) (sym (is ∙ ap (λ (g : Growth). g.program) h.growth)) in
+    grind (arith, common_steps, found named)

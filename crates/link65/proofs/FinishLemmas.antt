@@ -1,8 +1,9 @@
 -- From the parts of a link to the whole, and with which faults it is refused at all.
 use Rattle.std.proofs.Common.{◌≡◌, ◌≢◌, ℕ, zero, suc, ◌+◌, ◌<◌, ◌≤◌, refl, sym, ◌∙◌, ap, subst, arith, List, [], ◌∷◌, length, slice_get, Option, Some, None, Bool, true, false, Result, Ok, Err, ◌⊎◌, inl, inr, nat_lt, map, ℤ, ◌||◌, if◌then◌else◌}
-use Rattle.std.specs.Prelude.{IfErr, pos}
+use Rattle.std.specs.Prelude.{IfErr, pos, replicate}
 use Rattle.std.proofs.lemmas.Grind.{common_steps}
 use Rattle.std.proofs.lemmas.Bool.Decides.{nat_tests}
+use Rattle.std.proofs.lemmas.List.{length-replicate}
 use Rattle.std.proofs.lemmas.Option.{gets}
 use Rattle.base65.specs.Outcome.{◌>>=◌, Finds, Unless, First, Refuses}
 use Rattle.base65.specs.Values.{value1, value2}
@@ -17,7 +18,7 @@ use Rattle.link65.specs.declared.parts.Provider.TheVariants.{ByModule, ByScript,
 use Rattle.link65.specs.declared.parts.Resolved.{Resolved}
 use Rattle.link65.specs.declared.parts.ValueFault.{ValueFault}
 use Rattle.link65.specs.declared.parts.ValueFault.TheVariants.{NoValue, Unresolved}
-use Rattle.link65.specs.Placed.{AllFound, AreAllFound, AreSettled, AreUntouched, IsFound, KeepsFound, as_found, as_outcome, import_tried, marked, table_of, tried, IsPassed, IsPlacedPassed}
+use Rattle.link65.specs.Placed.{AllFound, AreAllFound, AreSettled, IsFound, KeepsFound, as_found, as_outcome, import_tried, marked, table_of, tried, IsPassed, IsPlacedPassed}
 use Rattle.link65.specs.Values.{AreExports, ExportComesTo, Linkage, base_of, provider_at, import_value, in_table, value_by, linkage, Exports, linkage_of, resolved, needs_of}
 use Rattle.script65.specs.declared.placement.Placement.{Placement}
 use Rattle.script65.specs.declared.script.Script.{Script}
@@ -106,6 +107,19 @@ value_found l marks h owner f = ap as_outcome (tried_found marks h (slice_get l.
 
 -- ---- All of them in turn.
 
+all_untouched : (n x : ℕ) (m : Mark) → slice_get (replicate n Untouched) x ≡ Some m → m ≡ Untouched
+all_untouched zero x m h = absurd cc
+all_untouched (suc n) zero m h = cc
+all_untouched (suc n) (suc x) m h = all_untouched n x m h
+
+-- before any is evaluated
+pub untouched_settled : (l : Linkage) (n : ℕ) → n ≡ length l.exports → AreSettled l (replicate n Untouched)
+untouched_settled l n e = record {
+  long = length-replicate n Untouched ∙ e;
+  all_true = λ x r at. (let same : Found r ≡ Untouched = all_untouched n x (Found r) at in absurd cc);
+  at_rest = λ x at. (let same : BeingEvaluated ≡ Untouched = all_untouched n x BeingEvaluated at in absurd cc);
+}
+
 -- what isn't untouched is found
 pub touched_found : (l : Linkage) (marks : List Mark) (x : ℕ) → AreSettled l marks → x < length marks → slice_get marks x ≢ Some Untouched → IsFound marks x
 touched_found l marks x h k n = grind (arith, common_steps, common_steps, gets)
@@ -165,17 +179,6 @@ Refused r = IfErr r (λ e. is_of_finish e ≡ true)
 behind : {A B : Type 0} (r : Result A LinkFault) (k : A → Result B LinkFault) → Refused r → ((x : A) → Refused (k x)) → Refused (r >>= k)
 behind x k first next = grind (arith, common_steps)
 
--- ---- What stands before values.
-
-unresolved_so : (names : List (List ℕ)) → Refused (none_unresolved names)
-unresolved_so x = grind (arith, common_steps)
-
-placement_so : (r : Result Placement PlaceFault) → Refused (as_placement r)
-placement_so x = grind (arith, common_steps)
-
-placed_so : (s : Script) (p : Program) → Refused (placed s p)
-placed_so s p = behind (names_given s p) _ (unresolved_so (unresolved s p)) (λ u. placement_so (place_of s (needs_of p)))
-
 -- ---- Values.
 
 each_so : {A : Type 0} (check : A → Result (Unit {0}) LinkFault) → ((x : A) → Refused (check x)) → (xs : List A) → Refused (each_passes check xs)
@@ -209,13 +212,11 @@ image_so output s p placement l exports warnings e h = let never = h.2 in absurd
 placed_link_so : (output : List ℕ) (s : Script) (p : Program) (placement : Placement) (e : LinkFault) → IsPlacedLink output s p placement (Err e) → is_of_finish e ≡ true
 placed_link_so output s p placement e h = grind (arith, common_steps, first_so, checked_so, image_so)
 
-link_so : (output : List ℕ) (s : Script) (p : Program) (e : LinkFault) → IsProgramLink output s p (Err e) → is_of_finish e ≡ true
-link_so output s p e h = first_so (placed s p) (IsPlacedLink output s p) e (placed_so s p) (λ placement. placed_link_so output s p placement e) h
-
 outside_or : (b own : Bool) (P : Type 0) → Unless b P → (P → own ≡ true) → (b || own) ≡ true
 outside_or true own P h so = refl
 outside_or false own P h so = so h
 
 -- whatever is linked, a refusal is want of memory or one of a link's
-pub refuses_so : (output : List ℕ) (s : Script) (p : Program) (r : Result Linked LinkFault) → Finds is_memory (IsProgramLink output s p) r → RefusesBy is_of_finish r
-refuses_so output s p x h = grind (arith, common_steps, outside_or, link_so)
+pub refuses_so : (output : List ℕ) (s : Script) (p : Program) (placement : Placement) (r : Result Linked LinkFault) → Finds is_memory (IsPlacedLink output s p placement) r → RefusesBy is_of_finish r
+refuses_so output s p placement (Ok x) h = tt
+refuses_so output s p placement (Err e) h = outside_or (is_memory e) (is_of_finish e) (IsPlacedLink output s p placement (Err e)) h (placed_link_so output s p placement e)

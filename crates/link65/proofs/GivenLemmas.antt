@@ -1,26 +1,29 @@
 -- Names that are given, none twice, and names that nobody gives.
 use Rattle.std.proofs.lemmas.Grind.{common_steps}
-use Rattle.std.proofs.Common.{arith, ◌≡◌, ◌∙◌, ℕ, Bool, true, false, not, List, [], ◌∷◌, ◌++◌, Result, Ok, Err, append_assoc, refl, sym, ap, map, length, append-nil, ◌+◌, ◌||◌, cond, filter, Option, Some, is_some, if◌then◌else◌, subst}
+use Rattle.std.proofs.Common.{arith, ◌≡◌, ◌∙◌, ℕ, Bool, true, false, not, List, [], ◌∷◌, ◌++◌, Result, Ok, Err, append_assoc, refl, sym, ap, map, length, drop, get_or, append-nil, ◌+◌, ◌<◌, ◌||◌, cond, filter, Option, Some, is_some, if◌then◌else◌, subst}
 use Rattle.base65.specs.Outcome.{◌>>=◌, Refuses, Unless}
 use Rattle.link65.specs.declared.fault.LinkFault.{LinkFault}
-use Rattle.link65.specs.declared.fault.LinkFault.TheVariants.{DuplicateExport}
+use Rattle.link65.specs.declared.fault.LinkFault.TheVariants.{DuplicateExport, Unresolved}
 use Rattle.link65.specs.Standing.{all_once, with_each, with_new}
-use Rattle.link65.specs.Names.{first_again, is_among, export_names, given_names, each_once, is_given, open_names, script_names, weak_symbols, symbol_imports}
-use Rattle.link65.specs.Links.{no_name_again, names_once}
+use Rattle.link65.specs.Names.{first_again, is_among, given_names, each_once, is_given, open_names, references, unresolved, weak_definition, weak_symbols, symbol_imports}
+use Rattle.link65.specs.Links.{no_name_again, none_unresolved, names_once}
 use Rattle.link65.specs.Faults.{is_memory}
 use Rattle.link65.specs.Programs.{Module, Program, exported, program_of, with_module}
 use Rattle.script65.specs.declared.script.Script.{Script}
+use Rattle.script65.specs.declared.script.Symbol.{Symbol}
+use Rattle.script65.specs.declared.script.SymbolKind.{SymbolKind}
+use Rattle.script65.specs.declared.script.SymbolKind.TheVariants as kind
+use Rattle.script65.proofs.Eaches.{drop_item}
+use Rattle.link65.specs.declared.parts.Definition.{Definition}
 use Rattle.std.proofs.lemmas.Cmp.{nat_list_eq_equiv}
 use Rattle.std.proofs.lemmas.List.{map-append}
 use Rattle.std.proofs.lemmas.List.Elements.{filter-append}
 use Rattle.std.proofs.lemmas.List.Folds.{list_any-append}
 use Rattle.std.proofs.lemmas.Slice.Eq.{bytes_eq-Decides}
-use Rattle.std.specs.List.{list_any, position_from, flat_map}
+use Rattle.std.specs.List.{list_any, flat_map}
 use Rattle.std.specs.Str.{bytes_eq}
-use Rattle.link65.specs.declared.given.GivenNames.{GivenNames}
-use Rattle.link65.specs.declared.resolving.Places.{Places}
-use Rattle.link65.specs.Inner.Missing.{AreGiven, gives_in, has, missing_behind}
-use Rattle.link65.specs.Placed.{IsTable}
+use Rattle.link65.specs.declared.parts.Member.{Member}
+use Rattle.link65.specs.Inner.Fields.{missing_behind}
 
 -- ---- Names of which none is given twice.
 
@@ -81,8 +84,6 @@ map_behind f g (y ∷ old) xs = ap (λ ys. f y ∷ ys) (map_behind f g old xs)
 pub module_gives : (s : Script) (p : Program) (m : Module) → given_names s (with_module p m) ≡ given_names s p ++ map (λ e. e.name) m.object.exports
 module_gives s p m = grind (arith, common_steps, map_behind, append_assoc)
 
--- ---- Names by themselves.
-
 -- ---- A name goes behind others, if it isn't among them.
 
 flipped : (name : List ℕ) (names : List (List ℕ)) → list_any (bytes_eq name) names ≡ is_among names name
@@ -106,15 +107,18 @@ inserted f keys key =
     push_if f (list_any (λ k. bytes_eq (f key) (f k)) keys) keys key
     ∙ ap (λ b. if b then map f keys else map f keys ++ f key ∷ []) (among_keys f keys (f key))
 
+again_none : (o : Option (List ℕ)) (names given : Names) → (no_name_again o >>= (λ u. Ok names)) ≡ Ok given → given ≡ names
+again_none o names given h = grind (arith, common_steps)
+
+-- what is given, none of it twice
+pub given_all : (names given : Names) → all_once [] names ≡ Ok given → given ≡ names
+given_all names given h = again_none (first_again [] names) names given h
+
 -- ---- Names that nobody gives, each once.
 
-pub missing_append : (gives : List ℕ → Bool) (xs : List (List ℕ)) (before ys : List (List ℕ)) → missing_behind gives (missing_behind gives before xs) ys ≡ missing_behind gives before (xs ++ ys)
-missing_append gives [] before ys = refl
-missing_append gives (x ∷ xs) before ys = missing_append gives xs (if gives x || is_among before x then before else before ++ x ∷ []) ys
-
-missing_same : (f g : List ℕ → Bool) → ((name : List ℕ) → f name ≡ g name) → (xs before : List (List ℕ)) → missing_behind f before xs ≡ missing_behind g before xs
-missing_same f g e [] before = refl
-missing_same f g e (x ∷ xs) before = grind (arith, common_steps)
+pub missing_append : (given xs before ys : Names) → missing_behind given (missing_behind given before xs) ys ≡ missing_behind given before (xs ++ ys)
+missing_append given [] before ys = refl
+missing_append given (x ∷ xs) before ys = missing_append given xs (if is_among given x || is_among before x then before else before ++ x ∷ []) ys
 
 same_name : (x y : List ℕ) → bytes_eq x y ≡ true → x ≡ y
 same_name x y e = (bytes_eq-Decides x y).0 e
@@ -141,74 +145,86 @@ once_step gives before x true true is there = refl
 once_step gives before x true false is there = grind (arith, common_steps, there, filter-append, filter_one, nil)
 once_step gives before x false a is there = grind (arith, common_steps, there, kept_among, filter-append, filter_one)
 
-once_missing : (gives : List ℕ → Bool) (xs before : List (List ℕ)) → filter (λ n. not (gives n)) (each_once before xs) ≡ missing_behind gives (filter (λ n. not (gives n)) before) xs
-once_missing gives [] before = refl
-once_missing gives (x ∷ xs) before =
-    once_missing gives xs (if is_among before x then before else before ++ x ∷ [])
-    ∙ ap (λ ns. missing_behind gives ns xs) (once_step gives before x (gives x) (is_among before x) refl refl)
+once_missing : (given xs before : Names) → filter (λ n. not (is_among given n)) (each_once before xs) ≡ missing_behind given (filter (λ n. not (is_among given n)) before) xs
+once_missing given [] before = refl
+once_missing given (x ∷ xs) before =
+    once_missing given xs (if is_among before x then before else before ++ x ∷ [])
+    ∙ ap (λ ns. missing_behind given ns xs) (once_step (is_among given) before x (is_among given x) (is_among before x) refl refl)
 
--- what two lists of names leave that nobody gives
-pub missing_all : (f gives : List ℕ → Bool) (xs ys : List (List ℕ)) → ((name : List ℕ) → f name ≡ gives name) → missing_behind f (missing_behind f [] xs) ys ≡ filter (λ n. not (gives n)) (each_once [] (xs ++ ys))
-missing_all f gives xs ys same = missing_append f xs [] ys ∙ missing_same f gives same (xs ++ ys) [] ∙ sym (once_missing gives (xs ++ ys) [])
+abbrev pub wanted : List Symbol → List Member → Names
+wanted symbols members = symbol_imports symbols ++ flat_map (λ m. m.imports) members
 
--- ---- Who gives a name.
+-- what is wanted and not among what a script and modules give
+pub open_missing : (s : Script) (p : Program) (given : Names) (members : List Member) → given ≡ given_names s p → p.members ≡ members → missing_behind given [] (wanted s.symbols members) ≡ open_names s p
+open_missing s p given members e f = rw (e, ← f) (sym (once_missing (given_names s p) (wanted s.symbols p.members) []))
 
-some_step : (b : Bool) (i : ℕ) (o : Option ℕ) (rest : Bool) → is_some o ≡ rest → is_some (cond b (Some i) o) ≡ (b || rest)
-some_step true i o rest e = refl
-some_step false i o rest e = e
+-- ---- Weak names behind those that are given.
 
-some_among : (p : List ℕ → Bool) (i : ℕ) (xs : List (List ℕ)) → is_some (position_from p i xs) ≡ list_any p xs
-some_among p i [] = refl
-some_among p i (x ∷ xs) = some_step (p x) i (position_from p (i + 1) xs) (list_any p xs) (some_among p (i + 1) xs)
+among_too : (before : Names) (x y : List ℕ) (b : Bool) → bytes_eq x y ≡ b → is_among before x ≡ true → is_among before y ≡ (is_among before y || b)
+among_too before x y true same is = ap (is_among before) (sym (same_name x y same)) ∙ is ∙ sym (ap (λ b. b || true) (ap (is_among before) (sym (same_name x y same)) ∙ is))
+among_too before x y false same is = grind (arith, common_steps)
 
-pub has_name : (t : Places) (names : List (List ℕ)) (name : List ℕ) → IsTable t names → has t name ≡ is_among names name
-has_name t names name table = ap is_some (table name) ∙ some_among (λ n. bytes_eq n name) 0 names
+or_assoc : (a b c : Bool) → ((a || b) || c) ≡ (a || (b || c))
+or_assoc true b c = refl
+or_assoc false b c = refl
 
-either : (a b c d : Bool) → d ≡ (a || b) → (a || (b || c)) ≡ (d || c)
-either true b c d e = rw e refl
-either false b c d e = rw e refl
+one_among : (before : Names) (x y : List ℕ) (b : Bool) → is_among before x ≡ b → is_among (if b then before else before ++ x ∷ []) y ≡ (is_among before y || bytes_eq x y)
+one_among before x y true is = among_too before x y (bytes_eq x y) refl is
+one_among before x y false is = grind (arith, common_steps, list_any-append)
 
-pub gives_given : (g : GivenNames) (s : Script) (p : Program) → AreGiven g (script_names s) (export_names p) (map (λ d. d.name) (weak_symbols s.symbols)) → (name : List ℕ) → gives_in g name ≡ is_given s p name
-gives_given g s p t name = grind (arith, common_steps, has_name, either, list_any-append)
+once_among : (xs before : Names) (y : List ℕ) → is_among (each_once before xs) y ≡ (is_among before y || is_among xs y)
+once_among [] before y = grind (arith, common_steps)
+once_among (x ∷ xs) before y =
+    once_among xs (if is_among before x then before else before ++ x ∷ []) y
+    ∙ ap (λ b. b || is_among xs y) (one_among before x y (is_among before x) refl)
+    ∙ or_assoc (is_among before y) (bytes_eq x y) (is_among xs y)
 
-pub are_given : (g : GivenNames) (own exported others own2 exported2 others2 : List (List ℕ)) → own ≡ own2 → exported ≡ exported2 → others ≡ others2 → AreGiven g own exported others → AreGiven g own2 exported2 others2
-are_given g own exported others own2 exported2 others2 e f h t = grind (arith, common_steps)
+filter_same : (f g : List ℕ → Bool) → ((x : List ℕ) → f x ≡ g x) → (xs : Names) → filter f xs ≡ filter g xs
+filter_same f g same [] = refl
+filter_same f g same (x ∷ xs) = rw (same x, filter_same f g same xs) refl
 
--- ---- Names that stand once each.
+-- what is wanted and nobody gives, not even the script as a weak name
+pub none_gives : (s : Script) (p : Program) (given : Names) (members : List Member) → given ≡ given_names s p → p.members ≡ members → missing_behind (each_once given (map (λ d. d.name) (weak_symbols s.symbols))) [] (wanted s.symbols members) ≡ unresolved s p
+none_gives s p given members e f =
+    let weak = map (λ (d : Definition). d.name) (weak_symbols s.symbols) in
+    rw (e, ← f)
+    (sym (once_missing (each_once (given_names s p) weak) (wanted s.symbols p.members) [])
+    ∙ filter_same (λ n. not (is_among (each_once (given_names s p) weak) n)) (λ n. not (is_given s p n)) (λ n. ap not (once_among weak (given_names s p) n)) (references s p))
 
-abbrev stand_once : List (List ℕ) → Type 0
-stand_once names = each_once [] names ≡ names
+-- ---- Weak names, one after another.
 
-each_once_behind : (before xs ys : List (List ℕ)) → each_once before (xs ++ ys) ≡ each_once (each_once before xs) ys
-each_once_behind before [] ys = refl
-each_once_behind before (x ∷ xs) ys = each_once_behind (if is_among before x then before else before ++ x ∷ []) xs ys
+-- a name more, where its symbol is weak
+abbrev pub with_weak : SymbolKind → Names → List ℕ → Names
+with_weak (kind.Weak n) before name = if is_among before name then before else before ++ name ∷ []
+with_weak (kind.Export n) before name = before
+with_weak kind.Import before name = before
 
-one_more : (before : List (List ℕ)) (x : List ℕ) (b : Bool) → is_among before x ≡ b → stand_once before → stand_once (if b then before else before ++ x ∷ [])
-one_more before x true is once = once
-one_more before x false is once = grind (arith, common_steps, each_once_behind)
+weak_step : (k : SymbolKind) (name : List ℕ) (before rest : Names) → each_once before (map (λ d. d.name) (weak_definition k name) ++ rest) ≡ each_once (with_weak k before name) rest
+weak_step (kind.Weak n) name before rest = refl
+weak_step (kind.Export n) name before rest = refl
+weak_step kind.Import name before rest = refl
 
-one_missing : (gives : Bool) (before : List (List ℕ)) (x : List ℕ) → stand_once before → stand_once (if gives || is_among before x then before else before ++ x ∷ [])
-one_missing true before x once = once
-one_missing false before x once = one_more before x (is_among before x) refl once
+pub not_weak : (k : SymbolKind) (before : Names) (name : List ℕ) → ((n : ℕ) → k ≡ kind.Weak n → ⊥) → before ≡ with_weak k before name
+not_weak (kind.Weak n) before name h = absurd (h n refl)
+not_weak (kind.Export n) before name h = refl
+not_weak kind.Import before name h = refl
 
-missing_once : (gives : List ℕ → Bool) (xs before : List (List ℕ)) → stand_once before → stand_once (missing_behind gives before xs)
-missing_once gives [] before once = once
-missing_once gives (x ∷ xs) before once =
-    missing_once gives xs (if gives x || is_among before x then before else before ++ x ∷ []) (one_missing (gives x) before x once)
+pub weak_next : (symbols : List Symbol) (i : ℕ) (s : Symbol) (before after target : Names) → i < length symbols → s ≡ get_or symbols i s → after ≡ with_weak s.kind before s.name → each_once before (map (λ d. d.name) (weak_symbols (drop i symbols))) ≡ target → each_once after (map (λ d. d.name) (weak_symbols (drop (i + 1) symbols))) ≡ target
+weak_next symbols i s before after target lt at new inv =
+    let names = λ (ss : List Symbol). map (λ (d : Definition). d.name) (weak_symbols ss) in
+    let rest = drop (i + 1) symbols in
+    ap (λ b. each_once b (names rest)) new
+    ∙ sym (weak_step s.kind s.name before (names rest))
+    ∙ sym (ap (each_once before) (map-append (λ (d : Definition). d.name) (weak_definition s.kind s.name) (weak_symbols rest)))
+    ∙ sym (ap (λ ss. each_once before (names ss)) (drop_item symbols i s lt at))
+    ∙ inv
 
--- ---- Names that aren't given.
+-- ---- What is left that nobody gives.
 
-given_alone : (a b c d : Bool) → c ≡ false → d ≡ (a || b) → (a || (b || c)) ≡ d
-given_alone true b c d none e = sym e
-given_alone false true c d none e = sym e
-given_alone false false c d none e = none ∙ sym e
+pub left_none : (names : Names) → length names ≡ 0 → none_unresolved names ≡ Ok tt
+left_none [] h = refl
+left_none (n ∷ names) h = absurd (omega arith)
 
--- where no weak name is asked
-gives_alone : (g : GivenNames) (s : Script) (p : Program) → AreGiven g (script_names s) (export_names p) [] → (name : List ℕ) → gives_in g name ≡ is_among (given_names s p) name
-gives_alone g s p t name = grind (arith, common_steps, has_name, given_alone, list_any-append)
-
-pub open_once : (g : GivenNames) (s : Script) (p : Program) → AreGiven g (script_names s) (export_names p) [] → each_once [] (missing_behind (gives_in g) (missing_behind (gives_in g) [] (symbol_imports s.symbols)) (flat_map (λ m. m.imports) p.members)) ≡ open_names s p
-open_once g s p t =
-    let imports = flat_map (λ m. m.imports) p.members in
-    missing_once (gives_in g) imports (missing_behind (gives_in g) [] (symbol_imports s.symbols)) (missing_once (gives_in g) (symbol_imports s.symbols) [] refl)
-    ∙ missing_all (gives_in g) (is_among (given_names s p)) (symbol_imports s.symbols) imports (gives_alone g s p t)
+pub left_some : (names : Names) → (length names ≡ 0 → ⊥) → none_unresolved names ≡ Err (Unresolved names)
+left_some [] h = absurd (h refl)
+left_some (n ∷ names) h = refl

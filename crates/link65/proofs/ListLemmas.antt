@@ -8,7 +8,7 @@ use Rattle.std.specs.Borrow.{Bor}
 use Rattle.std.specs.Str.{bytes_eq}
 use Rattle.std.proofs.lemmas.List.{drop_all}
 use Rattle.script65.proofs.Eaches.{drop_at, append_none, drop_item}
-use Rattle.link65.specs.Programs.{position_in, flat_zip, with_beside}
+use Rattle.link65.specs.Programs.{position_in, flat_zip}
 
 -- ---- Names that are copied.
 
@@ -65,6 +65,11 @@ all_names names name = position_map names name 0
 
 -- ---- Lists beside each other.
 
+-- what comes of an item and what may stand beside it
+abbrev with_beside : {A B C : Type 0} → (A → B → List C) → A → Option B → List C
+with_beside f x (Some y) = f x y
+with_beside f x None = []
+
 module _ {A B C : Type 0} (f : A → B → List C) where
   none_left : (xs : List A) → flat_zip f xs [] ≡ []
   none_left [] = refl
@@ -84,6 +89,11 @@ module _ {A B C : Type 0} (f : A → B → List C) where
 
   pub zip_end : (xs : List A) (ys : List B) (i : ℕ) (before done whole : List C) → length xs ≤ i → done ++ flat_zip f (drop i xs) (drop i ys) ≡ before ++ whole → done ≡ before ++ whole
   zip_end xs ys i before done whole le inv = grind (arith, common_steps)
+
+-- where there is none
+pub none_at : {A : Type 0} (o s : Option A) → ((x : A) → o ≡ Some x → ⊥) → o ≡ s → None ≡ s
+none_at None s h e = e
+none_at (Some x) s h e = absurd (h x refl)
 
 -- what stands beside each item is made of it
 pub zip_mapped : {A B C : Type 0} (f : A → B → List C) (g : A → B) (h : A → List C) → ((x : A) → f x (g x) ≡ h x) → (xs : List A) → flat_zip f xs (map g xs) ≡ flat_map h xs

@@ -258,7 +258,7 @@ weight (Found r) = 0
 abbrev pub work : List Mark → List ℕ → ℕ
 work marks waiting = sum_by weight marks + length waiting
 
-get_or_some : (marks : List Mark) (x : ℕ) (m d : Mark) → slice_get marks x ≡ Some m → get_or marks x d ≡ m
+pub get_or_some : (marks : List Mark) (x : ℕ) (m d : Mark) → slice_get marks x ≡ Some m → get_or marks x d ≡ m
 get_or_some marks x m d e = grind (arith, common_steps, gets)
 
 pub work_down : (l : Linkage) (old marks : List Mark) (waiting : List ℕ) (root top next : ℕ) → IsWalk l old marks waiting root top → attempt.Needs next ≡ export_tried l.modules marks (slice_get l.exports top) → work (slice_set marks next BeingEvaluated) (waiting ++ top ∷ []) < work marks waiting

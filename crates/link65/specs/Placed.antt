@@ -91,11 +91,6 @@ KeepsFound old new = (x : ℕ) → IsFound old x → IsFound new x
 
 -- ---- All exports.
 
--- a mark for each of so many exports, all untouched
-pub record AreUntouched (count : ℕ) (marks : List Mark) : Type 0 where
-  pub long : length marks ≡ count
-  pub each : (x : ℕ) → x < count → slice_get marks x ≡ Some Untouched
-
 abbrev pub AllFound : List Mark → Type 0
 AllFound marks = (x : ℕ) → x < length marks → IsFound marks x
 

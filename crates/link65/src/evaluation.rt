@@ -6,7 +6,7 @@ ghost use Rattle.object65.specs.FormValue.{or_none};
 ghost use Rattle.link65.specs.declared.evaluation.Stop.TheVariants.{Fault};
 ghost use Rattle.link65.specs.declared.parts.Exported.{Exported};
 ghost use Rattle.link65.specs.declared.parts.ValueFault.TheVariants.{NoValue};
-ghost use Rattle.link65.specs.Placed.{AllFound, as_found, as_outcome, attempt_of, export_tried, import_tried, table_of, tried, AreAllFound, AreSettled, AreUntouched, IsFound, KeepsFound};
+ghost use Rattle.link65.specs.Placed.{AllFound, as_found, as_outcome, attempt_of, export_tried, import_tried, table_of, tried, AreAllFound, AreSettled, IsFound, KeepsFound};
 ghost use Rattle.link65.specs.Values.{base_of, provider_at, in_table, linkage, value_by};
 ghost use Rattle.link65.specs.declared.evaluation.Mark.TheVariants.{Untouched};
 
@@ -97,15 +97,6 @@ fn sum(a: i64, b: i64) -> i64
     a.wrapping_add(b)
 }
 
-fn known(outcome: Option<i64>) -> Result<i64, Stop>
-    ensures { result ≡ or_none (Fault NoValue) outcome }
-{
-    match outcome {
-        Some(value) => Ok(value),
-        None => Err(Stop::Fault(ValueFault::NoValue)),
-    }
-}
-
 /// The value of a form of a module as far as exports are known, or what it needs first.
 fn try_form(form: &Norm, resolved: Option<&Resolved>, marks: &[Mark]) -> Result<i64, Stop>
     ensures { result ≡ tried (option_copied resolved.entry) marks.now form.now }
@@ -121,7 +112,7 @@ fn try_form(form: &Norm, resolved: Option<&Resolved>, marks: &[Mark]) -> Result<
         Node::Binary(op, left, right) => {
             let first = try_form(left, resolved, marks)?;
             let second = try_form(right, resolved, marks)?;
-            known(apply2(*op, first, second))
+            apply2(*op, first, second).ok_or(Stop::Fault(ValueFault::NoValue))
         }
     }
 }
@@ -214,45 +205,6 @@ fn settle(
     }
 }
 
-/// As many marks as there are exports, none of which is touched.
-fn untouched(alloc: Global, count: usize) -> Result<Vec<Mark>, AllocError>
-    ensures { IfOk result (λ marks. AreUntouched count marks.items) }
-{
-    let mut marks = Vec::new(alloc);
-    for _ in 0..count {
-        marks.push(Mark::Untouched)?;
-    }
-    Ok(marks)
-}
-
-fn is_untouched(marks: &[Mark], place: usize) -> bool
-    requires { place < length marks.now }
-    ensures untouched { result ≡ true → slice_get marks.now place ≡ Some Untouched }
-    ensures touched { result ≡ false → slice_get marks.now place ≢ Some Untouched }
-{
-    matches!(marks[place], Mark::Untouched)
-}
-
-/// Finds what the export at a place comes to, if it isn't found yet.
-fn settle_once(
-    alloc: Global,
-    modules: &[Resolved],
-    exports: &[Exported],
-    marks: &mut [Mark],
-    root: usize,
-) -> Result<(), AllocError>
-    requires inside { root < length marks.old }
-    requires settled { AreSettled (linkage modules.now exports.now) marks.old }
-    ensures settled { OnOk result (AreSettled (linkage modules.now exports.now) marks.new) }
-    ensures found { OnOk result (IsFound marks.new root) }
-    ensures kept { OnOk result (KeepsFound marks.old marks.new) }
-{
-    if !is_untouched(marks, root) {
-        return Ok(());
-    }
-    settle(alloc, modules, exports, marks, root)
-}
-
 /// Finds what each export comes to.
 fn settle_each(
     alloc: Global,
@@ -264,12 +216,15 @@ fn settle_each(
     ensures { OnOk result (AreAllFound (linkage modules.now exports.now) marks.new) }
 {
     for root in 0..marks.len() {
-        settle_once(alloc, modules, exports, marks, root)?;
+        if let Mark::Untouched = marks[root] {
+            settle(alloc, modules, exports, marks, root)?;
+        }
     }
     Ok(())
 }
 
 /// Finds what all exports come to, used or not.
+#[tactic(auto, using(crate::proofs::FinishLemmas::untouched_settled))]
 pub fn settle_all(
     alloc: Global,
     modules: &[Resolved],
@@ -277,7 +232,7 @@ pub fn settle_all(
 ) -> Result<Vec<Mark>, AllocError>
     ensures { IfOk result (λ marks. AreAllFound (linkage modules.now exports.now) marks.items) }
 {
-    let mut marks = untouched(alloc, exports.len())?;
+    let mut marks = vec![in alloc; Mark::Untouched; exports.len()]?;
     settle_each(alloc, modules, exports, marks.as_mut_slice())?;
     Ok(marks)
 }

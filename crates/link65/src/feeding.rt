@@ -1,6 +1,6 @@
 //! The module that is open: its records, and what a library's index says of it.
 
-ghost use Rattle.std.specs.Prelude.{◌≡◌, IfOk, map, ◌+◌, drop, take, Ok, OnErr, OnOk, IfErr, true};
+ghost use Rattle.std.specs.Prelude.{◌≡◌, IfOk, map, ◌+◌, drop, Ok, OnErr, OnOk, IfErr, true};
 ghost use Rattle.std.specs.Option.{option_map};
 ghost use Rattle.library65.specs.Libraries.{are_same};
 ghost use Rattle.link65.specs.Inner.Fields.{are_listed, Closes, Grows};
@@ -16,7 +16,7 @@ use crate::given::Given;
 use crate::growing::{Growing, end_module, take_item};
 use crate::parts::Exported;
 use base65::Sequence;
-use library65::Entry;
+use library65::{Entry, are_same};
 use object65::format::VALUE;
 use object65::{ObjectFault, Record, Scan};
 use std::alloc::{AllocError, Global};
@@ -52,20 +52,6 @@ fn listed_of(alloc: Global, entry: Option<&Entry>) -> Result<Option<Listed>, All
     }
 }
 
-fn same_names(names: &[Sequence<u8>], others: &[Sequence<u8>]) -> bool
-    ensures { result ≡ are_same names.now others.now }
-{
-    if names.len() != others.len() {
-        return false;
-    }
-    for i in 0..names.len() {
-        if names[i].as_slice() != others[i].as_slice() {
-            return false;
-        }
-    }
-    true
-}
-
 fn same_exports(names: &[Sequence<u8>], exports: &[Exported]) -> bool
     ensures { result ≡ are_same names.now (map (λ e. e.name) exports.now) }
 {
@@ -88,7 +74,7 @@ fn are_listed(listed: &Option<Listed>, exports: &[Exported], imports: &[Sequence
         None => true,
         Some(names) => {
             same_exports(names.exports.as_slice(), exports)
-                && same_names(names.imports.as_slice(), imports)
+                && are_same(names.imports.as_slice(), imports)
         }
     }
 }
@@ -159,16 +145,6 @@ pub fn take_record(
     take_item(growing, item)?;
     *pending = count;
     Ok(())
-}
-
-/// The exports before a place.
-pub fn before_place(exports: &[Exported], first: usize) -> &[Exported]
-    ensures { result.now ≡ take first exports.now }
-{
-    match exports.get(..first) {
-        Some(before) => before,
-        None => exports,
-    }
 }
 
 /// The exports from a place on.

@@ -8,15 +8,13 @@ ghost use Rattle.link65.specs.Faults.{is_memory, RefusesBy, is_of_end, is_of_fin
 ghost use Rattle.link65.specs.Links.{names_once};
 ghost use Rattle.link65.specs.Programs.{program_of};
 ghost use Rattle.link65.specs.Names.{given_names, open_names};
-ghost use Rattle.link65.specs.Inner.Fields.{ended_exports};
 ghost use Rattle.link65.specs.Standing.{AreNames, Begins, Continues, Ends, IsFed, IsRefused, Keeps, Links, is_open, values_in};
 
 use crate::fault::LinkFault;
-use crate::feeding::{Open, before_place, close_module, open_module, take_record};
+use crate::feeding::{Open, close_module, open_module, take_record};
 use crate::given::{Given, copy_of, open_names};
 use crate::growing::{Growing, no_module};
 use crate::linking::{Linked, link};
-use crate::parts::Exported;
 use base65::Text;
 use library65::{Entry, Names};
 use object65::Record;
@@ -26,6 +24,7 @@ use std::marker::Model;
 
 /// A linker, which stands for the modules that were fed and the records so far of the one that is open. It keeps
 /// what they put into segments, exports and assertions, and no module or record.
+#[derive(Drop)]
 pub struct Linker {
     script: Script,
     /// The name of the file that is linked.
@@ -53,20 +52,6 @@ impl Model for Linker {
     ghost view = { λ l. record { script = l.script; output = l.output; growth = growth_in l.growing; given = names_in l.given; opened = opened_in l.opened; pending = l.pending; failed = l.failed } };
 
     ghost invariant = { λ l. l.failed ≡ false → AreNamed l.growing };
-}
-
-impl Drop for Linker {
-    fn drop(self) {
-        let Linker {
-            script: _,
-            output: _,
-            growing: _,
-            given: _,
-            opened: _,
-            pending: _,
-            failed: _,
-        } = self;
-    }
 }
 
 impl Linker {
@@ -105,17 +90,6 @@ impl Linker {
         self.pending
     }
 
-    /// The exports of the modules that have ended.
-    fn ended_exports(&self) -> &[Exported]
-        ensures { result.now ≡ ended_exports self.now.opened self.now.growth.program.exports }
-    {
-        let exports = self.growing.exports.as_slice();
-        match &self.opened {
-            Some(opened) => before_place(exports, opened.first_export),
-            None => exports,
-        }
-    }
-
     /// The names that the script or a module that has ended needs and neither gives, in order of first reference; weak
     /// names give nothing here, nor does a module that is open.
     pub fn open_names(&self) -> Result<Names, LinkFault>
@@ -126,12 +100,7 @@ impl Linker {
         if self.failed {
             return Err(LinkFault::FailedBefore);
         }
-        Ok(open_names(
-            self.growing.alloc,
-            &self.script,
-            self.ended_exports(),
-            self.growing.members.as_slice(),
-        )?)
+        Ok(open_names(&self.given, &self.script, self.growing.members.as_slice())?)
     }
 
     /// The names that the script and the modules that have ended give, but for weak ones.
@@ -253,7 +222,7 @@ impl Linker {
             script,
             output,
             growing,
-            given: _,
+            given,
             opened: _,
             pending: _,
             failed,
@@ -261,7 +230,6 @@ impl Linker {
         if failed {
             return Err(LinkFault::FailedBefore);
         }
-        let alloc = growing.alloc;
-        link(alloc, output.as_str(), &script, growing)
+        link(output.as_str(), &script, growing, given)
     }
 }

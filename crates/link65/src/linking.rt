@@ -2,18 +2,20 @@
 
 ghost use Rattle.std.specs.Prelude.{◌≡◌, IfOk, map};
 ghost use Rattle.link65.specs.Grounds.{segments_from, AreNamed, program_in};
-ghost use Rattle.link65.specs.Values.{need_of, resolved};
+ghost use Rattle.link65.specs.Values.{need_of, needs_of, resolved};
+ghost use Rattle.script65.specs.Placing.{place_of};
 ghost use Rattle.base65.specs.Outcome.{Finds, Gives};
-ghost use Rattle.link65.specs.Faults.{is_memory};
-ghost use Rattle.link65.specs.Links.{IsPlacedLink, IsProgramLink, placed};
-ghost use Rattle.link65.specs.Names.{script_definitions, weak_symbols};
+ghost use Rattle.link65.specs.Faults.{RefusesBy, is_memory, is_of_finish};
+ghost use Rattle.link65.specs.Links.{IsPlacedLink, IsProgramLink, as_placement, placed};
+ghost use Rattle.link65.specs.Names.{given_names, script_definitions, weak_symbols};
+ghost use Rattle.link65.specs.Standing.{names_in};
 ghost use Rattle.link65.specs.Placed.{IsPlacedPassed, AreNames};
 
 use crate::evaluation::settle_all;
 use crate::fault::LinkFault;
 use crate::files::files_of;
 use crate::finishing::{Passed, pass};
-use crate::given::check_names;
+use crate::given::{Given, check_names};
 use crate::growing::Growing;
 use crate::naming::{definitions_of, weak_symbols};
 use crate::parts::{Content, Resolved};
@@ -101,7 +103,6 @@ fn pass_named(
 
 /// What a program comes to where it is placed, but for its files, or the first fault. The program goes.
 fn pass_placed(
-    alloc: Global,
     script: &Script,
     placement: &Placement,
     program: Growing,
@@ -109,6 +110,7 @@ fn pass_placed(
     requires { AreNamed program }
     ensures { Finds is_memory (IsPlacedPassed script.now (program_in program) placement.now) result }
 {
+    let alloc = program.alloc;
     let own = definitions_of(alloc, script, placement)?;
     let weak = weak_symbols(alloc, script.symbols.as_slice())?;
     let exports = program.exports.as_slice();
@@ -118,7 +120,6 @@ fn pass_placed(
 
 /// What a program comes to where it is placed: the files, the warnings and the map, or the first fault.
 fn link_placed(
-    alloc: Global,
     output: &str,
     script: &Script,
     placement: &Placement,
@@ -127,7 +128,8 @@ fn link_placed(
     requires { AreNamed program }
     ensures { Finds is_memory (IsPlacedLink output.now script.now (program_in program) placement.now) result }
 {
-    let passed = pass_placed(alloc, script, placement, program)?;
+    let alloc = program.alloc;
+    let passed = pass_placed(script, placement, program)?;
     let Passed {
         rows,
         warnings,
@@ -141,26 +143,38 @@ fn link_placed(
     })
 }
 
-/// Where a program's segments are placed, each of whose names has to be given.
-fn placement_of(alloc: Global, script: &Script, program: &Growing) -> Result<Placement, LinkFault>
-    ensures { Gives is_memory (λ p. p) result (placed script.now (program_in program.now)) }
+/// Where a program's segments are placed.
+fn place_segments(script: &Script, program: &Growing) -> Result<Placement, LinkFault>
+    ensures placed { Gives is_memory (λ p. p) result (as_placement (place_of script.now (needs_of (program_in program.now)))) }
+    ensures faults { RefusesBy is_of_finish result }
 {
-    check_names(alloc, script, program)?;
-    let needs = needs_of(alloc, program.contents.as_slice())?;
-    Ok(place(alloc, script, needs.as_slice())?)
+    let needs = needs_of(program.alloc, program.contents.as_slice())?;
+    Ok(place(program.alloc, script, needs.as_slice())?)
 }
 
-/// What a program comes to by a script, where no name is given twice: the files, the warnings and the map, or the
-/// first fault.
+/// Where a program's segments are placed, each of whose names has to be given.
+fn placement_of(script: &Script, program: &Growing, given: Given) -> Result<Placement, LinkFault>
+    ensures placed { names_in given ≡ given_names script.now (program_in program.now) →
+        Gives is_memory (λ p. p) result (placed script.now (program_in program.now)) }
+    ensures faults { RefusesBy is_of_finish result }
+{
+    check_names(given, script, program.members.as_slice())?;
+    place_segments(script, program)
+}
+
+/// What a program comes to by a script, where these names are given, none of them twice: the files, the warnings and
+/// the map, or the first fault.
 pub fn link(
-    alloc: Global,
     output: &str,
     script: &Script,
     program: Growing,
+    given: Given,
 ) -> Result<Linked, LinkFault>
     requires { AreNamed program }
-    ensures { Finds is_memory (IsProgramLink output.now script.now (program_in program)) result }
+    ensures linked { names_in given ≡ given_names script.now (program_in program) →
+        Finds is_memory (IsProgramLink output.now script.now (program_in program)) result }
+    ensures faults { RefusesBy is_of_finish result }
 {
-    let placement = placement_of(alloc, script, &program)?;
-    link_placed(alloc, output, script, &placement, program)
+    let placement = placement_of(script, &program, given)?;
+    link_placed(output, script, &placement, program)
 }

@@ -3,7 +3,7 @@
 ghost use Rattle.std.specs.Prelude.{◌≡◌, ◌≤◌, ◌%◌, ◌++◌, IfOk, OnOk, slice_get};
 ghost use Rattle.std.specs.List.{flat_map};
 ghost use Rattle.link65.specs.Placed.{lines_by, map_by, value_line, AreNames};
-ghost use Rattle.link65.specs.Programs.{flat_zip, with_beside};
+ghost use Rattle.link65.specs.Programs.{flat_zip};
 ghost use Rattle.link65.specs.Texts.{address_text, definition_line, hex_digit, hex_digits, member_lines, row_line, row_lines, section_line, symbol_line, weak_line};
 
 use crate::naming::row_place;
@@ -65,22 +65,15 @@ fn add_section_line(text: &mut Sequence<u8>, place: &SectionPlace) -> Result<(),
     )
 }
 
-fn section_lines(alloc: Global, places: &[SectionPlace]) -> Result<Sequence<u8>, AllocError>
-    ensures { IfOk result (λ text. text ≡ flat_map section_line places.now) }
-{
-    let mut text = Sequence::new(alloc);
-    for place in places {
-        add_section_line(&mut text, place)?;
-    }
-    Ok(text)
-}
-
 /// A module's name, and its sections below it.
-fn member_lines(alloc: Global, member: &Member) -> Result<Sequence<u8>, AllocError>
-    ensures { IfOk result (λ text. text ≡ member_lines member.now) }
+fn add_member_lines(text: &mut Sequence<u8>, member: &Member) -> Result<(), AllocError>
+    ensures { OnOk result (text.new ≡ text.old ++ member_lines member.now) }
 {
-    let sections = section_lines(alloc, member.sections.as_slice())?;
-    join(alloc, &[member.name.as_slice(), b"\n", sections.as_slice()])
+    add_all(text, &[member.name.as_slice(), b"\n"])?;
+    for place in member.sections.as_slice() {
+        add_section_line(text, place)?;
+    }
+    Ok(())
 }
 
 /// The modules and their sections.
@@ -89,7 +82,7 @@ fn members_text(alloc: Global, members: &[Member]) -> Result<Sequence<u8>, Alloc
 {
     let mut text = Sequence::new(alloc);
     for member in members {
-        text.extend_from_slice(member_lines(alloc, member)?.as_slice())?;
+        add_member_lines(&mut text, member)?;
     }
     Ok(text)
 }
@@ -116,22 +109,15 @@ fn add_row_line(text: &mut Sequence<u8>, row: &Row, place: RowPlace) -> Result<(
     )
 }
 
-fn add_row_at(text: &mut Sequence<u8>, row: &Row, place: Option<RowPlace>) -> Result<(), AllocError>
-    ensures { OnOk result (text.new ≡ text.old ++ with_beside row_line row.now place) }
-{
-    match place {
-        Some(place) => add_row_line(text, row, place),
-        None => Ok(()),
-    }
-}
-
 /// The rows and where they are placed.
 fn rows_text(alloc: Global, rows: &[Row], places: &[RowPlace]) -> Result<Sequence<u8>, AllocError>
     ensures { IfOk result (λ text. text ≡ row_lines rows.now places.now) }
 {
     let mut text = Sequence::new(alloc);
     for (i, row) in rows.iter().enumerate() {
-        add_row_at(&mut text, row, row_place(places, i))?;
+        if let Some(place) = row_place(places, i) {
+            add_row_line(&mut text, row, place)?;
+        }
     }
     Ok(text)
 }
@@ -167,20 +153,6 @@ fn value_at(values: &[i64], i: usize) -> Option<i64>
     values.get(i).copied()
 }
 
-/// An export and its value, where there is one.
-fn add_export_at(
-    text: &mut Sequence<u8>,
-    export: &Exported,
-    value: Option<i64>,
-) -> Result<(), AllocError>
-    ensures { OnOk result (text.new ≡ text.old ++ with_beside value_line export.now value) }
-{
-    match value {
-        Some(value) => add_symbol_line(text, export.name.as_slice(), value.cast_unsigned()),
-        None => Ok(()),
-    }
-}
-
 fn export_lines(
     alloc: Global,
     exports: &[Exported],
@@ -190,7 +162,9 @@ fn export_lines(
 {
     let mut text = Sequence::new(alloc);
     for (i, export) in exports.iter().enumerate() {
-        add_export_at(&mut text, export, value_at(values, i))?;
+        if let Some(value) = value_at(values, i) {
+            add_symbol_line(&mut text, export.name.as_slice(), value.cast_unsigned())?;
+        }
     }
     Ok(text)
 }

@@ -1,9 +1,9 @@
 //! The names that a script gives.
 
 ghost use Rattle.std.specs.Prelude.{◌≡◌, ◌++◌, IfOk, OnOk, slice_get, map};
-ghost use Rattle.link65.specs.Programs.{with_beside};
+ghost use Rattle.std.specs.Int.{w64, cast_signed};
 ghost use Rattle.script65.specs.AreaSums.{part_name};
-ghost use Rattle.link65.specs.Names.{area_definitions, areas_definitions, export_definition, part, row_definitions, rows_definitions, script_definitions, symbol_exports, weak_definition, weak_symbols, area_names, row_names, script_names};
+ghost use Rattle.link65.specs.Names.{area_definitions, areas_definitions, part, row_definitions, rows_definitions, script_definitions, symbol_exports, weak_symbols, area_names, row_names, script_names};
 ghost use Rattle.std.specs.List.{flat_map};
 
 use crate::parts::Definition;
@@ -29,6 +29,16 @@ fn part_of(alloc: Global, name: &[u8], word: &[u8], number: u64) -> Result<Defin
     })
 }
 
+/// A symbol that has a value.
+fn symbol_of(alloc: Global, name: &[u8], number: u32) -> Result<Definition, AllocError>
+    ensures { IfOk result (λ d. d ≡ record { name = name.now; value = cast_signed w64 number }) }
+{
+    Ok(Definition {
+        name: Sequence::copy_of(alloc, name)?,
+        value: u64::from(number).cast_signed(),
+    })
+}
+
 /// Adds what an area defines.
 fn add_area(
     alloc: Global,
@@ -47,21 +57,6 @@ fn add_area(
     Ok(())
 }
 
-/// Adds what an area defines, where it is placed.
-fn add_area_at(
-    alloc: Global,
-    definitions: &mut Sequence<Definition>,
-    area: &Area,
-    place: Option<AreaPlace>,
-) -> Result<(), AllocError>
-    ensures { OnOk result (definitions.new ≡ definitions.old ++ with_beside area_definitions area.now place) }
-{
-    match place {
-        Some(place) => add_area(alloc, definitions, area, place),
-        None => Ok(()),
-    }
-}
-
 /// Adds what a row defines.
 fn add_row(
     alloc: Global,
@@ -78,57 +73,6 @@ fn add_row(
         definitions.push(part_of(alloc, name, b"SIZE", place.size)?)?;
     }
     Ok(())
-}
-
-/// Adds what a row defines, where it is placed.
-fn add_row_at(
-    alloc: Global,
-    definitions: &mut Sequence<Definition>,
-    row: &Row,
-    place: Option<RowPlace>,
-) -> Result<(), AllocError>
-    ensures { OnOk result (definitions.new ≡ definitions.old ++ with_beside row_definitions row.now place) }
-{
-    match place {
-        Some(place) => add_row(alloc, definitions, row, place),
-        None => Ok(()),
-    }
-}
-
-/// Adds a symbol that the script exports.
-fn add_export(
-    alloc: Global,
-    definitions: &mut Sequence<Definition>,
-    symbol: &Symbol,
-) -> Result<(), AllocError>
-    ensures { OnOk result (definitions.new ≡ definitions.old ++ export_definition symbol.now.kind symbol.now.name) }
-{
-    match symbol.kind {
-        SymbolKind::Export(number) => definitions.push(Definition {
-            name: Sequence::copy_of(alloc, symbol.name.as_slice())?,
-            value: u64::from(number).cast_signed(),
-        }),
-        SymbolKind::Weak(_) => Ok(()),
-        SymbolKind::Import => Ok(()),
-    }
-}
-
-/// Adds a symbol that the script defines where nothing else does.
-fn add_weak(
-    alloc: Global,
-    definitions: &mut Sequence<Definition>,
-    symbol: &Symbol,
-) -> Result<(), AllocError>
-    ensures { OnOk result (definitions.new ≡ definitions.old ++ weak_definition symbol.now.kind symbol.now.name) }
-{
-    match symbol.kind {
-        SymbolKind::Weak(number) => definitions.push(Definition {
-            name: Sequence::copy_of(alloc, symbol.name.as_slice())?,
-            value: u64::from(number).cast_signed(),
-        }),
-        SymbolKind::Export(_) => Ok(()),
-        SymbolKind::Import => Ok(()),
-    }
 }
 
 fn area_place(places: &[AreaPlace], i: usize) -> Option<AreaPlace>
@@ -154,7 +98,9 @@ fn add_areas(
     ensures { OnOk result (definitions.new ≡ definitions.old ++ areas_definitions areas.now places.now) }
 {
     for (i, area) in areas.iter().enumerate() {
-        add_area_at(alloc, definitions, area, area_place(places, i))?;
+        if let Some(place) = area_place(places, i) {
+            add_area(alloc, definitions, area, place)?;
+        }
     }
     Ok(())
 }
@@ -169,7 +115,9 @@ fn add_rows(
     ensures { OnOk result (definitions.new ≡ definitions.old ++ rows_definitions rows.now places.now) }
 {
     for (i, row) in rows.iter().enumerate() {
-        add_row_at(alloc, definitions, row, row_place(places, i))?;
+        if let Some(place) = row_place(places, i) {
+            add_row(alloc, definitions, row, place)?;
+        }
     }
     Ok(())
 }
@@ -183,7 +131,9 @@ pub fn add_exports(
     ensures { OnOk result (definitions.new ≡ definitions.old ++ symbol_exports symbols.now) }
 {
     for symbol in symbols {
-        add_export(alloc, definitions, symbol)?;
+        if let SymbolKind::Export(number) = symbol.kind {
+            definitions.push(symbol_of(alloc, symbol.name.as_slice(), number)?)?;
+        }
     }
     Ok(())
 }
@@ -194,7 +144,9 @@ pub fn weak_symbols(alloc: Global, symbols: &[Symbol]) -> Result<Sequence<Defini
 {
     let mut definitions = Sequence::new(alloc);
     for symbol in symbols {
-        add_weak(alloc, &mut definitions, symbol)?;
+        if let SymbolKind::Weak(number) = symbol.kind {
+            definitions.push(symbol_of(alloc, symbol.name.as_slice(), number)?)?;
+        }
     }
     Ok(definitions)
 }
@@ -224,40 +176,6 @@ pub fn definitions_of(
     Ok(definitions)
 }
 
-/// Adds the names that an area gives.
-fn add_area_names(
-    alloc: Global,
-    names: &mut Sequence<Sequence<u8>>,
-    area: &Area,
-) -> Result<(), AllocError>
-    ensures { OnOk result (names.new ≡ names.old ++ area_names area.now) }
-{
-    if area.define {
-        let name = area.name.as_slice();
-        names.push(part_name(alloc, name, b"START")?)?;
-        names.push(part_name(alloc, name, b"SIZE")?)?;
-        names.push(part_name(alloc, name, b"LAST")?)?;
-    }
-    Ok(())
-}
-
-/// Adds the names that a row gives.
-fn add_row_names(
-    alloc: Global,
-    names: &mut Sequence<Sequence<u8>>,
-    row: &Row,
-) -> Result<(), AllocError>
-    ensures { OnOk result (names.new ≡ names.old ++ row_names row.now) }
-{
-    if row.define {
-        let name = row.name.as_slice();
-        names.push(part_name(alloc, name, b"LOAD")?)?;
-        names.push(part_name(alloc, name, b"RUN")?)?;
-        names.push(part_name(alloc, name, b"SIZE")?)?;
-    }
-    Ok(())
-}
-
 /// Adds the names that areas give.
 fn add_names_of_areas(
     alloc: Global,
@@ -267,7 +185,12 @@ fn add_names_of_areas(
     ensures { OnOk result (names.new ≡ names.old ++ flat_map area_names areas.now) }
 {
     for area in areas {
-        add_area_names(alloc, names, area)?;
+        if area.define {
+            let name = area.name.as_slice();
+            names.push(part_name(alloc, name, b"START")?)?;
+            names.push(part_name(alloc, name, b"SIZE")?)?;
+            names.push(part_name(alloc, name, b"LAST")?)?;
+        }
     }
     Ok(())
 }
@@ -281,7 +204,12 @@ fn add_names_of_rows(
     ensures { OnOk result (names.new ≡ names.old ++ flat_map row_names rows.now) }
 {
     for row in rows {
-        add_row_names(alloc, names, row)?;
+        if row.define {
+            let name = row.name.as_slice();
+            names.push(part_name(alloc, name, b"LOAD")?)?;
+            names.push(part_name(alloc, name, b"RUN")?)?;
+            names.push(part_name(alloc, name, b"SIZE")?)?;
+        }
     }
     Ok(())
 }

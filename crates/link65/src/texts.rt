@@ -32,9 +32,7 @@ pub fn join(alloc: Global, parts: &[&[u8]]) -> Result<Sequence<u8>, AllocError>
     ensures { IfOk result (λ text. text ≡ joined (map (λ p. p.now) parts.now)) }
 {
     let mut text = Sequence::new(alloc);
-    for part in parts {
-        text.extend_from_slice(part)?;
-    }
+    add_all(&mut text, parts)?;
     Ok(text)
 }
 
@@ -74,14 +72,7 @@ pub fn fault_text(alloc: Global, fault: &LinkFault) -> Result<Sequence<u8>, Allo
             join(alloc, &[b"unresolved: ", names.as_slice()])
         }
         LinkFault::Assertion(_, text) => Sequence::copy_of(alloc, text.as_slice()),
-        LinkFault::FailedBefore
-        | LinkFault::OutOfMemory
-        | LinkFault::Malformed(_)
-        | LinkFault::Place(_)
-        | LinkFault::Circular(_)
-        | LinkFault::OutOfRange(_)
-        | LinkFault::NoValue(_)
-        | LinkFault::IndexDisagrees => Sequence::copy_of(alloc, fault.to_string(alloc)?.as_bytes()),
+        fault => Sequence::copy_of(alloc, fault.to_string(alloc)?.as_bytes()),
     }
 }
 
@@ -176,24 +167,6 @@ fn data_warning(alloc: Global, row: &Row, content: &Content) -> Result<Sequence<
     )
 }
 
-/// What is warned of a row.
-fn row_warnings(
-    alloc: Global,
-    row: &Row,
-    content: Option<&Content>,
-) -> Result<Sequence<u8>, AllocError>
-    ensures { IfOk result (λ text. text ≡ row_warnings row.now (option_map segment_from (option_copied content.entry))) }
-{
-    match content {
-        None => absence_warning(alloc, row),
-        Some(content) => {
-            let mut text = alignment_warning(alloc, row, content)?;
-            text.extend_from_slice(data_warning(alloc, row, content)?.as_slice())?;
-            Ok(text)
-        }
-    }
-}
-
 /// What is warned of a row of a placed program.
 fn warnings_of_row(
     alloc: Global,
@@ -203,7 +176,14 @@ fn warnings_of_row(
     requires { IsReady program.now }
     ensures { IfOk result (λ text. text ≡ row_warnings row.now (segment_of (segments_in program.now) row.now.name)) }
 {
-    row_warnings(alloc, row, content_of(program, row.name.as_slice()))
+    match content_of(program, row.name.as_slice()) {
+        None => absence_warning(alloc, row),
+        Some(content) => {
+            let mut text = alignment_warning(alloc, row, content)?;
+            text.extend_from_slice(data_warning(alloc, row, content)?.as_slice())?;
+            Ok(text)
+        }
+    }
 }
 
 /// What is warned of rows, in order.

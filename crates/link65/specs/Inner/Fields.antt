@@ -1,5 +1,5 @@
 -- What a linker's fields stand for.
-use Rattle.std.specs.Prelude.{◌≡◌, ℕ, List, drop, take, map, Bool, true, ◌&&◌, Ok, Err, Option, Some, None, Result, if◌then◌else◌}
+use Rattle.std.specs.Prelude.{◌≡◌, ℕ, List, [], ◌∷◌, ◌++◌, drop, map, Bool, true, ◌&&◌, ◌||◌, Ok, Err, Option, Some, None, Result, if◌then◌else◌}
 use Rattle.std.specs.Option.{option_map}
 use Rattle.object65.specs.declared.object.Object.{Object}
 use Rattle.object65.specs.Record.{Entry}
@@ -8,7 +8,7 @@ use Rattle.library65.specs.Libraries.{are_same}
 use Rattle.link65.specs.declared.fault.LinkFault.{LinkFault}
 use Rattle.link65.specs.declared.fault.LinkFault.TheVariants.{IndexDisagrees}
 use Rattle.base65.specs.Outcome.{◌>>=◌}
-use Rattle.link65.specs.declared.parts.Exported.{Exported}
+use Rattle.link65.specs.Names.{is_among}
 use Rattle.link65.specs.Standing.{all_once, Leads, Opened, as_link, module_of}
 use Rattle.link65.specs.Growing.{Growth, at_rest, growth_of}
 use Rattle.link65.specs.Programs.{Program, with_module}
@@ -18,10 +18,11 @@ use Rattle.link65.specs.declared.feeding.Open.{Open}
 abbrev pub opened_in : Option Open → Option Opened
 opened_in o = option_map (λ m. record { name = m.name; scan = m.scan; first_export = m.first_export; listed = m.listed }) o
 
--- of all exports those of the modules that have ended
-abbrev pub ended_exports : Option Opened → List Exported → List Exported
-ended_exports None exports = exports
-ended_exports (Some o) exports = take o.first_export exports
+-- names behind others: each that isn't given, once, where it first stands
+abbrev pub missing_behind : List (List ℕ) → List (List ℕ) → List (List ℕ) → List (List ℕ)
+missing_behind given before [] = before
+missing_behind given before (name ∷ names) =
+    missing_behind given (if is_among given name || is_among before name then before else before ++ name ∷ []) names
 
 -- so much of a module has come behind a program
 pub record Comes (p : Program) (s : State) (g : Growth) (o : Outline) : Type 0 where

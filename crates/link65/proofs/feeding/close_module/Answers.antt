@@ -1,11 +1,16 @@
-use Rattle.std.proofs.Common.{◌≡◌, ◌∙◌, ap, drop, map, refl, sym, subst, OnOk, Ok}
+use Rattle.std.proofs.Common.{◌≡◌, ◌∙◌, ap, drop, map, refl, sym, subst, OnOk, Ok, Err, Result, List, ℕ, Bool, true, false, ◌||◌, ◌++◌, Option, Some, None}
+use Rattle.link65.specs.declared.fault.LinkFault.{LinkFault}
 use Rattle.link65.specs.declared.parts.Exported.{Exported}
-use Rattle.link65.specs.Faults.{is_memory}
-use Rattle.base65.specs.Outcome.{Refuses}
-use Rattle.link65.specs.Standing.{all_once, names_in}
+use Rattle.link65.specs.declared.fault.LinkFault.TheVariants.{DuplicateExport}
+use Rattle.link65.specs.Faults.{is_memory, is_of_end}
+use Rattle.link65.specs.Links.{no_name_again}
+use Rattle.link65.specs.Names.{first_again}
+use Rattle.base65.specs.Outcome.{◌>>=◌, Refuses, Unless}
+use Rattle.link65.specs.Standing.{all_once, names_in, with_each}
 use Rattle.link65.specs.Growing.{at_rest, ended}
 use Rattle.link65.specs.Grounds.{growth_in}
 use Rattle.link65.specs.Inner.Fields.{are_listed, exports_from}
+use Rattle.link65.proofs.GivenLemmas.{each_once_all}
 use Rattle.link65.proofs.Feeds.{closed_whole, cut_short, disagrees, given_twice}
 use Rattle.link65.proofs.feeding.close_module.Goals as goal
 
@@ -31,7 +36,7 @@ returns-in-Ok-clause-ended c = λ p s comes.
     let given = names_in c.add_exports.new.self in
     let same = ap (map (λ (e : Exported). e.name)) (c.from_place-exports.ensures ∙ ap (drop m.first_export) c.as_slice.ensures) in
     let listed = ap (λ ns. are_listed m.listed ns old.imports) (sym same) ∙ ap (are_listed m.listed _) (sym c.as_slice-imports.ensures) ∙ sym c.are_listed.ensures ∙ c.if-not-are_listed.false in
-    let once = subst (λ ns. all_once before ns ≡ Ok given) same c.in-Ok.ensures in
+    let once = subst (λ ns. all_once before ns ≡ Ok given) same (sym (each_once_all _ before) ∙ c.in-Ok.ensures) in
     let named = subst (λ n. OnOk c.end_module.result (growth_in c.end_module.new.growing ≡ at_rest (ended old n))) c.replace-name.ensures.value c.end_module.ensures.ended in
     closed_whole m.listed old.imports before (exports_from m.first_export old) p s old m.scan comes (growth_in c.end_module.new.growing) m.name given c.end_module.result (sym c.is_ended.ensures ∙ c.if-not-is_ended.false) listed once named c.end_module.ensures.memory
 
@@ -42,4 +47,19 @@ returns-in-Err-clause-ended c = λ p s comes.
     let before = names_in c.args.given.now in
     let same = ap (map (λ (e : Exported). e.name)) (c.from_place-exports.ensures ∙ ap (drop m.first_export) c.as_slice.ensures) in
     let listed = ap (λ ns. are_listed m.listed ns old.imports) (sym same) ∙ ap (are_listed m.listed _) (sym c.as_slice-imports.ensures) ∙ sym c.are_listed.ensures ∙ c.if-not-are_listed.false in
-    given_twice m.listed old.imports before (exports_from m.first_export old) p s old m.scan comes c.in-Err.e (sym c.is_ended.ensures ∙ c.if-not-is_ended.false) listed (subst (λ ns. Refuses is_memory c.in-Err.e (all_once before ns)) same c.in-Err.ensures)
+    given_twice m.listed old.imports before (exports_from m.first_export old) p s old m.scan comes c.in-Err.e (sym c.is_ended.ensures ∙ c.if-not-is_ended.false) listed (subst (λ ns. Refuses is_memory c.in-Err.e (all_once before ns)) same (subst (λ (r : Result (List (List ℕ)) LinkFault). Refuses is_memory c.in-Err.e r) (each_once_all _ before) c.in-Err.ensures))
+
+again_fault : (o : Option (List ℕ)) (names : List (List ℕ)) (e : LinkFault) → (no_name_again o >>= (λ u. Ok names)) ≡ Err e → is_of_end e ≡ true
+again_fault None names e h = absurd cc
+again_fault (Some name) names e h = let same : DuplicateExport name ≡ e = cc in sym (ap is_of_end same)
+
+-- a name that is given again ends the module so
+given_again : (names before : List (List ℕ)) (e : LinkFault) → Refuses is_memory e (with_each before names) → (is_memory e || is_of_end e) ≡ true
+given_again names before e h = go (is_memory e) h
+  where
+    go : (b : Bool) → Unless b (with_each before names ≡ Err e) → (b || is_of_end e) ≡ true
+    go true u = refl
+    go false u = again_fault (first_again before names) (before ++ names) e (sym (each_once_all names before) ∙ u)
+
+pub returns-in-Err-clause-faults : goal.returns-in-Err-clause-faults
+returns-in-Err-clause-faults c = given_again (map (λ (e : Exported). e.name) c.from_place-exports.result.now) (names_in c.args.given.now) c.in-Err.e c.in-Err.ensures

@@ -1,12 +1,12 @@
-use Rattle.std.proofs.Common.{◌∙◌, ℕ, List, ap, subst}
+use Rattle.std.proofs.Common.{◌≡◌, ◌∙◌, ℕ, List, ap, subst, sym}
 use Rattle.script65.specs.declared.script.Script.{Script}
 use Rattle.base65.specs.Outcome.{Finds}
 use Rattle.link65.specs.Faults.{is_memory}
 use Rattle.link65.specs.Grounds.{program_in}
 use Rattle.link65.specs.Links.{IsProgramLink}
-use Rattle.link65.specs.Standing.{Feeding}
+use Rattle.link65.specs.Names.{given_names}
+use Rattle.link65.specs.Standing.{Feeding, names_in}
 use Rattle.link65.proofs.Feeds.{linked}
-use Rattle.link65.proofs.FinishLemmas.{refuses_so}
 use Rattle.link65.proofs.linker.Linker.finish.Goals as goal
 
 pub returns-clause-linked : goal.returns-clause-linked
@@ -14,11 +14,10 @@ returns-clause-linked c = λ modules fed.
     let kept = program_in c.self.inside.growing in
     let output = c.as_str.ensures ∙ ap (λ (f : Feeding). f.output) c.self.view_is in
     let script = ap (λ (f : Feeding). f.script) c.self.view_is in
-    let by = subst (λ (o : List ℕ). Finds is_memory (IsProgramLink o c.self.inside.script kept) c.link.result) output c.link.ensures in
+    let given = ap (λ (f : Feeding). f.given) c.self.view_is in
+    let by = subst (λ (o : List ℕ). names_in c.self.inside.given ≡ given_names c.self.inside.script kept → Finds is_memory (IsProgramLink o c.self.inside.script kept) c.link.result) output c.link.ensures.linked in
     linked c.args.self modules kept c.link.result
     (ap (λ (f : Feeding). f.growth.program) c.self.view_is)
-    (subst (λ (s : Script). Finds is_memory (IsProgramLink c.args.self.output s kept) c.link.result) script by)
+    (subst (λ (g : List (List ℕ)). g ≡ given_names c.args.self.script kept → Finds is_memory (IsProgramLink c.args.self.output c.args.self.script kept) c.link.result) given
+    (subst (λ (s : Script). names_in c.self.inside.given ≡ given_names s kept → Finds is_memory (IsProgramLink c.args.self.output s kept) c.link.result) script by))
     fed
-
-pub returns-clause-faults : goal.returns-clause-faults
-returns-clause-faults c = λ fresh. refuses_so c.as_str.result.now c.self.inside.script (program_in c.self.inside.growing) c.link.result c.link.ensures

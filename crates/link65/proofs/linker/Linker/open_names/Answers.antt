@@ -1,16 +1,17 @@
 use Rattle.std.proofs.Common.{◌∙◌, Ok, ap, sym}
 use Rattle.script65.specs.declared.script.Script.{Script}
-use Rattle.link65.specs.Names.{open_names}
+use Rattle.link65.specs.Names.{given_names, open_names}
 use Rattle.link65.specs.Programs.{program_of}
 use Rattle.link65.specs.Standing.{Feeding}
-use Rattle.link65.proofs.Feeds.{their_exports, their_members}
+use Rattle.link65.proofs.Feeds.{their_members, their_names}
 use Rattle.link65.proofs.linker.Linker.open_names.Goals as goal
 
 pub returns-clause-open : goal.returns-clause-open
 returns-clause-open c modules ended =
     let f = c.args.self.now in
     let script = ap (λ (g : Feeding). g.script) c.self.view_is in
+    let given = ap (λ (g : Feeding). g.given) c.self.view_is in
     let members = ap (λ (g : Feeding). g.growth.program.members) c.self.view_is in
     let p = program_of modules in
-    let names = c.in_ok-open_names.ensures p (their_exports f modules ended ∙ sym c.ended_exports.ensures) (their_members f modules ended ∙ sym members ∙ sym c.as_slice.ensures) in
+    let names = c.in_ok-open_names.ensures p (given ∙ their_names f modules ended ∙ ap (λ (s : Script). given_names s p) (sym script)) (their_members f modules ended ∙ sym members ∙ sym c.as_slice.ensures) in
     ap Ok (sym (names ∙ ap (λ (s : Script). open_names s p) script))

@@ -1,0 +1,7 @@
+use Rattle.std.proofs.Common.{◌≡◌, ◌++◌, drop}
+use Rattle.std.specs.List.{flat_map}
+use Rattle.link65.specs.Texts.{member_lines, section_line}
+use Rattle.link65.proofs.mapping.add_member_lines.Given as goal
+
+abbrev pub invariant-loop-place : goal.invariant-loop-place
+invariant-loop-place l = l.text ++ flat_map section_line (drop l.place-index l.member.sections) ≡ l.fn.text ++ member_lines l.member

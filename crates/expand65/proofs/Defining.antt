@@ -124,3 +124,7 @@ turns_ready r b n v a g c l k = grind (arith, common_steps)
 
 pub repeated_one : (m : Files) (old : Rewriter) (rd new : Reader) (replay : Replay) (b : Body) (n : ℕ) → Block gathers (0, []) (left_of m old.reader) (Ok (map tokens_in b.lines, left_of m rd)) → turns_left replay 0 n ≡ turns (repeating (map (λ k. k.items) b.params.keys)) (map tokens_in b.lines) 0 n → Ok (left_of m new) ≡ pushed (turns_left replay 0 n) (repeat_mark (state_of m old)) (left_of m rd) → IsRepeated (state_of m old) (Ok (n, map (λ k. k.items) b.params.keys)) (goes (rewritten m old new (macros_of old)))
 repeated_one m old rd new replay b n block ts e = grind (arith, common_steps)
+
+pub repeated_none : (m : Files) (old : Rewriter) (rd : Reader) (replay : Replay) (b : Body) (n : ℕ) (outside : Bool) (f : ExpandFault) (p : Place) → Block gathers (0, []) (left_of m old.reader) (Ok (map tokens_in b.lines, left_of m rd)) → turns_left replay 0 n ≡ turns (repeating (map (λ k. k.items) b.params.keys)) (map tokens_in b.lines) 0 n → Unless outside (Err (f, p) ≡ pushed (turns_left replay 0 n) (repeat_mark (state_of m old)) (left_of m rd)) → Unless outside (IsRepeated (state_of m old) (Ok (n, map (λ k. k.items) b.params.keys)) (stops (f, p)))
+repeated_none m old rd replay b n true f p block ts e = tt
+repeated_none m old rd replay b n false f p block ts e = grind (arith, common_steps)

@@ -1,15 +1,18 @@
-use Rattle.std.proofs.Common.{◌≡◌, ℕ, [], false, None, Ok, map, refl, subst}
+use Rattle.std.proofs.Common.{◌≡◌, ℕ, [], false, None, Ok, Err, map, refl, subst}
+use Rattle.std.proofs.lemmas.Result.{err_from_is_err_and}
+use Rattle.base65.specs.Outcome.{Unless}
+use Rattle.source65.specs.Faults.{is_outside}
 use Rattle.reader65.specs.Blocks.{Block, gathers}
 use Rattle.reader65.specs.Taking.{pushed}
 use Rattle.reader65.specs.Inside.{left_of, turns_left}
 use Rattle.reader65.specs.Playing.{tokens_in}
 use Rattle.expand65.specs.Macros.{IsRepeated}
 use Rattle.expand65.specs.Rewriting.{macros_of, state_of}
-use Rattle.expand65.specs.State.{goes}
+use Rattle.expand65.specs.State.{goes, stops}
 use Rattle.reader65.specs.declared.playing.Body.{Body}
 use Rattle.reader65.specs.declared.playing.Replay.{Replay}
 use Rattle.expand65.proofs.Going.{where_known}
-use Rattle.expand65.proofs.Defining.{repeated_one, rewritten, turns_ready}
+use Rattle.expand65.proofs.Defining.{repeated_none, repeated_one, rewritten, turns_ready}
 use Rattle.reader65.proofs.Naming.{goes_back}
 use Rattle.expand65.proofs.rewriter.Rewriter.repeat.Goals as goal
 
@@ -25,6 +28,21 @@ returns-clause-turns g c =
     let params = map (λ k. k.items) c.args.variable.keys in
     let ready = turns_ready replay body n c.in_ok-body.ensures.ok c.len-at.ensures c.new-arguments.ensures refl c.new-locals.ensures.empty refl in
     where_known (g.S.Store.files c.args.store.now) (λ m. Block gathers (0, []) (left_of m old.reader) (Ok (map tokens_in lines, left_of m rd))) (λ m. IsRepeated (state_of m old) (Ok (n, params)) (goes (rewritten m old new (macros_of old)))) (λ m h. let P : ℕ → Type 0 = λ i. Ok (left_of m new) ≡ pushed (turns_left replay 0 n) (record { is_macro = false; conditions = i; back = None }) (left_of m rd) in repeated_one m old rd new replay body n h ready (subst P c.len.ensures (c.in_ok-enter.ensures.entered m))) c.in_ok-block.ensures.read
+
+pub returns-in_err-enter-clause-turns : goal.returns-in_err-enter-clause-turns
+returns-in_err-enter-clause-turns g c =
+    let p = err_from_is_err_and c.from_residual-in_err-enter.result c.from_residual-in_err-enter.ensures.1 in
+    let f = c.in_err-enter.field-0.0 in
+    let old = c.args.self.now in
+    let rd = c.block.new.self in
+    let place = c.enter.new.self.place in
+    let lines = c.in_ok-block.block.lines in
+    let body : Body = record { params = c.args.variable; lines = lines } in
+    let replay : Replay = record { body = c.in_ok-body.body; at = c.len-at.result; arguments = c.new-arguments.result; count = None; locals = c.new-locals.result; number = 0 } in
+    let n = c.args.count in
+    let params = map (λ k. k.items) c.args.variable.keys in
+    let ready = turns_ready replay body n c.in_ok-body.ensures.ok c.len-at.ensures c.new-arguments.ensures refl c.new-locals.ensures.empty refl in
+    rw (p.1, p.2) (where_known (g.S.Store.files c.args.store.now) (λ m. Block gathers (0, []) (left_of m old.reader) (Ok (map tokens_in lines, left_of m rd))) (λ m. Unless (is_outside f) (IsRepeated (state_of m old) (Ok (n, params)) (stops (f, place)))) (λ m h. let P : ℕ → Type 0 = λ i. Unless (is_outside f) (Err (f, place) ≡ pushed (turns_left replay 0 n) (record { is_macro = false; conditions = i; back = None }) (left_of m rd)) in repeated_none m old rd replay body n (is_outside f) f place h ready (subst P c.len.ensures (c.in_err-enter.ensures.entered m))) c.in_ok-block.ensures.read)
 
 pub returns-clause-named : goal.returns-clause-named
 returns-clause-named g c = λ h.

@@ -220,15 +220,15 @@ module _ (files : List (List ℕ)) (apart : IsDistinct bytes_eq files) (s i : Li
     abbrev to : Place → Origin
     to = in_files (map (name_of files) order)
 
-    parts_by : (ps : List Part) → list_all is_listed_part ps ≡ true → HasAll order (flat_map fragment_keys (fragments_of at s i ps)) → map (fragment_by order) (fragments_of at s i ps) ≡ fragments_of to s i ps
-    parts_by [] h g = refl
-    parts_by (Known [] ∷ ps) h g = parts_by ps h g
-    parts_by (Known (b ∷ bytes) ∷ ps) h g = ap (λ fs. Literal (b ∷ bytes) ∷ fs) (parts_by ps h g)
-    parts_by (Filled zero ∷ ps) h g = parts_by ps h g
-    parts_by (Filled (suc n) ∷ ps) h g = ap (λ fs. Fill (suc n) ∷ fs) (parts_by ps h g)
-    parts_by (Waiting width place f ∷ ps) h g =
+    each_part_by : (ps : List Part) → list_all is_listed_part ps ≡ true → HasAll order (flat_map fragment_keys (fragments_of at s i ps)) → map (fragment_by order) (fragments_of at s i ps) ≡ fragments_of to s i ps
+    each_part_by [] h g = refl
+    each_part_by (Known [] ∷ ps) h g = each_part_by ps h g
+    each_part_by (Known (b ∷ bytes) ∷ ps) h g = ap (λ fs. Literal (b ∷ bytes) ∷ fs) (each_part_by ps h g)
+    each_part_by (Filled zero ∷ ps) h g = each_part_by ps h g
+    each_part_by (Filled (suc n) ∷ ps) h g = ap (λ fs. Fill (suc n) ∷ fs) (each_part_by ps h g)
+    each_part_by (Waiting width place f ∷ ps) h g =
         let one = placed_by files apart order place below (left (is_listed files apart place) (list_all is_listed_part ps) h) (first_has order (optional_key (at place).file) (flat_map fragment_keys (fragments_of at s i ps)) g) in
-        let rest = parts_by ps (right (is_listed files apart place) (list_all is_listed_part ps) h) (second_has order (optional_key (at place).file) (flat_map fragment_keys (fragments_of at s i ps)) g) in
+        let rest = each_part_by ps (right (is_listed files apart place) (list_all is_listed_part ps) h) (second_has order (optional_key (at place).file) (flat_map fragment_keys (fragments_of at s i ps)) g) in
         λ n. Value width (one n) (numbered s i f) ∷ rest n
 
     sections_by : (segments : List Segment) (cs : List Content) (keys : List ℕ) → ((g : ℕ) → list_all is_listed_part (parts_in cs g) ≡ true) → HasAll order (flat_map section_files (map (section_of at segments s i cs) keys)) → map (section_by order) (map (section_of at segments s i cs) keys) ≡ map (section_of to segments s i cs) keys
@@ -237,7 +237,7 @@ module _ (files : List (List ℕ)) (apart : IsDistinct bytes_eq files) (s i : Li
         let fs = fragments_of at s i (parts_in cs k) in
         let mine = first_has order (flat_map fragment_keys (all_joined fs)) (flat_map section_files (map (section_of at segments s i cs) keys)) g in
         let one : map (fragment_by order) (all_joined fs) ≡ all_joined (fragments_of to s i (parts_in cs k)) =
-        all_joined_by order fs ∙ ap all_joined (parts_by (parts_in cs k) (h k) (subst (HasAll order) (all_keys_joined fs) mine)) in
+        all_joined_by order fs ∙ ap all_joined (each_part_by (parts_in cs k) (h k) (subst (HasAll order) (all_keys_joined fs) mine)) in
         let rest = sections_by segments cs keys h (second_has order (flat_map fragment_keys (all_joined fs)) (flat_map section_files (map (section_of at segments s i cs) keys)) g) in
         λ n. record { name = segment_name (slice_get segments k); align = segment_power (slice_get segments k); fragments = one n } ∷ rest n
 

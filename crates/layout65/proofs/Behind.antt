@@ -1,28 +1,23 @@
 -- What stands behind a statement.
 use Rattle.std.proofs.lemmas.Grind.{common_steps}
-use Rattle.std.proofs.Common.{◌≡◌, ◌∙◌, ℕ, zero, suc, ◌+◌, ◌<◌, ◌≤◌, nat_lt, Bool, true, false, List, [], ◌∷◌, ◌++◌, length, Option, Some, None, refl, sym, ap, arith}
+use Rattle.std.proofs.Common.{◌≡◌, ℕ, zero, suc, ◌+◌, ◌<◌, ◌≤◌, List, [], ◌∷◌, ◌++◌, length, Some, None, sym, ap, arith}
 use Rattle.std.specs.Prelude.{Ok, Err, slice_get, if◌then◌else◌}
-use Rattle.std.specs.List.{AllByRecursion}
-use Rattle.std.proofs.lemmas.Bool.Decides.{nat_tests}
 use Rattle.std.proofs.lemmas.List.{length-append}
-use Rattle.object65.specs.Objects.{section_limit}
 use Rattle.language65.specs.declared.contents.Segment.{Segment}
 use Rattle.language65.specs.declared.fault.AsmFault.{AsmFault}
-use Rattle.language65.specs.declared.fault.AsmFault.TheVariants.{SectionTooLarge}
 use Rattle.language65.specs.Laid.{is_unnamed, opens_region}
 use Rattle.language65.specs.declared.language.Statement.{Statement}
 use Rattle.language65.specs.declared.language.Statement.TheVariants as statement
-use Rattle.language65.specs.Layout.{Standing, first_size, named_segments, new_segment, opens_scope, own_size, place_of, scope_behind, segments_behind, spot_of, standing_behind}
-use Rattle.language65.specs.LineFaults.{first_fault, line_fault, or_then, when, unless_fault}
+use Rattle.language65.specs.Layout.{Standing, opens_scope, scope_behind, segments_behind, standing_behind}
+use Rattle.language65.specs.LineFaults.{line_fault}
 use Rattle.language65.specs.Names.{enclosing, within}
-use Rattle.language65.specs.Sizes.{length_of}
 use Rattle.language65.specs.Symbols.{Scope, Symbols, scope_opened}
 use Rattle.layout65.specs.declared.standing.Standing as code
-use Rattle.layout65.specs.Measuring.{advanced, measure_of, measured, naming_fault, placing_faults}
+use Rattle.layout65.specs.Measuring.{advanced, measure_of, measured}
 use Rattle.layout65.specs.Counting.{AreInside, HasNumbers, opened_by, opening_limit}
 use Rattle.layout65.specs.declared.measuring.Measured.{Measured}
 use Rattle.layout65.specs.Sounds.{IsCounted, standing_of}
-use Rattle.layout65.proofs.Measures.{faults_are, no_fault}
+use Rattle.layout65.proofs.Measures.{no_fault}
 use Rattle.language65.proofs.Segments.{all_more, all_same, grown_length}
 
 -- ---- What is open.

@@ -1,13 +1,12 @@
 -- Faults one after the other.
-use Rattle.std.proofs.Common.{arith, ◌≡◌, ℕ, zero, suc, ◌+◌, ◌*◌, ◌<◌, ◌≤◌, nat_lt, drop, get_or, add-one, Bool, true, false, List, [], ◌∷◌, length, map, Option, Some, None, refl, sym, ap, subst, ◌∙◌}
+use Rattle.std.proofs.Common.{arith, ◌≡◌, ℕ, zero, suc, ◌+◌, ◌*◌, ◌<◌, ◌≤◌, nat_lt, drop, get_or, add-one, Bool, true, false, List, [], ◌∷◌, length, map, Option, Some, None, refl, sym, ap, ◌∙◌}
 use Rattle.std.proofs.lemmas.Grind.{common_steps}
-use Rattle.std.specs.Prelude.{IfOk, OnOk, Result, Ok, Err, ◌&&◌, ◌++◌, sum_by, ℤ, pos, negsuc, not, ◌-◌, MatchOption, SomeIff}
+use Rattle.std.specs.Prelude.{IfOk, OnOk, Result, Ok, Err, ◌&&◌, sum_by, ℤ, pos, negsuc, not, ◌-◌, MatchOption, SomeIff}
 use Rattle.base65.specs.Outcome.{Unless, ◌>>=◌, Gives}
-use Rattle.std.proofs.lemmas.Bool.Decides.{nat_tests}
 use Rattle.std.proofs.lemmas.List.{drop_all}
 use Rattle.std.proofs.lemmas.List.Sums.{sum_by-cons}
 use Rattle.object65.specs.declared.object.Width.{Width}
-use Rattle.language65.specs.Sizes.{counted, fill_settled, gap, item_len, length_of, optional_value}
+use Rattle.language65.specs.Sizes.{counted, fill_settled, gap, item_len, optional_value}
 use Rattle.language65.specs.Norms.{constant_in}
 use Rattle.syntax65.specs.Trees.{Tree}
 use Rattle.language65.specs.declared.fault.AsmFault.{AsmFault}
@@ -16,12 +15,8 @@ use Rattle.language65.specs.declared.fault.AsmFault.TheVariants.{BadOperand, Not
 use Rattle.language65.specs.declared.language.Item.{Item}
 use Rattle.language65.specs.declared.laid.Settled.{Settled}
 use Rattle.language65.specs.Symbols.{Scope, Symbols, key_defined}
-use Rattle.language65.specs.declared.laid.Spot.{Spot}
-use Rattle.language65.specs.declared.language.Operand.{Operand}
-use Rattle.syntax65.specs.declared.instructions.names.Mnemonic.{Mnemonic}
 use Rattle.language65.specs.declared.language.Statement.{Statement}
 use Rattle.language65.specs.declared.language.Statement.TheVariants as statement
-use Rattle.language65.specs.declared.language.Item.TheVariants.{Text, Value}
 use Rattle.object65.specs.Objects.{width_len, section_limit}
 use Rattle.language65.specs.Items.{numbered}
 use Rattle.std.proofs.Math.Nat.{suc-mul, zero-mul}
@@ -30,7 +25,7 @@ use Rattle.syntax65.specs.declared.lexing.tokens.AddressSize.TheVariants.{Absolu
 use Rattle.syntax65.specs.declared.lexing.tokens.AddressSize.{AddressSize}
 use Rattle.language65.specs.declared.contents.Segment.{Segment}
 use Rattle.language65.specs.Layout.{Standing, own_size, segment_at, spot_of}
-use Rattle.language65.specs.LineFaults.{alignment_fault, block_fault, first_fault, form_fault, missing_file, operand_fault, part_fault, pop_fault, size_fault, defined_twice, is_open, line_fault, opened_twice, scope_name, stands_outside, trees_of, is_byte_value, is_count, is_there, multiple_fault, item_trees, operand_trees, lost_scope, lost_scopes, or_then, when, unless_fault}
+use Rattle.language65.specs.LineFaults.{first_fault, defined_twice, is_open, line_fault, opened_twice, scope_name, stands_outside, trees_of, is_byte_value, is_count, is_there, multiple_fault, item_trees, lost_scopes, or_then, when, unless_fault}
 use Rattle.layout65.specs.declared.measuring.Measured as code
 use Rattle.layout65.specs.declared.measuring.Measured.{Measured}
 use Rattle.layout65.specs.Measuring.{fitted, measure_of, measured, naming_fault, placed, placing_faults}

@@ -1,23 +1,20 @@
 -- What a part of a file places, or its first fault.
 use Rattle.std.proofs.lemmas.Grind.{common_steps}
-use Rattle.std.proofs.Common.{arith, ◌≡◌, ◌∙◌, ℕ, ◌+◌, nat_le, nat_lt, Bool, true, false, not, List, [], ◌∷◌, length, Option, Some, None, refl, sym, ap, subst}
+use Rattle.std.proofs.Common.{arith, ◌≡◌, ◌∙◌, ℕ, Bool, true, not, List, length, Option, Some, None, ap, subst}
 use Rattle.std.specs.Prelude.{◌&&◌, ◌++◌, ℤ, pos, Result, Ok, Err}
-use Rattle.object65.specs.Objects.{section_limit}
 use Rattle.base65.specs.Outcome.{Unless}
 use Rattle.syntax65.specs.Trees.{Tree}
 use Rattle.language65.specs.declared.fault.AsmFault.{AsmFault}
-use Rattle.language65.specs.declared.fault.AsmFault.TheVariants.{BadOperand, BadPart, FileNotFound, SectionTooLarge}
+use Rattle.language65.specs.declared.fault.AsmFault.TheVariants.{BadOperand}
 use Rattle.language65.specs.Faults.{is_memory}
-use Rattle.language65.specs.declared.laid.Settled.TheVariants.{FromByte}
 use Rattle.language65.specs.declared.laid.Spot.{Spot}
 use Rattle.language65.specs.declared.language.Statement.TheVariants.{FilePart}
-use Rattle.language65.specs.Layout.{Standing, own_size, spot_of}
-use Rattle.language65.specs.LineFaults.{file_limit, first_fault, is_part, is_there, left_from, lost_scopes, operand_fault, optional_tree, part_fault, unless_there, when, unless_fault}
-use Rattle.language65.specs.Sizes.{optional_value, part_len, part_start}
+use Rattle.language65.specs.Layout.{Standing, spot_of}
+use Rattle.language65.specs.LineFaults.{is_there, lost_scopes, operand_fault, optional_tree, when, unless_fault}
+use Rattle.language65.specs.Sizes.{optional_value}
 use Rattle.language65.specs.Symbols.{Symbols}
-use Rattle.layout65.specs.declared.measuring.Measured.{Measured}
 use Rattle.layout65.specs.Measuring.{IsFound, or_default, placed, ranged, unread_fault}
-use Rattle.layout65.proofs.Measures.{left_behind, refused_first, unless_then}
+use Rattle.layout65.proofs.Measures.{left_behind, unless_then}
 
 -- ---- Ranges.
 

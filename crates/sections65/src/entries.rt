@@ -281,14 +281,7 @@ impl Entries {
     {
         let mut all = self;
         all.close()?;
-        let Entries {
-            alloc: _,
-            done,
-            settled: _,
-            segment: _,
-            bytes: _,
-            room: _,
-        } = all;
+        let Entries { done, .. } = all;
         Ok(done)
     }
 }

@@ -73,11 +73,7 @@ fn section_power(segment: Option<&Segment>) -> u8
 fn fragments_of(draft: Draft) -> Result<Sequence<Fragment>, AllocError>
     ensures { IfOk result (λ fragments. fragments ≡ all_of_draft draft) }
 {
-    let Draft {
-        segment: _,
-        done,
-        last,
-    } = draft;
+    let Draft { done, last, .. } = draft;
     let mut fragments = done;
     if let Some(last) = last {
         fragments.push(last)?;

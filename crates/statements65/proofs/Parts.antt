@@ -126,15 +126,6 @@ bind_err q k e h = rw (← h) refl
 pub bind_ok : {A B : Type 0} (q : Result A AsmFault) (k : A → Result B AsmFault) (x : A) → Ok x ≡ q → (q >>= k) ≡ k x
 bind_ok q k x h = rw (← h) refl
 
--- what follows is the whole's answer
-pub then_goes : {A B X : Type 0} (Is : Result A AsmFault → Type 0) (next : A → Result B AsmFault) (view : X → B) (result : Result X AsmFault) (x : A) → Is (Ok x) → Answers is_outside view result (λ r. r ≡ next x) → Answers is_outside view result (Then Is next)
-then_goes Is next view (Ok y) x i h = (Ok x, i, h)
-then_goes Is next view (Err f) x i h = go (is_outside f) h
-  where
-    go : (t : Bool) → Unless t (Err f ≡ next x) → Unless t (Then Is next (Err f))
-    go true j = tt
-    go false j = (Ok x, i, j)
-
 pub first_fault : {A B X : Type 0} (Is : Result A AsmFault → Type 0) (Next : A → Result B AsmFault → Type 0) (view : X → B) (result : Result X AsmFault) (e : AsmFault) → IsErrAnd result (λ f. f ≡ e) → Unless (is_outside e) (Is (Err e)) → Answers is_outside view result (λ r. (q : Result A AsmFault) × Is q × First q Next r)
 first_fault Is Next view (Ok x) e h i = absurd h
 first_fault Is Next view (Err f) e h i = rw h (go (is_outside e) i)

@@ -1,12 +1,12 @@
 -- Folding forms that may be missing, and those of numbers alone.
-use Rattle.std.proofs.Common.{◌≡◌, length, Some, ap, arith, Result, Err}
+use Rattle.std.proofs.Common.{◌≡◌, length, Some, ap, arith, Result}
 use Rattle.std.specs.Prelude.{ℤ, pos, if◌then◌else◌}
 use Rattle.syntax65.specs.Trees.{Tree, number, here, name, cheap, forward, backward, unary, binary}
 use Rattle.syntax65.specs.declared.lexing.tokens.AddressSize.{AddressSize}
 use Rattle.syntax65.specs.declared.lexing.tokens.AddressSize.TheVariants as size
 use Rattle.language65.specs.declared.laid.Spot.{Spot}
 use Rattle.language65.specs.Names.{meaning_of}
-use Rattle.language65.specs.Norms.{constant_in, literal_in, folded, norm_of}
+use Rattle.language65.specs.Norms.{constant_in, literal_in, folded}
 use Rattle.language65.specs.Sizes.{larger, size_by, size_of, size_of_meaning, size_of_value, takes_byte}
 use Rattle.language65.specs.Symbols.{Symbols}
 use Rattle.symbols65.specs.Inner.Settling.{IsNumber}
@@ -18,7 +18,7 @@ use Rattle.base65.specs.declared.values.Op2.{Op2}
 use Rattle.object65.specs.Form.{Form}
 use Rattle.object65.specs.Folding.{fold1, fold2}
 use Rattle.language65.specs.declared.fault.AsmFault.{AsmFault}
-use Rattle.symbols65.specs.Finals.{IsReference, binary_form, literal_of, prefix_form}
+use Rattle.symbols65.specs.Finals.{binary_form, literal_of, prefix_form}
 
 -- ---- What expressions of numbers alone come to.
 
@@ -46,7 +46,3 @@ prefix_known op x = grind (arith, common_steps)
 
 pub binary_known : (op : Op2) (r s : Result Form AsmFault) → binary_form op (result_ok r) (result_ok s) ≡ result_ok (r >>= (λ f. s >>= (λ g. folded (fold2 op f g))))
 binary_known op x y = grind (arith, common_steps)
-
--- what has no meaning has no form
-pub meaningless : (y : Symbols) (s : Spot) (e : Tree) (z : AsmFault) → IsReference e → meaning_of y s e ≡ Err z → norm_of y s e ≡ Err z
-meaningless y s x z n h = grind (arith, common_steps)

@@ -4,8 +4,7 @@ ghost use Rattle.std.specs.Prelude.{◌≡◌, ℕ, List, OnOk, true};
 ghost use Rattle.language65.specs.Laid.{asks_section, has_here};
 ghost use Rattle.base65.specs.Outcome.{Gives};
 ghost use Rattle.language65.specs.Faults.{is_memory};
-ghost use Rattle.language65.specs.declared.language.Statement.TheVariants.{CloseProc, CloseScope, Constant, PopSegment, Segment};
-ghost use Rattle.language65.specs.Symbols.{Symbols as Table};
+ghost use Rattle.language65.specs.declared.language.Statement.TheVariants.{Constant};
 ghost use Rattle.symbols65.specs.Resolving.{IsTable};
 ghost use Rattle.symbols65.specs.Views.{table_of};
 ghost use Rattle.layout65.specs.Measuring.{is_bare, placed};
@@ -14,11 +13,10 @@ ghost use Rattle.layout65.specs.Sounds.{IsSoundStanding, standing_of};
 use super::bytes::{file_part, instruction, values};
 use super::rooms::{align, check_kept, check_proc, check_scope, check_segment, reserve};
 use crate::measuring::{Before, Measured, nothing};
-use crate::standing::Standing;
 use language65::{AsmFault, PartRange, Statement};
 use std::alloc::Global;
 use symbols65::{Known, knowing};
-use syntax65::{AddressSize, Expr, ExprKind};
+use syntax65::{Expr, ExprKind};
 
 /// Whether an expression has a `*`.
 fn has_here(value: &Expr) -> bool
@@ -41,27 +39,13 @@ pub fn asks_section(statement: &Statement) -> bool
         | Statement::CheapLabel(_)
         | Statement::UnnamedLabel
         | Statement::OpenProc(_)
-        | Statement::Instruction {
-            mnemonic: _,
-            operand: _,
-        }
-        | Statement::Values { width: _, items: _ }
-        | Statement::Reserve { count: _, value: _ }
-        | Statement::Align {
-            multiple: _,
-            value: _,
-        }
-        | Statement::FilePart {
-            bytes: _,
-            start: _,
-            len: _,
-        } => true,
-        Statement::Constant { name: _, value } => has_here(value),
-        Statement::Assert {
-            value,
-            action: _,
-            text: _,
-        } => has_here(value),
+        | Statement::Instruction { .. }
+        | Statement::Values { .. }
+        | Statement::Reserve { .. }
+        | Statement::Align { .. }
+        | Statement::FilePart { .. } => true,
+        Statement::Constant { value, .. } => has_here(value),
+        Statement::Assert { value, .. } => has_here(value),
         _ => false,
     }
 }
@@ -88,50 +72,6 @@ fn constant(
     Ok(Measured { size, ..measure })
 }
 
-/// What `.segment` and the like place.
-fn segment(
-    standing: &Standing,
-    name: &[u8],
-    size: Option<AddressSize>,
-) -> Result<Measured, AsmFault>
-    requires { IsSoundStanding standing.now }
-    ensures { (y : Table) → Gives is_memory (λ m. m) result (placed y
-        (standing_of standing.now) (Segment name.now size)) }
-{
-    check_segment(standing, name, size)?;
-    Ok(nothing(standing))
-}
-
-/// What `.popseg` places.
-fn pop_segment(standing: &Standing) -> Result<Measured, AsmFault>
-    requires { IsSoundStanding standing.now }
-    ensures { (y : Table) → Gives is_memory (λ m. m) result (placed y
-        (standing_of standing.now) PopSegment) }
-{
-    check_kept(standing)?;
-    Ok(nothing(standing))
-}
-
-/// What `.endscope` places.
-fn close_scope(before: Before<'_>) -> Result<Measured, AsmFault>
-    requires { IsSoundStanding before.standing.now }
-    ensures { Gives is_memory (λ m. m) result (placed (table_of before.entry.symbols.now)
-        (standing_of before.entry.standing.now) CloseScope) }
-{
-    check_scope(before.symbols, before.standing.scope as usize)?;
-    Ok(nothing(before.standing))
-}
-
-/// What `.endproc` places.
-fn close_proc(before: Before<'_>) -> Result<Measured, AsmFault>
-    requires { IsSoundStanding before.standing.now }
-    ensures { Gives is_memory (λ m. m) result (placed (table_of before.entry.symbols.now)
-        (standing_of before.entry.standing.now) CloseProc) }
-{
-    check_proc(before.symbols, before.standing.scope as usize)?;
-    Ok(nothing(before.standing))
-}
-
 /// What a statement that ends a block or changes the segment places, or one that does neither and
 /// has no bytes.
 #[inline(never)]
@@ -143,10 +83,22 @@ fn without_bytes(before: Before<'_>, statement: &Statement) -> Result<Measured, 
         statement.now) }
 {
     match statement {
-        Statement::Segment { name, size } => segment(before.standing, name.as_slice(), *size),
-        Statement::PopSegment => pop_segment(before.standing),
-        Statement::CloseScope => close_scope(before),
-        Statement::CloseProc => close_proc(before),
+        Statement::Segment { name, size } => {
+            check_segment(before.standing, name.as_slice(), *size)?;
+            Ok(nothing(before.standing))
+        }
+        Statement::PopSegment => {
+            check_kept(before.standing)?;
+            Ok(nothing(before.standing))
+        }
+        Statement::CloseScope => {
+            check_scope(before.symbols, before.standing.scope as usize)?;
+            Ok(nothing(before.standing))
+        }
+        Statement::CloseProc => {
+            check_proc(before.symbols, before.standing.scope as usize)?;
+            Ok(nothing(before.standing))
+        }
         _ => Ok(nothing(before.standing)),
     }
 }

@@ -155,12 +155,8 @@ pub fn check_operand(
         Operand::Immediate(value)
         | Operand::Indirect(value)
         | Operand::IndirectX(value)
-        | Operand::IndirectY(value) => check_one(alloc, symbols, scope, value),
-        Operand::Address {
-            prefix: _,
-            value,
-            index: _,
-        } => check_one(alloc, symbols, scope, value),
+        | Operand::IndirectY(value)
+        | Operand::Address { value, .. } => check_one(alloc, symbols, scope, value),
     }
 }
 
@@ -219,24 +215,15 @@ pub fn check_trees(
         (table_of symbols.now).scopes scope (trees_of statement.now)) tt) }
 {
     match statement {
-        Statement::Constant { name: _, value } => check_one(alloc, symbols, scope, value),
-        Statement::Instruction {
-            mnemonic: _,
-            operand,
-        } => check_operand(alloc, symbols, scope, operand),
-        Statement::Values { width: _, items } => check_items(alloc, symbols, scope, items),
+        Statement::Constant { value, .. } => check_one(alloc, symbols, scope, value),
+        Statement::Instruction { operand, .. } => check_operand(alloc, symbols, scope, operand),
+        Statement::Values { items, .. } => check_items(alloc, symbols, scope, items),
         Statement::Reserve { count, value } => check_two(alloc, symbols, scope, count, value),
         Statement::Align { multiple, value } => check_two(alloc, symbols, scope, multiple, value),
-        Statement::FilePart {
-            bytes: _,
-            start,
-            len,
-        } => check_range(alloc, symbols, scope, PartRange { start, len }),
-        Statement::Assert {
-            value,
-            action: _,
-            text: _,
-        } => check_one(alloc, symbols, scope, value),
+        Statement::FilePart { start, len, .. } => {
+            check_range(alloc, symbols, scope, PartRange { start, len })
+        }
+        Statement::Assert { value, .. } => check_one(alloc, symbols, scope, value),
         _ => Ok(()),
     }
 }

@@ -196,15 +196,10 @@ fn reorder_sections(
 {
     let mut made = Sequence::new(alloc);
     for section in sections.into_vec() {
-        let Section {
-            name,
-            align,
-            fragments,
-        } = section;
+        let fragments = reorder_fragments(alloc, order, section.fragments)?;
         made.push(Section {
-            name,
-            align,
-            fragments: reorder_fragments(alloc, order, fragments)?,
+            fragments,
+            ..section
         })?;
     }
     Ok(made)
@@ -221,9 +216,8 @@ fn reorder_exports(
 {
     let mut made = Sequence::new(alloc);
     for export in exports.into_vec() {
-        let Export { name, origin, form } = export;
-        let origin = reordered(order, origin)?;
-        made.push(Export { name, origin, form })?;
+        let origin = reordered(order, export.origin)?;
+        made.push(Export { origin, ..export })?;
     }
     Ok(made)
 }
@@ -239,19 +233,8 @@ fn reorder_asserts(
 {
     let mut made = Sequence::new(alloc);
     for assert in asserts.into_vec() {
-        let Assert {
-            action,
-            origin,
-            text,
-            form,
-        } = assert;
-        let origin = reordered(order, origin)?;
-        made.push(Assert {
-            action,
-            origin,
-            text,
-            form,
-        })?;
+        let origin = reordered(order, assert.origin)?;
+        made.push(Assert { origin, ..assert })?;
     }
     Ok(made)
 }

@@ -1,19 +1,15 @@
 -- Digits, and numbers whose digits go on up to their end.
 use Rattle.std.proofs.lemmas.Grind.{common_steps}
-use Rattle.std.proofs.Common.{◌≡◌, ℕ, ◌+◌, ◌*◌, ◌^◌, ◌<◌, ◌≤◌, Bool, true, false, List, [], ◌∷◌, length, drop, get_or, Option, Some, None, refl, sym, ap, ◌∙◌, arith, nat_lt, add-one, ◌≢◌, ◌-◌, map, take, one-add}
-use Rattle.std.specs.Prelude.{◌&&◌, if◌then◌else◌, ◌==◌, slice_get, slice_index, IfSome}
-use Rattle.std.specs.List.{list_all, prefix_len, range_with_len}
+use Rattle.std.proofs.Common.{◌≡◌, ℕ, ◌+◌, ◌*◌, ◌^◌, ◌<◌, ◌≤◌, Bool, true, false, List, [], ◌∷◌, length, drop, get_or, Option, Some, None, refl, sym, ap, ◌∙◌, arith, nat_lt, ◌≢◌, ◌-◌, take, one-add}
+use Rattle.std.specs.Prelude.{◌==◌, slice_get, slice_index, IfSome}
+use Rattle.std.specs.List.{prefix_len}
 use Rattle.std.specs.Char.{digit_value}
-use Rattle.std.specs.Str.Parse.{digits_value_after}
 use Rattle.std.proofs.lemmas.Bool.Decides.{nat_tests}
-use Rattle.std.proofs.Math.Seq.{drop-cons}
-use Rattle.std.proofs.lemmas.List.{drop_all, get_or-take}
-use Rattle.std.proofs.Math.Nat.{le-mul_of_pos_right}
-use Rattle.base65.specs.Digit.{is_digit, digits}
+use Rattle.std.proofs.lemmas.List.{get_or-take}
+use Rattle.base65.specs.Digit.{digits}
 use Rattle.base65.proofs.Digit.{digits_from, next_digit}
 use Rattle.syntax65.specs.Forms.{number_of, plain_number_of, is_word}
-use Rattle.std.proofs.lemmas.List.Folds.{length-prefix_len, list_all_at}
-use Rattle.std.proofs.lemmas.List.FromFn.{get_or-map-range_with_len}
+use Rattle.std.proofs.lemmas.List.Folds.{length-prefix_len}
 use Rattle.std.proofs.lemmas.List.Sums.{prefix_len_passes, prefix_len_stops}
 use Rattle.syntax65.specs.Inner.Places.{AreDigitsAhead, IsPlainNumber}
 

@@ -1,5 +1,5 @@
 -- The classes of bytes, the values of numbers, the forms of tokens, and the longest one at a place.
-use Rattle.std.specs.Prelude.{ℕ, not, Bool, true, false, ◌==◌, if◌then◌else◌, ◌-◌, ◌^◌, ◌≤◌, ◌&&◌, List, [], ◌∷◌, length, take, slice_index, Option, Some, None, nat_lt, ◌≡◌, ◌≢◌, ◌⊎◌, ◌<◌, IsTrue, drop, codes, ⊤}
+use Rattle.std.specs.Prelude.{ℕ, not, Bool, true, false, ◌==◌, if◌then◌else◌, ◌-◌, ◌≤◌, List, [], ◌∷◌, length, take, slice_index, Option, Some, None, ◌≡◌, ◌≢◌, ◌⊎◌, ◌<◌, IsTrue, drop, codes, ⊤}
 use Rattle.std.specs.Char.{is_ascii_alphabetic, is_ascii_digit}
 use Rattle.syntax65.specs.declared.lexing.places.Class.{Class}
 use Rattle.syntax65.specs.declared.lexing.places.Class.TheVariants.{Letter, Digit, Radix, At, Dot, Apostrophe, Quote, Colon, Semicolon, Blank, Other}

@@ -3,7 +3,8 @@ use Rattle.std.specs.Prelude.{ℕ, Bool, false, List, [], ◌∷◌, ◌==◌, �
 use Rattle.std.specs.Char.{is_ascii_digit}
 use Rattle.std.specs.List.{list_all, position}
 use Rattle.clap.specs.Words.{Text}
-use Rattle.syntax65.specs.Forms.{is_word, digits, plain_number_of}
+use Rattle.base65.specs.Digit.{digits}
+use Rattle.syntax65.specs.Forms.{is_word, plain_number_of}
 use Rattle.base65.specs.Outcome.{◌>>=◌}
 use Rattle.syntax65.specs.Expressions.{is_reserved}
 use Rattle.cli65.specs.declared.fault.LineFault.{LineFault}

@@ -1,5 +1,5 @@
 -- What stands at the front of some bytes, and that nothing longer does.
-use Rattle.std.proofs.Common.{◌≡◌, ◌∙◌, ℕ, ◌<◌, false, map, get_or, refl, ap, arith, ◌≢◌, ◌⊎◌, inl, inr, zero, suc, ◌+◌, ◌≤◌, Bool, true, cond, List, [], ◌∷◌, length, take, drop, sym, subst, eqb}
+use Rattle.std.proofs.Common.{◌≡◌, ◌∙◌, ℕ, ◌<◌, false, map, get_or, refl, ap, arith, ◌≢◌, ◌⊎◌, zero, suc, ◌+◌, ◌≤◌, Bool, true, cond, List, [], ◌∷◌, length, take, drop, sym, subst, eqb}
 use Rattle.std.proofs.lemmas.List.FromFn.{get_or-map-range_with_len}
 use Rattle.std.specs.List.{range_with_len, prefix_len, list_all}
 use Rattle.syntax65.specs.Forms.{is_word, class_of, is_no_quote, AllWord, IsName, IsRunOf, ClosesText, StartsNumber, IsSizeLetter, spelling, IsForm, Stands, IsLongest, NoForm, Begins, FaultAt, name_in, HasValue}
@@ -13,7 +13,6 @@ use Rattle.syntax65.specs.Inner.Places.{BeginsNumber, BeginsSigned, NoSign}
 use Rattle.syntax65.specs.declared.lexing.places.Class.{Class}
 use Rattle.syntax65.specs.declared.lexing.places.Class.TheVariants.{Letter, Digit, Radix, At, Dot, Apostrophe, Quote, Colon, Other}
 use Rattle.syntax65.specs.declared.lexing.tokens.AddressSize.{AddressSize}
-use Rattle.syntax65.specs.declared.lexing.tokens.AddressSize.TheVariants.{ZeroPage, Absolute}
 use Rattle.syntax65.specs.declared.lexing.tokens.Mark.{Mark}
 use Rattle.syntax65.specs.declared.lexing.tokens.Mark.TheVariants.{Scope, Define}
 use Rattle.syntax65.specs.declared.lexing.tokens.TokenKind.{TokenKind}

@@ -1,17 +1,15 @@
 -- The tokens of a line, one after the other.
 use Rattle.std.proofs.lemmas.Grind.{common_steps}
-use Rattle.std.proofs.Common.{◌≡◌, ℕ, zero, suc, ◌+◌, ◌<◌, ◌≤◌, Bool, true, false, cond, List, [], ◌∷◌, ◌++◌, length, take, drop, Option, Some, refl, sym, ap, ◌∙◌, arith, append_assoc}
+use Rattle.std.proofs.Common.{◌≡◌, ℕ, ◌+◌, ◌≤◌, Bool, true, false, cond, List, [], ◌∷◌, ◌++◌, length, take, drop, Option, Some, refl, sym, ap, ◌∙◌, arith, append_assoc}
 use Rattle.std.proofs.lemmas.List.{take-append-drop}
 use Rattle.std.specs.List.{prefix_len}
 use Rattle.std.specs.Prelude.{Err}
-use Rattle.syntax65.specs.Forms.{is_blank, is_blank_class, Begins, IsToken, FaultAt}
+use Rattle.syntax65.specs.Forms.{is_blank, Begins, FaultAt}
 use Rattle.syntax65.specs.Faults.{is_lex_outside}
 use Rattle.base65.specs.Outcome.{Unless}
 use Rattle.syntax65.specs.Tokens.{IsCutOff, Lexeme, after_blanks, Reads, IsRead}
 use Rattle.syntax65.specs.declared.lexing.places.Class.TheVariants.{Blank}
-use Rattle.syntax65.specs.declared.lexing.tokens.TokenKind.{TokenKind}
 use Rattle.syntax65.specs.declared.lexing.fault.LexFault.{LexFault}
-use Rattle.syntax65.specs.declared.lexing.fault.LexFault.TheVariants.{OutOfMemory, BadCharacter, BadNumber, StringNotClosed, LineTooLong, NameTooLong}
 
 abbrev FirstFails : (ℕ → Bool) → List ℕ → Type 0
 FirstFails p [] = Unit {0}

@@ -7,17 +7,15 @@ use Rattle.std.proofs.lemmas.List.{length-take-le}
 use Rattle.std.proofs.lemmas.List.Sums.{prefix_len-le-length}
 use Rattle.syntax65.specs.Forms.{class_of, is_word, IsRunOf, spelling, Stands, IsLongest, Begins, FaultAt, IsSizeLetter, IsForm, HasValue}
 use Rattle.syntax65.specs.Inner.Places.{BeginsMark, NoSign}
-use Rattle.syntax65.specs.declared.lexing.places.Class.TheVariants.{Quote, Colon, Other, Letter, Digit, Radix, At, Dot, Apostrophe, Semicolon, Blank}
+use Rattle.syntax65.specs.declared.lexing.places.Class.TheVariants.{Quote, Colon, Other, Letter, Digit, Radix, At, Dot, Apostrophe}
 use Rattle.syntax65.specs.declared.lexing.tokens.Mark.{Mark}
 use Rattle.syntax65.specs.declared.lexing.tokens.TokenKind.{TokenKind}
 use Rattle.syntax65.specs.declared.lexing.tokens.TokenKind.TheVariants.{Unnamed, Symbol, Identifier, CheapName, Directive, Number, Character, Text, SizePrefix}
 use Rattle.syntax65.specs.declared.lexing.fault.LexFault.TheVariants.{BadCharacter}
 use Rattle.syntax65.proofs.Fronts.{and_both, all_front, not_all, eqb_is, Behind, mark_size, at_class, empty, behind}
-use Rattle.std.proofs.lemmas.Bool.{cases_order}
-use Rattle.std.proofs.lemmas.Bool.Decides.{nat_tests}
 use Rattle.syntax65.specs.declared.lexing.places.Class.{Class}
 use Rattle.syntax65.specs.declared.lexing.tokens.AddressSize.{AddressSize}
-use Rattle.syntax65.specs.declared.lexing.tokens.AddressSize.TheVariants.{ZeroPage, Absolute}
+use Rattle.syntax65.specs.declared.lexing.tokens.AddressSize.TheVariants.{ZeroPage}
 use Rattle.syntax65.specs.declared.lexing.tokens.Mark.TheVariants.{Scope, Define, NotEqual, LessOrEqual, GreaterOrEqual, ShiftLeft, ShiftRight, BothTrue, EitherTrue, Colon as ColonMark, Plus, Minus, Star, Slash, Ampersand, Bar, Caret, Tilde, Less, Greater, Equal, Exclamation, OpenParenthesis, CloseParenthesis, Hash, Comma, OpenBrace, CloseBrace}
 
 -- ---- What stands at a `:` or at a byte that only a mark can begin.

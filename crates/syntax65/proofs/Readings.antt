@@ -1,13 +1,13 @@
 -- A line is read in one way at most.
 use Rattle.std.proofs.lemmas.Grind.{common_steps}
-use Rattle.std.proofs.Common.{◌≡◌, ◌⊎◌, inl, inr, ℕ, zero, suc, ◌<◌, ◌≤◌, Bool, true, false, List, [], ◌∷◌, length, take, drop, Option, Some, None, refl, sym, ap, subst, ◌∙◌, arith}
+use Rattle.std.proofs.Common.{◌≡◌, ◌⊎◌, ℕ, zero, suc, ◌<◌, ◌≤◌, Bool, true, false, List, [], ◌∷◌, length, take, drop, Option, Some, None, refl, sym, ap, subst, ◌∙◌, arith}
 use Rattle.std.specs.Prelude.{Ok, Err}
 use Rattle.syntax65.specs.Forms.{number_of, IsForm, Stands, IsLongest, IsToken, name_in, HasValue, FaultAt}
 use Rattle.syntax65.specs.Tokens.{Lexeme, after_blanks, IsEnd, Ends, Reads, IsRead}
 use Rattle.syntax65.specs.Laws.{OneReading}
 use Rattle.syntax65.specs.declared.lexing.places.Class.{Class}
 use Rattle.syntax65.specs.declared.lexing.tokens.TokenKind.{TokenKind}
-use Rattle.syntax65.specs.declared.lexing.tokens.TokenKind.TheVariants.{Identifier, Number}
+use Rattle.syntax65.specs.declared.lexing.tokens.TokenKind.TheVariants.{Number}
 use Rattle.syntax65.specs.declared.lexing.fault.LexFault.{LexFault}
 use Rattle.syntax65.specs.declared.lexing.fault.LexFault.TheVariants.{OutOfMemory, BadCharacter, BadNumber, StringNotClosed, LineTooLong, NameTooLong}
 use Rattle.syntax65.proofs.Fronts.{Behind, behind}

@@ -2,7 +2,6 @@
 use Rattle.std.proofs.lemmas.Grind.{common_steps}
 use Rattle.std.proofs.Common.{◌≡◌, ◌≢◌, ℕ, zero, suc, ◌+◌, ◌<◌, Bool, true, false, List, [], ◌∷◌, Option, Some, None, refl, sym, ap, subst, ◌∙◌, arith}
 use Rattle.std.specs.Prelude.{Result, Ok, Err, ⊤, ◌==◌, if◌then◌else◌}
-use Rattle.std.proofs.lemmas.Bool.Decides.{nat_tests}
 use Rattle.base65.specs.Outcome.{◌>>=◌}
 use Rattle.syntax65.specs.Tokens.{Lexeme}
 use Rattle.syntax65.specs.Trees.{Tree, name, unary, binary}
@@ -11,7 +10,7 @@ use Rattle.base65.specs.declared.values.Op1.{Op1}
 use Rattle.base65.specs.declared.values.Op1.TheVariants.{Not}
 use Rattle.base65.specs.declared.values.Op2.{Op2}
 use Rattle.syntax65.specs.declared.expressions.words.Opening.{Opening}
-use Rattle.syntax65.specs.declared.expressions.words.Opening.TheVariants.{Number, Here, Cheap, Forward, Backward, Name, Scope, Prefix, Parenthesis, Negation, Nothing}
+use Rattle.syntax65.specs.declared.expressions.words.Opening.TheVariants.{Name, Scope, Prefix, Parenthesis, Negation, Nothing}
 use Rattle.syntax65.specs.declared.expressions.words.ExprFault.{ExprFault}
 use Rattle.syntax65.specs.declared.expressions.words.ExprFault.TheVariants.{OperandExpected, ParenthesisExpected, TooDeep}
 

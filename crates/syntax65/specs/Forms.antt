@@ -1,10 +1,10 @@
 -- The classes of bytes, the values of numbers, the forms of tokens, and the longest one at a place.
-use Rattle.std.specs.Prelude.{ℕ, not, Bool, true, false, ◌==◌, if◌then◌else◌, ◌-◌, ◌^◌, ◌≤◌, ◌&&◌, List, [], ◌∷◌, length, take, slice_index, Option, Some, None, nat_lt, ◌≡◌, ◌≢◌, ◌⊎◌, ◌<◌, IsTrue, drop, codes, ⊤}
-use Rattle.std.specs.Char.{is_ascii_alphabetic, is_ascii_digit, digit_value}
+use Rattle.std.specs.Prelude.{ℕ, not, Bool, true, false, ◌==◌, if◌then◌else◌, ◌-◌, ◌≤◌, List, [], ◌∷◌, length, take, slice_index, Option, Some, None, ◌≡◌, ◌≢◌, ◌⊎◌, ◌<◌, IsTrue, drop, codes, ⊤}
+use Rattle.std.specs.Char.{is_ascii_alphabetic, is_ascii_digit}
 use Rattle.syntax65.specs.declared.lexing.places.Class.{Class}
 use Rattle.syntax65.specs.declared.lexing.places.Class.TheVariants.{Letter, Digit, Radix, At, Dot, Apostrophe, Quote, Colon, Semicolon, Blank, Other}
 use Rattle.std.specs.List.{list_all}
-use Rattle.std.specs.Str.Parse.{digits_value}
+use Rattle.base65.specs.Digit.{digits}
 use Rattle.syntax65.specs.declared.lexing.tokens.AddressSize.{AddressSize}
 use Rattle.syntax65.specs.declared.lexing.tokens.AddressSize.TheVariants.{ZeroPage, Absolute}
 use Rattle.syntax65.specs.declared.lexing.tokens.Mark.{Mark}
@@ -53,20 +53,6 @@ abbrev pub is_no_quote : ℕ → Bool
 is_no_quote b = not (b == 34)
 
 -- ---- The value of a number's text.
-
-abbrev pub IsRadix : ℕ → Type 0
-IsRadix r = (2 ≤ r) × (r ≤ 16)
-
-abbrev pub is_digit : ℕ → ℕ → Bool
-is_digit radix b = nat_lt (digit_value b) radix
-
--- the value of one digit or more, below 2 ^ 32
-abbrev pub digits : ℕ → List ℕ → Option ℕ
-digits radix [] = None
-digits radix (b ∷ bs) =
-    if list_all (is_digit radix) (b ∷ bs) && nat_lt (digits_value radix (b ∷ bs)) (2 ^ 32)
-    then Some (digits_value radix (b ∷ bs))
-    else None
 
 -- hex digits and `h`, or decimal digits
 abbrev pub plain_number_of : List ℕ → Option ℕ

@@ -1,7 +1,8 @@
 -- What stands at a place, and what the readers of one class of tokens need.
 use Rattle.std.specs.Prelude.{◌≡◌, ◌≢◌, ◌⊎◌, ◌+◌, ℕ, Bool, List, [], ◌∷◌, take, drop, Option, Some, None, Result, Ok, Err, ⊤}
 use Rattle.std.specs.List.{prefix_len}
-use Rattle.syntax65.specs.Forms.{class_of, is_word, digits, number_of, StartsNumber, Begins, Stands, IsToken, FaultAt}
+use Rattle.base65.specs.Digit.{digits}
+use Rattle.syntax65.specs.Forms.{class_of, is_word, number_of, StartsNumber, Begins, Stands, IsToken, FaultAt}
 use Rattle.syntax65.specs.declared.lexing.places.Class.TheVariants.{At, Dot, Colon, Other}
 use Rattle.syntax65.specs.declared.lexing.tokens.AddressSize.{AddressSize}
 use Rattle.syntax65.specs.declared.lexing.tokens.Mark.{Mark}

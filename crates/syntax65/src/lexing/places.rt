@@ -1,7 +1,8 @@
 //! The token at a place: its class, its marks, its number.
 
 ghost use Rattle.std.specs.Prelude.{◌≡◌, ◌==◌, ◌≤◌, length, ◌∷◌, [], ◌<◌, ◌+◌, IfSome, ◌↔◌, Bool, None, IsTrue};
-ghost use Rattle.syntax65.specs.Forms.{class_of, is_word, is_blank, is_no_quote, IsMark, Begins, IsSize, NotColonOrEqual, IsRadix, digits, number_of, plain_number_of};
+ghost use Rattle.base65.specs.Digit.{IsRadix, digits};
+ghost use Rattle.syntax65.specs.Forms.{class_of, is_word, is_blank, is_no_quote, IsMark, Begins, IsSize, NotColonOrEqual, number_of, plain_number_of};
 ghost use Rattle.std.specs.List.{prefix_len};
 ghost use Rattle.syntax65.specs.Inner.Places.{AreDigitsAhead, IsPlainNumber, IsAt, IsPrefixAt, IsLongMarkAt, BeginsNumber, BeginsSigned, BeginsMark};
 ghost use Rattle.syntax65.specs.Tokens.{IsEnd};
@@ -9,6 +10,7 @@ ghost use Rattle.syntax65.specs.declared.lexing.places.Class.TheVariants.{Letter
 
 use super::fault::LexFault;
 use super::tokens::{AddressSize, Mark, TokenKind};
+use base65::digits;
 
 /// What a byte may begin.
 #[derive(Clone, Copy)]
@@ -173,8 +175,8 @@ pub fn number_of(text: &[u8]) -> Option<u32>
     ensures { result ≡ number_of text.now }
 {
     match *text.first()? {
-        b'$' => digits_value(16, &text[1..]),
-        b'%' => digits_value(2, &text[1..]),
+        b'$' => digits(16, &text[1..]),
+        b'%' => digits(2, &text[1..]),
         _ => plain_number(text),
     }
 }
@@ -225,26 +227,10 @@ fn plain_number(text: &[u8]) -> Option<u32>
 {
     let last = text.len() - 1;
     if text[last] == b'h' {
-        digits_value(16, &text[..last])
+        digits(16, &text[..last])
     } else {
-        digits_value(10, text)
+        digits(10, text)
     }
-}
-
-/// The value of one digit or more, if it is below 2 ^ 32.
-fn digits_value(radix: u32, text: &[u8]) -> Option<u32>
-    requires { IsRadix radix }
-    ensures { result ≡ digits radix text.now }
-{
-    if text.is_empty() {
-        return None;
-    }
-    let mut value = 0u32;
-    for byte in text {
-        let digit = char::from(*byte).to_digit(radix)?;
-        value = value.checked_mul(radix)?.checked_add(digit)?;
-    }
-    Some(value)
 }
 
 /// How many bytes a name has at most, without its `@` or `.`.
@@ -281,6 +267,7 @@ fn word_at(first: bool, here: &[u8]) -> Result<(TokenKind, usize), LexFault>
     }
 }
 
+#[inline(always)]
 fn prefix_at(first: bool, here: &[u8]) -> Option<AddressSize>
     ensures { IsPrefixAt first here.now result }
 {

@@ -2,7 +2,8 @@ use Rattle.std.proofs.Common.{◌≡◌, ◌∙◌, ◌+◌, ◌*◌, ◌<◌, g
 use Rattle.std.specs.Char.{digit_value}
 use Rattle.std.specs.List.{prefix_len}
 use Rattle.syntax65.specs.Forms.{is_word}
-use Rattle.syntax65.proofs.Numbers.{digits_from, are_ahead, goes_on, word_ends}
+use Rattle.base65.proofs.Digit.{digits_from}
+use Rattle.syntax65.proofs.Numbers.{are_ahead, goes_on, word_ends}
 use Rattle.syntax65.proofs.lexing.places.digits_ahead.Goals as goal
 
 pub returns-in_default : goal.returns-in_default

@@ -1,7 +1,7 @@
 use Rattle.std.proofs.Common.{◌≡◌, ◌<◌, ◌≤◌, ◌^◌, ◌-◌, drop, take, length}
 use Rattle.std.specs.List.{prefix_len}
 use Rattle.syntax65.specs.Forms.{is_word}
-use Rattle.syntax65.proofs.Numbers.{digits_from}
+use Rattle.base65.proofs.Digit.{digits_from}
 use Rattle.syntax65.proofs.lexing.places.digits_ahead.Given as goal
 
 abbrev pub invariant-digits : goal.invariant-digits

@@ -1,4 +1,4 @@
-use Rattle.std.proofs.Common.{◌≡◌, ◌≤◌, ◌+◌, ◌<◌, ◌∙◌, ◌++◌, ◌∷◌, arith, ap, subst, length, take, List, [], None, Some, Ok, Err, Option, true, ℕ}
+use Rattle.std.proofs.Common.{◌≡◌, ◌+◌, ◌<◌, ◌∙◌, ◌++◌, ◌∷◌, arith, ap, subst, length, take, List, [], None, Some, Option, true}
 use Rattle.std.proofs.Math.ListN.{set}
 use Rattle.std.proofs.lemmas.List.{append-nil, length-set, map-append, take_all, take_more_set}
 use Rattle.std.proofs.lemmas.Result.{err_from_is_err_and}

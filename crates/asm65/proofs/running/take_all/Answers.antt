@@ -99,6 +99,64 @@ statements-preserved g c =
       so_far = all_further (g.S.Store.files c.args.store.now) (g.S.Store.files c.take_at_hand.new.store) told c.args.run.now old mid e.same so_far (Some statement) given statement refl less new t.same (g.S.Store.files c.next.new.store) (e.files ∙ told) c.in_ok-take_next.field-0 t.taken;
     }
 
+pub statements-preserved-in_ok-take_next : goal.statements-preserved-in_ok-take_next
+statements-preserved-in_ok-take_next g c =
+    let here = no_line_taken (g.S.Store.files c.statements.store) (g.S.Store.blamed c.take_at_hand.new.store) c.statements.run c.take_at_hand.new.run c.in_ok-take_at_hand.field-0 c.if-branch.false c.in_ok-take_at_hand.ensures.next in
+    let T : Run → Type 0 = λ r. IfSome (g.S.Store.files c.args.store.now) (λ m. Goes m c.args.run.now r) in
+    let so_far = subst T (sym here) c.statements.invariant.so_far in
+    let told = c.in_ok-take_at_hand.ensures.files ∙ c.statements.invariant.files in
+    let old = c.take_at_hand.new.run in
+    let mid = c.next.new.run in
+    let e = c.in_ok-statement.ensures in
+    let statement = c.in-Some.statement in
+    let P : Option Statement → Type 0 = λ x. IfSome (g.S.Store.files c.take_at_hand.new.store) (λ m. NextBy m old (Ok x) mid) in
+    let given = subst P c.in-Some.is e.next in
+    let L : Option Statement → Type 0 = λ x. IfSome x (λ y. measure_of mid.expander < measure_of old.expander) in
+    let less = subst L c.in-Some.is e.size in
+    let new = c.take_next.new.run in
+    let t = c.in_ok-take_next.ensures in
+    record {
+      files = t.files ∙ e.files ∙ told;
+      count = search rules;
+      running = still_running old mid e.same less (g.S.Store.files c.next.new.store) statement new c.in_ok-take_next.field-0 t.taken t.same (subst IsRunning (sym here) c.statements.invariant.running);
+      so_far = all_further (g.S.Store.files c.args.store.now) (g.S.Store.files c.take_at_hand.new.store) told c.args.run.now old mid e.same so_far (Some statement) given statement refl less new t.same (g.S.Store.files c.next.new.store) (e.files ∙ told) c.in_ok-take_next.field-0 t.taken;
+    }
+
+pub statements-smaller : goal.statements-smaller
+statements-smaller g c =
+    let here = no_line_taken (g.S.Store.files c.statements.store) (g.S.Store.blamed c.take_at_hand.new.store) c.statements.run c.take_at_hand.new.run c.in_ok-take_at_hand.field-0 c.if-branch.false c.in_ok-take_at_hand.ensures.next in
+    let T : Run → Type 0 = λ r. IfSome (g.S.Store.files c.args.store.now) (λ m. Goes m c.args.run.now r) in
+    let so_far = subst T (sym here) c.statements.invariant.so_far in
+    let told = c.in_ok-take_at_hand.ensures.files ∙ c.statements.invariant.files in
+    let old = c.take_at_hand.new.run in
+    let mid = c.next.new.run in
+    let e = c.in_ok-statement.ensures in
+    let statement = c.in-Some.statement in
+    let P : Option Statement → Type 0 = λ x. IfSome (g.S.Store.files c.take_at_hand.new.store) (λ m. NextBy m old (Ok x) mid) in
+    let given = subst P c.in-Some.is e.next in
+    let L : Option Statement → Type 0 = λ x. IfSome x (λ y. measure_of mid.expander < measure_of old.expander) in
+    let less = subst L c.in-Some.is e.size in
+    subst (λ x. measure_of x < measure_of c.statements.run.expander) (sym c.in_ok-take_next.ensures.same) (subst (λ (r : Run). measure_of mid.expander < measure_of r.expander) here less)
+
+pub statements-smaller-in_ok-take_next : goal.statements-smaller-in_ok-take_next
+statements-smaller-in_ok-take_next g c =
+    let here = no_line_taken (g.S.Store.files c.statements.store) (g.S.Store.blamed c.take_at_hand.new.store) c.statements.run c.take_at_hand.new.run c.in_ok-take_at_hand.field-0 c.if-branch.false c.in_ok-take_at_hand.ensures.next in
+    let T : Run → Type 0 = λ r. IfSome (g.S.Store.files c.args.store.now) (λ m. Goes m c.args.run.now r) in
+    let so_far = subst T (sym here) c.statements.invariant.so_far in
+    let told = c.in_ok-take_at_hand.ensures.files ∙ c.statements.invariant.files in
+    let old = c.take_at_hand.new.run in
+    let mid = c.next.new.run in
+    let e = c.in_ok-statement.ensures in
+    let statement = c.in-Some.statement in
+    let P : Option Statement → Type 0 = λ x. IfSome (g.S.Store.files c.take_at_hand.new.store) (λ m. NextBy m old (Ok x) mid) in
+    let given = subst P c.in-Some.is e.next in
+    let L : Option Statement → Type 0 = λ x. IfSome x (λ y. measure_of mid.expander < measure_of old.expander) in
+    let less = subst L c.in-Some.is e.size in
+    subst (λ x. measure_of x < measure_of c.statements.run.expander) (sym c.in_ok-take_next.ensures.same) (subst (λ (r : Run). measure_of mid.expander < measure_of r.expander) here less)
+
+pub statements-smaller-then-branch : goal.statements-smaller-then-branch
+statements-smaller-then-branch g c = (line_taken (g.S.Store.files c.statements.store) (g.S.Store.blamed c.take_at_hand.new.store) c.statements.run c.take_at_hand.new.run c.in_ok-take_at_hand.field-0 c.if-branch.true c.in_ok-take_at_hand.ensures.next).less
+
 pub returns-in_default-clause-ran : goal.returns-in_default-clause-ran
 returns-in_default-clause-ran g c =
     let here = no_line_taken (g.S.Store.files c.statements.store) (g.S.Store.blamed c.take_at_hand.new.store) c.statements.run c.take_at_hand.new.run c.in_ok-take_at_hand.field-0 c.if-branch.false c.in_ok-take_at_hand.ensures.next in

@@ -151,7 +151,7 @@ fn take_behind<S: Store>(
 ) -> Result<(), AsmFault>
     requires { IsRoomy 1 assembler.old }
     ensures taken { TakesAll (S.files store.old) (S.blamed store.new)
-        (place_in at.entry.file.now at.entry.line) (given_behind (lexemes tokens.now))
+        (place_at at.entry) (given_behind (lexemes tokens.now))
         assembler.old assembler.new result }
     ensures files { S.files store.new ≡ S.files store.old }
     ensures count { PassesBy is_failure (S.failures store.old) (S.failures store.new) result }
@@ -173,7 +173,7 @@ pub fn take_parts<S: Store>(
 ) -> Result<(), AsmFault>
     requires { IsRoomy 4 assembler.old }
     ensures taken { TakesAll (S.files store.old) (S.blamed store.new)
-        (place_in at.entry.file.now at.entry.line)
+        (place_at at.entry)
         (given_parts (lexemes parts.entry.label.now) (lexemes parts.entry.rest.now))
         assembler.old assembler.new result }
     ensures files { S.files store.new ≡ S.files store.old }

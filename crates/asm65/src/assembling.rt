@@ -56,7 +56,7 @@ pub struct Assembly {
 }
 
 /// Takes a constant.
-fn define(
+fn define_one(
     alloc: Global,
     assembler: &mut Assembler,
     at: At<'_>,
@@ -88,7 +88,7 @@ pub fn define_all(
         line: 0,
     };
     for one in job.defines {
-        define(alloc, assembler, at, one)?;
+        define_one(alloc, assembler, at, one)?;
     }
     Ok(())
 }

@@ -13,16 +13,16 @@ none = record { name = record { ref_ptr = (0, 0); now = [] }; value = 0 }
 pub loop-one-init : goal.loop-one-init
 loop-one-init c = none_so_far (no_line c.args.job.now.source.now) (map define_of c.args.job.now.defines.now) c.args.assembler.now c.requires
 
-pub returns-in_err-define-clause-defined : goal.returns-in_err-define-clause-defined
+pub returns-in_err-define_one-clause-defined : goal.returns-in_err-define_one-clause-defined
 unfolding none
-returns-in_err-define-clause-defined c =
+returns-in_err-define_one-clause-defined c =
     let place = no_line c.args.job.now.source.now in
     let xs = c.args.job.now.defines.now in
     let i = c.loop-one.one-index in
     let lt : i < length xs = search rules in
     let p = err_from_is_err_and c.from_residual.result c.from_residual.ensures.1 in
     let left = subst (λ (ds : List Define). SoFar place (map define_of xs) ds c.loop-one.assembler) (left_dropped xs i none lt) c.loop-one.invariant in
-    one_wrong place (map define_of xs) (map define_of (drop (i + 1) xs)) (define_of (get_or xs i none)) c.loop-one.assembler c.define.new.assembler c.in_err-define.field-0.0 c.from_residual.result (p.1 ∙ ap Err p.2) left c.in_err-define.ensures.taken
+    one_wrong place (map define_of xs) (map define_of (drop (i + 1) xs)) (define_of (get_or xs i none)) c.loop-one.assembler c.define_one.new.assembler c.in_err-define_one.field-0.0 c.from_residual.result (p.1 ∙ ap Err p.2) left c.in_err-define_one.ensures.taken
 
 pub loop-one-preserved : goal.loop-one-preserved
 unfolding none
@@ -32,4 +32,4 @@ loop-one-preserved c =
     let i = c.loop-one.one-index in
     let lt : i < length xs = search rules in
     let left = subst (λ (ds : List Define). SoFar place (map define_of xs) ds c.loop-one.assembler) (left_dropped xs i none lt) c.loop-one.invariant in
-    one_more place (map define_of xs) (map define_of (drop (i + 1) xs)) (define_of (get_or xs i none)) c.loop-one.assembler c.define.new.assembler c.in_ok-define.field-0 left c.in_ok-define.ensures.taken
+    one_more place (map define_of xs) (map define_of (drop (i + 1) xs)) (define_of (get_or xs i none)) c.loop-one.assembler c.define_one.new.assembler c.in_ok-define_one.field-0 left c.in_ok-define_one.ensures.taken

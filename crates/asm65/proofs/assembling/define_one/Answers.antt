@@ -8,7 +8,7 @@ use Rattle.layout65.specs.Counting.{opening_limit}
 use Rattle.asm65.specs.Inner.Holding.{Holds}
 use Rattle.language65.specs.Views.{place_in}
 use Rattle.asm65.proofs.Defines.{defines_by}
-use Rattle.asm65.proofs.assembling.define.Goals as goal
+use Rattle.asm65.proofs.assembling.define_one.Goals as goal
 
 pub returns-clause-taken : goal.returns-clause-taken
 returns-clause-taken c =

@@ -1,5 +1,6 @@
 -- The statements of a line that is taken where it stands.
-use Rattle.std.proofs.Common.{◌≡◌, ℕ, Bool, true, false, ◌+◌, ◌*◌, ◌<◌, ◌≤◌, List, [], ◌∷◌, length, take, drop, refl, subst, arith, Option}
+use Rattle.std.proofs.lemmas.Bool.Decides.{nat_tests}
+use Rattle.std.proofs.Common.{◌≡◌, ◌∙◌, ℕ, Bool, true, false, ◌+◌, ◌*◌, ◌<◌, ◌≤◌, List, [], ◌∷◌, length, take, drop, refl, subst, arith, Option}
 use Rattle.std.specs.Prelude.{Ok, Err, ◌==◌}
 use Rattle.base65.specs.Store.{Files}
 use Rattle.syntax65.specs.Tokens.{Lexeme, lexemes}
@@ -23,10 +24,10 @@ use Rattle.layout65.specs.Counting.{opening_limit}
 
 -- the statements of a line more may be taken
 pub roomy_ahead : (run : Run) (p : Peeked) (ts : List Lexeme) → IsAhead run.expander p ts → IsRunning run → IsRoomy 4 run.assembler
-roomy_ahead run p ts (right, bare, there, some) (t, reached, h) = (h.count, t, omega (arith, h.room, left), h.holds)
+roomy_ahead run p ts (right, bare, next) (t, reached, h) = (h.count, t, omega (arith, h.room, left), h.holds)
   where
     left : 2 ≤ measure_of run.expander
-    left = rw bare (omega (arith, some))
+    left = rw bare (omega (arith, next.1))
 
 pub roomy_less : (less more : ℕ) (a : Assembler) → IsRoomy (more + less) a → IsRoomy more a
 roomy_less less more a (count, t, room, holds) = (count, t, omega (arith, room), holds)
@@ -39,7 +40,9 @@ roomy_behind AreSo Is old new (count, t, room, holds) taken =
 
 pub no_tokens : (tokens : List Token) → true ≡ (length tokens == 0) → lexemes tokens ≡ []
 no_tokens [] e = refl
-no_tokens (t ∷ ts) e = absurd cc
+no_tokens (t ∷ ts) e =
+    let some : (length (t ∷ ts) == 0) ≡ false = grind (arith, nat_tests) in
+    absurd (let bad : true ≡ false = e ∙ some in cc)
 
 module _ (o : Option Files) (blamed : Option (List ℕ)) (place : Place) where
   abbrev RestStops : List Lexeme → Assembler → Assembler → Answer → Type 0

@@ -6,6 +6,7 @@ use Rattle.base65.specs.Store.{Files}
 use Rattle.expand65.specs.declared.expander.Statement.{Statement}
 use Rattle.expand65.specs.declared.expander.Statement.TheVariants.{Label, Plain}
 use Rattle.source65.specs.declared.fault.ExpandFault.{ExpandFault}
+use Rattle.source65.specs.declared.place.Place.{Place}
 use Rattle.source65.specs.declared.fault.ExpandFault.TheVariants as fault_of
 use Rattle.expand65.specs.Expansion.{Reaches, statement, nothing, fault, opened_in}
 use Rattle.source65.specs.Faults as expansion
@@ -369,6 +370,7 @@ module _ (m : Files) (blamed : Option (List ℕ)) (place : Place) (first : Run) 
       line_goes_on xs mid f c b given all here (goes_further m first (run_of e a) (run_of mid a) refl x (run_of mid c) tt follows.less (λ t held. follows.next m (known_at t.symbols t.standing)) (taken_at (Some m) blamed place (stated x) mid f a c (Ok tt) here at one).taken refl so_far)
 
   line_refused : (xs : List expand.Stated) (e f : Expander) (a b : Assembler) (g : AsmFault) → Gives e xs f → TakesAll (Some m) blamed place xs a b (Err g) → place ≡ place_of f → Goes m first (run_of e a) → RanAll m first (run_of f b) (Err g) × StopsAll m blamed first (run_of f b) (Err g)
+  line_refused _ _ _ a b g (no_more old new _) x14 here so_far = elim x14 [ ]
   line_refused _ e f a b g (gives_more _ mid _ x xs follows at given) (refused _ _ _ _ _ one) here so_far =
       let here_one = taken_at (Some m) blamed place (stated x) mid f a b (Err g) here at one in
       let next : NextBy m (run_of e a) (Ok (Some x)) (run_of mid a) = λ t held. follows.next m (known_at t.symbols t.standing) in

@@ -28,8 +28,8 @@ returns-in-Ok-clause-good c =
     (λ (count : ℕ) (t : State). λ (h : Holds count t a). all_settled count t a files new (Ok tt) h (ap (map (string_bytes {Z = Global})) c.as_slice.ensures.keys) c.in-Ok.ensures.settled)
     (subst (λ (gs : List Segment). IfOk c.object_of-object.result (IsGoodWhere gs (imports_of a) new)) c.as_slice-segments.ensures.value c.object_of-object.ensures.good)
 
-pub returns-in-Err-clause-concluded : goal.returns-in-Err-clause-concluded
-returns-in-Err-clause-concluded c =
+pub returns-clause-concluded : goal.returns-clause-concluded
+returns-clause-concluded c =
     let a = c.args.self in
     let new = c.settle_all-settled.new.ending in
     let files = map (string_bytes {Z = Global}) c.as_slice.result.now in

@@ -1,20 +1,21 @@
 -- The members of a library that are needed, one after another.
-use Rattle.std.proofs.Common.{◌≡◌, ◌∙◌, ◌<◌, ◌+◌, ℕ, zero, suc, List, [], ◌∷◌, ◌++◌, drop, get_or, length, Bool, true, false, slice_get, Option, Some, None, Result, Ok, Err, refl, sym, ap, subst, arith}
+use Rattle.std.proofs.lemmas.Grind.{common_steps}
+use Rattle.std.proofs.Common.{◌≡◌, ◌∙◌, ◌<◌, ◌≤◌, ◌+◌, ℕ, zero, suc, List, [], ◌∷◌, ◌++◌, drop, get_or, length, Bool, true, false, slice_get, Option, Some, None, Result, Ok, Err, refl, sym, ap, subst, arith}
 use Rattle.std.specs.Prelude.{IfSome}
 use Rattle.std.specs.Option.{option_map_or}
 use Rattle.script65.proofs.Eaches.{drop_item}
 use Rattle.base65.specs.Outcome.{◌>>=◌, Refuses, Unless}
 use Rattle.base65.specs.Store.{Files, PassesBy}
 use Rattle.base65.proofs.Outcome.{refused-then}
+use Rattle.library65.specs.declared.fault.LibraryFault.{LibraryFault}
 use Rattle.library65.specs.declared.index.Entry.{Entry}
 use Rattle.script65.specs.declared.script.Script.{Script}
 use Rattle.link65.specs.declared.fault.LinkFault.{LinkFault}
 use Rattle.link65.specs.Programs.{Module}
 use Rattle.link65.specs.Standing.{Feeding, IsFed, module_of}
-use Rattle.ld65.specs.declared.members.Choice.{Choice}
 use Rattle.ld65.specs.declared.refusal.Refusal.{Refusal}
 use Rattle.ld65.specs.declared.refusal.Refusal.TheVariants as refusal
-use Rattle.ld65.specs.Inner.Feeding.{Chooses, FeedsLibrary, FeedsMembers, FeedsObject, Leads, LeadsBy}
+use Rattle.ld65.specs.Inner.Feeding.{AreChosen, FeedsLibrary, FeedsMembers, FeedsObject, Leads, LeadsBy}
 use Rattle.ld65.specs.Linkage.{Input, IsLibraryInput, as_library, chosen, chosen_at, index_in, member_input, member_module, with_member, with_members}
 use Rattle.ld65.specs.Refusals.{is_failure, is_outside, refusal_in}
 use Rattle.ld65.proofs.Fed.{Counted, fed_behind, in_outside, kept_by, later_count, refused_behind}
@@ -151,29 +152,55 @@ none_there known library es place old there =
         go None = tt
         go (Some m) = refl
 
+-- before the first of the members
+pub after_none : (known : Option Files) (library : List ℕ) (all : List Entry) (old : Feeding) → IsAfter known library all all old old
+after_none known library all old before stands = (before, stands, go known)
+  where
+    go : (f : Option Files) → IfSome f (λ m. with_members old.script m library before all ≡ with_members old.script m library before all)
+    go None = tt
+    go (Some m) = refl
+
+-- behind the last
+pub after_all : (known : Option Files) (library : List ℕ) (es : List Entry) (places : List ℕ) (k : ℕ) (old new : Feeding) → length places ≤ k → IsAfter known library (chosen es places) (chosen es (drop k places)) old new → FeedsMembers known library (chosen es places) old new (Ok tt)
+after_all known library es places k old new le is before stands =
+    let p = is before stands in
+    (p.0, subst (λ (ps : List ℕ). IfSome known (λ m. with_members old.script m library before (chosen es places) ≡ with_members old.script m library p.0 (chosen es ps))) (drop_past places k le) p.2, p.1)
+  where
+    drop_past : (ps : List ℕ) (k : ℕ) → length ps ≤ k → drop k ps ≡ []
+    drop_past ps k le = grind (arith, common_steps)
+
 -- ---- A library.
 
-pub library_fed : (known now : Option Files) (k : ℕ) (library : List ℕ) (c : Choice) (old new : Feeding) (r : Result (Unit {0}) Refusal) → now ≡ known → Chooses known k library old (Ok c) → FeedsMembers now library (chosen c.index.entries c.places.items) old new r → FeedsLibrary known k library old new r
-library_fed known now k library c old new r same chooses fed before stands = by r (rw same at fed before stands)
+-- an index that was read
+pub indexed : (known : Option Files) (k : ℕ) (library : List ℕ) (es : List Entry) → IfSome known (λ m. as_library k (index_in m library) ≡ Ok es) → IfSome known (λ m. index_in m library ≡ Ok es)
+indexed None k library es h = tt
+indexed (Some m) k library es h = go (index_in m library) h
+  where
+    go : (r : Result (List Entry) LibraryFault) → as_library k r ≡ Ok es → r ≡ Ok es
+    go (Ok x) h = let same : x ≡ es = cc in ap Ok same
+    go (Err f) h = absurd cc
+
+pub library_fed : (known : Option Files) (k : ℕ) (library : List ℕ) (es : List Entry) (places : List ℕ) (old new : Feeding) (r : Result (Unit {0}) Refusal) → IfSome known (λ m. index_in m library ≡ Ok es) → AreChosen es places old → FeedsMembers known library (chosen es places) old new r → FeedsLibrary known k library old new r
+library_fed known k library es places old new r index chosen_so fed before stands = by r (fed before stands)
   where
     all_in : Files → Result (List Module) Refusal
-    all_in m = with_members old.script m library before (chosen c.index.entries c.places.items)
+    all_in m = with_members old.script m library before (chosen es places)
 
-    as_input : (m : Files) (q : Result (List Module) Refusal) → index_in m library ≡ Ok c.index.entries → all_in m ≡ q → IsLibraryInput old.script m k before library q
-    as_input m q index h = rw index (c.places.items, chooses.1 before stands, sym h)
+    as_input : (m : Files) (q : Result (List Module) Refusal) → index_in m library ≡ Ok es → all_in m ≡ q → IsLibraryInput old.script m k before library q
+    as_input m q index h = rw index (places, chosen_so before stands, sym h)
 
-    told : (f : Option Files) (q : Result (List Module) Refusal) → IfSome f (λ m. index_in m library ≡ Ok c.index.entries) → IfSome f (λ m. all_in m ≡ q) → IfSome f (λ m. IsLibraryInput old.script m k before library q)
+    told : (f : Option Files) (q : Result (List Module) Refusal) → IfSome f (λ m. index_in m library ≡ Ok es) → IfSome f (λ m. all_in m ≡ q) → IfSome f (λ m. IsLibraryInput old.script m k before library q)
     told None q index h = tt
     told (Some m) q index h = as_input m q index h
 
-    refused : (f : Option Files) (b : Bool) (q : Result (List Module) Refusal) → IfSome f (λ m. index_in m library ≡ Ok c.index.entries) → IfSome f (λ m. Unless b (all_in m ≡ q)) → IfSome f (λ m. Unless b (IsLibraryInput old.script m k before library q))
+    refused : (f : Option Files) (b : Bool) (q : Result (List Module) Refusal) → IfSome f (λ m. index_in m library ≡ Ok es) → IfSome f (λ m. Unless b (all_in m ≡ q)) → IfSome f (λ m. Unless b (IsLibraryInput old.script m k before library q))
     refused None b q index h = tt
     refused (Some m) true q index h = tt
     refused (Some m) false q index h = as_input m q index h
 
     by : (r : Result (Unit {0}) Refusal) → Leads is_outside (λ u modules. IsFed new modules) known all_in r → LeadsBy is_outside (λ u modules. IsFed new modules) known (λ m. IsLibraryInput old.script m k before library) r
-    by (Ok u) h = (h.0, told known (Ok h.0) chooses.0 h.1, h.2)
-    by (Err e) h = refused known (is_outside e) (Err e) chooses.0 h
+    by (Ok u) h = (h.0, told known (Ok h.0) index h.1, h.2)
+    by (Err e) h = refused known (is_outside e) (Err e) index h
 
 -- ---- The count of failures.
 

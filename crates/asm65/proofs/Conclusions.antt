@@ -5,7 +5,7 @@ use Rattle.syntax65.specs.Trees.{Tree}
 use Rattle.source65.specs.declared.place.Place.{Place}
 use Rattle.language65.specs.declared.fault.AsmFault.{AsmFault}
 use Rattle.language65.specs.Faults.{is_failure, is_memory, is_outside}
-use Rattle.language65.specs.declared.laid.Spot.{Spot}
+use Rattle.language65.specs.declared.laid.Context.{Context}
 use Rattle.language65.specs.Norms.{defined_form, form_of_definition, form_of_value, norm_of}
 use Rattle.language65.specs.Symbols.{Symbols}
 use Rattle.module65.specs.Machine as machine
@@ -63,13 +63,13 @@ no_more false c h e = refl
 
 -- ---- What a piece comes to.
 
-constant_form : (y : Symbols) (s : Spot) (at : ℕ) (e : Tree) → IsConstant y s at e → defined_form y at ≡ norm_of y s e
+constant_form : (y : Symbols) (s : Context) (at : ℕ) (e : Tree) → IsConstant y s at e → defined_form y at ≡ norm_of y s e
 constant_form y s at e k =
     ap (form_of_definition (norm_of y)) k.there
-    ∙ ap (form_of_value (norm_of y) k.definition.spot) k.value
-    ∙ ap (λ (z : Spot). norm_of y z e) k.spot
+    ∙ ap (form_of_value (norm_of y) k.definition.context) k.value
+    ∙ ap (λ (z : Context). norm_of y z e) k.context
 
-pub comes_to : (y : Symbols) (place : Place) (s : Spot) (w : Piece) (p : piece.Piece) → IsPiece y s w p → coming y place s w ≡ made_of y place s p
+pub comes_to : (y : Symbols) (place : Place) (s : Context) (w : Piece) (p : piece.Piece) → IsPiece y s w p → coming y place s w ≡ made_of y place s p
 comes_to y place s (Datum width e) p h = ap (made_of y place s) (sym h)
 comes_to y place s (Operand width e) p h = ap (made_of y place s) (sym h)
 comes_to y place s (Constant at) p h = ap (λ r. r >>= used place s piece.equated) (constant_form y s at h.0 h.1) ∙ ap (made_of y place s) (sym h.2)
@@ -78,11 +78,11 @@ comes_to y place s (Import n) p h = ap (made_of y place s) (sym h)
 comes_to y place s (Demand n) p h = ap (made_of y place s) (sym h)
 comes_to y place s (Export must n) p h = ap (made_of y place s) (sym h)
 
-pub waiting_comes : (y : Symbols) (files : List (List ℕ)) (w : Waiting) (v : machine.Waiting) (here : Place) → IsWaiting y files w v → here ≡ v.place → coming y here w.spot w.piece ≡ made_of y v.place v.spot v.piece
+pub waiting_comes : (y : Symbols) (files : List (List ℕ)) (w : Waiting) (v : machine.Waiting) (here : Place) → IsWaiting y files w v → here ≡ v.place → coming y here w.context w.piece ≡ made_of y v.place v.context v.piece
 waiting_comes y files w v here h same =
-    ap (λ (s : Spot). coming y here s w.piece) (sym h.spot)
-    ∙ ap (λ (p : Place). coming y p v.spot w.piece) same
-    ∙ comes_to y v.place v.spot w.piece v.piece h.piece
+    ap (λ (s : Context). coming y here s w.piece) (sym h.context)
+    ∙ ap (λ (p : Place). coming y p v.context w.piece) same
+    ∙ comes_to y v.place v.context w.piece v.piece h.piece
 
 -- ---- What waits is settled one behind the other.
 
@@ -164,7 +164,7 @@ ends y files vs old new so =
 
 pub awaited : (y : Symbols) (vs : List machine.Waiting) (cs : List Content) → (resolved y vs).found ≡ Ok cs → AreAwaited vs cs
 awaited y [] cs h = let same : [] ≡ cs = cc in subst (AreAwaited []) same (refl, tt)
-awaited y (v ∷ vs) cs h = by (made_of y v.place v.spot v.piece) (resolved y vs).found refl (made_asks y v.place v.spot v.piece) (awaited y vs) h
+awaited y (v ∷ vs) cs h = by (made_of y v.place v.context v.piece) (resolved y vs).found refl (made_asks y v.place v.context v.piece) (awaited y vs) h
   where
     by : (r : Result Made AsmFault) (s : Result (List Content) PlacedFault) → (resolved y vs).found ≡ s → IfOk r (λ m. m.content.asks ≡ false) → ((ds : List Content) → (resolved y vs).found ≡ Ok ds → AreAwaited vs ds) → (before_it v.place r (record { found = s; warned = (resolved y vs).warned })).found ≡ Ok cs → AreAwaited (v ∷ vs) cs
     by (Ok m) (Ok ds) e asks more k = let same : m.content ∷ ds ≡ cs = cc in subst (AreAwaited (v ∷ vs)) same (ap suc (more ds e).0, (asks, (more ds e).1))
@@ -187,7 +187,7 @@ all_settled count t a files new r h same settled =
     let waits : AreWaiting (table_of a.symbols) files a.waiting.items t.waiting = subst (λ (fs : List (List ℕ)). AreWaiting (table_of a.symbols) fs a.waiting.items t.waiting) (sym same) there in
     subst (λ (y : Symbols). SettlesAll y t.waiting (ending_of a) new r) h.symbols (settled t.waiting waits)
 
--- the sections stand for the contents of the state
+-- the sections site for the contents of the state
 pub stands_finished : (count : ℕ) (t : State) (a : Assembler) (new : Ending) → Holds count t a → (k : AreSettled t.symbols t.waiting (ending_of a) new) → Stands (filled t.slots k.contents) [] new.sections
 stands_finished count t a new h k =
     let cs = k.contents in

@@ -16,7 +16,7 @@ use Rattle.language65.specs.Parts.{Content, Known, Part}
 use Rattle.language65.specs.declared.fault.AsmFault.{AsmFault}
 use Rattle.language65.specs.Contents.{put, stored, telling}
 use Rattle.language65.specs.Extending.{IsFinal}
-use Rattle.language65.specs.declared.laid.Spot.{Spot}
+use Rattle.language65.specs.declared.laid.Context.{Context}
 use Rattle.module65.specs.Machine.{IsSettled, PutsAll, State, at_once, entered, Slot, holds}
 use Rattle.module65.specs.Pieces.{Piece, Purpose, as_part, asserted, datum, given, operand, quietly, used, valued, item_piece}
 use Rattle.module65.proofs.Resolving.{final_settles, settled_given}
@@ -36,14 +36,14 @@ use Rattle.asm65.proofs.Waitings.{all_entered, holds_all, holds_entered, waits_e
 
 -- ---- One behind the other.
 
-puts_append : (place : Place) (s : Spot) (t u v : State) (ps qs : List Piece) → PutsAll place s t ps u → PutsAll place s u qs v → PutsAll place s t (ps ++ qs) v
+puts_append : (place : Place) (s : Context) (t u v : State) (ps qs : List Piece) → PutsAll place s t ps u → PutsAll place s u qs v → PutsAll place s t (ps ++ qs) v
 puts_append place s t u v [] qs h k = subst (λ w. PutsAll place s w qs v) h k
 puts_append place s t u v (p ∷ ps) qs h k = (h.0, h.1, puts_append place s h.0 u v ps qs h.2 k)
 
-pub enters_none : (place : Place) (s : Spot) (a : Assembler) → Enters place s [] a a
+pub enters_none : (place : Place) (s : Context) (a : Assembler) → Enters place s [] a a
 enters_none place s a count t h = (t, refl, h)
 
-pub enters_both : (place : Place) (s : Spot) (ps qs : List Piece) (old mid new : Assembler) → Enters place s ps old mid → Enters place s qs mid new → Enters place s (ps ++ qs) old new
+pub enters_both : (place : Place) (s : Context) (ps qs : List Piece) (old mid new : Assembler) → Enters place s ps old mid → Enters place s qs mid new → Enters place s (ps ++ qs) old new
 enters_both place s ps qs old mid new first second count t h =
     let x = first count t h in
     let y = second count x.0 x.2 in
@@ -54,17 +54,17 @@ enters_both place s ps qs old mid new first second count t h =
 abbrev fed : Assembler → Sections → Assembler
 fed a x = record a { sections = x }
 
-pub fed_enters : (old : Assembler) (x : Sections) (place : Place) (s : Spot) (p : Piece) (c : Content) → Feeds old.sections x c → IsSettled (table_of old.symbols) place s p c → Enters place s (p ∷ []) old (fed old x)
+pub fed_enters : (old : Assembler) (x : Sections) (place : Place) (s : Context) (p : Piece) (c : Content) → Feeds old.sections x c → IsSettled (table_of old.symbols) place s p c → Enters place s (p ∷ []) old (fed old x)
 fed_enters old x place s p c feeds settled count t h =
     let there : IsSettled t.symbols place s p c = subst (λ y. IsSettled y place s p c) h.symbols settled in
     (entered t c, (entered t c, at_once c there, refl), holds_entered count t old (fed old x) h (record { symbols = refl; known = refl; standing = refl; texts = refl }) c feeds refl refl)
 
 -- what needs no value
-pub given_enters : (old : Assembler) (x : Sections) (place : Place) (s : Spot) (p : Part) → Feeds old.sections x (put s.segment p) → Enters place s (given p ∷ []) old (fed old x)
+pub given_enters : (old : Assembler) (x : Sections) (place : Place) (s : Context) (p : Part) → Feeds old.sections x (put s.segment p) → Enters place s (given p ∷ []) old (fed old x)
 given_enters old x place s p feeds = fed_enters old x place s (given p) (put s.segment p) feeds (settled_given (table_of old.symbols) place s p)
 
 -- a value whose form is final and puts a part
-module _ (old : Assembler) (x : Sections) (place : Place) (s : Spot) (why : Purpose) (e : Tree) (f : Form) (final : IsFinal (table_of old.symbols) s e f) where
+module _ (old : Assembler) (x : Sections) (place : Place) (s : Context) (why : Purpose) (e : Tree) (f : Form) (final : IsFinal (table_of old.symbols) s e f) where
   value_entered : (r : Result Part AsmFault) → used place s why f ≡ (r >>= as_part s.segment) → IsPut old.sections x s.segment r true → Enters place s (valued why e ∷ []) old (fed old x)
   value_entered (Ok p) is feeds = fed_enters old x place s (valued why e) (put s.segment p) feeds (final_settles (table_of old.symbols) place s why e f (put s.segment p) final is)
   value_entered (Err e) is feeds = absurd feeds
@@ -73,21 +73,21 @@ module _ (old : Assembler) (x : Sections) (place : Place) (s : Spot) (why : Purp
   value_tried r true is h = value_entered r is h
   value_tried r false is h = ap (fed old) h
 
-pub datum_tried : (old : Assembler) (x : Sections) (place : Place) (s : Spot) (width : Width) (e : Tree) (f : Form) (b : Bool) → IsFinal (table_of old.symbols) s e f → IsPut old.sections x s.segment (stored width place f) b → IsTried place s (valued (datum width) e) old (fed old x) b
+pub datum_tried : (old : Assembler) (x : Sections) (place : Place) (s : Context) (width : Width) (e : Tree) (f : Form) (b : Bool) → IsFinal (table_of old.symbols) s e f → IsPut old.sections x s.segment (stored width place f) b → IsTried place s (valued (datum width) e) old (fed old x) b
 datum_tried old x place s width e f b final h = value_tried old x place s (datum width) e f final (stored width place f) b refl h
 
-pub operand_tried : (old : Assembler) (x : Sections) (place : Place) (s : Spot) (width : Width) (e : Tree) (f : Form) (b : Bool) → IsFinal (table_of old.symbols) s e f → IsPut old.sections x s.segment (operand_stored width s place f) b → IsTried place s (valued (operand width) e) old (fed old x) b
+pub operand_tried : (old : Assembler) (x : Sections) (place : Place) (s : Context) (width : Width) (e : Tree) (f : Form) (b : Bool) → IsFinal (table_of old.symbols) s e f → IsPut old.sections x s.segment (operand_stored width s place f) b → IsTried place s (valued (operand width) e) old (fed old x) b
 operand_tried old x place s width e f b final h = value_tried old x place s (operand width) e f final (operand_stored width s place f) b refl h
 
 -- ---- Numbers in one go.
 
 -- a number that is in range
-number_settled : (y : Symbols) (place : Place) (s : Spot) (width : Width) (n : ℕ) → fits_width width (pos n) ≡ true → IsSettled y place s (valued (datum width) (number n)) (put s.segment (Known (value_bytes width (pos n))))
+number_settled : (y : Symbols) (place : Place) (s : Context) (width : Width) (n : ℕ) → fits_width width (pos n) ≡ true → IsSettled y place s (valued (datum width) (number n)) (put s.segment (Known (value_bytes width (pos n))))
 number_settled y place s width n fits =
     final_settles y place s (datum width) (number n) (lit (pos n)) (put s.segment (Known (value_bytes width (pos n)))) (λ z more. refl)
     (ap (λ (r : Result Part AsmFault). r >>= as_part s.segment) (stored_is width place (pos n) fits))
 
-numbers_put : (place : Place) (s : Spot) (t : State) (width : Width) (ns : List ℕ) → list_all (λ (n : ℕ). fits_width width (pos n)) ns ≡ true → PutsAll place s t (map (item_piece width) (map numbered ns)) (all_entered t (runs s.segment (λ (n : ℕ). value_bytes width (pos n)) ns))
+numbers_put : (place : Place) (s : Context) (t : State) (width : Width) (ns : List ℕ) → list_all (λ (n : ℕ). fits_width width (pos n)) ns ≡ true → PutsAll place s t (map (item_piece width) (map numbered ns)) (all_entered t (runs s.segment (λ (n : ℕ). value_bytes width (pos n)) ns))
 numbers_put place s t width [] fit = ap (λ (slots : List Slot). record t { slots = slots }) (append-nil t.slots)
 numbers_put place s t width (n ∷ ns) fit =
     let c : Content = put s.segment (Known (value_bytes width (pos n))) in
@@ -100,7 +100,7 @@ numbers_put place s t width (n ∷ ns) fit =
           (append_assoc t.slots (holds c ∷ []) (map holds cs)) (numbers_put place s (entered t c) width ns others),
     )
 
-pub numbers_enter : (old : Assembler) (x : Sections) (place : Place) (s : Spot) (width : Width) (ns bytes : List ℕ) → AreStored width ns bytes → Feeds old.sections x (put s.segment (Known bytes)) → Enters place s (map (item_piece width) (map numbered ns)) old (fed old x)
+pub numbers_enter : (old : Assembler) (x : Sections) (place : Place) (s : Context) (width : Width) (ns bytes : List ℕ) → AreStored width ns bytes → Feeds old.sections x (put s.segment (Known bytes)) → Enters place s (map (item_piece width) (map numbered ns)) old (fed old x)
 numbers_enter old x place s width ns bytes stored feeds count t h =
     let f : ℕ → List ℕ = λ (n : ℕ). value_bytes width (pos n) in
     let known = subst (λ (b : List ℕ). Feeds old.sections x (put s.segment (Known b))) stored.bytes feeds in (
@@ -122,7 +122,7 @@ says_nothing x cs waiting h = record {
   standing = h.standing;
 }
 
-so_used : (place : Place) (s : Spot) (act : Action) (words : List ℕ) (v : ℤ) → (v ≡ pos 0 → ⊥) → used place s (asserted act words) (lit v) ≡ Ok (quietly (telling []))
+so_used : (place : Place) (s : Context) (act : Action) (words : List ℕ) (v : ℤ) → (v ≡ pos 0 → ⊥) → used place s (asserted act words) (lit v) ≡ Ok (quietly (telling []))
 so_used place s action.Error words (pos zero) h = absurd (h refl)
 so_used place s action.Warning words (pos zero) h = absurd (h refl)
 so_used place s action.Error words (pos (suc n)) h = refl
@@ -131,12 +131,12 @@ so_used place s action.Error words (negsuc n) h = refl
 so_used place s action.Warning words (negsuc n) h = refl
 
 -- an assertion that is so whatever statements follow
-pub so_enters : (old : Assembler) (place : Place) (s : Spot) (act : Action) (words : List ℕ) (e : Tree) (v : ℤ) → (v ≡ pos 0 → ⊥) → IsFinal (table_of old.symbols) s e (lit v) → Enters place s (valued (asserted act words) e ∷ []) old old
+pub so_enters : (old : Assembler) (place : Place) (s : Context) (act : Action) (words : List ℕ) (e : Tree) (v : ℤ) → (v ≡ pos 0 → ⊥) → IsFinal (table_of old.symbols) s e (lit v) → Enters place s (valued (asserted act words) e ∷ []) old old
 so_enters old place s act words e v h final = fed_enters old old.sections place s (valued (asserted act words) e) (telling []) (says_nothing old.sections) (final_settles (table_of old.symbols) place s (asserted act words) e (lit v) (telling []) final (so_used place s act words v h))
 
 -- ---- Later.
 
 -- what isn't put at once waits
-pub tried_waits : (old mid new : Assembler) (place : Place) (s : Spot) (p : held.Piece) (v : Piece) (b : Bool) → IsTried place s v old mid b → b ≡ false → IsPiece (table_of mid.symbols) s p v → Waits place s p mid new → Enters place s (v ∷ []) old new
+pub tried_waits : (old mid new : Assembler) (place : Place) (s : Context) (p : held.Piece) (v : Piece) (b : Bool) → IsTried place s v old mid b → b ≡ false → IsPiece (table_of mid.symbols) s p v → Waits place s p mid new → Enters place s (v ∷ []) old new
 tried_waits old mid new place s p v true h e is waits = absurd cc
 tried_waits old mid new place s p v false h e is waits = subst (λ (a : Assembler). Enters place s (v ∷ []) a new) h (waits_enters mid new place s p v waits is)

@@ -21,10 +21,10 @@ use Rattle.language65.specs.declared.fault.AsmFault.{AsmFault}
 use Rattle.language65.specs.declared.fault.AsmFault.TheVariants.{Expansion, FileError, FileNameTooLong, NotUnderstood, OutOfRange, SectionTooLarge, Undefined, NoSuchScope, NoSuchLabel}
 use Rattle.language65.specs.Contents.{decided, export_said, import_fault, operand_form, stored, written}
 use Rattle.language65.specs.Faults.{is_failure, is_memory}
-use Rattle.language65.specs.declared.laid.Spot.{Spot}
+use Rattle.language65.specs.declared.laid.Context.{Context}
 use Rattle.language65.specs.declared.language.Statement.{Statement}
 use Rattle.language65.specs.declared.language.Statement.TheVariants as statement
-use Rattle.language65.specs.Layout.{Standing, own_size, place_of, spot_of}
+use Rattle.language65.specs.Layout.{Standing, own_size, place_of, context_of}
 use Rattle.language65.specs.LineFaults as faults
 use Rattle.language65.specs.Names.{Meaning, defined_at, imported_as, first_found, last_of, meaning_of, member_meaning, or_fault, scope_from, scopes_from, scopes_of, shown, unnamed_meaning}
 use Rattle.language65.specs.Norms.{constant_in, defined_form, folded, form_by, form_of_definition, form_of_meaning, form_of_value, norm, norm_of}
@@ -54,7 +54,7 @@ inside_folded (Err form.OutOfMemory) = refl
 inside_folded (Err form.NoValue) = refl
 inside_folded (Err form.TooLarge) = refl
 
-inside_form : (operand : Tree → Result Form AsmFault) (s : Spot) → ((t : Tree) → IsInside (operand t)) → (e : Tree) → IsInside (form_by operand s e)
+inside_form : (operand : Tree → Result Form AsmFault) (s : Context) → ((t : Tree) → IsInside (operand t)) → (e : Tree) → IsInside (form_by operand s e)
 inside_form operand s h (number v) = tt
 inside_form operand s h here = tt
 inside_form operand s h (name global parts) = h (name global parts)
@@ -66,15 +66,15 @@ inside_form operand s h (binary op e g) =
     inside_then (form_by operand s e) (λ f. form_by operand s g >>= (λ k. folded (fold2 op f k))) (inside_form operand s h e)
     (λ f. inside_then (form_by operand s g) (λ k. folded (fold2 op f k)) (inside_form operand s h g) (λ k. inside_folded (fold2 op f k)))
 
-inside_value : (a : Spot → Tree → Result Form AsmFault) → ((s : Spot) (e : Tree) → IsInside (a s e)) → (s : Spot) (v : Option Tree) → IsInside (form_of_value a s v)
+inside_value : (a : Context → Tree → Result Form AsmFault) → ((s : Context) (e : Tree) → IsInside (a s e)) → (s : Context) (v : Option Tree) → IsInside (form_of_value a s v)
 inside_value a h s None = tt
 inside_value a h s (Some e) = h s e
 
-inside_definition : (a : Spot → Tree → Result Form AsmFault) → ((s : Spot) (e : Tree) → IsInside (a s e)) → (o : Option Definition) → IsInside (form_of_definition a o)
+inside_definition : (a : Context → Tree → Result Form AsmFault) → ((s : Context) (e : Tree) → IsInside (a s e)) → (o : Option Definition) → IsInside (form_of_definition a o)
 inside_definition a h None = refl
-inside_definition a h (Some d) = inside_value a h d.spot d.value
+inside_definition a h (Some d) = inside_value a h d.context d.value
 
-inside_meaning : (a : Spot → Tree → Result Form AsmFault) (y : Symbols) → ((s : Spot) (e : Tree) → IsInside (a s e)) → (m : Meaning) → IsInside (form_of_meaning a y m)
+inside_meaning : (a : Context → Tree → Result Form AsmFault) (y : Symbols) → ((s : Context) (e : Tree) → IsInside (a s e)) → (m : Meaning) → IsInside (form_of_meaning a y m)
 inside_meaning a y h (imported_as k) = tt
 inside_meaning a y h (defined_at j) = inside_definition a h (slice_get y.definitions j)
 
@@ -94,7 +94,7 @@ inside_back : (y : Symbols) (k n : ℕ) (b : Bool) → IsInside (if b then unnam
 inside_back y k n true = inside_found NoSuchLabel refl (defined y (unnamed_at (k - n))) None
 inside_back y k n false = refl
 
-inside_operand : (y : Symbols) (s : Spot) (e : Tree) → IsInside (meaning_of y s e)
+inside_operand : (y : Symbols) (s : Context) (e : Tree) → IsInside (meaning_of y s e)
 inside_operand y s (name false (n ∷ [])) = inside_found (Undefined n) refl (first_found (λ q. defined y (named q n)) (scopes_from y.scopes s.scope)) (imported y n)
 inside_operand y s (name false []) = inside_member y (last_of []) (Undefined (shown false [])) (NoSuchScope (shown false [])) refl refl (scope_from (take s.opened y.scopes) s.scope false (scopes_of []))
 inside_operand y s (name false (n ∷ m ∷ parts)) = inside_member y (last_of (n ∷ m ∷ parts)) (Undefined (shown false (n ∷ m ∷ parts))) (NoSuchScope (shown false (n ∷ m ∷ parts))) refl refl (scope_from (take s.opened y.scopes) s.scope false (scopes_of (n ∷ m ∷ parts)))
@@ -104,13 +104,13 @@ inside_operand y s (forward n) = inside_found NoSuchLabel refl (defined y (unnam
 inside_operand y s (backward n) = inside_back y s.unnamed n (nat_le n s.unnamed)
 inside_operand y s _ = refl
 
-inside_norm : (n : ℕ) (y : Symbols) (s : Spot) (e : Tree) → IsInside (norm n y s e)
+inside_norm : (n : ℕ) (y : Symbols) (s : Context) (e : Tree) → IsInside (norm n y s e)
 inside_norm zero y s e = refl
 inside_norm (suc n) y s e =
     inside_form (λ t. meaning_of y s t >>= form_of_meaning (norm n y) y) s
     (λ t. inside_then (meaning_of y s t) (form_of_meaning (norm n y) y) (inside_operand y s t) (inside_meaning (norm n y) y (inside_norm n y))) e
 
-inside_norm_of : (y : Symbols) (s : Spot) (e : Tree) → IsInside (norm_of y s e)
+inside_norm_of : (y : Symbols) (s : Context) (e : Tree) → IsInside (norm_of y s e)
 inside_norm_of y s e = inside_norm (suc (length y.definitions)) y s e
 
 inside_defined : (y : Symbols) (j : ℕ) → IsInside (defined_form y j)
@@ -137,7 +137,7 @@ inside_stored w place (imp k) = inside_written place (Waiting w place (imp k))
 inside_stored w place (prefix_form op f) = inside_written place (Waiting w place (prefix_form op f))
 inside_stored w place (binary_form op f g) = inside_written place (Waiting w place (binary_form op f g))
 
-inside_branch : (w : Width) (s : Spot) (f : Form) → IsInside (operand_form w s f)
+inside_branch : (w : Width) (s : Context) (f : Form) → IsInside (operand_form w s f)
 inside_branch width.Branch s f = inside_folded _
 inside_branch width.Byte s f = tt
 inside_branch width.Word s f = tt
@@ -166,7 +166,7 @@ inside_decided action.Warning place words (imp k) = inside_written place (Checke
 inside_decided action.Warning place words (prefix_form op f) = inside_written place (Checked action.Warning place words (prefix_form op f) ∷ [])
 inside_decided action.Warning place words (binary_form op f g) = inside_written place (Checked action.Warning place words (binary_form op f g) ∷ [])
 
-inside_used : (place : Place) (s : Spot) (why : Purpose) (f : Form) → IsInside (used place s why f)
+inside_used : (place : Place) (s : Context) (why : Purpose) (f : Form) → IsInside (used place s why f)
 inside_used place s (piece.datum w) f = inside_part s.segment (stored w place f) (inside_stored w place f)
 inside_used place s (piece.operand w) f =
     inside_part s.segment (operand_form w s f >>= stored w place)
@@ -189,10 +189,10 @@ inside_export : (y : Symbols) (place : Place) (n : List ℕ) (must : Bool) (o : 
 inside_export y place n must None = inside_absent must n
 inside_export y place n must (Some j) = inside_then (defined_form y j) _ (inside_defined y j) (λ f. inside_written place (Exported n place f ∷ []))
 
-inside_valued : (y : Symbols) (place : Place) (s : Spot) (why : Purpose) (e : Tree) → IsInside (made_of y place s (piece.valued why e))
+inside_valued : (y : Symbols) (place : Place) (s : Context) (why : Purpose) (e : Tree) → IsInside (made_of y place s (piece.valued why e))
 inside_valued y place s why e = inside_then (norm_of y s e) (used place s why) (inside_norm_of y s e) (inside_used place s why)
 
-inside_coming : (y : Symbols) (place : Place) (s : Spot) (p : Piece) → IsInside (coming y place s p)
+inside_coming : (y : Symbols) (place : Place) (s : Context) (p : Piece) → IsInside (coming y place s p)
 inside_coming y place s (Datum w e) = inside_valued y place s (piece.datum w) e
 inside_coming y place s (Operand w e) = inside_valued y place s (piece.operand w) e
 inside_coming y place s (Constant at) = inside_then (defined_form y at) (used place s piece.equated) (inside_defined y at) (inside_used place s piece.equated)
@@ -222,7 +222,7 @@ inside_from {X} {Y} (Err e) view read h k = go (is_memory e) refl k
         by (Err f) same i = (let e' : f ≡ e = cc in rw e' at i)
 
 -- what waits comes to its content, or to a fault that is no store's
-pub resolved_inside : {X : Type 0} (r : Result X AsmFault) (view : X → Made) (y : Symbols) (place : Place) (s : Spot) (p : Piece) → Gives is_memory view r (coming y place s p) → IsInside r
+pub resolved_inside : {X : Type 0} (r : Result X AsmFault) (view : X → Made) (y : Symbols) (place : Place) (s : Context) (p : Piece) → Gives is_memory view r (coming y place s p) → IsInside r
 resolved_inside r view y place s p h = inside_from r view (coming y place s p) (inside_coming y place s p) h
 
 -- ---- A line.
@@ -293,17 +293,17 @@ inside_changed gs (Some own) (Some i) = inside_when _ _ refl
 inside_changed gs None place = no_fault
 inside_changed gs (Some own) None = no_fault
 
-inside_form_fault : (y : Symbols) (s : Spot) (own : AddressSize) (x : Statement) → AreInsideFaults (faults.form_fault y s own x)
+inside_form_fault : (y : Symbols) (s : Context) (own : AddressSize) (x : Statement) → AreInsideFaults (faults.form_fault y s own x)
 inside_form_fault y s own (statement.Instruction m o) = inside_unless _ _ refl
 inside_form_fault y s own _ = no_fault
 
-inside_operand_fault : (y : Symbols) (s : Spot) (x : Statement) → AreInsideFaults (faults.operand_fault y s x)
+inside_operand_fault : (y : Symbols) (s : Context) (x : Statement) → AreInsideFaults (faults.operand_fault y s x)
 inside_operand_fault y s (statement.Reserve n v) = inside_when _ _ refl
 inside_operand_fault y s (statement.Align n v) = inside_when _ _ refl
 inside_operand_fault y s (statement.FilePart bytes start len) = inside_when _ _ refl
 inside_operand_fault y s _ = no_fault
 
-inside_alignment : (y : Symbols) (s : Spot) (x : Statement) → AreInsideFaults (faults.alignment_fault y s x)
+inside_alignment : (y : Symbols) (s : Context) (x : Statement) → AreInsideFaults (faults.alignment_fault y s x)
 inside_alignment y s (statement.Align n v) = inside_multiple (constant_in y s n)
 inside_alignment y s _ = no_fault
 
@@ -311,7 +311,7 @@ inside_missing : (x : Statement) → AreInsideFaults (faults.missing_file x)
 inside_missing (statement.FilePart bytes start len) = inside_unless bytes _ refl
 inside_missing _ = no_fault
 
-inside_part_fault : (y : Symbols) (s : Spot) (x : Statement) → AreInsideFaults (faults.part_fault y s x)
+inside_part_fault : (y : Symbols) (s : Context) (x : Statement) → AreInsideFaults (faults.part_fault y s x)
 inside_part_fault y s (statement.FilePart (Some bytes) start len) = inside_when _ _ refl
 inside_part_fault y s (statement.FilePart None start len) = no_fault
 inside_part_fault y s _ = no_fault
@@ -340,7 +340,7 @@ first_inside (o ∷ os) h = inside_first o os h.0 (first_inside os h.1)
 -- a line's fault is no store's
 pub line_inside : (y : Symbols) (w : Standing) (x : Statement) → AreInsideFaults (faults.line_fault y w x)
 line_inside y w x =
-    let s : Spot = spot_of w in
+    let s : Context = context_of w in
     let outside : Bool = faults.stands_outside x && faults.is_open s.scope in
     let full : Bool = nat_lt section_limit (s.offset + length_of y s (own_size w) x) in
     first_inside (
@@ -414,5 +414,5 @@ either_inside None b h k = k
 pub unread_inside : (r : Result (Unit {0}) AsmFault) (y : Symbols) (w : Standing) (start len : Option Tree) → Gives is_memory (λ u. u) r (unless_fault (unread_fault y w start len) tt) → IsInside r
 unread_inside r y w start len h =
     let part = statement.FilePart None start len in
-    let fault = either_inside (faults.lost_scopes y.scopes w.scope (faults.trees_of part)) (faults.operand_fault y (spot_of w) part) (inside_lost_all y.scopes w.scope (faults.trees_of part)) (inside_operand_fault y (spot_of w) part) in
+    let fault = either_inside (faults.lost_scopes y.scopes w.scope (faults.trees_of part)) (faults.operand_fault y (context_of w) part) (inside_lost_all y.scopes w.scope (faults.trees_of part)) (inside_operand_fault y (context_of w) part) in
     inside_from r (λ u. u) (unless_fault (unread_fault y w start len) tt) (inside_unless_fault (unread_fault y w start len) tt fault) h

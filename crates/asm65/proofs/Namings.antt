@@ -1,7 +1,7 @@
 -- What is held when names become known, and what each kind of statement adds.
 use Rattle.std.proofs.Common.{◌≡◌, ◌∙◌, ℕ, ap, zero, suc, ◌+◌, ◌<◌, ◌≤◌, add-one, get_or, List, [], ◌∷◌, ◌++◌, length, map, take, refl, sym, subst, append-nil, arith}
-use Rattle.language65.specs.declared.laid.Spot.{Spot}
-use Rattle.language65.specs.Layout.{spot_of}
+use Rattle.language65.specs.declared.laid.Context.{Context}
+use Rattle.language65.specs.Layout.{context_of}
 use Rattle.module65.specs.Knowing.{known_at}
 use Rattle.module65.specs.Machine.{State, Puts, PutsAll, awaiting, at_once, later, symbols_behind}
 use Rattle.symbols65.specs.Views.{table_of, with_definition, with_names, with_scope}
@@ -33,14 +33,14 @@ use Rattle.layout65.specs.declared.measuring.Measured.{Measured}
 use Rattle.layout65.proofs.Measures.{ok_then}
 use Rattle.module65.specs.Pieces.{demanded, equated, exported, imported, pieces_of, valued}
 
--- ---- What a name or an expression means at a spot.
+-- ---- What a name or an expression means at a context.
 
 -- what is known where the next statement stands is what is known behind the state that is held
-pub known_held : (count : ℕ) (t : State) (a : Assembler) (s : Spot) → Holds count t a → s ≡ spot_of (standing_of a.standing) → known_where (table_of a.symbols) s ≡ known_at t.symbols t.standing
+pub known_held : (count : ℕ) (t : State) (a : Assembler) (s : Context) → Holds count t a → s ≡ context_of (standing_of a.standing) → known_where (table_of a.symbols) s ≡ known_at t.symbols t.standing
 known_held count t a s h at =
-    let here : s ≡ spot_of t.standing = at ∙ ap spot_of h.standing in
+    let here : s ≡ context_of t.standing = at ∙ ap context_of h.standing in
     let first : known_where (table_of a.symbols) s ≡ known_where t.symbols s = ap (λ y. known_where y s) h.symbols in
-    let then_ : known_where t.symbols s ≡ known_where t.symbols (spot_of t.standing) = ap (known_where t.symbols) here in
+    let then_ : known_where t.symbols s ≡ known_where t.symbols (context_of t.standing) = ap (known_where t.symbols) here in
     first ∙ then_
 
 -- ---- More names.
@@ -100,17 +100,17 @@ keeps_both a b c h k = record {
   texts = k.texts ∙ h.texts;
 }
 
-pub one_more_awaiting : (place : Place) (s : Spot) (t : State) (ps : List piece.Piece) (p : piece.Piece) → all_awaiting place s t (ps ++ p ∷ []) ≡ awaiting (all_awaiting place s t ps) (record { place = place; spot = s; piece = p })
+pub one_more_awaiting : (place : Place) (s : Context) (t : State) (ps : List piece.Piece) (p : piece.Piece) → all_awaiting place s t (ps ++ p ∷ []) ≡ awaiting (all_awaiting place s t ps) (record { place = place; context = s; piece = p })
 one_more_awaiting place s t [] p = refl
-one_more_awaiting place s t (q ∷ ps) p = one_more_awaiting place s (awaiting t (record { place = place; spot = s; piece = q })) ps p
+one_more_awaiting place s t (q ∷ ps) p = one_more_awaiting place s (awaiting t (record { place = place; context = s; piece = q })) ps p
 
-pub all_wait : (place : Place) (s : Spot) (t : State) (ps : List piece.Piece) → PutsAll place s t ps (all_awaiting place s t ps)
+pub all_wait : (place : Place) (s : Context) (t : State) (ps : List piece.Piece) → PutsAll place s t ps (all_awaiting place s t ps)
 all_wait place s t [] = refl
-all_wait place s t (p ∷ ps) = (awaiting t (record { place = place; spot = s; piece = p }), later, all_wait place s (awaiting t (record { place = place; spot = s; piece = p })) ps)
+all_wait place s t (p ∷ ps) = (awaiting t (record { place = place; context = s; piece = p }), later, all_wait place s (awaiting t (record { place = place; context = s; piece = p })) ps)
 
 -- what waits stands apart from names
 
-pub mentions_enter : (place : Place) (s : Spot) (ps : List piece.Piece) (old new : Assembler) → Mentions place s ps old new → Enters place s ps old new
+pub mentions_enter : (place : Place) (s : Context) (ps : List piece.Piece) (old new : Assembler) → Mentions place s ps old new → Enters place s ps old new
 mentions_enter place s ps old new m count t h = (all_awaiting place s t ps, all_wait place s t ps, m count t h)
 
 -- ---- Pieces, and then names.
@@ -122,18 +122,18 @@ pub record IsBeside (t u : State) : Type 0 where
   pub out : u.out ≡ t.out
   pub err : u.err ≡ t.err
 
-one_beside : (place : Place) (s : Spot) (t u : State) (p : piece.Piece) → Puts place s t p u → IsBeside t u
+one_beside : (place : Place) (s : Context) (t u : State) (p : piece.Piece) → Puts place s t p u → IsBeside t u
 one_beside place s t _ p (at_once c settled) = record { symbols = refl; standing = refl; out = refl; err = refl }
 one_beside place s t _ p later = record { symbols = refl; standing = refl; out = refl; err = refl }
 
-pub puts_beside : (place : Place) (s : Spot) (t u : State) (ps : List piece.Piece) → PutsAll place s t ps u → IsBeside t u
+pub puts_beside : (place : Place) (s : Context) (t u : State) (ps : List piece.Piece) → PutsAll place s t ps u → IsBeside t u
 puts_beside place s t u [] e = record { symbols = ap (λ (x : State). x.symbols) e; standing = ap (λ (x : State). x.standing) e; out = ap (λ (x : State). x.out) e; err = ap (λ (x : State). x.err) e }
 puts_beside place s t u (p ∷ ps) h =
     let one = one_beside place s t h.0 p h.1 in
     let rest = puts_beside place s h.0 u ps h.2 in
     record { symbols = rest.symbols ∙ one.symbols; standing = rest.standing ∙ one.standing; out = rest.out ∙ one.out; err = rest.err ∙ one.err }
 
-pub turns_after : (place : Place) (s : Spot) (ps : List piece.Piece) (becomes : Symbols → Symbols) (old mid new : Assembler) → Enters place s ps old mid → KeepsPut mid new → table_of new.symbols ≡ becomes (table_of mid.symbols) → IsTable (table_of new.symbols) new.known.states.items → ((y : Symbols) → Extends y (becomes y)) → Turns place s ps becomes old new
+pub turns_after : (place : Place) (s : Context) (ps : List piece.Piece) (becomes : Symbols → Symbols) (old mid new : Assembler) → Enters place s ps old mid → KeepsPut mid new → table_of new.symbols ≡ becomes (table_of mid.symbols) → IsTable (table_of new.symbols) new.known.states.items → ((y : Symbols) → Extends y (becomes y)) → Turns place s ps becomes old new
 turns_after place s ps becomes old mid new enters keeps table known more count t h inside unnamed =
     let x = enters count t h in
     let u : State = x.0 in
@@ -148,12 +148,12 @@ turns_after place s ps becomes old mid new enters keeps table known more count t
     )
 
 -- a statement without names
-pub turns_same : (place : Place) (s : Spot) (ps : List piece.Piece) (old new : Assembler) → Enters place s ps old new → Turns place s ps (λ y. y) old new
+pub turns_same : (place : Place) (s : Context) (ps : List piece.Piece) (old new : Assembler) → Enters place s ps old new → Turns place s ps (λ y. y) old new
 turns_same place s ps old new enters count t h inside unnamed =
     let x = enters count t h in
     (x.0, x.1, subst (λ (y : Symbols). Holds count (with_symbols x.0 y) new) (puts_beside place s t x.0 ps x.1).symbols x.2)
 
-pub turns_as : (place : Place) (s : Spot) (ps : List piece.Piece) (f g : Symbols → Symbols) (old new : Assembler) → ((y : Symbols) → f y ≡ g y) → Turns place s ps f old new → Turns place s ps g old new
+pub turns_as : (place : Place) (s : Context) (ps : List piece.Piece) (f g : Symbols → Symbols) (old new : Assembler) → ((y : Symbols) → f y ≡ g y) → Turns place s ps f old new → Turns place s ps g old new
 turns_as place s ps f g old new same turns count t h inside unnamed =
     let e = same t.symbols in
     let x = turns count t h (subst (λ (y : Symbols). AreInside count y.scopes) (sym e) inside) (subst (λ (y : Symbols). AreBefore t.standing.unnamed y.definitions) (sym e) unnamed) in
@@ -207,7 +207,7 @@ opened_behind y b = table_with y.definitions (y.definitions ++ []) (y.scopes ++ 
 named_behind : (y : Symbols) (is zs : List (List ℕ)) → same_as y.definitions y.scopes is zs ≡ same_as (y.definitions ++ []) (y.scopes ++ []) is zs
 named_behind y is zs = table_with y.definitions (y.definitions ++ []) y.scopes (y.scopes ++ []) is zs (sym (append-nil y.definitions)) (sym (append-nil y.scopes))
 
-module _ (place : Place) (s : Spot) (m : Measured) (old new : Assembler) where
+module _ (place : Place) (s : Context) (m : Measured) (old new : Assembler) where
   abbrev pub Adds : Statement → Type 0
   Adds x = Turns place s (pieces_of m.length m.settled x) (λ y. symbols_behind y (laid_as place s m x)) old new
 
@@ -226,8 +226,8 @@ module _ (place : Place) (s : Spot) (m : Measured) (old new : Assembler) where
   pub adds_unnamed : Turns place s [] (λ y. with_definition y (label_at (unnamed_at s.unnamed) s m.size)) old new → Adds UnnamedLabel
   adds_unnamed h = adds_names UnnamedLabel (λ y. with_definition y (label_at (unnamed_at s.unnamed) s m.size)) (λ y. defined_behind y (label_at (unnamed_at s.unnamed) s m.size)) h
 
-  pub adds_constant : (n : List ℕ) (e : Tree) → Turns place s (valued equated e ∷ []) (λ y. with_definition y (record { key = named s.scope n; value = Some e; spot = s; size = m.size })) old new → Adds (Constant n e)
-  adds_constant n e h = adds_names (Constant n e) (λ y. with_definition y (record { key = named s.scope n; value = Some e; spot = s; size = m.size })) (λ y. defined_behind y (record { key = named s.scope n; value = Some e; spot = s; size = m.size })) h
+  pub adds_constant : (n : List ℕ) (e : Tree) → Turns place s (valued equated e ∷ []) (λ y. with_definition y (record { key = named s.scope n; value = Some e; context = s; size = m.size })) old new → Adds (Constant n e)
+  adds_constant n e h = adds_names (Constant n e) (λ y. with_definition y (record { key = named s.scope n; value = Some e; context = s; size = m.size })) (λ y. defined_behind y (record { key = named s.scope n; value = Some e; context = s; size = m.size })) h
 
   pub adds_scope : (n : Option (List ℕ)) → Turns place s [] (λ y. with_scope y (record { within = s.scope; name = n; is_proc = false })) old new → Adds (OpenScope n)
   adds_scope n h = adds_names (OpenScope n) (λ y. with_scope y (record { within = s.scope; name = n; is_proc = false })) (λ y. opened_behind y (record { within = s.scope; name = n; is_proc = false })) h

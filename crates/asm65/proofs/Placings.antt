@@ -4,9 +4,9 @@ use Rattle.std.specs.Prelude.{Ok, Err, Result, Some}
 use Rattle.base65.specs.Outcome.{Unless}
 use Rattle.language65.specs.declared.fault.AsmFault.{AsmFault}
 use Rattle.language65.specs.Faults.{is_failure, is_memory, is_outside}
-use Rattle.language65.specs.declared.laid.Spot.{Spot}
+use Rattle.language65.specs.declared.laid.Context.{Context}
 use Rattle.language65.specs.declared.language.Statement.{Statement}
-use Rattle.language65.specs.Layout.{Standing, spot_of, standing_behind}
+use Rattle.language65.specs.Layout.{Standing, context_of, standing_behind}
 use Rattle.language65.specs.LineFaults.{line_fault}
 use Rattle.language65.specs.Symbols.{Symbols}
 use Rattle.layout65.specs.Measuring.{advanced, measured}
@@ -28,10 +28,10 @@ module _ (count : ℕ) (t : State) (old : Assembler) (h : Holds count t old) (x 
   there : (r : Result Measured AsmFault) → here ≡ r → measured t.symbols t.standing x ≡ r
   there r at = ap (λ (y : Symbols). measured y t.standing x) (sym h.symbols) ∙ ap (λ (w : Standing). measured (table_of old.symbols) w x) (sym h.standing) ∙ at
 
-  pub placed_is : (m : Measured) (s : Spot) → here ≡ Ok m → s ≡ spot_of (standing_of old.standing) → IsPlaced t x s m
-  placed_is m s at spot = record {
+  pub placed_is : (m : Measured) (s : Context) → here ≡ Ok m → s ≡ context_of (standing_of old.standing) → IsPlaced t x s m
+  placed_is m s at context = record {
     faultless = without_fault t.symbols t.standing x m (there (Ok m) at);
-    spot = spot ∙ ap spot_of h.standing;
+    context = context ∙ ap context_of h.standing;
     measured = sym (is_measured t.symbols t.standing x m (there (Ok m) at));
   }
 

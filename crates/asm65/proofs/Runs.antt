@@ -16,7 +16,7 @@ use Rattle.language65.specs.declared.fault.AsmFault.{AsmFault}
 use Rattle.language65.specs.declared.fault.AsmFault.TheVariants.{FileError, FileNotFound}
 use Rattle.language65.specs.Faults.{is_failure, is_outside}
 use Rattle.language65.specs.Laid.{Laid, asks_section}
-use Rattle.language65.specs.declared.laid.Spot.{Spot}
+use Rattle.language65.specs.declared.laid.Context.{Context}
 use Rattle.language65.specs.declared.language.Statement.{Statement}
 use Rattle.language65.specs.declared.language.Statement.TheVariants as statement
 use Rattle.language65.specs.Layout.{laid}
@@ -174,11 +174,11 @@ pub front_leaves : (place : Place) (o : Option Statement) (x : Statement) (old n
 front_leaves place o x old new r e h = subst (λ p. FrontBy place p old new r) (sym e) h
 
 -- it prints nothing
-puts_quiet : (place : Place) (s : Spot) (t u : State) (p : Piece) → Puts place s t p u → (u.out ≡ t.out) × (u.err ≡ t.err)
+puts_quiet : (place : Place) (s : Context) (t u : State) (p : Piece) → Puts place s t p u → (u.out ≡ t.out) × (u.err ≡ t.err)
 puts_quiet place s t _ p (at_once c settled) = (refl, refl)
 puts_quiet place s t _ p later = (refl, refl)
 
-all_quiet : (place : Place) (s : Spot) (t u : State) (ps : List Piece) → PutsAll place s t ps u → (u.out ≡ t.out) × (u.err ≡ t.err)
+all_quiet : (place : Place) (s : Context) (t u : State) (ps : List Piece) → PutsAll place s t ps u → (u.out ≡ t.out) × (u.err ≡ t.err)
 all_quiet place s t u [] h = (ap (λ (v : State). v.out) h, ap (λ (v : State). v.err) h)
 all_quiet place s t u (p ∷ ps) h =
     let one = puts_quiet place s t h.0 p h.1 in
@@ -188,7 +188,7 @@ all_quiet place s t u (p ∷ ps) h =
 asked_quiet : (t : State) (l : Laid) → ((asked t l).out ≡ t.out) × ((asked t l).err ≡ t.err)
 asked_quiet t l = by (asks_section l.stated)
   where
-    by : (b : Bool) → ((if b then entered t (asking l.spot.segment) else t).out ≡ t.out) × ((if b then entered t (asking l.spot.segment) else t).err ≡ t.err)
+    by : (b : Bool) → ((if b then entered t (asking l.context.segment) else t).out ≡ t.out) × ((if b then entered t (asking l.context.segment) else t).err ≡ t.err)
     by true = (refl, refl)
     by false = (refl, refl)
 
@@ -198,11 +198,11 @@ takes_quiet t u place x quiet takes = by (line_fault t.symbols t.standing x) tak
     l : Laid
     l = laid t.symbols t.standing place x
 
-    step : (v : State) → PutsAll place (laid t.symbols t.standing place x).spot (asked t (laid t.symbols t.standing place x)) (pieces_of (laid t.symbols t.standing place x).length (laid t.symbols t.standing place x).settled x) v → u ≡ known v (laid t.symbols t.standing place x) → (u.out ≡ t.out) × (u.err ≡ t.err)
+    step : (v : State) → PutsAll place (laid t.symbols t.standing place x).context (asked t (laid t.symbols t.standing place x)) (pieces_of (laid t.symbols t.standing place x).length (laid t.symbols t.standing place x).settled x) v → u ≡ known v (laid t.symbols t.standing place x) → (u.out ≡ t.out) × (u.err ≡ t.err)
     step v puts same =
         let m = laid t.symbols t.standing place x in
         let a = asked_quiet t m in
-        let b = all_quiet place m.spot (asked t m) v (pieces_of m.length m.settled x) puts in
+        let b = all_quiet place m.context (asked t m) v (pieces_of m.length m.settled x) puts in
         (ap (λ (w : State). w.out) same ∙ ap (λ said. v.out ++ said) quiet.0 ∙ append-nil v.out ∙ b.0 ∙ a.0, ap (λ (w : State). w.err) same ∙ ap (λ said. v.err ++ said) quiet.1 ∙ append-nil v.err ∙ b.1 ∙ a.1)
 
     by : (o : Option AsmFault) → UnlessFault o (Steps t (laid t.symbols t.standing place x)) (Ok u) → (u.out ≡ t.out) × (u.err ≡ t.err)

@@ -9,10 +9,10 @@ use Rattle.language65.specs.declared.fault.AsmFault.{AsmFault}
 use Rattle.language65.specs.declared.fault.AsmFault.TheVariants.{DefinedTwice, NotUnderstood, FileNotFound}
 use Rattle.language65.specs.Contents.{asking}
 use Rattle.language65.specs.Laid.{Laid, asks_section, is_unnamed}
-use Rattle.language65.specs.declared.laid.Spot.{Spot}
+use Rattle.language65.specs.declared.laid.Context.{Context}
 use Rattle.language65.specs.declared.language.Statement.{Statement}
 use Rattle.language65.specs.declared.language.Statement.TheVariants as statement
-use Rattle.language65.specs.Layout.{Standing, laid, spot_of, standing_behind}
+use Rattle.language65.specs.Layout.{Standing, laid, context_of, standing_behind}
 use Rattle.language65.specs.LineFaults.{defined_twice, first_fault, is_open, line_fault, lost_scopes, opened_twice, or_then, scope_name, stands_outside, trees_of, when, where_there, operand_fault, unless_fault}
 use Rattle.language65.specs.Symbols.{Definition, Key, Scope, Symbols, cheap_in, defined, definition_with, definitions_of, key_defined, named, same_key, scope_opened, unnamed_at, value_defined}
 use Rattle.layout65.specs.declared.standing.Standing as code
@@ -57,18 +57,18 @@ still_before : (x : Statement) (n : ℕ) (ds : List Definition) → AreBefore n 
 still_before statement.UnnamedLabel n ds h = all_later n ds h
 still_before _ n ds h = h
 
-before_behind : (x : Statement) (s : Spot) (own : AddressSize) (ds : List Definition) → AreBefore s.unnamed ds → AreBefore (if is_unnamed x then s.unnamed + 1 else s.unnamed) (ds ++ definition_with (key_defined s x) (value_defined x) s own)
+before_behind : (x : Statement) (s : Context) (own : AddressSize) (ds : List Definition) → AreBefore s.unnamed ds → AreBefore (if is_unnamed x then s.unnamed + 1 else s.unnamed) (ds ++ definition_with (key_defined s x) (value_defined x) s own)
 before_behind x s own ds h = by x
   where
     more : (n : ℕ) (d : Definition) → AreBefore n ds → IsBefore n d.key → AreBefore n (ds ++ d ∷ [])
     more n d k p = all_more (λ (e : Definition). IsBefore n e.key) ds d k p
 
     by : (x : Statement) → AreBefore (if is_unnamed x then s.unnamed + 1 else s.unnamed) (ds ++ definition_with (key_defined s x) (value_defined x) s own)
-    by (statement.Label n) = more s.unnamed (record { key = named s.scope n; value = None; spot = s; size = own }) h tt
-    by (statement.Constant n e) = more s.unnamed (record { key = named s.scope n; value = Some e; spot = s; size = own }) h tt
-    by (statement.OpenProc n) = more s.unnamed (record { key = named s.scope n; value = None; spot = s; size = own }) h tt
-    by (statement.CheapLabel n) = more s.unnamed (record { key = cheap_in s.region n; value = None; spot = s; size = own }) h tt
-    by statement.UnnamedLabel = more (s.unnamed + 1) (record { key = unnamed_at s.unnamed; value = None; spot = s; size = own }) (all_later s.unnamed ds h) (omega arith)
+    by (statement.Label n) = more s.unnamed (record { key = named s.scope n; value = None; context = s; size = own }) h tt
+    by (statement.Constant n e) = more s.unnamed (record { key = named s.scope n; value = Some e; context = s; size = own }) h tt
+    by (statement.OpenProc n) = more s.unnamed (record { key = named s.scope n; value = None; context = s; size = own }) h tt
+    by (statement.CheapLabel n) = more s.unnamed (record { key = cheap_in s.region n; value = None; context = s; size = own }) h tt
+    by statement.UnnamedLabel = more (s.unnamed + 1) (record { key = unnamed_at s.unnamed; value = None; context = s; size = own }) (all_later s.unnamed ds h) (omega arith)
     by _ = subst (λ (es : List Definition). AreBefore s.unnamed es) (sym (append-nil ds)) h
 
 before_at : (n : ℕ) (ds : List Definition) (i : ℕ) (d : Definition) → AreBefore n ds → slice_get ds i ≡ Some d → IsBefore n d.key
@@ -94,7 +94,7 @@ there_none : (o : Option ℕ) (e : AsmFault) → where_there o e ≡ None → o 
 there_none None e h = refl
 there_none (Some i) e h = absurd cc
 
-unnamed_is : (x : Statement) (s : Spot) (j : ℕ) → key_defined s x ≡ Some (unnamed_at j) → s.unnamed ≡ j
+unnamed_is : (x : Statement) (s : Context) (j : ℕ) → key_defined s x ≡ Some (unnamed_at j) → s.unnamed ≡ j
 unnamed_is statement.UnnamedLabel s j e = cc
 unnamed_is (statement.Label n) s j e = absurd cc
 unnamed_is (statement.Constant n v) s j e = absurd cc
@@ -102,24 +102,24 @@ unnamed_is (statement.OpenProc n) s j e = absurd cc
 unnamed_is (statement.CheapLabel n) s j e = absurd cc
 unnamed_is _ s j e = absurd cc
 
-key_free : (y : Symbols) (x : Statement) (s : Spot) (k : Key) → defined_twice y (Some k) ≡ None → key_defined s x ≡ Some k → AreBefore s.unnamed y.definitions → defined y k ≡ None
+key_free : (y : Symbols) (x : Statement) (s : Context) (k : Key) → defined_twice y (Some k) ≡ None → key_defined s x ≡ Some k → AreBefore s.unnamed y.definitions → defined y k ≡ None
 key_free y x s (named scope n) h e before = there_none (defined y (named scope n)) (DefinedTwice n) h
 key_free y x s (cheap_in region n) h e before = there_none (defined y (cheap_in region n)) (DefinedTwice n) h
 key_free y x s (unnamed_at j) h e before = subst (λ n. defined y (unnamed_at n) ≡ None) (unnamed_is x s j e) (next_free y s.unnamed before)
 
 -- a statement without a fault at its line defines and opens what isn't there
-pub is_new : (y : Symbols) (w : Standing) (x : Statement) → line_fault y w x ≡ None → AreBefore w.unnamed y.definitions → IsNew y (spot_of w) x
+pub is_new : (y : Symbols) (w : Standing) (x : Statement) → line_fault y w x ≡ None → AreBefore w.unnamed y.definitions → IsNew y (context_of w) x
 is_new y w x h before =
     let opened = opened_twice y.scopes w.scope (scope_name x) in
-    let twice = defined_twice y (key_defined (spot_of w) x) in
+    let twice = defined_twice y (key_defined (context_of w) x) in
     let lost = lost_scopes y.scopes w.scope (trees_of x) in
-    let naming = (or_none (naming_fault y (spot_of w) x) (first_fault (placing_faults y w x)) (sym (faults_are y w x) ∙ h)).0 in
+    let naming = (or_none (naming_fault y (context_of w) x) (first_fault (placing_faults y w x)) (sym (faults_are y w x) ∙ h)).0 in
     let first = (or_none (when (stands_outside x && is_open w.scope) NotUnderstood) (or_then lost (or_then opened twice)) naming).1 in
     let second = (or_none lost (or_then opened twice) first).1 in
     let both = or_none opened twice second in
     record {
       opened = both.0;
-      defined = λ k e. key_free y x (spot_of w) k (ap (defined_twice y) (sym e) ∙ both.1) e before;
+      defined = λ k e. key_free y x (context_of w) k (ap (defined_twice y) (sym e) ∙ both.1) e before;
     }
 
 -- ---- Behind a statement.
@@ -157,10 +157,10 @@ pub held_on : (count : ℕ) (t : State) (a : Assembler) (k : Known) (r : Result 
 held_on count t a k (Ok u) h table = holds_known count t a k h table
 held_on count t a k (Err e) h table = tt
 
-pub holds_stepped : (count : ℕ) (t : State) (place : Place) (x : Statement) (a : Assembler) (v : code.Standing) (said : Texts) → Holds count (asked_of (spot_of t.standing).segment x t) a → standing_of v ≡ standing_behind t.symbols t.standing x → IsSoundStanding v → AreWithin v.segments.items → IsCounted (count + opened_by x) v → said.out ≡ a.texts.out ++ out_of x → said.err ≡ a.texts.err ++ warning_of place x → Holds (count + opened_by x) (stepped t place x) (record a { standing = v; texts = said })
+pub holds_stepped : (count : ℕ) (t : State) (place : Place) (x : Statement) (a : Assembler) (v : code.Standing) (said : Texts) → Holds count (asked_of (context_of t.standing).segment x t) a → standing_of v ≡ standing_behind t.symbols t.standing x → IsSoundStanding v → AreWithin v.segments.items → IsCounted (count + opened_by x) v → said.out ≡ a.texts.out ++ out_of x → said.err ≡ a.texts.err ++ warning_of place x → Holds (count + opened_by x) (stepped t place x) (record a { standing = v; texts = said })
 holds_stepped count t place x a v said h standing sound ends counted out err =
-    let u : State = asked_of (spot_of t.standing).segment x t in
-    let same : u.standing ≡ t.standing = (asked_beside (spot_of t.standing).segment x t).standing in
+    let u : State = asked_of (context_of t.standing).segment x t in
+    let same : u.standing ≡ t.standing = (asked_beside (context_of t.standing).segment x t).standing in
     record {
       symbols = h.symbols;
       known = h.known;
@@ -190,12 +190,12 @@ takes_refused t place x e h = subst (λ (f : Option AsmFault). UnlessFault f (St
 abbrev aside : State → Standing → List ℕ → List ℕ → State
 aside t w o e = record t { standing = w; out = o; err = e }
 
-one_aside : (place : Place) (s : Spot) (u v : State) (w : Standing) (o e : List ℕ) (p : Piece) → Puts place s (aside u w o e) p v → Puts place s u p (aside v u.standing u.out u.err)
+one_aside : (place : Place) (s : Context) (u v : State) (w : Standing) (o e : List ℕ) (p : Piece) → Puts place s (aside u w o e) p v → Puts place s u p (aside v u.standing u.out u.err)
 one_aside place s u _ w o e p (at_once c settled) = at_once c settled
 one_aside place s u _ w o e p later = later
 
 -- pieces are put whatever stands beside them
-puts_aside : (place : Place) (s : Spot) (u v : State) (w : Standing) (o e : List ℕ) (ps : List Piece) → PutsAll place s (aside u w o e) ps v → PutsAll place s u ps (aside v u.standing u.out u.err)
+puts_aside : (place : Place) (s : Context) (u v : State) (w : Standing) (o e : List ℕ) (ps : List Piece) → PutsAll place s (aside u w o e) ps v → PutsAll place s u ps (aside v u.standing u.out u.err)
 puts_aside place s u v w o e [] h = ap (λ (x : State). aside x u.standing u.out u.err) h
 puts_aside place s u v w o e (p ∷ ps) h =
     let x : State = h.0 in
@@ -211,22 +211,22 @@ all_same_state v y z w x o p e f a b c d =
     ∙ ap (λ (r : List ℕ). with_all v z x r e) c
     ∙ ap (λ (r : List ℕ). with_all v z x p r) d
 
-pub takes_entered : (count : ℕ) (t : State) (place : Place) (x : Statement) (s : Spot) (m : Measured) (old mid new : Assembler) → Holds count t old → IsPlaced t x s m → Holds (count + opened_by x) (stepped t place x) mid → Turns place s (pieces_of m.length m.settled x) (λ y. symbols_behind y (laid_as place s m x)) mid new → (z : State) × Takes t place x (Ok z) × Holds (count + opened_by x) z new
+pub takes_entered : (count : ℕ) (t : State) (place : Place) (x : Statement) (s : Context) (m : Measured) (old mid new : Assembler) → Holds count t old → IsPlaced t x s m → Holds (count + opened_by x) (stepped t place x) mid → Turns place s (pieces_of m.length m.settled x) (λ y. symbols_behind y (laid_as place s m x)) mid new → (z : State) × Takes t place x (Ok z) × Holds (count + opened_by x) z new
 takes_entered count t place x s m old mid new h placed held turns =
     let r : Laid = laid t.symbols t.standing place x in
-    let u : State = asked_of (spot_of t.standing).segment x t in
-    let beside = asked_beside (spot_of t.standing).segment x t in
+    let u : State = asked_of (context_of t.standing).segment x t in
+    let beside = asked_beside (context_of t.standing).segment x t in
     let ps : List Piece = pieces_of r.length r.settled x in
     let measured : Turns place s ps (λ y. symbols_behind y (laid_as place s (measure_of t.symbols t.standing x) x)) mid new = subst (λ (n : Measured). Turns place s (pieces_of n.length n.settled x) (λ y. symbols_behind y (laid_as place s n x)) mid new) placed.measured turns in
-    let here : Turns place (spot_of t.standing) ps (λ y. symbols_behind y r) mid new = subst (λ (q : Spot). Turns place q ps (λ y. symbols_behind y (laid_as place q (measure_of t.symbols t.standing x) x)) mid new) placed.spot measured in
+    let here : Turns place (context_of t.standing) ps (λ y. symbols_behind y r) mid new = subst (λ (q : Context). Turns place q ps (λ y. symbols_behind y (laid_as place q (measure_of t.symbols t.standing x) x)) mid new) placed.context measured in
     let low : t.standing.scope ≤ count = subst (λ (w : Standing). w.scope ≤ count) h.standing h.counted.scope in
     let inside : AreInside (count + opened_by x) (symbols_behind u.symbols r).scopes = subst (λ (y : Symbols). AreInside (count + opened_by x) (y.scopes ++ scope_opened t.standing.scope x)) (sym beside.symbols) (inside_behind count t.standing.scope t.symbols.scopes x low h.inside) in
-    let unnamed : AreBefore (standing_behind t.symbols t.standing x).unnamed (symbols_behind u.symbols r).definitions = subst (λ (y : Symbols). AreBefore (standing_behind t.symbols t.standing x).unnamed (y.definitions ++ definitions_of r)) (sym beside.symbols) (before_behind x (spot_of t.standing) r.size t.symbols.definitions h.unnamed) in
+    let unnamed : AreBefore (standing_behind t.symbols t.standing x).unnamed (symbols_behind u.symbols r).definitions = subst (λ (y : Symbols). AreBefore (standing_behind t.symbols t.standing x).unnamed (y.definitions ++ definitions_of r)) (sym beside.symbols) (before_behind x (context_of t.standing) r.size t.symbols.definitions h.unnamed) in
     let done = here (count + opened_by x) (stepped t place x) held inside unnamed in
     let v : State = done.0 in
     let w : State = aside v u.standing u.out u.err in
-    let along = puts_beside place (spot_of t.standing) (stepped t place x) v ps done.1 in
-    let puts : PutsAll place (spot_of t.standing) u ps w = puts_aside place (spot_of t.standing) u v (standing_behind t.symbols t.standing x) (u.out ++ out_of x) (u.err ++ warning_of place x) ps done.1 in
+    let along = puts_beside place (context_of t.standing) (stepped t place x) v ps done.1 in
+    let puts : PutsAll place (context_of t.standing) u ps w = puts_aside place (context_of t.standing) u v (standing_behind t.symbols t.standing x) (u.out ++ out_of x) (u.err ++ warning_of place x) ps done.1 in
     let same : with_symbols v (symbols_behind u.symbols r) ≡ known w r =
     all_same_state v (symbols_behind u.symbols r) (symbols_behind v.symbols r) v.standing (standing_behind v.symbols u.standing x) v.out (u.out ++ out_of x) v.err (u.err ++ warning_of place x)
     (ap (λ (y : Symbols). symbols_behind y r) (sym along.symbols))
@@ -251,7 +251,7 @@ module _ (y : Symbols) (w : Standing) (start len : Option Tree) where
   lost = lost_scopes y.scopes w.scope (trees_of (FilePart None start len))
 
   abbrev bad : Option AsmFault
-  bad = operand_fault y (spot_of w) (FilePart None start len)
+  bad = operand_fault y (context_of w) (FilePart None start len)
 
   -- what is wrong whatever the file has is
   unread_refused : (bytes : Option (List ℕ)) (e : AsmFault) → unread_fault y w start len ≡ Some e → line_fault y w (FilePart bytes start len) ≡ Some e

@@ -8,7 +8,7 @@ use Rattle.syntax65.specs.Trees.{Tree}
 use Rattle.language65.specs.Parts.{Content}
 use Rattle.language65.specs.Extending.{Extends}
 use Rattle.source65.specs.declared.place.Place.{Place}
-use Rattle.language65.specs.declared.laid.Spot.{Spot}
+use Rattle.language65.specs.declared.laid.Context.{Context}
 use Rattle.language65.specs.Symbols.{Symbols}
 use Rattle.language65.proofs.Lists.{same_bytes}
 use Rattle.module65.specs.Machine as machine
@@ -47,15 +47,15 @@ there_still [] ys i x e = absurd cc
 there_still (z ∷ xs) ys zero x e = e
 there_still (z ∷ xs) ys (suc i) x e = there_still xs ys i x e
 
-constant_stays : (y z : Symbols) (s : Spot) (place : ℕ) (e : Tree) → Extends y z → IsConstant y s place e → IsConstant z s place e
+constant_stays : (y z : Symbols) (s : Context) (place : ℕ) (e : Tree) → Extends y z → IsConstant y s place e → IsConstant z s place e
 constant_stays y z s place e more h = record {
   definition = h.definition;
   there = ap (λ ds. slice_get ds place) more.definitions ∙ there_still y.definitions more.later_definitions place h.definition h.there;
-  spot = h.spot;
+  context = h.context;
   value = h.value;
 }
 
-pub piece_stays : (y z : Symbols) (s : Spot) (p : Piece) (v : piece.Piece) → Extends y z → IsPiece y s p v → IsPiece z s p v
+pub piece_stays : (y z : Symbols) (s : Context) (p : Piece) (v : piece.Piece) → Extends y z → IsPiece y s p v → IsPiece z s p v
 piece_stays y z s (Datum w e) v more h = h
 piece_stays y z s (Operand w e) v more h = h
 piece_stays y z s (Constant place) v more h = (h.0, constant_stays y z s place h.0 more h.1, h.2)
@@ -68,8 +68,8 @@ waits_still : (y z : Symbols) (files more : List (List ℕ)) (w : Waiting) (v : 
 waits_still y z files more w v symbols names h = record {
   file = ap (λ ns. slice_get ns w.file) names.1 ∙ there_still files names.0 w.file v.place.file h.file;
   line = h.line;
-  spot = h.spot;
-  piece = piece_stays y z v.spot w.piece v.piece symbols h.piece;
+  context = h.context;
+  piece = piece_stays y z v.context w.piece v.piece symbols h.piece;
 }
 
 -- behind more definitions and more files
@@ -90,7 +90,7 @@ last_of (c ∷ []) n e = ([], c, refl)
 last_of (c ∷ d ∷ cs) zero e = absurd (omega arith)
 last_of (c ∷ d ∷ cs) (suc n) e = let (front, l, is) = last_of (d ∷ cs) n (omega arith) in (c ∷ front, l, ap (λ ds. c ∷ ds) is)
 
--- sections stand for these contents more
+-- sections site for these contents more
 abbrev FeedsAll : Sections → Sections → List Content → Type 0
 FeedsAll old new cs = (ds ws : List Content) → Stands ds ws old → Stands (ds ++ cs) ws new
 
@@ -176,15 +176,15 @@ module _ (count : ℕ) (t : State) (old new : Assembler) (h : Holds count t old)
   holds_entered c feeds = holds_all (c ∷ []) feeds
 
 -- one more piece waits behind those before it
-pub waits_behind : (old new : Assembler) (place : Place) (s : Spot) (w : Waiting) → KeepsTables old new → Awaits old.sections new.sections → Begins (map string_bytes old.files.keys) (map string_bytes new.files.keys) → new.waiting.items ≡ old.waiting.items ++ w ∷ [] → slice_get (map string_bytes new.files.keys) w.file ≡ Some place.file → place.line ≡ w.line → s ≡ w.spot → Waits place s w.piece old new
-waits_behind old new place s w keeps awaits names waiting file line spot count t v h is =
-    let now : machine.Waiting = record { place = place; spot = s; piece = v } in
+pub waits_behind : (old new : Assembler) (place : Place) (s : Context) (w : Waiting) → KeepsTables old new → Awaits old.sections new.sections → Begins (map string_bytes old.files.keys) (map string_bytes new.files.keys) → new.waiting.items ≡ old.waiting.items ++ w ∷ [] → slice_get (map string_bytes new.files.keys) w.file ≡ Some place.file → place.line ≡ w.line → s ≡ w.context → Waits place s w.piece old new
+waits_behind old new place s w keeps awaits names waiting file line context count t v h is =
+    let now : machine.Waiting = record { place = place; context = s; piece = v } in
     let files = map string_bytes new.files.keys in
     let before : AreWaiting t.symbols files old.waiting.items t.waiting = waiting_stays t.symbols t.symbols (map string_bytes old.files.keys) files old.waiting.items t.waiting (extends_same t.symbols) names h.waiting in
     let one : IsWaiting t.symbols files w now = record {
       file = file;
       line = line;
-      spot = spot;
+      context = context;
       piece = subst (λ y. IsPiece y s w.piece v) h.symbols is;
     } in
     holds_awaiting count t old new h keeps now awaits
@@ -192,5 +192,5 @@ waits_behind old new place s w keeps awaits names waiting file line spot count t
     (waiting_more t.symbols files old.waiting.items t.waiting w now before one))
 
 -- what waits is entered
-pub waits_enters : (old new : Assembler) (place : Place) (s : Spot) (p : Piece) (v : piece.Piece) → Waits place s p old new → IsPiece (table_of old.symbols) s p v → Enters place s (v ∷ []) old new
-waits_enters old new place s p v waits is count t h = (awaiting t (record { place = place; spot = s; piece = v }), (awaiting t (record { place = place; spot = s; piece = v }), later, refl), waits count t v h is)
+pub waits_enters : (old new : Assembler) (place : Place) (s : Context) (p : Piece) (v : piece.Piece) → Waits place s p old new → IsPiece (table_of old.symbols) s p v → Enters place s (v ∷ []) old new
+waits_enters old new place s p v waits is count t h = (awaiting t (record { place = place; context = s; piece = v }), (awaiting t (record { place = place; context = s; piece = v }), later, refl), waits count t v h is)

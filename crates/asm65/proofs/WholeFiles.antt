@@ -17,7 +17,7 @@ use Rattle.std.proofs.lemmas.List.{length-take-le, take_all}
 use Rattle.source65.specs.declared.place.Place.{Place}
 use Rattle.language65.specs.declared.fault.AsmFault.{AsmFault}
 use Rattle.language65.specs.declared.fault.AsmFault.TheVariants.{BadPart}
-use Rattle.language65.specs.Layout.{Standing, laid, spot_of}
+use Rattle.language65.specs.Layout.{Standing, laid, context_of}
 use Rattle.language65.specs.LineFaults.{file_limit, first_fault, is_part, left_from, line_fault, lost_scopes, operand_fault, or_then, part_fault, trees_of, when}
 use Rattle.language65.specs.Sizes.{optional_value}
 use Rattle.language65.specs.Sound.{IsSound}
@@ -82,14 +82,14 @@ first_of None None rest = refl
 -- the fault of a part of such a file
 abbrev long_fault : Symbols → Standing → Option Tree → Option Tree → AsmFault
 long_fault y w start len =
-    or_bad (or_then (lost_scopes y.scopes w.scope (trees_of (FilePart None start len))) (operand_fault y (spot_of w) (FilePart None start len)))
+    or_bad (or_then (lost_scopes y.scopes w.scope (trees_of (FilePart None start len))) (operand_fault y (context_of w) (FilePart None start len)))
 
 too_long : (y : Symbols) (w : Standing) (bytes : List ℕ) (start len : Option Tree) → nat_le (length bytes) file_limit ≡ false → line_fault y w (FilePart (Some bytes) start len) ≡ Some (long_fault y w start len)
 too_long y w bytes start len long =
     let a : Option AsmFault = lost_scopes y.scopes w.scope (trees_of (FilePart None start len)) in
-    let b : Option AsmFault = operand_fault y (spot_of w) (FilePart None start len) in
+    let b : Option AsmFault = operand_fault y (context_of w) (FilePart None start len) in
     let P : Option AsmFault → Type 0 = λ f. (rest : List (Option AsmFault)) → first_fault (None ∷ a ∷ None ∷ None ∷ None ∷ b ∷ None ∷ None ∷ f ∷ rest) ≡ Some (long_fault y w start len) in
-    let bad : part_fault y (spot_of w) (FilePart (Some bytes) start len) ≡ Some BadPart = part_bad (is_part (length bytes) (optional_value y (spot_of w) start _) (optional_value y (spot_of w) len (left_from (length bytes) (optional_value y (spot_of w) start _)))) (nat_le (length bytes) file_limit) long in
+    let bad : part_fault y (context_of w) (FilePart (Some bytes) start len) ≡ Some BadPart = part_bad (is_part (length bytes) (optional_value y (context_of w) start _) (optional_value y (context_of w) len (left_from (length bytes) (optional_value y (context_of w) start _)))) (nat_le (length bytes) file_limit) long in
     subst P (sym bad) (first_of a b) _
   where
     part_bad : (p within : Bool) → within ≡ false → when (not (within && p)) BadPart ≡ Some BadPart

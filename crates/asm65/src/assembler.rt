@@ -10,7 +10,7 @@ use crate::texts::Texts;
 use base65::{Seed, Sequence};
 use expand65::Knows;
 use indexmap::IndexSet;
-use language65::Spot;
+use language65::Context;
 use layout65::Standing;
 use object65::{Action, Width};
 use sections65::Sections;
@@ -56,26 +56,26 @@ pub struct Waiting {
     /// The file, by its place among those that are named.
     pub file: usize,
     pub line: u32,
-    pub spot: Spot,
+    pub context: Context,
     pub piece: Piece,
 }
 
-/// What is known of names and expressions at a spot, by the definitions before it.
+/// What is known of names and expressions at a context, by the definitions before it.
 #[derive(Clone, Copy)]
 pub struct Knowledge<'a> {
     pub symbols: &'a Symbols,
-    pub spot: Spot,
+    pub context: Context,
 }
 
 impl Knows for Knowledge<'_> {
-    ghost meaning = { λ k. known_where (table_of k.symbols.now) k.spot };
+    ghost meaning = { λ k. known_where (table_of k.symbols.now) k.context };
 
     fn value(&self, alloc: Global, expr: &Expr) -> Result<Option<i64>, AllocError> {
-        constant_now(alloc, self.symbols, self.spot, expr)
+        constant_now(alloc, self.symbols, self.context, expr)
     }
 
     fn defined(&self, name: &Name) -> bool {
-        definition_of(self.symbols, self.spot, name).is_some()
+        definition_of(self.symbols, self.context, name).is_some()
     }
 }
 

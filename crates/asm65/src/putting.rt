@@ -4,11 +4,11 @@ mod parts;
 mod statements;
 pub mod values;
 
-use language65::{At, Spot};
+use language65::{At, Context};
 
 /// Where a piece of a statement stands.
 #[derive(Clone, Copy)]
-pub struct Stand<'a> {
+pub struct Site<'a> {
     pub at: At<'a>,
-    pub spot: Spot,
+    pub context: Context,
 }

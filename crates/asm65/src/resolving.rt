@@ -5,7 +5,7 @@ ghost use Rattle.base65.specs.Outcome.{Gives};
 ghost use Rattle.source65.specs.declared.place.Place.{Place};
 ghost use Rattle.language65.specs.Contents.{telling};
 ghost use Rattle.language65.specs.Faults.{is_memory};
-ghost use Rattle.language65.specs.declared.laid.Spot.{Spot as Stand};
+ghost use Rattle.language65.specs.declared.laid.Context.{Context as Site};
 ghost use Rattle.language65.specs.Symbols.{defined, named};
 ghost use Rattle.language65.specs.Views.{place_at, said_at};
 ghost use Rattle.module65.specs.Pieces.{asserted, datum, imported, made_of, operand, quietly, used};
@@ -16,7 +16,7 @@ ghost use Rattle.asm65.specs.Inner.Resolving.{coming, lost, made_in, noted};
 use crate::assembler::{Piece, Waiting};
 use crate::putting::values::{is_file_name, literal_of, stored};
 use base65::Sequence;
-use language65::{AsmFault, At, GLOBAL_SCOPE, Part, Said, Spot};
+use language65::{AsmFault, At, GLOBAL_SCOPE, Part, Said, Context};
 use object65::{Action, Norm, Width};
 use std::alloc::{AllocError, Global};
 use symbols65::{Key, Known, Symbols, defined_norm, norm, operand_form};
@@ -77,16 +77,16 @@ fn use_datum(
     alloc: Global,
     width: Width,
     at: At<'_>,
-    spot: Spot,
+    context: Context,
     form: Norm,
 ) -> Result<Made, AsmFault>
     ensures { Gives is_memory (made_in (place_at at.entry)) result
-        (used (place_at at.entry) spot (datum width) form) }
+        (used (place_at at.entry) context (datum width) form) }
 {
     let part = stored(alloc, width, at, form)?;
     Ok(Made {
         filling: Filling::Part {
-            segment: spot.segment,
+            segment: context.segment,
             part,
         },
         warning: None,
@@ -98,14 +98,14 @@ fn use_operand(
     alloc: Global,
     width: Width,
     at: At<'_>,
-    spot: Spot,
+    context: Context,
     form: Norm,
 ) -> Result<Made, AsmFault>
     ensures { Gives is_memory (made_in (place_at at.entry)) result
-        (used (place_at at.entry) spot (operand width) form) }
+        (used (place_at at.entry) context (operand width) form) }
 {
-    let form = operand_form(alloc, width, spot, form)?;
-    use_datum(alloc, width, at, spot, form)
+    let form = operand_form(alloc, width, context, form)?;
+    use_datum(alloc, width, at, context, form)
 }
 
 /// What an assertion comes to.
@@ -116,7 +116,7 @@ fn use_assertion(
     text: Sequence<u8>,
     form: Norm,
 ) -> Result<Made, AsmFault>
-    ensures { (s : Stand) →
+    ensures { (s : Site) →
         Gives is_memory (made_in (place_at at.entry)) result
         (used (place_at at.entry) s (asserted action text) form) }
 {
@@ -145,7 +145,7 @@ fn defined(symbols: &Symbols, name: &[u8]) -> Option<usize>
 
 /// What an import comes to. The module may not define it.
 fn resolve_import(alloc: Global, symbols: &Symbols, name: Sequence<u8>) -> Result<Made, AsmFault>
-    ensures { (place : Place) (s : Stand) → Gives is_memory (made_in place) result
+    ensures { (place : Place) (s : Site) → Gives is_memory (made_in place) result
         (made_of (table_of symbols.now) place s (imported name)) }
 {
     if defined(symbols, name.as_slice()).is_some() {
@@ -175,18 +175,18 @@ pub fn resolve(
     requires { IsTable (table_of symbols.now) known.old.states.items }
     ensures made { Gives is_memory (made_in (place_at at.entry)) result
         (coming (table_of symbols.now) (place_at at.entry)
-        waiting.spot waiting.piece) }
+        waiting.context waiting.piece) }
     ensures table { OnOk result (IsTable (table_of symbols.now) known.new.states.items) }
 {
-    let Waiting { spot, piece, .. } = waiting;
+    let Waiting { context, piece, .. } = waiting;
     match piece {
         Piece::Datum { width, value } => {
-            let form = norm(alloc, symbols, known, spot, &value)?;
-            use_datum(alloc, width, at, spot, form)
+            let form = norm(alloc, symbols, known, context, &value)?;
+            use_datum(alloc, width, at, context, form)
         }
         Piece::Operand { width, value } => {
-            let form = norm(alloc, symbols, known, spot, &value)?;
-            use_operand(alloc, width, at, spot, form)
+            let form = norm(alloc, symbols, known, context, &value)?;
+            use_operand(alloc, width, at, context, form)
         }
         Piece::Constant(place) => {
             defined_norm(alloc, symbols, known, place)?;
@@ -197,7 +197,7 @@ pub fn resolve(
             text,
             value,
         } => {
-            let form = norm(alloc, symbols, known, spot, &value)?;
+            let form = norm(alloc, symbols, known, context, &value)?;
             use_assertion(alloc, action, at, text, form)
         }
         Piece::Import(name) => resolve_import(alloc, symbols, name),

@@ -49,7 +49,7 @@ fn next<S: Store>(run: &mut Run, store: &mut S) -> Result<Option<Statement>, Exp
 {
     let knowledge = Knowledge {
         symbols: &run.assembler.symbols,
-        spot: run.assembler.standing.spot(),
+        context: run.assembler.standing.context(),
     };
     run.expander.next(store, &knowledge)
 }

@@ -20,9 +20,9 @@ ghost use Rattle.asm65.specs.Inner.Taking.{Asks, IsHeld, IsNew, IsPlaced, IsRefu
 
 use crate::assembler::Assembler;
 use crate::naming::Mention;
-use crate::putting::Stand;
+use crate::putting::Site;
 use base65::Sequence;
-use language65::{AsmFault, At, Operand, Settled, Spot, Statement};
+use language65::{AsmFault, At, Operand, Settled, Context, Statement};
 use layout65::{Before, Measured, asks_section, measure, measure_instruction};
 use std::alloc::{AllocError, Global};
 use symbols65::Key;
@@ -70,7 +70,7 @@ pub fn is_sound(statement: &Statement) -> bool
 /// Where a statement stands, and what it places.
 #[derive(Clone, Copy)]
 struct Placed {
-    spot: Spot,
+    context: Context,
     measured: Measured,
 }
 
@@ -108,18 +108,18 @@ impl Assembler {
     fn enter_settled(
         &mut self,
         alloc: Global,
-        stand: Stand<'_>,
+        site: Site<'_>,
         settled: Settled,
         mnemonic: Mnemonic,
         operand: Operand,
     ) -> Result<(), AllocError>
         ensures { OnOk result (Enters
-            (place_at stand.entry.at) stand.entry.spot
+            (place_at site.entry.at) site.entry.context
             (instruction_pieces mnemonic operand settled)
             self.old self.new) }
     {
         match settled {
-            Settled::InMode(mode) => self.enter_instruction(alloc, stand, mnemonic, mode, operand),
+            Settled::InMode(mode) => self.enter_instruction(alloc, site, mnemonic, mode, operand),
             Settled::Unsettled | Settled::FilledWith(_) | Settled::FromByte(_) => Ok(()),
         }
     }
@@ -129,68 +129,68 @@ impl Assembler {
     fn enter(
         &mut self,
         alloc: Global,
-        stand: Stand<'_>,
+        site: Site<'_>,
         measured: Measured,
         statement: Statement,
     ) -> Result<(), AllocError>
         requires known { IsTable (table_of self.old.symbols) self.old.known.states.items }
-        requires new { IsNew (table_of self.old.symbols) stand.spot statement }
-        ensures { OnOk result (let place = place_at stand.entry.at in
-            let s = stand.entry.spot in let m = measured in
+        requires new { IsNew (table_of self.old.symbols) site.context statement }
+        ensures { OnOk result (let place = place_at site.entry.at in
+            let s = site.entry.context in let m = measured in
             Turns place s (pieces_of m.length m.settled statement)
             (λ y. symbols_behind y (laid_as place s m statement))
             self.old self.new) }
     {
-        let Stand { spot, .. } = stand;
-        let scope = spot.scope as usize;
+        let Site { context, .. } = site;
+        let scope = context.scope as usize;
         let size = measured.size;
         match statement {
             Statement::Instruction { mnemonic, operand } => {
-                self.enter_settled(alloc, stand, measured.settled, mnemonic, operand)
+                self.enter_settled(alloc, site, measured.settled, mnemonic, operand)
             }
-            Statement::Values { width, items } => self.enter_values(alloc, stand, width, items),
+            Statement::Values { width, items } => self.enter_values(alloc, site, width, items),
             Statement::Reserve { .. } => {
-                self.enter_room(spot, measured.length, measured.settled)
+                self.enter_room(context, measured.length, measured.settled)
             }
-            Statement::Align { .. } => self.enter_room(spot, measured.length, measured.settled),
+            Statement::Align { .. } => self.enter_room(context, measured.length, measured.settled),
             Statement::FilePart { bytes, .. } => {
-                self.enter_part(spot, measured.length, measured.settled, bytes)
+                self.enter_part(context, measured.length, measured.settled, bytes)
             }
             Statement::Assert {
                 value,
                 action,
                 text,
-            } => self.enter_assertion(alloc, stand, action, text, value),
+            } => self.enter_assertion(alloc, site, action, text, value),
             Statement::Label(name) => {
                 let name = name.as_slice();
-                self.define_label(alloc, Key::Named { scope, name }, spot, size)
+                self.define_label(alloc, Key::Named { scope, name }, context, size)
             }
             Statement::CheapLabel(name) => {
-                let region = spot.region as usize;
+                let region = context.region as usize;
                 let name = name.as_slice();
-                self.define_label(alloc, Key::Cheap { region, name }, spot, size)
+                self.define_label(alloc, Key::Cheap { region, name }, context, size)
             }
             Statement::UnnamedLabel => {
-                self.define_label(alloc, Key::Unnamed(spot.unnamed as usize), spot, size)
+                self.define_label(alloc, Key::Unnamed(context.unnamed as usize), context, size)
             }
             Statement::Constant { name, value } => {
-                self.define_constant(alloc, stand, size, name.as_slice(), value)
+                self.define_constant(alloc, site, size, name.as_slice(), value)
             }
-            Statement::OpenScope(Some(name)) => self.open_block(alloc, spot, Some(name.as_slice())),
-            Statement::OpenScope(None) => self.open_block(alloc, spot, None),
-            Statement::OpenProc(name) => self.open_proc(alloc, spot, size, name.as_slice()),
+            Statement::OpenScope(Some(name)) => self.open_block(alloc, context, Some(name.as_slice())),
+            Statement::OpenScope(None) => self.open_block(alloc, context, None),
+            Statement::OpenProc(name) => self.open_proc(alloc, context, size, name.as_slice()),
             Statement::Import { size, names } => {
-                self.import_names(alloc, stand, Mention::Imported, size, names.as_slice())
+                self.import_names(alloc, site, Mention::Imported, size, names.as_slice())
             }
             Statement::Global { size, names } => {
                 let mention = Mention::Exported { must: false };
-                self.import_names(alloc, stand, mention, size, names.as_slice())
+                self.import_names(alloc, site, mention, size, names.as_slice())
             }
-            Statement::ForceImport(names) => self.demand_names(alloc, stand, names.as_slice()),
+            Statement::ForceImport(names) => self.demand_names(alloc, site, names.as_slice()),
             Statement::Export(names) => {
                 self.mention(
                     alloc,
-                    stand,
+                    site,
                     Mention::Exported { must: true },
                     names.as_slice(),
                 )
@@ -219,7 +219,7 @@ impl Assembler {
     ) -> Result<Placed, AsmFault>
         requires { IsHeld self.old }
         ensures placed { (count : ℕ) (t : State) → Holds count t self.old → IfOk result (λ p.
-            IsPlaced t statement.now p.spot p.measured) }
+            IsPlaced t statement.now p.context p.measured) }
         ensures holds { (count : ℕ) (t : State) → Holds count t self.old → OnOk result
             (Holds (count + opened_by statement.now)
             (stepped t (place_at at.entry) statement.now)
@@ -228,7 +228,7 @@ impl Assembler {
             (IsRefused t statement.now) }
         ensures known { OnOk result
             (IsTable (table_of self.new.symbols) self.new.known.states.items) }
-        ensures new { IfOk result (λ p. IsNew (table_of self.new.symbols) p.spot statement.now) }
+        ensures new { IfOk result (λ p. IsNew (table_of self.new.symbols) p.context statement.now) }
         ensures texts { IfErr result (λ e. is_outside e ≡ false → self.new.texts ≡ self.old.texts) }
         ensures inside { IfErr result (λ e. is_failure e ≡ false) }
     {
@@ -237,12 +237,12 @@ impl Assembler {
             standing: &self.standing,
         };
         let measured = measure(alloc, before, &mut self.known, statement)?;
-        let spot = self.standing.spot();
-        self.ask(spot.segment, statement)?;
+        let context = self.standing.context();
+        self.ask(context.segment, statement)?;
         self.texts.say(at, statement)?;
         self.standing
             .advance(alloc, &self.symbols, statement, measured)?;
-        Ok(Placed { spot, measured })
+        Ok(Placed { context, measured })
     }
 
     /// Finds what an instruction places and where it stands, or its first fault; asks for its section,
@@ -256,7 +256,7 @@ impl Assembler {
     ) -> Result<Placed, AsmFault>
         requires { IsHeld self.old }
         ensures placed { (count : ℕ) (t : State) → Holds count t self.old → IfOk result (λ p.
-            IsPlaced t (Instruction mnemonic operand.now) p.spot p.measured) }
+            IsPlaced t (Instruction mnemonic operand.now) p.context p.measured) }
         ensures holds { (place : Place) (count : ℕ) (t : State) → Holds count t self.old →
             OnOk result (Holds (count + opened_by (Instruction mnemonic operand.now))
             (stepped t place (Instruction mnemonic operand.now)) self.new) }
@@ -270,10 +270,10 @@ impl Assembler {
             standing: &self.standing,
         };
         let measured = measure_instruction(alloc, before, &mut self.known, mnemonic, operand)?;
-        let spot = self.standing.spot();
-        self.sections.ask(spot.segment)?;
+        let context = self.standing.context();
+        self.sections.ask(context.segment)?;
         self.standing.advance_by(measured.length);
-        Ok(Placed { spot, measured })
+        Ok(Placed { context, measured })
     }
 
     /// Takes an instruction behind other statements, as `take` does.
@@ -293,9 +293,9 @@ impl Assembler {
         ensures inside { IfErr result (λ e. is_failure e ≡ false) }
     {
         match self.place_instruction(alloc, mnemonic, &operand) {
-            Ok(Placed { spot, measured }) => {
-                let stand = Stand { at, spot };
-                self.enter_settled(alloc, stand, measured.settled, mnemonic, operand)?;
+            Ok(Placed { context, measured }) => {
+                let site = Site { at, context };
+                self.enter_settled(alloc, site, measured.settled, mnemonic, operand)?;
                 Ok(())
             }
             Err(fault) => refused_operand(operand, fault),
@@ -312,8 +312,8 @@ impl Assembler {
         ensures inside { IfErr result (λ e. is_failure e ≡ false) }
     {
         match self.place(alloc, at, &statement) {
-            Ok(Placed { spot, measured }) => {
-                self.enter(alloc, Stand { at, spot }, measured, statement)?;
+            Ok(Placed { context, measured }) => {
+                self.enter(alloc, Site { at, context }, measured, statement)?;
                 Ok(())
             }
             Err(fault) => refused(statement, fault),

@@ -26,7 +26,7 @@ use Rattle.language65.specs.declared.language.Item.TheVariants.{Value, Text}
 use Rattle.language65.specs.Laid.{Laid, asks_section}
 use Rattle.language65.specs.declared.laid.Settled.{Settled}
 use Rattle.language65.specs.declared.laid.Settled.TheVariants.{InMode, FilledWith, FromByte}
-use Rattle.language65.specs.declared.laid.Spot.{Spot}
+use Rattle.language65.specs.declared.laid.Context.{Context}
 use Rattle.language65.specs.Symbols.{Symbols, named, defined}
 use Rattle.language65.specs.Norms.{defined_form, folded, norm_of}
 use Rattle.language65.specs.Sizes.{width_of}
@@ -43,12 +43,12 @@ stored width place (lit v) = if fits_width width v then Ok (Known (value_bytes w
 stored width place f = written place (Waiting width place f)
 
 -- a branch stores how far its target lies from behind it
-abbrev pub operand_form : Width → Spot → Form → Result Form AsmFault
+abbrev pub operand_form : Width → Context → Form → Result Form AsmFault
 operand_form Branch s f = folded (fold2 Subtract f (sec s.segment (pos (s.offset + 2))))
 operand_form width s f = Ok f
 
 abbrev pub item_part : Symbols → Laid → Width → Item → Result Part AsmFault
-item_part y l width (Value e) = norm_of y l.spot e >>= stored width l.place
+item_part y l width (Value e) = norm_of y l.context e >>= stored width l.place
 item_part y l width (Text bytes) = Ok (Known bytes)
 
 abbrev pub operand_tree : Operand → Option Tree
@@ -61,7 +61,7 @@ operand_tree _ = None
 
 -- the value of an operand of this width
 abbrev pub operand_part : Symbols → Laid → Width → Tree → Result Part AsmFault
-operand_part y l width e = norm_of y l.spot e >>= (λ f. operand_form width l.spot f >>= stored width l.place)
+operand_part y l width e = norm_of y l.context e >>= (λ f. operand_form width l.context f >>= stored width l.place)
 
 abbrev pub operand_parts : Symbols → Laid → Option Width → Option Tree → Result (List Part) AsmFault
 operand_parts y l (Some width) (Some e) = operand_part y l width e >>= (λ p. Ok (p ∷ []))
@@ -126,12 +126,12 @@ abbrev pub said_of : Symbols → Laid → Result (List Said) AsmFault
 said_of y l = go l.stated
   where
     go : Statement → Result (List Said) AsmFault
-    go (Constant n e) = norm_of y l.spot e >>= (λ f. Ok [])
+    go (Constant n e) = norm_of y l.context e >>= (λ f. Ok [])
     go (Import size names) = each_of (import_fault y) names
     go (Export names) = each_of (λ n. export_said y l.place n (Err (NotDefined n)) (defined y (named 0 n))) names
     go (Global size names) = each_of (λ n. export_said y l.place n (Ok []) (defined y (named 0 n))) names
     go (ForceImport names) = each_of (import_fault y) names >>= (λ none. Ok (map Demanded names))
-    go (Assert e act words) = norm_of y l.spot e >>= decided act l.place words
+    go (Assert e act words) = norm_of y l.context e >>= decided act l.place words
     go _ = Ok []
 
 -- ---- A statement as the object has it.
@@ -139,7 +139,7 @@ said_of y l = go l.stated
 abbrev pub content_of : Symbols → Laid → Result Content AsmFault
 content_of y l =
     parts_of y l >>= (λ ps. said_of y l >>= (λ ss.
-    Ok (record { segment = l.spot.segment; asks = asks_section l.stated; parts = ps; said = ss })))
+    Ok (record { segment = l.context.segment; asks = asks_section l.stated; parts = ps; said = ss })))
 
 -- ---- Contents of one kind.
 

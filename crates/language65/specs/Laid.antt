@@ -4,7 +4,7 @@ use Rattle.source65.specs.declared.place.Place.{Place}
 use Rattle.syntax65.specs.declared.lexing.tokens.AddressSize.{AddressSize}
 use Rattle.syntax65.specs.Trees.{Tree, here, unary, binary}
 use Rattle.language65.specs.declared.laid.Settled.{Settled}
-use Rattle.language65.specs.declared.laid.Spot.{Spot}
+use Rattle.language65.specs.declared.laid.Context.{Context}
 use Rattle.language65.specs.declared.language.Statement.{Statement}
 use Rattle.language65.specs.declared.language.Statement.TheVariants.{Label, CheapLabel, UnnamedLabel, Constant, Instruction, Values, Reserve, Align, FilePart, OpenProc, Assert}
 
@@ -12,7 +12,7 @@ use Rattle.language65.specs.declared.language.Statement.TheVariants.{Label, Chea
 pub record Laid : Type 0 where
   pub stated : Statement
   pub place : Place
-  pub spot : Spot
+  pub context : Context
   -- how many bytes it places in its section
   pub length : ℕ
   -- the address size of what it defines: that of a constant's expression at its line, or of the segment

@@ -9,7 +9,7 @@ use Rattle.language65.specs.declared.language.Statement.{Statement}
 use Rattle.language65.specs.declared.language.Statement.TheVariants as statement
 use Rattle.source65.specs.declared.place.Place.{Place}
 use Rattle.language65.specs.Laid.{Laid, opens_region, is_unnamed}
-use Rattle.language65.specs.declared.laid.Spot.{Spot}
+use Rattle.language65.specs.declared.laid.Context.{Context}
 use Rattle.language65.specs.Symbols.{Symbols, symbols_of}
 use Rattle.language65.specs.Names.{enclosing}
 use Rattle.language65.specs.Norms.{constant_in}
@@ -93,14 +93,14 @@ kept_behind w _ = w.kept
 
 -- ---- One statement.
 
-abbrev pub spot_of : Standing → Spot
-spot_of w = record { scope = w.scope; opened = w.opened; region = w.region; unnamed = w.unnamed; segment = w.current; offset = (segment_at w.segments w.current).end }
+abbrev pub context_of : Standing → Context
+context_of w = record { scope = w.scope; opened = w.opened; region = w.region; unnamed = w.unnamed; segment = w.current; offset = (segment_at w.segments w.current).end }
 
 abbrev pub own_size : Standing → AddressSize
 own_size w = (segment_at w.segments w.current).size
 
 -- the address size of what a statement defines
-abbrev pub size_stated : Symbols → Spot → AddressSize → Statement → AddressSize
+abbrev pub size_stated : Symbols → Context → AddressSize → Statement → AddressSize
 size_stated y s own (statement.Constant n e) = size_of y s own e
 size_stated y s own _ = own
 
@@ -109,10 +109,10 @@ abbrev pub laid : Symbols → Standing → Place → Statement → Laid
 laid y w place x = record {
   stated = x;
   place = place;
-  spot = spot_of w;
-  length = length_of y (spot_of w) (own_size w) x;
-  size = size_stated y (spot_of w) (own_size w) x;
-  settled = settled_of y (spot_of w) (own_size w) x;
+  context = context_of w;
+  length = length_of y (context_of w) (own_size w) x;
+  size = size_stated y (context_of w) (own_size w) x;
+  settled = settled_of y (context_of w) (own_size w) x;
 }
 
 abbrev pub opens_scope : Statement → Bool
@@ -130,7 +130,7 @@ abbrev pub scope_behind : Symbols → Standing → Statement → ℕ
 scope_behind y w x = if opens_scope x then suc w.opened else if closes_scope x then enclosing y.scopes w.scope else w.scope
 
 -- the multiple to which a statement aligns its section
-abbrev pub multiple_of : Symbols → Spot → Statement → ℕ
+abbrev pub multiple_of : Symbols → Context → Statement → ℕ
 multiple_of y s (statement.Align n v) = counted (constant_in y s n)
 multiple_of y s _ = 1
 
@@ -140,7 +140,7 @@ standing_behind y w x = record {
   opened = if opens_scope x then w.opened + 1 else w.opened;
   region = if opens_region x then w.region + 1 else w.region;
   unnamed = if is_unnamed x then w.unnamed + 1 else w.unnamed;
-  segments = segments_behind w.segments w.current (length_of y (spot_of w) (own_size w) x) (multiple_of y (spot_of w) x) x;
+  segments = segments_behind w.segments w.current (length_of y (context_of w) (own_size w) x) (multiple_of y (context_of w) x) x;
   current = current_behind w x;
   kept = kept_behind w x;
 }

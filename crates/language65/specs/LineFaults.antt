@@ -14,12 +14,12 @@ use Rattle.language65.specs.declared.language.Statement.{Statement}
 use Rattle.language65.specs.declared.language.Statement.TheVariants as statement
 use Rattle.language65.specs.declared.language.Operand.TheVariants.{Absent, Accumulator, Immediate, Address, Indirect, IndirectX, IndirectY}
 use Rattle.language65.specs.declared.language.Item.TheVariants.{Value, Text}
-use Rattle.language65.specs.declared.laid.Spot.{Spot}
+use Rattle.language65.specs.declared.laid.Context.{Context}
 use Rattle.language65.specs.Symbols.{Symbols, Scope, Key, named, cheap_in, unnamed_at, defined, key_defined}
 use Rattle.language65.specs.Names.{scope_in, scope_from, scopes_of, shown}
 use Rattle.language65.specs.Norms.{constant_in}
 use Rattle.language65.specs.Sizes.{is_byte, mode_of, optional_value, length_of}
-use Rattle.language65.specs.Layout.{Standing, powers, segment_at, place_of, spot_of, own_size}
+use Rattle.language65.specs.Layout.{Standing, powers, segment_at, place_of, context_of, own_size}
 
 -- the first of some faults, if there is one
 abbrev pub first_fault : List (Option AsmFault) → Option AsmFault
@@ -125,7 +125,7 @@ defined_twice y None = None
 
 -- ---- Operands.
 
-abbrev pub form_fault : Symbols → Spot → AddressSize → Statement → Option AsmFault
+abbrev pub form_fault : Symbols → Context → AddressSize → Statement → Option AsmFault
 form_fault y s own (statement.Instruction m operand) = unless_there (mode_of y s own m operand) NoSuchForm
 form_fault y s own _ = None
 
@@ -142,7 +142,7 @@ is_there None = false
 is_there (Some x) = true
 
 -- what has to be constant is, and lies in its range
-abbrev pub operand_fault : Symbols → Spot → Statement → Option AsmFault
+abbrev pub operand_fault : Symbols → Context → Statement → Option AsmFault
 operand_fault y s (statement.Reserve n v) = when (not (is_count (constant_in y s n) && is_byte_value (optional_value y s v (pos 0)))) BadOperand
 operand_fault y s (statement.Align n v) = when (not (is_there (constant_in y s n) && is_byte_value (optional_value y s v (pos 0)))) BadOperand
 operand_fault y s (statement.FilePart bytes start len) = when (not (is_there (optional_value y s start (pos 0)) && is_there (optional_value y s len (pos 0)))) BadOperand
@@ -152,7 +152,7 @@ abbrev pub multiple_fault : Option ℤ → Option AsmFault
 multiple_fault (Some (pos n)) = when (not (list_any (λ m. m == n) powers)) BadAlignment
 multiple_fault _ = Some BadAlignment
 
-abbrev pub alignment_fault : Symbols → Spot → Statement → Option AsmFault
+abbrev pub alignment_fault : Symbols → Context → Statement → Option AsmFault
 alignment_fault y s (statement.Align n v) = multiple_fault (constant_in y s n)
 alignment_fault y s _ = None
 
@@ -174,7 +174,7 @@ abbrev pub left_from : ℕ → Option ℤ → ℤ
 left_from count (Some (pos start)) = pos (count - start)
 left_from count _ = pos 0
 
-abbrev pub part_fault : Symbols → Spot → Statement → Option AsmFault
+abbrev pub part_fault : Symbols → Context → Statement → Option AsmFault
 part_fault y s (statement.FilePart (Some bytes) start len) =
     let from : Option ℤ = optional_value y s start (pos 0) in
     when (not (nat_le (length bytes) file_limit && is_part (length bytes) from (optional_value y s len (left_from (length bytes) from)))) BadPart
@@ -221,7 +221,7 @@ pop_fault kept _ = None
 -- ---- The first fault of a statement that is understood, behind those of a symbol table.
 abbrev pub line_fault : Symbols → Standing → Statement → Option AsmFault
 line_fault y w x =
-    let s : Spot = spot_of w in
+    let s : Context = context_of w in
     first_fault (
     when (stands_outside x && is_open s.scope) NotUnderstood
     ∷ lost_scopes y.scopes s.scope (trees_of x)

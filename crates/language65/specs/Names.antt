@@ -5,7 +5,7 @@ use Rattle.std.specs.Str.{bytes_eq}
 use Rattle.syntax65.specs.Trees.{Tree, name, cheap, forward, backward}
 use Rattle.language65.specs.declared.fault.AsmFault.{AsmFault}
 use Rattle.language65.specs.declared.fault.AsmFault.TheVariants.{Undefined, NoSuchScope, NoSuchLabel}
-use Rattle.language65.specs.declared.laid.Spot.{Spot}
+use Rattle.language65.specs.declared.laid.Context.{Context}
 use Rattle.language65.specs.Symbols.{Symbols, Scope, named, cheap_in, unnamed_at, defined, imported}
 
 -- what a name means
@@ -109,7 +109,7 @@ last_of [] = []
 last_of (n ∷ []) = n
 last_of (n ∷ m ∷ parts) = last_of (m ∷ parts)
 
-abbrev pub scoped_meaning : Symbols → Spot → Bool → List (List ℕ) → Result Meaning AsmFault
+abbrev pub scoped_meaning : Symbols → Context → Bool → List (List ℕ) → Result Meaning AsmFault
 scoped_meaning y s global parts =
     member_meaning y (last_of parts) (Undefined (shown global parts)) (NoSuchScope (shown global parts)) (scope_from (take s.opened y.scopes) s.scope global (scopes_of parts))
 
@@ -127,7 +127,7 @@ abbrev pub backward_meaning : Symbols → ℕ → ℕ → Result Meaning AsmFaul
 backward_meaning y k n = if nat_le n k then unnamed_meaning y (k - n) else Err NoSuchLabel
 
 -- ---- What an operand means where it stands.
-abbrev pub meaning_of : Symbols → Spot → Tree → Result Meaning AsmFault
+abbrev pub meaning_of : Symbols → Context → Tree → Result Meaning AsmFault
 meaning_of y s (name false (n ∷ [])) = plain_meaning y s.scope n
 meaning_of y s (name global parts) = scoped_meaning y s global parts
 meaning_of y s (cheap n) = cheap_meaning y s.region n

@@ -26,7 +26,7 @@ use Rattle.language65.specs.declared.language.Operand.TheVariants as operands
 use Rattle.language65.specs.declared.language.Item.TheVariants.{Value, Text}
 use Rattle.language65.specs.declared.laid.Settled.{Settled}
 use Rattle.language65.specs.declared.laid.Settled.TheVariants.{Unsettled, InMode, FilledWith, FromByte}
-use Rattle.language65.specs.declared.laid.Spot.{Spot}
+use Rattle.language65.specs.declared.laid.Context.{Context}
 use Rattle.language65.specs.Symbols.{Symbols, Definition}
 use Rattle.language65.specs.Names.{Meaning, defined_at, imported_as, meaning_of}
 use Rattle.language65.specs.Norms.{constant_in}
@@ -73,7 +73,7 @@ size_by other (Some v) = size_of_value v
 
 -- The size of an expression by what is known at its line, where the segment has this size: that of its value where it is
 -- constant; a byte behind `<`, `>` and `^`; else that of what it names, and the largest of its parts.
-abbrev pub size_of : Symbols → Spot → AddressSize → Tree → AddressSize
+abbrev pub size_of : Symbols → Context → AddressSize → Tree → AddressSize
 size_of y s own (unary op e) = size_by (if takes_byte op then size.ZeroPage else size_of y s own e) (constant_in y s (unary op e))
 size_of y s own (binary op e f) = size_by (larger (size_of y s own e) (size_of y s own f)) (constant_in y s (binary op e f))
 size_of y s own here = own
@@ -118,7 +118,7 @@ branch_mode None None = Some Relative
 branch_mode forced r = None
 
 -- the addressing form of an operand, if the instruction has it
-abbrev pub mode_of : Symbols → Spot → AddressSize → Mnemonic → Operand → Option Mode
+abbrev pub mode_of : Symbols → Context → AddressSize → Mnemonic → Operand → Option Mode
 mode_of y s own m operands.Absent = first_of m Implied Accumulator
 mode_of y s own m operands.Accumulator = first_of m Accumulator Accumulator
 mode_of y s own m (operands.Immediate e) = first_of m Immediate Immediate
@@ -157,7 +157,7 @@ abbrev pub counted : Option ℤ → ℕ
 counted (Some (pos n)) = n
 counted _ = 0
 
-abbrev pub optional_value : Symbols → Spot → Option Tree → ℤ → Option ℤ
+abbrev pub optional_value : Symbols → Context → Option Tree → ℤ → Option ℤ
 optional_value y s None default = Some default
 optional_value y s (Some e) default = constant_in y s e
 
@@ -172,16 +172,16 @@ bytes_between bytes start None = []
 bytes_between bytes start (Some len) = take (counted (Some len)) (drop start bytes)
 
 -- the byte of a file at which the part that is taken begins, and how long the part is
-abbrev pub part_start : Symbols → Spot → Option Tree → ℕ
+abbrev pub part_start : Symbols → Context → Option Tree → ℕ
 part_start y s start = counted (optional_value y s start (pos 0))
 
-abbrev pub part_len : Symbols → Spot → Option (List ℕ) → Option Tree → Option Tree → ℕ
+abbrev pub part_len : Symbols → Context → Option (List ℕ) → Option Tree → Option Tree → ℕ
 part_len y s None start len = 0
 part_len y s (Some bytes) start len =
     length (bytes_between bytes (part_start y s start) (optional_value y s len (pos (length bytes - part_start y s start))))
 
 -- How many bytes a statement places, by what is known at its line, where the segment has this size.
-abbrev pub length_of : Symbols → Spot → AddressSize → Statement → ℕ
+abbrev pub length_of : Symbols → Context → AddressSize → Statement → ℕ
 length_of y s own (Instruction m operand) = mode_len (mode_of y s own m operand)
 length_of y s own (Values width items) = sum_by (item_len width) items
 length_of y s own (Reserve n v) = counted (constant_in y s n)
@@ -195,12 +195,12 @@ abbrev pub mode_settled : Option Mode → Settled
 mode_settled None = Unsettled
 mode_settled (Some mode) = InMode mode
 
-abbrev pub fill_settled : Symbols → Spot → Option Tree → Settled
+abbrev pub fill_settled : Symbols → Context → Option Tree → Settled
 fill_settled y s None = Unsettled
 fill_settled y s (Some v) = FilledWith (counted (constant_in y s v))
 
 -- what is settled of a statement at its line, where the segment has this size
-abbrev pub settled_of : Symbols → Spot → AddressSize → Statement → Settled
+abbrev pub settled_of : Symbols → Context → AddressSize → Statement → Settled
 settled_of y s own (Instruction m operand) = mode_settled (mode_of y s own m operand)
 settled_of y s own (Reserve n v) = fill_settled y s v
 settled_of y s own (Align n v) = fill_settled y s v

@@ -42,17 +42,17 @@ IsSound _ = ⊤
 -- ---- Layouts.
 
 abbrev pub statements_in : List Laid → ℕ → List Laid
-statements_in ls g = filter (λ l. nat_eq l.spot.segment g) ls
+statements_in ls g = filter (λ l. nat_eq l.context.segment g) ls
 
 -- a statement places as many bytes as is said behind those before it, and what is settled of it is what is said there
 pub record IsMeasured (y : Symbols) (l : Laid) : Type 0 where
-  pub length : l.length ≡ length_of y l.spot l.size l.stated
-  pub settled : l.settled ≡ settled_of y l.spot l.size l.stated
+  pub length : l.length ≡ length_of y l.context l.size l.stated
+  pub settled : l.settled ≡ settled_of y l.context l.size l.stated
 
 pub record IsSoundLayout (y : Layout) : Type 0 where
   pub named : are_names (map (λ g. g.name) y.standing.segments) ≡ true
   pub sound : AllByRecursion (λ l. IsSound l.stated) y.laid
-  pub standing : AllByRecursion (λ l. l.spot.segment < length y.standing.segments) y.laid
+  pub standing : AllByRecursion (λ l. l.context.segment < length y.standing.segments) y.laid
   pub measured : (i : ℕ) (l : Laid) → slice_get y.laid i ≡ Some l → IsMeasured (symbols_of (take i y.laid)) l
   pub room : (g : ℕ) → sum_by (λ l. l.length) (statements_in y.laid g) ≤ section_limit
 

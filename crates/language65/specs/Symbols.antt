@@ -8,7 +8,7 @@ use Rattle.syntax65.specs.declared.lexing.tokens.AddressSize.TheVariants as size
 use Rattle.language65.specs.declared.language.Statement.{Statement}
 use Rattle.language65.specs.declared.language.Statement.TheVariants.{Label, CheapLabel, UnnamedLabel, Constant, OpenScope, OpenProc, Import, Global, ForceImport}
 use Rattle.language65.specs.Laid.{Laid}
-use Rattle.language65.specs.declared.laid.Spot.{Spot}
+use Rattle.language65.specs.declared.laid.Context.{Context}
 
 -- by what a definition is found
 pub data Key : Type 0 where
@@ -23,7 +23,7 @@ pub record Definition : Type 0 where
   pub key : Key
   -- the expression of a constant; what has none is the address of where it stands
   pub value : Option Tree
-  pub spot : Spot
+  pub context : Context
   pub size : AddressSize
 
 pub record Scope : Type 0 where
@@ -45,7 +45,7 @@ pub record Symbols : Type 0 where
 
 -- ---- What a statement adds.
 
-abbrev pub key_defined : Spot → Statement → Option Key
+abbrev pub key_defined : Context → Statement → Option Key
 key_defined s (Label n) = Some (named s.scope n)
 key_defined s (Constant n e) = Some (named s.scope n)
 key_defined s (OpenProc n) = Some (named s.scope n)
@@ -57,12 +57,12 @@ abbrev pub value_defined : Statement → Option Tree
 value_defined (Constant n e) = Some e
 value_defined _ = None
 
-abbrev pub definition_with : Option Key → Option Tree → Spot → AddressSize → List Definition
+abbrev pub definition_with : Option Key → Option Tree → Context → AddressSize → List Definition
 definition_with None value s own = []
-definition_with (Some k) value s own = record { key = k; value = value; spot = s; size = own } ∷ []
+definition_with (Some k) value s own = record { key = k; value = value; context = s; size = own } ∷ []
 
 abbrev pub definitions_of : Laid → List Definition
-definitions_of l = definition_with (key_defined l.spot l.stated) (value_defined l.stated) l.spot l.size
+definitions_of l = definition_with (key_defined l.context l.stated) (value_defined l.stated) l.context l.size
 
 abbrev pub scope_opened : ℕ → Statement → List Scope
 scope_opened within (OpenScope n) = record { within = within; name = n; is_proc = false } ∷ []
@@ -90,7 +90,7 @@ with_new known (n ∷ names) = with_new (if list_any (λ k. bytes_eq n k) known 
 abbrev pub symbols_of : List Laid → Symbols
 symbols_of ls = record {
   definitions = flat_map definitions_of ls;
-  scopes = flat_map (λ l. scope_opened l.spot.scope l.stated) ls;
+  scopes = flat_map (λ l. scope_opened l.context.scope l.stated) ls;
   imports = with_new [] (flat_map (λ l. imports_of l.stated) ls);
   zero_page = with_new [] (flat_map (λ l. zero_page_names l.stated) ls);
 }

@@ -14,7 +14,7 @@ pub const GLOBAL_SCOPE: u32 = 0;
 
 /// Where a statement stands.
 #[derive(Clone, Copy)]
-pub struct Spot {
+pub struct Context {
     /// The innermost open scope: 0 is the global one, the others have their numbers in the order in which they are opened.
     pub scope: u32,
     /// How many scopes were opened before.

@@ -9,5 +9,5 @@ mod language;
 
 pub use contents::{Part, Said, Segment};
 pub use fault::AsmFault;
-pub use laid::{At, GLOBAL_SCOPE, Settled, Spot};
+pub use laid::{At, GLOBAL_SCOPE, Settled, Context};
 pub use language::{Index, Item, Items, ItemsKind, Operand, OptionalExpr, PartRange, Statement};

@@ -24,7 +24,7 @@ use Rattle.language65.proofs.Lists.{drop_item}
 use Rattle.syntax65.specs.declared.lexing.tokens.AddressSize.TheVariants.{Absolute}
 use Rattle.syntax65.specs.declared.lexing.tokens.AddressSize.{AddressSize}
 use Rattle.language65.specs.declared.contents.Segment.{Segment}
-use Rattle.language65.specs.Layout.{Standing, own_size, segment_at, spot_of}
+use Rattle.language65.specs.Layout.{Standing, own_size, segment_at, context_of}
 use Rattle.language65.specs.LineFaults.{first_fault, defined_twice, is_open, line_fault, opened_twice, scope_name, stands_outside, trees_of, is_byte_value, is_count, is_there, multiple_fault, item_trees, lost_scopes, or_then, when, unless_fault}
 use Rattle.layout65.specs.declared.measuring.Measured as code
 use Rattle.layout65.specs.declared.measuring.Measured.{Measured}
@@ -122,12 +122,12 @@ reserved w b st k =
     None
     ∷ when (not (is_count k && b)) BadOperand
     ∷ None ∷ None ∷ None ∷ None ∷ None ∷ None
-    ∷ when (nat_lt section_limit ((spot_of w).offset + counted k)) SectionTooLarge
+    ∷ when (nat_lt section_limit ((context_of w).offset + counted k)) SectionTooLarge
     ∷ []))
     (record { length = counted k; size = own_size w; multiple = 1; settled = st })
 
-pub reserved_as : (y : Symbols) (w : Standing) (n : Tree) (v : Option Tree) (k : Option ℤ) → constant_in y (spot_of w) n ≡ k → placed y w (statement.Reserve n v) ≡ reserved w (is_byte_value (optional_value y (spot_of w) v (pos 0))) (fill_settled y (spot_of w) v) k
-reserved_as y w n v k e = ap (reserved w (is_byte_value (optional_value y (spot_of w) v (pos 0))) (fill_settled y (spot_of w) v)) e
+pub reserved_as : (y : Symbols) (w : Standing) (n : Tree) (v : Option Tree) (k : Option ℤ) → constant_in y (context_of w) n ≡ k → placed y w (statement.Reserve n v) ≡ reserved w (is_byte_value (optional_value y (context_of w) v (pos 0))) (fill_settled y (context_of w) v) k
+reserved_as y w n v k e = ap (reserved w (is_byte_value (optional_value y (context_of w) v (pos 0))) (fill_settled y (context_of w) v)) e
 
 -- a byte that is refused, where the number is one
 pub bad_fill : (w : Standing) (b : Bool) (st : Settled) (k : Option ℤ) (m : ℕ) (e : AsmFault) → unless_fault (when (not (is_count k)) BadOperand) (counted k) ≡ Ok m → Unless (is_memory e) (unless_fault {A = Unit {0}} (when (not b) BadOperand) tt ≡ Err e) → Unless (is_memory e) (reserved w b st k ≡ Err e)
@@ -146,12 +146,12 @@ aligned w b st k =
     ∷ when (not (is_there k && b)) BadOperand
     ∷ multiple_fault k
     ∷ None ∷ None ∷ None ∷ None ∷ None
-    ∷ when (nat_lt section_limit ((spot_of w).offset + gap (spot_of w).offset k)) SectionTooLarge
+    ∷ when (nat_lt section_limit ((context_of w).offset + gap (context_of w).offset k)) SectionTooLarge
     ∷ []))
-    (record { length = gap (spot_of w).offset k; size = own_size w; multiple = counted k; settled = st })
+    (record { length = gap (context_of w).offset k; size = own_size w; multiple = counted k; settled = st })
 
-pub aligned_as : (y : Symbols) (w : Standing) (n : Tree) (v : Option Tree) (k : Option ℤ) → constant_in y (spot_of w) n ≡ k → placed y w (statement.Align n v) ≡ aligned w (is_byte_value (optional_value y (spot_of w) v (pos 0))) (fill_settled y (spot_of w) v) k
-aligned_as y w n v k e = ap (aligned w (is_byte_value (optional_value y (spot_of w) v (pos 0))) (fill_settled y (spot_of w) v)) e
+pub aligned_as : (y : Symbols) (w : Standing) (n : Tree) (v : Option Tree) (k : Option ℤ) → constant_in y (context_of w) n ≡ k → placed y w (statement.Align n v) ≡ aligned w (is_byte_value (optional_value y (context_of w) v (pos 0))) (fill_settled y (context_of w) v) k
+aligned_as y w n v k e = ap (aligned w (is_byte_value (optional_value y (context_of w) v (pos 0))) (fill_settled y (context_of w) v)) e
 
 -- a multiple that is refused, where the values aren't
 refused_third : {A : Type 0} (a b : Bool) (f r : Option AsmFault) (x : A) (m : ℕ) (e : AsmFault) → unless_fault {A = Unit {0}} (when (not a) BadOperand) tt ≡ Ok tt → unless_fault {A = Unit {0}} (when (not b) BadOperand) tt ≡ Ok tt → Unless (is_memory e) (unless_fault f m ≡ Err e) → Unless (is_memory e) (unless_fault (first_fault (None ∷ when (not (a && b)) BadOperand ∷ f ∷ None ∷ None ∷ None ∷ None ∷ None ∷ r ∷ [])) x ≡ Err e)
@@ -173,7 +173,7 @@ all_well y z x p q = grind (arith, common_steps)
 abbrev pub as_ok : ℕ → AddressSize → ℕ → Settled → Result Measured AsmFault
 as_ok len own multiple st = Ok (record { length = len; size = own; multiple = multiple; settled = st })
 
-pub aligned_well : (w : Standing) (b : Bool) (st : Settled) (k : Option ℤ) (m g len : ℕ) → unless_fault {A = Unit {0}} (when (not b) BadOperand) tt ≡ Ok tt → unless_fault (multiple_fault k) (counted k) ≡ Ok m → g ≡ gap (spot_of w).offset (Some (pos m)) → fitted w g ≡ Ok len → aligned w b st k ≡ as_ok len (own_size w) m st
+pub aligned_well : (w : Standing) (b : Bool) (st : Settled) (k : Option ℤ) (m g len : ℕ) → unless_fault {A = Unit {0}} (when (not b) BadOperand) tt ≡ Ok tt → unless_fault (multiple_fault k) (counted k) ≡ Ok m → g ≡ gap (context_of w).offset (Some (pos m)) → fitted w g ≡ Ok len → aligned w b st k ≡ as_ok len (own_size w) m st
 aligned_well w false st k m g len h hm hg hf = absurd cc
 aligned_well w true st None m g len h hm hg hf = absurd cc
 aligned_well w true st (Some (negsuc j)) m g len h hm hg hf = absurd cc
@@ -185,19 +185,19 @@ four_first : (a b c d : Option AsmFault) (rest : List (Option AsmFault)) → fir
 four_first x b c d rest = grind (arith, common_steps)
 
 module _ (y : Symbols) (w : Standing) (x : Statement) where
-  pub faults_are : line_fault y w x ≡ or_then (naming_fault y (spot_of w) x) (first_fault (placing_faults y w x))
-  faults_are = four_first (when (stands_outside x && is_open w.scope) NotUnderstood) (lost_scopes y.scopes w.scope (trees_of x)) (opened_twice y.scopes w.scope (scope_name x)) (defined_twice y (key_defined (spot_of w) x)) (placing_faults y w x)
+  pub faults_are : line_fault y w x ≡ or_then (naming_fault y (context_of w) x) (first_fault (placing_faults y w x))
+  faults_are = four_first (when (stands_outside x && is_open w.scope) NotUnderstood) (lost_scopes y.scopes w.scope (trees_of x)) (opened_twice y.scopes w.scope (scope_name x)) (defined_twice y (key_defined (context_of w) x)) (placing_faults y w x)
 
   -- a statement that is refused for its names
-  pub measured_refused : (e : AsmFault) → Unless (is_memory e) (unless_fault {A = Unit {0}} (naming_fault y (spot_of w) x) tt ≡ Err e) → Unless (is_memory e) (measured y w x ≡ Err e)
-  measured_refused e h = refused_same e _ _ (ap (λ f. unless_fault f (measure_of y w x)) faults_are) (refused_first e (naming_fault y (spot_of w) x) (first_fault (placing_faults y w x)) (measure_of y w x) h)
+  pub measured_refused : (e : AsmFault) → Unless (is_memory e) (unless_fault {A = Unit {0}} (naming_fault y (context_of w) x) tt ≡ Err e) → Unless (is_memory e) (measured y w x ≡ Err e)
+  measured_refused e h = refused_same e _ _ (ap (λ f. unless_fault f (measure_of y w x)) faults_are) (refused_first e (naming_fault y (context_of w) x) (first_fault (placing_faults y w x)) (measure_of y w x) h)
 
   -- and one that isn't
-  pub measured_named : unless_fault {A = Unit {0}} (naming_fault y (spot_of w) x) tt ≡ Ok tt → measured y w x ≡ placed y w x
-  measured_named h = ap (λ f. unless_fault f (measure_of y w x)) (faults_are ∙ left_behind (naming_fault y (spot_of w) x) (first_fault (placing_faults y w x)) tt tt h)
+  pub measured_named : unless_fault {A = Unit {0}} (naming_fault y (context_of w) x) tt ≡ Ok tt → measured y w x ≡ placed y w x
+  measured_named h = ap (λ f. unless_fault f (measure_of y w x)) (faults_are ∙ left_behind (naming_fault y (context_of w) x) (first_fault (placing_faults y w x)) tt tt h)
 
 -- ---- Room for what is placed.
 
 -- what is placed has room
-pub room_of : (y : Symbols) (w : Standing) (x : Statement) (r : Result code.Measured AsmFault) → Gives is_memory (λ m. m) r (placed y w x) → IfOk r (λ m. (spot_of w).offset + m.length ≤ section_limit)
+pub room_of : (y : Symbols) (w : Standing) (x : Statement) (r : Result code.Measured AsmFault) → Gives is_memory (λ m. m) r (placed y w x) → IfOk r (λ m. (context_of w).offset + m.length ≤ section_limit)
 room_of y w x z h = grind (arith, common_steps)

@@ -7,9 +7,9 @@ use Rattle.syntax65.specs.Trees.{Tree}
 use Rattle.language65.specs.declared.fault.AsmFault.{AsmFault}
 use Rattle.language65.specs.declared.fault.AsmFault.TheVariants.{BadOperand}
 use Rattle.language65.specs.Faults.{is_memory}
-use Rattle.language65.specs.declared.laid.Spot.{Spot}
+use Rattle.language65.specs.declared.laid.Context.{Context}
 use Rattle.language65.specs.declared.language.Statement.TheVariants.{FilePart}
-use Rattle.language65.specs.Layout.{Standing, spot_of}
+use Rattle.language65.specs.Layout.{Standing, context_of}
 use Rattle.language65.specs.LineFaults.{is_there, lost_scopes, operand_fault, optional_tree, when, unless_fault}
 use Rattle.language65.specs.Sizes.{optional_value}
 use Rattle.language65.specs.Symbols.{Symbols}
@@ -22,11 +22,11 @@ use Rattle.layout65.proofs.Measures.{left_behind, unless_then}
 
 module _ (y : Symbols) (w : Standing) (start len : Option Tree) where
   abbrev there : Bool
-  there = is_there (optional_value y (spot_of w) start (pos 0)) && is_there (optional_value y (spot_of w) len (pos 0))
+  there = is_there (optional_value y (context_of w) start (pos 0)) && is_there (optional_value y (context_of w) len (pos 0))
 
-module _ (y : Symbols) (w : Standing) (start len : Option Tree) (s : Spot) (at : s ≡ spot_of w) where
-  found_here : (value : Option Tree) (r : Result (Option ℤ) AsmFault) → IsFound (optional_value y s value) r → IsFound (optional_value y (spot_of w) value) r
-  found_here value r h = subst (λ (here : Spot). IsFound (optional_value y here value) r) at h
+module _ (y : Symbols) (w : Standing) (start len : Option Tree) (s : Context) (at : s ≡ context_of w) where
+  found_here : (value : Option Tree) (r : Result (Option ℤ) AsmFault) → IsFound (optional_value y s value) r → IsFound (optional_value y (context_of w) value) r
+  found_here value r h = subst (λ (here : Context). IsFound (optional_value y here value) r) at h
 
   -- a start that isn't constant
   pub bad_start : (bytes : Option (List ℕ)) (e : AsmFault) → IsFound (optional_value y s start) (Err e) → Unless (is_memory e) (placed y w (FilePart bytes start len) ≡ Err e)
@@ -37,14 +37,14 @@ module _ (y : Symbols) (w : Standing) (start len : Option Tree) (s : Spot) (at :
   bad_len bytes e h = grind (arith, common_steps)
 
   module _ (v n : Option ℤ) (first : IsFound (optional_value y s start) (Ok v)) (second : IsFound (optional_value y s len) (Ok n)) where
-    from : (d : ℤ) → optional_value y (spot_of w) start d ≡ Some (or_default v d)
+    from : (d : ℤ) → optional_value y (context_of w) start d ≡ Some (or_default v d)
     from = found_here start (Ok v) first
 
-    more : (d : ℤ) → optional_value y (spot_of w) len d ≡ Some (or_default n d)
+    more : (d : ℤ) → optional_value y (context_of w) len d ≡ Some (or_default n d)
     more = found_here len (Ok n) second
 
     both : there y w start len ≡ true
-    both = ap (λ k. is_there k && is_there (optional_value y (spot_of w) len (pos 0))) (from (pos 0)) ∙ ap is_there (more (pos 0))
+    both = ap (λ k. is_there k && is_there (optional_value y (context_of w) len (pos 0))) (from (pos 0)) ∙ ap is_there (more (pos 0))
 
     -- a part that the file hasn't
     refused_so : (bytes : List ℕ) (e : AsmFault) → ranged (length bytes) v n ≡ Err e → placed y w (FilePart (Some bytes) start len) ≡ Err e
@@ -67,7 +67,7 @@ module _ (y : Symbols) (w : Standing) (start len : Option Tree) (s : Spot) (at :
 
   module _ (scope : ℕ) (here : scope ≡ w.scope) (none : checks (lost scope) ≡ Ok tt) where
     behind_lost : checks (unread_fault y w start len) ≡ checks (when (not (there y w start len)) BadOperand)
-    behind_lost = ap checks (left_behind (lost w.scope) (operand_fault y (spot_of w) (FilePart None start len)) tt tt (subst (λ k. checks (lost k) ≡ Ok tt) here none))
+    behind_lost = ap checks (left_behind (lost w.scope) (operand_fault y (context_of w) (FilePart None start len)) tt tt (subst (λ k. checks (lost k) ≡ Ok tt) here none))
 
     -- a start that isn't constant
     pub unread_start : (e : AsmFault) → IsFound (optional_value y s start) (Err e) → Unless (is_memory e) (checks (unread_fault y w start len) ≡ Err e)

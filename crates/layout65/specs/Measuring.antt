@@ -2,7 +2,7 @@
 use Rattle.std.specs.Prelude.{ℕ, ◌+◌, if◌then◌else◌, ◌≡◌, ℤ, pos, negsuc, ◌&&◌, nat_le, nat_lt, not, Bool, true, false, List, [], ◌∷◌, ◌++◌, Option, Some, None, Result, Ok, Err}
 use Rattle.language65.specs.Laid.{opens_region, is_unnamed}
 use Rattle.language65.specs.declared.language.Statement.{Statement}
-use Rattle.language65.specs.Layout.{Standing, current_behind, kept_behind, opens_scope, scope_behind, segments_behind, multiple_of, own_size, size_stated, spot_of}
+use Rattle.language65.specs.Layout.{Standing, current_behind, kept_behind, opens_scope, scope_behind, segments_behind, multiple_of, own_size, size_stated, context_of}
 use Rattle.language65.specs.Symbols.{Symbols, Scope, key_defined}
 use Rattle.base65.specs.Outcome.{Unless}
 use Rattle.syntax65.specs.Trees.{Tree}
@@ -11,7 +11,7 @@ use Rattle.language65.specs.declared.fault.AsmFault.{AsmFault}
 use Rattle.language65.specs.declared.fault.AsmFault.TheVariants.{BadOperand, BadPart, NoSuchScope, NotUnderstood, SectionTooLarge}
 use Rattle.language65.specs.Faults.{is_memory}
 use Rattle.language65.specs.declared.laid.Settled.{Settled}
-use Rattle.language65.specs.declared.laid.Spot.{Spot}
+use Rattle.language65.specs.declared.laid.Context.{Context}
 use Rattle.language65.specs.declared.language.Statement.TheVariants.{Align, Constant, FilePart, Instruction, Reserve, Values}
 use Rattle.language65.specs.LineFaults.{alignment_fault, block_fault, defined_twice, file_limit, first_fault, form_fault, is_open, is_part, left_from, line_fault, lost_scopes, missing_file, opened_twice, operand_fault, optional_tree, or_then, part_fault, pop_fault, scope_name, size_fault, stands_outside, trees_of, unless_there, when, unless_fault}
 use Rattle.language65.specs.Names.{scope_from, scopes_of, shown}
@@ -36,10 +36,10 @@ advanced y w x count multiple = record {
 
 abbrev pub measure_of : Symbols → Standing → Statement → Measured
 measure_of y w x = record {
-  length = length_of y (spot_of w) (own_size w) x;
-  size = size_stated y (spot_of w) (own_size w) x;
-  multiple = multiple_of y (spot_of w) x;
-  settled = settled_of y (spot_of w) (own_size w) x;
+  length = length_of y (context_of w) (own_size w) x;
+  size = size_stated y (context_of w) (own_size w) x;
+  multiple = multiple_of y (context_of w) x;
+  settled = settled_of y (context_of w) (own_size w) x;
 }
 
 -- that, or the first fault of the statement
@@ -54,7 +54,7 @@ lost_parts cs scope global parts =
     unless_there (scope_from cs scope global (scopes_of parts)) (NoSuchScope (shown global parts))
 
 -- what names and scopes refuse a statement for
-abbrev pub naming_fault : Symbols → Spot → Statement → Option AsmFault
+abbrev pub naming_fault : Symbols → Context → Statement → Option AsmFault
 naming_fault y s x =
     or_then (when (stands_outside x && is_open s.scope) NotUnderstood)
     (or_then (lost_scopes y.scopes s.scope (trees_of x))
@@ -63,7 +63,7 @@ naming_fault y s x =
 -- all faults behind them
 abbrev pub placing_faults : Symbols → Standing → Statement → List (Option AsmFault)
 placing_faults y w x =
-    let s : Spot = spot_of w in
+    let s : Context = context_of w in
     form_fault y s (own_size w) x
     ∷ operand_fault y s x
     ∷ alignment_fault y s x
@@ -82,7 +82,7 @@ placed y w x = unless_fault (first_fault (placing_faults y w x)) (measure_of y w
 -- so many bytes, if the section has room for them
 abbrev pub fitted : Standing → ℕ → Result ℕ AsmFault
 fitted w count =
-    unless_fault (when (nat_lt section_limit ((spot_of w).offset + count)) SectionTooLarge) count
+    unless_fault (when (nat_lt section_limit ((context_of w).offset + count)) SectionTooLarge) count
 
 -- a statement that places no bytes and has no value that counts at its line
 abbrev pub is_bare : Statement → Bool
@@ -111,7 +111,7 @@ IsFound value (Err e) =
 abbrev pub unread_fault : Symbols → Standing → Option Tree → Option Tree → Option AsmFault
 unread_fault y w start len =
     or_then (lost_scopes y.scopes w.scope (optional_tree start ++ optional_tree len))
-    (operand_fault y (spot_of w) (FilePart None start len))
+    (operand_fault y (context_of w) (FilePart None start len))
 
 -- a place among so many, or behind the last one
 abbrev pub is_within : ℕ → ℤ → Bool

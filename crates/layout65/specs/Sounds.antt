@@ -5,7 +5,7 @@ use Rattle.layout65.specs.declared.standing.Standing.{Standing}
 use Rattle.std.specs.List.{AllByRecursion}
 use Rattle.object65.specs.Objects.{section_limit}
 use Rattle.language65.specs.declared.contents.Segment.{Segment}
-use Rattle.language65.specs.Layout.{spot_of}
+use Rattle.language65.specs.Layout.{context_of}
 
 -- ---- What stands between statements, without where it lies in memory.
 
@@ -27,7 +27,7 @@ standing_of w = record {
 -- is there.
 pub record IsSoundStanding (w : Standing) : Type 0 where
   pub current : w.current < length w.segments.items
-  pub end : (spot_of (standing_of w)).offset ≤ section_limit
+  pub end : (context_of (standing_of w)).offset ≤ section_limit
   pub names : map (λ k. k.items) w.names.keys ≡ map (λ g. g.name) w.segments.items
   pub kept : AllByRecursion (λ k. k < length w.segments.items) w.kept.items
 

@@ -12,7 +12,7 @@ ghost use Rattle.object65.specs.Objects.{section_limit};
 ghost use Rattle.language65.specs.Faults.{is_memory};
 ghost use Rattle.language65.specs.declared.laid.Settled.TheVariants.{Unsettled};
 ghost use Rattle.language65.specs.declared.language.Statement.TheVariants.{Instruction};
-ghost use Rattle.language65.specs.Layout.{own_size, spot_of};
+ghost use Rattle.language65.specs.Layout.{own_size, context_of};
 ghost use Rattle.language65.specs.LineFaults.{unless_fault};
 ghost use Rattle.symbols65.specs.Resolving.{IsTable};
 ghost use Rattle.symbols65.specs.Views.{table_of};
@@ -26,7 +26,7 @@ use self::kinds::place;
 use self::names::{check_defined, check_opened, check_outside};
 use self::trees::{check_operand, check_trees};
 use crate::standing::Standing;
-use language65::{AsmFault, Operand, Settled, Spot, Statement};
+use language65::{AsmFault, Operand, Settled, Context, Statement};
 use std::alloc::Global;
 use symbols65::{Known, Symbols};
 use syntax65::{AddressSize, Mnemonic};
@@ -54,17 +54,17 @@ pub struct Measured {
 fn check_naming(
     alloc: Global,
     symbols: &Symbols,
-    spot: Spot,
+    context: Context,
     statement: &Statement,
 ) -> Result<(), AsmFault>
     ensures { Gives is_memory (λ u. u) result (unless_fault
-        (naming_fault (table_of symbols.now) spot statement.now) tt) }
+        (naming_fault (table_of symbols.now) context statement.now) tt) }
 {
-    let scope = spot.scope as usize;
+    let scope = context.scope as usize;
     check_outside(scope, statement)?;
     check_trees(alloc, symbols, scope, statement)?;
     check_opened(alloc, symbols, scope, statement)?;
-    check_defined(alloc, symbols, spot, statement)
+    check_defined(alloc, symbols, context, statement)
 }
 
 /// So many bytes, if the section has room for them.
@@ -84,7 +84,7 @@ fn fit(standing: &Standing, length: usize) -> Result<u32, AsmFault>
 fn nothing(standing: &Standing) -> Measured
     requires { IsSoundStanding standing.now }
     ensures room { nat_lt section_limit
-        ((spot_of (standing_of standing.now)).offset + 0) ≡ false }
+        ((context_of (standing_of standing.now)).offset + 0) ≡ false }
     ensures length { result.length ≡ 0 }
     ensures size { result.size ≡ own_size (standing_of standing.now) }
     ensures multiple { result.multiple ≡ 1 }
@@ -111,11 +111,11 @@ pub fn measure(
         (table_of before.entry.symbols.now) (standing_of before.entry.standing.now)
         statement.now) }
     ensures room { IfOk result (λ m.
-        (spot_of (standing_of before.entry.standing.now)).offset + m.length ≤ section_limit) }
+        (context_of (standing_of before.entry.standing.now)).offset + m.length ≤ section_limit) }
     ensures table { OnOk result
         (IsTable (table_of before.entry.symbols.now) known.new.states.items) }
 {
-    check_naming(alloc, before.symbols, before.standing.spot(), statement)?;
+    check_naming(alloc, before.symbols, before.standing.context(), statement)?;
     place(alloc, before, known, statement)
 }
 
@@ -133,11 +133,11 @@ pub fn measure_instruction(
         (table_of before.entry.symbols.now) (standing_of before.entry.standing.now)
         (Instruction mnemonic operand.now)) }
     ensures room { IfOk result (λ m.
-        (spot_of (standing_of before.entry.standing.now)).offset + m.length ≤ section_limit) }
+        (context_of (standing_of before.entry.standing.now)).offset + m.length ≤ section_limit) }
     ensures table { OnOk result
         (IsTable (table_of before.entry.symbols.now) known.new.states.items) }
 {
-    let scope = before.standing.spot().scope as usize;
+    let scope = before.standing.context().scope as usize;
     check_operand(alloc, before.symbols, scope, operand)?;
     instruction(alloc, before, known, mnemonic, operand)
 }

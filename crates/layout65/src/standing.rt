@@ -3,7 +3,7 @@
 ghost use Rattle.std.specs.Prelude.{◌≡◌, ℕ, ◌+◌, ◌<◌, ◌≤◌, length, OnOk, IfOk, None, ◌++◌, ◌∷◌, [], if◌then◌else◌};
 ghost use Rattle.object65.specs.Objects.{section_limit};
 ghost use Rattle.language65.specs.Laid.{is_unnamed, opens_region};
-ghost use Rattle.language65.specs.Layout.{closes_scope, current_behind, first_size, grown_at, kept_behind, last_kept, named_segments, new_segment, opens_scope, or_last, place_of, rest_kept, scope_behind, segment_at, segments_behind, spot_of, start};
+ghost use Rattle.language65.specs.Layout.{closes_scope, current_behind, first_size, grown_at, kept_behind, last_kept, named_segments, new_segment, opens_scope, or_last, place_of, rest_kept, scope_behind, segment_at, segments_behind, context_of, start};
 ghost use Rattle.syntax65.specs.declared.instructions.names.Mnemonic.{Mnemonic};
 ghost use Rattle.language65.specs.Symbols.{Symbols as Table};
 ghost use Rattle.language65.specs.declared.language.Operand.{Operand};
@@ -16,7 +16,7 @@ ghost use Rattle.layout65.specs.Sounds.{AreWithin, IsCounted, IsSoundStanding, s
 use crate::measuring::Measured;
 use base65::Sequence;
 use indexmap::IndexSet;
-use language65::{GLOBAL_SCOPE, Segment, Spot, Statement};
+use language65::{GLOBAL_SCOPE, Segment, Context, Statement};
 use object65::format::SECTION_LIMIT;
 use std::alloc::{AllocError, Global};
 use symbols65::Symbols;
@@ -84,11 +84,11 @@ impl Standing {
     }
 
     /// Where the next statement stands.
-    pub fn spot(&self) -> Spot
+    pub fn context(&self) -> Context
         requires { self.now.current < length self.now.segments.items }
-        ensures { result ≡ spot_of (standing_of self.now) }
+        ensures { result ≡ context_of (standing_of self.now) }
     {
-        Spot {
+        Context {
             scope: self.scope,
             opened: self.opened,
             region: self.region,
@@ -101,8 +101,8 @@ impl Standing {
     /// How many bytes the section has room for.
     pub fn room(&self) -> u32
         requires current { self.now.current < length self.now.segments.items }
-        requires end { (spot_of (standing_of self.now)).offset ≤ section_limit }
-        ensures { (spot_of (standing_of self.now)).offset + result ≡ section_limit }
+        requires end { (context_of (standing_of self.now)).offset ≤ section_limit }
+        ensures { (context_of (standing_of self.now)).offset + result ≡ section_limit }
     {
         SECTION_LIMIT - self.segment().end
     }
@@ -110,7 +110,7 @@ impl Standing {
     /// Moves the end of the section in which statements stand.
     fn move_end(&mut self, count: u32, multiple: u32)
         requires current { self.old.current < length self.old.segments.items }
-        requires room { (spot_of (standing_of self.old)).offset + count ≤ section_limit }
+        requires room { (context_of (standing_of self.old)).offset + count ≤ section_limit }
         ensures moved { standing_of self.new ≡ record (standing_of self.old) {
           segments = grown_at self.old.segments.items self.old.current count multiple;
         } }
@@ -125,7 +125,7 @@ impl Standing {
     fn grow(&mut self, count: u32, multiple: u32)
         requires sound { IsSoundStanding self.old }
         requires ends { AreWithin self.old.segments.items }
-        requires room { (spot_of (standing_of self.old)).offset + count ≤ section_limit }
+        requires room { (context_of (standing_of self.old)).offset + count ≤ section_limit }
         ensures moved { standing_of self.new ≡ record (standing_of self.old) {
           segments = grown_at self.old.segments.items self.old.current count multiple;
         } }
@@ -230,7 +230,7 @@ impl Standing {
         requires sound { IsSoundStanding self.old }
         requires ends { AreWithin self.old.segments.items }
         requires few { length self.old.segments.items < 4294967295 }
-        requires room { (spot_of (standing_of self.old)).offset + count ≤ section_limit }
+        requires room { (context_of (standing_of self.old)).offset + count ≤ section_limit }
         ensures moved { OnOk result (standing_of self.new ≡ record (standing_of self.old) {
           segments = segments_behind self.old.segments.items self.old.current count multiple
               statement.now;
@@ -262,7 +262,7 @@ impl Standing {
     pub fn advance_by(&mut self, count: u32)
         requires sound { IsSoundStanding self.old }
         requires ends { AreWithin self.old.segments.items }
-        requires room { (spot_of (standing_of self.old)).offset + count ≤ section_limit }
+        requires room { (context_of (standing_of self.old)).offset + count ≤ section_limit }
         ensures moved { (y : Table) (m : Mnemonic) (operand : Operand) → standing_of self.new
             ≡ advanced y (standing_of self.old) (Instruction m operand) count 1 }
         ensures sound { IsSoundStanding self.new }
@@ -284,7 +284,7 @@ impl Standing {
     ) -> Result<(), AllocError>
         requires sound { IsSoundStanding self.old }
         requires ends { AreWithin self.old.segments.items }
-        requires room { (spot_of (standing_of self.old)).offset + measure.length ≤ section_limit }
+        requires room { (context_of (standing_of self.old)).offset + measure.length ≤ section_limit }
         requires numbers { HasNumbers (table_of symbols.now) self.old }
         ensures moved { OnOk result (standing_of self.new ≡ advanced (table_of symbols.now)
             (standing_of self.old) statement.now measure.length measure.multiple) }

@@ -25,7 +25,7 @@ use Rattle.source65.specs.declared.place.Place.{Place}
 use Rattle.language65.specs.Laid.{Laid, asks_section}
 use Rattle.language65.specs.declared.laid.Settled.{Settled}
 use Rattle.language65.specs.declared.laid.Settled.TheVariants.{Unsettled, InMode, FilledWith, FromByte}
-use Rattle.language65.specs.declared.laid.Spot.{Spot}
+use Rattle.language65.specs.declared.laid.Context.{Context}
 use Rattle.language65.specs.Norms.{norm_of}
 use Rattle.language65.specs.Sizes.{width_of}
 use Rattle.language65.specs.Symbols.{Symbols, defined, named}
@@ -38,18 +38,18 @@ use Rattle.module65.proofs.Entries.{Entry, all_entries, asked_by, entries_of, pa
 
 -- ---- Pieces one behind the other.
 
-abbrev pub piece_made : Symbols → Place → Spot → Piece → Finished Entry
+abbrev pub piece_made : Symbols → Place → Context → Piece → Finished Entry
 piece_made y place s p = placed place (λ m. entries_of m.content) (made_of y place s p)
 
-abbrev pub pieces_made : Symbols → Place → Spot → List Piece → Finished Entry
+abbrev pub pieces_made : Symbols → Place → Context → List Piece → Finished Entry
 pieces_made y place s [] = nothing
 pieces_made y place s (p ∷ ps) = after (piece_made y place s p) (pieces_made y place s ps)
 
-pieces_append : (y : Symbols) (place : Place) (s : Spot) (ps qs : List Piece) → pieces_made y place s (ps ++ qs) ≡ after (pieces_made y place s ps) (pieces_made y place s qs)
+pieces_append : (y : Symbols) (place : Place) (s : Context) (ps qs : List Piece) → pieces_made y place s (ps ++ qs) ≡ after (pieces_made y place s ps) (pieces_made y place s qs)
 pieces_append y place s [] qs = sym (nothing_after (pieces_made y place s qs))
 pieces_append y place s (p ∷ ps) qs = ap (after (piece_made y place s p)) (pieces_append y place s ps qs) ∙ sym (after_after (piece_made y place s p) (pieces_made y place s ps) (pieces_made y place s qs))
 
-pub one_piece : (y : Symbols) (place : Place) (s : Spot) (p : Piece) → pieces_made y place s (p ∷ []) ≡ piece_made y place s p
+pub one_piece : (y : Symbols) (place : Place) (s : Context) (p : Piece) → pieces_made y place s (p ∷ []) ≡ piece_made y place s p
 one_piece y place s p = after_nothing (piece_made y place s p)
 
 -- ---- What a statement's content comes to.
@@ -63,7 +63,7 @@ abbrev pub content_made : Symbols → Laid → Finished Entry
 content_made y l = told l.place (asserted_by y l) entries_of (content_of y l)
 
 abbrev asks_made : Laid → Finished Entry
-asks_made l = record { found = Ok (asked_by l.spot.segment (asks_section l.stated)); warned = [] }
+asks_made l = record { found = Ok (asked_by l.context.segment (asks_section l.stated)); warned = [] }
 
 abbrev parts_entries : ℕ → List Part → List Entry
 parts_entries g ps = map (part g) ps
@@ -83,23 +83,23 @@ only_said place g asks said x1 = grind (arith, common_steps)
 
 -- ---- Parts.
 
-item_made : (y : Symbols) (l : Laid) (width : Width) (it : Item) → piece_made y l.place l.spot (item_piece width it) ≡ told l.place [] (λ p. part l.spot.segment p ∷ []) (item_part y l width it)
+item_made : (y : Symbols) (l : Laid) (width : Width) (it : Item) → piece_made y l.place l.context (item_piece width it) ≡ told l.place [] (λ p. part l.context.segment p ∷ []) (item_part y l width it)
 item_made y l width x1 = grind (arith, common_steps)
 
 cons_told : (place : Place) (g : ℕ) (r : Result Part AsmFault) (s : Result (List Part) AsmFault) → after (told place [] (λ p. part g p ∷ []) r) (told place [] (parts_entries g) s) ≡ told place [] (parts_entries g) (r >>= (λ p. s >>= (λ ps. Ok (p ∷ ps))))
 cons_told place g x1 x2 = grind (arith, common_steps)
 
-items_made : (y : Symbols) (l : Laid) (width : Width) (its : List Item) → pieces_made y l.place l.spot (map (item_piece width) its) ≡ told l.place [] (parts_entries l.spot.segment) (each (item_part y l width) its)
+items_made : (y : Symbols) (l : Laid) (width : Width) (its : List Item) → pieces_made y l.place l.context (map (item_piece width) its) ≡ told l.place [] (parts_entries l.context.segment) (each (item_part y l width) its)
 items_made y l width [] = refl
 items_made y l width (it ∷ its) = grind (arith, common_steps, (items_made y l width its), after, item_made, part, cons_told)
 
-operands_made : (y : Symbols) (l : Laid) (w : Option Width) (t : Option Tree) → pieces_made y l.place l.spot (operand_pieces w t) ≡ told l.place [] (parts_entries l.spot.segment) (operand_parts y l w t)
+operands_made : (y : Symbols) (l : Laid) (w : Option Width) (t : Option Tree) → pieces_made y l.place l.context (operand_pieces w t) ≡ told l.place [] (parts_entries l.context.segment) (operand_parts y l w t)
 operands_made y l x1 x2 = grind (arith, common_steps)
 
 given_before : (place : Place) (g : ℕ) (p : Part) (r : Result (List Part) AsmFault) → after (record { found = Ok (part g p ∷ []); warned = [] }) (told place [] (parts_entries g) r) ≡ told place [] (parts_entries g) (r >>= (λ ps. Ok (p ∷ ps)))
 given_before place g p x1 = grind (arith, common_steps)
 
-instruction_made : (y : Symbols) (l : Laid) (m : Mnemonic) (o : Operand) (s : Settled) → pieces_made y l.place l.spot (instruction_pieces m o s) ≡ told l.place [] (parts_entries l.spot.segment) (instruction_parts y l m o s)
+instruction_made : (y : Symbols) (l : Laid) (m : Mnemonic) (o : Operand) (s : Settled) → pieces_made y l.place l.context (instruction_pieces m o s) ≡ told l.place [] (parts_entries l.context.segment) (instruction_parts y l m o s)
 instruction_made y l m o x1 = grind (arith, common_steps, after, part, operands_made, given_before)
 
 -- ---- What is said.
@@ -108,11 +108,11 @@ said_made : (place : Place) (r : Result (List Said) AsmFault) → placed place (
 said_made place x1 = grind (arith, common_steps)
 
 -- each name says something
-names_made : (y : Symbols) (place : Place) (s : Spot) (make : List ℕ → Piece) (says : List ℕ → Result (List Said) AsmFault) → ((n : List ℕ) → made_of y place s (make n) ≡ (says n >>= as_said)) → (names : List (List ℕ)) → pieces_made y place s (map make names) ≡ told place [] said_entries (each_of says names)
+names_made : (y : Symbols) (place : Place) (s : Context) (make : List ℕ → Piece) (says : List ℕ → Result (List Said) AsmFault) → ((n : List ℕ) → made_of y place s (make n) ≡ (says n >>= as_said)) → (names : List (List ℕ)) → pieces_made y place s (map make names) ≡ told place [] said_entries (each_of says names)
 names_made y place s make says is [] = refl
 names_made y place s make says is (n ∷ names) = grind (arith, common_steps, (names_made y place s make says is names), after, placed, entries_of, said_made, tells)
 
-demands_made : (y : Symbols) (place : Place) (s : Spot) (names : List (List ℕ)) → pieces_made y place s (map demanded names) ≡ record { found = Ok (said_entries (map Demanded names)); warned = [] }
+demands_made : (y : Symbols) (place : Place) (s : Context) (names : List (List ℕ)) → pieces_made y place s (map demanded names) ≡ record { found = Ok (said_entries (map Demanded names)); warned = [] }
 demands_made y place s [] = refl
 demands_made y place s (n ∷ names) = ap (after (piece_made y place s (demanded n))) (demands_made y place s names)
 
@@ -120,32 +120,32 @@ demands_made y place s (n ∷ names) = ap (after (piece_made y place s (demanded
 abbrev silently : {A : Type 0} → A → List Entry
 silently x = []
 
-import_made : (y : Symbols) (place : Place) (s : Spot) (n : List ℕ) → piece_made y place s (imported n) ≡ told place [] silently (import_fault y n)
+import_made : (y : Symbols) (place : Place) (s : Context) (n : List ℕ) → piece_made y place s (imported n) ≡ told place [] silently (import_fault y n)
 import_made y place s n = grind (arith, common_steps)
 
-imports_made : (y : Symbols) (place : Place) (s : Spot) (names : List (List ℕ)) → pieces_made y place s (map imported names) ≡ told place [] silently (each_of (import_fault y) names)
+imports_made : (y : Symbols) (place : Place) (s : Context) (names : List (List ℕ)) → pieces_made y place s (map imported names) ≡ told place [] silently (each_of (import_fault y) names)
 imports_made y place s [] = refl
 imports_made y place s (n ∷ names) = grind (arith, common_steps, (imports_made y place s names), after, import_made)
 
 then_demanded : (place : Place) (names : List (List ℕ)) (r : Result (List Said) AsmFault) → after (told place [] silently r) (record { found = Ok (said_entries (map Demanded names)); warned = [] }) ≡ told place [] said_entries (r >>= (λ none. Ok (map Demanded names)))
 then_demanded place names x1 = grind (arith, common_steps)
 
-forced_made : (y : Symbols) (place : Place) (s : Spot) (names : List (List ℕ)) → pieces_made y place s (map imported names ++ map demanded names) ≡ told place [] said_entries (each_of (import_fault y) names >>= (λ none. Ok (map Demanded names)))
+forced_made : (y : Symbols) (place : Place) (s : Context) (names : List (List ℕ)) → pieces_made y place s (map imported names ++ map demanded names) ≡ told place [] said_entries (each_of (import_fault y) names >>= (λ none. Ok (map Demanded names)))
 forced_made y place s names = grind (arith, common_steps, pieces_append, after, demands_made, imports_made, then_demanded)
 
 equated_made : (place : Place) (r : Result Form AsmFault) → placed place (λ m. entries_of m.content) (r >>= (λ f. as_said [])) ≡ told place [] said_entries (r >>= (λ f. Ok []))
 equated_made place x1 = grind (arith, common_steps)
 
-asserted_made : (place : Place) (s : Spot) (act : Action) (words : List ℕ) (r : Result Form AsmFault) → placed place (λ m. entries_of m.content) (r >>= used place s (p.asserted act words)) ≡ told place (failed place act words r) said_entries (r >>= decided act place words)
+asserted_made : (place : Place) (s : Context) (act : Action) (words : List ℕ) (r : Result Form AsmFault) → placed place (λ m. entries_of m.content) (r >>= used place s (p.asserted act words)) ≡ told place (failed place act words r) said_entries (r >>= decided act place words)
 asserted_made place s act words x1 = grind (arith, common_steps)
 
 -- ---- Statements.
 
-abbrev laid_with : Statement → Place → Spot → ℕ → AddressSize → Settled → Laid
-laid_with x place s len own settled = record { stated = x; place = place; spot = s; length = len; size = own; settled = settled }
+abbrev laid_with : Statement → Place → Context → ℕ → AddressSize → Settled → Laid
+laid_with x place s len own settled = record { stated = x; place = place; context = s; length = len; size = own; settled = settled }
 
 abbrev IsMadeOfPieces : Symbols → Laid → Type 0
-IsMadeOfPieces y l = content_made y l ≡ after (asks_made l) (pieces_made y l.place l.spot (pieces_of l.length l.settled l.stated))
+IsMadeOfPieces y l = content_made y l ≡ after (asks_made l) (pieces_made y l.place l.context (pieces_of l.length l.settled l.stated))
 
 -- from its parts, or from what it says
 by_parts : (y : Symbols) (l : Laid) (g : ℕ) (asks : Bool) (r : Result (List Part) AsmFault) (pieces : Finished Entry) → pieces ≡ told l.place [] (parts_entries g) r → told l.place [] entries_of (r >>= (λ ps. Ok (with_parts g asks ps []))) ≡ after (record { found = Ok (asked_by g asks); warned = [] }) pieces
@@ -154,7 +154,7 @@ by_parts y l g asks r pieces h = only_parts l.place g asks r ∙ ap (after (reco
 by_said : (place : Place) (g : ℕ) (asks : Bool) (said : List ℕ) (r : Result (List Said) AsmFault) (pieces : Finished Entry) → pieces ≡ told place said said_entries r → told place said entries_of (r >>= (λ ss. Ok (with_parts g asks [] ss))) ≡ after (record { found = Ok (asked_by g asks); warned = [] }) pieces
 by_said place g asks said r pieces h = only_said place g asks said r ∙ ap (after (record { found = Ok (asked_by g asks); warned = [] })) (sym h)
 
-made_with : (y : Symbols) (x : Statement) (place : Place) (s : Spot) (len : ℕ) (own : AddressSize) (settled : Settled) → IsMadeOfPieces y (laid_with x place s len own settled)
+made_with : (y : Symbols) (x : Statement) (place : Place) (s : Context) (len : ℕ) (own : AddressSize) (settled : Settled) → IsMadeOfPieces y (laid_with x place s len own settled)
 made_with y (Instruction m o) place s len own settled =
     let l = laid_with (Instruction m o) place s len own settled in
     by_parts y l s.segment true (instruction_parts y l m o settled) (pieces_made y place s (instruction_pieces m o settled)) (instruction_made y l m o settled)
@@ -175,7 +175,7 @@ made_with y (Assert e act words) place s len own settled = grind (arith, common_
 made_with y _ place s len own settled = refl
 
 pub made_of_pieces : (y : Symbols) (l : Laid) → IsMadeOfPieces y l
-made_of_pieces y l = made_with y l.stated l.place l.spot l.length l.size l.settled
+made_of_pieces y l = made_with y l.stated l.place l.context l.length l.size l.settled
 
 -- ---- All statements.
 

@@ -12,7 +12,7 @@ use Rattle.language65.specs.declared.fault.AsmFault.{AsmFault}
 use Rattle.language65.specs.declared.language.Statement.{Statement}
 use Rattle.source65.specs.declared.place.Place.{Place}
 use Rattle.language65.specs.Laid.{Laid, asks_section}
-use Rattle.language65.specs.declared.laid.Spot.{Spot}
+use Rattle.language65.specs.declared.laid.Context.{Context}
 use Rattle.language65.specs.Layout.{Layout, Standing, laid, layout_behind, nothing_laid, standing_behind}
 use Rattle.language65.specs.LineFaults.{line_fault, unless_fault}
 use Rattle.language65.specs.Numbering.{object_with}
@@ -35,7 +35,7 @@ use Rattle.module65.proofs.OneLayouts.{Matches, Simulates, StandIn, source_match
 come_held : (z : Symbols) (c : Content) → come z (holds c ∷ []) [] ≡ record { found = Ok (entries_of c); warned = [] }
 come_held z c = ap (λ (es : List Entry). record { found = Ok es; warned = [] }) (append-nil (entries_of c))
 
-come_waiting : (z : Symbols) (w : Waiting) → come z (awaited ∷ []) (w ∷ []) ≡ piece_made z w.place w.spot w.piece
+come_waiting : (z : Symbols) (w : Waiting) → come z (awaited ∷ []) (w ∷ []) ≡ piece_made z w.place w.context w.piece
 come_waiting z w = grind (arith, common_steps)
 
 -- slots and what waits, whose count is the same, come to this behind others, by each table that extends this one
@@ -53,7 +53,7 @@ comes_entered y slots ws made c comes = record {
       ∙ ap (λ a. after a (record { found = Ok (entries_of c); warned = [] })) (comes.found z e);
 }
 
-comes_waiting : (y : Symbols) (slots : List Slot) (ws : List Waiting) (made : Symbols → Finished Entry) (w : Waiting) → Comes y slots ws made → Comes y (slots ++ awaited ∷ []) (ws ++ w ∷ []) (λ z. after (made z) (piece_made z w.place w.spot w.piece))
+comes_waiting : (y : Symbols) (slots : List Slot) (ws : List Waiting) (made : Symbols → Finished Entry) (w : Waiting) → Comes y slots ws made → Comes y (slots ++ awaited ∷ []) (ws ++ w ∷ []) (λ z. after (made z) (piece_made z w.place w.context w.piece))
 comes_waiting y slots ws made w c = grind (arith, common_steps, awaited_append, length-append, come_append, after, come, come_waiting, piece_made)
 
 comes_same : (y : Symbols) (slots : List Slot) (ws : List Waiting) (made more : Symbols → Finished Entry) → ((z : Symbols) → Extends y z → made z ≡ more z) → Comes y slots ws made → Comes y slots ws more
@@ -70,7 +70,7 @@ record Adds (t u : State) (old new : Symbols → Finished Entry) : Type 0 where
   same : u ≡ holding t slots waiting
   comes : Comes t.symbols slots waiting new
 
-put_one : (place : Place) (s : Spot) (t u : State) (p : Piece) (made : Symbols → Finished Entry) → Comes t.symbols t.slots t.waiting made → Puts place s t p u → Adds t u made (λ z. after (made z) (piece_made z place s p))
+put_one : (place : Place) (s : Context) (t u : State) (p : Piece) (made : Symbols → Finished Entry) → Comes t.symbols t.slots t.waiting made → Puts place s t p u → Adds t u made (λ z. after (made z) (piece_made z place s p))
 put_one place s t _ p made c (at_once content settled) = record {
   slots = t.slots ++ holds content ∷ [];
   waiting = t.waiting;
@@ -79,12 +79,12 @@ put_one place s t _ p made c (at_once content settled) = record {
 }
 put_one place s t _ p made c later = record {
   slots = t.slots ++ awaited ∷ [];
-  waiting = t.waiting ++ record { place = place; spot = s; piece = p } ∷ [];
+  waiting = t.waiting ++ record { place = place; context = s; piece = p } ∷ [];
   same = refl;
-  comes = comes_waiting t.symbols t.slots t.waiting made (record { place = place; spot = s; piece = p }) c;
+  comes = comes_waiting t.symbols t.slots t.waiting made (record { place = place; context = s; piece = p }) c;
 }
 
-put_all : (place : Place) (s : Spot) (t u : State) (ps : List Piece) (made : Symbols → Finished Entry) → Comes t.symbols t.slots t.waiting made → PutsAll place s t ps u → Adds t u made (λ z. after (made z) (pieces_made z place s ps))
+put_all : (place : Place) (s : Context) (t u : State) (ps : List Piece) (made : Symbols → Finished Entry) → Comes t.symbols t.slots t.waiting made → PutsAll place s t ps u → Adds t u made (λ z. after (made z) (pieces_made z place s ps))
 put_all place s t u [] made c h = grind (arith, common_steps, comes_same, after, nothing, after_nothing)
 put_all place s t u (p ∷ ps) made c h =
     let one = put_one place s t h.0 p made c h.1 in
@@ -118,33 +118,33 @@ known_for y place x slots ws = grind (arith, common_steps, symbols_push, flat_pu
 record Asked (y : Layout) (slots : List Slot) (ws : List Waiting) (l : Laid) : Type 0 where
   more : List Slot
   same : asked (state_for y slots ws) l ≡ state_for y more ws
-  comes : Comes (symbols_of y.laid) more ws (λ z. after (all_made z y.laid) (record { found = Ok (asked_by l.spot.segment (asks_section l.stated)); warned = [] }))
+  comes : Comes (symbols_of y.laid) more ws (λ z. after (all_made z y.laid) (record { found = Ok (asked_by l.context.segment (asks_section l.stated)); warned = [] }))
 
 asked_follows : (y : Layout) (slots : List Slot) (ws : List Waiting) (l : Laid) → Comes (symbols_of y.laid) slots ws (λ z. all_made z y.laid) → Asked y slots ws l
 asked_follows y slots ws l c = by (asks_section l.stated) refl
   where
     by : (b : Bool) → asks_section l.stated ≡ b → Asked y slots ws l
     by true e = record {
-      more = slots ++ holds (asking l.spot.segment) ∷ [];
-      same = ap (λ b. if b then entered (state_for y slots ws) (asking l.spot.segment) else state_for y slots ws) e;
-      comes = subst (λ b. Comes (symbols_of y.laid) (slots ++ holds (asking l.spot.segment) ∷ []) ws (λ z. after (all_made z y.laid) (record { found = Ok (asked_by l.spot.segment b); warned = [] }))) (sym e) (comes_entered (symbols_of y.laid) slots ws (λ z. all_made z y.laid) (asking l.spot.segment) c);
+      more = slots ++ holds (asking l.context.segment) ∷ [];
+      same = ap (λ b. if b then entered (state_for y slots ws) (asking l.context.segment) else state_for y slots ws) e;
+      comes = subst (λ b. Comes (symbols_of y.laid) (slots ++ holds (asking l.context.segment) ∷ []) ws (λ z. after (all_made z y.laid) (record { found = Ok (asked_by l.context.segment b); warned = [] }))) (sym e) (comes_entered (symbols_of y.laid) slots ws (λ z. all_made z y.laid) (asking l.context.segment) c);
     }
     by false e = record {
       more = slots;
-      same = ap (λ b. if b then entered (state_for y slots ws) (asking l.spot.segment) else state_for y slots ws) e;
-      comes = subst (λ b. Comes (symbols_of y.laid) slots ws (λ z. after (all_made z y.laid) (record { found = Ok (asked_by l.spot.segment b); warned = [] }))) (sym e) (comes_same (symbols_of y.laid) slots ws (λ z. all_made z y.laid) (λ z. after (all_made z y.laid) nothing) (λ z h. sym (after_nothing (all_made z y.laid))) c);
+      same = ap (λ b. if b then entered (state_for y slots ws) (asking l.context.segment) else state_for y slots ws) e;
+      comes = subst (λ b. Comes (symbols_of y.laid) slots ws (λ z. after (all_made z y.laid) (record { found = Ok (asked_by l.context.segment b); warned = [] }))) (sym e) (comes_same (symbols_of y.laid) slots ws (λ z. all_made z y.laid) (λ z. after (all_made z y.laid) nothing) (λ z h. sym (after_nothing (all_made z y.laid))) c);
     }
 
-statement_follows : (y : Layout) (slots : List Slot) (ws : List Waiting) (place : Place) (x : Statement) (u : State) → Comes (symbols_of y.laid) slots ws (λ z. all_made z y.laid) → (let l : Laid = laid (symbols_of y.laid) y.standing place x in PutsAll place l.spot (asked (state_for y slots ws) l) (pieces_of l.length l.settled x) u → Follows (layout_behind y place x) (known u l))
+statement_follows : (y : Layout) (slots : List Slot) (ws : List Waiting) (place : Place) (x : Statement) (u : State) → Comes (symbols_of y.laid) slots ws (λ z. all_made z y.laid) → (let l : Laid = laid (symbols_of y.laid) y.standing place x in PutsAll place l.context (asked (state_for y slots ws) l) (pieces_of l.length l.settled x) u → Follows (layout_behind y place x) (known u l))
 statement_follows y slots ws place x u c puts =
     let l = laid (symbols_of y.laid) y.standing place x in
     let ps = pieces_of l.length l.settled x in
     let first = asked_follows y slots ws l c in
     let t = state_for y first.more ws in
-    let asks : Finished Entry = record { found = Ok (asked_by l.spot.segment (asks_section x)); warned = [] } in
-    let puts' : PutsAll place l.spot t ps u = subst (λ v. PutsAll place l.spot v ps u) first.same puts in
-    let all = put_all place l.spot t u ps (λ z. after (all_made z y.laid) asks) first.comes puts' in
-    let whole = comes_same (symbols_of y.laid) all.slots all.waiting (λ z. after (after (all_made z y.laid) asks) (pieces_made z place l.spot ps)) (λ z. all_made z (y.laid ++ l ∷ [])) (λ z e. after_after (all_made z y.laid) asks (pieces_made z place l.spot ps) ∙ ap (after (all_made z y.laid)) (sym (made_of_pieces z l)) ∙ sym (all_append z y.laid l)) all.comes in
+    let asks : Finished Entry = record { found = Ok (asked_by l.context.segment (asks_section x)); warned = [] } in
+    let puts' : PutsAll place l.context t ps u = subst (λ v. PutsAll place l.context v ps u) first.same puts in
+    let all = put_all place l.context t u ps (λ z. after (all_made z y.laid) asks) first.comes puts' in
+    let whole = comes_same (symbols_of y.laid) all.slots all.waiting (λ z. after (after (all_made z y.laid) asks) (pieces_made z place l.context ps)) (λ z. all_made z (y.laid ++ l ∷ [])) (λ z e. after_after (all_made z y.laid) asks (pieces_made z place l.context ps) ∙ ap (after (all_made z y.laid)) (sym (made_of_pieces z l)) ∙ sym (all_append z y.laid l)) all.comes in
     record {
       slots = all.slots;
       waiting = all.waiting;
@@ -225,10 +225,10 @@ one_pass m job r runs = grind (arith, common_steps, runs_laid, concluded_for)
 -- ---- Whatever is laid can be reached.
 
 -- every piece may wait
-all_wait : (place : Place) (s : Spot) (t : State) (ps : List Piece) → (u : State) × PutsAll place s t ps u
+all_wait : (place : Place) (s : Context) (t : State) (ps : List Piece) → (u : State) × PutsAll place s t ps u
 all_wait place s t [] = (t, refl)
 all_wait place s t (p ∷ ps) =
-    let v = awaiting t (record { place = place; spot = s; piece = p }) in
+    let v = awaiting t (record { place = place; context = s; piece = p }) in
     let rest = all_wait place s v ps in
     (rest.0, (v, later, rest.1))
 
@@ -236,7 +236,7 @@ laid_steps : (y : Layout) (slots : List Slot) (ws : List Waiting) (place : Place
 laid_steps y slots ws place x c (Some e) = refl
 laid_steps y slots ws place x c None =
     let l = laid (symbols_of y.laid) y.standing place x in
-    let put = all_wait place l.spot (asked (state_for y slots ws) l) (pieces_of l.length l.settled x) in
+    let put = all_wait place l.context (asked (state_for y slots ws) l) (pieces_of l.length l.settled x) in
     (known put.0 l, (put.0, put.1, refl), statement_follows y slots ws place x put.0 c put.1)
 
 laid_takes : Simulates (λ t z. Follows z t) Takes IsLaid

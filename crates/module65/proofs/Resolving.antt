@@ -13,7 +13,7 @@ use Rattle.module65.specs.Machine.{symbols_behind, IsSettled, Finished, Slot, Wa
 use Rattle.base65.specs.Outcome.{◌>>=◌}
 use Rattle.language65.specs.Parts.{Part, Content, Said}
 use Rattle.source65.specs.declared.place.Place.{Place}
-use Rattle.language65.specs.declared.laid.Spot.{Spot}
+use Rattle.language65.specs.declared.laid.Context.{Context}
 use Rattle.module65.specs.Laws.{FinalSettles}
 use Rattle.language65.specs.Contents.{put, telling, decided, export_said, import_fault, operand_form, stored}
 use Rattle.module65.specs.Pieces.{demanded, given, used, Made, Piece, Purpose, absent_of, as_part, as_said, asserted, datum, equated, exported, imported, made_of, operand, valued}
@@ -53,7 +53,7 @@ extends_then x y z a b = grind (arith, common_steps)
 -- ---- Which pieces are settled at their line.
 
 -- what needs no value
-pub settled_given : (y : Symbols) (place : Place) (s : Spot) (p : Part) → IsSettled y place s (given p) (put s.segment p)
+pub settled_given : (y : Symbols) (place : Place) (s : Context) (p : Part) → IsSettled y place s (given p) (put s.segment p)
 settled_given y place s p z e = refl
 
 -- a value whose form is final
@@ -75,11 +75,11 @@ awaited_append (awaited ∷ olds) news = let more = awaited_append olds news in 
 -- ---- What waits.
 
 -- one more that is resolved
-pub resolved_more : (y : Symbols) (done : List Waiting) (w : Waiting) (cs : List Content) (said : List ℕ) (m : Made) → resolved y done ≡ record { found = Ok cs; warned = said } → made_of y w.place w.spot w.piece ≡ Ok m → resolved y (done ++ w ∷ []) ≡ record { found = Ok (cs ++ m.content ∷ []); warned = said ++ m.warning }
+pub resolved_more : (y : Symbols) (done : List Waiting) (w : Waiting) (cs : List Content) (said : List ℕ) (m : Made) → resolved y done ≡ record { found = Ok cs; warned = said } → made_of y w.place w.context w.piece ≡ Ok m → resolved y (done ++ w ∷ []) ≡ record { found = Ok (cs ++ m.content ∷ []); warned = said ++ m.warning }
 resolved_more y done w cs said m before made = grind (arith, common_steps, resolved_append, after, append-nil)
 
 -- the first that has a fault ends it
-pub resolved_stops : (y : Symbols) (done rest : List Waiting) (w : Waiting) (cs : List Content) (said : List ℕ) (e : AsmFault) → resolved y done ≡ record { found = Ok cs; warned = said } → made_of y w.place w.spot w.piece ≡ Err e → resolved y (done ++ w ∷ rest) ≡ record { found = Err (record { place = w.place; fault = e }); warned = said }
+pub resolved_stops : (y : Symbols) (done rest : List Waiting) (w : Waiting) (cs : List Content) (said : List ℕ) (e : AsmFault) → resolved y done ≡ record { found = Ok cs; warned = said } → made_of y w.place w.context w.piece ≡ Err e → resolved y (done ++ w ∷ rest) ≡ record { found = Err (record { place = w.place; fault = e }); warned = said }
 resolved_stops y done rest w cs said e before made = grind (arith, common_steps, resolved_append, after, append-nil)
 
 -- ---- A piece asks for no section.
@@ -87,5 +87,5 @@ resolved_stops y done rest w cs said e before made = grind (arith, common_steps,
 abbrev asks_none : Made → Type 0
 asks_none m = m.content.asks ≡ false
 
-pub made_asks : (y : Symbols) (place : Place) (s : Spot) (p : Piece) → IfOk (made_of y place s p) asks_none
+pub made_asks : (y : Symbols) (place : Place) (s : Context) (p : Piece) → IfOk (made_of y place s p) asks_none
 made_asks y place s x1 = grind (arith, common_steps)

@@ -71,7 +71,7 @@ imports_below y n k e = grind (arith, common_steps)
 -- ---- Where contents stand, and whether they ask for a section.
 
 abbrev Stands : Laid → Content → Type 0
-Stands l c = (c.segment ≡ l.spot.segment) × (c.asks ≡ asks_section l.stated)
+Stands l c = (c.segment ≡ l.context.segment) × (c.asks ≡ asks_section l.stated)
 
 -- a relation of each with each
 abbrev EachWith : (Laid → Content → Type 0) → List Laid → List Content → Type 0
@@ -98,7 +98,7 @@ all_any (l ∷ ls) = (tt, all_any ls)
 
 asks_more : (q r : ℕ → Bool) → ((g : ℕ) → q g ≡ true → r g ≡ true) → (ls : List Laid) → AllByRecursion (Asks q) ls → AllByRecursion (Asks r) ls
 asks_more q r h [] every = tt
-asks_more q r h (l ∷ ls) (a, every) = ((λ e. h l.spot.segment (a e)), asks_more q r h ls every)
+asks_more q r h (l ∷ ls) (a, every) = ((λ e. h l.context.segment (a e)), asks_more q r h ls every)
 
 asked_more : (c : Content) (cs : List Content) (g : ℕ) → asked_in (segments_asked cs) g ≡ true → asked_in (segments_asked (c ∷ cs)) g ≡ true
 asked_more c cs g h = grind (arith, common_steps)
@@ -120,20 +120,20 @@ asked_keys ls cs h = asks_more (asked_in (segments_asked cs)) (asked_in (section
 -- what is known of each statement
 record IsSafe (asked : List ℕ) (bound : ℕ) (l : Laid) : Type 0 where
   sound : IsSound l.stated
-  standing : l.spot.segment < bound
+  standing : l.context.segment < bound
   asks : Asks (asked_in asked) l
   measured : (before : Symbols) × IsMeasured before l
 
 record IsFor (asked : List ℕ) (count bound : ℕ) (l : Laid) (c : Content) : Type 0 where
-  place : c.segment ≡ l.spot.segment
-  within : l.spot.segment < bound
+  place : c.segment ≡ l.context.segment
+  within : l.context.segment < bound
   sound : IsSoundContent asked count c
   long : sum_by part_len c.parts ≡ l.length
 
 content_for : (asked : List ℕ) (count bound : ℕ) (y : Symbols) → IsKnown asked count y → (l : Laid) → IsSafe asked bound l → IfOk (content_of y l) (IsFor asked count bound l)
 content_for asked count bound y k l p =
-    well_then (PartsOf asked count l.length) (IsFor asked count bound l) (parts_of y l) (λ ps. said_of y l >>= (λ ss. Ok (record { segment = l.spot.segment; asks = asks_section l.stated; parts = ps; said = ss }))) (parts_sound asked count y p.measured.0 k l p.asks p.measured.1)
-    (λ ps w. well_then (AreSoundSaid asked count) (IsFor asked count bound l) (said_of y l) (λ ss. Ok (record { segment = l.spot.segment; asks = asks_section l.stated; parts = ps; said = ss })) (said_sound asked count y k l p.sound p.asks)
+    well_then (PartsOf asked count l.length) (IsFor asked count bound l) (parts_of y l) (λ ps. said_of y l >>= (λ ss. Ok (record { segment = l.context.segment; asks = asks_section l.stated; parts = ps; said = ss }))) (parts_sound asked count y p.measured.0 k l p.asks p.measured.1)
+    (λ ps w. well_then (AreSoundSaid asked count) (IsFor asked count bound l) (said_of y l) (λ ss. Ok (record { segment = l.context.segment; asks = asks_section l.stated; parts = ps; said = ss })) (said_sound asked count y k l p.sound p.asks)
     (λ ss v. record { place = refl; within = p.standing; sound = record { parts = w.0; said = v }; long = w.1 }))
 
 abbrev AreMeasured : List Laid → Type 0
@@ -144,7 +144,7 @@ all_places : {A : Type 0} (P : A → Type 0) (xs : List A) → ((i : ℕ) (x : A
 all_places P [] h = tt
 all_places P (x ∷ xs) h = (h 0 x refl, all_places P xs (λ i y e. h (suc i) y e))
 
-safe_all : (asked : List ℕ) (bound : ℕ) (ls : List Laid) → AllByRecursion (λ l. IsSound l.stated) ls → AllByRecursion (λ l. l.spot.segment < bound) ls → AllByRecursion (Asks (asked_in asked)) ls → AreMeasured ls → AllByRecursion (IsSafe asked bound) ls
+safe_all : (asked : List ℕ) (bound : ℕ) (ls : List Laid) → AllByRecursion (λ l. IsSound l.stated) ls → AllByRecursion (λ l. l.context.segment < bound) ls → AllByRecursion (Asks (asked_in asked)) ls → AreMeasured ls → AllByRecursion (IsSafe asked bound) ls
 safe_all asked bound [] s b a m = tt
 safe_all asked bound (l ∷ ls) (s, ss) (b, bs) (a, every) (m, ms) = (record { sound = s; standing = b; asks = a; measured = m }, safe_all asked bound ls ss bs every ms)
 

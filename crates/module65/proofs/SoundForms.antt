@@ -25,7 +25,7 @@ use Rattle.language65.specs.declared.fault.AsmFault.TheVariants.{Undefined, NoSu
 use Rattle.language65.specs.declared.language.Statement.{Statement}
 use Rattle.language65.specs.declared.language.Statement.TheVariants.{Label, CheapLabel, UnnamedLabel, Constant, OpenProc}
 use Rattle.language65.specs.Laid.{Laid, asks_section, has_here}
-use Rattle.language65.specs.declared.laid.Spot.{Spot}
+use Rattle.language65.specs.declared.laid.Context.{Context}
 use Rattle.language65.specs.Names.{Meaning, defined_at, imported_as, backward_meaning, first_found, last_of, meaning_of, member_meaning, or_fault, plain_meaning, scope_from, scoped_meaning, scopes_from, scopes_of, shown, unnamed_meaning}
 use Rattle.language65.specs.Symbols.{Definition, Symbols, cheap_in, defined, definition_with, definitions_of, imported, key_defined, named, unnamed_at, value_defined}
 
@@ -67,7 +67,7 @@ well_then x1 x2 x3 f h k = grind (arith, common_steps)
 
 -- a statement's segment passes where it asks for a section
 abbrev pub Asks : (ℕ → Bool) → Laid → Type 0
-Asks q l = asks_section l.stated ≡ true → q l.spot.segment ≡ true
+Asks q l = asks_section l.stated ≡ true → q l.context.segment ≡ true
 
 or_left : (a b : Bool) → a ≡ true → (a || b) ≡ true
 or_left a b h = rw h refl
@@ -78,7 +78,7 @@ or_right false b h = h
 
 -- ---- Expressions.
 
-form_well : (q r : ℕ → Bool) (operand : Tree → Result Form AsmFault) (s : Spot) → ((t : Tree) → IfOk (operand t) (IsWell q r)) → (e : Tree) → (has_here e ≡ true → q s.segment ≡ true) → IfOk (form_by operand s e) (IsWell q r)
+form_well : (q r : ℕ → Bool) (operand : Tree → Result Form AsmFault) (s : Context) → ((t : Tree) → IfOk (operand t) (IsWell q r)) → (e : Tree) → (has_here e ≡ true → q s.segment ≡ true) → IfOk (form_by operand s e) (IsWell q r)
 form_well q r operand s h (number v) k = record { folded = (refl, omega arith); holds = tt }
 form_well q r operand s h here k = record { folded = (refl, omega arith); holds = k refl }
 form_well q r operand s h (name global parts) k = h (name global parts)
@@ -92,8 +92,8 @@ form_well q r operand s h (tree.binary op e g) k =
 
 -- ---- What is defined.
 
-abbrev FormsWell : (ℕ → Bool) → (ℕ → Bool) → (Spot → Tree → Result Form AsmFault) → Type 0
-FormsWell q r a = (s : Spot) (e : Tree) → (has_here e ≡ true → q s.segment ≡ true) → IfOk (a s e) (IsWell q r)
+abbrev FormsWell : (ℕ → Bool) → (ℕ → Bool) → (Context → Tree → Result Form AsmFault) → Type 0
+FormsWell q r a = (s : Context) (e : Tree) → (has_here e ≡ true → q s.segment ≡ true) → IfOk (a s e) (IsWell q r)
 
 -- the segment of a definition passes where its value holds an address there
 abbrev ValuePasses : (ℕ → Bool) → ℕ → Option Tree → Type 0
@@ -101,14 +101,14 @@ ValuePasses q g None = q g ≡ true
 ValuePasses q g (Some e) = has_here e ≡ true → q g ≡ true
 
 abbrev Passes : (ℕ → Bool) → Definition → Type 0
-Passes q d = ValuePasses q d.spot.segment d.value
+Passes q d = ValuePasses q d.context.segment d.value
 
 -- all definitions pass, and the imports
 pub record Pass (q r : ℕ → Bool) (y : Symbols) : Type 0 where
   pub definitions : AllByRecursion (Passes q) y.definitions
   pub imports : (n : List ℕ) (k : ℕ) → imported y n ≡ Some k → r k ≡ true
 
-value_well : (q r : ℕ → Bool) (a : Spot → Tree → Result Form AsmFault) → FormsWell q r a → (s : Spot) (v : Option Tree) → ValuePasses q s.segment v → IfOk (form_of_value a s v) (IsWell q r)
+value_well : (q r : ℕ → Bool) (a : Context → Tree → Result Form AsmFault) → FormsWell q r a → (s : Context) (v : Option Tree) → ValuePasses q s.segment v → IfOk (form_of_value a s v) (IsWell q r)
 value_well q r a h s x1 k = grind (arith, common_steps)
 
 item_of : {A : Type 0} (P : A → Type 0) (xs : List A) (j : ℕ) (x : A) → AllByRecursion P xs → slice_get xs j ≡ Some x → P x
@@ -121,7 +121,7 @@ abbrev MeansWell : (ℕ → Bool) → Meaning → Type 0
 MeansWell r (defined_at j) = ⊤
 MeansWell r (imported_as k) = r k ≡ true
 
-meaning_well : (q r : ℕ → Bool) (y : Symbols) (a : Spot → Tree → Result Form AsmFault) → Pass q r y → FormsWell q r a → (m : Meaning) → MeansWell r m → IfOk (form_of_meaning a y m) (IsWell q r)
+meaning_well : (q r : ℕ → Bool) (y : Symbols) (a : Context → Tree → Result Form AsmFault) → Pass q r y → FormsWell q r a → (m : Meaning) → MeansWell r m → IfOk (form_of_meaning a y m) (IsWell q r)
 meaning_well q r y a pass h x1 w = grind (arith, common_steps, value_well, item_of)
 
 -- ---- Names.
@@ -138,7 +138,7 @@ plain_well q r y scope n pass = found_well r (Undefined n) (first_found (λ s. d
 member_well : (q r : ℕ → Bool) (y : Symbols) (n : List ℕ) (absent lost : AsmFault) (scope : Option ℕ) → Pass q r y → IfOk (member_meaning y n absent lost scope) (MeansWell r)
 member_well q r y n absent lost x1 pass = grind (arith, common_steps)
 
-scoped_well : (q r : ℕ → Bool) (y : Symbols) (s : Spot) (global : Bool) (parts : List (List ℕ)) → Pass q r y → IfOk (scoped_meaning y s global parts) (MeansWell r)
+scoped_well : (q r : ℕ → Bool) (y : Symbols) (s : Context) (global : Bool) (parts : List (List ℕ)) → Pass q r y → IfOk (scoped_meaning y s global parts) (MeansWell r)
 scoped_well q r y s global parts pass = member_well q r y (last_of parts) (Undefined (shown global parts)) (NoSuchScope (shown global parts)) (scope_from (take s.opened y.scopes) s.scope global (scopes_of parts)) pass
 
 unnamed_well : (r : ℕ → Bool) (y : Symbols) (k : ℕ) → IfOk (unnamed_meaning y k) (MeansWell r)
@@ -147,7 +147,7 @@ unnamed_well r y k = found_well r NoSuchLabel (defined y (unnamed_at k)) None (n
 backward_well : (r : ℕ → Bool) (y : Symbols) (k n : ℕ) → IfOk (backward_meaning y k n) (MeansWell r)
 backward_well r y k n = grind (arith, common_steps)
 
-operand_well : (q r : ℕ → Bool) (y : Symbols) (s : Spot) (e : Tree) → Pass q r y → IfOk (meaning_of y s e) (MeansWell r)
+operand_well : (q r : ℕ → Bool) (y : Symbols) (s : Context) (e : Tree) → Pass q r y → IfOk (meaning_of y s e) (MeansWell r)
 operand_well q r y s x1 pass = search (rules, plain_well, scoped_well, found_well, no_import, unnamed_well, backward_well)
 
 -- ---- Forms.
@@ -158,7 +158,7 @@ norm_each q r y pass (suc n) = λ s e k.
     form_well q r (λ t. meaning_of y s t >>= form_of_meaning (norm n y) y) s
     (λ t. well_then (MeansWell r) (IsWell q r) (meaning_of y s t) (form_of_meaning (norm n y) y) (operand_well q r y s t pass) (λ m w. meaning_well q r y (norm n y) pass (norm_each q r y pass n) m w)) e k
 
-pub norm_well : (q r : ℕ → Bool) (y : Symbols) → Pass q r y → (s : Spot) (e : Tree) → (has_here e ≡ true → q s.segment ≡ true) → IfOk (norm_of y s e) (IsWell q r)
+pub norm_well : (q r : ℕ → Bool) (y : Symbols) → Pass q r y → (s : Context) (e : Tree) → (has_here e ≡ true → q s.segment ≡ true) → IfOk (norm_of y s e) (IsWell q r)
 norm_well q r y pass = norm_each q r y pass (suc (length y.definitions))
 
 pub export_well : (q r : ℕ → Bool) (y : Symbols) → Pass q r y → (j : ℕ) → IfOk (defined_form y j) (IsWell q r)
@@ -166,7 +166,7 @@ export_well q r y pass j = meaning_well q r y (norm_of y) pass (norm_well q r y 
 
 -- ---- The definitions of statements that ask for their sections.
 
-one_passes : (q : ℕ → Bool) (s : Spot) (own : AddressSize) (x : Statement) → (asks_section x ≡ true → q s.segment ≡ true) → AllByRecursion (Passes q) (definition_with (key_defined s x) (value_defined x) s own)
+one_passes : (q : ℕ → Bool) (s : Context) (own : AddressSize) (x : Statement) → (asks_section x ≡ true → q s.segment ≡ true) → AllByRecursion (Passes q) (definition_with (key_defined s x) (value_defined x) s own)
 one_passes q s own x1 h = grind (arith, common_steps)
 
 pub all_append : {X : Type 0} (P : X → Type 0) (xs ys : List X) → AllByRecursion P xs → AllByRecursion P ys → AllByRecursion P (xs ++ ys)
@@ -175,4 +175,4 @@ all_append P (x ∷ xs) ys (p, h) k = (p, all_append P xs ys h k)
 
 pub definitions_pass : (q : ℕ → Bool) (ls : List Laid) → AllByRecursion (Asks q) ls → AllByRecursion (Passes q) (flat_map definitions_of ls)
 definitions_pass q [] h = tt
-definitions_pass q (l ∷ ls) (a, h) = all_append (Passes q) (definitions_of l) (flat_map definitions_of ls) (one_passes q l.spot l.size l.stated a) (definitions_pass q ls h)
+definitions_pass q (l ∷ ls) (a, h) = all_append (Passes q) (definitions_of l) (flat_map definitions_of ls) (one_passes q l.context l.size l.stated a) (definitions_pass q ls h)

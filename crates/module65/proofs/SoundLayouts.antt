@@ -16,10 +16,10 @@ use Rattle.language65.specs.declared.fault.AsmFault.{AsmFault}
 use Rattle.language65.specs.declared.fault.AsmFault.TheVariants.{NotUnderstood, SectionTooLarge}
 use Rattle.source65.specs.declared.place.Place.{Place}
 use Rattle.language65.specs.Laid.{Laid}
-use Rattle.language65.specs.declared.laid.Spot.{Spot}
+use Rattle.language65.specs.declared.laid.Context.{Context}
 use Rattle.language65.specs.declared.language.Statement.{Statement}
 use Rattle.language65.specs.declared.language.Statement.TheVariants as statement
-use Rattle.language65.specs.Layout.{Layout, Standing, current_behind, first_size, grown_at, kept_behind, laid, last_kept, layout_behind, multiple_of, named_segments, new_segment, nothing_laid, or_last, own_size, place_of, rest_kept, segment_at, segments_behind, size_stated, spot_of}
+use Rattle.language65.specs.Layout.{Layout, Standing, current_behind, first_size, grown_at, kept_behind, laid, last_kept, layout_behind, multiple_of, named_segments, new_segment, nothing_laid, or_last, own_size, place_of, rest_kept, segment_at, segments_behind, size_stated, context_of}
 use Rattle.language65.specs.LineFaults.{alignment_fault, block_fault, defined_twice, first_fault, form_fault, is_open, line_fault, lost_scopes, missing_file, opened_twice, operand_fault, part_fault, pop_fault, scope_name, size_fault, stands_outside, trees_of, when, unless_fault}
 use Rattle.module65.specs.Laying.{IsLaid}
 use Rattle.language65.specs.Sizes.{length_of, settled_of}
@@ -29,7 +29,7 @@ use Rattle.language65.proofs.Segments.{Grows, all_more, all_same, end_behind, gr
 
 -- ---- Faults that there aren't.
 
-has_room : (y : Symbols) (w : Standing) (x : Statement) → line_fault y w x ≡ None → (segment_at w.segments w.current).end + length_of y (spot_of w) (own_size w) x ≤ section_limit
+has_room : (y : Symbols) (w : Standing) (x : Statement) → line_fault y w x ≡ None → (segment_at w.segments w.current).end + length_of y (context_of w) (own_size w) x ≤ section_limit
 has_room y w x h = grind (arith, common_steps)
 
 -- ---- Lengths.
@@ -39,10 +39,10 @@ is_segment (statement.Segment n own) = true
 is_segment _ = false
 
 -- only a constant has a size of its own, and it places nothing
-same_length : (y : Symbols) (s : Spot) (own : AddressSize) (x : Statement) → length_of y s own x ≡ length_of y s (size_stated y s own x) x
+same_length : (y : Symbols) (s : Context) (own : AddressSize) (x : Statement) → length_of y s own x ≡ length_of y s (size_stated y s own x) x
 same_length y s own x1 = grind (arith, common_steps)
 
-same_settled : (y : Symbols) (s : Spot) (own : AddressSize) (x : Statement) → settled_of y s own x ≡ settled_of y s (size_stated y s own x) x
+same_settled : (y : Symbols) (s : Context) (own : AddressSize) (x : Statement) → settled_of y s own x ≡ settled_of y s (size_stated y s own x) x
 same_settled y s own x1 = grind (arith, common_steps)
 
 -- ---- What holds behind each statement.
@@ -51,7 +51,7 @@ abbrev total_in : List Laid → ℕ → ℕ
 total_in ls g = sum_by (λ (l : Laid). l.length) (statements_in ls g)
 
 abbrev stands_in : ℕ → Laid → Type 0
-stands_in count l = l.spot.segment < count
+stands_in count l = l.context.segment < count
 
 abbrev are_below : ℕ → List ℕ → Type 0
 are_below count ks = AllByRecursion (λ k. k < count) ks
@@ -83,11 +83,11 @@ behind_push M [] l h m (suc i) x e = absurd cc
 behind_push M (y ∷ ys) l h m zero x e = h zero x e
 behind_push M (y ∷ ys) l h m (suc i) x e = behind_push (λ zs z. M (y ∷ zs) z) ys l (λ j z f. h (suc j) z f) m i x e
 
-total_push : (ls : List Laid) (l : Laid) (g : ℕ) → total_in (ls ++ l ∷ []) g ≡ total_in ls g + cond (nat_eq l.spot.segment g) l.length 0
+total_push : (ls : List Laid) (l : Laid) (g : ℕ) → total_in (ls ++ l ∷ []) g ≡ total_in ls g + cond (nat_eq l.context.segment g) l.length 0
 total_push ls l g = grind (arith, common_steps)
 
 -- one more statement in the current segment
-good_push : (ls : List Laid) (gs hs : List Segment) (current : ℕ) (kept : List ℕ) (l : Laid) → Good ls gs current kept → Grows gs hs current l.length → l.spot.segment ≡ current → IsSound l.stated → MeasuredBehind ls l → (segment_at gs current).end + l.length ≤ section_limit → Good (ls ++ l ∷ []) hs current kept
+good_push : (ls : List Laid) (gs hs : List Segment) (current : ℕ) (kept : List ℕ) (l : Laid) → Good ls gs current kept → Grows gs hs current l.length → l.context.segment ≡ current → IsSound l.stated → MeasuredBehind ls l → (segment_at gs current).end + l.length ≤ section_limit → Good (ls ++ l ∷ []) hs current kept
 good_push ls gs hs current kept l good more at sound measured room = record {
   named = ap are_names more.names ∙ good.named;
   sound = all_more (λ (m : Laid). IsSound m.stated) ls l good.sound sound;
@@ -129,7 +129,7 @@ good_laying ls w count multiple (statement.Segment n own) good sound more next n
     good_named more w.segments w.current w.kept n own (place_of w.segments n) (next w.segments (subst (Grows w.segments w.segments w.current) (sym (none refl)) (grows_none w.segments w.current))) sound refl
 good_laying ls w count multiple x good sound more next none = next (grown_at w.segments w.current count multiple) (grows w.segments w.current count multiple good.here)
 
-segment_empty : (before : Symbols) (s : Spot) (own : AddressSize) (x : Statement) → is_segment x ≡ true → length_of before s own x ≡ 0
+segment_empty : (before : Symbols) (s : Context) (own : AddressSize) (x : Statement) → is_segment x ≡ true → length_of before s own x ≡ 0
 segment_empty before s own x1 h = grind (arith, common_steps)
 
 good_step : (y : Layout) (place : Place) (x : Statement) → IsGood y → IsSound x → line_fault (symbols_of y.laid) y.standing x ≡ None → IsGood (layout_behind y place x)
@@ -138,9 +138,9 @@ good_step y place x good sound none =
     let z : Symbols = symbols_of y.laid in
     let l : Laid = laid z w place x in
     let room = has_room z w x none in
-    let measured : MeasuredBehind y.laid l = record { length = same_length z (spot_of w) (own_size w) x; settled = same_settled z (spot_of w) (own_size w) x } in
-    good_current (y.laid ++ l ∷ []) w l.length (multiple_of z (spot_of w) x) x
-    (good_laying y.laid w l.length (multiple_of z (spot_of w) x) x good sound (y.laid ++ l ∷ []) (λ hs more. good_push y.laid w.segments hs w.current w.kept l good more refl sound measured room) (segment_empty z (spot_of w) (own_size w) x))
+    let measured : MeasuredBehind y.laid l = record { length = same_length z (context_of w) (own_size w) x; settled = same_settled z (context_of w) (own_size w) x } in
+    good_current (y.laid ++ l ∷ []) w l.length (multiple_of z (context_of w) x) x
+    (good_laying y.laid w l.length (multiple_of z (context_of w) x) x good sound (y.laid ++ l ∷ []) (λ hs more. good_push y.laid w.segments hs w.current w.kept l good more refl sound measured room) (segment_empty z (context_of w) (own_size w) x))
 
 pub good_statement : (y z : Layout) (place : Place) (x : Statement) → IsGood y → IsSound x → IsLaid y place x (Ok z) → IsGood z
 good_statement y z place x good sound h = by (line_fault (symbols_of y.laid) y.standing x) refl h

@@ -27,7 +27,7 @@ use Rattle.source65.specs.declared.place.Place.{Place}
 use Rattle.language65.specs.Laid.{Laid, asks_section, has_here}
 use Rattle.language65.specs.declared.laid.Settled.{Settled}
 use Rattle.language65.specs.declared.laid.Settled.TheVariants.{Unsettled, FromByte}
-use Rattle.language65.specs.declared.laid.Spot.{Spot}
+use Rattle.language65.specs.declared.laid.Context.{Context}
 use Rattle.language65.specs.declared.language.Item.{Item}
 use Rattle.language65.specs.declared.language.Operand.{Operand}
 use Rattle.language65.specs.declared.language.Statement.{Statement}
@@ -74,7 +74,7 @@ sound_form asked count f w = record { folded = w.folded; sections = sections_pas
 abbrev pub IsKnown : List ℕ → ℕ → Symbols → Type 0
 IsKnown asked count y = Pass (asked_in asked) (below count) y
 
-pub form_sound : (asked : List ℕ) (count : ℕ) (y : Symbols) → IsKnown asked count y → (s : Spot) (e : Tree) → (has_here e ≡ true → asked_in asked s.segment ≡ true) → IfOk (norm_of y s e) (IsWell (asked_in asked) (below count))
+pub form_sound : (asked : List ℕ) (count : ℕ) (y : Symbols) → IsKnown asked count y → (s : Context) (e : Tree) → (has_here e ≡ true → asked_in asked s.segment ≡ true) → IfOk (norm_of y s e) (IsWell (asked_in asked) (below count))
 form_sound asked count y k s e h = norm_well (asked_in asked) (below count) y k s e h
 
 -- ---- What is written with its place.
@@ -97,14 +97,14 @@ stored_sound : (asked : List ℕ) (count : ℕ) (width : Width) (place : Place) 
 stored_sound asked count width place (lit v) w = grind (arith, common_steps, value_len)
 stored_sound asked count width place f w = written_with (PartOf asked count (width_len width)) place (Waiting width place f) (λ e. ((form_at asked count place f w e, refl), refl))
 
-item_sound : (asked : List ℕ) (count : ℕ) (y : Symbols) → IsKnown asked count y → (l : Laid) → asked_in asked l.spot.segment ≡ true → (width : Width) (it : Item) → IfOk (item_part y l width it) (PartOf asked count (item_len width it))
-item_sound asked count y k l h width (Value e) = well_then (IsWell (asked_in asked) (below count)) (PartOf asked count (width_len width)) (norm_of y l.spot e) (stored width l.place) (form_sound asked count y k l.spot e (λ a. h)) (λ f w. stored_sound asked count width l.place f w)
+item_sound : (asked : List ℕ) (count : ℕ) (y : Symbols) → IsKnown asked count y → (l : Laid) → asked_in asked l.context.segment ≡ true → (width : Width) (it : Item) → IfOk (item_part y l width it) (PartOf asked count (item_len width it))
+item_sound asked count y k l h width (Value e) = well_then (IsWell (asked_in asked) (below count)) (PartOf asked count (width_len width)) (norm_of y l.context e) (stored width l.place) (form_sound asked count y k l.context e (λ a. h)) (λ f w. stored_sound asked count width l.place f w)
 item_sound asked count y k l h width (Text bytes) = (tt, refl)
 
 abbrev pub PartsOf : List ℕ → ℕ → ℕ → List Part → Type 0
 PartsOf asked count len ps = AllByRecursion (IsSoundPart asked count) ps × (sum_by part_len ps ≡ len)
 
-items_sound : (asked : List ℕ) (count : ℕ) (y : Symbols) → IsKnown asked count y → (l : Laid) → asked_in asked l.spot.segment ≡ true → (width : Width) (its : List Item) → IfOk (each (item_part y l width) its) (PartsOf asked count (sum_by (item_len width) its))
+items_sound : (asked : List ℕ) (count : ℕ) (y : Symbols) → IsKnown asked count y → (l : Laid) → asked_in asked l.context.segment ≡ true → (width : Width) (its : List Item) → IfOk (each (item_part y l width) its) (PartsOf asked count (sum_by (item_len width) its))
 items_sound asked count y k l h width [] = (tt, refl)
 items_sound asked count y k l h width (it ∷ its) =
     well_then (PartOf asked count (item_len width it)) (PartsOf asked count (sum_by (item_len width) (it ∷ its))) (item_part y l width it) (λ p. each (item_part y l width) its >>= (λ ps. Ok (p ∷ ps))) (item_sound asked count y k l h width it)
@@ -154,7 +154,7 @@ address_form m e x1 own r = grind (arith, common_steps)
 branch_form : (m : Mnemonic) (e : Tree) (forced : Option AddressSize) (r : Option Index) → is_branch m ≡ true → MayForm m (Some e) (branch_mode forced r)
 branch_form m e x1 x2 b = grind (arith, common_steps)
 
-operand_mode : (before : Symbols) (s : Spot) (own : AddressSize) (m : Mnemonic) (o : Operand) → MayForm m (operand_tree o) (mode_of before s own m o)
+operand_mode : (before : Symbols) (s : Context) (own : AddressSize) (m : Mnemonic) (o : Operand) → MayForm m (operand_tree o) (mode_of before s own m o)
 operand_mode before s own m operand.Absent = first_form m None Implied Accumulator (λ h. refl) (λ h. refl)
 operand_mode before s own m operand.Accumulator = first_form m None Accumulator Accumulator (λ h. refl) (λ h. refl)
 operand_mode before s own m (operand.Immediate e) = first_form m (Some e) Immediate Immediate (stored_behind e Immediate) (stored_behind e Immediate)
@@ -169,24 +169,24 @@ operand_mode before s own m (operand.IndirectY e) = first_form m (Some e) Indire
 
 -- ---- Instructions.
 
-operand_sound : (asked : List ℕ) (count : ℕ) (s : Spot) → asked_in asked s.segment ≡ true → (width : Width) (f : Form) → IsWell (asked_in asked) (below count) f → IfOk (operand_form width s f) (IsWell (asked_in asked) (below count))
+operand_sound : (asked : List ℕ) (count : ℕ) (s : Context) → asked_in asked s.segment ≡ true → (width : Width) (f : Form) → IsWell (asked_in asked) (below count) f → IfOk (operand_form width s f) (IsWell (asked_in asked) (below count))
 operand_sound asked count s h x1 f w = grind (arith, common_steps)
 
-behind_sound : (asked : List ℕ) (count : ℕ) (y : Symbols) → IsKnown asked count y → (l : Laid) → asked_in asked l.spot.segment ≡ true → (w : Option Width) (t : Option Tree) → (t ≡ None → w ≡ None) → IfOk (operand_parts y l w t) (PartsOf asked count (operand_len w))
+behind_sound : (asked : List ℕ) (count : ℕ) (y : Symbols) → IsKnown asked count y → (l : Laid) → asked_in asked l.context.segment ≡ true → (w : Option Width) (t : Option Tree) → (t ≡ None → w ≡ None) → IfOk (operand_parts y l w t) (PartsOf asked count (operand_len w))
 behind_sound asked count y k l h None t a = (tt, refl)
 behind_sound asked count y k l h (Some width) None a = (let none : Some width ≡ None = a refl in absurd cc)
 behind_sound asked count y k l h (Some width) (Some e) a =
     let Well : Form → Type 0 = IsWell (asked_in asked) (below count) in
     well_then (PartOf asked count (width_len width)) (PartsOf asked count (width_len width)) (operand_part y l width e) (λ p. Ok (p ∷ []))
-    (well_then Well (PartOf asked count (width_len width)) (norm_of y l.spot e) (λ f. operand_form width l.spot f >>= stored width l.place) (form_sound asked count y k l.spot e (λ z. h))
-    (λ f v. well_then Well (PartOf asked count (width_len width)) (operand_form width l.spot f) (stored width l.place) (operand_sound asked count l.spot h width f v)
+    (well_then Well (PartOf asked count (width_len width)) (norm_of y l.context e) (λ f. operand_form width l.context f >>= stored width l.place) (form_sound asked count y k l.context e (λ z. h))
+    (λ f v. well_then Well (PartOf asked count (width_len width)) (operand_form width l.context f) (stored width l.place) (operand_sound asked count l.context h width f v)
     (λ g w. stored_sound asked count width l.place g w)))
     (λ p z. ((z.0, tt), sum_by-cons part_len p [] ∙ (let same = z.1 in omega (arith, same))))
 
 code_sound : (asked : List ℕ) (count : ℕ) (o : Option ℕ) → IsSoundPart asked count (opcode_part o)
 code_sound asked count x1 = grind (arith, common_steps)
 
-instruction_sound : (asked : List ℕ) (count : ℕ) (y : Symbols) → IsKnown asked count y → (l : Laid) → asked_in asked l.spot.segment ≡ true → (m : Mnemonic) (o : Operand) (mode : Option Mode) → MayForm m (operand_tree o) mode → IfOk (instruction_parts y l m o (mode_settled mode)) (PartsOf asked count (mode_len mode))
+instruction_sound : (asked : List ℕ) (count : ℕ) (y : Symbols) → IsKnown asked count y → (l : Laid) → asked_in asked l.context.segment ≡ true → (m : Mnemonic) (o : Operand) (mode : Option Mode) → MayForm m (operand_tree o) mode → IfOk (instruction_parts y l m o (mode_settled mode)) (PartsOf asked count (mode_len mode))
 instruction_sound asked count y k l h m o None f = (tt, refl)
 instruction_sound asked count y k l h m o (Some mode) f =
     well_then (PartsOf asked count (operand_len (width_of mode))) (PartsOf asked count (1 + operand_len (width_of mode))) (operand_parts y l (width_of mode) (operand_tree o)) (λ ps. Ok (opcode_part (opcode_of m mode) ∷ ps)) (behind_sound asked count y k l h (width_of mode) (operand_tree o) f.alone)
@@ -194,7 +194,7 @@ instruction_sound asked count y k l h m o (Some mode) f =
 
 -- ---- Room.
 
-room_sound : (asked : List ℕ) (count : ℕ) (before : Symbols) (s : Spot) (len : ℕ) (v : Option Tree) → PartOf asked count len (room_part len (fill_settled before s v))
+room_sound : (asked : List ℕ) (count : ℕ) (before : Symbols) (s : Context) (len : ℕ) (v : Option Tree) → PartOf asked count len (room_part len (fill_settled before s v))
 room_sound asked count before s len x1 = grind (arith, common_steps)
 
 one_part : (asked : List ℕ) (count len : ℕ) (p : Part) → PartOf asked count len p → PartsOf asked count len (p ∷ [])
@@ -205,19 +205,19 @@ one_part asked count len p h = ((h.0, tt), sum_by-cons part_len p [] ∙ (let sa
 between_taken : (bytes : List ℕ) (start : ℕ) (len : Option ℤ) → length (take (length (bytes_between bytes start len)) (drop start bytes)) ≡ length (bytes_between bytes start len)
 between_taken bytes start x1 = grind (arith, common_steps)
 
-file_taken : (before : Symbols) (s : Spot) (bytes : Option (List ℕ)) (start len : Option Tree) → length (file_bytes (file_len before s bytes start len) bytes (FromByte (part_start before s start))) ≡ file_len before s bytes start len
+file_taken : (before : Symbols) (s : Context) (bytes : Option (List ℕ)) (start len : Option Tree) → length (file_bytes (file_len before s bytes start len) bytes (FromByte (part_start before s start))) ≡ file_len before s bytes start len
 file_taken before s x1 start len = grind (arith, common_steps, between_taken)
 
 -- ---- Statements.
 
-abbrev pub laid_with : Statement → Place → Spot → ℕ → AddressSize → Settled → Laid
-laid_with x place s len own settled = record { stated = x; place = place; spot = s; length = len; size = own; settled = settled }
+abbrev pub laid_with : Statement → Place → Context → ℕ → AddressSize → Settled → Laid
+laid_with x place s len own settled = record { stated = x; place = place; context = s; length = len; size = own; settled = settled }
 
-abbrev PartsAre : List ℕ → ℕ → Symbols → Place → Spot → AddressSize → Statement → ℕ → Settled → Type 0
+abbrev PartsAre : List ℕ → ℕ → Symbols → Place → Context → AddressSize → Statement → ℕ → Settled → Type 0
 PartsAre asked count y place s own x len settled = IfOk (parts_of y (laid_with x place s len own settled)) (PartsOf asked count len)
 
 -- with the length and what is settled as they are measured
-parts_with : (asked : List ℕ) (count : ℕ) (y before : Symbols) → IsKnown asked count y → (place : Place) (s : Spot) (own : AddressSize) (x : Statement) → (asks_section x ≡ true → asked_in asked s.segment ≡ true) → PartsAre asked count y place s own x (length_of before s own x) (settled_of before s own x)
+parts_with : (asked : List ℕ) (count : ℕ) (y before : Symbols) → IsKnown asked count y → (place : Place) (s : Context) (own : AddressSize) (x : Statement) → (asks_section x ≡ true → asked_in asked s.segment ≡ true) → PartsAre asked count y place s own x (length_of before s own x) (settled_of before s own x)
 parts_with asked count y before k place s own (Instruction m o) a = grind (arith, common_steps, instruction_sound, operand_mode)
 parts_with asked count y before k place s own (Values width its) a =
     items_sound asked count y k (laid_with (Values width its) place s (sum_by (item_len width) its) own Unsettled) (a refl) width its
@@ -228,6 +228,6 @@ parts_with asked count y before k place s own _ a = (tt, refl)
 
 pub parts_sound : (asked : List ℕ) (count : ℕ) (y before : Symbols) → IsKnown asked count y → (l : Laid) → Asks (asked_in asked) l → IsMeasured before l → IfOk (parts_of y l) (PartsOf asked count l.length)
 parts_sound asked count y before k l a e =
-    let P : ℕ → Type 0 = λ n. PartsAre asked count y l.place l.spot l.size l.stated n (settled_of before l.spot l.size l.stated) in
-    let Q : Settled → Type 0 = λ z. PartsAre asked count y l.place l.spot l.size l.stated l.length z in
-    subst Q (sym e.settled) (subst P (sym e.length) (parts_with asked count y before k l.place l.spot l.size l.stated a))
+    let P : ℕ → Type 0 = λ n. PartsAre asked count y l.place l.context l.size l.stated n (settled_of before l.context l.size l.stated) in
+    let Q : Settled → Type 0 = λ z. PartsAre asked count y l.place l.context l.size l.stated l.length z in
+    subst Q (sym e.settled) (subst P (sym e.length) (parts_with asked count y before k l.place l.context l.size l.stated a))

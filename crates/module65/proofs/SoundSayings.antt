@@ -16,7 +16,7 @@ use Rattle.object65.specs.declared.object.Action.{Action}
 use Rattle.source65.specs.declared.place.Place.{Place}
 use Rattle.language65.specs.Laid.{Laid, asks_section}
 use Rattle.language65.specs.declared.laid.Settled.{Settled}
-use Rattle.language65.specs.declared.laid.Spot.{Spot}
+use Rattle.language65.specs.declared.laid.Context.{Context}
 use Rattle.language65.specs.declared.language.Statement.{Statement}
 use Rattle.language65.specs.declared.language.Statement.TheVariants.{Constant, Import, Export, Global, ForceImport, Assert}
 use Rattle.language65.specs.Norms.{defined_form, norm_of}
@@ -100,7 +100,7 @@ decided_sound asked count act place words f lt w = written_with (AreSoundSaid as
 
 -- ---- Statements.
 
-said_with : (asked : List ℕ) (count : ℕ) (y : Symbols) → IsKnown asked count y → (place : Place) (s : Spot) (len : ℕ) (own : AddressSize) (settled : Settled) (x : Statement) → IsSound x → (asks_section x ≡ true → asked_in asked s.segment ≡ true) → IfOk (said_of y (laid_with x place s len own settled)) (AreSoundSaid asked count)
+said_with : (asked : List ℕ) (count : ℕ) (y : Symbols) → IsKnown asked count y → (place : Place) (s : Context) (len : ℕ) (own : AddressSize) (settled : Settled) (x : Statement) → IsSound x → (asks_section x ≡ true → asked_in asked s.segment ≡ true) → IfOk (said_of y (laid_with x place s len own settled)) (AreSoundSaid asked count)
 said_with asked count y k place s len own settled (Constant n e) h a = well_then (IsWell (asked_in asked) (below count)) (AreSoundSaid asked count) (norm_of y s e) (λ f. Ok []) (form_sound asked count y k s e a) (λ f w. tt)
 said_with asked count y k place s len own settled (Import size names) h a = each_sound asked count (import_fault y) (λ n. ⊤) (λ n p. import_sound asked count y n) names (all_any names)
 said_with asked count y k place s len own settled (Export names) h a = each_sound asked count (λ n. export_said y place n (absent_of true n) (defined y (named 0 n))) (λ n. is_name n ≡ true) (λ n p. export_sound asked count y k place true n p) names (names_all names h)
@@ -112,4 +112,4 @@ said_with asked count y k place s len own settled (Assert e act words) h a =
 said_with asked count y k place s len own settled _ h a = tt
 
 pub said_sound : (asked : List ℕ) (count : ℕ) (y : Symbols) → IsKnown asked count y → (l : Laid) → IsSound l.stated → Asks (asked_in asked) l → IfOk (said_of y l) (AreSoundSaid asked count)
-said_sound asked count y k l h a = said_with asked count y k l.place l.spot l.length l.size l.settled l.stated h a
+said_sound asked count y k l h a = said_with asked count y k l.place l.context l.length l.size l.settled l.stated h a

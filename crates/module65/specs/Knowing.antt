@@ -3,7 +3,7 @@ use Rattle.std.specs.Prelude.{Bool, true, false, Result, Ok}
 use Rattle.syntax65.specs.Trees.{name}
 use Rattle.expand65.specs.State as expand
 use Rattle.language65.specs.declared.fault.AsmFault.{AsmFault}
-use Rattle.language65.specs.Layout.{Standing, spot_of}
+use Rattle.language65.specs.Layout.{Standing, context_of}
 use Rattle.language65.specs.Names.{Meaning, defined_at, meaning_of}
 use Rattle.language65.specs.Norms.{constant_in}
 use Rattle.language65.specs.Symbols.{Symbols}
@@ -16,6 +16,6 @@ is_definition _ = false
 -- by the statements before it
 abbrev pub known_at : Symbols → Standing → expand.Meaning
 known_at y w = record {
-  value = constant_in y (spot_of w);
-  defined = λ global parts. is_definition (meaning_of y (spot_of w) (name global parts));
+  value = constant_in y (context_of w);
+  defined = λ global parts. is_definition (meaning_of y (context_of w) (name global parts));
 }

@@ -6,7 +6,7 @@ use Rattle.syntax65.specs.Trees.{Tree}
 use Rattle.object65.specs.Form.{Form}
 use Rattle.language65.specs.Parts.{Content}
 use Rattle.source65.specs.declared.place.Place.{Place}
-use Rattle.language65.specs.declared.laid.Spot.{Spot}
+use Rattle.language65.specs.declared.laid.Context.{Context}
 use Rattle.language65.specs.Layout.{Layout}
 use Rattle.language65.specs.Numbering.{all_said, content_imports, parts_in, segments_asked}
 use Rattle.language65.specs.Sound.{AreSound, IsSoundLayout}
@@ -84,7 +84,7 @@ RunsLaid =
 -- warning
 abbrev pub FinalSettles : Type 0
 FinalSettles =
-    (y : Symbols) (place : Place) (s : Spot) (why : Purpose) (e : Tree) (f : Form) (c : Content) →
+    (y : Symbols) (place : Place) (s : Context) (why : Purpose) (e : Tree) (f : Form) (c : Content) →
     IsFinal y s e f → used place s why f ≡ Ok (quietly c) → IsSettled y place s (valued why e) c
 
 -- one pass over the lines, and then over what waits, assembles them

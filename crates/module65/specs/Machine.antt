@@ -8,7 +8,7 @@ use Rattle.language65.specs.declared.fault.AsmFault.{AsmFault}
 use Rattle.language65.specs.declared.language.Statement.{Statement}
 use Rattle.source65.specs.declared.place.Place.{Place}
 use Rattle.language65.specs.Laid.{Laid, asks_section}
-use Rattle.language65.specs.declared.laid.Spot.{Spot}
+use Rattle.language65.specs.declared.laid.Context.{Context}
 use Rattle.language65.specs.Layout.{Standing, laid, standing_behind, start}
 use Rattle.language65.specs.LineFaults.{line_fault}
 use Rattle.language65.specs.Numbering.{object_with}
@@ -27,7 +27,7 @@ use Rattle.language65.specs.Extending.{Extends}
 abbrev pub symbols_behind : Symbols → Laid → Symbols
 symbols_behind y l = record {
   definitions = y.definitions ++ definitions_of l;
-  scopes = y.scopes ++ scope_opened l.spot.scope l.stated;
+  scopes = y.scopes ++ scope_opened l.context.scope l.stated;
   imports = with_new y.imports (imports_of l.stated);
   zero_page = with_new y.zero_page (zero_page_names l.stated);
 }
@@ -35,7 +35,7 @@ symbols_behind y l = record {
 -- a piece that waits, and where it stands
 pub record Waiting : Type 0 where
   pub place : Place
-  pub spot : Spot
+  pub context : Context
   pub piece : Piece
 
 -- a content, or room for one that is decided behind the last line
@@ -80,19 +80,19 @@ entered t c = record t { slots = t.slots ++ holds c ∷ [] }
 
 -- it asks for its section, where it does
 abbrev pub asked : State → Laid → State
-asked t l = if asks_section l.stated then entered t (asking l.spot.segment) else t
+asked t l = if asks_section l.stated then entered t (asking l.context.segment) else t
 
 -- whatever statements follow, the piece comes to this content, and to no warning
-abbrev pub IsSettled : Symbols → Place → Spot → Piece → Content → Type 0
+abbrev pub IsSettled : Symbols → Place → Context → Piece → Content → Type 0
 IsSettled y place s p c = (z : Symbols) → Extends y z → made_of z place s p ≡ Ok (quietly c)
 
 -- a piece is entered at its line where it is settled there, or it waits
-pub data Puts (place : Place) (s : Spot) (t : State) (p : Piece) : State → Type 0 where
+pub data Puts (place : Place) (s : Context) (t : State) (p : Piece) : State → Type 0 where
   at_once : (c : Content) → IsSettled t.symbols place s p c → Puts place s t p (entered t c)
-  later : Puts place s t p (awaiting t (record { place = place; spot = s; piece = p }))
+  later : Puts place s t p (awaiting t (record { place = place; context = s; piece = p }))
 
 -- one behind the other
-abbrev pub PutsAll : Place → Spot → State → List Piece → State → Type 0
+abbrev pub PutsAll : Place → Context → State → List Piece → State → Type 0
 PutsAll place s t [] u = u ≡ t
 PutsAll place s t (p ∷ ps) u = (v : State) × Puts place s t p v × PutsAll place s v ps u
 
@@ -107,7 +107,7 @@ known t l = record t {
 
 abbrev pub Steps : State → Laid → Result State AsmFault → Type 0
 Steps t l r =
-    (u : State) × PutsAll l.place l.spot (asked t l) (pieces_of l.length l.settled l.stated) u
+    (u : State) × PutsAll l.place l.context (asked t l) (pieces_of l.length l.settled l.stated) u
     × (r ≡ Ok (known u l))
 
 abbrev pub UnlessFault :
@@ -147,7 +147,7 @@ before_it place (Err e) r =
 -- what waits is gone through once, by the symbol table of all statements
 abbrev pub resolved : Symbols → List Waiting → Finished Content
 resolved y [] = record { found = Ok []; warned = [] }
-resolved y (w ∷ ws) = before_it w.place (made_of y w.place w.spot w.piece) (resolved y ws)
+resolved y (w ∷ ws) = before_it w.place (made_of y w.place w.context w.piece) (resolved y ws)
 
 -- each slot that awaits its content has it
 abbrev pub filled : List Slot → List Content → List Content

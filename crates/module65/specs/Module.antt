@@ -67,7 +67,7 @@ abbrev pub asserted_by : Symbols → Laid → List ℕ
 asserted_by y l = go l.stated
   where
     go : Statement → List ℕ
-    go (statement.Assert e act words) = failed l.place act words (norm_of y l.spot e)
+    go (statement.Assert e act words) = failed l.place act words (norm_of y l.context e)
     go _ = []
 
 -- the warnings of assertions by the symbol table of all, up to the first statement without contents

@@ -19,7 +19,7 @@ use Rattle.language65.specs.declared.language.Item.TheVariants.{Value, Text}
 use Rattle.source65.specs.declared.place.Place.{Place}
 use Rattle.language65.specs.declared.laid.Settled.{Settled}
 use Rattle.language65.specs.declared.laid.Settled.TheVariants.{InMode}
-use Rattle.language65.specs.declared.laid.Spot.{Spot}
+use Rattle.language65.specs.declared.laid.Context.{Context}
 use Rattle.language65.specs.Norms.{norm_of}
 use Rattle.language65.specs.Sizes.{width_of}
 use Rattle.language65.specs.Symbols.{Symbols, defined, named}
@@ -96,7 +96,7 @@ absent_of true n = Err (NotDefined n)
 absent_of false n = Ok []
 
 -- what a form comes to, of an expression that stands here
-abbrev pub used : Place → Spot → Purpose → Form → Result Made AsmFault
+abbrev pub used : Place → Context → Purpose → Form → Result Made AsmFault
 used place s (datum width) f = stored width place f >>= as_part s.segment
 used place s (operand width) f =
     operand_form width s f >>= stored width place >>= as_part s.segment
@@ -106,7 +106,7 @@ used place s (asserted act words) f =
     >>= (λ ss. Ok (record { content = telling ss; warning = failed place act words (Ok f) }))
 
 -- what a piece of a statement that stands here comes to by a symbol table, or its fault
-abbrev pub made_of : Symbols → Place → Spot → Piece → Result Made AsmFault
+abbrev pub made_of : Symbols → Place → Context → Piece → Result Made AsmFault
 made_of y place s (given p) = as_part s.segment p
 made_of y place s (valued why e) = norm_of y s e >>= used place s why
 made_of y place s (imported n) = import_fault y n >>= as_said

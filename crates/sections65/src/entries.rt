@@ -52,12 +52,12 @@ pub enum Entry {
     Value {
         width: Width,
         segment: u32,
-        spot: SourcePos,
+        context: SourcePos,
         form: Norm,
     },
     /// What a statement says.
     Told {
-        spot: SourcePos,
+        context: SourcePos,
         said: Sequence<Said>,
     },
     /// What waits.

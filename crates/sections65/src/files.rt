@@ -73,7 +73,7 @@ impl Files {
     }
 
     /// Where something stands, by its file's place.
-    fn spot_of(&mut self, alloc: Global, at: At<'_>) -> Result<SourcePos, AllocError>
+    fn context_of(&mut self, alloc: Global, at: At<'_>) -> Result<SourcePos, AllocError>
         ensures more { Begins (names_in self.old) (names_in self.new) }
         ensures listed { IfOk result (λ o. o.file < length (names_in self.new)) }
         ensures place { IfOk result (λ o. place_by (names_in self.new) o
@@ -102,11 +102,11 @@ impl Files {
             Part::Known(bytes) => Ok(Entry::Bytes { segment, bytes }),
             Part::Filled(count) => Ok(Entry::Room { segment, count }),
             Part::Waiting { width, form } => {
-                let spot = self.spot_of(alloc, at)?;
+                let context = self.context_of(alloc, at)?;
                 Ok(Entry::Value {
                     width,
                     segment,
-                    spot,
+                    context,
                     form,
                 })
             }
@@ -124,7 +124,7 @@ impl Files {
         ensures entry { IfOk result (λ e. IsEntry (names_in self.new) e
             (telling (map (said_at (place_in at.entry.file.now at.entry.line)) said))) }
     {
-        let spot = self.spot_of(alloc, at)?;
-        Ok(Entry::Told { spot, said })
+        let context = self.context_of(alloc, at)?;
+        Ok(Entry::Told { context, said })
     }
 }

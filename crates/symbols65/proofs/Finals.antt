@@ -14,7 +14,7 @@ use Rattle.object65.specs.Folding.{fold1, fold2}
 use Rattle.object65.specs.declared.folding.FormFault.{FormFault}
 use Rattle.language65.specs.declared.fault.AsmFault.{AsmFault}
 use Rattle.language65.specs.declared.fault.AsmFault.TheVariants.{NoSuchLabel, NoSuchScope, Undefined}
-use Rattle.language65.specs.declared.laid.Spot.{Spot}
+use Rattle.language65.specs.declared.laid.Context.{Context}
 use Rattle.language65.specs.Names.{Meaning, defined_at, enclosing, first_found, last_of, meaning_of, member_meaning, or_else, or_fault, outward_from, plain_meaning, scope_from, scoped_meaning, scopes_of, shown, unnamed_meaning}
 use Rattle.language65.specs.Norms.{folded, form_of_definition, form_of_meaning, norm, norm_of}
 use Rattle.language65.specs.Symbols.{Definition, Key, Symbols, cheap_in, defined, imported, named, same_key, unnamed_at}
@@ -40,12 +40,12 @@ defined_stays : (y z : Symbols) → Extends y z → (k : Key) (j : ℕ) → defi
 defined_stays y z more k j e = ap (position (λ d. same_key d.key k)) more.definitions ∙ position_stays (λ d. same_key d.key k) y.definitions more.later_definitions j e
 
 -- what means the definition of a key, wherever that is defined
-by_key : (y : Symbols) (s : Spot) (e : Tree) (k : Key) (j : ℕ) → defined y k ≡ Some j → ((z : Symbols) (j : ℕ) → Extends y z → defined z k ≡ Some j → meaning_of z s e ≡ Ok (defined_at j)) → MeansAlways y s e j
+by_key : (y : Symbols) (s : Context) (e : Tree) (k : Key) (j : ℕ) → defined y k ≡ Some j → ((z : Symbols) (j : ℕ) → Extends y z → defined z k ≡ Some j → meaning_of z s e ≡ Ok (defined_at j)) → MeansAlways y s e j
 by_key y s e k j at means = (first_within (λ d. same_key d.key k) y.definitions j at, λ z more. means z j more (defined_stays y z more k j at))
 
 -- ---- Operands.
 
-pub own_name : (y : Symbols) (s : Spot) (n : List ℕ) (j : ℕ) → defined y (named s.scope n) ≡ Some j → MeansAlways y s (name false (n ∷ [])) j
+pub own_name : (y : Symbols) (s : Context) (n : List ℕ) (j : ℕ) → defined y (named s.scope n) ≡ Some j → MeansAlways y s (name false (n ∷ [])) j
 own_name y s n i h = by_key y s (name false (n ∷ [])) (named s.scope n) i h (λ z j more e. ap (λ o. or_fault (Undefined n) o (imported z n)) (innermost z s.scope s.scope j e))
   where
     innermost : (z : Symbols) (m q j : ℕ) → defined z (named q n) ≡ Some j → first_found (λ s. defined z (named s n)) (outward_from z.scopes m q) ≡ Some j
@@ -53,15 +53,15 @@ own_name y s n i h = by_key y s (name false (n ∷ [])) (named s.scope n) i h (�
     innermost z zero (suc i) j e = ap (λ o. or_else o None) e
     innermost z (suc m) (suc i) j e = ap (λ o. or_else o (first_found (λ s. defined z (named s n)) (outward_from z.scopes m (enclosing z.scopes (suc i))))) e
 
-pub own_label : (y : Symbols) (s : Spot) (n : List ℕ) (j : ℕ) → defined y (cheap_in s.region n) ≡ Some j → MeansAlways y s (cheap n) j
+pub own_label : (y : Symbols) (s : Context) (n : List ℕ) (j : ℕ) → defined y (cheap_in s.region n) ≡ Some j → MeansAlways y s (cheap n) j
 own_label y s n i h = by_key y s (cheap n) (cheap_in s.region n) i h (λ z j more e. ap (λ o. or_fault (Undefined n) o None) e)
 
-pub label_before : (y : Symbols) (s : Spot) (n j : ℕ) → n ≤ s.unnamed → defined y (unnamed_at (s.unnamed - n)) ≡ Some j → MeansAlways y s (backward n) j
+pub label_before : (y : Symbols) (s : Context) (n j : ℕ) → n ≤ s.unnamed → defined y (unnamed_at (s.unnamed - n)) ≡ Some j → MeansAlways y s (backward n) j
 label_before y s n i le h = by_key y s (backward n) (unnamed_at (s.unnamed - n)) i h (λ z j more e.
     (let yes : nat_le n s.unnamed ≡ true = grind (arith, nat_tests, le) in
     ap (λ b. if b then unnamed_meaning z (s.unnamed - n) else Err NoSuchLabel) yes ∙ ap (λ o. or_fault NoSuchLabel o None) e))
 
-pub own_member : (y : Symbols) (s : Spot) (global : Bool) (parts : List (List ℕ)) (q j : ℕ) → plain_part global parts ≡ None → s.opened ≤ length y.scopes →
+pub own_member : (y : Symbols) (s : Context) (global : Bool) (parts : List (List ℕ)) (q j : ℕ) → plain_part global parts ≡ None → s.opened ≤ length y.scopes →
     scope_from (take s.opened y.scopes) s.scope global (scopes_of parts) ≡ Some q → defined y (named q (last_of parts)) ≡ Some j → MeansAlways y s (name global parts) j
 own_member y s global parts q i plain le found h = by_key y s (name global parts) (named q (last_of parts)) i h (λ z j more e.
     name_is z s global parts ∙ ap (by z) plain
@@ -83,11 +83,11 @@ folds : (r : Result Form FormFault) (f : Form) → result_ok r ≡ Some f → fo
 folds x f q = grind (arith, common_steps)
 
 -- where the part of an operation stays, so does the whole
-pub prefix_stays : (n : ℕ) (y : Symbols) (s : Spot) (op : Op1) (e : Tree) (o : Option Form) → ((g : Form) → o ≡ Some g → IsFinalWithin n y s e g) → (f : Form) → prefix_form op o ≡ Some f → IsFinalWithin n y s (unary op e) f
+pub prefix_stays : (n : ℕ) (y : Symbols) (s : Context) (op : Op1) (e : Tree) (o : Option Form) → ((g : Form) → o ≡ Some g → IsFinalWithin n y s e g) → (f : Form) → prefix_form op o ≡ Some f → IsFinalWithin n y s (unary op e) f
 prefix_stays n y s op e None h f q = absurd cc
 prefix_stays n y s op e (Some g) h f q = λ z more. ap (λ r. r >>= (λ x. folded (fold1 op x))) (h g refl z more) ∙ folds (fold1 op g) f q
 
-pub binary_stays : (n : ℕ) (y : Symbols) (s : Spot) (op : Op2) (e g : Tree) (o p : Option Form) → ((x : Form) → o ≡ Some x → IsFinalWithin n y s e x) → ((x : Form) → p ≡ Some x → IsFinalWithin n y s g x) → (f : Form) → binary_form op o p ≡ Some f → IsFinalWithin n y s (binary op e g) f
+pub binary_stays : (n : ℕ) (y : Symbols) (s : Context) (op : Op2) (e g : Tree) (o p : Option Form) → ((x : Form) → o ≡ Some x → IsFinalWithin n y s e x) → ((x : Form) → p ≡ Some x → IsFinalWithin n y s g x) → (f : Form) → binary_form op o p ≡ Some f → IsFinalWithin n y s (binary op e g) f
 binary_stays n y s op e g None p h k f q = absurd cc
 binary_stays n y s op e g (Some x) None h k f q = absurd cc
 binary_stays n y s op e g (Some x) (Some w) h k f q = λ z more.
@@ -95,10 +95,10 @@ binary_stays n y s op e g (Some x) (Some w) h k f q = λ z more.
     ∙ ap (λ r. r >>= (λ v. folded (fold2 op x v))) (k w refl z more)
     ∙ folds (fold2 op x w) f q
 
-value_ok : (n : ℕ) (z : Symbols) (j : ℕ) (k : Option State) (d : Definition) (f : Form) → ((g : Form) → k ≡ Some (Found g) → form_of_definition (norm n z) (Some d) ≡ Ok g) → (v : Option Tree) → d.value ≡ v → attempt_value (λ q e. known_form j k) d.spot v ≡ Ok f → form_of_definition (norm n z) (Some d) ≡ Ok f
+value_ok : (n : ℕ) (z : Symbols) (j : ℕ) (k : Option State) (d : Definition) (f : Form) → ((g : Form) → k ≡ Some (Found g) → form_of_definition (norm n z) (Some d) ≡ Ok g) → (v : Option Tree) → d.value ≡ v → attempt_value (λ q e. known_form j k) d.context v ≡ Ok f → form_of_definition (norm n z) (Some d) ≡ Ok f
 value_ok n z j k d f h x w q = grind (arith, common_steps)
 
-module _ (t : code.Symbols) (s : Spot) where
+module _ (t : code.Symbols) (s : Context) where
   abbrev pub y : Symbols
   y = table_of t
 
@@ -127,7 +127,7 @@ module _ (t : code.Symbols) (s : Spot) where
   operand_stays (backward x) j f m h = λ z more. meant_ok z more (backward x) j m f h
 
 -- and it is the normal form there
-pub within_final : (y : Symbols) (s : Spot) (e : Tree) (f : Form) → IsFinalWithin (length y.definitions) y s e f → (z : Symbols) → Extends y z → norm_of z s e ≡ Ok f
+pub within_final : (y : Symbols) (s : Context) (e : Tree) (f : Form) → IsFinalWithin (length y.definitions) y s e f → (z : Symbols) → Extends y z → norm_of z s e ≡ Ok f
 within_final y s e f h z more =
     let long : length z.definitions ≡ length y.definitions + length more.later_definitions = ap length more.definitions ∙ length-append y.definitions more.later_definitions in
     ok_later (expression_course z s e) (expression_is z s e) (suc (length y.definitions)) (suc (length z.definitions)) f (omega (arith, long)) (h z more)
@@ -137,7 +137,7 @@ within_final y s e f h z more =
 pub by_place : (P : ℕ → Type 0) (o : Option ℕ) → ((j : ℕ) → o ≡ Some j → P j) → IfSome o P
 by_place x y h = grind (arith, common_steps)
 
-pub some_place : (y : Symbols) (s : Spot) (e : Tree) (o : Option ℕ) → IfSome o (MeansAlways y s e) → is_some o ≡ true → MeansFinally y s e
+pub some_place : (y : Symbols) (s : Context) (e : Tree) (o : Option ℕ) → IfSome o (MeansAlways y s e) → is_some o ≡ true → MeansFinally y s e
 some_place y s e None h q = absurd cc
 some_place y s e (Some j) h q = (j, h)
 

@@ -69,7 +69,7 @@ module _ (ws more : List (List ℕ)) where
   scope_stays x is_proc h = grind (arith, common_steps)
 
   definition_stays : (e : Entry × Definition) → first_number ws (word_of e.0) ≡ word_of e.0 → definition_in (ws ++ more) e ≡ definition_in ws e
-  definition_stays e h = ap (λ k. record { key = k; value = (definition_in ws e).value; spot = (definition_in ws e).spot; size = (definition_in ws e).size }) (key_stays e.0 h)
+  definition_stays e h = ap (λ k. record { key = k; value = (definition_in ws e).value; context = (definition_in ws e).context; size = (definition_in ws e).size }) (key_stays e.0 h)
 
   pub numbered_more : {K : Type 0} (word : K → Option ℕ) (ks : List K) → AreNumbered word ws ks → AreNumbered word (ws ++ more) ks
   numbered_more word ks h = λ i k at. number_stays (word k) (h i k at)

@@ -8,7 +8,7 @@ use Rattle.syntax65.specs.Trees.{Tree, number, here, name, cheap, forward, backw
 use Rattle.object65.specs.Form.{Form}
 use Rattle.object65.specs.Folding.{fold1}
 use Rattle.language65.specs.Extending.{Extends}
-use Rattle.language65.specs.declared.laid.Spot.{Spot}
+use Rattle.language65.specs.declared.laid.Context.{Context}
 use Rattle.language65.specs.Norms.{folded, form_of_definition, form_of_value, norm}
 use Rattle.language65.specs.Symbols as l
 use Rattle.symbols65.specs.declared.resolving.attempt.Source.TheVariants.{Finals}
@@ -28,7 +28,7 @@ use Rattle.symbols65.proofs.Tries.{attempt_first}
 use Rattle.symbols65.proofs.Turns.{expression_course}
 
 -- attempts whose operands come to the same
-tried_same : (P : Tree → Type 0) (a b : Tree → Result Form Stop) (s : Spot) → ((t : Tree) → P t → a t ≡ b t) → (e : Tree) → Operands P e → tried_by a s e ≡ tried_by b s e
+tried_same : (P : Tree → Type 0) (a b : Tree → Result Form Stop) (s : Context) → ((t : Tree) → P t → a t ≡ b t) → (e : Tree) → Operands P e → tried_by a s e ≡ tried_by b s e
 tried_same P a b s h (number v) p = refl
 tried_same P a b s h here p = refl
 tried_same P a b s h (name global parts) p = h (name global parts) p
@@ -43,24 +43,24 @@ module _ (t : Symbols) where
   y = table_of t
 
   -- an operand that means the same whatever follows
-  operand_stays : (s : Spot) (z : l.Symbols) → Extends y z → (u : Tree) → MeansFinally y s u → operand_form (known_by t Finals) z s u ≡ operand_form (known_by t Finals) y s u
+  operand_stays : (s : Context) (z : l.Symbols) → Extends y z → (u : Tree) → MeansFinally y s u → operand_form (known_by t Finals) z s u ≡ operand_form (known_by t Finals) y s u
   operand_stays s z more u x = grind (arith, common_steps, get_stays, extends_itself)
 
   finals_later : (z : l.Symbols) → Extends y z → FoundBy (length y.definitions) z (known_by t Finals)
   finals_later z more = λ j f h. final_among t z more (length y.definitions) j f (known_inside t j f h) h
 
-  pub needed_hangs : (s : Spot) (e : Tree) (k : ℕ) → Operands (MeansFinally y s) e → tried (known_by t Finals) y s e ≡ Err (Needs k) → ExpressionHangsOn y s e k
+  pub needed_hangs : (s : Context) (e : Tree) (k : ℕ) → Operands (MeansFinally y s) e → tried (known_by t Finals) y s e ≡ Err (Needs k) → ExpressionHangsOn y s e k
   needed_hangs s e k p h = λ z more. leads_from (length y.definitions) z (known_by t Finals) (expression_course z s e) (tried (known_by t Finals) z s e) k (attempt_first (length y.definitions) z (known_by t Finals) (finals_later z more) s e) (tried_same (MeansFinally y s) (operand_form (known_by t Finals) z s) (operand_form (known_by t Finals) y s) s (λ u m. operand_stays s z more u m) e p ∙ h)
 
   -- so does one by what an attempt at it needs
-  pub needed_is : (s : Spot) (e : Tree) (o : Option ℕ) → Operands (MeansFinally y s) e → o ≡ needed_in (tried (known_by t Finals) y s e) → IfSome o (λ k. ExpressionHangsOn y s e k)
+  pub needed_is : (s : Context) (e : Tree) (o : Option ℕ) → Operands (MeansFinally y s) e → o ≡ needed_in (tried (known_by t Finals) y s e) → IfSome o (λ k. ExpressionHangsOn y s e k)
   needed_is s e o p is = grind (arith, common_steps, needed_hangs)
 
 -- a constant hangs on that on which its expression does
-pub constant_hangs : (y : l.Symbols) (j k : ℕ) (d : l.Definition) (e : Tree) → slice_get y.definitions j ≡ Some d → d.value ≡ Some e → ExpressionHangsOn y d.spot e k → HangsOn y j k
+pub constant_hangs : (y : l.Symbols) (j k : ℕ) (d : l.Definition) (e : Tree) → slice_get y.definitions j ≡ Some d → d.value ≡ Some e → ExpressionHangsOn y d.context e k → HangsOn y j k
 constant_hangs y j k d e at value h = λ z more.
     (let lt : j < length y.definitions = slice_get_within y.definitions j d at in
     let there : slice_get z.definitions j ≡ Some d = ap (λ (ds : List l.Definition). slice_get ds j) more.definitions ∙ get_stays y.definitions more.later_definitions j lt ∙ at in
     let P : Option l.Definition → Type 0 = λ o. Leads z (λ n. form_of_definition (norm n z) o) k in
-    let Q : Option Tree → Type 0 = λ o. Leads z (λ n. form_of_value (norm n z) d.spot o) k in
+    let Q : Option Tree → Type 0 = λ o. Leads z (λ n. form_of_value (norm n z) d.context o) k in
     subst P (sym there) (subst Q (sym value) (h z more)))

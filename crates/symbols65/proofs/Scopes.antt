@@ -9,7 +9,7 @@ use Rattle.syntax65.specs.declared.expressions.trees.Name.{Name}
 use Rattle.symbols65.specs.Finals.{IsReference}
 use Rattle.std.specs.Prelude.{codes, slice_get}
 use Rattle.std.proofs.lemmas.List.{append_assoc}
-use Rattle.language65.specs.declared.laid.Spot.{Spot}
+use Rattle.language65.specs.declared.laid.Context.{Context}
 use Rattle.language65.specs.declared.fault.AsmFault.{AsmFault}
 use Rattle.language65.specs.Symbols.{Symbols, defined, named, Scope}
 use Rattle.language65.specs.Names.{first_found, joined, last_of, meaning_of, or_fault, scopes_from, scopes_of, enclosing, inside, scope_in, within}
@@ -43,7 +43,7 @@ pub joined_first : (n : List ℕ) (names : List (List ℕ)) → joined (n ∷ na
 joined_first n [] = grind (arith, common_steps)
 joined_first n (m ∷ names) = append_assoc n (codes "::") (joined (m ∷ names)) ∙ ap (λ l. n ++ l) (ap (λ l. codes "::" ++ l) (joined_first m names) ∙ sym (append_assoc (codes "::") m (joined_behind names)))
 
-pub name_is : (y : Symbols) (s : Spot) (global : Bool) (parts : List (List ℕ)) → meaning_of y s (name global parts) ≡ name_meaning y s global parts
+pub name_is : (y : Symbols) (s : Context) (global : Bool) (parts : List (List ℕ)) → meaning_of y s (name global parts) ≡ name_meaning y s global parts
 name_is y s false [] = refl
 name_is y s false (n ∷ []) = refl
 name_is y s false (n ∷ m ∷ names) = refl
@@ -54,7 +54,7 @@ defined_first : (e : AsmFault) (o other : Option ℕ) → o ≡ defined_place (o
 defined_first e x other = grind (arith, common_steps)
 
 -- what a plain name means is defined where a scope from its own outward defines it
-pub defined_outward_at : (y : Symbols) (s : Spot) (global : Bool) (parts : List (List ℕ)) (n : List ℕ) → plain_part global parts ≡ Some n → first_found (λ c. defined y (named c n)) (scopes_from y.scopes s.scope) ≡ defined_place (meaning_of y s (name global parts))
+pub defined_outward_at : (y : Symbols) (s : Context) (global : Bool) (parts : List (List ℕ)) (n : List ℕ) → plain_part global parts ≡ Some n → first_found (λ c. defined y (named c n)) (scopes_from y.scopes s.scope) ≡ defined_place (meaning_of y s (name global parts))
 defined_outward_at y s false [] n e = absurd cc
 defined_outward_at y s false (m ∷ []) n e = grind (arith, common_steps, defined_first)
 defined_outward_at y s false (m ∷ k ∷ parts) n e = absurd cc

@@ -7,7 +7,7 @@ use Rattle.syntax65.specs.Trees.{Tree}
 use Rattle.object65.specs.Form.{Form}
 use Rattle.language65.specs.declared.fault.AsmFault.{AsmFault}
 use Rattle.language65.specs.Faults.{is_memory}
-use Rattle.language65.specs.declared.laid.Spot.{Spot}
+use Rattle.language65.specs.declared.laid.Context.{Context}
 use Rattle.language65.specs.Names.{Meaning, meaning_of}
 use Rattle.language65.specs.Norms.{form_of_definition, norm, norm_of}
 use Rattle.language65.specs.Symbols as l
@@ -67,7 +67,7 @@ module _ (t : Symbols) where
   finals_found = λ j f h. final_among (table_of t) (extends_itself (table_of t)) (length (table_of t).definitions) j f (known_inside j f h) h
 
   -- an attempt with the final forms settles what it doesn't leave open
-  pub attempt_settles : (s : Spot) (e : Tree) (r : Result Form Stop) → Gives lacks_memory (λ f. f) r (tried (known_by t Finals) (table_of t) s e) → Settles (norm_of (table_of t) s e) r
+  pub attempt_settles : (s : Context) (e : Tree) (r : Result Form Stop) → Gives lacks_memory (λ f. f) r (tried (known_by t Finals) (table_of t) s e) → Settles (norm_of (table_of t) s e) r
   attempt_settles s e r h = by r h
     where
       n : ℕ
@@ -82,5 +82,5 @@ module _ (t : Symbols) where
       by (Err (Needs j)) q = tt
 
   -- and so with what an operand means
-  pub meant_settles : (s : Spot) (e : Tree) (m : Meaning) (r : Result Form Stop) → meaning_of (table_of t) s e ≡ Ok m → Gives lacks_memory (λ f. f) r (meaning_form (known_by t Finals) (table_of t) m) → Settles (norm_of (table_of t) s e) r
+  pub meant_settles : (s : Context) (e : Tree) (m : Meaning) (r : Result Form Stop) → meaning_of (table_of t) s e ≡ Ok m → Gives lacks_memory (λ f. f) r (meaning_form (known_by t Finals) (table_of t) m) → Settles (norm_of (table_of t) s e) r
   meant_settles s e m r q h = attempt_settles s e r (let P : Result Form Stop → Type 0 = λ a. Gives lacks_memory (λ f. f) r a in subst P (sym (meant_tried (known_by t Finals) (table_of t) s e m q)) h)

@@ -4,7 +4,7 @@ use Rattle.std.specs.Prelude.{ℤ, pos, if◌then◌else◌}
 use Rattle.syntax65.specs.Trees.{Tree, number, here, name, cheap, forward, backward, unary, binary}
 use Rattle.syntax65.specs.declared.lexing.tokens.AddressSize.{AddressSize}
 use Rattle.syntax65.specs.declared.lexing.tokens.AddressSize.TheVariants as size
-use Rattle.language65.specs.declared.laid.Spot.{Spot}
+use Rattle.language65.specs.declared.laid.Context.{Context}
 use Rattle.language65.specs.Names.{meaning_of}
 use Rattle.language65.specs.Norms.{constant_in, literal_in, folded}
 use Rattle.language65.specs.Sizes.{larger, size_by, size_of, size_of_meaning, size_of_value, takes_byte}
@@ -23,7 +23,7 @@ use Rattle.symbols65.specs.Finals.{binary_form, literal_of, prefix_form}
 -- ---- What expressions of numbers alone come to.
 
 -- the value of such an expression has its size
-pub number_size : (y : Symbols) (s : Spot) (own : AddressSize) (e : Tree) (v : ℤ) → IsNumber e v → size_of y s own e ≡ size_of_value v
+pub number_size : (y : Symbols) (s : Context) (own : AddressSize) (e : Tree) (v : ℤ) → IsNumber e v → size_of y s own e ≡ size_of_value v
 number_size y s own e v h = by e (ap literal_in (h (length y.definitions) y s))
   where
     by : (e : Tree) → constant_in y s e ≡ Some v → size_of y s own e ≡ size_of_value v

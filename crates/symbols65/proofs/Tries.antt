@@ -12,7 +12,7 @@ use Rattle.symbols65.specs.declared.resolving.attempt.State.{State}
 use Rattle.symbols65.specs.declared.resolving.attempt.State.TheVariants.{Found}
 use Rattle.symbols65.specs.declared.resolving.attempt.Stop.{Stop}
 use Rattle.symbols65.specs.declared.resolving.attempt.Stop.TheVariants.{Needs, Fault}
-use Rattle.language65.specs.declared.laid.Spot.{Spot}
+use Rattle.language65.specs.declared.laid.Context.{Context}
 use Rattle.language65.specs.Symbols.{Symbols, Definition}
 use Rattle.language65.specs.Names.{Meaning, meaning_of}
 use Rattle.language65.specs.Norms.{folded, form_by, form_of_definition, form_of_meaning, norm}
@@ -36,7 +36,7 @@ agrees_then x v y r k l z h = grind (arith, common_steps)
 agrees_stopped : (C : Type 0) (v : ℕ → Result Form AsmFault) (x : Result Form AsmFault) → Agrees C v (stopped x) x
 agrees_stopped x v y = grind (arith, common_steps)
 
-agrees_by : (C : Type 0) (v : ℕ → Result Form AsmFault) (a : Tree → Result Form Stop) (b : Tree → Result Form AsmFault) (s : Spot) → ((t : Tree) → Agrees C v (a t) (b t)) → (e : Tree) → Agrees C v (tried_by a s e) (form_by b s e)
+agrees_by : (C : Type 0) (v : ℕ → Result Form AsmFault) (a : Tree → Result Form Stop) (b : Tree → Result Form AsmFault) (s : Context) → ((t : Tree) → Agrees C v (a t) (b t)) → (e : Tree) → Agrees C v (tried_by a s e) (form_by b s e)
 agrees_by C v a b s h (number n) = inr refl
 agrees_by C v a b s h here = inr refl
 agrees_by C v a b s h (name global parts) = h (name global parts)
@@ -58,12 +58,12 @@ at_turn table k j = constant_course table j k
 agrees_meaning : (C : Type 0) (table : Symbols) (known : ℕ → Option State) (k : ℕ) → Fits C (at_turn table k) known → (m : Result Meaning AsmFault) → Agrees C (at_turn table k) (stopped m >>= meaning_form known table) (m >>= form_of_meaning (norm k table) table)
 agrees_meaning x table known k t y = grind (arith, common_steps)
 
-agrees_tried : (C : Type 0) (table : Symbols) (known : ℕ → Option State) (k : ℕ) → Fits C (at_turn table k) known → (s : Spot) (e : Tree) → Agrees C (at_turn table k) (tried known table s e) (expression_course table s e (suc k))
+agrees_tried : (C : Type 0) (table : Symbols) (known : ℕ → Option State) (k : ℕ) → Fits C (at_turn table k) known → (s : Context) (e : Tree) → Agrees C (at_turn table k) (tried known table s e) (expression_course table s e (suc k))
 agrees_tried C table known k t s e =
     agrees_by C (at_turn table k) (operand_form known table s) (λ u. meaning_of table s u >>= form_of_meaning (norm k table) table) s
     (λ u. agrees_meaning C table known k t (meaning_of table s u)) e
 
-agrees_definition : (C : Type 0) (v : ℕ → Result Form AsmFault) (a : Spot → Tree → Result Form Stop) (b : Spot → Tree → Result Form AsmFault) → ((s : Spot) (e : Tree) → Agrees C v (a s e) (b s e)) → (o : Option Definition) → Agrees C v (attempt_definition a o) (form_of_definition b o)
+agrees_definition : (C : Type 0) (v : ℕ → Result Form AsmFault) (a : Context → Tree → Result Form Stop) (b : Context → Tree → Result Form AsmFault) → ((s : Context) (e : Tree) → Agrees C v (a s e) (b s e)) → (o : Option Definition) → Agrees C v (attempt_definition a o) (form_of_definition b o)
 agrees_definition x v a b h y = grind (arith, common_steps)
 
 agrees_at : (C : Type 0) (table : Symbols) (known : ℕ → Option State) (k : ℕ) → Fits C (at_turn table k) known → (j : ℕ) → Agrees C (at_turn table k) (tried_at known table j) (constant_course table j (suc k))
@@ -80,7 +80,7 @@ only_then x y k h g = grind (arith, common_steps)
 only_stopped : (P : ℕ → Type 0) (x : Result Form AsmFault) → OnlyNeeds P (stopped x)
 only_stopped x y = grind (arith, common_steps)
 
-only_by : (P : ℕ → Type 0) (a : Tree → Result Form Stop) (s : Spot) → ((t : Tree) → OnlyNeeds P (a t)) → (e : Tree) → OnlyNeeds P (tried_by a s e)
+only_by : (P : ℕ → Type 0) (a : Tree → Result Form Stop) (s : Context) → ((t : Tree) → OnlyNeeds P (a t)) → (e : Tree) → OnlyNeeds P (tried_by a s e)
 only_by P a s h (number n) = λ j e. absurd cc
 only_by P a s h here = λ j e. absurd cc
 only_by P a s h (name global parts) = h (name global parts)
@@ -99,10 +99,10 @@ pub record Lacks (table : Symbols) (known : ℕ → Option State) (j : ℕ) : Ty
 lacks_meaning : (table : Symbols) (known : ℕ → Option State) (m : Result Meaning AsmFault) → OnlyNeeds (Lacks table known) (stopped m >>= meaning_form known table)
 lacks_meaning table known x = grind (arith, common_steps)
 
-lacks_tried : (table : Symbols) (known : ℕ → Option State) (s : Spot) (e : Tree) → OnlyNeeds (Lacks table known) (tried known table s e)
+lacks_tried : (table : Symbols) (known : ℕ → Option State) (s : Context) (e : Tree) → OnlyNeeds (Lacks table known) (tried known table s e)
 lacks_tried table known s e = only_by (Lacks table known) (operand_form known table s) s (λ u. lacks_meaning table known (meaning_of table s u)) e
 
-lacks_by_definition : (P : ℕ → Type 0) (a : Spot → Tree → Result Form Stop) → ((s : Spot) (e : Tree) → OnlyNeeds P (a s e)) → (o : Option Definition) → OnlyNeeds P (attempt_definition a o)
+lacks_by_definition : (P : ℕ → Type 0) (a : Context → Tree → Result Form Stop) → ((s : Context) (e : Tree) → OnlyNeeds P (a s e)) → (o : Option Definition) → OnlyNeeds P (attempt_definition a o)
 lacks_by_definition x a h y = grind (arith, common_steps)
 
 lacks_at : (table : Symbols) (known : ℕ → Option State) (j : ℕ) → OnlyNeeds (Lacks table known) (tried_at known table j)
@@ -126,7 +126,7 @@ fits_ever c table known h k = λ j f q. near (ok_before (constant_course table j
     near (inl e) = inl (tt, e)
     near (inr e) = inr e
 
-pub attempt_first : (c : ℕ) (table : Symbols) (known : ℕ → Option State) → FoundBy c table known → (s : Spot) (e : Tree) → IsAttempt c table known (expression_course table s e) (tried known table s e)
+pub attempt_first : (c : ℕ) (table : Symbols) (known : ℕ → Option State) → FoundBy c table known → (s : Context) (e : Tree) → IsAttempt c table known (expression_course table s e) (tried known table s e)
 attempt_first c table known h s e = record {
   later = λ k le. agrees_tried ⊥ table known k (fits_later c table known h k le) s e;
   ever = λ k. agrees_tried ⊤ table known k (fits_ever c table known h k) s e;
@@ -152,9 +152,9 @@ attempt_last c table known h v a t (w ∷ ws) = attempt_last c table known h (co
 -- ---- Operands.
 
 -- the attempt at an expression that is an operand
-pub operand_tried : (a : Tree → Result Form Stop) (s : Spot) (e : Tree) → IsReference e → a e ≡ tried_by a s e
+pub operand_tried : (a : Tree → Result Form Stop) (s : Context) (e : Tree) → IsReference e → a e ≡ tried_by a s e
 operand_tried a s x r = grind (arith, common_steps)
 
 -- an operand that means something has the form of that
-pub meant_tried : (known : ℕ → Option State) (y : Symbols) (s : Spot) (e : Tree) (m : Meaning) → meaning_of y s e ≡ Ok m → tried known y s e ≡ meaning_form known y m
+pub meant_tried : (known : ℕ → Option State) (y : Symbols) (s : Context) (e : Tree) (m : Meaning) → meaning_of y s e ≡ Ok m → tried known y s e ≡ meaning_form known y m
 meant_tried known y s x m h = grind (arith, common_steps)

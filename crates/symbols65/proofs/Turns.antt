@@ -7,7 +7,7 @@ use Rattle.object65.specs.Form.{Form}
 use Rattle.object65.specs.Folding.{fold1}
 use Rattle.language65.specs.declared.fault.AsmFault.{AsmFault}
 use Rattle.language65.specs.declared.fault.AsmFault.TheVariants.{Circular}
-use Rattle.language65.specs.declared.laid.Spot.{Spot}
+use Rattle.language65.specs.declared.laid.Context.{Context}
 use Rattle.language65.specs.Symbols.{Symbols, Definition}
 use Rattle.language65.specs.Names.{Meaning, meaning_of}
 use Rattle.language65.specs.Norms.{folded, form_by, form_of_value, form_of_definition, form_of_meaning, norm, norm_of}
@@ -26,7 +26,7 @@ Known r s = (r ≡ Err Circular) ⊎ (r ≡ s)
 pub known_then : (r s : Result Form AsmFault) (f g : Form → Result Form AsmFault) → Known r s → ((x : Form) → Known (f x) (g x)) → Known (r >>= f) (s >>= g)
 known_then r s f g x h = grind (arith, common_steps)
 
-known_form : (a b : Tree → Result Form AsmFault) (s : Spot) → ((t : Tree) → Known (a t) (b t)) → (e : Tree) → Known (form_by a s e) (form_by b s e)
+known_form : (a b : Tree → Result Form AsmFault) (s : Context) → ((t : Tree) → Known (a t) (b t)) → (e : Tree) → Known (form_by a s e) (form_by b s e)
 known_form a b s h (number v) = inr refl
 known_form a b s h here = inr refl
 known_form a b s h (name global parts) = h (name global parts)
@@ -36,16 +36,16 @@ known_form a b s h (backward n) = h (backward n)
 known_form a b s h (unary op e) = known_then (form_by a s e) (form_by b s e) (λ f. folded (fold1 op f)) (λ f. folded (fold1 op f)) (known_form a b s h e) (λ x. inr refl)
 known_form a b s h (binary op e g) = grind (arith, common_steps, (known_form a b s h e), (known_form a b s h g), known_then)
 
-pub known_definition : (a b : Spot → Tree → Result Form AsmFault) → ((s : Spot) (e : Tree) → Known (a s e) (b s e)) → (o : Option Definition) → Known (form_of_definition a o) (form_of_definition b o)
+pub known_definition : (a b : Context → Tree → Result Form AsmFault) → ((s : Context) (e : Tree) → Known (a s e) (b s e)) → (o : Option Definition) → Known (form_of_definition a o) (form_of_definition b o)
 known_definition a b h x = grind (arith, common_steps)
 
-known_meaning : (a b : Spot → Tree → Result Form AsmFault) (table : Symbols) → ((s : Spot) (e : Tree) → Known (a s e) (b s e)) → (m : Meaning) → Known (form_of_meaning a table m) (form_of_meaning b table m)
+known_meaning : (a b : Context → Tree → Result Form AsmFault) (table : Symbols) → ((s : Context) (e : Tree) → Known (a s e) (b s e)) → (m : Meaning) → Known (form_of_meaning a table m) (form_of_meaning b table m)
 known_meaning a b table h x = grind (arith, common_steps, known_definition)
 
-known_result : (a b : Spot → Tree → Result Form AsmFault) (table : Symbols) → ((s : Spot) (e : Tree) → Known (a s e) (b s e)) → (m : Result Meaning AsmFault) → Known (m >>= form_of_meaning a table) (m >>= form_of_meaning b table)
+known_result : (a b : Context → Tree → Result Form AsmFault) (table : Symbols) → ((s : Context) (e : Tree) → Known (a s e) (b s e)) → (m : Result Meaning AsmFault) → Known (m >>= form_of_meaning a table) (m >>= form_of_meaning b table)
 known_result a b table h x = grind (arith, common_steps, known_meaning)
 
-pub norm_known : (n : ℕ) (table : Symbols) (s : Spot) (e : Tree) → Known (norm n table s e) (norm (suc n) table s e)
+pub norm_known : (n : ℕ) (table : Symbols) (s : Context) (e : Tree) → Known (norm n table s e) (norm (suc n) table s e)
 norm_known zero table s e = inl refl
 norm_known (suc n) table s e =
     known_form (λ t. meaning_of table s t >>= form_of_meaning (norm n table) table) (λ t. meaning_of table s t >>= form_of_meaning (norm (suc n) table) table) s
@@ -60,14 +60,14 @@ Course = ℕ → Result Form AsmFault
 abbrev pub IsCourse : Course → Type 0
 IsCourse v = (n : ℕ) → Known (v n) (v (suc n))
 
-abbrev pub expression_course : Symbols → Spot → Tree → Course
+abbrev pub expression_course : Symbols → Context → Tree → Course
 expression_course table s e n = norm n table s e
 
 -- the course of what the statement at a place defines
 abbrev pub constant_course : Symbols → ℕ → Course
 constant_course table j n = form_of_definition (norm n table) (slice_get table.definitions j)
 
-pub expression_is : (table : Symbols) (s : Spot) (e : Tree) → IsCourse (expression_course table s e)
+pub expression_is : (table : Symbols) (s : Context) (e : Tree) → IsCourse (expression_course table s e)
 expression_is table s e n = norm_known n table s e
 
 pub constant_is : (table : Symbols) (j : ℕ) → IsCourse (constant_course table j)
@@ -192,7 +192,7 @@ module _ (y : Symbols) where
   operand_still : (n : ℕ) → IsStill n → (m : Result Meaning AsmFault) → (m >>= form_of_meaning (norm n y) y) ≡ (m >>= form_of_meaning (norm (suc n) y) y)
   operand_still n h x = grind (arith, common_steps)
 
-  form_still : (n : ℕ) → IsStill n → (s : Spot) (e : Tree) → norm (suc n) y s e ≡ norm (suc (suc n)) y s e
+  form_still : (n : ℕ) → IsStill n → (s : Context) (e : Tree) → norm (suc n) y s e ≡ norm (suc (suc n)) y s e
   form_still n h s e =
       let a : Tree → Result Form AsmFault = λ t. meaning_of y s t >>= form_of_meaning (norm n y) y in
       let b : Tree → Result Form AsmFault = λ t. meaning_of y s t >>= form_of_meaning (norm (suc n) y) y in
@@ -203,21 +203,21 @@ module _ (y : Symbols) where
   value_still n h None = refl
   value_still n h (Some d) = at d.value
     where
-      at : (v : Option Tree) → form_of_value (norm (suc n) y) d.spot v ≡ form_of_value (norm (suc (suc n)) y) d.spot v
+      at : (v : Option Tree) → form_of_value (norm (suc n) y) d.context v ≡ form_of_value (norm (suc (suc n)) y) d.context v
       at None = refl
-      at (Some e) = form_still n h d.spot e
+      at (Some e) = form_still n h d.context e
 
   still_later : (n : ℕ) → IsStill n → IsStill (suc n)
   still_later n h = λ j. value_still n h (slice_get y.definitions j)
 
-  still_further : (d n : ℕ) → IsStill n → (s : Spot) (e : Tree) → norm (suc n) y s e ≡ norm (suc (d + n)) y s e
+  still_further : (d n : ℕ) → IsStill n → (s : Context) (e : Tree) → norm (suc n) y s e ≡ norm (suc (d + n)) y s e
   still_further zero n h s e = let same : zero + n ≡ n = omega arith in rw same refl
   still_further (suc d) n h s e =
       let same : suc d + n ≡ d + suc n = omega arith in
       form_still n h s e ∙ still_further d (suc n) (still_later n h) s e ∙ ap (λ (k : ℕ). norm (suc k) y s e) (sym same)
 
   -- what an expression comes to is its normal form
-  pub comes_to_norm : (s : Spot) (e : Tree) (r : Result Form AsmFault) → Comes (expression_course y s e) r → norm_of y s e ≡ r
+  pub comes_to_norm : (s : Context) (e : Tree) (r : Result Form AsmFault) → Comes (expression_course y s e) r → norm_of y s e ≡ r
   comes_to_norm s e r (n, h) =
       let whole : ℕ = length y.definitions in
       let (m, le, still) = still_somewhere whole 0 (at_most_all 0 y.definitions) in

@@ -9,7 +9,7 @@ use Rattle.object65.specs.Folding.{fold1, fold2}
 use Rattle.language65.specs.Norms.{literal_in, form_of_value, norm}
 use Rattle.language65.specs.declared.fault.AsmFault.{AsmFault}
 use Rattle.language65.specs.Extending.{Extends}
-use Rattle.language65.specs.declared.laid.Spot.{Spot}
+use Rattle.language65.specs.declared.laid.Context.{Context}
 use Rattle.language65.specs.Symbols.{Symbols, Definition}
 
 -- ---- Forms that may be missing, as an expression without a value has none.
@@ -40,7 +40,7 @@ IsReference e = ⊤
 
 -- an expression has this form whatever statements follow, and needs no more expressions one inside the other than there
 -- are definitions, and itself
-abbrev pub IsFinalWithin : ℕ → Symbols → Spot → Tree → Form → Type 0
+abbrev pub IsFinalWithin : ℕ → Symbols → Context → Tree → Form → Type 0
 IsFinalWithin n y s e f = (z : Symbols) → Extends y z → norm (suc n) z s e ≡ Ok f
 
 -- the form that there is
@@ -50,4 +50,4 @@ formed (Err e) = None
 
 -- what is defined at a place has this form whatever statements follow
 abbrev pub DefinesFinally : Symbols → ℕ → Definition → Form → Type 0
-DefinesFinally y j d f = (z : Symbols) → Extends y z → formed (form_of_value (norm (suc j) z) d.spot d.value) ≡ Some f
+DefinesFinally y j d f = (z : Symbols) → Extends y z → formed (form_of_value (norm (suc j) z) d.context d.value) ≡ Some f

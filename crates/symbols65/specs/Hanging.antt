@@ -5,7 +5,7 @@ use Rattle.object65.specs.Form.{Form}
 use Rattle.language65.specs.declared.fault.AsmFault.{AsmFault}
 use Rattle.language65.specs.declared.fault.AsmFault.TheVariants.{Circular}
 use Rattle.language65.specs.Extending.{Extends}
-use Rattle.language65.specs.declared.laid.Spot.{Spot}
+use Rattle.language65.specs.declared.laid.Context.{Context}
 use Rattle.language65.specs.Norms.{form_of_definition, norm}
 use Rattle.language65.specs.Symbols.{Symbols}
 use Rattle.symbols65.specs.declared.resolving.attempt.State.{State}
@@ -32,7 +32,7 @@ abbrev pub HangsOn : Symbols → ℕ → ℕ → Type 0
 HangsOn y j k = (z : Symbols) → Extends y z → Leads z (defined_within z j) k
 
 -- so does an expression with those of a constant
-abbrev pub ExpressionHangsOn : Symbols → Spot → Tree → ℕ → Type 0
+abbrev pub ExpressionHangsOn : Symbols → Context → Tree → ℕ → Type 0
 ExpressionHangsOn y s e k = (z : Symbols) → Extends y z → Leads z (λ n. norm n z s e) k
 
 -- the second constant is the first, or the first hangs on it

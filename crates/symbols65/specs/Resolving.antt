@@ -3,7 +3,7 @@ use Rattle.std.specs.Prelude.{◌≡◌, ℕ, ◌+◌, ◌≤◌, pos, codes, Li
 use Rattle.language65.specs.declared.fault.AsmFault.{AsmFault}
 use Rattle.language65.specs.declared.fault.AsmFault.TheVariants.{NoSuchLabel}
 use Rattle.language65.specs.Faults.{is_memory}
-use Rattle.language65.specs.declared.laid.Spot.{Spot}
+use Rattle.language65.specs.declared.laid.Context.{Context}
 use Rattle.language65.specs.Names.{Meaning, defined_at, imported_as, meaning_of, plain_meaning, scoped_meaning}
 use Rattle.language65.specs.Norms.{address_of, folded, form_of_definition, norm}
 use Rattle.language65.specs.Symbols.{Symbols, Definition}
@@ -39,7 +39,7 @@ plain_part false (n ∷ []) = Some n
 plain_part global parts = None
 
 -- what a name means where it stands
-abbrev pub name_meaning : Symbols → Spot → Bool → List (List ℕ) → Result Meaning AsmFault
+abbrev pub name_meaning : Symbols → Context → Bool → List (List ℕ) → Result Meaning AsmFault
 name_meaning y s global parts = by (plain_part global parts)
   where
     by : Option (List ℕ) → Result Meaning AsmFault
@@ -67,23 +67,23 @@ known_form j (Some (Found f)) = Ok f
 known_form j _ = Err (Needs j)
 
 -- a constant has the form that an attempt gives it, and a label its address
-abbrev pub attempt_value : (Spot → Tree → Result Form Stop) → Spot → Option Tree → Result Form Stop
+abbrev pub attempt_value : (Context → Tree → Result Form Stop) → Context → Option Tree → Result Form Stop
 attempt_value constant_form s None = Ok (address_of s)
 attempt_value constant_form s (Some e) = constant_form s e
 
-abbrev pub attempt_definition : (Spot → Tree → Result Form Stop) → Option Definition → Result Form Stop
+abbrev pub attempt_definition : (Context → Tree → Result Form Stop) → Option Definition → Result Form Stop
 attempt_definition constant_form None = Err (Fault NoSuchLabel)
-attempt_definition constant_form (Some d) = attempt_value constant_form d.spot d.value
+attempt_definition constant_form (Some d) = attempt_value constant_form d.context d.value
 
 -- by what is known of the form of each constant
 abbrev pub meaning_form : (ℕ → Option State) → Symbols → Meaning → Result Form Stop
 meaning_form known y (imported_as k) = Ok (imp k)
 meaning_form known y (defined_at j) = attempt_definition (λ s e. known_form j (known j)) (slice_get y.definitions j)
 
-abbrev pub operand_form : (ℕ → Option State) → Symbols → Spot → Tree → Result Form Stop
+abbrev pub operand_form : (ℕ → Option State) → Symbols → Context → Tree → Result Form Stop
 operand_form known y s e = stopped (meaning_of y s e) >>= meaning_form known y
 
-abbrev pub tried_by : (Tree → Result Form Stop) → Spot → Tree → Result Form Stop
+abbrev pub tried_by : (Tree → Result Form Stop) → Context → Tree → Result Form Stop
 tried_by operand s (number v) = Ok (lit (pos v))
 tried_by operand s here = Ok (address_of s)
 tried_by operand s (unary op e) = tried_by operand s e >>= (λ f. stopped (folded (fold1 op f)))
@@ -91,7 +91,7 @@ tried_by operand s (binary op e g) = tried_by operand s e >>= (λ f. tried_by op
 tried_by operand s e = operand e
 
 -- the form of an expression by the forms of constants that are known
-abbrev pub tried : (ℕ → Option State) → Symbols → Spot → Tree → Result Form Stop
+abbrev pub tried : (ℕ → Option State) → Symbols → Context → Tree → Result Form Stop
 tried known y s e = tried_by (operand_form known y s) s e
 
 -- that of what is defined at a place

@@ -75,7 +75,7 @@ key_in ws (entry.Cheap region w) = cheap_in region (word_at ws w)
 key_in ws (entry.Unnamed count) = unnamed_at count
 
 abbrev pub definition_seen : l.Key → Definition → l.Definition
-definition_seen k d = record { key = k; value = d.value; spot = d.spot; size = d.size }
+definition_seen k d = record { key = k; value = d.value; context = d.context; size = d.size }
 
 abbrev pub definition_in : List (List ℕ) → Entry × Definition → l.Definition
 definition_in ws e = definition_seen (key_in ws e.0) e.1

@@ -9,7 +9,7 @@ mod scopes;
 mod settling;
 
 pub use attempt::{State, Stop, address};
-pub use finals::{binary_form, final_form, number_of, prefix_form};
+pub use finals::{binary_form, stable_form, number_of, prefix_form};
 pub use known::Known;
 pub use meaning::{Meaning, definition_of, meaning_of, operand_form, plain_part, scopes_in};
 pub use scopes::{scope_of, shown};

@@ -136,14 +136,14 @@ module _ {E : Type 0} (p : Program) (o : Objects E) (h : AreObjects p o) (owner 
         λ k. (let r = either.1 k in (r.0, (value r.0).1 r.1, r.2)),
       )
 
-  line_passes : (before : List Laid) (l : Laid) (ss : List Said) → o.spots owner (length before) ≡ l.spot → said_of (o.symbols owner) l ≡ Ok ss → HasAssertion p (line_of owner before l) ↔ AllPass o owner ss
+  line_passes : (before : List Laid) (l : Laid) (ss : List Said) → o.spots owner (length before) ≡ l.context → said_of (o.symbols owner) l ≡ Ok ss → HasAssertion p (line_of owner before l) ↔ AllPass o owner ss
   line_passes before l ss at d = go l.stated d
     where
       silent : AllPass o owner ss → ⊤ ↔ AllPass o owner ss
       silent all = (λ k. all, λ k. tt)
 
       go : (x : Statement) → said_of (o.symbols owner) (record l { stated = x }) ≡ Ok ss → HasAssertion p (line_of owner before (record l { stated = x })) ↔ AllPass o owner ss
-      go (Constant n e) d = (let (f, first, last) = bind_ok (norm_of (o.symbols owner) l.spot e) (λ f. Ok []) ss d in silent (nothing_said o owner ss last))
+      go (Constant n e) d = (let (f, first, last) = bind_ok (norm_of (o.symbols owner) l.context e) (λ f. Ok []) ss d in silent (nothing_said o owner ss last))
       go (Import size names) d = silent (all_names o owner (import_fault (o.symbols owner)) (import_passes o owner (o.symbols owner)) names ss d)
       go (Export names) d = silent (all_names o owner (λ n. export_said (o.symbols owner) l.place n (Err (NotDefined n)) (defined (o.symbols owner) (named 0 n))) (λ n rs e. export_passes o owner (o.symbols owner) l.place n (Err (NotDefined n)) (λ qs k. absurd cc) (defined (o.symbols owner) (named 0 n)) rs e) names ss d)
       go (Global size names) d = silent (all_names o owner (λ n. export_said (o.symbols owner) l.place n (Ok []) (defined (o.symbols owner) (named 0 n))) (λ n rs e. export_passes o owner (o.symbols owner) l.place n (Ok []) (λ qs k. nothing_said o owner qs k) (defined (o.symbols owner) (named 0 n)) rs e) names ss d)
@@ -152,13 +152,13 @@ module _ {E : Type 0} (p : Program) (o : Objects E) (h : AreObjects p o) (owner 
           let same : map Demanded names ≡ ss = cc last in
           silent (subst (AllPass o owner) same (demanded_pass o owner names))
       go (Assert e act words) d =
-          let (f, first, last) = bind_ok (norm_of (o.symbols owner) l.spot e) (decided act l.place words) ss d in
+          let (f, first, last) = bind_ok (norm_of (o.symbols owner) l.context e) (decided act l.place words) ss d in
           assertion_passes (length before) l.place e act words f ss (subst (λ s. norm_of (o.symbols owner) s e ≡ Ok f) (sym at) first) last
       go x d = silent (nothing_said o owner ss d)
 
   -- ---- Lines.
 
-  pub lines_pass : (all : List Laid) → ((place : ℕ) (l : Laid) → slice_get all place ≡ Some l → o.spots owner place ≡ l.spot) → (before ls : List Laid) (cs : List Content) → before ++ ls ≡ all → contents_from (o.symbols owner) ls ≡ Ok cs → AllByRecursion (HasAssertion p) (lines_behind owner before ls) ↔ AllPass o owner (all_said cs)
+  pub lines_pass : (all : List Laid) → ((place : ℕ) (l : Laid) → slice_get all place ≡ Some l → o.spots owner place ≡ l.context) → (before ls : List Laid) (cs : List Content) → before ++ ls ≡ all → contents_from (o.symbols owner) ls ≡ Ok cs → AllByRecursion (HasAssertion p) (lines_behind owner before ls) ↔ AllPass o owner (all_said cs)
   lines_pass all spots before [] cs w e = grind (arith, common_steps)
   lines_pass all spots before (l ∷ ls) cs w e =
       let found : Laid → Result Content PlacedFault = λ l. at_place l.place (content_of (o.symbols owner) l) in
@@ -284,7 +284,7 @@ module _ (s : Script) (placement : Placement) (ys : List Layout) (ms : List Modu
     table_there : o.symbols owner ≡ table_of y
     table_there = ap symbols_at at_y
 
-    spot_there : (place : ℕ) (x : Laid) → slice_get y.laid place ≡ Some x → o.spots owner place ≡ x.spot
+    spot_there : (place : ℕ) (x : Laid) → slice_get y.laid place ≡ Some x → o.spots owner place ≡ x.context
     spot_there place x e = ap (λ r. spot_in r place) at_y ∙ ap (spot_or (global_spot y)) e
 
     lines_agree : AllByRecursion (HasAssertion p) (lines_behind owner [] y.laid) ↔ AllByRecursion (IsPassed o owner) (all_said cs)

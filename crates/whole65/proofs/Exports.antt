@@ -113,7 +113,7 @@ one_says : (z : Symbols) (l : Laid) (ss : List Said) → said_of z l ≡ Ok ss �
 one_says z l ss h = go l.stated h
   where
     go : (x : Statement) → said_of z (record l { stated = x }) ≡ Ok ss → Says z (filter (has_definition z) (exported_by x)) ss
-    go (statement.Constant n e) h = (let (f, first, last) = bind_ok (norm_of z l.spot e) (λ f. Ok []) ss h in says_nothing z ss last)
+    go (statement.Constant n e) h = (let (f, first, last) = bind_ok (norm_of z l.context e) (λ f. Ok []) ss h in says_nothing z ss last)
     go (statement.Import size names) h = subst (λ k. Says z k ss) (none_kept names) (all_says z (import_fault z) nothing_kept (import_says z) names ss h)
     go (statement.Export names) h = subst (λ k. Says z k ss) (kept_one (has_definition z) names) (all_says z (λ n. export_said z l.place n (Err (NotDefined n)) (defined z (named 0 n))) (λ n. filter (has_definition z) (n ∷ [])) (λ n rs e. export_says z l.place n (Err (NotDefined n)) (λ qs k. absurd cc) rs e) names ss h)
     go (statement.Global size names) h = subst (λ k. Says z k ss) (kept_one (has_definition z) names) (all_says z (λ n. export_said z l.place n (Ok []) (defined z (named 0 n))) (λ n. filter (has_definition z) (n ∷ [])) (λ n rs e. export_says z l.place n (Ok []) (λ qs k. cc) rs e) names ss h)
@@ -121,7 +121,7 @@ one_says z l ss h = go l.stated h
         let (none, first, last) = bind_ok (each_of (import_fault z) names) (λ none. Ok (map Demanded names)) ss h in
         let same : map Demanded names ≡ ss = cc last in
         subst (Says z []) same (demanded_says z names)
-    go (statement.Assert e act words) h = (let (f, first, last) = bind_ok (norm_of z l.spot e) (decided act l.place words) ss h in decided_says z act l.place words f ss last)
+    go (statement.Assert e act words) h = (let (f, first, last) = bind_ok (norm_of z l.context e) (decided act l.place words) ss h in decided_says z act l.place words f ss last)
     go x h = says_nothing z ss h
 
 pub said_all : (z : Symbols) (ls : List Laid) (cs : List Content) → contents_from z ls ≡ Ok cs → Says z (filter (has_definition z) (flat_map (λ l. exported_by l.stated) ls)) (all_said cs)
@@ -195,7 +195,7 @@ demanded_names ss = flat_map demanded_name ss
 abbrev pub IsAsserted : Symbols → Laid → Said → Type 0
 IsAsserted z l (Exported n place f) = ⊤
 IsAsserted z l (Demanded n) = ⊤
-IsAsserted z l (Checked act place words f) = (e : Tree) × (l.stated ≡ Assert e act words) × (norm_of z l.spot e ≡ Ok f)
+IsAsserted z l (Checked act place words f) = (e : Tree) × (l.stated ≡ Assert e act words) × (norm_of z l.context e ≡ Ok f)
 
 pub record Tells (z : Symbols) (l : Laid) (ss : List Said) : Type 0 where
   pub demanded : demanded_names ss ≡ forced_by l.stated
@@ -264,7 +264,7 @@ one_tells z l ss h = go l.stated h
     exporting x none all = record { demanded = none_demanded ss all ∙ sym none; asserted = none_asserted z (record l { stated = x }) ss all }
 
     go : (x : Statement) → said_of z (record l { stated = x }) ≡ Ok ss → Tells z (record l { stated = x }) ss
-    go (Constant n e) h = (let (f, first, last) = bind_ok (norm_of z l.spot e) (λ f. Ok []) ss h in exporting (Constant n e) refl (nothing_more ss last))
+    go (Constant n e) h = (let (f, first, last) = bind_ok (norm_of z l.context e) (λ f. Ok []) ss h in exporting (Constant n e) refl (nothing_more ss last))
     go (Import size names) h = exporting (Import size names) refl (all_of IsExport (import_fault z) (of_import z) names ss h)
     go (ExportNames names) h = exporting (ExportNames names) refl (all_of IsExport (λ n. export_said z l.place n (Err (NotDefined n)) (defined z (named 0 n))) (λ n. of_export z l.place n (Err (NotDefined n)) (λ qs k. absurd cc) (defined z (named 0 n))) names ss h)
     go (Global size names) h = exporting (Global size names) refl (all_of IsExport (λ n. export_said z l.place n (Ok []) (defined z (named 0 n))) (λ n. of_export z l.place n (Ok []) (λ qs k. cc) (defined z (named 0 n))) names ss h)
@@ -274,10 +274,10 @@ one_tells z l ss h = go l.stated h
         let both = of_forced z (record l { stated = ForceImport names }) names in
         subst (Tells z (record l { stated = ForceImport names })) same (record { demanded = both.0; asserted = both.1 })
     go (Assert e act words) h =
-        let (f, first, last) = bind_ok (norm_of z l.spot e) (decided act l.place words) ss h in
+        let (f, first, last) = bind_ok (norm_of z l.context e) (decided act l.place words) ss h in
         by f first (is_decided act l.place words f ss last)
       where
-        by : (f : Form) → norm_of z l.spot e ≡ Ok f → IsDecided act l.place words f ss → Tells z (record l { stated = Assert e act words }) ss
+        by : (f : Form) → norm_of z l.context e ≡ Ok f → IsDecided act l.place words f ss → Tells z (record l { stated = Assert e act words }) ss
         by f first (settled same) = subst (Tells z (record l { stated = Assert e act words })) same (record { demanded = refl; asserted = tt })
         by f first (waiting same) = subst (Tells z (record l { stated = Assert e act words })) same (record { demanded = refl; asserted = ((e, refl, first), tt) })
     go x h = exporting x refl (nothing_more ss h)

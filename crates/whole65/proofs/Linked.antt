@@ -5,7 +5,7 @@ use Rattle.std.specs.List.{flat_map, AllByRecursion, list_any}
 use Rattle.syntax65.specs.Trees.{Tree}
 use Rattle.language65.specs.declared.fault.AsmFault.{AsmFault}
 use Rattle.language65.specs.Laid.{Laid, asks_section}
-use Rattle.language65.specs.Layout.{Layout, laid, own_size, spot_of}
+use Rattle.language65.specs.Layout.{Layout, laid, own_size, context_of}
 use Rattle.language65.specs.Names as names
 use Rattle.language65.specs.Symbols.{Definition, Key, definition_with, definitions_of, key_defined, value_defined, Symbols, symbols_of}
 use Rattle.whole65.proofs.LinkedObjects.{or_first, place_in, symbols_at, base_in, begin_in, objects_of, spot_in}
@@ -15,7 +15,7 @@ use Rattle.whole65.specs.Values.{Meaning, Program}
 use Rattle.std.specs.Prelude.{◌&&◌, ◌||◌, ℤ, pos, ◌+ℤ◌, nat_lt}
 use Rattle.std.specs.Str.{bytes_eq}
 use Rattle.syntax65.specs.declared.lexing.tokens.AddressSize.{AddressSize}
-use Rattle.language65.specs.declared.laid.Spot.{Spot}
+use Rattle.language65.specs.declared.laid.Context.{Context}
 use Rattle.language65.specs.declared.language.Statement.{Statement}
 use Rattle.language65.specs.declared.language.Statement.TheVariants as statement
 use Rattle.language65.specs.Sizes.{length_of}
@@ -46,7 +46,7 @@ pub record Made (i : ℕ) (ls : List Laid) (d : ℕ) : Type 0 where
   pub defining : slice_get (defining_from i ls) d ≡ Some (i + place)
   pub defined : slice_get (flat_map definitions_of ls) d ≡ Some definition
   pub value : definition.value ≡ value_defined laid.stated
-  pub spot : definition.spot ≡ laid.spot
+  pub context : definition.context ≡ laid.context
 
 pub record Missing (i : ℕ) (ls : List Laid) (d : ℕ) : Type 0 where
   pub defining : slice_get (defining_from i ls) d ≡ None
@@ -58,7 +58,7 @@ pub data Looked (i : ℕ) (ls : List Laid) (d : ℕ) : Type 0 where
 
 pub look : (i : ℕ) (ls : List Laid) (d : ℕ) → Looked i ls d
 look i [] d = missing (record { defining = refl; defined = refl })
-look i (l ∷ ls) d = go (key_defined l.spot l.stated) refl d (λ e. look (suc i) ls e)
+look i (l ∷ ls) d = go (key_defined l.context l.stated) refl d (λ e. look (suc i) ls e)
   where
     later : (e d : ℕ) → slice_get (map (λ z. i) (definitions_of l) ++ defining_from (suc i) ls) d ≡ slice_get (defining_from (suc i) ls) e → slice_get (definitions_of l ++ flat_map definitions_of ls) d ≡ slice_get (flat_map definitions_of ls) e → Looked (suc i) ls e → Looked i (l ∷ ls) d
     later e d p q (made m) =
@@ -71,17 +71,17 @@ look i (l ∷ ls) d = go (key_defined l.spot l.stated) refl d (λ e. look (suc i
           defining = p ∙ m.defining ∙ ap Some moved;
           defined = q ∙ m.defined;
           value = m.value;
-          spot = m.spot;
+          context = m.context;
         })
     later e d p q (missing m) = missing (record { defining = p ∙ m.defining; defined = q ∙ m.defined })
 
-    go : (k : Option Key) → key_defined l.spot l.stated ≡ k → (d : ℕ) → ((e : ℕ) → Looked (suc i) ls e) → Looked i (l ∷ ls) d
+    go : (k : Option Key) → key_defined l.context l.stated ≡ k → (d : ℕ) → ((e : ℕ) → Looked (suc i) ls e) → Looked i (l ∷ ls) d
     go None e d next =
-        let none : definitions_of l ≡ [] = ap (λ z. definition_with z (value_defined l.stated) l.spot l.size) e in
+        let none : definitions_of l ≡ [] = ap (λ z. definition_with z (value_defined l.stated) l.context l.size) e in
         later d d (ap (λ xs. slice_get (map (λ z. i) xs ++ defining_from (suc i) ls) d) none) (ap (λ xs. slice_get (xs ++ flat_map definitions_of ls) d) none) (next d)
     go (Some k) e zero next =
-        let x : Definition = record { key = k; value = value_defined l.stated; spot = l.spot; size = l.size } in
-        let one : definitions_of l ≡ x ∷ [] = ap (λ z. definition_with z (value_defined l.stated) l.spot l.size) e in
+        let x : Definition = record { key = k; value = value_defined l.stated; context = l.context; size = l.size } in
+        let one : definitions_of l ≡ x ∷ [] = ap (λ z. definition_with z (value_defined l.stated) l.context l.size) e in
         let here : i ≡ i + 0 = omega arith in
         made (record {
           place = 0;
@@ -91,11 +91,11 @@ look i (l ∷ ls) d = go (key_defined l.spot l.stated) refl d (λ e. look (suc i
           defining = ap (λ xs. slice_get (map (λ z. i) xs ++ defining_from (suc i) ls) 0) one ∙ ap Some here;
           defined = ap (λ xs. slice_get (xs ++ flat_map definitions_of ls) 0) one;
           value = refl;
-          spot = refl;
+          context = refl;
         })
     go (Some k) e (suc d) next =
-        let x : Definition = record { key = k; value = value_defined l.stated; spot = l.spot; size = l.size } in
-        let one : definitions_of l ≡ x ∷ [] = ap (λ z. definition_with z (value_defined l.stated) l.spot l.size) e in
+        let x : Definition = record { key = k; value = value_defined l.stated; context = l.context; size = l.size } in
+        let one : definitions_of l ≡ x ∷ [] = ap (λ z. definition_with z (value_defined l.stated) l.context l.size) e in
         later d (suc d) (ap (λ xs. slice_get (map (λ z. i) xs ++ defining_from (suc i) ls) (suc d)) one) (ap (λ xs. slice_get (xs ++ flat_map definitions_of ls) (suc d)) one) (next d)
 
 -- ---- What names mean.
@@ -118,10 +118,10 @@ pub none_shown : (r : Result names.Meaning AsmFault) → None ≡ shown_by None 
 none_shown x = grind (arith, common_steps)
 
 -- a definition stands where its statement does
-pub same_spot : (y : Layout) (d : ℕ) (x : Definition) → slice_get (table_of y).definitions d ≡ Some x → spot_at y (place_in (Some y) d) ≡ x.spot
+pub same_spot : (y : Layout) (d : ℕ) (x : Definition) → slice_get (table_of y).definitions d ≡ Some x → spot_at y (place_in (Some y) d) ≡ x.context
 same_spot y d x e = go (look 0 y.laid d)
   where
-    go : Looked 0 y.laid d → spot_at y (place_in (Some y) d) ≡ x.spot
+    go : Looked 0 y.laid d → spot_at y (place_in (Some y) d) ≡ x.context
     go (missing m) = let none : Some x ≡ None = sym e ∙ m.defined in absurd cc
     go (made m) =
         let zero_more : 0 + m.place ≡ m.place = omega arith in
@@ -129,15 +129,15 @@ same_spot y d x e = go (look 0 y.laid d)
         let both : Some m.definition ≡ Some x = sym m.defined ∙ e in
         let same : m.definition ≡ x = cc in
         ap (λ r. spot_at y (or_first r)) at
-        ∙ (rw m.there (sym m.spot))
-        ∙ ap (λ (z : Definition). z.spot) same
+        ∙ (rw m.there (sym m.context))
+        ∙ ap (λ (z : Definition). z.context) same
 
 -- ---- What asks for no section places nothing.
 
 abbrev IsQuiet : Laid → Type 0
 IsQuiet l = asks_section l.stated ≡ false → l.length ≡ 0
 
-places_nothing : (y : Symbols) (s : Spot) (own : AddressSize) (x : Statement) → asks_section x ≡ false → length_of y s own x ≡ 0
+places_nothing : (y : Symbols) (s : Context) (own : AddressSize) (x : Statement) → asks_section x ≡ false → length_of y s own x ≡ 0
 places_nothing y s own x h = grind (arith, common_steps)
 
 pub quiet : {y : Layout} → IsLaidOut y → AllByRecursion IsQuiet y.laid
@@ -166,22 +166,22 @@ none_asks y name (l ∷ ls) h = (first (stands_in y name l) (asks_section l.stat
 
 quiet_lines : (at owner : ℕ) (y : Layout) (g : ℕ) (before ls : List Laid) → AllByRecursion IsQuiet ls → AllByRecursion (AsksNot y (segment_name y g)) ls → end_of at (map line (lines_at g (lines_behind owner before ls))) ≡ at
 quiet_lines at owner y g before [] q a = refl
-quiet_lines at owner y g before (l ∷ ls) q a = go (nat_eq l.spot.segment g) refl (λ z. quiet_lines z owner y g (before ++ l ∷ []) ls q.1 a.1)
+quiet_lines at owner y g before (l ∷ ls) q a = go (nat_eq l.context.segment g) refl (λ z. quiet_lines z owner y g (before ++ l ∷ []) ls q.1 a.1)
   where
-    go : (b : Bool) → nat_eq l.spot.segment g ≡ b → ((z : ℕ) → end_of z (map line (lines_at g (lines_behind owner (before ++ l ∷ []) ls))) ≡ z) → end_of at (map line (cond b (line_of owner before l ∷ lines_at g (lines_behind owner (before ++ l ∷ []) ls)) (lines_at g (lines_behind owner (before ++ l ∷ []) ls)))) ≡ at
+    go : (b : Bool) → nat_eq l.context.segment g ≡ b → ((z : ℕ) → end_of z (map line (lines_at g (lines_behind owner (before ++ l ∷ []) ls))) ≡ z) → end_of at (map line (cond b (line_of owner before l ∷ lines_at g (lines_behind owner (before ++ l ∷ []) ls)) (lines_at g (lines_behind owner (before ++ l ∷ []) ls)))) ≡ at
     go false e r = r at
     go true e r =
-        let here : l.spot.segment ≡ g = equal l.spot.segment g e in
+        let here : l.context.segment ≡ g = equal l.context.segment g e in
         let there : stands_in y (segment_name y g) l ≡ true = ap (λ k. bytes_eq (segment_name y k) (segment_name y g)) here ∙ itself (segment_name y g) in
         let asks = a.0 there in
         let z : ℕ = line_end at (line_of owner before l).multiple l in
         r z ∙ quiet_end at (line_of owner before l).multiple l asks (q.0 asks)
 
 -- a statement there has the offset 0
-pub no_offset : (y : Layout) (place : ℕ) (l : Laid) → IsLaidOut y → slice_get y.laid place ≡ Some l → has_section y (segment_name y l.spot.segment) ≡ false → l.spot.offset ≡ 0
+pub no_offset : (y : Layout) (place : ℕ) (l : Laid) → IsLaidOut y → slice_get y.laid place ≡ Some l → has_section y (segment_name y l.context.segment) ≡ false → l.context.offset ≡ 0
 no_offset y place l d there asked =
     (placed 0 d).offsets place l there
-    ∙ quiet_lines 0 0 y l.spot.segment [] (take place y.laid) (all_front IsQuiet y.laid place (quiet d)) (all_front (AsksNot y (segment_name y l.spot.segment)) y.laid place (none_asks y (segment_name y l.spot.segment) y.laid asked))
+    ∙ quiet_lines 0 0 y l.context.segment [] (take place y.laid) (all_front IsQuiet y.laid place (quiet d)) (all_front (AsksNot y (segment_name y l.context.segment)) y.laid place (none_asks y (segment_name y l.context.segment) y.laid asked))
 
 -- ---- No item of the segment's list is such a statement.
 
@@ -226,7 +226,7 @@ shown_is none imports s p ys owner x = grind (arith, common_steps)
 means_by : (r : Option Layout) (place : ℕ) (e : Tree) → means_at r place e ≡ shown_by r (meaning_of (symbols_at r) (spot_in r place) e)
 means_by x place e = grind (arith, common_steps, none_shown, symbols_at, spot_in, same_meaning)
 
-spot_by : (r : Option Layout) (d : ℕ) (x : Definition) → slice_get (symbols_at r).definitions d ≡ Some x → spot_in r (place_in r d) ≡ x.spot
+spot_by : (r : Option Layout) (d : ℕ) (x : Definition) → slice_get (symbols_at r).definitions d ≡ Some x → spot_in r (place_in r d) ≡ x.context
 spot_by None d x e = cc
 spot_by (Some y) d x e = same_spot y d x e
 
@@ -247,23 +247,23 @@ not_less : (n : ℕ) → nat_lt n n ≡ false
 not_less n = grind (arith, nat_tests)
 
 module _ (s : Script) (p : Placement) (ys : List Layout) (laid_out : AllByRecursion IsLaidOut ys) where
-  position_is : (owner place : ℕ) (y : Layout) (l : Laid) → slice_get ys owner ≡ Some y → slice_get y.laid place ≡ Some l → (b : Bool) → has_section y (segment_name y l.spot.segment) ≡ b → position_of ys (segment_name y l.spot.segment) owner place ≡ cond b (begin_of ys (segment_name y l.spot.segment) owner) (end_of 0 (items_of ys (segment_name y l.spot.segment))) + l.spot.offset
+  position_is : (owner place : ℕ) (y : Layout) (l : Laid) → slice_get ys owner ≡ Some y → slice_get y.laid place ≡ Some l → (b : Bool) → has_section y (segment_name y l.context.segment) ≡ b → position_of ys (segment_name y l.context.segment) owner place ≡ cond b (begin_of ys (segment_name y l.context.segment) owner) (end_of 0 (items_of ys (segment_name y l.context.segment))) + l.context.offset
   position_is owner place y l e there true h = position_law ys owner place y l e (all_get IsLaidOut ys owner y laid_out e) there h
   position_is owner place y l e there false h =
-      let none : l.spot.offset ≡ 0 = no_offset y place l (all_get IsLaidOut ys owner y laid_out e) there h in
-      let at : position_of ys (segment_name y l.spot.segment) owner place ≡ end_of 0 (items_of ys (segment_name y l.spot.segment)) = at_end ys owner place y (segment_name y l.spot.segment) e h in
+      let none : l.context.offset ≡ 0 = no_offset y place l (all_get IsLaidOut ys owner y laid_out e) there h in
+      let at : position_of ys (segment_name y l.context.segment) owner place ≡ end_of 0 (items_of ys (segment_name y l.context.segment)) = at_end ys owner place y (segment_name y l.context.segment) e h in
       omega (arith, none, at)
 
   of_line : (owner place : ℕ) (y : Layout) → slice_get ys owner ≡ Some y → (r : Option Laid) → slice_get y.laid place ≡ r → statement_address s p ys owner place (Some y) r ≡ wrapped (base_in s p ys owner (spot_or (global_spot y) r).segment (Some y) +ℤ pos (spot_or (global_spot y) r).offset)
   of_line owner place y e None there = zero_wraps ∙ ap (λ b. wrapped (cond b (wrapped (pos (run_of s.rows p.rows (segment_name y (length y.standing.segments)) + begin_in ys owner y (segment_name y (length y.standing.segments))))) (pos 0) +ℤ pos 0)) (sym (not_less (length y.standing.segments)))
   of_line owner place y e (Some l) there =
-      let name : List ℕ = segment_name y l.spot.segment in
+      let name : List ℕ = segment_name y l.context.segment in
       let run : ℕ = run_of s.rows p.rows name in
       let begin : ℕ = begin_in ys owner y name in
-      let below : l.spot.segment < length y.standing.segments = all_get (λ (k : Laid). k.spot.segment < length y.standing.segments) y.laid place l (named (all_get IsLaidOut ys owner y laid_out e)).standing there in
+      let below : l.context.segment < length y.standing.segments = all_get (λ (k : Laid). k.context.segment < length y.standing.segments) y.laid place l (named (all_get IsLaidOut ys owner y laid_out e)).standing there in
       ap (λ n. wrapped (pos (run + n))) (position_is owner place y l e there (has_section y name) refl)
-      ∙ moved run begin l.spot.offset
-      ∙ ap (λ b. wrapped (cond b (wrapped (pos (run + begin))) (pos 0) +ℤ pos l.spot.offset)) (sym (less l.spot.segment (length y.standing.segments) below))
+      ∙ moved run begin l.context.offset
+      ∙ ap (λ b. wrapped (cond b (wrapped (pos (run + begin))) (pos 0) +ℤ pos l.context.offset)) (sym (less l.context.segment (length y.standing.segments) below))
 
   of_module : (owner place : ℕ) (r : Option Layout) → slice_get ys owner ≡ r → statement_address s p ys owner place r (laid_at r place) ≡ wrapped (base_in s p ys owner (spot_in r place).segment r +ℤ pos (spot_in r place).offset)
   of_module owner place x e = grind (arith, common_steps, zero_wraps, of_line)

@@ -13,7 +13,7 @@ use Rattle.base65.specs.Values.{wrapped}
 use Rattle.script65.specs.declared.placement.Placement.{Placement}
 use Rattle.script65.specs.declared.script.Script.{Script}
 use Rattle.link65.specs.Values.{run_of, linkage_of, exports_through, import_value, Linkage, base_of, provider_at}
-use Rattle.language65.specs.declared.laid.Spot.{Spot}
+use Rattle.language65.specs.declared.laid.Context.{Context}
 use Rattle.language65.specs.Layout.{Layout}
 use Rattle.language65.specs.Symbols.{Symbols}
 use Rattle.whole65.specs.Modules.{defining_from, spot_at, table_of}
@@ -88,10 +88,10 @@ abbrev pub symbols_at : Option Layout → Symbols
 symbols_at None = no_symbols
 symbols_at (Some y) = table_of y
 
-abbrev pub nowhere : Spot
+abbrev pub nowhere : Context
 nowhere = record { scope = 0; opened = 0; region = 0; unnamed = 0; segment = 0; offset = 0 }
 
-abbrev pub spot_in : Option Layout → ℕ → Spot
+abbrev pub spot_in : Option Layout → ℕ → Context
 spot_in None place = nowhere
 spot_in (Some y) place = spot_at y place
 

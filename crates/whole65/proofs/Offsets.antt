@@ -7,7 +7,7 @@ use Rattle.syntax65.specs.declared.lexing.tokens.AddressSize.{AddressSize}
 use Rattle.language65.specs.declared.contents.Segment.{Segment}
 use Rattle.language65.specs.declared.language.Statement.{Statement}
 use Rattle.language65.specs.declared.language.Statement.TheVariants as statement
-use Rattle.language65.specs.Layout.{Standing, current_behind, first_size, grown_at, kept_behind, last_kept, multiple_of, named_segments, new_segment, own_size, place_of, rest_kept, segment_at, segments_behind, spot_of, Layout, laid, layout_behind, nothing_laid}
+use Rattle.language65.specs.Layout.{Standing, current_behind, first_size, grown_at, kept_behind, last_kept, multiple_of, named_segments, new_segment, own_size, place_of, rest_kept, segment_at, segments_behind, context_of, Layout, laid, layout_behind, nothing_laid}
 use Rattle.language65.specs.Sizes.{length_of}
 use Rattle.language65.specs.Symbols.{Symbols, symbols_of}
 use Rattle.language65.proofs.Segments.{all_same, end_behind, grown_end, grown_length, grown_other, named_there, one_longer, all_more}
@@ -68,7 +68,7 @@ pub record Adds (g h : Segment) (is_here : Bool) (count multiple : ℕ) : Type 0
   pub end : h.end ≡ g.end + cond is_here count 0
   pub align : h.align ≡ cond is_here (max g.align multiple) g.align
 
-pub adds : (y : Symbols) (w : Standing) (x : Statement) (g : ℕ) → w.current < length w.segments → 1 ≤ (segment_at w.segments g).align → Adds (segment_at w.segments g) (segment_at (segments_behind w.segments w.current (length_of y (spot_of w) (own_size w) x) (multiple_of y (spot_of w) x) x) g) (nat_eq w.current g) (length_of y (spot_of w) (own_size w) x) (multiple_of y (spot_of w) x)
+pub adds : (y : Symbols) (w : Standing) (x : Statement) (g : ℕ) → w.current < length w.segments → 1 ≤ (segment_at w.segments g).align → Adds (segment_at w.segments g) (segment_at (segments_behind w.segments w.current (length_of y (context_of w) (own_size w) x) (multiple_of y (context_of w) x) x) g) (nat_eq w.current g) (length_of y (context_of w) (own_size w) x) (multiple_of y (context_of w) x)
 adds y w x g lt one = grind (arith, common_steps, nat_tests, grown_end, grown_align, grown_other, equal, named_end, named_align)
 
 -- ---- One more line.
@@ -94,16 +94,16 @@ largest_one (y ∷ ys) = let h = largest_one ys in omega (arith, h)
 abbrev end_at : ℕ → List Line → ℕ
 end_at g xs = end_of 0 (map line (lines_at g xs))
 
-end_push : (g : ℕ) (xs : List Line) (x : Line) (b : Bool) → nat_eq x.laid.spot.segment g ≡ b → end_at g (xs ++ x ∷ []) ≡ cond b (line_end (end_at g xs) x.multiple x.laid) (end_at g xs)
+end_push : (g : ℕ) (xs : List Line) (x : Line) (b : Bool) → nat_eq x.laid.context.segment g ≡ b → end_at g (xs ++ x ∷ []) ≡ cond b (line_end (end_at g xs) x.multiple x.laid) (end_at g xs)
 end_push g xs x b e = grind (arith, common_steps, filter-append, map-append, end_of-append)
 
-largest_at_push : (g : ℕ) (xs : List Line) (x : Line) (b : Bool) → nat_eq x.laid.spot.segment g ≡ b → largest_multiple (lines_at g (xs ++ x ∷ [])) ≡ cond b (max (largest_multiple (lines_at g xs)) x.multiple) (largest_multiple (lines_at g xs))
+largest_at_push : (g : ℕ) (xs : List Line) (x : Line) (b : Bool) → nat_eq x.laid.context.segment g ≡ b → largest_multiple (lines_at g (xs ++ x ∷ [])) ≡ cond b (max (largest_multiple (lines_at g xs)) x.multiple) (largest_multiple (lines_at g xs))
 largest_at_push g xs x b e = grind (arith, common_steps, filter-append, largest_push, largest_one)
 
 -- ---- What holds behind each statement.
 
 abbrev HasOffset : ℕ → List Laid → Laid → Type 0
-HasOffset owner before l = l.spot.offset ≡ end_at l.spot.segment (lines_behind owner [] before)
+HasOffset owner before l = l.context.offset ≡ end_at l.context.segment (lines_behind owner [] before)
 
 abbrev EachBehind : (List Laid → Laid → Type 0) → List Laid → Type 0
 EachBehind M ls = (i : ℕ) (l : Laid) → slice_get ls i ≡ Some l → M (take i ls) l
@@ -141,7 +141,7 @@ module _ (owner : ℕ) (y : Layout) (place : Place) (x : Statement) (h : Placed 
   end_next : (g : ℕ) (b : Bool) → nat_eq y.standing.current g ≡ b → (segment_at (layout_behind y place x).standing.segments g).end ≡ end_at g (lines ++ next ∷ [])
   end_next g true e =
       let same : y.standing.current ≡ g = equal y.standing.current g e in
-      let before : (spot_of y.standing).offset ≡ end_at g lines = ap (λ n. (segment_at y.standing.segments n).end) same ∙ h.ends g in
+      let before : (context_of y.standing).offset ≡ end_at g lines = ap (λ n. (segment_at y.standing.segments n).end) same ∙ h.ends g in
       (added g).end
       ∙ ap (λ b. (segment_at y.standing.segments g).end + cond b last.length 0) e
       ∙ ap (λ n. (segment_at y.standing.segments n).end + last.length) (sym same)

@@ -6,7 +6,7 @@ use Rattle.std.specs.List.{AllByRecursion, position_from}
 use Rattle.std.proofs.lemmas.Bool.Decides.{nat_tests}
 use Rattle.std.proofs.lemmas.List.{length-append, append-nil, append_assoc, take-append-drop}
 use Rattle.language65.specs.Laid.{Laid}
-use Rattle.language65.specs.Layout.{Layout, Standing, first_size, grown_at, laid, layout_behind, multiple_of, named_segments, new_segment, own_size, place_of, segment_at, segments_behind, spot_of, powers}
+use Rattle.language65.specs.Layout.{Layout, Standing, first_size, grown_at, laid, layout_behind, multiple_of, named_segments, new_segment, own_size, place_of, segment_at, segments_behind, context_of, powers}
 use Rattle.whole65.specs.Segments.{Item, Line, has_section, is_line, items_before, largest_multiple, line, line_of, lines_behind, lines_in, part_of, rounding, stands_in, end_of, items_from, segment_name, position_of}
 use Rattle.std.specs.Str.{bytes_eq}
 use Rattle.std.proofs.lemmas.Iterator.Adapters.{position_from-zero}
@@ -143,22 +143,22 @@ distinct_behind gs current count multiple x d = grind (arith, common_steps, dist
 
 pub record Named (y : Layout) : Type 0 where
   pub distinct : Distinct y.standing.segments
-  pub standing : AllByRecursion (λ (l : Laid). l.spot.segment < length y.standing.segments) y.laid
+  pub standing : AllByRecursion (λ (l : Laid). l.context.segment < length y.standing.segments) y.laid
 
 later : (y : Layout) (place : Place) (x : Statement) → y.standing.current < length y.standing.segments → Named y → Named (layout_behind y place x)
 later y place x here h =
     let z : Layout = layout_behind y place x in
     let w : Standing = y.standing in
     let table : Symbols = symbols_of y.laid in
-    let count : ℕ = length_of table (spot_of w) (own_size w) x in
-    let multiple : ℕ = multiple_of table (spot_of w) x in
+    let count : ℕ = length_of table (context_of w) (own_size w) x in
+    let multiple : ℕ = multiple_of table (context_of w) x in
     let more = behind_more w.segments w.current count multiple x in
     let up : (k : ℕ) → k < length w.segments → k < length z.standing.segments = λ k lt. omega (arith, more, lt) in
     record {
       distinct = distinct_behind w.segments w.current count multiple x h.distinct;
       standing =
-          all_more (λ (l : Laid). l.spot.segment < length z.standing.segments) y.laid (laid table w place x)
-          (all_same (λ (l : Laid). l.spot.segment < length w.segments) (λ (l : Laid). l.spot.segment < length z.standing.segments) (λ l below. up l.spot.segment below) y.laid h.standing)
+          all_more (λ (l : Laid). l.context.segment < length z.standing.segments) y.laid (laid table w place x)
+          (all_same (λ (l : Laid). l.context.segment < length w.segments) (λ (l : Laid). l.context.segment < length z.standing.segments) (λ l below. up l.context.segment below) y.laid h.standing)
           (up w.current here);
     }
 
@@ -174,7 +174,7 @@ itself xs = grind (arith, bytes_eq-Decides xs xs)
 name_or_number : (y : Layout) (g h : ℕ) → Distinct y.standing.segments → g < length y.standing.segments → h < length y.standing.segments → bytes_eq (segment_name y h) (segment_name y g) ≡ nat_eq h g
 name_or_number y g h d lg lh = grind (arith, common_steps, nat_tests, itself)
 
-pub by_number : (owner : ℕ) (y : Layout) (g : ℕ) → Distinct y.standing.segments → g < length y.standing.segments → (before ls : List Laid) → AllByRecursion (λ (l : Laid). l.spot.segment < length y.standing.segments) ls → filter (λ (x : Line). stands_in y (segment_name y g) x.laid) (lines_behind owner before ls) ≡ lines_at g (lines_behind owner before ls)
+pub by_number : (owner : ℕ) (y : Layout) (g : ℕ) → Distinct y.standing.segments → g < length y.standing.segments → (before ls : List Laid) → AllByRecursion (λ (l : Laid). l.context.segment < length y.standing.segments) ls → filter (λ (x : Line). stands_in y (segment_name y g) x.laid) (lines_behind owner before ls) ≡ lines_at g (lines_behind owner before ls)
 by_number owner y g d lg before [] h = refl
 by_number owner y g d lg before (l ∷ ls) h = grind (arith, common_steps, (by_number owner y g d lg (before ++ l ∷ []) ls h.1), name_or_number)
 
@@ -216,7 +216,7 @@ front_multiple b xs ys p h =
 
 module _ (owner place : ℕ) (y : Layout) (l : Laid) (d : IsLaidOut y) (there : slice_get y.laid place ≡ Some l) where
   abbrev g : ℕ
-  g = l.spot.segment
+  g = l.context.segment
 
   abbrev front : List Line
   front = lines_at g (lines_behind owner [] (take place y.laid))
@@ -228,16 +228,16 @@ module _ (owner place : ℕ) (y : Layout) (l : Laid) (d : IsLaidOut y) (there : 
   in_order =
       ap (λ ls. lines_at g (lines_behind owner [] ls)) (sym (take-append-drop place y.laid))
       ∙ ap (lines_at g) (lines_both owner [] (take place y.laid) (drop place y.laid))
-      ∙ filter-append (λ (x : Line). nat_eq x.laid.spot.segment g) (lines_behind owner [] (take place y.laid)) (lines_behind owner (take place y.laid) (drop place y.laid))
+      ∙ filter-append (λ (x : Line). nat_eq x.laid.context.segment g) (lines_behind owner [] (take place y.laid)) (lines_behind owner (take place y.laid) (drop place y.laid))
 
   below : g < length y.standing.segments
-  below = all_get (λ (k : Laid). k.spot.segment < length y.standing.segments) y.laid place l (named d).standing there
+  below = all_get (λ (k : Laid). k.context.segment < length y.standing.segments) y.laid place l (named d).standing there
 
   all_powers : ArePowers (front ++ behind_front)
   all_powers = subst ArePowers in_order (powers_at g (lines_behind owner [] y.laid) (placed owner d).powers)
 
   -- the position in a list that begins with the module's part, from a position on
-  pub in_part : (at : ℕ) (rest : List Item) → has_section y (segment_name y g) ≡ true → end_of at (items_before owner place (part_of owner y (segment_name y g) ++ rest)) ≡ next_multiple_of at (largest_multiple (lines_in owner y (segment_name y g))) + l.spot.offset
+  pub in_part : (at : ℕ) (rest : List Item) → has_section y (segment_name y g) ≡ true → end_of at (items_before owner place (part_of owner y (segment_name y g) ++ rest)) ≡ next_multiple_of at (largest_multiple (lines_in owner y (segment_name y g))) + l.context.offset
   in_part at rest asked =
       let n = named d in
       let all : lines_in owner y (segment_name y g) ≡ lines_at g (lines_behind owner [] y.laid) = by_number owner y g n.distinct below [] y.laid n.standing in
@@ -250,26 +250,26 @@ module _ (owner place : ℕ) (y : Layout) (l : Laid) (d : IsLaidOut y) (there : 
       let yes : stands_in y (segment_name y g) l ≡ true = itself (segment_name y g) in
       let before : items_before owner place (map line (lines_in owner y (segment_name y g)) ++ rest) ≡ map line front =
       stopped owner place (stands_in y (segment_name y g)) [] y.laid rest place l (omega arith) there yes
-      ∙ ap (map line) (by_number owner y g n.distinct below [] (take place y.laid) (all_front (λ (k : Laid). k.spot.segment < length y.standing.segments) y.laid place n.standing)) in
+      ∙ ap (map line) (by_number owner y g n.distinct below [] (take place y.laid) (all_front (λ (k : Laid). k.context.segment < length y.standing.segments) y.laid place n.standing)) in
       ap (λ b. end_of at (items_before owner place (cond b (rounding multiple ∷ map line (lines_in owner y (segment_name y g))) [] ++ rest))) asked
       ∙ ap (end_of begin) before
       ∙ shift_law front begin (powers_first front behind_front all_powers) (front_multiple begin front behind_front all_powers is_multiple)
       ∙ ap (λ n. begin + n) (sym ((placed owner d).offsets place l there))
 
 -- ---- Module by module.
-from_module : (at first count owner place : ℕ) (ys : List Layout) (y : Layout) (l : Laid) → owner ≡ first + count → slice_get ys count ≡ Some y → IsLaidOut y → slice_get y.laid place ≡ Some l → has_section y (segment_name y l.spot.segment) ≡ true → end_of at (items_before owner place (items_from first ys (segment_name y l.spot.segment))) ≡ begin_from at first ys (segment_name y l.spot.segment) count + l.spot.offset
+from_module : (at first count owner place : ℕ) (ys : List Layout) (y : Layout) (l : Laid) → owner ≡ first + count → slice_get ys count ≡ Some y → IsLaidOut y → slice_get y.laid place ≡ Some l → has_section y (segment_name y l.context.segment) ≡ true → end_of at (items_before owner place (items_from first ys (segment_name y l.context.segment))) ≡ begin_from at first ys (segment_name y l.context.segment) count + l.context.offset
 from_module at first count owner place [] y l o e d there asked = cc
 from_module at first zero owner place (z ∷ ys) y l o e d there asked =
     let same : z ≡ y = cc in
     let one : first ≡ owner = omega (arith, o) in
-    let name : List ℕ = segment_name y l.spot.segment in
+    let name : List ℕ = segment_name y l.context.segment in
     ap (λ k. end_of at (items_before owner place (part_of first k name ++ items_from (suc first) ys name))) same
     ∙ ap (λ k. end_of at (items_before owner place (part_of k y name ++ items_from (suc k) ys name))) one
     ∙ in_part owner place y l d there at (items_from (suc owner) ys name) asked
-    ∙ ap (λ k. next_multiple_of at (largest_multiple (lines_in k y name)) + l.spot.offset) (sym one)
-    ∙ ap (λ k. next_multiple_of at (largest_multiple (lines_in first k name)) + l.spot.offset) (sym same)
+    ∙ ap (λ k. next_multiple_of at (largest_multiple (lines_in k y name)) + l.context.offset) (sym one)
+    ∙ ap (λ k. next_multiple_of at (largest_multiple (lines_in first k name)) + l.context.offset) (sym same)
 from_module at first (suc count) owner place (z ∷ ys) y l o e d there asked =
-    let name : List ℕ = segment_name y l.spot.segment in
+    let name : List ℕ = segment_name y l.context.segment in
     let other : first ≢ owner = omega (arith, o) in
     let next : owner ≡ suc first + count = omega (arith, o) in
     ap (end_of at) (skipped owner place (part_of first z name) (items_from (suc first) ys name) (other_part first owner place other z name))
@@ -278,7 +278,7 @@ from_module at first (suc count) owner place (z ∷ ys) y l o e d there asked =
 
 -- In the list of a segment of which the module has a section, a statement's position is where the module's section begins,
 -- moved by the statement's offset.
-pub position_law : (ys : List Layout) (owner place : ℕ) (y : Layout) (l : Laid) → slice_get ys owner ≡ Some y → IsLaidOut y → slice_get y.laid place ≡ Some l → has_section y (segment_name y l.spot.segment) ≡ true → position_of ys (segment_name y l.spot.segment) owner place ≡ begin_of ys (segment_name y l.spot.segment) owner + l.spot.offset
+pub position_law : (ys : List Layout) (owner place : ℕ) (y : Layout) (l : Laid) → slice_get ys owner ≡ Some y → IsLaidOut y → slice_get y.laid place ≡ Some l → has_section y (segment_name y l.context.segment) ≡ true → position_of ys (segment_name y l.context.segment) owner place ≡ begin_of ys (segment_name y l.context.segment) owner + l.context.offset
 position_law ys owner place y l e d there asked = from_module 0 0 owner owner place ys y l (omega arith) e d there asked
 
 -- ---- The alignment of a section in an object.

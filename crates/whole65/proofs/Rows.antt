@@ -95,9 +95,9 @@ section_names : (y : Layout) (origins : Place → Origin) (sections imports : Li
 section_names y origins sections imports cs [] h = refl
 section_names y origins sections imports cs (k ∷ ks) h = grind (arith, common_steps, (section_names y origins sections imports cs ks h.1), name_at)
 
-pub names_asked : (y : Layout) (ls : List Laid) → map (segment_name y) (map (λ (l : Laid). l.spot.segment) ls) ≡ map (λ (l : Laid). segment_name y l.spot.segment) ls
+pub names_asked : (y : Layout) (ls : List Laid) → map (segment_name y) (map (λ (l : Laid). l.context.segment) ls) ≡ map (λ (l : Laid). segment_name y l.context.segment) ls
 names_asked y [] = refl
-names_asked y (l ∷ ls) = ap (λ z. segment_name y l.spot.segment ∷ z) (names_asked y ls)
+names_asked y (l ∷ ls) = ap (λ z. segment_name y l.context.segment ∷ z) (names_asked y ls)
 
 one_source : (y : Layout) (m : Module) (known : List (List ℕ)) → IsSource y m → with_new known (map (λ (s : Section). s.name) m.object.sections) ≡ with_new known (asked_by y)
 one_source y m known h =
@@ -211,7 +211,7 @@ module _ (s : Script) (placement : Placement) (ys : List Layout) (ms : List Modu
       valued cs e qs h.1,
     )
 
-    spot_is : (place : ℕ) (x : Laid) → slice_get y.laid place ≡ Some x → o.spots owner place ≡ x.spot
+    spot_is : (place : ℕ) (x : Laid) → slice_get y.laid place ≡ Some x → o.spots owner place ≡ x.context
     spot_is place x e = ap (λ r. spot_in r place) at_y ∙ ap (spot_or (global_spot y)) e
 
     lines_have : (begin key : ℕ) (origins : Place → Origin) (cs : List Content) (bytes : List ℕ) → contents_from (table_of y) y.laid ≡ Ok cs → IsMultiple begin (largest_multiple (lines_at key (lines_behind owner [] y.laid))) → AreBytes p fill begin (map line (lines_at key (lines_behind owner [] y.laid))) bytes ↔ AreCells l fill (flat_map (fragment_cells owner) (section_of origins y.standing.segments (section_keys cs) (import_keys (table_of y).imports cs) cs key).fragments) bytes

@@ -18,7 +18,7 @@ use Rattle.language65.specs.Parts.{Part, Known, Waiting, Content, Said}
 use Rattle.language65.specs.declared.fault.AsmFault.{AsmFault}
 use Rattle.language65.specs.declared.fault.AsmFault.TheVariants.{OutOfRange}
 use Rattle.language65.specs.Contents.{operand_form, stored, written, instruction_parts, item_part, opcode_part, operand_part, operand_parts, operand_tree, parts_of, room_part, content_of, said_of}
-use Rattle.language65.specs.declared.laid.Spot.{Spot}
+use Rattle.language65.specs.declared.laid.Context.{Context}
 use Rattle.whole65.proofs.SameValues.{bind_ok, folded_ok, written_ok, same_values_law}
 use Rattle.whole65.specs.Contents.{AreStored, counted_from, AreInstruction, AreItem, AreItems, AreLine, AreOperand, code_bytes, filling, AreBytes}
 use Rattle.whole65.specs.Objects.{HasValue, Objects, form_value, AreObjects}
@@ -80,7 +80,7 @@ module _ {E : Type 0} (o : Objects E) (owner fill : ℕ) where
   abbrev Counted : Width → ℤ → Form → List ℕ → Type 0
   Counted width address f bytes = (v : ℤ) × HasValue o owner f v × AreStored width (counted_from width address v) bytes
 
-  of_branch : (address : ℤ) (s : Spot) (f h : Form) (bytes : List ℕ) → address ≡ wrapped (o.bases owner s.segment +ℤ pos s.offset) → fold2 Subtract f (sec s.segment (pos (s.offset + 2))) ≡ Ok h → Counted Branch address f bytes ↔ HasBytes o owner Branch h bytes
+  of_branch : (address : ℤ) (s : Context) (f h : Form) (bytes : List ℕ) → address ≡ wrapped (o.bases owner s.segment +ℤ pos s.offset) → fold2 Subtract f (sec s.segment (pos (s.offset + 2))) ≡ Ok h → Counted Branch address f bytes ↔ HasBytes o owner Branch h bytes
   of_branch address s f h bytes at e = (there, back)
     where
       behind : ℤ
@@ -109,7 +109,7 @@ module _ {E : Type 0} (o : Objects E) (owner fill : ℕ) where
   unchanged width f h bytes e = grind (arith, common_steps)
 
   -- an operand's value is counted as its form is
-  pub of_operand : (width : Width) (address : ℤ) (s : Spot) (f h : Form) (bytes : List ℕ) → address ≡ wrapped (o.bases owner s.segment +ℤ pos s.offset) → operand_form width s f ≡ Ok h → Counted width address f bytes ↔ HasBytes o owner width h bytes
+  pub of_operand : (width : Width) (address : ℤ) (s : Context) (f h : Form) (bytes : List ℕ) → address ≡ wrapped (o.bases owner s.segment +ℤ pos s.offset) → operand_form width s f ≡ Ok h → Counted width address f bytes ↔ HasBytes o owner width h bytes
   of_operand Branch address s f h bytes at e = of_branch address s f h bytes at (folded_ok (fold2 Subtract f (sec s.segment (pos (s.offset + 2)))) h e)
   of_operand Byte address s f h bytes at e = unchanged Byte f h bytes e
   of_operand Word address s f h bytes at e = unchanged Word f h bytes e
@@ -118,7 +118,7 @@ module _ {E : Type 0} (o : Objects E) (owner fill : ℕ) where
 
 -- ---- The bytes of lines and those of parts.
 
-module _ {E : Type 0} (p : Program) (o : Objects E) (h : AreObjects p o) (fill : ℕ) (x : Line) (at_spot : o.spots x.owner x.place ≡ x.laid.spot) where
+module _ {E : Type 0} (p : Program) (o : Objects E) (h : AreObjects p o) (fill : ℕ) (x : Line) (at_spot : o.spots x.owner x.place ≡ x.laid.context) where
   -- one part alone
   single : (q : Part) (bytes : List ℕ) → ArePart (HasValue o x.owner) fill q bytes ↔ AreParts (HasValue o x.owner) fill (q ∷ []) bytes
   single q bytes = grind (arith, common_steps)
@@ -127,19 +127,19 @@ module _ {E : Type 0} (p : Program) (o : Objects E) (h : AreObjects p o) (fill :
   none ps bytes e = grind (arith, common_steps)
 
   -- an expression has the value of its form
-  values : (e : Tree) (f : Form) (v : ℤ) → norm_of (o.symbols x.owner) x.laid.spot e ≡ Ok f → Value p x.owner x.place e v ↔ HasValue o x.owner f v
+  values : (e : Tree) (f : Form) (v : ℤ) → norm_of (o.symbols x.owner) x.laid.context e ≡ Ok f → Value p x.owner x.place e v ↔ HasValue o x.owner f v
   values e f v q =
       let there = subst (λ s. norm_of (o.symbols x.owner) s e ≡ Ok f) (sym at_spot) q in
       same_values_law E p o h (suc (length (o.symbols x.owner).definitions)) x.owner x.place e f v there
 
-  address : p.address x.owner x.place ≡ wrapped (o.bases x.owner x.laid.spot.segment +ℤ pos x.laid.spot.offset)
-  address = subst (λ (s : Spot). p.address x.owner x.place ≡ wrapped (o.bases x.owner s.segment +ℤ pos s.offset)) at_spot (h.addresses x.owner x.place)
+  address : p.address x.owner x.place ≡ wrapped (o.bases x.owner x.laid.context.segment +ℤ pos x.laid.context.offset)
+  address = subst (λ (s : Context). p.address x.owner x.place ≡ wrapped (o.bases x.owner s.segment +ℤ pos s.offset)) at_spot (h.addresses x.owner x.place)
 
   -- ---- Data.
 
   of_item : (width : Width) (i : Item) (q : Part) (bytes : List ℕ) → item_part (o.symbols x.owner) x.laid width i ≡ Ok q → AreItem p x width i bytes ↔ ArePart (HasValue o x.owner) fill q bytes
   of_item width (item.Value e) q bytes r =
-      let (f, normal, kept) = bind_ok (norm_of (o.symbols x.owner) x.laid.spot e) (stored width x.laid.place) q r in
+      let (f, normal, kept) = bind_ok (norm_of (o.symbols x.owner) x.laid.context e) (stored width x.laid.place) q r in
       let part = of_stored o x.owner fill width x.laid.place f q bytes kept in
       (λ k. part.1 (k.0, (values e f k.0 normal).0 k.1, k.2), λ k. (let b : HasBytes o x.owner width f bytes = part.0 k in (b.0, (values e f b.0 normal).1 b.1, b.2)))
   of_item width (item.Text own) q bytes r = grind (arith, common_steps)
@@ -161,10 +161,10 @@ module _ {E : Type 0} (p : Program) (o : Objects E) (h : AreObjects p o) (fill :
 
   of_one : (width : Width) (e : Tree) (q : Part) (bytes : List ℕ) → operand_part (o.symbols x.owner) x.laid width e ≡ Ok q → AreOperand p x (Some width) (Some e) bytes ↔ ArePart (HasValue o x.owner) fill q bytes
   of_one width e q bytes r =
-      let (f, normal, kept) = bind_ok (norm_of (o.symbols x.owner) x.laid.spot e) (λ f. operand_form width x.laid.spot f >>= stored width x.laid.place) q r in
-      let (g, counted, last) = bind_ok (operand_form width x.laid.spot f) (stored width x.laid.place) q kept in
+      let (f, normal, kept) = bind_ok (norm_of (o.symbols x.owner) x.laid.context e) (λ f. operand_form width x.laid.context f >>= stored width x.laid.place) q r in
+      let (g, counted, last) = bind_ok (operand_form width x.laid.context f) (stored width x.laid.place) q kept in
       let part = of_stored o x.owner fill width x.laid.place g q bytes last in
-      let form = of_operand o x.owner fill width (p.address x.owner x.place) x.laid.spot f g bytes address counted in
+      let form = of_operand o x.owner fill width (p.address x.owner x.place) x.laid.context f g bytes address counted in
       (λ k. part.1 (form.0 (k.0, (values e f k.0 normal).0 k.1, k.2)), λ k. (let b = form.1 (part.0 k) in (b.0, (values e f b.0 normal).1 b.1, b.2)))
 
   of_operands : (width : Option Width) (e : Option Tree) (qs : List Part) (bytes : List ℕ) → operand_parts (o.symbols x.owner) x.laid width e ≡ Ok qs → AreOperand p x width e bytes ↔ AreParts (HasValue o x.owner) fill qs bytes
@@ -208,7 +208,7 @@ module _ {E : Type 0} (p : Program) (o : Objects E) (h : AreObjects p o) (fill :
       let same : ArePart (HasValue o x.owner) fill (room_part len s) bytes ≡ (bytes ≡ replicate count (filling fill s)) = of_room len s bytes ∙ ap (λ n. bytes ≡ replicate n (filling fill s)) (sym e) in
       (λ k. alone.0 (subst (λ z. z) (sym same) k), λ k. subst (λ z. z) same (alone.1 k))
 
-of_line : {E : Type 0} (p : Program) (o : Objects E) → AreObjects p o → (fill at : ℕ) (x : Line) (t : Statement) (ps : List Part) (bytes : List ℕ) → o.spots x.owner x.place ≡ x.laid.spot → line_end at x.multiple (record x.laid { stated = t }) ≡ at + x.laid.length → parts_of (o.symbols x.owner) (record x.laid { stated = t }) ≡ Ok ps → AreLine p fill at (record x { laid = record x.laid { stated = t } }) bytes ↔ AreParts (HasValue o x.owner) fill ps bytes
+of_line : {E : Type 0} (p : Program) (o : Objects E) → AreObjects p o → (fill at : ℕ) (x : Line) (t : Statement) (ps : List Part) (bytes : List ℕ) → o.spots x.owner x.place ≡ x.laid.context → line_end at x.multiple (record x.laid { stated = t }) ≡ at + x.laid.length → parts_of (o.symbols x.owner) (record x.laid { stated = t }) ≡ Ok ps → AreLine p fill at (record x { laid = record x.laid { stated = t } }) bytes ↔ AreParts (HasValue o x.owner) fill ps bytes
 of_line p o h fill at x (statement.Instruction m d) ps bytes s e q = of_instruction p o h fill x s m d x.laid.settled ps bytes q
 of_line p o h fill at x (statement.Values width is) ps bytes s e q = of_items p o h fill x s width is ps bytes q
 of_line p o h fill at x (statement.Reserve n v) ps bytes s e q = room p o h fill x s x.laid.length x.laid.length x.laid.settled ps bytes refl q
@@ -220,7 +220,7 @@ of_line p o h fill at x t ps bytes s e q = none p o h fill x s ps bytes q
 
 -- A line of the whole program has the bytes of the parts that its statement puts into the section, at a position at which it
 -- ends its length further on.
-pub parts_law : (E : Type 0) → (p : Program) (o : Objects E) (fill at : ℕ) (x : Line) (ps : List Part) (bytes : List ℕ) → AreObjects p o → o.spots x.owner x.place ≡ x.laid.spot → line_end at x.multiple x.laid ≡ at + x.laid.length → parts_of (o.symbols x.owner) x.laid ≡ Ok ps → AreLine p fill at x bytes ↔ AreParts (HasValue o x.owner) fill ps bytes
+pub parts_law : (E : Type 0) → (p : Program) (o : Objects E) (fill at : ℕ) (x : Line) (ps : List Part) (bytes : List ℕ) → AreObjects p o → o.spots x.owner x.place ≡ x.laid.context → line_end at x.multiple x.laid ≡ at + x.laid.length → parts_of (o.symbols x.owner) x.laid ≡ Ok ps → AreLine p fill at x bytes ↔ AreParts (HasValue o x.owner) fill ps bytes
 parts_law E p o fill at x ps bytes h s e q = of_line p o h fill at x x.laid.stated ps bytes s e q
 
 -- ---- Parts behind parts.
@@ -243,7 +243,7 @@ parts_split Has fill (p ∷ ps) qs bytes (a, b, k, more, e) =
 
 pub record IsContent (y : Symbols) (l : Laid) (c : Content) : Type 0 where
   pub parts : parts_of y l ≡ Ok c.parts
-  pub segment : c.segment ≡ l.spot.segment
+  pub segment : c.segment ≡ l.context.segment
   pub asks : c.asks ≡ asks_section l.stated
   pub said : said_of y l ≡ Ok c.said
 
@@ -257,7 +257,7 @@ pub in_middle : (before : List Laid) (l : Laid) (ls : List Laid) → slice_get (
 in_middle [] l ls = refl
 in_middle (x ∷ before) l ls = in_middle before l ls
 
-module _ {E : Type 0} (p : Program) (o : Objects E) (h : AreObjects p o) (fill owner g : ℕ) (all : List Laid) (spots : (place : ℕ) (l : Laid) → slice_get all place ≡ Some l → o.spots owner place ≡ l.spot) where
+module _ {E : Type 0} (p : Program) (o : Objects E) (h : AreObjects p o) (fill owner g : ℕ) (all : List Laid) (spots : (place : ℕ) (l : Laid) → slice_get all place ≡ Some l → o.spots owner place ≡ l.context) where
   abbrev here : List Laid → List Laid → List Line
   here before ls = lines_at g (lines_behind owner before ls)
 
@@ -271,14 +271,14 @@ module _ {E : Type 0} (p : Program) (o : Objects E) (h : AreObjects p o) (fill o
       let content = content_is (o.symbols owner) l c (placed_ok l.place (content_of (o.symbols owner) l) c first) in
       let next : (before ++ l ∷ []) ++ ls ≡ all = append_assoc before (l ∷ []) ls ∙ w in
       let there : slice_get all (length before) ≡ Some l = subst (λ z. slice_get z (length before) ≡ Some l) w (in_middle before l ls) in
-      let spot = spots (length before) l there in
-      let step = go c content ds (λ z more_bytes ends. of_lines (before ++ l ∷ []) ls ds z more_bytes next ends more) spot (nat_eq l.spot.segment g) refl ends in
+      let context = spots (length before) l there in
+      let step = go c content ds (λ z more_bytes ends. of_lines (before ++ l ∷ []) ls ds z more_bytes next ends more) context (nat_eq l.context.segment g) refl ends in
       (λ k. subst (λ z. AreParts (HasValue o owner) fill (parts_in z g) bytes) same (step.0 k), λ k. step.1 (subst (λ z. AreParts (HasValue o owner) fill (parts_in z g) bytes) (sym same) k))
     where
-      go : (c : Content) → IsContent (o.symbols owner) l c → (ds : List Content) → ((z : ℕ) (more : List ℕ) → EndsAt z (lines_at g (lines_behind owner (before ++ l ∷ []) ls)) → AreBytes p fill z (map line (lines_at g (lines_behind owner (before ++ l ∷ []) ls))) more ↔ AreParts (HasValue o owner) fill (parts_in ds g) more) → o.spots owner (length before) ≡ l.spot → (b : Bool) → nat_eq l.spot.segment g ≡ b → EndsAt at (cond (nat_eq l.spot.segment g) (line_of owner before l ∷ lines_at g (lines_behind owner (before ++ l ∷ []) ls)) (lines_at g (lines_behind owner (before ++ l ∷ []) ls))) → AreBytes p fill at (map line (cond (nat_eq l.spot.segment g) (line_of owner before l ∷ lines_at g (lines_behind owner (before ++ l ∷ []) ls)) (lines_at g (lines_behind owner (before ++ l ∷ []) ls)))) bytes ↔ AreParts (HasValue o owner) fill (parts_in (c ∷ ds) g) bytes
-      go c content ds deeper spot b e ends =
+      go : (c : Content) → IsContent (o.symbols owner) l c → (ds : List Content) → ((z : ℕ) (more : List ℕ) → EndsAt z (lines_at g (lines_behind owner (before ++ l ∷ []) ls)) → AreBytes p fill z (map line (lines_at g (lines_behind owner (before ++ l ∷ []) ls))) more ↔ AreParts (HasValue o owner) fill (parts_in ds g) more) → o.spots owner (length before) ≡ l.context → (b : Bool) → nat_eq l.context.segment g ≡ b → EndsAt at (cond (nat_eq l.context.segment g) (line_of owner before l ∷ lines_at g (lines_behind owner (before ++ l ∷ []) ls)) (lines_at g (lines_behind owner (before ++ l ∷ []) ls))) → AreBytes p fill at (map line (cond (nat_eq l.context.segment g) (line_of owner before l ∷ lines_at g (lines_behind owner (before ++ l ∷ []) ls)) (lines_at g (lines_behind owner (before ++ l ∷ []) ls)))) bytes ↔ AreParts (HasValue o owner) fill (parts_in (c ∷ ds) g) bytes
+      go c content ds deeper context b e ends =
           let number : nat_eq c.segment g ≡ b = ap (λ n. nat_eq n g) content.segment ∙ e in
-          let lines_are : cond (nat_eq l.spot.segment g) (line_of owner before l ∷ lines_at g (lines_behind owner (before ++ l ∷ []) ls)) (lines_at g (lines_behind owner (before ++ l ∷ []) ls)) ≡ cond b (line_of owner before l ∷ lines_at g (lines_behind owner (before ++ l ∷ []) ls)) (lines_at g (lines_behind owner (before ++ l ∷ []) ls)) = ap (λ z. cond z (line_of owner before l ∷ lines_at g (lines_behind owner (before ++ l ∷ []) ls)) (lines_at g (lines_behind owner (before ++ l ∷ []) ls))) e in
+          let lines_are : cond (nat_eq l.context.segment g) (line_of owner before l ∷ lines_at g (lines_behind owner (before ++ l ∷ []) ls)) (lines_at g (lines_behind owner (before ++ l ∷ []) ls)) ≡ cond b (line_of owner before l ∷ lines_at g (lines_behind owner (before ++ l ∷ []) ls)) (lines_at g (lines_behind owner (before ++ l ∷ []) ls)) = ap (λ z. cond z (line_of owner before l ∷ lines_at g (lines_behind owner (before ++ l ∷ []) ls)) (lines_at g (lines_behind owner (before ++ l ∷ []) ls))) e in
           let parts_are : parts_in (c ∷ ds) g ≡ flat_map (λ (d : Content). d.parts) (cond b (c ∷ filter (λ (d : Content). nat_eq d.segment g) ds) (filter (λ (d : Content). nat_eq d.segment g) ds)) = ap (λ z. flat_map (λ (d : Content). d.parts) (cond z (c ∷ filter (λ (d : Content). nat_eq d.segment g) ds) (filter (λ (d : Content). nat_eq d.segment g) ds))) number in
           let step = by b (subst (EndsAt at) lines_are ends) in (
             λ k. subst (λ z. AreParts (HasValue o owner) fill z bytes) (sym parts_are) (step.0 (subst (λ z. AreBytes p fill at (map line z) bytes) lines_are k)),
@@ -290,12 +290,12 @@ module _ {E : Type 0} (p : Program) (o : Objects E) (h : AreObjects p o) (fill o
           by true ends =
               let x : Line = line_of owner before l in
               let behind : ℕ = line_end at x.multiple l in
-              let one : (own : List ℕ) → AreLine p fill at x own ↔ AreParts (HasValue o owner) fill c.parts own = λ own. parts_law E p o fill at x c.parts own h spot ends.0 content.parts in (
+              let one : (own : List ℕ) → AreLine p fill at x own ↔ AreParts (HasValue o owner) fill c.parts own = λ own. parts_law E p o fill at x c.parts own h context ends.0 content.parts in (
                 λ k. parts_joined (HasValue o owner) fill c.parts (parts_in ds g) bytes (k.0, k.1, (one k.0).0 k.2, (deeper behind k.1 ends.1).0 k.3, k.4),
                 λ k. (let s = parts_split (HasValue o owner) fill c.parts (parts_in ds g) bytes k in (s.0, s.1, (one s.0).1 s.2, (deeper behind s.1 ends.1).1 s.3, s.4)),
               )
 
 -- A module's lines in a segment, from a multiple of their alignment on, have the bytes of what its statements put into the
 -- section.
-pub section_law : (E : Type 0) → (p : Program) (o : Objects E) (fill begin owner g : ℕ) (y : Layout) (cs : List Content) (bytes : List ℕ) → AreObjects p o → o.symbols owner ≡ table_of y → ((place : ℕ) (l : Laid) → slice_get y.laid place ≡ Some l → o.spots owner place ≡ l.spot) → IsLaidOut y → IsMultiple begin (largest_multiple (lines_at g (lines_behind owner [] y.laid))) → contents_from (table_of y) y.laid ≡ Ok cs → AreBytes p fill begin (map line (lines_at g (lines_behind owner [] y.laid))) bytes ↔ AreParts (HasValue o owner) fill (parts_in cs g) bytes
+pub section_law : (E : Type 0) → (p : Program) (o : Objects E) (fill begin owner g : ℕ) (y : Layout) (cs : List Content) (bytes : List ℕ) → AreObjects p o → o.symbols owner ≡ table_of y → ((place : ℕ) (l : Laid) → slice_get y.laid place ≡ Some l → o.spots owner place ≡ l.context) → IsLaidOut y → IsMultiple begin (largest_multiple (lines_at g (lines_behind owner [] y.laid))) → contents_from (table_of y) y.laid ≡ Ok cs → AreBytes p fill begin (map line (lines_at g (lines_behind owner [] y.laid))) bytes ↔ AreParts (HasValue o owner) fill (parts_in cs g) bytes
 section_law x p o fill begin owner g y cs bytes h table spots d m e = grind (arith, common_steps, powers_at, placed, ends_moved, all_end, of_lines)

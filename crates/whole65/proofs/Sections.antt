@@ -115,7 +115,7 @@ number_later ks k g e h = grind (arith, common_steps, behind_front, none_found)
 
 -- ---- Sections that are asked for.
 
-pub asked_are : (z : Symbols) (ls : List Laid) (cs : List Content) → contents_from z ls ≡ Ok cs → segments_asked cs ≡ map (λ l. l.spot.segment) (filter (λ l. asks_section l.stated) ls)
+pub asked_are : (z : Symbols) (ls : List Laid) (cs : List Content) → contents_from z ls ≡ Ok cs → segments_asked cs ≡ map (λ l. l.context.segment) (filter (λ l. asks_section l.stated) ls)
 asked_are z [] cs e = let same : [] ≡ cs = cc in ap segments_asked (sym same)
 asked_are z (l ∷ ls) cs e =
     let found : Laid → Result Content PlacedFault = λ l. at_place l.place (content_of z l) in
@@ -124,20 +124,20 @@ asked_are z (l ∷ ls) cs e =
     let same : c ∷ ds ≡ cs = cc last in
     ap segments_asked (sym same) ∙ go c ds (content_is z l c (placed_ok l.place (content_of z l) c first)) (asked_are z ls ds more)
   where
-    go : (c : Content) (ds : List Content) → IsContent z l c → segments_asked ds ≡ map (λ l. l.spot.segment) (filter (λ l. asks_section l.stated) ls) → segments_asked (c ∷ ds) ≡ map (λ l. l.spot.segment) (filter (λ l. asks_section l.stated) (l ∷ ls))
+    go : (c : Content) (ds : List Content) → IsContent z l c → segments_asked ds ≡ map (λ l. l.context.segment) (filter (λ l. asks_section l.stated) ls) → segments_asked (c ∷ ds) ≡ map (λ l. l.context.segment) (filter (λ l. asks_section l.stated) (l ∷ ls))
     go c ds content h =
         ap (λ b. map (λ (d : Content). d.segment) (cond b (c ∷ filter (λ (d : Content). d.asks) ds) (filter (λ (d : Content). d.asks) ds))) content.asks
         ∙ by (asks_section l.stated)
       where
-        by : (b : Bool) → map (λ (d : Content). d.segment) (cond b (c ∷ filter (λ (d : Content). d.asks) ds) (filter (λ (d : Content). d.asks) ds)) ≡ map (λ (x : Laid). x.spot.segment) (cond b (l ∷ filter (λ (x : Laid). asks_section x.stated) ls) (filter (λ (x : Laid). asks_section x.stated) ls))
-        by true = ap (λ g. g ∷ segments_asked ds) content.segment ∙ ap (λ gs. l.spot.segment ∷ gs) h
+        by : (b : Bool) → map (λ (d : Content). d.segment) (cond b (c ∷ filter (λ (d : Content). d.asks) ds) (filter (λ (d : Content). d.asks) ds)) ≡ map (λ (x : Laid). x.context.segment) (cond b (l ∷ filter (λ (x : Laid). asks_section x.stated) ls) (filter (λ (x : Laid). asks_section x.stated) ls))
+        by true = ap (λ g. g ∷ segments_asked ds) content.segment ∙ ap (λ gs. l.context.segment ∷ gs) h
         by false = h
 
-asked_there : (y : Layout) (name : List ℕ) (ls : List Laid) → list_any (λ l. stands_in y name l && asks_section l.stated) ls ≡ list_any (λ g. bytes_eq (segment_name y g) name) (map (λ l. l.spot.segment) (filter (λ l. asks_section l.stated) ls))
+asked_there : (y : Layout) (name : List ℕ) (ls : List Laid) → list_any (λ l. stands_in y name l && asks_section l.stated) ls ≡ list_any (λ g. bytes_eq (segment_name y g) name) (map (λ l. l.context.segment) (filter (λ l. asks_section l.stated) ls))
 asked_there y name [] = refl
 asked_there y name (l ∷ ls) = grind (arith, common_steps, (asked_there y name ls))
 
-below_all : (bound : ℕ) (ls : List Laid) → AllByRecursion (λ l. l.spot.segment < bound) ls → AllByRecursion (λ g. g < bound) (map (λ l. l.spot.segment) (filter (λ l. asks_section l.stated) ls))
+below_all : (bound : ℕ) (ls : List Laid) → AllByRecursion (λ l. l.context.segment < bound) ls → AllByRecursion (λ g. g < bound) (map (λ l. l.context.segment) (filter (λ l. asks_section l.stated) ls))
 below_all bound [] h = tt
 below_all bound (l ∷ ls) h = grind (arith, common_steps, (below_all bound ls h.1))
 

@@ -98,14 +98,14 @@ IsLong z l = IfOk (parts_of z l) (λ ps. sum_by part_len ps ≡ l.length)
 imports_below : (y : Symbols) (n : List ℕ) (k : ℕ) → imported y n ≡ Some k → below (length y.imports) k ≡ true
 imports_below y n k e = grind (arith, common_steps)
 
-asked_somewhere : (ls : List Laid) → AllByRecursion (Asks (asked_in (map (λ l. l.spot.segment) ls))) ls
+asked_somewhere : (ls : List Laid) → AllByRecursion (Asks (asked_in (map (λ l. l.context.segment) ls))) ls
 asked_somewhere ls = go ls (λ g h. h)
   where
-    go : (rest : List Laid) → ((g : ℕ) → list_any (nat_eq g) (map (λ l. l.spot.segment) rest) ≡ true → list_any (nat_eq g) (map (λ l. l.spot.segment) ls) ≡ true) → AllByRecursion (Asks (asked_in (map (λ l. l.spot.segment) ls))) rest
+    go : (rest : List Laid) → ((g : ℕ) → list_any (nat_eq g) (map (λ l. l.context.segment) rest) ≡ true → list_any (nat_eq g) (map (λ l. l.context.segment) ls) ≡ true) → AllByRecursion (Asks (asked_in (map (λ l. l.context.segment) ls))) rest
     go [] up = tt
-    go (l ∷ rest) up = ((λ e. up l.spot.segment (ap (λ b. b || list_any (nat_eq l.spot.segment) (map (λ l. l.spot.segment) rest)) alike)), go rest (λ g h. up g (or_right (nat_eq g l.spot.segment) (list_any (nat_eq g) (map (λ l. l.spot.segment) rest)) h)))
+    go (l ∷ rest) up = ((λ e. up l.context.segment (ap (λ b. b || list_any (nat_eq l.context.segment) (map (λ l. l.context.segment) rest)) alike)), go rest (λ g h. up g (or_right (nat_eq g l.context.segment) (list_any (nat_eq g) (map (λ l. l.context.segment) rest)) h)))
       where
-        alike : nat_eq l.spot.segment l.spot.segment ≡ true
+        alike : nat_eq l.context.segment l.context.segment ≡ true
         alike = grind (arith, nat_tests)
 
         or_right : (a b : Bool) → b ≡ true → (a || b) ≡ true
@@ -119,7 +119,7 @@ all_lines_long : (y : Layout) → IsSoundLayout y → AllByRecursion (IsLong (ta
 all_lines_long y s =
     let z : Symbols = symbols_of y.laid in
     let count : ℕ = length z.imports in
-    let asked : List ℕ = map (λ (l : Laid). l.spot.segment) y.laid in
+    let asked : List ℕ = map (λ (l : Laid). l.context.segment) y.laid in
     let every = asked_somewhere y.laid in
     let known : IsKnown asked count z = record { definitions = definitions_pass (asked_in asked) y.laid every; imports = imports_below z } in
     go asked count z known y.laid (λ i l e. (symbols_of (take i y.laid), s.measured i l e)) every
@@ -145,11 +145,11 @@ module _ (z : Symbols) (owner g : ℕ) where
       let (ds, more, last) = bind_ok (each found ls) (λ ys. Ok (c ∷ ys)) cs others in
       let same : c ∷ ds ≡ cs = cc last in
       let content = content_is z l c (placed_ok l.place (content_of z l) c first) in
-      go c content ds (λ n ends. lines_long (before ++ l ∷ []) ls ds n ends long.1 more) (nat_eq l.spot.segment g) refl ends ∙ ap (λ ds. at + sum_by part_len (parts_in ds g)) same
+      go c content ds (λ n ends. lines_long (before ++ l ∷ []) ls ds n ends long.1 more) (nat_eq l.context.segment g) refl ends ∙ ap (λ ds. at + sum_by part_len (parts_in ds g)) same
     where
-      go : (c : Content) → IsContent z l c → (ds : List Content) → ((n : ℕ) → EndsAt n (here (before ++ l ∷ []) ls) → end_of n (map line (here (before ++ l ∷ []) ls)) ≡ n + sum_by part_len (parts_in ds g)) → (b : Bool) → nat_eq l.spot.segment g ≡ b → EndsAt at (cond (nat_eq l.spot.segment g) (line_of owner before l ∷ here (before ++ l ∷ []) ls) (here (before ++ l ∷ []) ls)) → end_of at (map line (cond (nat_eq l.spot.segment g) (line_of owner before l ∷ here (before ++ l ∷ []) ls) (here (before ++ l ∷ []) ls))) ≡ at + sum_by part_len (parts_in (c ∷ ds) g)
+      go : (c : Content) → IsContent z l c → (ds : List Content) → ((n : ℕ) → EndsAt n (here (before ++ l ∷ []) ls) → end_of n (map line (here (before ++ l ∷ []) ls)) ≡ n + sum_by part_len (parts_in ds g)) → (b : Bool) → nat_eq l.context.segment g ≡ b → EndsAt at (cond (nat_eq l.context.segment g) (line_of owner before l ∷ here (before ++ l ∷ []) ls) (here (before ++ l ∷ []) ls)) → end_of at (map line (cond (nat_eq l.context.segment g) (line_of owner before l ∷ here (before ++ l ∷ []) ls) (here (before ++ l ∷ []) ls))) ≡ at + sum_by part_len (parts_in (c ∷ ds) g)
       go c content ds deeper b e ends =
-          let lines_are : cond (nat_eq l.spot.segment g) (line_of owner before l ∷ here (before ++ l ∷ []) ls) (here (before ++ l ∷ []) ls) ≡ cond b (line_of owner before l ∷ here (before ++ l ∷ []) ls) (here (before ++ l ∷ []) ls) = ap (λ q. cond q (line_of owner before l ∷ here (before ++ l ∷ []) ls) (here (before ++ l ∷ []) ls)) e in
+          let lines_are : cond (nat_eq l.context.segment g) (line_of owner before l ∷ here (before ++ l ∷ []) ls) (here (before ++ l ∷ []) ls) ≡ cond b (line_of owner before l ∷ here (before ++ l ∷ []) ls) (here (before ++ l ∷ []) ls) = ap (λ q. cond q (line_of owner before l ∷ here (before ++ l ∷ []) ls) (here (before ++ l ∷ []) ls)) e in
           let parts_are : parts_in (c ∷ ds) g ≡ flat_map (λ (d : Content). d.parts) (cond b (c ∷ filter (λ (d : Content). nat_eq d.segment g) ds) (filter (λ (d : Content). nat_eq d.segment g) ds)) = ap (λ n. flat_map (λ (d : Content). d.parts) (cond (nat_eq n g) (c ∷ filter (λ (d : Content). nat_eq d.segment g) ds) (filter (λ (d : Content). nat_eq d.segment g) ds))) content.segment ∙ ap (λ q. flat_map (λ (d : Content). d.parts) (cond q (c ∷ filter (λ (d : Content). nat_eq d.segment g) ds) (filter (λ (d : Content). nat_eq d.segment g) ds))) e in
           ap (λ xs. end_of at (map line xs)) lines_are ∙ by b (subst (EndsAt at) lines_are ends) ∙ ap (λ ps. at + sum_by part_len ps) (sym parts_are)
         where

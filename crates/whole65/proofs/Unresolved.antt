@@ -202,18 +202,18 @@ module _ (s : Script) (placement : Placement) (ys : List Layout) (ms : List Modu
 
   -- ---- Assertions.
 
-  check_valued : (before : List Laid) (l : Laid) (x : Said) → o.spots owner (length before) ≡ l.spot → HasAssertion p (line_of owner before l) → IsAsserted z l x → IsValuedCheck x
-  check_valued before l (Exported n place f) spot has k = tt
-  check_valued before l (Demanded n) spot has k = tt
-  check_valued before l (Checked act place words f) spot has (e, stated, normal) =
+  check_valued : (before : List Laid) (l : Laid) (x : Said) → o.spots owner (length before) ≡ l.context → HasAssertion p (line_of owner before l) → IsAsserted z l x → IsValuedCheck x
+  check_valued before l (Exported n place f) context has k = tt
+  check_valued before l (Demanded n) context has k = tt
+  check_valued before l (Checked act place words f) context has (e, stated, normal) =
       let own : HasAssertion p (line_of owner before (record l { stated = Assert e act words })) = subst (λ x. HasAssertion p (line_of owner before (record l { stated = x }))) stated has in
       let depth : ℕ = suc (length z.definitions) in
-      let same : norm depth (o.symbols owner) (o.spots owner (length before)) e ≡ Ok f = ap (λ r. norm depth (symbols_at r) (o.spots owner (length before)) e) at_y ∙ ap (λ r. norm depth z r e) spot ∙ normal in
+      let same : norm depth (o.symbols owner) (o.spots owner (length before)) e ≡ Ok f = ap (λ r. norm depth (symbols_at r) (o.spots owner (length before)) e) at_y ∙ ap (λ r. norm depth z r e) context ∙ normal in
       (own.0, (same_values_law ValueFault p o (sources_law s placement ys ms h) depth owner (length before) e f own.0 same).0 own.1)
 
-  line_valued : (before : List Laid) (l : Laid) (ss : List Said) → o.spots owner (length before) ≡ l.spot → HasAssertion p (line_of owner before l) → AllByRecursion (IsAsserted z l) ss → AllByRecursion IsValuedCheck ss
-  line_valued before l [] spot has k = tt
-  line_valued before l (x ∷ ss) spot has k = (check_valued before l x spot has k.0, line_valued before l ss spot has k.1)
+  line_valued : (before : List Laid) (l : Laid) (ss : List Said) → o.spots owner (length before) ≡ l.context → HasAssertion p (line_of owner before l) → AllByRecursion (IsAsserted z l) ss → AllByRecursion IsValuedCheck ss
+  line_valued before l [] context has k = tt
+  line_valued before l (x ∷ ss) context has k = (check_valued before l x context has k.0, line_valued before l ss context has k.1)
 
   checks_valued : (before ls : List Laid) (cs : List Content) → before ++ ls ≡ y.laid → contents_from z ls ≡ Ok cs → AllByRecursion (HasAssertion p) (lines_behind owner before ls) → AllByRecursion IsValuedCheck (all_said cs)
   checks_valued before [] cs w e has = let same : [] ≡ cs = cc in subst (λ k. AllByRecursion IsValuedCheck (all_said k)) same tt
@@ -225,9 +225,9 @@ module _ (s : Script) (placement : Placement) (ys : List Layout) (ms : List Modu
       let content = content_is z l c (placed_ok l.place (content_of z l) c first) in
       let next : (before ++ l ∷ []) ++ ls ≡ y.laid = append_assoc before (l ∷ []) ls ∙ w in
       let there : slice_get y.laid (length before) ≡ Some l = subst (λ k. slice_get k (length before) ≡ Some l) w (in_middle before l ls) in
-      let spot : o.spots owner (length before) ≡ l.spot = ap (λ r. spot_in r (length before)) at_y ∙ ap (spot_or (global_spot y)) there in
+      let context : o.spots owner (length before) ≡ l.context = ap (λ r. spot_in r (length before)) at_y ∙ ap (spot_or (global_spot y)) there in
       subst (λ k. AllByRecursion IsValuedCheck (all_said k)) same
-      (all_append IsValuedCheck c.said (all_said ds) (line_valued before l c.said spot has.0 (one_tells z l c.said content.said).asserted) (checks_valued (before ++ l ∷ []) ls ds next more has.1))
+      (all_append IsValuedCheck c.said (all_said ds) (line_valued before l c.said context has.0 (one_tells z l c.said content.said).asserted) (checks_valued (before ++ l ∷ []) ls ds next more has.1))
 
   -- ---- All imports of the object.
 
@@ -317,11 +317,11 @@ module _ (s : Script) (placement : Placement) (ys : List Layout) (ms : List Modu
       let below : g < length y.standing.segments = one_of (λ k. k < length y.standing.segments) (section_keys cs) g keys.standing key in
       let has : has_section y name ≡ true = keys.has name ∙ held (λ k. bytes_eq (segment_name y k) name) g (section_keys cs) key (itself name) in
       let asking : List Laid = filter (λ (l : Laid). asks_section l.stated) y.laid in
-      let shown : list_any (nat_eq g) (map (λ (l : Laid). l.spot.segment) asking) ≡ true = ap (list_any (nat_eq g)) (sym (asked_are (table_of y) y.laid cs c.found)) ∙ asked in
+      let shown : list_any (nat_eq g) (map (λ (l : Laid). l.context.segment) asking) ≡ true = ap (list_any (nat_eq g)) (sym (asked_are (table_of y) y.laid cs c.found)) ∙ asked in
       let by_name : list_any (λ k. bytes_eq name k) (asked_by y) ≡ true =
       ap (list_any (λ k. bytes_eq name k)) (sym (names_asked y asking))
-      ∙ any_map (segment_name y) name (map (λ (l : Laid). l.spot.segment) asking)
-      ∙ held (λ k. bytes_eq name (segment_name y k)) g (map (λ (l : Laid). l.spot.segment) asking) shown (itself name) in
+      ∙ any_map (segment_name y) name (map (λ (l : Laid). l.context.segment) asking)
+      ∙ held (λ k. bytes_eq name (segment_name y k)) g (map (λ (l : Laid). l.context.segment) asking) shown (itself name) in
       let needed : list_any (λ k. bytes_eq name k) (segments_of ys) ≡ true = any_new name (flat_map asked_by ys) [] ∙ any_at name ys owner y at_y by_name in
       let (r, row, called) = row_of (AreRow whole_program ys bytes) s.rows name rows (row_exists s.rows ys (segments_of ys) name (rows_there s (needs_of ys) placement placed) needed) in
       let all : AreBytes whole_program r.fill_value 0 (items_of ys name) (bytes r) = subst (λ n. AreBytes whole_program r.fill_value 0 (items_of ys n) (bytes r)) called row in
@@ -331,7 +331,7 @@ module _ (s : Script) (placement : Placement) (ys : List Layout) (ms : List Modu
       let begin : ℕ = next_multiple_of at (largest_multiple lines) in
       let mine : AreBytes whole_program r.fill_value at (rounding (largest_multiple lines) ∷ map line lines) own =
       subst (λ xs. AreBytes whole_program r.fill_value at xs own) (whole_part y owner g name d below refl has) (subst (λ n. AreBytes whole_program r.fill_value at (part_of n y name) own) first part) in
-      let spots : (place : ℕ) (x : Laid) → slice_get y.laid place ≡ Some x → linked_ones.spots owner place ≡ x.spot = λ place x e. ap (λ r. spot_in r place) at_y ∙ ap (spot_or (global_spot y)) e in
+      let spots : (place : ℕ) (x : Laid) → slice_get y.laid place ≡ Some x → linked_ones.spots owner place ≡ x.context = λ place x e. ap (λ r. spot_in r place) at_y ∙ ap (spot_or (global_spot y)) e in
       let parts : AreParts (HasValue linked_ones owner) r.fill_value (parts_in cs g) mine.1 = (section_law ValueFault whole_program linked_ones r.fill_value begin owner g y cs mine.1 (sources_law s placement ys ms h) (ap symbols_at at_y) spots d (begin_is_multiple y owner g at d) c.found).0 mine.3 in
       parts_valued owner y at_y r.fill_value (parts_in cs g) mine.1 parts
 

@@ -43,7 +43,7 @@ SameValuesLaw E =
 pub record AreOffsets (y : Layout) (owner : ℕ) : Type 0 where
   pub offset :
       (place : ℕ) (l : Laid) → slice_get y.laid place ≡ Some l →
-      l.spot.offset ≡ end_of 0 (map line (lines_at l.spot.segment (lines_behind owner [] (take place y.laid))))
+      l.context.offset ≡ end_of 0 (map line (lines_at l.context.segment (lines_behind owner [] (take place y.laid))))
   pub size :
       (g : ℕ) →
       (segment_at y.standing.segments g).end ≡ end_of 0 (map line (lines_at g (lines_behind owner [] y.laid)))

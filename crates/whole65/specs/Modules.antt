@@ -4,7 +4,7 @@ use Rattle.std.specs.List.{flat_map}
 use Rattle.syntax65.specs.Trees.{Tree}
 use Rattle.language65.specs.declared.fault.AsmFault.{AsmFault}
 use Rattle.language65.specs.Laid.{Laid}
-use Rattle.language65.specs.declared.laid.Spot.{Spot}
+use Rattle.language65.specs.declared.laid.Context.{Context}
 use Rattle.language65.specs.declared.language.Statement.{Statement}
 use Rattle.language65.specs.declared.language.Statement.TheVariants.{Export, Global, ForceImport}
 use Rattle.language65.specs.Layout.{Layout}
@@ -48,7 +48,7 @@ meaning_by y (Ok (names.imported_as k)) = import_named (slice_get (table_of y).i
 meaning_by y (Err e) = None
 
 -- behind the last statement, in the global scope and in no segment
-abbrev pub global_spot : Layout → Spot
+abbrev pub global_spot : Layout → Context
 global_spot y = record {
   scope = 0;
   opened = y.standing.opened;
@@ -58,11 +58,11 @@ global_spot y = record {
   offset = 0;
 }
 
-abbrev pub spot_or : Spot → Option Laid → Spot
+abbrev pub spot_or : Context → Option Laid → Context
 spot_or other None = other
-spot_or other (Some l) = l.spot
+spot_or other (Some l) = l.context
 
-abbrev pub spot_at : Layout → ℕ → Spot
+abbrev pub spot_at : Layout → ℕ → Context
 spot_at y place = spot_or (global_spot y) (slice_get y.laid place)
 
 -- what an operand means at a place, among all statements of the module

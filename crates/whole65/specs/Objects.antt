@@ -5,7 +5,7 @@ use Rattle.base65.specs.Values.{wrapped}
 use Rattle.object65.specs.Form.{Form}
 use Rattle.object65.specs.FormValue.{value_in}
 use Rattle.language65.specs.declared.fault.AsmFault.{AsmFault}
-use Rattle.language65.specs.declared.laid.Spot.{Spot}
+use Rattle.language65.specs.declared.laid.Context.{Context}
 use Rattle.language65.specs.Names as names
 use Rattle.language65.specs.Names.{meaning_of}
 use Rattle.language65.specs.Norms.{norm}
@@ -18,7 +18,7 @@ pub record Objects (E : Type 0) : Type 0 where
   -- that an operation has no value
   pub none : E
   pub symbols : (owner : ℕ) → Symbols
-  pub spots : (owner place : ℕ) → Spot
+  pub spots : (owner place : ℕ) → Context
   -- the place of the statement that makes the definition of a number
   pub places : (owner definition : ℕ) → ℕ
   -- the address at which the section of a segment begins
@@ -81,7 +81,7 @@ pub record AreObjects {E : Type 0} (p : Program) (o : Objects E) : Type 0 where
       p.means owner place e ≡ meaning_shown o owner (meaning_of (o.symbols owner) (o.spots owner place) e)
   pub spots :
       (owner definition : ℕ) (d : Definition) → slice_get (o.symbols owner).definitions definition ≡ Some d →
-      o.spots owner (o.places owner definition) ≡ d.spot
+      o.spots owner (o.places owner definition) ≡ d.context
   pub addresses :
       (owner place : ℕ) →
       p.address owner place ≡ wrapped (o.bases owner (o.spots owner place).segment +ℤ pos (o.spots owner place).offset)

@@ -31,7 +31,7 @@ pub data IsLaidOut : Layout → Type 0 where
 
 -- the lines of a module that stand in its segment of a number
 abbrev pub lines_at : ℕ → List Line → List Line
-lines_at g xs = filter (λ x. nat_eq x.laid.spot.segment g) xs
+lines_at g xs = filter (λ x. nat_eq x.laid.context.segment g) xs
 
 -- where the section of the module at a place begins, in a segment that has reached a position before the first module
 abbrev pub begin_from : ℕ → ℕ → List Layout → List ℕ → ℕ → ℕ

@@ -51,7 +51,7 @@ abbrev pub address_in : Script → Placement → List Layout → ℕ → ℕ →
 address_in s p ys owner place name = wrapped (pos (run_of s.rows p.rows name + position_of ys name owner place))
 
 abbrev pub statement_address : Script → Placement → List Layout → ℕ → ℕ → Option Layout → Option Laid → ℤ
-statement_address s p ys owner place (Some y) (Some l) = address_in s p ys owner place (segment_name y l.spot.segment)
+statement_address s p ys owner place (Some y) (Some l) = address_in s p ys owner place (segment_name y l.context.segment)
 statement_address s p ys owner place _ _ = pos 0
 
 abbrev pub laid_at : Option Layout → ℕ → Option Laid

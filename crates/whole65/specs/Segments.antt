@@ -34,7 +34,7 @@ abbrev pub line_of : ℕ → List Laid → Laid → Line
 line_of owner before l = record {
   owner = owner;
   place = length before;
-  multiple = multiple_of (symbols_of before) l.spot l.stated;
+  multiple = multiple_of (symbols_of before) l.context l.stated;
   laid = l;
 }
 
@@ -44,7 +44,7 @@ lines_behind owner before [] = []
 lines_behind owner before (l ∷ ls) = line_of owner before l ∷ lines_behind owner (before ++ l ∷ []) ls
 
 abbrev pub stands_in : Layout → List ℕ → Laid → Bool
-stands_in y name l = bytes_eq (segment_name y l.spot.segment) name
+stands_in y name l = bytes_eq (segment_name y l.context.segment) name
 
 -- the lines of a module that stand in the segment of a name
 abbrev pub lines_in : ℕ → Layout → List ℕ → List Line
@@ -107,7 +107,7 @@ position_of ys name owner place = end_of 0 (items_before owner place (items_of y
 
 -- the segments of which a module has a section, in the order of the first line that asks
 abbrev pub asked_by : Layout → List (List ℕ)
-asked_by y = map (λ l. segment_name y l.spot.segment) (filter (λ l. asks_section l.stated) y.laid)
+asked_by y = map (λ l. segment_name y l.context.segment) (filter (λ l. asks_section l.stated) y.laid)
 
 -- the segments of all modules, each once, in the order in which modules first show them
 abbrev pub segments_of : List Layout → List (List ℕ)

@@ -4,7 +4,7 @@ use Rattle.std.specs.List.{AllByRecursion}
 use Rattle.syntax65.specs.Trees.{Tree}
 use Rattle.source65.specs.declared.place.Place.{Place}
 use Rattle.language65.specs.Parts.{Content}
-use Rattle.language65.specs.declared.laid.Spot.{Spot}
+use Rattle.language65.specs.declared.laid.Context.{Context}
 use Rattle.language65.specs.Symbols.{Definition, Key, Symbols, unnamed_at}
 use Rattle.module65.specs.Machine as machine
 use Rattle.module65.specs.Machine.{PutsAll, State, awaited_in, filled}
@@ -22,14 +22,14 @@ use Rattle.layout65.specs.Sounds.{AreWithin, IsCounted, IsSoundStanding, standin
 -- ---- What waits.
 
 -- the expression of the constant that is defined at a place, where a statement stands
-pub record IsConstant (y : Symbols) (s : Spot) (place : ℕ) (e : Tree) : Type 0 where
+pub record IsConstant (y : Symbols) (s : Context) (place : ℕ) (e : Tree) : Type 0 where
   pub definition : Definition
   pub there : slice_get y.definitions place ≡ Some definition
-  pub spot : definition.spot ≡ s
+  pub context : definition.context ≡ s
   pub value : definition.value ≡ Some e
 
 -- a piece of the machine's, of a statement that stands here
-abbrev pub IsPiece : Symbols → Spot → Piece → piece.Piece → Type 0
+abbrev pub IsPiece : Symbols → Context → Piece → piece.Piece → Type 0
 IsPiece y s (Datum w e) p = p ≡ piece.valued (piece.datum w) e
 IsPiece y s (Operand w e) p = p ≡ piece.valued (piece.operand w) e
 IsPiece y s (Constant place) p =
@@ -43,8 +43,8 @@ IsPiece y s (Export must n) p = p ≡ piece.exported must n
 pub record IsWaiting (y : Symbols) (files : List (List ℕ)) (w : Waiting) (v : machine.Waiting) : Type 0 where
   pub file : slice_get files w.file ≡ Some v.place.file
   pub line : v.place.line ≡ w.line
-  pub spot : v.spot ≡ w.spot
-  pub piece : IsPiece y v.spot w.piece v.piece
+  pub context : v.context ≡ w.context
+  pub piece : IsPiece y v.context w.piece v.piece
 
 -- one behind the other
 abbrev pub AreWaiting : Symbols → List (List ℕ) → List Waiting → List machine.Waiting → Type 0
@@ -69,7 +69,7 @@ abbrev pub AreAwaited : List machine.Waiting → List Content → Type 0
 AreAwaited vs ws = (length ws ≡ length vs) × AllByRecursion (λ c. c.asks ≡ false) ws
 
 -- An assembler holds a state, behind statements that opened so much. Whatever will be in place of
--- what waits, its sections stand for the state's contents.
+-- what waits, its sections site for the state's contents.
 pub record Holds (count : ℕ) (t : State) (a : Assembler) : Type 0 where
   pub symbols : table_of a.symbols ≡ t.symbols
   pub known : IsTable t.symbols a.known.states.items
@@ -88,7 +88,7 @@ pub record Holds (count : ℕ) (t : State) (a : Assembler) : Type 0 where
 -- ---- What calls do.
 
 -- Pieces of a statement that stands here are entered, one behind the other; else nothing changes.
-abbrev pub Enters : Place → Spot → List piece.Piece → Assembler → Assembler → Type 0
+abbrev pub Enters : Place → Context → List piece.Piece → Assembler → Assembler → Type 0
 Enters place s ps old new =
     (count : ℕ) (t : State) → Holds count t old →
     (u : State) × PutsAll place s t ps u × Holds count u new

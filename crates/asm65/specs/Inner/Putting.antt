@@ -1,7 +1,7 @@
--- What names mean at a spot, what is put into sections at a line, and what waits.
+-- What names mean at a context, what is put into sections at a line, and what waits.
 use Rattle.syntax65.specs.Trees.{name, Tree}
 use Rattle.expand65.specs.State.{Meaning}
-use Rattle.language65.specs.declared.laid.Spot.{Spot}
+use Rattle.language65.specs.declared.laid.Context.{Context}
 use Rattle.language65.specs.Names.{meaning_of}
 use Rattle.language65.specs.Norms.{constant_in}
 use Rattle.language65.specs.Symbols.{Symbols}
@@ -26,10 +26,10 @@ use Rattle.asm65.specs.declared.assembler.Assembler.{Assembler}
 use Rattle.asm65.specs.declared.assembler.Piece.{Piece}
 use Rattle.asm65.specs.Inner.Holding.{Enters, Holds, IsPiece}
 
--- ---- What names and expressions mean at a spot.
+-- ---- What names and expressions mean at a context.
 
 -- by the definitions before it
-abbrev pub known_where : Symbols → Spot → Meaning
+abbrev pub known_where : Symbols → Context → Meaning
 known_where y s = record {
   value = constant_in y s;
   defined = λ global parts. is_definition (meaning_of y s (name global parts));
@@ -45,11 +45,11 @@ pub record KeepsTables (old new : Assembler) : Type 0 where
   pub texts : new.texts ≡ old.texts
 
 -- A piece of a statement that stands here waits.
-abbrev pub Waits : Place → Spot → Piece → Assembler → Assembler → Type 0
+abbrev pub Waits : Place → Context → Piece → Assembler → Assembler → Type 0
 Waits place s p old new =
     (count : ℕ) (t : State) (v : piece.Piece) → Holds count t old →
     IsPiece (table_of old.symbols) s p v →
-    Holds count (awaiting t (record { place = place; spot = s; piece = v })) new
+    Holds count (awaiting t (record { place = place; context = s; piece = v })) new
 
 -- ---- Parts.
 
@@ -69,7 +69,7 @@ IsFaultless r (Some f) = r ≡ Ok f
 IsFaultless r None = ⊤
 
 -- what is stored of an operand's form
-abbrev pub operand_stored : Width → Spot → Place → Form → Result Part AsmFault
+abbrev pub operand_stored : Width → Context → Place → Form → Result Part AsmFault
 operand_stored width s place f = operand_form width s f >>= stored width place
 
 -- numbers that are in range, and their bytes
@@ -80,12 +80,12 @@ pub record AreStored (width : Width) (ns stored : List ℕ) : Type 0 where
 -- ---- Pieces.
 
 -- a piece of a statement that stands here is entered, or nothing changes
-abbrev pub IsTried : Place → Spot → piece.Piece → Assembler → Assembler → Bool → Type 0
+abbrev pub IsTried : Place → Context → piece.Piece → Assembler → Assembler → Bool → Type 0
 IsTried place s p old new false = new ≡ old
 IsTried place s p old new true = Enters place s (p ∷ []) old new
 
 -- an expression whose value is a number other than 0, whatever statements follow
-pub record IsSo (y : Symbols) (s : Spot) (e : Tree) : Type 0 where
+pub record IsSo (y : Symbols) (s : Context) (e : Tree) : Type 0 where
   pub value : ℤ
   pub other : value ≡ pos 0 → ⊥
   pub final : IsFinal y s e (lit value)

@@ -6,7 +6,7 @@ use Rattle.language65.specs.Parts.{Content}
 use Rattle.language65.specs.declared.contents.Said.{Said}
 use Rattle.language65.specs.declared.fault.AsmFault.{AsmFault}
 use Rattle.language65.specs.Contents.{put, telling, written}
-use Rattle.language65.specs.declared.laid.Spot.{Spot}
+use Rattle.language65.specs.declared.laid.Context.{Context}
 use Rattle.language65.specs.Norms.{defined_form}
 use Rattle.language65.specs.Symbols.{Symbols}
 use Rattle.language65.specs.Views.{part_at, said_at}
@@ -49,7 +49,7 @@ abbrev pub lost : (must : Bool) → List ℕ → Result Made AsmFault
 lost must n = absent_of must n >>= as_said
 
 -- of a constant only the fault of its expression is found
-abbrev pub coming : Symbols → Place → Spot → Piece → Result Made AsmFault
+abbrev pub coming : Symbols → Place → Context → Piece → Result Made AsmFault
 coming y place s (Datum width e) = made_of y place s (piece.valued (piece.datum width) e)
 coming y place s (Operand width e) =
     made_of y place s (piece.valued (piece.operand width) e)
@@ -70,14 +70,14 @@ ReceivesAll old new ws =
 -- a piece that waits has come to its content, and its warning is said
 pub record IsSettled (y : Symbols) (v : machine.Waiting) (old new : Ending) : Type 0 where
   pub made : Made
-  pub found : made_of y v.place v.spot v.piece ≡ Ok made
+  pub found : made_of y v.place v.context v.piece ≡ Ok made
   pub sections : Receives old.sections new.sections made.content
   pub err : new.err ≡ old.err ++ made.warning
 
 -- it has a fault instead, and nothing is said
 pub record IsFaulty (y : Symbols) (v : machine.Waiting) (e : AsmRefusal) (old new : Ending) :
     Type 0 where
-  pub found : made_of y v.place v.spot v.piece ≡ Err (placed_of e).fault
+  pub found : made_of y v.place v.context v.piece ≡ Err (placed_of e).fault
   pub place : (placed_of e).place ≡ v.place
   pub err : new.err ≡ old.err
 

@@ -38,7 +38,7 @@ SaysAs t a = (a.texts.out ≡ t.out) × (a.texts.err ≡ t.err)
 
 -- ---- States that statements lead to.
 
--- behind statements whose names objects can hold, wherever they stand
+-- behind statements whose names objects can hold, wherever they site
 pub data IsReached : State → Type 0 where
   at_first : IsReached begun
   behind :

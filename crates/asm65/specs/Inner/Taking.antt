@@ -5,9 +5,9 @@ use Rattle.syntax65.specs.declared.lexing.tokens.AddressSize.TheVariants as size
 use Rattle.source65.specs.declared.place.Place.{Place}
 use Rattle.language65.specs.Contents.{asking}
 use Rattle.language65.specs.Laid.{Laid, asks_section}
-use Rattle.language65.specs.declared.laid.Spot.{Spot}
+use Rattle.language65.specs.declared.laid.Context.{Context}
 use Rattle.language65.specs.declared.language.Statement.{Statement}
-use Rattle.language65.specs.Layout.{spot_of, standing_behind}
+use Rattle.language65.specs.Layout.{context_of, standing_behind}
 use Rattle.language65.specs.LineFaults.{line_fault, opened_twice, scope_name}
 use Rattle.language65.specs.declared.fault.AsmFault.{AsmFault}
 use Rattle.language65.specs.Faults.{is_outside}
@@ -25,18 +25,18 @@ use Rattle.asm65.specs.Inner.Holding.{AreBefore, Holds}
 use Rattle.layout65.specs.Counting.{AreInside, opening_limit}
 
 -- a statement with what it lies by
-abbrev pub laid_as : Place → Spot → Measured → Statement → Laid
+abbrev pub laid_as : Place → Context → Measured → Statement → Laid
 laid_as place s m x = record {
   stated = x;
   place = place;
-  spot = s;
+  context = s;
   length = m.length;
   size = m.size;
   settled = m.settled;
 }
 
 -- what a statement here defines and opens is not there yet
-pub record IsNew (y : Symbols) (s : Spot) (x : Statement) : Type 0 where
+pub record IsNew (y : Symbols) (s : Context) (x : Statement) : Type 0 where
   pub opened : opened_twice y.scopes s.scope (scope_name x) ≡ None
   pub defined : (k : Key) → key_defined s x ≡ Some k → defined y k ≡ None
 
@@ -53,7 +53,7 @@ with_symbols t y = record t { symbols = y }
 
 -- Pieces of a statement that stands here are entered, and then the symbol table is the one that it
 -- becomes.
-abbrev pub Turns : Place → Spot → List piece.Piece → (Symbols → Symbols) → Assembler → Assembler → Type 0
+abbrev pub Turns : Place → Context → List piece.Piece → (Symbols → Symbols) → Assembler → Assembler → Type 0
 Turns place s ps becomes old new =
     (count : ℕ) (t : State) → Holds count t old → AreInside count (becomes t.symbols).scopes →
     AreBefore t.standing.unnamed (becomes t.symbols).definitions →
@@ -74,9 +74,9 @@ Asks segment x old new =
 -- ---- Where a statement stands.
 
 -- a statement here has no fault at its line, and places so much
-pub record IsPlaced (t : State) (x : Statement) (s : Spot) (m : Measured) : Type 0 where
+pub record IsPlaced (t : State) (x : Statement) (s : Context) (m : Measured) : Type 0 where
   pub faultless : line_fault t.symbols t.standing x ≡ None
-  pub spot : s ≡ spot_of t.standing
+  pub context : s ≡ context_of t.standing
   pub measured : m ≡ measure_of t.symbols t.standing x
 
 -- it has this fault there, unless that came from outside
@@ -86,7 +86,7 @@ IsRefused t x e = Unless (is_outside e) (line_fault t.symbols t.standing x ≡ S
 -- the state in which a statement's pieces are entered
 abbrev pub stepped : State → Place → Statement → State
 stepped t place x =
-    let u : State = asked_of (spot_of t.standing).segment x t in
+    let u : State = asked_of (context_of t.standing).segment x t in
     record u {
       standing = standing_behind t.symbols t.standing x;
       out = u.out ++ out_of x;
@@ -96,8 +96,8 @@ stepped t place x =
 -- ---- Names.
 
 -- a label stands for its address
-abbrev pub label_at : Key → Spot → AddressSize → Definition
-label_at k s size = record { key = k; value = None; spot = s; size = size }
+abbrev pub label_at : Key → Context → AddressSize → Definition
+label_at k s size = record { key = k; value = None; context = s; size = size }
 
 abbrev pub is_for_zero_page : AddressSize → Bool
 is_for_zero_page size.ZeroPage = true
@@ -109,12 +109,12 @@ mentioned Demanded n = piece.demanded n
 mentioned (Exported must) n = piece.exported must n
 
 -- pieces that wait, one behind the other
-abbrev pub all_awaiting : Place → Spot → State → List piece.Piece → State
+abbrev pub all_awaiting : Place → Context → State → List piece.Piece → State
 all_awaiting place s t [] = t
 all_awaiting place s t (p ∷ ps) =
-    all_awaiting place s (awaiting t (record { place = place; spot = s; piece = p })) ps
+    all_awaiting place s (awaiting t (record { place = place; context = s; piece = p })) ps
 
 -- names that a statement here mentions wait
-abbrev pub Mentions : Place → Spot → List piece.Piece → Assembler → Assembler → Type 0
+abbrev pub Mentions : Place → Context → List piece.Piece → Assembler → Assembler → Type 0
 Mentions place s ps old new =
     (count : ℕ) (t : State) → Holds count t old → Holds count (all_awaiting place s t ps) new

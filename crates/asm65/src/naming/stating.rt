@@ -1,7 +1,7 @@
 //! Statements that define, open, import and mention names.
 
 ghost use Rattle.std.specs.Prelude.{◌≡◌, IfOk, OnOk, map, None, ◌∷◌, [], Some, ◌++◌, false, true};
-ghost use Rattle.language65.specs.declared.laid.Spot.{Spot};
+ghost use Rattle.language65.specs.declared.laid.Context.{Context};
 ghost use Rattle.language65.specs.Symbols.{Symbols, Key as DefinedKey, defined, named};
 ghost use Rattle.asm65.specs.Inner.Holding.{IsPiece};
 ghost use Rattle.asm65.specs.Inner.Taking.{mentioned, is_for_zero_page, label_at, Mentions, Turns};
@@ -16,11 +16,11 @@ ghost use Rattle.source65.specs.declared.place.Place.{Place};
 ghost use Rattle.language65.specs.LineFaults.{opened_twice};
 
 use crate::assembler::{Assembler, Piece};
-use crate::putting::Stand;
+use crate::putting::Site;
 use base65::Sequence;
-use language65::Spot;
+use language65::Context;
 use std::alloc::{AllocError, Global};
-use symbols65::{Definition, Key, final_form};
+use symbols65::{Definition, Key, stable_form};
 use syntax65::{AddressSize, Expr};
 
 /// How a statement mentions a name.
@@ -35,7 +35,7 @@ pub enum Mention {
 
 /// What waits of a name that is mentioned.
 fn piece_of(alloc: Global, mention: Mention, name: &[u8]) -> Result<Piece, AllocError>
-    ensures { IfOk result (λ p. (y : Symbols) (s : Spot) → IsPiece y s p (mentioned mention name.now)) }
+    ensures { IfOk result (λ p. (y : Symbols) (s : Context) → IsPiece y s p (mentioned mention name.now)) }
 {
     let name = Sequence::from_vec(Vec::from_slice(alloc, name)?);
     match mention {
@@ -51,18 +51,18 @@ impl Assembler {
     pub fn mention(
         &mut self,
         alloc: Global,
-        stand: Stand<'_>,
+        site: Site<'_>,
         mention: Mention,
         names: &[Sequence<u8>],
     ) -> Result<(), AllocError>
         ensures mentioned { OnOk result (Mentions
-            (place_at stand.entry.at) stand.entry.spot
+            (place_at site.entry.at) site.entry.context
             (map (mentioned mention) names.now) self.old self.new) }
         ensures tables { KeepsTables self.old self.new }
     {
         for name in names {
             let piece = piece_of(alloc, mention, name.as_slice())?;
-            self.wait(alloc, stand, piece)?;
+            self.wait(alloc, site, piece)?;
         }
         Ok(())
     }
@@ -74,37 +74,37 @@ impl Assembler {
     pub fn define_constant(
         &mut self,
         alloc: Global,
-        stand: Stand<'_>,
+        site: Site<'_>,
         size: AddressSize,
         name: &[u8],
         value: Expr,
     ) -> Result<(), AllocError>
         requires known { IsTable (table_of self.old.symbols) self.old.known.states.items }
-        requires new { defined (table_of self.old.symbols) (named stand.spot.scope name.now) ≡ None }
-        ensures { OnOk result (Turns (place_at stand.entry.at)
-            stand.entry.spot (valued equated value ∷ [])
+        requires new { defined (table_of self.old.symbols) (named site.context.scope name.now) ≡ None }
+        ensures { OnOk result (Turns (place_at site.entry.at)
+            site.entry.context (valued equated value ∷ [])
             (λ y. with_definition y (record {
-              key = named stand.entry.spot.scope name.now;
+              key = named site.entry.context.scope name.now;
               value = Some value;
-              spot = stand.entry.spot;
+              context = site.entry.context;
               size = size;
             }))
             self.old self.new) }
     {
-        let spot = stand.spot;
-        let form = final_form(alloc, &self.symbols, spot, &value)?;
+        let context = site.context;
+        let form = stable_form(alloc, &self.symbols, context, &value)?;
         let waits = form.is_none();
         let place = self.symbols.definitions.len();
-        let scope = spot.scope as usize;
+        let scope = context.scope as usize;
         let definition = Definition {
             value: Some(value),
-            spot,
+            context,
             size,
             form,
         };
         self.define(alloc, Key::Named { scope, name }, definition)?;
         if waits {
-            self.wait(alloc, stand, Piece::Constant(place))?;
+            self.wait(alloc, site, Piece::Constant(place))?;
         }
         Ok(())
     }
@@ -117,13 +117,13 @@ fn is_for_zero_page(size: AddressSize) -> bool
 }
 
 /// What a label stands for: the address at which it stands.
-fn label(spot: Spot, size: AddressSize) -> Definition
-    ensures seen { (k : DefinedKey) → definition_seen k result ≡ label_at k spot size }
+fn label(context: Context, size: AddressSize) -> Definition
+    ensures seen { (k : DefinedKey) → definition_seen k result ≡ label_at k context size }
     ensures form { result.form ≡ None }
 {
     Definition {
         value: None,
-        spot,
+        context,
         size,
         form: None,
     }
@@ -136,16 +136,16 @@ impl Assembler {
         &mut self,
         alloc: Global,
         key: Key<'_>,
-        spot: Spot,
+        context: Context,
         size: AddressSize,
     ) -> Result<(), AllocError>
         requires known { IsTable (table_of self.old.symbols) self.old.known.states.items }
         requires new { defined (table_of self.old.symbols) (key_of key) ≡ None }
-        ensures { OnOk result ((place : Place) → Turns place spot []
-            (λ y. with_definition y (label_at (key_of key.entry) spot size))
+        ensures { OnOk result ((place : Place) → Turns place context []
+            (λ y. with_definition y (label_at (key_of key.entry) context size))
             self.old self.new) }
     {
-        self.define(alloc, key, label(spot, size))
+        self.define(alloc, key, label(context, size))
     }
 
     /// A scope is opened, perhaps of a name.
@@ -153,21 +153,21 @@ impl Assembler {
     pub fn open_block(
         &mut self,
         alloc: Global,
-        spot: Spot,
+        context: Context,
         name: Option<&[u8]>,
     ) -> Result<(), AllocError>
         requires known { IsTable (table_of self.old.symbols) self.old.known.states.items }
-        requires new { opened_twice (table_of self.old.symbols).scopes spot.scope
+        requires new { opened_twice (table_of self.old.symbols).scopes context.scope
             (option_map (λ n. n.now) name) ≡ None }
-        ensures { OnOk result ((place : Place) → Turns place spot []
+        ensures { OnOk result ((place : Place) → Turns place context []
             (λ y. with_scope y (record {
-              within = spot.scope;
+              within = context.scope;
               name = option_map (λ n. n.now) name.entry;
               is_proc = false;
             }))
             self.old self.new) }
     {
-        self.open_scope(alloc, spot.scope, name, false)
+        self.open_scope(alloc, context.scope, name, false)
     }
 
     /// A label is defined, and a scope of its name opened beside it.
@@ -175,23 +175,23 @@ impl Assembler {
     pub fn open_proc(
         &mut self,
         alloc: Global,
-        spot: Spot,
+        context: Context,
         size: AddressSize,
         name: &[u8],
     ) -> Result<(), AllocError>
         requires known { IsTable (table_of self.old.symbols) self.old.known.states.items }
-        requires new { defined (table_of self.old.symbols) (named spot.scope name.now) ≡ None }
-        requires unopened { opened_twice (table_of self.old.symbols).scopes spot.scope
+        requires new { defined (table_of self.old.symbols) (named context.scope name.now) ≡ None }
+        requires unopened { opened_twice (table_of self.old.symbols).scopes context.scope
             (Some name.now) ≡ None }
-        ensures { OnOk result ((place : Place) → Turns place spot []
+        ensures { OnOk result ((place : Place) → Turns place context []
             (λ y. with_scope
-            (with_definition y (label_at (named spot.scope name.now) spot size))
-            (record { within = spot.scope; name = Some name.now; is_proc = true }))
+            (with_definition y (label_at (named context.scope name.now) context size))
+            (record { within = context.scope; name = Some name.now; is_proc = true }))
             self.old self.new) }
     {
-        let scope = spot.scope as usize;
-        self.define(alloc, Key::Named { scope, name }, label(spot, size))?;
-        self.open_scope(alloc, spot.scope, Some(name), true)
+        let scope = context.scope as usize;
+        self.define(alloc, Key::Named { scope, name }, label(context, size))?;
+        self.open_scope(alloc, context.scope, Some(name), true)
     }
 
     /// Names are imported, of this address size.
@@ -199,18 +199,18 @@ impl Assembler {
     pub fn import_names(
         &mut self,
         alloc: Global,
-        stand: Stand<'_>,
+        site: Site<'_>,
         mention: Mention,
         size: AddressSize,
         names: &[Sequence<u8>],
     ) -> Result<(), AllocError>
         requires { IsTable (table_of self.old.symbols) self.old.known.states.items }
         ensures { OnOk result (Turns
-            (place_at stand.entry.at) stand.entry.spot
+            (place_at site.entry.at) site.entry.context
             (map (mentioned mention) names.now)
             (λ y. with_names y (is_for_zero_page size) names.now) self.old self.new) }
     {
-        self.mention(alloc, stand, mention, names)?;
+        self.mention(alloc, site, mention, names)?;
         self.import(alloc, names, is_for_zero_page(size))
     }
 
@@ -219,17 +219,17 @@ impl Assembler {
     pub fn demand_names(
         &mut self,
         alloc: Global,
-        stand: Stand<'_>,
+        site: Site<'_>,
         names: &[Sequence<u8>],
     ) -> Result<(), AllocError>
         requires { IsTable (table_of self.old.symbols) self.old.known.states.items }
         ensures { OnOk result (Turns
-            (place_at stand.entry.at) stand.entry.spot
+            (place_at site.entry.at) site.entry.context
             (map imported names.now ++ map demanded names.now)
             (λ y. with_names y false names.now) self.old self.new) }
     {
-        self.mention(alloc, stand, Mention::Imported, names)?;
-        self.mention(alloc, stand, Mention::Demanded, names)?;
+        self.mention(alloc, site, Mention::Imported, names)?;
+        self.mention(alloc, site, Mention::Demanded, names)?;
         self.import(alloc, names, false)
     }
 }

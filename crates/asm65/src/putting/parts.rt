@@ -10,10 +10,10 @@ ghost use Rattle.language65.specs.Views.{place_at};
 ghost use Rattle.sections65.specs.Standing.{Feeds};
 ghost use Rattle.asm65.specs.Inner.Putting.{AreStored, IsFaultless, IsPut, operand_stored};
 
-use super::Stand;
+use super::Site;
 use super::values::{is_file_name, literal_of};
 use base65::Sequence;
-use language65::{At, Item, Settled, Spot};
+use language65::{At, Item, Settled, Context};
 use object65::{Norm, Width, fits, put};
 use sections65::Sections;
 use std::alloc::{AllocError, Global};
@@ -97,12 +97,12 @@ pub fn put_form(
 fn faultless_form(
     alloc: Global,
     width: Width,
-    spot: Spot,
+    context: Context,
     form: Norm,
 ) -> Result<Option<Norm>, AllocError>
-    ensures { IfOk result (IsFaultless (operand_form width spot form)) }
+    ensures { IfOk result (IsFaultless (operand_form width context form)) }
 {
-    match operand_form(alloc, width, spot, form) {
+    match operand_form(alloc, width, context, form) {
         Ok(form) => Ok(Some(form)),
         Err(fault) => {
             if fault.is_memory() {
@@ -118,16 +118,16 @@ fn faultless_form(
 pub fn put_operand(
     alloc: Global,
     sections: &mut Sections,
-    stand: Stand<'_>,
+    site: Site<'_>,
     width: Width,
     form: Norm,
 ) -> Result<bool, AllocError>
-    ensures { IfOk result (IsPut sections.old sections.new stand.entry.spot.segment
-        (operand_stored width stand.entry.spot
-        (place_at stand.entry.at) form)) }
+    ensures { IfOk result (IsPut sections.old sections.new site.entry.context.segment
+        (operand_stored width site.entry.context
+        (place_at site.entry.at) form)) }
 {
-    match faultless_form(alloc, width, stand.spot, form)? {
-        Some(form) => put_form(sections, stand.spot.segment, width, stand.at, form),
+    match faultless_form(alloc, width, site.context, form)? {
+        Some(form) => put_form(sections, site.context.segment, width, site.at, form),
         None => Ok(false),
     }
 }

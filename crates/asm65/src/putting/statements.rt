@@ -14,15 +14,15 @@ ghost use Rattle.module65.specs.Pieces.{asserted, given, instruction_pieces, val
 ghost use Rattle.language65.specs.Items.{numbered};
 ghost use Rattle.asm65.specs.Inner.Holding.{Enters};
 
-use super::Stand;
+use super::Site;
 use super::parts::{bytes_of, items_of, put_code, put_part, put_room};
 use super::values::literal_of;
 use crate::assembler::{Assembler, Piece};
 use base65::Sequence;
-use language65::{Item, Items, ItemsKind, Operand, Settled, Spot};
+use language65::{Item, Items, ItemsKind, Operand, Settled, Context};
 use object65::{Action, Width};
 use std::alloc::{AllocError, Global};
-use symbols65::{Symbols, final_form};
+use symbols65::{Symbols, stable_form};
 use syntax65::{Expr, Mnemonic, Mode, opcode};
 
 /// How wide the operand of an instruction of a form is stored, if it has a value.
@@ -52,10 +52,10 @@ fn operand_value(operand: Operand) -> Option<Expr>
 }
 
 /// Whether a value is another one than 0, whatever statements follow.
-fn is_so(alloc: Global, symbols: &Symbols, spot: Spot, value: &Expr) -> Result<bool, AllocError>
-    ensures { IfOk result (λ so. so ≡ true → IsSo (table_of symbols.now) spot value.now) }
+fn is_so(alloc: Global, symbols: &Symbols, context: Context, value: &Expr) -> Result<bool, AllocError>
+    ensures { IfOk result (λ so. so ≡ true → IsSo (table_of symbols.now) context value.now) }
 {
-    match final_form(alloc, symbols, spot, value)? {
+    match stable_form(alloc, symbols, context, value)? {
         Some(form) => match literal_of(&form) {
             Some(value) => Ok(value != 0),
             None => Ok(false),
@@ -67,11 +67,11 @@ fn is_so(alloc: Global, symbols: &Symbols, spot: Spot, value: &Expr) -> Result<b
 impl Assembler {
     /// Enters the code of an instruction.
     #[inline(always)]
-    fn enter_code(&mut self, spot: Spot, code: Option<u8>) -> Result<(), AllocError>
-        ensures { OnOk result ((place : Place) → Enters place spot
+    fn enter_code(&mut self, context: Context, code: Option<u8>) -> Result<(), AllocError>
+        ensures { OnOk result ((place : Place) → Enters place context
             (given (opcode_part code) ∷ []) self.old self.new) }
     {
-        put_code(&mut self.sections, spot.segment, code)
+        put_code(&mut self.sections, context.segment, code)
     }
 
     /// Enters the value of an operand, if there is one.
@@ -79,16 +79,16 @@ impl Assembler {
     fn enter_operand_of(
         &mut self,
         alloc: Global,
-        stand: Stand<'_>,
+        site: Site<'_>,
         width: Option<Width>,
         value: Option<Expr>,
     ) -> Result<(), AllocError>
         ensures { OnOk result (Enters
-            (place_at stand.entry.at) stand.entry.spot
+            (place_at site.entry.at) site.entry.context
             (operand_pieces width value) self.old self.new) }
     {
         match (width, value) {
-            (Some(width), Some(value)) => self.enter_operand(alloc, stand, width, value),
+            (Some(width), Some(value)) => self.enter_operand(alloc, site, width, value),
             _ => Ok(()),
         }
     }
@@ -98,35 +98,35 @@ impl Assembler {
     pub fn enter_instruction(
         &mut self,
         alloc: Global,
-        stand: Stand<'_>,
+        site: Site<'_>,
         mnemonic: Mnemonic,
         mode: Mode,
         operand: Operand,
     ) -> Result<(), AllocError>
         ensures { OnOk result (Enters
-            (place_at stand.entry.at) stand.entry.spot
+            (place_at site.entry.at) site.entry.context
             (instruction_pieces mnemonic operand (InMode mode))
             self.old self.new) }
     {
-        self.enter_code(stand.spot, opcode(mnemonic, mode))?;
-        self.enter_operand_of(alloc, stand, width_of(mode), operand_value(operand))
+        self.enter_code(site.context, opcode(mnemonic, mode))?;
+        self.enter_operand_of(alloc, site, width_of(mode), operand_value(operand))
     }
 
     /// Enters an element of a list.
     fn enter_item(
         &mut self,
         alloc: Global,
-        stand: Stand<'_>,
+        site: Site<'_>,
         width: Width,
         item: Item,
     ) -> Result<(), AllocError>
         ensures { OnOk result (Enters
-            (place_at stand.entry.at) stand.entry.spot
+            (place_at site.entry.at) site.entry.context
             (item_piece width item ∷ []) self.old self.new) }
     {
         match item {
-            Item::Value(value) => self.enter_datum(alloc, stand, width, value),
-            Item::Text(bytes) => self.sections.append(stand.spot.segment, bytes.as_slice()),
+            Item::Value(value) => self.enter_datum(alloc, site, width, value),
+            Item::Text(bytes) => self.sections.append(site.context.segment, bytes.as_slice()),
         }
     }
 
@@ -134,16 +134,16 @@ impl Assembler {
     fn enter_mixed(
         &mut self,
         alloc: Global,
-        stand: Stand<'_>,
+        site: Site<'_>,
         width: Width,
         items: Sequence<Item>,
     ) -> Result<(), AllocError>
         ensures { OnOk result (Enters
-            (place_at stand.entry.at) stand.entry.spot
+            (place_at site.entry.at) site.entry.context
             (map (item_piece width) items) self.old self.new) }
     {
         for item in items.into_vec() {
-            self.enter_item(alloc, stand, width, item)?;
+            self.enter_item(alloc, site, width, item)?;
         }
         Ok(())
     }
@@ -152,17 +152,17 @@ impl Assembler {
     fn enter_numbers(
         &mut self,
         alloc: Global,
-        stand: Stand<'_>,
+        site: Site<'_>,
         width: Width,
         numbers: &[u32],
     ) -> Result<(), AllocError>
         ensures { OnOk result (Enters
-            (place_at stand.entry.at) stand.entry.spot
+            (place_at site.entry.at) site.entry.context
             (map (item_piece width) (map numbered numbers.now)) self.old self.new) }
     {
         match bytes_of(alloc, width, numbers)? {
-            Some(bytes) => self.sections.append(stand.spot.segment, bytes.as_slice()),
-            None => self.enter_mixed(alloc, stand, width, items_of(alloc, numbers)?),
+            Some(bytes) => self.sections.append(site.context.segment, bytes.as_slice()),
+            None => self.enter_mixed(alloc, site, width, items_of(alloc, numbers)?),
         }
     }
 
@@ -171,44 +171,44 @@ impl Assembler {
     pub fn enter_values(
         &mut self,
         alloc: Global,
-        stand: Stand<'_>,
+        site: Site<'_>,
         width: Width,
         items: Items,
     ) -> Result<(), AllocError>
         ensures { OnOk result (Enters
-            (place_at stand.entry.at) stand.entry.spot
+            (place_at site.entry.at) site.entry.context
             (map (item_piece width) items) self.old self.new) }
     {
         match items.into_kind() {
             ItemsKind::Numbers(numbers) => {
-                self.enter_numbers(alloc, stand, width, numbers.as_slice())
+                self.enter_numbers(alloc, site, width, numbers.as_slice())
             }
-            ItemsKind::Mixed(items) => self.enter_mixed(alloc, stand, width, items),
+            ItemsKind::Mixed(items) => self.enter_mixed(alloc, site, width, items),
         }
     }
 
     /// Enters room of so many bytes, filled with the byte that is settled, if there is one.
     #[inline(never)]
-    pub fn enter_room(&mut self, spot: Spot, count: u32, settled: Settled) -> Result<(), AllocError>
-        ensures { OnOk result ((place : Place) → Enters place spot
+    pub fn enter_room(&mut self, context: Context, count: u32, settled: Settled) -> Result<(), AllocError>
+        ensures { OnOk result ((place : Place) → Enters place context
             (given (room_part count settled) ∷ []) self.old self.new) }
     {
-        put_room(&mut self.sections, spot.segment, count, settled)
+        put_room(&mut self.sections, context.segment, count, settled)
     }
 
     /// Enters so many bytes of a file from the one on that is settled.
     #[inline(never)]
     pub fn enter_part(
         &mut self,
-        spot: Spot,
+        context: Context,
         count: u32,
         settled: Settled,
         bytes: Option<Sequence<u8>>,
     ) -> Result<(), AllocError>
-        ensures { OnOk result ((place : Place) → Enters place spot
+        ensures { OnOk result ((place : Place) → Enters place context
             (given (Known (file_bytes count bytes settled)) ∷ []) self.old self.new) }
     {
-        put_part(&mut self.sections, spot.segment, count, settled, &bytes)
+        put_part(&mut self.sections, context.segment, count, settled, &bytes)
     }
 
     /// Enters an assertion.
@@ -216,21 +216,21 @@ impl Assembler {
     pub fn enter_assertion(
         &mut self,
         alloc: Global,
-        stand: Stand<'_>,
+        site: Site<'_>,
         action: Action,
         text: Sequence<u8>,
         value: Expr,
     ) -> Result<(), AllocError>
         ensures { OnOk result (Enters
-            (place_at stand.entry.at) stand.entry.spot
+            (place_at site.entry.at) site.entry.context
             (valued (asserted action text) value ∷ []) self.old self.new) }
     {
-        if is_so(alloc, &self.symbols, stand.spot, &value)? {
+        if is_so(alloc, &self.symbols, site.context, &value)? {
             return Ok(());
         }
         self.wait(
             alloc,
-            stand,
+            site,
             Piece::Assertion {
                 action,
                 text,

@@ -11,7 +11,7 @@ ghost use Rattle.symbols65.specs.Tables.{Begins};
 ghost use Rattle.module65.specs.Pieces.{datum, operand, valued};
 ghost use Rattle.asm65.specs.Inner.Holding.{Enters};
 
-use super::Stand;
+use super::Site;
 use super::parts::{put_form, put_operand};
 use crate::assembler::{Assembler, Piece, Waiting};
 use base65::{Seed, Sequence};
@@ -20,7 +20,7 @@ use language65::{AsmFault, At, Part};
 use object65::format::FILE_NAME_LIMIT;
 use object65::{Node, Norm, Width, fits, put};
 use std::alloc::{AllocError, Global};
-use symbols65::final_form;
+use symbols65::stable_form;
 use syntax65::Expr;
 
 /// The value of a form that is a literal.
@@ -108,20 +108,20 @@ impl Assembler {
 
     /// A piece of a statement waits.
     #[inline(never)]
-    pub fn wait(&mut self, alloc: Global, stand: Stand<'_>, piece: Piece) -> Result<(), AllocError>
+    pub fn wait(&mut self, alloc: Global, site: Site<'_>, piece: Piece) -> Result<(), AllocError>
         ensures waits { OnOk result (Waits
-            (place_at stand.entry.at) stand.entry.spot
+            (place_at site.entry.at) site.entry.context
             piece self.old self.new) }
         ensures tables { KeepsTables self.old self.new }
     {
         let last = self.last_file();
-        let file = place_of_file(alloc, &mut self.files, last, stand.at.file)?;
-        let line = stand.at.line;
-        let spot = stand.spot;
+        let file = place_of_file(alloc, &mut self.files, last, site.at.file)?;
+        let line = site.at.line;
+        let context = site.context;
         self.waiting.push(Waiting {
             file,
             line,
-            spot,
+            context,
             piece,
         })?;
         self.sections.defer()
@@ -133,17 +133,17 @@ impl Assembler {
     fn put_datum(
         &mut self,
         alloc: Global,
-        stand: Stand<'_>,
+        site: Site<'_>,
         width: Width,
         value: &Expr,
     ) -> Result<bool, AllocError>
         ensures { IfOk result (IsTried
-            (place_at stand.entry.at) stand.entry.spot
+            (place_at site.entry.at) site.entry.context
             (valued (datum width) value.now) self.old self.new) }
     {
-        let segment = stand.spot.segment;
-        match final_form(alloc, &self.symbols, stand.spot, value)? {
-            Some(form) => put_form(&mut self.sections, segment, width, stand.at, form),
+        let segment = site.context.segment;
+        match stable_form(alloc, &self.symbols, site.context, value)? {
+            Some(form) => put_form(&mut self.sections, segment, width, site.at, form),
             None => Ok(false),
         }
     }
@@ -152,16 +152,16 @@ impl Assembler {
     fn put_operand(
         &mut self,
         alloc: Global,
-        stand: Stand<'_>,
+        site: Site<'_>,
         width: Width,
         value: &Expr,
     ) -> Result<bool, AllocError>
         ensures { IfOk result (IsTried
-            (place_at stand.entry.at) stand.entry.spot
+            (place_at site.entry.at) site.entry.context
             (valued (operand width) value.now) self.old self.new) }
     {
-        match final_form(alloc, &self.symbols, stand.spot, value)? {
-            Some(form) => put_operand(alloc, &mut self.sections, stand, width, form),
+        match stable_form(alloc, &self.symbols, site.context, value)? {
+            Some(form) => put_operand(alloc, &mut self.sections, site, width, form),
             None => Ok(false),
         }
     }
@@ -170,18 +170,18 @@ impl Assembler {
     pub fn enter_datum(
         &mut self,
         alloc: Global,
-        stand: Stand<'_>,
+        site: Site<'_>,
         width: Width,
         value: Expr,
     ) -> Result<(), AllocError>
         ensures { OnOk result (Enters
-            (place_at stand.entry.at) stand.entry.spot
+            (place_at site.entry.at) site.entry.context
             (valued (datum width) value ∷ []) self.old self.new) }
     {
-        if self.put_datum(alloc, stand, width, &value)? {
+        if self.put_datum(alloc, site, width, &value)? {
             return Ok(());
         }
-        self.wait(alloc, stand, Piece::Datum { width, value })
+        self.wait(alloc, site, Piece::Datum { width, value })
     }
 
     /// Enters the value of an operand.
@@ -189,17 +189,17 @@ impl Assembler {
     pub fn enter_operand(
         &mut self,
         alloc: Global,
-        stand: Stand<'_>,
+        site: Site<'_>,
         width: Width,
         value: Expr,
     ) -> Result<(), AllocError>
         ensures { OnOk result (Enters
-            (place_at stand.entry.at) stand.entry.spot
+            (place_at site.entry.at) site.entry.context
             (valued (operand width) value ∷ []) self.old self.new) }
     {
-        if self.put_operand(alloc, stand, width, &value)? {
+        if self.put_operand(alloc, site, width, &value)? {
             return Ok(());
         }
-        self.wait(alloc, stand, Piece::Operand { width, value })
+        self.wait(alloc, site, Piece::Operand { width, value })
     }
 }

@@ -21,7 +21,7 @@ use crate::measuring::{Before, Measured, fit};
 use crate::standing::Standing;
 use base65::Sequence;
 use language65::{
-    AsmFault, Item, Items, ItemsKind, Operand, OptionalExpr, PartRange, Settled, Spot,
+    AsmFault, Item, Items, ItemsKind, Operand, OptionalExpr, PartRange, Settled, Context,
 };
 use object65::Width;
 use source65::MAX_FILE;
@@ -34,18 +34,18 @@ fn named(
     alloc: Global,
     symbols: &Symbols,
     known: &mut Known,
-    spot: Spot,
+    context: Context,
     value: &OptionalExpr,
 ) -> Result<Option<i64>, AsmFault>
     requires { IsTable (table_of symbols.now) known.old.states.items }
-    ensures found { IsFound (optional_value (table_of symbols.now) spot
+    ensures found { IsFound (optional_value (table_of symbols.now) context
         value.now) result }
     ensures table { OnOk result (IsTable (table_of symbols.now) known.new.states.items) }
 {
     let Some(value) = value.get() else {
         return Ok(None);
     };
-    match knowing::constant(alloc, symbols, known, spot, value)? {
+    match knowing::constant(alloc, symbols, known, context, value)? {
         Some(value) => Ok(Some(value)),
         None => Err(AsmFault::BadOperand),
     }
@@ -68,10 +68,10 @@ pub fn check_unread(
     ensures table { OnOk result
         (IsTable (table_of before.entry.symbols.now) known.new.states.items) }
 {
-    let spot = before.standing.spot();
-    check_range(alloc, before.symbols, spot.scope as usize, range)?;
-    named(alloc, before.symbols, known, spot, range.start)?;
-    named(alloc, before.symbols, known, spot, range.len)?;
+    let context = before.standing.context();
+    check_range(alloc, before.symbols, context.scope as usize, range)?;
+    named(alloc, before.symbols, known, context, range.start)?;
+    named(alloc, before.symbols, known, context, range.len)?;
     Ok(())
 }
 
@@ -128,9 +128,9 @@ pub fn file_part(
     ensures table { OnOk result
         (IsTable (table_of before.entry.symbols.now) known.new.states.items) }
 {
-    let spot = before.standing.spot();
-    let start = named(alloc, before.symbols, known, spot, range.start)?;
-    let len = named(alloc, before.symbols, known, spot, range.len)?;
+    let context = before.standing.context();
+    let start = named(alloc, before.symbols, known, context, range.start)?;
+    let len = named(alloc, before.symbols, known, context, range.len)?;
     let Some(bytes) = bytes else {
         return Err(AsmFault::FileNotFound);
     };
@@ -172,8 +172,8 @@ pub fn instruction(
         (IsTable (table_of before.entry.symbols.now) known.new.states.items) }
 {
     let own = before.standing.segment().size;
-    let spot = before.standing.spot();
-    let mode = knowing::mode(alloc, before.symbols, known, spot, own, mnemonic, operand)?;
+    let context = before.standing.context();
+    let mode = knowing::mode(alloc, before.symbols, known, context, own, mnemonic, operand)?;
     let Some(mode) = mode else {
         return Err(AsmFault::NoSuchForm);
     };

@@ -67,8 +67,8 @@ fn constant(
         (IsTable (table_of before.entry.symbols.now) known.new.states.items) }
 {
     let measure = nothing(before.standing);
-    let spot = before.standing.spot();
-    let size = knowing::size(alloc, before.symbols, known, spot, measure.size, value)?;
+    let context = before.standing.context();
+    let size = knowing::size(alloc, before.symbols, known, context, measure.size, value)?;
     Ok(Measured { size, ..measure })
 }
 

@@ -11,7 +11,7 @@ ghost use Rattle.symbols65.specs.Tables.{key_of};
 ghost use Rattle.symbols65.specs.Views.{table_of};
 
 use base65::Sequence;
-use language65::{AsmFault, Spot, Statement};
+use language65::{AsmFault, Context, Statement};
 use std::alloc::Global;
 use symbols65::{Key, Symbols};
 
@@ -90,14 +90,14 @@ fn check_key(alloc: Global, symbols: &Symbols, key: Key<'_>, name: &[u8]) -> Res
 pub fn check_defined(
     alloc: Global,
     symbols: &Symbols,
-    spot: Spot,
+    context: Context,
     statement: &Statement,
 ) -> Result<(), AsmFault>
     ensures { Gives is_memory (λ u. u) result (unless_fault (defined_twice
-        (table_of symbols.now) (key_defined spot statement.now)) tt) }
+        (table_of symbols.now) (key_defined context statement.now)) tt) }
 {
-    let scope = spot.scope as usize;
-    let region = spot.region as usize;
+    let scope = context.scope as usize;
+    let region = context.region as usize;
     match statement {
         Statement::Label(name)
         | Statement::OpenProc(name)

@@ -1,7 +1,7 @@
 //! Segments and blocks, and statements that place room.
 
 ghost use Rattle.std.specs.Prelude.{◌≡◌, ◌&&◌, not, slice_get, ◌<◌, ◌≤◌, IfOk, OnOk, pos, Some};
-ghost use Rattle.language65.specs.Layout.{place_of, segment_at, spot_of as standing_spot};
+ghost use Rattle.language65.specs.Layout.{place_of, segment_at, context_of as standing_spot};
 ghost use Rattle.language65.specs.LineFaults.{changed_size, is_kept, is_open, is_scope, opened_as, same_size, when, unless_fault, is_byte_value, is_count, is_there, multiple_fault};
 ghost use Rattle.language65.specs.declared.fault.AsmFault.TheVariants.{BadScope, PopWithoutPush, BadOperand};
 ghost use Rattle.symbols65.specs.Views.{table_of};
@@ -16,7 +16,7 @@ ghost use Rattle.layout65.specs.Measuring.{any_settled, placed};
 
 use crate::measuring::{Before, Measured, fit};
 use crate::standing::Standing;
-use language65::{AsmFault, OptionalExpr, Segment, Settled, Spot};
+use language65::{AsmFault, OptionalExpr, Segment, Settled, Context};
 use std::alloc::Global;
 use symbols65::{Known, Symbols, knowing};
 use syntax65::{AddressSize, Expr};
@@ -135,21 +135,21 @@ fn fill(
     alloc: Global,
     symbols: &Symbols,
     known: &mut Known,
-    spot: Spot,
+    context: Context,
     value: &OptionalExpr,
 ) -> Result<Settled, AsmFault>
     requires { IsTable (table_of symbols.now) known.old.states.items }
     ensures byte { Gives is_memory any_settled result (unless_fault
-        (when (not (is_byte_value (optional_value (table_of symbols.now) spot
+        (when (not (is_byte_value (optional_value (table_of symbols.now) context
         value.now (pos 0)))) BadOperand) tt) }
     ensures settled { IfOk result (λ s. s
-        ≡ fill_settled (table_of symbols.now) spot value.now) }
+        ≡ fill_settled (table_of symbols.now) context value.now) }
     ensures table { OnOk result (IsTable (table_of symbols.now) known.new.states.items) }
 {
     let Some(value) = value.get() else {
         return Ok(Settled::Unsettled);
     };
-    let byte = byte_of(knowing::constant(alloc, symbols, known, spot, value)?)?;
+    let byte = byte_of(knowing::constant(alloc, symbols, known, context, value)?)?;
     Ok(Settled::FilledWith(byte))
 }
 
@@ -181,9 +181,9 @@ pub fn reserve(
     ensures table { OnOk result
         (IsTable (table_of before.entry.symbols.now) known.new.states.items) }
 {
-    let spot = before.standing.spot();
-    let count = count_of(knowing::constant(alloc, before.symbols, known, spot, count)?)?;
-    let settled = fill(alloc, before.symbols, known, spot, value)?;
+    let context = before.standing.context();
+    let count = count_of(knowing::constant(alloc, before.symbols, known, context, count)?)?;
+    let settled = fill(alloc, before.symbols, known, context, value)?;
     let length = fit(before.standing, count)?;
     Ok(Measured {
         length,
@@ -241,7 +241,7 @@ fn gap(standing: &Standing, multiple: u32) -> u32
     requires positive { 0 < multiple }
     ensures { result ≡ gap (standing_spot (standing_of standing.now)).offset (Some (pos multiple)) }
 {
-    let offset = standing.spot().offset;
+    let offset = standing.context().offset;
     offset.next_multiple_of(multiple) - offset
 }
 
@@ -262,10 +262,10 @@ pub fn align(
     ensures table { OnOk result
         (IsTable (table_of before.entry.symbols.now) known.new.states.items) }
 {
-    let spot = before.standing.spot();
-    let multiple = knowing::constant(alloc, before.symbols, known, spot, multiple)?;
+    let context = before.standing.context();
+    let multiple = knowing::constant(alloc, before.symbols, known, context, multiple)?;
     check_constant(multiple)?;
-    let settled = fill(alloc, before.symbols, known, spot, value)?;
+    let settled = fill(alloc, before.symbols, known, context, value)?;
     let multiple = multiple_of(multiple)?;
     let length = fit(before.standing, gap(before.standing, multiple) as usize)?;
     Ok(Measured {

@@ -87,10 +87,10 @@ fn add_put(
         Entry::Value {
             width,
             segment: _,
-            spot,
+            context,
             form,
         } => {
-            let origin = spot.origin();
+            let origin = context.origin();
             let form = numbered(alloc, numbers, &form)?;
             begin(
                 draft,

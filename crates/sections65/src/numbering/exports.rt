@@ -75,8 +75,8 @@ fn add_entry_asserts(
         AllByRecursion AssertFits asserts.new) }
 {
     match entry {
-        Entry::Told { spot, said } => {
-            add_asserts(alloc, numbers, asserts, spot.origin(), said.as_slice())
+        Entry::Told { context, said } => {
+            add_asserts(alloc, numbers, asserts, context.origin(), said.as_slice())
         }
         Entry::Bytes { .. } | Entry::Room { .. } | Entry::Value { .. } | Entry::Open => Ok(()),
     }
@@ -162,8 +162,8 @@ fn add_entry_exports<'a>(
     ensures named { OnOk result (AreNamed exports.new) }
 {
     match entry {
-        Entry::Told { spot, said } => {
-            add_exports(alloc, numbers, exports, spot.origin(), said.as_slice())
+        Entry::Told { context, said } => {
+            add_exports(alloc, numbers, exports, context.origin(), said.as_slice())
         }
         Entry::Bytes { .. } | Entry::Room { .. } | Entry::Value { .. } | Entry::Open => Ok(()),
     }

@@ -142,7 +142,7 @@ fn add_entry(keys: &mut IndexSet<u32>, imports: &Imports, entry: &Entry) -> Resu
 {
     match entry {
         Entry::Value { form, .. } => add_form(keys, form),
-        Entry::Told { spot: _, said } => add_said(keys, imports, said.as_slice()),
+        Entry::Told { context: _, said } => add_said(keys, imports, said.as_slice()),
         Entry::Bytes { .. } | Entry::Room { .. } | Entry::Open => Ok(()),
     }
 }

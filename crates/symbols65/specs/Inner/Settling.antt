@@ -5,7 +5,7 @@ use Rattle.syntax65.specs.Trees.{Tree, number, here, unary, binary}
 use Rattle.object65.specs.Form.{Form, lit}
 use Rattle.language65.specs.declared.fault.AsmFault.{AsmFault}
 use Rattle.language65.specs.Faults.{is_memory}
-use Rattle.language65.specs.declared.laid.Spot.{Spot}
+use Rattle.language65.specs.declared.laid.Context.{Context}
 use Rattle.language65.specs.Names.{defined_at, meaning_of}
 use Rattle.language65.specs.Norms.{norm}
 use Rattle.language65.specs.Symbols.{Symbols}
@@ -28,13 +28,13 @@ Operands P (binary op e g) = Operands P e × Operands P g
 Operands P e = P e
 
 -- an operand means the definition at this place of the table whatever statements follow
-abbrev pub MeansAlways : Symbols → Spot → Tree → ℕ → Type 0
+abbrev pub MeansAlways : Symbols → Context → Tree → ℕ → Type 0
 MeansAlways y s e j = (j < length y.definitions) × ((z : Symbols) → Extends y z → meaning_of z s e ≡ Ok (defined_at j))
 
 -- an operand means the same definition whatever statements follow
-abbrev pub MeansFinally : Symbols → Spot → Tree → Type 0
+abbrev pub MeansFinally : Symbols → Context → Tree → Type 0
 MeansFinally y s e = (j : ℕ) × MeansAlways y s e j
 
 -- an expression has this value by any table, and needs no other expression for it
 abbrev pub IsNumber : Tree → ℤ → Type 0
-IsNumber e v = (n : ℕ) (y : Symbols) (s : Spot) → norm (suc n) y s e ≡ Ok (lit v)
+IsNumber e v = (n : ℕ) (y : Symbols) (s : Context) → norm (suc n) y s e ≡ Ok (lit v)

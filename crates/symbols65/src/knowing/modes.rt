@@ -8,7 +8,7 @@ ghost use Rattle.symbols65.specs.Views.{table_of};
 use super::sizes::size;
 use crate::resolving::Known;
 use crate::table::Symbols;
-use language65::{Index, Operand, Spot};
+use language65::{Index, Operand, Context};
 use std::alloc::{AllocError, Global};
 use syntax65::{AddressSize, Mnemonic, Mode, opcode};
 
@@ -79,13 +79,13 @@ pub fn mode(
     alloc: Global,
     symbols: &Symbols,
     known: &mut Known,
-    spot: Spot,
+    context: Context,
     own: AddressSize,
     mnemonic: Mnemonic,
     operand: &Operand,
 ) -> Result<Option<Mode>, AllocError>
     requires { IsTable (table_of symbols.now) known.old.states.items }
-    ensures mode { IfOk result (λ m. m ≡ mode_of (table_of symbols.now) spot own mnemonic operand.now) }
+    ensures mode { IfOk result (λ m. m ≡ mode_of (table_of symbols.now) context own mnemonic operand.now) }
     ensures table { OnOk result (IsTable (table_of symbols.now) known.new.states.items) }
 {
     match operand {
@@ -102,7 +102,7 @@ pub fn mode(
             }
             let size = match prefix {
                 Some(forced) => *forced,
-                None => size(alloc, symbols, known, spot, own, value)?,
+                None => size(alloc, symbols, known, context, own, value)?,
             };
             Ok(address_mode(mnemonic, *prefix, size, *index))
         }

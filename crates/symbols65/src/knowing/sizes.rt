@@ -16,7 +16,7 @@ use crate::resolving::{
 };
 use crate::table::Symbols;
 use base65::Op1;
-use language65::{AsmFault, Spot};
+use language65::{AsmFault, Context};
 use object65::{Node, Norm};
 use std::alloc::{AllocError, Global};
 use syntax65::{AddressSize, Expr, ExprKind};
@@ -56,14 +56,14 @@ pub fn constant(
     alloc: Global,
     symbols: &Symbols,
     known: &mut Known,
-    spot: Spot,
+    context: Context,
     value: &Expr,
 ) -> Result<Option<i64>, AllocError>
     requires { IsTable (table_of symbols.now) known.old.states.items }
-    ensures value { IfOk result (λ v. v ≡ constant_in (table_of symbols.now) spot value.now) }
+    ensures value { IfOk result (λ v. v ≡ constant_in (table_of symbols.now) context value.now) }
     ensures table { OnOk result (IsTable (table_of symbols.now) known.new.states.items) }
 {
-    match norm(alloc, symbols, known, spot, value) {
+    match norm(alloc, symbols, known, context, value) {
         Ok(form) => Ok(literal(&form)),
         Err(fault) => {
             pass_on_memory(&fault)?;
@@ -78,12 +78,12 @@ pub fn constant(
 pub fn constant_now(
     alloc: Global,
     symbols: &Symbols,
-    spot: Spot,
+    context: Context,
     value: &Expr,
 ) -> Result<Option<i64>, AllocError>
-    ensures { IfOk result (λ v. v ≡ constant_in (table_of symbols.now) spot value.now) }
+    ensures { IfOk result (λ v. v ≡ constant_in (table_of symbols.now) context value.now) }
 {
-    match settled(alloc, symbols, spot, value) {
+    match settled(alloc, symbols, context, value) {
         Ok(form) => Ok(literal(&form)),
         Err(Stop::Fault(fault)) => {
             pass_on_memory(&fault)?;
@@ -91,7 +91,7 @@ pub fn constant_now(
         }
         Err(Stop::Needs(_)) => {
             let mut known = Known::unknown(alloc, symbols)?;
-            constant(alloc, symbols, &mut known, spot, value)
+            constant(alloc, symbols, &mut known, context, value)
         }
     }
 }
@@ -191,23 +191,23 @@ fn reference_form_and_size(
     alloc: Global,
     symbols: &Symbols,
     known: &mut Known,
-    spot: Spot,
+    context: Context,
     operand: &Expr,
 ) -> Result<FormAndSize, AllocError>
     requires table { IsTable (table_of symbols.now) known.old.states.items }
     requires reference { IsReference operand.now }
     ensures form { IfOk result (λ r. r.form ≡ result_ok
-        (norm_of (table_of symbols.now) spot operand.now)) }
+        (norm_of (table_of symbols.now) context operand.now)) }
     ensures size { IfOk result (λ r. r.size ≡ size_by
         (size_of_meaning (table_of symbols.now)
-        (meaning_of (table_of symbols.now) spot operand.now))
-        (constant_in (table_of symbols.now) spot operand.now)) }
+        (meaning_of (table_of symbols.now) context operand.now))
+        (constant_in (table_of symbols.now) context operand.now)) }
     ensures table { OnOk result (IsTable (table_of symbols.now) known.new.states.items) }
 {
-    match meaning_of(alloc, symbols, spot, operand) {
+    match meaning_of(alloc, symbols, context, operand) {
         Ok(meaning) => {
             let other = size_of_meaning(symbols, meaning);
-            match meant_norm(alloc, symbols, known, spot, operand, meaning) {
+            match meant_norm(alloc, symbols, known, context, operand, meaning) {
                 Ok(form) => Ok(sized_by_value(Some(form), other)),
                 Err(fault) => {
                     pass_on_memory(&fault)?;
@@ -228,15 +228,15 @@ fn form_and_size(
     alloc: Global,
     symbols: &Symbols,
     known: &mut Known,
-    spot: Spot,
+    context: Context,
     own: AddressSize,
     value: &Expr,
 ) -> Result<FormAndSize, AllocError>
     requires { IsTable (table_of symbols.now) known.old.states.items }
     ensures form { IfOk result (λ r. r.form ≡ result_ok
-        (norm_of (table_of symbols.now) spot value.now)) }
+        (norm_of (table_of symbols.now) context value.now)) }
     ensures size { IfOk result (λ r.
-        r.size ≡ size_of (table_of symbols.now) spot own value.now) }
+        r.size ≡ size_of (table_of symbols.now) context own value.now) }
     ensures table { OnOk result (IsTable (table_of symbols.now) known.new.states.items) }
 {
     match value.kind() {
@@ -248,11 +248,11 @@ fn form_and_size(
             })
         }
         ExprKind::Here => Ok(FormAndSize {
-            form: Some(address(spot)),
+            form: Some(address(context)),
             size: own,
         }),
         ExprKind::Prefix(op, part) => {
-            let part = form_and_size(alloc, symbols, known, spot, own, part)?;
+            let part = form_and_size(alloc, symbols, known, context, own, part)?;
             let other = if takes_byte(*op) {
                 AddressSize::ZeroPage
             } else {
@@ -262,8 +262,8 @@ fn form_and_size(
             Ok(sized_by_value(form, other))
         }
         ExprKind::Binary(op, operands) => {
-            let left = form_and_size(alloc, symbols, known, spot, own, &operands.left)?;
-            let right = form_and_size(alloc, symbols, known, spot, own, &operands.right)?;
+            let left = form_and_size(alloc, symbols, known, context, own, &operands.left)?;
+            let right = form_and_size(alloc, symbols, known, context, own, &operands.right)?;
             let other = larger(left.size, right.size);
             let form = binary_form(alloc, *op, left.form, right.form)?;
             Ok(sized_by_value(form, other))
@@ -272,7 +272,7 @@ fn form_and_size(
         | ExprKind::Scoped(_)
         | ExprKind::Cheap(_)
         | ExprKind::Forward(_)
-        | ExprKind::Backward(_) => { reference_form_and_size(alloc, symbols, known, spot, value) }
+        | ExprKind::Backward(_) => { reference_form_and_size(alloc, symbols, known, context, value) }
     }
 }
 
@@ -282,18 +282,18 @@ pub fn size(
     alloc: Global,
     symbols: &Symbols,
     known: &mut Known,
-    spot: Spot,
+    context: Context,
     own: AddressSize,
     value: &Expr,
 ) -> Result<AddressSize, AllocError>
     requires { IsTable (table_of symbols.now) known.old.states.items }
     ensures size { IfOk result (λ s.
-        s ≡ size_of (table_of symbols.now) spot own value.now) }
+        s ≡ size_of (table_of symbols.now) context own value.now) }
     ensures table { OnOk result (IsTable (table_of symbols.now) known.new.states.items) }
 {
     if let Some(number) = number_of(value) {
         return Ok(size_of_value(number));
     }
-    let found = form_and_size(alloc, symbols, known, spot, own, value)?;
+    let found = form_and_size(alloc, symbols, known, context, own, value)?;
     Ok(found.size)
 }

@@ -15,7 +15,7 @@ ghost use Rattle.symbols65.specs.Views.{table_of};
 use super::meaning::{Meaning, meaning_of};
 use crate::table::Symbols;
 use base65::{Op1, Op2};
-use language65::{AsmFault, Spot};
+use language65::{AsmFault, Context};
 use object65::{FormFault, Node, Norm};
 use std::alloc::{AllocError, Global};
 use syntax65::{Expr, ExprKind};
@@ -65,10 +65,10 @@ impl From<AsmFault> for Stop {
 }
 
 /// The address of a statement.
-pub fn address(spot: Spot) -> Norm
-    ensures { result ≡ address_of spot }
+pub fn address(context: Context) -> Norm
+    ensures { result ≡ address_of context }
 {
-    Norm::new(Node::Sec(spot.segment, i64::from(spot.offset)))
+    Norm::new(Node::Sec(context.segment, i64::from(context.offset)))
 }
 
 /// The form of a prefix operation.
@@ -127,7 +127,7 @@ pub fn defined(
     match symbols.definition(place) {
         None => Err(Stop::Fault(AsmFault::NoSuchLabel)),
         Some(definition) => match &definition.value {
-            None => Ok(address(definition.spot)),
+            None => Ok(address(definition.context)),
             Some(_) => match source {
                 Source::Finals => kept_form(alloc, place, &definition.form),
                 Source::Table(states) => found_form(alloc, states, place),
@@ -160,12 +160,12 @@ fn operand_norm(
     alloc: Global,
     symbols: &Symbols,
     source: Source<'_>,
-    spot: Spot,
+    context: Context,
     operand: &Expr,
 ) -> Result<Norm, Stop>
-    ensures { Gives lacks_memory (λ f. f) result (operand_form (known_by symbols.now source.entry) (table_of symbols.now) spot operand.now) }
+    ensures { Gives lacks_memory (λ f. f) result (operand_form (known_by symbols.now source.entry) (table_of symbols.now) context operand.now) }
 {
-    let meaning = meaning_of(alloc, symbols, spot, operand)?;
+    let meaning = meaning_of(alloc, symbols, context, operand)?;
     meant(alloc, symbols, source, meaning)
 }
 
@@ -174,28 +174,28 @@ pub fn try_norm(
     alloc: Global,
     symbols: &Symbols,
     source: Source<'_>,
-    spot: Spot,
+    context: Context,
     value: &Expr,
 ) -> Result<Norm, Stop>
-    ensures { Gives lacks_memory (λ f. f) result (tried (known_by symbols.now source.entry) (table_of symbols.now) spot value.now) }
+    ensures { Gives lacks_memory (λ f. f) result (tried (known_by symbols.now source.entry) (table_of symbols.now) context value.now) }
 {
     match value.kind() {
         ExprKind::Number(number) => Ok(Norm::new(Node::Lit(i64::from(*number)))),
-        ExprKind::Here => Ok(address(spot)),
+        ExprKind::Here => Ok(address(context)),
         ExprKind::Prefix(op, part) => {
-            let part = try_norm(alloc, symbols, source, spot, part)?;
+            let part = try_norm(alloc, symbols, source, context, part)?;
             fold_prefix(alloc, *op, part)
         }
         ExprKind::Binary(op, operands) => {
-            let left = try_norm(alloc, symbols, source, spot, &operands.left)?;
-            let right = try_norm(alloc, symbols, source, spot, &operands.right)?;
+            let left = try_norm(alloc, symbols, source, context, &operands.left)?;
+            let right = try_norm(alloc, symbols, source, context, &operands.right)?;
             fold_binary(alloc, *op, left, right)
         }
         ExprKind::Plain(_)
         | ExprKind::Scoped(_)
         | ExprKind::Cheap(_)
         | ExprKind::Forward(_)
-        | ExprKind::Backward(_) => { operand_norm(alloc, symbols, source, spot, value) }
+        | ExprKind::Backward(_) => { operand_norm(alloc, symbols, source, context, value) }
     }
 }
 
@@ -206,8 +206,8 @@ fn try_at(alloc: Global, symbols: &Symbols, source: Source<'_>, place: usize) ->
     match symbols.definition(place) {
         None => Err(Stop::Fault(AsmFault::NoSuchLabel)),
         Some(definition) => match &definition.value {
-            None => Ok(address(definition.spot)),
-            Some(value) => try_norm(alloc, symbols, source, definition.spot, value),
+            None => Ok(address(definition.context)),
+            Some(value) => try_norm(alloc, symbols, source, definition.context, value),
         },
     }
 }
@@ -217,15 +217,15 @@ pub fn try_last(
     alloc: Global,
     symbols: &Symbols,
     states: &[State],
-    spot: Spot,
+    context: Context,
     value: &Expr,
     waiting: &[usize],
 ) -> Result<Norm, Stop>
-    ensures { Gives lacks_memory (λ f. f) result (tried_last (slice_get states.now) (table_of symbols.now) (tried (slice_get states.now) (table_of symbols.now) spot value.now) waiting.now) }
+    ensures { Gives lacks_memory (λ f. f) result (tried_last (slice_get states.now) (table_of symbols.now) (tried (slice_get states.now) (table_of symbols.now) context value.now) waiting.now) }
 {
     let source = Source::Table(states);
     match waiting.last() {
-        None => try_norm(alloc, symbols, source, spot, value),
+        None => try_norm(alloc, symbols, source, context, value),
         Some(last) => try_at(alloc, symbols, source, *last),
     }
 }

@@ -18,7 +18,7 @@ use super::meaning::{last_in, plain_part, scopes_in};
 use super::scopes::scope_of;
 use crate::table::{Key, Symbols};
 use base65::{Op1, Op2, apply1, apply2};
-use language65::Spot;
+use language65::Context;
 use object65::{FormFault, Node, Norm};
 use std::alloc::{AllocError, Global};
 use syntax65::{Expr, ExprKind, Name};
@@ -80,23 +80,23 @@ pub fn binary_form(
 }
 
 /// The place of what a plain name means whatever follows: the very scope of the use defines it.
-fn own_name(symbols: &Symbols, spot: Spot, name: &[u8]) -> Option<usize>
-    ensures { IfSome result (MeansAlways (table_of symbols.now) spot
+fn own_name(symbols: &Symbols, context: Context, name: &[u8]) -> Option<usize>
+    ensures { IfSome result (MeansAlways (table_of symbols.now) context
         (name_tree false (name.now ∷ []))) }
 {
-    let scope = spot.scope as usize;
+    let scope = context.scope as usize;
     symbols.defined(Key::Named { scope, name })
 }
 
 /// The place of what a name with `::` means whatever follows: its scope was opened before the use and defines it.
-fn opened_member(symbols: &Symbols, spot: Spot, name: &Name) -> Option<usize>
+fn opened_member(symbols: &Symbols, context: Context, name: &Name) -> Option<usize>
     ensures { plain_part name.now.is_global name.now.parts ≡ None → IfSome result
-        (MeansAlways (table_of symbols.now) spot
+        (MeansAlways (table_of symbols.now) context
         (name_tree name.now.is_global name.now.parts)) }
 {
     let parts = name.parts.as_slice();
-    let opened = spot.opened as usize;
-    let scope = spot.scope as usize;
+    let opened = context.opened as usize;
+    let scope = context.scope as usize;
     if symbols.scope_count() < opened {
         return None;
     }
@@ -111,20 +111,20 @@ fn opened_member(symbols: &Symbols, spot: Spot, name: &Name) -> Option<usize>
 }
 
 /// The place of what a cheap name means whatever follows: its region has defined it.
-fn own_label(symbols: &Symbols, spot: Spot, name: &[u8]) -> Option<usize>
+fn own_label(symbols: &Symbols, context: Context, name: &[u8]) -> Option<usize>
     ensures { IfSome result
-        (MeansAlways (table_of symbols.now) spot (cheap_tree name.now)) }
+        (MeansAlways (table_of symbols.now) context (cheap_tree name.now)) }
 {
-    let region = spot.region as usize;
+    let region = context.region as usize;
     symbols.defined(Key::Cheap { region, name })
 }
 
 /// The place of an unnamed label before a use, if it is there.
-fn label_before(symbols: &Symbols, spot: Spot, steps: usize) -> Option<usize>
+fn label_before(symbols: &Symbols, context: Context, steps: usize) -> Option<usize>
     ensures { IfSome result
-        (MeansAlways (table_of symbols.now) spot (backward_tree steps)) }
+        (MeansAlways (table_of symbols.now) context (backward_tree steps)) }
 {
-    match (spot.unnamed as usize).checked_sub(steps) {
+    match (context.unnamed as usize).checked_sub(steps) {
         Some(count) => symbols.defined(Key::Unnamed(count)),
         None => None,
     }
@@ -132,38 +132,38 @@ fn label_before(symbols: &Symbols, spot: Spot, steps: usize) -> Option<usize>
 
 /// The place of the definition that an operand means whatever statements follow, where that is evident already: never
 /// of an import, of a reference further on, or of a name without `::` that is only defined further out.
-fn final_place(symbols: &Symbols, spot: Spot, operand: &Expr) -> Option<usize>
+fn final_place(symbols: &Symbols, context: Context, operand: &Expr) -> Option<usize>
     ensures { IfSome result
-        (MeansAlways (table_of symbols.now) spot operand.now) }
+        (MeansAlways (table_of symbols.now) context operand.now) }
 {
     match operand.kind() {
-        ExprKind::Plain(name) => own_name(symbols, spot, name.as_slice()),
+        ExprKind::Plain(name) => own_name(symbols, context, name.as_slice()),
         ExprKind::Scoped(name) => match plain_part(name) {
-            Some(part) => own_name(symbols, spot, part),
-            None => opened_member(symbols, spot, name),
+            Some(part) => own_name(symbols, context, part),
+            None => opened_member(symbols, context, name),
         },
-        ExprKind::Cheap(name) => own_label(symbols, spot, name.as_slice()),
-        ExprKind::Backward(steps) => label_before(symbols, spot, *steps),
+        ExprKind::Cheap(name) => own_label(symbols, context, name.as_slice()),
+        ExprKind::Backward(steps) => label_before(symbols, context, *steps),
         _ => None,
     }
 }
 
 /// Whether each operand of an expression means the same whatever statements follow.
-pub fn are_final(symbols: &Symbols, spot: Spot, value: &Expr) -> bool
+pub fn are_final(symbols: &Symbols, context: Context, value: &Expr) -> bool
     ensures { result ≡ true →
-        Operands (MeansFinally (table_of symbols.now) spot) value.now }
+        Operands (MeansFinally (table_of symbols.now) context) value.now }
 {
     match value.kind() {
         ExprKind::Number(_) | ExprKind::Here => true,
-        ExprKind::Prefix(_, part) => are_final(symbols, spot, part),
+        ExprKind::Prefix(_, part) => are_final(symbols, context, part),
         ExprKind::Binary(_, operands) => {
-            are_final(symbols, spot, &operands.left) && are_final(symbols, spot, &operands.right)
+            are_final(symbols, context, &operands.left) && are_final(symbols, context, &operands.right)
         }
         ExprKind::Plain(_)
         | ExprKind::Scoped(_)
         | ExprKind::Cheap(_)
         | ExprKind::Forward(_)
-        | ExprKind::Backward(_) => { final_place(symbols, spot, value).is_some() }
+        | ExprKind::Backward(_) => { final_place(symbols, context, value).is_some() }
     }
 }
 
@@ -171,14 +171,14 @@ pub fn are_final(symbols: &Symbols, spot: Spot, value: &Expr) -> bool
 fn final_operand(
     alloc: Global,
     symbols: &Symbols,
-    spot: Spot,
+    context: Context,
     operand: &Expr,
 ) -> Result<Option<Norm>, AllocError>
     ensures { IfOk result (λ o. (f : Form) → o ≡ Some f → IsFinalWithin
         (length (table_of symbols.now).definitions)
-        (table_of symbols.now) spot operand.now f) }
+        (table_of symbols.now) context operand.now f) }
 {
-    let Some(place) = final_place(symbols, spot, operand) else {
+    let Some(place) = final_place(symbols, context, operand) else {
         return Ok(None);
     };
     match defined(alloc, symbols, Source::Finals, place) {
@@ -198,52 +198,52 @@ fn final_operand(
 fn lasting_form(
     alloc: Global,
     symbols: &Symbols,
-    spot: Spot,
+    context: Context,
     value: &Expr,
 ) -> Result<Option<Norm>, AllocError>
     ensures { IfOk result (λ o. (f : Form) → o ≡ Some f → IsFinalWithin
         (length (table_of symbols.now).definitions)
-        (table_of symbols.now) spot value.now f) }
+        (table_of symbols.now) context value.now f) }
 {
     match value.kind() {
         ExprKind::Number(number) => Ok(Some(Norm::new(Node::Lit(i64::from(*number))))),
-        ExprKind::Here => Ok(Some(address(spot))),
+        ExprKind::Here => Ok(Some(address(context))),
         ExprKind::Prefix(op, part) => {
-            let part = lasting_form(alloc, symbols, spot, part)?;
+            let part = lasting_form(alloc, symbols, context, part)?;
             prefix_form(alloc, *op, part)
         }
         ExprKind::Binary(op, operands) => {
-            let left = lasting_form(alloc, symbols, spot, &operands.left)?;
+            let left = lasting_form(alloc, symbols, context, &operands.left)?;
             if left.is_none() {
                 return Ok(None);
             }
-            let right = lasting_form(alloc, symbols, spot, &operands.right)?;
+            let right = lasting_form(alloc, symbols, context, &operands.right)?;
             binary_form(alloc, *op, left, right)
         }
         ExprKind::Plain(_)
         | ExprKind::Scoped(_)
         | ExprKind::Cheap(_)
         | ExprKind::Forward(_)
-        | ExprKind::Backward(_) => { final_operand(alloc, symbols, spot, value) }
+        | ExprKind::Backward(_) => { final_operand(alloc, symbols, context, value) }
     }
 }
 
 /// The form that an expression keeps whatever statements follow, where that is evident already. An import never has one,
 /// nor has a reference further on, or a name without `::` that is only defined further out.
-pub fn final_form(
+pub fn stable_form(
     alloc: Global,
     symbols: &Symbols,
-    spot: Spot,
+    context: Context,
     value: &Expr,
 ) -> Result<Option<Norm>, AllocError>
     ensures stays { IfOk result (λ o. (f : Form) → o ≡ Some f →
-        IsFinal (table_of symbols.now) spot value.now f) }
+        IsFinal (table_of symbols.now) context value.now f) }
     ensures within { IfOk result (λ o. (f : Form) → o ≡ Some f → IsFinalWithin
         (length (table_of symbols.now).definitions)
-        (table_of symbols.now) spot value.now f) }
+        (table_of symbols.now) context value.now f) }
 {
     if let Some(number) = number_of(value) {
         return Ok(Some(Norm::new(Node::Lit(number))));
     }
-    lasting_form(alloc, symbols, spot, value)
+    lasting_form(alloc, symbols, context, value)
 }

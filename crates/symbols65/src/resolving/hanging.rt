@@ -10,7 +10,7 @@ ghost use Rattle.symbols65.specs.Views.{Table, table_of};
 use super::attempt::{Source, State, Stop, try_norm};
 use super::finals::are_final;
 use crate::table::Symbols;
-use language65::Spot;
+use language65::Context;
 use std::alloc::{AllocError, Global};
 use syntax65::Expr;
 
@@ -18,12 +18,12 @@ use syntax65::Expr;
 fn needed_by(
     alloc: Global,
     symbols: &Symbols,
-    spot: Spot,
+    context: Context,
     value: &Expr,
 ) -> Result<Option<usize>, AllocError>
-    ensures { IfOk result (λ o. o ≡ needed_in (tried (known_by symbols.now Finals) (table_of symbols.now) spot value.now)) }
+    ensures { IfOk result (λ o. o ≡ needed_in (tried (known_by symbols.now Finals) (table_of symbols.now) context value.now)) }
 {
-    match try_norm(alloc, symbols, Source::Finals, spot, value) {
+    match try_norm(alloc, symbols, Source::Finals, context, value) {
         Ok(_) => Ok(None),
         Err(Stop::Needs(place)) => Ok(Some(place)),
         Err(Stop::Fault(fault)) => {
@@ -44,10 +44,10 @@ fn needed_at(alloc: Global, symbols: &Symbols, place: usize) -> Result<Option<us
     };
     match &definition.value {
         Some(value) => {
-            if !are_final(symbols, definition.spot, value) {
+            if !are_final(symbols, definition.context, value) {
                 return Ok(None);
             }
-            needed_by(alloc, symbols, definition.spot, value)
+            needed_by(alloc, symbols, definition.context, value)
         }
         None => Ok(None),
     }

@@ -14,7 +14,7 @@ ghost use Rattle.symbols65.specs.Views.{Table, nothing_defined, table_of};
 use super::attempt::{State, Stop, try_last};
 use super::hanging::{hang_all, may_be_looked_for, root};
 use crate::table::Symbols;
-use language65::{AsmFault, Spot};
+use language65::{AsmFault, Context};
 use object65::Norm;
 use std::alloc::{AllocError, Global};
 use syntax65::Expr;
@@ -126,16 +126,16 @@ impl Known {
         &mut self,
         alloc: Global,
         symbols: &Symbols,
-        spot: Spot,
+        context: Context,
         value: &Expr,
     ) -> Result<Norm, AsmFault>
         requires table { IsTable (table_of symbols.now) self.old.states.items }
-        ensures form { Gives is_memory (λ f. f) result (norm_of (table_of symbols.now) spot value.now) }
+        ensures form { Gives is_memory (λ f. f) result (norm_of (table_of symbols.now) context value.now) }
         ensures table { Finds is_memory (λ _. IsTable (table_of symbols.now) self.new.states.items) result }
     {
         let mut waiting: Vec<usize> = Vec::new(alloc);
         'find: loop {
-            let attempt = try_last(alloc, symbols, &self.states, spot, value, &waiting);
+            let attempt = try_last(alloc, symbols, &self.states, context, value, &waiting);
             match attempt {
                 Ok(form) => match waiting.pop() {
                     None => return Ok(form),

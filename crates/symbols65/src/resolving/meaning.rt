@@ -19,7 +19,7 @@ ghost use Rattle.language65.specs.Symbols.{imported};
 use super::scopes::{defined_outward, scope_of, shown};
 use crate::table::{Key, Symbols};
 use base65::{Op2, Sequence};
-use language65::{AsmFault, Spot};
+use language65::{AsmFault, Context};
 use object65::{FormFault, Node, Norm, Width};
 use std::alloc::Global;
 use syntax65::{Expr, ExprKind, Name};
@@ -36,12 +36,12 @@ fn difference(alloc: Global, left: Norm, right: Norm) -> Result<Norm, AsmFault>
 }
 
 /// The form that is stored of an operand: of a branch, how far its target lies from behind it.
-pub fn operand_form(alloc: Global, width: Width, spot: Spot, form: Norm) -> Result<Norm, AsmFault>
-    ensures { Gives is_memory (λ f. f) result (operand_form width spot form) }
+pub fn operand_form(alloc: Global, width: Width, context: Context, form: Norm) -> Result<Norm, AsmFault>
+    ensures { Gives is_memory (λ f. f) result (operand_form width context form) }
 {
     match width {
         Width::Branch => {
-            let behind = Norm::new(Node::Sec(spot.segment, i64::from(spot.offset) + 2));
+            let behind = Norm::new(Node::Sec(context.segment, i64::from(context.offset) + 2));
             difference(alloc, form, behind)
         }
         _ => Ok(form),
@@ -49,26 +49,26 @@ pub fn operand_form(alloc: Global, width: Width, spot: Spot, form: Norm) -> Resu
 }
 
 /// The place of the definition that a name means with `::`, if it means one.
-fn scoped_definition(symbols: &Symbols, spot: Spot, name: &Name) -> Option<usize>
-    ensures { result ≡ defined_place (scoped_meaning (table_of symbols.now) spot
+fn scoped_definition(symbols: &Symbols, context: Context, name: &Name) -> Option<usize>
+    ensures { result ≡ defined_place (scoped_meaning (table_of symbols.now) context
         name.now.is_global name.now.parts) }
 {
     let parts = name.parts.as_slice();
-    let opened = spot.opened as usize;
-    let scope = spot.scope as usize;
+    let opened = context.opened as usize;
+    let scope = context.scope as usize;
     let scope = scope_of(symbols, opened, scope, name.is_global, scopes_in(parts))?;
     let name = last_in(parts);
     symbols.defined(Key::Named { scope, name })
 }
 
 /// The place of the definition that a name means where it stands, if it means one: none where it is imported.
-pub fn definition_of(symbols: &Symbols, spot: Spot, name: &Name) -> Option<usize>
-    ensures { result ≡ defined_place (meaning_of (table_of symbols.now) spot
+pub fn definition_of(symbols: &Symbols, context: Context, name: &Name) -> Option<usize>
+    ensures { result ≡ defined_place (meaning_of (table_of symbols.now) context
         (name_tree name.now.is_global name.now.parts)) }
 {
     match plain_part(name) {
-        Some(part) => defined_outward(symbols, spot.scope as usize, part),
-        None => scoped_definition(symbols, spot, name),
+        Some(part) => defined_outward(symbols, context.scope as usize, part),
+        None => scoped_definition(symbols, context, name),
     }
 }
 
@@ -146,14 +146,14 @@ fn plain_meaning(
 fn scoped_meaning(
     alloc: Global,
     symbols: &Symbols,
-    spot: Spot,
+    context: Context,
     name: &Name,
 ) -> Result<Meaning, AsmFault>
-    ensures { Gives is_memory meaning_in result (scoped_meaning (table_of symbols.now) spot name.now.is_global name.now.parts) }
+    ensures { Gives is_memory meaning_in result (scoped_meaning (table_of symbols.now) context name.now.is_global name.now.parts) }
 {
     let parts = name.parts.as_slice();
-    let opened = spot.opened as usize;
-    let scope = spot.scope as usize;
+    let opened = context.opened as usize;
+    let scope = context.scope as usize;
     match scope_of(symbols, opened, scope, name.is_global, scopes_in(parts)) {
         None => {
             let name = shown(alloc, name.is_global, parts)?;
@@ -201,14 +201,14 @@ pub fn plain_part(name: &Name) -> Option<&[u8]>
 fn name_meaning(
     alloc: Global,
     symbols: &Symbols,
-    spot: Spot,
+    context: Context,
     name: &Name,
 ) -> Result<Meaning, AsmFault>
-    ensures { Gives is_memory meaning_in result (name_meaning (table_of symbols.now) spot name.now.is_global name.now.parts) }
+    ensures { Gives is_memory meaning_in result (name_meaning (table_of symbols.now) context name.now.is_global name.now.parts) }
 {
     match plain_part(name) {
-        Some(part) => plain_meaning(alloc, symbols, spot.scope as usize, part),
-        None => scoped_meaning(alloc, symbols, spot, name),
+        Some(part) => plain_meaning(alloc, symbols, context.scope as usize, part),
+        None => scoped_meaning(alloc, symbols, context, name),
     }
 }
 
@@ -269,28 +269,28 @@ fn label_before(symbols: &Symbols, before: u32, steps: usize) -> Option<Meaning>
 pub fn meaning_of(
     alloc: Global,
     symbols: &Symbols,
-    spot: Spot,
+    context: Context,
     operand: &Expr,
 ) -> Result<Meaning, AsmFault>
-    ensures { Gives is_memory meaning_in result (meaning_of (table_of symbols.now) spot operand.now) }
+    ensures { Gives is_memory meaning_in result (meaning_of (table_of symbols.now) context operand.now) }
 {
     match operand.kind() {
         ExprKind::Plain(name) => {
-            plain_meaning(alloc, symbols, spot.scope as usize, name.as_slice())
+            plain_meaning(alloc, symbols, context.scope as usize, name.as_slice())
         }
-        ExprKind::Scoped(name) => name_meaning(alloc, symbols, spot, name),
+        ExprKind::Scoped(name) => name_meaning(alloc, symbols, context, name),
         ExprKind::Cheap(name) => cheap_meaning(
             alloc,
             symbols,
-            spot.region as usize,
+            context.region as usize,
             name.as_slice(),
         ),
         ExprKind::Forward(steps) => known(
-            label_behind(symbols, spot.unnamed, *steps),
+            label_behind(symbols, context.unnamed, *steps),
             AsmFault::NoSuchLabel,
         ),
         ExprKind::Backward(steps) => known(
-            label_before(symbols, spot.unnamed, *steps),
+            label_before(symbols, context.unnamed, *steps),
             AsmFault::NoSuchLabel,
         ),
         _ => Err(AsmFault::NoSuchLabel),

@@ -13,16 +13,16 @@ use super::attempt::{Source, Stop, address, meant, try_norm};
 use super::known::Known;
 use super::meaning::Meaning;
 use crate::table::Symbols;
-use language65::{AsmFault, Spot};
+use language65::{AsmFault, Context};
 use object65::Norm;
 use std::alloc::Global;
 use syntax65::Expr;
 
 /// The normal form of an expression where the forms of what its operands mean now are final.
-pub fn settled(alloc: Global, symbols: &Symbols, spot: Spot, value: &Expr) -> Result<Norm, Stop>
-    ensures { Settles (norm_of (table_of symbols.now) spot value.now) result }
+pub fn settled(alloc: Global, symbols: &Symbols, context: Context, value: &Expr) -> Result<Norm, Stop>
+    ensures { Settles (norm_of (table_of symbols.now) context value.now) result }
 {
-    try_norm(alloc, symbols, Source::Finals, spot, value)
+    try_norm(alloc, symbols, Source::Finals, context, value)
 }
 
 /// The normal form of an expression. After a fault the table of forms is one still.
@@ -30,19 +30,19 @@ pub fn norm(
     alloc: Global,
     symbols: &Symbols,
     known: &mut Known,
-    spot: Spot,
+    context: Context,
     value: &Expr,
 ) -> Result<Norm, AsmFault>
     requires { IsTable (table_of symbols.now) known.old.states.items }
     ensures form { Gives is_memory (λ f. f) result
-        (norm_of (table_of symbols.now) spot value.now) }
+        (norm_of (table_of symbols.now) context value.now) }
     ensures table { Finds is_memory
         (λ _. IsTable (table_of symbols.now) known.new.states.items) result }
 {
-    match settled(alloc, symbols, spot, value) {
+    match settled(alloc, symbols, context, value) {
         Ok(form) => Ok(form),
         Err(Stop::Fault(fault)) => Err(fault),
-        Err(Stop::Needs(_)) => known.find(alloc, symbols, spot, value),
+        Err(Stop::Needs(_)) => known.find(alloc, symbols, context, value),
     }
 }
 
@@ -51,22 +51,22 @@ pub fn meant_norm(
     alloc: Global,
     symbols: &Symbols,
     known: &mut Known,
-    spot: Spot,
+    context: Context,
     operand: &Expr,
     meaning: Meaning,
 ) -> Result<Norm, AsmFault>
     requires table { IsTable (table_of symbols.now) known.old.states.items }
-    requires meaning { meaning_of (table_of symbols.now) spot operand.now
+    requires meaning { meaning_of (table_of symbols.now) context operand.now
         ≡ Ok (meaning_in meaning) }
     ensures form { Gives is_memory (λ f. f) result
-        (norm_of (table_of symbols.now) spot operand.now) }
+        (norm_of (table_of symbols.now) context operand.now) }
     ensures table { Finds is_memory
         (λ _. IsTable (table_of symbols.now) known.new.states.items) result }
 {
     match meant(alloc, symbols, Source::Finals, meaning) {
         Ok(form) => Ok(form),
         Err(Stop::Fault(fault)) => Err(fault),
-        Err(Stop::Needs(_)) => known.find(alloc, symbols, spot, operand),
+        Err(Stop::Needs(_)) => known.find(alloc, symbols, context, operand),
     }
 }
 
@@ -85,8 +85,8 @@ pub fn defined_norm(
     match symbols.definition(place) {
         None => Err(AsmFault::NoSuchLabel),
         Some(definition) => match &definition.value {
-            None => Ok(address(definition.spot)),
-            Some(value) => norm(alloc, symbols, known, definition.spot, value),
+            None => Ok(address(definition.context)),
+            Some(value) => norm(alloc, symbols, known, definition.context, value),
         },
     }
 }

@@ -1,6 +1,6 @@
 //! What a key stands for.
 
-use language65::Spot;
+use language65::Context;
 use object65::Norm;
 use syntax65::{AddressSize, Expr};
 
@@ -9,7 +9,7 @@ use syntax65::{AddressSize, Expr};
 pub struct Definition {
     /// The expression of a constant; what has none is the address of where it stands.
     pub value: Option<Expr>,
-    pub spot: Spot,
+    pub context: Context,
     pub size: AddressSize,
     /// The form of a constant, where it is final: where it stays whatever statements follow.
     pub form: Option<Norm>,

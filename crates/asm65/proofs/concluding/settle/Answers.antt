@@ -52,4 +52,4 @@ pub returns-in-Err-clause-inside : goal.returns-in-Err-clause-inside
 returns-in-Err-clause-inside c =
     let here : Place = place_in c.file_at.result.now c.args.waiting.line in
     let answer : Result CodeMade AsmFault = Err c.in-Err.fault in
-    c.of_fault.ensures.inside (resolved_inside answer (made_in here) (table_of c.args.whole.symbols.now) here c.args.waiting.spot c.args.waiting.piece c.in-Err.ensures.made)
+    c.of_fault.ensures.inside (resolved_inside answer (made_in here) (table_of c.args.whole.symbols.now) here c.args.waiting.context c.args.waiting.piece c.in-Err.ensures.made)

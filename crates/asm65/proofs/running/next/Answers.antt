@@ -10,14 +10,14 @@ use Rattle.asm65.proofs.running.next.Goals as goal
 pub returns-clause-next : goal.returns-clause-next
 returns-clause-next g c =
     let a = c.args.run.now.assembler in
-    let here = known_where (table_of a.symbols) c.spot.result in
+    let here = known_where (table_of a.symbols) c.context.result in
     some_then (λ m. FollowsFrom m here c.args.run.now.expander c.next.result c.next.new.self) (λ m. NextBy m c.args.run.now c.next.result (record { expander = c.next.new.self; assembler = a })) (g.S.Store.files c.args.store.now)
-    (λ m follows t held. subst (λ k. FollowsFrom m k c.args.run.now.expander c.next.result c.next.new.self) (known_held held.count t a c.spot.result held.holds c.spot.ensures) follows) c.next.ensures.next
+    (λ m follows t held. subst (λ k. FollowsFrom m k c.args.run.now.expander c.next.result c.next.new.self) (known_held held.count t a c.context.result held.holds c.context.ensures) follows) c.next.ensures.next
 
 pub returns-clause-stopped : goal.returns-clause-stopped
 returns-clause-stopped g c =
     let a = c.args.run.now.assembler in
-    let here = known_where (table_of a.symbols) c.spot.result in
+    let here = known_where (table_of a.symbols) c.context.result in
     let blamed = g.S.Store.blamed c.next.new.store in
     some_then (λ m. StopsOnItsWay m blamed here c.args.run.now.expander c.next.result c.next.new.self) (λ m. StopsBy m blamed c.args.run.now c.next.result (record { expander = c.next.new.self; assembler = a })) (g.S.Store.files c.args.store.now)
-    (λ m stops t held. subst (λ k. StopsOnItsWay m blamed k c.args.run.now.expander c.next.result c.next.new.self) (known_held held.count t a c.spot.result held.holds c.spot.ensures) stops) c.next.ensures.stopped
+    (λ m stops t held. subst (λ k. StopsOnItsWay m blamed k c.args.run.now.expander c.next.result c.next.new.self) (known_held held.count t a c.context.result held.holds c.context.ensures) stops) c.next.ensures.stopped

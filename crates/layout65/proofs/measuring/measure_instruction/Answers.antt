@@ -4,8 +4,8 @@ use Rattle.base65.specs.Outcome.{Gives}
 use Rattle.language65.specs.declared.fault.AsmFault.{AsmFault}
 use Rattle.language65.specs.declared.language.Statement.TheVariants.{Instruction}
 use Rattle.language65.specs.Faults.{is_memory}
-use Rattle.language65.specs.declared.laid.Spot.{Spot}
-use Rattle.language65.specs.Layout.{spot_of}
+use Rattle.language65.specs.declared.laid.Context.{Context}
+use Rattle.language65.specs.Layout.{context_of}
 use Rattle.language65.specs.LineFaults.{lost_scopes, operand_trees, unless_fault}
 use Rattle.layout65.specs.Sounds.{standing_of}
 use Rattle.layout65.specs.declared.measuring.Measured.{Measured}
@@ -20,8 +20,8 @@ returns-in_err-check_operand-clause-measured c =
     let y = table_of c.args.before.symbols.now in
     let w = standing_of c.args.before.standing.now in
     rw (p.1, p.2) (measured_refused y w (Instruction c.args.mnemonic c.args.operand.now) e
-    (refused_same e _ _ (ap (λ f. unless_fault {A = Unit {0}} f tt) (last_of_two (lost_scopes y.scopes (spot_of w).scope (operand_trees c.args.operand.now)))
-    ∙ ap (λ (s : Spot). unless_fault {A = Unit {0}} (lost_scopes y.scopes s.scope (operand_trees c.args.operand.now)) tt) (sym c.spot-scope.ensures)) c.in_err-check_operand.ensures))
+    (refused_same e _ _ (ap (λ f. unless_fault {A = Unit {0}} f tt) (last_of_two (lost_scopes y.scopes (context_of w).scope (operand_trees c.args.operand.now)))
+    ∙ ap (λ (s : Context). unless_fault {A = Unit {0}} (lost_scopes y.scopes s.scope (operand_trees c.args.operand.now)) tt) (sym c.context-scope.ensures)) c.in_err-check_operand.ensures))
 
 pub returns-clause-measured : goal.returns-clause-measured
 returns-clause-measured c =
@@ -29,8 +29,8 @@ returns-clause-measured c =
     let w = standing_of c.args.before.standing.now in
     let P : Result Measured AsmFault → Type 0 = λ r. Gives is_memory (λ m. m) c.instruction.result r in
     subst P (sym (measured_named y w (Instruction c.args.mnemonic c.args.operand.now)
-    (ap (λ f. unless_fault {A = Unit {0}} f tt) (last_of_two (lost_scopes y.scopes (spot_of w).scope (operand_trees c.args.operand.now)))
-    ∙ ap (λ (s : Spot). unless_fault {A = Unit {0}} (lost_scopes y.scopes s.scope (operand_trees c.args.operand.now)) tt) (sym c.spot-scope.ensures) ∙ c.in_ok-check_operand.ensures))) c.instruction.ensures.placed
+    (ap (λ f. unless_fault {A = Unit {0}} f tt) (last_of_two (lost_scopes y.scopes (context_of w).scope (operand_trees c.args.operand.now)))
+    ∙ ap (λ (s : Context). unless_fault {A = Unit {0}} (lost_scopes y.scopes s.scope (operand_trees c.args.operand.now)) tt) (sym c.context-scope.ensures) ∙ c.in_ok-check_operand.ensures))) c.instruction.ensures.placed
 
 pub returns-clause-room : goal.returns-clause-room
 returns-clause-room c = room_of (table_of c.args.before.symbols.now) (standing_of c.args.before.standing.now) (Instruction c.args.mnemonic c.args.operand.now) c.instruction.result c.instruction.ensures.placed

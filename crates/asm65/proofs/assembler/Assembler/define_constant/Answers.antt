@@ -5,7 +5,7 @@ use Rattle.source65.specs.declared.place.Place.{Place}
 use Rattle.object65.specs.Form.{Form}
 use Rattle.language65.specs.Contents.{telling}
 use Rattle.language65.specs.Extending.{IsFinal}
-use Rattle.language65.specs.declared.laid.Spot.{Spot}
+use Rattle.language65.specs.declared.laid.Context.{Context}
 use Rattle.language65.specs.Symbols.{Definition, Symbols, named}
 use Rattle.language65.specs.Views.{place_in}
 use Rattle.language65.proofs.Lists.{map_length}
@@ -30,10 +30,10 @@ pub returns-in_ok-wait : goal.returns-in_ok-wait
 returns-in_ok-wait c = λ count t h inside unnamed.
     (let old : Assembler = c.args.self.now in
     let mid : Assembler = c.define.new.self in
-    let place : Place = place_in c.args.stand.at.file.now c.args.stand.at.line in
-    let s : Spot = c.args.stand.spot in
+    let place : Place = place_in c.args.site.at.file.now c.args.site.at.line in
+    let s : Context = c.args.site.context in
     let e : Tree = c.args.value in
-    let d : Definition = record { key = named c.args.stand.spot.scope c.args.name.now; value = Some e; spot = s; size = c.args.size } in
+    let d : Definition = record { key = named c.args.site.context.scope c.args.name.now; value = Some e; context = s; size = c.args.size } in
     let y : Symbols = with_definition t.symbols d in
     let table : table_of mid.symbols ≡ y = c.in_ok-define.ensures.table ∙ ap (λ (z : Symbols). with_definition z d) h.symbols in
     let held = holds_grown count t old mid y h c.in_ok-define.ensures.keeps table c.in_ok-define.ensures.known (more_defined t.symbols d) inside unnamed in
@@ -41,10 +41,10 @@ returns-in_ok-wait c = λ count t h inside unnamed.
     let there : IsConstant (table_of mid.symbols) s c.len-place.result e = record {
       definition = d;
       there = ap (λ (z : Symbols). slice_get z.definitions c.len-place.result) c.in_ok-define.ensures.table ∙ last_there (table_of old.symbols).definitions d c.len-place.result (c.len-place.ensures.len ∙ count_is);
-      spot = refl;
+      context = refl;
       value = refl;
     } in
-    let u : State = awaiting t (record { place = place; spot = s; piece = valued equated e }) in
+    let u : State = awaiting t (record { place = place; context = s; piece = valued equated e }) in
     (u, (u, later, refl), c.in_ok-wait.ensures.waits count (with_symbols t y) (valued equated e) held (e, there, refl)))
 
 formed_there : (o : Option Form) → is_some o ≡ true → (f : Form) × (o ≡ Some f)
@@ -55,10 +55,10 @@ pub returns-else-waits : goal.returns-else-waits
 returns-else-waits c = λ count t h inside unnamed.
     (let old : Assembler = c.args.self.now in
     let mid : Assembler = c.define.new.self in
-    let place : Place = place_in c.args.stand.at.file.now c.args.stand.at.line in
-    let s : Spot = c.args.stand.spot in
+    let place : Place = place_in c.args.site.at.file.now c.args.site.at.line in
+    let s : Context = c.args.site.context in
     let e : Tree = c.args.value in
-    let d : Definition = record { key = named c.args.stand.spot.scope c.args.name.now; value = Some e; spot = s; size = c.args.size } in
+    let d : Definition = record { key = named c.args.site.context.scope c.args.name.now; value = Some e; context = s; size = c.args.size } in
     let y : Symbols = with_definition t.symbols d in
     let table : table_of mid.symbols ≡ y = c.in_ok-define.ensures.table ∙ ap (λ (z : Symbols). with_definition z d) h.symbols in
     let (f, is) = formed_there c.in_ok-form.form c.if-waits.ensures in

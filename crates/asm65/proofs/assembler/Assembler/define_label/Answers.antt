@@ -9,7 +9,7 @@ use Rattle.asm65.proofs.assembler.Assembler.define_label.Goals as goal
 pub returns : goal.returns
 returns c =
     let old = c.args.self.now in
-    let s = c.args.spot in
+    let s = c.args.context in
     let d = label_at (key_of c.args.key) s c.args.size in
     on_both c.define.result (λ table known place.
     turns_after place s [] (λ y. with_definition y d) old old c.define.new.self (enters_none place s old) c.define.ensures.keeps (table ∙ ap (with_definition (table_of old.symbols)) (c.label.ensures.seen (key_of c.args.key))) known (λ y. more_defined y d))

@@ -9,8 +9,8 @@ use Rattle.asm65.proofs.assembler.Assembler.enter.Goals as goal
 
 pub returns-in-Instruction : goal.returns-in-Instruction
 returns-in-Instruction c =
-    let place = place_in c.args.stand.at.file.now c.args.stand.at.line in
-    let s = c.args.stand.spot in
+    let place = place_in c.args.site.at.file.now c.args.site.at.line in
+    let s = c.args.site.context in
     let m = c.args.measured in
     let old = c.args.self.now in
     let new = c.enter_settled.new.self in
@@ -19,8 +19,8 @@ returns-in-Instruction c =
 
 pub returns-in-Values : goal.returns-in-Values
 returns-in-Values c =
-    let place = place_in c.args.stand.at.file.now c.args.stand.at.line in
-    let s = c.args.stand.spot in
+    let place = place_in c.args.site.at.file.now c.args.site.at.line in
+    let s = c.args.site.context in
     let m = c.args.measured in
     let old = c.args.self.now in
     let new = c.enter_values.new.self in
@@ -29,8 +29,8 @@ returns-in-Values c =
 
 pub returns-in-Reserve : goal.returns-in-Reserve
 returns-in-Reserve c =
-    let place = place_in c.args.stand.at.file.now c.args.stand.at.line in
-    let s = c.args.stand.spot in
+    let place = place_in c.args.site.at.file.now c.args.site.at.line in
+    let s = c.args.site.context in
     let m = c.args.measured in
     let old = c.args.self.now in
     let new = c.enter_room.new.self in
@@ -39,8 +39,8 @@ returns-in-Reserve c =
 
 pub returns-in-Align : goal.returns-in-Align
 returns-in-Align c =
-    let place = place_in c.args.stand.at.file.now c.args.stand.at.line in
-    let s = c.args.stand.spot in
+    let place = place_in c.args.site.at.file.now c.args.site.at.line in
+    let s = c.args.site.context in
     let m = c.args.measured in
     let old = c.args.self.now in
     let new = c.enter_room-in-Align.new.self in
@@ -49,8 +49,8 @@ returns-in-Align c =
 
 pub returns-in-FilePart : goal.returns-in-FilePart
 returns-in-FilePart c =
-    let place = place_in c.args.stand.at.file.now c.args.stand.at.line in
-    let s = c.args.stand.spot in
+    let place = place_in c.args.site.at.file.now c.args.site.at.line in
+    let s = c.args.site.context in
     let m = c.args.measured in
     let old = c.args.self.now in
     let new = c.enter_part.new.self in
@@ -59,8 +59,8 @@ returns-in-FilePart c =
 
 pub returns-in-Assert : goal.returns-in-Assert
 returns-in-Assert c =
-    let place = place_in c.args.stand.at.file.now c.args.stand.at.line in
-    let s = c.args.stand.spot in
+    let place = place_in c.args.site.at.file.now c.args.site.at.line in
+    let s = c.args.site.context in
     let m = c.args.measured in
     let old = c.args.self.now in
     let new = c.enter_assertion.new.self in
@@ -69,8 +69,8 @@ returns-in-Assert c =
 
 pub returns-in-Label : goal.returns-in-Label
 returns-in-Label c =
-    let place = place_in c.args.stand.at.file.now c.args.stand.at.line in
-    let s = c.args.stand.spot in
+    let place = place_in c.args.site.at.file.now c.args.site.at.line in
+    let s = c.args.site.context in
     let m = c.args.measured in
     let old = c.args.self.now in
     let new = c.define_label.new.self in
@@ -79,8 +79,8 @@ returns-in-Label c =
 
 pub returns-in-CheapLabel : goal.returns-in-CheapLabel
 returns-in-CheapLabel c =
-    let place = place_in c.args.stand.at.file.now c.args.stand.at.line in
-    let s = c.args.stand.spot in
+    let place = place_in c.args.site.at.file.now c.args.site.at.line in
+    let s = c.args.site.context in
     let m = c.args.measured in
     let old = c.args.self.now in
     let new = c.define_label-in-CheapLabel.new.self in
@@ -89,8 +89,8 @@ returns-in-CheapLabel c =
 
 pub returns-in-UnnamedLabel : goal.returns-in-UnnamedLabel
 returns-in-UnnamedLabel c =
-    let place = place_in c.args.stand.at.file.now c.args.stand.at.line in
-    let s = c.args.stand.spot in
+    let place = place_in c.args.site.at.file.now c.args.site.at.line in
+    let s = c.args.site.context in
     let m = c.args.measured in
     let old = c.args.self.now in
     let new = c.define_label-in-UnnamedLabel.new.self in
@@ -99,8 +99,8 @@ returns-in-UnnamedLabel c =
 
 pub returns-in-Constant : goal.returns-in-Constant
 returns-in-Constant c =
-    let place = place_in c.args.stand.at.file.now c.args.stand.at.line in
-    let s = c.args.stand.spot in
+    let place = place_in c.args.site.at.file.now c.args.site.at.line in
+    let s = c.args.site.context in
     let m = c.args.measured in
     let old = c.args.self.now in
     let new = c.define_constant.new.self in
@@ -109,8 +109,8 @@ returns-in-Constant c =
 
 pub returns-in-OpenScope-Some : goal.returns-in-OpenScope-Some
 returns-in-OpenScope-Some c =
-    let place = place_in c.args.stand.at.file.now c.args.stand.at.line in
-    let s = c.args.stand.spot in
+    let place = place_in c.args.site.at.file.now c.args.site.at.line in
+    let s = c.args.site.context in
     let m = c.args.measured in
     let old = c.args.self.now in
     let new = c.open_block.new.self in
@@ -119,8 +119,8 @@ returns-in-OpenScope-Some c =
 
 pub returns-in-OpenScope-None : goal.returns-in-OpenScope-None
 returns-in-OpenScope-None c =
-    let place = place_in c.args.stand.at.file.now c.args.stand.at.line in
-    let s = c.args.stand.spot in
+    let place = place_in c.args.site.at.file.now c.args.site.at.line in
+    let s = c.args.site.context in
     let m = c.args.measured in
     let old = c.args.self.now in
     let new = c.open_block-in-OpenScope-None.new.self in
@@ -129,8 +129,8 @@ returns-in-OpenScope-None c =
 
 pub returns-in-OpenProc : goal.returns-in-OpenProc
 returns-in-OpenProc c =
-    let place = place_in c.args.stand.at.file.now c.args.stand.at.line in
-    let s = c.args.stand.spot in
+    let place = place_in c.args.site.at.file.now c.args.site.at.line in
+    let s = c.args.site.context in
     let m = c.args.measured in
     let old = c.args.self.now in
     let new = c.open_proc.new.self in
@@ -139,8 +139,8 @@ returns-in-OpenProc c =
 
 pub returns-in-Import : goal.returns-in-Import
 returns-in-Import c =
-    let place = place_in c.args.stand.at.file.now c.args.stand.at.line in
-    let s = c.args.stand.spot in
+    let place = place_in c.args.site.at.file.now c.args.site.at.line in
+    let s = c.args.site.context in
     let m = c.args.measured in
     let old = c.args.self.now in
     let new = c.import_names.new.self in
@@ -149,8 +149,8 @@ returns-in-Import c =
 
 pub returns-in-Global : goal.returns-in-Global
 returns-in-Global c =
-    let place = place_in c.args.stand.at.file.now c.args.stand.at.line in
-    let s = c.args.stand.spot in
+    let place = place_in c.args.site.at.file.now c.args.site.at.line in
+    let s = c.args.site.context in
     let m = c.args.measured in
     let old = c.args.self.now in
     let new = c.import_names-in-Global.new.self in
@@ -159,8 +159,8 @@ returns-in-Global c =
 
 pub returns-in-ForceImport : goal.returns-in-ForceImport
 returns-in-ForceImport c =
-    let place = place_in c.args.stand.at.file.now c.args.stand.at.line in
-    let s = c.args.stand.spot in
+    let place = place_in c.args.site.at.file.now c.args.site.at.line in
+    let s = c.args.site.context in
     let m = c.args.measured in
     let old = c.args.self.now in
     let new = c.demand_names.new.self in
@@ -169,8 +169,8 @@ returns-in-ForceImport c =
 
 pub returns-in-Export : goal.returns-in-Export
 returns-in-Export c =
-    let place = place_in c.args.stand.at.file.now c.args.stand.at.line in
-    let s = c.args.stand.spot in
+    let place = place_in c.args.site.at.file.now c.args.site.at.line in
+    let s = c.args.site.context in
     let m = c.args.measured in
     let old = c.args.self.now in
     let new = c.mention.new.self in

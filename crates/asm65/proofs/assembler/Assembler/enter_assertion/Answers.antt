@@ -10,10 +10,10 @@ use Rattle.asm65.proofs.assembler.Assembler.enter_assertion.Goals as goal
 pub returns-then-branch : goal.returns-then-branch
 returns-then-branch c =
     let so = c.in_ok-is_so.ensures c.if-branch.true in
-    so_enters c.args.self.now (place_in c.args.stand.at.file.now c.args.stand.at.line) c.args.stand.spot c.args.action c.args.text c.args.value so.value so.other so.final
+    so_enters c.args.self.now (place_in c.args.site.at.file.now c.args.site.at.line) c.args.site.context c.args.action c.args.text c.args.value so.value so.other so.final
 
 pub returns : goal.returns
 returns c =
     ok_then c.wait.result
-    (λ waits. waits_enters c.args.self.now c.wait.new.self (place_in c.args.stand.at.file.now c.args.stand.at.line) c.args.stand.spot (Assertion c.args.action c.args.text c.args.value) (valued (asserted c.args.action c.args.text) c.args.value) waits refl)
+    (λ waits. waits_enters c.args.self.now c.wait.new.self (place_in c.args.site.at.file.now c.args.site.at.line) c.args.site.context (Assertion c.args.action c.args.text c.args.value) (valued (asserted c.args.action c.args.text) c.args.value) waits refl)
     c.wait.ensures.waits

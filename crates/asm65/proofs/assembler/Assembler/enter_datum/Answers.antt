@@ -8,6 +8,6 @@ use Rattle.asm65.proofs.assembler.Assembler.enter_datum.Goals as goal
 
 pub returns : goal.returns
 returns c =
-    let place = place_in c.args.stand.at.file.now c.args.stand.at.line in
+    let place = place_in c.args.site.at.file.now c.args.site.at.line in
     let v = valued (datum c.args.width) c.args.value in
-    ok_then c.wait.result (λ waits. tried_waits c.args.self.now c.put_datum.new.self c.wait.new.self place c.args.stand.spot (Datum c.args.width c.args.value) v c.in_ok-put_datum.field-0 c.in_ok-put_datum.ensures c.if-branch.false refl waits) c.wait.ensures.waits
+    ok_then c.wait.result (λ waits. tried_waits c.args.self.now c.put_datum.new.self c.wait.new.self place c.args.site.context (Datum c.args.width c.args.value) v c.in_ok-put_datum.field-0 c.in_ok-put_datum.ensures c.if-branch.false refl waits) c.wait.ensures.waits

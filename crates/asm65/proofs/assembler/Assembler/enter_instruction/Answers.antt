@@ -12,8 +12,8 @@ use Rattle.asm65.proofs.assembler.Assembler.enter_instruction.Goals as goal
 
 pub returns : goal.returns
 returns c =
-    let place = place_in c.args.stand.at.file.now c.args.stand.at.line in
-    let s = c.args.stand.spot in
+    let place = place_in c.args.site.at.file.now c.args.site.at.line in
+    let s = c.args.site.context in
     let old = c.args.self.now in
     let mid = c.enter_code.new.self in
     let new = c.enter_operand_of.new.self in

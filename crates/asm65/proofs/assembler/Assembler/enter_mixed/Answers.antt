@@ -4,7 +4,7 @@ use Rattle.std.specs.Vec.Iter.{into_iter_items}
 use Rattle.source65.specs.declared.place.Place.{Place}
 use Rattle.object65.specs.declared.object.Width.{Width}
 use Rattle.language65.specs.declared.language.Item.{Item}
-use Rattle.language65.specs.declared.laid.Spot.{Spot}
+use Rattle.language65.specs.declared.laid.Context.{Context}
 use Rattle.language65.specs.Views.{place_in}
 use Rattle.module65.specs.Pieces.{item_piece}
 use Rattle.asm65.specs.declared.assembler.Assembler.{Assembler}
@@ -12,18 +12,18 @@ use Rattle.asm65.specs.Inner.Holding.{Enters}
 use Rattle.asm65.proofs.Enterings.{enters_both, enters_none}
 use Rattle.asm65.proofs.assembler.Assembler.enter_mixed.Goals as goal
 
-abbrev Entered : Place → Spot → Width → (old new : Assembler) → List Item → Type 0
+abbrev Entered : Place → Context → Width → (old new : Assembler) → List Item → Type 0
 Entered place s width old new items = Enters place s (map (item_piece width) items) old new
 
 pub loop-item-init : goal.loop-item-init
 loop-item-init c b h =
-    subst (Entered (place_in c.args.stand.at.file.now c.args.stand.at.line) c.args.stand.spot c.args.width c.args.self.now b)
+    subst (Entered (place_in c.args.site.at.file.now c.args.site.at.line) c.args.site.context c.args.width c.args.self.now b)
     (c.into_iter-item-iterator.ensures.into_iter_gives.0 ∙ c.into_vec-item-items.ensures) h
 
 pub loop-item-preserved : goal.loop-item-preserved
 loop-item-preserved c b h =
-    let place = place_in c.args.stand.at.file.now c.args.stand.at.line in
-    let s = c.args.stand.spot in
+    let place = place_in c.args.site.at.file.now c.args.site.at.line in
+    let s = c.args.site.context in
     let width = c.args.width in
     let a = c.loop-item.self in
     let mid = c.enter_item.new.self in
@@ -34,8 +34,8 @@ loop-item-preserved c b h =
 
 pub returns : goal.returns
 returns c =
-    let place = place_in c.args.stand.at.file.now c.args.stand.at.line in
-    let s = c.args.stand.spot in
+    let place = place_in c.args.site.at.file.now c.args.site.at.line in
+    let s = c.args.site.context in
     let a = c.loop-item.self in
     let none : into_iter_items c.loop-item.item-iterator ≡ [] = grind (arith, common_steps) in
     c.loop-item.invariant a (subst (Entered place s c.args.width a a) (sym none) (enters_none place s a))

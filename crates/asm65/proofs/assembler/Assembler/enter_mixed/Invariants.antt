@@ -9,7 +9,7 @@ use Rattle.asm65.proofs.assembler.Assembler.enter_mixed.Given as goal
 -- whatever is behind the items that are left is behind them all
 abbrev pub invariant-loop-item : goal.invariant-loop-item
 invariant-loop-item l =
-    let place = place_in l.stand.at.file.now l.stand.at.line in
-    let s = l.stand.spot in
+    let place = place_in l.site.at.file.now l.site.at.line in
+    let s = l.site.context in
     (b : Assembler) → Enters place s (map (item_piece l.width) (into_iter_items l.item-iterator)) l.self b →
     Enters place s (map (item_piece l.width) l.fn.items) l.fn.self b

@@ -16,14 +16,14 @@ use Rattle.asm65.proofs.assembler.Assembler.enter_numbers.Goals as goal
 pub returns-in-Some : goal.returns-in-Some
 returns-in-Some c =
     let old = c.args.self.now in
-    let s = c.args.stand.spot in
+    let s = c.args.site.context in
     let stored : AreStored c.args.width c.args.numbers.now c.in-Some.bytes = subst (λ (o : Option (List ℕ)). IfSome o (AreStored c.args.width c.args.numbers.now)) c.in-Some.is c.in_ok-bytes.ensures in
     ok_then c.append.result
-    (λ feeds. numbers_enter old c.append.new.self (place_in c.args.stand.at.file.now c.args.stand.at.line) s c.args.width c.args.numbers.now c.in-Some.bytes stored
+    (λ feeds. numbers_enter old c.append.new.self (place_in c.args.site.at.file.now c.args.site.at.line) s c.args.width c.args.numbers.now c.in-Some.bytes stored
     (subst (λ (bytes : List ℕ). Feeds old.sections c.append.new.self (put s.segment (Known bytes))) c.as_slice.ensures feeds))
     c.append.ensures
 
 pub returns-in_ok-items_of-in-None : goal.returns-in_ok-items_of-in-None
 returns-in_ok-items_of-in-None c =
-    subst (λ (items : List Item). OnOk c.enter_mixed.result (Enters (place_in c.args.stand.at.file.now c.args.stand.at.line) c.args.stand.spot (map (item_piece c.args.width) items) c.args.self.now c.enter_mixed.new.self))
+    subst (λ (items : List Item). OnOk c.enter_mixed.result (Enters (place_in c.args.site.at.file.now c.args.site.at.line) c.args.site.context (map (item_piece c.args.width) items) c.args.self.now c.enter_mixed.new.self))
     c.in_ok-items_of-in-None.ensures c.enter_mixed.ensures

@@ -8,6 +8,6 @@ use Rattle.asm65.proofs.assembler.Assembler.enter_operand.Goals as goal
 
 pub returns : goal.returns
 returns c =
-    let place = place_in c.args.stand.at.file.now c.args.stand.at.line in
+    let place = place_in c.args.site.at.file.now c.args.site.at.line in
     let v = valued (operand c.args.width) c.args.value in
-    ok_then c.wait.result (λ waits. tried_waits c.args.self.now c.put_operand.new.self c.wait.new.self place c.args.stand.spot (Operand c.args.width c.args.value) v c.in_ok-put_operand.field-0 c.in_ok-put_operand.ensures c.if-branch.false refl waits) c.wait.ensures.waits
+    ok_then c.wait.result (λ waits. tried_waits c.args.self.now c.put_operand.new.self c.wait.new.self place c.args.site.context (Operand c.args.width c.args.value) v c.in_ok-put_operand.field-0 c.in_ok-put_operand.ensures c.if-branch.false refl waits) c.wait.ensures.waits

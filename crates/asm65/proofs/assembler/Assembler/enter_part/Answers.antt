@@ -5,4 +5,4 @@ use Rattle.layout65.proofs.Measures.{ok_then}
 use Rattle.asm65.proofs.assembler.Assembler.enter_part.Goals as goal
 
 pub returns : goal.returns
-returns c = ok_then c.put_part.result (λ feeds place. given_enters c.args.self.now c.put_part.new.sections place c.args.spot (Known (file_bytes c.args.count c.args.bytes c.args.settled)) feeds) c.put_part.ensures
+returns c = ok_then c.put_part.result (λ feeds place. given_enters c.args.self.now c.put_part.new.sections place c.args.context (Known (file_bytes c.args.count c.args.bytes c.args.settled)) feeds) c.put_part.ensures

@@ -9,10 +9,10 @@ use Rattle.asm65.proofs.assembler.Assembler.enter_values.Goals as goal
 
 pub returns-in-Numbers : goal.returns-in-Numbers
 returns-in-Numbers c =
-    subst (λ (items : List Item). OnOk c.enter_numbers.result (Enters (place_in c.args.stand.at.file.now c.args.stand.at.line) c.args.stand.spot (map (item_piece c.args.width) items) c.args.self.now c.enter_numbers.new.self))
+    subst (λ (items : List Item). OnOk c.enter_numbers.result (Enters (place_in c.args.site.at.file.now c.args.site.at.line) c.args.site.context (map (item_piece c.args.width) items) c.args.self.now c.enter_numbers.new.self))
     (ap (map numbered) c.as_slice.ensures ∙ sym (ap items_of c.in-Numbers.is) ∙ c.into_kind.ensures) c.enter_numbers.ensures
 
 pub returns-in-Mixed : goal.returns-in-Mixed
 returns-in-Mixed c =
-    subst (λ (items : List Item). OnOk c.enter_mixed.result (Enters (place_in c.args.stand.at.file.now c.args.stand.at.line) c.args.stand.spot (map (item_piece c.args.width) items) c.args.self.now c.enter_mixed.new.self))
+    subst (λ (items : List Item). OnOk c.enter_mixed.result (Enters (place_in c.args.site.at.file.now c.args.site.at.line) c.args.site.context (map (item_piece c.args.width) items) c.args.self.now c.enter_mixed.new.self))
     (sym (ap items_of c.in-Mixed.is) ∙ c.into_kind.ensures) c.enter_mixed.ensures

@@ -9,8 +9,8 @@ pub returns : goal.returns
 returns c =
     let old = c.args.self.now in
     let mid = c.mention.new.self in
-    let place = place_in c.args.stand.at.file.now c.args.stand.at.line in
-    let s = c.args.stand.spot in
+    let place = place_in c.args.site.at.file.now c.args.site.at.line in
+    let s = c.args.site.context in
     let names = c.args.names.now in
     let ps = map (mentioned c.args.mention) names in
     let b = is_for_zero_page c.args.size in

@@ -1,6 +1,6 @@
 use Rattle.std.proofs.Common.{List, ℕ, map, take, sym, subst, arith}
 use Rattle.source65.specs.declared.place.Place.{Place}
-use Rattle.language65.specs.declared.laid.Spot.{Spot}
+use Rattle.language65.specs.declared.laid.Context.{Context}
 use Rattle.language65.specs.Views.{place_in}
 use Rattle.module65.specs.Machine.{State}
 use Rattle.module65.specs.Pieces as piece
@@ -13,8 +13,8 @@ use Rattle.asm65.proofs.assembler.Assembler.mention.Goals as goal
 
 pub loop-name-preserved : goal.loop-name-preserved
 loop-name-preserved c =
-    let place : Place = place_in c.args.stand.at.file.now c.args.stand.at.line in
-    let s : Spot = c.args.stand.spot in
+    let place : Place = place_in c.args.site.at.file.now c.args.site.at.line in
+    let s : Context = c.args.site.context in
     let before : Assembler = c.loop-name.self in
     let new : Assembler = c.wait.new.self in
     let f : List ℕ → piece.Piece = mentioned c.args.mention in
@@ -31,5 +31,5 @@ loop-name-preserved c =
 
 pub returns-clause-mentioned : goal.returns-clause-mentioned
 returns-clause-mentioned c = λ count t h.
-    subst (λ (ps : List piece.Piece). Holds count (all_awaiting (place_in c.args.stand.at.file.now c.args.stand.at.line) c.args.stand.spot t ps) c.loop-name.self) (all_taken (mentioned c.args.mention) c.args.names.now c.loop-name.name-index (omega arith))
+    subst (λ (ps : List piece.Piece). Holds count (all_awaiting (place_in c.args.site.at.file.now c.args.site.at.line) c.args.site.context t ps) c.loop-name.self) (all_taken (mentioned c.args.mention) c.args.names.now c.loop-name.name-index (omega arith))
     (c.loop-name.invariant.mentioned count t h)

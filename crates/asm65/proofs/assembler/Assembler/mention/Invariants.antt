@@ -6,6 +6,6 @@ use Rattle.asm65.proofs.assembler.Assembler.mention.Given as goal
 
 abbrev pub invariant-loop-name : goal.invariant-loop-name
 invariant-loop-name l = record {
-  mentioned : Mentions (place_in l.fn.stand.at.file.now l.fn.stand.at.line) l.fn.stand.spot (take l.name-index (map (mentioned l.fn.mention) l.names)) l.fn.self l.self;
+  mentioned : Mentions (place_in l.fn.site.at.file.now l.fn.site.at.line) l.fn.site.context (take l.name-index (map (mentioned l.fn.mention) l.names)) l.fn.self l.self;
   tables : KeepsTables l.fn.self l.self;
 }

@@ -10,8 +10,8 @@ use Rattle.asm65.proofs.assembler.Assembler.open_block.Goals as goal
 pub returns : goal.returns
 returns c =
     let old = c.args.self.now in
-    let s = c.args.spot in
-    let b : Scope = record { within = c.args.spot.scope; name = option_map (λ n. n.now) c.args.name; is_proc = false } in
+    let s = c.args.context in
+    let b : Scope = record { within = c.args.context.scope; name = option_map (λ n. n.now) c.args.name; is_proc = false } in
     on_both c.open_scope.result (λ table known place.
     turns_after place s [] (λ y. with_scope y b) old old c.open_scope.new.self (enters_none place s old) c.open_scope.ensures.keeps table known (λ y. more_opened y b))
     c.open_scope.ensures.table c.open_scope.ensures.known

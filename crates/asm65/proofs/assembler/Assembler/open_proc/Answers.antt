@@ -12,9 +12,9 @@ returns c =
     let old : Assembler = c.args.self.now in
     let mid : Assembler = c.define.new.self in
     let new : Assembler = c.open_scope.new.self in
-    let key = named c.args.spot.scope c.args.name.now in
-    let d : Definition = label_at key c.args.spot c.args.size in
-    let b : Scope = record { within = c.args.spot.scope; name = Some c.args.name.now; is_proc = true } in
+    let key = named c.args.context.scope c.args.name.now in
+    let d : Definition = label_at key c.args.context c.args.size in
+    let b : Scope = record { within = c.args.context.scope; name = Some c.args.name.now; is_proc = true } in
     let first : table_of mid.symbols ≡ with_definition (table_of old.symbols) d = c.in_ok-define.ensures.table ∙ ap (with_definition (table_of old.symbols)) (c.label.ensures.seen key) in
     on_both c.open_scope.result (λ table known place count t h inside unnamed.
     (let y : Symbols = with_definition t.symbols d in

@@ -3,7 +3,7 @@ use Rattle.std.specs.Prelude.{Err, Result}
 use Rattle.std.proofs.lemmas.Result.{err_from_is_err_and}
 use Rattle.language65.specs.declared.fault.AsmFault.{AsmFault}
 use Rattle.source65.specs.declared.place.Place.{Place}
-use Rattle.language65.specs.declared.laid.Spot.{Spot}
+use Rattle.language65.specs.declared.laid.Context.{Context}
 use Rattle.language65.specs.declared.language.Statement.{Statement}
 use Rattle.language65.specs.Layout as layout
 use Rattle.language65.specs.Layout.{Standing}
@@ -36,7 +36,7 @@ advance-requires-clause-numbers c =
 
 pub returns-clause-placed : goal.returns-clause-placed
 returns-clause-placed c = λ count t h.
-    placed_is count t c.args.self.now h c.args.statement.now c.in_ok-measured.measured c.spot-spot.result c.in_ok-measured.ensures.measured c.spot-spot.ensures
+    placed_is count t c.args.self.now h c.args.statement.now c.in_ok-measured.measured c.context-context.result c.in_ok-measured.ensures.measured c.context-context.ensures
 
 pub returns-clause-new : goal.returns-clause-new
 returns-clause-new c =
@@ -47,9 +47,9 @@ returns-clause-new c =
     let w : Standing = standing_of old.standing in
     let (count, t, h, few) = c.requires in
     let before : AreBefore w.unnamed y.definitions = subst (λ (z : Symbols). AreBefore w.unnamed z.definitions) (sym h.symbols) (subst (λ (v : Standing). AreBefore v.unnamed t.symbols.definitions) (sym h.standing) h.unnamed) in
-    let new : IsNew y (layout.spot_of w) x = is_new y w x (without_fault y w x c.in_ok-measured.measured c.in_ok-measured.ensures.measured) before in
-    subst (λ (z : Symbols). IsNew z (c.spot-spot.result) x) (ap table_of (sym c.in_ok-ask.ensures.tables.symbols))
-    (subst (λ (s : Spot). IsNew y s x) (sym c.spot-spot.ensures) new)
+    let new : IsNew y (layout.context_of w) x = is_new y w x (without_fault y w x c.in_ok-measured.measured c.in_ok-measured.ensures.measured) before in
+    subst (λ (z : Symbols). IsNew z (c.context-context.result) x) (ap table_of (sym c.in_ok-ask.ensures.tables.symbols))
+    (subst (λ (s : Context). IsNew y s x) (sym c.context-context.ensures) new)
 
 pub returns-clause-holds : goal.returns-clause-holds
 returns-clause-holds c = λ count t h.
@@ -61,14 +61,14 @@ returns-clause-holds c = λ count t h.
     let y : Symbols = table_of old.symbols in
     let w : Standing = standing_of old.standing in
     let same : table_of mid.symbols ≡ y = ap table_of c.in_ok-ask.ensures.tables.symbols in
-    let stand : standing_of mid.standing ≡ w = ap standing_of c.in_ok-ask.ensures.tables.standing in
-    let segment = ap (λ (s : Spot). s.segment) c.spot-spot.ensures ∙ ap (λ (v : Standing). (layout.spot_of v).segment) h.standing in
+    let site : standing_of mid.standing ≡ w = ap standing_of c.in_ok-ask.ensures.tables.standing in
+    let segment = ap (λ (s : Context). s.segment) c.context-context.ensures ∙ ap (λ (v : Standing). (layout.context_of v).segment) h.standing in
     let knows = holds_known count t old c.measure.new.known h c.in_ok-measured.ensures.table in
-    let held : Holds count (asked_of (layout.spot_of t.standing).segment x t) mid = subst (λ (g : ℕ). Holds count (asked_of g x t) mid) segment (c.in_ok-ask.ensures.asked count t knows) in
+    let held : Holds count (asked_of (layout.context_of t.standing).segment x t) mid = subst (λ (g : ℕ). Holds count (asked_of g x t) mid) segment (c.in_ok-ask.ensures.asked count t knows) in
     let moved : standing_of c.advance.new.self ≡ layout.standing_behind t.symbols t.standing x =
     c.in_ok-advance.ensures.moved
     ∙ ap (λ (z : Symbols). advanced z (standing_of mid.standing) x m.length m.multiple) same
-    ∙ ap (λ (v : Standing). advanced y v x m.length m.multiple) stand
+    ∙ ap (λ (v : Standing). advanced y v x m.length m.multiple) site
     ∙ moved_behind count t old h x m c.in_ok-measured.ensures.measured in
     let counted : IsCounted count mid.standing = subst (IsCounted count) (sym c.in_ok-ask.ensures.tables.standing) h.counted in
     let inside : AreInside count (table_of mid.symbols).scopes = subst (λ (z : Symbols). AreInside count z.scopes) (sym (same ∙ h.symbols)) h.inside in

@@ -4,7 +4,7 @@ use Rattle.std.proofs.lemmas.List.{append-nil}
 use Rattle.std.proofs.lemmas.Result.{err_from_is_err_and}
 use Rattle.language65.specs.Contents.{asking}
 use Rattle.language65.specs.declared.fault.AsmFault.{AsmFault}
-use Rattle.language65.specs.declared.laid.Spot.{Spot}
+use Rattle.language65.specs.declared.laid.Context.{Context}
 use Rattle.language65.specs.declared.language.Statement.{Statement}
 use Rattle.language65.specs.declared.language.Statement.TheVariants.{Instruction}
 use Rattle.language65.specs.Layout as layout
@@ -29,7 +29,7 @@ use Rattle.asm65.proofs.assembler.Assembler.place_instruction.Goals as goal
 
 pub returns-clause-placed : goal.returns-clause-placed
 returns-clause-placed c = λ count t h.
-    placed_is count t c.args.self.now h (Instruction c.args.mnemonic c.args.operand.now) c.in_ok-measured.measured c.spot-spot.result c.in_ok-measured.ensures.measured c.spot-spot.ensures
+    placed_is count t c.args.self.now h (Instruction c.args.mnemonic c.args.operand.now) c.in_ok-measured.measured c.context-context.result c.in_ok-measured.ensures.measured c.context-context.ensures
 
 pub returns-clause-holds : goal.returns-clause-holds
 returns-clause-holds c = λ place count t h.
@@ -40,10 +40,10 @@ returns-clause-holds c = λ place count t h.
     let w : Standing = standing_of old.standing in
     let known : Assembler = record old { known = c.measure_instruction.new.known } in
     let mid : Assembler = record known { sections = c.ask.new.self } in
-    let segment = ap (λ (s : Spot). s.segment) c.spot-spot.ensures ∙ ap (λ (v : Standing). (layout.spot_of v).segment) h.standing in
+    let segment = ap (λ (s : Context). s.segment) c.context-context.ensures ∙ ap (λ (v : Standing). (layout.context_of v).segment) h.standing in
     let knows : Holds count t known = holds_known count t old c.measure_instruction.new.known h c.in_ok-measured.ensures.table in
-    let asked : Holds count (entered t (asking c.spot-spot.result.segment)) mid = holds_entered count t known mid knows (record { symbols = refl; known = refl; standing = refl; texts = refl }) (asking c.spot-spot.result.segment) c.in_ok-ask.ensures refl refl in
-    let held : Holds count (asked_of (layout.spot_of t.standing).segment x t) mid = subst (λ (g : ℕ). Holds count (entered t (asking g)) mid) segment asked in
+    let asked : Holds count (entered t (asking c.context-context.result.segment)) mid = holds_entered count t known mid knows (record { symbols = refl; known = refl; standing = refl; texts = refl }) (asking c.context-context.result.segment) c.in_ok-ask.ensures refl refl in
+    let held : Holds count (asked_of (layout.context_of t.standing).segment x t) mid = subst (λ (g : ℕ). Holds count (entered t (asking g)) mid) segment asked in
     let one : 1 ≡ m.multiple = ap (λ (k : Measured). k.multiple) (is_measured y w x m c.in_ok-measured.ensures.measured) in
     let moved : standing_of c.advance_by.new.self ≡ layout.standing_behind t.symbols t.standing x =
     c.advance_by.ensures.moved y c.args.mnemonic c.args.operand.now

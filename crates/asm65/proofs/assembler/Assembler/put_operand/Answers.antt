@@ -10,8 +10,8 @@ pub returns-in-Some : goal.returns-in-Some
 returns-in-Some c =
     let old : Assembler = c.args.self.now in
     let new = c.put_operand.new.sections in
-    let place = place_in c.args.stand.at.file.now c.args.stand.at.line in
-    let s = c.args.stand.spot in
+    let place = place_in c.args.site.at.file.now c.args.site.at.line in
+    let s = c.args.site.context in
     let e = c.args.value.now in
     let f = c.in-Some.form in
     let final = c.in_ok-form.ensures.stays f c.in-Some.is in

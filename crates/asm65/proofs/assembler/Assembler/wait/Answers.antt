@@ -10,7 +10,7 @@ pub returns-clause-waits : goal.returns-clause-waits
 returns-clause-waits c =
     let old : Assembler = c.args.self.now in
     let new : Assembler = record old { sections = c.defer.new.self; waiting = c.push.new.self; files = c.place_of_file.new.files } in
-    let place = place_in c.args.stand.at.file.now c.args.stand.at.line in
-    let w : Waiting = record { file = c.in_ok-file.file; line = c.args.stand.at.line; spot = c.args.stand.spot; piece = c.args.piece } in
+    let place = place_in c.args.site.at.file.now c.args.site.at.line in
+    let w : Waiting = record { file = c.in_ok-file.file; line = c.args.site.at.line; context = c.args.site.context; piece = c.args.piece } in
     let file = c.in_ok-file.ensures.place in
-    ok_then c.defer.result (λ awaits. waits_behind old new place c.args.stand.spot w (record { symbols = refl; known = refl; standing = refl; texts = refl }) awaits c.place_of_file.ensures.more c.in_ok-push.ensures.items file refl refl) c.defer.ensures
+    ok_then c.defer.result (λ awaits. waits_behind old new place c.args.site.context w (record { symbols = refl; known = refl; standing = refl; texts = refl }) awaits c.place_of_file.ensures.more c.in_ok-push.ensures.items file refl refl) c.defer.ensures

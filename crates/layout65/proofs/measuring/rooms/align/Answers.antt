@@ -3,8 +3,8 @@ use Rattle.std.specs.Prelude.{not, pos}
 use Rattle.std.proofs.lemmas.Result.{err_from_is_err_and}
 use Rattle.syntax65.specs.Trees.{Tree}
 use Rattle.language65.specs.declared.fault.AsmFault.TheVariants.{BadOperand}
-use Rattle.language65.specs.declared.laid.Spot.{Spot}
-use Rattle.language65.specs.Layout.{spot_of}
+use Rattle.language65.specs.declared.laid.Context.{Context}
+use Rattle.language65.specs.Layout.{context_of}
 use Rattle.layout65.specs.Sounds.{standing_of}
 use Rattle.language65.specs.LineFaults.{is_byte_value, when, unless_fault}
 use Rattle.language65.specs.Norms.{constant_in}
@@ -21,10 +21,10 @@ returns-in_err-multiple-2-clause-placed c =
     let w = standing_of c.args.before.standing.now in
     let n : Tree = c.args.multiple.now in
     let v : Option Tree = c.args.value.now in
-    let k = ap (λ s. constant_in y s n) (sym c.spot-spot.ensures) ∙ sym c.in_ok-multiple.ensures.value in
-    let byte = ap (λ (s : Spot). unless_fault {A = Unit {0}} (when (not (is_byte_value (optional_value y s v (pos 0)))) BadOperand) tt) (sym c.spot-spot.ensures) ∙ c.in_ok-settled.ensures.byte in
-    let b = is_byte_value (optional_value y (spot_of w) v (pos 0)) in
-    let st = fill_settled y (spot_of w) v in
+    let k = ap (λ s. constant_in y s n) (sym c.context-context.ensures) ∙ sym c.in_ok-multiple.ensures.value in
+    let byte = ap (λ (s : Context). unless_fault {A = Unit {0}} (when (not (is_byte_value (optional_value y s v (pos 0)))) BadOperand) tt) (sym c.context-context.ensures) ∙ c.in_ok-settled.ensures.byte in
+    let b = is_byte_value (optional_value y (context_of w) v (pos 0)) in
+    let st = fill_settled y (context_of w) v in
     rw (p.1, p.2) (refused_same e _ _ (aligned_as y w n v c.in_ok-multiple.multiple k)
     (bad_multiple w b st c.in_ok-multiple.multiple e c.in_ok-check_constant.ensures byte c.in_err-multiple-2.ensures.multiple))
 
@@ -34,14 +34,14 @@ returns-clause-placed c =
     let w = standing_of c.args.before.standing.now in
     let n : Tree = c.args.multiple.now in
     let v : Option Tree = c.args.value.now in
-    let k = ap (λ s. constant_in y s n) (sym c.spot-spot.ensures) ∙ sym c.in_ok-multiple.ensures.value in
-    let byte = ap (λ (s : Spot). unless_fault {A = Unit {0}} (when (not (is_byte_value (optional_value y s v (pos 0)))) BadOperand) tt) (sym c.spot-spot.ensures) ∙ c.in_ok-settled.ensures.byte in
-    let b = is_byte_value (optional_value y (spot_of w) v (pos 0)) in
-    let st = fill_settled y (spot_of w) v in
+    let k = ap (λ s. constant_in y s n) (sym c.context-context.ensures) ∙ sym c.in_ok-multiple.ensures.value in
+    let byte = ap (λ (s : Context). unless_fault {A = Unit {0}} (when (not (is_byte_value (optional_value y s v (pos 0)))) BadOperand) tt) (sym c.context-context.ensures) ∙ c.in_ok-settled.ensures.byte in
+    let b = is_byte_value (optional_value y (context_of w) v (pos 0)) in
+    let st = fill_settled y (context_of w) v in
     aligned_as y w n v c.in_ok-multiple.multiple k
     ∙ aligned_well w b st c.in_ok-multiple.multiple c.in_ok-multiple-2.multiple c.gap.result c.in_ok-length.length byte c.in_ok-multiple-2.ensures.multiple c.gap.ensures (sym c.in_ok-length.ensures)
     ∙ ap (λ g. as_ok c.in_ok-length.length g.size c.in_ok-multiple-2.multiple st) (sym c.segment.ensures)
-    ∙ ap (as_ok c.in_ok-length.length _ c.in_ok-multiple-2.multiple) (ap (λ (s : Spot). fill_settled y s v) (sym c.spot-spot.ensures) ∙ sym c.in_ok-settled.ensures.settled)
+    ∙ ap (as_ok c.in_ok-length.length _ c.in_ok-multiple-2.multiple) (ap (λ (s : Context). fill_settled y s v) (sym c.context-context.ensures) ∙ sym c.in_ok-settled.ensures.settled)
 
 pub returns-in_err-settled-clause-placed : goal.returns-in_err-settled-clause-placed
 returns-in_err-settled-clause-placed c =
@@ -51,9 +51,9 @@ returns-in_err-settled-clause-placed c =
     let w = standing_of c.args.before.standing.now in
     let n : Tree = c.args.multiple.now in
     let v : Option Tree = c.args.value.now in
-    let k = ap (λ s. constant_in y s n) (sym c.spot-spot.ensures) ∙ sym c.in_ok-multiple.ensures.value in
-    let b = is_byte_value (optional_value y (spot_of w) v (pos 0)) in
-    let st = fill_settled y (spot_of w) v in
-    let same = ap (λ (s : Spot). unless_fault {A = Unit {0}} (when (not (is_byte_value (optional_value y s v (pos 0)))) BadOperand) tt) (sym c.spot-spot.ensures) in
+    let k = ap (λ s. constant_in y s n) (sym c.context-context.ensures) ∙ sym c.in_ok-multiple.ensures.value in
+    let b = is_byte_value (optional_value y (context_of w) v (pos 0)) in
+    let st = fill_settled y (context_of w) v in
+    let same = ap (λ (s : Context). unless_fault {A = Unit {0}} (when (not (is_byte_value (optional_value y s v (pos 0)))) BadOperand) tt) (sym c.context-context.ensures) in
     rw (p.1, p.2) (refused_same e _ _ (aligned_as y w n v c.in_ok-multiple.multiple k)
     (bad_byte w b st c.in_ok-multiple.multiple e c.in_ok-check_constant.ensures (refused_same e _ _ same c.in_err-settled.ensures.byte)))

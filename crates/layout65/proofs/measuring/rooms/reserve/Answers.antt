@@ -3,8 +3,8 @@ use Rattle.std.specs.Prelude.{not, pos}
 use Rattle.std.proofs.lemmas.Result.{err_from_is_err_and}
 use Rattle.syntax65.specs.Trees.{Tree}
 use Rattle.language65.specs.declared.fault.AsmFault.TheVariants.{BadOperand}
-use Rattle.language65.specs.declared.laid.Spot.{Spot}
-use Rattle.language65.specs.Layout.{spot_of}
+use Rattle.language65.specs.declared.laid.Context.{Context}
+use Rattle.language65.specs.Layout.{context_of}
 use Rattle.language65.specs.LineFaults.{is_byte_value, when, unless_fault}
 use Rattle.language65.specs.Norms.{constant_in}
 use Rattle.language65.specs.Sizes.{fill_settled, optional_value}
@@ -21,9 +21,9 @@ returns-in_err-settled-clause-placed c =
     let w = standing_of c.args.before.standing.now in
     let n : Tree = c.args.count.now in
     let v : Option Tree = c.args.value.now in
-    let k = ap (λ s. constant_in y s n) (sym c.spot-spot.ensures) ∙ sym c.in_ok-constant.ensures.value in
-    let b = is_byte_value (optional_value y (spot_of w) v (pos 0)) in
-    let st = fill_settled y (spot_of w) v in
-    let same = ap (λ (s : Spot). unless_fault {A = Unit {0}} (when (not (is_byte_value (optional_value y s v (pos 0)))) BadOperand) tt) (sym c.spot-spot.ensures) in
+    let k = ap (λ s. constant_in y s n) (sym c.context-context.ensures) ∙ sym c.in_ok-constant.ensures.value in
+    let b = is_byte_value (optional_value y (context_of w) v (pos 0)) in
+    let st = fill_settled y (context_of w) v in
+    let same = ap (λ (s : Context). unless_fault {A = Unit {0}} (when (not (is_byte_value (optional_value y s v (pos 0)))) BadOperand) tt) (sym c.context-context.ensures) in
     rw (p.1, p.2) (refused_same e _ _ (reserved_as y w n v c.in_ok-constant.field-0 k)
     (bad_fill w b st c.in_ok-constant.field-0 c.in_ok-count.count e c.in_ok-count.ensures (refused_same e _ _ same c.in_err-settled.ensures.byte)))

@@ -12,7 +12,7 @@ use Rattle.symbols65.proofs.knowing.sizes.+form_and_size.Goals as goal
 pub returns-in_ok-form-in-Prefix-clause-form : goal.returns-in_ok-form-in-Prefix-clause-form
 returns-in_ok-form-in-Prefix-clause-form t c =
     let y = table_of c.args.symbols.now in
-    let s = c.args.spot in
+    let s = c.args.context in
     let e = c.deref.result.now in
     let same : c.deref.result.now ≡ c.in-Prefix.part.value = search rules in
     c.sized_by_value.ensures.form
@@ -33,10 +33,10 @@ whole t c =
     ∙ sym (ap (λ v. binary c.in-Binary.op c.deref-in-Binary.result.now.left v.right) right)
 
 -- the form of the whole
-both : (t : ℕ) (c : goal.After-sized_by_value-in-Binary t) → c.in_ok-form-in-Binary.form ≡ result_ok (norm_of (table_of c.args.symbols.now) c.args.spot c.args.value.now)
+both : (t : ℕ) (c : goal.After-sized_by_value-in-Binary t) → c.in_ok-form-in-Binary.form ≡ result_ok (norm_of (table_of c.args.symbols.now) c.args.context c.args.value.now)
 both t c =
     let y = table_of c.args.symbols.now in
-    let s = c.args.spot in
+    let s = c.args.context in
     let e = c.deref-in-Binary.result.now.left in
     let g = c.deref-in-Binary-2.result.now.right in
     c.in_ok-form-in-Binary.ensures
@@ -51,7 +51,7 @@ returns-in_ok-form-in-Binary-clause-form t c = c.sized_by_value-in-Binary.ensure
 pub returns-in_ok-form-in-Binary-clause-size : goal.returns-in_ok-form-in-Binary-clause-size
 returns-in_ok-form-in-Binary-clause-size t c =
     let y = table_of c.args.symbols.now in
-    let s = c.args.spot in
+    let s = c.args.context in
     let e = c.deref-in-Binary.result.now.left in
     let g = c.deref-in-Binary-2.result.now.right in
     let parts = c.larger-other.ensures

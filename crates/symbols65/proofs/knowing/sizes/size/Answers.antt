@@ -12,4 +12,4 @@ returns-in-Some-clause-size c =
     let same : to_z w64 (of_z w64 v) ≡ v = to_z-of_z w64 v fits in
     c.size_of_value.ensures
     ∙ ap size_of_value same
-    ∙ sym (number_size (table_of c.args.symbols.now) c.args.spot c.args.own c.args.value.now v c.in-Some.ensures)
+    ∙ sym (number_size (table_of c.args.symbols.now) c.args.context c.args.own c.args.value.now v c.in-Some.ensures)

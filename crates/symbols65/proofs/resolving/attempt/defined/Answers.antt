@@ -2,7 +2,7 @@ use Rattle.std.proofs.Common.{Result, sym, ap, subst, ◌∙◌}
 use Rattle.base65.specs.Outcome.{Gives}
 use Rattle.syntax65.specs.Trees.{Tree}
 use Rattle.object65.specs.Form.{Form}
-use Rattle.language65.specs.declared.laid.Spot.{Spot}
+use Rattle.language65.specs.declared.laid.Context.{Context}
 use Rattle.symbols65.specs.declared.resolving.attempt.Stop.{Stop}
 use Rattle.symbols65.specs.Resolving.{attempt_definition, attempt_value, known_form, lacks_memory}
 use Rattle.symbols65.specs.Inner.Knowns.{kept, known_by}
@@ -14,9 +14,9 @@ returns-in-Finals c =
     let place = c.args.place in
     let d = c.in-Some.definition.now in
     let P : Result Form Stop → Type 0 = λ r. Gives lacks_memory (λ f. f) c.kept_form.result r in
-    let K : Spot → Tree → Result Form Stop = λ s e. known_form place (known_by t c.args.source place) in
+    let K : Context → Tree → Result Form Stop = λ s e. known_form place (known_by t c.args.source place) in
     subst P
     (sym (ap (attempt_definition K) c.in-Some.ensures.definition
-    ∙ ap (attempt_value K d.spot) c.in-Some-value.is
+    ∙ ap (attempt_value K d.context) c.in-Some-value.is
     ∙ ap (known_form place) (ap (λ q. known_by t q place) c.in-Finals.is ∙ ap kept (sym c.in-Some.ensures.entry))))
     c.kept_form.ensures

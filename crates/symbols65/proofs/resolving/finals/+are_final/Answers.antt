@@ -8,5 +8,5 @@ use Rattle.symbols65.proofs.resolving.finals.+are_final.Goals as goal
 pub returns-in-Plain : goal.returns-in-Plain
 returns-in-Plain t c = λ yes.
     (let y = table_of c.args.symbols.now in
-    let s = c.args.spot in
+    let s = c.args.context in
     operands_of (MeansFinally y s) c.args.value.now (reference c.kind.result.now c.args.value.now c.kind.ensures c.in-Plain.is) (some_place y s c.args.value.now c.final_place.result c.final_place.ensures (sym c.is_some.ensures ∙ yes)))

@@ -10,7 +10,7 @@ use Rattle.symbols65.proofs.resolving.finals.+lasting_form.Goals as goal
 pub returns-in_ok-part-in-Prefix : goal.returns-in_ok-part-in-Prefix
 returns-in_ok-part-in-Prefix t c =
     let y = table_of c.args.symbols.now in
-    let s = c.args.spot in
+    let s = c.args.context in
     let n = length y.definitions in
     let e = c.deref.result.now in
     let part = c.in_ok-part-in-Prefix.part in
@@ -24,7 +24,7 @@ returns-in_ok-part-in-Prefix t c =
 pub returns-in_ok-right-in-Binary : goal.returns-in_ok-right-in-Binary
 returns-in_ok-right-in-Binary t c =
     let y = table_of c.args.symbols.now in
-    let s = c.args.spot in
+    let s = c.args.context in
     let n = length y.definitions in
     let e = c.deref-in-Binary.result.now.left in
     let g = c.deref-in-Binary-2.result.now.right in

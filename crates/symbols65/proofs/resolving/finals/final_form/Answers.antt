@@ -4,12 +4,12 @@ use Rattle.language65.specs.Extending.{IsFinal}
 use Rattle.symbols65.specs.Finals.{IsFinalWithin}
 use Rattle.symbols65.specs.Views.{table_of}
 use Rattle.symbols65.proofs.Finals.{more_ok, within_final}
-use Rattle.symbols65.proofs.resolving.finals.final_form.Goals as goal
+use Rattle.symbols65.proofs.resolving.finals.stable_form.Goals as goal
 
 pub returns-clause-stays : goal.returns-clause-stays
 returns-clause-stays c =
     let y = table_of c.args.symbols.now in
-    let s = c.args.spot in
+    let s = c.args.context in
     let e = c.args.value.now in
     let P : Option Form → Type 0 = λ o. (f : Form) → o ≡ Some f → IsFinalWithin (length y.definitions) y s e f in
     let Q : Option Form → Type 0 = λ o. (f : Form) → o ≡ Some f → IsFinal y s e f in

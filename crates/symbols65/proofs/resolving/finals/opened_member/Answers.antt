@@ -10,7 +10,7 @@ use Rattle.symbols65.proofs.resolving.finals.opened_member.Goals as goal
 pub returns-in-Some : goal.returns-in-Some
 returns-in-Some c = λ plain.
     (let y = table_of c.args.symbols.now in
-    let s = c.args.spot in
+    let s = c.args.context in
     let name = c.args.name.now in
     let before = take s.opened y.scopes in
     let count = c.scope_count.ensures in

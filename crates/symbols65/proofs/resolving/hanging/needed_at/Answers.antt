@@ -17,7 +17,7 @@ returns-else-not-are_final c =
     let y = table_of t in
     let held = c.in-Some.definition.now in
     let d = definition_seen (key_at t c.args.place) held in
-    let s = held.spot in
+    let s = held.context in
     let e = c.in-Some-value.value in
     let P : Option ℕ → Type 0 = λ o. o ≡ needed_in (tried (known_by t Finals) y s e) in
     IfOk-weaker c.needed_by.result P (λ o. IfSome o (λ k. HangsOn y c.args.place k))

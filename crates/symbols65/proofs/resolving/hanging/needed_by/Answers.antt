@@ -11,7 +11,7 @@ use Rattle.symbols65.proofs.resolving.hanging.needed_by.Goals as goal
 pub returns-in-Err-Needs : goal.returns-in-Err-Needs
 returns-in-Err-Needs c =
     let t = c.args.symbols.now in
-    let s = c.args.spot in
+    let s = c.args.context in
     let e = c.args.value.now in
     let P : Stop → Type 0 = λ q. Refuses lacks_memory q (tried (known_by t Finals) (table_of t) s e) in
     sym (ap needed_in (subst P c.in-Err-Needs.field-0-is c.in-Err-Needs.ensures))

@@ -7,4 +7,4 @@ use Rattle.symbols65.proofs.resolving.meaning.definition_of.Goals as goal
 pub returns-in-Some : goal.returns-in-Some
 returns-in-Some c =
     let name = c.args.name.now in
-    c.defined_outward.ensures ∙ defined_outward_at (table_of c.args.symbols.now) c.args.spot name.is_global name.parts c.in-Some.part.now (sym c.plain_part.ensures ∙ ap (option_map (λ n. n.now)) c.in-Some.is)
+    c.defined_outward.ensures ∙ defined_outward_at (table_of c.args.symbols.now) c.args.context name.is_global name.parts c.in-Some.part.now (sym c.plain_part.ensures ∙ ap (option_map (λ n. n.now)) c.in-Some.is)

@@ -12,6 +12,6 @@ use Rattle.symbols65.proofs.resolving.meaning.meaning_of.Goals as goal
 pub returns-in-Scoped : goal.returns-in-Scoped
 returns-in-Scoped c =
     let y = table_of c.args.symbols.now in
-    let s = c.args.spot in
+    let s = c.args.context in
     let P : Result Meaning AsmFault → Type 0 = λ r. Gives is_memory meaning_in c.name_meaning.result r in
     subst P (sym (ap (meaning_of y s) (sym c.kind.ensures) ∙ ap (λ k. meaning_of y s (tree_of k)) c.in-Scoped.is ∙ name_is y s c.in-Scoped.name.is_global c.in-Scoped.name.parts)) c.name_meaning.ensures

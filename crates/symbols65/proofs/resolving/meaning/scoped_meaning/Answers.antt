@@ -10,9 +10,9 @@ returns-in-Some-member c =
     let y = table_of c.args.symbols.now in
     let name = c.args.name.now in
     let text = shown name.is_global name.parts in
-    let before = take c.args.spot.opened y.scopes in
-    ap (λ ps. member_meaning y (last_of name.parts) (Undefined text) (NoSuchScope text) (scope_from before c.args.spot.scope name.is_global (scopes_of ps))) (sym c.as_slice-parts.ensures)
-    ∙ ap (λ ss. member_meaning y (last_of name.parts) (Undefined text) (NoSuchScope text) (scope_from before c.args.spot.scope name.is_global ss)) (sym c.scopes_in.ensures)
+    let before = take c.args.context.opened y.scopes in
+    ap (λ ps. member_meaning y (last_of name.parts) (Undefined text) (NoSuchScope text) (scope_from before c.args.context.scope name.is_global (scopes_of ps))) (sym c.as_slice-parts.ensures)
+    ∙ ap (λ ss. member_meaning y (last_of name.parts) (Undefined text) (NoSuchScope text) (scope_from before c.args.context.scope name.is_global ss)) (sym c.scopes_in.ensures)
     ∙ ap (member_meaning y (last_of name.parts) (Undefined text) (NoSuchScope text)) (sym c.scope_of.ensures ∙ c.in-Some.is)
     ∙ ap (λ n. member_meaning y n (Undefined text) (NoSuchScope text) (Some c.in-Some.inner)) (ap last_of (sym c.as_slice-parts.ensures) ∙ sym c.last_in.ensures)
     ∙ c.member.ensures (Undefined text) (NoSuchScope text)
@@ -23,9 +23,9 @@ returns-in_ok-name-in-None-member c =
     let y = table_of c.args.symbols.now in
     let name = c.args.name.now in
     let text = shown name.is_global name.parts in
-    let before = take c.args.spot.opened y.scopes in
-    ap (λ ps. member_meaning y (last_of name.parts) (Undefined text) (NoSuchScope text) (scope_from before c.args.spot.scope name.is_global (scopes_of ps))) (sym c.as_slice-parts.ensures)
-    ∙ ap (λ ss. member_meaning y (last_of name.parts) (Undefined text) (NoSuchScope text) (scope_from before c.args.spot.scope name.is_global ss)) (sym c.scopes_in.ensures)
+    let before = take c.args.context.opened y.scopes in
+    ap (λ ps. member_meaning y (last_of name.parts) (Undefined text) (NoSuchScope text) (scope_from before c.args.context.scope name.is_global (scopes_of ps))) (sym c.as_slice-parts.ensures)
+    ∙ ap (λ ss. member_meaning y (last_of name.parts) (Undefined text) (NoSuchScope text) (scope_from before c.args.context.scope name.is_global ss)) (sym c.scopes_in.ensures)
     ∙ ap (member_meaning y (last_of name.parts) (Undefined text) (NoSuchScope text)) (sym c.scope_of.ensures ∙ c.in-Some.is)
     ∙ ap (λ n. member_meaning y n (Undefined text) (NoSuchScope text) (Some c.in-Some.inner)) (ap last_of (sym c.as_slice-parts.ensures) ∙ sym c.last_in.ensures)
     ∙ c.member.ensures (Undefined text) (NoSuchScope text)

@@ -10,10 +10,10 @@ use Rattle.symbols65.proofs.resolving.settling.meant_norm.Goals as goal
 
 pub returns-in-Ok-clause-form : goal.returns-in-Ok-clause-form
 returns-in-Ok-clause-form c =
-    let P : Result Form Stop → Type 0 = Settles (norm_of (table_of c.args.symbols.now) c.args.spot c.args.operand.now) in
-    subst P c.in-Ok.is (meant_settles c.args.symbols.now c.args.spot c.args.operand.now (meaning_in c.args.meaning) c.meant.result c.requires.meaning c.meant.ensures)
+    let P : Result Form Stop → Type 0 = Settles (norm_of (table_of c.args.symbols.now) c.args.context c.args.operand.now) in
+    subst P c.in-Ok.is (meant_settles c.args.symbols.now c.args.context c.args.operand.now (meaning_in c.args.meaning) c.meant.result c.requires.meaning c.meant.ensures)
 
 pub returns-in-Err-Fault-clause-form : goal.returns-in-Err-Fault-clause-form
 returns-in-Err-Fault-clause-form c =
-    let P : Result Form Stop → Type 0 = Settles (norm_of (table_of c.args.symbols.now) c.args.spot c.args.operand.now) in
-    subst P (c.in-Err-Fault.is ∙ ap Err c.in-Err-Fault.field-0-is) (meant_settles c.args.symbols.now c.args.spot c.args.operand.now (meaning_in c.args.meaning) c.meant.result c.requires.meaning c.meant.ensures)
+    let P : Result Form Stop → Type 0 = Settles (norm_of (table_of c.args.symbols.now) c.args.context c.args.operand.now) in
+    subst P (c.in-Err-Fault.is ∙ ap Err c.in-Err-Fault.field-0-is) (meant_settles c.args.symbols.now c.args.context c.args.operand.now (meaning_in c.args.meaning) c.meant.result c.requires.meaning c.meant.ensures)

@@ -2,7 +2,7 @@ use Rattle.std.proofs.Common.{rules, ◌≡◌, sym, ap, ◌∙◌, ℕ, List, l
 use Rattle.std.proofs.lemmas.List.{nil_from_length}
 use Rattle.syntax65.specs.Trees.{Tree}
 use Rattle.object65.specs.Form.{Form}
-use Rattle.language65.specs.declared.laid.Spot.{Spot}
+use Rattle.language65.specs.declared.laid.Context.{Context}
 use Rattle.language65.specs.Symbols.{Symbols}
 use Rattle.symbols65.specs.Views.{table_of}
 use Rattle.language65.specs.Faults.{is_memory}
@@ -23,10 +23,10 @@ use Rattle.symbols65.proofs.resolving.known.Known.find.Goals as goal
 -- ---- What the code sees of its table and of what waits.
 
 -- the attempt at the last that waits
-abbrev last_tried : Symbols → Spot → Tree → List State → List ℕ → Result Form Stop
+abbrev last_tried : Symbols → Context → Tree → List State → List ℕ → Result Form Stop
 last_tried table s e states ws = tried_last (slice_get states) table (tried (slice_get states) table s e) ws
 
-module _ (table : Symbols) (s : Spot) (e : Tree) where
+module _ (table : Symbols) (s : Context) (e : Tree) where
   same_attempt : (states0 states : List State) (ws0 ws : List ℕ) → states0 ≡ states → ws0 ≡ ws → last_tried table s e states ws ≡ last_tried table s e states0 ws0
   same_attempt states0 states ws0 ws a b = ap (λ q. last_tried table s e q ws) (sym a) ∙ ap (last_tried table s e states0) (sym b)
 
@@ -55,12 +55,12 @@ unless_true false h = h
 -- ---- The answers.
 
 pub find-init : goal.find-init
-find-init c = rw c.new-waiting.ensures.items (pursuit_starts (table_of c.args.symbols.now) c.args.self.now.states.items (expression_course (table_of c.args.symbols.now) c.args.spot c.args.value.now) c.requires.table)
+find-init c = rw c.new-waiting.ensures.items (pursuit_starts (table_of c.args.symbols.now) c.args.self.now.states.items (expression_course (table_of c.args.symbols.now) c.args.context c.args.value.now) c.requires.table)
 
 pub returns-in-None-clause-form : goal.returns-in-None-clause-form
 returns-in-None-clause-form c =
     let table = table_of c.args.symbols.now in
-    let s = c.args.spot in
+    let s = c.args.context in
     let e = c.args.value.now in
     let v = expression_course table s e in
     let states = c.find.self.states.items in
@@ -72,27 +72,27 @@ returns-in-None-clause-form c =
 pub returns-in-None-clause-table : goal.returns-in-None-clause-table
 returns-in-None-clause-table c =
     let table = table_of c.args.symbols.now in
-    let v = expression_course table c.args.spot c.args.value.now in
+    let v = expression_course table c.args.context c.args.value.now in
     let zero : length c.find.waiting.items ≡ 0 = search (rules, c.in-None.ensures.cases) in
     pursuit_table table c.find.self.states.items v c.find.waiting.items c.find.invariant (nil_from_length c.find.waiting.items zero)
 
 pub settle-requires : goal.settle-requires
 settle-requires c =
     let table = table_of c.args.symbols.now in
-    let v = expression_course table c.args.spot c.args.value.now in
+    let v = expression_course table c.args.context c.args.value.now in
     pursuit_inside table c.find.self.states.items v c.find.waiting.items c.pop.new.self.items c.in-Some.last c.find.invariant c.in-Some.ensures.items
 
 pub find-smaller-in-Continue-1 : goal.find-smaller-in-Continue-1
 find-smaller-in-Continue-1 c =
     let table = table_of c.args.symbols.now in
-    let v = expression_course table c.args.spot c.args.value.now in
+    let v = expression_course table c.args.context c.args.value.now in
     let lt = pursuit_inside table c.find.self.states.items v c.find.waiting.items c.pop.new.self.items c.in-Some.last c.find.invariant c.in-Some.ensures.items in
     rw c.in_ok-settle-in-Some.ensures (up_smaller c.find.self.states.items c.find.waiting.items c.pop.new.self.items c.in-Some.last c.in-Ok.form lt c.in-Some.ensures.items)
 
 pub find-preserved-in-Continue-1 : goal.find-preserved-in-Continue-1
 find-preserved-in-Continue-1 c =
     let table = table_of c.args.symbols.now in
-    let s = c.args.spot in
+    let s = c.args.context in
     let e = c.args.value.now in
     let v = expression_course table s e in
     let states = c.find.self.states.items in
@@ -103,7 +103,7 @@ find-preserved-in-Continue-1 c =
 pub returns-in-Err-Fault-clause-form : goal.returns-in-Err-Fault-clause-form
 returns-in-Err-Fault-clause-form c =
     let table = table_of c.args.symbols.now in
-    let s = c.args.spot in
+    let s = c.args.context in
     let e = c.args.value.now in
     let v = expression_course table s e in
     let states = c.find.self.states.items in
@@ -114,12 +114,12 @@ returns-in-Err-Fault-clause-form c =
 
 pub returns-in-Err-Fault-clause-table : goal.returns-in-Err-Fault-clause-table
 returns-in-Err-Fault-clause-table c =
-    unless_true (is_memory c.in-Err-Fault.fault) (lost (table_of c.args.symbols.now) c.args.spot c.args.value.now c.find.self.states.items c.give_up.new.self.states.items c.deref-in-Err-Fault.result.now c.find.waiting.items c.find.invariant c.give_up.ensures.same c.give_up.ensures.hung c.deref-in-Err-Fault.ensures.value)
+    unless_true (is_memory c.in-Err-Fault.fault) (lost (table_of c.args.symbols.now) c.args.context c.args.value.now c.find.self.states.items c.give_up.new.self.states.items c.deref-in-Err-Fault.result.now c.find.waiting.items c.find.invariant c.give_up.ensures.same c.give_up.ensures.hung c.deref-in-Err-Fault.ensures.value)
 
 pub returns-then-not-may_be_looked_for-clause-form : goal.returns-then-not-may_be_looked_for-clause-form
 returns-then-not-may_be_looked_for-clause-form c =
     let table = table_of c.args.symbols.now in
-    let s = c.args.spot in
+    let s = c.args.context in
     let e = c.args.value.now in
     let v = expression_course table s e in
     let states = c.find.self.states.items in
@@ -136,7 +136,7 @@ returns-then-not-may_be_looked_for-clause-form c =
 pub returns-then-not-may_be_looked_for-clause-table : goal.returns-then-not-may_be_looked_for-clause-table
 returns-then-not-may_be_looked_for-clause-table c =
     let table = table_of c.args.symbols.now in
-    let s = c.args.spot in
+    let s = c.args.context in
     let e = c.args.value.now in
     let new = c.behind-next.new.self.states.items in
     let ws = c.find.waiting.items in
@@ -162,7 +162,7 @@ find-smaller c =
 pub find-preserved : goal.find-preserved
 find-preserved c =
     let table = table_of c.args.symbols.now in
-    let s = c.args.spot in
+    let s = c.args.context in
     let e = c.args.value.now in
     let v = expression_course table s e in
     let states = c.find.self.states.items in

@@ -6,7 +6,7 @@ use Rattle.symbols65.proofs.Pursuits.{IsPursuit}
 use Rattle.symbols65.proofs.resolving.known.Known.find.Given as goal
 
 abbrev pub invariant-find : goal.invariant-find
-invariant-find l = IsPursuit (table_of l.symbols) l.self.states.items (expression_course (table_of l.symbols) l.spot l.value) l.waiting.items
+invariant-find l = IsPursuit (table_of l.symbols) l.self.states.items (expression_course (table_of l.symbols) l.context l.value) l.waiting.items
 
 abbrev pub decreases-find : goal.decreases-find
 decreases-find l = 2 * unknown l.self.states.items + length l.waiting.items

@@ -18,7 +18,7 @@ use Rattle.reader65.specs.declared.reader.Reader.{Reader}
 use Rattle.expand65.specs.AtHand.{CallsNone, Follows, Gives, IsGivenAs, Passes, given_behind, given_parts, none, one_more}
 use Rattle.expand65.specs.Expansion.{Next, Reaches, further, given, statement}
 use Rattle.expand65.specs.State.{Meaning, State, Stated, Stepped, label, plain, goes, gives, with_items}
-use Rattle.expand65.specs.Rewriting.{Opens, state_of}
+use Rattle.expand65.specs.Rewriting.{IsOpening, state_of}
 use Rattle.expand65.specs.Standing.{FollowsFrom, fronted, measure_of, place_of, state_in, stated}
 use Rattle.expand65.specs.Step.{IsActed, IsLabelled, IsSplit, IsStep}
 use Rattle.expand65.specs.Failing.{Goes, no_step, one_more as goes_once}

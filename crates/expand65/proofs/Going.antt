@@ -12,7 +12,7 @@ use Rattle.expand65.specs.Includes.{first_file, include_line, included, included
 use Rattle.reader65.specs.Inside.{left_in, left_of, mark_of, outside}
 use Rattle.reader65.specs.Playing.{tokens_in, AreParts, definition_of}
 use Rattle.expand65.specs.State.{Meaning, State, plain, label, Stepped, goes, gives, stops, with_items, ends}
-use Rattle.expand65.specs.Rewriting.{Opens, Turns, state_of, turned}
+use Rattle.expand65.specs.Rewriting.{IsOpening, Turns, state_of, turned}
 use Rattle.expand65.specs.Inner.Seeking.{file_of}
 use Rattle.reader65.specs.Left.{Item, written, played, labelled, branch, mark}
 use Rattle.expand65.specs.Step.{IsActed, IsDirected, IsLabelled, IsSplit, IsStep, IsStepBehind, IsStepFrom}
@@ -53,7 +53,7 @@ where_so x y f = grind (arith, common_steps)
 
 -- ---- A line without a directive.
 
-pub no_call : (m : Files) (r : Rewriter) (ts : List Lexeme) → Opens opening.Other r ts → gives (plain ts) (state_of m r) ≡ ordinary (state_of m r) ts
+pub no_call : (m : Files) (r : Rewriter) (ts : List Lexeme) → IsOpening opening.Other r ts → gives (plain ts) (state_of m r) ≡ ordinary (state_of m r) ts
 no_call m r x h = grind (arith, common_steps)
 
 -- ---- A line that may begin with a label.

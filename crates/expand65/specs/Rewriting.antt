@@ -41,13 +41,13 @@ MacroFound None r t = macro_at (macros_of r) t ≡ None
 MacroFound (Some body) r t = macro_at (macros_of r) t ≡ Some (definition_of body.value)
 
 -- how a line without a directive of expansion begins
-abbrev pub Opens : Opening → Rewriter → List Lexeme → Type 0
-Opens opening.Nothing r [] = Unit {0}
-Opens opening.Nothing r (t ∷ ts) = ⊥
-Opens (opening.Call body) r [] = ⊥
-Opens (opening.Call body) r (t ∷ ts) = macro_at (macros_of r) t ≡ Some (definition_of body.value)
-Opens opening.Other r [] = ⊥
-Opens opening.Other r (t ∷ ts) = macro_at (macros_of r) t ≡ None
+abbrev pub IsOpening : Opening → Rewriter → List Lexeme → Type 0
+IsOpening opening.Nothing r [] = Unit {0}
+IsOpening opening.Nothing r (t ∷ ts) = ⊥
+IsOpening (opening.Call body) r [] = ⊥
+IsOpening (opening.Call body) r (t ∷ ts) = macro_at (macros_of r) t ≡ Some (definition_of body.value)
+IsOpening opening.Other r [] = ⊥
+IsOpening opening.Other r (t ∷ ts) = macro_at (macros_of r) t ≡ None
 
 -- where a turn leads to, the state behind it being that of the inputs' lines
 abbrev pub turned : State → Turn → Stepped

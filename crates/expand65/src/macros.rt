@@ -12,7 +12,7 @@ ghost use Rattle.source65.specs.Faults.{is_failure, is_outside};
 ghost use Rattle.expand65.specs.Failing.{FailsDefining};
 ghost use Rattle.reader65.specs.Stopping.{StopsAt, NamesFiles};
 ghost use Rattle.reader65.specs.Replacing.{number_token};
-ghost use Rattle.expand65.specs.Rewriting.{MacroFound, Opens, Turns, macros_of, size_of, state_of, weight_of};
+ghost use Rattle.expand65.specs.Rewriting.{MacroFound, IsOpening, Turns, macros_of, size_of, state_of, weight_of};
 
 use crate::rewriter::{Rewriter, Turn};
 use base65::{Sequence, Store};
@@ -377,7 +377,7 @@ impl Rewriter {
 
     /// How a line begins.
     fn macro_in(&self, line: &Line) -> Result<Opening, AllocError>
-        ensures { IfOk result (λ o. Opens o self.now (tokens_in line.now)) }
+        ensures { IfOk result (λ o. IsOpening o self.now (tokens_in line.now)) }
     {
         let Some(first) = line.first() else {
             return Ok(Opening::Nothing);

@@ -5,19 +5,19 @@ use Rattle.std.specs.Prelude.{Ok, Err, ◌==◌}
 use Rattle.base65.specs.Store.{Files}
 use Rattle.syntax65.specs.Tokens.{Lexeme, lexemes}
 use Rattle.syntax65.specs.declared.lexing.tokens.Token.{Token}
-use Rattle.expand65.specs.AtHand.{Gives, IsAhead, given_behind, given_parts}
+use Rattle.expand65.specs.Failing.{Gives, IsAhead, given_behind, given_parts}
 use Rattle.expand65.specs.Standing.{measure_of, place_of}
 use Rattle.expand65.specs.declared.expander.Expander.{Expander}
 use Rattle.expand65.specs.State.{label, plain}
 use Rattle.reader65.specs.declared.passing.Peeked.{Peeked}
 use Rattle.source65.specs.declared.place.Place.{Place}
-use Rattle.language65.specs.Sound.{AreNamed}
+use Rattle.language65.specs.Numbering.{AreNamed}
 use Rattle.language65.specs.declared.fault.AsmFault.{AsmFault}
 use Rattle.module65.specs.Machine.{State, Takes}
 use Rattle.module65.specs.Reading.{IsLabel, IsRest}
 use Rattle.asm65.proofs.Runs.{Answer, LabelBy, RestBy, stops_wider, wider}
 use Rattle.asm65.specs.Inner.Running.{IsRoomy, IsRunning, StopsQuietly, TakesAll, TakesBy, TakesLine, TakesLineIf, none, one_more, refused, running_limit}
-use Rattle.asm65.specs.Unread.{Without}
+use Rattle.asm65.specs.Assembly.{Without}
 use Rattle.asm65.specs.declared.assembler.Assembler.{Assembler}
 use Rattle.asm65.specs.declared.running.Run.{Run}
 use Rattle.layout65.specs.Counting.{opening_limit}

@@ -10,8 +10,8 @@ use Rattle.language65.specs.Norms.{defined_form, form_of_definition, form_of_val
 use Rattle.language65.specs.Symbols.{Symbols}
 use Rattle.module65.specs.Machine as machine
 use Rattle.module65.specs.Machine.{before_it, resolved, Finished, State, concluded, filled, finished}
-use Rattle.module65.specs.Pieces as piece
-use Rattle.module65.specs.Pieces.{Made, made_of, used}
+use Rattle.module65.specs.Module as piece
+use Rattle.module65.specs.Module.{Made, made_of, used, Outcome}
 use Rattle.asm65.specs.declared.assembler.Piece.{Piece}
 use Rattle.asm65.specs.declared.assembler.Piece.TheVariants.{Datum, Operand, Constant, Assertion, Import, Demand, Export}
 use Rattle.asm65.specs.declared.assembler.Waiting.{Waiting}
@@ -19,10 +19,10 @@ use Rattle.asm65.specs.Inner.Holding.{IsConstant, IsPiece, IsWaiting, AreAwaited
 use Rattle.asm65.specs.Inner.Resolving.{coming, AreFaulty, AreSettled, IsFaulty, IsSettled, ReceivesAll, SettlesAll}
 use Rattle.std.specs.Prelude.{IfOk, Result, Ok, Err, IfErr, None}
 use Rattle.std.proofs.lemmas.List.{append-nil}
-use Rattle.language65.specs.Parts.{Content}
-use Rattle.module65.specs.Places.{PlacedFault}
+use Rattle.language65.specs.Contents.{Content}
+use Rattle.module65.specs.Reading.{PlacedFault}
 use Rattle.module65.proofs.Resolving.{made_asks, resolved_more, resolved_stops}
-use Rattle.sections65.specs.Standing.{Stands}
+use Rattle.sections65.specs.Fed.{Stands}
 use Rattle.asm65.specs.declared.concluding.Ending.{Ending}
 use Rattle.asm65.specs.declared.texts.AsmRefusal.{AsmRefusal}
 use Rattle.asm65.specs.Assembly.{is_outside_refusal, placed_of, in_places, is_from_outside}
@@ -31,9 +31,7 @@ use Rattle.object65.specs.declared.object.Object.{Object}
 use Rattle.object65.specs.Objects.{is_good_object}
 use Rattle.language65.specs.declared.contents.Segment.{Segment}
 use Rattle.language65.specs.Layout.{Standing}
-use Rattle.language65.specs.Numbering.{object_with}
-use Rattle.language65.specs.Sound.{AreSound}
-use Rattle.module65.specs.Module.{Outcome}
+use Rattle.language65.specs.Numbering.{object_with, AreSound}
 use Rattle.symbols65.specs.Resolving.{IsTable}
 use Rattle.symbols65.specs.Views.{table_of}
 use Rattle.asm65.specs.declared.assembler.Assembler.{Assembler}

@@ -6,9 +6,8 @@ use Rattle.source65.specs.declared.place.Place.{Place}
 use Rattle.language65.specs.declared.fault.AsmFault.{AsmFault}
 use Rattle.language65.specs.Faults.{is_outside}
 use Rattle.language65.specs.declared.language.Statement.TheVariants.{Constant}
-use Rattle.module65.specs.Inner.Continuing.{DefinesOn}
+use Rattle.module65.specs.Reading.{DefinesOn, Answers, AreDefined, Define}
 use Rattle.module65.specs.Machine.{State, Takes, begun}
-use Rattle.module65.specs.Reading.{Answers, AreDefined, Define}
 use Rattle.module65.proofs.Taken.{faulty_constant, first_constant, next_constant}
 use Rattle.asm65.specs.declared.assembler.Assembler.{Assembler}
 use Rattle.asm65.specs.declared.assembling.Define as code

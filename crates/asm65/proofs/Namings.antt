@@ -2,22 +2,21 @@
 use Rattle.std.proofs.Common.{◌≡◌, ◌∙◌, ℕ, ap, zero, suc, ◌+◌, ◌<◌, ◌≤◌, add-one, get_or, List, [], ◌∷◌, ◌++◌, length, map, take, refl, sym, subst, append-nil, arith}
 use Rattle.language65.specs.declared.laid.Context.{Context}
 use Rattle.language65.specs.Layout.{context_of}
-use Rattle.module65.specs.Knowing.{known_at}
+use Rattle.module65.specs.Reading.{known_at}
 use Rattle.module65.specs.Machine.{State, Puts, PutsAll, awaiting, at_once, later, symbols_behind}
 use Rattle.symbols65.specs.Views.{table_of, with_definition, with_names, with_scope}
 use Rattle.layout65.specs.Sounds.{standing_of, AreWithin, IsCounted, IsSoundStanding}
 use Rattle.asm65.specs.declared.assembler.Assembler.{Assembler}
-use Rattle.asm65.specs.Inner.Holding.{Holds, AreBefore, Enters}
-use Rattle.asm65.specs.Inner.Putting.{known_where, KeepsTables}
+use Rattle.asm65.specs.Inner.Holding.{Holds, AreBefore, Enters, known_where, KeepsTables}
 use Rattle.std.specs.Prelude.{string_bytes, slice_get, Some, Bool, OnOk, Result, Ok, Err, true, false, Option}
 use Rattle.std.proofs.lemmas.List.{take_all}
 use Rattle.language65.proofs.Lists.{map_length}
 use Rattle.source65.specs.declared.place.Place.{Place}
-use Rattle.language65.specs.Extending.{Extends}
+use Rattle.language65.specs.Norms.{Extends}
 use Rattle.language65.specs.Layout as layout
 use Rattle.language65.specs.Symbols.{Definition, Scope, Symbols, cheap_in, named, unnamed_at, with_new}
 use Rattle.layout65.specs.declared.standing.Standing.{Standing}
-use Rattle.module65.specs.Pieces as piece
+use Rattle.module65.specs.Module as piece
 use Rattle.symbols65.specs.Resolving.{IsTable}
 use Rattle.symbols65.specs.Tables.{Begins}
 use Rattle.layout65.specs.Counting.{AreInside}
@@ -31,7 +30,7 @@ use Rattle.language65.specs.declared.language.Statement.{Statement}
 use Rattle.language65.specs.declared.language.Statement.TheVariants.{CheapLabel, Constant, ForceImport, Global, Import, Label, OpenProc, OpenScope, UnnamedLabel}
 use Rattle.layout65.specs.declared.measuring.Measured.{Measured}
 use Rattle.layout65.proofs.Measures.{ok_then}
-use Rattle.module65.specs.Pieces.{demanded, equated, exported, imported, pieces_of, valued}
+use Rattle.module65.specs.Module.{demanded, equated, exported, imported, pieces_of, valued}
 
 -- ---- What a name or an expression means at a context.
 

@@ -13,19 +13,17 @@ use Rattle.object65.specs.Objects.{is_good_object}
 use Rattle.source65.specs.declared.place.Place.{Place}
 use Rattle.expand65.specs.Standing.{Opens, measure_of, place_of}
 use Rattle.language65.specs.declared.fault.AsmFault.TheVariants.{Expansion, OutOfMemory, FileError as PartError}
-use Rattle.language65.specs.Parts.{Content}
+use Rattle.language65.specs.Contents.{Content}
 use Rattle.language65.specs.declared.contents.Segment.{Segment}
 use Rattle.language65.specs.declared.fault.AsmFault.{AsmFault}
 use Rattle.language65.specs.Faults.{is_failure, is_memory, is_outside}
 use Rattle.language65.specs.Layout.{Layout, Standing, nothing_laid}
-use Rattle.language65.specs.Numbering.{object_with}
-use Rattle.language65.specs.Sound.{AreSound}
+use Rattle.language65.specs.Numbering.{object_with, AreSound}
 use Rattle.language65.specs.Symbols.{Symbols, symbols_of}
 use Rattle.module65.specs.Laws.{AreFoundAlike, StandsFor}
 use Rattle.module65.specs.Machine.{Runs, State, Takes, begun, concluded, finished, running}
 use Rattle.module65.specs.Module.{IsOutcome, Outcome, contents_from}
-use Rattle.module65.specs.Places.{PlacedFault}
-use Rattle.module65.specs.Reading.{AreDefined, Job, no_line, stopped}
+use Rattle.module65.specs.Reading.{PlacedFault, AreDefined, Job, no_line, stopped}
 use Rattle.module65.proofs.Taken.{constants_refused, open_refused}
 use Rattle.module65.proofs.Entries.{object_alike}
 use Rattle.module65.proofs.Passes.{Follows, begun_follows, one_pass, stands_for, takes_follows}

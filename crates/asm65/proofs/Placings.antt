@@ -6,8 +6,7 @@ use Rattle.language65.specs.declared.fault.AsmFault.{AsmFault}
 use Rattle.language65.specs.Faults.{is_failure, is_memory, is_outside}
 use Rattle.language65.specs.declared.laid.Context.{Context}
 use Rattle.language65.specs.declared.language.Statement.{Statement}
-use Rattle.language65.specs.Layout.{Standing, context_of, standing_behind}
-use Rattle.language65.specs.LineFaults.{line_fault}
+use Rattle.language65.specs.Layout.{Standing, context_of, standing_behind, line_fault}
 use Rattle.language65.specs.Symbols.{Symbols}
 use Rattle.layout65.specs.Measuring.{advanced, measured}
 use Rattle.layout65.specs.declared.measuring.Measured.{Measured}

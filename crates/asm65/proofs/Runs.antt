@@ -15,18 +15,16 @@ use Rattle.source65.specs.declared.place.Place.{Place}
 use Rattle.language65.specs.declared.fault.AsmFault.{AsmFault}
 use Rattle.language65.specs.declared.fault.AsmFault.TheVariants.{FileError, FileNotFound}
 use Rattle.language65.specs.Faults.{is_failure, is_outside}
-use Rattle.language65.specs.Laid.{Laid, asks_section}
+use Rattle.language65.specs.Symbols.{Laid, asks_section}
 use Rattle.language65.specs.declared.laid.Context.{Context}
 use Rattle.language65.specs.declared.language.Statement.{Statement}
 use Rattle.language65.specs.declared.language.Statement.TheVariants as statement
-use Rattle.language65.specs.Layout.{laid}
-use Rattle.language65.specs.LineFaults.{line_fault}
-use Rattle.language65.specs.Sound.{AreNamed, IsSound}
+use Rattle.language65.specs.Layout.{laid, line_fault}
+use Rattle.language65.specs.Numbering.{AreNamed, IsSound}
 use Rattle.statements65.specs.Parsing.{IsStatement, label_of}
 use Rattle.statements65.proofs.Sounding.{statement_sound}
 use Rattle.module65.specs.Machine.{Puts, at_once, later, PutsAll, State, Steps, Takes, UnlessFault, asked, entered, known}
-use Rattle.module65.specs.Module.{out_of, warning_of}
-use Rattle.module65.specs.Pieces.{Piece, pieces_of}
+use Rattle.module65.specs.Module.{out_of, warning_of, Piece, pieces_of}
 use Rattle.module65.specs.Reading.{Answers, IsGiven, IsLabel, IsLabelled, IsRest, with_bytes}
 use Rattle.language65.specs.Contents.{asking}
 use Rattle.module65.proofs.Taken.{label_quiet}
@@ -36,9 +34,8 @@ use Rattle.asm65.specs.declared.texts.Texts.{Texts}
 use Rattle.layout65.proofs.Measures.{unless_then}
 use Rattle.layout65.specs.Counting.{opened_by, opening_limit}
 use Rattle.asm65.specs.Inner.Holding.{Holds}
-use Rattle.asm65.specs.Inner.Files.{IsRefusedUnread, read_bytes}
-use Rattle.asm65.specs.Unread.{Without}
-use Rattle.asm65.specs.Inner.Running.{behind, IsRoomy, IsSoundIf, Leaves, SaysAs, StopsQuietly, TakesBy, Told, tokens_of}
+use Rattle.asm65.specs.Inner.Running.{IsRefusedUnread, read_bytes, behind, IsRoomy, IsSoundIf, Leaves, SaysAs, StopsQuietly, TakesBy, Told, tokens_of}
+use Rattle.asm65.specs.Assembly.{Without}
 use Rattle.asm65.proofs.WholeFiles.{read_sound, takes_whole}
 
 abbrev pub Answer : Type 0

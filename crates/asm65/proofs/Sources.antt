@@ -12,21 +12,17 @@ use Rattle.expand65.specs.Expansion.{Reaches, statement, nothing, fault, opened_
 use Rattle.source65.specs.Faults as expansion
 use Rattle.expand65.specs.Standing.{Answered, FollowsFrom, Opens, StandsFor, measure_of, place_of, state_in, stated}
 use Rattle.expand65.specs.State as expand
-use Rattle.expand65.specs.AtHand.{Gives, Passes, none as no_more, one_more as gives_more}
-use Rattle.expand65.specs.Failing.{Goes as Walks, IsOnItsWay, StopsOnItsWay, no_step}
+use Rattle.expand65.specs.Failing.{Gives, Passes, none as no_more, one_more as gives_more, Goes as Walks, IsOnItsWay, StopsOnItsWay, no_step}
 use Rattle.expand65.proofs.AtHand.{reaches_behind}
 use Rattle.expand65.proofs.Stopping.{goes_over}
 use Rattle.expand65.specs.declared.expander.Expander.{Expander}
 use Rattle.language65.specs.declared.fault.AsmFault.{AsmFault}
 use Rattle.language65.specs.declared.fault.AsmFault.TheVariants.{BadScope, Expansion}
 use Rattle.language65.specs.Faults.{is_failure, is_outside}
-use Rattle.language65.specs.LineFaults.{is_open}
-use Rattle.language65.specs.Layout.{Standing}
-use Rattle.language65.specs.Sound.{AreNamed}
-use Rattle.module65.specs.Inner.Continuing.{GoesOn}
-use Rattle.module65.specs.Knowing.{known_at}
+use Rattle.language65.specs.Layout.{is_open, Standing}
+use Rattle.language65.specs.Numbering.{AreNamed}
+use Rattle.module65.specs.Reading.{GoesOn, known_at, AreDefined, IsGiven, IsSource, Job, no_line, open_fault, stopped}
 use Rattle.module65.specs.Machine.{Runs, State, Takes, begun, running}
-use Rattle.module65.specs.Reading.{AreDefined, IsGiven, IsSource, Job, no_line, open_fault, stopped}
 use Rattle.module65.proofs.Taken.{same_outside, same_place, begins, ends, goes_on, is_refused, stops}
 use Rattle.module65.proofs.NamedSteps as named
 use Rattle.module65.proofs.NamedSteps.{IsStateFit, next_fit}
@@ -36,7 +32,7 @@ use Rattle.asm65.specs.declared.assembler.Assembler.{Assembler}
 use Rattle.asm65.specs.declared.running.Run.{Run}
 use Rattle.layout65.specs.Counting.{opening_limit}
 use Rattle.asm65.specs.Failing.{IsTakenTo, at_first, further, IsWhere, StopsAll, StopsBehind}
-use Rattle.asm65.specs.Unread.{IsUnread, Without}
+use Rattle.asm65.specs.Assembly.{IsUnread, Without}
 use Rattle.asm65.specs.Inner.Holding.{Holds}
 use Rattle.asm65.specs.Inner.Running.{HoldsWithin, IsHeldBy, IsReachedBy, IsRoomy, IsRunning, Ran, SaysAs, StopsQuietly, TakesAll, TakesBy, TakesLine, TakesOne, none, one_more, refused, running_limit, tokens_of}
 use Rattle.asm65.proofs.Runs.{Answer, GivenBy}

@@ -5,19 +5,19 @@ use Rattle.std.specs.Prelude.{string_bytes, false, slice_get, Some}
 use Rattle.std.specs.List.{AllByRecursion}
 use Rattle.std.specs.Str.{bytes_eq}
 use Rattle.syntax65.specs.Trees.{Tree}
-use Rattle.language65.specs.Parts.{Content}
-use Rattle.language65.specs.Extending.{Extends}
+use Rattle.language65.specs.Contents.{Content}
+use Rattle.language65.specs.Norms.{Extends}
 use Rattle.source65.specs.declared.place.Place.{Place}
 use Rattle.language65.specs.declared.laid.Context.{Context}
 use Rattle.language65.specs.Symbols.{Symbols}
 use Rattle.language65.proofs.Lists.{same_bytes}
 use Rattle.module65.specs.Machine as machine
 use Rattle.module65.specs.Machine.{State, awaited, awaited_in, awaiting, entered, filled, holds, later}
-use Rattle.module65.specs.Pieces as piece
+use Rattle.module65.specs.Module as piece
 use Rattle.module65.proofs.Resolving.{extends_same, awaited_append, filled_later}
 use Rattle.module65.proofs.Entries.{filled_append}
 use Rattle.sections65.specs.declared.sections.Sections.{Sections}
-use Rattle.sections65.specs.Standing.{Awaits, Feeds, Stands}
+use Rattle.sections65.specs.Fed.{Awaits, Feeds, Stands}
 use Rattle.symbols65.specs.declared.resolving.known.Known.{Known}
 use Rattle.symbols65.specs.Resolving.{IsTable}
 use Rattle.symbols65.specs.Tables.{Begins}
@@ -28,8 +28,7 @@ use Rattle.layout65.specs.declared.standing.Standing.{Standing}
 use Rattle.asm65.specs.declared.assembler.Piece.{Piece}
 use Rattle.asm65.specs.declared.assembler.Piece.TheVariants.{Datum, Operand, Constant, Assertion, Import, Demand, Export}
 use Rattle.asm65.specs.declared.assembler.Waiting.{Waiting}
-use Rattle.asm65.specs.Inner.Holding.{AreAwaited, AreWaiting, Enters, Holds, IsConstant, IsPiece, IsWaiting}
-use Rattle.asm65.specs.Inner.Putting.{KeepsTables, Waits}
+use Rattle.asm65.specs.Inner.Holding.{AreAwaited, AreWaiting, Enters, Holds, IsConstant, IsPiece, IsWaiting, KeepsTables, Waits}
 use Rattle.layout65.specs.Sounds.{AreWithin, IsCounted, IsSoundStanding, standing_of}
 use Rattle.layout65.proofs.Segments.{all_before}
 

@@ -1,16 +1,35 @@
--- What assembling a source gives.
-use Rattle.std.specs.Prelude.{◌≡◌, Bool, false, [], map, Result, Ok, Err, unwrap_or}
+-- From a source to its object: what is assembled, and files that could not be read.
+use Rattle.std.specs.Prelude.{◌≡◌, ℕ, List, Option, None, Result, Err, Bool, false, [], map, Ok, unwrap_or}
+use Rattle.base65.specs.Store.{Files, IsBlamed}
+use Rattle.expand65.specs.Expansion.{file_named}
+use Rattle.expand65.specs.State as expand
+use Rattle.source65.specs.declared.place.Place.{Place}
+use Rattle.language65.specs.declared.fault.AsmFault.{AsmFault}
+use Rattle.language65.specs.declared.fault.AsmFault.TheVariants.{FileNotFound}
+use Rattle.module65.specs.Machine.{State, Takes}
+use Rattle.module65.specs.Reading.{IsGiven, PlacedFault, Define, Job}
 use Rattle.base65.specs.Outcome.{Finds}
-use Rattle.base65.specs.Store.{Files}
 use Rattle.object65.specs.declared.object.Object.{Object}
 use Rattle.language65.specs.Faults.{is_failure, is_memory, is_outside}
 use Rattle.module65.specs.Module.{IsOutcome, Outcome}
-use Rattle.module65.specs.Places.{PlacedFault}
-use Rattle.module65.specs.Reading.{Define, Job}
 use Rattle.asm65.specs.declared.assembling.AsmJob.{AsmJob}
 use Rattle.asm65.specs.declared.assembling.Assembly.{Assembly}
 use Rattle.asm65.specs.declared.assembling.Define as code
 use Rattle.asm65.specs.declared.texts.AsmRefusal.{AsmRefusal}
+
+-- ---- A statement whose file can't be read.
+
+-- so it is answered for any files among which the one that was asked for last isn't there
+abbrev pub Without : Option (List ℕ) → (Files → State → Result State AsmFault → Type 0) → State → Result State AsmFault → Type 0
+Without blamed IsAnswer t r =
+    (name : List ℕ) × IsBlamed blamed name × ((m : Files) → file_named m name ≡ None → IsAnswer m t r)
+
+-- Were the file not there that was asked for last, that would be the fault of a statement that expansion gives: so it is
+-- this statement's file, and nothing is wrong with it for which it is refused before its file is looked at.
+abbrev pub IsUnread : Option (List ℕ) → State → Place → expand.Stated → Type 0
+IsUnread blamed t place x = Without blamed (λ m t. IsGiven m Takes t place x) t (Err FileNotFound)
+
+-- ---- What assembling a source gives.
 
 abbrev pub define_of : code.Define → Define
 define_of d = (d.name.now, d.value)

@@ -10,13 +10,10 @@ use Rattle.source65.specs.declared.place.Place.{Place}
 use Rattle.language65.specs.declared.fault.AsmFault.{AsmFault}
 use Rattle.language65.specs.declared.fault.AsmFault.TheVariants.{Expansion, FileError}
 use Rattle.language65.specs.Faults.{is_failure}
-use Rattle.module65.specs.Knowing.{known_at}
+use Rattle.module65.specs.Reading.{known_at, PlacedFault, AreDefined, IsGiven, Job, no_line}
 use Rattle.module65.specs.Machine.{State, Takes, begun}
-use Rattle.module65.specs.Places.{PlacedFault}
-use Rattle.module65.specs.Reading.{AreDefined, IsGiven, Job, no_line}
-use Rattle.asm65.specs.Assembly.{has_failed, placed_of}
+use Rattle.asm65.specs.Assembly.{has_failed, placed_of, IsUnread}
 use Rattle.asm65.specs.Inner.Running.{IsHeldBy}
-use Rattle.asm65.specs.Unread.{IsUnread}
 use Rattle.asm65.specs.declared.assembling.Assembly.{Assembly}
 use Rattle.asm65.specs.declared.running.Run.{Run}
 

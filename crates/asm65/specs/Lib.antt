@@ -1,4 +1,3 @@
 pub mod Assembly
-pub mod Inner
 pub mod Failing
-pub mod Unread
+pub mod Inner

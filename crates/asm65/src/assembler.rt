@@ -1,10 +1,9 @@
 //! What the assembler holds between two statements, and what waits.
 
 ghost use Rattle.symbols65.specs.Views.{table_of};
-ghost use Rattle.asm65.specs.Inner.Putting.{known_where};
+ghost use Rattle.asm65.specs.Inner.Holding.{known_where, Holds};
 ghost use Rattle.std.specs.Prelude.{IfOk};
 ghost use Rattle.module65.specs.Machine.{begun};
-ghost use Rattle.asm65.specs.Inner.Holding.{Holds};
 
 use crate::texts::Texts;
 use base65::{Seed, Sequence};

@@ -2,14 +2,13 @@
 
 ghost use Rattle.std.specs.Prelude.{◌≡◌, ◌++◌, [], List, ℕ, IfOk, IfErr, None, Ok, OnOk, Some, map, slice_get, string_bytes, true, false};
 ghost use Rattle.object65.specs.Objects.{is_good_object, ObjectFits};
-ghost use Rattle.language65.specs.Parts.{Content};
+ghost use Rattle.language65.specs.Contents.{Content};
 ghost use Rattle.language65.specs.Faults.{is_outside};
-ghost use Rattle.language65.specs.Numbering.{object_with};
-ghost use Rattle.language65.specs.Sound.{AreSound};
+ghost use Rattle.language65.specs.Numbering.{object_with, AreSound};
 ghost use Rattle.module65.specs.Machine as machine;
 ghost use Rattle.module65.specs.Machine.{State, concluded, finished};
 ghost use Rattle.module65.specs.Module.{Outcome};
-ghost use Rattle.sections65.specs.Standing.{Receives, Stands};
+ghost use Rattle.sections65.specs.Fed.{Receives, Stands};
 ghost use Rattle.symbols65.specs.Resolving.{IsTable};
 ghost use Rattle.symbols65.specs.Views.{table_of};
 ghost use Rattle.asm65.specs.Assembly.{Concludes, has_failed, in_places, is_from_outside, is_outside_refusal};

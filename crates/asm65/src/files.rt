@@ -3,17 +3,17 @@
 ghost use Rattle.std.specs.Prelude.{◌≡◌, ℕ, IfErr, IfOk, IfSome, OnOk, false, take, true};
 ghost use Rattle.std.specs.Option.{option_map};
 ghost use Rattle.base65.specs.Store.{Files, IsBlamed, PassesBy};
-ghost use Rattle.expand65.specs.Includes.{beside, file_named};
+ghost use Rattle.expand65.specs.Expansion.{beside, file_named};
 ghost use Rattle.source65.specs.declared.place.Place.{Place};
 ghost use Rattle.language65.specs.declared.fault.AsmFault.TheVariants.{FileError};
 ghost use Rattle.language65.specs.Faults.{is_failure, is_outside, is_memory};
 ghost use Rattle.language65.specs.Views.{place_at};
 ghost use Rattle.module65.specs.Machine.{State};
-ghost use Rattle.asm65.specs.Inner.Files.{IsRefusedUnread, read_bytes};
+ghost use Rattle.asm65.specs.Inner.Running.{IsRefusedUnread, read_bytes};
 ghost use Rattle.asm65.specs.Inner.Holding.{Holds};
 ghost use Rattle.asm65.specs.Inner.Taking.{IsHeld};
 ghost use Rattle.base65.specs.Outcome.{Gives};
-ghost use Rattle.language65.specs.LineFaults.{unless_fault};
+ghost use Rattle.language65.specs.Layout.{unless_fault};
 ghost use Rattle.layout65.specs.Measuring.{unread_fault};
 
 use crate::assembler::Assembler;

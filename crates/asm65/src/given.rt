@@ -3,17 +3,17 @@
 ghost use Rattle.std.specs.Prelude.{◌≡◌, false, Err, IfErr};
 ghost use Rattle.base65.specs.Store.{PassesBy};
 ghost use Rattle.syntax65.specs.Tokens.{lexemes};
-ghost use Rattle.expand65.specs.AtHand.{given_behind, given_parts};
+ghost use Rattle.expand65.specs.Failing.{given_behind, given_parts};
 ghost use Rattle.expand65.specs.Standing.{stated};
 ghost use Rattle.language65.specs.declared.fault.AsmFault.TheVariants.{NotUnderstood};
 ghost use Rattle.language65.specs.Faults.{is_failure};
-ghost use Rattle.language65.specs.Sound.{AreNamed, IsSound};
+ghost use Rattle.language65.specs.Numbering.{AreNamed, IsSound};
 ghost use Rattle.language65.specs.Views.{place_at};
 ghost use Rattle.module65.specs.Machine.{Takes};
 ghost use Rattle.module65.specs.Reading.{IsGiven, IsLabel, IsLabelled, IsRest};
 ghost use Rattle.reader65.specs.Playing.{tokens_in};
 ghost use Rattle.asm65.specs.Inner.Running.{IsRoomy, IsSoundIf, StopsQuietly, TakesAll, TakesBy, Told, tokens_of};
-ghost use Rattle.asm65.specs.Unread.{Without};
+ghost use Rattle.asm65.specs.Assembly.{Without};
 
 use crate::assembler::Assembler;
 use crate::files::read_part;

@@ -7,13 +7,12 @@ ghost use Rattle.expand65.specs.Failing.{StopsOnItsWay};
 ghost use Rattle.expand65.specs.Standing.{FollowsFrom, Opens, measure_of, place_of, stated};
 ghost use Rattle.language65.specs.declared.fault.AsmFault.TheVariants.{BadScope};
 ghost use Rattle.language65.specs.Faults.{is_failure};
-ghost use Rattle.language65.specs.LineFaults.{is_open};
-ghost use Rattle.language65.specs.Sound.{AreNamed};
-ghost use Rattle.module65.specs.Knowing.{known_at};
+ghost use Rattle.language65.specs.Layout.{is_open};
+ghost use Rattle.language65.specs.Numbering.{AreNamed};
+ghost use Rattle.module65.specs.Reading.{known_at, AreDefined, IsGiven, Job, no_line};
 ghost use Rattle.module65.specs.Machine.{State, Takes, begun};
-ghost use Rattle.module65.specs.Reading.{AreDefined, IsGiven, Job, no_line};
 ghost use Rattle.asm65.specs.Failing.{StopsAll};
-ghost use Rattle.asm65.specs.Unread.{Without};
+ghost use Rattle.asm65.specs.Assembly.{Without};
 ghost use Rattle.asm65.specs.Inner.Running.{IsHeldBy, IsReachedBy, IsRoomy, IsRunning, Ran, StopsQuietly, TakesBy, TakesLineIf, Told, tokens_of};
 
 use crate::assembler::{Assembler, Knowledge};

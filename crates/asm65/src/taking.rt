@@ -3,19 +3,18 @@
 ghost use Rattle.std.specs.Prelude.{◌≡◌, true, Err, ◌+◌, ◌<◌, ℕ, IfErr, IfOk, OnOk, false};
 ghost use Rattle.std.specs.List.{list_all};
 ghost use Rattle.object65.specs.Objects.{is_name, is_printed};
-ghost use Rattle.language65.specs.Sound.{IsSound};
+ghost use Rattle.language65.specs.Numbering.{IsSound};
 ghost use Rattle.source65.specs.declared.place.Place.{Place};
 ghost use Rattle.language65.specs.declared.language.Statement.TheVariants.{Instruction};
 ghost use Rattle.language65.specs.Faults.{is_failure, is_outside};
 ghost use Rattle.language65.specs.Views.{place_at};
 ghost use Rattle.layout65.specs.Counting.{opened_by, opening_limit};
 ghost use Rattle.module65.specs.Machine.{State, Takes, symbols_behind};
-ghost use Rattle.module65.specs.Pieces.{instruction_pieces, pieces_of};
+ghost use Rattle.module65.specs.Module.{instruction_pieces, pieces_of};
 ghost use Rattle.module65.specs.Reading.{Answers};
 ghost use Rattle.symbols65.specs.Resolving.{IsTable};
 ghost use Rattle.symbols65.specs.Views.{table_of};
-ghost use Rattle.asm65.specs.Inner.Holding.{Enters, Holds};
-ghost use Rattle.asm65.specs.Inner.Putting.{KeepsTables};
+ghost use Rattle.asm65.specs.Inner.Holding.{Enters, Holds, KeepsTables};
 ghost use Rattle.asm65.specs.Inner.Taking.{Asks, IsHeld, IsNew, IsPlaced, IsRefused, Turns, laid_as, stepped};
 
 use crate::assembler::Assembler;

@@ -6,22 +6,18 @@ use Rattle.std.proofs.Math.Seq.{drop-append_seam, take-append_seam}
 use Rattle.base65.specs.Store.{Files}
 use Rattle.syntax65.specs.Tokens.{Lexeme}
 use Rattle.reader65.specs.Fronts.{front_directive, is_mislabelled, label_len, line_directive}
-use Rattle.reader65.specs.Inside.{left_of}
+use Rattle.reader65.specs.Inside.{left_of, NamesFiles}
 use Rattle.reader65.specs.Left.{labelled}
 use Rattle.reader65.specs.Playing.{tokens_in}
-use Rattle.reader65.specs.Stopping.{NamesFiles}
-use Rattle.reader65.specs.Taking.{Takes}
+use Rattle.reader65.specs.Lines.{Takes}
 use Rattle.reader65.specs.declared.directives.Directive.{Directive}
 use Rattle.reader65.specs.declared.line.Line.{Line}
 use Rattle.reader65.specs.declared.line.Word.{Word}
 use Rattle.reader65.specs.declared.reader.Reader.{Reader}
-use Rattle.expand65.specs.AtHand.{CallsNone, Follows, Gives, IsGivenAs, Passes, given_behind, given_parts, none, one_more}
-use Rattle.expand65.specs.Expansion.{Next, Reaches, further, given, statement}
+use Rattle.expand65.specs.Failing.{CallsNone, Follows, Gives, IsGivenAs, Passes, given_behind, given_parts, none, one_more, Goes, no_step, one_more as goes_once}
+use Rattle.expand65.specs.Expansion.{Next, Reaches, further, given, statement, IsActed, IsLabelled, IsSplit, IsStep}
 use Rattle.expand65.specs.State.{Meaning, State, Stated, Stepped, label, plain, goes, gives, with_items}
-use Rattle.expand65.specs.Rewriting.{IsOpening, state_of}
-use Rattle.expand65.specs.Standing.{FollowsFrom, fronted, measure_of, place_of, state_in, stated}
-use Rattle.expand65.specs.Step.{IsActed, IsLabelled, IsSplit, IsStep}
-use Rattle.expand65.specs.Failing.{Goes, no_step, one_more as goes_once}
+use Rattle.expand65.specs.Standing.{IsOpening, state_of, FollowsFrom, fronted, measure_of, place_of, state_in, stated}
 use Rattle.expand65.specs.declared.expander.Expander.{Expander}
 use Rattle.expand65.specs.declared.expander.Front.{Front}
 use Rattle.expand65.specs.declared.expander.Front.TheVariants.{Nothing, Rest}

@@ -12,8 +12,7 @@ use Rattle.syntax65.specs.declared.expressions.words.ExprFault.TheVariants.{OutO
 use Rattle.syntax65.specs.declared.lexing.tokens.Token.{Token}
 use Rattle.source65.specs.Faults.{fault_of_parsing, is_outside}
 use Rattle.reader65.specs.Fronts.{understood, ◌>=>◌}
-use Rattle.expand65.specs.Inner.Parts.{is_comma_at, name_at}
-use Rattle.expand65.specs.Macros.{repeat_header, variable_of, IsRepeated, repeat_mark, IsKept, entered, kept, macro_of}
+use Rattle.expand65.specs.Macros.{is_comma_at, name_at, repeat_header, variable_of, IsRepeated, repeat_mark, IsKept, entered, kept, macro_of}
 use Rattle.source65.specs.declared.fault.ExpandFault.{ExpandFault}
 use Rattle.source65.specs.declared.fault.ExpandFault.TheVariants.{NotUnderstood, MacroTwice, Nested}
 use Rattle.std.specs.Map.{lookup}
@@ -25,13 +24,11 @@ use Rattle.indexmap.specs.IndexMap.{IndexMap, insert_entry}
 use Rattle.indexmap.proofs.CallerLemmas.{insert_entry-new}
 use Rattle.base65.specs.Store.{Files}
 use Rattle.reader65.specs.Blocks.{Block, collects, gathers}
-use Rattle.reader65.specs.Taking.{pushed}
+use Rattle.reader65.specs.Lines.{pushed, nesting_limit}
 use Rattle.reader65.specs.Inside.{left_of, turns_left}
 use Rattle.reader65.specs.Playing.{tokens_in, definition_of, replacing_of}
-use Rattle.reader65.specs.Lines.{nesting_limit}
-use Rattle.reader65.specs.Replacing.{repeating, Definition}
-use Rattle.reader65.specs.Left.{turns, Item, played, Mark, mark, Left, left, Stop, marks}
-use Rattle.expand65.specs.Rewriting.{macros_of, state_of}
+use Rattle.reader65.specs.Left.{repeating, Definition, turns, Item, played, Mark, mark, Left, left, Stop, marks}
+use Rattle.expand65.specs.Standing.{macros_of, state_of}
 use Rattle.expand65.specs.State.{State, Stepped, goes, stops, with_left}
 use Rattle.source65.specs.declared.place.Place.{Place}
 use Rattle.reader65.specs.declared.playing.Body.{Body}

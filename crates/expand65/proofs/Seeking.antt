@@ -13,9 +13,9 @@ use Rattle.base65.specs.Outcome.{Unless}
 use Rattle.base65.specs.Store.{Files, IsBlamed, ReadsAt}
 use Rattle.source65.specs.Faults.{is_outside}
 use Rattle.expand65.specs.Failing.{IsAmong}
-use Rattle.expand65.specs.Includes.{file_named, first_file, folder_of, found_or, is_slash}
+use Rattle.expand65.specs.Expansion.{file_named, first_file, folder_of, found_or, is_slash}
 use Rattle.reader65.specs.Lines.{bytes_of}
-use Rattle.expand65.specs.Inner.Seeking.{file_of, is_there}
+use Rattle.expand65.specs.Macros.{file_of, is_there}
 use Rattle.source65.specs.declared.fault.ExpandFault.{ExpandFault}
 use Rattle.source65.specs.declared.fault.ExpandFault.TheVariants.{FileTooLong}
 

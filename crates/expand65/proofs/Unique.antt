@@ -7,15 +7,12 @@ use Rattle.syntax65.specs.Tokens.{Lexeme}
 use Rattle.syntax65.specs.Trees.{Tree}
 use Rattle.syntax65.specs.declared.expressions.words.ExprFault.{ExprFault}
 use Rattle.reader65.specs.Blocks.{Verdict, on, closed, refused, Block, a_fault, a_mark, a_refusal, the_last, one_more, collects, gathers, skips, passes}
-use Rattle.expand65.specs.Conditions.{IsCondition, IsDecided, IsIf, IsElse, defined_in, found, passed, truth, whole}
-use Rattle.expand65.specs.Expansion.{Next, statement, nothing, fault, Reaches, further, given, ended, stopped}
+use Rattle.expand65.specs.State.{IsCondition, IsDecided, IsIf, IsElse, defined_in, found, passed, truth, whole, Meaning, State, Stepped, goes, gives, ends, stops, with_left, with_items}
+use Rattle.expand65.specs.Expansion.{Next, statement, nothing, fault, Reaches, further, given, ended, stopped, IsElseLine, IsDirected, IsActed, IsSplit, IsLabelled, IsStepBehind, IsStepFrom, IsStep, last_condition}
 use Rattle.reader65.specs.Fronts.{front_directive, is_mislabelled, label_len, line_directive}
 use Rattle.expand65.specs.Macros.{IsKept, IsDefined, header_of, kept, macro_of, IsRepeat, IsRepeated, repeat_of, repeated}
-use Rattle.expand65.specs.State.{Meaning, State, Stepped, goes, gives, ends, stops, with_left, with_items}
-use Rattle.reader65.specs.Left.{Item, written, played, labelled, branch, mark, Left, left, Stop, moved}
-use Rattle.reader65.specs.Replacing.{Definition}
-use Rattle.expand65.specs.Step.{IsElseLine, IsDirected, IsActed, IsSplit, IsLabelled, IsStepBehind, IsStepFrom, IsStep, last_condition}
-use Rattle.reader65.specs.Taking.{IsOpened, Taken, Takes, TakesFrom, taken_as, lexed}
+use Rattle.reader65.specs.Left.{Item, written, played, labelled, branch, mark, Left, left, Stop, moved, Definition}
+use Rattle.reader65.specs.Lines.{IsOpened, Taken, Takes, TakesFrom, taken_as, lexed}
 use Rattle.reader65.specs.declared.directives.Directive.{Directive}
 use Rattle.reader65.specs.declared.directives.Directive.TheVariants as directive
 use Rattle.reader65.specs.declared.directives.Test.{Test}

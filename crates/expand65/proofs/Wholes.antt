@@ -11,7 +11,7 @@ use Rattle.syntax65.specs.Trees.{Tree}
 use Rattle.syntax65.specs.declared.expressions.words.ExprFault.{ExprFault}
 use Rattle.syntax65.specs.declared.expressions.words.ExprFault.TheVariants.{OutOfMemory, OperandExpected, ParenthesisExpected, TooDeep}
 use Rattle.syntax65.specs.declared.lexing.tokens.Token.{Token}
-use Rattle.expand65.specs.Conditions.{whole}
+use Rattle.expand65.specs.State.{whole}
 use Rattle.source65.specs.Faults.{fault_of_parsing, is_outside}
 use Rattle.reader65.specs.Fronts.{unknown}
 use Rattle.source65.specs.declared.fault.ExpandFault.{ExpandFault}

@@ -1,12 +1,12 @@
--- A step of expansion in which the store fails, and where that was.
-use Rattle.std.specs.Prelude.{◌≡◌, ℕ, true, List, Option, Some, None, Result, IfErr, ◌⊎◌, Bool, false, [], ◌∷◌, drop, Ok}
+-- What stands after a fault, and statements at hand.
+use Rattle.std.specs.Prelude.{◌≡◌, ℕ, true, List, Option, Some, None, Result, IfErr, ◌⊎◌, Bool, false, [], ◌∷◌, drop, Ok, ◌<◌, ◌≤◌}
 use Rattle.base65.specs.Store.{Files, IsBlamed}
-use Rattle.expand65.specs.State.{Meaning, State, goes, with_items, with_left}
-use Rattle.expand65.specs.Standing.{StandsFor, place_of}
-use Rattle.expand65.specs.Step.{IsStep, last_condition}
+use Rattle.expand65.specs.State.{Meaning, State, goes, with_items, with_left, Stated, label, plain, IsCondition}
+use Rattle.expand65.specs.Standing.{StandsFor, place_of, FollowsFrom, measure_of, state_in, stated, macros_of}
+use Rattle.expand65.specs.Expansion.{IsStep, last_condition, tried}
 use Rattle.expand65.specs.declared.expander.Expander.{Expander}
-use Rattle.reader65.specs.Left.{Mark, innermost, Item, Left, branch, labelled}
-use Rattle.reader65.specs.Stopping.{last_read, FailsAtLine, FailsInBlock}
+use Rattle.reader65.specs.Left.{Mark, innermost, Item, Left, branch, labelled, Definition}
+use Rattle.reader65.specs.Inside.{last_read, FailsAtLine, FailsInBlock, NamesFiles}
 use Rattle.source65.specs.Faults.{is_failure}
 use Rattle.source65.specs.declared.fault.ExpandFault.{ExpandFault}
 use Rattle.source65.specs.declared.place.Place.{Place}
@@ -16,15 +16,17 @@ use Rattle.syntax65.specs.Trees.{Tree}
 use Rattle.syntax65.specs.declared.expressions.words.ExprFault.{ExprFault}
 use Rattle.reader65.specs.Blocks.{collects, gathers, passes, skips}
 use Rattle.reader65.specs.Fronts.{front_directive, label_len, string_of}
-use Rattle.reader65.specs.Replacing.{Definition}
-use Rattle.reader65.specs.Taking.{Takes}
+use Rattle.reader65.specs.Lines.{Takes}
 use Rattle.reader65.specs.declared.directives.Directive.{Directive}
 use Rattle.reader65.specs.declared.directives.Directive.TheVariants.{Macro, Repeat, If, ElseIf, Else, Include}
 use Rattle.reader65.specs.declared.directives.Test.{Test}
 use Rattle.reader65.specs.declared.directives.Test.TheVariants.{True}
-use Rattle.expand65.specs.Conditions.{IsCondition}
-use Rattle.expand65.specs.Includes.{tried}
-use Rattle.expand65.specs.Macros.{header_of, macro_of, repeat_of}
+use Rattle.expand65.specs.Macros.{header_of, macro_of, repeat_of, macro_at}
+use Rattle.reader65.specs.Playing.{IsNext}
+use Rattle.reader65.specs.declared.passing.Peeked.{Peeked}
+use Rattle.expand65.specs.declared.expander.Front.TheVariants.{Nothing}
+use Rattle.expand65.specs.declared.expander.Statement.{Statement}
+use Rattle.expand65.specs.declared.rewriter.Rewriter.{Rewriter}
 
 -- ---- A step of expansion in which the store fails, and its place.
 
@@ -146,3 +148,45 @@ pub record Reading (m : Files) (blamed : Option (List ℕ)) (k : Meaning) (s : S
 
 abbrev pub StopsReading : {A : Type 0} → Files → Option (List ℕ) → Meaning → State → Result A ExpandFault → Mark → Place → Type 0
 StopsReading m blamed k s result mark place = IfErr result (λ e. is_failure e ≡ true → Reading m blamed k s mark place)
+
+-- ---- Lines of files that are given as they stand.
+
+-- what stands next is this line at hand of these tokens, and it may be taken
+abbrev pub IsAhead : Expander → Peeked → List Lexeme → Type 0
+IsAhead e p ts = (e.failed ≡ false) × (e.front ≡ Nothing) × IsNext e.rewriter.reader p ts
+
+-- tokens call no macro
+abbrev pub CallsNone : Rewriter → List Lexeme → Type 0
+CallsNone r [] = Unit {0}
+CallsNone r (t ∷ ts) = macro_at (macros_of r) t ≡ None
+
+-- a line with a label of so many tokens, behind which nothing is rewritten
+abbrev pub IsGivenAs : ℕ → Rewriter → List Lexeme → Type 0
+IsGivenAs n r ts = (label_len ts ≡ n) × (front_directive (drop n ts) ≡ None) × CallsNone r (drop n ts)
+
+-- what stands behind a label, if anything does
+abbrev pub given_behind : List Lexeme → List Stated
+given_behind [] = []
+given_behind (t ∷ ts) = plain (t ∷ ts) ∷ []
+
+-- the statements of a line: the label, if there is one, and what stands behind it
+abbrev pub given_parts : List Lexeme → List Lexeme → List Stated
+given_parts [] rest = given_behind rest
+given_parts (t ∷ ts) rest = label (t ∷ ts) ∷ given_behind rest
+
+-- steps lead on, none of which gives a statement
+pub record Passes (old new : Expander) : Type 0 where
+  pub goes : (m : Files) (k : Meaning) → Goes m k (state_in m old) (state_in m new)
+  pub failed : new.failed ≡ old.failed
+  pub named : NamesFiles old.rewriter.reader → NamesFiles new.rewriter.reader
+  pub size : measure_of new ≤ measure_of old
+
+-- a statement comes next, whatever names and expressions mean
+pub record Follows (old : Expander) (x : Statement) (new : Expander) : Type 0 where
+  pub next : (m : Files) (k : Meaning) → FollowsFrom m k old (Ok (Some x)) new
+  pub less : measure_of new < measure_of old
+
+-- these statements come one behind the other, all at one place
+pub data Gives : Expander → List Stated → Expander → Type 0 where
+  none : (old new : Expander) → Passes old new → Gives old [] new
+  one_more : (old mid new : Expander) (x : Statement) (xs : List Stated) → Follows old x mid → place_of mid ≡ place_of new → Gives mid xs new → Gives old (stated x ∷ xs) new

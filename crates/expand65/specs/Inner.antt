@@ -1,3 +1,1 @@
 -- What only the contracts within the crate cite: definitions in the terms of its code.
-pub mod Parts
-pub mod Seeking

@@ -1,12 +1,6 @@
-pub mod AtHand
-pub mod Conditions
 pub mod Expansion
 pub mod Failing
-pub mod Includes
 pub mod Inner
-pub mod Laws
 pub mod Macros
-pub mod Rewriting
 pub mod Standing
 pub mod State
-pub mod Step

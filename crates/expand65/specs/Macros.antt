@@ -1,5 +1,5 @@
--- Macros: their definitions, their calls with arguments, their own names, and leaving them; repeats.
-use Rattle.std.specs.Prelude.{ℕ, ◌+◌, ◌-◌, ◌==◌, ◌&&◌, Bool, false, List, [], ◌∷◌, length, take, drop, map, if◌then◌else◌, ◌≡◌, nat_le, true, ◌++◌, Option, Some, None, Result, Ok, Err, ℤ, pos, negsuc}
+-- Macros: their bodies, calls and parts of calls.
+use Rattle.std.specs.Prelude.{ℕ, ◌+◌, ◌-◌, ◌==◌, ◌&&◌, Bool, false, List, [], ◌∷◌, length, take, drop, map, if◌then◌else◌, ◌≡◌, nat_le, true, ◌++◌, Option, Some, None, Result, Ok, Err, ℤ, pos, negsuc, slice_get}
 use Rattle.syntax65.specs.Tokens.{Lexeme}
 use Rattle.reader65.specs.Fronts.{is_comma, opens_brace, closes_brace, name_in, names_of, ◌>=>◌, understood, unknown}
 use Rattle.std.specs.List.{list_any}
@@ -7,17 +7,18 @@ use Rattle.std.specs.Map.{lookup}
 use Rattle.std.specs.Str.{bytes_eq}
 use Rattle.syntax65.specs.declared.lexing.tokens.TokenKind.TheVariants as token
 use Rattle.reader65.specs.Blocks.{Block, collects, gathers}
-use Rattle.reader65.specs.Lines.{nesting_limit}
-use Rattle.reader65.specs.Replacing.{Definition, Replacing, number_token, repeating}
-use Rattle.reader65.specs.Left.{Item, played, mark, Mark, Left, left, Stop, innermost, localised, marks, outside_macro, turns}
+use Rattle.reader65.specs.Lines.{nesting_limit, file_limit, bytes_of}
+use Rattle.reader65.specs.Left.{Definition, Replacing, number_token, repeating, Item, played, mark, Mark, Left, left, Stop, innermost, localised, marks, outside_macro, turns}
 use Rattle.expand65.specs.State.{State, plain, Stepped, goes, gives, stops, with_left, with_items, Meaning}
-use Rattle.source65.specs.declared.fault.ExpandFault.TheVariants.{Nested, TooManyArguments, MacroTwice, NotOpened, NotUnderstood, NotConstant, CountOutOfRange}
+use Rattle.source65.specs.declared.fault.ExpandFault.TheVariants.{Nested, TooManyArguments, MacroTwice, NotOpened, NotUnderstood, NotConstant, CountOutOfRange, FileTooLong}
 use Rattle.source65.specs.declared.place.Place.{Place}
 use Rattle.syntax65.specs.Expressions.{IsParsed}
-use Rattle.base65.specs.Outcome.{◌>>=◌}
+use Rattle.base65.specs.Outcome.{◌>>=◌, Unless}
 use Rattle.syntax65.specs.Trees.{Tree}
 use Rattle.syntax65.specs.declared.expressions.words.ExprFault.{ExprFault}
 use Rattle.source65.specs.declared.fault.ExpandFault.{ExpandFault}
+use Rattle.base65.specs.Store.{Files}
+use Rattle.source65.specs.Faults.{is_outside}
 
 -- ---- The arguments of a macro's call.
 
@@ -225,3 +226,39 @@ IsRepeated s (Ok (n, variable)) r = (q : Result (List (List Lexeme) × Left) Sto
 -- `.repeat` and what stands behind it
 abbrev pub IsRepeat : Meaning → State → List Lexeme → Stepped → Type 0
 IsRepeat k s ts r = (q : Result (Tree × ℕ) ExprFault) × IsParsed ts q × IsRepeated s (repeat_of k ts q) r
+
+-- ---- What stands at a place of a list of tokens, and how far the first argument goes.
+
+-- the name at a place
+abbrev pub name_at : List Lexeme → ℕ → Option (List ℕ)
+name_at ts at = slice_get ts at >=> name_in
+
+abbrev pub is_comma_in : Option Lexeme → Bool
+is_comma_in None = false
+is_comma_in (Some t) = is_comma t
+
+-- whether a comma stands at a place
+abbrev pub is_comma_at : List Lexeme → ℕ → Bool
+is_comma_at ts at = is_comma_in (slice_get ts at)
+
+-- how many tokens stand before the first comma that isn't within braces, so many braces being open
+abbrev pub part_len : ℕ → List Lexeme → ℕ
+part_len d [] = 0
+part_len d (t ∷ ts) = if is_comma t && (d == 0) then 0 else 1 + part_len (braces_behind d t) ts
+
+-- ---- Names under which files are looked for, one after another.
+
+-- whether a file is there; too many bytes are refused
+abbrev pub is_there : Option (List ℕ) → Result Bool ExpandFault
+is_there None = Ok false
+is_there (Some bytes) = if nat_le (length bytes) file_limit then Ok true else Err FileTooLong
+
+-- a file that was found, by its name
+abbrev pub file_of : Files → List ℕ → List ℕ × List ℕ
+file_of m name = (name, bytes_of m name)
+
+-- what was found under one name, and otherwise the others
+abbrev pub Tries : Files → Result (Option (List ℕ)) ExpandFault → Result (List ℕ × List ℕ) ExpandFault → Result (List ℕ × List ℕ) ExpandFault → Type 0
+Tries m (Ok None) others r = r ≡ others
+Tries m (Ok (Some name)) others r = r ≡ Ok (file_of m name)
+Tries m (Err f) others r = Unless (is_outside f) (r ≡ Err f)

@@ -1,9 +1,17 @@
--- What an expansion means, and its state.
-use Rattle.std.specs.Prelude.{ℕ, ℤ, Bool, List, Option}
-use Rattle.syntax65.specs.Trees.{Tree}
+-- The state of expansion, and the conditions that are open in it.
+use Rattle.std.specs.Prelude.{ℕ, ℤ, Bool, List, Option, ◌≡◌, pos, negsuc, zero, suc, ◌+◌, nat_lt, ◌==◌, true, false, not, [], ◌∷◌, length, Some, None, Result, Ok, Err, if◌then◌else◌}
+use Rattle.syntax65.specs.Trees.{Tree, name}
 use Rattle.syntax65.specs.Tokens.{Lexeme}
-use Rattle.reader65.specs.Left.{Item, Left, left, Stop}
-use Rattle.reader65.specs.Replacing.{Definition}
+use Rattle.reader65.specs.Left.{Item, Left, left, Stop, Definition, branch, Mark}
+use Rattle.syntax65.specs.Expressions.{IsParsed}
+use Rattle.base65.specs.Outcome.{◌>>=◌}
+use Rattle.syntax65.specs.declared.expressions.words.ExprFault.{ExprFault}
+use Rattle.reader65.specs.Blocks.{Block, Branch, at_elseif, at_else, at_endif, skips, passes}
+use Rattle.reader65.specs.Fronts.{opens_parenthesis, unknown}
+use Rattle.reader65.specs.declared.directives.Test.{Test}
+use Rattle.reader65.specs.declared.directives.Test.TheVariants.{True, Defined, NotDefined, Blank, NotBlank}
+use Rattle.source65.specs.declared.fault.ExpandFault.{ExpandFault}
+use Rattle.source65.specs.declared.fault.ExpandFault.TheVariants.{NotConstant, NotOpened}
 
 -- ---- What expressions and names mean at a line.
 
@@ -48,3 +56,82 @@ pub data Stepped : Type 0 where
   gives : Stated → State → Stepped
   ends : State → Stepped
   stops : Stop → Stepped
+
+-- ---- What a condition asks for.
+
+-- an expression of all the tokens
+abbrev pub whole : ℕ → Result (Tree × ℕ) ExprFault → Result Tree ExpandFault
+whole count (Ok (e, n)) = if n == count then Ok e else unknown
+whole count (Err fault) = unknown
+
+abbrev pub is_zero : ℤ → Bool
+is_zero (pos zero) = true
+is_zero (pos (suc n)) = false
+is_zero (negsuc n) = false
+
+-- a value's truth
+abbrev pub truth : Option ℤ → Result Bool ExpandFault
+truth None = Err NotConstant
+truth (Some v) = Ok (not (is_zero v))
+
+-- whether a tree that is a name is defined
+abbrev pub defined_tree : Meaning → Tree → Result Bool ExpandFault
+defined_tree k (name is_global parts) = Ok (k.defined is_global parts)
+defined_tree k _ = unknown
+
+-- a name isn't put in parentheses
+abbrev pub begins_enclosed : List Lexeme → Bool
+begins_enclosed [] = false
+begins_enclosed (t ∷ ts) = opens_parenthesis t
+
+abbrev pub defined_in : Meaning → List Lexeme → Result (Tree × ℕ) ExprFault → Result Bool ExpandFault
+defined_in k ts q = if begins_enclosed ts then unknown else whole (length ts) q >>= defined_tree k
+
+-- what a condition of these tokens comes to
+abbrev pub IsCondition : Meaning → Test → List Lexeme → Result Bool ExpandFault → Type 0
+IsCondition k True ts r = (q : Result (Tree × ℕ) ExprFault) × IsParsed ts q × (r ≡ (whole (length ts) q >>= (λ e. truth (k.value e))))
+IsCondition k Defined ts r = (q : Result (Tree × ℕ) ExprFault) × IsParsed ts q × (r ≡ defined_in k ts q)
+IsCondition k NotDefined ts r = (q : Result (Tree × ℕ) ExprFault) × IsParsed ts q × (r ≡ (defined_in k ts q >>= (λ b. Ok (not b))))
+IsCondition k Blank ts r = r ≡ Ok (length ts == 0)
+IsCondition k NotBlank ts r = r ≡ Ok (not (length ts == 0))
+
+-- ---- An `.if` of any kind, and an `.elseif` that follows a false condition.
+
+-- what a false condition goes on with
+abbrev pub found : State → Result (Branch × Left) Stop → Stepped
+found s (Err e) = stops e
+found s (Ok (at_endif, l)) = goes (with_left s l)
+found s (Ok (at_else, l)) = goes (with_conditions s (true ∷ s.conditions) l)
+found s (Ok (at_elseif ts, l)) = goes (with_left s (left (branch ts ∷ l.items) l.room l.place))
+
+abbrev pub IsDecided : State → Result Bool ExpandFault → Stepped → Type 0
+IsDecided s (Err f) r = r ≡ stops (f, s.left.place)
+IsDecided s (Ok true) r = r ≡ goes (with_conditions s (false ∷ s.conditions) s.left)
+IsDecided s (Ok false) r = (q : Result (Branch × Left) Stop) × Block skips 0 s.left q × (r ≡ found s q)
+
+abbrev pub IsIf : Meaning → State → Test → List Lexeme → Stepped → Type 0
+IsIf k s test ts r = (c : Result Bool ExpandFault) × IsCondition k test ts c × IsDecided s c r
+
+-- ---- Any other `.elseif`, `.else` and `.endif`.
+
+abbrev pub conditions_in : Option Mark → ℕ
+conditions_in None = 0
+conditions_in (Some k) = k.conditions
+
+-- the last open condition and those outside it, where more are open than at the innermost end mark
+abbrev pub popped : List Bool → ℕ → Option (Bool × List Bool)
+popped [] n = None
+popped (b ∷ bs) n = if nat_lt n (length bs + 1) then Some (b, bs) else None
+
+abbrev pub ended_if : State → Option (Bool × List Bool) → Stepped
+ended_if s None = stops (NotOpened, s.left.place)
+ended_if s (Some (b, bs)) = goes (with_conditions s bs s.left)
+
+abbrev pub passed : State → List Bool → Result (Unit {0} × Left) Stop → Stepped
+passed s bs (Err e) = stops e
+passed s bs (Ok (u, l)) = goes (with_conditions s bs l)
+
+abbrev pub IsElse : State → Option (Bool × List Bool) → Stepped → Type 0
+IsElse s None r = r ≡ stops (NotOpened, s.left.place)
+IsElse s (Some (true, bs)) r = r ≡ stops (NotOpened, s.left.place)
+IsElse s (Some (false, bs)) r = (q : Result (Unit {0} × Left) Stop) × Block passes 0 s.left q × (r ≡ passed s bs q)

@@ -2,9 +2,9 @@
 
 ghost use Rattle.std.specs.Prelude.{◌≡◌, ◌≤◌, IfSome, is_some, length};
 ghost use Rattle.syntax65.specs.Tokens.{lexeme_of, lexemes};
-ghost use Rattle.expand65.specs.AtHand.{IsGivenAs};
+ghost use Rattle.expand65.specs.Failing.{IsGivenAs};
 ghost use Rattle.expand65.specs.Macros.{macro_at};
-ghost use Rattle.expand65.specs.Rewriting.{macros_of};
+ghost use Rattle.expand65.specs.Standing.{macros_of};
 
 use crate::rewriter::Rewriter;
 use reader65::{front_directive, label_len};

@@ -6,10 +6,10 @@ ghost use Rattle.base65.specs.Relations.{Answers};
 ghost use Rattle.syntax65.specs.Tokens.{lexemes};
 ghost use Rattle.syntax65.specs.Trees.{Tree};
 ghost use Rattle.syntax65.specs.declared.expressions.words.ExprFault.{ExprFault};
-ghost use Rattle.expand65.specs.Conditions.{IsCondition, begins_enclosed, defined_tree, popped, truth, whole};
+ghost use Rattle.expand65.specs.State.{IsCondition, begins_enclosed, defined_tree, popped, truth, whole};
 ghost use Rattle.source65.specs.Faults.{is_failure, is_outside};
 ghost use Rattle.expand65.specs.Macros.{outermost};
-ghost use Rattle.expand65.specs.Rewriting.{PopsTo};
+ghost use Rattle.expand65.specs.Standing.{PopsTo};
 
 use crate::knows::Knows;
 use reader65::{Test, opens_parenthesis};

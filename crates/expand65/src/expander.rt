@@ -4,18 +4,14 @@ ghost use Rattle.std.specs.Prelude.{◌≡◌, ◌<◌, ◌≤◌, ◌+◌, ◌*
 ghost use Rattle.base65.specs.Store.{Asks, Files, IsBlamed, Passes};
 ghost use Rattle.syntax65.specs.Held.{HoldsNothing, held};
 ghost use Rattle.syntax65.specs.Tokens.{Lexeme, lexemes};
-ghost use Rattle.expand65.specs.AtHand.{Gives, IsAhead, IsGivenAs, given_parts};
-ghost use Rattle.expand65.specs.Standing.{Comes, FollowsFrom, Opens, StandsFor, is_end, led, measure_of, place_of, state_in};
+ghost use Rattle.expand65.specs.Failing.{Gives, IsAhead, IsGivenAs, given_parts, StopsOnItsWay, StopsReading};
+ghost use Rattle.expand65.specs.Standing.{Comes, FollowsFrom, Opens, StandsFor, is_end, led, measure_of, place_of, state_in, Turns, size_of, state_of, turned, weight_of};
 ghost use Rattle.source65.specs.Faults.{is_outside};
-ghost use Rattle.expand65.specs.Failing.{StopsOnItsWay, StopsReading};
-ghost use Rattle.expand65.specs.Expansion.{first_left, opened_in};
+ghost use Rattle.expand65.specs.Expansion.{first_left, opened_in, IsStep};
 ghost use Rattle.expand65.specs.State.{State};
-ghost use Rattle.reader65.specs.Stopping.{NamesFiles};
-ghost use Rattle.reader65.specs.Inside.{left_of, mark_of};
+ghost use Rattle.reader65.specs.Inside.{NamesFiles, left_of, mark_of};
 ghost use Rattle.reader65.specs.Left.{moved};
 ghost use Rattle.reader65.specs.Lines.{bytes_of};
-ghost use Rattle.expand65.specs.Rewriting.{Turns, size_of, state_of, turned, weight_of};
-ghost use Rattle.expand65.specs.Step.{IsStep};
 
 use crate::conditions::Conditions;
 use crate::includes::is_there;

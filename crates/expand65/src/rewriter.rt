@@ -3,29 +3,23 @@
 ghost use Rattle.std.specs.Prelude.{◌≡◌, ◌≤◌, ◌<◌, ◌+◌, [], true, false, length, IfErr, IfOk, IfSome, Ok, OnOk};
 ghost use Rattle.base65.specs.Store.{Files, Passes};
 ghost use Rattle.syntax65.specs.Tokens.{lexemes};
-ghost use Rattle.expand65.specs.Conditions.{IsDecided, IsElse, IsIf, ended_if};
+ghost use Rattle.expand65.specs.State.{IsDecided, IsElse, IsIf, ended_if, Meaning};
 ghost use Rattle.expand65.specs.Failing.{FailsActing, FailsAlone, FailsAtElse, FailsAtIf, FailsBy, FailsDeciding, FailsIncluding, FailsTaking, FailsUnlabelled};
 ghost use Rattle.source65.specs.Faults.{is_failure};
-ghost use Rattle.reader65.specs.Stopping.{StopsAt, NamesFiles};
+ghost use Rattle.reader65.specs.Inside.{StopsAt, NamesFiles, left_in, left_of};
 ghost use Rattle.reader65.specs.Fronts.{front_directive, is_mislabelled, string_of};
-ghost use Rattle.expand65.specs.Includes.{include_line, included};
-ghost use Rattle.reader65.specs.Inside.{left_in, left_of};
+ghost use Rattle.expand65.specs.Expansion.{include_line, included, IsActed, IsDirected, IsLabelled, IsStep, at_mark, error_by, last_condition};
 ghost use Rattle.reader65.specs.Playing.{tokens_in};
-ghost use Rattle.expand65.specs.State.{Meaning};
 ghost use Rattle.reader65.specs.Lines.{bytes_of};
-ghost use Rattle.expand65.specs.Rewriting.{Turns, size_of, stands_alone, state_of, weight_of};
-ghost use Rattle.expand65.specs.Inner.Seeking.{file_of};
-ghost use Rattle.expand65.specs.Step.{IsActed, IsDirected, IsLabelled, IsStep, at_mark, error_by, last_condition};
+ghost use Rattle.expand65.specs.Standing.{Turns, size_of, stands_alone, state_of, weight_of};
+ghost use Rattle.expand65.specs.Macros.{file_of};
 
 use crate::conditions::{Conditions, condition};
 use crate::includes::find_file;
 use crate::knows::Knows;
 use base65::{Seed, Sequence, Store, Text};
 use indexmap::IndexMap;
-use reader65::{
-    BlockEnd, BlockKind, Body, Directive, Input, Line, OpenFile, Reader, Source, Test,
-    behind_first, string_of,
-};
+use reader65::{BlockEnd, BlockKind, Body, Directive, Input, Line, OpenFile, Reader, Source, Test, behind_first, string_of};
 use source65::{ExpandFault, Place};
 use std::alloc::Global;
 use std::rc::Rc;

@@ -1,20 +1,19 @@
--- What a module's statements put into its object: the parts of sections, exports, assertions; and their first fault.
-use Rattle.std.specs.Prelude.{ℕ, zero, ◌+◌, pos, true, false, List, [], ◌∷◌, map, replicate, take, drop, Option, Some, None, Result, Ok, Err, if◌then◌else◌}
+-- What statements put into an object.
+use Rattle.std.specs.Prelude.{ℕ, Bool, List, zero, ◌+◌, pos, true, false, [], ◌∷◌, map, replicate, take, drop, Option, Some, None, Result, Ok, Err, if◌then◌else◌}
+use Rattle.source65.specs.declared.place.Place.{Place}
+use Rattle.object65.specs.Form.{Form, lit, sec}
+use Rattle.object65.specs.declared.object.Action.{Action}
+use Rattle.object65.specs.declared.object.Width.{Width}
 use Rattle.std.specs.List.{flat_map}
 use Rattle.base65.specs.Outcome.{◌>>=◌, each}
 use Rattle.syntax65.specs.Opcodes.{opcode_of}
 use Rattle.syntax65.specs.Trees.{Tree}
 use Rattle.syntax65.specs.declared.instructions.names.Mnemonic.{Mnemonic}
 use Rattle.object65.specs.Folding.{fold2}
-use Rattle.object65.specs.Form.{Form, lit, sec}
 use Rattle.object65.specs.Objects.{fits_width, is_file_name, value_bytes}
-use Rattle.object65.specs.declared.object.Action.{Action}
 use Rattle.object65.specs.declared.object.Action.TheVariants as action
-use Rattle.object65.specs.declared.object.Width.{Width}
 use Rattle.object65.specs.declared.object.Width.TheVariants.{Branch}
 use Rattle.base65.specs.declared.values.Op2.TheVariants.{Subtract}
-use Rattle.source65.specs.declared.place.Place.{Place}
-use Rattle.language65.specs.Parts.{Content, Part, Known, Filled, Waiting, Said, Exported, Demanded, Checked}
 use Rattle.language65.specs.declared.fault.AsmFault.{AsmFault}
 use Rattle.language65.specs.declared.fault.AsmFault.TheVariants.{OutOfRange, ImportedAndDefined, NotDefined, Assertion, FileNameTooLong}
 use Rattle.language65.specs.declared.language.Item.{Item}
@@ -23,13 +22,43 @@ use Rattle.language65.specs.declared.language.Statement.{Statement}
 use Rattle.language65.specs.declared.language.Statement.TheVariants.{Constant, Instruction, Values, Reserve, Align, FilePart, Import, Export, Global, ForceImport, Assert}
 use Rattle.language65.specs.declared.language.Operand.TheVariants.{Immediate, Address, Indirect, IndirectX, IndirectY}
 use Rattle.language65.specs.declared.language.Item.TheVariants.{Value, Text}
-use Rattle.language65.specs.Laid.{Laid, asks_section}
+use Rattle.language65.specs.Symbols.{Laid, asks_section, Symbols, named, defined}
 use Rattle.language65.specs.declared.laid.Settled.{Settled}
 use Rattle.language65.specs.declared.laid.Settled.TheVariants.{InMode, FilledWith, FromByte}
 use Rattle.language65.specs.declared.laid.Context.{Context}
-use Rattle.language65.specs.Symbols.{Symbols, named, defined}
-use Rattle.language65.specs.Norms.{defined_form, folded, norm_of}
-use Rattle.language65.specs.Sizes.{width_of}
+use Rattle.language65.specs.Norms.{defined_form, folded, norm_of, width_of}
+
+-- ---- What a module's statements put into its object: parts of sections, and what is said to other modules and to the linker.
+
+-- a part of a section
+pub data Part : Type 0 where
+  -- bytes that are known
+  Known : List ℕ → Part
+  -- so many bytes of the linker's fill value
+  Filled : ℕ → Part
+  -- a value that the linker computes, and where its statement stands
+  Waiting : Width → Place → Form → Part
+
+-- what a statement says
+pub data Said : Type 0 where
+  -- a name that the module defines for others, and where that is said
+  Exported : List ℕ → Place → Form → Said
+  -- an import that is asked for though no form may hold it
+  Demanded : List ℕ → Said
+  -- what the linker has to check, and the text that is printed otherwise
+  Checked : Action → Place → List ℕ → Form → Said
+
+-- a statement as the object has it
+pub record Content : Type 0 where
+  -- the segment in which it stands, by its place among the segments
+  pub segment : ℕ
+  -- it asks for a section of the segment
+  pub asks : Bool
+  -- what it puts into the section
+  pub parts : List Part
+  pub said : List Said
+
+-- ---- What a module's statements put into its object: the parts of sections, exports, assertions; and their first fault.
 
 -- what is written with its place, where an object can hold the name of the file
 abbrev pub written : {A : Type 0} → Place → A → Result A AsmFault

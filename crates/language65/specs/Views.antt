@@ -6,7 +6,7 @@ use Rattle.language65.specs.declared.contents.Part.TheVariants as part
 use Rattle.language65.specs.declared.contents.Said.{Said}
 use Rattle.language65.specs.declared.contents.Said.TheVariants as said
 use Rattle.language65.specs.declared.laid.At.{At}
-use Rattle.language65.specs.Parts as parts
+use Rattle.language65.specs.Contents as parts
 
 abbrev pub place_in : List ℕ → ℕ → Place
 place_in file line = record { file = file; line = line }

@@ -5,13 +5,10 @@ use Rattle.std.specs.Prelude.{Ok, Err, slice_get, if◌then◌else◌}
 use Rattle.std.proofs.lemmas.List.{length-append}
 use Rattle.language65.specs.declared.contents.Segment.{Segment}
 use Rattle.language65.specs.declared.fault.AsmFault.{AsmFault}
-use Rattle.language65.specs.Laid.{is_unnamed, opens_region}
+use Rattle.language65.specs.Symbols.{is_unnamed, opens_region, enclosing, within, Scope, Symbols, scope_opened}
 use Rattle.language65.specs.declared.language.Statement.{Statement}
 use Rattle.language65.specs.declared.language.Statement.TheVariants as statement
-use Rattle.language65.specs.Layout.{Standing, opens_scope, scope_behind, segments_behind, standing_behind}
-use Rattle.language65.specs.LineFaults.{line_fault}
-use Rattle.language65.specs.Names.{enclosing, within}
-use Rattle.language65.specs.Symbols.{Scope, Symbols, scope_opened}
+use Rattle.language65.specs.Layout.{Standing, opens_scope, scope_behind, segments_behind, standing_behind, line_fault}
 use Rattle.layout65.specs.declared.standing.Standing as code
 use Rattle.layout65.specs.Measuring.{advanced, measure_of, measured}
 use Rattle.layout65.specs.Counting.{AreInside, HasNumbers, opened_by, opening_limit}

@@ -6,8 +6,7 @@ use Rattle.base65.specs.Outcome.{Unless, ◌>>=◌, Gives}
 use Rattle.std.proofs.lemmas.List.{drop_all}
 use Rattle.std.proofs.lemmas.List.Sums.{sum_by-cons}
 use Rattle.object65.specs.declared.object.Width.{Width}
-use Rattle.language65.specs.Sizes.{counted, fill_settled, gap, item_len, optional_value}
-use Rattle.language65.specs.Norms.{constant_in}
+use Rattle.language65.specs.Norms.{counted, fill_settled, gap, item_len, optional_value, constant_in}
 use Rattle.syntax65.specs.Trees.{Tree}
 use Rattle.language65.specs.declared.fault.AsmFault.{AsmFault}
 use Rattle.language65.specs.Faults.{is_memory}
@@ -24,8 +23,7 @@ use Rattle.language65.proofs.Lists.{drop_item}
 use Rattle.syntax65.specs.declared.lexing.tokens.AddressSize.TheVariants.{Absolute}
 use Rattle.syntax65.specs.declared.lexing.tokens.AddressSize.{AddressSize}
 use Rattle.language65.specs.declared.contents.Segment.{Segment}
-use Rattle.language65.specs.Layout.{Standing, own_size, segment_at, context_of}
-use Rattle.language65.specs.LineFaults.{first_fault, defined_twice, is_open, line_fault, opened_twice, scope_name, stands_outside, trees_of, is_byte_value, is_count, is_there, multiple_fault, item_trees, lost_scopes, or_then, when, unless_fault}
+use Rattle.language65.specs.Layout.{Standing, own_size, segment_at, context_of, first_fault, defined_twice, is_open, line_fault, opened_twice, scope_name, stands_outside, trees_of, is_byte_value, is_count, is_there, multiple_fault, item_trees, lost_scopes, or_then, when, unless_fault}
 use Rattle.layout65.specs.declared.measuring.Measured as code
 use Rattle.layout65.specs.declared.measuring.Measured.{Measured}
 use Rattle.layout65.specs.Measuring.{fitted, measure_of, measured, naming_fault, placed, placing_faults}

@@ -9,9 +9,8 @@ use Rattle.language65.specs.declared.fault.AsmFault.TheVariants.{BadOperand}
 use Rattle.language65.specs.Faults.{is_memory}
 use Rattle.language65.specs.declared.laid.Context.{Context}
 use Rattle.language65.specs.declared.language.Statement.TheVariants.{FilePart}
-use Rattle.language65.specs.Layout.{Standing, context_of}
-use Rattle.language65.specs.LineFaults.{is_there, lost_scopes, operand_fault, optional_tree, when, unless_fault}
-use Rattle.language65.specs.Sizes.{optional_value}
+use Rattle.language65.specs.Layout.{Standing, context_of, is_there, lost_scopes, operand_fault, optional_tree, when, unless_fault}
+use Rattle.language65.specs.Norms.{optional_value}
 use Rattle.language65.specs.Symbols.{Symbols}
 use Rattle.layout65.specs.Measuring.{IsFound, or_default, placed, ranged, unread_fault}
 use Rattle.layout65.proofs.Measures.{left_behind, unless_then}

@@ -3,8 +3,7 @@ use Rattle.std.specs.Prelude.{ℕ, ◌<◌, ◌≤◌, List, length}
 use Rattle.std.specs.List.{AllByRecursion}
 use Rattle.language65.specs.declared.language.Statement.{Statement}
 use Rattle.language65.specs.declared.language.Statement.TheVariants.{Label, OpenProc, OpenScope, Segment, UnnamedLabel}
-use Rattle.language65.specs.Names.{enclosing}
-use Rattle.language65.specs.Symbols.{Scope, Symbols}
+use Rattle.language65.specs.Symbols.{enclosing, Scope, Symbols}
 use Rattle.layout65.specs.declared.standing.Standing.{Standing}
 
 -- whether a statement opens something that is counted: a scope, a region, a segment, an unnamed label

@@ -1,9 +1,8 @@
 -- What is found of a statement at its line, and what stands behind it.
 use Rattle.std.specs.Prelude.{ℕ, ◌+◌, if◌then◌else◌, ◌≡◌, ℤ, pos, negsuc, ◌&&◌, nat_le, nat_lt, not, Bool, true, false, List, [], ◌∷◌, ◌++◌, Option, Some, None, Result, Ok, Err}
-use Rattle.language65.specs.Laid.{opens_region, is_unnamed}
+use Rattle.language65.specs.Symbols.{opens_region, is_unnamed, Symbols, Scope, key_defined, scope_from, scopes_of, shown}
 use Rattle.language65.specs.declared.language.Statement.{Statement}
-use Rattle.language65.specs.Layout.{Standing, current_behind, kept_behind, opens_scope, scope_behind, segments_behind, multiple_of, own_size, size_stated, context_of}
-use Rattle.language65.specs.Symbols.{Symbols, Scope, key_defined}
+use Rattle.language65.specs.Layout.{Standing, current_behind, kept_behind, opens_scope, scope_behind, segments_behind, multiple_of, own_size, size_stated, context_of, alignment_fault, block_fault, defined_twice, file_limit, first_fault, form_fault, is_open, is_part, left_from, line_fault, lost_scopes, missing_file, opened_twice, operand_fault, optional_tree, or_then, part_fault, pop_fault, scope_name, size_fault, stands_outside, trees_of, unless_there, when, unless_fault}
 use Rattle.base65.specs.Outcome.{Unless}
 use Rattle.syntax65.specs.Trees.{Tree}
 use Rattle.object65.specs.Objects.{section_limit}
@@ -13,9 +12,7 @@ use Rattle.language65.specs.Faults.{is_memory}
 use Rattle.language65.specs.declared.laid.Settled.{Settled}
 use Rattle.language65.specs.declared.laid.Context.{Context}
 use Rattle.language65.specs.declared.language.Statement.TheVariants.{Align, Constant, FilePart, Instruction, Reserve, Values}
-use Rattle.language65.specs.LineFaults.{alignment_fault, block_fault, defined_twice, file_limit, first_fault, form_fault, is_open, is_part, left_from, line_fault, lost_scopes, missing_file, opened_twice, operand_fault, optional_tree, or_then, part_fault, pop_fault, scope_name, size_fault, stands_outside, trees_of, unless_there, when, unless_fault}
-use Rattle.language65.specs.Names.{scope_from, scopes_of, shown}
-use Rattle.language65.specs.Sizes.{counted, length_of, settled_of}
+use Rattle.language65.specs.Norms.{counted, length_of, settled_of}
 use Rattle.layout65.specs.declared.measuring.Measured.{Measured}
 
 -- ---- What stands behind a statement, by what it places.

@@ -2,10 +2,9 @@
 
 ghost use Rattle.std.specs.Prelude.{◌≡◌, ℕ, ◌+◌, ◌<◌, ◌≤◌, length, OnOk, IfOk, None, ◌++◌, ◌∷◌, [], if◌then◌else◌};
 ghost use Rattle.object65.specs.Objects.{section_limit};
-ghost use Rattle.language65.specs.Laid.{is_unnamed, opens_region};
+ghost use Rattle.language65.specs.Symbols.{is_unnamed, opens_region, Symbols as Table};
 ghost use Rattle.language65.specs.Layout.{closes_scope, current_behind, first_size, grown_at, kept_behind, last_kept, named_segments, new_segment, opens_scope, or_last, place_of, rest_kept, scope_behind, segment_at, segments_behind, context_of, start};
 ghost use Rattle.syntax65.specs.declared.instructions.names.Mnemonic.{Mnemonic};
-ghost use Rattle.language65.specs.Symbols.{Symbols as Table};
 ghost use Rattle.language65.specs.declared.language.Operand.{Operand};
 ghost use Rattle.language65.specs.declared.language.Statement.TheVariants.{Instruction};
 ghost use Rattle.symbols65.specs.Views.{table_of};

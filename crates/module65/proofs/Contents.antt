@@ -13,27 +13,23 @@ use Rattle.syntax65.specs.declared.instructions.names.Mnemonic.{Mnemonic}
 use Rattle.object65.specs.Form.{Form}
 use Rattle.object65.specs.declared.object.Width.{Width}
 use Rattle.object65.specs.declared.object.Action.{Action}
-use Rattle.language65.specs.Parts.{Content, Part, Said, Demanded}
+use Rattle.language65.specs.Contents.{Content, Part, Said, Demanded, content_of, decided, each_of, export_said, import_fault, instruction_parts, item_part, opcode_part, operand_form, operand_part, operand_parts, operand_tree, stored, telling}
 use Rattle.language65.specs.declared.fault.AsmFault.{AsmFault}
-use Rattle.language65.specs.Contents.{content_of, decided, each_of, export_said, import_fault, instruction_parts, item_part, opcode_part, operand_form, operand_part, operand_parts, operand_tree, stored, telling}
 use Rattle.language65.specs.declared.language.Item.{Item}
 use Rattle.language65.specs.declared.language.Operand.{Operand}
 use Rattle.language65.specs.declared.language.Statement.{Statement}
 use Rattle.language65.specs.declared.language.Statement.TheVariants.{Constant, Instruction, Values, Import, Export, Global, ForceImport, Assert}
 use Rattle.language65.specs.declared.language.Item.TheVariants.{Value, Text}
 use Rattle.source65.specs.declared.place.Place.{Place}
-use Rattle.language65.specs.Laid.{Laid, asks_section}
+use Rattle.language65.specs.Symbols.{Laid, asks_section, Symbols, defined, named}
 use Rattle.language65.specs.declared.laid.Settled.{Settled}
 use Rattle.language65.specs.declared.laid.Settled.TheVariants.{Unsettled, InMode, FilledWith, FromByte}
 use Rattle.language65.specs.declared.laid.Context.{Context}
-use Rattle.language65.specs.Norms.{norm_of}
-use Rattle.language65.specs.Sizes.{width_of}
-use Rattle.language65.specs.Symbols.{Symbols, defined, named}
-use Rattle.module65.specs.Places.{PlacedFault, at_place}
+use Rattle.language65.specs.Norms.{norm_of, width_of}
+use Rattle.module65.specs.Reading.{PlacedFault, at_place}
 use Rattle.module65.specs.Machine.{Finished}
-use Rattle.module65.specs.Module.{asserted, asserted_by, contents_from, failed, has_content, sound_from}
-use Rattle.module65.specs.Pieces as p
-use Rattle.module65.specs.Pieces.{Made, Piece, absent_of, as_part, as_said, demanded, equated, exported, given, imported, instruction_pieces, item_piece, made_of, operand, operand_pieces, pieces_of, used, valued}
+use Rattle.module65.specs.Module.{asserted, asserted_by, contents_from, failed, has_content, sound_from, Made, Piece, absent_of, as_part, as_said, demanded, equated, exported, given, imported, instruction_pieces, item_piece, made_of, operand, operand_pieces, pieces_of, used, valued}
+use Rattle.module65.specs.Module as p
 use Rattle.module65.proofs.Entries.{Entry, all_entries, asked_by, entries_of, part, tells, after, after_after, after_nothing, nothing, nothing_after, placed}
 
 -- ---- Pieces one behind the other.

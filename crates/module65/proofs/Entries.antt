@@ -10,17 +10,16 @@ use Rattle.std.proofs.lemmas.List.Elements.{filter-append}
 use Rattle.object65.specs.declared.object.Object.{Object}
 use Rattle.object65.specs.declared.object.Origin.{Origin}
 use Rattle.source65.specs.declared.place.Place.{Place}
-use Rattle.language65.specs.Parts.{Content, Part, Said}
+use Rattle.language65.specs.Contents.{Content, Part, Said, asking, put, telling}
 use Rattle.language65.specs.declared.contents.Segment.{Segment}
 use Rattle.language65.specs.Numbering.{all_joined, all_said, assert_files, assert_of, content_imports, export_files, exports_among, fragments_of, in_files, name_of, names_once, object_with, once, part_files, part_imports, parts_in, said_imports, segment_name, segment_power, segments_asked}
 use Rattle.module65.specs.Laws.{AreAlike}
-use Rattle.language65.specs.Contents.{asking, put, telling}
 use Rattle.base65.specs.Outcome.{◌>>=◌}
 use Rattle.language65.specs.declared.fault.AsmFault.{AsmFault}
 use Rattle.language65.specs.Symbols.{Symbols}
-use Rattle.module65.specs.Places.{PlacedFault}
+use Rattle.module65.specs.Reading.{PlacedFault}
 use Rattle.module65.specs.Machine.{Finished, Slot, Waiting, awaited, before_it, filled, holds, resolved, awaited_in}
-use Rattle.module65.specs.Pieces.{Made, made_of}
+use Rattle.module65.specs.Module.{Made, made_of}
 
 -- ---- Contents by their entries: what decides their object.
 

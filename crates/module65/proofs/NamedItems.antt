@@ -10,10 +10,8 @@ use Rattle.source65.specs.declared.fault.ExpandFault.{ExpandFault}
 use Rattle.source65.specs.declared.fault.ExpandFault.TheVariants.{LineTooLong}
 use Rattle.source65.specs.declared.place.Place.{Place}
 use Rattle.reader65.specs.Blocks.{Block, a_fault, a_mark, a_refusal, the_last, one_more, Verdict, on, closed, refused}
-use Rattle.reader65.specs.Left.{numbered, localised, outside_macro, turns, Item, written, played, labelled, branch, mark, Left, left, Mark, Stop, come_back}
-use Rattle.reader65.specs.Lines.{token_limit}
-use Rattle.reader65.specs.Replacing.{in_turn, repeating, Replacing, replaced}
-use Rattle.reader65.specs.Taking.{IsOpened, Taken, Takes, TakesFrom, lexed, reached, taken_as}
+use Rattle.reader65.specs.Left.{numbered, localised, outside_macro, turns, Item, written, played, labelled, branch, mark, Left, left, Mark, Stop, come_back, in_turn, repeating, Replacing, replaced}
+use Rattle.reader65.specs.Lines.{token_limit, IsOpened, Taken, Takes, TakesFrom, lexed, reached, taken_as}
 use Rattle.module65.proofs.NamedLines.{AreAllFit, Each, IsReplacingFit, replaced_fit, with_locals_fit, AreFit, IsBase, read_fit}
 use Rattle.module65.proofs.SoundForms.{all_append}
 

@@ -15,14 +15,13 @@ use Rattle.language65.specs.declared.fault.AsmFault.{AsmFault}
 use Rattle.language65.specs.declared.language.Statement.{Statement}
 use Rattle.language65.specs.declared.language.Statement.TheVariants.{Constant}
 use Rattle.statements65.specs.Parsing.{IsStatement, label_of}
-use Rattle.module65.specs.Reading.{AreDefined, AreTaken, taken, faulty, refused, ended, Between, Define, Follows, IsBegun, IsGiven, IsLabel, IsLabelled, IsRest, IsSource, Job, Reached, Taking, no_line, open_fault, with_bytes, stopped}
+use Rattle.module65.specs.Reading.{AreDefined, AreTaken, taken, faulty, refused, ended, Between, Define, Follows, IsBegun, IsGiven, IsLabel, IsLabelled, IsRest, IsSource, Job, Reached, Taking, no_line, open_fault, with_bytes, stopped, AreLaid, IsLaid, laying, with_statement}
 use Rattle.expand65.proofs.Unique.{one_next}
 use Rattle.reader65.specs.Left.{Stop}
 use Rattle.language65.specs.declared.fault.AsmFault.TheVariants.{Expansion}
 use Rattle.language65.specs.Layout.{Layout, nothing_laid}
 use Rattle.statements65.proofs.OneStatements.{One, followed_one, made_one, same_one, statement_one}
 use Rattle.module65.specs.Laws.{OneAnswer, OneLayout}
-use Rattle.module65.specs.Laying.{AreLaid, IsLaid, laying, with_statement}
 use Rattle.module65.specs.Module.{outcome_of}
 
 -- ---- Statements that are taken over one kind of states are taken over another that stands for it.

@@ -6,25 +6,20 @@ use Rattle.std.specs.Prelude.{Bool, true, false, Result, Ok, Err, if◌then◌el
 use Rattle.std.proofs.lemmas.List.{append-nil, length-append}
 use Rattle.base65.specs.Outcome.{◌>>=◌}
 use Rattle.object65.specs.declared.object.Object.{Object}
-use Rattle.language65.specs.Parts.{Content}
+use Rattle.language65.specs.Contents.{Content, asking}
 use Rattle.language65.specs.declared.contents.Segment.{Segment}
 use Rattle.language65.specs.declared.fault.AsmFault.{AsmFault}
 use Rattle.language65.specs.declared.language.Statement.{Statement}
 use Rattle.source65.specs.declared.place.Place.{Place}
-use Rattle.language65.specs.Laid.{Laid, asks_section}
+use Rattle.language65.specs.Symbols.{Laid, asks_section, Symbols, symbols_of}
 use Rattle.language65.specs.declared.laid.Context.{Context}
-use Rattle.language65.specs.Layout.{Layout, Standing, laid, layout_behind, nothing_laid, standing_behind}
-use Rattle.language65.specs.LineFaults.{line_fault, unless_fault}
+use Rattle.language65.specs.Layout.{Layout, Standing, laid, layout_behind, nothing_laid, standing_behind, line_fault, unless_fault}
 use Rattle.language65.specs.Numbering.{object_with}
-use Rattle.language65.specs.Symbols.{Symbols, symbols_of}
 use Rattle.module65.specs.Laws.{AreFoundAlike, LaidRuns, OnePass, RunsLaid, StandsFor}
-use Rattle.module65.specs.Laying.{IsLaid, laying}
-use Rattle.language65.specs.Extending.{Extends}
+use Rattle.module65.specs.Reading.{IsLaid, laying, PlacedFault}
+use Rattle.language65.specs.Norms.{Extends}
 use Rattle.module65.specs.Machine.{Finished, Puts, at_once, later, PutsAll, Slot, awaited, holds, State, Steps, Takes, UnlessFault, Waiting, asked, awaited_in, awaiting, before_it, begun, concluded, entered, finished, known, running, symbols_behind}
-use Rattle.module65.specs.Places.{PlacedFault}
-use Rattle.module65.specs.Module.{Outcome, asserted, contents_from, out_of, outcome_of, printed, warned, warning_of}
-use Rattle.language65.specs.Contents.{asking}
-use Rattle.module65.specs.Pieces.{Made, Piece, made_of, pieces_of}
+use Rattle.module65.specs.Module.{Outcome, asserted, contents_from, out_of, outcome_of, printed, warned, warning_of, Made, Piece, made_of, pieces_of}
 use Rattle.module65.proofs.Contents.{all_append, all_made, made_of_pieces, piece_made, pieces_made}
 use Rattle.module65.proofs.Entries.{Entry, alike_by, all_entries, asked_by, entries_of, object_alike, after, after_after, after_nothing, as_entries, come, come_append, nothing, placed, slots_filled}
 use Rattle.module65.proofs.Resolving.{awaited_append, extends_behind, extends_same, extends_then, flat_push, symbols_push}

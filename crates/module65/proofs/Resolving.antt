@@ -6,21 +6,17 @@ use Rattle.std.specs.List.{flat_map, list_any}
 use Rattle.std.specs.Str.{bytes_eq}
 use Rattle.std.proofs.lemmas.Grind.{common_steps, flat_map-append}
 use Rattle.std.proofs.lemmas.List.{append-nil}
-use Rattle.language65.specs.Laid.{Laid}
-use Rattle.language65.specs.Symbols.{Symbols, Definition, Scope, definitions_of, imports_of, scope_opened, symbols_of, with_new, zero_page_names, defined, named}
-use Rattle.language65.specs.Extending.{Extends}
+use Rattle.language65.specs.Symbols.{Laid, Symbols, Definition, Scope, definitions_of, imports_of, scope_opened, symbols_of, with_new, zero_page_names, defined, named}
+use Rattle.language65.specs.Norms.{Extends, norm_of}
 use Rattle.module65.specs.Machine.{symbols_behind, IsSettled, Finished, Slot, Waiting, awaited, before_it, filled, holds, resolved, awaited_in}
 use Rattle.base65.specs.Outcome.{◌>>=◌}
-use Rattle.language65.specs.Parts.{Part, Content, Said}
+use Rattle.language65.specs.Contents.{Part, Content, Said, put, telling, decided, export_said, import_fault, operand_form, stored}
 use Rattle.source65.specs.declared.place.Place.{Place}
 use Rattle.language65.specs.declared.laid.Context.{Context}
 use Rattle.module65.specs.Laws.{FinalSettles}
-use Rattle.language65.specs.Contents.{put, telling, decided, export_said, import_fault, operand_form, stored}
-use Rattle.module65.specs.Pieces.{demanded, given, used, Made, Piece, Purpose, absent_of, as_part, as_said, asserted, datum, equated, exported, imported, made_of, operand, valued}
+use Rattle.module65.specs.Module.{demanded, given, used, Made, Piece, Purpose, absent_of, as_part, as_said, asserted, datum, equated, exported, imported, made_of, operand, valued, failed}
 use Rattle.object65.specs.Form.{Form}
 use Rattle.language65.specs.declared.fault.AsmFault.{AsmFault}
-use Rattle.language65.specs.Norms.{norm_of}
-use Rattle.module65.specs.Module.{failed}
 use Rattle.module65.proofs.Entries.{after, filled_append, resolved_append}
 
 -- ---- Symbol tables that grow.

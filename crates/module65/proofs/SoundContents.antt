@@ -12,19 +12,16 @@ use Rattle.std.proofs.lemmas.List.Sums.{sum_by-append, sum_by-cons}
 use Rattle.base65.specs.Outcome.{◌>>=◌}
 use Rattle.object65.specs.Objects.{are_names, is_name}
 use Rattle.object65.proofs.Reached.{names_push}
-use Rattle.language65.specs.Parts.{Content}
+use Rattle.language65.specs.Contents.{Content, content_of, parts_of, said_of}
 use Rattle.language65.specs.declared.fault.AsmFault.{AsmFault}
-use Rattle.language65.specs.Contents.{content_of, parts_of, said_of}
-use Rattle.module65.specs.Places.{at_place}
+use Rattle.module65.specs.Reading.{at_place}
 use Rattle.source65.specs.declared.place.Place.{Place}
-use Rattle.language65.specs.Laid.{Laid, asks_section}
+use Rattle.language65.specs.Symbols.{Laid, asks_section, Symbols, imported, imports_of, symbols_of, with_new}
 use Rattle.language65.specs.declared.language.Statement.{Statement}
 use Rattle.language65.specs.declared.language.Statement.TheVariants as statement
 use Rattle.module65.specs.Laws.{SoundContents}
 use Rattle.module65.specs.Module.{contents_from}
-use Rattle.language65.specs.Symbols.{Symbols, imported, imports_of, symbols_of, with_new}
-use Rattle.language65.specs.Numbering.{once, parts_in, section_keys, segments_asked}
-use Rattle.language65.specs.Sound.{IsMeasured, IsSound, IsSoundContent, part_len, statements_in}
+use Rattle.language65.specs.Numbering.{once, parts_in, section_keys, segments_asked, IsMeasured, IsSound, IsSoundContent, part_len, statements_in}
 use Rattle.module65.proofs.SoundForms.{Asks, definitions_pass, well_then}
 use Rattle.module65.proofs.SoundParts.{IsKnown, PartsOf, asked_in, below, parts_sound}
 use Rattle.module65.proofs.Resolving.{new_append}

@@ -24,10 +24,8 @@ use Rattle.language65.specs.declared.fault.AsmFault.{AsmFault}
 use Rattle.language65.specs.declared.fault.AsmFault.TheVariants.{Undefined, NoSuchScope, NoSuchLabel}
 use Rattle.language65.specs.declared.language.Statement.{Statement}
 use Rattle.language65.specs.declared.language.Statement.TheVariants.{Label, CheapLabel, UnnamedLabel, Constant, OpenProc}
-use Rattle.language65.specs.Laid.{Laid, asks_section, has_here}
+use Rattle.language65.specs.Symbols.{Laid, asks_section, has_here, Meaning, defined_at, imported_as, backward_meaning, first_found, last_of, meaning_of, member_meaning, or_fault, plain_meaning, scope_from, scoped_meaning, scopes_from, scopes_of, shown, unnamed_meaning, Definition, Symbols, cheap_in, defined, definition_with, definitions_of, imported, key_defined, named, unnamed_at, value_defined}
 use Rattle.language65.specs.declared.laid.Context.{Context}
-use Rattle.language65.specs.Names.{Meaning, defined_at, imported_as, backward_meaning, first_found, last_of, meaning_of, member_meaning, or_fault, plain_meaning, scope_from, scoped_meaning, scopes_from, scopes_of, shown, unnamed_meaning}
-use Rattle.language65.specs.Symbols.{Definition, Symbols, cheap_in, defined, definition_with, definitions_of, imported, key_defined, named, unnamed_at, value_defined}
 
 -- ---- The sections and imports that forms hold.
 

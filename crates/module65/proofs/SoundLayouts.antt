@@ -15,16 +15,14 @@ use Rattle.language65.specs.declared.contents.Segment.{Segment}
 use Rattle.language65.specs.declared.fault.AsmFault.{AsmFault}
 use Rattle.language65.specs.declared.fault.AsmFault.TheVariants.{NotUnderstood, SectionTooLarge}
 use Rattle.source65.specs.declared.place.Place.{Place}
-use Rattle.language65.specs.Laid.{Laid}
+use Rattle.language65.specs.Symbols.{Laid, Symbols, key_defined, symbols_of}
 use Rattle.language65.specs.declared.laid.Context.{Context}
 use Rattle.language65.specs.declared.language.Statement.{Statement}
 use Rattle.language65.specs.declared.language.Statement.TheVariants as statement
-use Rattle.language65.specs.Layout.{Layout, Standing, current_behind, first_size, grown_at, kept_behind, laid, last_kept, layout_behind, multiple_of, named_segments, new_segment, nothing_laid, or_last, own_size, place_of, rest_kept, segment_at, segments_behind, size_stated, context_of}
-use Rattle.language65.specs.LineFaults.{alignment_fault, block_fault, defined_twice, first_fault, form_fault, is_open, line_fault, lost_scopes, missing_file, opened_twice, operand_fault, part_fault, pop_fault, scope_name, size_fault, stands_outside, trees_of, when, unless_fault}
-use Rattle.module65.specs.Laying.{IsLaid}
-use Rattle.language65.specs.Sizes.{length_of, settled_of}
-use Rattle.language65.specs.Symbols.{Symbols, key_defined, symbols_of}
-use Rattle.language65.specs.Sound.{IsMeasured, IsSound, IsSoundLayout, statements_in}
+use Rattle.language65.specs.Layout.{Layout, Standing, current_behind, first_size, grown_at, kept_behind, laid, last_kept, layout_behind, multiple_of, named_segments, new_segment, nothing_laid, or_last, own_size, place_of, rest_kept, segment_at, segments_behind, size_stated, context_of, alignment_fault, block_fault, defined_twice, first_fault, form_fault, is_open, line_fault, lost_scopes, missing_file, opened_twice, operand_fault, part_fault, pop_fault, scope_name, size_fault, stands_outside, trees_of, when, unless_fault}
+use Rattle.module65.specs.Reading.{IsLaid}
+use Rattle.language65.specs.Norms.{length_of, settled_of}
+use Rattle.language65.specs.Numbering.{IsMeasured, IsSound, IsSoundLayout, statements_in}
 use Rattle.language65.proofs.Segments.{Grows, all_more, all_same, end_behind, grows, grows_none, named_there, not_among, one_longer}
 
 -- ---- Faults that there aren't.

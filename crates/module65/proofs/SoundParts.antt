@@ -20,11 +20,10 @@ use Rattle.object65.specs.Form.{Form, lit, sec, imp, prefix, binary}
 use Rattle.object65.specs.Objects.{fits_width, is_file_name, value_bytes, width_len}
 use Rattle.object65.specs.declared.object.Width.{Width}
 use Rattle.object65.specs.declared.object.Width.TheVariants.{Byte, Word, HighFirst, Dword, Branch}
-use Rattle.language65.specs.Parts.{Part, Known, Waiting}
+use Rattle.language65.specs.Contents.{Part, Known, Waiting, file_bytes, instruction_parts, item_part, opcode_part, operand_form, operand_part, operand_parts, operand_tree, parts_of, room_part, stored, written}
 use Rattle.language65.specs.declared.fault.AsmFault.TheVariants.{OutOfRange, FileNameTooLong}
-use Rattle.language65.specs.Contents.{file_bytes, instruction_parts, item_part, opcode_part, operand_form, operand_part, operand_parts, operand_tree, parts_of, room_part, stored, written}
 use Rattle.source65.specs.declared.place.Place.{Place}
-use Rattle.language65.specs.Laid.{Laid, asks_section, has_here}
+use Rattle.language65.specs.Symbols.{Laid, asks_section, has_here, Symbols}
 use Rattle.language65.specs.declared.laid.Settled.{Settled}
 use Rattle.language65.specs.declared.laid.Settled.TheVariants.{Unsettled, FromByte}
 use Rattle.language65.specs.declared.laid.Context.{Context}
@@ -35,11 +34,8 @@ use Rattle.language65.specs.declared.language.Statement.TheVariants.{Instruction
 use Rattle.language65.specs.declared.language.Operand.TheVariants as operand
 use Rattle.language65.specs.declared.language.Item.TheVariants.{Value, Text}
 use Rattle.language65.specs.declared.language.Index.{Index}
-use Rattle.language65.specs.Norms.{constant_in, norm_of}
-use Rattle.language65.specs.Numbering.{imports_in}
-use Rattle.language65.specs.Sizes.{address_mode, branch_mode, bytes_between, counted, fill_settled, first_of, is_branch, item_len, length_of, mode_for, mode_len, mode_of, mode_settled, operand_len, optional_value, part_len as file_len, part_start, settled_of, size_of, width_of}
-use Rattle.language65.specs.Symbols.{Symbols}
-use Rattle.language65.specs.Sound.{IsMeasured, IsSoundAt, IsSoundForm, IsSoundPart, part_len, sections_in}
+use Rattle.language65.specs.Norms.{constant_in, norm_of, address_mode, branch_mode, bytes_between, counted, fill_settled, first_of, is_branch, item_len, length_of, mode_for, mode_len, mode_of, mode_settled, operand_len, optional_value, part_len as file_len, part_start, settled_of, size_of, width_of}
+use Rattle.language65.specs.Numbering.{imports_in, IsMeasured, IsSoundAt, IsSoundForm, IsSoundPart, part_len, sections_in}
 use Rattle.module65.proofs.SoundForms.{Holds, IsWell, two_well, Asks, Pass, norm_well, well_then}
 
 -- ---- Forms.

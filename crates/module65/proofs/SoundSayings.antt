@@ -5,24 +5,22 @@ use Rattle.object65.specs.declared.object.Action.TheVariants as action
 use Rattle.std.proofs.Common.{arith, ◌≡◌, List, [], ◌∷◌, ◌++◌, refl, ap, Result, Ok, Err, ℕ, zero, suc, ◌<◌, Bool, true, false, subst, length, map, pos, negsuc, Option, Some, None}
 use Rattle.std.specs.List.{flat_map, AllByRecursion, list_all}
 use Rattle.base65.specs.Outcome.{◌>>=◌, each}
-use Rattle.language65.specs.Parts.{Said, Exported, Demanded, Checked}
+use Rattle.language65.specs.Contents.{Said, Exported, Demanded, Checked, each_of, decided, export_said, import_fault, said_of, written}
 use Rattle.language65.specs.declared.fault.AsmFault.{AsmFault}
-use Rattle.language65.specs.Contents.{each_of, decided, export_said, import_fault, said_of, written}
 use Rattle.std.specs.Prelude.{⊤, IfOk, ◌&&◌}
 use Rattle.syntax65.specs.declared.lexing.tokens.AddressSize.{AddressSize}
 use Rattle.object65.specs.Form.{Form, lit}
 use Rattle.object65.specs.Objects.{is_name}
 use Rattle.object65.specs.declared.object.Action.{Action}
 use Rattle.source65.specs.declared.place.Place.{Place}
-use Rattle.language65.specs.Laid.{Laid, asks_section}
+use Rattle.language65.specs.Symbols.{Laid, asks_section, Symbols, defined, named}
 use Rattle.language65.specs.declared.laid.Settled.{Settled}
 use Rattle.language65.specs.declared.laid.Context.{Context}
 use Rattle.language65.specs.declared.language.Statement.{Statement}
 use Rattle.language65.specs.declared.language.Statement.TheVariants.{Constant, Import, Export, Global, ForceImport, Assert}
 use Rattle.language65.specs.Norms.{defined_form, norm_of}
-use Rattle.language65.specs.Symbols.{Symbols, defined, named}
-use Rattle.module65.specs.Pieces.{absent_of}
-use Rattle.language65.specs.Sound.{IsSound, IsSoundSaid}
+use Rattle.module65.specs.Module.{absent_of}
+use Rattle.language65.specs.Numbering.{IsSound, IsSoundSaid}
 use Rattle.module65.proofs.SoundForms.{IsWell, Asks, all_append, export_well, well_then}
 use Rattle.module65.proofs.SoundParts.{IsKnown, asked_in, below, form_at, form_sound, laid_with, written_with}
 

@@ -13,19 +13,17 @@ use Rattle.syntax65.specs.declared.lexing.tokens.TokenKind.{TokenKind}
 use Rattle.syntax65.specs.declared.lexing.tokens.TokenKind.TheVariants as token
 use Rattle.source65.specs.declared.fault.ExpandFault.{ExpandFault}
 use Rattle.source65.specs.declared.place.Place.{Place}
-use Rattle.expand65.specs.Expansion.{statement, first_state, opened_in}
-use Rattle.expand65.specs.Includes.{bytes_in}
+use Rattle.expand65.specs.Expansion.{statement, first_state, opened_in, bytes_in}
 use Rattle.expand65.specs.State as expand
 use Rattle.language65.specs.declared.fault.AsmFault.{AsmFault}
 use Rattle.language65.specs.declared.language.Statement.{Statement}
 use Rattle.language65.specs.declared.language.Statement.TheVariants.{Label, CheapLabel, UnnamedLabel, Constant, NamedPart}
 use Rattle.language65.specs.Layout.{Layout, nothing_laid}
-use Rattle.language65.specs.Sound.{AreNamed, IsSound}
+use Rattle.language65.specs.Numbering.{AreNamed, IsSound}
 use Rattle.statements65.specs.Parsing.{IsStatement, is_colon, label_before, label_of, named_label, or_all, with_rest}
 use Rattle.statements65.proofs.Sounding.{statement_sound}
 use Rattle.module65.specs.Laws.{SoundLayoutLaw}
-use Rattle.module65.specs.Laying.{IsLaid, laying}
-use Rattle.module65.specs.Reading.{AreDefined, AreTaken, taken, faulty, refused, ended, Define, Follows, IsBegun, IsGiven, IsLabel, IsLabelled, IsRest, Job, Reached, no_line, stopped, with_bytes}
+use Rattle.module65.specs.Reading.{IsLaid, laying, AreDefined, AreTaken, taken, faulty, refused, ended, Define, Follows, IsBegun, IsGiven, IsLabel, IsLabelled, IsRest, Job, Reached, no_line, stopped, with_bytes}
 use Rattle.module65.proofs.NamedSteps.{IsStateFit, first_fit, next_fit, tokens_of}
 use Rattle.module65.proofs.NamedLines.{are_named}
 use Rattle.module65.proofs.SoundLayouts.{IsGood, good_statement, nothing_good, sound_from}

@@ -14,8 +14,7 @@ use Rattle.expand65.specs.Expansion.{Reaches, statement, nothing, fault, opened_
 use Rattle.language65.specs.declared.fault.AsmFault.{AsmFault}
 use Rattle.language65.specs.declared.fault.AsmFault.TheVariants.{Expansion}
 use Rattle.language65.specs.declared.language.Statement.TheVariants.{Constant, Label, UnnamedLabel}
-use Rattle.module65.specs.Inner.Continuing.{DefinesOn, GoesOn}
-use Rattle.module65.specs.Reading.{AreDefined, taken, faulty, refused, ended, Between, Define, IsBegun, IsGiven, IsSource, Job, Reached, Taking, no_line, open_fault, stopped}
+use Rattle.module65.specs.Reading.{DefinesOn, GoesOn, AreDefined, taken, faulty, refused, ended, Between, Define, IsBegun, IsGiven, IsSource, Job, Reached, Taking, no_line, open_fault, stopped}
 use Rattle.base65.specs.Outcome.{Unless}
 use Rattle.expand65.specs.declared.expander.Expander.{Expander}
 use Rattle.source65.specs.declared.fault.ExpandFault.TheVariants.{OutOfMemory, FileError}

@@ -4,20 +4,16 @@ use Rattle.std.specs.List.{flat_map}
 use Rattle.base65.specs.Store.{Files}
 use Rattle.syntax65.specs.Trees.{Tree}
 use Rattle.object65.specs.Form.{Form}
-use Rattle.language65.specs.Parts.{Content}
+use Rattle.language65.specs.Contents.{Content}
 use Rattle.source65.specs.declared.place.Place.{Place}
 use Rattle.language65.specs.declared.laid.Context.{Context}
 use Rattle.language65.specs.Layout.{Layout}
-use Rattle.language65.specs.Numbering.{all_said, content_imports, parts_in, segments_asked}
-use Rattle.language65.specs.Sound.{AreSound, IsSoundLayout}
+use Rattle.language65.specs.Numbering.{all_said, content_imports, parts_in, segments_asked, AreSound, IsSoundLayout}
 use Rattle.language65.specs.Symbols.{Symbols, symbols_of}
-use Rattle.module65.specs.Laying.{AreLaid}
-use Rattle.module65.specs.Places.{PlacedFault}
-use Rattle.language65.specs.Extending.{IsFinal}
+use Rattle.module65.specs.Reading.{AreLaid, PlacedFault, Job, Reached}
+use Rattle.language65.specs.Norms.{IsFinal}
 use Rattle.module65.specs.Machine.{IsSettled, Runs, State, concluded, finished}
-use Rattle.module65.specs.Module.{IsOutcome, Outcome, asserted, contents_from, printed, warned}
-use Rattle.module65.specs.Pieces.{Purpose, quietly, used, valued}
-use Rattle.module65.specs.Reading.{Job, Reached}
+use Rattle.module65.specs.Module.{IsOutcome, Outcome, asserted, contents_from, printed, warned, Purpose, quietly, used, valued}
 
 -- a source is laid in one way at most
 abbrev pub OneLayout : Type 0

@@ -1,9 +1,5 @@
 pub mod Inner
-pub mod Places
-pub mod Reading
-pub mod Knowing
-pub mod Laying
-pub mod Module
-pub mod Pieces
-pub mod Machine
 pub mod Laws
+pub mod Machine
+pub mod Module
+pub mod Reading

@@ -3,23 +3,17 @@ use Rattle.std.specs.Prelude.{◌≡◌, ℕ, suc, List, [], ◌∷◌, ◌++◌
 use Rattle.base65.specs.Outcome.{◌>>=◌}
 use Rattle.base65.specs.Store.{Files}
 use Rattle.object65.specs.declared.object.Object.{Object}
-use Rattle.language65.specs.Parts.{Content}
+use Rattle.language65.specs.Contents.{Content, asking}
 use Rattle.language65.specs.declared.fault.AsmFault.{AsmFault}
 use Rattle.language65.specs.declared.language.Statement.{Statement}
 use Rattle.source65.specs.declared.place.Place.{Place}
-use Rattle.language65.specs.Laid.{Laid, asks_section}
+use Rattle.language65.specs.Symbols.{Laid, asks_section, Symbols, definitions_of, imports_of, scope_opened, symbols_of, with_new, zero_page_names}
 use Rattle.language65.specs.declared.laid.Context.{Context}
-use Rattle.language65.specs.Layout.{Standing, laid, standing_behind, start}
-use Rattle.language65.specs.LineFaults.{line_fault}
+use Rattle.language65.specs.Layout.{Standing, laid, standing_behind, start, line_fault}
 use Rattle.language65.specs.Numbering.{object_with}
-use Rattle.language65.specs.Symbols.{Symbols, definitions_of, imports_of, scope_opened, symbols_of, with_new, zero_page_names}
-use Rattle.module65.specs.Places.{PlacedFault}
-use Rattle.module65.specs.Module.{Outcome, out_of, warning_of}
-use Rattle.module65.specs.Pieces.{Made, Piece, made_of, pieces_of, quietly}
-use Rattle.module65.specs.Knowing.{known_at}
-use Rattle.module65.specs.Reading.{Between, IsSource, Job, Reached}
-use Rattle.language65.specs.Contents.{asking}
-use Rattle.language65.specs.Extending.{Extends}
+use Rattle.module65.specs.Reading.{PlacedFault, known_at, Between, IsSource, Job, Reached}
+use Rattle.module65.specs.Module.{Outcome, out_of, warning_of, Made, Piece, made_of, pieces_of, quietly}
+use Rattle.language65.specs.Norms.{Extends}
 
 -- ---- What stands between statements.
 

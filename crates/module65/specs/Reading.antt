@@ -1,23 +1,38 @@
--- How the statements of a source are taken one behind the other, over what stands between them.
-use Rattle.std.specs.Prelude.{◌≡◌, ℕ, List, [], ◌∷◌, Option, Some, None, Result, Ok, Err, if◌then◌else◌}
+-- How the statements of a source are taken, one behind the other, and laid.
+use Rattle.std.specs.Prelude.{Result, Ok, Err, ◌≡◌, ℕ, List, [], ◌∷◌, Option, Some, None, if◌then◌else◌, Bool, true, false}
+use Rattle.source65.specs.declared.place.Place.{Place}
+use Rattle.language65.specs.declared.fault.AsmFault.{AsmFault}
 use Rattle.base65.specs.Outcome.{First, Unless}
 use Rattle.base65.specs.Store.{Files}
 use Rattle.syntax65.specs.Tokens.{Lexeme}
-use Rattle.syntax65.specs.Trees.{number}
+use Rattle.syntax65.specs.Trees.{number, name}
 use Rattle.source65.specs.declared.fault.ExpandFault.{ExpandFault}
-use Rattle.source65.specs.declared.place.Place.{Place}
-use Rattle.expand65.specs.Expansion.{Reaches, statement, nothing, fault, opened_in}
-use Rattle.expand65.specs.Includes.{beside, file_named}
-use Rattle.expand65.specs.State.{Meaning}
+use Rattle.expand65.specs.Expansion.{Reaches, statement, nothing, fault, opened_in, beside, file_named}
 use Rattle.expand65.specs.State as expand
-use Rattle.language65.specs.declared.fault.AsmFault.{AsmFault}
 use Rattle.language65.specs.declared.fault.AsmFault.TheVariants.{BadScope, Expansion}
 use Rattle.language65.specs.Faults.{is_outside}
 use Rattle.language65.specs.declared.language.Statement.{Statement}
 use Rattle.language65.specs.declared.language.Statement.TheVariants.{Constant, FilePart, NamedPart}
-use Rattle.language65.specs.LineFaults.{is_open}
+use Rattle.language65.specs.Layout.{is_open, Standing, context_of, Layout, layout_behind, nothing_laid, line_fault, unless_fault}
 use Rattle.statements65.specs.Parsing.{IsStatement, label_of}
-use Rattle.module65.specs.Places.{PlacedFault}
+use Rattle.expand65.specs.declared.expander.Expander.{Expander}
+use Rattle.expand65.specs.Standing.{StandsFor}
+use Rattle.language65.specs.Symbols.{Meaning, defined_at, meaning_of, Symbols, symbols_of}
+use Rattle.language65.specs.Norms.{constant_in}
+
+-- ---- Faults with their places.
+
+-- its line is 0 where none was read
+pub record PlacedFault : Type 0 where
+  pub place : Place
+  pub fault : AsmFault
+
+-- a fault is found at a place
+abbrev pub at_place : {A : Type 0} → Place → Result A AsmFault → Result A PlacedFault
+at_place place (Ok x) = Ok x
+at_place place (Err e) = Err (record { place = place; fault = e })
+
+-- ---- How the statements of a source are taken one behind the other, over what stands between them.
 
 -- what a statement at a place comes to behind others: what stands behind it, or its first fault
 abbrev pub Taking : Type 0 → Type 1
@@ -27,7 +42,7 @@ Taking S = S → Place → Statement → Result S AsmFault → Type 0
 -- there, and which scope is the innermost open one.
 pub record Between (S : Type 0) : Type 1 where
   pub takes : Taking S
-  pub meaning : S → Meaning
+  pub meaning : S → expand.Meaning
   pub scope : S → ℕ
 
 -- ---- A statement.
@@ -149,3 +164,55 @@ abbrev pub Answers :
     {S X : Type 0} → (Result S AsmFault → Type 0) → (S → Type 0) → Result X AsmFault → Type 0
 Answers IsAnswer Holds (Ok x) = (z : _) × IsAnswer (Ok z) × Holds z
 Answers IsAnswer Holds (Err e) = Unless (is_outside e) (IsAnswer (Err e))
+
+-- ---- How the statements of a source are taken while they are: what is left is what decides all.
+
+-- what the statements from a state of expansion on come to behind what stands there, all come to
+abbrev pub GoesOn :
+    {S : Type 0} → Files → Between S → (Reached S → Type 0) → expand.State → S → Type 0
+GoesOn m b IsAll s y = (r : Reached _) → AreTaken m b s y r → IsAll r
+
+-- what an expander still gives comes, behind what stands there, to what all come to
+abbrev pub Continues :
+    {S : Type 0} → Files → Between S → (Reached S → Type 0) → Expander → S → Type 0
+Continues m b IsAll e y = (s : expand.State) × StandsFor m e s × GoesOn m b IsAll s y
+
+-- what the constants that are left come to behind what stands there, all come to
+abbrev pub DefinesOn :
+    {S : Type 0} → Taking S → Place → (Result S AsmFault → Type 0) → List Define → S → Type 0
+DefinesOn Takes place IsAll ds y = (r : Result _ AsmFault) → AreDefined Takes y place ds r → IsAll r
+
+-- ---- What names and expressions mean at a line.
+
+-- an import is no definition, nor is a name in a scope that isn't there
+abbrev pub is_definition : Result Meaning AsmFault → Bool
+is_definition (Ok (defined_at i)) = true
+is_definition _ = false
+
+-- by the statements before it
+abbrev pub known_at : Symbols → Standing → expand.Meaning
+known_at y w = record {
+  value = constant_in y (context_of w);
+  defined = λ global parts. is_definition (meaning_of y (context_of w) (name global parts));
+}
+
+-- ---- From the statements of a source to laid ones, or the first fault that is found at a line.
+
+-- a statement behind those before it, or its first fault there
+abbrev pub with_statement : Layout → Place → Statement → Result Layout AsmFault
+with_statement y place x =
+    unless_fault (line_fault (symbols_of y.laid) y.standing x) (layout_behind y place x)
+
+abbrev pub IsLaid : Layout → Place → Statement → Result Layout AsmFault → Type 0
+IsLaid y place x r = r ≡ with_statement y place x
+
+abbrev pub laying : Between Layout
+laying = record {
+  takes = IsLaid;
+  meaning = λ y. known_at (symbols_of y.laid) y.standing;
+  scope = λ y. y.standing.scope;
+}
+
+-- the statements of a source up to the first fault of a line, and that fault, if any
+abbrev pub AreLaid : Files → Job → Reached Layout → Type 0
+AreLaid m job r = IsSource m laying job nothing_laid r

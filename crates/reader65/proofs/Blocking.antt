@@ -6,11 +6,10 @@ use Rattle.base65.specs.Store.{Files}
 use Rattle.syntax65.specs.Tokens.{Lexeme}
 use Rattle.reader65.specs.Blocks.{TakesInBlock, Verdict, on, closed, refused, Block, a_fault, a_mark, a_refusal, the_last, one_more}
 use Rattle.source65.specs.Faults.{is_outside}
-use Rattle.reader65.specs.Inside.{left_of}
-use Rattle.reader65.specs.Judging.{IsPassedOver}
-use Rattle.reader65.specs.Plain.{Plainly, no_line as none_passed, a_line, IsPlain}
+use Rattle.reader65.specs.Inside.{left_of, IsPassedOver}
+use Rattle.reader65.specs.Playing.{Plainly, no_line as none_passed, a_line, IsPlain}
 use Rattle.reader65.specs.Left.{Left, Stop}
-use Rattle.reader65.specs.Taking.{Takes}
+use Rattle.reader65.specs.Lines.{Takes}
 use Rattle.source65.specs.declared.fault.ExpandFault.{ExpandFault}
 use Rattle.source65.specs.declared.fault.ExpandFault.TheVariants.{NotClosed}
 use Rattle.source65.specs.declared.place.Place.{Place}

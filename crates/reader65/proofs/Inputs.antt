@@ -6,12 +6,10 @@ use Rattle.std.proofs.lemmas.Bool.Decides.{nat_tests}
 use Rattle.std.proofs.lemmas.List.{append-nil}
 use Rattle.base65.specs.Store.{Files}
 use Rattle.syntax65.specs.Tokens.{Lexeme}
-use Rattle.reader65.specs.Taking.{pushed, closed, end_of, exit_of, if_more, IsOpened, Takes, TakesFrom}
-use Rattle.reader65.specs.Left.{numbered, turns, Item, written, played, labelled, branch, mark, Mark, left, marks, innermost, outside_macro, come_back, moved}
+use Rattle.reader65.specs.Lines.{pushed, closed, end_of, exit_of, if_more, IsOpened, Takes, TakesFrom, lines_of, rest_of}
+use Rattle.reader65.specs.Left.{numbered, turns, Item, written, played, labelled, branch, mark, Mark, left, marks, innermost, outside_macro, come_back, moved, in_turn, Replacing}
 use Rattle.reader65.specs.Inside.{left_in, mark_of, own, outside, left_of, is_call, ComesNext, TakesLine, moved_by}
-use Rattle.reader65.specs.Playing.{tokens_in, left_to_play, replacing_of}
-use Rattle.reader65.specs.Lines.{lines_of, rest_of}
-use Rattle.reader65.specs.Replacing.{in_turn, Replacing}
+use Rattle.reader65.specs.Playing.{tokens_in, left_to_play, replacing_of, TakesWritten}
 use Rattle.source65.specs.declared.fault.ExpandFault.TheVariants.{Nested, NotClosed, TooManyLines}
 use Rattle.reader65.specs.declared.input.Source.{Source}
 use Rattle.reader65.specs.declared.input.Source.TheVariants as source
@@ -20,7 +18,6 @@ use Rattle.reader65.specs.declared.reader.Reader.{Reader}
 use Rattle.source65.specs.declared.place.Place.{Place}
 use Rattle.base65.specs.Outcome.{Unless}
 use Rattle.source65.specs.Faults.{is_outside}
-use Rattle.reader65.specs.Plain.{TakesWritten}
 use Rattle.source65.specs.declared.fault.ExpandFault.{ExpandFault}
 use Rattle.reader65.specs.declared.input.NextLine.{NextLine}
 use Rattle.reader65.specs.declared.input.NextLine.TheVariants.{AtEnd, Numbered, Replayed}

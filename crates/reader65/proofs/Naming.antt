@@ -3,9 +3,8 @@ use Rattle.std.proofs.lemmas.Grind.{common_steps}
 use Rattle.std.proofs.Common.{arith, ◌≡◌, ◌∙◌, List, [], ◌∷◌, ◌++◌, Option, None, Some, ap, refl, reverse, sym, subst, true}
 use Rattle.std.proofs.lemmas.List.{reverse-append}
 use Rattle.source65.specs.declared.place.Place.{Place}
-use Rattle.reader65.specs.Inside.{is_call, moved_by}
+use Rattle.reader65.specs.Inside.{is_call, moved_by, AreNamed, IsNamed, NamesFiles, open_in}
 use Rattle.reader65.specs.Left.{come_back}
-use Rattle.reader65.specs.Stopping.{AreNamed, IsNamed, NamesFiles, open_in}
 use Rattle.reader65.specs.declared.file.OpenFile.{OpenFile}
 use Rattle.reader65.specs.declared.input.NextLine.{NextLine}
 use Rattle.reader65.specs.declared.input.NextLine.TheVariants.{AtEnd, Numbered, Replayed}

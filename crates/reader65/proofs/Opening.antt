@@ -10,13 +10,10 @@ use Rattle.syntax65.specs.Tokens.{Lexeme, IsRead}
 use Rattle.syntax65.specs.declared.lexing.fault.LexFault.{LexFault}
 use Rattle.syntax65.specs.declared.lexing.fault.LexFault.TheVariants as lex
 use Rattle.source65.specs.Faults.{fault_of_lexing, is_outside}
-use Rattle.reader65.specs.Left.{numbered, Item, written, played}
+use Rattle.reader65.specs.Left.{numbered, Item, written, played, Replacing, replaced}
 use Rattle.reader65.specs.Inside.{ComesNext, TakesLine}
-use Rattle.reader65.specs.Playing.{tokens_in, left_to_play, replacing_of}
-use Rattle.reader65.specs.Lines.{lines_of, ReadsLine, BeginsLong, content, is_inside, left_in_file, rest_of, without_return, bytes_of}
-use Rattle.reader65.specs.Plain.{IsFirstLine, TakesWritten}
-use Rattle.reader65.specs.Replacing.{Replacing, replaced}
-use Rattle.reader65.specs.Taking.{IsOpened, fitted, lexed}
+use Rattle.reader65.specs.Playing.{tokens_in, left_to_play, replacing_of, IsFirstLine, TakesWritten}
+use Rattle.reader65.specs.Lines.{lines_of, ReadsLine, BeginsLong, content, is_inside, left_in_file, rest_of, without_return, bytes_of, IsOpened, fitted, lexed}
 use Rattle.source65.specs.declared.fault.ExpandFault.{ExpandFault}
 use Rattle.source65.specs.declared.fault.ExpandFault.TheVariants.{Syntax}
 use Rattle.reader65.specs.declared.file.OpenFile.{OpenFile}

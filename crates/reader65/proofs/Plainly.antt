@@ -4,15 +4,14 @@ use Rattle.std.proofs.Common.{arith, ◌≡◌, ℕ, zero, suc, Bool, true, fals
 use Rattle.std.specs.Prelude.{if◌then◌else◌, ◌&&◌, nat_lt, slice_get}
 use Rattle.syntax65.specs.Tokens.{Lexeme}
 use Rattle.reader65.specs.Blocks.{Verdict, on, collecting, gathering, passing, refused, skipping, mislabelled}
-use Rattle.reader65.specs.Judging.{AnswerOf, Judges, StateOf, is_kept, judge_of, state_of}
+use Rattle.reader65.specs.Inside.{AnswerOf, Judges, StateOf, is_kept, judge_of, state_of}
 use Rattle.reader65.specs.declared.blocks.BlockKind.{BlockKind}
 use Rattle.reader65.specs.declared.blocks.BlockKind.TheVariants.{Macro, Repeat, Skipped, Passed}
 use Rattle.reader65.specs.declared.blocks.BlockStep.{BlockStep}
 use Rattle.source65.specs.declared.fault.ExpandFault.{ExpandFault}
 use Rattle.source65.specs.declared.fault.ExpandFault.TheVariants.{NotUnderstood}
 use Rattle.reader65.specs.Fronts.{front_directive, is_colon, is_label_name, is_mislabelled, label_len, line_directive, may_follow_label, directive_in}
-use Rattle.reader65.specs.Playing.{behind_word, behind_words, cut}
-use Rattle.reader65.specs.Plain.{directive_of_first, is_colon_there, IsColonAt, IsPlain}
+use Rattle.reader65.specs.Playing.{behind_word, behind_words, cut, directive_of_first, is_colon_there, IsColonAt, IsPlain}
 use Rattle.reader65.specs.declared.directives.Directive.{Directive}
 use Rattle.reader65.specs.declared.line.Word.{Word}
 

@@ -7,13 +7,10 @@ use Rattle.source65.specs.declared.fault.ExpandFault.{ExpandFault}
 use Rattle.source65.specs.Faults.{is_failure}
 use Rattle.source65.specs.declared.place.Place.{Place}
 use Rattle.reader65.specs.Blocks.{TakesInBlock, Verdict, on}
-use Rattle.reader65.specs.Inside.{ComesNext, IsFile, is_call, left_in, left_of, mark_of, moved_by, outside}
-use Rattle.reader65.specs.Left.{Item, Left, Mark, mark, numbered, played}
+use Rattle.reader65.specs.Inside.{ComesNext, IsFile, is_call, left_in, left_of, mark_of, moved_by, outside, IsPassedOver, FailsAtLine, FailsInBlock, HasStopped, IsAsked, at_line, before, behind_line, within}
+use Rattle.reader65.specs.Left.{Item, Left, Mark, mark, numbered, played, Replacing}
 use Rattle.reader65.specs.Lines.{lines_of, rest_of}
-use Rattle.reader65.specs.Judging.{IsPassedOver}
-use Rattle.reader65.specs.Plain.{Plainly, no_line, a_line, IsPlain}
-use Rattle.reader65.specs.Replacing.{Replacing}
-use Rattle.reader65.specs.Stopping.{FailsAtLine, FailsInBlock, HasStopped, IsAsked, at_line, before, behind_line, within}
+use Rattle.reader65.specs.Playing.{Plainly, no_line, a_line, IsPlain}
 use Rattle.reader65.specs.declared.input.NextLine.{NextLine}
 use Rattle.reader65.specs.declared.input.NextLine.TheVariants.{AtEnd, Numbered, Replayed}
 use Rattle.reader65.specs.declared.input.Source.{Source}

@@ -4,14 +4,13 @@ use Rattle.std.proofs.Common.{◌≡◌, ℕ, zero, suc, ◌+◌, ◌-◌, ◌<�
 use Rattle.std.proofs.lemmas.List.{length-map}
 use Rattle.base65.specs.Outcome.{Unless}
 use Rattle.source65.specs.Faults.{is_outside}
-use Rattle.reader65.specs.Taking.{IsOpened}
+use Rattle.reader65.specs.Lines.{IsOpened}
 use Rattle.source65.specs.declared.fault.ExpandFault.{ExpandFault}
 use Rattle.reader65.specs.declared.input.NextLine.TheVariants.{Replayed}
 use Rattle.syntax65.specs.Tokens.{Lexeme}
 use Rattle.reader65.specs.Inside.{ComesNext, TakesLine, turns_left}
 use Rattle.reader65.specs.Playing.{tokens_in, left_to_play, replacing_of}
-use Rattle.reader65.specs.Replacing.{in_turn, Replacing}
-use Rattle.reader65.specs.Left.{turns, Item, played}
+use Rattle.reader65.specs.Left.{in_turn, Replacing, turns, Item, played}
 use Rattle.reader65.specs.declared.line.Line.{Line}
 use Rattle.reader65.specs.declared.playing.Replay.{Replay}
 

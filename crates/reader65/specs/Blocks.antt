@@ -2,7 +2,7 @@
 use Rattle.std.specs.Prelude.{◌≡◌, List, Some, None, Result, Ok, Err, ℕ, zero, suc, [], ◌∷◌, ◌++◌, drop, Bool, true, false, Option, if◌then◌else◌}
 use Rattle.syntax65.specs.Tokens.{Lexeme}
 use Rattle.reader65.specs.Left.{Left, Stop}
-use Rattle.reader65.specs.Taking.{Taken, Takes}
+use Rattle.reader65.specs.Lines.{Taken, Takes}
 use Rattle.source65.specs.declared.fault.ExpandFault.TheVariants.{NotClosed, MacroInside, NotUnderstood}
 use Rattle.reader65.specs.Fronts.{is_mislabelled, is_nothing, line_directive}
 use Rattle.reader65.specs.declared.directives.Directive.{Directive}

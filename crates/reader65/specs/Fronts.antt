@@ -1,14 +1,65 @@
--- What stands at the front of a line's tokens: a label, a directive; and what single tokens are.
-use Rattle.std.specs.Prelude.{ℕ, Bool, true, false, not, nat_lt, ◌-◌, ◌&&◌, List, [], ◌∷◌, length, take, drop, Option, Some, None, Result, Ok, Err, if◌then◌else◌}
+-- The first words of a line: labels and directives of expansion.
+use Rattle.std.specs.Prelude.{ℕ, List, [], ◌∷◌, codes, Option, Some, None, if◌then◌else◌, Bool, true, false, not, nat_lt, ◌-◌, ◌&&◌, length, take, drop, Result, Ok, Err}
+use Rattle.std.specs.Str.{str_eq_ignore_ascii_case}
+use Rattle.reader65.specs.declared.directives.Test.TheVariants.{True, Defined, NotDefined, Blank, NotBlank}
+use Rattle.reader65.specs.declared.directives.Directive.{Directive}
+use Rattle.reader65.specs.declared.directives.Directive.TheVariants.{Macro, EndMacro, ExitMacro, Local, Repeat, EndRepeat, If, ElseIf, Else, EndIf, Include, Error, End}
 use Rattle.syntax65.specs.Tokens.{Lexeme}
 use Rattle.syntax65.specs.Expressions.{is_reserved}
 use Rattle.syntax65.specs.declared.lexing.tokens.Mark.TheVariants.{Colon, Comma, OpenBrace, CloseBrace, OpenParenthesis}
 use Rattle.syntax65.specs.declared.lexing.tokens.TokenKind.TheVariants as token
-use Rattle.reader65.specs.Directives.{directive_of}
-use Rattle.reader65.specs.declared.directives.Directive.{Directive}
-use Rattle.reader65.specs.declared.directives.Directive.TheVariants.{Repeat, If, Include, Error, End}
 use Rattle.source65.specs.declared.fault.ExpandFault.{ExpandFault}
 use Rattle.source65.specs.declared.fault.ExpandFault.TheVariants.{NotUnderstood}
+
+-- ---- The words of the directives of expansion.
+
+abbrev pub condition_words : List (List ℕ × Directive)
+condition_words =
+    (codes ".if", If True)
+    ∷ (codes ".ifdef", If Defined)
+    ∷ (codes ".ifndef", If NotDefined)
+    ∷ (codes ".ifblank", If Blank)
+    ∷ (codes ".ifnblank", If NotBlank)
+    ∷ (codes ".elseif", ElseIf)
+    ∷ (codes ".else", Else)
+    ∷ (codes ".endif", EndIf)
+    ∷ []
+
+abbrev pub macro_words : List (List ℕ × Directive)
+macro_words =
+    (codes ".macro", Macro)
+    ∷ (codes ".mac", Macro)
+    ∷ (codes ".endmacro", EndMacro)
+    ∷ (codes ".endmac", EndMacro)
+    ∷ (codes ".exitmacro", ExitMacro)
+    ∷ (codes ".exitmac", ExitMacro)
+    ∷ (codes ".local", Local)
+    ∷ []
+
+abbrev pub block_words : List (List ℕ × Directive)
+block_words =
+    (codes ".repeat", Repeat)
+    ∷ (codes ".endrepeat", EndRepeat)
+    ∷ (codes ".endrep", EndRepeat)
+    ∷ (codes ".include", Include)
+    ∷ (codes ".error", Error)
+    ∷ (codes ".end", End)
+    ∷ []
+
+-- what a word stands for in a table, in either case
+abbrev pub among : List (List ℕ × Directive) → List ℕ → Option Directive
+among [] word = None
+among ((name, directive) ∷ others) word = if str_eq_ignore_ascii_case word name then Some directive else among others word
+
+abbrev pub or_else : Option Directive → Option Directive → Option Directive
+or_else None other = other
+or_else (Some directive) other = Some directive
+
+-- the directive that a word is, if it is one
+abbrev pub directive_of : List ℕ → Option Directive
+directive_of word = or_else (among condition_words word) (or_else (among macro_words word) (among block_words word))
+
+-- ---- What stands at the front of a line's tokens: a label, a directive; and what single tokens are.
 
 -- what isn't understood
 abbrev pub unknown : {A : Type 0} → Result A ExpandFault

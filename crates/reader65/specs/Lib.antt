@@ -1,12 +1,6 @@
 pub mod Blocks
-pub mod Directives
 pub mod Fronts
 pub mod Inside
-pub mod Judging
 pub mod Left
 pub mod Lines
-pub mod Plain
 pub mod Playing
-pub mod Replacing
-pub mod Stopping
-pub mod Taking

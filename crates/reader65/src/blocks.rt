@@ -6,10 +6,8 @@ ghost use Rattle.syntax65.specs.Tokens.{Lexeme, lexemes};
 ghost use Rattle.source65.specs.Faults.{is_failure};
 ghost use Rattle.reader65.specs.Blocks.{Block, collecting, gathering, passing, skipping};
 ghost use Rattle.reader65.specs.Fronts.{is_nothing};
-ghost use Rattle.reader65.specs.Inside.{Answers, left_of, mark_of};
-ghost use Rattle.reader65.specs.Judging.{IsDeeper, IsPassedOver, Judges, alone_or, answer_of, is_kept, judge_of, state_of};
+ghost use Rattle.reader65.specs.Inside.{Answers, left_of, mark_of, IsDeeper, IsPassedOver, Judges, alone_or, answer_of, is_kept, judge_of, state_of, FailsInBlock, NamesFiles, StopsAt};
 ghost use Rattle.reader65.specs.Playing.{tokens_in};
-ghost use Rattle.reader65.specs.Stopping.{FailsInBlock, NamesFiles, StopsAt};
 
 use crate::directives::Directive;
 use crate::fronts::{behind_first, is_mislabelled, line_directive};

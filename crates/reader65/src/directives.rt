@@ -1,7 +1,7 @@
 //! The directives of expansion.
 
 ghost use Rattle.std.specs.Prelude.{◌≡◌, ◌∷◌, ℕ, List, None, false};
-ghost use Rattle.reader65.specs.Directives.{among, block_words, condition_words, directive_of, macro_words};
+ghost use Rattle.reader65.specs.Fronts.{among, block_words, condition_words, directive_of, macro_words};
 
 /// What a condition asks for.
 #[derive(Clone, Copy)]

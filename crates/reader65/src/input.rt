@@ -4,12 +4,11 @@ ghost use Rattle.std.specs.Prelude.{◌≡◌, ◌↔◌, ◌<◌, ◌≤◌, �
 ghost use Rattle.std.specs.List.{prefix_len};
 ghost use Rattle.base65.specs.Store.{Files, IsBlamed, Passes};
 ghost use Rattle.source65.specs.Faults.{is_failure, is_outside};
-ghost use Rattle.reader65.specs.Inside.{ComesNext, IsFile, IsReady, TakesLine, is_call, left_in, turns_left};
+ghost use Rattle.reader65.specs.Inside.{ComesNext, IsFile, IsReady, TakesLine, is_call, left_in, turns_left, IsNamed};
 ghost use Rattle.reader65.specs.Playing.{tokens_in, left_to_play, replacing_of};
-ghost use Rattle.reader65.specs.Stopping.{IsNamed};
 ghost use Rattle.source65.specs.declared.place.Place.{Place};
 ghost use Rattle.reader65.specs.Lines.{is_inside, left_in_file};
-ghost use Rattle.reader65.specs.Replacing.{number_token};
+ghost use Rattle.reader65.specs.Left.{number_token};
 
 use crate::file::{OpenFile, line_len};
 use crate::line::Line;

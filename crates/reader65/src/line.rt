@@ -6,9 +6,8 @@ ghost use Rattle.syntax65.specs.Tokens.{IsRead, Lexeme, lexeme_of, lexemes};
 ghost use Rattle.syntax65.specs.declared.lexing.fault.LexFault.{LexFault};
 ghost use Rattle.source65.specs.Faults.{is_failure, is_outside};
 ghost use Rattle.reader65.specs.Fronts.{front_directive, label_len};
-ghost use Rattle.reader65.specs.Playing.{behind_word, cut, text_of, tokens_in, IsParted};
-ghost use Rattle.reader65.specs.Plain.{IsColon, IsColonAt, IsOrNone, IsPlain};
-ghost use Rattle.reader65.specs.Taking.{lexed};
+ghost use Rattle.reader65.specs.Playing.{behind_word, cut, text_of, tokens_in, IsParted, IsColon, IsColonAt, IsOrNone, IsPlain};
+ghost use Rattle.reader65.specs.Lines.{lexed};
 
 use crate::directives::Directive;
 use crate::fronts::{directive_in, is_mislabelled, label_len};

@@ -4,14 +4,12 @@ ghost use Rattle.std.specs.Prelude.{◌≡◌, ◌<◌, ◌≤◌, ◌-◌, List
 ghost use Rattle.syntax65.specs.Tokens.{IsFront, Lexeme, lexeme_of};
 ghost use Rattle.base65.specs.Store.{Files};
 ghost use Rattle.std.specs.Option.{option_map};
-ghost use Rattle.reader65.specs.Inside.{is_call, left_in, left_of, mark_of};
+ghost use Rattle.reader65.specs.Inside.{is_call, left_in, left_of, mark_of, IsNamed, NamesFiles};
 ghost use Rattle.source65.specs.declared.place.Place.{Place};
-ghost use Rattle.reader65.specs.Stopping.{IsNamed, NamesFiles};
 ghost use Rattle.reader65.specs.Left.{moved};
-ghost use Rattle.reader65.specs.Plain.{IsPlainLine, PassesPlain, Plainly, directive_of_first, is_colon_there, IsPlain, IsAtHand, IsFirstLine, IsFirstOf, IsNext, TakesWritten};
-ghost use Rattle.reader65.specs.Lines.{left_in_file, without_return};
+ghost use Rattle.reader65.specs.Playing.{IsPlainLine, PassesPlain, Plainly, directive_of_first, is_colon_there, IsPlain, IsAtHand, IsFirstLine, IsFirstOf, IsNext, TakesWritten};
+ghost use Rattle.reader65.specs.Lines.{left_in_file, without_return, Takes};
 ghost use Rattle.syntax65.specs.Held.{HoldsNothing, held};
-ghost use Rattle.reader65.specs.Taking.{Takes};
 
 use crate::directives::Directive;
 use crate::file::{OpenFile, line_len};

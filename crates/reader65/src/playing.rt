@@ -4,14 +4,13 @@ ghost use Rattle.std.specs.Prelude.{◌≡◌, ◌++◌, ◌∷◌, [], List, tr
 ghost use Rattle.base65.specs.Store.{Files};
 ghost use Rattle.reader65.specs.Inside.{is_call, left_in};
 ghost use Rattle.reader65.specs.Playing.{tokens_in, replacing_of, tokens_for};
-ghost use Rattle.reader65.specs.Left.{Item, Mark, localised, mark};
-ghost use Rattle.reader65.specs.Replacing.{own_token, with_locals, argument_at, for_name, for_word, is_count_word, replaced, stand_in};
+ghost use Rattle.reader65.specs.Left.{Item, Mark, localised, mark, own_token, with_locals, argument_at, for_name, for_word, is_count_word, replaced, stand_in};
 ghost use Rattle.std.specs.Map.{lookup};
 ghost use Rattle.std.specs.Str.{bytes_eq};
 ghost use Rattle.base65.specs.Outcome.{Gives};
 ghost use Rattle.syntax65.specs.Tokens.{lexeme_of, lexemes};
 ghost use Rattle.source65.specs.Faults.{is_failure, is_outside};
-ghost use Rattle.reader65.specs.Taking.{fitted};
+ghost use Rattle.reader65.specs.Lines.{fitted};
 
 use crate::input::Source;
 use crate::line::Line;

@@ -3,10 +3,9 @@
 ghost use Rattle.std.specs.Prelude.{◌≡◌, ◌<◌, ◌≤◌, ◌-◌, ◌+◌, length, IfErr, IfNone, IfOk, IfSome, IsTrue, OnOk, [], false, option_map};
 ghost use Rattle.base65.specs.Store.{Passes, Files};
 ghost use Rattle.source65.specs.Faults.{is_failure, is_outside};
-ghost use Rattle.reader65.specs.Stopping.{FailsAtLine, StopsAt, last_read, AreNamed, IsNamed, NamesFiles, open_in};
-ghost use Rattle.reader65.specs.Inside.{Answers, left_in, left_of, mark_of, moved_by, outside};
+ghost use Rattle.reader65.specs.Inside.{FailsAtLine, StopsAt, last_read, AreNamed, IsNamed, NamesFiles, open_in, Answers, left_in, left_of, mark_of, moved_by, outside};
 ghost use Rattle.reader65.specs.Playing.{tokens_in};
-ghost use Rattle.reader65.specs.Taking.{closed, end_of, exit_of, if_more, pushed, Takes};
+ghost use Rattle.reader65.specs.Lines.{closed, end_of, exit_of, if_more, pushed, Takes};
 ghost use Rattle.reader65.specs.Left.{outside_macro, come_back};
 ghost use Rattle.reader65.specs.Blocks.{TakesInBlock};
 

@@ -10,10 +10,9 @@ use Rattle.object65.specs.declared.object.Fragment.TheVariants.{Literal, Fill, V
 use Rattle.source65.specs.declared.place.Place.{Place}
 use Rattle.object65.specs.declared.object.Object.{Object}
 use Rattle.object65.specs.declared.object.Origin.{Origin}
-use Rattle.language65.specs.Parts.{Content, Part, Known, Filled, Said}
+use Rattle.language65.specs.Contents.{Content, Part, Known, Filled, Said, put}
 use Rattle.language65.specs.declared.contents.Segment.{Segment}
 use Rattle.language65.specs.Numbering.{all_joined, all_said, assert_files, assert_of, content_imports, export_files, exports_among, fragment_of, fragments_of, import_keys, in_files, is_empty, joined, name_of, names_once, once, part_files, part_imports, parts_in, segment_name, segment_power}
-use Rattle.language65.specs.Contents.{put}
 use Rattle.sections65.specs.Fed.{AreAlike, files_by, object_over}
 
 -- ---- An equivalence.

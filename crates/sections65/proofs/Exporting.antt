@@ -9,7 +9,7 @@ use Rattle.object65.specs.Form.{Form}
 use Rattle.object65.specs.declared.object.Export.{Export}
 use Rattle.object65.specs.declared.object.Origin.{Origin}
 use Rattle.source65.specs.declared.place.Place.{Place}
-use Rattle.language65.specs.Parts.{Said, Exported, Demanded, Checked}
+use Rattle.language65.specs.Contents.{Said, Exported, Demanded, Checked}
 use Rattle.language65.specs.declared.contents.Said as told
 use Rattle.language65.specs.Numbering.{exports_among, numbered}
 use Rattle.language65.specs.Views.{said_at}

@@ -5,16 +5,14 @@ use Rattle.std.specs.Prelude.{slice_get, ◌||◌, nat_lt}
 use Rattle.std.specs.List.{list_any, list_all}
 use Rattle.std.proofs.lemmas.List.{take_more}
 use Rattle.std.proofs.lemmas.List.Folds.{list_any-append, list_all-append}
-use Rattle.language65.specs.Parts.{Content, Filled, Known, Waiting}
+use Rattle.language65.specs.Contents.{Content, Filled, Known, Waiting, put, telling}
 use Rattle.sections65.specs.declared.entries.Entry.{Entry}
 use Rattle.sections65.specs.declared.entries.Entry.TheVariants.{Bytes, Room, Value, Told, Open}
-use Rattle.language65.specs.Contents.{put, telling}
 use Rattle.language65.specs.Views.{said_at, place_in}
-use Rattle.sections65.specs.Fed.{content_of, filled, first_of, is_open, open_count, place_by, rest_of, stands_in}
+use Rattle.sections65.specs.Fed.{content_of, filled, first_of, is_open, open_count, place_by, rest_of, stands_in, Begins, StandIn}
 use Rattle.std.proofs.lemmas.Bool.Decides.{nat_tests}
 use Rattle.language65.specs.Numbering.{name_of}
 use Rattle.sections65.specs.declared.entries.SourcePos.{SourcePos}
-use Rattle.sections65.specs.Standing.{Begins, StandIn}
 use Rattle.sections65.proofs.Renumbering.{and, left, right}
 
 -- ---- Entries of which some are open.

@@ -15,10 +15,9 @@ use Rattle.object65.specs.declared.object.Fragment.TheVariants.{Literal, Fill}
 use Rattle.object65.specs.declared.object.Origin.{Origin}
 use Rattle.object65.specs.declared.object.Section.{Section}
 use Rattle.object65.specs.Objects.{are_distinct, has_file, has_file_by, has_good_origin, has_good_origins, is_file_name, is_good_origin}
-use Rattle.language65.specs.Parts.{Content, Part, Known, Filled, Waiting, Said, Exported, Demanded, Checked}
+use Rattle.language65.specs.Contents.{Content, Part, Known, Filled, Waiting, Said, Exported, Demanded, Checked}
 use Rattle.language65.specs.declared.contents.Segment.{Segment}
-use Rattle.language65.specs.Numbering.{all_joined, all_said, assert_files, assert_of, export_files, exports_among, files_named, files_of, fragments_of, import_keys, in_files, joined, names_once, numbered, object_with, part_files, parts_in, section_keys, section_of}
-use Rattle.language65.specs.Sound.{IsSoundContent, IsSoundPart, IsSoundSaid}
+use Rattle.language65.specs.Numbering.{all_joined, all_said, assert_files, assert_of, export_files, exports_among, files_named, files_of, fragments_of, import_keys, in_files, joined, names_once, numbered, object_with, part_files, parts_in, section_keys, section_of, IsSoundContent, IsSoundPart, IsSoundSaid}
 use Rattle.sections65.proofs.Exporting.{any_map}
 use Rattle.sections65.proofs.Fitting.{all_more}
 use Rattle.sections65.proofs.GoodNames.{names_push}

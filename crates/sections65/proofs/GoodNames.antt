@@ -12,10 +12,9 @@ use Rattle.source65.specs.declared.place.Place.{Place}
 use Rattle.object65.specs.declared.object.Origin.{Origin}
 use Rattle.object65.specs.declared.object.Export.{Export}
 use Rattle.object65.specs.Objects.{are_distinct, are_names, is_among, is_name}
-use Rattle.language65.specs.Parts.{Said, Exported, Demanded, Checked}
+use Rattle.language65.specs.Contents.{Said, Exported, Demanded, Checked}
 use Rattle.language65.specs.declared.contents.Segment.{Segment}
-use Rattle.language65.specs.Numbering.{exports_among, name_of, numbered, segment_name}
-use Rattle.language65.specs.Sound.{IsSoundSaid}
+use Rattle.language65.specs.Numbering.{exports_among, name_of, numbered, segment_name, IsSoundSaid}
 use Rattle.sections65.proofs.Renumbering.{left, right, and, turned}
 
 abbrev same_name : List ℕ → List ℕ → Bool

@@ -15,10 +15,9 @@ use Rattle.object65.specs.declared.object.Section.{Section}
 use Rattle.source65.specs.declared.place.Place.{Place}
 use Rattle.object65.specs.Folding.{is_literal}
 use Rattle.object65.specs.Objects.{are_files_of, are_names, has_good_origins, has_good_parts, is_good_assert, is_good_form, is_good_object, is_good_section}
-use Rattle.language65.specs.Parts.{Content, Part, Known, Filled, Waiting, Said, Exported, Demanded, Checked}
+use Rattle.language65.specs.Contents.{Content, Part, Known, Filled, Waiting, Said, Exported, Demanded, Checked}
 use Rattle.language65.specs.declared.contents.Segment.{Segment}
-use Rattle.language65.specs.Numbering.{all_said, assert_of, content_imports, exports_among, files_of, import_keys, in_files, imports_in, key_of, name_of, numbered, object_with, optional_key, part_imports, said_imports, section_keys, section_of, segments_asked}
-use Rattle.language65.specs.Sound.{AreSound, IsSoundContent, IsSoundPart, IsSoundSaid}
+use Rattle.language65.specs.Numbering.{all_said, assert_of, content_imports, exports_among, files_of, import_keys, in_files, imports_in, key_of, name_of, numbered, object_with, optional_key, part_imports, said_imports, section_keys, section_of, segments_asked, AreSound, IsSoundContent, IsSoundPart, IsSoundSaid}
 use Rattle.sections65.proofs.GoodFiles.{files_good, origins_good}
 use Rattle.sections65.proofs.GoodNames.{exports_named, names_at, segment_named}
 use Rattle.sections65.proofs.GoodSections.{parts_in_good, section_good}

@@ -12,11 +12,10 @@ use Rattle.object65.specs.declared.object.Fragment.{Fragment}
 use Rattle.object65.specs.declared.object.Fragment.TheVariants.{Literal, Fill, Value}
 use Rattle.object65.specs.Folding.{is_literal}
 use Rattle.object65.specs.Objects.{are_apart, fragment_len, is_good_form, is_good_fragment, is_good_section, joins, section_limit}
-use Rattle.language65.specs.Parts.{Content, Part, Known, Filled, Waiting}
+use Rattle.language65.specs.Contents.{Content, Part, Known, Filled, Waiting}
 use Rattle.language65.specs.declared.contents.Segment.{Segment}
 use Rattle.language65.specs.Layout.{powers}
-use Rattle.language65.specs.Numbering.{all_joined, content_imports, fragment_of, fragments_of, is_empty, joined, numbered, part_imports, parts_in, said_imports, section_of, segment_power}
-use Rattle.language65.specs.Sound.{IsSoundContent, IsSoundPart, part_len}
+use Rattle.language65.specs.Numbering.{all_joined, content_imports, fragment_of, fragments_of, is_empty, joined, numbered, part_imports, parts_in, said_imports, section_of, segment_power, IsSoundContent, IsSoundPart, part_len}
 use Rattle.sections65.proofs.Renumbering.{HasAll, first_has, good_form, left, right, and, same_literal, second_has}
 
 -- ---- Neighbours that are joined.

@@ -16,8 +16,7 @@ use Rattle.object65.specs.declared.object.Fragment.TheVariants as fragment
 use Rattle.object65.specs.declared.object.Object.{Object}
 use Rattle.object65.specs.declared.object.Origin.{Origin}
 use Rattle.object65.specs.declared.object.Section.{Section}
-use Rattle.language65.specs.Contents.{put, telling}
-use Rattle.language65.specs.Parts.{Content, Filled, Known, Part, Said, Waiting}
+use Rattle.language65.specs.Contents.{put, telling, Content, Filled, Known, Part, Said, Waiting}
 use Rattle.language65.specs.declared.contents.Said as telled
 use Rattle.language65.specs.declared.contents.Said.TheVariants as told
 use Rattle.language65.specs.declared.contents.Segment.{Segment}
@@ -26,10 +25,9 @@ use Rattle.language65.specs.Views.{said_at}
 use Rattle.sections65.specs.declared.entries.Entry.{Entry}
 use Rattle.sections65.specs.declared.entries.Entry.TheVariants.{Bytes, Room, Value, Told, Open}
 use Rattle.sections65.specs.declared.entries.SourcePos.{SourcePos}
-use Rattle.sections65.specs.Fed.{content_of, object_over, origin_by, place_by, stands_in, AreAlike, filled}
+use Rattle.sections65.specs.Fed.{content_of, object_over, origin_by, place_by, stands_in, AreAlike, filled, StandIn, Stands, contents_in, names_in}
 use Rattle.sections65.specs.Inner.Drafts.{asserts_at, entry_asserts, exports_at, exports_from, object_before}
 use Rattle.sections65.specs.Inner.Ordering.{in_order}
-use Rattle.sections65.specs.Standing.{StandIn, Stands, contents_in, names_in}
 use Rattle.sections65.proofs.Drafting.{fragment_put, fragments_put, section_put, sections_are}
 use Rattle.sections65.proofs.Exporting.{among_append}
 use Rattle.sections65.proofs.Keys.{imports_anyhow}

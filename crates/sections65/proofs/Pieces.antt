@@ -3,12 +3,10 @@ use Rattle.std.proofs.Common.{arith, ◌≡◌, ◌∙◌, ℕ, Bool, true, fals
 use Rattle.std.specs.Prelude.{if◌then◌else◌}
 use Rattle.std.specs.List.{flat_map}
 use Rattle.std.proofs.lemmas.Grind.{common_steps, flat_map-append}
-use Rattle.language65.specs.Parts.{Content, Part, Said, Known}
+use Rattle.language65.specs.Contents.{Content, Part, Said, Known, asking, put, telling}
 use Rattle.language65.specs.Numbering.{all_joined, all_said, content_imports, fragments_of, once, part_files, part_imports, parts_in, said_imports, section_keys, segments_asked}
 use Rattle.sections65.specs.declared.sections.Sections.{Sections}
-use Rattle.language65.specs.Contents.{asking, put, telling}
-use Rattle.sections65.specs.Fed.{AreAlike, in_pieces}
-use Rattle.sections65.specs.Standing.{Feeds, Stands}
+use Rattle.sections65.specs.Fed.{AreAlike, in_pieces, Feeds, Stands}
 use Rattle.sections65.proofs.Alikes.{alike_back, alike_sym, alike_trans, bytes_alike, no_bytes_alike}
 use Rattle.sections65.proofs.Standings.{asked_more}
 

@@ -15,8 +15,7 @@ use Rattle.base65.specs.declared.values.Op2.TheVariants.{Add, Subtract}
 use Rattle.object65.specs.Folding.{is_literal, is_normal, is_within, folds1, folds2, folds_sum, folds_difference, node_limit}
 use Rattle.object65.specs.Form.{Form, lit, sec, imp, prefix, binary, nodes}
 use Rattle.object65.specs.Objects.{is_good_form}
-use Rattle.language65.specs.Numbering.{imports_in, number_of, numbered, once}
-use Rattle.language65.specs.Sound.{sections_in, IsSoundForm}
+use Rattle.language65.specs.Numbering.{imports_in, number_of, numbered, once, sections_in, IsSoundForm}
 
 -- ---- Tests.
 

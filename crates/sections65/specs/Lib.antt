@@ -1,3 +1,2 @@
 pub mod Fed
 pub mod Inner
-pub mod Standing

@@ -2,12 +2,9 @@
 
 ghost use Rattle.std.specs.Prelude.{◌≡◌, ◌+◌, ◌<◌, ℕ, List, [], ◌∷◌, length, false, true, slice_get, None, Some, IfSome, IfNone, OnOk, IfOk, take};
 ghost use Rattle.std.specs.List.{list_any};
-ghost use Rattle.language65.specs.Parts.{Content};
-ghost use Rattle.language65.specs.Parts.{Filled, Known};
+ghost use Rattle.language65.specs.Contents.{Content, Filled, Known, put};
 ghost use Rattle.sections65.specs.declared.entries.Entry.TheVariants.{Open};
-ghost use Rattle.language65.specs.Contents.{put};
-ghost use Rattle.sections65.specs.Fed.{AreAlike, content_of, filled, is_open, open_count, origin_by, stands_in};
-ghost use Rattle.sections65.specs.Standing.{Defers, IsAdded, IsSettled, SettlesIn, StandIn, Takes, TakesIn, contents_in};
+ghost use Rattle.sections65.specs.Fed.{AreAlike, content_of, filled, is_open, open_count, origin_by, stands_in, Defers, IsAdded, IsSettled, SettlesIn, StandIn, Takes, TakesIn, contents_in};
 
 use base65::Sequence;
 use language65::Said;

@@ -3,8 +3,7 @@
 ghost use Rattle.std.specs.Prelude.{◌≡◌, ◌<◌, length, IfOk, IfSome, Some, map, slice_get, string_bytes};
 ghost use Rattle.language65.specs.Contents.{put, telling};
 ghost use Rattle.language65.specs.Views.{part_at, place_in, said_at};
-ghost use Rattle.sections65.specs.Fed.{place_by};
-ghost use Rattle.sections65.specs.Standing.{Begins, IsEntry, names_in};
+ghost use Rattle.sections65.specs.Fed.{place_by, Begins, IsEntry, names_in};
 
 use crate::entries::{Entry, SourcePos};
 use crate::numbering::narrow;

@@ -1,11 +1,10 @@
 //! What callers may rely on about what was fed.
 
 ghost use Rattle.std.specs.Prelude.{◌≡◌, ◌++◌, ◌∷◌, [], List};
-ghost use Rattle.language65.specs.Parts.{Content};
+ghost use Rattle.language65.specs.Contents.{Content};
 ghost use Rattle.language65.specs.Numbering.{section_keys};
 ghost use Rattle.sections65.specs.declared.sections.Sections.{Sections};
-ghost use Rattle.sections65.specs.Fed.{AreAlike, in_pieces};
-ghost use Rattle.sections65.specs.Standing.{Stands};
+ghost use Rattle.sections65.specs.Fed.{AreAlike, in_pieces, Stands};
 
 /// Contents that differ for no object stand for one another.
 pub fn alike_contents_stand_for_one_another()

@@ -2,14 +2,10 @@
 
 ghost use Rattle.std.specs.Prelude.{◌≡◌, [], List, map, replicate, true, IfOk, OnOk};
 ghost use Rattle.object65.specs.Objects.{is_good_object, ObjectFits};
-ghost use Rattle.language65.specs.Parts.{Content};
-ghost use Rattle.language65.specs.Parts.{Filled, Known, Waiting};
-ghost use Rattle.language65.specs.Numbering.{object_with};
-ghost use Rattle.language65.specs.Sound.{AreSound};
-ghost use Rattle.language65.specs.Contents.{asking, put, telling};
+ghost use Rattle.language65.specs.Contents.{Content, Filled, Known, Waiting, asking, put, telling};
+ghost use Rattle.language65.specs.Numbering.{object_with, AreSound};
 ghost use Rattle.language65.specs.Views.{part_at, place_in, said_at};
-ghost use Rattle.sections65.specs.Fed.{names_of};
-ghost use Rattle.sections65.specs.Standing.{Awaits, Feeds, Receives, Stands};
+ghost use Rattle.sections65.specs.Fed.{names_of, Awaits, Feeds, Receives, Stands};
 
 use crate::entries::Entries;
 use crate::files::Files;

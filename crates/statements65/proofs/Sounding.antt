@@ -14,7 +14,7 @@ use Rattle.syntax65.specs.declared.lexing.tokens.TokenKind.TheVariants.{Identifi
 use Rattle.object65.proofs.Goods.{and, left, right}
 use Rattle.object65.specs.Objects.{is_name, is_printed}
 use Rattle.statements65.specs.Parsing.{is_identifier, is_letter, is_letter_or_digit}
-use Rattle.language65.specs.Sound.{AreNamed, IsNamed, IsSound}
+use Rattle.language65.specs.Numbering.{AreNamed, IsNamed, IsSound}
 use Rattle.std.specs.Str.{bytes_eq}
 use Rattle.base65.specs.Outcome.{◌>>=◌, First}
 use Rattle.syntax65.specs.Trees.{Tree}

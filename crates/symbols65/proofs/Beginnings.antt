@@ -6,8 +6,7 @@ use Rattle.std.proofs.lemmas.List.Sums.{sum_by-cons}
 use Rattle.language65.specs.Symbols.{Symbols}
 use Rattle.symbols65.specs.declared.resolving.attempt.State.{State}
 use Rattle.symbols65.specs.declared.resolving.attempt.State.TheVariants.{Unknown, Waiting, Hangs, Found}
-use Rattle.symbols65.specs.Hanging.{AreHung}
-use Rattle.symbols65.specs.Resolving.{IsTable, is_open, unknown}
+use Rattle.symbols65.specs.Resolving.{AreHung, IsTable, is_open, unknown}
 
 abbrev pub AreOpen : List State → Type 0
 AreOpen [] = ⊤

@@ -15,17 +15,13 @@ use Rattle.object65.specs.declared.folding.FormFault.{FormFault}
 use Rattle.language65.specs.declared.fault.AsmFault.{AsmFault}
 use Rattle.language65.specs.declared.fault.AsmFault.TheVariants.{NoSuchLabel, NoSuchScope, Undefined}
 use Rattle.language65.specs.declared.laid.Context.{Context}
-use Rattle.language65.specs.Names.{Meaning, defined_at, enclosing, first_found, last_of, meaning_of, member_meaning, or_else, or_fault, outward_from, plain_meaning, scope_from, scoped_meaning, scopes_of, shown, unnamed_meaning}
-use Rattle.language65.specs.Norms.{folded, form_of_definition, form_of_meaning, norm, norm_of}
-use Rattle.language65.specs.Symbols.{Definition, Key, Symbols, cheap_in, defined, imported, named, same_key, unnamed_at}
+use Rattle.language65.specs.Symbols.{Meaning, defined_at, enclosing, first_found, last_of, meaning_of, member_meaning, or_else, or_fault, outward_from, plain_meaning, scope_from, scoped_meaning, scopes_of, shown, unnamed_meaning, Definition, Key, Symbols, cheap_in, defined, imported, named, same_key, unnamed_at}
+use Rattle.language65.specs.Norms.{folded, form_of_definition, form_of_meaning, norm, norm_of, Extends}
 use Rattle.symbols65.specs.declared.resolving.attempt.Source.TheVariants.{Finals}
 use Rattle.symbols65.specs.declared.resolving.attempt.State.{State}
 use Rattle.symbols65.specs.declared.resolving.attempt.State.TheVariants.{Found}
 use Rattle.symbols65.specs.declared.table.symbols.Symbols as code
-use Rattle.language65.specs.Extending.{Extends}
-use Rattle.symbols65.specs.Finals.{IsFinalWithin, IsReference, binary_form, prefix_form}
-use Rattle.symbols65.specs.Resolving.{attempt_definition, attempt_value, known_form, plain_part}
-use Rattle.symbols65.specs.Inner.Settling.{MeansAlways, MeansFinally, Operands}
+use Rattle.symbols65.specs.Resolving.{IsFinalWithin, IsReference, binary_form, prefix_form, attempt_definition, attempt_value, known_form, plain_part, MeansAlways, MeansFinally, Operands}
 use Rattle.symbols65.specs.Inner.Knowns.{known_by}
 use Rattle.symbols65.specs.Views.{table_of}
 use Rattle.symbols65.proofs.Scopes.{name_is}

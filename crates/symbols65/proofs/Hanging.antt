@@ -7,14 +7,13 @@ use Rattle.std.proofs.lemmas.List.Sums.{sum_by-cons}
 use Rattle.std.proofs.lemmas.Option.{gets, get_or_from_slice_get, slice_get-map, slice_get_within}
 use Rattle.std.proofs.Math.Seq.{map-set_same}
 use Rattle.language65.proofs.Lists.{map_length}
-use Rattle.language65.specs.Extending.{Extends}
+use Rattle.language65.specs.Norms.{Extends}
 use Rattle.language65.specs.Symbols.{Symbols}
 use Rattle.object65.specs.Form.{Form}
 use Rattle.symbols65.specs.declared.resolving.attempt.State.{State}
 use Rattle.symbols65.specs.declared.resolving.attempt.State.TheVariants.{Unknown, Waiting, Hangs, Found}
-use Rattle.symbols65.specs.Hanging.{AreHung, HangsOn, bare, hung_on}
+use Rattle.symbols65.specs.Resolving.{AreHung, HangsOn, bare, hung_on, IsTable, is_open, may_be_looked_for, unknown}
 use Rattle.symbols65.specs.Inner.Knowns.{AreNoted, is_found}
-use Rattle.symbols65.specs.Resolving.{IsTable, is_open, may_be_looked_for, unknown}
 
 -- a table extends itself
 pub extends_itself : (y : Symbols) → Extends y y

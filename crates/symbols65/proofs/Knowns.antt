@@ -11,9 +11,8 @@ use Rattle.symbols65.specs.declared.resolving.attempt.State.{State}
 use Rattle.symbols65.specs.declared.resolving.attempt.State.TheVariants.{Unknown, Waiting, Hangs, Found}
 use Rattle.symbols65.specs.Inner.Knowns.{AreNoted, is_found, without}
 use Rattle.language65.specs.Symbols.{Symbols}
-use Rattle.language65.specs.Extending.{Extends}
-use Rattle.symbols65.specs.Hanging.{AreHung, HangsOn}
-use Rattle.symbols65.specs.Resolving.{IsTable, is_open}
+use Rattle.language65.specs.Norms.{Extends}
+use Rattle.symbols65.specs.Resolving.{AreHung, HangsOn, IsTable, is_open}
 use Rattle.symbols65.proofs.Beginnings.{AreOpen, blank_table}
 use Rattle.symbols65.proofs.Hanging.{hung_later}
 use Rattle.symbols65.proofs.Words.{get_more}

@@ -7,17 +7,14 @@ use Rattle.base65.specs.Outcome.{◌>>=◌}
 use Rattle.syntax65.specs.Trees.{Tree, number, here, name, cheap, forward, backward, unary, binary}
 use Rattle.object65.specs.Form.{Form}
 use Rattle.object65.specs.Folding.{fold1}
-use Rattle.language65.specs.Extending.{Extends}
+use Rattle.language65.specs.Norms.{Extends, folded, form_of_definition, form_of_value, norm}
 use Rattle.language65.specs.declared.laid.Context.{Context}
-use Rattle.language65.specs.Norms.{folded, form_of_definition, form_of_value, norm}
 use Rattle.language65.specs.Symbols as l
 use Rattle.symbols65.specs.declared.resolving.attempt.Source.TheVariants.{Finals}
 use Rattle.symbols65.specs.declared.resolving.attempt.Stop.{Stop}
 use Rattle.symbols65.specs.declared.resolving.attempt.Stop.TheVariants.{Needs}
 use Rattle.symbols65.specs.declared.table.symbols.Symbols.{Symbols}
-use Rattle.symbols65.specs.Hanging.{ExpressionHangsOn, HangsOn, Leads, needed_in}
-use Rattle.symbols65.specs.Resolving.{FoundBy, operand_form, stopped, tried, tried_by}
-use Rattle.symbols65.specs.Inner.Settling.{MeansFinally, Operands}
+use Rattle.symbols65.specs.Resolving.{ExpressionHangsOn, HangsOn, Leads, needed_in, FoundBy, operand_form, stopped, tried, tried_by, MeansFinally, Operands}
 use Rattle.symbols65.specs.Inner.Knowns.{known_by}
 use Rattle.symbols65.specs.Views.{table_of}
 use Rattle.symbols65.proofs.Hanging.{extends_itself}

@@ -6,14 +6,12 @@ use Rattle.syntax65.specs.Kinds.{tree_of}
 use Rattle.syntax65.specs.declared.expressions.trees.ExprKind.{ExprKind}
 use Rattle.syntax65.specs.declared.expressions.trees.ExprKind.TheVariants as kind
 use Rattle.syntax65.specs.declared.expressions.trees.Name.{Name}
-use Rattle.symbols65.specs.Finals.{IsReference}
+use Rattle.symbols65.specs.Resolving.{IsReference, defined_place, joined_behind, name_meaning, plain_part}
 use Rattle.std.specs.Prelude.{codes, slice_get}
 use Rattle.std.proofs.lemmas.List.{append_assoc}
 use Rattle.language65.specs.declared.laid.Context.{Context}
 use Rattle.language65.specs.declared.fault.AsmFault.{AsmFault}
-use Rattle.language65.specs.Symbols.{Symbols, defined, named, Scope}
-use Rattle.language65.specs.Names.{first_found, joined, last_of, meaning_of, or_fault, scopes_from, scopes_of, enclosing, inside, scope_in, within}
-use Rattle.symbols65.specs.Resolving.{defined_place, joined_behind, name_meaning, plain_part}
+use Rattle.language65.specs.Symbols.{Symbols, defined, named, Scope, first_found, joined, last_of, meaning_of, or_fault, scopes_from, scopes_of, enclosing, inside, scope_in, within}
 use Rattle.std.specs.List.{position_from}
 use Rattle.std.proofs.lemmas.Bool.Decides.{nat_tests}
 use Rattle.std.proofs.lemmas.Iterator.Adapters.{position_from-zero}

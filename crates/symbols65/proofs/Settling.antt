@@ -8,8 +8,8 @@ use Rattle.object65.specs.Form.{Form}
 use Rattle.language65.specs.declared.fault.AsmFault.{AsmFault}
 use Rattle.language65.specs.Faults.{is_memory}
 use Rattle.language65.specs.declared.laid.Context.{Context}
-use Rattle.language65.specs.Names.{Meaning, meaning_of}
-use Rattle.language65.specs.Norms.{form_of_definition, norm, norm_of}
+use Rattle.language65.specs.Symbols.{Meaning, meaning_of}
+use Rattle.language65.specs.Norms.{form_of_definition, norm, norm_of, Extends}
 use Rattle.language65.specs.Symbols as l
 use Rattle.symbols65.specs.declared.resolving.attempt.Source.TheVariants.{Finals}
 use Rattle.symbols65.specs.declared.resolving.attempt.State.TheVariants.{Found}
@@ -18,10 +18,7 @@ use Rattle.symbols65.specs.declared.resolving.attempt.Stop.TheVariants.{Needs, F
 use Rattle.symbols65.specs.declared.table.definition.Definition.{Definition}
 use Rattle.symbols65.specs.declared.table.entries.Entry.{Entry}
 use Rattle.symbols65.specs.declared.table.symbols.Symbols.{Symbols}
-use Rattle.language65.specs.Extending.{Extends}
-use Rattle.symbols65.specs.Finals.{formed}
-use Rattle.symbols65.specs.Resolving.{FoundBy, lacks_memory, meaning_form, tried}
-use Rattle.symbols65.specs.Inner.Settling.{Settles}
+use Rattle.symbols65.specs.Resolving.{formed, FoundBy, lacks_memory, meaning_form, tried, Settles}
 use Rattle.symbols65.specs.Inner.Knowns.{kept, known_by}
 use Rattle.symbols65.specs.Tables.{definition_in, table_without_imports}
 use Rattle.symbols65.specs.Views.{table_of, words_of}

@@ -13,11 +13,9 @@ use Rattle.symbols65.specs.declared.resolving.attempt.State.TheVariants.{Found}
 use Rattle.symbols65.specs.declared.resolving.attempt.Stop.{Stop}
 use Rattle.symbols65.specs.declared.resolving.attempt.Stop.TheVariants.{Needs, Fault}
 use Rattle.language65.specs.declared.laid.Context.{Context}
-use Rattle.language65.specs.Symbols.{Symbols, Definition}
-use Rattle.language65.specs.Names.{Meaning, meaning_of}
+use Rattle.language65.specs.Symbols.{Symbols, Definition, Meaning, meaning_of}
 use Rattle.language65.specs.Norms.{folded, form_by, form_of_definition, form_of_meaning, norm}
-use Rattle.symbols65.specs.Finals.{IsReference}
-use Rattle.symbols65.specs.Resolving.{stopped, attempt_definition, meaning_form, operand_form, tried_by, tried, tried_at, tried_last, FoundBy}
+use Rattle.symbols65.specs.Resolving.{IsReference, stopped, attempt_definition, meaning_form, operand_form, tried_by, tried, tried_at, tried_last, FoundBy}
 use Rattle.symbols65.proofs.Turns.{Known, Course, expression_course, constant_course, constant_is, ok_later, ok_before}
 
 -- the first is the second, or, where that may be, circular

@@ -8,14 +8,13 @@ use Rattle.object65.specs.Folding.{fold1}
 use Rattle.language65.specs.declared.fault.AsmFault.{AsmFault}
 use Rattle.language65.specs.declared.fault.AsmFault.TheVariants.{Circular}
 use Rattle.language65.specs.declared.laid.Context.{Context}
-use Rattle.language65.specs.Symbols.{Symbols, Definition}
-use Rattle.language65.specs.Names.{Meaning, meaning_of}
+use Rattle.language65.specs.Symbols.{Symbols, Definition, Meaning, meaning_of}
 use Rattle.language65.specs.Norms.{folded, form_by, form_of_value, form_of_definition, form_of_meaning, norm, norm_of}
 use Rattle.std.proofs.Math.Path.{fun_ext}
 use Rattle.std.specs.Prelude.{sum_by}
 use Rattle.std.proofs.lemmas.Bool.Decides.{nat_tests}
 use Rattle.std.proofs.lemmas.List.Sums.{sum_by-cons}
-use Rattle.symbols65.specs.Hanging.{Comes}
+use Rattle.symbols65.specs.Resolving.{Comes}
 
 -- ---- Normal forms at different numbers of turns.
 

@@ -1,5 +1,3 @@
-pub mod Finals
-pub mod Hanging
 pub mod Inner
 pub mod Resolving
 pub mod Tables

@@ -1,23 +1,113 @@
--- What names mean, as the code divides it, and attempts at forms by what is found so far.
-use Rattle.std.specs.Prelude.{◌≡◌, ℕ, ◌+◌, ◌≤◌, pos, codes, List, [], ◌∷◌, ◌++◌, length, slice_get, sum_by, Bool, false, true, Option, Some, None, Result, Ok, Err}
-use Rattle.language65.specs.declared.fault.AsmFault.{AsmFault}
-use Rattle.language65.specs.declared.fault.AsmFault.TheVariants.{NoSuchLabel}
-use Rattle.language65.specs.Faults.{is_memory}
-use Rattle.language65.specs.declared.laid.Context.{Context}
-use Rattle.language65.specs.Names.{Meaning, defined_at, imported_as, meaning_of, plain_meaning, scoped_meaning}
-use Rattle.language65.specs.Norms.{address_of, folded, form_of_definition, norm}
-use Rattle.language65.specs.Symbols.{Symbols, Definition}
-use Rattle.base65.specs.Outcome.{◌>>=◌}
+-- Forms that stay whatever follows, and how forms of constants are found.
+use Rattle.std.specs.Prelude.{ℤ, Option, Some, None, Ok, ⊤, ◌≡◌, ℕ, suc, Result, Err, ◌≤◌, List, slice_get, ◌⊎◌, ◌+◌, pos, codes, [], ◌∷◌, ◌++◌, length, sum_by, Bool, false, true, ◌<◌}
+use Rattle.std.specs.Result.{result_ok}
 use Rattle.syntax65.specs.Trees.{Tree, number, here, unary, binary}
+use Rattle.base65.specs.declared.values.Op1.{Op1}
+use Rattle.base65.specs.declared.values.Op2.{Op2}
 use Rattle.object65.specs.Form.{Form, lit, imp}
 use Rattle.object65.specs.Folding.{fold1, fold2}
+use Rattle.language65.specs.Norms.{literal_in, form_of_value, norm, Extends, form_of_definition, address_of, folded}
+use Rattle.language65.specs.declared.fault.AsmFault.{AsmFault}
+use Rattle.language65.specs.declared.laid.Context.{Context}
+use Rattle.language65.specs.Symbols.{Symbols, Definition, Meaning, defined_at, imported_as, meaning_of, plain_meaning, scoped_meaning}
+use Rattle.language65.specs.declared.fault.AsmFault.TheVariants.{Circular, NoSuchLabel}
 use Rattle.symbols65.specs.declared.resolving.attempt.State.{State}
-use Rattle.symbols65.specs.declared.resolving.attempt.State.TheVariants.{Unknown, Waiting, Hangs, Found}
+use Rattle.symbols65.specs.declared.resolving.attempt.State.TheVariants.{Unknown, Hangs, Waiting, Found}
 use Rattle.symbols65.specs.declared.resolving.attempt.Stop.{Stop}
 use Rattle.symbols65.specs.declared.resolving.attempt.Stop.TheVariants.{Needs, Fault}
-use Rattle.symbols65.specs.Hanging.{AreHung}
+use Rattle.language65.specs.Faults.{is_memory}
+use Rattle.base65.specs.Outcome.{◌>>=◌, Unless}
 use Rattle.symbols65.specs.declared.resolving.meaning.Meaning as code
 use Rattle.symbols65.specs.declared.resolving.meaning.Meaning.TheVariants.{Defined, Imported}
+
+-- ---- Forms that may be missing, as an expression without a value has none.
+
+-- the value of a form that is there and is a number
+abbrev pub literal_of : Option Form → Option ℤ
+literal_of None = None
+literal_of (Some f) = literal_in (Ok f)
+
+-- what an operation folds its parts to, where these are there and it has a value
+abbrev pub prefix_form : Op1 → Option Form → Option Form
+prefix_form op None = None
+prefix_form op (Some f) = result_ok (fold1 op f)
+
+abbrev pub binary_form : Op2 → Option Form → Option Form → Option Form
+binary_form op (Some f) (Some g) = result_ok (fold2 op f g)
+binary_form op f g = None
+
+-- a reference to a symbol, by a name or to an unnamed label
+abbrev pub IsReference : Tree → Type 0
+IsReference (number v) = ⊥
+IsReference here = ⊥
+IsReference (unary op e) = ⊥
+IsReference (binary op e f) = ⊥
+IsReference e = ⊤
+
+-- ---- Tables with more behind, and forms that stay whatever follows.
+
+-- an expression has this form whatever statements follow, and needs no more expressions one inside the other than there
+-- are definitions, and itself
+abbrev pub IsFinalWithin : ℕ → Symbols → Context → Tree → Form → Type 0
+IsFinalWithin n y s e f = (z : Symbols) → Extends y z → norm (suc n) z s e ≡ Ok f
+
+-- the form that there is
+abbrev pub formed : Result Form AsmFault → Option Form
+formed (Ok f) = Some f
+formed (Err e) = None
+
+-- what is defined at a place has this form whatever statements follow
+abbrev pub DefinesFinally : Symbols → ℕ → Definition → Form → Type 0
+DefinesFinally y j d f = (z : Symbols) → Extends y z → formed (form_of_value (norm (suc j) z) d.context d.value) ≡ Some f
+
+-- ---- Constants whose faults are those of others, whatever statements follow.
+
+-- what is defined at a place, with at most so many expressions one inside the other
+abbrev pub defined_within : Symbols → ℕ → ℕ → Result Form AsmFault
+defined_within y j n = form_of_definition (norm n y) (slice_get y.definitions j)
+
+-- what an outcome comes to with more and more expressions one inside the other
+abbrev pub Comes : (ℕ → Result Form AsmFault) → Result Form AsmFault → Type 0
+Comes v r = (n : ℕ) × ((k : ℕ) → n ≤ k → v k ≡ r)
+
+-- what comes to each fault to which the constant at a place comes, and leads back to itself where that does
+pub record Leads (y : Symbols) (v : ℕ → Result Form AsmFault) (j : ℕ) : Type 0 where
+  pub faults : (e : AsmFault) → Comes (defined_within y j) (Err e) → Comes v (Err e)
+  pub circular : (n : ℕ) → defined_within y j n ≡ Err Circular → v (suc n) ≡ Err Circular
+  pub starts : defined_within y j 0 ≡ Err Circular
+
+-- so does the first constant with the faults of the second, whatever statements follow
+abbrev pub HangsOn : Symbols → ℕ → ℕ → Type 0
+HangsOn y j k = (z : Symbols) → Extends y z → Leads z (defined_within z j) k
+
+-- so does an expression with those of a constant
+abbrev pub ExpressionHangsOn : Symbols → Context → Tree → ℕ → Type 0
+ExpressionHangsOn y s e k = (z : Symbols) → Extends y z → Leads z (λ n. norm n z s e) k
+
+-- the second constant is the first, or the first hangs on it
+abbrev pub Reaches : Symbols → ℕ → ℕ → Type 0
+Reaches y j k = (j ≡ k) ⊎ HangsOn y j k
+
+-- each constant that hangs on another in a table of forms does
+abbrev pub AreHung : Symbols → List State → Type 0
+AreHung y states = (j k : ℕ) → slice_get states j ≡ Some (Hangs k) → HangsOn y j k
+
+-- the constant whose form an attempt needs, if it stops for want of one
+abbrev pub needed_in : {A : Type 0} → Result A Stop → Option ℕ
+needed_in (Err (Needs k)) = Some k
+needed_in (Err (Fault e)) = None
+needed_in (Ok x) = None
+
+abbrev pub hung_on : Option State → Option ℕ
+hung_on (Some (Hangs k)) = Some k
+hung_on _ = None
+
+-- what is known but for that on which a constant hangs
+abbrev pub bare : State → State
+bare (Hangs k) = Unknown
+bare x = x
+
+-- ---- What names mean, as the code divides it, and attempts at forms by what is found so far.
 
 abbrev pub meaning_in : code.Meaning → Meaning
 meaning_in (Defined i) = defined_at i
@@ -132,3 +222,31 @@ abbrev pub may_be_looked_for : Option State → Bool
 may_be_looked_for (Some Unknown) = true
 may_be_looked_for (Some (Hangs k)) = true
 may_be_looked_for _ = false
+
+-- ---- What is known of forms by those that are final.
+
+-- what a call answered is so, where it doesn't need another form and memory sufficed
+abbrev pub Settles : Result Form AsmFault → Result Form Stop → Type 0
+Settles r (Ok f) = r ≡ Ok f
+Settles r (Err (Fault z)) = Unless (is_memory z) (r ≡ Err z)
+Settles r (Err (Needs j)) = ⊤
+
+-- each operand is such a one
+abbrev pub Operands : (Tree → Type 0) → Tree → Type 0
+Operands P (number v) = ⊤
+Operands P here = ⊤
+Operands P (unary op e) = Operands P e
+Operands P (binary op e g) = Operands P e × Operands P g
+Operands P e = P e
+
+-- an operand means the definition at this place of the table whatever statements follow
+abbrev pub MeansAlways : Symbols → Context → Tree → ℕ → Type 0
+MeansAlways y s e j = (j < length y.definitions) × ((z : Symbols) → Extends y z → meaning_of z s e ≡ Ok (defined_at j))
+
+-- an operand means the same definition whatever statements follow
+abbrev pub MeansFinally : Symbols → Context → Tree → Type 0
+MeansFinally y s e = (j : ℕ) × MeansAlways y s e j
+
+-- an expression has this value by any table, and needs no other expression for it
+abbrev pub IsNumber : Tree → ℤ → Type 0
+IsNumber e v = (n : ℕ) (y : Symbols) (s : Context) → norm (suc n) y s e ≡ Ok (lit v)

@@ -13,7 +13,7 @@ use Rattle.symbols65.specs.declared.table.entries.Entry.TheVariants as entry
 use Rattle.symbols65.specs.declared.table.entries.Opening.{Opening}
 use Rattle.symbols65.specs.declared.table.entries.Opening.TheVariants as opening
 use Rattle.symbols65.specs.declared.table.definition.Definition.{Definition}
-use Rattle.symbols65.specs.Finals.{DefinesFinally}
+use Rattle.symbols65.specs.Resolving.{DefinesFinally}
 
 abbrev pub key_of : code.Key → l.Key
 key_of (key.Named scope name) = named scope name.now

@@ -19,7 +19,7 @@ use Rattle.library65.proofs.Made.{written_is}
 use Rattle.base65.specs.declared.output.OutputFile.{OutputFile}
 use Rattle.language65.specs.Faults.{is_memory}
 use Rattle.module65.specs.Module as asm
-use Rattle.module65.specs.Places.{PlacedFault}
+use Rattle.module65.specs.Reading.{PlacedFault}
 use Rattle.asm65.specs.Assembly.{IsAssembled}
 use Rattle.cli65.specs.declared.line.Operation.{Operation}
 use Rattle.cli65.specs.Line.{Archiving, Assembling}

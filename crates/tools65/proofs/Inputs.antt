@@ -21,13 +21,12 @@ use Rattle.library65.specs.Reading.{index_at, in_file as in_library}
 use Rattle.library65.specs.Spelling.{AreMembers as AreStored, IsLibrary, Member, index_bytes}
 use Rattle.library65.proofs.Again.{index_again}
 use Rattle.script65.specs.declared.script.Script.{Script}
-use Rattle.language65.specs.Parts.{Content}
+use Rattle.language65.specs.Contents.{Content}
 use Rattle.language65.specs.Layout.{Layout}
 use Rattle.language65.specs.Numbering.{object_with}
 use Rattle.language65.specs.Symbols.{symbols_of}
 use Rattle.module65.specs.Module as asm
-use Rattle.module65.specs.Places.{PlacedFault}
-use Rattle.module65.specs.Reading.{Job}
+use Rattle.module65.specs.Reading.{PlacedFault, Job}
 use Rattle.module65.proofs.SoundContents.{sound_contents}
 use Rattle.module65.proofs.SoundSources.{sound_layout}
 use Rattle.sections65.proofs.GoodObjects.{good_object}

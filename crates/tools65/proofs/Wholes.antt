@@ -4,10 +4,8 @@ use Rattle.object65.specs.declared.object.Object.{Object}
 use Rattle.language65.specs.Layout.{Layout}
 use Rattle.module65.proofs.OneLayouts.{one_layout}
 use Rattle.module65.proofs.SoundSources.{sound_layout}
-use Rattle.module65.specs.Laying.{AreLaid}
+use Rattle.module65.specs.Reading.{AreLaid, PlacedFault, Reached}
 use Rattle.module65.specs.Module.{object_of, outcome_of}
-use Rattle.module65.specs.Places.{PlacedFault}
-use Rattle.module65.specs.Reading.{Reached}
 use Rattle.link65.specs.Programs.{Module}
 use Rattle.whole65.proofs.Equality.{equality_law}
 use Rattle.whole65.proofs.Links.{laid_out_law}

@@ -5,8 +5,7 @@ use Rattle.language65.specs.Faults.{fault_text}
 use Rattle.cli65.specs.Defining.{Defining}
 use Rattle.cli65.specs.Line.{Assembling}
 use Rattle.cli65.specs.Messages.{file_message, line_message}
-use Rattle.module65.specs.Places.{PlacedFault}
-use Rattle.module65.specs.Reading.{Define, Job}
+use Rattle.module65.specs.Reading.{PlacedFault, Define, Job}
 use Rattle.tools65.specs.Naming.{IsObjectName}
 
 -- a constant of a line, as the assembler has it

@@ -5,9 +5,8 @@ use Rattle.base65.specs.Store.{Files}
 use Rattle.script65.specs.Scripts.{IsScript}
 use Rattle.script65.specs.declared.script.Script.{Script}
 use Rattle.language65.specs.Layout.{Layout}
-use Rattle.module65.specs.Laying.{AreLaid}
+use Rattle.module65.specs.Reading.{AreLaid, Job}
 use Rattle.module65.specs.Module as asm
-use Rattle.module65.specs.Reading.{Job}
 use Rattle.asm65.specs.Assembly.{IsAssembled}
 use Rattle.object65.specs.declared.object.Object.{Object}
 use Rattle.object65.specs.Versions.{IsEitherVersion}

@@ -10,19 +10,17 @@ use Rattle.object65.specs.Form.{Form, lit, sec, imp, prefix, binary}
 use Rattle.object65.specs.declared.object.Action.{Action}
 use Rattle.object65.specs.declared.object.Action.TheVariants as action
 use Rattle.source65.specs.declared.place.Place.{Place}
-use Rattle.language65.specs.Parts.{Content, Said, Exported, Demanded, Checked}
+use Rattle.language65.specs.Contents.{Content, Said, Exported, Demanded, Checked, content_of, decided, each_of, export_said, import_fault, said_of, written}
 use Rattle.language65.specs.declared.fault.AsmFault.{AsmFault}
 use Rattle.language65.specs.declared.fault.AsmFault.TheVariants.{ImportedAndDefined, NotDefined}
-use Rattle.language65.specs.Contents.{content_of, decided, each_of, export_said, import_fault, said_of, written}
-use Rattle.language65.specs.Laid.{Laid}
+use Rattle.language65.specs.Symbols.{Laid, Symbols, defined, named}
 use Rattle.language65.specs.declared.language.Statement.{Statement}
 use Rattle.language65.specs.declared.language.Statement.TheVariants.{Constant, Import, Export, Global, ForceImport, Assert}
 use Rattle.language65.specs.Norms.{defined_form, norm_of}
 use Rattle.language65.specs.Numbering.{all_said, assert_of, import_keys, numbered, section_keys}
-use Rattle.language65.specs.Symbols.{Symbols, defined, named}
 use Rattle.module65.proofs.SoundForms.{all_append}
 use Rattle.module65.specs.Module.{contents_from}
-use Rattle.module65.specs.Places.{PlacedFault, at_place}
+use Rattle.module65.specs.Reading.{PlacedFault, at_place}
 use Rattle.whole65.proofs.Files.{all_split, table_law}
 use Rattle.whole65.proofs.SameValues.{bind_ok, written_ok, same_values_law}
 use Rattle.whole65.proofs.SectionBytes.{content_is, in_middle, placed_ok}

@@ -15,24 +15,22 @@ use Rattle.object65.specs.declared.object.Export.{Export}
 use Rattle.object65.specs.declared.object.Object.{Object}
 use Rattle.object65.specs.declared.object.Origin.{Origin}
 use Rattle.source65.specs.declared.place.Place.{Place}
-use Rattle.language65.specs.Parts.{Content, Said, Exported, Demanded, Checked}
+use Rattle.language65.specs.Contents.{Content, Said, Exported, Demanded, Checked, content_of, decided, each_of, export_said, import_fault, said_of, written}
 use Rattle.language65.specs.declared.fault.AsmFault.{AsmFault}
 use Rattle.language65.specs.declared.fault.AsmFault.TheVariants.{ImportedAndDefined, NotDefined}
-use Rattle.language65.specs.Contents.{content_of, decided, each_of, export_said, import_fault, said_of, written}
-use Rattle.language65.specs.Laid.{Laid}
+use Rattle.language65.specs.Symbols.{Laid, Symbols, defined, named, with_new}
 use Rattle.language65.specs.declared.language.Statement.{Statement}
 use Rattle.language65.specs.declared.language.Statement.TheVariants as statement
 use Rattle.language65.specs.Layout.{Layout}
 use Rattle.language65.specs.Norms.{defined_form, norm_of}
 use Rattle.language65.specs.Numbering.{all_said, exports_among, import_keys, numbered, section_keys}
-use Rattle.language65.specs.Symbols.{Symbols, defined, named, with_new}
 use Rattle.link65.specs.Names.{export_names}
 use Rattle.link65.specs.Programs.{Module, Program, no_program, program_of, with_module, with_modules}
 use Rattle.link65.specs.Programs as linked
 use Rattle.link65.specs.declared.parts.Exported as parts
 use Rattle.module65.proofs.SoundForms.{all_append}
 use Rattle.module65.specs.Module.{contents_from}
-use Rattle.module65.specs.Places.{PlacedFault, at_place}
+use Rattle.module65.specs.Reading.{PlacedFault, at_place}
 use Rattle.whole65.proofs.SameValues.{bind_ok, written_ok}
 use Rattle.whole65.proofs.SectionBytes.{content_is, placed_ok}
 use Rattle.whole65.proofs.Sources.{contents_of}

@@ -36,12 +36,11 @@ use Rattle.whole65.specs.Values.{by_nobody}
 use Rattle.whole65.specs.Whole.{IsGiven}
 use Rattle.std.specs.Option.{option_map}
 use Rattle.object65.specs.declared.object.Object.{Object}
-use Rattle.language65.specs.Parts.{Content, Part, Said, Exported, Demanded, Checked}
-use Rattle.language65.specs.Laid.{Laid}
+use Rattle.language65.specs.Contents.{Content, Part, Said, Exported, Demanded, Checked}
+use Rattle.language65.specs.Symbols.{Laid, imports_of}
 use Rattle.language65.specs.declared.language.Statement.{Statement}
 use Rattle.language65.specs.declared.language.Statement.TheVariants.{ForceImport}
 use Rattle.language65.specs.Numbering.{all_said, content_imports, import_keys, key_of, name_of, once, optional_key, part_imports, said_imports}
-use Rattle.language65.specs.Symbols.{imports_of}
 use Rattle.link65.proofs.SegmentLemmas.{at_front, behind_front}
 use Rattle.whole65.proofs.Keyed.{one_of, each_among, or_right}
 use Rattle.whole65.proofs.Exports.{all_demanded, demanded_names}

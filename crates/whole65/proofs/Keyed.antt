@@ -9,8 +9,7 @@ use Rattle.base65.specs.Outcome.{◌>>=◌}
 use Rattle.base65.specs.Values.{value1, value2, wrapped}
 use Rattle.object65.specs.Form.{lit, sec, imp, prefix, binary, Form}
 use Rattle.object65.specs.FormValue.{or_none, value_in}
-use Rattle.language65.specs.Numbering.{imports_in, import_keys, number_of, section_keys, section_of, content_imports, name_of, part_imports, said_imports, numbered}
-use Rattle.language65.specs.Sound.{sections_in, IsSoundContent, IsSoundForm, IsSoundPart, IsSoundSaid, IsSoundLayout}
+use Rattle.language65.specs.Numbering.{imports_in, import_keys, number_of, section_keys, section_of, content_imports, name_of, part_imports, said_imports, numbered, sections_in, IsSoundContent, IsSoundForm, IsSoundPart, IsSoundSaid, IsSoundLayout}
 use Rattle.std.specs.Str.{bytes_eq}
 use Rattle.std.proofs.lemmas.Bool.Decides.{nat_tests}
 use Rattle.std.proofs.lemmas.List.{length-append}
@@ -21,7 +20,7 @@ use Rattle.script65.specs.Placing.{rounded_up}
 use Rattle.script65.specs.declared.placement.Placement.{Placement}
 use Rattle.script65.specs.declared.script.Script.{Script}
 use Rattle.source65.specs.declared.place.Place.{Place}
-use Rattle.language65.specs.Parts.{Content, Part, Known, Filled, Waiting, Said, Exported, Demanded, Checked}
+use Rattle.language65.specs.Contents.{Content, Part, Known, Filled, Waiting, Said, Exported, Demanded, Checked}
 use Rattle.language65.specs.Layout.{Layout}
 use Rattle.link65.specs.Programs.{Module, Program, member, no_program, program_of, with_module, with_modules, grown, section_place, section_places, segment_of, with_section}
 use Rattle.link65.specs.Values.{address_of, linkage_of, resolved, run_of, base_of, exports_through, provider_at, import_value, Linkage, value_by}

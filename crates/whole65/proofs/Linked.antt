@@ -4,10 +4,9 @@ use Rattle.std.proofs.Common.{◌≡◌, ℕ, zero, suc, ◌+◌, List, [], ◌�
 use Rattle.std.specs.List.{flat_map, AllByRecursion, list_any}
 use Rattle.syntax65.specs.Trees.{Tree}
 use Rattle.language65.specs.declared.fault.AsmFault.{AsmFault}
-use Rattle.language65.specs.Laid.{Laid, asks_section}
+use Rattle.language65.specs.Symbols.{Laid, asks_section, Definition, Key, definition_with, definitions_of, key_defined, value_defined, Symbols, symbols_of, meaning_of}
 use Rattle.language65.specs.Layout.{Layout, laid, own_size, context_of}
-use Rattle.language65.specs.Names as names
-use Rattle.language65.specs.Symbols.{Definition, Key, definition_with, definitions_of, key_defined, value_defined, Symbols, symbols_of}
+use Rattle.language65.specs.Symbols as names
 use Rattle.whole65.proofs.LinkedObjects.{or_first, place_in, symbols_at, base_in, begin_in, objects_of, spot_in}
 use Rattle.whole65.specs.Modules.{defining_from, definition_at, import_named, meaning_by, spot_at, statement_at, table_of, global_spot, spot_or}
 use Rattle.whole65.specs.Objects.{definition_shown, import_shown, value_shown, meaning_shown, AreObjects, IsGiven, Objects}
@@ -18,7 +17,7 @@ use Rattle.syntax65.specs.declared.lexing.tokens.AddressSize.{AddressSize}
 use Rattle.language65.specs.declared.laid.Context.{Context}
 use Rattle.language65.specs.declared.language.Statement.{Statement}
 use Rattle.language65.specs.declared.language.Statement.TheVariants as statement
-use Rattle.language65.specs.Sizes.{length_of}
+use Rattle.language65.specs.Norms.{length_of}
 use Rattle.language65.proofs.Segments.{all_more}
 use Rattle.whole65.proofs.Positions.{IsAbsent, other_part, all_front, itself, all_get, position_law, named}
 use Rattle.whole65.proofs.Multiples.{equal}
@@ -32,7 +31,6 @@ use Rattle.base65.specs.Values.{wrapped}
 use Rattle.script65.specs.declared.placement.Placement.{Placement}
 use Rattle.script65.specs.declared.script.Script.{Script}
 use Rattle.link65.specs.Values.{run_of}
-use Rattle.language65.specs.Names.{meaning_of}
 use Rattle.whole65.specs.Programs.{laid_at, means_at, statement_address, program_of}
 
 -- ---- The statements that make definitions.

@@ -4,7 +4,7 @@ use Rattle.std.specs.Prelude.{◌≡◌, ℕ, ℤ, List, [], ◌∷◌, ◌++◌
 use Rattle.object65.specs.Form.{Form}
 use Rattle.object65.specs.FormValue.{value_in}
 use Rattle.object65.specs.declared.object.Fragment.{Fragment}
-use Rattle.language65.specs.Parts.{Part, Known, Filled, Waiting, Content, Said, Exported, Demanded, Checked}
+use Rattle.language65.specs.Contents.{Part, Known, Filled, Waiting, Content, Said, Exported, Demanded, Checked}
 use Rattle.whole65.specs.Contents.{AreStored}
 use Rattle.std.specs.Str.{bytes_eq}
 use Rattle.object65.specs.declared.object.Section.{Section}
@@ -21,8 +21,7 @@ use Rattle.whole65.specs.Objects.{Objects, HasValue}
 use Rattle.whole65.specs.Offsets.{begin_of}
 use Rattle.whole65.specs.Segments.{end_of, has_section, items_of, segment_name}
 use Rattle.std.specs.List.{AllByRecursion, list_any}
-use Rattle.language65.specs.Numbering.{imports_in, numbered}
-use Rattle.language65.specs.Sound.{sections_in}
+use Rattle.language65.specs.Numbering.{imports_in, numbered, sections_in}
 use Rattle.link65.specs.Names.{provider_of, script_definitions, weak_symbols}
 use Rattle.link65.specs.declared.parts.Provider.{Provider}
 use Rattle.link65.specs.declared.parts.Provider.TheVariants.{Nobody}

@@ -28,12 +28,10 @@ use Rattle.source65.specs.declared.place.Place.{Place}
 use Rattle.language65.specs.declared.fault.AsmFault.{AsmFault}
 use Rattle.language65.specs.declared.language.Statement.{Statement}
 use Rattle.language65.specs.declared.language.Statement.TheVariants.{Constant}
-use Rattle.language65.specs.Layout.{Layout, layout_behind, nothing_laid}
-use Rattle.language65.specs.LineFaults.{line_fault, unless_fault}
+use Rattle.language65.specs.Layout.{Layout, layout_behind, nothing_laid, line_fault, unless_fault}
 use Rattle.language65.specs.Symbols.{symbols_of}
 use Rattle.statements65.specs.Parsing.{label_of}
-use Rattle.module65.specs.Laying.{IsLaid, laying, AreLaid}
-use Rattle.module65.specs.Reading.{AreDefined, AreTaken, Define, Follows, IsBegun, IsGiven, IsLabelled, IsRest, Job, Reached, no_line, taken, faulty, refused, ended, with_bytes}
+use Rattle.module65.specs.Reading.{IsLaid, laying, AreLaid, AreDefined, AreTaken, Define, Follows, IsBegun, IsGiven, IsLabelled, IsRest, Job, Reached, no_line, taken, faulty, refused, ended, with_bytes}
 use Rattle.whole65.specs.Offsets.{IsLaidOut, begun, behind}
 use Rattle.base65.specs.Values.{value1, value2}
 use Rattle.object65.specs.Form.{lit, sec, imp, prefix, binary, Form}

@@ -7,15 +7,13 @@ use Rattle.syntax65.specs.declared.lexing.tokens.AddressSize.{AddressSize}
 use Rattle.language65.specs.declared.contents.Segment.{Segment}
 use Rattle.language65.specs.declared.language.Statement.{Statement}
 use Rattle.language65.specs.declared.language.Statement.TheVariants as statement
-use Rattle.language65.specs.Layout.{Standing, current_behind, first_size, grown_at, kept_behind, last_kept, multiple_of, named_segments, new_segment, own_size, place_of, rest_kept, segment_at, segments_behind, context_of, Layout, laid, layout_behind, nothing_laid}
-use Rattle.language65.specs.Sizes.{length_of}
-use Rattle.language65.specs.Symbols.{Symbols, symbols_of}
+use Rattle.language65.specs.Layout.{Standing, current_behind, first_size, grown_at, kept_behind, last_kept, multiple_of, named_segments, new_segment, own_size, place_of, rest_kept, segment_at, segments_behind, context_of, Layout, laid, layout_behind, nothing_laid, line_fault}
+use Rattle.language65.specs.Norms.{length_of}
+use Rattle.language65.specs.Symbols.{Symbols, symbols_of, Laid}
 use Rattle.language65.proofs.Segments.{all_same, end_behind, grown_end, grown_length, grown_other, named_there, one_longer, all_more}
 use Rattle.std.proofs.lemmas.List.{append-nil, append_assoc, map-append}
 use Rattle.std.proofs.lemmas.List.Elements.{filter-append}
 use Rattle.source65.specs.declared.place.Place.{Place}
-use Rattle.language65.specs.Laid.{Laid}
-use Rattle.language65.specs.LineFaults.{line_fault}
 use Rattle.whole65.proofs.Multiples.{line_ends, multiple_power, equal, end_of-append, largest_power, line_shift, Larger, larger, multiple_of_multiple}
 use Rattle.whole65.specs.Laws.{OffsetLaw}
 use Rattle.whole65.specs.Offsets.{ArePowers, IsLaidOut, IsPower, begun, behind, lines_at, IsMultiple}

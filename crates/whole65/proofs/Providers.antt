@@ -16,14 +16,12 @@ use Rattle.script65.specs.declared.placement.Placement.{Placement}
 use Rattle.script65.specs.declared.script.Script.{Script}
 use Rattle.language65.proofs.Lists.{same_bytes}
 use Rattle.source65.specs.declared.place.Place.{Place}
-use Rattle.language65.specs.Parts.{Content, Said, Exported, Demanded, Checked}
+use Rattle.language65.specs.Contents.{Content, Said, Exported, Demanded, Checked}
 use Rattle.language65.specs.declared.fault.AsmFault.TheVariants.{Undefined}
-use Rattle.language65.specs.Laid.{Laid}
+use Rattle.language65.specs.Symbols.{Laid, or_else, or_fault, Symbols, defined, imported, named}
 use Rattle.language65.specs.Layout.{Layout}
-use Rattle.language65.specs.Names.{or_else, or_fault}
 use Rattle.language65.specs.Norms.{defined_form, form_of_meaning, norm, norm_of}
 use Rattle.language65.specs.Numbering.{all_said, exports_among, import_keys, numbered, section_keys}
-use Rattle.language65.specs.Symbols.{Symbols, defined, imported, named}
 use Rattle.link65.specs.Names.{by_definition, by_export, defined_at, exported_at, is_among, script_definitions, weak_symbols}
 use Rattle.link65.specs.Names as linked
 use Rattle.link65.specs.Programs.{position_in, Module, Program, exported, no_program, program_of, with_module, with_modules, member}

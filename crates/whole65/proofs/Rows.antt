@@ -15,11 +15,10 @@ use Rattle.script65.specs.Placing.{size_of}
 use Rattle.script65.specs.declared.placement.SegmentNeed.{SegmentNeed}
 use Rattle.language65.proofs.Lists.{bytes_swap, same_bytes}
 use Rattle.source65.specs.declared.place.Place.{Place}
-use Rattle.language65.specs.Parts.{Content, Part, Known, Filled, Waiting}
-use Rattle.language65.specs.Laid.{Laid, asks_section}
+use Rattle.language65.specs.Contents.{Content, Part, Known, Filled, Waiting}
+use Rattle.language65.specs.Symbols.{Laid, asks_section, with_new}
 use Rattle.language65.specs.Layout.{Layout}
 use Rattle.language65.specs.Numbering.{import_keys, once, section_keys, section_of, segments_asked, parts_in}
-use Rattle.language65.specs.Symbols.{with_new}
 use Rattle.link65.specs.Programs.{Module, Program as LinkedProgram, no_program, program_of, with_module, with_modules, Segment, grown, segment_of, with_section, with_sections, Cell, begin_behind, filled, fragment_cells}
 use Rattle.link65.specs.Values as places
 use Rattle.link65.specs.Programs as linked

@@ -19,9 +19,8 @@ use Rattle.whole65.specs.Values.{Provider, by_module, by_script, by_nobody, Prog
 use Rattle.syntax65.specs.Trees.{Tree, name}
 use Rattle.syntax65.specs.Trees as tree
 use Rattle.whole65.specs.Laws.{OneValueLaw, SameValuesLaw}
-use Rattle.language65.specs.Names as names
-use Rattle.language65.specs.Names.{meaning_of}
-use Rattle.language65.specs.Symbols.{Definition}
+use Rattle.language65.specs.Symbols as names
+use Rattle.language65.specs.Symbols.{meaning_of, Definition}
 use Rattle.base65.specs.declared.values.Op1.{Op1}
 use Rattle.base65.specs.declared.values.Op2.{Op2}
 use Rattle.object65.proofs.Foldings.{binary_fold_law, prefix_fold_law}

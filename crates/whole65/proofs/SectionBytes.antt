@@ -14,10 +14,9 @@ use Rattle.object65.specs.Objects.{fits_width, value_bytes}
 use Rattle.object65.specs.declared.object.Width.{Width}
 use Rattle.object65.specs.declared.object.Width.TheVariants.{Byte, Word, HighFirst, Dword, Branch}
 use Rattle.source65.specs.declared.place.Place.{Place}
-use Rattle.language65.specs.Parts.{Part, Known, Waiting, Content, Said}
+use Rattle.language65.specs.Contents.{Part, Known, Waiting, Content, Said, operand_form, stored, written, instruction_parts, item_part, opcode_part, operand_part, operand_parts, operand_tree, parts_of, room_part, content_of, said_of}
 use Rattle.language65.specs.declared.fault.AsmFault.{AsmFault}
 use Rattle.language65.specs.declared.fault.AsmFault.TheVariants.{OutOfRange}
-use Rattle.language65.specs.Contents.{operand_form, stored, written, instruction_parts, item_part, opcode_part, operand_part, operand_parts, operand_tree, parts_of, room_part, content_of, said_of}
 use Rattle.language65.specs.declared.laid.Context.{Context}
 use Rattle.whole65.proofs.SameValues.{bind_ok, folded_ok, written_ok, same_values_law}
 use Rattle.whole65.specs.Contents.{AreStored, counted_from, AreInstruction, AreItem, AreItems, AreLine, AreOperand, code_bytes, filling, AreBytes}
@@ -34,16 +33,14 @@ use Rattle.language65.specs.declared.language.Operand.{Operand}
 use Rattle.language65.specs.declared.language.Statement.{Statement}
 use Rattle.language65.specs.declared.language.Statement.TheVariants as statement
 use Rattle.language65.specs.declared.language.Item.TheVariants as item
-use Rattle.language65.specs.Norms.{norm_of}
-use Rattle.language65.specs.Sizes.{width_of}
+use Rattle.language65.specs.Norms.{norm_of, width_of}
 use Rattle.whole65.specs.Segments.{Line, line_end, line, line_of, lines_behind, largest_multiple}
 use Rattle.whole65.specs.Values.{Program, Value}
 use Rattle.std.specs.List.{flat_map}
-use Rattle.language65.specs.Laid.{Laid, asks_section}
+use Rattle.language65.specs.Symbols.{Laid, asks_section, Symbols}
 use Rattle.language65.specs.Numbering.{parts_in}
-use Rattle.language65.specs.Symbols.{Symbols}
 use Rattle.module65.specs.Module.{contents_from}
-use Rattle.module65.specs.Places.{PlacedFault, at_place}
+use Rattle.module65.specs.Reading.{PlacedFault, at_place}
 use Rattle.whole65.proofs.Offsets.{EndsAt, all_end, ends_moved, placed}
 use Rattle.whole65.proofs.Positions.{powers_at}
 use Rattle.whole65.specs.Offsets.{ArePowers, lines_at, IsMultiple, IsLaidOut}

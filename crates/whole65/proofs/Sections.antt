@@ -9,15 +9,13 @@ use Rattle.std.proofs.lemmas.Bool.Decides.{nat_tests}
 use Rattle.std.proofs.lemmas.List.Folds.{list_any-append}
 use Rattle.base65.specs.Outcome.{◌>>=◌, each}
 use Rattle.link65.proofs.SegmentLemmas.{at_front, behind_front, none_among as none_found}
-use Rattle.language65.specs.Parts.{Content}
-use Rattle.language65.specs.Contents.{content_of}
-use Rattle.language65.specs.Laid.{Laid, asks_section}
+use Rattle.language65.specs.Contents.{Content, content_of}
+use Rattle.language65.specs.Symbols.{Laid, asks_section, Symbols}
 use Rattle.language65.specs.Layout.{Layout, segment_at}
 use Rattle.language65.specs.Numbering.{number_of, once, section_keys, segments_asked, section_of}
-use Rattle.language65.specs.Symbols.{Symbols}
 use Rattle.language65.proofs.Segments.{all_more}
 use Rattle.module65.specs.Module.{contents_from}
-use Rattle.module65.specs.Places.{PlacedFault, at_place}
+use Rattle.module65.specs.Reading.{PlacedFault, at_place}
 use Rattle.whole65.proofs.SameValues.{bind_ok}
 use Rattle.whole65.proofs.Positions.{named, Distinct, itself}
 use Rattle.whole65.proofs.Multiples.{equal}

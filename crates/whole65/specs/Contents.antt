@@ -15,7 +15,7 @@ use Rattle.language65.specs.declared.language.Operand.{Operand}
 use Rattle.language65.specs.declared.language.Statement.{Statement}
 use Rattle.language65.specs.declared.language.Statement.TheVariants.{Instruction, Values, Reserve, Align, FilePart}
 use Rattle.language65.specs.declared.language.Item.TheVariants as item
-use Rattle.language65.specs.Sizes.{width_of}
+use Rattle.language65.specs.Norms.{width_of}
 use Rattle.whole65.specs.Segments.{Line, end_behind, line_end, line, rounding}
 use Rattle.whole65.specs.Segments as segments
 use Rattle.whole65.specs.Values.{Program, Value}

@@ -2,7 +2,7 @@
 use Rattle.std.specs.Prelude.{◌≡◌, ℕ, ℤ, ◌↔◌, List, [], ◌∷◌, map, slice_get, take, false, Some, Result, Ok}
 use Rattle.syntax65.specs.Trees.{Tree, name}
 use Rattle.object65.specs.Form.{Form}
-use Rattle.language65.specs.Laid.{Laid}
+use Rattle.language65.specs.Symbols.{Laid}
 use Rattle.language65.specs.Layout.{Layout, segment_at}
 use Rattle.language65.specs.Norms.{norm}
 use Rattle.whole65.specs.Offsets.{ArePowers, IsLaidOut, lines_at}

@@ -3,13 +3,12 @@ use Rattle.std.specs.Prelude.{ℕ, suc, Bool, List, [], ◌∷◌, ◌++◌, map
 use Rattle.std.specs.List.{flat_map}
 use Rattle.syntax65.specs.Trees.{Tree}
 use Rattle.language65.specs.declared.fault.AsmFault.{AsmFault}
-use Rattle.language65.specs.Laid.{Laid}
+use Rattle.language65.specs.Symbols.{Laid, Symbols, definitions_of, defined, named, symbols_of, value_defined, with_new}
 use Rattle.language65.specs.declared.laid.Context.{Context}
 use Rattle.language65.specs.declared.language.Statement.{Statement}
 use Rattle.language65.specs.declared.language.Statement.TheVariants.{Export, Global, ForceImport}
 use Rattle.language65.specs.Layout.{Layout}
-use Rattle.language65.specs.Names as names
-use Rattle.language65.specs.Symbols.{Symbols, definitions_of, defined, named, symbols_of, value_defined, with_new}
+use Rattle.language65.specs.Symbols as names
 use Rattle.whole65.specs.Values.{Meaning, label_at, constant_at, import_of}
 
 -- A module is its laid statements. A statement is named by its place among them.

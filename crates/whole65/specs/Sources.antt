@@ -3,7 +3,7 @@ use Rattle.std.specs.Prelude.{◌≡◌, List, [], ◌∷◌, Ok, ⊤}
 use Rattle.object65.specs.Versions.{IsEitherVersion}
 use Rattle.object65.specs.declared.object.Object.{Object}
 use Rattle.language65.specs.Layout.{Layout}
-use Rattle.language65.specs.Sound.{IsSoundLayout}
+use Rattle.language65.specs.Numbering.{IsSoundLayout}
 use Rattle.link65.specs.Programs.{Module}
 use Rattle.module65.specs.Module.{object_of}
 use Rattle.whole65.specs.Offsets.{IsLaidOut}

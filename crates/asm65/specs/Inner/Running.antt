@@ -1,10 +1,10 @@
--- What an assembler has taken of a source while it takes its statements.
-use Rattle.std.specs.Prelude.{◌≡◌, ℕ, ◌+◌, ◌*◌, ◌≤◌, ◌<◌, List, [], ◌∷◌, Option, Some, None, IfErr, IfSome, Bool, true, false, Result, Ok, Err, ⊤}
+-- How statements are taken, and their files.
+use Rattle.std.specs.Prelude.{◌≡◌, ℕ, ◌+◌, ◌*◌, ◌≤◌, ◌<◌, List, [], ◌∷◌, Option, Some, None, IfErr, IfSome, Bool, true, false, Result, Ok, Err, ⊤, take}
 use Rattle.base65.specs.Outcome.{Unless}
 use Rattle.base65.specs.Store.{Files}
 use Rattle.syntax65.specs.Tokens.{Lexeme}
 use Rattle.syntax65.specs.Trees.{number}
-use Rattle.expand65.specs.AtHand.{Gives}
+use Rattle.expand65.specs.Failing.{Gives}
 use Rattle.expand65.specs.State as expand
 use Rattle.expand65.specs.Standing.{measure_of, place_of}
 use Rattle.source65.specs.declared.place.Place.{Place}
@@ -12,15 +12,16 @@ use Rattle.language65.specs.declared.fault.AsmFault.{AsmFault}
 use Rattle.language65.specs.declared.fault.AsmFault.TheVariants.{FileError, FileNotFound}
 use Rattle.language65.specs.Faults.{is_failure, is_outside}
 use Rattle.language65.specs.declared.language.Statement.{Statement}
-use Rattle.language65.specs.declared.language.Statement.TheVariants.{Constant}
-use Rattle.language65.specs.Sound.{AreNamed, IsSound}
+use Rattle.language65.specs.declared.language.Statement.TheVariants.{Constant, FilePart, NamedPart}
+use Rattle.language65.specs.Numbering.{AreNamed, IsSound}
 use Rattle.module65.specs.Machine.{Runs, State, Takes, begun}
-use Rattle.module65.specs.Reading.{Define, IsGiven, Job, stopped}
+use Rattle.module65.specs.Reading.{Define, IsGiven, Job, stopped, bytes_for, with_bytes}
 use Rattle.asm65.specs.declared.assembler.Assembler.{Assembler}
 use Rattle.asm65.specs.declared.running.Run.{Run}
 use Rattle.layout65.specs.Counting.{opening_limit}
 use Rattle.asm65.specs.Inner.Holding.{Holds}
-use Rattle.asm65.specs.Unread.{Without}
+use Rattle.asm65.specs.Assembly.{Without}
+use Rattle.std.specs.Option.{option_map}
 
 -- ---- What a call that takes statements leaves.
 
@@ -167,3 +168,17 @@ abbrev pub TakesLineIf : Option Files → Option (List ℕ) → Run → Run → 
 TakesLineIf o blamed old new (Ok true) = TakesLine o blamed old new (Ok tt)
 TakesLineIf o blamed old new (Ok false) = new ≡ old
 TakesLineIf o blamed old new (Err e) = TakesLine o blamed old new (Err e)
+
+-- ---- What is read of the files whose bytes statements take.
+
+-- a statement with the bytes of its file up to the limit, or up to one more, where there are more
+abbrev pub read_bytes : Files → Place → Statement → Statement
+read_bytes m place (NamedPart name start len) =
+    FilePart (option_map (take 16777217) (bytes_for m place name)) start len
+read_bytes m place x = x
+
+-- A statement is refused before its file is read for what is wrong with it whatever the files have; where the store
+-- fails nothing is, so without its file the answer would be that it isn't there.
+pub record IsRefusedUnread (blamed : Option (List ℕ)) (t : State) (place : Place) (x : Statement) (e : AsmFault) : Type 0 where
+  pub inside : Unless (is_outside e) ((m : Files) → Takes t place (with_bytes m place x) (Err e))
+  pub failed : is_failure e ≡ true → Without blamed (λ m t. Takes t place (with_bytes m place x)) t (Err FileNotFound)

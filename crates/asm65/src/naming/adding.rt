@@ -6,7 +6,7 @@ ghost use Rattle.language65.specs.Symbols.{defined};
 ghost use Rattle.symbols65.specs.Tables.{IsCounted, KeepsFinal, definition_in, definition_seen, entry_of, first_number, key_of, same_entry, word_of};
 ghost use Rattle.symbols65.specs.Views.{table_of, with_definition, words_of, with_names, with_scope};
 ghost use Rattle.std.specs.Option.{option_map};
-ghost use Rattle.language65.specs.LineFaults.{opened_twice};
+ghost use Rattle.language65.specs.Layout.{opened_twice};
 ghost use Rattle.symbols65.specs.Resolving.{IsTable};
 ghost use Rattle.asm65.specs.Inner.Taking.{KeepsPut};
 

@@ -3,12 +3,11 @@
 ghost use Rattle.std.specs.Prelude.{◌≡◌, drop, IfOk, IfSome, map, OnOk, take};
 ghost use Rattle.object65.specs.Form.{lit};
 ghost use Rattle.source65.specs.declared.place.Place.{Place};
-ghost use Rattle.language65.specs.Contents.{file_bytes, opcode_part, operand_form, put, room_part, stored};
+ghost use Rattle.language65.specs.Contents.{file_bytes, opcode_part, operand_form, put, room_part, stored, Known};
 ghost use Rattle.language65.specs.Items.{numbered};
-ghost use Rattle.language65.specs.Parts.{Known};
 ghost use Rattle.language65.specs.Views.{place_at};
-ghost use Rattle.sections65.specs.Standing.{Feeds};
-ghost use Rattle.asm65.specs.Inner.Putting.{AreStored, IsFaultless, IsPut, operand_stored};
+ghost use Rattle.sections65.specs.Fed.{Feeds};
+ghost use Rattle.asm65.specs.Inner.Holding.{AreStored, IsFaultless, IsPut, operand_stored};
 
 use super::Site;
 use super::values::{is_file_name, literal_of};

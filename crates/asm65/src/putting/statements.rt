@@ -1,18 +1,16 @@
 //! What statements that define no name put into sections.
 
 ghost use Rattle.std.specs.Prelude.{◌≡◌, IfOk, true, ◌∷◌, [], OnOk, map};
-ghost use Rattle.language65.specs.Contents.{operand_tree, file_bytes, opcode_part, room_part};
-ghost use Rattle.language65.specs.Sizes.{width_of};
+ghost use Rattle.language65.specs.Contents.{operand_tree, file_bytes, opcode_part, room_part, Known};
+ghost use Rattle.language65.specs.Norms.{width_of};
 ghost use Rattle.symbols65.specs.Views.{table_of};
-ghost use Rattle.asm65.specs.Inner.Putting.{IsSo};
+ghost use Rattle.asm65.specs.Inner.Holding.{IsSo, Enters};
 ghost use Rattle.source65.specs.declared.place.Place.{Place};
-ghost use Rattle.language65.specs.Parts.{Known};
 ghost use Rattle.language65.specs.declared.laid.Settled.TheVariants.{InMode};
 ghost use Rattle.language65.specs.Views.{place_at};
 ghost use Rattle.syntax65.specs.Opcodes.{opcode_of};
-ghost use Rattle.module65.specs.Pieces.{asserted, given, instruction_pieces, valued, item_piece, operand_pieces};
+ghost use Rattle.module65.specs.Module.{asserted, given, instruction_pieces, valued, item_piece, operand_pieces};
 ghost use Rattle.language65.specs.Items.{numbered};
-ghost use Rattle.asm65.specs.Inner.Holding.{Enters};
 
 use super::Site;
 use super::parts::{bytes_of, items_of, put_code, put_part, put_room};

@@ -6,10 +6,9 @@ ghost use Rattle.language65.specs.Contents.{stored};
 ghost use Rattle.language65.specs.Faults.{is_memory};
 ghost use Rattle.language65.specs.Views.{part_at, place_at};
 ghost use Rattle.object65.specs.Objects.{is_file_name};
-ghost use Rattle.asm65.specs.Inner.Putting.{literal_of, KeepsTables, Waits, IsTried};
+ghost use Rattle.asm65.specs.Inner.Holding.{literal_of, KeepsTables, Waits, IsTried, Enters};
 ghost use Rattle.symbols65.specs.Tables.{Begins};
-ghost use Rattle.module65.specs.Pieces.{datum, operand, valued};
-ghost use Rattle.asm65.specs.Inner.Holding.{Enters};
+ghost use Rattle.module65.specs.Module.{datum, operand, valued};
 
 use super::Site;
 use super::parts::{put_form, put_operand};

@@ -6,8 +6,8 @@ ghost use Rattle.base65.specs.Outcome.{Gives};
 ghost use Rattle.language65.specs.declared.fault.AsmFault.TheVariants.{BadPart};
 ghost use Rattle.language65.specs.Faults.{is_memory};
 ghost use Rattle.language65.specs.declared.language.Statement.TheVariants.{FilePart, Instruction, Values};
-ghost use Rattle.language65.specs.LineFaults.{when, unless_fault};
-ghost use Rattle.language65.specs.Sizes.{counted, optional_value, item_len, mode_len};
+ghost use Rattle.language65.specs.Layout.{when, unless_fault};
+ghost use Rattle.language65.specs.Norms.{counted, optional_value, item_len, mode_len};
 ghost use Rattle.symbols65.specs.Resolving.{IsTable};
 ghost use Rattle.symbols65.specs.Views.{table_of};
 ghost use Rattle.layout65.specs.Measuring.{IsFound, is_within, or_default, placed, ranged, unread_fault, fitted};
@@ -20,9 +20,7 @@ use super::trees::check_range;
 use crate::measuring::{Before, Measured, fit};
 use crate::standing::Standing;
 use base65::Sequence;
-use language65::{
-    AsmFault, Item, Items, ItemsKind, Operand, OptionalExpr, PartRange, Settled, Context,
-};
+use language65::{AsmFault, Item, Items, ItemsKind, Operand, OptionalExpr, PartRange, Settled, Context};
 use object65::Width;
 use source65::MAX_FILE;
 use std::alloc::Global;

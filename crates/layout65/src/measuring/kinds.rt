@@ -1,7 +1,7 @@
 //! What statements place, by their kinds, and which ask for a section.
 
 ghost use Rattle.std.specs.Prelude.{◌≡◌, ℕ, List, OnOk, true};
-ghost use Rattle.language65.specs.Laid.{asks_section, has_here};
+ghost use Rattle.language65.specs.Symbols.{asks_section, has_here};
 ghost use Rattle.base65.specs.Outcome.{Gives};
 ghost use Rattle.language65.specs.Faults.{is_memory};
 ghost use Rattle.language65.specs.declared.language.Statement.TheVariants.{Constant};

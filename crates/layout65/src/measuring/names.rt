@@ -4,9 +4,8 @@ ghost use Rattle.std.specs.Prelude.{◌≡◌, ◌&&◌};
 ghost use Rattle.base65.specs.Outcome.{Gives};
 ghost use Rattle.language65.specs.declared.fault.AsmFault.TheVariants.{DefinedTwice, NotUnderstood, ScopeTwice};
 ghost use Rattle.language65.specs.Faults.{is_memory};
-ghost use Rattle.language65.specs.LineFaults.{defined_twice, is_open, opened_twice, scope_name, stands_outside, when, where_there, unless_fault};
-ghost use Rattle.language65.specs.Names.{scope_in};
-ghost use Rattle.language65.specs.Symbols.{defined, key_defined};
+ghost use Rattle.language65.specs.Layout.{defined_twice, is_open, opened_twice, scope_name, stands_outside, when, where_there, unless_fault};
+ghost use Rattle.language65.specs.Symbols.{scope_in, defined, key_defined};
 ghost use Rattle.symbols65.specs.Tables.{key_of};
 ghost use Rattle.symbols65.specs.Views.{table_of};
 

@@ -1,8 +1,7 @@
 //! Segments and blocks, and statements that place room.
 
 ghost use Rattle.std.specs.Prelude.{◌≡◌, ◌&&◌, not, slice_get, ◌<◌, ◌≤◌, IfOk, OnOk, pos, Some};
-ghost use Rattle.language65.specs.Layout.{place_of, segment_at, context_of as standing_spot};
-ghost use Rattle.language65.specs.LineFaults.{changed_size, is_kept, is_open, is_scope, opened_as, same_size, when, unless_fault, is_byte_value, is_count, is_there, multiple_fault};
+ghost use Rattle.language65.specs.Layout.{place_of, segment_at, context_of as standing_spot, changed_size, is_kept, is_open, is_scope, opened_as, same_size, when, unless_fault, is_byte_value, is_count, is_there, multiple_fault};
 ghost use Rattle.language65.specs.declared.fault.AsmFault.TheVariants.{BadScope, PopWithoutPush, BadOperand};
 ghost use Rattle.symbols65.specs.Views.{table_of};
 ghost use Rattle.layout65.specs.Sounds.{IsSoundStanding, standing_of};
@@ -10,7 +9,7 @@ ghost use Rattle.std.specs.Option.{option_map};
 ghost use Rattle.base65.specs.Outcome.{Gives};
 ghost use Rattle.language65.specs.Faults.{is_memory};
 ghost use Rattle.language65.specs.declared.language.Statement.TheVariants.{Align, Reserve};
-ghost use Rattle.language65.specs.Sizes.{counted, fill_settled, gap, optional_value};
+ghost use Rattle.language65.specs.Norms.{counted, fill_settled, gap, optional_value};
 ghost use Rattle.symbols65.specs.Resolving.{IsTable};
 ghost use Rattle.layout65.specs.Measuring.{any_settled, placed};
 

@@ -4,7 +4,7 @@ ghost use Rattle.std.specs.Prelude.{◌≡◌, List, None, false, ℕ, [], ◌�
 ghost use Rattle.base65.specs.Outcome.{Gives};
 ghost use Rattle.syntax65.specs.Trees.{name};
 ghost use Rattle.language65.specs.Faults.{is_memory};
-ghost use Rattle.language65.specs.LineFaults.{lost_scope, unless_fault, item_trees, lost_scopes, operand_trees, optional_tree, trees_of};
+ghost use Rattle.language65.specs.Layout.{lost_scope, unless_fault, item_trees, lost_scopes, operand_trees, optional_tree, trees_of};
 ghost use Rattle.language65.specs.Symbols.{Scope};
 ghost use Rattle.symbols65.specs.Views.{table_of};
 ghost use Rattle.layout65.specs.Measuring.{lost_parts};

@@ -1,7 +1,7 @@
 //! The addressing forms of instructions.
 
 ghost use Rattle.std.specs.Prelude.{◌≡◌, IfOk, OnOk};
-ghost use Rattle.language65.specs.Sizes.{address_mode, branch_mode, first_of, is_branch, mode_for, mode_of};
+ghost use Rattle.language65.specs.Norms.{address_mode, branch_mode, first_of, is_branch, mode_for, mode_of};
 ghost use Rattle.symbols65.specs.Resolving.{IsTable};
 ghost use Rattle.symbols65.specs.Views.{table_of};
 

@@ -2,18 +2,13 @@
 
 ghost use Rattle.std.specs.Prelude.{◌≡◌, false, Ok, OnOk, IfOk, slice_get};
 ghost use Rattle.language65.specs.Faults.{is_memory};
-ghost use Rattle.language65.specs.Norms.{literal_in, constant_in, norm_of};
-ghost use Rattle.symbols65.specs.Finals.{literal_of, IsReference};
-ghost use Rattle.symbols65.specs.Resolving.{IsTable, meaning_in};
+ghost use Rattle.language65.specs.Norms.{literal_in, constant_in, norm_of, is_byte, larger, size_by, size_defined, size_of, size_of_import, size_of_meaning, size_of_value, takes_byte};
+ghost use Rattle.symbols65.specs.Resolving.{literal_of, IsReference, IsTable, meaning_in};
 ghost use Rattle.symbols65.specs.Views.{table_of};
 ghost use Rattle.std.specs.Result.{result_ok};
-ghost use Rattle.language65.specs.Names.{meaning_of};
-ghost use Rattle.language65.specs.Sizes.{is_byte, larger, size_by, size_defined, size_of, size_of_import, size_of_meaning, size_of_value, takes_byte};
+ghost use Rattle.language65.specs.Symbols.{meaning_of};
 
-use crate::resolving::{
-    Known, Meaning, Stop, address, binary_form, meaning_of, meant_norm, norm, number_of,
-    prefix_form, settled,
-};
+use crate::resolving::{Known, Meaning, Stop, address, binary_form, meaning_of, meant_norm, norm, number_of, prefix_form, settled};
 use crate::table::Symbols;
 use base65::Op1;
 use language65::{AsmFault, Context};

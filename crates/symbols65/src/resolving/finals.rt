@@ -1,16 +1,14 @@
 //! Forms that are final: that stay whatever statements follow; and those of numbers alone.
 
 ghost use Rattle.std.specs.Prelude.{IfSome, ◌≡◌, IfOk, Result, ◌∷◌, [], None, Some, false, length, true};
-ghost use Rattle.symbols65.specs.Inner.Settling.{IsNumber, MeansAlways, MeansFinally, Operands};
+ghost use Rattle.symbols65.specs.Resolving.{IsNumber, MeansAlways, MeansFinally, Operands, binary_form, prefix_form, IsFinalWithin, plain_part};
 ghost use Rattle.std.specs.Result.{result_ok};
 ghost use Rattle.base65.specs.Outcome.{Gives};
 ghost use Rattle.object65.specs.Form.{Form};
 ghost use Rattle.object65.specs.Folding.{lacks_memory};
 ghost use Rattle.object65.specs.declared.folding.FormFault.{FormFault};
-ghost use Rattle.symbols65.specs.Finals.{binary_form, prefix_form, IsFinalWithin};
 ghost use Rattle.syntax65.specs.Trees.{name as name_tree, cheap as cheap_tree, backward as backward_tree};
-ghost use Rattle.language65.specs.Extending.{IsFinal};
-ghost use Rattle.symbols65.specs.Resolving.{plain_part};
+ghost use Rattle.language65.specs.Norms.{IsFinal};
 ghost use Rattle.symbols65.specs.Views.{table_of};
 
 use super::attempt::{Source, Stop, address, defined};

@@ -2,9 +2,8 @@
 
 ghost use Rattle.std.specs.Prelude.{◌≡◌, IfOk, IfSome, map, slice_get};
 ghost use Rattle.symbols65.specs.declared.resolving.attempt.Source.TheVariants.{Finals};
-ghost use Rattle.symbols65.specs.Hanging.{AreHung, HangsOn, Reaches, bare, hung_on, needed_in};
+ghost use Rattle.symbols65.specs.Resolving.{AreHung, HangsOn, Reaches, bare, hung_on, needed_in, may_be_looked_for, tried};
 ghost use Rattle.symbols65.specs.Inner.Knowns.{known_by};
-ghost use Rattle.symbols65.specs.Resolving.{may_be_looked_for, tried};
 ghost use Rattle.symbols65.specs.Views.{Table, table_of};
 
 use super::attempt::{Source, State, Stop, try_norm};

@@ -5,10 +5,8 @@ ghost use Rattle.base65.specs.Outcome.{Finds, Gives};
 ghost use Rattle.language65.specs.Faults.{is_memory};
 ghost use Rattle.symbols65.specs.declared.resolving.attempt.State.TheVariants.{Unknown, Waiting, Found};
 ghost use Rattle.symbols65.specs.Inner.Knowns.{AreNoted, is_found, without};
-ghost use Rattle.language65.specs.Extending.{Extends};
-ghost use Rattle.language65.specs.Norms.{norm_of};
-ghost use Rattle.symbols65.specs.Hanging.{AreHung, Reaches, bare};
-ghost use Rattle.symbols65.specs.Resolving.{IsTable, may_be_looked_for};
+ghost use Rattle.language65.specs.Norms.{Extends, norm_of};
+ghost use Rattle.symbols65.specs.Resolving.{AreHung, Reaches, bare, IsTable, may_be_looked_for};
 ghost use Rattle.symbols65.specs.Views.{Table, nothing_defined, table_of};
 
 use super::attempt::{State, Stop, try_last};

@@ -8,13 +8,12 @@ ghost use Rattle.language65.specs.Faults.{is_memory};
 ghost use Rattle.language65.specs.Norms.{folded};
 ghost use Rattle.std.specs.Prelude.{◌≡◌, ◌+◌, ◌-◌, ◌^◌, ◌≤◌, IfNone, IfSome, Some};
 ghost use Rattle.syntax65.specs.Trees.{name as name_tree};
-ghost use Rattle.language65.specs.Names.{meaning_of, scoped_meaning, backward_meaning, cheap_meaning, last_of, member_meaning, or_fault, plain_meaning, scopes_of, unnamed_meaning};
+ghost use Rattle.language65.specs.Symbols.{meaning_of, scoped_meaning, backward_meaning, cheap_meaning, last_of, member_meaning, or_fault, plain_meaning, scopes_of, unnamed_meaning, imported};
 ghost use Rattle.symbols65.specs.Resolving.{defined_place, meaning_in, name_meaning, or_absent, plain_part};
 ghost use Rattle.symbols65.specs.Views.{table_of};
 ghost use Rattle.std.specs.Option.{option_map};
 ghost use Rattle.language65.specs.declared.fault.AsmFault.{AsmFault};
 ghost use Rattle.language65.specs.declared.fault.AsmFault.TheVariants.{NoSuchLabel, Undefined};
-ghost use Rattle.language65.specs.Symbols.{imported};
 
 use super::scopes::{defined_outward, scope_of, shown};
 use crate::table::{Key, Symbols};

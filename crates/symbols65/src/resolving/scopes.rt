@@ -1,9 +1,8 @@
 //! Scopes, what is found in them, and names as they are shown.
 
 ghost use Rattle.std.specs.Prelude.{◌≡◌, ◌++◌, IfOk, OnOk, Some, take};
-ghost use Rattle.language65.specs.Names.{joined, shown, enclosing, first_found, inside, scope_from, scope_in, scopes_from};
+ghost use Rattle.language65.specs.Symbols.{joined, shown, enclosing, first_found, inside, scope_from, scope_in, scopes_from, defined, named};
 ghost use Rattle.symbols65.specs.Resolving.{joined_behind};
-ghost use Rattle.language65.specs.Symbols.{defined, named};
 ghost use Rattle.symbols65.specs.Views.{table_of};
 
 use crate::table::{Key, Symbols};

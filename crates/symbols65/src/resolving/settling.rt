@@ -3,10 +3,9 @@
 ghost use Rattle.std.specs.Prelude.{◌≡◌, Ok};
 ghost use Rattle.base65.specs.Outcome.{Finds, Gives};
 ghost use Rattle.language65.specs.Faults.{is_memory};
-ghost use Rattle.language65.specs.Names.{meaning_of};
+ghost use Rattle.language65.specs.Symbols.{meaning_of};
 ghost use Rattle.language65.specs.Norms.{defined_form, norm_of};
-ghost use Rattle.symbols65.specs.Resolving.{IsTable, meaning_in};
-ghost use Rattle.symbols65.specs.Inner.Settling.{Settles};
+ghost use Rattle.symbols65.specs.Resolving.{IsTable, meaning_in, Settles};
 ghost use Rattle.symbols65.specs.Views.{table_of};
 
 use super::attempt::{Source, Stop, address, meant, try_norm};

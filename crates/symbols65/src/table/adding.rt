@@ -4,7 +4,7 @@ ghost use Rattle.std.specs.Prelude.{◌≡◌, ◌++◌, ◌∷◌, [], IfOk, No
 ghost use Rattle.std.specs.Option.{option_map};
 ghost use Rattle.std.specs.Str.{bytes_eq};
 ghost use Rattle.indexmap.specs.IndexMap.{keys};
-ghost use Rattle.language65.specs.LineFaults.{opened_twice};
+ghost use Rattle.language65.specs.Layout.{opened_twice};
 ghost use Rattle.language65.specs.Symbols.{with_new};
 ghost use Rattle.symbols65.specs.Tables.{Begins, HasNumber, IsOpening, first_number, same_opening, scope_by, word_opened};
 ghost use Rattle.symbols65.specs.Views.{table_of, with_names, with_scope, words_of};

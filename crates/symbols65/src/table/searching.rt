@@ -5,9 +5,8 @@ ghost use Rattle.std.specs.List.{list_any};
 ghost use Rattle.std.specs.Option.{option_map};
 ghost use Rattle.std.specs.Str.{bytes_eq};
 ghost use Rattle.indexmap.specs.IndexMap.{index_map_len, keys};
-ghost use Rattle.language65.specs.Names.{enclosing, scope_in, within};
-ghost use Rattle.language65.specs.Sizes.{is_zero_page_name};
-ghost use Rattle.language65.specs.Symbols.{defined, imported};
+ghost use Rattle.language65.specs.Symbols.{enclosing, scope_in, within, defined, imported};
+ghost use Rattle.language65.specs.Norms.{is_zero_page_name};
 ghost use Rattle.symbols65.specs.Tables.{KeepsFinal, definition_seen, entry_of, key_of, place_of_entry, place_of_opening, same_entry, same_opening};
 ghost use Rattle.symbols65.specs.Views.{key_at, table_of, words_of};
 

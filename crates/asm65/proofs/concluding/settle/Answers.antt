@@ -4,8 +4,8 @@ use Rattle.source65.specs.declared.place.Place.{Place}
 use Rattle.language65.specs.declared.fault.AsmFault.{AsmFault}
 use Rattle.language65.specs.Faults.{is_outside}
 use Rattle.module65.specs.Machine as machine
-use Rattle.module65.specs.Pieces.{Made}
-use Rattle.module65.specs.Places.{PlacedFault}
+use Rattle.module65.specs.Module.{Made}
+use Rattle.module65.specs.Reading.{PlacedFault}
 use Rattle.symbols65.specs.Views.{table_of}
 use Rattle.asm65.specs.Assembly.{is_outside_refusal}
 use Rattle.asm65.specs.Inner.Holding.{IsWaiting}

@@ -4,7 +4,7 @@ use Rattle.base65.specs.Reading.{front_in}
 use Rattle.base65.specs.Outcome.{Unless}
 use Rattle.base65.specs.StoreFaults.{is_outside_store}
 use Rattle.base65.specs.declared.store.StoreFault.{StoreFault}
-use Rattle.expand65.specs.Includes.{beside}
+use Rattle.expand65.specs.Expansion.{beside}
 use Rattle.asm65.proofs.WholeFiles.{read_none, read_some, unnamed}
 use Rattle.asm65.proofs.Runs.{told_all, told_then}
 use Rattle.asm65.proofs.files.bytes_beside.Goals as goal

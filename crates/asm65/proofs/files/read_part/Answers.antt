@@ -1,6 +1,6 @@
 use Rattle.std.proofs.Common.{subst}
 use Rattle.language65.specs.Views.{place_in}
-use Rattle.asm65.specs.Inner.Files.{IsRefusedUnread}
+use Rattle.asm65.specs.Inner.Running.{IsRefusedUnread}
 use Rattle.asm65.proofs.files.read_part.Goals as goal
 
 pub returns-in-Err-clause-refused : goal.returns-in-Err-clause-refused

@@ -2,7 +2,7 @@ use Rattle.std.proofs.Common.{subst}
 use Rattle.expand65.specs.Standing.{FollowsFrom}
 use Rattle.expand65.specs.Failing.{StopsOnItsWay}
 use Rattle.symbols65.specs.Views.{table_of}
-use Rattle.asm65.specs.Inner.Putting.{known_where}
+use Rattle.asm65.specs.Inner.Holding.{known_where}
 use Rattle.asm65.proofs.Namings.{known_held}
 use Rattle.asm65.proofs.Sources.{NextBy, StopsBy, some_then}
 use Rattle.asm65.proofs.running.next.Goals as goal

@@ -1,5 +1,5 @@
 use Rattle.std.proofs.Common.{◌≡◌, drop, map, IfSome}
-use Rattle.expand65.specs.Includes.{first_file, within}
+use Rattle.expand65.specs.Expansion.{first_file, within}
 use Rattle.expand65.proofs.includes.find_in_folders.Given as goal
 
 abbrev pub invariant-loop-folder : goal.invariant-loop-folder

@@ -1,5 +1,5 @@
 use Rattle.std.proofs.Common.{◌≡◌, ◌≤◌, take}
-use Rattle.expand65.specs.Includes.{folder_of}
+use Rattle.expand65.specs.Expansion.{folder_of}
 use Rattle.expand65.proofs.includes.folder_of.Given as goal
 
 abbrev pub invariant-loop-place : goal.invariant-loop-place

@@ -1,6 +1,6 @@
 use Rattle.std.proofs.Common.{◌≡◌, ◌≤◌, ◌+◌, drop}
 use Rattle.syntax65.specs.Tokens.{lexemes}
-use Rattle.expand65.specs.Inner.Parts.{part_len}
+use Rattle.expand65.specs.Macros.{part_len}
 use Rattle.expand65.proofs.macros.part_len.Given as goal
 
 abbrev pub invariant-loop-place : goal.invariant-loop-place

@@ -4,7 +4,7 @@ use Rattle.std.proofs.lemmas.Result.{err_from_is_err_and}
 use Rattle.language65.specs.declared.fault.AsmFault.{AsmFault}
 use Rattle.language65.specs.declared.fault.AsmFault.TheVariants.{NotUnderstood}
 use Rattle.language65.specs.Symbols.{key_defined}
-use Rattle.language65.specs.LineFaults.{defined_twice, is_open, lost_scopes, opened_twice, or_then, scope_name, stands_outside, trees_of, when, unless_fault}
+use Rattle.language65.specs.Layout.{defined_twice, is_open, lost_scopes, opened_twice, or_then, scope_name, stands_outside, trees_of, when, unless_fault}
 use Rattle.symbols65.specs.Views.{table_of}
 use Rattle.layout65.proofs.Measures.{left_behind, refused_first, refused_same}
 use Rattle.layout65.proofs.measuring.check_naming.Goals as goal

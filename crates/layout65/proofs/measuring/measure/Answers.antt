@@ -4,7 +4,7 @@ use Rattle.base65.specs.Outcome.{Gives}
 use Rattle.language65.specs.declared.fault.AsmFault.{AsmFault}
 use Rattle.language65.specs.Faults.{is_memory}
 use Rattle.language65.specs.declared.laid.Context.{Context}
-use Rattle.language65.specs.LineFaults.{unless_fault}
+use Rattle.language65.specs.Layout.{unless_fault}
 use Rattle.layout65.specs.Sounds.{standing_of}
 use Rattle.layout65.specs.declared.measuring.Measured.{Measured}
 use Rattle.layout65.specs.Measuring.{naming_fault}

@@ -1,6 +1,6 @@
 use Rattle.std.proofs.Common.{◌+◌, ◌∷◌, [], ◌++◌, map, ap, ◌∙◌, arith, refl, inl, inr, length}
 use Rattle.reader65.specs.Playing.{tokens_in, replacing_of}
-use Rattle.reader65.specs.Replacing.{Replacing}
+use Rattle.reader65.specs.Left.{Replacing}
 use Rattle.reader65.specs.declared.playing.Replay.{Replay}
 use Rattle.reader65.proofs.Turning.{turns_over, next_turn, turn_begins}
 use Rattle.reader65.proofs.input.begin_turn.Goals as goal

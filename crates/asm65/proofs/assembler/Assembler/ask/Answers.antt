@@ -1,7 +1,7 @@
 use Rattle.std.proofs.Common.{◌≡◌, ◌∙◌, Bool, refl, sym, subst}
 use Rattle.std.specs.Prelude.{true, if◌then◌else◌}
 use Rattle.language65.specs.Contents.{asking}
-use Rattle.language65.specs.Laid.{asks_section}
+use Rattle.language65.specs.Symbols.{asks_section}
 use Rattle.module65.specs.Machine.{entered}
 use Rattle.asm65.specs.declared.assembler.Assembler.{Assembler}
 use Rattle.asm65.specs.Inner.Holding.{Holds}

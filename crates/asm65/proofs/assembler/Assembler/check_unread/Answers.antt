@@ -1,8 +1,7 @@
 use Rattle.std.proofs.Common.{subst}
 use Rattle.base65.specs.Outcome.{Gives}
 use Rattle.language65.specs.Faults.{is_memory}
-use Rattle.language65.specs.Layout.{Standing}
-use Rattle.language65.specs.LineFaults.{unless_fault}
+use Rattle.language65.specs.Layout.{Standing, unless_fault}
 use Rattle.language65.specs.Symbols.{Symbols}
 use Rattle.symbols65.specs.Views.{table_of}
 use Rattle.layout65.specs.Measuring.{unread_fault}

@@ -1,5 +1,5 @@
 use Rattle.std.proofs.Common.{◌≡◌, ◌+◌, ◌∙◌, ℕ, [], ◌∷◌, length, sym, ap, subst, length-append}
-use Rattle.language65.specs.Extending.{Extends}
+use Rattle.language65.specs.Norms.{Extends}
 use Rattle.language65.specs.Symbols.{Definition, Symbols}
 use Rattle.symbols65.specs.Tables.{definition_seen, key_of}
 use Rattle.symbols65.specs.Views.{table_of, with_definition}

@@ -1,6 +1,6 @@
 use Rattle.std.proofs.Common.{refl}
 use Rattle.language65.specs.Views.{place_in}
-use Rattle.module65.specs.Pieces.{asserted, valued}
+use Rattle.module65.specs.Module.{asserted, valued}
 use Rattle.asm65.specs.declared.assembler.Piece.TheVariants.{Assertion}
 use Rattle.asm65.proofs.Enterings.{so_enters}
 use Rattle.layout65.proofs.Measures.{ok_then}

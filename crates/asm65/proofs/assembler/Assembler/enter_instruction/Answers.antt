@@ -2,9 +2,9 @@ use Rattle.std.proofs.Common.{Option, ◌∷◌, [], subst}
 use Rattle.syntax65.specs.Opcodes.{opcode_of}
 use Rattle.syntax65.specs.Trees.{Tree}
 use Rattle.language65.specs.Contents.{opcode_part, operand_tree}
-use Rattle.language65.specs.Sizes.{width_of}
+use Rattle.language65.specs.Norms.{width_of}
 use Rattle.language65.specs.Views.{place_in}
-use Rattle.module65.specs.Pieces.{given, operand_pieces}
+use Rattle.module65.specs.Module.{given, operand_pieces}
 use Rattle.asm65.specs.Inner.Holding.{Enters}
 use Rattle.asm65.proofs.Enterings.{enters_both}
 use Rattle.layout65.proofs.Measures.{ok_then}

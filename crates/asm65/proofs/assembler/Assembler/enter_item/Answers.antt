@@ -1,8 +1,7 @@
 use Rattle.std.proofs.Common.{subst, List, ℕ}
-use Rattle.language65.specs.Contents.{put}
-use Rattle.language65.specs.Parts.{Known}
+use Rattle.language65.specs.Contents.{put, Known}
 use Rattle.language65.specs.Views.{place_in}
-use Rattle.sections65.specs.Standing.{Feeds}
+use Rattle.sections65.specs.Fed.{Feeds}
 use Rattle.asm65.proofs.Enterings.{given_enters}
 use Rattle.layout65.proofs.Measures.{ok_then}
 use Rattle.asm65.proofs.assembler.Assembler.enter_item.Goals as goal

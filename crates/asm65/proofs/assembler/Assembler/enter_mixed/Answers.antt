@@ -6,7 +6,7 @@ use Rattle.object65.specs.declared.object.Width.{Width}
 use Rattle.language65.specs.declared.language.Item.{Item}
 use Rattle.language65.specs.declared.laid.Context.{Context}
 use Rattle.language65.specs.Views.{place_in}
-use Rattle.module65.specs.Pieces.{item_piece}
+use Rattle.module65.specs.Module.{item_piece}
 use Rattle.asm65.specs.declared.assembler.Assembler.{Assembler}
 use Rattle.asm65.specs.Inner.Holding.{Enters}
 use Rattle.asm65.proofs.Enterings.{enters_both, enters_none}

@@ -1,15 +1,13 @@
 use Rattle.std.proofs.Common.{List, ℕ, map, subst}
 use Rattle.std.specs.Prelude.{IfSome, OnOk, Option}
-use Rattle.language65.specs.Contents.{put}
+use Rattle.language65.specs.Contents.{put, Known}
 use Rattle.language65.specs.Items.{numbered}
-use Rattle.language65.specs.Parts.{Known}
 use Rattle.language65.specs.Views.{place_in}
 use Rattle.language65.specs.declared.language.Item.{Item}
 use Rattle.layout65.proofs.Measures.{ok_then}
-use Rattle.module65.specs.Pieces.{item_piece}
-use Rattle.sections65.specs.Standing.{Feeds}
-use Rattle.asm65.specs.Inner.Holding.{Enters}
-use Rattle.asm65.specs.Inner.Putting.{AreStored}
+use Rattle.module65.specs.Module.{item_piece}
+use Rattle.sections65.specs.Fed.{Feeds}
+use Rattle.asm65.specs.Inner.Holding.{Enters, AreStored}
 use Rattle.asm65.proofs.Enterings.{numbers_enter}
 use Rattle.asm65.proofs.assembler.Assembler.enter_numbers.Goals as goal
 

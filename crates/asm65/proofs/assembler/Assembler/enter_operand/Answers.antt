@@ -1,6 +1,6 @@
 use Rattle.std.proofs.Common.{refl}
 use Rattle.language65.specs.Views.{place_in}
-use Rattle.module65.specs.Pieces.{operand, valued}
+use Rattle.module65.specs.Module.{operand, valued}
 use Rattle.asm65.specs.declared.assembler.Piece.TheVariants.{Operand}
 use Rattle.asm65.proofs.Enterings.{tried_waits}
 use Rattle.layout65.proofs.Measures.{ok_then}

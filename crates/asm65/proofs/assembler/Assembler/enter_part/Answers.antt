@@ -1,5 +1,4 @@
-use Rattle.language65.specs.Parts.{Known}
-use Rattle.language65.specs.Contents.{file_bytes}
+use Rattle.language65.specs.Contents.{Known, file_bytes}
 use Rattle.asm65.proofs.Enterings.{given_enters}
 use Rattle.layout65.proofs.Measures.{ok_then}
 use Rattle.asm65.proofs.assembler.Assembler.enter_part.Goals as goal

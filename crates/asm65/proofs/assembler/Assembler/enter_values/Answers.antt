@@ -3,7 +3,7 @@ use Rattle.std.specs.Prelude.{OnOk}
 use Rattle.language65.specs.Items.{items_of, numbered}
 use Rattle.language65.specs.Views.{place_in}
 use Rattle.language65.specs.declared.language.Item.{Item}
-use Rattle.module65.specs.Pieces.{item_piece}
+use Rattle.module65.specs.Module.{item_piece}
 use Rattle.asm65.specs.Inner.Holding.{Enters}
 use Rattle.asm65.proofs.assembler.Assembler.enter_values.Goals as goal
 

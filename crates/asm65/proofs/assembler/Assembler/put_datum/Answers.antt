@@ -1,8 +1,8 @@
 use Rattle.language65.specs.Contents.{stored}
 use Rattle.language65.specs.Views.{place_in}
-use Rattle.module65.specs.Pieces.{datum, valued}
+use Rattle.module65.specs.Module.{datum, valued}
 use Rattle.asm65.specs.declared.assembler.Assembler.{Assembler}
-use Rattle.asm65.specs.Inner.Putting.{IsPut, IsTried}
+use Rattle.asm65.specs.Inner.Holding.{IsPut, IsTried}
 use Rattle.asm65.proofs.Enterings.{datum_tried}
 use Rattle.layout65.proofs.Measures.{ok_with}
 use Rattle.asm65.proofs.assembler.Assembler.put_datum.Goals as goal

@@ -1,7 +1,7 @@
 use Rattle.language65.specs.Views.{place_in}
-use Rattle.module65.specs.Pieces.{operand, valued}
+use Rattle.module65.specs.Module.{operand, valued}
 use Rattle.asm65.specs.declared.assembler.Assembler.{Assembler}
-use Rattle.asm65.specs.Inner.Putting.{IsPut, IsTried, operand_stored}
+use Rattle.asm65.specs.Inner.Holding.{IsPut, IsTried, operand_stored}
 use Rattle.asm65.proofs.Enterings.{operand_tried}
 use Rattle.layout65.proofs.Measures.{ok_with}
 use Rattle.asm65.proofs.assembler.Assembler.put_operand.Goals as goal

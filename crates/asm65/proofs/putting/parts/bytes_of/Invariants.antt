@@ -1,5 +1,5 @@
 use Rattle.std.proofs.Common.{take}
-use Rattle.asm65.specs.Inner.Putting.{AreStored}
+use Rattle.asm65.specs.Inner.Holding.{AreStored}
 use Rattle.asm65.proofs.putting.parts.bytes_of.Given as goal
 
 abbrev pub invariant-loop-number : goal.invariant-loop-number

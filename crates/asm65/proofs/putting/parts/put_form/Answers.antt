@@ -4,7 +4,7 @@ use Rattle.std.proofs.lemmas.Int.{to_z-of_z}
 use Rattle.object65.specs.Form.{Form, lit}
 use Rattle.language65.specs.Contents.{stored}
 use Rattle.language65.specs.Views.{place_in}
-use Rattle.asm65.specs.Inner.Putting.{IsPut}
+use Rattle.asm65.specs.Inner.Holding.{IsPut}
 use Rattle.asm65.proofs.Puttings.{literal_is, other_put}
 use Rattle.asm65.proofs.putting.parts.put_form.Goals as goal
 

@@ -2,10 +2,9 @@ use Rattle.std.proofs.Common.{◌∙◌, Err, ap, arith, refl, sym, rules}
 use Rattle.std.proofs.lemmas.Result.{err_from_is_err_and}
 use Rattle.base65.specs.Outcome.{Unless}
 use Rattle.source65.specs.Faults.{is_outside}
-use Rattle.expand65.specs.Rewriting.{state_of, turned}
-use Rattle.expand65.specs.Standing.{led, place_of, state_in}
+use Rattle.expand65.specs.Standing.{state_of, turned, led, place_of, state_in}
 use Rattle.expand65.specs.State.{stops}
-use Rattle.expand65.specs.Step.{IsStep}
+use Rattle.expand65.specs.Expansion.{IsStep}
 use Rattle.expand65.specs.Failing.{StopsReading}
 use Rattle.expand65.specs.declared.rewriter.Turn.{Turn}
 use Rattle.reader65.specs.Inside.{mark_of}

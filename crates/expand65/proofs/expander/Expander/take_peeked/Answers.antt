@@ -1,5 +1,5 @@
 use Rattle.std.proofs.Common.{◌<◌, subst, sym, take, drop}
-use Rattle.expand65.specs.AtHand.{Gives, given_parts}
+use Rattle.expand65.specs.Failing.{Gives, given_parts}
 use Rattle.expand65.specs.declared.expander.Front.{Front}
 use Rattle.expand65.specs.Standing.{measure_of}
 use Rattle.expand65.proofs.AtHand.{behind, less_behind, line_given}

@@ -1,6 +1,6 @@
 use Rattle.std.proofs.Common.{◌∙◌, sym, ap}
-use Rattle.expand65.specs.Conditions.{ended_if}
-use Rattle.expand65.specs.Rewriting.{state_of}
+use Rattle.expand65.specs.State.{ended_if}
+use Rattle.expand65.specs.Standing.{state_of}
 use Rattle.expand65.proofs.Stopping.{last_is}
 use Rattle.expand65.proofs.rewriter.Rewriter.end_if.Goals as goal
 

@@ -6,9 +6,9 @@ use Rattle.reader65.specs.Fronts.{string_of}
 use Rattle.std.proofs.lemmas.Result.{err_from_is_err_and}
 use Rattle.expand65.specs.Failing.{FailsIncluding, IsAmong}
 use Rattle.expand65.specs.declared.rewriter.Turn.{Turn}
-use Rattle.expand65.specs.Includes.{first_file, include_line, included, tried}
-use Rattle.expand65.specs.Rewriting.{Turns, state_of}
-use Rattle.expand65.specs.Inner.Seeking.{file_of}
+use Rattle.expand65.specs.Expansion.{first_file, include_line, included, tried}
+use Rattle.expand65.specs.Standing.{Turns, state_of}
+use Rattle.expand65.specs.Macros.{file_of}
 use Rattle.expand65.proofs.Going.{include_found, turns_so, where_known}
 use Rattle.expand65.proofs.Seeking.{found_fits}
 use Rattle.expand65.proofs.Stopping.{only_error, stood}

@@ -7,7 +7,7 @@ use Rattle.source65.specs.Faults.{is_outside}
 use Rattle.reader65.specs.Inside.{left_of}
 use Rattle.reader65.specs.Playing.{tokens_in}
 use Rattle.expand65.specs.Macros.{IsKept, macro_of}
-use Rattle.expand65.specs.Rewriting.{macros_of, state_of}
+use Rattle.expand65.specs.Standing.{macros_of, state_of}
 use Rattle.expand65.specs.State.{goes, stops}
 use Rattle.source65.specs.declared.fault.ExpandFault.TheVariants.{MacroTwice}
 use Rattle.reader65.specs.declared.playing.Body.{Body}

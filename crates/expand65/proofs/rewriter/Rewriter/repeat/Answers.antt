@@ -3,11 +3,11 @@ use Rattle.std.proofs.lemmas.Result.{err_from_is_err_and}
 use Rattle.base65.specs.Outcome.{Unless}
 use Rattle.source65.specs.Faults.{is_outside}
 use Rattle.reader65.specs.Blocks.{Block, gathers}
-use Rattle.reader65.specs.Taking.{pushed}
+use Rattle.reader65.specs.Lines.{pushed}
 use Rattle.reader65.specs.Inside.{left_of, turns_left}
 use Rattle.reader65.specs.Playing.{tokens_in}
 use Rattle.expand65.specs.Macros.{IsRepeated}
-use Rattle.expand65.specs.Rewriting.{macros_of, state_of}
+use Rattle.expand65.specs.Standing.{macros_of, state_of}
 use Rattle.expand65.specs.State.{goes, stops}
 use Rattle.reader65.specs.declared.playing.Body.{Body}
 use Rattle.reader65.specs.declared.playing.Replay.{Replay}

@@ -1,5 +1,5 @@
 use Rattle.std.proofs.Common.{◌≡◌, ◌+◌, drop, sum_by}
-use Rattle.language65.specs.Sizes.{item_len}
+use Rattle.language65.specs.Norms.{item_len}
 use Rattle.layout65.proofs.measuring.bytes.room_behind_mixed.Given as goal
 
 abbrev pub invariant-loop-item : goal.invariant-loop-item

@@ -5,7 +5,7 @@ use Rattle.syntax65.specs.Kinds.{tree_of}
 use Rattle.syntax65.specs.Trees.{Tree}
 use Rattle.language65.specs.declared.fault.AsmFault.{AsmFault}
 use Rattle.language65.specs.Faults.{is_memory}
-use Rattle.language65.specs.LineFaults.{lost_scope, or_then, unless_fault}
+use Rattle.language65.specs.Layout.{lost_scope, or_then, unless_fault}
 use Rattle.symbols65.specs.Views.{table_of}
 use Rattle.layout65.proofs.Measures.{left_behind, refused_first, refused_same}
 use Rattle.layout65.proofs.measuring.trees.+check_scopes.Goals as goal

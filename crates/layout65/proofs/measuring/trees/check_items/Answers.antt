@@ -1,6 +1,6 @@
 use Rattle.std.proofs.Common.{◌∙◌, ap, sym}
 use Rattle.language65.specs.Items.{items_of}
-use Rattle.language65.specs.LineFaults.{item_trees, lost_scopes, unless_fault}
+use Rattle.language65.specs.Layout.{item_trees, lost_scopes, unless_fault}
 use Rattle.symbols65.specs.Views.{table_of}
 use Rattle.layout65.proofs.Measures.{numbers_keep}
 use Rattle.layout65.proofs.measuring.trees.check_items.Goals as goal

@@ -1,6 +1,6 @@
 use Rattle.std.proofs.Common.{◌∙◌, ap, drop, ◌∷◌, [], ◌+◌, arith}
 use Rattle.std.proofs.lemmas.Result.{err_from_is_err_and}
-use Rattle.language65.specs.LineFaults.{item_trees, lost_scopes, unless_fault}
+use Rattle.language65.specs.Layout.{item_trees, lost_scopes, unless_fault}
 use Rattle.symbols65.specs.Views.{table_of}
 use Rattle.layout65.proofs.Measures.{items_lost, left_behind, refused_first, refused_same}
 use Rattle.layout65.proofs.measuring.trees.check_mixed.Goals as goal

@@ -1,5 +1,5 @@
 use Rattle.std.proofs.Common.{◌≡◌, drop}
-use Rattle.language65.specs.LineFaults.{item_trees, lost_scopes}
+use Rattle.language65.specs.Layout.{item_trees, lost_scopes}
 use Rattle.symbols65.specs.Views.{table_of}
 use Rattle.layout65.proofs.measuring.trees.check_mixed.Given as goal
 

@@ -5,8 +5,7 @@ use Rattle.syntax65.specs.Tokens.{Lexeme, IsRead}
 use Rattle.syntax65.specs.declared.lexing.fault.LexFault.{LexFault}
 use Rattle.source65.specs.Faults.{is_outside}
 use Rattle.reader65.specs.Playing.{tokens_in}
-use Rattle.reader65.specs.Lines.{without_return}
-use Rattle.reader65.specs.Taking.{lexed}
+use Rattle.reader65.specs.Lines.{without_return, lexed}
 use Rattle.reader65.specs.declared.file.OpenFile.{OpenFile}
 use Rattle.reader65.proofs.Opening.{file_refused, file_taken, first_at_hand}
 use Rattle.reader65.proofs.file.OpenFile.take_at_hand.Goals as goal

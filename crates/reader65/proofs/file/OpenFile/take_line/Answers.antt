@@ -2,7 +2,7 @@ use Rattle.std.proofs.Common.{◌≡◌, ◌∙◌, ◌+◌, ap, refl, subst, Li
 use Rattle.syntax65.specs.Tokens.{Lexeme, IsRead}
 use Rattle.syntax65.specs.declared.lexing.fault.LexFault.{LexFault}
 use Rattle.reader65.specs.Playing.{tokens_in}
-use Rattle.reader65.specs.Taking.{lexed}
+use Rattle.reader65.specs.Lines.{lexed}
 use Rattle.std.proofs.lemmas.Result.{err_from_is_err_and}
 use Rattle.reader65.specs.declared.file.OpenFile.{OpenFile}
 use Rattle.reader65.proofs.Opening.{file_too_long, file_taken}

@@ -1,5 +1,5 @@
 use Rattle.std.proofs.Common.{ℕ, subst, sym}
-use Rattle.reader65.specs.Plain.{TakesWritten}
+use Rattle.reader65.specs.Playing.{TakesWritten}
 use Rattle.reader65.specs.Lines.{left_in_file}
 use Rattle.reader65.proofs.Opening.{file_peeked}
 use Rattle.reader65.proofs.file.OpenFile.take_peeked.Goals as goal

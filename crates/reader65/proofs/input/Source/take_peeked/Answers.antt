@@ -1,6 +1,6 @@
 use Rattle.std.proofs.Common.{sym, subst}
 use Rattle.reader65.specs.Inside.{left_in}
-use Rattle.reader65.specs.Plain.{IsAtHand, TakesWritten}
+use Rattle.reader65.specs.Playing.{IsAtHand, TakesWritten}
 use Rattle.reader65.specs.Lines.{left_in_file}
 use Rattle.reader65.specs.declared.input.Source.{Source}
 use Rattle.reader65.proofs.input.Source.take_peeked.Goals as goal

@@ -1,5 +1,5 @@
 use Rattle.std.proofs.Common.{◌≡◌, map, take}
-use Rattle.reader65.specs.Replacing.{with_locals}
+use Rattle.reader65.specs.Left.{with_locals}
 use Rattle.reader65.specs.Playing.{replacing_of}
 use Rattle.reader65.proofs.playing.Replay.add_locals.Given as goal
 

@@ -1,7 +1,7 @@
 use Rattle.std.proofs.Common.{map, ap, sym, ◌∙◌}
 use Rattle.std.specs.Str.{bytes_eq}
 use Rattle.reader65.specs.Playing.{tokens_in}
-use Rattle.reader65.specs.Replacing.{argument_at}
+use Rattle.reader65.specs.Left.{argument_at}
 use Rattle.reader65.proofs.Tables.{position_mapped}
 use Rattle.reader65.proofs.playing.Replay.argument.Goals as goal
 

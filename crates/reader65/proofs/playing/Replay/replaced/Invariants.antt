@@ -1,7 +1,7 @@
 use Rattle.std.proofs.Common.{◌≡◌, ◌≤◌, ◌++◌, drop, length}
 use Rattle.syntax65.specs.Tokens.{lexemes}
 use Rattle.reader65.specs.Playing.{tokens_in, replacing_of}
-use Rattle.reader65.specs.Replacing.{replaced}
+use Rattle.reader65.specs.Left.{replaced}
 use Rattle.reader65.proofs.playing.Replay.replaced.Given as goal
 
 abbrev pub invariant-loop-token : goal.invariant-loop-token

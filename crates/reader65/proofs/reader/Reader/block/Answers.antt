@@ -3,9 +3,7 @@ use Rattle.std.proofs.lemmas.Result.{err_from_is_err_and}
 use Rattle.base65.specs.Outcome.{Unless}
 use Rattle.reader65.specs.Blocks.{TakesInBlock}
 use Rattle.source65.specs.Faults.{is_failure, is_outside}
-use Rattle.reader65.specs.Inside.{left_of}
-use Rattle.reader65.specs.Stopping.{FailsAtLine, HasStopped}
-use Rattle.reader65.specs.Judging.{Judges, StateOf, answer_of, is_kept, judge_of, state_of}
+use Rattle.reader65.specs.Inside.{left_of, FailsAtLine, HasStopped, Judges, StateOf, answer_of, is_kept, judge_of, state_of}
 use Rattle.reader65.specs.Playing.{tokens_in}
 use Rattle.reader65.specs.declared.blocks.BlockStep.{BlockStep}
 use Rattle.reader65.proofs.Blocking.{Leads, line_missing, line_refused, line_closes, line_goes_on, lines_passed}

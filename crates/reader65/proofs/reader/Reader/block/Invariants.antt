@@ -1,9 +1,7 @@
 use Rattle.std.proofs.Common.{◌≡◌, ◌≤◌, [], map}
 use Rattle.std.specs.Prelude.{IfSome}
-use Rattle.reader65.specs.Inside.{mark_of}
-use Rattle.reader65.specs.Judging.{judge_of, state_of}
+use Rattle.reader65.specs.Inside.{mark_of, judge_of, state_of, NamesFiles}
 use Rattle.reader65.specs.Playing.{tokens_in}
-use Rattle.reader65.specs.Stopping.{NamesFiles}
 use Rattle.reader65.proofs.Blocking.{Leads}
 use Rattle.reader65.proofs.Stopping.{Fails}
 use Rattle.reader65.proofs.reader.Reader.block.Given as goal

@@ -1,5 +1,5 @@
 use Rattle.std.proofs.Common.{◌∙◌, ◌<◌, ◌≤◌, ◌++◌, ◌∷◌, [], ap, refl, arith, length, reverse, subst, sym}
-use Rattle.reader65.specs.Stopping.{AreNamed}
+use Rattle.reader65.specs.Inside.{AreNamed}
 use Rattle.reader65.proofs.Naming.{enters}
 use Rattle.reader65.specs.declared.reader.Reader.{Reader}
 use Rattle.reader65.proofs.Inputs.{entered_one, entered_none}

@@ -1,10 +1,9 @@
 use Rattle.std.proofs.Common.{◌≡◌, ◌∙◌, Bool, ap, refl, sym, subst, arith}
-use Rattle.reader65.specs.Taking.{if_more}
-use Rattle.reader65.specs.Inside.{left_of, outside}
+use Rattle.reader65.specs.Lines.{if_more}
+use Rattle.reader65.specs.Inside.{left_of, outside, AreNamed, open_in}
 use Rattle.reader65.specs.Left.{outside_macro, come_back}
 use Rattle.reader65.proofs.Inputs.{goes_out, is_out, none_out, same_items}
 use Rattle.source65.specs.declared.place.Place.{Place}
-use Rattle.reader65.specs.Stopping.{AreNamed, open_in}
 use Rattle.reader65.proofs.Naming.{goes_back, named_in}
 use Rattle.reader65.proofs.reader.Reader.leave_macro.Goals as goal
 

@@ -1,8 +1,7 @@
 use Rattle.std.proofs.Common.{◌≡◌, ◌≤◌, length}
 use Rattle.base65.specs.Store.{Files}
-use Rattle.reader65.specs.Inside.{left_of}
+use Rattle.reader65.specs.Inside.{left_of, AreNamed, NamesFiles, open_in}
 use Rattle.reader65.specs.Left.{outside_macro, come_back}
-use Rattle.reader65.specs.Stopping.{AreNamed, NamesFiles, open_in}
 use Rattle.reader65.proofs.reader.Reader.leave_macro.Given as goal
 
 abbrev pub invariant-inputs : goal.invariant-inputs

@@ -1,8 +1,7 @@
 use Rattle.std.proofs.Common.{◌≡◌, ◌∙◌, ap, refl, suc, arith, ◌-◌, true, Ok, Err}
 use Rattle.std.proofs.lemmas.Result.{err_from_is_err_and}
-use Rattle.reader65.specs.Inside.{TakesLine, left_in, left_of}
+use Rattle.reader65.specs.Inside.{TakesLine, left_in, left_of, FailsAtLine}
 use Rattle.reader65.specs.Left.{Mark}
-use Rattle.reader65.specs.Stopping.{FailsAtLine}
 use Rattle.reader65.specs.declared.input.NextLine.TheVariants.{AtEnd}
 use Rattle.reader65.specs.declared.reader.Reader.{Reader}
 use Rattle.reader65.proofs.Lines.{moved_to}

@@ -1,6 +1,6 @@
 use Rattle.std.proofs.Common.{refl, ◌∙◌, arith}
 use Rattle.reader65.specs.Inside.{left_of}
-use Rattle.reader65.specs.Plain.{no_line, a_line}
+use Rattle.reader65.specs.Playing.{no_line, a_line}
 use Rattle.reader65.proofs.reader.Reader.pass_plain_lines.Goals as goal
 
 pub lines-init : goal.lines-init

@@ -1,8 +1,7 @@
 use Rattle.std.proofs.Common.{◌≡◌, ◌≤◌}
 use Rattle.base65.specs.Store.{Files}
-use Rattle.reader65.specs.Inside.{left_of, mark_of}
-use Rattle.reader65.specs.Stopping.{NamesFiles}
-use Rattle.reader65.specs.Plain.{Plainly}
+use Rattle.reader65.specs.Inside.{left_of, mark_of, NamesFiles}
+use Rattle.reader65.specs.Playing.{Plainly}
 use Rattle.reader65.proofs.reader.Reader.pass_plain_lines.Given as goal
 
 abbrev pub invariant-lines : goal.invariant-lines

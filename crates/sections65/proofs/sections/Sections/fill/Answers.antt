@@ -1,7 +1,6 @@
 use Rattle.std.proofs.Common.{◌∙◌, ◌∷◌, [], List, ℕ, refl, subst}
-use Rattle.language65.specs.Parts.{Known}
-use Rattle.language65.specs.Contents.{put}
-use Rattle.sections65.specs.Standing.{TakesIn, names_in}
+use Rattle.language65.specs.Contents.{Known, put}
+use Rattle.sections65.specs.Fed.{TakesIn, names_in}
 use Rattle.sections65.proofs.Standings.{begins_same, stands_taken}
 use Rattle.sections65.proofs.sections.Sections.fill.Goals as goal
 

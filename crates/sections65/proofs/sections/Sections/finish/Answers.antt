@@ -1,9 +1,8 @@
 use Rattle.std.proofs.Common.{◌∙◌, [], ap}
 use Rattle.std.proofs.lemmas.Result.{IfOk-weaker}
 use Rattle.object65.specs.Objects.{is_good_object}
-use Rattle.sections65.specs.Fed.{names_of}
+use Rattle.sections65.specs.Fed.{names_of, names_in}
 use Rattle.sections65.specs.Inner.Ordering.{in_order}
-use Rattle.sections65.specs.Standing.{names_in}
 use Rattle.sections65.proofs.Ordered.{finished}
 use Rattle.sections65.proofs.GoodObjects.{good_object}
 use Rattle.sections65.proofs.sections.Sections.finish.Goals as goal

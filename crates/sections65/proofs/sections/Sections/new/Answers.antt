@@ -1,5 +1,5 @@
 use Rattle.std.proofs.Common.{[], length, sym}
-use Rattle.sections65.specs.Standing.{names_in}
+use Rattle.sections65.specs.Fed.{names_in}
 use Rattle.sections65.proofs.sections.Sections.new.Goals as goal
 
 pub returns : goal.returns

@@ -1,5 +1,5 @@
 use Rattle.std.proofs.Common.{refl}
-use Rattle.sections65.specs.Standing.{names_in}
+use Rattle.sections65.specs.Fed.{names_in}
 use Rattle.sections65.proofs.Standings.{begins_same, stands_taken}
 use Rattle.sections65.proofs.sections.Sections.room.Goals as goal
 

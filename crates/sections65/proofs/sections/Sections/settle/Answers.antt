@@ -1,5 +1,5 @@
 use Rattle.std.proofs.Common.{refl}
-use Rattle.sections65.specs.Standing.{names_in}
+use Rattle.sections65.specs.Fed.{names_in}
 use Rattle.sections65.proofs.Standings.{stands_given}
 use Rattle.sections65.proofs.sections.Sections.settle.Goals as goal
 

@@ -1,5 +1,5 @@
 use Rattle.std.proofs.Common.{sym, ◌∙◌}
-use Rattle.symbols65.specs.Inner.Settling.{MeansFinally}
+use Rattle.symbols65.specs.Resolving.{MeansFinally}
 use Rattle.symbols65.specs.Views.{table_of}
 use Rattle.symbols65.proofs.Finals.{operands_of, some_place}
 use Rattle.symbols65.proofs.Scopes.{reference}

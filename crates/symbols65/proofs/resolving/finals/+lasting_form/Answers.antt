@@ -2,7 +2,7 @@ use Rattle.std.proofs.Common.{rules, ◌≡◌, Option, Some, length, sym, subst
 use Rattle.syntax65.specs.Trees.{unary, binary}
 use Rattle.syntax65.specs.Kinds.{tree_of}
 use Rattle.object65.specs.Form.{Form}
-use Rattle.symbols65.specs.Finals.{IsFinalWithin, binary_form, prefix_form}
+use Rattle.symbols65.specs.Resolving.{IsFinalWithin, binary_form, prefix_form}
 use Rattle.symbols65.specs.Views.{table_of}
 use Rattle.symbols65.proofs.Finals.{binary_stays, more_ok, prefix_stays}
 use Rattle.symbols65.proofs.resolving.finals.+lasting_form.Goals as goal

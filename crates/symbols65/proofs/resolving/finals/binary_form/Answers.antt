@@ -1,7 +1,7 @@
 use Rattle.std.proofs.Common.{◌≡◌, IfOk, Option, Some, subst, sym}
 use Rattle.object65.specs.Form.{Form}
 use Rattle.object65.specs.Folding.{fold2}
-use Rattle.symbols65.specs.Finals.{binary_form}
+use Rattle.symbols65.specs.Resolving.{binary_form}
 use Rattle.symbols65.proofs.resolving.finals.binary_form.Goals as goal
 
 pub returns-in-Some-Some : goal.returns-in-Some-Some

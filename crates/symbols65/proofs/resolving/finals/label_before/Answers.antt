@@ -1,7 +1,7 @@
 use Rattle.std.proofs.Common.{rules, ◌≡◌, ◌-◌, ◌≤◌, sym, ap, ◌∙◌}
 use Rattle.syntax65.specs.Trees.{backward}
 use Rattle.language65.specs.Symbols.{defined, unnamed_at}
-use Rattle.symbols65.specs.Inner.Settling.{MeansAlways}
+use Rattle.symbols65.specs.Resolving.{MeansAlways}
 use Rattle.symbols65.specs.Views.{table_of}
 use Rattle.symbols65.proofs.Finals.{by_place, label_before}
 use Rattle.symbols65.proofs.resolving.finals.label_before.Goals as goal

@@ -1,8 +1,7 @@
 use Rattle.std.proofs.Common.{◌≤◌, length, take, sym, ap, ◌∙◌, arith}
 use Rattle.syntax65.specs.Trees.{name as named_tree}
-use Rattle.language65.specs.Names.{last_of, scope_from, scopes_of}
-use Rattle.language65.specs.Symbols.{defined, named}
-use Rattle.symbols65.specs.Inner.Settling.{MeansAlways}
+use Rattle.language65.specs.Symbols.{last_of, scope_from, scopes_of, defined, named}
+use Rattle.symbols65.specs.Resolving.{MeansAlways}
 use Rattle.symbols65.specs.Views.{table_of}
 use Rattle.symbols65.proofs.Finals.{by_place, own_member}
 use Rattle.symbols65.proofs.resolving.finals.opened_member.Goals as goal

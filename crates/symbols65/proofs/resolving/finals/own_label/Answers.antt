@@ -1,6 +1,6 @@
 use Rattle.std.proofs.Common.{sym, ◌∙◌}
 use Rattle.syntax65.specs.Trees.{cheap}
-use Rattle.symbols65.specs.Inner.Settling.{MeansAlways}
+use Rattle.symbols65.specs.Resolving.{MeansAlways}
 use Rattle.symbols65.specs.Views.{table_of}
 use Rattle.symbols65.proofs.Finals.{by_place, own_label}
 use Rattle.symbols65.proofs.resolving.finals.own_label.Goals as goal

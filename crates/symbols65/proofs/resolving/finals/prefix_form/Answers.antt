@@ -1,7 +1,7 @@
 use Rattle.std.proofs.Common.{◌≡◌, IfOk, Option, subst, sym}
 use Rattle.object65.specs.Form.{Form}
 use Rattle.object65.specs.Folding.{fold1}
-use Rattle.symbols65.specs.Finals.{prefix_form}
+use Rattle.symbols65.specs.Resolving.{prefix_form}
 use Rattle.symbols65.proofs.resolving.finals.prefix_form.Goals as goal
 
 pub returns-in-Some : goal.returns-in-Some

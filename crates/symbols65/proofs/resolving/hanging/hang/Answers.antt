@@ -1,6 +1,6 @@
 use Rattle.std.proofs.Common.{◌∙◌, Option, ℕ, slice_get, subst, sym}
 use Rattle.std.specs.Prelude.{IfSome}
-use Rattle.symbols65.specs.Hanging.{HangsOn}
+use Rattle.symbols65.specs.Resolving.{HangsOn}
 use Rattle.symbols65.specs.Views.{table_of}
 use Rattle.symbols65.proofs.Hanging.{bare_put, hung_put, open_is}
 use Rattle.symbols65.proofs.resolving.hanging.hang.Goals as goal

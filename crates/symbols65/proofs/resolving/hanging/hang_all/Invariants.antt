@@ -1,5 +1,5 @@
 use Rattle.std.proofs.Common.{◌≡◌, map}
-use Rattle.symbols65.specs.Hanging.{AreHung, bare}
+use Rattle.symbols65.specs.Resolving.{AreHung, bare}
 use Rattle.symbols65.specs.Views.{table_of}
 use Rattle.symbols65.proofs.resolving.hanging.hang_all.Given as goal
 

@@ -2,9 +2,8 @@ use Rattle.std.proofs.Common.{◌≡◌, ℕ, Option}
 use Rattle.std.specs.Prelude.{IfSome}
 use Rattle.std.proofs.lemmas.Result.{IfOk-weaker}
 use Rattle.symbols65.specs.declared.resolving.attempt.Source.TheVariants.{Finals}
-use Rattle.symbols65.specs.Hanging.{HangsOn, needed_in}
+use Rattle.symbols65.specs.Resolving.{HangsOn, needed_in, tried}
 use Rattle.symbols65.specs.Inner.Knowns.{known_by}
-use Rattle.symbols65.specs.Resolving.{tried}
 use Rattle.symbols65.specs.Tables.{definition_seen}
 use Rattle.symbols65.specs.Views.{key_at, table_of}
 use Rattle.symbols65.proofs.Hanging.{if_some}

@@ -2,8 +2,7 @@ use Rattle.std.proofs.Common.{ap, sym, subst}
 use Rattle.base65.specs.Outcome.{Refuses}
 use Rattle.symbols65.specs.declared.resolving.attempt.Source.TheVariants.{Finals}
 use Rattle.symbols65.specs.declared.resolving.attempt.Stop.{Stop}
-use Rattle.symbols65.specs.Hanging.{needed_in}
-use Rattle.symbols65.specs.Resolving.{lacks_memory, tried}
+use Rattle.symbols65.specs.Resolving.{needed_in, lacks_memory, tried}
 use Rattle.symbols65.specs.Inner.Knowns.{known_by}
 use Rattle.symbols65.specs.Views.{table_of}
 use Rattle.symbols65.proofs.resolving.hanging.needed_by.Goals as goal

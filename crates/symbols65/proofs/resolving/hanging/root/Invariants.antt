@@ -1,5 +1,5 @@
 use Rattle.std.proofs.Common.{◌≡◌, map}
-use Rattle.symbols65.specs.Hanging.{AreHung, Reaches, bare}
+use Rattle.symbols65.specs.Resolving.{AreHung, Reaches, bare}
 use Rattle.symbols65.specs.Views.{Table}
 use Rattle.symbols65.proofs.resolving.hanging.root.Given as goal
 

@@ -1,6 +1,6 @@
 use Rattle.std.proofs.Common.{◌≡◌, ℕ, length, slice_get, Some}
 use Rattle.symbols65.specs.declared.resolving.attempt.State.TheVariants.{Waiting}
-use Rattle.symbols65.specs.Hanging.{AreHung}
+use Rattle.symbols65.specs.Resolving.{AreHung}
 use Rattle.symbols65.specs.Inner.Knowns.{AreNoted}
 use Rattle.symbols65.specs.Views.{Table}
 use Rattle.symbols65.proofs.resolving.known.forget_noted.Given as goal

@@ -1,6 +1,6 @@
 use Rattle.std.proofs.Common.{ap, ◌∙◌, sym, ◌++◌}
 use Rattle.std.proofs.lemmas.List.{append_assoc}
-use Rattle.language65.specs.Names.{joined}
+use Rattle.language65.specs.Symbols.{joined}
 use Rattle.symbols65.specs.Resolving.{joined_behind}
 use Rattle.symbols65.proofs.Scopes.{joined_first}
 use Rattle.language65.proofs.Lists.{on_ok}

@@ -1,6 +1,5 @@
 use Rattle.std.proofs.Common.{◌≡◌}
-use Rattle.language65.specs.Names.{first_found, outward_from, scopes_from}
-use Rattle.language65.specs.Symbols.{defined, named}
+use Rattle.language65.specs.Symbols.{first_found, outward_from, scopes_from, defined, named}
 use Rattle.symbols65.specs.Views.{table_of}
 use Rattle.symbols65.proofs.resolving.scopes.defined_outward.Given as goal
 

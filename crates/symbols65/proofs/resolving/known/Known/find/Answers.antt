@@ -11,8 +11,7 @@ use Rattle.symbols65.specs.declared.resolving.attempt.State.{State}
 use Rattle.symbols65.specs.declared.resolving.attempt.Stop.TheVariants.{Needs}
 use Rattle.symbols65.specs.declared.resolving.attempt.Stop.{Stop}
 use Rattle.base65.specs.Outcome.{Refuses, Unless}
-use Rattle.symbols65.specs.Resolving.{IsTable, lacks_memory, may_be_looked_for, tried, tried_last}
-use Rattle.symbols65.specs.Hanging.{AreHung, Leads, Reaches, bare}
+use Rattle.symbols65.specs.Resolving.{IsTable, lacks_memory, may_be_looked_for, tried, tried_last, AreHung, Leads, Reaches, bare}
 use Rattle.symbols65.proofs.Hanging.{not_found, same_table, same_unknown}
 use Rattle.symbols65.proofs.Turns.{comes_to_norm, expression_course, expression_is}
 use Rattle.symbols65.proofs.GivenUp.{pursuit_lost, pursuit_same}

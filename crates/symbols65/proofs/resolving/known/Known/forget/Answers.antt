@@ -1,7 +1,6 @@
 use Rattle.std.proofs.Common.{◌≡◌, [], length, sym, ap, ◌∙◌, subst}
-use Rattle.symbols65.specs.Hanging.{AreHung}
+use Rattle.symbols65.specs.Resolving.{AreHung, IsTable}
 use Rattle.symbols65.specs.Inner.Knowns.{AreNoted}
-use Rattle.symbols65.specs.Resolving.{IsTable}
 use Rattle.symbols65.proofs.Knowns.{none_known, written_over}
 use Rattle.symbols65.proofs.resolving.known.Known.forget.Goals as goal
 

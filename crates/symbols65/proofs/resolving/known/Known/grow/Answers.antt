@@ -1,6 +1,6 @@
 use Rattle.std.proofs.Common.{◌≡◌, ◌+◌, ◌∙◌, [], ◌∷◌, length, ap, sym, subst, length-append}
 use Rattle.symbols65.specs.declared.resolving.attempt.State.TheVariants.{Unknown}
-use Rattle.symbols65.specs.Hanging.{AreHung}
+use Rattle.symbols65.specs.Resolving.{AreHung}
 use Rattle.symbols65.proofs.Knowns.{hung_more}
 use Rattle.symbols65.proofs.resolving.known.Known.grow.Goals as goal
 

@@ -1,5 +1,5 @@
 use Rattle.std.proofs.Common.{◌∙◌, length, option_map, ap}
-use Rattle.language65.specs.LineFaults.{opened_twice}
+use Rattle.language65.specs.Layout.{opened_twice}
 use Rattle.language65.proofs.Lists.{on_ok}
 use Rattle.symbols65.specs.Views.{table_of, with_scope, words_of}
 use Rattle.symbols65.proofs.Growing.{opened_once, opening_distinct, opening_numbered, opening_scope}

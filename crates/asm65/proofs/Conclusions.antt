@@ -14,8 +14,8 @@ use Rattle.module65.specs.Module as piece
 use Rattle.module65.specs.Module.{Made, made_of, used, Outcome}
 use Rattle.asm65.specs.declared.assembler.Piece.{Piece}
 use Rattle.asm65.specs.declared.assembler.Piece.TheVariants.{Datum, Operand, Constant, Assertion, Import, Demand, Export}
-use Rattle.asm65.specs.declared.assembler.Waiting.{Waiting}
-use Rattle.asm65.specs.Inner.Holding.{IsConstant, IsPiece, IsWaiting, AreAwaited, AreWaiting, Holds}
+use Rattle.asm65.specs.declared.assembler.Fixup.{Fixup}
+use Rattle.asm65.specs.Inner.Holding.{IsConstant, IsPiece, IsFixup, AreAwaited, AreFixups, Holds}
 use Rattle.asm65.specs.Inner.Resolving.{coming, AreFaulty, AreSettled, IsFaulty, IsSettled, ReceivesAll, SettlesAll}
 use Rattle.std.specs.Prelude.{IfOk, Result, Ok, Err, IfErr, None}
 use Rattle.std.proofs.lemmas.List.{append-nil}
@@ -30,12 +30,12 @@ use Rattle.layout65.proofs.Measures.{unless_then}
 use Rattle.object65.specs.declared.object.Object.{Object}
 use Rattle.object65.specs.Objects.{is_good_object}
 use Rattle.language65.specs.declared.contents.Segment.{Segment}
-use Rattle.language65.specs.Layout.{Standing}
+use Rattle.language65.specs.Layout.{Cursor}
 use Rattle.language65.specs.Numbering.{object_with, AreSound}
 use Rattle.symbols65.specs.Resolving.{IsTable}
 use Rattle.symbols65.specs.Views.{table_of}
 use Rattle.asm65.specs.declared.assembler.Assembler.{Assembler}
-use Rattle.layout65.specs.Sounds.{standing_of}
+use Rattle.layout65.specs.Sounds.{cursor_of}
 
 -- ---- Faults from outside.
 
@@ -76,7 +76,7 @@ comes_to y place s (Import n) p h = ap (made_of y place s) (sym h)
 comes_to y place s (Demand n) p h = ap (made_of y place s) (sym h)
 comes_to y place s (Export must n) p h = ap (made_of y place s) (sym h)
 
-pub waiting_comes : (y : Symbols) (files : List (List ℕ)) (w : Waiting) (v : machine.Waiting) (here : Place) → IsWaiting y files w v → here ≡ v.place → coming y here w.context w.piece ≡ made_of y v.place v.context v.piece
+pub waiting_comes : (y : Symbols) (files : List (List ℕ)) (w : Fixup) (v : machine.Fixup) (here : Place) → IsFixup y files w v → here ≡ v.place → coming y here w.context w.piece ≡ made_of y v.place v.context v.piece
 waiting_comes y files w v here h same =
     ap (λ (s : Context). coming y here s w.piece) (sym h.context)
     ∙ ap (λ (p : Place). coming y p v.context w.piece) same
@@ -88,18 +88,18 @@ abbrev pub done_with : List Content → List ℕ → Finished Content
 done_with cs said = record { found = Ok cs; warned = said }
 
 -- some of what waits is settled, and the others are left
-pub record SoFar (y : Symbols) (files : List (List ℕ)) (vs : List machine.Waiting) (left : List Waiting) (old new : Ending) : Type 0 where
-  pub done : List machine.Waiting
-  pub rest : List machine.Waiting
+pub record SoFar (y : Symbols) (files : List (List ℕ)) (vs : List machine.Fixup) (left : List Fixup) (old new : Ending) : Type 0 where
+  pub done : List machine.Fixup
+  pub rest : List machine.Fixup
   pub all : done ++ rest ≡ vs
-  pub waits : AreWaiting y files left rest
+  pub waits : AreFixups y files left rest
   pub contents : List Content
   pub warned : List ℕ
   pub found : resolved y done ≡ done_with contents warned
   pub sections : ReceivesAll old.sections new.sections contents
   pub err : new.err ≡ old.err ++ warned
 
-pub begins : (y : Symbols) (files : List (List ℕ)) (vs : List machine.Waiting) (left : List Waiting) (e : Ending) → AreWaiting y files left vs → SoFar y files vs left e e
+pub begins : (y : Symbols) (files : List (List ℕ)) (vs : List machine.Fixup) (left : List Fixup) (e : Ending) → AreFixups y files left vs → SoFar y files vs left e e
 begins y files vs left e h = record {
   done = [];
   rest = vs;
@@ -112,10 +112,10 @@ begins y files vs left e h = record {
   err = sym (append-nil e.err);
 }
 
-pub goes_on : (y : Symbols) (files : List (List ℕ)) (vs : List machine.Waiting) (w : Waiting) (left : List Waiting) (old mid new : Ending) → SoFar y files vs (w ∷ left) old mid → ((v : machine.Waiting) → IsWaiting y files w v → IsSettled y v mid new) → SoFar y files vs left old new
+pub goes_on : (y : Symbols) (files : List (List ℕ)) (vs : List machine.Fixup) (w : Fixup) (left : List Fixup) (old mid new : Ending) → SoFar y files vs (w ∷ left) old mid → ((v : machine.Fixup) → IsFixup y files w v → IsSettled y v mid new) → SoFar y files vs left old new
 goes_on y files vs w left old mid new so settled = by so.rest so.all so.waits
   where
-    by : (rest : List machine.Waiting) → so.done ++ rest ≡ vs → AreWaiting y files (w ∷ left) rest → SoFar y files vs left old new
+    by : (rest : List machine.Fixup) → so.done ++ rest ≡ vs → AreFixups y files (w ∷ left) rest → SoFar y files vs left old new
     by [] all waits = absurd waits
     by (v ∷ rest) all waits =
         let k = settled v waits.0 in
@@ -131,10 +131,10 @@ goes_on y files vs w left old mid new so settled = by so.rest so.all so.waits
           err = k.err ∙ ap (λ (e : List ℕ). e ++ k.made.warning) so.err ∙ append_assoc old.err so.warned k.made.warning;
         }
 
-pub stops : (y : Symbols) (files : List (List ℕ)) (vs : List machine.Waiting) (w : Waiting) (left : List Waiting) (old mid new : Ending) (e : AsmRefusal) → SoFar y files vs (w ∷ left) old mid → ((v : machine.Waiting) → IsWaiting y files w v → Unless (is_outside_refusal e) (IsFaulty y v e mid new)) → Unless (is_outside_refusal e) (AreFaulty y vs e old new)
+pub stops : (y : Symbols) (files : List (List ℕ)) (vs : List machine.Fixup) (w : Fixup) (left : List Fixup) (old mid new : Ending) (e : AsmRefusal) → SoFar y files vs (w ∷ left) old mid → ((v : machine.Fixup) → IsFixup y files w v → Unless (is_outside_refusal e) (IsFaulty y v e mid new)) → Unless (is_outside_refusal e) (AreFaulty y vs e old new)
 stops y files vs w left old mid new e so faulty = by so.rest so.all so.waits
   where
-    one : (v : machine.Waiting) (rest : List machine.Waiting) → so.done ++ v ∷ rest ≡ vs → IsFaulty y v e mid new → AreFaulty y vs e old new
+    one : (v : machine.Fixup) (rest : List machine.Fixup) → so.done ++ v ∷ rest ≡ vs → IsFaulty y v e mid new → AreFaulty y vs e old new
     one v rest all k =
         let stopped : resolved y vs ≡ record { found = Err (record { place = v.place; fault = (placed_of e).fault }); warned = so.warned } = ap (resolved y) (sym all) ∙ resolved_stops y so.done rest v so.contents so.warned (placed_of e).fault so.found k.found in
         let at : Place → Result (List Content) PlacedFault = λ p. Err (record { place = p; fault = (placed_of e).fault }) in
@@ -143,11 +143,11 @@ stops y files vs w left old mid new e so faulty = by so.rest so.all so.waits
           err = k.err ∙ so.err ∙ ap (λ (r : Finished Content). old.err ++ r.warned) (sym stopped);
         }
 
-    by : (rest : List machine.Waiting) → so.done ++ rest ≡ vs → AreWaiting y files (w ∷ left) rest → Unless (is_outside_refusal e) (AreFaulty y vs e old new)
+    by : (rest : List machine.Fixup) → so.done ++ rest ≡ vs → AreFixups y files (w ∷ left) rest → Unless (is_outside_refusal e) (AreFaulty y vs e old new)
     by [] all waits = absurd waits
     by (v ∷ rest) all waits = unless_then (is_outside_refusal e) (one v rest all) (faulty v waits.0)
 
-pub ends : (y : Symbols) (files : List (List ℕ)) (vs : List machine.Waiting) (old new : Ending) → SoFar y files vs [] old new → AreSettled y vs old new
+pub ends : (y : Symbols) (files : List (List ℕ)) (vs : List machine.Fixup) (old new : Ending) → SoFar y files vs [] old new → AreSettled y vs old new
 ends y files vs old new so =
     let all : so.done ≡ vs = sym (append-nil so.done) ∙ ap (λ ws. so.done ++ ws) (sym so.waits) ∙ so.all in
     let done : resolved y vs ≡ done_with so.contents so.warned = ap (resolved y) (sym all) ∙ so.found in
@@ -160,7 +160,7 @@ ends y files vs old new so =
 
 -- ---- The contents of what waits.
 
-pub awaited : (y : Symbols) (vs : List machine.Waiting) (cs : List Content) → (resolved y vs).found ≡ Ok cs → AreAwaited vs cs
+pub awaited : (y : Symbols) (vs : List machine.Fixup) (cs : List Content) → (resolved y vs).found ≡ Ok cs → AreAwaited vs cs
 awaited y [] cs h = let same : [] ≡ cs = cc in subst (AreAwaited []) same (refl, tt)
 awaited y (v ∷ vs) cs h = by (made_of y v.place v.context v.piece) (resolved y vs).found refl (made_asks y v.place v.context v.piece) (awaited y vs) h
   where
@@ -179,31 +179,31 @@ abbrev pub files_of : Assembler → List (List ℕ)
 files_of a = map string_bytes a.files.keys
 
 -- by the symbol table of the state that it holds
-pub all_settled : (count : ℕ) (t : State) (a : Assembler) (files : List (List ℕ)) (new : Ending) (r : Result Unit AsmRefusal) → Holds count t a → files ≡ files_of a → ((vs : List machine.Waiting) → AreWaiting (table_of a.symbols) files a.waiting.items vs → SettlesAll (table_of a.symbols) vs (ending_of a) new r) → SettlesAll t.symbols t.waiting (ending_of a) new r
+pub all_settled : (count : ℕ) (t : State) (a : Assembler) (files : List (List ℕ)) (new : Ending) (r : Result Unit AsmRefusal) → Holds count t a → files ≡ files_of a → ((vs : List machine.Fixup) → AreFixups (table_of a.symbols) files a.fixups.items vs → SettlesAll (table_of a.symbols) vs (ending_of a) new r) → SettlesAll t.symbols t.fixups (ending_of a) new r
 all_settled count t a files new r h same settled =
-    let there : AreWaiting (table_of a.symbols) (files_of a) a.waiting.items t.waiting = subst (λ (y : Symbols). AreWaiting y (files_of a) a.waiting.items t.waiting) (sym h.symbols) h.waiting in
-    let waits : AreWaiting (table_of a.symbols) files a.waiting.items t.waiting = subst (λ (fs : List (List ℕ)). AreWaiting (table_of a.symbols) fs a.waiting.items t.waiting) (sym same) there in
-    subst (λ (y : Symbols). SettlesAll y t.waiting (ending_of a) new r) h.symbols (settled t.waiting waits)
+    let there : AreFixups (table_of a.symbols) (files_of a) a.fixups.items t.fixups = subst (λ (y : Symbols). AreFixups y (files_of a) a.fixups.items t.fixups) (sym h.symbols) h.fixups in
+    let waits : AreFixups (table_of a.symbols) files a.fixups.items t.fixups = subst (λ (fs : List (List ℕ)). AreFixups (table_of a.symbols) fs a.fixups.items t.fixups) (sym same) there in
+    subst (λ (y : Symbols). SettlesAll y t.fixups (ending_of a) new r) h.symbols (settled t.fixups waits)
 
 -- the sections site for the contents of the state
-pub stands_finished : (count : ℕ) (t : State) (a : Assembler) (new : Ending) → Holds count t a → (k : AreSettled t.symbols t.waiting (ending_of a) new) → Stands (filled t.slots k.contents) [] new.sections
+pub stands_finished : (count : ℕ) (t : State) (a : Assembler) (new : Ending) → Holds count t a → (k : AreSettled t.symbols t.fixups (ending_of a) new) → Stands (filled t.slots k.contents) [] new.sections
 stands_finished count t a new h k =
     let cs = k.contents in
-    k.sections (filled t.slots cs) [] (subst (λ (ws : List Content). Stands (filled t.slots cs) ws a.sections) (sym (append-nil cs)) (h.sections cs (awaited t.symbols t.waiting cs k.found)))
+    k.sections (filled t.slots cs) [] (subst (λ (ws : List Content). Stands (filled t.slots cs) ws a.sections) (sym (append-nil cs)) (h.sections cs (awaited t.symbols t.fixups cs k.found)))
 
-pub finished_found : (t : State) (cs : List Content) → (resolved t.symbols t.waiting).found ≡ Ok cs → (finished t).found ≡ Ok (filled t.slots cs)
+pub finished_found : (t : State) (cs : List Content) → (resolved t.symbols t.fixups).found ≡ Ok cs → (finished t).found ≡ Ok (filled t.slots cs)
 finished_found t cs e = (let fill : Result (List Content) PlacedFault → Result (List Content) PlacedFault = λ r. r >>= (λ ds. Ok (filled t.slots ds)) in ap fill e)
 
 -- its segments and imports are those of the state
-pub same_object : (count : ℕ) (t : State) (a : Assembler) (cs : List Content) → Holds count t a → object_with a.standing.segments.items (map (λ k. k.items) a.symbols.imports.keys) cs ≡ object_with t.standing.segments t.symbols.imports cs
+pub same_object : (count : ℕ) (t : State) (a : Assembler) (cs : List Content) → Holds count t a → object_with a.cursor.segments.items (map (λ k. k.items) a.symbols.imports.keys) cs ≡ object_with t.cursor.segments t.symbols.imports cs
 same_object count t a cs h =
-    ap (λ (w : Standing). object_with w.segments (table_of a.symbols).imports cs) h.standing
-    ∙ ap (λ (y : Symbols). object_with t.standing.segments y.imports cs) h.symbols
+    ap (λ (w : Cursor). object_with w.segments (table_of a.symbols).imports cs) h.cursor
+    ∙ ap (λ (y : Symbols). object_with t.cursor.segments y.imports cs) h.symbols
 
-pub object_concluded : (count : ℕ) (t : State) (a : Assembler) (new : Ending) (o : Object) → Holds count t a → AreSettled t.symbols t.waiting (ending_of a) new → ((cs : List Content) → Stands cs [] new.sections → o ≡ object_with a.standing.segments.items (map (λ k. k.items) a.symbols.imports.keys) cs) → record { result = Ok o; out = a.texts.out; err = new.err } ≡ concluded t None
+pub object_concluded : (count : ℕ) (t : State) (a : Assembler) (new : Ending) (o : Object) → Holds count t a → AreSettled t.symbols t.fixups (ending_of a) new → ((cs : List Content) → Stands cs [] new.sections → o ≡ object_with a.cursor.segments.items (map (λ k. k.items) a.symbols.imports.keys) cs) → record { result = Ok o; out = a.texts.out; err = new.err } ≡ concluded t None
 object_concluded count t a new o h k made =
     let cs = filled t.slots k.contents in
-    let object : List Content → Object = object_with t.standing.segments t.symbols.imports in
+    let object : List Content → Object = object_with t.cursor.segments t.symbols.imports in
     let same : o ≡ object cs = made cs (stands_finished count t a new h k) ∙ same_object count t a cs h in
     let answer : Object → Result Object PlacedFault = λ x. Ok x in
     let answers : Result (List Content) PlacedFault → Result Object PlacedFault = λ r. r >>= (λ ds. Ok (object ds)) in
@@ -214,9 +214,9 @@ object_concluded count t a new o h k made =
     ∙ ap (λ (out : List ℕ). whole (concluded t None).result out new.err) h.out
     ∙ ap (λ (said : List ℕ). whole (concluded t None).result t.out said) err
 
-pub fault_concluded : (count : ℕ) (t : State) (a : Assembler) (new : Ending) (e : AsmRefusal) → Holds count t a → AreFaulty t.symbols t.waiting e (ending_of a) new → record { result = Err (placed_of e); out = a.texts.out; err = new.err } ≡ concluded t None
+pub fault_concluded : (count : ℕ) (t : State) (a : Assembler) (new : Ending) (e : AsmRefusal) → Holds count t a → AreFaulty t.symbols t.fixups e (ending_of a) new → record { result = Err (placed_of e); out = a.texts.out; err = new.err } ≡ concluded t None
 fault_concluded count t a new e h k =
-    let object : List Content → Object = object_with t.standing.segments t.symbols.imports in
+    let object : List Content → Object = object_with t.cursor.segments t.symbols.imports in
     let answers : Result (List Content) PlacedFault → Result Object PlacedFault = λ r. (r >>= (λ cs. Ok (filled t.slots cs))) >>= (λ ds. Ok (object ds)) in
     let fault : Result Object PlacedFault = Err (placed_of e) in
     let result : fault ≡ (concluded t None).result = ap answers (sym k.found) in
@@ -226,12 +226,12 @@ fault_concluded count t a new e h k =
     ∙ ap (λ (out : List ℕ). whole (concluded t None).result out new.err) h.out
     ∙ ap (λ (said : List ℕ). whole (concluded t None).result t.out said) err
 
-pub object_good : (count : ℕ) (t : State) (a : Assembler) (new : Ending) (o : Object) → Holds count t a → AreSettled t.symbols t.waiting (ending_of a) new → ((cs : List Content) → Stands cs [] new.sections → AreSound a.standing.segments.items (map (λ k. k.items) a.symbols.imports.keys) cs → is_good_object o ≡ true) → ((cs : List Content) → (finished t).found ≡ Ok cs → AreSound t.standing.segments t.symbols.imports cs) → is_good_object o ≡ true
+pub object_good : (count : ℕ) (t : State) (a : Assembler) (new : Ending) (o : Object) → Holds count t a → AreSettled t.symbols t.fixups (ending_of a) new → ((cs : List Content) → Stands cs [] new.sections → AreSound a.cursor.segments.items (map (λ k. k.items) a.symbols.imports.keys) cs → is_good_object o ≡ true) → ((cs : List Content) → (finished t).found ≡ Ok cs → AreSound t.cursor.segments t.symbols.imports cs) → is_good_object o ≡ true
 object_good count t a new o h k good sound =
     let cs = filled t.slots k.contents in
-    let there : AreSound t.standing.segments t.symbols.imports cs = sound cs (finished_found t k.contents k.found) in
-    let segments : AreSound (standing_of a.standing).segments t.symbols.imports cs = subst (λ (w : Standing). AreSound w.segments t.symbols.imports cs) (sym h.standing) there in
-    good cs (stands_finished count t a new h k) (subst (λ (y : Symbols). AreSound a.standing.segments.items y.imports cs) (sym h.symbols) segments)
+    let there : AreSound t.cursor.segments t.symbols.imports cs = sound cs (finished_found t k.contents k.found) in
+    let segments : AreSound (cursor_of a.cursor).segments t.symbols.imports cs = subst (λ (w : Cursor). AreSound w.segments t.symbols.imports cs) (sym h.cursor) there in
+    good cs (stands_finished count t a new h k) (subst (λ (y : Symbols). AreSound a.cursor.segments.items y.imports cs) (sym h.symbols) segments)
 
 -- ---- Either answer.
 
@@ -249,19 +249,19 @@ IsGoodWhere segments imports new o =
     (cs : List Content) → Stands cs [] new.sections → AreSound segments imports cs →
     is_good_object o ≡ true
 
-pub either_concluded : (count : ℕ) (t : State) (a : Assembler) (new : Ending) (r : Result Object AsmRefusal) → Holds count t a → AreSettled t.symbols t.waiting (ending_of a) new → IfOk r (IsMade a.standing.segments.items (imports_of a) new) → IfErr r (λ e. is_outside_refusal e ≡ true) → is_from_outside r ≡ false → record { result = in_places r; out = a.texts.out; err = new.err } ≡ concluded t None
+pub either_concluded : (count : ℕ) (t : State) (a : Assembler) (new : Ending) (r : Result Object AsmRefusal) → Holds count t a → AreSettled t.symbols t.fixups (ending_of a) new → IfOk r (IsMade a.cursor.segments.items (imports_of a) new) → IfErr r (λ e. is_outside_refusal e ≡ true) → is_from_outside r ≡ false → record { result = in_places r; out = a.texts.out; err = new.err } ≡ concluded t None
 either_concluded count t a new (Ok o) h k made outside e = object_concluded count t a new o h k made
 either_concluded count t a new (Err x) h k made outside e = absurd (let both : true ≡ false = sym outside ∙ e in cc)
 
 abbrev pub IsGoodIf : Assembler → Object → Type 0
 IsGoodIf a o =
     (count : ℕ) (t : State) → Holds count t a →
-    ((cs : List Content) → (finished t).found ≡ Ok cs → AreSound t.standing.segments t.symbols.imports cs) →
+    ((cs : List Content) → (finished t).found ≡ Ok cs → AreSound t.cursor.segments t.symbols.imports cs) →
     is_good_object o ≡ true
 
-pub either_good : (a : Assembler) (new : Ending) (r x : Result Object AsmRefusal) → x ≡ r → ((count : ℕ) (t : State) → Holds count t a → AreSettled t.symbols t.waiting (ending_of a) new) → IfOk r (IsGoodWhere a.standing.segments.items (imports_of a) new) → IfOk x (IsGoodIf a)
+pub either_good : (a : Assembler) (new : Ending) (r x : Result Object AsmRefusal) → x ≡ r → ((count : ℕ) (t : State) → Holds count t a → AreSettled t.symbols t.fixups (ending_of a) new) → IfOk r (IsGoodWhere a.cursor.segments.items (imports_of a) new) → IfOk x (IsGoodIf a)
 either_good a new r x same settled good = subst (λ (z : Result Object AsmRefusal). IfOk z (IsGoodIf a)) (sym same) (by r good)
   where
-    by : (z : Result Object AsmRefusal) → IfOk z (IsGoodWhere a.standing.segments.items (imports_of a) new) → IfOk z (IsGoodIf a)
+    by : (z : Result Object AsmRefusal) → IfOk z (IsGoodWhere a.cursor.segments.items (imports_of a) new) → IfOk z (IsGoodIf a)
     by (Ok o) g = λ count t h sound. object_good count t a new o h (settled count t h) g sound
     by (Err e) g = tt

@@ -55,7 +55,7 @@ fed a x = record a { sections = x }
 pub fed_enters : (old : Assembler) (x : Sections) (place : Place) (s : Context) (p : Piece) (c : Content) → Feeds old.sections x c → IsSettled (table_of old.symbols) place s p c → Enters place s (p ∷ []) old (fed old x)
 fed_enters old x place s p c feeds settled count t h =
     let there : IsSettled t.symbols place s p c = subst (λ y. IsSettled y place s p c) h.symbols settled in
-    (entered t c, (entered t c, at_once c there, refl), holds_entered count t old (fed old x) h (record { symbols = refl; known = refl; standing = refl; texts = refl }) c feeds refl refl)
+    (entered t c, (entered t c, at_once c there, refl), holds_entered count t old (fed old x) h (record { symbols = refl; known = refl; cursor = refl; texts = refl }) c feeds refl refl)
 
 -- what needs no value
 pub given_enters : (old : Assembler) (x : Sections) (place : Place) (s : Context) (p : Part) → Feeds old.sections x (put s.segment p) → Enters place s (given p ∷ []) old (fed old x)
@@ -104,20 +104,20 @@ numbers_enter old x place s width ns bytes stored feeds count t h =
     let known = subst (λ (b : List ℕ). Feeds old.sections x (put s.segment (Known b))) stored.bytes feeds in (
       all_entered t (runs s.segment f ns),
       numbers_put place s t width ns stored.fit,
-      holds_all count t old (fed old x) h (record { symbols = refl; known = refl; standing = refl; texts = refl }) (runs s.segment f ns) (runs_stand s.segment f ns old.sections x known) refl refl,
+      holds_all count t old (fed old x) h (record { symbols = refl; known = refl; cursor = refl; texts = refl }) (runs s.segment f ns) (runs_stand s.segment f ns old.sections x known) refl refl,
     )
 
 -- ---- Assertions.
 
 -- nothing is said
 pub says_nothing : (x : Sections) → Feeds x x (telling [])
-says_nothing x cs waiting h = record {
+says_nothing x cs fixups h = record {
   asked = asked_same cs (telling []) refl ∙ h.asked;
   latest = h.latest;
-  alike = alike_trans (cs ++ telling [] ∷ []) cs (contents_in (names_in x.files) waiting x.entries) (alike_nothing cs (telling [] ∷ []) (empty_alike 0 false)) h.alike;
+  alike = alike_trans (cs ++ telling [] ∷ []) cs (contents_in (names_in x.files) fixups x.entries) (alike_nothing cs (telling [] ∷ []) (empty_alike 0 false)) h.alike;
   waits = h.waits;
   settled = h.settled;
-  standing = h.standing;
+  cursor = h.cursor;
 }
 
 so_used : (place : Place) (s : Context) (act : Action) (words : List ℕ) (v : ℤ) → (v ≡ pos 0 → ⊥) → used place s (asserted act words) (lit v) ≡ Ok (quietly (telling []))

@@ -15,7 +15,7 @@ use Rattle.object65.specs.declared.object.Action.{Action}
 use Rattle.object65.specs.declared.object.Action.TheVariants as action
 use Rattle.object65.specs.declared.object.Width.{Width}
 use Rattle.object65.specs.declared.object.Width.TheVariants as width
-use Rattle.language65.specs.Contents.{Part, Known, Waiting, Said, Exported, Checked, decided, export_said, import_fault, operand_form, stored, written}
+use Rattle.language65.specs.Contents.{Part, Known, Waiting, Declaration, Exported, Asserted, decided, export_said, import_fault, operand_form, stored, written}
 use Rattle.language65.specs.declared.contents.Segment.{Segment}
 use Rattle.language65.specs.declared.fault.AsmFault.{AsmFault}
 use Rattle.language65.specs.declared.fault.AsmFault.TheVariants.{Expansion, FileError, FileNameTooLong, NotUnderstood, OutOfRange, SectionTooLarge, Undefined, NoSuchScope, NoSuchLabel}
@@ -23,7 +23,7 @@ use Rattle.language65.specs.Faults.{is_failure, is_memory}
 use Rattle.language65.specs.declared.laid.Context.{Context}
 use Rattle.language65.specs.declared.language.Statement.{Statement}
 use Rattle.language65.specs.declared.language.Statement.TheVariants as statement
-use Rattle.language65.specs.Layout.{Standing, own_size, place_of, context_of, unless_fault}
+use Rattle.language65.specs.Layout.{Cursor, own_size, place_of, context_of, unless_fault}
 use Rattle.language65.specs.Layout as faults
 use Rattle.language65.specs.Symbols.{Meaning, defined_at, imported_as, first_found, last_of, meaning_of, member_meaning, or_fault, scope_from, scopes_from, scopes_of, shown, unnamed_meaning, Definition, Key, Scope, Symbols, cheap_in, defined, imported, key_defined, named, unnamed_at}
 use Rattle.language65.specs.Norms.{constant_in, defined_form, folded, form_by, form_of_definition, form_of_meaning, form_of_value, norm, norm_of, length_of}
@@ -144,7 +144,7 @@ inside_part : (g : ℕ) (r : Result Part AsmFault) → IsInside r → IsInside (
 inside_part g (Ok p) h = tt
 inside_part g (Err e) h = h
 
-inside_said : (r : Result (List Said) AsmFault) → IsInside r → IsInside (r >>= as_said)
+inside_said : (r : Result (List Declaration) AsmFault) → IsInside r → IsInside (r >>= as_said)
 inside_said (Ok ss) h = tt
 inside_said (Err e) h = h
 
@@ -153,14 +153,14 @@ inside_decided action.Error place words (lit (pos zero)) = refl
 inside_decided action.Error place words (lit (pos (suc n))) = tt
 inside_decided action.Error place words (lit _) = tt
 inside_decided action.Warning place words (lit v) = tt
-inside_decided action.Error place words (sec k v) = inside_written place (Checked action.Error place words (sec k v) ∷ [])
-inside_decided action.Error place words (imp k) = inside_written place (Checked action.Error place words (imp k) ∷ [])
-inside_decided action.Error place words (prefix_form op f) = inside_written place (Checked action.Error place words (prefix_form op f) ∷ [])
-inside_decided action.Error place words (binary_form op f g) = inside_written place (Checked action.Error place words (binary_form op f g) ∷ [])
-inside_decided action.Warning place words (sec k v) = inside_written place (Checked action.Warning place words (sec k v) ∷ [])
-inside_decided action.Warning place words (imp k) = inside_written place (Checked action.Warning place words (imp k) ∷ [])
-inside_decided action.Warning place words (prefix_form op f) = inside_written place (Checked action.Warning place words (prefix_form op f) ∷ [])
-inside_decided action.Warning place words (binary_form op f g) = inside_written place (Checked action.Warning place words (binary_form op f g) ∷ [])
+inside_decided action.Error place words (sec k v) = inside_written place (Asserted action.Error place words (sec k v) ∷ [])
+inside_decided action.Error place words (imp k) = inside_written place (Asserted action.Error place words (imp k) ∷ [])
+inside_decided action.Error place words (prefix_form op f) = inside_written place (Asserted action.Error place words (prefix_form op f) ∷ [])
+inside_decided action.Error place words (binary_form op f g) = inside_written place (Asserted action.Error place words (binary_form op f g) ∷ [])
+inside_decided action.Warning place words (sec k v) = inside_written place (Asserted action.Warning place words (sec k v) ∷ [])
+inside_decided action.Warning place words (imp k) = inside_written place (Asserted action.Warning place words (imp k) ∷ [])
+inside_decided action.Warning place words (prefix_form op f) = inside_written place (Asserted action.Warning place words (prefix_form op f) ∷ [])
+inside_decided action.Warning place words (binary_form op f g) = inside_written place (Asserted action.Warning place words (binary_form op f g) ∷ [])
 
 inside_used : (place : Place) (s : Context) (why : Purpose) (f : Form) → IsInside (used place s why f)
 inside_used place s (piece.datum w) f = inside_part s.segment (stored w place f) (inside_stored w place f)
@@ -334,7 +334,7 @@ first_inside [] h = no_fault
 first_inside (o ∷ os) h = inside_first o os h.0 (first_inside os h.1)
 
 -- a line's fault is no store's
-pub line_inside : (y : Symbols) (w : Standing) (x : Statement) → AreInsideFaults (faults.line_fault y w x)
+pub line_inside : (y : Symbols) (w : Cursor) (x : Statement) → AreInsideFaults (faults.line_fault y w x)
 line_inside y w x =
     let s : Context = context_of w in
     let outside : Bool = faults.stands_outside x && faults.is_open s.scope in
@@ -399,7 +399,7 @@ inside_unless_fault None x h = tt
 inside_unless_fault (Some e) x h = h e refl
 
 -- what a statement comes to at its line is found, or a fault that is no store's
-pub measured_inside : {X : Type 0} (r : Result X AsmFault) (view : X → Measured) (y : Symbols) (w : Standing) (x : Statement) → Gives is_memory view r (measured y w x) → IsInside r
+pub measured_inside : {X : Type 0} (r : Result X AsmFault) (view : X → Measured) (y : Symbols) (w : Cursor) (x : Statement) → Gives is_memory view r (measured y w x) → IsInside r
 measured_inside r view y w x h = inside_from r view (measured y w x) (inside_unless_fault (faults.line_fault y w x) (measure_of y w x) (line_inside y w x)) h
 
 either_inside : (a b : Option AsmFault) → AreInsideFaults a → AreInsideFaults b → AreInsideFaults (faults.or_then a b)
@@ -407,7 +407,7 @@ either_inside (Some e) b h k = h
 either_inside None b h k = k
 
 -- so is what it is refused for whatever a file has
-pub unread_inside : (r : Result (Unit {0}) AsmFault) (y : Symbols) (w : Standing) (start len : Option Tree) → Gives is_memory (λ u. u) r (unless_fault (unread_fault y w start len) tt) → IsInside r
+pub unread_inside : (r : Result (Unit {0}) AsmFault) (y : Symbols) (w : Cursor) (start len : Option Tree) → Gives is_memory (λ u. u) r (unless_fault (unread_fault y w start len) tt) → IsInside r
 unread_inside r y w start len h =
     let part = statement.FilePart None start len in
     let fault = either_inside (faults.lost_scopes y.scopes w.scope (faults.trees_of part)) (faults.operand_fault y (context_of w) part) (inside_lost_all y.scopes w.scope (faults.trees_of part)) (inside_operand_fault y (context_of w) part) in

@@ -5,7 +5,7 @@ use Rattle.language65.specs.Layout.{context_of}
 use Rattle.module65.specs.Reading.{known_at}
 use Rattle.module65.specs.Machine.{State, Puts, PutsAll, awaiting, at_once, later, symbols_behind}
 use Rattle.symbols65.specs.Views.{table_of, with_definition, with_names, with_scope}
-use Rattle.layout65.specs.Sounds.{standing_of, AreWithin, IsCounted, IsSoundStanding}
+use Rattle.layout65.specs.Sounds.{cursor_of, AreWithin, IsCounted, IsSoundCursor}
 use Rattle.asm65.specs.declared.assembler.Assembler.{Assembler}
 use Rattle.asm65.specs.Inner.Holding.{Holds, AreBefore, Enters, known_where, KeepsTables}
 use Rattle.std.specs.Prelude.{string_bytes, slice_get, Some, Bool, OnOk, Result, Ok, Err, true, false, Option}
@@ -15,7 +15,7 @@ use Rattle.source65.specs.declared.place.Place.{Place}
 use Rattle.language65.specs.Norms.{Extends}
 use Rattle.language65.specs.Layout as layout
 use Rattle.language65.specs.Symbols.{Definition, Scope, Symbols, cheap_in, named, unnamed_at, with_new}
-use Rattle.layout65.specs.declared.standing.Standing.{Standing}
+use Rattle.layout65.specs.declared.cursor.Cursor.{Cursor}
 use Rattle.module65.specs.Module as piece
 use Rattle.symbols65.specs.Resolving.{IsTable}
 use Rattle.symbols65.specs.Tables.{Begins}
@@ -35,11 +35,11 @@ use Rattle.module65.specs.Module.{demanded, equated, exported, imported, pieces_
 -- ---- What a name or an expression means at a context.
 
 -- what is known where the next statement stands is what is known behind the state that is held
-pub known_held : (count : ℕ) (t : State) (a : Assembler) (s : Context) → Holds count t a → s ≡ context_of (standing_of a.standing) → known_where (table_of a.symbols) s ≡ known_at t.symbols t.standing
+pub known_held : (count : ℕ) (t : State) (a : Assembler) (s : Context) → Holds count t a → s ≡ context_of (cursor_of a.cursor) → known_where (table_of a.symbols) s ≡ known_at t.symbols t.cursor
 known_held count t a s h at =
-    let here : s ≡ context_of t.standing = at ∙ ap context_of h.standing in
+    let here : s ≡ context_of t.cursor = at ∙ ap context_of h.cursor in
     let first : known_where (table_of a.symbols) s ≡ known_where t.symbols s = ap (λ y. known_where y s) h.symbols in
-    let then_ : known_where t.symbols s ≡ known_where t.symbols (context_of t.standing) = ap (known_where t.symbols) here in
+    let then_ : known_where t.symbols s ≡ known_where t.symbols (context_of t.cursor) = ap (known_where t.symbols) here in
     first ∙ then_
 
 -- ---- More names.
@@ -48,17 +48,17 @@ begins_itself : (names : List (List ℕ)) → Begins names names
 begins_itself names = ([], sym (append-nil names))
 
 -- a state with more names is held, where its table is
-pub holds_grown : (count : ℕ) (t : State) (old new : Assembler) (y : Symbols) → Holds count t old → KeepsPut old new → table_of new.symbols ≡ y → IsTable (table_of new.symbols) new.known.states.items → Extends t.symbols y → AreInside count y.scopes → AreBefore t.standing.unnamed y.definitions → Holds count (with_symbols t y) new
+pub holds_grown : (count : ℕ) (t : State) (old new : Assembler) (y : Symbols) → Holds count t old → KeepsPut old new → table_of new.symbols ≡ y → IsTable (table_of new.symbols) new.known.states.items → Extends t.symbols y → AreInside count y.scopes → AreBefore t.cursor.unnamed y.definitions → Holds count (with_symbols t y) new
 holds_grown count t old new y h keeps symbols known more inside unnamed = record {
   symbols = symbols;
   known = subst (λ (z : Symbols). IsTable z new.known.states.items) symbols known;
-  standing = ap standing_of keeps.standing ∙ h.standing;
-  sound = subst IsSoundStanding (sym keeps.standing) h.sound;
-  ends = subst (λ (w : Standing). AreWithin w.segments.items) (sym keeps.standing) h.ends;
-  counted = subst (IsCounted count) (sym keeps.standing) h.counted;
+  cursor = ap cursor_of keeps.cursor ∙ h.cursor;
+  sound = subst IsSoundCursor (sym keeps.cursor) h.sound;
+  ends = subst (λ (w : Cursor). AreWithin w.segments.items) (sym keeps.cursor) h.ends;
+  counted = subst (IsCounted count) (sym keeps.cursor) h.counted;
   inside = inside;
   unnamed = unnamed;
-  waiting = rw (keeps.waiting, keeps.files) (waiting_stays t.symbols y (map string_bytes old.files.keys) (map string_bytes old.files.keys) old.waiting.items t.waiting more (begins_itself (map string_bytes old.files.keys)) h.waiting);
+  fixups = rw (keeps.fixups, keeps.files) (waiting_stays t.symbols y (map string_bytes old.files.keys) (map string_bytes old.files.keys) old.fixups.items t.fixups more (begins_itself (map string_bytes old.files.keys)) h.fixups);
   sections = λ ws are. rw keeps.sections (h.sections ws are);
   slots = h.slots;
   out = ap (λ x. x.out) keeps.texts ∙ h.out;
@@ -95,7 +95,7 @@ pub keeps_both : (a b c : Assembler) → KeepsTables a b → KeepsTables b c →
 keeps_both a b c h k = record {
   symbols = k.symbols ∙ h.symbols;
   known = k.known ∙ h.known;
-  standing = k.standing ∙ h.standing;
+  cursor = k.cursor ∙ h.cursor;
   texts = k.texts ∙ h.texts;
 }
 
@@ -117,20 +117,20 @@ mentions_enter place s ps old new m count t h = (all_awaiting place s t ps, all_
 -- pieces change neither names nor where the next statement stands, nor what is said
 pub record IsBeside (t u : State) : Type 0 where
   pub symbols : u.symbols ≡ t.symbols
-  pub standing : u.standing ≡ t.standing
+  pub cursor : u.cursor ≡ t.cursor
   pub out : u.out ≡ t.out
   pub err : u.err ≡ t.err
 
 one_beside : (place : Place) (s : Context) (t u : State) (p : piece.Piece) → Puts place s t p u → IsBeside t u
-one_beside place s t _ p (at_once c settled) = record { symbols = refl; standing = refl; out = refl; err = refl }
-one_beside place s t _ p later = record { symbols = refl; standing = refl; out = refl; err = refl }
+one_beside place s t _ p (at_once c settled) = record { symbols = refl; cursor = refl; out = refl; err = refl }
+one_beside place s t _ p later = record { symbols = refl; cursor = refl; out = refl; err = refl }
 
 pub puts_beside : (place : Place) (s : Context) (t u : State) (ps : List piece.Piece) → PutsAll place s t ps u → IsBeside t u
-puts_beside place s t u [] e = record { symbols = ap (λ (x : State). x.symbols) e; standing = ap (λ (x : State). x.standing) e; out = ap (λ (x : State). x.out) e; err = ap (λ (x : State). x.err) e }
+puts_beside place s t u [] e = record { symbols = ap (λ (x : State). x.symbols) e; cursor = ap (λ (x : State). x.cursor) e; out = ap (λ (x : State). x.out) e; err = ap (λ (x : State). x.err) e }
 puts_beside place s t u (p ∷ ps) h =
     let one = one_beside place s t h.0 p h.1 in
     let rest = puts_beside place s h.0 u ps h.2 in
-    record { symbols = rest.symbols ∙ one.symbols; standing = rest.standing ∙ one.standing; out = rest.out ∙ one.out; err = rest.err ∙ one.err }
+    record { symbols = rest.symbols ∙ one.symbols; cursor = rest.cursor ∙ one.cursor; out = rest.out ∙ one.out; err = rest.err ∙ one.err }
 
 pub turns_after : (place : Place) (s : Context) (ps : List piece.Piece) (becomes : Symbols → Symbols) (old mid new : Assembler) → Enters place s ps old mid → KeepsPut mid new → table_of new.symbols ≡ becomes (table_of mid.symbols) → IsTable (table_of new.symbols) new.known.states.items → ((y : Symbols) → Extends y (becomes y)) → Turns place s ps becomes old new
 turns_after place s ps becomes old mid new enters keeps table known more count t h inside unnamed =
@@ -143,7 +143,7 @@ turns_after place s ps becomes old mid new enters keeps table known more count t
       holds_grown count u mid new (becomes t.symbols) held keeps (table ∙ ap becomes (held.symbols ∙ beside.symbols)) known
           (subst (λ (y : Symbols). Extends y (becomes t.symbols)) (sym beside.symbols) (more t.symbols))
           inside
-          (subst (λ (w : layout.Standing). AreBefore w.unnamed (becomes t.symbols).definitions) (sym beside.standing) unnamed),
+          (subst (λ (w : layout.Cursor). AreBefore w.unnamed (becomes t.symbols).definitions) (sym beside.cursor) unnamed),
     )
 
 -- a statement without names
@@ -155,7 +155,7 @@ turns_same place s ps old new enters count t h inside unnamed =
 pub turns_as : (place : Place) (s : Context) (ps : List piece.Piece) (f g : Symbols → Symbols) (old new : Assembler) → ((y : Symbols) → f y ≡ g y) → Turns place s ps f old new → Turns place s ps g old new
 turns_as place s ps f g old new same turns count t h inside unnamed =
     let e = same t.symbols in
-    let x = turns count t h (subst (λ (y : Symbols). AreInside count y.scopes) (sym e) inside) (subst (λ (y : Symbols). AreBefore t.standing.unnamed y.definitions) (sym e) unnamed) in
+    let x = turns count t h (subst (λ (y : Symbols). AreInside count y.scopes) (sym e) inside) (subst (λ (y : Symbols). AreBefore t.cursor.unnamed y.definitions) (sym e) unnamed) in
     (x.0, x.1, subst (λ (y : Symbols). Holds count (with_symbols x.0 y) new) e x.2)
 
 pub more_opened : (y : Symbols) (c : Scope) → Extends y (with_scope y c)

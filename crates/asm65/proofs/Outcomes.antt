@@ -17,7 +17,7 @@ use Rattle.language65.specs.Contents.{Content}
 use Rattle.language65.specs.declared.contents.Segment.{Segment}
 use Rattle.language65.specs.declared.fault.AsmFault.{AsmFault}
 use Rattle.language65.specs.Faults.{is_failure, is_memory, is_outside}
-use Rattle.language65.specs.Layout.{Layout, Standing, nothing_laid}
+use Rattle.language65.specs.Layout.{Layout, Cursor, nothing_laid}
 use Rattle.language65.specs.Numbering.{object_with, AreSound}
 use Rattle.language65.specs.Symbols.{Symbols, symbols_of}
 use Rattle.module65.specs.Laws.{AreFoundAlike, StandsFor}
@@ -56,7 +56,7 @@ laid_reached _ (behind t u place x reached sound takes) =
     record { layout = more.0; follows = more.2; good = good_statement before.layout more.0 place x before.good sound more.1 }
 
 stands_reached : (t : State) (l : Laid t) → StandsFor l.layout t
-stands_reached t l = subst (StandsFor l.layout) (sym l.follows.same) (stands_for l.layout l.follows.slots l.follows.waiting l.follows.comes)
+stands_reached t l = subst (StandsFor l.layout) (sym l.follows.same) (stands_for l.layout l.follows.slots l.follows.fixups l.follows.comes)
 
 pub good_concluded : (t : State) (o : Object) → IsReached t → (concluded t None).result ≡ Ok o → is_good_object o ≡ true
 good_concluded t o reached is = by (finished t).found (contents_from t.symbols l.layout.laid) refl stands.found is
@@ -68,20 +68,20 @@ good_concluded t o reached is = by (finished t).found (contents_from t.symbols l
     stands = stands_reached t (laid_reached t reached)
 
     segments : List Segment
-    segments = t.standing.segments
+    segments = t.cursor.segments
 
-    by : (r q : Result (List Content) PlacedFault) → contents_from t.symbols (laid_reached t reached).layout.laid ≡ q → AreFoundAlike r q → (r >>= (λ cs. Ok (object_with t.standing.segments t.symbols.imports cs))) ≡ Ok o → is_good_object o ≡ true
+    by : (r q : Result (List Content) PlacedFault) → contents_from t.symbols (laid_reached t reached).layout.laid ≡ q → AreFoundAlike r q → (r >>= (λ cs. Ok (object_with t.cursor.segments t.symbols.imports cs))) ≡ Ok o → is_good_object o ≡ true
     by (Err e) q found alike made = absurd cc
     by (Ok cs) (Err e) found alike made = absurd alike
     by (Ok cs) (Ok ds) found alike made =
         let y = (laid_reached t reached).layout in
         let for = stands_reached t (laid_reached t reached) in
-        let same : object_with t.standing.segments t.symbols.imports cs ≡ o = cc in
+        let same : object_with t.cursor.segments t.symbols.imports cs ≡ o = cc in
         let whole : contents_from (symbols_of y.laid) y.laid ≡ Ok ds = subst (λ (z : Symbols). contents_from z y.laid ≡ Ok ds) for.symbols found in
-        let sound : AreSound y.standing.segments (symbols_of y.laid).imports ds = sound_contents y ds (layouts.sound_from y (laid_reached t reached).good) whole in
-        let sound' : AreSound y.standing.segments t.symbols.imports ds = subst (λ (z : Symbols). AreSound y.standing.segments z.imports ds) (sym for.symbols) sound in
-        let sound'' : AreSound t.standing.segments t.symbols.imports ds = subst (λ (w : Standing). AreSound w.segments t.symbols.imports ds) (sym for.standing) sound' in
-        ap is_good_object (sym same ∙ object_alike t.standing.segments t.symbols.imports cs ds alike) ∙ good_object t.standing.segments t.symbols.imports ds sound''
+        let sound : AreSound y.cursor.segments (symbols_of y.laid).imports ds = sound_contents y ds (layouts.sound_from y (laid_reached t reached).good) whole in
+        let sound' : AreSound y.cursor.segments t.symbols.imports ds = subst (λ (z : Symbols). AreSound y.cursor.segments z.imports ds) (sym for.symbols) sound in
+        let sound'' : AreSound t.cursor.segments t.symbols.imports ds = subst (λ (w : Cursor). AreSound w.segments t.symbols.imports ds) (sym for.cursor) sound' in
+        ap is_good_object (sym same ∙ object_alike t.cursor.segments t.symbols.imports cs ds alike) ∙ good_object t.cursor.segments t.symbols.imports ds sound''
 
 -- ---- Answers.
 

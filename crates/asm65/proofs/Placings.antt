@@ -6,11 +6,11 @@ use Rattle.language65.specs.declared.fault.AsmFault.{AsmFault}
 use Rattle.language65.specs.Faults.{is_failure, is_memory, is_outside}
 use Rattle.language65.specs.declared.laid.Context.{Context}
 use Rattle.language65.specs.declared.language.Statement.{Statement}
-use Rattle.language65.specs.Layout.{Standing, context_of, standing_behind, line_fault}
+use Rattle.language65.specs.Layout.{Cursor, context_of, cursor_behind, line_fault}
 use Rattle.language65.specs.Symbols.{Symbols}
 use Rattle.layout65.specs.Measuring.{advanced, measured}
 use Rattle.layout65.specs.declared.measuring.Measured.{Measured}
-use Rattle.layout65.specs.Sounds.{standing_of}
+use Rattle.layout65.specs.Sounds.{cursor_of}
 use Rattle.layout65.proofs.Behind.{behind_measured, is_measured, with_fault, without_fault}
 use Rattle.layout65.proofs.Measures.{unless_then}
 use Rattle.module65.specs.Machine.{State}
@@ -22,25 +22,25 @@ use Rattle.asm65.proofs.Takings.{unless_either}
 
 module _ (count : ℕ) (t : State) (old : Assembler) (h : Holds count t old) (x : Statement) where
   abbrev here : Result Measured AsmFault
-  here = measured (table_of old.symbols) (standing_of old.standing) x
+  here = measured (table_of old.symbols) (cursor_of old.cursor) x
 
-  there : (r : Result Measured AsmFault) → here ≡ r → measured t.symbols t.standing x ≡ r
-  there r at = ap (λ (y : Symbols). measured y t.standing x) (sym h.symbols) ∙ ap (λ (w : Standing). measured (table_of old.symbols) w x) (sym h.standing) ∙ at
+  there : (r : Result Measured AsmFault) → here ≡ r → measured t.symbols t.cursor x ≡ r
+  there r at = ap (λ (y : Symbols). measured y t.cursor x) (sym h.symbols) ∙ ap (λ (w : Cursor). measured (table_of old.symbols) w x) (sym h.cursor) ∙ at
 
-  pub placed_is : (m : Measured) (s : Context) → here ≡ Ok m → s ≡ context_of (standing_of old.standing) → IsPlaced t x s m
+  pub placed_is : (m : Measured) (s : Context) → here ≡ Ok m → s ≡ context_of (cursor_of old.cursor) → IsPlaced t x s m
   placed_is m s at context = record {
-    faultless = without_fault t.symbols t.standing x m (there (Ok m) at);
-    context = context ∙ ap context_of h.standing;
-    measured = sym (is_measured t.symbols t.standing x m (there (Ok m) at));
+    faultless = without_fault t.symbols t.cursor x m (there (Ok m) at);
+    context = context ∙ ap context_of h.cursor;
+    measured = sym (is_measured t.symbols t.cursor x m (there (Ok m) at));
   }
 
   pub refused_is : (e : AsmFault) → Unless (is_memory e) (here ≡ Err e) → IsRefused t x e
   refused_is e refused =
-      let same : here ≡ Err e → line_fault t.symbols t.standing x ≡ Some e = λ (q : here ≡ Err e). with_fault t.symbols t.standing x e (there (Err e) q) in
+      let same : here ≡ Err e → line_fault t.symbols t.cursor x ≡ Some e = λ (q : here ≡ Err e). with_fault t.symbols t.cursor x e (there (Err e) q) in
       unless_then (is_outside e) same (unless_either (here ≡ Err e) (is_memory e) (is_failure e) refused)
 
-  pub moved_behind : (m : Measured) → here ≡ Ok m → advanced (table_of old.symbols) (standing_of old.standing) x m.length m.multiple ≡ standing_behind t.symbols t.standing x
+  pub moved_behind : (m : Measured) → here ≡ Ok m → advanced (table_of old.symbols) (cursor_of old.cursor) x m.length m.multiple ≡ cursor_behind t.symbols t.cursor x
   moved_behind m at =
-      behind_measured (table_of old.symbols) (standing_of old.standing) x m at
-      ∙ ap (λ (z : Symbols). standing_behind z (standing_of old.standing) x) h.symbols
-      ∙ ap (λ (v : Standing). standing_behind t.symbols v x) h.standing
+      behind_measured (table_of old.symbols) (cursor_of old.cursor) x m at
+      ∙ ap (λ (z : Symbols). cursor_behind z (cursor_of old.cursor) x) h.symbols
+      ∙ ap (λ (v : Cursor). cursor_behind t.symbols v x) h.cursor

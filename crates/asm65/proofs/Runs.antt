@@ -190,20 +190,20 @@ asked_quiet t l = by (asks_section l.stated)
     by false = (refl, refl)
 
 pub takes_quiet : (t u : State) (place : Place) (x : Statement) → (out_of x ≡ []) × (warning_of place x ≡ []) → Takes t place x (Ok u) → (u.out ≡ t.out) × (u.err ≡ t.err)
-takes_quiet t u place x quiet takes = by (line_fault t.symbols t.standing x) takes
+takes_quiet t u place x quiet takes = by (line_fault t.symbols t.cursor x) takes
   where
     l : Laid
-    l = laid t.symbols t.standing place x
+    l = laid t.symbols t.cursor place x
 
-    step : (v : State) → PutsAll place (laid t.symbols t.standing place x).context (asked t (laid t.symbols t.standing place x)) (pieces_of (laid t.symbols t.standing place x).length (laid t.symbols t.standing place x).settled x) v → u ≡ known v (laid t.symbols t.standing place x) → (u.out ≡ t.out) × (u.err ≡ t.err)
+    step : (v : State) → PutsAll place (laid t.symbols t.cursor place x).context (asked t (laid t.symbols t.cursor place x)) (pieces_of (laid t.symbols t.cursor place x).length (laid t.symbols t.cursor place x).settled x) v → u ≡ known v (laid t.symbols t.cursor place x) → (u.out ≡ t.out) × (u.err ≡ t.err)
     step v puts same =
-        let m = laid t.symbols t.standing place x in
+        let m = laid t.symbols t.cursor place x in
         let a = asked_quiet t m in
         let b = all_quiet place m.context (asked t m) v (pieces_of m.length m.settled x) puts in
         (ap (λ (w : State). w.out) same ∙ ap (λ said. v.out ++ said) quiet.0 ∙ append-nil v.out ∙ b.0 ∙ a.0, ap (λ (w : State). w.err) same ∙ ap (λ said. v.err ++ said) quiet.1 ∙ append-nil v.err ∙ b.1 ∙ a.1)
 
-    by : (o : Option AsmFault) → UnlessFault o (Steps t (laid t.symbols t.standing place x)) (Ok u) → (u.out ≡ t.out) × (u.err ≡ t.err)
-    by None h = (let same : u ≡ known h.0 (laid t.symbols t.standing place x) = cc in step h.0 h.1 same)
+    by : (o : Option AsmFault) → UnlessFault o (Steps t (laid t.symbols t.cursor place x)) (Ok u) → (u.out ≡ t.out) × (u.err ≡ t.err)
+    by None h = (let same : u ≡ known h.0 (laid t.symbols t.cursor place x) = cc in step h.0 h.1 same)
     by (Some e) h = absurd cc
 
 abbrev AreQuiet : Option Statement → Type 0

@@ -19,7 +19,7 @@ use Rattle.expand65.specs.declared.expander.Expander.{Expander}
 use Rattle.language65.specs.declared.fault.AsmFault.{AsmFault}
 use Rattle.language65.specs.declared.fault.AsmFault.TheVariants.{BadScope, Expansion}
 use Rattle.language65.specs.Faults.{is_failure, is_outside}
-use Rattle.language65.specs.Layout.{is_open, Standing}
+use Rattle.language65.specs.Layout.{is_open, Cursor}
 use Rattle.language65.specs.Numbering.{AreNamed}
 use Rattle.module65.specs.Reading.{GoesOn, known_at, AreDefined, IsGiven, IsSource, Job, no_line, open_fault, stopped}
 use Rattle.module65.specs.Machine.{Runs, State, Takes, begun, running}
@@ -107,11 +107,11 @@ RanAll m first now r =
     AreDefined Takes begun (no_line job.source) job.defines (Ok t) → IsHeldBy t first → Ran m job now r
 
 abbrev pub NextBy : Files → Run → Result (Option Statement) ExpandFault → Run → Type 0
-NextBy m old r mid = (t : State) → IsHeldBy t old → FollowsFrom m (known_at t.symbols t.standing) old.expander r mid.expander
+NextBy m old r mid = (t : State) → IsHeldBy t old → FollowsFrom m (known_at t.symbols t.cursor) old.expander r mid.expander
 
 -- where the store failed on the way to it
 abbrev pub StopsBy : Files → Option (List ℕ) → Run → Result (Option Statement) ExpandFault → Run → Type 0
-StopsBy m blamed old r mid = (t : State) → IsHeldBy t old → StopsOnItsWay m blamed (known_at t.symbols t.standing) old.expander r mid.expander
+StopsBy m blamed old r mid = (t : State) → IsHeldBy t old → StopsOnItsWay m blamed (known_at t.symbols t.cursor) old.expander r mid.expander
 
 pub goes_first : (m : Files) (run : Run) → Goes m run run
 goes_first m run job t opens defined held = (
@@ -171,8 +171,8 @@ module _ (m : Files) (first old mid : Run) (same : mid.assembler ≡ old.assembl
       let u = now.0 in
       let s = now.1 in
       let h = s.held in
-      let a = answered_from m (known_at u.symbols u.standing) s.left s.here (Ok (Some x)) mid.expander (s.walks (known_at u.symbols u.standing)) (next u h s.here s.stands) in
-      let fits = next_fit m (known_at u.symbols u.standing) s.left (statement (stated x) a.0) s.fit a.1 in
+      let a = answered_from m (known_at u.symbols u.cursor) s.left s.here (Ok (Some x)) mid.expander (s.walks (known_at u.symbols u.cursor)) (next u h s.here s.stands) in
+      let fits = next_fit m (known_at u.symbols u.cursor) s.left (statement (stated x) a.0) s.fit a.1 in
       let room = few_opened h.count (measure_of old.expander) h.room (some_left (measure_of old.expander) (measure_of mid.expander) less) in
       let b = taken h.count u room (holds_same h.count u old.assembler mid.assembler same h.holds) in
       let place = same_place m mid.expander a.0 a.2 in (
@@ -196,15 +196,15 @@ module _ (m : Files) (first old mid : Run) (same : mid.assembler ≡ old.assembl
       let u = now.0 in
       let s = now.1 in
       let h = s.held in
-      let a = answered_from m (known_at u.symbols u.standing) s.left s.here (Ok (Some x)) mid.expander (s.walks (known_at u.symbols u.standing)) (next u h s.here s.stands) in
-      let fits = next_fit m (known_at u.symbols u.standing) s.left (statement (stated x) a.0) s.fit a.1 in
+      let a = answered_from m (known_at u.symbols u.cursor) s.left s.here (Ok (Some x)) mid.expander (s.walks (known_at u.symbols u.cursor)) (next u h s.here s.stands) in
+      let fits = next_fit m (known_at u.symbols u.cursor) s.left (statement (stated x) a.0) s.fit a.1 in
       let room = few_opened h.count (measure_of old.expander) h.room (some_left (measure_of old.expander) (measure_of mid.expander) less) in
       let b = taken h.count u room (holds_same h.count u old.assembler mid.assembler same h.holds) in
       let at_mid = same_place m mid.expander a.0 a.2 in
       let at_new : place_of new.expander ≡ a.0.left.place = ap place_of stays ∙ sym at_mid in
       subst (Ran m job new) (sym fails) (by u s a.0 a.1 fits.0 at_mid at_new (is_outside e) b)
     where
-      by : (u : State) (s : Stays m job old u) (t' : expand.State) → Reaches m (known_at u.symbols u.standing) s.left (statement (stated x) t') → AreFit (named.tokens_of (stated x)) → t'.left.place ≡ place_of mid.expander → place_of new.expander ≡ t'.left.place → (b : Bool) → Unless b ((AreNamed (tokens_of (stated x)) → IsGiven m Takes u (place_of mid.expander) (stated x) (Err e)) × SaysAs u new.assembler) → Unless b ((w : State) × Runs m job (stopped w (place_of new.expander) e) × SaysAs w new.assembler)
+      by : (u : State) (s : Stays m job old u) (t' : expand.State) → Reaches m (known_at u.symbols u.cursor) s.left (statement (stated x) t') → AreFit (named.tokens_of (stated x)) → t'.left.place ≡ place_of mid.expander → place_of new.expander ≡ t'.left.place → (b : Bool) → Unless b ((AreNamed (tokens_of (stated x)) → IsGiven m Takes u (place_of mid.expander) (stated x) (Err e)) × SaysAs u new.assembler) → Unless b ((w : State) × Runs m job (stopped w (place_of new.expander) e) × SaysAs w new.assembler)
       by u s t' reaches fit at_mid at_new true h = tt
       by u s t' reaches fit at_mid at_new false h =
           (u, subst (λ p. Runs m job (stopped u p e)) (sym at_new) (stops m running (IsSource m running job begun) s.left t' (stated x) u e s.goes reaches (subst (λ p. IsGiven m Takes u p (stated x) (Err e)) (sym at_mid) (h.0 (same_tokens x fit)))), h.1)
@@ -215,27 +215,27 @@ module _ (m : Files) (first old mid : Run) (same : mid.assembler ≡ old.assembl
       let now = so_far job t opens defined begun_held in
       let u = now.0 in
       let s = now.1 in
-      subst (Ran m job mid) (sym fails) (by u s (expansion.is_outside e) (is_outside (Expansion e)) (same_outside e) (answered_from m (known_at u.symbols u.standing) s.left s.here (Err e) mid.expander (s.walks (known_at u.symbols u.standing)) (next u s.held s.here s.stands)))
+      subst (Ran m job mid) (sym fails) (by u s (expansion.is_outside e) (is_outside (Expansion e)) (same_outside e) (answered_from m (known_at u.symbols u.cursor) s.left s.here (Err e) mid.expander (s.walks (known_at u.symbols u.cursor)) (next u s.held s.here s.stands)))
     where
-      by : (u : State) (s : Stays m job old u) (a b : Bool) → a ≡ b → Unless a (Reaches m (known_at u.symbols u.standing) s.left (fault (e, place_of mid.expander))) → Unless b ((w : State) × Runs m job (stopped w (place_of mid.expander) (Expansion e)) × SaysAs w mid.assembler)
+      by : (u : State) (s : Stays m job old u) (a b : Bool) → a ≡ b → Unless a (Reaches m (known_at u.symbols u.cursor) s.left (fault (e, place_of mid.expander))) → Unless b ((w : State) × Runs m job (stopped w (place_of mid.expander) (Expansion e)) × SaysAs w mid.assembler)
       by u s a true eq h = tt
       by u s true false eq h = absurd cc
       by u s false false eq h = (u, is_refused m running (IsSource m running job begun) s.left u e (place_of mid.expander) s.goes h, says_held s.held.count u old.assembler mid.assembler same s.held.holds)
 
   -- the end
-  pub goes_to_end : (r : Answer) → r ≡ (if is_open mid.assembler.standing.scope then Err BadScope else Ok tt) → NextBy m old (Ok None) mid → Goes m first old → RanAll m first mid r
+  pub goes_to_end : (r : Answer) → r ≡ (if is_open mid.assembler.cursor.scope then Err BadScope else Ok tt) → NextBy m old (Ok None) mid → Goes m first old → RanAll m first mid r
   goes_to_end r is next so_far job t opens defined begun_held =
       let now = so_far job t opens defined begun_held in
       let u = now.0 in
       let s = now.1 in
       let h = s.held in
-      let a = answered_from m (known_at u.symbols u.standing) s.left s.here (Ok None) mid.expander (s.walks (known_at u.symbols u.standing)) (next u h s.here s.stands) in
+      let a = answered_from m (known_at u.symbols u.cursor) s.left s.here (Ok None) mid.expander (s.walks (known_at u.symbols u.cursor)) (next u h s.here s.stands) in
       let holds = holds_same h.count u old.assembler mid.assembler same h.holds in
-      let scope : mid.assembler.standing.scope ≡ u.standing.scope = ap (λ (w : Standing). w.scope) holds.standing in
+      let scope : mid.assembler.cursor.scope ≡ u.cursor.scope = ap (λ (w : Cursor). w.scope) holds.cursor in
       let place = same_place m mid.expander a.0 a.2 in
       let all = ends m running (IsSource m running job begun) s.left a.0 u s.goes a.1 in
-      let all' : Runs m job (record { behind = u; fault = open_fault (place_of mid.expander) mid.assembler.standing.scope }) = subst (λ n. Runs m job (record { behind = u; fault = open_fault (place_of mid.expander) n })) (sym scope) (subst (λ p. Runs m job (record { behind = u; fault = open_fault p u.standing.scope })) place all) in
-      subst (Ran m job mid) (sym is) (by u h.count holds (is_open mid.assembler.standing.scope) all')
+      let all' : Runs m job (record { behind = u; fault = open_fault (place_of mid.expander) mid.assembler.cursor.scope }) = subst (λ n. Runs m job (record { behind = u; fault = open_fault (place_of mid.expander) n })) (sym scope) (subst (λ p. Runs m job (record { behind = u; fault = open_fault p u.cursor.scope })) place all) in
+      subst (Ran m job mid) (sym is) (by u h.count holds (is_open mid.assembler.cursor.scope) all')
     where
       by : (u : State) (count : ℕ) → Holds count u mid.assembler → (b : Bool) → Runs m job (record { behind = u; fault = if b then Some (record { place = place_of mid.expander; fault = BadScope }) else None }) → Ran m job mid (if b then Err BadScope else Ok tt)
       by u count holds true runs = (u, runs, (holds.out, holds.err))
@@ -250,7 +250,7 @@ module _ (m : Files) (first old mid : Run) (same : mid.assembler ≡ old.assembl
           let u = now.0 in
           let s = now.1 in
           let says = says_held s.held.count u old.assembler mid.assembler same s.held.holds in
-          let k = known_at u.symbols u.standing in
+          let k = known_at u.symbols u.cursor in
           let walked : IsOnItsWay m blamed k s.here (place_of mid.expander) → IsOnItsWay m blamed k s.left (place_of mid.expander) = λ so. record { state = so.state; reading = so.reading; goes = goes_over m k s.left s.here so.state (s.walks k) so.goes; fails = so.fails; at = so.at } in
           record { left = s.left; behind = u; taken = s.taken; where_it_is = walked (where_it_is u s.held s.here s.stands failed); says_out = says.0; says_err = says.1 }
 
@@ -264,7 +264,7 @@ module _ (m : Files) (first old mid : Run) (same : mid.assembler ≡ old.assembl
           let s = now.1 in
           let q = quiet failed in
           let says = says_held s.held.count u old.assembler mid.assembler same s.held.holds in
-          let a = answered_from m (known_at u.symbols u.standing) s.left s.here (Ok (Some x)) mid.expander (s.walks (known_at u.symbols u.standing)) (next u s.held s.here s.stands) in
+          let a = answered_from m (known_at u.symbols u.cursor) s.left s.here (Ok (Some x)) mid.expander (s.walks (known_at u.symbols u.cursor)) (next u s.held s.here s.stands) in
           let at_new : place_of new.expander ≡ a.0.left.place = ap place_of stays ∙ sym (same_place m mid.expander a.0 a.2) in
           let room = few_opened s.held.count (measure_of old.expander) s.held.room (some_left (measure_of old.expander) (measure_of mid.expander) less) in
           let unread = q.unread s.held.count u room (holds_same s.held.count u old.assembler mid.assembler same s.held.holds) in
@@ -296,7 +296,7 @@ module _ (o p : Option Files) (told : p ≡ o) (first old mid : Run) (same : mid
     given : (x : Option Statement) → q ≡ x → IfSome o (λ m. NextBy m old (Ok x) mid)
     given x is = subst (λ z. IfSome o (λ m. NextBy m old (Ok z) mid)) is (subst (λ z. IfSome z (λ m. NextBy m old (Ok q) mid)) told next)
 
-    pub all_end : q ≡ None → (r : Answer) → r ≡ (if is_open mid.assembler.standing.scope then Err BadScope else Ok tt) → IfSome o (λ m. RanAll m first mid r)
+    pub all_end : q ≡ None → (r : Answer) → r ≡ (if is_open mid.assembler.cursor.scope then Err BadScope else Ok tt) → IfSome o (λ m. RanAll m first mid r)
     all_end is r ends = some_both (λ m. Goes m first old) (λ m. NextBy m old (Ok None) mid) (λ m. RanAll m first mid r) o (λ m so n. goes_to_end m first old mid same r ends n so) so_far (given None is)
 
     module _ (x : Statement) (is : q ≡ Some x) (less : measure_of mid.expander < measure_of old.expander) (new : Run) (stays : new.expander ≡ mid.expander) (f : Option Files) (there : f ≡ o) where
@@ -363,20 +363,20 @@ module _ (m : Files) (blamed : Option (List ℕ)) (place : Place) (first : Run) 
   line_goes_on : (xs : List expand.Stated) (e f : Expander) (a b : Assembler) → Gives e xs f → TakesAll (Some m) blamed place xs a b (Ok tt) → place ≡ place_of f → Goes m first (run_of e a) → Goes m first (run_of f b)
   line_goes_on [] e f a b (no_more _ _ passes) (none _) here so_far = goes_passed m first e f a passes so_far
   line_goes_on _ e f a b (gives_more _ mid _ x xs follows at given) (one_more _ c _ _ _ _ one all) here so_far =
-      line_goes_on xs mid f c b given all here (goes_further m first (run_of e a) (run_of mid a) refl x (run_of mid c) tt follows.less (λ t held. follows.next m (known_at t.symbols t.standing)) (taken_at (Some m) blamed place (stated x) mid f a c (Ok tt) here at one).taken refl so_far)
+      line_goes_on xs mid f c b given all here (goes_further m first (run_of e a) (run_of mid a) refl x (run_of mid c) tt follows.less (λ t held. follows.next m (known_at t.symbols t.cursor)) (taken_at (Some m) blamed place (stated x) mid f a c (Ok tt) here at one).taken refl so_far)
 
   line_refused : (xs : List expand.Stated) (e f : Expander) (a b : Assembler) (g : AsmFault) → Gives e xs f → TakesAll (Some m) blamed place xs a b (Err g) → place ≡ place_of f → Goes m first (run_of e a) → RanAll m first (run_of f b) (Err g) × StopsAll m blamed first (run_of f b) (Err g)
   line_refused _ _ _ a b g (no_more old new _) x14 here so_far = elim x14 [ ]
   line_refused _ e f a b g (gives_more _ mid _ x xs follows at given) (refused _ _ _ _ _ one) here so_far =
       let here_one = taken_at (Some m) blamed place (stated x) mid f a b (Err g) here at one in
-      let next : NextBy m (run_of e a) (Ok (Some x)) (run_of mid a) = λ t held. follows.next m (known_at t.symbols t.standing) in
+      let next : NextBy m (run_of e a) (Ok (Some x)) (run_of mid a) = λ t held. follows.next m (known_at t.symbols t.cursor) in
       let wrong = goes_wrong m first (run_of e a) (run_of mid a) refl x (run_of mid b) g (Err g) refl follows.less next here_one.taken refl so_far in
       let stops = stops_wrong m first (run_of e a) (run_of mid a) refl blamed x (run_of mid b) g (Err g) refl next follows.less here_one.stopped refl so_far in (
         λ job t opens defined held. subst (λ p. Unless (is_outside g) ((w : State) × Runs m job (stopped w p g) × SaysAs w b)) at (wrong job t opens defined held),
         λ failed job begins. subst (λ p. StopsBehind m blamed job (record { place = p; fault = g }) b.texts.out b.texts.err) at (stops failed job begins),
       )
   line_refused _ e f a b g (gives_more _ mid _ x xs follows at given) (one_more _ c _ _ _ _ one all) here so_far =
-      line_refused xs mid f c b g given all here (goes_further m first (run_of e a) (run_of mid a) refl x (run_of mid c) tt follows.less (λ t held. follows.next m (known_at t.symbols t.standing)) (taken_at (Some m) blamed place (stated x) mid f a c (Ok tt) here at one).taken refl so_far)
+      line_refused xs mid f c b g given all here (goes_further m first (run_of e a) (run_of mid a) refl x (run_of mid c) tt follows.less (λ t held. follows.next m (known_at t.symbols t.cursor)) (taken_at (Some m) blamed place (stated x) mid f a c (Ok tt) here at one).taken refl so_far)
 
 module _ (o : Option Files) (blamed : Option (List ℕ)) (first old new : Run) where
   pub all_on : TakesLine o blamed old new (Ok tt) → IfSome o (λ m. Goes m first old) → IfSome o (λ m. Goes m first new)

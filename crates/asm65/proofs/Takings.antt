@@ -12,18 +12,18 @@ use Rattle.language65.specs.Symbols.{Laid, asks_section, is_unnamed, Definition,
 use Rattle.language65.specs.declared.laid.Context.{Context}
 use Rattle.language65.specs.declared.language.Statement.{Statement}
 use Rattle.language65.specs.declared.language.Statement.TheVariants as statement
-use Rattle.language65.specs.Layout.{Standing, laid, context_of, standing_behind, defined_twice, first_fault, is_open, line_fault, lost_scopes, opened_twice, or_then, scope_name, stands_outside, trees_of, when, where_there, operand_fault, unless_fault}
-use Rattle.layout65.specs.declared.standing.Standing as code
+use Rattle.language65.specs.Layout.{Cursor, laid, context_of, cursor_behind, defined_twice, first_fault, is_open, line_fault, lost_scopes, opened_twice, or_then, scope_name, stands_outside, trees_of, when, where_there, operand_fault, unless_fault}
+use Rattle.layout65.specs.declared.cursor.Cursor as code
 use Rattle.layout65.specs.Counting.{AreInside, opened_by}
 use Rattle.layout65.specs.declared.measuring.Measured.{Measured}
 use Rattle.layout65.specs.Measuring.{measure_of, naming_fault, placing_faults, unread_fault}
-use Rattle.layout65.specs.Sounds.{AreWithin, IsCounted, IsSoundStanding, standing_of}
+use Rattle.layout65.specs.Sounds.{AreWithin, IsCounted, IsSoundCursor, cursor_of}
 use Rattle.layout65.proofs.Behind.{inside_behind}
 use Rattle.layout65.proofs.Measures.{faults_are, unless_then}
 use Rattle.language65.proofs.Segments.{all_more, all_same}
 use Rattle.module65.specs.Machine.{Puts, PutsAll, State, Steps, Takes, UnlessFault, at_once, entered, known, later, symbols_behind}
 use Rattle.module65.specs.Module.{out_of, warning_of, Piece, pieces_of}
-use Rattle.symbols65.specs.declared.resolving.known.Known.{Known}
+use Rattle.symbols65.specs.declared.resolving.cache.NormCache.{NormCache}
 use Rattle.symbols65.specs.Resolving.{IsTable}
 use Rattle.symbols65.specs.Views.{table_of}
 use Rattle.symbols65.proofs.Words.{position_none}
@@ -105,7 +105,7 @@ key_free y x s (cheap_in region n) h e before = there_none (defined y (cheap_in 
 key_free y x s (unnamed_at j) h e before = subst (λ n. defined y (unnamed_at n) ≡ None) (unnamed_is x s j e) (next_free y s.unnamed before)
 
 -- a statement without a fault at its line defines and opens what isn't there
-pub is_new : (y : Symbols) (w : Standing) (x : Statement) → line_fault y w x ≡ None → AreBefore w.unnamed y.definitions → IsNew y (context_of w) x
+pub is_new : (y : Symbols) (w : Cursor) (x : Statement) → line_fault y w x ≡ None → AreBefore w.unnamed y.definitions → IsNew y (context_of w) x
 is_new y w x h before =
     let opened = opened_twice y.scopes w.scope (scope_name x) in
     let twice = defined_twice y (key_defined (context_of w) x) in
@@ -125,24 +125,24 @@ asked_beside : (segment : ℕ) (x : Statement) (t : State) → IsBeside t (asked
 asked_beside segment x t = by (asks_section x)
   where
     by : (b : Bool) → IsBeside t (if b then entered t (asking segment) else t)
-    by true = record { symbols = refl; standing = refl; out = refl; err = refl }
-    by false = record { symbols = refl; standing = refl; out = refl; err = refl }
+    by true = record { symbols = refl; cursor = refl; out = refl; err = refl }
+    by false = record { symbols = refl; cursor = refl; out = refl; err = refl }
 
 wider : (count more : ℕ) (cs : List Scope) → AreInside count cs → AreInside (count + more) cs
 wider count more cs h = all_same (λ (c : Scope). c.within ≤ count) (λ (c : Scope). c.within ≤ count + more) (λ c le. omega (arith, le)) cs h
 
 -- another table of forms
-pub holds_known : (count : ℕ) (t : State) (a : Assembler) (k : Known) → Holds count t a → IsTable (table_of a.symbols) k.states.items → Holds count t (record a { known = k })
+pub holds_known : (count : ℕ) (t : State) (a : Assembler) (k : NormCache) → Holds count t a → IsTable (table_of a.symbols) k.states.items → Holds count t (record a { known = k })
 holds_known count t a k h table = record {
   symbols = h.symbols;
   known = subst (λ (y : Symbols). IsTable y k.states.items) h.symbols table;
-  standing = h.standing;
+  cursor = h.cursor;
   sound = h.sound;
   ends = h.ends;
   counted = h.counted;
   inside = h.inside;
   unnamed = h.unnamed;
-  waiting = h.waiting;
+  fixups = h.fixups;
   sections = h.sections;
   slots = h.slots;
   out = h.out;
@@ -150,24 +150,24 @@ holds_known count t a k h table = record {
 }
 
 -- the same where a call that found forms wasn't refused
-pub held_on : (count : ℕ) (t : State) (a : Assembler) (k : Known) (r : Result (Unit {0}) AsmFault) → Holds count t a → OnOk r (IsTable (table_of a.symbols) k.states.items) → OnOk r (Holds count t (record a { known = k }))
+pub held_on : (count : ℕ) (t : State) (a : Assembler) (k : NormCache) (r : Result (Unit {0}) AsmFault) → Holds count t a → OnOk r (IsTable (table_of a.symbols) k.states.items) → OnOk r (Holds count t (record a { known = k }))
 held_on count t a k (Ok u) h table = holds_known count t a k h table
 held_on count t a k (Err e) h table = tt
 
-pub holds_stepped : (count : ℕ) (t : State) (place : Place) (x : Statement) (a : Assembler) (v : code.Standing) (said : Texts) → Holds count (asked_of (context_of t.standing).segment x t) a → standing_of v ≡ standing_behind t.symbols t.standing x → IsSoundStanding v → AreWithin v.segments.items → IsCounted (count + opened_by x) v → said.out ≡ a.texts.out ++ out_of x → said.err ≡ a.texts.err ++ warning_of place x → Holds (count + opened_by x) (stepped t place x) (record a { standing = v; texts = said })
-holds_stepped count t place x a v said h standing sound ends counted out err =
-    let u : State = asked_of (context_of t.standing).segment x t in
-    let same : u.standing ≡ t.standing = (asked_beside (context_of t.standing).segment x t).standing in
+pub holds_stepped : (count : ℕ) (t : State) (place : Place) (x : Statement) (a : Assembler) (v : code.Cursor) (said : Texts) → Holds count (asked_of (context_of t.cursor).segment x t) a → cursor_of v ≡ cursor_behind t.symbols t.cursor x → IsSoundCursor v → AreWithin v.segments.items → IsCounted (count + opened_by x) v → said.out ≡ a.texts.out ++ out_of x → said.err ≡ a.texts.err ++ warning_of place x → Holds (count + opened_by x) (stepped t place x) (record a { cursor = v; texts = said })
+holds_stepped count t place x a v said h cursor sound ends counted out err =
+    let u : State = asked_of (context_of t.cursor).segment x t in
+    let same : u.cursor ≡ t.cursor = (asked_beside (context_of t.cursor).segment x t).cursor in
     record {
       symbols = h.symbols;
       known = h.known;
-      standing = standing;
+      cursor = cursor;
       sound = sound;
       ends = ends;
       counted = counted;
       inside = wider count (opened_by x) u.symbols.scopes h.inside;
-      unnamed = still_before x t.standing.unnamed u.symbols.definitions (subst (λ (w : Standing). AreBefore w.unnamed u.symbols.definitions) same h.unnamed);
-      waiting = h.waiting;
+      unnamed = still_before x t.cursor.unnamed u.symbols.definitions (subst (λ (w : Cursor). AreBefore w.unnamed u.symbols.definitions) same h.unnamed);
+      fixups = h.fixups;
       sections = h.sections;
       slots = h.slots;
       out = out ∙ ap (λ (o : List ℕ). o ++ out_of x) h.out;
@@ -181,53 +181,53 @@ unless_either P true b h = tt
 unless_either P false true h = tt
 unless_either P false false h = h
 
-pub takes_refused : (t : State) (place : Place) (x : Statement) (e : AsmFault) → line_fault t.symbols t.standing x ≡ Some e → Takes t place x (Err e)
-takes_refused t place x e h = subst (λ (f : Option AsmFault). UnlessFault f (Steps t (laid t.symbols t.standing place x)) (Err e)) (sym h) refl
+pub takes_refused : (t : State) (place : Place) (x : Statement) (e : AsmFault) → line_fault t.symbols t.cursor x ≡ Some e → Takes t place x (Err e)
+takes_refused t place x e h = subst (λ (f : Option AsmFault). UnlessFault f (Steps t (laid t.symbols t.cursor place x)) (Err e)) (sym h) refl
 
-abbrev aside : State → Standing → List ℕ → List ℕ → State
-aside t w o e = record t { standing = w; out = o; err = e }
+abbrev aside : State → Cursor → List ℕ → List ℕ → State
+aside t w o e = record t { cursor = w; out = o; err = e }
 
-one_aside : (place : Place) (s : Context) (u v : State) (w : Standing) (o e : List ℕ) (p : Piece) → Puts place s (aside u w o e) p v → Puts place s u p (aside v u.standing u.out u.err)
+one_aside : (place : Place) (s : Context) (u v : State) (w : Cursor) (o e : List ℕ) (p : Piece) → Puts place s (aside u w o e) p v → Puts place s u p (aside v u.cursor u.out u.err)
 one_aside place s u _ w o e p (at_once c settled) = at_once c settled
 one_aside place s u _ w o e p later = later
 
 -- pieces are put whatever stands beside them
-puts_aside : (place : Place) (s : Context) (u v : State) (w : Standing) (o e : List ℕ) (ps : List Piece) → PutsAll place s (aside u w o e) ps v → PutsAll place s u ps (aside v u.standing u.out u.err)
-puts_aside place s u v w o e [] h = ap (λ (x : State). aside x u.standing u.out u.err) h
+puts_aside : (place : Place) (s : Context) (u v : State) (w : Cursor) (o e : List ℕ) (ps : List Piece) → PutsAll place s (aside u w o e) ps v → PutsAll place s u ps (aside v u.cursor u.out u.err)
+puts_aside place s u v w o e [] h = ap (λ (x : State). aside x u.cursor u.out u.err) h
 puts_aside place s u v w o e (p ∷ ps) h =
     let x : State = h.0 in
-    (aside x u.standing u.out u.err, one_aside place s u x w o e p h.1, puts_aside place s (aside x u.standing u.out u.err) v x.standing x.out x.err ps h.2)
+    (aside x u.cursor u.out u.err, one_aside place s u x w o e p h.1, puts_aside place s (aside x u.cursor u.out u.err) v x.cursor x.out x.err ps h.2)
 
-abbrev with_all : State → Symbols → Standing → List ℕ → List ℕ → State
-with_all v y w o e = record { symbols = y; standing = w; slots = v.slots; waiting = v.waiting; out = o; err = e }
+abbrev with_all : State → Symbols → Cursor → List ℕ → List ℕ → State
+with_all v y w o e = record { symbols = y; cursor = w; slots = v.slots; fixups = v.fixups; out = o; err = e }
 
-all_same_state : (v : State) (y z : Symbols) (w x : Standing) (o p e f : List ℕ) → y ≡ z → w ≡ x → o ≡ p → e ≡ f → with_all v y w o e ≡ with_all v z x p f
+all_same_state : (v : State) (y z : Symbols) (w x : Cursor) (o p e f : List ℕ) → y ≡ z → w ≡ x → o ≡ p → e ≡ f → with_all v y w o e ≡ with_all v z x p f
 all_same_state v y z w x o p e f a b c d =
     ap (λ (r : Symbols). with_all v r w o e) a
-    ∙ ap (λ (r : Standing). with_all v z r o e) b
+    ∙ ap (λ (r : Cursor). with_all v z r o e) b
     ∙ ap (λ (r : List ℕ). with_all v z x r e) c
     ∙ ap (λ (r : List ℕ). with_all v z x p r) d
 
 pub takes_entered : (count : ℕ) (t : State) (place : Place) (x : Statement) (s : Context) (m : Measured) (old mid new : Assembler) → Holds count t old → IsPlaced t x s m → Holds (count + opened_by x) (stepped t place x) mid → Turns place s (pieces_of m.length m.settled x) (λ y. symbols_behind y (laid_as place s m x)) mid new → (z : State) × Takes t place x (Ok z) × Holds (count + opened_by x) z new
 takes_entered count t place x s m old mid new h placed held turns =
-    let r : Laid = laid t.symbols t.standing place x in
-    let u : State = asked_of (context_of t.standing).segment x t in
-    let beside = asked_beside (context_of t.standing).segment x t in
+    let r : Laid = laid t.symbols t.cursor place x in
+    let u : State = asked_of (context_of t.cursor).segment x t in
+    let beside = asked_beside (context_of t.cursor).segment x t in
     let ps : List Piece = pieces_of r.length r.settled x in
-    let measured : Turns place s ps (λ y. symbols_behind y (laid_as place s (measure_of t.symbols t.standing x) x)) mid new = subst (λ (n : Measured). Turns place s (pieces_of n.length n.settled x) (λ y. symbols_behind y (laid_as place s n x)) mid new) placed.measured turns in
-    let here : Turns place (context_of t.standing) ps (λ y. symbols_behind y r) mid new = subst (λ (q : Context). Turns place q ps (λ y. symbols_behind y (laid_as place q (measure_of t.symbols t.standing x) x)) mid new) placed.context measured in
-    let low : t.standing.scope ≤ count = subst (λ (w : Standing). w.scope ≤ count) h.standing h.counted.scope in
-    let inside : AreInside (count + opened_by x) (symbols_behind u.symbols r).scopes = subst (λ (y : Symbols). AreInside (count + opened_by x) (y.scopes ++ scope_opened t.standing.scope x)) (sym beside.symbols) (inside_behind count t.standing.scope t.symbols.scopes x low h.inside) in
-    let unnamed : AreBefore (standing_behind t.symbols t.standing x).unnamed (symbols_behind u.symbols r).definitions = subst (λ (y : Symbols). AreBefore (standing_behind t.symbols t.standing x).unnamed (y.definitions ++ definitions_of r)) (sym beside.symbols) (before_behind x (context_of t.standing) r.size t.symbols.definitions h.unnamed) in
+    let measured : Turns place s ps (λ y. symbols_behind y (laid_as place s (measure_of t.symbols t.cursor x) x)) mid new = subst (λ (n : Measured). Turns place s (pieces_of n.length n.settled x) (λ y. symbols_behind y (laid_as place s n x)) mid new) placed.measured turns in
+    let here : Turns place (context_of t.cursor) ps (λ y. symbols_behind y r) mid new = subst (λ (q : Context). Turns place q ps (λ y. symbols_behind y (laid_as place q (measure_of t.symbols t.cursor x) x)) mid new) placed.context measured in
+    let low : t.cursor.scope ≤ count = subst (λ (w : Cursor). w.scope ≤ count) h.cursor h.counted.scope in
+    let inside : AreInside (count + opened_by x) (symbols_behind u.symbols r).scopes = subst (λ (y : Symbols). AreInside (count + opened_by x) (y.scopes ++ scope_opened t.cursor.scope x)) (sym beside.symbols) (inside_behind count t.cursor.scope t.symbols.scopes x low h.inside) in
+    let unnamed : AreBefore (cursor_behind t.symbols t.cursor x).unnamed (symbols_behind u.symbols r).definitions = subst (λ (y : Symbols). AreBefore (cursor_behind t.symbols t.cursor x).unnamed (y.definitions ++ definitions_of r)) (sym beside.symbols) (before_behind x (context_of t.cursor) r.size t.symbols.definitions h.unnamed) in
     let done = here (count + opened_by x) (stepped t place x) held inside unnamed in
     let v : State = done.0 in
-    let w : State = aside v u.standing u.out u.err in
-    let along = puts_beside place (context_of t.standing) (stepped t place x) v ps done.1 in
-    let puts : PutsAll place (context_of t.standing) u ps w = puts_aside place (context_of t.standing) u v (standing_behind t.symbols t.standing x) (u.out ++ out_of x) (u.err ++ warning_of place x) ps done.1 in
+    let w : State = aside v u.cursor u.out u.err in
+    let along = puts_beside place (context_of t.cursor) (stepped t place x) v ps done.1 in
+    let puts : PutsAll place (context_of t.cursor) u ps w = puts_aside place (context_of t.cursor) u v (cursor_behind t.symbols t.cursor x) (u.out ++ out_of x) (u.err ++ warning_of place x) ps done.1 in
     let same : with_symbols v (symbols_behind u.symbols r) ≡ known w r =
-    all_same_state v (symbols_behind u.symbols r) (symbols_behind v.symbols r) v.standing (standing_behind v.symbols u.standing x) v.out (u.out ++ out_of x) v.err (u.err ++ warning_of place x)
+    all_same_state v (symbols_behind u.symbols r) (symbols_behind v.symbols r) v.cursor (cursor_behind v.symbols u.cursor x) v.out (u.out ++ out_of x) v.err (u.err ++ warning_of place x)
     (ap (λ (y : Symbols). symbols_behind y r) (sym along.symbols))
-    (along.standing ∙ ap (λ (y : Symbols). standing_behind y t.standing x) (sym beside.symbols ∙ sym along.symbols) ∙ ap (λ (z : Standing). standing_behind v.symbols z x) (sym beside.standing))
+    (along.cursor ∙ ap (λ (y : Symbols). cursor_behind y t.cursor x) (sym beside.symbols ∙ sym along.symbols) ∙ ap (λ (z : Cursor). cursor_behind v.symbols z x) (sym beside.cursor))
     along.out along.err in
     (known w r, subst (λ (f : Option AsmFault). UnlessFault f (Steps t r) (Ok (known w r))) (sym placed.faultless) (w, puts, refl), subst (λ (z : State). Holds (count + opened_by x) z new) same done.2)
 
@@ -243,7 +243,7 @@ first_missing (Some f) b rest h = absurd cc
 first_missing None (Some f) rest h = absurd cc
 first_missing None None rest h = refl
 
-module _ (y : Symbols) (w : Standing) (start len : Option Tree) where
+module _ (y : Symbols) (w : Cursor) (start len : Option Tree) where
   abbrev lost : Option AsmFault
   lost = lost_scopes y.scopes w.scope (trees_of (FilePart None start len))
 
@@ -269,18 +269,18 @@ fault_none (Some d) u h = absurd cc
 
 module _ (t : State) (place : Place) (name : List ℕ) (start len : Option Tree) (x : Statement) (is : x ≡ NamedPart name start len) (e : AsmFault) where
   abbrev found : Option AsmFault
-  found = unread_fault t.symbols t.standing start len
+  found = unread_fault t.symbols t.cursor start len
 
   whatever : found ≡ Some e → (m : Files) → Takes t place (with_bytes m place x) (Err e)
   whatever h m =
       subst (λ z. Takes t place (with_bytes m place z) (Err e)) (sym is)
-      (takes_refused t place (FilePart (bytes_for m place name) start len) e (unread_refused t.symbols t.standing start len (bytes_for m place name) e h))
+      (takes_refused t place (FilePart (bytes_for m place name) start len) e (unread_refused t.symbols t.cursor start len (bytes_for m place name) e h))
 
   without : found ≡ None → (m : Files) → file_named m (beside place.file name) ≡ None → Takes t place (with_bytes m place x) (Err FileNotFound)
   without h m none =
       subst (λ z. Takes t place (with_bytes m place z) (Err FileNotFound)) (sym is)
       (subst (λ b. Takes t place (FilePart b start len) (Err FileNotFound)) (sym none)
-      (takes_refused t place (FilePart None start len) FileNotFound (unread_missing t.symbols t.standing start len h)))
+      (takes_refused t place (FilePart None start len) FileNotFound (unread_missing t.symbols t.cursor start len h)))
 
   -- it is refused whatever the file has
   pub refused_unread : (blamed : Option (List ℕ)) → is_failure e ≡ false → Unless (is_memory e) (unless_fault {A = Unit {0}} found tt ≡ Err e) → IsRefusedUnread blamed t place x e

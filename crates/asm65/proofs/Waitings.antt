@@ -18,24 +18,24 @@ use Rattle.module65.proofs.Resolving.{extends_same, awaited_append, filled_later
 use Rattle.module65.proofs.Entries.{filled_append}
 use Rattle.sections65.specs.declared.sections.Sections.{Sections}
 use Rattle.sections65.specs.Fed.{Awaits, Feeds, Stands}
-use Rattle.symbols65.specs.declared.resolving.known.Known.{Known}
+use Rattle.symbols65.specs.declared.resolving.cache.NormCache.{NormCache}
 use Rattle.symbols65.specs.Resolving.{IsTable}
 use Rattle.symbols65.specs.Tables.{Begins}
 use Rattle.symbols65.specs.Views.{table_of}
 use Rattle.symbols65.proofs.Words.{first_passes}
 use Rattle.asm65.specs.declared.assembler.Assembler.{Assembler}
-use Rattle.layout65.specs.declared.standing.Standing.{Standing}
+use Rattle.layout65.specs.declared.cursor.Cursor.{Cursor}
 use Rattle.asm65.specs.declared.assembler.Piece.{Piece}
 use Rattle.asm65.specs.declared.assembler.Piece.TheVariants.{Datum, Operand, Constant, Assertion, Import, Demand, Export}
-use Rattle.asm65.specs.declared.assembler.Waiting.{Waiting}
-use Rattle.asm65.specs.Inner.Holding.{AreAwaited, AreWaiting, Enters, Holds, IsConstant, IsPiece, IsWaiting, KeepsTables, Waits}
-use Rattle.layout65.specs.Sounds.{AreWithin, IsCounted, IsSoundStanding, standing_of}
+use Rattle.asm65.specs.declared.assembler.Fixup.{Fixup}
+use Rattle.asm65.specs.Inner.Holding.{AreAwaited, AreFixups, Enters, Holds, IsConstant, IsPiece, IsFixup, KeepsTables, Waits}
+use Rattle.layout65.specs.Sounds.{AreWithin, IsCounted, IsSoundCursor, cursor_of}
 use Rattle.layout65.proofs.Segments.{all_before}
 
 -- ---- What waits.
 
 -- one more
-pub waiting_more : (y : Symbols) (files : List (List ℕ)) (ws : List Waiting) (vs : List machine.Waiting) (w : Waiting) (v : machine.Waiting) → AreWaiting y files ws vs → IsWaiting y files w v → AreWaiting y files (ws ++ w ∷ []) (vs ++ v ∷ [])
+pub waiting_more : (y : Symbols) (files : List (List ℕ)) (ws : List Fixup) (vs : List machine.Fixup) (w : Fixup) (v : machine.Fixup) → AreFixups y files ws vs → IsFixup y files w v → AreFixups y files (ws ++ w ∷ []) (vs ++ v ∷ [])
 waiting_more y files [] [] w v h k = (k, refl)
 waiting_more y files [] (x ∷ vs) w v h k = absurd cc
 waiting_more y files (x ∷ ws) [] w v h k = absurd h
@@ -63,7 +63,7 @@ piece_stays y z s (Import n) v more h = h
 piece_stays y z s (Demand n) v more h = h
 piece_stays y z s (Export must n) v more h = h
 
-waits_still : (y z : Symbols) (files more : List (List ℕ)) (w : Waiting) (v : machine.Waiting) → Extends y z → Begins files more → IsWaiting y files w v → IsWaiting z more w v
+waits_still : (y z : Symbols) (files more : List (List ℕ)) (w : Fixup) (v : machine.Fixup) → Extends y z → Begins files more → IsFixup y files w v → IsFixup z more w v
 waits_still y z files more w v symbols names h = record {
   file = ap (λ ns. slice_get ns w.file) names.1 ∙ there_still files names.0 w.file v.place.file h.file;
   line = h.line;
@@ -72,7 +72,7 @@ waits_still y z files more w v symbols names h = record {
 }
 
 -- behind more definitions and more files
-pub waiting_stays : (y z : Symbols) (files more : List (List ℕ)) (ws : List Waiting) (vs : List machine.Waiting) → Extends y z → Begins files more → AreWaiting y files ws vs → AreWaiting z more ws vs
+pub waiting_stays : (y z : Symbols) (files more : List (List ℕ)) (ws : List Fixup) (vs : List machine.Fixup) → Extends y z → Begins files more → AreFixups y files ws vs → AreFixups z more ws vs
 waiting_stays y z files more [] vs symbols names h = h
 waiting_stays y z files more (w ∷ ws) [] symbols names h = h
 waiting_stays y z files more (w ∷ ws) (v ∷ vs) symbols names h = (waits_still y z files more w v symbols names h.0, waiting_stays y z files more ws vs symbols names h.1)
@@ -101,20 +101,20 @@ none_awaited : (cs : List Content) → awaited_in (map holds cs) ≡ 0
 none_awaited [] = refl
 none_awaited (c ∷ cs) = none_awaited cs
 
-module _ (t : State) (old new : Sections) (slots : awaited_in t.slots ≡ length t.waiting) (stands : (ws : List Content) → AreAwaited t.waiting ws → Stands (filled t.slots ws) ws old) where
-  fed : (cs : List Content) → FeedsAll old new cs → (ws : List Content) → AreAwaited t.waiting ws → Stands (filled (t.slots ++ map holds cs) ws) ws new
+module _ (t : State) (old new : Sections) (slots : awaited_in t.slots ≡ length t.fixups) (stands : (ws : List Content) → AreAwaited t.fixups ws → Stands (filled t.slots ws) ws old) where
+  fed : (cs : List Content) → FeedsAll old new cs → (ws : List Content) → AreAwaited t.fixups ws → Stands (filled (t.slots ++ map holds cs) ws) ws new
   fed cs feeds ws h =
       let there : filled (t.slots ++ map holds cs) ws ≡ filled t.slots ws ++ cs =
       ap (filled (t.slots ++ map holds cs)) (sym (append-nil ws)) ∙ filled_append t.slots (map holds cs) ws [] (slots ∙ sym h.0) ∙ ap (λ ds. filled t.slots ws ++ ds) (all_held cs) in
       subst (λ ds. Stands ds ws new) (sym there) (feeds (filled t.slots ws) ws (stands ws h))
 
-  deferred : (v : machine.Waiting) → Awaits old new → (ws : List Content) → AreAwaited (t.waiting ++ v ∷ []) ws → Stands (filled (t.slots ++ awaited ∷ []) ws) ws new
+  deferred : (v : machine.Fixup) → Awaits old new → (ws : List Content) → AreAwaited (t.fixups ++ v ∷ []) ws → Stands (filled (t.slots ++ awaited ∷ []) ws) ws new
   deferred v awaits ws h =
-      let long : length ws ≡ length t.waiting + 1 = h.0 ∙ length-append t.waiting (v ∷ []) in
-      let (front, c, is) = last_of ws (length t.waiting) long in
+      let long : length ws ≡ length t.fixups + 1 = h.0 ∙ length-append t.fixups (v ∷ []) in
+      let (front, c, is) = last_of ws (length t.fixups) long in
       let quiet = all_before (λ (c : Content). c.asks ≡ false) front c (subst (AllByRecursion (λ (c : Content). c.asks ≡ false)) is h.1) in
       let split : length ws ≡ length front + 1 = ap length is ∙ length-append front (c ∷ []) in
-      let many : length front ≡ length t.waiting = omega (arith, long, split) in
+      let many : length front ≡ length t.fixups = omega (arith, long, split) in
       subst (λ cs. Stands (filled (t.slots ++ awaited ∷ []) cs) cs new) (sym is)
       (subst (λ cs. Stands cs (front ++ c ∷ []) new) (sym (filled_later t.slots c front (slots ∙ sym many)))
       (awaits (filled t.slots front) front c quiet.1 (stands front (many, quiet.0))))
@@ -127,21 +127,21 @@ all_entered t cs = record t { slots = t.slots ++ map holds cs }
 
 module _ (count : ℕ) (t : State) (old new : Assembler) (h : Holds count t old) (keeps : KeepsTables old new) where
   -- one more piece waits
-  pub holds_awaiting : (v : machine.Waiting) → Awaits old.sections new.sections → AreWaiting t.symbols (map string_bytes new.files.keys) new.waiting.items (t.waiting ++ v ∷ []) → Holds count (awaiting t v) new
-  holds_awaiting v awaits waiting = record {
+  pub holds_awaiting : (v : machine.Fixup) → Awaits old.sections new.sections → AreFixups t.symbols (map string_bytes new.files.keys) new.fixups.items (t.fixups ++ v ∷ []) → Holds count (awaiting t v) new
+  holds_awaiting v awaits fixups = record {
     symbols = ap table_of keeps.symbols ∙ h.symbols;
-    known = subst (λ (k : Known). IsTable t.symbols k.states.items) (sym keeps.known) h.known;
-    standing = ap standing_of keeps.standing ∙ h.standing;
-    sound = subst IsSoundStanding (sym keeps.standing) h.sound;
-    ends = subst (λ (w : Standing). AreWithin w.segments.items) (sym keeps.standing) h.ends;
-    counted = subst (IsCounted count) (sym keeps.standing) h.counted;
+    known = subst (λ (k : NormCache). IsTable t.symbols k.states.items) (sym keeps.known) h.known;
+    cursor = ap cursor_of keeps.cursor ∙ h.cursor;
+    sound = subst IsSoundCursor (sym keeps.cursor) h.sound;
+    ends = subst (λ (w : Cursor). AreWithin w.segments.items) (sym keeps.cursor) h.ends;
+    counted = subst (IsCounted count) (sym keeps.cursor) h.counted;
     inside = h.inside;
     unnamed = h.unnamed;
-    waiting = waiting;
+    fixups = fixups;
     sections = deferred t old.sections new.sections h.slots h.sections v awaits;
     slots =
         (let more = awaited_append t.slots (awaited ∷ []) in
-        let long = length-append t.waiting (v ∷ []) in
+        let long = length-append t.fixups (v ∷ []) in
         let same = h.slots in
         omega (arith, more, long, same));
     out = ap (λ x. x.out) keeps.texts ∙ h.out;
@@ -149,17 +149,17 @@ module _ (count : ℕ) (t : State) (old new : Assembler) (h : Holds count t old)
   }
 
   -- contents are put at once
-  pub holds_all : (cs : List Content) → FeedsAll old.sections new.sections cs → new.waiting ≡ old.waiting → new.files ≡ old.files → Holds count (all_entered t cs) new
-  holds_all cs feeds waiting files = record {
+  pub holds_all : (cs : List Content) → FeedsAll old.sections new.sections cs → new.fixups ≡ old.fixups → new.files ≡ old.files → Holds count (all_entered t cs) new
+  holds_all cs feeds fixups files = record {
     symbols = ap table_of keeps.symbols ∙ h.symbols;
-    known = subst (λ (k : Known). IsTable t.symbols k.states.items) (sym keeps.known) h.known;
-    standing = ap standing_of keeps.standing ∙ h.standing;
-    sound = subst IsSoundStanding (sym keeps.standing) h.sound;
-    ends = subst (λ (w : Standing). AreWithin w.segments.items) (sym keeps.standing) h.ends;
-    counted = subst (IsCounted count) (sym keeps.standing) h.counted;
+    known = subst (λ (k : NormCache). IsTable t.symbols k.states.items) (sym keeps.known) h.known;
+    cursor = ap cursor_of keeps.cursor ∙ h.cursor;
+    sound = subst IsSoundCursor (sym keeps.cursor) h.sound;
+    ends = subst (λ (w : Cursor). AreWithin w.segments.items) (sym keeps.cursor) h.ends;
+    counted = subst (IsCounted count) (sym keeps.cursor) h.counted;
     inside = h.inside;
     unnamed = h.unnamed;
-    waiting = rw (waiting, files) h.waiting;
+    fixups = rw (fixups, files) h.fixups;
     sections = fed t old.sections new.sections h.slots h.sections cs feeds;
     slots =
         (let more = awaited_append t.slots (map holds cs) in
@@ -171,24 +171,24 @@ module _ (count : ℕ) (t : State) (old new : Assembler) (h : Holds count t old)
   }
 
   -- a content is put at once
-  pub holds_entered : (c : Content) → Feeds old.sections new.sections c → new.waiting ≡ old.waiting → new.files ≡ old.files → Holds count (entered t c) new
+  pub holds_entered : (c : Content) → Feeds old.sections new.sections c → new.fixups ≡ old.fixups → new.files ≡ old.files → Holds count (entered t c) new
   holds_entered c feeds = holds_all (c ∷ []) feeds
 
 -- one more piece waits behind those before it
-pub waits_behind : (old new : Assembler) (place : Place) (s : Context) (w : Waiting) → KeepsTables old new → Awaits old.sections new.sections → Begins (map string_bytes old.files.keys) (map string_bytes new.files.keys) → new.waiting.items ≡ old.waiting.items ++ w ∷ [] → slice_get (map string_bytes new.files.keys) w.file ≡ Some place.file → place.line ≡ w.line → s ≡ w.context → Waits place s w.piece old new
-waits_behind old new place s w keeps awaits names waiting file line context count t v h is =
-    let now : machine.Waiting = record { place = place; context = s; piece = v } in
+pub waits_behind : (old new : Assembler) (place : Place) (s : Context) (w : Fixup) → KeepsTables old new → Awaits old.sections new.sections → Begins (map string_bytes old.files.keys) (map string_bytes new.files.keys) → new.fixups.items ≡ old.fixups.items ++ w ∷ [] → slice_get (map string_bytes new.files.keys) w.file ≡ Some place.file → place.line ≡ w.line → s ≡ w.context → Waits place s w.piece old new
+waits_behind old new place s w keeps awaits names fixups file line context count t v h is =
+    let now : machine.Fixup = record { place = place; context = s; piece = v } in
     let files = map string_bytes new.files.keys in
-    let before : AreWaiting t.symbols files old.waiting.items t.waiting = waiting_stays t.symbols t.symbols (map string_bytes old.files.keys) files old.waiting.items t.waiting (extends_same t.symbols) names h.waiting in
-    let one : IsWaiting t.symbols files w now = record {
+    let before : AreFixups t.symbols files old.fixups.items t.fixups = waiting_stays t.symbols t.symbols (map string_bytes old.files.keys) files old.fixups.items t.fixups (extends_same t.symbols) names h.fixups in
+    let one : IsFixup t.symbols files w now = record {
       file = file;
       line = line;
       context = context;
       piece = subst (λ y. IsPiece y s w.piece v) h.symbols is;
     } in
     holds_awaiting count t old new h keeps now awaits
-    (subst (λ (ws : List Waiting). AreWaiting t.symbols files ws (t.waiting ++ now ∷ [])) (sym waiting)
-    (waiting_more t.symbols files old.waiting.items t.waiting w now before one))
+    (subst (λ (ws : List Fixup). AreFixups t.symbols files ws (t.fixups ++ now ∷ [])) (sym fixups)
+    (waiting_more t.symbols files old.fixups.items t.fixups w now before one))
 
 -- what waits is entered
 pub waits_enters : (old new : Assembler) (place : Place) (s : Context) (p : Piece) (v : piece.Piece) → Waits place s p old new → IsPiece (table_of old.symbols) s p v → Enters place s (v ∷ []) old new

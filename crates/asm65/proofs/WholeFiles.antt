@@ -17,7 +17,7 @@ use Rattle.std.proofs.lemmas.List.{length-take-le, take_all}
 use Rattle.source65.specs.declared.place.Place.{Place}
 use Rattle.language65.specs.declared.fault.AsmFault.{AsmFault}
 use Rattle.language65.specs.declared.fault.AsmFault.TheVariants.{BadPart}
-use Rattle.language65.specs.Layout.{Standing, laid, context_of, file_limit, first_fault, is_part, left_from, line_fault, lost_scopes, operand_fault, or_then, part_fault, trees_of, when}
+use Rattle.language65.specs.Layout.{Cursor, laid, context_of, file_limit, first_fault, is_part, left_from, line_fault, lost_scopes, operand_fault, or_then, part_fault, trees_of, when}
 use Rattle.language65.specs.Norms.{optional_value}
 use Rattle.language65.specs.Numbering.{IsSound}
 use Rattle.language65.specs.Symbols.{Symbols}
@@ -79,11 +79,11 @@ first_of None (Some e) rest = refl
 first_of None None rest = refl
 
 -- the fault of a part of such a file
-abbrev long_fault : Symbols → Standing → Option Tree → Option Tree → AsmFault
+abbrev long_fault : Symbols → Cursor → Option Tree → Option Tree → AsmFault
 long_fault y w start len =
     or_bad (or_then (lost_scopes y.scopes w.scope (trees_of (FilePart None start len))) (operand_fault y (context_of w) (FilePart None start len)))
 
-too_long : (y : Symbols) (w : Standing) (bytes : List ℕ) (start len : Option Tree) → nat_le (length bytes) file_limit ≡ false → line_fault y w (FilePart (Some bytes) start len) ≡ Some (long_fault y w start len)
+too_long : (y : Symbols) (w : Cursor) (bytes : List ℕ) (start len : Option Tree) → nat_le (length bytes) file_limit ≡ false → line_fault y w (FilePart (Some bytes) start len) ≡ Some (long_fault y w start len)
 too_long y w bytes start len long =
     let a : Option AsmFault = lost_scopes y.scopes w.scope (trees_of (FilePart None start len)) in
     let b : Option AsmFault = operand_fault y (context_of w) (FilePart None start len) in
@@ -94,10 +94,10 @@ too_long y w bytes start len long =
     part_bad : (p within : Bool) → within ≡ false → when (not (within && p)) BadPart ≡ Some BadPart
     part_bad p within e = subst (λ b. when (not (b && p)) BadPart ≡ Some BadPart) (sym e) refl
 
-takes_same : (t : State) (place : Place) (x z : Statement) (r : Result State AsmFault) (e : AsmFault) → line_fault t.symbols t.standing x ≡ Some e → line_fault t.symbols t.standing z ≡ Some e → Takes t place x r → Takes t place z r
+takes_same : (t : State) (place : Place) (x z : Statement) (r : Result State AsmFault) (e : AsmFault) → line_fault t.symbols t.cursor x ≡ Some e → line_fault t.symbols t.cursor z ≡ Some e → Takes t place x r → Takes t place z r
 takes_same t place x z r e p q h =
-    let fails : r ≡ Err e = subst (λ (f : Option AsmFault). UnlessFault f (Steps t (laid t.symbols t.standing place x)) r) p h in
-    subst (λ (f : Option AsmFault). UnlessFault f (Steps t (laid t.symbols t.standing place z)) r) (sym q) fails
+    let fails : r ≡ Err e = subst (λ (f : Option AsmFault). UnlessFault f (Steps t (laid t.symbols t.cursor place x)) r) p h in
+    subst (λ (f : Option AsmFault). UnlessFault f (Steps t (laid t.symbols t.cursor place z)) r) (sym q) fails
 
 -- ---- Whole files.
 
@@ -113,8 +113,8 @@ whole t place (Some bytes) start len r h = by (nat_le (length bytes) file_limit)
         let most : 16777217 ≤ length bytes = grind (arith, nat_tests) in
         let front : length (take 16777217 bytes) ≡ 16777217 = length-take-le 16777217 bytes most in
         let cut : nat_le (length (take 16777217 bytes)) file_limit ≡ false = subst (λ n. nat_le n file_limit ≡ false) (sym front) refl in
-        takes_same t place (FilePart (Some (take 16777217 bytes)) start len) (FilePart (Some bytes) start len) r (long_fault t.symbols t.standing start len)
-        (too_long t.symbols t.standing (take 16777217 bytes) start len cut) (too_long t.symbols t.standing bytes start len many) h
+        takes_same t place (FilePart (Some (take 16777217 bytes)) start len) (FilePart (Some bytes) start len) r (long_fault t.symbols t.cursor start len)
+        (too_long t.symbols t.cursor (take 16777217 bytes) start len cut) (too_long t.symbols t.cursor bytes start len many) h
 
 -- a statement is taken with what was read of its file as it is with the whole file
 pub takes_whole : (m : Files) (place : Place) (x : Statement) (t : State) (r : Result State AsmFault) → Takes t place (read_bytes m place x) r → Takes t place (with_bytes m place x) r

@@ -25,21 +25,21 @@ pub data IsTakenTo (m : Files) (job : Job) : expand.State → State → Type 0 w
       AreDefined Takes begun (no_line job.source) job.defines (Ok t) → IsTakenTo m job s t
   further :
       (s left : expand.State) (x : expand.Stated) (t u : State) → IsTakenTo m job s t →
-      Reaches m (known_at t.symbols t.standing) s (statement x left) →
+      Reaches m (known_at t.symbols t.cursor) s (statement x left) →
       IsGiven m Takes t left.left.place x (Ok u) → IsTakenTo m job left u
 
 -- expansion gives a statement next, at this place, whose file was asked for; for nothing is it refused before that
 pub record IsNextAt (m : Files) (blamed : Option (List ℕ)) (s : expand.State) (t : State) (place : Place) : Type 0 where
   pub stated : expand.Stated
   pub left : expand.State
-  pub reaches : Reaches m (known_at t.symbols t.standing) s (statement stated left)
+  pub reaches : Reaches m (known_at t.symbols t.cursor) s (statement stated left)
   pub at : place ≡ left.left.place
   pub unread : IsUnread blamed t place stated
 
 -- Where the store failed: at the next statement, where it takes bytes of a file that can't be read; else on the way to it.
 abbrev pub IsWhere : Files → Option (List ℕ) → expand.State → State → AsmFault → Place → Type 0
 IsWhere m blamed s t FileError place = IsNextAt m blamed s t place
-IsWhere m blamed s t (Expansion e) place = IsOnItsWay m blamed (known_at t.symbols t.standing) s place
+IsWhere m blamed s t (Expansion e) place = IsOnItsWay m blamed (known_at t.symbols t.cursor) s place
 IsWhere m blamed s t _ place = ⊥
 
 -- the store failed behind some of the statements, and what they say was said

@@ -10,12 +10,12 @@ use base65::{Seed, Sequence};
 use expand65::Knows;
 use indexmap::IndexSet;
 use language65::Context;
-use layout65::Standing;
+use layout65::Cursor;
 use object65::{Action, Width};
 use sections65::Sections;
 use std::alloc::{AllocError, Global};
 use symbols65::knowing::constant_now;
-use symbols65::{Known, Symbols, definition_of};
+use symbols65::{NormCache, Symbols, definition_of};
 use syntax65::{Expr, Name};
 
 /// What waits of a statement.
@@ -51,7 +51,7 @@ pub enum Piece {
 
 /// A piece of a statement that waits, and where the statement stands.
 #[derive(Drop)]
-pub struct Waiting {
+pub struct Fixup {
     /// The file, by its place among those that are named.
     pub file: usize,
     pub line: u32,
@@ -83,12 +83,12 @@ impl Knows for Knowledge<'_> {
 pub struct Assembler {
     pub symbols: Symbols,
     /// The forms of constants that were found by the symbol table as it stands.
-    pub known: Known,
-    pub standing: Standing,
+    pub known: NormCache,
+    pub cursor: Cursor,
     /// What statements put into sections and said to the linker, with room for what waits.
     pub sections: Sections,
     /// What waits, in the order of the source.
-    pub waiting: Vec<Waiting>,
+    pub fixups: Vec<Fixup>,
     /// The files in which something waits.
     pub files: IndexSet<String, Seed>,
     pub texts: Texts,
@@ -101,10 +101,10 @@ impl Assembler {
     {
         Ok(Assembler {
             symbols: Symbols::new(alloc, seed),
-            known: Known::new(alloc),
-            standing: Standing::start(alloc)?,
+            known: NormCache::new(alloc),
+            cursor: Cursor::start(alloc)?,
             sections: Sections::new(alloc),
-            waiting: Vec::new(alloc),
+            fixups: Vec::new(alloc),
             files: IndexSet::with_hasher(alloc, seed),
             texts: Texts::new(alloc),
         })

@@ -12,12 +12,12 @@ ghost use Rattle.sections65.specs.Fed.{Receives, Stands};
 ghost use Rattle.symbols65.specs.Resolving.{IsTable};
 ghost use Rattle.symbols65.specs.Views.{table_of};
 ghost use Rattle.asm65.specs.Assembly.{Concludes, has_failed, in_places, is_from_outside, is_outside_refusal};
-ghost use Rattle.asm65.specs.Inner.Holding.{AreWaiting, Holds, IsWaiting};
+ghost use Rattle.asm65.specs.Inner.Holding.{AreFixups, Holds, IsFixup};
 ghost use Rattle.asm65.specs.Inner.Resolving.{Settles, SettlesAll, content_of, warning_in};
 ghost use Rattle.asm65.specs.Inner.Running.{SaysAs};
 ghost use Rattle.language65.specs.Views.{place_at};
 
-use crate::assembler::{Assembler, Waiting};
+use crate::assembler::{Assembler, Fixup};
 use crate::assembling::Assembly;
 use crate::resolving::{Filling, Made, resolve};
 use crate::texts::{AsmRefusal, Texts, warn};
@@ -26,13 +26,13 @@ use language65::{AsmFault, At, Segment};
 use object65::Object;
 use sections65::{Imports, Sections};
 use std::alloc::{AllocError, Global};
-use symbols65::{Known, Symbols};
+use symbols65::{NormCache, Symbols};
 
 /// What is still open behind the last line.
 #[derive(Drop)]
 pub struct Ending {
     /// The forms of constants that were found.
-    pub known: Known,
+    pub known: NormCache,
     pub sections: Sections,
     /// What goes to standard error.
     pub err: Sequence<u8>,
@@ -97,21 +97,21 @@ fn settle(
     alloc: Global,
     whole: Whole<'_>,
     ending: &mut Ending,
-    waiting: Waiting,
+    fixup: Fixup,
 ) -> Result<(), AsmRefusal>
     requires { IsTable (table_of whole.symbols.now) ending.old.known.states.items }
-    ensures settled { (v : machine.Waiting) → IsWaiting (table_of whole.entry.symbols.now)
-        (map string_bytes whole.entry.files.now) waiting v →
+    ensures settled { (v : machine.Fixup) → IsFixup (table_of whole.entry.symbols.now)
+        (map string_bytes whole.entry.files.now) fixup v →
         Settles (table_of whole.entry.symbols.now) v ending.old ending.new result }
     ensures table { OnOk result
         (IsTable (table_of whole.entry.symbols.now) ending.new.known.states.items) }
     ensures inside { IfErr result (λ e. has_failed e ≡ false) }
 {
     let at = At {
-        file: file_at(whole.files, waiting.file),
-        line: waiting.line,
+        file: file_at(whole.files, fixup.file),
+        line: fixup.line,
     };
-    match resolve(alloc, whole.symbols, &mut ending.known, at, waiting) {
+    match resolve(alloc, whole.symbols, &mut ending.known, at, fixup) {
         Ok(made) => match take_made(ending, at, made) {
             Ok(()) => Ok(()),
             Err(_) => Err(AsmRefusal::without_memory()),
@@ -125,15 +125,15 @@ fn settle_all(
     alloc: Global,
     whole: Whole<'_>,
     ending: &mut Ending,
-    waiting: Vec<Waiting>,
+    fixups: Vec<Fixup>,
 ) -> Result<(), AsmRefusal>
     requires { IsTable (table_of whole.symbols.now) ending.old.known.states.items }
-    ensures settled { (vs : List machine.Waiting) → AreWaiting (table_of whole.entry.symbols.now)
-        (map string_bytes whole.entry.files.now) waiting.items vs →
+    ensures settled { (vs : List machine.Fixup) → AreFixups (table_of whole.entry.symbols.now)
+        (map string_bytes whole.entry.files.now) fixups.items vs →
         SettlesAll (table_of whole.entry.symbols.now) vs ending.old ending.new result }
     ensures inside { IfErr result (λ e. has_failed e ≡ false) }
 {
-    for one in waiting {
+    for one in fixups {
         settle(alloc, whole, ending, one)?;
     }
     Ok(())
@@ -200,7 +200,7 @@ impl Assembler {
             Concludes (concluded t None) result }
         ensures good { IfOk result.result (λ o. (count : ℕ) (t : State) → Holds count t self →
             ((cs : List Content) → (finished t).found ≡ Ok cs →
-            AreSound t.standing.segments t.symbols.imports cs) → is_good_object o ≡ true) }
+            AreSound t.cursor.segments t.symbols.imports cs) → is_good_object o ≡ true) }
         ensures numbers { IfOk result.result ObjectFits }
         ensures inside { IfErr result.result (λ e. has_failed e ≡ false) }
         ensures silent { is_from_outside result.result ≡ true →
@@ -209,9 +209,9 @@ impl Assembler {
         let Assembler {
             symbols,
             known,
-            standing,
+            cursor,
             sections,
-            waiting,
+            fixups,
             files,
             texts,
         } = self;
@@ -225,12 +225,12 @@ impl Assembler {
             symbols: &symbols,
             files: files.as_slice(),
         };
-        let settled = settle_all(alloc, whole, &mut ending, waiting);
+        let settled = settle_all(alloc, whole, &mut ending, fixups);
         let Ending { sections, err, .. } = ending;
         let texts = Texts { out, err };
         match settled {
             Ok(()) => {
-                let segments = standing.segments.as_slice();
+                let segments = cursor.segments.as_slice();
                 let object = object_of(alloc, segments, &symbols.imports, sections);
                 answered(alloc, object, texts)
             }

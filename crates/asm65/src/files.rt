@@ -59,7 +59,7 @@ impl Assembler {
     fn check_unread(&mut self, alloc: Global, range: PartRange<'_>) -> Result<(), AsmFault>
         requires { IsHeld self.old }
         ensures checked { (count : ℕ) (t : State) → Holds count t self.old →
-            Gives is_memory (λ u. u) result (unless_fault (unread_fault t.symbols t.standing
+            Gives is_memory (λ u. u) result (unless_fault (unread_fault t.symbols t.cursor
             range.entry.start.now range.entry.len.now) tt) }
         ensures held { (count : ℕ) (t : State) → Holds count t self.old →
             OnOk result (Holds count t self.new) }
@@ -68,7 +68,7 @@ impl Assembler {
     {
         let before = Before {
             symbols: &self.symbols,
-            standing: &self.standing,
+            cursor: &self.cursor,
         };
         check_unread(alloc, before, &mut self.known, range)
     }

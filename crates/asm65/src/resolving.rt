@@ -13,13 +13,13 @@ ghost use Rattle.symbols65.specs.Resolving.{IsTable};
 ghost use Rattle.symbols65.specs.Views.{table_of};
 ghost use Rattle.asm65.specs.Inner.Resolving.{coming, lost, made_in, noted};
 
-use crate::assembler::{Piece, Waiting};
+use crate::assembler::{Piece, Fixup};
 use crate::putting::values::{is_file_name, literal_of, stored};
 use base65::Sequence;
-use language65::{AsmFault, At, GLOBAL_SCOPE, Part, Said, Context};
+use language65::{AsmFault, At, GLOBAL_SCOPE, Part, Declaration, Context};
 use object65::{Action, Norm, Width};
 use std::alloc::{AllocError, Global};
-use symbols65::{Key, Known, Symbols, defined_norm, norm, operand_form};
+use symbols65::{Key, NormCache, Symbols, defined_norm, norm, operand_form};
 
 /// What is put where something waited.
 #[derive(Drop)]
@@ -27,7 +27,7 @@ pub enum Filling {
     /// A part of the section of a segment.
     Part { segment: u32, part: Part },
     /// What is said to other modules and to the linker.
-    Told(Sequence<Said>),
+    Told(Sequence<Declaration>),
 }
 
 /// What a piece comes to.
@@ -49,7 +49,7 @@ fn nothing(alloc: Global) -> Made
 }
 
 /// One thing is said.
-fn told(alloc: Global, saying: Said) -> Result<Made, AllocError>
+fn told(alloc: Global, saying: Declaration) -> Result<Made, AllocError>
     ensures { (place : Place) → IfOk result (λ m.
         made_in place m ≡ quietly (telling (said_at place saying ∷ []))) }
 {
@@ -62,7 +62,7 @@ fn told(alloc: Global, saying: Said) -> Result<Made, AllocError>
 }
 
 /// One thing is said in a file whose name an object can hold.
-fn written(alloc: Global, at: At<'_>, saying: Said) -> Result<Made, AsmFault>
+fn written(alloc: Global, at: At<'_>, saying: Declaration) -> Result<Made, AsmFault>
     ensures { Gives is_memory (made_in (place_at at.entry)) result
         (noted (place_at at.entry) saying) }
 {
@@ -129,7 +129,7 @@ fn use_assertion(
             }),
         },
         Some(_) => Ok(nothing(alloc)),
-        None => written(alloc, at, Said::Checked { action, text, form }),
+        None => written(alloc, at, Declaration::Asserted { action, text, form }),
     }
 }
 
@@ -168,17 +168,17 @@ fn absent(alloc: Global, must: bool, name: Sequence<u8>) -> Result<Made, AsmFaul
 pub fn resolve(
     alloc: Global,
     symbols: &Symbols,
-    known: &mut Known,
+    known: &mut NormCache,
     at: At<'_>,
-    waiting: Waiting,
+    fixup: Fixup,
 ) -> Result<Made, AsmFault>
     requires { IsTable (table_of symbols.now) known.old.states.items }
     ensures made { Gives is_memory (made_in (place_at at.entry)) result
         (coming (table_of symbols.now) (place_at at.entry)
-        waiting.context waiting.piece) }
+        fixup.context fixup.piece) }
     ensures table { OnOk result (IsTable (table_of symbols.now) known.new.states.items) }
 {
-    let Waiting { context, piece, .. } = waiting;
+    let Fixup { context, piece, .. } = fixup;
     match piece {
         Piece::Datum { width, value } => {
             let form = norm(alloc, symbols, known, context, &value)?;
@@ -201,11 +201,11 @@ pub fn resolve(
             use_assertion(alloc, action, at, text, form)
         }
         Piece::Import(name) => resolve_import(alloc, symbols, name),
-        Piece::Demand(name) => Ok(told(alloc, Said::Demanded(name))?),
+        Piece::Demand(name) => Ok(told(alloc, Declaration::ForcedImport(name))?),
         Piece::Export { must, name } => match defined(symbols, name.as_slice()) {
             Some(place) => {
                 let form = defined_norm(alloc, symbols, known, place)?;
-                written(alloc, at, Said::Exported { name, form })
+                written(alloc, at, Declaration::Exported { name, form })
             }
             None => absent(alloc, must, name),
         },

@@ -36,9 +36,9 @@ pub struct Run {
 fn next<S: Store>(run: &mut Run, store: &mut S) -> Result<Option<Statement>, ExpandFault>
     requires { IsRunning run.old }
     ensures next { IfSome (S.files store.old) (λ m. (t : State) → IsHeldBy t run.old →
-        FollowsFrom m (known_at t.symbols t.standing) run.old.expander result run.new.expander) }
+        FollowsFrom m (known_at t.symbols t.cursor) run.old.expander result run.new.expander) }
     ensures stopped { IfSome (S.files store.old) (λ m. (t : State) → IsHeldBy t run.old →
-        StopsOnItsWay m (S.blamed store.new) (known_at t.symbols t.standing)
+        StopsOnItsWay m (S.blamed store.new) (known_at t.symbols t.cursor)
         run.old.expander result run.new.expander) }
     ensures same { run.new.assembler ≡ run.old.assembler }
     ensures size { IfOk result (λ o. IfSome o (λ _.
@@ -48,7 +48,7 @@ fn next<S: Store>(run: &mut Run, store: &mut S) -> Result<Option<Statement>, Exp
 {
     let knowledge = Knowledge {
         symbols: &run.assembler.symbols,
-        context: run.assembler.standing.context(),
+        context: run.assembler.cursor.context(),
     };
     run.expander.next(store, &knowledge)
 }
@@ -108,9 +108,9 @@ fn take_at_hand<S: Store>(alloc: Global, store: &mut S, run: &mut Run) -> Result
 
 /// Refuses a scope that is open.
 fn check_closed(run: &Run) -> Result<(), AsmFault>
-    ensures { result ≡ (if is_open run.now.assembler.standing.scope then Err BadScope else Ok tt) }
+    ensures { result ≡ (if is_open run.now.assembler.cursor.scope then Err BadScope else Ok tt) }
 {
-    if run.assembler.standing.scope == GLOBAL_SCOPE {
+    if run.assembler.cursor.scope == GLOBAL_SCOPE {
         Ok(())
     } else {
         Err(AsmFault::BadScope)

@@ -233,13 +233,13 @@ impl Assembler {
     {
         let before = Before {
             symbols: &self.symbols,
-            standing: &self.standing,
+            cursor: &self.cursor,
         };
         let measured = measure(alloc, before, &mut self.known, statement)?;
-        let context = self.standing.context();
+        let context = self.cursor.context();
         self.ask(context.segment, statement)?;
         self.texts.say(at, statement)?;
-        self.standing
+        self.cursor
             .advance(alloc, &self.symbols, statement, measured)?;
         Ok(Placed { context, measured })
     }
@@ -266,12 +266,12 @@ impl Assembler {
     {
         let before = Before {
             symbols: &self.symbols,
-            standing: &self.standing,
+            cursor: &self.cursor,
         };
         let measured = measure_instruction(alloc, before, &mut self.known, mnemonic, operand)?;
-        let context = self.standing.context();
+        let context = self.cursor.context();
         self.sections.ask(context.segment)?;
-        self.standing.advance_by(measured.length);
+        self.cursor.advance_by(measured.length);
         Ok(Placed { context, measured })
     }
 

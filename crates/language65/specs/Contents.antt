@@ -40,13 +40,13 @@ pub data Part : Type 0 where
   Waiting : Width → Place → Form → Part
 
 -- what a statement says
-pub data Said : Type 0 where
+pub data Declaration : Type 0 where
   -- a name that the module defines for others, and where that is said
-  Exported : List ℕ → Place → Form → Said
+  Exported : List ℕ → Place → Form → Declaration
   -- an import that is asked for though no form may hold it
-  Demanded : List ℕ → Said
+  ForcedImport : List ℕ → Declaration
   -- what the linker has to check, and the text that is printed otherwise
-  Checked : Action → Place → List ℕ → Form → Said
+  Asserted : Action → Place → List ℕ → Form → Declaration
 
 -- a statement as the object has it
 pub record Content : Type 0 where
@@ -56,7 +56,7 @@ pub record Content : Type 0 where
   pub asks : Bool
   -- what it puts into the section
   pub parts : List Part
-  pub said : List Said
+  pub said : List Declaration
 
 -- ---- What a module's statements put into its object: the parts of sections, exports, assertions; and their first fault.
 
@@ -130,36 +130,36 @@ parts_of y l = go l.stated
 -- ---- What a statement says to other modules and to the linker.
 
 -- an import that the module defines
-abbrev pub import_fault : Symbols → List ℕ → Result (List Said) AsmFault
+abbrev pub import_fault : Symbols → List ℕ → Result (List Declaration) AsmFault
 import_fault y n = go (defined y (named 0 n))
   where
-    go : Option ℕ → Result (List Said) AsmFault
+    go : Option ℕ → Result (List Declaration) AsmFault
     go None = Ok []
     go (Some j) = Err (ImportedAndDefined n)
 
-abbrev pub export_said : Symbols → Place → List ℕ → Result (List Said) AsmFault → Option ℕ → Result (List Said) AsmFault
+abbrev pub export_said : Symbols → Place → List ℕ → Result (List Declaration) AsmFault → Option ℕ → Result (List Declaration) AsmFault
 export_said y place n absent None = absent
 export_said y place n absent (Some j) = defined_form y j >>= (λ f. written place (Exported n place f ∷ []))
 
-abbrev pub each_of : {A : Type 0} → (A → Result (List Said) AsmFault) → List A → Result (List Said) AsmFault
+abbrev pub each_of : {A : Type 0} → (A → Result (List Declaration) AsmFault) → List A → Result (List Declaration) AsmFault
 each_of f xs = each f xs >>= (λ yss. Ok (flat_map (λ ys. ys) yss))
 
 -- an assertion whose form is a literal is decided; another one is the linker's
-abbrev pub decided : Action → Place → List ℕ → Form → Result (List Said) AsmFault
+abbrev pub decided : Action → Place → List ℕ → Form → Result (List Declaration) AsmFault
 decided action.Error place words (lit (pos zero)) = Err (Assertion words)
 decided act place words (lit v) = Ok []
-decided act place words f = written place (Checked act place words f ∷ [])
+decided act place words f = written place (Asserted act place words f ∷ [])
 
 -- what a statement says, and the fault of a constant's expression
-abbrev pub said_of : Symbols → Laid → Result (List Said) AsmFault
+abbrev pub said_of : Symbols → Laid → Result (List Declaration) AsmFault
 said_of y l = go l.stated
   where
-    go : Statement → Result (List Said) AsmFault
+    go : Statement → Result (List Declaration) AsmFault
     go (Constant n e) = norm_of y l.context e >>= (λ f. Ok [])
     go (Import size names) = each_of (import_fault y) names
     go (Export names) = each_of (λ n. export_said y l.place n (Err (NotDefined n)) (defined y (named 0 n))) names
     go (Global size names) = each_of (λ n. export_said y l.place n (Ok []) (defined y (named 0 n))) names
-    go (ForceImport names) = each_of (import_fault y) names >>= (λ none. Ok (map Demanded names))
+    go (ForceImport names) = each_of (import_fault y) names >>= (λ none. Ok (map ForcedImport names))
     go (Assert e act words) = norm_of y l.context e >>= decided act l.place words
     go _ = Ok []
 
@@ -181,5 +181,5 @@ abbrev pub put : ℕ → Part → Content
 put g p = record { segment = g; asks = false; parts = p ∷ []; said = [] }
 
 -- what is said
-abbrev pub telling : List Said → Content
+abbrev pub telling : List Declaration → Content
 telling ss = record { segment = 0; asks = false; parts = []; said = ss }

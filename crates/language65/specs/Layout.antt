@@ -27,7 +27,7 @@ abbrev pub powers : List ℕ
 powers = 1 ∷ 2 ∷ 4 ∷ 8 ∷ 16 ∷ 32 ∷ 64 ∷ 128 ∷ 256 ∷ 512 ∷ 1024 ∷ 2048 ∷ 4096 ∷ 8192 ∷ 16384 ∷ 32768 ∷ []
 
 -- what stands behind statements
-pub record Standing : Type 0 where
+pub record Cursor : Type 0 where
   pub scope : ℕ
   pub opened : ℕ
   pub region : ℕ
@@ -41,7 +41,7 @@ abbrev pub new_segment : List ℕ → AddressSize → Segment
 new_segment n own = record { name = n; size = own; end = 0; align = 1 }
 
 -- assembly begins in CODE
-abbrev pub start : Standing
+abbrev pub start : Cursor
 start = record { scope = 0; opened = 0; region = 0; unnamed = 0; segments = new_segment (codes "CODE") size.Absolute ∷ []; current = 0; kept = [] }
 
 -- ---- Segments.
@@ -88,22 +88,22 @@ abbrev pub rest_kept : List ℕ → List ℕ
 rest_kept [] = []
 rest_kept (k ∷ kept) = kept
 
-abbrev pub current_behind : Standing → Statement → ℕ
+abbrev pub current_behind : Cursor → Statement → ℕ
 current_behind w (statement.Segment n own) = or_last w.segments (place_of w.segments n)
 current_behind w statement.PopSegment = last_kept w.current w.kept
 current_behind w _ = w.current
 
-abbrev pub kept_behind : Standing → Statement → List ℕ
+abbrev pub kept_behind : Cursor → Statement → List ℕ
 kept_behind w statement.PushSegment = w.current ∷ w.kept
 kept_behind w statement.PopSegment = rest_kept w.kept
 kept_behind w _ = w.kept
 
 -- ---- One statement.
 
-abbrev pub context_of : Standing → Context
+abbrev pub context_of : Cursor → Context
 context_of w = record { scope = w.scope; opened = w.opened; region = w.region; unnamed = w.unnamed; segment = w.current; offset = (segment_at w.segments w.current).end }
 
-abbrev pub own_size : Standing → AddressSize
+abbrev pub own_size : Cursor → AddressSize
 own_size w = (segment_at w.segments w.current).size
 
 -- the address size of what a statement defines
@@ -112,7 +112,7 @@ size_stated y s own (statement.Constant n e) = size_of y s own e
 size_stated y s own _ = own
 
 -- a statement behind those of a symbol table
-abbrev pub laid : Symbols → Standing → Place → Statement → Laid
+abbrev pub laid : Symbols → Cursor → Place → Statement → Laid
 laid y w place x = record {
   stated = x;
   place = place;
@@ -133,7 +133,7 @@ closes_scope statement.CloseProc = true
 closes_scope _ = false
 
 -- the scope that is open behind a statement
-abbrev pub scope_behind : Symbols → Standing → Statement → ℕ
+abbrev pub scope_behind : Symbols → Cursor → Statement → ℕ
 scope_behind y w x = if opens_scope x then suc w.opened else if closes_scope x then enclosing y.scopes w.scope else w.scope
 
 -- the multiple to which a statement aligns its section
@@ -141,8 +141,8 @@ abbrev pub multiple_of : Symbols → Context → Statement → ℕ
 multiple_of y s (statement.Align n v) = counted (constant_in y s n)
 multiple_of y s _ = 1
 
-abbrev pub standing_behind : Symbols → Standing → Statement → Standing
-standing_behind y w x = record {
+abbrev pub cursor_behind : Symbols → Cursor → Statement → Cursor
+cursor_behind y w x = record {
   scope = scope_behind y w x;
   opened = if opens_scope x then w.opened + 1 else w.opened;
   region = if opens_region x then w.region + 1 else w.region;
@@ -156,13 +156,13 @@ standing_behind y w x = record {
 
 pub record Layout : Type 0 where
   pub laid : List Laid
-  pub standing : Standing
+  pub cursor : Cursor
 
 abbrev pub layout_behind : Layout → Place → Statement → Layout
-layout_behind y place x = record { laid = y.laid ++ laid (symbols_of y.laid) y.standing place x ∷ []; standing = standing_behind (symbols_of y.laid) y.standing x }
+layout_behind y place x = record { laid = y.laid ++ laid (symbols_of y.laid) y.cursor place x ∷ []; cursor = cursor_behind (symbols_of y.laid) y.cursor x }
 
 abbrev pub nothing_laid : Layout
-nothing_laid = record { laid = []; standing = start }
+nothing_laid = record { laid = []; cursor = start }
 
 -- ---- The faults that are found at a statement's line, in their order.
 
@@ -364,7 +364,7 @@ pop_fault kept statement.PopSegment = when (not (is_kept kept)) PopWithoutPush
 pop_fault kept _ = None
 
 -- ---- The first fault of a statement that is understood, behind those of a symbol table.
-abbrev pub line_fault : Symbols → Standing → Statement → Option AsmFault
+abbrev pub line_fault : Symbols → Cursor → Statement → Option AsmFault
 line_fault y w x =
     let s : Context = context_of w in
     first_fault (

@@ -11,7 +11,7 @@ use Rattle.object65.specs.declared.object.Object.{Object}
 use Rattle.object65.specs.declared.object.Origin.{Origin}
 use Rattle.object65.specs.declared.object.Section.{Section}
 use Rattle.source65.specs.declared.place.Place.{Place}
-use Rattle.language65.specs.Contents.{Content, Part, Known, Filled, Waiting, Said, Exported, Demanded, Checked}
+use Rattle.language65.specs.Contents.{Content, Part, Known, Filled, Waiting, Declaration, Exported, ForcedImport, Asserted}
 use Rattle.language65.specs.declared.contents.Segment.{Segment}
 use Rattle.language65.specs.Layout.{powers, Layout}
 use Rattle.syntax65.specs.Tokens.{Lexeme}
@@ -74,10 +74,10 @@ abbrev pub key_of : List (List ℕ) → List ℕ → Option ℕ
 key_of names n = position (λ m. bytes_eq m n) names
 
 -- names are those of all imports, in the order of their keys
-abbrev pub said_imports : List (List ℕ) → Said → List ℕ
+abbrev pub said_imports : List (List ℕ) → Declaration → List ℕ
 said_imports names (Exported n place f) = imports_in f
-said_imports names (Demanded n) = optional_key (key_of names n)
-said_imports names (Checked act place words f) = imports_in f
+said_imports names (ForcedImport n) = optional_key (key_of names n)
+said_imports names (Asserted act place words f) = imports_in f
 
 abbrev pub content_imports : List (List ℕ) → Content → List ℕ
 content_imports names c = flat_map part_imports c.parts ++ flat_map (said_imports names) c.said
@@ -141,17 +141,17 @@ section_of at segments sections imports cs g = record {
 
 -- ---- Exports, each once, and assertions.
 
-abbrev pub exports_among : (at : Place → Origin) (sections imports : List ℕ) → List Export → List Said → List Export
+abbrev pub exports_among : (at : Place → Origin) (sections imports : List ℕ) → List Export → List Declaration → List Export
 exports_among at sections imports found [] = found
 exports_among at sections imports found (Exported n place f ∷ ss) =
     exports_among at sections imports (if list_any (λ e. bytes_eq n e.name) found then found else found ++ record { name = n; origin = at place; form = numbered sections imports f } ∷ []) ss
 exports_among at sections imports found (s ∷ ss) = exports_among at sections imports found ss
 
-abbrev pub assert_of : (at : Place → Origin) (sections imports : List ℕ) → Said → Option Assert
-assert_of at sections imports (Checked act place words f) = Some (record { action = act; origin = at place; text = words; form = numbered sections imports f })
+abbrev pub assert_of : (at : Place → Origin) (sections imports : List ℕ) → Declaration → Option Assert
+assert_of at sections imports (Asserted act place words f) = Some (record { action = act; origin = at place; text = words; form = numbered sections imports f })
 assert_of at sections imports _ = None
 
-abbrev pub all_said : List Content → List Said
+abbrev pub all_said : List Content → List Declaration
 all_said cs = flat_map (λ c. c.said) cs
 
 -- ---- Files, in the order in which what is written first names them.
@@ -167,13 +167,13 @@ part_files (Filled n) = []
 part_files (Waiting width place f) = place.file ∷ []
 
 -- the files of exports, of which the first of each name is written, behind those of these names
-abbrev pub export_files : List (List ℕ) → List Said → List (List ℕ)
+abbrev pub export_files : List (List ℕ) → List Declaration → List (List ℕ)
 export_files found [] = []
 export_files found (Exported n place f ∷ ss) = if list_any (bytes_eq n) found then export_files found ss else place.file ∷ export_files (found ++ n ∷ []) ss
 export_files found (s ∷ ss) = export_files found ss
 
-abbrev pub assert_files : Said → List (List ℕ)
-assert_files (Checked act place words f) = place.file ∷ []
+abbrev pub assert_files : Declaration → List (List ℕ)
+assert_files (Asserted act place words f) = place.file ∷ []
 assert_files _ = []
 
 -- those of the values of each section in its turn, then of exports, then of assertions
@@ -238,9 +238,9 @@ pub record IsMeasured (y : Symbols) (l : Laid) : Type 0 where
   pub settled : l.settled ≡ settled_of y l.context l.size l.stated
 
 pub record IsSoundLayout (y : Layout) : Type 0 where
-  pub named : are_names (map (λ g. g.name) y.standing.segments) ≡ true
+  pub named : are_names (map (λ g. g.name) y.cursor.segments) ≡ true
   pub sound : AllByRecursion (λ l. IsSound l.stated) y.laid
-  pub standing : AllByRecursion (λ l. l.context.segment < length y.standing.segments) y.laid
+  pub cursor : AllByRecursion (λ l. l.context.segment < length y.cursor.segments) y.laid
   pub measured : (i : ℕ) (l : Laid) → slice_get y.laid i ≡ Some l → IsMeasured (symbols_of (take i y.laid)) l
   pub room : (g : ℕ) → sum_by (λ l. l.length) (statements_in y.laid g) ≤ section_limit
 
@@ -270,14 +270,14 @@ IsSoundPart asked count (Known bytes) = ⊤
 IsSoundPart asked count (Filled n) = ⊤
 IsSoundPart asked count (Waiting width place f) = IsSoundAt asked count place f × (is_literal f ≡ false)
 
-abbrev pub IsSoundSaid : List ℕ → ℕ → Said → Type 0
-IsSoundSaid asked count (Exported n place f) = (is_name n ≡ true) × IsSoundAt asked count place f
-IsSoundSaid asked count (Demanded n) = ⊤
-IsSoundSaid asked count (Checked act place words f) = (length words < 256) × IsSoundAt asked count place f × (is_literal f ≡ false)
+abbrev pub IsSoundDeclaration : List ℕ → ℕ → Declaration → Type 0
+IsSoundDeclaration asked count (Exported n place f) = (is_name n ≡ true) × IsSoundAt asked count place f
+IsSoundDeclaration asked count (ForcedImport n) = ⊤
+IsSoundDeclaration asked count (Asserted act place words f) = (length words < 256) × IsSoundAt asked count place f × (is_literal f ≡ false)
 
 pub record IsSoundContent (asked : List ℕ) (count : ℕ) (c : Content) : Type 0 where
   pub parts : AllByRecursion (IsSoundPart asked count) c.parts
-  pub said : AllByRecursion (IsSoundSaid asked count) c.said
+  pub said : AllByRecursion (IsSoundDeclaration asked count) c.said
 
 abbrev pub part_len : Part → ℕ
 part_len (Known bytes) = length bytes
@@ -288,6 +288,6 @@ part_len (Waiting width place f) = width_len width
 pub record AreSound (segments : List Segment) (names : List (List ℕ)) (cs : List Content) : Type 0 where
   pub named : are_names (map (λ g. g.name) segments) ≡ true
   pub imported : are_names names ≡ true
-  pub standing : AllByRecursion (λ c. c.segment < length segments) cs
+  pub cursor : AllByRecursion (λ c. c.segment < length segments) cs
   pub room : (g : ℕ) → sum_by part_len (parts_in cs g) ≤ section_limit
   pub contents : AllByRecursion (IsSoundContent (section_keys cs) (length names)) cs

@@ -3,8 +3,8 @@ use Rattle.std.specs.Prelude.{ℕ, List}
 use Rattle.source65.specs.declared.place.Place.{Place}
 use Rattle.language65.specs.declared.contents.Part.{Part}
 use Rattle.language65.specs.declared.contents.Part.TheVariants as part
-use Rattle.language65.specs.declared.contents.Said.{Said}
-use Rattle.language65.specs.declared.contents.Said.TheVariants as said
+use Rattle.language65.specs.declared.contents.Declaration.{Declaration}
+use Rattle.language65.specs.declared.contents.Declaration.TheVariants as said
 use Rattle.language65.specs.declared.laid.At.{At}
 use Rattle.language65.specs.Contents as parts
 
@@ -20,7 +20,7 @@ part_at place (part.Known bytes) = parts.Known bytes
 part_at place (part.Filled n) = parts.Filled n
 part_at place (part.Waiting width form) = parts.Waiting width place form
 
-abbrev pub said_at : Place → Said → parts.Said
+abbrev pub said_at : Place → Declaration → parts.Declaration
 said_at place (said.Exported name form) = parts.Exported name place form
-said_at place (said.Demanded name) = parts.Demanded name
-said_at place (said.Checked action text form) = parts.Checked action place text form
+said_at place (said.ForcedImport name) = parts.ForcedImport name
+said_at place (said.Asserted action text form) = parts.Asserted action place text form

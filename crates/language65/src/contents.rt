@@ -17,16 +17,16 @@ pub enum Part {
 
 /// What a statement says to other modules and to the linker.
 #[derive(Drop)]
-pub enum Said {
+pub enum Declaration {
     /// A name that the module defines for others.
     Exported {
         name: Sequence<u8>,
         form: Norm,
     },
     /// An import that is asked for though no form may hold it.
-    Demanded(Sequence<u8>),
+    ForcedImport(Sequence<u8>),
     /// What the linker has to check.
-    Checked {
+    Asserted {
         action: Action,
         text: Sequence<u8>,
         form: Norm,

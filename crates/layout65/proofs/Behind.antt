@@ -8,12 +8,12 @@ use Rattle.language65.specs.declared.fault.AsmFault.{AsmFault}
 use Rattle.language65.specs.Symbols.{is_unnamed, opens_region, enclosing, within, Scope, Symbols, scope_opened}
 use Rattle.language65.specs.declared.language.Statement.{Statement}
 use Rattle.language65.specs.declared.language.Statement.TheVariants as statement
-use Rattle.language65.specs.Layout.{Standing, opens_scope, scope_behind, segments_behind, standing_behind, line_fault}
-use Rattle.layout65.specs.declared.standing.Standing as code
+use Rattle.language65.specs.Layout.{Cursor, opens_scope, scope_behind, segments_behind, cursor_behind, line_fault}
+use Rattle.layout65.specs.declared.cursor.Cursor as code
 use Rattle.layout65.specs.Measuring.{advanced, measure_of, measured}
 use Rattle.layout65.specs.Counting.{AreInside, HasNumbers, opened_by, opening_limit}
 use Rattle.layout65.specs.declared.measuring.Measured.{Measured}
-use Rattle.layout65.specs.Sounds.{IsCounted, standing_of}
+use Rattle.layout65.specs.Sounds.{IsCounted, cursor_of}
 use Rattle.layout65.proofs.Measures.{no_fault}
 use Rattle.language65.proofs.Segments.{all_more, all_same, grown_length}
 
@@ -47,7 +47,7 @@ unnamed_behind x n count le = grind (arith, common_steps)
 segments_counted : (x : Statement) (gs : List Segment) (current len multiple count : ℕ) → length gs ≤ count + 1 → length (segments_behind gs current len multiple x) ≤ count + opened_by x + 1
 segments_counted x gs current len multiple count le = grind (arith, common_steps, length-append, grown_length)
 
-open_behind : (x : Statement) (y : Symbols) (w : Standing) (count : ℕ) → w.scope ≤ count → w.opened ≤ count → AreInside count y.scopes → scope_behind y w x ≤ count + opened_by x
+open_behind : (x : Statement) (y : Symbols) (w : Cursor) (count : ℕ) → w.scope ≤ count → w.opened ≤ count → AreInside count y.scopes → scope_behind y w x ≤ count + opened_by x
 open_behind (statement.OpenScope n) y w count le less h = omega (arith, less)
 open_behind (statement.OpenProc n) y w count le less h = omega (arith, less)
 open_behind statement.CloseScope y w count le less h = let around = enclosing_below count w.scope y.scopes h in omega (arith, around)
@@ -55,22 +55,22 @@ open_behind statement.CloseProc y w count le less h = let around = enclosing_bel
 open_behind _ y w count le less h = omega (arith, le)
 
 -- a statement opens so much at most
-pub counted_behind : (y : Symbols) (v w : code.Standing) (x : Statement) (len multiple count : ℕ) → IsCounted count v → AreInside count y.scopes → standing_of w ≡ advanced y (standing_of v) x len multiple → IsCounted (count + opened_by x) w
+pub counted_behind : (y : Symbols) (v w : code.Cursor) (x : Statement) (len multiple count : ℕ) → IsCounted count v → AreInside count y.scopes → cursor_of w ≡ advanced y (cursor_of v) x len multiple → IsCounted (count + opened_by x) w
 counted_behind y v w x len multiple count counted inside e = record {
-  scope = rw (ap (λ (s : Standing). s.scope) e) (open_behind x y (standing_of v) count counted.scope counted.scopes inside);
-  scopes = rw (ap (λ (s : Standing). s.opened) e) (scopes_behind x v.opened count counted.scopes);
-  regions = rw (ap (λ (s : Standing). s.region) e) (regions_behind x v.region count counted.regions);
-  unnamed = rw (ap (λ (s : Standing). s.unnamed) e) (unnamed_behind x v.unnamed count counted.unnamed);
-  segments = rw (ap (λ (s : Standing). s.segments) e) (segments_counted x v.segments.items v.current len multiple count counted.segments);
+  scope = rw (ap (λ (s : Cursor). s.scope) e) (open_behind x y (cursor_of v) count counted.scope counted.scopes inside);
+  scopes = rw (ap (λ (s : Cursor). s.opened) e) (scopes_behind x v.opened count counted.scopes);
+  regions = rw (ap (λ (s : Cursor). s.region) e) (regions_behind x v.region count counted.regions);
+  unnamed = rw (ap (λ (s : Cursor). s.unnamed) e) (unnamed_behind x v.unnamed count counted.unnamed);
+  segments = rw (ap (λ (s : Cursor). s.segments) e) (segments_counted x v.segments.items v.current len multiple count counted.segments);
 }
 
 -- below the limit, there are numbers for one more
-pub has_numbers : (count : ℕ) (y : Symbols) (w : code.Standing) → IsCounted count w → AreInside count y.scopes → count < opening_limit → HasNumbers y w
+pub has_numbers : (count : ℕ) (y : Symbols) (w : code.Cursor) → IsCounted count w → AreInside count y.scopes → count < opening_limit → HasNumbers y w
 has_numbers count y w counted inside less = grind (arith, common_steps, enclosing_below)
 
 -- ---- What is measured.
 
-module _ (y : Symbols) (w : Standing) (x : Statement) where
+module _ (y : Symbols) (w : Cursor) (x : Statement) where
   pub without_fault : (m : Measured) → measured y w x ≡ Ok m → line_fault y w x ≡ None
   without_fault m e = (no_fault (line_fault y w x) (measure_of y w x) m e).0
 
@@ -81,5 +81,5 @@ module _ (y : Symbols) (w : Standing) (x : Statement) where
   with_fault e p = grind (arith, common_steps)
 
   -- where the next statement stands
-  pub behind_measured : (m : Measured) → measured y w x ≡ Ok m → advanced y w x m.length m.multiple ≡ standing_behind y w x
+  pub behind_measured : (m : Measured) → measured y w x ≡ Ok m → advanced y w x m.length m.multiple ≡ cursor_behind y w x
   behind_measured m e = ap (λ (k : Measured). advanced y w x k.length k.multiple) (sym (is_measured m e))

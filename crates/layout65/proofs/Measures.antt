@@ -23,7 +23,7 @@ use Rattle.language65.proofs.Lists.{drop_item}
 use Rattle.syntax65.specs.declared.lexing.tokens.AddressSize.TheVariants.{Absolute}
 use Rattle.syntax65.specs.declared.lexing.tokens.AddressSize.{AddressSize}
 use Rattle.language65.specs.declared.contents.Segment.{Segment}
-use Rattle.language65.specs.Layout.{Standing, own_size, segment_at, context_of, first_fault, defined_twice, is_open, line_fault, opened_twice, scope_name, stands_outside, trees_of, is_byte_value, is_count, is_there, multiple_fault, item_trees, lost_scopes, or_then, when, unless_fault}
+use Rattle.language65.specs.Layout.{Cursor, own_size, segment_at, context_of, first_fault, defined_twice, is_open, line_fault, opened_twice, scope_name, stands_outside, trees_of, is_byte_value, is_count, is_there, multiple_fault, item_trees, lost_scopes, or_then, when, unless_fault}
 use Rattle.layout65.specs.declared.measuring.Measured as code
 use Rattle.layout65.specs.declared.measuring.Measured.{Measured}
 use Rattle.layout65.specs.Measuring.{fitted, measure_of, measured, naming_fault, placed, placing_faults}
@@ -114,7 +114,7 @@ last_of_two x = grind (arith, common_steps)
 -- ---- Room.
 
 -- what `.res` places, by how much, and whether its other value is a byte
-abbrev pub reserved : Standing → Bool → Settled → Option ℤ → Result Measured AsmFault
+abbrev pub reserved : Cursor → Bool → Settled → Option ℤ → Result Measured AsmFault
 reserved w b st k =
     unless_fault (first_fault (
     None
@@ -124,11 +124,11 @@ reserved w b st k =
     ∷ []))
     (record { length = counted k; size = own_size w; multiple = 1; settled = st })
 
-pub reserved_as : (y : Symbols) (w : Standing) (n : Tree) (v : Option Tree) (k : Option ℤ) → constant_in y (context_of w) n ≡ k → placed y w (statement.Reserve n v) ≡ reserved w (is_byte_value (optional_value y (context_of w) v (pos 0))) (fill_settled y (context_of w) v) k
+pub reserved_as : (y : Symbols) (w : Cursor) (n : Tree) (v : Option Tree) (k : Option ℤ) → constant_in y (context_of w) n ≡ k → placed y w (statement.Reserve n v) ≡ reserved w (is_byte_value (optional_value y (context_of w) v (pos 0))) (fill_settled y (context_of w) v) k
 reserved_as y w n v k e = ap (reserved w (is_byte_value (optional_value y (context_of w) v (pos 0))) (fill_settled y (context_of w) v)) e
 
 -- a byte that is refused, where the number is one
-pub bad_fill : (w : Standing) (b : Bool) (st : Settled) (k : Option ℤ) (m : ℕ) (e : AsmFault) → unless_fault (when (not (is_count k)) BadOperand) (counted k) ≡ Ok m → Unless (is_memory e) (unless_fault {A = Unit {0}} (when (not b) BadOperand) tt ≡ Err e) → Unless (is_memory e) (reserved w b st k ≡ Err e)
+pub bad_fill : (w : Cursor) (b : Bool) (st : Settled) (k : Option ℤ) (m : ℕ) (e : AsmFault) → unless_fault (when (not (is_count k)) BadOperand) (counted k) ≡ Ok m → Unless (is_memory e) (unless_fault {A = Unit {0}} (when (not b) BadOperand) tt ≡ Err e) → Unless (is_memory e) (reserved w b st k ≡ Err e)
 bad_fill w b st x m e t h = grind (arith, common_steps)
 
 -- ---- Alignment.
@@ -137,7 +137,7 @@ pub no_fault : {A : Type 0} (f : Option AsmFault) (x y : A) → unless_fault f x
 no_fault z x y h = grind (arith, common_steps)
 
 -- what `.align` places, by the value of its multiple, and whether its other value is a byte
-abbrev pub aligned : Standing → Bool → Settled → Option ℤ → Result Measured AsmFault
+abbrev pub aligned : Cursor → Bool → Settled → Option ℤ → Result Measured AsmFault
 aligned w b st k =
     unless_fault (first_fault (
     None
@@ -148,7 +148,7 @@ aligned w b st k =
     ∷ []))
     (record { length = gap (context_of w).offset k; size = own_size w; multiple = counted k; settled = st })
 
-pub aligned_as : (y : Symbols) (w : Standing) (n : Tree) (v : Option Tree) (k : Option ℤ) → constant_in y (context_of w) n ≡ k → placed y w (statement.Align n v) ≡ aligned w (is_byte_value (optional_value y (context_of w) v (pos 0))) (fill_settled y (context_of w) v) k
+pub aligned_as : (y : Symbols) (w : Cursor) (n : Tree) (v : Option Tree) (k : Option ℤ) → constant_in y (context_of w) n ≡ k → placed y w (statement.Align n v) ≡ aligned w (is_byte_value (optional_value y (context_of w) v (pos 0))) (fill_settled y (context_of w) v) k
 aligned_as y w n v k e = ap (aligned w (is_byte_value (optional_value y (context_of w) v (pos 0))) (fill_settled y (context_of w) v)) e
 
 -- a multiple that is refused, where the values aren't
@@ -158,11 +158,11 @@ refused_third true false f r x m e t h g = absurd cc
 refused_third true true None r x m e t h g = unless_then (is_memory e) (λ p. absurd cc) g
 refused_third true true (Some d) r x m e t h g = unless_then (is_memory e) (λ p. let same : d ≡ e = cc in ap (λ k. Err k) same) g
 
-pub bad_multiple : (w : Standing) (b : Bool) (st : Settled) (k : Option ℤ) (e : AsmFault) → unless_fault {A = Unit {0}} (when (not (is_there k)) BadOperand) tt ≡ Ok tt → unless_fault {A = Unit {0}} (when (not b) BadOperand) tt ≡ Ok tt → Unless (is_memory e) (unless_fault (multiple_fault k) (counted k) ≡ Err e) → Unless (is_memory e) (aligned w b st k ≡ Err e)
+pub bad_multiple : (w : Cursor) (b : Bool) (st : Settled) (k : Option ℤ) (e : AsmFault) → unless_fault {A = Unit {0}} (when (not (is_there k)) BadOperand) tt ≡ Ok tt → unless_fault {A = Unit {0}} (when (not b) BadOperand) tt ≡ Ok tt → Unless (is_memory e) (unless_fault (multiple_fault k) (counted k) ≡ Err e) → Unless (is_memory e) (aligned w b st k ≡ Err e)
 bad_multiple w b st k e t h g = refused_third (is_there k) b (multiple_fault k) _ _ (counted k) e t h g
 
 -- a byte that is refused, where the multiple is constant
-pub bad_byte : (w : Standing) (b : Bool) (st : Settled) (k : Option ℤ) (e : AsmFault) → unless_fault {A = Unit {0}} (when (not (is_there k)) BadOperand) tt ≡ Ok tt → Unless (is_memory e) (unless_fault {A = Unit {0}} (when (not b) BadOperand) tt ≡ Err e) → Unless (is_memory e) (aligned w b st k ≡ Err e)
+pub bad_byte : (w : Cursor) (b : Bool) (st : Settled) (k : Option ℤ) (e : AsmFault) → unless_fault {A = Unit {0}} (when (not (is_there k)) BadOperand) tt ≡ Ok tt → Unless (is_memory e) (unless_fault {A = Unit {0}} (when (not b) BadOperand) tt ≡ Err e) → Unless (is_memory e) (aligned w b st k ≡ Err e)
 bad_byte w b st x e t h = grind (arith, common_steps)
 
 all_well : {A : Type 0} (f r : Option AsmFault) (x : A) → f ≡ None → r ≡ None → unless_fault (first_fault (None ∷ None ∷ f ∷ None ∷ None ∷ None ∷ None ∷ None ∷ r ∷ [])) x ≡ Ok x
@@ -171,7 +171,7 @@ all_well y z x p q = grind (arith, common_steps)
 abbrev pub as_ok : ℕ → AddressSize → ℕ → Settled → Result Measured AsmFault
 as_ok len own multiple st = Ok (record { length = len; size = own; multiple = multiple; settled = st })
 
-pub aligned_well : (w : Standing) (b : Bool) (st : Settled) (k : Option ℤ) (m g len : ℕ) → unless_fault {A = Unit {0}} (when (not b) BadOperand) tt ≡ Ok tt → unless_fault (multiple_fault k) (counted k) ≡ Ok m → g ≡ gap (context_of w).offset (Some (pos m)) → fitted w g ≡ Ok len → aligned w b st k ≡ as_ok len (own_size w) m st
+pub aligned_well : (w : Cursor) (b : Bool) (st : Settled) (k : Option ℤ) (m g len : ℕ) → unless_fault {A = Unit {0}} (when (not b) BadOperand) tt ≡ Ok tt → unless_fault (multiple_fault k) (counted k) ≡ Ok m → g ≡ gap (context_of w).offset (Some (pos m)) → fitted w g ≡ Ok len → aligned w b st k ≡ as_ok len (own_size w) m st
 aligned_well w false st k m g len h hm hg hf = absurd cc
 aligned_well w true st None m g len h hm hg hf = absurd cc
 aligned_well w true st (Some (negsuc j)) m g len h hm hg hf = absurd cc
@@ -182,7 +182,7 @@ aligned_well w true st (Some (pos j)) m g len h hm hg hf = grind (arith, common_
 four_first : (a b c d : Option AsmFault) (rest : List (Option AsmFault)) → first_fault (a ∷ b ∷ c ∷ d ∷ rest) ≡ or_then (or_then a (or_then b (or_then c d))) (first_fault rest)
 four_first x b c d rest = grind (arith, common_steps)
 
-module _ (y : Symbols) (w : Standing) (x : Statement) where
+module _ (y : Symbols) (w : Cursor) (x : Statement) where
   pub faults_are : line_fault y w x ≡ or_then (naming_fault y (context_of w) x) (first_fault (placing_faults y w x))
   faults_are = four_first (when (stands_outside x && is_open w.scope) NotUnderstood) (lost_scopes y.scopes w.scope (trees_of x)) (opened_twice y.scopes w.scope (scope_name x)) (defined_twice y (key_defined (context_of w) x)) (placing_faults y w x)
 
@@ -197,5 +197,5 @@ module _ (y : Symbols) (w : Standing) (x : Statement) where
 -- ---- Room for what is placed.
 
 -- what is placed has room
-pub room_of : (y : Symbols) (w : Standing) (x : Statement) (r : Result code.Measured AsmFault) → Gives is_memory (λ m. m) r (placed y w x) → IfOk r (λ m. (context_of w).offset + m.length ≤ section_limit)
+pub room_of : (y : Symbols) (w : Cursor) (x : Statement) (r : Result code.Measured AsmFault) → Gives is_memory (λ m. m) r (placed y w x) → IfOk r (λ m. (context_of w).offset + m.length ≤ section_limit)
 room_of y w x z h = grind (arith, common_steps)

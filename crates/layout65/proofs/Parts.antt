@@ -9,7 +9,7 @@ use Rattle.language65.specs.declared.fault.AsmFault.TheVariants.{BadOperand}
 use Rattle.language65.specs.Faults.{is_memory}
 use Rattle.language65.specs.declared.laid.Context.{Context}
 use Rattle.language65.specs.declared.language.Statement.TheVariants.{FilePart}
-use Rattle.language65.specs.Layout.{Standing, context_of, is_there, lost_scopes, operand_fault, optional_tree, when, unless_fault}
+use Rattle.language65.specs.Layout.{Cursor, context_of, is_there, lost_scopes, operand_fault, optional_tree, when, unless_fault}
 use Rattle.language65.specs.Norms.{optional_value}
 use Rattle.language65.specs.Symbols.{Symbols}
 use Rattle.layout65.specs.Measuring.{IsFound, or_default, placed, ranged, unread_fault}
@@ -19,11 +19,11 @@ use Rattle.layout65.proofs.Measures.{left_behind, unless_then}
 
 -- ---- A part.
 
-module _ (y : Symbols) (w : Standing) (start len : Option Tree) where
+module _ (y : Symbols) (w : Cursor) (start len : Option Tree) where
   abbrev there : Bool
   there = is_there (optional_value y (context_of w) start (pos 0)) && is_there (optional_value y (context_of w) len (pos 0))
 
-module _ (y : Symbols) (w : Standing) (start len : Option Tree) (s : Context) (at : s ≡ context_of w) where
+module _ (y : Symbols) (w : Cursor) (start len : Option Tree) (s : Context) (at : s ≡ context_of w) where
   found_here : (value : Option Tree) (r : Result (Option ℤ) AsmFault) → IsFound (optional_value y s value) r → IsFound (optional_value y (context_of w) value) r
   found_here value r h = subst (λ (here : Context). IsFound (optional_value y here value) r) at h
 

@@ -10,9 +10,9 @@ use Rattle.language65.specs.declared.contents.Segment.{Segment}
 use Rattle.std.specs.List.{AllByRecursion}
 use Rattle.std.specs.Str.{bytes_eq}
 use Rattle.object65.specs.Objects.{section_limit}
-use Rattle.layout65.specs.declared.standing.Standing.{Standing}
+use Rattle.layout65.specs.declared.cursor.Cursor.{Cursor}
 use Rattle.language65.specs.Layout.{grown, grown_at, place_of, segment_at}
-use Rattle.layout65.specs.Sounds.{AreWithin, IsSoundStanding}
+use Rattle.layout65.specs.Sounds.{AreWithin, IsSoundCursor}
 use Rattle.language65.proofs.Lists.{bytes_swap, position_mapped}
 use Rattle.language65.proofs.Segments.{all_more, all_same, grown_length, grown_names}
 
@@ -37,7 +37,7 @@ same_test : {A : Type 0} (p q : A → Bool) → ((x : A) → p x ≡ q x) → (x
 same_test p q h xs = ap (λ (t : _ → Bool). position t xs) (fun_ext h)
 
 -- the place of a name among those of the segments
-pub place_is : (n : List ℕ) (w : Standing) → map (λ k. k.items) w.names.keys ≡ map (λ (g : Segment). g.name) w.segments.items → position (λ k. bytes_eq n k.items) w.names.keys ≡ place_of w.segments.items n
+pub place_is : (n : List ℕ) (w : Cursor) → map (λ k. k.items) w.names.keys ≡ map (λ (g : Segment). g.name) w.segments.items → position (λ k. bytes_eq n k.items) w.names.keys ≡ place_of w.segments.items n
 place_is n w e =
     sym (position_mapped (bytes_eq n) (λ k. k.items) w.names.keys)
     ∙ ap (position (bytes_eq n)) e
@@ -62,21 +62,21 @@ all_before P (y ∷ xs) x h = let rest = all_before P xs x h.1 in ((h.0, rest.0)
 
 -- ---- What is sound.
 
-pub sound_of : (v : Standing) (gs : List Segment) (i : ℕ) → v.segments.items ≡ gs → v.current ≡ i → i < length gs → AreWithin gs → map (λ k. k.items) v.names.keys ≡ map (λ (g : Segment). g.name) gs → AllByRecursion (λ k. k < length gs) v.kept.items → IsSoundStanding v
+pub sound_of : (v : Cursor) (gs : List Segment) (i : ℕ) → v.segments.items ≡ gs → v.current ≡ i → i < length gs → AreWithin gs → map (λ k. k.items) v.names.keys ≡ map (λ (g : Segment). g.name) gs → AllByRecursion (λ k. k < length gs) v.kept.items → IsSoundCursor v
 sound_of v gs i e at lt within names kept = record { current = rw (e, at) lt; end = rw (e, at) (within_at gs i within lt); names = rw e names; kept = rw e kept }
 
-pub sound_grown : (w v : Standing) (count multiple : ℕ) → IsSoundStanding w → AreWithin w.segments.items → (segment_at w.segments.items w.current).end + count ≤ section_limit → v.segments.items ≡ grown_at w.segments.items w.current count multiple → v.current ≡ w.current → v.names ≡ w.names → v.kept ≡ w.kept → IsSoundStanding v
+pub sound_grown : (w v : Cursor) (count multiple : ℕ) → IsSoundCursor w → AreWithin w.segments.items → (segment_at w.segments.items w.current).end + count ≤ section_limit → v.segments.items ≡ grown_at w.segments.items w.current count multiple → v.current ≡ w.current → v.names ≡ w.names → v.kept ≡ w.kept → IsSoundCursor v
 sound_grown w v count multiple sound within room e at names kept =
     let gs = grown_at w.segments.items w.current count multiple in
     let long = grown_length w.segments.items w.current count multiple in
     sound_of v gs w.current e at (rw long sound.current) (grown_within w.segments.items w.current count multiple room within)
     (rw names (sound.names ∙ sym (grown_names w.segments.items w.current count multiple))) (rw (kept, long) sound.kept)
 
-pub sound_begun : (w v : Standing) (n : List ℕ) (g : Segment) → IsSoundStanding w → AreWithin w.segments.items → g.name ≡ n → g.end ≡ 0 → v.segments.items ≡ w.segments.items ++ g ∷ [] → v.current ≡ length w.segments.items → v.kept ≡ w.kept → map (λ k. k.items) v.names.keys ≡ map (λ k. k.items) w.names.keys ++ n ∷ [] → IsSoundStanding v
+pub sound_begun : (w v : Cursor) (n : List ℕ) (g : Segment) → IsSoundCursor w → AreWithin w.segments.items → g.name ≡ n → g.end ≡ 0 → v.segments.items ≡ w.segments.items ++ g ∷ [] → v.current ≡ length w.segments.items → v.kept ≡ w.kept → map (λ k. k.items) v.names.keys ≡ map (λ k. k.items) w.names.keys ++ n ∷ [] → IsSoundCursor v
 sound_begun w v n g sound within name end e at kept names = grind (arith, common_steps, length-append, sound_of, all_more, map-append, all_same)
 
 -- a name that no segment has is new among theirs
-pub new_name : (n : List ℕ) (w : Standing) → IsSoundStanding w → place_of w.segments.items n ≡ None → list_any (λ k. bytes_eq n k) (map (λ k. k.items) w.names.keys) ≡ false
+pub new_name : (n : List ℕ) (w : Cursor) → IsSoundCursor w → place_of w.segments.items n ≡ None → list_any (λ k. bytes_eq n k) (map (λ k. k.items) w.names.keys) ≡ false
 new_name n w sound none = absent (map (λ k. k.items) w.names.keys) (position_mapped (bytes_eq n) (λ k. k.items) w.names.keys ∙ place_is n w sound.names ∙ none)
   where
     go : (i : ℕ) (ns : List (List ℕ)) → position_from (bytes_eq n) i ns ≡ None → list_any (λ k. bytes_eq n k) ns ≡ false
@@ -90,5 +90,5 @@ new_name n w sound none = absent (map (λ k. k.items) w.names.keys) (position_ma
     absent : (ns : List (List ℕ)) → position (bytes_eq n) ns ≡ None → list_any (λ k. bytes_eq n k) ns ≡ false
     absent ns e = go 0 ns (sym (position_from-zero (bytes_eq n) ns) ∙ e)
 
-pub sound_back : (w v : Standing) (k : ℕ) → IsSoundStanding w → AreWithin w.segments.items → w.kept.items ≡ v.kept.items ++ k ∷ [] → v.segments ≡ w.segments → v.current ≡ k → v.names ≡ w.names → IsSoundStanding v
+pub sound_back : (w v : Cursor) (k : ℕ) → IsSoundCursor w → AreWithin w.segments.items → w.kept.items ≡ v.kept.items ++ k ∷ [] → v.segments ≡ w.segments → v.current ≡ k → v.names ≡ w.names → IsSoundCursor v
 sound_back w v k sound within kept segments at names = grind (arith, common_steps, all_before, sound_of)

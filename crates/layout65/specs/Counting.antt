@@ -4,7 +4,7 @@ use Rattle.std.specs.List.{AllByRecursion}
 use Rattle.language65.specs.declared.language.Statement.{Statement}
 use Rattle.language65.specs.declared.language.Statement.TheVariants.{Label, OpenProc, OpenScope, Segment, UnnamedLabel}
 use Rattle.language65.specs.Symbols.{enclosing, Scope, Symbols}
-use Rattle.layout65.specs.declared.standing.Standing.{Standing}
+use Rattle.layout65.specs.declared.cursor.Cursor.{Cursor}
 
 -- whether a statement opens something that is counted: a scope, a region, a segment, an unnamed label
 abbrev pub opened_by : Statement → ℕ
@@ -23,8 +23,8 @@ AreInside count scopes = AllByRecursion (λ c. c.within ≤ count) scopes
 abbrev pub opening_limit : ℕ
 opening_limit = 4294967294
 
--- the numbers in which a standing counts have room for what one more statement opens
-pub record HasNumbers (y : Symbols) (w : Standing) : Type 0 where
+-- the numbers in which a cursor counts have room for what one more statement opens
+pub record HasNumbers (y : Symbols) (w : Cursor) : Type 0 where
   pub segments : length w.segments.items < 4294967295
   pub opened : w.opened < 4294967295
   pub region : w.region < 4294967295

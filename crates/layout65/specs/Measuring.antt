@@ -2,7 +2,7 @@
 use Rattle.std.specs.Prelude.{ℕ, ◌+◌, if◌then◌else◌, ◌≡◌, ℤ, pos, negsuc, ◌&&◌, nat_le, nat_lt, not, Bool, true, false, List, [], ◌∷◌, ◌++◌, Option, Some, None, Result, Ok, Err}
 use Rattle.language65.specs.Symbols.{opens_region, is_unnamed, Symbols, Scope, key_defined, scope_from, scopes_of, shown}
 use Rattle.language65.specs.declared.language.Statement.{Statement}
-use Rattle.language65.specs.Layout.{Standing, current_behind, kept_behind, opens_scope, scope_behind, segments_behind, multiple_of, own_size, size_stated, context_of, alignment_fault, block_fault, defined_twice, file_limit, first_fault, form_fault, is_open, is_part, left_from, line_fault, lost_scopes, missing_file, opened_twice, operand_fault, optional_tree, or_then, part_fault, pop_fault, scope_name, size_fault, stands_outside, trees_of, unless_there, when, unless_fault}
+use Rattle.language65.specs.Layout.{Cursor, current_behind, kept_behind, opens_scope, scope_behind, segments_behind, multiple_of, own_size, size_stated, context_of, alignment_fault, block_fault, defined_twice, file_limit, first_fault, form_fault, is_open, is_part, left_from, line_fault, lost_scopes, missing_file, opened_twice, operand_fault, optional_tree, or_then, part_fault, pop_fault, scope_name, size_fault, stands_outside, trees_of, unless_there, when, unless_fault}
 use Rattle.base65.specs.Outcome.{Unless}
 use Rattle.syntax65.specs.Trees.{Tree}
 use Rattle.object65.specs.Objects.{section_limit}
@@ -18,7 +18,7 @@ use Rattle.layout65.specs.declared.measuring.Measured.{Measured}
 -- ---- What stands behind a statement, by what it places.
 
 -- of so many bytes, which aligns its section to a multiple
-abbrev pub advanced : Symbols → Standing → Statement → (count multiple : ℕ) → Standing
+abbrev pub advanced : Symbols → Cursor → Statement → (count multiple : ℕ) → Cursor
 advanced y w x count multiple = record {
   scope = scope_behind y w x;
   opened = if opens_scope x then w.opened + 1 else w.opened;
@@ -31,7 +31,7 @@ advanced y w x count multiple = record {
 
 -- ---- What is found of a statement at its line, in the parts in which the code finds it.
 
-abbrev pub measure_of : Symbols → Standing → Statement → Measured
+abbrev pub measure_of : Symbols → Cursor → Statement → Measured
 measure_of y w x = record {
   length = length_of y (context_of w) (own_size w) x;
   size = size_stated y (context_of w) (own_size w) x;
@@ -40,7 +40,7 @@ measure_of y w x = record {
 }
 
 -- that, or the first fault of the statement
-abbrev pub measured : Symbols → Standing → Statement → Result Measured AsmFault
+abbrev pub measured : Symbols → Cursor → Statement → Result Measured AsmFault
 measured y w x = unless_fault (line_fault y w x) (measure_of y w x)
 
 -- ---- Faults in their groups.
@@ -58,7 +58,7 @@ naming_fault y s x =
     (or_then (opened_twice y.scopes s.scope (scope_name x)) (defined_twice y (key_defined s x))))
 
 -- all faults behind them
-abbrev pub placing_faults : Symbols → Standing → Statement → List (Option AsmFault)
+abbrev pub placing_faults : Symbols → Cursor → Statement → List (Option AsmFault)
 placing_faults y w x =
     let s : Context = context_of w in
     form_fault y s (own_size w) x
@@ -73,11 +73,11 @@ placing_faults y w x =
     ∷ []
 
 -- what a statement whose names are understood comes to, or its first fault of those
-abbrev pub placed : Symbols → Standing → Statement → Result Measured AsmFault
+abbrev pub placed : Symbols → Cursor → Statement → Result Measured AsmFault
 placed y w x = unless_fault (first_fault (placing_faults y w x)) (measure_of y w x)
 
 -- so many bytes, if the section has room for them
-abbrev pub fitted : Standing → ℕ → Result ℕ AsmFault
+abbrev pub fitted : Cursor → ℕ → Result ℕ AsmFault
 fitted w count =
     unless_fault (when (nat_lt section_limit ((context_of w).offset + count)) SectionTooLarge) count
 
@@ -105,7 +105,7 @@ IsFound value (Err e) =
     Unless (is_memory e) ((e ≡ BadOperand) × ((default : ℤ) → value default ≡ None))
 
 -- what a part of a file is refused for whatever the file has
-abbrev pub unread_fault : Symbols → Standing → Option Tree → Option Tree → Option AsmFault
+abbrev pub unread_fault : Symbols → Cursor → Option Tree → Option Tree → Option AsmFault
 unread_fault y w start len =
     or_then (lost_scopes y.scopes w.scope (optional_tree start ++ optional_tree len))
     (operand_fault y (context_of w) (FilePart None start len))

@@ -16,7 +16,7 @@ ghost use Rattle.language65.specs.Layout.{own_size, context_of, unless_fault};
 ghost use Rattle.symbols65.specs.Resolving.{IsTable};
 ghost use Rattle.symbols65.specs.Views.{table_of};
 ghost use Rattle.layout65.specs.Measuring.{fitted, measured, naming_fault};
-ghost use Rattle.layout65.specs.Sounds.{IsSoundStanding, standing_of};
+ghost use Rattle.layout65.specs.Sounds.{IsSoundCursor, cursor_of};
 
 pub use self::bytes::check_unread;
 use self::bytes::instruction;
@@ -24,17 +24,17 @@ pub use self::kinds::asks_section;
 use self::kinds::place;
 use self::names::{check_defined, check_opened, check_outside};
 use self::trees::{check_operand, check_trees};
-use crate::standing::Standing;
+use crate::cursor::Cursor;
 use language65::{AsmFault, Operand, Settled, Context, Statement};
 use std::alloc::Global;
-use symbols65::{Known, Symbols};
+use symbols65::{NormCache, Symbols};
 use syntax65::{AddressSize, Mnemonic};
 
 /// What stands before a statement: the symbol table of those before it, and where it stands itself.
 #[derive(Clone, Copy)]
 pub struct Before<'a> {
     pub symbols: &'a Symbols,
-    pub standing: &'a Standing,
+    pub cursor: &'a Cursor,
 }
 
 /// What a statement places and defines.
@@ -68,11 +68,11 @@ fn check_naming(
 
 /// So many bytes, if the section has room for them.
 #[tactic(auto, using(crate::proofs::Measures::same_test))]
-fn fit(standing: &Standing, length: usize) -> Result<u32, AsmFault>
-    requires { IsSoundStanding standing.now }
-    ensures { result ≡ fitted (standing_of standing.now) length }
+fn fit(cursor: &Cursor, length: usize) -> Result<u32, AsmFault>
+    requires { IsSoundCursor cursor.now }
+    ensures { result ≡ fitted (cursor_of cursor.now) length }
 {
-    let room = standing.room();
+    let room = cursor.room();
     if length > room as usize {
         return Err(AsmFault::SectionTooLarge);
     }
@@ -80,18 +80,18 @@ fn fit(standing: &Standing, length: usize) -> Result<u32, AsmFault>
 }
 
 /// What a statement without bytes places.
-fn nothing(standing: &Standing) -> Measured
-    requires { IsSoundStanding standing.now }
+fn nothing(cursor: &Cursor) -> Measured
+    requires { IsSoundCursor cursor.now }
     ensures room { nat_lt section_limit
-        ((context_of (standing_of standing.now)).offset + 0) ≡ false }
+        ((context_of (cursor_of cursor.now)).offset + 0) ≡ false }
     ensures length { result.length ≡ 0 }
-    ensures size { result.size ≡ own_size (standing_of standing.now) }
+    ensures size { result.size ≡ own_size (cursor_of cursor.now) }
     ensures multiple { result.multiple ≡ 1 }
     ensures settled { result.settled ≡ Unsettled }
 {
     Measured {
         length: 0,
-        size: standing.segment().size,
+        size: cursor.segment().size,
         multiple: 1,
         settled: Settled::Unsettled,
     }
@@ -101,20 +101,20 @@ fn nothing(standing: &Standing) -> Measured
 pub fn measure(
     alloc: Global,
     before: Before<'_>,
-    known: &mut Known,
+    known: &mut NormCache,
     statement: &Statement,
 ) -> Result<Measured, AsmFault>
     requires table { IsTable (table_of before.symbols.now) known.old.states.items }
-    requires standing { IsSoundStanding before.standing.now }
+    requires cursor { IsSoundCursor before.cursor.now }
     ensures measured { Gives is_memory (λ m. m) result (measured
-        (table_of before.entry.symbols.now) (standing_of before.entry.standing.now)
+        (table_of before.entry.symbols.now) (cursor_of before.entry.cursor.now)
         statement.now) }
     ensures room { IfOk result (λ m.
-        (context_of (standing_of before.entry.standing.now)).offset + m.length ≤ section_limit) }
+        (context_of (cursor_of before.entry.cursor.now)).offset + m.length ≤ section_limit) }
     ensures table { OnOk result
         (IsTable (table_of before.entry.symbols.now) known.new.states.items) }
 {
-    check_naming(alloc, before.symbols, before.standing.context(), statement)?;
+    check_naming(alloc, before.symbols, before.cursor.context(), statement)?;
     place(alloc, before, known, statement)
 }
 
@@ -122,21 +122,21 @@ pub fn measure(
 pub fn measure_instruction(
     alloc: Global,
     before: Before<'_>,
-    known: &mut Known,
+    known: &mut NormCache,
     mnemonic: Mnemonic,
     operand: &Operand,
 ) -> Result<Measured, AsmFault>
     requires table { IsTable (table_of before.symbols.now) known.old.states.items }
-    requires standing { IsSoundStanding before.standing.now }
+    requires cursor { IsSoundCursor before.cursor.now }
     ensures measured { Gives is_memory (λ m. m) result (measured
-        (table_of before.entry.symbols.now) (standing_of before.entry.standing.now)
+        (table_of before.entry.symbols.now) (cursor_of before.entry.cursor.now)
         (Instruction mnemonic operand.now)) }
     ensures room { IfOk result (λ m.
-        (context_of (standing_of before.entry.standing.now)).offset + m.length ≤ section_limit) }
+        (context_of (cursor_of before.entry.cursor.now)).offset + m.length ≤ section_limit) }
     ensures table { OnOk result
         (IsTable (table_of before.entry.symbols.now) known.new.states.items) }
 {
-    let scope = before.standing.context().scope as usize;
+    let scope = before.cursor.context().scope as usize;
     check_operand(alloc, before.symbols, scope, operand)?;
     instruction(alloc, before, known, mnemonic, operand)
 }

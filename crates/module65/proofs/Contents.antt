@@ -13,7 +13,7 @@ use Rattle.syntax65.specs.declared.instructions.names.Mnemonic.{Mnemonic}
 use Rattle.object65.specs.Form.{Form}
 use Rattle.object65.specs.declared.object.Width.{Width}
 use Rattle.object65.specs.declared.object.Action.{Action}
-use Rattle.language65.specs.Contents.{Content, Part, Said, Demanded, content_of, decided, each_of, export_said, import_fault, instruction_parts, item_part, opcode_part, operand_form, operand_part, operand_parts, operand_tree, stored, telling}
+use Rattle.language65.specs.Contents.{Content, Part, Declaration, ForcedImport, content_of, decided, each_of, export_said, import_fault, instruction_parts, item_part, opcode_part, operand_form, operand_part, operand_parts, operand_tree, stored, telling}
 use Rattle.language65.specs.declared.fault.AsmFault.{AsmFault}
 use Rattle.language65.specs.declared.language.Item.{Item}
 use Rattle.language65.specs.declared.language.Operand.{Operand}
@@ -64,17 +64,17 @@ asks_made l = record { found = Ok (asked_by l.context.segment (asks_section l.st
 abbrev parts_entries : ℕ → List Part → List Entry
 parts_entries g ps = map (part g) ps
 
-abbrev said_entries : List Said → List Entry
+abbrev said_entries : List Declaration → List Entry
 said_entries ss = map tells ss
 
-abbrev with_parts : ℕ → Bool → List Part → List Said → Content
+abbrev with_parts : ℕ → Bool → List Part → List Declaration → Content
 with_parts g asks ps ss = record { segment = g; asks = asks; parts = ps; said = ss }
 
 -- a content that is parts alone, or is said alone
 only_parts : (place : Place) (g : ℕ) (asks : Bool) (r : Result (List Part) AsmFault) → told place [] entries_of (r >>= (λ ps. Ok (with_parts g asks ps []))) ≡ after (record { found = Ok (asked_by g asks); warned = [] }) (told place [] (parts_entries g) r)
 only_parts place g asks x1 = grind (arith, common_steps)
 
-only_said : (place : Place) (g : ℕ) (asks : Bool) (said : List ℕ) (r : Result (List Said) AsmFault) → told place said entries_of (r >>= (λ ss. Ok (with_parts g asks [] ss))) ≡ after (record { found = Ok (asked_by g asks); warned = [] }) (told place said said_entries r)
+only_said : (place : Place) (g : ℕ) (asks : Bool) (said : List ℕ) (r : Result (List Declaration) AsmFault) → told place said entries_of (r >>= (λ ss. Ok (with_parts g asks [] ss))) ≡ after (record { found = Ok (asked_by g asks); warned = [] }) (told place said said_entries r)
 only_said place g asks said x1 = grind (arith, common_steps)
 
 -- ---- Parts.
@@ -100,15 +100,15 @@ instruction_made y l m o x1 = grind (arith, common_steps, after, part, operands_
 
 -- ---- What is said.
 
-said_made : (place : Place) (r : Result (List Said) AsmFault) → placed place (λ m. entries_of m.content) (r >>= as_said) ≡ told place [] said_entries r
+said_made : (place : Place) (r : Result (List Declaration) AsmFault) → placed place (λ m. entries_of m.content) (r >>= as_said) ≡ told place [] said_entries r
 said_made place x1 = grind (arith, common_steps)
 
 -- each name says something
-names_made : (y : Symbols) (place : Place) (s : Context) (make : List ℕ → Piece) (says : List ℕ → Result (List Said) AsmFault) → ((n : List ℕ) → made_of y place s (make n) ≡ (says n >>= as_said)) → (names : List (List ℕ)) → pieces_made y place s (map make names) ≡ told place [] said_entries (each_of says names)
+names_made : (y : Symbols) (place : Place) (s : Context) (make : List ℕ → Piece) (says : List ℕ → Result (List Declaration) AsmFault) → ((n : List ℕ) → made_of y place s (make n) ≡ (says n >>= as_said)) → (names : List (List ℕ)) → pieces_made y place s (map make names) ≡ told place [] said_entries (each_of says names)
 names_made y place s make says is [] = refl
 names_made y place s make says is (n ∷ names) = grind (arith, common_steps, (names_made y place s make says is names), after, placed, entries_of, said_made, tells)
 
-demands_made : (y : Symbols) (place : Place) (s : Context) (names : List (List ℕ)) → pieces_made y place s (map demanded names) ≡ record { found = Ok (said_entries (map Demanded names)); warned = [] }
+demands_made : (y : Symbols) (place : Place) (s : Context) (names : List (List ℕ)) → pieces_made y place s (map demanded names) ≡ record { found = Ok (said_entries (map ForcedImport names)); warned = [] }
 demands_made y place s [] = refl
 demands_made y place s (n ∷ names) = ap (after (piece_made y place s (demanded n))) (demands_made y place s names)
 
@@ -123,10 +123,10 @@ imports_made : (y : Symbols) (place : Place) (s : Context) (names : List (List �
 imports_made y place s [] = refl
 imports_made y place s (n ∷ names) = grind (arith, common_steps, (imports_made y place s names), after, import_made)
 
-then_demanded : (place : Place) (names : List (List ℕ)) (r : Result (List Said) AsmFault) → after (told place [] silently r) (record { found = Ok (said_entries (map Demanded names)); warned = [] }) ≡ told place [] said_entries (r >>= (λ none. Ok (map Demanded names)))
+then_demanded : (place : Place) (names : List (List ℕ)) (r : Result (List Declaration) AsmFault) → after (told place [] silently r) (record { found = Ok (said_entries (map ForcedImport names)); warned = [] }) ≡ told place [] said_entries (r >>= (λ none. Ok (map ForcedImport names)))
 then_demanded place names x1 = grind (arith, common_steps)
 
-forced_made : (y : Symbols) (place : Place) (s : Context) (names : List (List ℕ)) → pieces_made y place s (map imported names ++ map demanded names) ≡ told place [] said_entries (each_of (import_fault y) names >>= (λ none. Ok (map Demanded names)))
+forced_made : (y : Symbols) (place : Place) (s : Context) (names : List (List ℕ)) → pieces_made y place s (map imported names ++ map demanded names) ≡ told place [] said_entries (each_of (import_fault y) names >>= (λ none. Ok (map ForcedImport names)))
 forced_made y place s names = grind (arith, common_steps, pieces_append, after, demands_made, imports_made, then_demanded)
 
 equated_made : (place : Place) (r : Result Form AsmFault) → placed place (λ m. entries_of m.content) (r >>= (λ f. as_said [])) ≡ told place [] said_entries (r >>= (λ f. Ok []))
@@ -147,7 +147,7 @@ IsMadeOfPieces y l = content_made y l ≡ after (asks_made l) (pieces_made y l.p
 by_parts : (y : Symbols) (l : Laid) (g : ℕ) (asks : Bool) (r : Result (List Part) AsmFault) (pieces : Finished Entry) → pieces ≡ told l.place [] (parts_entries g) r → told l.place [] entries_of (r >>= (λ ps. Ok (with_parts g asks ps []))) ≡ after (record { found = Ok (asked_by g asks); warned = [] }) pieces
 by_parts y l g asks r pieces h = only_parts l.place g asks r ∙ ap (after (record { found = Ok (asked_by g asks); warned = [] })) (sym h)
 
-by_said : (place : Place) (g : ℕ) (asks : Bool) (said : List ℕ) (r : Result (List Said) AsmFault) (pieces : Finished Entry) → pieces ≡ told place said said_entries r → told place said entries_of (r >>= (λ ss. Ok (with_parts g asks [] ss))) ≡ after (record { found = Ok (asked_by g asks); warned = [] }) pieces
+by_said : (place : Place) (g : ℕ) (asks : Bool) (said : List ℕ) (r : Result (List Declaration) AsmFault) (pieces : Finished Entry) → pieces ≡ told place said said_entries r → told place said entries_of (r >>= (λ ss. Ok (with_parts g asks [] ss))) ≡ after (record { found = Ok (asked_by g asks); warned = [] }) pieces
 by_said place g asks said r pieces h = only_said place g asks said r ∙ ap (after (record { found = Ok (asked_by g asks); warned = [] })) (sym h)
 
 made_with : (y : Symbols) (x : Statement) (place : Place) (s : Context) (len : ℕ) (own : AddressSize) (settled : Settled) → IsMadeOfPieces y (laid_with x place s len own settled)
@@ -161,10 +161,10 @@ made_with y (Constant n e) place s len own settled = grind (arith, common_steps,
 made_with y (Import size names) place s len own settled =
     by_said place s.segment false [] (each_of (import_fault y) names) (pieces_made y place s (map imported names)) (names_made y place s imported (import_fault y) (λ n. refl) names)
 made_with y (Export names) place s len own settled =
-    let says : List ℕ → Result (List Said) AsmFault = λ n. export_said y place n (absent_of true n) (defined y (named 0 n)) in
+    let says : List ℕ → Result (List Declaration) AsmFault = λ n. export_said y place n (absent_of true n) (defined y (named 0 n)) in
     by_said place s.segment false [] (each_of says names) (pieces_made y place s (map (exported true) names)) (names_made y place s (exported true) says (λ n. refl) names)
 made_with y (Global size names) place s len own settled =
-    let says : List ℕ → Result (List Said) AsmFault = λ n. export_said y place n (absent_of false n) (defined y (named 0 n)) in
+    let says : List ℕ → Result (List Declaration) AsmFault = λ n. export_said y place n (absent_of false n) (defined y (named 0 n)) in
     by_said place s.segment false [] (each_of says names) (pieces_made y place s (map (exported false) names)) (names_made y place s (exported false) says (λ n. refl) names)
 made_with y (ForceImport names) place s len own settled = grind (arith, common_steps, by_said, forced_made)
 made_with y (Assert e act words) place s len own settled = grind (arith, common_steps, by_said, one_piece, asserted_made)

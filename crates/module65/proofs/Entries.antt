@@ -10,7 +10,7 @@ use Rattle.std.proofs.lemmas.List.Elements.{filter-append}
 use Rattle.object65.specs.declared.object.Object.{Object}
 use Rattle.object65.specs.declared.object.Origin.{Origin}
 use Rattle.source65.specs.declared.place.Place.{Place}
-use Rattle.language65.specs.Contents.{Content, Part, Said, asking, put, telling}
+use Rattle.language65.specs.Contents.{Content, Part, Declaration, asking, put, telling}
 use Rattle.language65.specs.declared.contents.Segment.{Segment}
 use Rattle.language65.specs.Numbering.{all_joined, all_said, assert_files, assert_of, content_imports, export_files, exports_among, fragments_of, in_files, name_of, names_once, object_with, once, part_files, part_imports, parts_in, said_imports, segment_name, segment_power, segments_asked}
 use Rattle.module65.specs.Laws.{AreAlike}
@@ -18,7 +18,7 @@ use Rattle.base65.specs.Outcome.{◌>>=◌}
 use Rattle.language65.specs.declared.fault.AsmFault.{AsmFault}
 use Rattle.language65.specs.Symbols.{Symbols}
 use Rattle.module65.specs.Reading.{PlacedFault}
-use Rattle.module65.specs.Machine.{Finished, Slot, Waiting, awaited, before_it, filled, holds, resolved, awaited_in}
+use Rattle.module65.specs.Machine.{Finished, Slot, Fixup, awaited, before_it, filled, holds, resolved, awaited_in}
 use Rattle.module65.specs.Module.{Made, made_of}
 
 -- ---- Contents by their entries: what decides their object.
@@ -27,7 +27,7 @@ use Rattle.module65.specs.Module.{Made, made_of}
 pub data Entry : Type 0 where
   asks : (segment : ℕ) → Entry
   part : (segment : ℕ) → Part → Entry
-  tells : Said → Entry
+  tells : Declaration → Entry
 
 abbrev pub asked_by : ℕ → Bool → List Entry
 asked_by segment true = asks segment ∷ []
@@ -71,7 +71,7 @@ asked_parts : (g : ℕ) (ps : List Part) → segments_asked (split (map (part g)
 asked_parts g [] = refl
 asked_parts g (p ∷ ps) = asked_parts g ps
 
-asked_said : (ss : List Said) → segments_asked (split (map tells ss)) ≡ []
+asked_said : (ss : List Declaration) → segments_asked (split (map tells ss)) ≡ []
 asked_said [] = refl
 asked_said (s ∷ ss) = asked_said ss
 
@@ -107,7 +107,7 @@ imports_parts : (names : List (List ℕ)) (g : ℕ) (ps : List Part) → all_imp
 imports_parts names g [] = refl
 imports_parts names g (p ∷ ps) = ap (λ ks. ks ++ all_imports names (split (map (part g) ps))) (append-nil (part_imports p ++ []) ∙ append-nil (part_imports p)) ∙ ap (λ ks. part_imports p ++ ks) (imports_parts names g ps)
 
-imports_said : (names : List (List ℕ)) (ss : List Said) → all_imports names (split (map tells ss)) ≡ flat_map (said_imports names) ss
+imports_said : (names : List (List ℕ)) (ss : List Declaration) → all_imports names (split (map tells ss)) ≡ flat_map (said_imports names) ss
 imports_said names [] = refl
 imports_said names (s ∷ ss) = ap (λ ks. ks ++ all_imports names (split (map tells ss))) (append-nil (said_imports names s)) ∙ ap (λ ks. said_imports names s ++ ks) (imports_said names ss)
 
@@ -139,7 +139,7 @@ parts_parts g h false e (p ∷ ps) =
     ap (λ b. flat_map (λ (c : Content). c.parts) (cond b (entry_content (part g p) ∷ filter (λ (c : Content). nat_eq c.segment h) (split (map (part g) ps))) (filter (λ (c : Content). nat_eq c.segment h) (split (map (part g) ps))))) e
     ∙ parts_parts g h false e ps
 
-parts_said : (h : ℕ) (ss : List Said) → parts_in (split (map tells ss)) h ≡ []
+parts_said : (h : ℕ) (ss : List Declaration) → parts_in (split (map tells ss)) h ≡ []
 parts_said h [] = refl
 parts_said h (s ∷ ss) = grind (arith, common_steps, (parts_said h ss))
 
@@ -175,7 +175,7 @@ said_parts : (g : ℕ) (ps : List Part) → all_said (split (map (part g) ps)) �
 said_parts g [] = refl
 said_parts g (p ∷ ps) = said_parts g ps
 
-said_said : (ss : List Said) → all_said (split (map tells ss)) ≡ ss
+said_said : (ss : List Declaration) → all_said (split (map tells ss)) ≡ ss
 said_said [] = refl
 said_said (s ∷ ss) = ap (λ ts. s ∷ ts) (said_said ss)
 
@@ -196,7 +196,7 @@ said_gathers = record { none = refl; append = append; one = one }
 -- ---- The object.
 
 -- the object of what contents ask for, bring, put and say
-abbrev gathered_object : List Segment → List (List ℕ) → (asked imports : List ℕ) → (parts : ℕ → List Part) → List Said → Object
+abbrev gathered_object : List Segment → List (List ℕ) → (asked imports : List ℕ) → (parts : ℕ → List Part) → List Declaration → Object
 gathered_object segments names asked imports parts said =
     let sections : List ℕ = once [] asked in
     let keys : List ℕ = once [] imports in
@@ -214,7 +214,7 @@ gathered_object segments names asked imports parts said =
 -- alike contents have the same object
 pub object_alike : (segments : List Segment) (names : List (List ℕ)) (cs ds : List Content) → AreAlike cs ds → object_with segments names cs ≡ object_with segments names ds
 object_alike segments names cs ds a =
-    let object : List ℕ → List ℕ → (ℕ → List Part) → List Said → Object = gathered_object segments names in
+    let object : List ℕ → List ℕ → (ℕ → List Part) → List Declaration → Object = gathered_object segments names in
     ap (λ asked. object asked (all_imports names cs) (parts_in cs) (all_said cs)) a.asked
     ∙ ap (λ ks. object (segments_asked ds) ks (parts_in cs) (all_said cs)) (a.imports names)
     ∙ ap (λ ps. object (segments_asked ds) (all_imports names ds) ps (all_said cs)) (fun_ext a.parts)
@@ -267,11 +267,11 @@ placed place f (Err e) = record { found = Err (record { place = place; fault = e
 before_after : (place : Place) (r : Result Made AsmFault) (b : Finished Content) → before_it place r b ≡ after (placed place (λ m. m.content ∷ []) r) b
 before_after place x1 b = grind (arith, common_steps)
 
-pub resolved_append : (y : Symbols) (ws vs : List Waiting) → resolved y (ws ++ vs) ≡ after (resolved y ws) (resolved y vs)
+pub resolved_append : (y : Symbols) (ws vs : List Fixup) → resolved y (ws ++ vs) ≡ after (resolved y ws) (resolved y vs)
 resolved_append y [] vs = sym (nothing_after (resolved y vs))
 resolved_append y (w ∷ ws) vs = grind (arith, common_steps, (resolved_append y ws vs), before_after, after_after)
 
-resolved_length : (y : Symbols) (ws : List Waiting) (cs : List Content) → (resolved y ws).found ≡ Ok cs → length cs ≡ length ws
+resolved_length : (y : Symbols) (ws : List Fixup) (cs : List Content) → (resolved y ws).found ≡ Ok cs → length cs ≡ length ws
 resolved_length y [] cs h = (let same : [] ≡ cs = cc in ap length (sym same))
 resolved_length y (w ∷ ws) cs h = grind (arith, common_steps, (resolved_length y ws))
 
@@ -295,8 +295,8 @@ as_entries r = record { found = r.found >>= (λ cs. Ok (all_entries cs)); warned
 abbrev pub slots_filled : List Slot → Finished Content → Finished Content
 slots_filled slots r = record { found = r.found >>= (λ cs. Ok (filled slots cs)); warned = r.warned }
 
-abbrev pub come : Symbols → List Slot → List Waiting → Finished Entry
+abbrev pub come : Symbols → List Slot → List Fixup → Finished Entry
 come y slots ws = as_entries (slots_filled slots (resolved y ws))
 
-pub come_append : (y : Symbols) (olds news : List Slot) (ws vs : List Waiting) → awaited_in olds ≡ length ws → come y (olds ++ news) (ws ++ vs) ≡ after (come y olds ws) (come y news vs)
+pub come_append : (y : Symbols) (olds news : List Slot) (ws vs : List Fixup) → awaited_in olds ≡ length ws → come y (olds ++ news) (ws ++ vs) ≡ after (come y olds ws) (come y news vs)
 come_append y olds news ws vs count = grind (arith, common_steps, resolved_append, resolved_length, entries_filled)

@@ -8,9 +8,9 @@ use Rattle.std.proofs.lemmas.Grind.{common_steps, flat_map-append}
 use Rattle.std.proofs.lemmas.List.{append-nil}
 use Rattle.language65.specs.Symbols.{Laid, Symbols, Definition, Scope, definitions_of, imports_of, scope_opened, symbols_of, with_new, zero_page_names, defined, named}
 use Rattle.language65.specs.Norms.{Extends, norm_of}
-use Rattle.module65.specs.Machine.{symbols_behind, IsSettled, Finished, Slot, Waiting, awaited, before_it, filled, holds, resolved, awaited_in}
+use Rattle.module65.specs.Machine.{symbols_behind, IsSettled, Finished, Slot, Fixup, awaited, before_it, filled, holds, resolved, awaited_in}
 use Rattle.base65.specs.Outcome.{◌>>=◌}
-use Rattle.language65.specs.Contents.{Part, Content, Said, put, telling, decided, export_said, import_fault, operand_form, stored}
+use Rattle.language65.specs.Contents.{Part, Content, Declaration, put, telling, decided, export_said, import_fault, operand_form, stored}
 use Rattle.source65.specs.declared.place.Place.{Place}
 use Rattle.language65.specs.declared.laid.Context.{Context}
 use Rattle.module65.specs.Laws.{FinalSettles}
@@ -71,11 +71,11 @@ awaited_append (awaited ∷ olds) news = let more = awaited_append olds news in 
 -- ---- What waits.
 
 -- one more that is resolved
-pub resolved_more : (y : Symbols) (done : List Waiting) (w : Waiting) (cs : List Content) (said : List ℕ) (m : Made) → resolved y done ≡ record { found = Ok cs; warned = said } → made_of y w.place w.context w.piece ≡ Ok m → resolved y (done ++ w ∷ []) ≡ record { found = Ok (cs ++ m.content ∷ []); warned = said ++ m.warning }
+pub resolved_more : (y : Symbols) (done : List Fixup) (w : Fixup) (cs : List Content) (said : List ℕ) (m : Made) → resolved y done ≡ record { found = Ok cs; warned = said } → made_of y w.place w.context w.piece ≡ Ok m → resolved y (done ++ w ∷ []) ≡ record { found = Ok (cs ++ m.content ∷ []); warned = said ++ m.warning }
 resolved_more y done w cs said m before made = grind (arith, common_steps, resolved_append, after, append-nil)
 
 -- the first that has a fault ends it
-pub resolved_stops : (y : Symbols) (done rest : List Waiting) (w : Waiting) (cs : List Content) (said : List ℕ) (e : AsmFault) → resolved y done ≡ record { found = Ok cs; warned = said } → made_of y w.place w.context w.piece ≡ Err e → resolved y (done ++ w ∷ rest) ≡ record { found = Err (record { place = w.place; fault = e }); warned = said }
+pub resolved_stops : (y : Symbols) (done rest : List Fixup) (w : Fixup) (cs : List Content) (said : List ℕ) (e : AsmFault) → resolved y done ≡ record { found = Ok cs; warned = said } → made_of y w.place w.context w.piece ≡ Err e → resolved y (done ++ w ∷ rest) ≡ record { found = Err (record { place = w.place; fault = e }); warned = said }
 resolved_stops y done rest w cs said e before made = grind (arith, common_steps, resolved_append, after, append-nil)
 
 -- ---- A piece asks for no section.

@@ -19,7 +19,7 @@ use Rattle.language65.specs.Symbols.{Laid, Symbols, key_defined, symbols_of}
 use Rattle.language65.specs.declared.laid.Context.{Context}
 use Rattle.language65.specs.declared.language.Statement.{Statement}
 use Rattle.language65.specs.declared.language.Statement.TheVariants as statement
-use Rattle.language65.specs.Layout.{Layout, Standing, current_behind, first_size, grown_at, kept_behind, laid, last_kept, layout_behind, multiple_of, named_segments, new_segment, nothing_laid, or_last, own_size, place_of, rest_kept, segment_at, segments_behind, size_stated, context_of, alignment_fault, block_fault, defined_twice, first_fault, form_fault, is_open, line_fault, lost_scopes, missing_file, opened_twice, operand_fault, part_fault, pop_fault, scope_name, size_fault, stands_outside, trees_of, when, unless_fault}
+use Rattle.language65.specs.Layout.{Layout, Cursor, current_behind, first_size, grown_at, kept_behind, laid, last_kept, layout_behind, multiple_of, named_segments, new_segment, nothing_laid, or_last, own_size, place_of, rest_kept, segment_at, segments_behind, size_stated, context_of, alignment_fault, block_fault, defined_twice, first_fault, form_fault, is_open, line_fault, lost_scopes, missing_file, opened_twice, operand_fault, part_fault, pop_fault, scope_name, size_fault, stands_outside, trees_of, when, unless_fault}
 use Rattle.module65.specs.Reading.{IsLaid}
 use Rattle.language65.specs.Norms.{length_of, settled_of}
 use Rattle.language65.specs.Numbering.{IsMeasured, IsSound, IsSoundLayout, statements_in}
@@ -27,7 +27,7 @@ use Rattle.language65.proofs.Segments.{Grows, all_more, all_same, end_behind, gr
 
 -- ---- Faults that there aren't.
 
-has_room : (y : Symbols) (w : Standing) (x : Statement) → line_fault y w x ≡ None → (segment_at w.segments w.current).end + length_of y (context_of w) (own_size w) x ≤ section_limit
+has_room : (y : Symbols) (w : Cursor) (x : Statement) → line_fault y w x ≡ None → (segment_at w.segments w.current).end + length_of y (context_of w) (own_size w) x ≤ section_limit
 has_room y w x h = grind (arith, common_steps)
 
 -- ---- Lengths.
@@ -61,7 +61,7 @@ EachBehind M ls = (i : ℕ) (l : Laid) → slice_get ls i ≡ Some l → M (take
 pub record Good (ls : List Laid) (gs : List Segment) (current : ℕ) (kept : List ℕ) : Type 0 where
   named : are_names (map (λ (g : Segment). g.name) gs) ≡ true
   sound : AllByRecursion (λ (l : Laid). IsSound l.stated) ls
-  standing : AllByRecursion (stands_in (length gs)) ls
+  cursor : AllByRecursion (stands_in (length gs)) ls
   measured : EachBehind (λ before l. IsMeasured (symbols_of before) l) ls
   here : current < length gs
   keeps : are_below (length gs) kept
@@ -73,7 +73,7 @@ abbrev MeasuredBehind : List Laid → Laid → Type 0
 MeasuredBehind before l = IsMeasured (symbols_of before) l
 
 abbrev pub IsGood : Layout → Type 0
-IsGood y = Good y.laid y.standing.segments y.standing.current y.standing.kept
+IsGood y = Good y.laid y.cursor.segments y.cursor.current y.cursor.kept
 
 behind_push : (M : List Laid → Laid → Type 0) (ls : List Laid) (l : Laid) → EachBehind M ls → M ls l → EachBehind M (ls ++ l ∷ [])
 behind_push M [] l h m zero x e = let same : l ≡ x = cc in subst (M []) same m
@@ -89,7 +89,7 @@ good_push : (ls : List Laid) (gs hs : List Segment) (current : ℕ) (kept : List
 good_push ls gs hs current kept l good more at sound measured room = record {
   named = ap are_names more.names ∙ good.named;
   sound = all_more (λ (m : Laid). IsSound m.stated) ls l good.sound sound;
-  standing = subst (λ n. AllByRecursion (stands_in n) (ls ++ l ∷ [])) (sym more.size) (all_more (stands_in (length gs)) ls l good.standing (subst (λ n. n < length gs) (sym at) good.here));
+  cursor = subst (λ n. AllByRecursion (stands_in n) (ls ++ l ∷ [])) (sym more.size) (all_more (stands_in (length gs)) ls l good.cursor (subst (λ n. n < length gs) (sym at) good.here));
   measured = behind_push MeasuredBehind ls l good.measured measured;
   here = subst (λ n. current < n) (sym more.size) good.here;
   keeps = subst (λ n. are_below n kept) (sym more.size) good.keeps;
@@ -119,10 +119,10 @@ good_named ls gs current kept n own x1 good fine e = grind (arith, common_steps,
 
 -- ---- One statement.
 
-good_current : (ls : List Laid) (w : Standing) (count multiple : ℕ) (x : Statement) → Good ls (segments_behind w.segments w.current count multiple x) w.current w.kept → Good ls (segments_behind w.segments w.current count multiple x) (current_behind w x) (kept_behind w x)
+good_current : (ls : List Laid) (w : Cursor) (count multiple : ℕ) (x : Statement) → Good ls (segments_behind w.segments w.current count multiple x) w.current w.kept → Good ls (segments_behind w.segments w.current count multiple x) (current_behind w x) (kept_behind w x)
 good_current ls w count multiple x1 good = grind (arith, common_steps)
 
-good_laying : (ls : List Laid) (w : Standing) (count multiple : ℕ) (x : Statement) → Good ls w.segments w.current w.kept → IsSound x → (more : List Laid) → ((hs : List Segment) → Grows w.segments hs w.current count → Good more hs w.current w.kept) → (is_segment x ≡ true → count ≡ 0) → Good more (segments_behind w.segments w.current count multiple x) w.current w.kept
+good_laying : (ls : List Laid) (w : Cursor) (count multiple : ℕ) (x : Statement) → Good ls w.segments w.current w.kept → IsSound x → (more : List Laid) → ((hs : List Segment) → Grows w.segments hs w.current count → Good more hs w.current w.kept) → (is_segment x ≡ true → count ≡ 0) → Good more (segments_behind w.segments w.current count multiple x) w.current w.kept
 good_laying ls w count multiple (statement.Segment n own) good sound more next none =
     good_named more w.segments w.current w.kept n own (place_of w.segments n) (next w.segments (subst (Grows w.segments w.segments w.current) (sym (none refl)) (grows_none w.segments w.current))) sound refl
 good_laying ls w count multiple x good sound more next none = next (grown_at w.segments w.current count multiple) (grows w.segments w.current count multiple good.here)
@@ -130,9 +130,9 @@ good_laying ls w count multiple x good sound more next none = next (grown_at w.s
 segment_empty : (before : Symbols) (s : Context) (own : AddressSize) (x : Statement) → is_segment x ≡ true → length_of before s own x ≡ 0
 segment_empty before s own x1 h = grind (arith, common_steps)
 
-good_step : (y : Layout) (place : Place) (x : Statement) → IsGood y → IsSound x → line_fault (symbols_of y.laid) y.standing x ≡ None → IsGood (layout_behind y place x)
+good_step : (y : Layout) (place : Place) (x : Statement) → IsGood y → IsSound x → line_fault (symbols_of y.laid) y.cursor x ≡ None → IsGood (layout_behind y place x)
 good_step y place x good sound none =
-    let w : Standing = y.standing in
+    let w : Cursor = y.cursor in
     let z : Symbols = symbols_of y.laid in
     let l : Laid = laid z w place x in
     let room = has_room z w x none in
@@ -141,9 +141,9 @@ good_step y place x good sound none =
     (good_laying y.laid w l.length (multiple_of z (context_of w) x) x good sound (y.laid ++ l ∷ []) (λ hs more. good_push y.laid w.segments hs w.current w.kept l good more refl sound measured room) (segment_empty z (context_of w) (own_size w) x))
 
 pub good_statement : (y z : Layout) (place : Place) (x : Statement) → IsGood y → IsSound x → IsLaid y place x (Ok z) → IsGood z
-good_statement y z place x good sound h = by (line_fault (symbols_of y.laid) y.standing x) refl h
+good_statement y z place x good sound h = by (line_fault (symbols_of y.laid) y.cursor x) refl h
   where
-    by : (o : Option AsmFault) → line_fault (symbols_of y.laid) y.standing x ≡ o → Ok z ≡ unless_fault o (layout_behind y place x) → IsGood z
+    by : (o : Option AsmFault) → line_fault (symbols_of y.laid) y.cursor x ≡ o → Ok z ≡ unless_fault o (layout_behind y place x) → IsGood z
     by (Some e) is h = absurd cc
     by None is h =
         let same : layout_behind y place x ≡ z = cc in

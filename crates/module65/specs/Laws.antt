@@ -39,7 +39,7 @@ abbrev pub SoundContents : Type 0
 SoundContents =
     (y : Layout) (cs : List Content) →
     IsSoundLayout y → contents_from (symbols_of y.laid) y.laid ≡ Ok cs →
-    AreSound y.standing.segments (symbols_of y.laid).imports cs
+    AreSound y.cursor.segments (symbols_of y.laid).imports cs
 
 -- ---- The machine of one pass.
 
@@ -63,7 +63,7 @@ AreFoundAlike (Err e) b = b ≡ Err e
 -- they print; and what waits comes to contents like theirs and to the warnings of their assertions.
 pub record StandsFor (y : Layout) (t : State) : Type 0 where
   pub symbols : t.symbols ≡ symbols_of y.laid
-  pub standing : t.standing ≡ y.standing
+  pub cursor : t.cursor ≡ y.cursor
   pub out : t.out ≡ printed y.laid
   pub err : t.err ≡ warned y.laid
   pub found : AreFoundAlike (finished t).found (contents_from t.symbols y.laid)

@@ -9,7 +9,7 @@ use Rattle.language65.specs.declared.language.Statement.{Statement}
 use Rattle.source65.specs.declared.place.Place.{Place}
 use Rattle.language65.specs.Symbols.{Laid, asks_section, Symbols, definitions_of, imports_of, scope_opened, symbols_of, with_new, zero_page_names}
 use Rattle.language65.specs.declared.laid.Context.{Context}
-use Rattle.language65.specs.Layout.{Standing, laid, standing_behind, start, line_fault}
+use Rattle.language65.specs.Layout.{Cursor, laid, cursor_behind, start, line_fault}
 use Rattle.language65.specs.Numbering.{object_with}
 use Rattle.module65.specs.Reading.{PlacedFault, known_at, Between, IsSource, Job, Reached}
 use Rattle.module65.specs.Module.{Outcome, out_of, warning_of, Made, Piece, made_of, pieces_of, quietly}
@@ -27,7 +27,7 @@ symbols_behind y l = record {
 }
 
 -- a piece that waits, and where it stands
-pub record Waiting : Type 0 where
+pub record Fixup : Type 0 where
   pub place : Place
   pub context : Context
   pub piece : Piece
@@ -39,11 +39,11 @@ pub data Slot : Type 0 where
 
 pub record State : Type 0 where
   pub symbols : Symbols
-  pub standing : Standing
+  pub cursor : Cursor
   -- what was put into the sections and said to the linker, in the order of the source
   pub slots : List Slot
   -- for each slot that awaits its content, the piece that it comes from
-  pub waiting : List Waiting
+  pub fixups : List Fixup
   -- what was printed, and the warnings
   pub out : List ℕ
   pub err : List ℕ
@@ -57,17 +57,17 @@ awaited_in (awaited ∷ slots) = suc (awaited_in slots)
 abbrev pub begun : State
 begun = record {
   symbols = symbols_of [];
-  standing = start;
+  cursor = start;
   slots = [];
-  waiting = [];
+  fixups = [];
   out = [];
   err = [];
 }
 
 -- ---- A statement.
 
-abbrev pub awaiting : State → Waiting → State
-awaiting t w = record t { slots = t.slots ++ awaited ∷ []; waiting = t.waiting ++ w ∷ [] }
+abbrev pub awaiting : State → Fixup → State
+awaiting t w = record t { slots = t.slots ++ awaited ∷ []; fixups = t.fixups ++ w ∷ [] }
 
 abbrev pub entered : State → Content → State
 entered t c = record t { slots = t.slots ++ holds c ∷ [] }
@@ -94,7 +94,7 @@ PutsAll place s t (p ∷ ps) u = (v : State) × Puts place s t p v × PutsAll pl
 abbrev pub known : State → Laid → State
 known t l = record t {
   symbols = symbols_behind t.symbols l;
-  standing = standing_behind t.symbols t.standing l.stated;
+  cursor = cursor_behind t.symbols t.cursor l.stated;
   out = t.out ++ out_of l.stated;
   err = t.err ++ warning_of l.place l.stated;
 }
@@ -112,13 +112,13 @@ UnlessFault (Some e) Next r = r ≡ Err e
 -- a statement's first fault at its line, or what stands behind it
 abbrev pub Takes : State → Place → Statement → Result State AsmFault → Type 0
 Takes t place x r =
-    UnlessFault (line_fault t.symbols t.standing x) (Steps t (laid t.symbols t.standing place x)) r
+    UnlessFault (line_fault t.symbols t.cursor x) (Steps t (laid t.symbols t.cursor place x)) r
 
 abbrev pub running : Between State
 running = record {
   takes = Takes;
-  meaning = λ t. known_at t.symbols t.standing;
-  scope = λ t. t.standing.scope;
+  meaning = λ t. known_at t.symbols t.cursor;
+  scope = λ t. t.cursor.scope;
 }
 
 -- the statements of a source
@@ -139,7 +139,7 @@ before_it place (Err e) r =
     record { found = Err (record { place = place; fault = e }); warned = [] }
 
 -- what waits is gone through once, by the symbol table of all statements
-abbrev pub resolved : Symbols → List Waiting → Finished Content
+abbrev pub resolved : Symbols → List Fixup → Finished Content
 resolved y [] = record { found = Ok []; warned = [] }
 resolved y (w ∷ ws) = before_it w.place (made_of y w.place w.context w.piece) (resolved y ws)
 
@@ -153,13 +153,13 @@ filled (awaited ∷ slots) (c ∷ cs) = c ∷ filled slots cs
 -- what a state comes to behind the last line
 abbrev pub finished : State → Finished Content
 finished t =
-    let r : Finished Content = resolved t.symbols t.waiting in
+    let r : Finished Content = resolved t.symbols t.fixups in
     record { found = r.found >>= (λ cs. Ok (filled t.slots cs)); warned = r.warned }
 
 -- what is answered behind the last line, or at a line's fault
 abbrev pub concluded : State → Option PlacedFault → Outcome
 concluded t None =
-    let object : List Content → Object = object_with t.standing.segments t.symbols.imports in
+    let object : List Content → Object = object_with t.cursor.segments t.symbols.imports in
     record {
       result = (finished t).found >>= (λ cs. Ok (object cs));
       out = t.out;

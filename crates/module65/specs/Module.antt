@@ -7,7 +7,7 @@ use Rattle.object65.specs.Form.{Form, lit}
 use Rattle.object65.specs.declared.object.Action.{Action}
 use Rattle.object65.specs.declared.object.Action.TheVariants as action
 use Rattle.object65.specs.declared.object.Object.{Object}
-use Rattle.language65.specs.Contents.{Content, content_of, Part, Known, Said, Demanded, put, telling, decided, export_said, file_bytes, import_fault, opcode_part, operand_form, operand_tree, room_part, stored}
+use Rattle.language65.specs.Contents.{Content, content_of, Part, Known, Declaration, ForcedImport, put, telling, decided, export_said, file_bytes, import_fault, opcode_part, operand_form, operand_tree, room_part, stored}
 use Rattle.language65.specs.declared.fault.AsmFault.{AsmFault}
 use Rattle.source65.specs.declared.place.Place.{Place}
 use Rattle.language65.specs.Symbols.{Laid, Symbols, symbols_of, defined, named}
@@ -40,7 +40,7 @@ contents_from y ls = each (λ l. at_place l.place (content_of y l)) ls
 abbrev pub object_of : Layout → Result Object PlacedFault
 object_of y =
     let z : Symbols = symbols_of y.laid in
-    contents_from z y.laid >>= (λ cs. Ok (object_with y.standing.segments z.imports cs))
+    contents_from z y.laid >>= (λ cs. Ok (object_with y.cursor.segments z.imports cs))
 
 abbrev pub has_content : Result Content AsmFault → Bool
 has_content (Ok c) = true
@@ -172,11 +172,11 @@ quietly c = record { content = c; warning = [] }
 abbrev pub as_part : ℕ → Part → Result Made AsmFault
 as_part g p = Ok (quietly (put g p))
 
-abbrev pub as_said : List Said → Result Made AsmFault
+abbrev pub as_said : List Declaration → Result Made AsmFault
 as_said ss = Ok (quietly (telling ss))
 
 -- what an export says that isn't defined
-abbrev pub absent_of : (must : Bool) → List ℕ → Result (List Said) AsmFault
+abbrev pub absent_of : (must : Bool) → List ℕ → Result (List Declaration) AsmFault
 absent_of true n = Err (NotDefined n)
 absent_of false n = Ok []
 
@@ -195,6 +195,6 @@ abbrev pub made_of : Symbols → Place → Context → Piece → Result Made Asm
 made_of y place s (given p) = as_part s.segment p
 made_of y place s (valued why e) = norm_of y s e >>= used place s why
 made_of y place s (imported n) = import_fault y n >>= as_said
-made_of y place s (demanded n) = as_said (Demanded n ∷ [])
+made_of y place s (demanded n) = as_said (ForcedImport n ∷ [])
 made_of y place s (exported must n) =
     export_said y place n (absent_of must n) (defined y (named 0 n)) >>= as_said

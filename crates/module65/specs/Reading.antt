@@ -13,7 +13,7 @@ use Rattle.language65.specs.declared.fault.AsmFault.TheVariants.{BadScope, Expan
 use Rattle.language65.specs.Faults.{is_outside}
 use Rattle.language65.specs.declared.language.Statement.{Statement}
 use Rattle.language65.specs.declared.language.Statement.TheVariants.{Constant, FilePart, NamedPart}
-use Rattle.language65.specs.Layout.{is_open, Standing, context_of, Layout, layout_behind, nothing_laid, line_fault, unless_fault}
+use Rattle.language65.specs.Layout.{is_open, Cursor, context_of, Layout, layout_behind, nothing_laid, line_fault, unless_fault}
 use Rattle.statements65.specs.Parsing.{IsStatement, label_of}
 use Rattle.expand65.specs.declared.expander.Expander.{Expander}
 use Rattle.expand65.specs.Standing.{StandsFor}
@@ -190,7 +190,7 @@ is_definition (Ok (defined_at i)) = true
 is_definition _ = false
 
 -- by the statements before it
-abbrev pub known_at : Symbols → Standing → expand.Meaning
+abbrev pub known_at : Symbols → Cursor → expand.Meaning
 known_at y w = record {
   value = constant_in y (context_of w);
   defined = λ global parts. is_definition (meaning_of y (context_of w) (name global parts));
@@ -201,7 +201,7 @@ known_at y w = record {
 -- a statement behind those before it, or its first fault there
 abbrev pub with_statement : Layout → Place → Statement → Result Layout AsmFault
 with_statement y place x =
-    unless_fault (line_fault (symbols_of y.laid) y.standing x) (layout_behind y place x)
+    unless_fault (line_fault (symbols_of y.laid) y.cursor x) (layout_behind y place x)
 
 abbrev pub IsLaid : Layout → Place → Statement → Result Layout AsmFault → Type 0
 IsLaid y place x r = r ≡ with_statement y place x
@@ -209,8 +209,8 @@ IsLaid y place x r = r ≡ with_statement y place x
 abbrev pub laying : Between Layout
 laying = record {
   takes = IsLaid;
-  meaning = λ y. known_at (symbols_of y.laid) y.standing;
-  scope = λ y. y.standing.scope;
+  meaning = λ y. known_at (symbols_of y.laid) y.cursor;
+  scope = λ y. y.cursor.scope;
 }
 
 -- the statements of a source up to the first fault of a line, and that fault, if any

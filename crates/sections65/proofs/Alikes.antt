@@ -10,7 +10,7 @@ use Rattle.object65.specs.declared.object.Fragment.TheVariants.{Literal, Fill, V
 use Rattle.source65.specs.declared.place.Place.{Place}
 use Rattle.object65.specs.declared.object.Object.{Object}
 use Rattle.object65.specs.declared.object.Origin.{Origin}
-use Rattle.language65.specs.Contents.{Content, Part, Known, Filled, Said, put}
+use Rattle.language65.specs.Contents.{Content, Part, Known, Filled, Declaration, put}
 use Rattle.language65.specs.declared.contents.Segment.{Segment}
 use Rattle.language65.specs.Numbering.{all_joined, all_said, assert_files, assert_of, content_imports, export_files, exports_among, fragment_of, fragments_of, import_keys, in_files, is_empty, joined, name_of, names_once, once, part_files, part_imports, parts_in, segment_name, segment_power}
 use Rattle.sections65.specs.Fed.{AreAlike, files_by, object_over}
@@ -185,7 +185,7 @@ same_object segments names s cs ds h = λ n. made (numbers n) (files n) (λ g. f
     fragments at i g =
         ap all_joined (sym (append-nil (placed at s i cs g))) ∙ h.parts at s i g [] [] ∙ ap all_joined (append-nil (placed at s i ds g))
 
-    made : List ℕ → List (List ℕ) → (ℕ → List Fragment) → List Said → Object
+    made : List ℕ → List (List ℕ) → (ℕ → List Fragment) → List Declaration → Object
     made i files fragments ss = record {
       version = 2;
       files = files;

@@ -9,8 +9,8 @@ use Rattle.object65.specs.Form.{Form}
 use Rattle.object65.specs.declared.object.Export.{Export}
 use Rattle.object65.specs.declared.object.Origin.{Origin}
 use Rattle.source65.specs.declared.place.Place.{Place}
-use Rattle.language65.specs.Contents.{Said, Exported, Demanded, Checked}
-use Rattle.language65.specs.declared.contents.Said as told
+use Rattle.language65.specs.Contents.{Declaration, Exported, ForcedImport, Asserted}
+use Rattle.language65.specs.declared.contents.Declaration as told
 use Rattle.language65.specs.Numbering.{exports_among, numbered}
 use Rattle.language65.specs.Views.{said_at}
 use Rattle.sections65.specs.declared.entries.Entry.{Entry}
@@ -38,10 +38,10 @@ export_new at s i names found n place f named new = grind (arith, common_steps, 
 pub export_old : (at : Place → Origin) (s i : List ℕ) (names : List (Bor (List ℕ))) (found : List Export) (n : List ℕ) (place : Place) (f : Form) → map (λ k. k.now) names ≡ map (λ e. e.name) found → false ≡ not (list_any (λ k. bytes_eq n k.now) names) → found ≡ exports_among at s i found (Exported n place f ∷ [])
 export_old at s i names found n place f named old = grind (arith, common_steps, same_any, not_false)
 
-pub among_cons : (at : Place → Origin) (s i : List ℕ) (found : List Export) (x : Said) (ss : List Said) → exports_among at s i (exports_among at s i found (x ∷ [])) ss ≡ exports_among at s i found (x ∷ ss)
+pub among_cons : (at : Place → Origin) (s i : List ℕ) (found : List Export) (x : Declaration) (ss : List Declaration) → exports_among at s i (exports_among at s i found (x ∷ [])) ss ≡ exports_among at s i found (x ∷ ss)
 among_cons at s i found x ss = grind (arith, common_steps)
 
-pub among_append : (at : Place → Origin) (s i : List ℕ) (xs : List Said) (found : List Export) (ss : List Said) → exports_among at s i (exports_among at s i found xs) ss ≡ exports_among at s i found (xs ++ ss)
+pub among_append : (at : Place → Origin) (s i : List ℕ) (xs : List Declaration) (found : List Export) (ss : List Declaration) → exports_among at s i (exports_among at s i found xs) ss ≡ exports_among at s i found (xs ++ ss)
 among_append at s i [] found ss = refl
 among_append at s i (x ∷ xs) found ss =
     ap (λ es. exports_among at s i es ss) (sym (among_cons at s i found x xs))
@@ -54,5 +54,5 @@ pub from_cons : (s i : List ℕ) (found : List Export) (e : Entry) (es : List En
 from_cons s i found x es = grind (arith, common_steps)
 
 -- what was said before and the rest
-pub at_append : (s i : List ℕ) (o : Origin) (found : List Export) (x : told.Said) (ss : List told.Said) → exports_at s i o (exports_at s i o found (x ∷ [])) ss ≡ exports_at s i o found (x ∷ ss)
+pub at_append : (s i : List ℕ) (o : Origin) (found : List Export) (x : told.Declaration) (ss : List told.Declaration) → exports_at s i o (exports_at s i o found (x ∷ [])) ss ≡ exports_at s i o found (x ∷ ss)
 at_append s i o found x ss = among_cons (here o) s i found (said_at anywhere x) (map (said_at anywhere) ss)

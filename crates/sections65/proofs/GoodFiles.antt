@@ -15,9 +15,9 @@ use Rattle.object65.specs.declared.object.Fragment.TheVariants.{Literal, Fill}
 use Rattle.object65.specs.declared.object.Origin.{Origin}
 use Rattle.object65.specs.declared.object.Section.{Section}
 use Rattle.object65.specs.Objects.{are_distinct, has_file, has_file_by, has_good_origin, has_good_origins, is_file_name, is_good_origin}
-use Rattle.language65.specs.Contents.{Content, Part, Known, Filled, Waiting, Said, Exported, Demanded, Checked}
+use Rattle.language65.specs.Contents.{Content, Part, Known, Filled, Waiting, Declaration, Exported, ForcedImport, Asserted}
 use Rattle.language65.specs.declared.contents.Segment.{Segment}
-use Rattle.language65.specs.Numbering.{all_joined, all_said, assert_files, assert_of, export_files, exports_among, files_named, files_of, fragments_of, import_keys, in_files, joined, names_once, numbered, object_with, part_files, parts_in, section_keys, section_of, IsSoundContent, IsSoundPart, IsSoundSaid}
+use Rattle.language65.specs.Numbering.{all_joined, all_said, assert_files, assert_of, export_files, exports_among, files_named, files_of, fragments_of, import_keys, in_files, joined, names_once, numbered, object_with, part_files, parts_in, section_keys, section_of, IsSoundContent, IsSoundPart, IsSoundDeclaration}
 use Rattle.sections65.proofs.Exporting.{any_map}
 use Rattle.sections65.proofs.Fitting.{all_more}
 use Rattle.sections65.proofs.GoodNames.{names_push}
@@ -92,21 +92,21 @@ module _ (asked : List ℕ) (count : ℕ) where
   sections_files [] cs h = tt
   sections_files (g ∷ keys) cs h = grind (arith, common_steps, (sections_files keys cs h), all_more, parts_files, segment_files)
 
-  all_said_sound : (cs : List Content) → AllByRecursion (IsSoundContent asked count) cs → AllByRecursion (IsSoundSaid asked count) (all_said cs)
+  all_said_sound : (cs : List Content) → AllByRecursion (IsSoundContent asked count) cs → AllByRecursion (IsSoundDeclaration asked count) (all_said cs)
   all_said_sound [] h = tt
-  all_said_sound (c ∷ cs) h = all_more (IsSoundSaid asked count) c.said (all_said cs) h.0.said (all_said_sound cs h.1)
+  all_said_sound (c ∷ cs) h = all_more (IsSoundDeclaration asked count) c.said (all_said cs) h.0.said (all_said_sound cs h.1)
 
-  exports_files : (found : List (List ℕ)) (ss : List Said) → AllByRecursion (IsSoundSaid asked count) ss → AreFileNames (export_files found ss)
+  exports_files : (found : List (List ℕ)) (ss : List Declaration) → AllByRecursion (IsSoundDeclaration asked count) ss → AreFileNames (export_files found ss)
   exports_files found [] h = tt
-  exports_files found (Demanded n ∷ ss) h = exports_files found ss h.1
-  exports_files found (Checked act place words f ∷ ss) h = exports_files found ss h.1
+  exports_files found (ForcedImport n ∷ ss) h = exports_files found ss h.1
+  exports_files found (Asserted act place words f ∷ ss) h = exports_files found ss h.1
   exports_files found (Exported n place f ∷ ss) h = grind (arith, common_steps, (exports_files found ss h.1), (exports_files (found ++ n ∷ []) ss h.1))
 
-  asserts_files : (ss : List Said) → AllByRecursion (IsSoundSaid asked count) ss → AreFileNames (flat_map assert_files ss)
+  asserts_files : (ss : List Declaration) → AllByRecursion (IsSoundDeclaration asked count) ss → AreFileNames (flat_map assert_files ss)
   asserts_files [] h = tt
   asserts_files (Exported n place f ∷ ss) h = asserts_files ss h.1
-  asserts_files (Demanded n ∷ ss) h = asserts_files ss h.1
-  asserts_files (Checked act place words f ∷ ss) h = (h.0.1.file, asserts_files ss h.1)
+  asserts_files (ForcedImport n ∷ ss) h = asserts_files ss h.1
+  asserts_files (Asserted act place words f ∷ ss) h = (h.0.1.file, asserts_files ss h.1)
 
   pub files_good : (cs : List Content) → AllByRecursion (IsSoundContent asked count) cs → are_distinct is_file_name (files_of cs) ≡ true
   files_good cs h = grind (arith, common_steps, all_said_sound, once_good, all_more, sections_files, exports_files, asserts_files)
@@ -155,10 +155,10 @@ module _ (files : List (List ℕ)) (s i : List ℕ) where
   abbrev good_exports : List Export → Bool
   good_exports es = list_all (λ (e : Export). is_good e.origin) es
 
-  exports_origins : (found : List Export) (ss : List Said) → good_exports found ≡ true → AreAmong files (export_files (map (λ (e : Export). e.name) found) ss) → good_exports (exports_among at s i found ss) ≡ true
+  exports_origins : (found : List Export) (ss : List Declaration) → good_exports found ≡ true → AreAmong files (export_files (map (λ (e : Export). e.name) found) ss) → good_exports (exports_among at s i found ss) ≡ true
   exports_origins found [] h among = h
-  exports_origins found (Demanded n ∷ ss) h among = exports_origins found ss h among
-  exports_origins found (Checked act place words f ∷ ss) h among = exports_origins found ss h among
+  exports_origins found (ForcedImport n ∷ ss) h among = exports_origins found ss h among
+  exports_origins found (Asserted act place words f ∷ ss) h among = exports_origins found ss h among
   exports_origins found (Exported n place f ∷ ss) h among =
       by (list_any (λ e. bytes_eq n e.name) found) (any_map (bytes_eq n) (λ (e : Export). e.name) found)
       (λ old. exports_origins found ss h old)
@@ -182,11 +182,11 @@ module _ (files : List (List ℕ)) (s i : List ℕ) where
       by true e old new = old (subst (λ (b : Bool). AreAmong files (if b then export_files names ss else place.file ∷ export_files (names ++ n ∷ []) ss)) e among)
       by false e old new = new (subst (λ (b : Bool). AreAmong files (if b then export_files names ss else place.file ∷ export_files (names ++ n ∷ []) ss)) e among)
 
-  asserts_origins : (ss : List Said) → AreAmong files (flat_map assert_files ss) → list_all (λ (a : Assert). is_good a.origin) (filter_map (assert_of at s i) ss) ≡ true
+  asserts_origins : (ss : List Declaration) → AreAmong files (flat_map assert_files ss) → list_all (λ (a : Assert). is_good a.origin) (filter_map (assert_of at s i) ss) ≡ true
   asserts_origins [] h = refl
   asserts_origins (Exported n place f ∷ ss) h = asserts_origins ss h
-  asserts_origins (Demanded n ∷ ss) h = asserts_origins ss h
-  asserts_origins (Checked act place words f ∷ ss) h = and (is_good (at place)) (list_all (λ (a : Assert). is_good a.origin) (filter_map (assert_of at s i) ss)) (origin_good place h.0) (asserts_origins ss h.1)
+  asserts_origins (ForcedImport n ∷ ss) h = asserts_origins ss h
+  asserts_origins (Asserted act place words f ∷ ss) h = and (is_good (at place)) (list_all (λ (a : Assert). is_good a.origin) (filter_map (assert_of at s i) ss)) (origin_good place h.0) (asserts_origins ss h.1)
 
 pub origins_good : (segments : List Segment) (names : List (List ℕ)) (cs : List Content) → has_good_origins (object_with segments names cs) ≡ true
 origins_good segments names cs =

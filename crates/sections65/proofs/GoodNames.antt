@@ -12,9 +12,9 @@ use Rattle.source65.specs.declared.place.Place.{Place}
 use Rattle.object65.specs.declared.object.Origin.{Origin}
 use Rattle.object65.specs.declared.object.Export.{Export}
 use Rattle.object65.specs.Objects.{are_distinct, are_names, is_among, is_name}
-use Rattle.language65.specs.Contents.{Said, Exported, Demanded, Checked}
+use Rattle.language65.specs.Contents.{Declaration, Exported, ForcedImport, Asserted}
 use Rattle.language65.specs.declared.contents.Segment.{Segment}
-use Rattle.language65.specs.Numbering.{exports_among, name_of, numbered, segment_name, IsSoundSaid}
+use Rattle.language65.specs.Numbering.{exports_among, name_of, numbered, segment_name, IsSoundDeclaration}
 use Rattle.sections65.proofs.Renumbering.{left, right, and, turned}
 
 abbrev same_name : List ℕ → List ℕ → Bool
@@ -107,10 +107,10 @@ push_named : (es : List Export) (e : Export) → map (λ (x : Export). x.name) (
 push_named [] e = refl
 push_named (x ∷ es) e = ap (λ ns. x.name ∷ ns) (push_named es e)
 
-pub exports_named : (at : Place → Origin) (s i : List ℕ) (asked : List ℕ) (count : ℕ) (found : List Export) (ss : List Said) → are_names (map (λ (e : Export). e.name) found) ≡ true → AllByRecursion (IsSoundSaid asked count) ss → are_names (map (λ (e : Export). e.name) (exports_among at s i found ss)) ≡ true
+pub exports_named : (at : Place → Origin) (s i : List ℕ) (asked : List ℕ) (count : ℕ) (found : List Export) (ss : List Declaration) → are_names (map (λ (e : Export). e.name) found) ≡ true → AllByRecursion (IsSoundDeclaration asked count) ss → are_names (map (λ (e : Export). e.name) (exports_among at s i found ss)) ≡ true
 exports_named at s i asked count found [] h sound = h
-exports_named at s i asked count found (Demanded n ∷ ss) h sound = exports_named at s i asked count found ss h sound.1
-exports_named at s i asked count found (Checked act line words f ∷ ss) h sound = exports_named at s i asked count found ss h sound.1
+exports_named at s i asked count found (ForcedImport n ∷ ss) h sound = exports_named at s i asked count found ss h sound.1
+exports_named at s i asked count found (Asserted act line words f ∷ ss) h sound = exports_named at s i asked count found ss h sound.1
 exports_named at s i asked count found (Exported n line f ∷ ss) h sound =
     exports_named at s i asked count (if list_any (λ e. pointwise nat_eq n e.name) found then found else found ++ made ∷ []) ss (by (list_any (λ e. pointwise nat_eq n e.name) found) refl) sound.1
   where

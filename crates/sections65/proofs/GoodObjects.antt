@@ -15,9 +15,9 @@ use Rattle.object65.specs.declared.object.Section.{Section}
 use Rattle.source65.specs.declared.place.Place.{Place}
 use Rattle.object65.specs.Folding.{is_literal}
 use Rattle.object65.specs.Objects.{are_files_of, are_names, has_good_origins, has_good_parts, is_good_assert, is_good_form, is_good_object, is_good_section}
-use Rattle.language65.specs.Contents.{Content, Part, Known, Filled, Waiting, Said, Exported, Demanded, Checked}
+use Rattle.language65.specs.Contents.{Content, Part, Known, Filled, Waiting, Declaration, Exported, ForcedImport, Asserted}
 use Rattle.language65.specs.declared.contents.Segment.{Segment}
-use Rattle.language65.specs.Numbering.{all_said, assert_of, content_imports, exports_among, files_of, import_keys, in_files, imports_in, key_of, name_of, numbered, object_with, optional_key, part_imports, said_imports, section_keys, section_of, segments_asked, AreSound, IsSoundContent, IsSoundPart, IsSoundSaid}
+use Rattle.language65.specs.Numbering.{all_said, assert_of, content_imports, exports_among, files_of, import_keys, in_files, imports_in, key_of, name_of, numbered, object_with, optional_key, part_imports, said_imports, section_keys, section_of, segments_asked, AreSound, IsSoundContent, IsSoundPart, IsSoundDeclaration}
 use Rattle.sections65.proofs.GoodFiles.{files_good, origins_good}
 use Rattle.sections65.proofs.GoodNames.{exports_named, names_at, segment_named}
 use Rattle.sections65.proofs.GoodSections.{parts_in_good, section_good}
@@ -48,11 +48,11 @@ module _ (asked : List ℕ) (names : List (List ℕ)) where
   parts_below (Filled n ∷ ps) sound = parts_below ps sound.1
   parts_below (Waiting width line f ∷ ps) sound = below_both (length names) (imports_in f) (flat_map part_imports ps) sound.0.0.form.imports (parts_below ps sound.1)
 
-  said_below : (ss : List Said) → AllByRecursion (IsSoundSaid asked (length names)) ss → AllBelow (length names) (flat_map (said_imports names) ss)
+  said_below : (ss : List Declaration) → AllByRecursion (IsSoundDeclaration asked (length names)) ss → AllBelow (length names) (flat_map (said_imports names) ss)
   said_below [] sound = refl
   said_below (Exported n line f ∷ ss) sound = below_both (length names) (imports_in f) (flat_map (said_imports names) ss) sound.0.1.form.imports (said_below ss sound.1)
-  said_below (Demanded n ∷ ss) sound = below_both (length names) (optional_key (key_of names n)) (flat_map (said_imports names) ss) (place_below (position_or_len (λ m. bytes_eq m n) names) (length names)) (said_below ss sound.1)
-  said_below (Checked act line words f ∷ ss) sound = below_both (length names) (imports_in f) (flat_map (said_imports names) ss) sound.0.1.form.imports (said_below ss sound.1)
+  said_below (ForcedImport n ∷ ss) sound = below_both (length names) (optional_key (key_of names n)) (flat_map (said_imports names) ss) (place_below (position_or_len (λ m. bytes_eq m n) names) (length names)) (said_below ss sound.1)
+  said_below (Asserted act line words f ∷ ss) sound = below_both (length names) (imports_in f) (flat_map (said_imports names) ss) sound.0.1.form.imports (said_below ss sound.1)
 
   contents_below : (cs : List Content) → AllByRecursion (IsSoundContent asked (length names)) cs → AllBelow (length names) (flat_map (content_imports names) cs)
   contents_below [] sound = refl
@@ -69,14 +69,14 @@ all_both P [] ys h g = g
 all_both P (x ∷ xs) ys h g = (h.0, all_both P xs ys h.1 g)
 
 module _ (at : Place → Origin) (s i : List ℕ) (names : List (List ℕ)) where
-  said_sound : (count : ℕ) (cs : List Content) → AllByRecursion (IsSoundContent s count) cs → AllByRecursion (IsSoundSaid s count) (all_said cs)
+  said_sound : (count : ℕ) (cs : List Content) → AllByRecursion (IsSoundContent s count) cs → AllByRecursion (IsSoundDeclaration s count) (all_said cs)
   said_sound count [] sound = tt
-  said_sound count (c ∷ cs) sound = all_both (IsSoundSaid s count) c.said (all_said cs) sound.0.said (said_sound count cs sound.1)
+  said_sound count (c ∷ cs) sound = all_both (IsSoundDeclaration s count) c.said (all_said cs) sound.0.said (said_sound count cs sound.1)
 
   has_both : (a b : List ℕ) → HasAll i a → HasAll i b → HasAll i (a ++ b)
   has_both a b h g = list_all-append (has i) a b ∙ and (list_all (has i) a) (list_all (has i) b) h g
 
-  has_parts : (xs ys : List Said) → HasAll i (flat_map (said_imports names) xs) → HasAll i (flat_map (said_imports names) ys) → HasAll i (flat_map (said_imports names) (xs ++ ys))
+  has_parts : (xs ys : List Declaration) → HasAll i (flat_map (said_imports names) xs) → HasAll i (flat_map (said_imports names) ys) → HasAll i (flat_map (said_imports names) (xs ++ ys))
   has_parts xs ys h g = subst (HasAll i) (sym (flat_map-append (said_imports names) xs ys)) (has_both (flat_map (said_imports names) xs) (flat_map (said_imports names) ys) h g)
 
   said_has : (cs : List Content) → HasAll i (flat_map (content_imports names) cs) → HasAll i (flat_map (said_imports names) (all_said cs))
@@ -86,10 +86,10 @@ module _ (at : Place → Origin) (s i : List ℕ) (names : List (List ℕ)) wher
   abbrev is_good_export : Export → Bool
   is_good_export e = is_good_form (length s) (length i) e.form
 
-  exports_good : (count : ℕ) (found : List Export) (ss : List Said) → list_all is_good_export found ≡ true → AllByRecursion (IsSoundSaid s count) ss → HasAll i (flat_map (said_imports names) ss) → list_all is_good_export (exports_among at s i found ss) ≡ true
+  exports_good : (count : ℕ) (found : List Export) (ss : List Declaration) → list_all is_good_export found ≡ true → AllByRecursion (IsSoundDeclaration s count) ss → HasAll i (flat_map (said_imports names) ss) → list_all is_good_export (exports_among at s i found ss) ≡ true
   exports_good count found [] h sound g = h
-  exports_good count found (Demanded n ∷ ss) h sound g = exports_good count found ss h sound.1 (second_has i (optional_key (key_of names n)) (flat_map (said_imports names) ss) g)
-  exports_good count found (Checked act line words f ∷ ss) h sound g = exports_good count found ss h sound.1 (second_has i (imports_in f) (flat_map (said_imports names) ss) g)
+  exports_good count found (ForcedImport n ∷ ss) h sound g = exports_good count found ss h sound.1 (second_has i (optional_key (key_of names n)) (flat_map (said_imports names) ss) g)
+  exports_good count found (Asserted act line words f ∷ ss) h sound g = exports_good count found ss h sound.1 (second_has i (imports_in f) (flat_map (said_imports names) ss) g)
   exports_good count found (Exported n line f ∷ ss) h sound g =
       exports_good count (if list_any (λ e. bytes_eq n e.name) found then found else found ++ made ∷ []) ss (by (list_any (λ e. bytes_eq n e.name) found)) sound.1 (second_has i (imports_in f) (flat_map (said_imports names) ss) g)
     where
@@ -103,11 +103,11 @@ module _ (at : Place → Origin) (s i : List ℕ) (names : List (List ℕ)) wher
       by true = h
       by false = list_all-append is_good_export found (made ∷ []) ∙ and (list_all is_good_export found) (list_all is_good_export (made ∷ [])) h (and (is_good_form (length s) (length i) (numbered s i f)) true good refl)
 
-  asserts_good : (count : ℕ) (ss : List Said) → AllByRecursion (IsSoundSaid s count) ss → HasAll i (flat_map (said_imports names) ss) → list_all (is_good_assert (length s) (length i)) (filter_map (assert_of at s i) ss) ≡ true
+  asserts_good : (count : ℕ) (ss : List Declaration) → AllByRecursion (IsSoundDeclaration s count) ss → HasAll i (flat_map (said_imports names) ss) → list_all (is_good_assert (length s) (length i)) (filter_map (assert_of at s i) ss) ≡ true
   asserts_good count [] sound g = refl
   asserts_good count (Exported n line f ∷ ss) sound g = asserts_good count ss sound.1 (second_has i (imports_in f) (flat_map (said_imports names) ss) g)
-  asserts_good count (Demanded n ∷ ss) sound g = asserts_good count ss sound.1 (second_has i (optional_key (key_of names n)) (flat_map (said_imports names) ss) g)
-  asserts_good count (Checked act line words f ∷ ss) sound g =
+  asserts_good count (ForcedImport n ∷ ss) sound g = asserts_good count ss sound.1 (second_has i (optional_key (key_of names n)) (flat_map (said_imports names) ss) g)
+  asserts_good count (Asserted act line words f ∷ ss) sound g =
       and (nat_lt (length words) 256 && is_good_form (length s) (length i) (numbered s i f) && not (is_literal (numbered s i f))) (list_all (is_good_assert (length s) (length i)) (filter_map (assert_of at s i) ss))
       (and (nat_lt (length words) 256 && is_good_form (length s) (length i) (numbered s i f)) (not (is_literal (numbered s i f)))
       (and (nat_lt (length words) 256) (is_good_form (length s) (length i) (numbered s i f)) short good)

@@ -9,8 +9,8 @@ use Rattle.std.proofs.lemmas.Cmp.{nat_list_eq_equiv}
 use Rattle.indexmap.specs.IndexSet.{IndexSet}
 use Rattle.language65.proofs.Lists.{position_mapped}
 use Rattle.source65.specs.declared.place.Place.{Place}
-use Rattle.language65.specs.declared.contents.Said as said
-use Rattle.language65.specs.declared.contents.Said.TheVariants as told
+use Rattle.language65.specs.declared.contents.Declaration as said
+use Rattle.language65.specs.declared.contents.Declaration.TheVariants as told
 use Rattle.language65.specs.Numbering.{content_imports, imports_in, key_of, once, optional_key, said_imports}
 use Rattle.language65.specs.Views.{said_at}
 use Rattle.sections65.specs.declared.entries.Entry.{Entry}
@@ -41,11 +41,11 @@ key_found imports name = position_mapped (λ m. bytes_eq m name) (λ k. k.items)
 
 -- ---- Imports of what is said, wherever it stands.
 
-pub said_anywhere : (names : List (List ℕ)) (p q : Place) (ss : List said.Said) → flat_map (said_imports names) (map (said_at p) ss) ≡ flat_map (said_imports names) (map (said_at q) ss)
+pub said_anywhere : (names : List (List ℕ)) (p q : Place) (ss : List said.Declaration) → flat_map (said_imports names) (map (said_at p) ss) ≡ flat_map (said_imports names) (map (said_at q) ss)
 said_anywhere names p q [] = refl
 said_anywhere names p q (told.Exported n f ∷ ss) = ap (λ ks. imports_in f ++ ks) (said_anywhere names p q ss)
-said_anywhere names p q (told.Demanded n ∷ ss) = ap (λ ks. optional_key (key_of names n) ++ ks) (said_anywhere names p q ss)
-said_anywhere names p q (told.Checked act words f ∷ ss) = ap (λ ks. imports_in f ++ ks) (said_anywhere names p q ss)
+said_anywhere names p q (told.ForcedImport n ∷ ss) = ap (λ ks. optional_key (key_of names n) ++ ks) (said_anywhere names p q ss)
+said_anywhere names p q (told.Asserted act words f ∷ ss) = ap (λ ks. imports_in f ++ ks) (said_anywhere names p q ss)
 
 -- the imports of entries, whatever the files are
 pub imports_anyhow : (names files more : List (List ℕ)) (es : List Entry) → flat_map (content_imports names) (map (content_of files) es) ≡ flat_map (content_imports names) (map (content_of more) es)

@@ -16,9 +16,9 @@ use Rattle.object65.specs.declared.object.Fragment.TheVariants as fragment
 use Rattle.object65.specs.declared.object.Object.{Object}
 use Rattle.object65.specs.declared.object.Origin.{Origin}
 use Rattle.object65.specs.declared.object.Section.{Section}
-use Rattle.language65.specs.Contents.{put, telling, Content, Filled, Known, Part, Said, Waiting}
-use Rattle.language65.specs.declared.contents.Said as telled
-use Rattle.language65.specs.declared.contents.Said.TheVariants as told
+use Rattle.language65.specs.Contents.{put, telling, Content, Filled, Known, Part, Declaration, Waiting}
+use Rattle.language65.specs.declared.contents.Declaration as telled
+use Rattle.language65.specs.declared.contents.Declaration.TheVariants as told
 use Rattle.language65.specs.declared.contents.Segment.{Segment}
 use Rattle.language65.specs.Numbering.{all_joined, all_said, assert_of, exports_among, fragment_of, fragments_of, import_keys, in_files, is_empty, name_of, numbered, once, parts_in, section_of, segment_name, segment_power, object_with}
 use Rattle.language65.specs.Views.{said_at}
@@ -68,7 +68,7 @@ module _ (files : List (List ℕ)) (apart : IsDistinct bytes_eq files) where
   contents es = map (content_of files) es
 
   -- what is told stands in no section
-  told_parts : (ss : List Said) (cs : List Content) (g : ℕ) → parts_in (telling ss ∷ cs) g ≡ parts_in cs g
+  told_parts : (ss : List Declaration) (cs : List Content) (g : ℕ) → parts_in (telling ss ∷ cs) g ≡ parts_in cs g
   told_parts ss cs g = grind (arith, common_steps)
 
   module _ (s i : List ℕ) where
@@ -97,13 +97,13 @@ module _ (files : List (List ℕ)) (apart : IsDistinct bytes_eq files) where
 
     -- ---- What entries say.
 
-    exports_are : (o : SourcePos) (found : List Export) (ss : List telled.Said) → at (place_by files o) ≡ origin_by o → exports_at s i (origin_by o) found ss ≡ exports_among at s i found (map (said_at (place_by files o)) ss)
+    exports_are : (o : SourcePos) (found : List Export) (ss : List telled.Declaration) → at (place_by files o) ≡ origin_by o → exports_at s i (origin_by o) found ss ≡ exports_among at s i found (map (said_at (place_by files o)) ss)
     exports_are o found [] h = refl
     exports_are o found (told.Exported n f ∷ ss) h =
         exports_are o (if list_any (λ e. bytes_eq n e.name) found then found else found ++ record { name = n; origin = origin_by o; form = numbered s i f } ∷ []) ss h
         ∙ ap (λ origin. exports_among at s i (if list_any (λ e. bytes_eq n e.name) found then found else found ++ record { name = n; origin = origin; form = numbered s i f } ∷ []) (map (said_at (place_by files o)) ss)) (sym h)
-    exports_are o found (told.Demanded n ∷ ss) h = exports_are o found ss h
-    exports_are o found (told.Checked act words f ∷ ss) h = exports_are o found ss h
+    exports_are o found (told.ForcedImport n ∷ ss) h = exports_are o found ss h
+    exports_are o found (told.Asserted act words f ∷ ss) h = exports_are o found ss h
 
     exports_said : (found : List Export) (es : List Entry) → StandIn (length files) es → exports_from s i found es ≡ exports_among at s i found (all_said (contents es))
     exports_said found [] standing = refl
@@ -116,11 +116,11 @@ module _ (files : List (List ℕ)) (apart : IsDistinct bytes_eq files) where
         ∙ ap (λ found. exports_among at s i found (all_said (contents es))) (exports_are o found ss (origin_back o (first (Told o ss) es standing)))
         ∙ among_append at s i (map (said_at (place_by files o)) ss) found (all_said (contents es))
 
-    asserts_are : (o : SourcePos) (ss : List telled.Said) → at (place_by files o) ≡ origin_by o → asserts_at s i (origin_by o) ss ≡ filter_map (assert_of at s i) (map (said_at (place_by files o)) ss)
+    asserts_are : (o : SourcePos) (ss : List telled.Declaration) → at (place_by files o) ≡ origin_by o → asserts_at s i (origin_by o) ss ≡ filter_map (assert_of at s i) (map (said_at (place_by files o)) ss)
     asserts_are o [] h = refl
     asserts_are o (told.Exported n f ∷ ss) h = asserts_are o ss h
-    asserts_are o (told.Demanded n ∷ ss) h = asserts_are o ss h
-    asserts_are o (told.Checked act words f ∷ ss) h = λ n. record { action = act; origin = sym h n; text = words; form = numbered s i f } ∷ asserts_are o ss h n
+    asserts_are o (told.ForcedImport n ∷ ss) h = asserts_are o ss h
+    asserts_are o (told.Asserted act words f ∷ ss) h = λ n. record { action = act; origin = sym h n; text = words; form = numbered s i f } ∷ asserts_are o ss h n
 
     asserts_said : (es : List Entry) → StandIn (length files) es → flat_map (entry_asserts s i) es ≡ filter_map (assert_of at s i) (all_said (contents es))
     asserts_said [] standing = refl
@@ -149,11 +149,11 @@ module _ (files : List (List ℕ)) (apart : IsDistinct bytes_eq files) where
         ap (list_all (is_listed_part files apart s i)) (told_parts [] (contents es) h)
         ∙ parts_listed h es (others Open es standing)
 
-    told_listed : (o : SourcePos) (ss : List telled.Said) → is_listed files apart (place_by files o) ≡ true → list_all (is_listed_said files apart s i) (map (said_at (place_by files o)) ss) ≡ true
+    told_listed : (o : SourcePos) (ss : List telled.Declaration) → is_listed files apart (place_by files o) ≡ true → list_all (is_listed_said files apart s i) (map (said_at (place_by files o)) ss) ≡ true
     told_listed o [] h = refl
     told_listed o (told.Exported n f ∷ ss) h = and (is_listed files apart (place_by files o)) (list_all (is_listed_said files apart s i) (map (said_at (place_by files o)) ss)) h (told_listed o ss h)
-    told_listed o (told.Demanded n ∷ ss) h = told_listed o ss h
-    told_listed o (told.Checked act words f ∷ ss) h = and (is_listed files apart (place_by files o)) (list_all (is_listed_said files apart s i) (map (said_at (place_by files o)) ss)) h (told_listed o ss h)
+    told_listed o (told.ForcedImport n ∷ ss) h = told_listed o ss h
+    told_listed o (told.Asserted act words f ∷ ss) h = and (is_listed files apart (place_by files o)) (list_all (is_listed_said files apart s i) (map (said_at (place_by files o)) ss)) h (told_listed o ss h)
 
     said_listed : (es : List Entry) → StandIn (length files) es → list_all (is_listed_said files apart s i) (all_said (contents es)) ≡ true
     said_listed [] standing = refl

@@ -3,7 +3,7 @@ use Rattle.std.proofs.Common.{arith, ◌≡◌, ◌∙◌, ℕ, Bool, true, fals
 use Rattle.std.specs.Prelude.{if◌then◌else◌}
 use Rattle.std.specs.List.{flat_map}
 use Rattle.std.proofs.lemmas.Grind.{common_steps, flat_map-append}
-use Rattle.language65.specs.Contents.{Content, Part, Said, Known, asking, put, telling}
+use Rattle.language65.specs.Contents.{Content, Part, Declaration, Known, asking, put, telling}
 use Rattle.language65.specs.Numbering.{all_joined, all_said, content_imports, fragments_of, once, part_files, part_imports, parts_in, said_imports, section_keys, segments_asked}
 use Rattle.sections65.specs.declared.sections.Sections.{Sections}
 use Rattle.sections65.specs.Fed.{AreAlike, in_pieces, Feeds, Stands}
@@ -45,7 +45,7 @@ parts_imports : (names : List (List ℕ)) (g : ℕ) (ps : List Part) → flat_ma
 parts_imports names g [] = refl
 parts_imports names g (p ∷ ps) = grind (arith, common_steps, (parts_imports names g ps), append-nil)
 
-parts_here : (g h : ℕ) (ps : List Part) (ss : List Said) → nat_eq g h ≡ true → parts_in (map (put g) ps ++ telling ss ∷ []) h ≡ ps
+parts_here : (g h : ℕ) (ps : List Part) (ss : List Declaration) → nat_eq g h ≡ true → parts_in (map (put g) ps ++ telling ss ∷ []) h ≡ ps
 parts_here g h [] ss e = by (nat_eq 0 h)
   where
     by : (b : Bool) → flat_map (λ (c : Content). c.parts) (if b then telling ss ∷ [] else []) ≡ []
@@ -53,7 +53,7 @@ parts_here g h [] ss e = by (nat_eq 0 h)
     by false = refl
 parts_here g h (p ∷ ps) ss e = rw e (ap (λ qs. p ∷ qs) (parts_here g h ps ss e))
 
-parts_there : (g h : ℕ) (ps : List Part) (ss : List Said) → nat_eq g h ≡ false → parts_in (map (put g) ps ++ telling ss ∷ []) h ≡ []
+parts_there : (g h : ℕ) (ps : List Part) (ss : List Declaration) → nat_eq g h ≡ false → parts_in (map (put g) ps ++ telling ss ∷ []) h ≡ []
 parts_there g h [] ss e = by (nat_eq 0 h)
   where
     by : (b : Bool) → flat_map (λ (c : Content). c.parts) (if b then telling ss ∷ [] else []) ≡ []
@@ -61,17 +61,17 @@ parts_there g h [] ss e = by (nat_eq 0 h)
     by false = refl
 parts_there g h (p ∷ ps) ss e = rw e (parts_there g h ps ss e)
 
-parts_said : (g : ℕ) (ps : List Part) (ss : List Said) → all_said (map (put g) ps ++ telling ss ∷ []) ≡ ss ++ []
+parts_said : (g : ℕ) (ps : List Part) (ss : List Declaration) → all_said (map (put g) ps ++ telling ss ∷ []) ≡ ss ++ []
 parts_said g [] ss = refl
 parts_said g (p ∷ ps) ss = parts_said g ps ss
 
-parts_ask : (g : ℕ) (ps : List Part) (ss : List Said) → segments_asked (map (put g) ps ++ telling ss ∷ []) ≡ []
+parts_ask : (g : ℕ) (ps : List Part) (ss : List Declaration) → segments_asked (map (put g) ps ++ telling ss ∷ []) ≡ []
 parts_ask g [] ss = refl
 parts_ask g (p ∷ ps) ss = parts_ask g ps ss
 
 -- ---- All of it.
 
-module _ (g : ℕ) (ps : List Part) (ss : List Said) where
+module _ (g : ℕ) (ps : List Part) (ss : List Declaration) where
   abbrev whole : Bool → Content
   whole b = record { segment = g; asks = b; parts = ps; said = ss }
 

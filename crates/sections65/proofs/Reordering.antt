@@ -20,7 +20,7 @@ use Rattle.std.proofs.lemmas.Grind.{common_steps, flat_map-append}
 use Rattle.std.proofs.lemmas.List.{map-append}
 use Rattle.source65.specs.declared.place.Place.{Place}
 use Rattle.object65.specs.declared.object.Origin.{Origin}
-use Rattle.language65.specs.Contents.{Content, Part, Known, Filled, Waiting, Said, Exported, Demanded, Checked}
+use Rattle.language65.specs.Contents.{Content, Part, Known, Filled, Waiting, Declaration, Exported, ForcedImport, Asserted}
 use Rattle.language65.specs.declared.contents.Segment.{Segment}
 use Rattle.sections65.specs.Fed.{files_by, files_named_by, object_over}
 use Rattle.sections65.proofs.Exporting.{any_map}
@@ -146,10 +146,10 @@ module _ (files : List (List ℕ)) (apart : IsDistinct bytes_eq files) (s i : Li
   is_listed_part (Filled n) = true
   is_listed_part (Waiting width place f) = is_listed files apart place
 
-  abbrev pub is_listed_said : Said → Bool
+  abbrev pub is_listed_said : Declaration → Bool
   is_listed_said (Exported n place f) = is_listed files apart place
-  is_listed_said (Demanded n) = true
-  is_listed_said (Checked act place words f) = is_listed files apart place
+  is_listed_said (ForcedImport n) = true
+  is_listed_said (Asserted act place words f) = is_listed files apart place
 
   -- ---- The files that contents name.
 
@@ -171,11 +171,11 @@ module _ (files : List (List ℕ)) (apart : IsDistinct bytes_eq files) (s i : Li
       (subst (λ (ks : List ℕ). IsNaming files apart ks (flat_map part_files (parts_in cs g))) (sym (all_keys_joined (fragments_of at s i (parts_in cs g)))) (parts_named (parts_in cs g) (h g)))
       (sections_named segments cs keys h)
 
-  asserts_named : (ss : List Said) → list_all is_listed_said ss ≡ true → IsNaming files apart (flat_map assert_key (filter_map (assert_of at s i) ss)) (flat_map assert_files ss)
+  asserts_named : (ss : List Declaration) → list_all is_listed_said ss ≡ true → IsNaming files apart (flat_map assert_key (filter_map (assert_of at s i) ss)) (flat_map assert_files ss)
   asserts_named [] h = naming_none files apart
   asserts_named (Exported n place f ∷ ss) h = asserts_named ss (right (is_listed files apart place) (list_all is_listed_said ss) h)
-  asserts_named (Demanded n ∷ ss) h = asserts_named ss h
-  asserts_named (Checked act place words f ∷ ss) h =
+  asserts_named (ForcedImport n ∷ ss) h = asserts_named ss h
+  asserts_named (Asserted act place words f ∷ ss) h =
       naming_more files apart (optional_key (at place).file) (flat_map assert_key (filter_map (assert_of at s i) ss)) (place.file ∷ []) (flat_map assert_files ss)
       (naming_one files apart place (left (is_listed files apart place) (list_all is_listed_said ss) h))
       (asserts_named ss (right (is_listed files apart place) (list_all is_listed_said ss) h))
@@ -186,10 +186,10 @@ module _ (files : List (List ℕ)) (apart : IsDistinct bytes_eq files) (s i : Li
   abbrev keys_in : List Export → List ℕ
   keys_in found = flat_map export_key found
 
-  exports_named : (found : List Export) (ss : List Said) (ns : List (List ℕ)) → list_all is_listed_said ss ≡ true → IsNaming files apart (keys_in found) ns → IsNaming files apart (keys_in (exports_among at s i found ss)) (ns ++ export_files (names_in found) ss)
+  exports_named : (found : List Export) (ss : List Declaration) (ns : List (List ℕ)) → list_all is_listed_said ss ≡ true → IsNaming files apart (keys_in found) ns → IsNaming files apart (keys_in (exports_among at s i found ss)) (ns ++ export_files (names_in found) ss)
   exports_named found [] ns h g = subst (λ ms. IsNaming files apart (keys_in found) ms) (sym (append-nil ns)) g
-  exports_named found (Demanded n ∷ ss) ns h g = exports_named found ss ns h g
-  exports_named found (Checked act place words f ∷ ss) ns h g = exports_named found ss ns (right (is_listed files apart place) (list_all is_listed_said ss) h) g
+  exports_named found (ForcedImport n ∷ ss) ns h g = exports_named found ss ns h g
+  exports_named found (Asserted act place words f ∷ ss) ns h g = exports_named found ss ns (right (is_listed files apart place) (list_all is_listed_said ss) h) g
   exports_named found (Exported n place f ∷ ss) ns h g =
       let rest = right (is_listed files apart place) (list_all is_listed_said ss) h in
       by (list_any (λ e. bytes_eq n e.name) found) (any_map (bytes_eq n) (λ (e : Export). e.name) found)
@@ -241,21 +241,21 @@ module _ (files : List (List ℕ)) (apart : IsDistinct bytes_eq files) (s i : Li
         let rest = sections_by segments cs keys h (second_has order (flat_map fragment_keys (all_joined fs)) (flat_map section_files (map (section_of at segments s i cs) keys)) g) in
         λ n. record { name = segment_name (slice_get segments k); align = segment_power (slice_get segments k); fragments = one n } ∷ rest n
 
-    asserts_by : (ss : List Said) → list_all is_listed_said ss ≡ true → HasAll order (flat_map assert_key (filter_map (assert_of at s i) ss)) → map (assert_by order) (filter_map (assert_of at s i) ss) ≡ filter_map (assert_of to s i) ss
+    asserts_by : (ss : List Declaration) → list_all is_listed_said ss ≡ true → HasAll order (flat_map assert_key (filter_map (assert_of at s i) ss)) → map (assert_by order) (filter_map (assert_of at s i) ss) ≡ filter_map (assert_of to s i) ss
     asserts_by [] h g = refl
     asserts_by (Exported n place f ∷ ss) h g = asserts_by ss (right (is_listed files apart place) (list_all is_listed_said ss) h) g
-    asserts_by (Demanded n ∷ ss) h g = asserts_by ss h g
-    asserts_by (Checked act place words f ∷ ss) h g =
+    asserts_by (ForcedImport n ∷ ss) h g = asserts_by ss h g
+    asserts_by (Asserted act place words f ∷ ss) h g =
         let rest_keys = flat_map assert_key (filter_map (assert_of at s i) ss) in
         let one = placed_by files apart order place below (left (is_listed files apart place) (list_all is_listed_said ss) h) (first_has order (optional_key (at place).file) rest_keys g) in
         let rest = asserts_by ss (right (is_listed files apart place) (list_all is_listed_said ss) h) (second_has order (optional_key (at place).file) rest_keys g) in
         λ n. record { action = act; origin = one n; text = words; form = numbered s i f } ∷ rest n
 
     -- the exports found before are kept
-    exports_kept : (found : List Export) (ss : List Said) → HasAll order (keys_in (exports_among at s i found ss)) → HasAll order (keys_in found)
+    exports_kept : (found : List Export) (ss : List Declaration) → HasAll order (keys_in (exports_among at s i found ss)) → HasAll order (keys_in found)
     exports_kept found [] g = g
-    exports_kept found (Demanded n ∷ ss) g = exports_kept found ss g
-    exports_kept found (Checked act place words f ∷ ss) g = exports_kept found ss g
+    exports_kept found (ForcedImport n ∷ ss) g = exports_kept found ss g
+    exports_kept found (Asserted act place words f ∷ ss) g = exports_kept found ss g
     exports_kept found (Exported n place f ∷ ss) g =
         by (list_any (λ e. bytes_eq n e.name) found) (exports_kept (if list_any (λ e. bytes_eq n e.name) found then found else found ++ made ∷ []) ss g)
       where
@@ -266,10 +266,10 @@ module _ (files : List (List ℕ)) (apart : IsDistinct bytes_eq files) (s i : Li
         by true h = h
         by false h = first_has order (keys_in found) (keys_in (made ∷ [])) (subst (HasAll order) (flat_map-append export_key found (made ∷ [])) h)
 
-    exports_by : (found : List Export) (ss : List Said) → list_all is_listed_said ss ≡ true → HasAll order (keys_in (exports_among at s i found ss)) → map (export_by order) (exports_among at s i found ss) ≡ exports_among to s i (map (export_by order) found) ss
+    exports_by : (found : List Export) (ss : List Declaration) → list_all is_listed_said ss ≡ true → HasAll order (keys_in (exports_among at s i found ss)) → map (export_by order) (exports_among at s i found ss) ≡ exports_among to s i (map (export_by order) found) ss
     exports_by found [] h g = refl
-    exports_by found (Demanded n ∷ ss) h g = exports_by found ss h g
-    exports_by found (Checked act place words f ∷ ss) h g = exports_by found ss (right (is_listed files apart place) (list_all is_listed_said ss) h) g
+    exports_by found (ForcedImport n ∷ ss) h g = exports_by found ss h g
+    exports_by found (Asserted act place words f ∷ ss) h g = exports_by found ss (right (is_listed files apart place) (list_all is_listed_said ss) h) g
     exports_by found (Exported n place f ∷ ss) h g =
         exports_by next ss (right (is_listed files apart place) (list_all is_listed_said ss) h) g
         ∙ ap (λ es. exports_among to s i es ss) (step ∙ ap (λ b. if b then map (export_by order) found else map (export_by order) found ++ ordered ∷ []) (sym (any_map (λ (e : Export). bytes_eq n e.name) (export_by order) found)))

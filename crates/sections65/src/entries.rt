@@ -7,7 +7,7 @@ ghost use Rattle.sections65.specs.declared.entries.Entry.TheVariants.{Open};
 ghost use Rattle.sections65.specs.Fed.{AreAlike, content_of, filled, is_open, open_count, origin_by, stands_in, Defers, IsAdded, IsSettled, SettlesIn, StandIn, Takes, TakesIn, contents_in};
 
 use base65::Sequence;
-use language65::Said;
+use language65::Declaration;
 use object65::{Norm, Origin, Width};
 use std::alloc::{AllocError, Global};
 use std::mem;
@@ -49,13 +49,13 @@ pub enum Entry {
     Value {
         width: Width,
         segment: u32,
-        context: SourcePos,
+        pos: SourcePos,
         form: Norm,
     },
     /// What a statement says.
     Told {
-        context: SourcePos,
-        said: Sequence<Said>,
+        pos: SourcePos,
+        said: Sequence<Declaration>,
     },
     /// What waits.
     Open,

@@ -9,7 +9,7 @@ use crate::entries::{Entry, SourcePos};
 use crate::numbering::narrow;
 use base65::Sequence;
 use indexmap::IndexSet;
-use language65::{At, Part, Said};
+use language65::{At, Part, Declaration};
 use std::alloc::{AllocError, Global};
 
 /// The names of files in the order in which something stands in them, each once.
@@ -72,7 +72,7 @@ impl Files {
     }
 
     /// Where something stands, by its file's place.
-    fn context_of(&mut self, alloc: Global, at: At<'_>) -> Result<SourcePos, AllocError>
+    fn pos_of(&mut self, alloc: Global, at: At<'_>) -> Result<SourcePos, AllocError>
         ensures more { Begins (names_in self.old) (names_in self.new) }
         ensures listed { IfOk result (λ o. o.file < length (names_in self.new)) }
         ensures place { IfOk result (λ o. place_by (names_in self.new) o
@@ -101,11 +101,11 @@ impl Files {
             Part::Known(bytes) => Ok(Entry::Bytes { segment, bytes }),
             Part::Filled(count) => Ok(Entry::Room { segment, count }),
             Part::Waiting { width, form } => {
-                let context = self.context_of(alloc, at)?;
+                let pos = self.pos_of(alloc, at)?;
                 Ok(Entry::Value {
                     width,
                     segment,
-                    context,
+                    pos,
                     form,
                 })
             }
@@ -117,13 +117,13 @@ impl Files {
         &mut self,
         alloc: Global,
         at: At<'_>,
-        said: Sequence<Said>,
+        said: Sequence<Declaration>,
     ) -> Result<Entry, AllocError>
         ensures more { Begins (names_in self.old) (names_in self.new) }
         ensures entry { IfOk result (λ e. IsEntry (names_in self.new) e
             (telling (map (said_at (place_in at.entry.file.now at.entry.line)) said))) }
     {
-        let context = self.context_of(alloc, at)?;
-        Ok(Entry::Told { context, said })
+        let pos = self.pos_of(alloc, at)?;
+        Ok(Entry::Told { pos, said })
     }
 }

@@ -12,7 +12,7 @@ use crate::files::Files;
 use crate::numbering::{Imports, in_order, object_of};
 use base65::Sequence;
 use indexmap::IndexSet;
-use language65::{At, Part, Said, Segment};
+use language65::{At, Part, Declaration, Segment};
 use object65::{Norm, Object, Width};
 use std::alloc::{AllocError, Global};
 
@@ -128,7 +128,7 @@ impl Sections {
     }
 
     /// Settles the first that is still deferred, as what a statement says that stands at this place.
-    pub fn settle_said(&mut self, at: At<'_>, said: Sequence<Said>) -> Result<(), AllocError>
+    pub fn settle_said(&mut self, at: At<'_>, said: Sequence<Declaration>) -> Result<(), AllocError>
         ensures { OnOk result (Receives self.old self.new
             (telling (map (said_at (place_in at.entry.file.now at.entry.line)) said))) }
     {

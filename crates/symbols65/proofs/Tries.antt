@@ -16,7 +16,7 @@ use Rattle.language65.specs.declared.laid.Context.{Context}
 use Rattle.language65.specs.Symbols.{Symbols, Definition, Meaning, meaning_of}
 use Rattle.language65.specs.Norms.{folded, form_by, form_of_definition, form_of_meaning, norm}
 use Rattle.symbols65.specs.Resolving.{IsReference, stopped, attempt_definition, meaning_form, operand_form, tried_by, tried, tried_at, tried_last, FoundBy}
-use Rattle.symbols65.proofs.Turns.{Known, Course, expression_course, constant_course, constant_is, ok_later, ok_before}
+use Rattle.symbols65.proofs.Turns.{NormCache, Course, expression_course, constant_course, constant_is, ok_later, ok_before}
 
 -- the first is the second, or, where that may be, circular
 abbrev pub Near : Type 0 → Result Form AsmFault → Result Form AsmFault → Type 0
@@ -120,7 +120,7 @@ fits_later c table known h k le = λ j f q. inr (ok_later (constant_course table
 fits_ever : (c : ℕ) (table : Symbols) (known : ℕ → Option State) → FoundBy c table known → (k : ℕ) → Fits ⊤ (at_turn table k) known
 fits_ever c table known h k = λ j f q. near (ok_before (constant_course table j) (constant_is table j) k c f (h j f q))
   where
-    near : {r s : Result Form AsmFault} → Known r s → Near ⊤ r s
+    near : {r s : Result Form AsmFault} → NormCache r s → Near ⊤ r s
     near (inl e) = inl (tt, e)
     near (inr e) = inr e
 

@@ -7,7 +7,7 @@ mod resolving;
 mod table;
 
 pub use resolving::{
-    Known, Meaning, State, defined_norm, definition_of, stable_form, meaning_of, norm, operand_form,
+    NormCache, Meaning, State, defined_norm, definition_of, stable_form, meaning_of, norm, operand_form,
     plain_part, scope_of, scopes_in, shown,
 };
 pub use table::{Definition, Entry, Key, Opening, Symbols};

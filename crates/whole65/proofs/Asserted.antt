@@ -10,7 +10,7 @@ use Rattle.object65.specs.Form.{Form, lit, sec, imp, prefix, binary}
 use Rattle.object65.specs.declared.object.Action.{Action}
 use Rattle.object65.specs.declared.object.Action.TheVariants as action
 use Rattle.source65.specs.declared.place.Place.{Place}
-use Rattle.language65.specs.Contents.{Content, Said, Exported, Demanded, Checked, content_of, decided, each_of, export_said, import_fault, said_of, written}
+use Rattle.language65.specs.Contents.{Content, Declaration, Exported, ForcedImport, Asserted, content_of, decided, each_of, export_said, import_fault, said_of, written}
 use Rattle.language65.specs.declared.fault.AsmFault.{AsmFault}
 use Rattle.language65.specs.declared.fault.AsmFault.TheVariants.{ImportedAndDefined, NotDefined}
 use Rattle.language65.specs.Symbols.{Laid, Symbols, defined, named}
@@ -49,8 +49,8 @@ use Rattle.link65.specs.declared.parts.ValueFault.{ValueFault}
 use Rattle.whole65.proofs.Providers.{keyed_said, sources_law}
 use Rattle.whole65.proofs.Keyed.{form_law, keyed_law}
 use Rattle.whole65.proofs.Sources.{HasContents, contents_of}
-use Rattle.whole65.proofs.LinkedObjects.{IsKeyed, IsKeyedSaid, linked_objects, spot_in, symbols_at}
-use Rattle.whole65.specs.Modules.{global_spot, spot_or, table_of}
+use Rattle.whole65.proofs.LinkedObjects.{IsKeyed, IsKeyedSaid, linked_objects, context_in, symbols_at}
+use Rattle.whole65.specs.Modules.{global_context, context_or, table_of}
 use Rattle.whole65.specs.Programs as whole
 use Rattle.whole65.specs.Sources.{AreSources, IsSource}
 use Rattle.whole65.specs.Programs.{program_of}
@@ -58,21 +58,21 @@ use Rattle.whole65.specs.Programs.{program_of}
 -- ---- What statements assert, and what is said of it in a module's contents.
 
 -- an assertion whose form waits for a link has a value there and passes
-abbrev pub IsPassed : {E : Type 0} → Objects E → ℕ → Said → Type 0
+abbrev pub IsPassed : {E : Type 0} → Objects E → ℕ → Declaration → Type 0
 IsPassed o owner (Exported n place f) = ⊤
-IsPassed o owner (Demanded n) = ⊤
-IsPassed o owner (Checked act place words f) = (v : ℤ) × HasValue o owner f v × Passes act v
+IsPassed o owner (ForcedImport n) = ⊤
+IsPassed o owner (Asserted act place words f) = (v : ℤ) × HasValue o owner f v × Passes act v
 
 -- ---- Statements that assert nothing.
 
 module _ {E : Type 0} (o : Objects E) (owner : ℕ) where
-  abbrev pub AllPass : List Said → Type 0
+  abbrev pub AllPass : List Declaration → Type 0
   AllPass ss = AllByRecursion (IsPassed o owner) ss
 
-  nothing_said : (ss : List Said) → ◌≡◌ {A = Result (List Said) AsmFault} (Ok []) (Ok ss) → AllPass ss
+  nothing_said : (ss : List Declaration) → ◌≡◌ {A = Result (List Declaration) AsmFault} (Ok []) (Ok ss) → AllPass ss
   nothing_said ss e = let same : [] ≡ ss = cc in subst AllPass same tt
 
-  each_passes : (f : List ℕ → Result (List Said) AsmFault) → ((n : List ℕ) (ss : List Said) → f n ≡ Ok ss → AllPass ss) → (ns : List (List ℕ)) (yss : List (List Said)) → each f ns ≡ Ok yss → AllPass (flat_map (λ ys. ys) yss)
+  each_passes : (f : List ℕ → Result (List Declaration) AsmFault) → ((n : List ℕ) (ss : List Declaration) → f n ≡ Ok ss → AllPass ss) → (ns : List (List ℕ)) (yss : List (List Declaration)) → each f ns ≡ Ok yss → AllPass (flat_map (λ ys. ys) yss)
   each_passes f up [] yss e = let same : [] ≡ yss = cc in subst (λ k. AllPass (flat_map (λ ys. ys) k)) same tt
   each_passes f up (n ∷ ns) yss e =
       let (ss, first, others) = bind_ok (f n) (λ y. each f ns >>= (λ ys. Ok (y ∷ ys))) yss e in
@@ -80,16 +80,16 @@ module _ {E : Type 0} (o : Objects E) (owner : ℕ) where
       let same : ss ∷ rest ≡ yss = cc last in
       subst (λ k. AllPass (flat_map (λ ys. ys) k)) same (all_append (IsPassed o owner) ss (flat_map (λ ys. ys) rest) (up n ss first) (each_passes f up ns rest more))
 
-  all_names : (f : List ℕ → Result (List Said) AsmFault) → ((n : List ℕ) (ss : List Said) → f n ≡ Ok ss → AllPass ss) → (ns : List (List ℕ)) (ss : List Said) → each_of f ns ≡ Ok ss → AllPass ss
+  all_names : (f : List ℕ → Result (List Declaration) AsmFault) → ((n : List ℕ) (ss : List Declaration) → f n ≡ Ok ss → AllPass ss) → (ns : List (List ℕ)) (ss : List Declaration) → each_of f ns ≡ Ok ss → AllPass ss
   all_names f up ns ss e = grind (arith, common_steps, bind_ok, each_passes)
 
-  import_passes : (z : Symbols) (n : List ℕ) (ss : List Said) → import_fault z n ≡ Ok ss → AllPass ss
+  import_passes : (z : Symbols) (n : List ℕ) (ss : List Declaration) → import_fault z n ≡ Ok ss → AllPass ss
   import_passes z n ss h = grind (arith, common_steps)
 
-  export_passes : (z : Symbols) (place : Place) (n : List ℕ) (absent : Result (List Said) AsmFault) → ((ss : List Said) → absent ≡ Ok ss → AllPass ss) → (r : Option ℕ) (ss : List Said) → export_said z place n absent r ≡ Ok ss → AllPass ss
+  export_passes : (z : Symbols) (place : Place) (n : List ℕ) (absent : Result (List Declaration) AsmFault) → ((ss : List Declaration) → absent ≡ Ok ss → AllPass ss) → (r : Option ℕ) (ss : List Declaration) → export_said z place n absent r ≡ Ok ss → AllPass ss
   export_passes z place n absent nothing x ss h = grind (arith, common_steps)
 
-  demanded_pass : (ns : List (List ℕ)) → AllPass (map Demanded ns)
+  demanded_pass : (ns : List (List ℕ)) → AllPass (map ForcedImport ns)
   demanded_pass [] = tt
   demanded_pass (n ∷ ns) = (tt, demanded_pass ns)
 
@@ -101,15 +101,15 @@ module _ {E : Type 0} (p : Program) (o : Objects E) (h : AreObjects p o) (owner 
   FormPasses act f = (v : ℤ) × HasValue o owner f v × Passes act v
 
   -- an assertion that its source decides passes; another one passes as what is said of it
-  decided_passes : (act : Action) (place : Place) (words : List ℕ) (f : Form) (ss : List Said) → decided act place words f ≡ Ok ss → FormPasses act f ↔ AllPass o owner ss
+  decided_passes : (act : Action) (place : Place) (words : List ℕ) (f : Form) (ss : List Declaration) → decided act place words f ≡ Ok ss → FormPasses act f ↔ AllPass o owner ss
   decided_passes act place words f ss d = by act f d
     where
-      settled : (act : Action) (v : ℤ) → Passes act v → ◌≡◌ {A = Result (List Said) AsmFault} (Ok []) (Ok ss) → FormPasses act (lit v) ↔ AllPass o owner ss
+      settled : (act : Action) (v : ℤ) → Passes act v → ◌≡◌ {A = Result (List Declaration) AsmFault} (Ok []) (Ok ss) → FormPasses act (lit v) ↔ AllPass o owner ss
       settled act v fine e = (λ k. nothing_said o owner ss e, λ k. (v, (0, refl), fine))
 
-      waits : (act : Action) (f : Form) → written place (Checked act place words f ∷ []) ≡ Ok ss → FormPasses act f ↔ AllPass o owner ss
+      waits : (act : Action) (f : Form) → written place (Asserted act place words f ∷ []) ≡ Ok ss → FormPasses act f ↔ AllPass o owner ss
       waits act f e =
-          let same : Checked act place words f ∷ [] ≡ ss = written_ok place (Checked act place words f ∷ []) ss e in
+          let same : Asserted act place words f ∷ [] ≡ ss = written_ok place (Asserted act place words f ∷ []) ss e in
           (λ k. subst (AllPass o owner) same (k, tt), λ k. (subst (AllPass o owner) (sym same) k).0)
 
       by : (act : Action) (f : Form) → decided act place words f ≡ Ok ss → FormPasses act f ↔ AllPass o owner ss
@@ -126,7 +126,7 @@ module _ {E : Type 0} (p : Program) (o : Objects E) (h : AreObjects p o) (owner 
       by action.Error (binary op f g) d = waits action.Error (binary op f g) d
       by action.Warning (binary op f g) d = waits action.Warning (binary op f g) d
 
-  assertion_passes : (number : ℕ) (place : Place) (e : Tree) (act : Action) (words : List ℕ) (f : Form) (ss : List Said) → norm_of (o.symbols owner) (o.spots owner number) e ≡ Ok f → decided act place words f ≡ Ok ss → ((v : ℤ) × Value p owner number e v × Passes act v) ↔ AllPass o owner ss
+  assertion_passes : (number : ℕ) (place : Place) (e : Tree) (act : Action) (words : List ℕ) (f : Form) (ss : List Declaration) → norm_of (o.symbols owner) (o.contexts owner number) e ≡ Ok f → decided act place words f ≡ Ok ss → ((v : ℤ) × Value p owner number e v × Passes act v) ↔ AllPass o owner ss
   assertion_passes number place e act words f ss q d =
       let value : (v : ℤ) → Value p owner number e v ↔ HasValue o owner f v = λ v. same_values_law E p o h (suc (length (o.symbols owner).definitions)) owner number e f v q in
       let either = decided_passes act place words f ss d in (
@@ -134,7 +134,7 @@ module _ {E : Type 0} (p : Program) (o : Objects E) (h : AreObjects p o) (owner 
         λ k. (let r = either.1 k in (r.0, (value r.0).1 r.1, r.2)),
       )
 
-  line_passes : (before : List Laid) (l : Laid) (ss : List Said) → o.spots owner (length before) ≡ l.context → said_of (o.symbols owner) l ≡ Ok ss → HasAssertion p (line_of owner before l) ↔ AllPass o owner ss
+  line_passes : (before : List Laid) (l : Laid) (ss : List Declaration) → o.contexts owner (length before) ≡ l.context → said_of (o.symbols owner) l ≡ Ok ss → HasAssertion p (line_of owner before l) ↔ AllPass o owner ss
   line_passes before l ss at d = go l.stated d
     where
       silent : AllPass o owner ss → ⊤ ↔ AllPass o owner ss
@@ -146,8 +146,8 @@ module _ {E : Type 0} (p : Program) (o : Objects E) (h : AreObjects p o) (owner 
       go (Export names) d = silent (all_names o owner (λ n. export_said (o.symbols owner) l.place n (Err (NotDefined n)) (defined (o.symbols owner) (named 0 n))) (λ n rs e. export_passes o owner (o.symbols owner) l.place n (Err (NotDefined n)) (λ qs k. absurd cc) (defined (o.symbols owner) (named 0 n)) rs e) names ss d)
       go (Global size names) d = silent (all_names o owner (λ n. export_said (o.symbols owner) l.place n (Ok []) (defined (o.symbols owner) (named 0 n))) (λ n rs e. export_passes o owner (o.symbols owner) l.place n (Ok []) (λ qs k. nothing_said o owner qs k) (defined (o.symbols owner) (named 0 n)) rs e) names ss d)
       go (ForceImport names) d =
-          let (none, first, last) = bind_ok (each_of (import_fault (o.symbols owner)) names) (λ none. Ok (map Demanded names)) ss d in
-          let same : map Demanded names ≡ ss = cc last in
+          let (none, first, last) = bind_ok (each_of (import_fault (o.symbols owner)) names) (λ none. Ok (map ForcedImport names)) ss d in
+          let same : map ForcedImport names ≡ ss = cc last in
           silent (subst (AllPass o owner) same (demanded_pass o owner names))
       go (Assert e act words) d =
           let (f, first, last) = bind_ok (norm_of (o.symbols owner) l.context e) (decided act l.place words) ss d in
@@ -156,9 +156,9 @@ module _ {E : Type 0} (p : Program) (o : Objects E) (h : AreObjects p o) (owner 
 
   -- ---- Lines.
 
-  pub lines_pass : (all : List Laid) → ((place : ℕ) (l : Laid) → slice_get all place ≡ Some l → o.spots owner place ≡ l.context) → (before ls : List Laid) (cs : List Content) → before ++ ls ≡ all → contents_from (o.symbols owner) ls ≡ Ok cs → AllByRecursion (HasAssertion p) (lines_behind owner before ls) ↔ AllPass o owner (all_said cs)
-  lines_pass all spots before [] cs w e = grind (arith, common_steps)
-  lines_pass all spots before (l ∷ ls) cs w e =
+  pub lines_pass : (all : List Laid) → ((place : ℕ) (l : Laid) → slice_get all place ≡ Some l → o.contexts owner place ≡ l.context) → (before ls : List Laid) (cs : List Content) → before ++ ls ≡ all → contents_from (o.symbols owner) ls ≡ Ok cs → AllByRecursion (HasAssertion p) (lines_behind owner before ls) ↔ AllPass o owner (all_said cs)
+  lines_pass all contexts before [] cs w e = grind (arith, common_steps)
+  lines_pass all contexts before (l ∷ ls) cs w e =
       let found : Laid → Result Content PlacedFault = λ l. at_place l.place (content_of (o.symbols owner) l) in
       let (c, first, others) = bind_ok (found l) (λ y. each found ls >>= (λ ys. Ok (y ∷ ys))) cs e in
       let (ds, more, last) = bind_ok (each found ls) (λ ys. Ok (c ∷ ys)) cs others in
@@ -166,8 +166,8 @@ module _ {E : Type 0} (p : Program) (o : Objects E) (h : AreObjects p o) (owner 
       let content = content_is (o.symbols owner) l c (placed_ok l.place (content_of (o.symbols owner) l) c first) in
       let next : (before ++ l ∷ []) ++ ls ≡ all = append_assoc before (l ∷ []) ls ∙ w in
       let there : slice_get all (length before) ≡ Some l = subst (λ z. slice_get z (length before) ≡ Some l) w (in_middle before l ls) in
-      let one = line_passes before l c.said (spots (length before) l there) content.said in
-      let deeper = lines_pass all spots (before ++ l ∷ []) ls ds next more in (
+      let one = line_passes before l c.said (contexts (length before) l there) content.said in
+      let deeper = lines_pass all contexts (before ++ l ∷ []) ls ds next more in (
         λ k. subst (λ z. AllPass o owner (all_said z)) same (all_append (IsPassed o owner) c.said (all_said ds) (one.0 k.0) (deeper.0 k.1)),
         λ k. (let q = all_split (IsPassed o owner) c.said (all_said ds) (subst (λ z. AllPass o owner (all_said z)) (sym same) k) in (one.1 q.0, deeper.1 q.1)),
       )
@@ -257,7 +257,7 @@ module _ (s : Script) (placement : Placement) (ys : List Layout) (ms : List Modu
     abbrev numbers : List ℕ
     numbers = import_keys (table_of y).imports cs
 
-    abbrev IsKeyedHere : Said → Type 0
+    abbrev IsKeyedHere : Declaration → Type 0
     IsKeyedHere = IsKeyedSaid sections numbers (length (table_of y).imports)
 
     one_form : (f : Form) (v : ℤ) → IsKeyed sections numbers (length (table_of y).imports) f → (value_by l (in_table table) owner (numbered sections numbers f) ≡ Ok v) ↔ HasValue o owner f v
@@ -269,11 +269,11 @@ module _ (s : Script) (placement : Placement) (ys : List Layout) (ms : List Modu
           λ k. value.1 (k.0, sym (same k.0) ∙ k.1),
         )
 
-    said_pass : (origins : Place → Origin) (ss : List Said) → AllByRecursion IsKeyedHere ss → AllByRecursion Passing (map (linked.asserted owner) (filter_map (assert_of origins sections numbers) ss)) ↔ AllByRecursion (IsPassed o owner) ss
+    said_pass : (origins : Place → Origin) (ss : List Declaration) → AllByRecursion IsKeyedHere ss → AllByRecursion Passing (map (linked.asserted owner) (filter_map (assert_of origins sections numbers) ss)) ↔ AllByRecursion (IsPassed o owner) ss
     said_pass origins [] k = (λ q. tt, λ q. tt)
     said_pass origins (Exported n place f ∷ ss) k = let more = said_pass origins ss k.1 in (λ q. (tt, more.0 q), λ q. more.1 q.1)
-    said_pass origins (Demanded n ∷ ss) k = let more = said_pass origins ss k.1 in (λ q. (tt, more.0 q), λ q. more.1 q.1)
-    said_pass origins (Checked act place words f ∷ ss) k =
+    said_pass origins (ForcedImport n ∷ ss) k = let more = said_pass origins ss k.1 in (λ q. (tt, more.0 q), λ q. more.1 q.1)
+    said_pass origins (Asserted act place words f ∷ ss) k =
         let more = said_pass origins ss k.1 in (
           λ q. ((q.0.0, (one_form f q.0.0 k.0).0 q.0.1, q.0.2), more.0 q.1),
           λ q. ((q.0.0, (one_form f q.0.0 k.0).1 q.0.1, q.0.2), more.1 q.1),
@@ -282,12 +282,12 @@ module _ (s : Script) (placement : Placement) (ys : List Layout) (ms : List Modu
     table_there : o.symbols owner ≡ table_of y
     table_there = ap symbols_at at_y
 
-    spot_there : (place : ℕ) (x : Laid) → slice_get y.laid place ≡ Some x → o.spots owner place ≡ x.context
-    spot_there place x e = ap (λ r. spot_in r place) at_y ∙ ap (spot_or (global_spot y)) e
+    context_there : (place : ℕ) (x : Laid) → slice_get y.laid place ≡ Some x → o.contexts owner place ≡ x.context
+    context_there place x e = ap (λ r. context_in r place) at_y ∙ ap (context_or (global_context y)) e
 
     lines_agree : AllByRecursion (HasAssertion p) (lines_behind owner [] y.laid) ↔ AllByRecursion (IsPassed o owner) (all_said cs)
     lines_agree =
-        lines_pass p o (sources_law s placement ys ms h) owner y.laid spot_there [] y.laid cs refl
+        lines_pass p o (sources_law s placement ys ms h) owner y.laid context_there [] y.laid cs refl
         (subst (λ z. contents_from z y.laid ≡ Ok cs) (sym table_there) found)
 
   one_source : (owner : ℕ) (y : Layout) (m : Module) → slice_get ys owner ≡ Some y → slice_get ms owner ≡ Some m → IsSource y m → AllByRecursion Passing (map (linked.asserted owner) m.object.asserts) ↔ AllByRecursion (HasAssertion p) (lines_behind owner [] y.laid)

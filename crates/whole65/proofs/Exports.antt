@@ -15,7 +15,7 @@ use Rattle.object65.specs.declared.object.Export.{Export}
 use Rattle.object65.specs.declared.object.Object.{Object}
 use Rattle.object65.specs.declared.object.Origin.{Origin}
 use Rattle.source65.specs.declared.place.Place.{Place}
-use Rattle.language65.specs.Contents.{Content, Said, Exported, Demanded, Checked, content_of, decided, each_of, export_said, import_fault, said_of, written}
+use Rattle.language65.specs.Contents.{Content, Declaration, Exported, ForcedImport, Asserted, content_of, decided, each_of, export_said, import_fault, said_of, written}
 use Rattle.language65.specs.declared.fault.AsmFault.{AsmFault}
 use Rattle.language65.specs.declared.fault.AsmFault.TheVariants.{ImportedAndDefined, NotDefined}
 use Rattle.language65.specs.Symbols.{Laid, Symbols, defined, named, with_new}
@@ -41,34 +41,34 @@ use Rattle.language65.specs.declared.language.Statement.TheVariants.{Constant, I
 
 -- ---- What is said of names.
 
-abbrev pub exported_name : Said → List (List ℕ)
+abbrev pub exported_name : Declaration → List (List ℕ)
 exported_name (Exported n place f) = n ∷ []
-exported_name (Demanded n) = []
-exported_name (Checked act place words f) = []
+exported_name (ForcedImport n) = []
+exported_name (Asserted act place words f) = []
 
-abbrev pub exported_names : List Said → List (List ℕ)
+abbrev pub exported_names : List Declaration → List (List ℕ)
 exported_names ss = flat_map exported_name ss
 
 -- an export has the form of the definition of its name
-abbrev pub IsDefined : Symbols → Said → Type 0
+abbrev pub IsDefined : Symbols → Declaration → Type 0
 IsDefined z (Exported n place f) = (j : ℕ) × (defined z (named 0 n) ≡ Some j) × (defined_form z j ≡ Ok f)
-IsDefined z (Demanded n) = ⊤
-IsDefined z (Checked act place words f) = ⊤
+IsDefined z (ForcedImport n) = ⊤
+IsDefined z (Asserted act place words f) = ⊤
 
 abbrev pub has_definition : Symbols → List ℕ → Bool
 has_definition z n = is_some (defined z (named 0 n))
 
-pub record Says (z : Symbols) (names : List (List ℕ)) (ss : List Said) : Type 0 where
+pub record Says (z : Symbols) (names : List (List ℕ)) (ss : List Declaration) : Type 0 where
   pub exported : exported_names ss ≡ names
   pub are_defined : AllByRecursion (IsDefined z) ss
 
-says_nothing : (z : Symbols) (ss : List Said) → ◌≡◌ {A = Result (List Said) AsmFault} (Ok []) (Ok ss) → Says z [] ss
+says_nothing : (z : Symbols) (ss : List Declaration) → ◌≡◌ {A = Result (List Declaration) AsmFault} (Ok []) (Ok ss) → Says z [] ss
 says_nothing z ss e = let same : [] ≡ ss = cc in subst (Says z []) same (record { exported = refl; are_defined = tt })
 
-says_both : (z : Symbols) (ns ms : List (List ℕ)) (ss rs : List Said) → Says z ns ss → Says z ms rs → Says z (ns ++ ms) (ss ++ rs)
+says_both : (z : Symbols) (ns ms : List (List ℕ)) (ss rs : List Declaration) → Says z ns ss → Says z ms rs → Says z (ns ++ ms) (ss ++ rs)
 says_both z ns ms ss rs h k = grind (arith, common_steps)
 
-each_says : (z : Symbols) (f : List ℕ → Result (List Said) AsmFault) (keep : List ℕ → List (List ℕ)) → ((n : List ℕ) (ss : List Said) → f n ≡ Ok ss → Says z (keep n) ss) → (ns : List (List ℕ)) (yss : List (List Said)) → each f ns ≡ Ok yss → Says z (flat_map keep ns) (flat_map (λ ys. ys) yss)
+each_says : (z : Symbols) (f : List ℕ → Result (List Declaration) AsmFault) (keep : List ℕ → List (List ℕ)) → ((n : List ℕ) (ss : List Declaration) → f n ≡ Ok ss → Says z (keep n) ss) → (ns : List (List ℕ)) (yss : List (List Declaration)) → each f ns ≡ Ok yss → Says z (flat_map keep ns) (flat_map (λ ys. ys) yss)
 each_says z f keep h [] yss e = let same : [] ≡ yss = cc in subst (λ k. Says z [] (flat_map (λ ys. ys) k)) same (record { exported = refl; are_defined = tt })
 each_says z f keep h (n ∷ ns) yss e =
     let (ss, first, others) = bind_ok (f n) (λ y. each f ns >>= (λ ys. Ok (y ∷ ys))) yss e in
@@ -76,7 +76,7 @@ each_says z f keep h (n ∷ ns) yss e =
     let same : ss ∷ rest ≡ yss = cc last in
     subst (λ k. Says z (flat_map keep (n ∷ ns)) (flat_map (λ ys. ys) k)) same (says_both z (keep n) (flat_map keep ns) ss (flat_map (λ ys. ys) rest) (h n ss first) (each_says z f keep h ns rest more))
 
-all_says : (z : Symbols) (f : List ℕ → Result (List Said) AsmFault) (keep : List ℕ → List (List ℕ)) → ((n : List ℕ) (ss : List Said) → f n ≡ Ok ss → Says z (keep n) ss) → (ns : List (List ℕ)) (ss : List Said) → each_of f ns ≡ Ok ss → Says z (flat_map keep ns) ss
+all_says : (z : Symbols) (f : List ℕ → Result (List Declaration) AsmFault) (keep : List ℕ → List (List ℕ)) → ((n : List ℕ) (ss : List Declaration) → f n ≡ Ok ss → Says z (keep n) ss) → (ns : List (List ℕ)) (ss : List Declaration) → each_of f ns ≡ Ok ss → Says z (flat_map keep ns) ss
 all_says z f keep h ns ss e =
     let (yss, first, last) = bind_ok (each f ns) (λ yss. Ok (flat_map (λ ys. ys) yss)) ss e in
     let same : flat_map (λ ys. ys) yss ≡ ss = cc last in
@@ -93,21 +93,21 @@ kept_one : (q : List ℕ → Bool) (ns : List (List ℕ)) → flat_map (λ n. fi
 kept_one q [] = refl
 kept_one q (n ∷ ns) = grind (arith, common_steps, (kept_one q ns))
 
-import_says : (z : Symbols) (n : List ℕ) (ss : List Said) → import_fault z n ≡ Ok ss → Says z [] ss
+import_says : (z : Symbols) (n : List ℕ) (ss : List Declaration) → import_fault z n ≡ Ok ss → Says z [] ss
 import_says z n ss h = grind (arith, common_steps)
 
 -- where no definition is there, nothing is said
-export_says : (z : Symbols) (place : Place) (n : List ℕ) (absent : Result (List Said) AsmFault) → ((ss : List Said) → absent ≡ Ok ss → ss ≡ []) → (ss : List Said) → export_said z place n absent (defined z (named 0 n)) ≡ Ok ss → Says z (filter (has_definition z) (n ∷ [])) ss
+export_says : (z : Symbols) (place : Place) (n : List ℕ) (absent : Result (List Declaration) AsmFault) → ((ss : List Declaration) → absent ≡ Ok ss → ss ≡ []) → (ss : List Declaration) → export_said z place n absent (defined z (named 0 n)) ≡ Ok ss → Says z (filter (has_definition z) (n ∷ [])) ss
 export_says z place n absent nothing ss h = grind (arith, common_steps)
 
-decided_says : (z : Symbols) (act : Action) (place : Place) (words : List ℕ) (f : Form) (ss : List Said) → decided act place words f ≡ Ok ss → Says z [] ss
+decided_says : (z : Symbols) (act : Action) (place : Place) (words : List ℕ) (f : Form) (ss : List Declaration) → decided act place words f ≡ Ok ss → Says z [] ss
 decided_says z act place words f ss h = grind (arith, common_steps)
 
-demanded_says : (z : Symbols) (ns : List (List ℕ)) → Says z [] (map Demanded ns)
+demanded_says : (z : Symbols) (ns : List (List ℕ)) → Says z [] (map ForcedImport ns)
 demanded_says z [] = record { exported = refl; are_defined = tt }
 demanded_says z (n ∷ ns) = let h = demanded_says z ns in record { exported = h.exported; are_defined = (tt, h.are_defined) }
 
-one_says : (z : Symbols) (l : Laid) (ss : List Said) → said_of z l ≡ Ok ss → Says z (filter (has_definition z) (exported_by l.stated)) ss
+one_says : (z : Symbols) (l : Laid) (ss : List Declaration) → said_of z l ≡ Ok ss → Says z (filter (has_definition z) (exported_by l.stated)) ss
 one_says z l ss h = go l.stated h
   where
     go : (x : Statement) → said_of z (record l { stated = x }) ≡ Ok ss → Says z (filter (has_definition z) (exported_by x)) ss
@@ -116,8 +116,8 @@ one_says z l ss h = go l.stated h
     go (statement.Export names) h = subst (λ k. Says z k ss) (kept_one (has_definition z) names) (all_says z (λ n. export_said z l.place n (Err (NotDefined n)) (defined z (named 0 n))) (λ n. filter (has_definition z) (n ∷ [])) (λ n rs e. export_says z l.place n (Err (NotDefined n)) (λ qs k. absurd cc) rs e) names ss h)
     go (statement.Global size names) h = subst (λ k. Says z k ss) (kept_one (has_definition z) names) (all_says z (λ n. export_said z l.place n (Ok []) (defined z (named 0 n))) (λ n. filter (has_definition z) (n ∷ [])) (λ n rs e. export_says z l.place n (Ok []) (λ qs k. cc) rs e) names ss h)
     go (statement.ForceImport names) h =
-        let (none, first, last) = bind_ok (each_of (import_fault z) names) (λ none. Ok (map Demanded names)) ss h in
-        let same : map Demanded names ≡ ss = cc last in
+        let (none, first, last) = bind_ok (each_of (import_fault z) names) (λ none. Ok (map ForcedImport names)) ss h in
+        let same : map ForcedImport names ≡ ss = cc last in
         subst (Says z []) same (demanded_says z names)
     go (statement.Assert e act words) h = (let (f, first, last) = bind_ok (norm_of z l.context e) (decided act l.place words) ss h in decided_says z act l.place words f ss last)
     go x h = says_nothing z ss h
@@ -140,7 +140,7 @@ among_names : (n : List ℕ) (found : List Export) → list_any (λ e. bytes_eq 
 among_names n [] = refl
 among_names n (e ∷ found) = ap (λ b. bytes_eq n e.name || b) (among_names n found)
 
-names_among : (origins : Place → Origin) (sections numbers : List ℕ) (ss : List Said) (found : List Export) → map (λ (e : Export). e.name) (exports_among origins sections numbers found ss) ≡ with_new (map (λ (e : Export). e.name) found) (exported_names ss)
+names_among : (origins : Place → Origin) (sections numbers : List ℕ) (ss : List Declaration) (found : List Export) → map (λ (e : Export). e.name) (exports_among origins sections numbers found ss) ≡ with_new (map (λ (e : Export). e.name) found) (exported_names ss)
 names_among origins sections numbers [] found = refl
 names_among origins sections numbers (Exported n place f ∷ ss) found =
     names_among origins sections numbers ss (cond (list_any (λ e. bytes_eq n e.name) found) found (found ++ record { name = n; origin = origins place; form = numbered sections numbers f } ∷ []))
@@ -149,8 +149,8 @@ names_among origins sections numbers (Exported n place f ∷ ss) found =
     go : (b : Bool) → map (λ (e : Export). e.name) (cond b found (found ++ record { name = n; origin = origins place; form = numbered sections numbers f } ∷ [])) ≡ cond b (map (λ (e : Export). e.name) found) (map (λ (e : Export). e.name) found ++ n ∷ [])
     go true = refl
     go false = map-append (λ (e : Export). e.name) found (record { name = n; origin = origins place; form = numbered sections numbers f } ∷ [])
-names_among origins sections numbers (Demanded n ∷ ss) found = names_among origins sections numbers ss found
-names_among origins sections numbers (Checked act place words f ∷ ss) found = names_among origins sections numbers ss found
+names_among origins sections numbers (ForcedImport n ∷ ss) found = names_among origins sections numbers ss found
+names_among origins sections numbers (Asserted act place words f ∷ ss) found = names_among origins sections numbers ss found
 
 pub source_exports : (y : Layout) (m : Module) → IsSource y m → map (λ (e : Export). e.name) m.object.exports ≡ exports_of y
 source_exports y m h =
@@ -181,47 +181,47 @@ export_names_law ys ms h = all_exports no_program ys ms h
 
 -- ---- What statements say of the names that they demand and of what they assert.
 
-abbrev pub demanded_name : Said → List (List ℕ)
+abbrev pub demanded_name : Declaration → List (List ℕ)
 demanded_name (Exported n place f) = []
-demanded_name (Demanded n) = n ∷ []
-demanded_name (Checked act place words f) = []
+demanded_name (ForcedImport n) = n ∷ []
+demanded_name (Asserted act place words f) = []
 
-abbrev pub demanded_names : List Said → List (List ℕ)
+abbrev pub demanded_names : List Declaration → List (List ℕ)
 demanded_names ss = flat_map demanded_name ss
 
 -- what waits for the linker has the form of the statement's assertion
-abbrev pub IsAsserted : Symbols → Laid → Said → Type 0
+abbrev pub IsAsserted : Symbols → Laid → Declaration → Type 0
 IsAsserted z l (Exported n place f) = ⊤
-IsAsserted z l (Demanded n) = ⊤
-IsAsserted z l (Checked act place words f) = (e : Tree) × (l.stated ≡ Assert e act words) × (norm_of z l.context e ≡ Ok f)
+IsAsserted z l (ForcedImport n) = ⊤
+IsAsserted z l (Asserted act place words f) = (e : Tree) × (l.stated ≡ Assert e act words) × (norm_of z l.context e ≡ Ok f)
 
-pub record Tells (z : Symbols) (l : Laid) (ss : List Said) : Type 0 where
+pub record Tells (z : Symbols) (l : Laid) (ss : List Declaration) : Type 0 where
   pub demanded : demanded_names ss ≡ forced_by l.stated
   pub asserted : AllByRecursion (IsAsserted z l) ss
 
 -- ---- Exports alone.
 
-abbrev IsExport : Said → Type 0
+abbrev IsExport : Declaration → Type 0
 IsExport (Exported n place f) = ⊤
-IsExport (Demanded n) = ⊥
-IsExport (Checked act place words f) = ⊥
+IsExport (ForcedImport n) = ⊥
+IsExport (Asserted act place words f) = ⊥
 
-none_demanded : (ss : List Said) → AllByRecursion IsExport ss → demanded_names ss ≡ []
+none_demanded : (ss : List Declaration) → AllByRecursion IsExport ss → demanded_names ss ≡ []
 none_demanded [] h = refl
 none_demanded (Exported n place f ∷ ss) h = none_demanded ss h.1
-none_demanded (Demanded n ∷ ss) h = absurd h.0
-none_demanded (Checked act place words f ∷ ss) h = absurd h.0
+none_demanded (ForcedImport n ∷ ss) h = absurd h.0
+none_demanded (Asserted act place words f ∷ ss) h = absurd h.0
 
-none_asserted : (z : Symbols) (l : Laid) (ss : List Said) → AllByRecursion IsExport ss → AllByRecursion (IsAsserted z l) ss
+none_asserted : (z : Symbols) (l : Laid) (ss : List Declaration) → AllByRecursion IsExport ss → AllByRecursion (IsAsserted z l) ss
 none_asserted z l [] h = tt
 none_asserted z l (Exported n place f ∷ ss) h = (tt, none_asserted z l ss h.1)
-none_asserted z l (Demanded n ∷ ss) h = absurd h.0
-none_asserted z l (Checked act place words f ∷ ss) h = absurd h.0
+none_asserted z l (ForcedImport n ∷ ss) h = absurd h.0
+none_asserted z l (Asserted act place words f ∷ ss) h = absurd h.0
 
-nothing_more : (ss : List Said) → ◌≡◌ {A = Result (List Said) AsmFault} (Ok []) (Ok ss) → AllByRecursion IsExport ss
+nothing_more : (ss : List Declaration) → ◌≡◌ {A = Result (List Declaration) AsmFault} (Ok []) (Ok ss) → AllByRecursion IsExport ss
 nothing_more ss e = let same : [] ≡ ss = cc in subst (AllByRecursion IsExport) same tt
 
-each_all : (P : Said → Type 0) (f : List ℕ → Result (List Said) AsmFault) → ((n : List ℕ) (ss : List Said) → f n ≡ Ok ss → AllByRecursion P ss) → (ns : List (List ℕ)) (yss : List (List Said)) → each f ns ≡ Ok yss → AllByRecursion P (flat_map (λ ys. ys) yss)
+each_all : (P : Declaration → Type 0) (f : List ℕ → Result (List Declaration) AsmFault) → ((n : List ℕ) (ss : List Declaration) → f n ≡ Ok ss → AllByRecursion P ss) → (ns : List (List ℕ)) (yss : List (List Declaration)) → each f ns ≡ Ok yss → AllByRecursion P (flat_map (λ ys. ys) yss)
 each_all P f h [] yss e = let same : [] ≡ yss = cc in subst (λ k. AllByRecursion P (flat_map (λ ys. ys) k)) same tt
 each_all P f h (n ∷ ns) yss e =
     let (ss, first, others) = bind_ok (f n) (λ y. each f ns >>= (λ ys. Ok (y ∷ ys))) yss e in
@@ -229,33 +229,33 @@ each_all P f h (n ∷ ns) yss e =
     let same : ss ∷ rest ≡ yss = cc last in
     subst (λ k. AllByRecursion P (flat_map (λ ys. ys) k)) same (all_append P ss (flat_map (λ ys. ys) rest) (h n ss first) (each_all P f h ns rest more))
 
-all_of : (P : Said → Type 0) (f : List ℕ → Result (List Said) AsmFault) → ((n : List ℕ) (ss : List Said) → f n ≡ Ok ss → AllByRecursion P ss) → (ns : List (List ℕ)) (ss : List Said) → each_of f ns ≡ Ok ss → AllByRecursion P ss
+all_of : (P : Declaration → Type 0) (f : List ℕ → Result (List Declaration) AsmFault) → ((n : List ℕ) (ss : List Declaration) → f n ≡ Ok ss → AllByRecursion P ss) → (ns : List (List ℕ)) (ss : List Declaration) → each_of f ns ≡ Ok ss → AllByRecursion P ss
 all_of P f h ns ss e =
     let (yss, first, last) = bind_ok (each f ns) (λ yss. Ok (flat_map (λ ys. ys) yss)) ss e in
     let same : flat_map (λ ys. ys) yss ≡ ss = cc last in
     subst (AllByRecursion P) same (each_all P f h ns yss first)
 
-of_import : (z : Symbols) (n : List ℕ) (ss : List Said) → import_fault z n ≡ Ok ss → AllByRecursion IsExport ss
+of_import : (z : Symbols) (n : List ℕ) (ss : List Declaration) → import_fault z n ≡ Ok ss → AllByRecursion IsExport ss
 of_import z n ss h = grind (arith, common_steps)
 
-of_export : (z : Symbols) (place : Place) (n : List ℕ) (absent : Result (List Said) AsmFault) → ((ss : List Said) → absent ≡ Ok ss → ss ≡ []) → (o : Option ℕ) (ss : List Said) → export_said z place n absent o ≡ Ok ss → AllByRecursion IsExport ss
+of_export : (z : Symbols) (place : Place) (n : List ℕ) (absent : Result (List Declaration) AsmFault) → ((ss : List Declaration) → absent ≡ Ok ss → ss ≡ []) → (o : Option ℕ) (ss : List Declaration) → export_said z place n absent o ≡ Ok ss → AllByRecursion IsExport ss
 of_export z place n absent nothing x ss h = grind (arith, common_steps)
 
 -- ---- Statements.
 
-of_forced : (z : Symbols) (l : Laid) (ns : List (List ℕ)) → (demanded_names (map Demanded ns) ≡ ns) × AllByRecursion (IsAsserted z l) (map Demanded ns)
+of_forced : (z : Symbols) (l : Laid) (ns : List (List ℕ)) → (demanded_names (map ForcedImport ns) ≡ ns) × AllByRecursion (IsAsserted z l) (map ForcedImport ns)
 of_forced z l [] = (refl, tt)
 of_forced z l (n ∷ ns) = let more = of_forced z l ns in (ap (λ k. n ∷ k) more.0, (tt, more.1))
 
 -- what an assertion says: nothing, or that it waits
-data IsDecided (act : Action) (place : Place) (words : List ℕ) (f : Form) (ss : List Said) : Type 0 where
+data IsDecided (act : Action) (place : Place) (words : List ℕ) (f : Form) (ss : List Declaration) : Type 0 where
   settled : [] ≡ ss → IsDecided act place words f ss
-  waiting : Checked act place words f ∷ [] ≡ ss → IsDecided act place words f ss
+  waiting : Asserted act place words f ∷ [] ≡ ss → IsDecided act place words f ss
 
-is_decided : (act : Action) (place : Place) (words : List ℕ) (f : Form) (ss : List Said) → decided act place words f ≡ Ok ss → IsDecided act place words f ss
+is_decided : (act : Action) (place : Place) (words : List ℕ) (f : Form) (ss : List Declaration) → decided act place words f ≡ Ok ss → IsDecided act place words f ss
 is_decided x place words y ss h = grind (arith, common_steps)
 
-pub one_tells : (z : Symbols) (l : Laid) (ss : List Said) → said_of z l ≡ Ok ss → Tells z l ss
+pub one_tells : (z : Symbols) (l : Laid) (ss : List Declaration) → said_of z l ≡ Ok ss → Tells z l ss
 one_tells z l ss h = go l.stated h
   where
     exporting : (x : Statement) → forced_by x ≡ [] → AllByRecursion IsExport ss → Tells z (record l { stated = x }) ss
@@ -267,8 +267,8 @@ one_tells z l ss h = go l.stated h
     go (ExportNames names) h = exporting (ExportNames names) refl (all_of IsExport (λ n. export_said z l.place n (Err (NotDefined n)) (defined z (named 0 n))) (λ n. of_export z l.place n (Err (NotDefined n)) (λ qs k. absurd cc) (defined z (named 0 n))) names ss h)
     go (Global size names) h = exporting (Global size names) refl (all_of IsExport (λ n. export_said z l.place n (Ok []) (defined z (named 0 n))) (λ n. of_export z l.place n (Ok []) (λ qs k. cc) (defined z (named 0 n))) names ss h)
     go (ForceImport names) h =
-        let (none, first, last) = bind_ok (each_of (import_fault z) names) (λ none. Ok (map Demanded names)) ss h in
-        let same : map Demanded names ≡ ss = cc last in
+        let (none, first, last) = bind_ok (each_of (import_fault z) names) (λ none. Ok (map ForcedImport names)) ss h in
+        let same : map ForcedImport names ≡ ss = cc last in
         let both = of_forced z (record l { stated = ForceImport names }) names in
         subst (Tells z (record l { stated = ForceImport names })) same (record { demanded = both.0; asserted = both.1 })
     go (Assert e act words) h =

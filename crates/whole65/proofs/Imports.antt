@@ -36,7 +36,7 @@ use Rattle.whole65.specs.Values.{by_nobody}
 use Rattle.whole65.specs.Whole.{IsGiven}
 use Rattle.std.specs.Option.{option_map}
 use Rattle.object65.specs.declared.object.Object.{Object}
-use Rattle.language65.specs.Contents.{Content, Part, Said, Exported, Demanded, Checked}
+use Rattle.language65.specs.Contents.{Content, Part, Declaration, Exported, ForcedImport, Asserted}
 use Rattle.language65.specs.Symbols.{Laid, imports_of}
 use Rattle.language65.specs.declared.language.Statement.{Statement}
 use Rattle.language65.specs.declared.language.Statement.TheVariants.{ForceImport}
@@ -246,7 +246,7 @@ module _ (P : List ℕ → Type 0) (names : List (List ℕ)) where
   abbrev pub OfPart : Part → Type 0
   OfPart x = AllByRecursion OfKey (part_imports x)
 
-  abbrev pub OfSaid : Said → Type 0
+  abbrev pub OfSaid : Declaration → Type 0
   OfSaid x = AllByRecursion OfKey (said_imports names x)
 
   all_flat : {A : Type 0} (f : A → List ℕ) (xs : List A) → AllByRecursion (λ x. AllByRecursion OfKey (f x)) xs → AllByRecursion OfKey (flat_map f xs)
@@ -284,15 +284,15 @@ module _ (P : List ℕ → Type 0) (names : List (List ℕ)) where
   all_keys : (ks : List ℕ) → AllByRecursion OfKey (once [] ks) → AllByRecursion OfKey ks
   all_keys ks h = each_among OfKey ks (λ k e. one_of OfKey (once [] ks) k h (any_once (nat_eq k) [] ks ∙ e))
 
-  demands : (ss : List Said) → AllByRecursion OfSaid ss → AllByRecursion (λ n. is_among names n ≡ true) (demanded_names ss) → AllByRecursion P (demanded_names ss)
+  demands : (ss : List Declaration) → AllByRecursion OfSaid ss → AllByRecursion (λ n. is_among names n ≡ true) (demanded_names ss) → AllByRecursion P (demanded_names ss)
   demands [] h a = tt
   demands (Exported n place f ∷ ss) h a = demands ss h.1 a
-  demands (Demanded n ∷ ss) h a = (go (key_for names n) h.0 a.0, demands ss h.1 a.1)
+  demands (ForcedImport n ∷ ss) h a = (go (key_for names n) h.0 a.0, demands ss h.1 a.1)
     where
       go : KeyFor names n → AllByRecursion OfKey (optional_key (key_of names n)) → is_among names n ≡ true → P n
       go (at_key k q called) h e = let own : AllByRecursion OfKey (optional_key (Some k)) = subst (λ o. AllByRecursion OfKey (optional_key o)) q h in subst P called own.0
       go (no_key q none) h e = (let never : true ≡ false = sym e ∙ none in absurd cc)
-  demands (Checked act place words f ∷ ss) h a = demands ss h.1 a
+  demands (Asserted act place words f ∷ ss) h a = demands ss h.1 a
 
 -- ---- Objects.
 

@@ -9,7 +9,7 @@ use Rattle.base65.specs.Outcome.{◌>>=◌}
 use Rattle.base65.specs.Values.{value1, value2, wrapped}
 use Rattle.object65.specs.Form.{lit, sec, imp, prefix, binary, Form}
 use Rattle.object65.specs.FormValue.{or_none, value_in}
-use Rattle.language65.specs.Numbering.{imports_in, import_keys, number_of, section_keys, section_of, content_imports, name_of, part_imports, said_imports, numbered, sections_in, IsSoundContent, IsSoundForm, IsSoundPart, IsSoundSaid, IsSoundLayout}
+use Rattle.language65.specs.Numbering.{imports_in, import_keys, number_of, section_keys, section_of, content_imports, name_of, part_imports, said_imports, numbered, sections_in, IsSoundContent, IsSoundForm, IsSoundPart, IsSoundDeclaration, IsSoundLayout}
 use Rattle.std.specs.Str.{bytes_eq}
 use Rattle.std.proofs.lemmas.Bool.Decides.{nat_tests}
 use Rattle.std.proofs.lemmas.List.{length-append}
@@ -20,7 +20,7 @@ use Rattle.script65.specs.Placing.{rounded_up}
 use Rattle.script65.specs.declared.placement.Placement.{Placement}
 use Rattle.script65.specs.declared.script.Script.{Script}
 use Rattle.source65.specs.declared.place.Place.{Place}
-use Rattle.language65.specs.Contents.{Content, Part, Known, Filled, Waiting, Said, Exported, Demanded, Checked}
+use Rattle.language65.specs.Contents.{Content, Part, Known, Filled, Waiting, Declaration, Exported, ForcedImport, Asserted}
 use Rattle.language65.specs.Layout.{Layout}
 use Rattle.link65.specs.Programs.{Module, Program, member, no_program, program_of, with_module, with_modules, grown, section_place, section_places, segment_of, with_section}
 use Rattle.link65.specs.Values.{address_of, linkage_of, resolved, run_of, base_of, exports_through, provider_at, import_value, Linkage, value_by}
@@ -135,14 +135,14 @@ pub one_of : (P : ℕ → Type 0) (ks : List ℕ) (g : ℕ) → AllByRecursion P
 one_of P [] g h e = cc
 one_of P (k ∷ ks) g h e = grind (arith, common_steps, (one_of P ks g h.1), equal)
 
-module _ (y : Layout) (owner : ℕ) (origins : Place → Origin) (sections imports : List ℕ) (cs : List Content) (A : SectionPlace → ℤ) (d : Distinct y.standing.segments) where
+module _ (y : Layout) (owner : ℕ) (origins : Place → Origin) (sections imports : List ℕ) (cs : List Content) (A : SectionPlace → ℤ) (d : Distinct y.cursor.segments) where
   abbrev own_section : ℕ → Section
-  own_section g = section_of origins y.standing.segments sections imports cs g
+  own_section g = section_of origins y.cursor.segments sections imports cs g
 
-  other_end : (gs : List linked.Segment) (k g : ℕ) → k < length y.standing.segments → g < length y.standing.segments → nat_eq g k ≡ false → linked.end_of (with_section owner gs (own_section k)) (own_section g).name ≡ linked.end_of gs (own_section g).name
+  other_end : (gs : List linked.Segment) (k g : ℕ) → k < length y.cursor.segments → g < length y.cursor.segments → nat_eq g k ≡ false → linked.end_of (with_section owner gs (own_section k)) (own_section g).name ≡ linked.end_of gs (own_section g).name
   other_end gs k g lk lg e = grind (arith, common_steps, size_or, one_section, or_empty, name_at, nat_tests)
 
-  pub place_at : (gs : List linked.Segment) (ks : List ℕ) (g : ℕ) → AllByRecursion (λ k. k < length y.standing.segments) ks → AreOnce ks → list_any (nat_eq g) ks ≡ true → get_or (map A (section_places owner gs (map own_section ks))) (number_of ks g) (pos 0) ≡ A (section_place gs (own_section g))
+  pub place_at : (gs : List linked.Segment) (ks : List ℕ) (g : ℕ) → AllByRecursion (λ k. k < length y.cursor.segments) ks → AreOnce ks → list_any (nat_eq g) ks ≡ true → get_or (map A (section_places owner gs (map own_section ks))) (number_of ks g) (pos 0) ≡ A (section_place gs (own_section g))
   place_at gs [] g h o e = cc
   place_at gs (k ∷ ks) g h o e = grind (arith, common_steps, (place_at (with_section owner gs (own_section k)) ks g h.1 o.1), number_first, equal, one_of, number_later, other_end)
 
@@ -169,13 +169,13 @@ section_base_law s placement ys ms owner g y m cs h at_y at_m e among =
     let names = (table_of y).imports in
     let imports : List ℕ = import_keys names cs in
     let sections : List ℕ = section_keys cs in
-    let lt : g < length y.standing.segments = one_of (λ k. k < length y.standing.segments) sections g keys.standing among in
+    let lt : g < length y.cursor.segments = one_of (λ k. k < length y.cursor.segments) sections g keys.cursor among in
     let name : List ℕ = segment_name y g in
     let before : Program = program_of (take owner ms) in
     let A : SectionPlace → ℤ = address_of s.rows placement.rows in
     let origins : Place → Origin = (contents_of y m source).origins in
-    let sec_g : Section = section_of origins y.standing.segments sections imports cs g in
-    let named_so : sec_g.name ≡ name = name_at y.standing.segments g lt in
+    let sec_g : Section = section_of origins y.cursor.segments sections imports cs g in
+    let named_so : sec_g.name ≡ name = name_at y.cursor.segments g lt in
     let has : has_section y name ≡ true = keys.has name ∙ held (λ k. bytes_eq (segment_name y k) name) g sections among (itself name) in
     let object = same_object y m cs source e in
     let size : linked.end_of before.segments name ≡ end_of 0 (items_of (take owner ys) name) = size_law (take owner ys) (take owner ms) name (sources_front ys ms owner h) in
@@ -183,7 +183,7 @@ section_base_law s placement ys ms owner g y m cs h at_y at_m e among =
     let lines_are : lines_in owner y name ≡ lines_at g (lines_behind owner [] y.laid) = in_segment owner y g d lt in
     ap (λ r. base_of r (number_of sections g)) (resolved_at s placement ms owner m at_m)
     ∙ ap (λ (o : Object). get_or (map A (section_places (length before.members) before.segments o.sections)) (number_of sections g) (pos 0)) object
-    ∙ place_at y (length before.members) origins sections imports cs A (named d).distinct before.segments sections g keys.standing keys.single among
+    ∙ place_at y (length before.members) origins sections imports cs A (named d).distinct before.segments sections g keys.cursor keys.single among
     ∙ base_law s.rows placement.rows (section_place before.segments sec_g)
     ∙ ap (λ n. wrapped (pos (run_of s.rows placement.rows n + rounded_up (linked.end_of before.segments n) (linked.align_of sec_g)))) named_so
     ∙ ap (λ n. wrapped (pos (run + rounded_up n (linked.align_of sec_g)))) size
@@ -191,7 +191,7 @@ section_base_law s placement ys ms owner g y m cs h at_y at_m e among =
     ∙ ap (λ xs. wrapped (pos (run + next_multiple_of (end_of 0 (items_of (take owner ys) name)) (largest_multiple xs)))) (sym lines_are)
     ∙ ap (λ n. wrapped (pos (run + n))) (sym (begins ys y name 0 0 owner at_y ∙ ap (λ n. next_multiple_of (end_of 0 (items_of (take owner ys) name)) (largest_multiple (lines_in n y name))) (zero_first owner)))
     ∙ ap (λ b. wrapped (pos (run + cond b (begin_of ys name owner) (end_of 0 (items_of ys name))))) (sym has)
-    ∙ ap (λ b. cond b (wrapped (pos (run + begin_in ys owner y name))) (pos 0)) (sym (less g (length y.standing.segments) lt))
+    ∙ ap (λ b. cond b (wrapped (pos (run + begin_in ys owner y name))) (pos 0)) (sym (less g (length y.cursor.segments) lt))
   where
     zero_first : (n : ℕ) → 0 + n ≡ n
     zero_first n = omega arith
@@ -262,10 +262,10 @@ module _ (sections imports : List ℕ) (count : ℕ) where
     keyed_parts qs h.1 (among_rest (part_imports q) (flat_map part_imports qs) up),
   )
 
-  keyed_saying : (names : List (List ℕ)) (x : Said) → IsSoundSaid sections count x → AreAmong (said_imports names x) → IsKeyedSaid sections imports count x
+  keyed_saying : (names : List (List ℕ)) (x : Declaration) → IsSoundDeclaration sections count x → AreAmong (said_imports names x) → IsKeyedSaid sections imports count x
   keyed_saying names x h up = grind (arith, common_steps, keyed_form)
 
-  keyed_said : (names : List (List ℕ)) (xs : List Said) → AllByRecursion (IsSoundSaid sections count) xs → AreAmong (flat_map (said_imports names) xs) → AllByRecursion (IsKeyedSaid sections imports count) xs
+  keyed_said : (names : List (List ℕ)) (xs : List Declaration) → AllByRecursion (IsSoundDeclaration sections count) xs → AreAmong (flat_map (said_imports names) xs) → AllByRecursion (IsKeyedSaid sections imports count) xs
   keyed_said names [] h up = tt
   keyed_said names (x ∷ xs) h up = (
     keyed_saying names x h.0 (among_first (said_imports names x) (flat_map (said_imports names) xs) up),

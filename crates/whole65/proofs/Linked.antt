@@ -7,8 +7,8 @@ use Rattle.language65.specs.declared.fault.AsmFault.{AsmFault}
 use Rattle.language65.specs.Symbols.{Laid, asks_section, Definition, Key, definition_with, definitions_of, key_defined, value_defined, Symbols, symbols_of, meaning_of}
 use Rattle.language65.specs.Layout.{Layout, laid, own_size, context_of}
 use Rattle.language65.specs.Symbols as names
-use Rattle.whole65.proofs.LinkedObjects.{or_first, place_in, symbols_at, base_in, begin_in, objects_of, spot_in}
-use Rattle.whole65.specs.Modules.{defining_from, definition_at, import_named, meaning_by, spot_at, statement_at, table_of, global_spot, spot_or}
+use Rattle.whole65.proofs.LinkedObjects.{or_first, place_in, symbols_at, base_in, begin_in, objects_of, context_in}
+use Rattle.whole65.specs.Modules.{defining_from, definition_at, import_named, meaning_by, context_at, statement_at, table_of, global_context, context_or}
 use Rattle.whole65.specs.Objects.{definition_shown, import_shown, value_shown, meaning_shown, AreObjects, IsGiven, Objects}
 use Rattle.whole65.specs.Values.{Meaning, Program}
 use Rattle.std.specs.Prelude.{◌&&◌, ◌||◌, ℤ, pos, ◌+ℤ◌, nat_lt}
@@ -116,17 +116,17 @@ pub none_shown : (r : Result names.Meaning AsmFault) → None ≡ shown_by None 
 none_shown x = grind (arith, common_steps)
 
 -- a definition stands where its statement does
-pub same_spot : (y : Layout) (d : ℕ) (x : Definition) → slice_get (table_of y).definitions d ≡ Some x → spot_at y (place_in (Some y) d) ≡ x.context
-same_spot y d x e = go (look 0 y.laid d)
+pub same_context : (y : Layout) (d : ℕ) (x : Definition) → slice_get (table_of y).definitions d ≡ Some x → context_at y (place_in (Some y) d) ≡ x.context
+same_context y d x e = go (look 0 y.laid d)
   where
-    go : Looked 0 y.laid d → spot_at y (place_in (Some y) d) ≡ x.context
+    go : Looked 0 y.laid d → context_at y (place_in (Some y) d) ≡ x.context
     go (missing m) = let none : Some x ≡ None = sym e ∙ m.defined in absurd cc
     go (made m) =
         let zero_more : 0 + m.place ≡ m.place = omega arith in
         let at : slice_get (defining_from 0 y.laid) d ≡ Some m.place = m.defining ∙ ap Some zero_more in
         let both : Some m.definition ≡ Some x = sym m.defined ∙ e in
         let same : m.definition ≡ x = cc in
-        ap (λ r. spot_at y (or_first r)) at
+        ap (λ r. context_at y (or_first r)) at
         ∙ (rw m.there (sym m.context))
         ∙ ap (λ (z : Definition). z.context) same
 
@@ -221,12 +221,12 @@ at_end ys owner place y name e h =
 shown_is : {E : Type 0} (none : E) (imports : ℕ → ℕ → ℕ → Result ℤ E) (s : Script) (p : Placement) (ys : List Layout) (owner : ℕ) (r : Result names.Meaning AsmFault) → meaning_shown (objects_of none imports s p ys) owner r ≡ shown_by (slice_get ys owner) r
 shown_is none imports s p ys owner x = grind (arith, common_steps)
 
-means_by : (r : Option Layout) (place : ℕ) (e : Tree) → means_at r place e ≡ shown_by r (meaning_of (symbols_at r) (spot_in r place) e)
-means_by x place e = grind (arith, common_steps, none_shown, symbols_at, spot_in, same_meaning)
+means_by : (r : Option Layout) (place : ℕ) (e : Tree) → means_at r place e ≡ shown_by r (meaning_of (symbols_at r) (context_in r place) e)
+means_by x place e = grind (arith, common_steps, none_shown, symbols_at, context_in, same_meaning)
 
-spot_by : (r : Option Layout) (d : ℕ) (x : Definition) → slice_get (symbols_at r).definitions d ≡ Some x → spot_in r (place_in r d) ≡ x.context
-spot_by None d x e = cc
-spot_by (Some y) d x e = same_spot y d x e
+context_by : (r : Option Layout) (d : ℕ) (x : Definition) → slice_get (symbols_at r).definitions d ≡ Some x → context_in r (place_in r d) ≡ x.context
+context_by None d x e = cc
+context_by (Some y) d x e = same_context y d x e
 
 -- ---- Addresses.
 
@@ -252,21 +252,21 @@ module _ (s : Script) (p : Placement) (ys : List Layout) (laid_out : AllByRecurs
       let at : position_of ys (segment_name y l.context.segment) owner place ≡ end_of 0 (items_of ys (segment_name y l.context.segment)) = at_end ys owner place y (segment_name y l.context.segment) e h in
       omega (arith, none, at)
 
-  of_line : (owner place : ℕ) (y : Layout) → slice_get ys owner ≡ Some y → (r : Option Laid) → slice_get y.laid place ≡ r → statement_address s p ys owner place (Some y) r ≡ wrapped (base_in s p ys owner (spot_or (global_spot y) r).segment (Some y) +ℤ pos (spot_or (global_spot y) r).offset)
-  of_line owner place y e None there = zero_wraps ∙ ap (λ b. wrapped (cond b (wrapped (pos (run_of s.rows p.rows (segment_name y (length y.standing.segments)) + begin_in ys owner y (segment_name y (length y.standing.segments))))) (pos 0) +ℤ pos 0)) (sym (not_less (length y.standing.segments)))
+  of_line : (owner place : ℕ) (y : Layout) → slice_get ys owner ≡ Some y → (r : Option Laid) → slice_get y.laid place ≡ r → statement_address s p ys owner place (Some y) r ≡ wrapped (base_in s p ys owner (context_or (global_context y) r).segment (Some y) +ℤ pos (context_or (global_context y) r).offset)
+  of_line owner place y e None there = zero_wraps ∙ ap (λ b. wrapped (cond b (wrapped (pos (run_of s.rows p.rows (segment_name y (length y.cursor.segments)) + begin_in ys owner y (segment_name y (length y.cursor.segments))))) (pos 0) +ℤ pos 0)) (sym (not_less (length y.cursor.segments)))
   of_line owner place y e (Some l) there =
       let name : List ℕ = segment_name y l.context.segment in
       let run : ℕ = run_of s.rows p.rows name in
       let begin : ℕ = begin_in ys owner y name in
-      let below : l.context.segment < length y.standing.segments = all_get (λ (k : Laid). k.context.segment < length y.standing.segments) y.laid place l (named (all_get IsLaidOut ys owner y laid_out e)).standing there in
+      let below : l.context.segment < length y.cursor.segments = all_get (λ (k : Laid). k.context.segment < length y.cursor.segments) y.laid place l (named (all_get IsLaidOut ys owner y laid_out e)).cursor there in
       ap (λ n. wrapped (pos (run + n))) (position_is owner place y l e there (has_section y name) refl)
       ∙ moved run begin l.context.offset
-      ∙ ap (λ b. wrapped (cond b (wrapped (pos (run + begin))) (pos 0) +ℤ pos l.context.offset)) (sym (less l.context.segment (length y.standing.segments) below))
+      ∙ ap (λ b. wrapped (cond b (wrapped (pos (run + begin))) (pos 0) +ℤ pos l.context.offset)) (sym (less l.context.segment (length y.cursor.segments) below))
 
-  of_module : (owner place : ℕ) (r : Option Layout) → slice_get ys owner ≡ r → statement_address s p ys owner place r (laid_at r place) ≡ wrapped (base_in s p ys owner (spot_in r place).segment r +ℤ pos (spot_in r place).offset)
+  of_module : (owner place : ℕ) (r : Option Layout) → slice_get ys owner ≡ r → statement_address s p ys owner place r (laid_at r place) ≡ wrapped (base_in s p ys owner (context_in r place).segment r +ℤ pos (context_in r place).offset)
   of_module owner place x e = grind (arith, common_steps, zero_wraps, of_line)
 
 -- The modules of a placed program are linked as that program: names mean the same, and statements have the addresses that
 -- their sections' bases and their offsets make, for all that imports come to as their providers say.
 pub linked_law : (E : Type 0) → (none : E) (imports : ℕ → ℕ → ℕ → Result ℤ E) (s : Script) (placement : Placement) (ys : List Layout) → AllByRecursion IsLaidOut ys → let p : Program = program_of s placement ys in let o : Objects E = objects_of none imports s placement ys in ((owner k : ℕ) → IsGiven p o owner k (slice_get (o.symbols owner).imports k)) → AreObjects p o
-linked_law x none imports s p ys laid_out given = grind (arith, common_steps, means_by, shown_is, symbols_at, spot_in, spot_by, of_module)
+linked_law x none imports s p ys laid_out given = grind (arith, common_steps, means_by, shown_is, symbols_at, context_in, context_by, of_module)

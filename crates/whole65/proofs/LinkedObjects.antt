@@ -4,7 +4,7 @@ use Rattle.std.specs.Prelude.{◌≡◌, ℕ, ℤ, List, [], ◌∷◌, ◌++◌
 use Rattle.object65.specs.Form.{Form}
 use Rattle.object65.specs.FormValue.{value_in}
 use Rattle.object65.specs.declared.object.Fragment.{Fragment}
-use Rattle.language65.specs.Contents.{Part, Known, Filled, Waiting, Content, Said, Exported, Demanded, Checked}
+use Rattle.language65.specs.Contents.{Part, Known, Filled, Waiting, Content, Declaration, Exported, ForcedImport, Asserted}
 use Rattle.whole65.specs.Contents.{AreStored}
 use Rattle.std.specs.Str.{bytes_eq}
 use Rattle.object65.specs.declared.object.Section.{Section}
@@ -16,7 +16,7 @@ use Rattle.link65.specs.Values.{run_of, linkage_of, exports_through, import_valu
 use Rattle.language65.specs.declared.laid.Context.{Context}
 use Rattle.language65.specs.Layout.{Layout}
 use Rattle.language65.specs.Symbols.{Symbols}
-use Rattle.whole65.specs.Modules.{defining_from, spot_at, table_of}
+use Rattle.whole65.specs.Modules.{defining_from, context_at, table_of}
 use Rattle.whole65.specs.Objects.{Objects, HasValue}
 use Rattle.whole65.specs.Offsets.{begin_of}
 use Rattle.whole65.specs.Segments.{end_of, has_section, items_of, segment_name}
@@ -90,9 +90,9 @@ symbols_at (Some y) = table_of y
 abbrev pub nowhere : Context
 nowhere = record { scope = 0; opened = 0; region = 0; unnamed = 0; segment = 0; offset = 0 }
 
-abbrev pub spot_in : Option Layout → ℕ → Context
-spot_in None place = nowhere
-spot_in (Some y) place = spot_at y place
+abbrev pub context_in : Option Layout → ℕ → Context
+context_in None place = nowhere
+context_in (Some y) place = context_at y place
 
 abbrev pub or_first : Option ℕ → ℕ
 or_first None = 0
@@ -110,7 +110,7 @@ begin_in ys owner y name = if has_section y name then begin_of ys name owner els
 abbrev pub base_in : Script → Placement → List Layout → ℕ → ℕ → Option Layout → ℤ
 base_in s p ys owner g None = pos 0
 base_in s p ys owner g (Some y) =
-    if nat_lt g (length y.standing.segments)
+    if nat_lt g (length y.cursor.segments)
     then wrapped (pos (run_of s.rows p.rows (segment_name y g) + begin_in ys owner y (segment_name y g)))
     else pos 0
 
@@ -119,7 +119,7 @@ abbrev pub objects_of : {E : Type 0} → E → (ℕ → ℕ → ℕ → Result �
 objects_of none imports s p ys = record {
   none = none;
   symbols = λ owner. symbols_at (slice_get ys owner);
-  spots = λ owner place. spot_in (slice_get ys owner) place;
+  contexts = λ owner place. context_in (slice_get ys owner) place;
   places = λ owner definition. place_in (slice_get ys owner) definition;
   bases = λ owner g. base_in s p ys owner g (slice_get ys owner);
   imports = imports;
@@ -154,10 +154,10 @@ IsKeyedPart sections imports count (Known own) = ⊤
 IsKeyedPart sections imports count (Filled n) = ⊤
 IsKeyedPart sections imports count (Waiting width place f) = IsKeyed sections imports count f
 
-abbrev pub IsKeyedSaid : (sections imports : List ℕ) → ℕ → Said → Type 0
+abbrev pub IsKeyedSaid : (sections imports : List ℕ) → ℕ → Declaration → Type 0
 IsKeyedSaid sections imports count (Exported name place f) = IsKeyed sections imports count f
-IsKeyedSaid sections imports count (Demanded name) = ⊤
-IsKeyedSaid sections imports count (Checked act place words f) = IsKeyed sections imports count f
+IsKeyedSaid sections imports count (ForcedImport name) = ⊤
+IsKeyedSaid sections imports count (Asserted act place words f) = IsKeyed sections imports count f
 
 pub record IsKeyedContent (sections imports : List ℕ) (count : ℕ) (c : Content) : Type 0 where
   pub parts : AllByRecursion (IsKeyedPart sections imports count) c.parts

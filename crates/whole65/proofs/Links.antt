@@ -80,9 +80,9 @@ module _ (output : List ℕ) (s : Script) (q : Program) (files : List OutputFile
 -- ---- A source lays its statements one behind the other, none with a fault at its line.
 
 one : (y z : Layout) (place : Place) (x : Statement) → IsLaidOut y → IsLaid y place x (Ok z) → IsLaidOut z
-one y z place x d h = by (line_fault (symbols_of y.laid) y.standing x) refl h
+one y z place x d h = by (line_fault (symbols_of y.laid) y.cursor x) refl h
   where
-    by : (o : Option AsmFault) → line_fault (symbols_of y.laid) y.standing x ≡ o → Ok z ≡ unless_fault o (layout_behind y place x) → IsLaidOut z
+    by : (o : Option AsmFault) → line_fault (symbols_of y.laid) y.cursor x ≡ o → Ok z ≡ unless_fault o (layout_behind y place x) → IsLaidOut z
     by (Some e) is h = absurd cc
     by None is h =
         let same : layout_behind y place x ≡ z = cc in

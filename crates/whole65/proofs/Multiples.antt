@@ -14,7 +14,7 @@ use Rattle.std.specs.Prelude.{ℤ, pos, negsuc, nat_lt, not, ◌==◌, ◌&&◌,
 use Rattle.std.specs.List.{AllByRecursion, list_any}
 use Rattle.language65.specs.declared.fault.AsmFault.{AsmFault}
 use Rattle.language65.specs.declared.fault.AsmFault.TheVariants.{BadAlignment, NotUnderstood, SectionTooLarge}
-use Rattle.language65.specs.Layout.{Standing, laid, multiple_of, own_size, powers, context_of, alignment_fault, block_fault, defined_twice, first_fault, form_fault, is_open, line_fault, lost_scopes, missing_file, multiple_fault, opened_twice, operand_fault, part_fault, pop_fault, scope_name, size_fault, stands_outside, trees_of, when}
+use Rattle.language65.specs.Layout.{Cursor, laid, multiple_of, own_size, powers, context_of, alignment_fault, block_fault, defined_twice, first_fault, form_fault, is_open, line_fault, lost_scopes, missing_file, multiple_fault, opened_twice, operand_fault, part_fault, pop_fault, scope_name, size_fault, stands_outside, trees_of, when}
 use Rattle.language65.specs.Norms.{constant_in, counted, gap, length_of}
 use Rattle.source65.specs.declared.place.Place.{Place}
 use Rattle.object65.specs.Objects.{section_limit}
@@ -121,7 +121,7 @@ shift_law xs b p h = let same : b ≡ b + 0 = omega arith in ap (λ n. end_of n 
 
 -- ---- A line ends its length behind its offset, and aligns to a power of two.
 
-no_alignment_fault : (y : Symbols) (w : Standing) (x : Statement) → line_fault y w x ≡ None → alignment_fault y (context_of w) x ≡ None
+no_alignment_fault : (y : Symbols) (w : Cursor) (x : Statement) → line_fault y w x ≡ None → alignment_fault y (context_of w) x ≡ None
 no_alignment_fault y w x h = grind (arith, common_steps)
 
 -- ---- Multiples.
@@ -151,7 +151,7 @@ aligned (Some (pos n)) h = record { multiple = n; value = refl; is_power = power
 aligned (Some (negsuc n)) h = absurd cc
 aligned None h = absurd cc
 
-pub multiple_power : (y : Symbols) (w : Standing) (x : Statement) → line_fault y w x ≡ None → IsPower (multiple_of y (context_of w) x)
+pub multiple_power : (y : Symbols) (w : Cursor) (x : Statement) → line_fault y w x ≡ None → IsPower (multiple_of y (context_of w) x)
 multiple_power y w x h = go x (no_alignment_fault y w x h)
   where
     go : (x : Statement) → alignment_fault y (context_of w) x ≡ None → IsPower (multiple_of y (context_of w) x)
@@ -162,7 +162,7 @@ multiple_power y w x h = go x (no_alignment_fault y w x h)
 
 -- ---- Ends.
 
-pub line_ends : (y : Symbols) (w : Standing) (place : Place) (x : Statement) → line_fault y w x ≡ None → line_end (context_of w).offset (multiple_of y (context_of w) x) (laid y w place x) ≡ (context_of w).offset + (laid y w place x).length
+pub line_ends : (y : Symbols) (w : Cursor) (place : Place) (x : Statement) → line_fault y w x ≡ None → line_end (context_of w).offset (multiple_of y (context_of w) x) (laid y w place x) ≡ (context_of w).offset + (laid y w place x).length
 line_ends y w place x h = grind (arith, common_steps)
 
 -- ---- Rounding up by quotients and by remainders.

@@ -7,7 +7,7 @@ use Rattle.syntax65.specs.declared.lexing.tokens.AddressSize.{AddressSize}
 use Rattle.language65.specs.declared.contents.Segment.{Segment}
 use Rattle.language65.specs.declared.language.Statement.{Statement}
 use Rattle.language65.specs.declared.language.Statement.TheVariants as statement
-use Rattle.language65.specs.Layout.{Standing, current_behind, first_size, grown_at, kept_behind, last_kept, multiple_of, named_segments, new_segment, own_size, place_of, rest_kept, segment_at, segments_behind, context_of, Layout, laid, layout_behind, nothing_laid, line_fault}
+use Rattle.language65.specs.Layout.{Cursor, current_behind, first_size, grown_at, kept_behind, last_kept, multiple_of, named_segments, new_segment, own_size, place_of, rest_kept, segment_at, segments_behind, context_of, Layout, laid, layout_behind, nothing_laid, line_fault}
 use Rattle.language65.specs.Norms.{length_of}
 use Rattle.language65.specs.Symbols.{Symbols, symbols_of, Laid}
 use Rattle.language65.proofs.Segments.{all_same, end_behind, grown_end, grown_length, grown_other, named_there, one_longer, all_more}
@@ -36,10 +36,10 @@ behind_more gs current count multiple x = grind (arith, common_steps, named_more
 below_more : (few more : ℕ) (ks : List ℕ) → few ≤ more → are_below few ks → are_below more ks
 below_more few more ks le h = all_same (λ k. k < few) (λ k. k < more) (λ k lt. let up : k < more = omega (arith, lt, le) in up) ks h
 
-pub current_below : (w : Standing) (count multiple : ℕ) (x : Statement) → w.current < length w.segments → are_below (length w.segments) w.kept → current_behind w x < length (segments_behind w.segments w.current count multiple x)
+pub current_below : (w : Cursor) (count multiple : ℕ) (x : Statement) → w.current < length w.segments → are_below (length w.segments) w.kept → current_behind w x < length (segments_behind w.segments w.current count multiple x)
 current_below w count multiple x lt h = grind (arith, common_steps, named_there, grown_length)
 
-pub kept_below : (w : Standing) (count multiple : ℕ) (x : Statement) → w.current < length w.segments → are_below (length w.segments) w.kept → are_below (length (segments_behind w.segments w.current count multiple x)) (kept_behind w x)
+pub kept_below : (w : Cursor) (count multiple : ℕ) (x : Statement) → w.current < length w.segments → are_below (length w.segments) w.kept → are_below (length (segments_behind w.segments w.current count multiple x)) (kept_behind w x)
 kept_below w count multiple x lt h = grind (arith, common_steps, behind_more, below_more)
 
 -- ---- Ends and alignments.
@@ -66,7 +66,7 @@ pub record Adds (g h : Segment) (is_here : Bool) (count multiple : ℕ) : Type 0
   pub end : h.end ≡ g.end + cond is_here count 0
   pub align : h.align ≡ cond is_here (max g.align multiple) g.align
 
-pub adds : (y : Symbols) (w : Standing) (x : Statement) (g : ℕ) → w.current < length w.segments → 1 ≤ (segment_at w.segments g).align → Adds (segment_at w.segments g) (segment_at (segments_behind w.segments w.current (length_of y (context_of w) (own_size w) x) (multiple_of y (context_of w) x) x) g) (nat_eq w.current g) (length_of y (context_of w) (own_size w) x) (multiple_of y (context_of w) x)
+pub adds : (y : Symbols) (w : Cursor) (x : Statement) (g : ℕ) → w.current < length w.segments → 1 ≤ (segment_at w.segments g).align → Adds (segment_at w.segments g) (segment_at (segments_behind w.segments w.current (length_of y (context_of w) (own_size w) x) (multiple_of y (context_of w) x) x) g) (nat_eq w.current g) (length_of y (context_of w) (own_size w) x) (multiple_of y (context_of w) x)
 adds y w x g lt one = grind (arith, common_steps, nat_tests, grown_end, grown_align, grown_other, equal, named_end, named_align)
 
 -- ---- One more line.
@@ -113,19 +113,19 @@ behind_push M (y ∷ ys) l h m zero x e = h zero x e
 behind_push M (y ∷ ys) l h m (suc i) x e = behind_push (λ zs z. M (y ∷ zs) z) ys l (λ j z f. h (suc j) z f) m i x e
 
 pub record Placed (owner : ℕ) (y : Layout) : Type 0 where
-  pub here : y.standing.current < length y.standing.segments
-  pub keeps : are_below (length y.standing.segments) y.standing.kept
+  pub here : y.cursor.current < length y.cursor.segments
+  pub keeps : are_below (length y.cursor.segments) y.cursor.kept
   pub offsets : EachBehind (HasOffset owner) y.laid
-  pub ends : (g : ℕ) → (segment_at y.standing.segments g).end ≡ end_at g (lines_behind owner [] y.laid)
-  pub aligns : (g : ℕ) → (segment_at y.standing.segments g).align ≡ largest_multiple (lines_at g (lines_behind owner [] y.laid))
+  pub ends : (g : ℕ) → (segment_at y.cursor.segments g).end ≡ end_at g (lines_behind owner [] y.laid)
+  pub aligns : (g : ℕ) → (segment_at y.cursor.segments g).align ≡ largest_multiple (lines_at g (lines_behind owner [] y.laid))
   pub powers : ArePowers (lines_behind owner [] y.laid)
 
-module _ (owner : ℕ) (y : Layout) (place : Place) (x : Statement) (h : Placed owner y) (none : line_fault (symbols_of y.laid) y.standing x ≡ None) where
+module _ (owner : ℕ) (y : Layout) (place : Place) (x : Statement) (h : Placed owner y) (none : line_fault (symbols_of y.laid) y.cursor x ≡ None) where
   abbrev table : Symbols
   table = symbols_of y.laid
 
   abbrev last : Laid
-  last = laid table y.standing place x
+  last = laid table y.cursor place x
 
   abbrev lines : List Line
   lines = lines_behind owner [] y.laid
@@ -133,25 +133,25 @@ module _ (owner : ℕ) (y : Layout) (place : Place) (x : Statement) (h : Placed 
   abbrev next : Line
   next = line_of owner y.laid last
 
-  added : (g : ℕ) → Adds (segment_at y.standing.segments g) (segment_at (layout_behind y place x).standing.segments g) (nat_eq y.standing.current g) last.length next.multiple
-  added g = adds table y.standing x g h.here (subst (λ n. 1 ≤ n) (sym (h.aligns g)) (largest_one (lines_at g lines)))
+  added : (g : ℕ) → Adds (segment_at y.cursor.segments g) (segment_at (layout_behind y place x).cursor.segments g) (nat_eq y.cursor.current g) last.length next.multiple
+  added g = adds table y.cursor x g h.here (subst (λ n. 1 ≤ n) (sym (h.aligns g)) (largest_one (lines_at g lines)))
 
-  end_next : (g : ℕ) (b : Bool) → nat_eq y.standing.current g ≡ b → (segment_at (layout_behind y place x).standing.segments g).end ≡ end_at g (lines ++ next ∷ [])
+  end_next : (g : ℕ) (b : Bool) → nat_eq y.cursor.current g ≡ b → (segment_at (layout_behind y place x).cursor.segments g).end ≡ end_at g (lines ++ next ∷ [])
   end_next g true e =
-      let same : y.standing.current ≡ g = equal y.standing.current g e in
-      let before : (context_of y.standing).offset ≡ end_at g lines = ap (λ n. (segment_at y.standing.segments n).end) same ∙ h.ends g in
+      let same : y.cursor.current ≡ g = equal y.cursor.current g e in
+      let before : (context_of y.cursor).offset ≡ end_at g lines = ap (λ n. (segment_at y.cursor.segments n).end) same ∙ h.ends g in
       (added g).end
-      ∙ ap (λ b. (segment_at y.standing.segments g).end + cond b last.length 0) e
-      ∙ ap (λ n. (segment_at y.standing.segments n).end + last.length) (sym same)
-      ∙ sym (line_ends table y.standing place x none)
+      ∙ ap (λ b. (segment_at y.cursor.segments g).end + cond b last.length 0) e
+      ∙ ap (λ n. (segment_at y.cursor.segments n).end + last.length) (sym same)
+      ∙ sym (line_ends table y.cursor place x none)
       ∙ ap (λ n. line_end n next.multiple last) before
       ∙ sym (end_push g lines next true e)
   end_next g false e = grind (arith, common_steps, added, end_push)
 
-  align_next : (g : ℕ) (b : Bool) → nat_eq y.standing.current g ≡ b → (segment_at (layout_behind y place x).standing.segments g).align ≡ largest_multiple (lines_at g (lines ++ next ∷ []))
+  align_next : (g : ℕ) (b : Bool) → nat_eq y.cursor.current g ≡ b → (segment_at (layout_behind y place x).cursor.segments g).align ≡ largest_multiple (lines_at g (lines ++ next ∷ []))
   align_next g b e =
       (added g).align
-      ∙ ap (λ c. cond c (max (segment_at y.standing.segments g).align next.multiple) (segment_at y.standing.segments g).align) e
+      ∙ ap (λ c. cond c (max (segment_at y.cursor.segments g).align next.multiple) (segment_at y.cursor.segments g).align) e
       ∙ ap (λ n. cond b (max n next.multiple) n) (h.aligns g)
       ∙ sym (largest_at_push g lines next b e)
 
@@ -160,12 +160,12 @@ module _ (owner : ℕ) (y : Layout) (place : Place) (x : Statement) (h : Placed 
 
   step : Placed owner (layout_behind y place x)
   step = record {
-    here = current_below y.standing last.length next.multiple x h.here h.keeps;
-    keeps = kept_below y.standing last.length next.multiple x h.here h.keeps;
-    offsets = behind_push (HasOffset owner) y.laid last h.offsets (h.ends y.standing.current);
-    ends = λ g. end_next g (nat_eq y.standing.current g) refl ∙ ap (end_at g) (sym pushed);
-    aligns = λ g. align_next g (nat_eq y.standing.current g) refl ∙ ap (λ zs. largest_multiple (lines_at g zs)) (sym pushed);
-    powers = subst ArePowers (sym pushed) (all_more (λ (z : Line). IsPower z.multiple) lines next h.powers (multiple_power table y.standing x none));
+    here = current_below y.cursor last.length next.multiple x h.here h.keeps;
+    keeps = kept_below y.cursor last.length next.multiple x h.here h.keeps;
+    offsets = behind_push (HasOffset owner) y.laid last h.offsets (h.ends y.cursor.current);
+    ends = λ g. end_next g (nat_eq y.cursor.current g) refl ∙ ap (end_at g) (sym pushed);
+    aligns = λ g. align_next g (nat_eq y.cursor.current g) refl ∙ ap (λ zs. largest_multiple (lines_at g zs)) (sym pushed);
+    powers = subst ArePowers (sym pushed) (all_more (λ (z : Line). IsPower z.multiple) lines next h.powers (multiple_power table y.cursor x none));
   }
 
 pub placed : (owner : ℕ) {y : Layout} → IsLaidOut y → Placed owner y
@@ -178,11 +178,11 @@ placed owner begun = record {
   powers = tt;
 }
   where
-    first : (g : ℕ) → (segment_at nothing_laid.standing.segments g).end ≡ 0
+    first : (g : ℕ) → (segment_at nothing_laid.cursor.segments g).end ≡ 0
     first zero = refl
     first (suc g) = refl
 
-    first_align : (g : ℕ) → (segment_at nothing_laid.standing.segments g).align ≡ 1
+    first_align : (g : ℕ) → (segment_at nothing_laid.cursor.segments g).align ≡ 1
     first_align zero = refl
     first_align (suc g) = refl
 placed owner (behind y place x d none) = step owner y place x (placed owner d) none
@@ -216,9 +216,9 @@ module _ (owner g : ℕ) where
   abbrev here : List Laid → List Line
   here ls = lines_at g (lines_behind owner [] ls)
 
-  one_more : (y : Layout) (place : Place) (x : Statement) → Placed owner y → line_fault (symbols_of y.laid) y.standing x ≡ None → EndsAt 0 (here y.laid) → (b : Bool) → nat_eq y.standing.current g ≡ b → EndsAt 0 (here (y.laid ++ laid (symbols_of y.laid) y.standing place x ∷ []))
+  one_more : (y : Layout) (place : Place) (x : Statement) → Placed owner y → line_fault (symbols_of y.laid) y.cursor x ≡ None → EndsAt 0 (here y.laid) → (b : Bool) → nat_eq y.cursor.current g ≡ b → EndsAt 0 (here (y.laid ++ laid (symbols_of y.laid) y.cursor place x ∷ []))
   one_more y place x h none ends b e = grind (arith, common_steps, pushed, lines_push, filter-append, append-nil, equal, ends_push, line_ends)
 
   pub all_end : {y : Layout} → IsLaidOut y → EndsAt 0 (here y.laid)
   all_end begun = tt
-  all_end (behind y place x d none) = one_more y place x (placed owner d) none (all_end d) (nat_eq y.standing.current g) refl
+  all_end (behind y place x d none) = one_more y place x (placed owner d) none (all_end d) (nat_eq y.cursor.current g) refl

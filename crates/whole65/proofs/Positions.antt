@@ -6,7 +6,7 @@ use Rattle.std.specs.List.{AllByRecursion, position_from}
 use Rattle.std.proofs.lemmas.Bool.Decides.{nat_tests}
 use Rattle.std.proofs.lemmas.List.{length-append, append-nil, append_assoc, take-append-drop}
 use Rattle.language65.specs.Symbols.{Laid, Symbols, symbols_of}
-use Rattle.language65.specs.Layout.{Layout, Standing, first_size, grown_at, laid, layout_behind, multiple_of, named_segments, new_segment, own_size, place_of, segment_at, segments_behind, context_of, powers}
+use Rattle.language65.specs.Layout.{Layout, Cursor, first_size, grown_at, laid, layout_behind, multiple_of, named_segments, new_segment, own_size, place_of, segment_at, segments_behind, context_of, powers}
 use Rattle.whole65.specs.Segments.{Item, Line, has_section, is_line, items_before, largest_multiple, line, line_of, lines_behind, lines_in, part_of, rounding, stands_in, end_of, items_from, segment_name, position_of}
 use Rattle.std.specs.Str.{bytes_eq}
 use Rattle.std.proofs.lemmas.Iterator.Adapters.{position_from-zero}
@@ -141,28 +141,28 @@ distinct_behind : (gs : List Segment) (current count multiple : ℕ) (x : Statem
 distinct_behind gs current count multiple x d = grind (arith, common_steps, distinct_named, grown_length, grown_name)
 
 pub record Named (y : Layout) : Type 0 where
-  pub distinct : Distinct y.standing.segments
-  pub standing : AllByRecursion (λ (l : Laid). l.context.segment < length y.standing.segments) y.laid
+  pub distinct : Distinct y.cursor.segments
+  pub cursor : AllByRecursion (λ (l : Laid). l.context.segment < length y.cursor.segments) y.laid
 
-later : (y : Layout) (place : Place) (x : Statement) → y.standing.current < length y.standing.segments → Named y → Named (layout_behind y place x)
+later : (y : Layout) (place : Place) (x : Statement) → y.cursor.current < length y.cursor.segments → Named y → Named (layout_behind y place x)
 later y place x here h =
     let z : Layout = layout_behind y place x in
-    let w : Standing = y.standing in
+    let w : Cursor = y.cursor in
     let table : Symbols = symbols_of y.laid in
     let count : ℕ = length_of table (context_of w) (own_size w) x in
     let multiple : ℕ = multiple_of table (context_of w) x in
     let more = behind_more w.segments w.current count multiple x in
-    let up : (k : ℕ) → k < length w.segments → k < length z.standing.segments = λ k lt. omega (arith, more, lt) in
+    let up : (k : ℕ) → k < length w.segments → k < length z.cursor.segments = λ k lt. omega (arith, more, lt) in
     record {
       distinct = distinct_behind w.segments w.current count multiple x h.distinct;
-      standing =
-          all_more (λ (l : Laid). l.context.segment < length z.standing.segments) y.laid (laid table w place x)
-          (all_same (λ (l : Laid). l.context.segment < length w.segments) (λ (l : Laid). l.context.segment < length z.standing.segments) (λ l below. up l.context.segment below) y.laid h.standing)
+      cursor =
+          all_more (λ (l : Laid). l.context.segment < length z.cursor.segments) y.laid (laid table w place x)
+          (all_same (λ (l : Laid). l.context.segment < length w.segments) (λ (l : Laid). l.context.segment < length z.cursor.segments) (λ l below. up l.context.segment below) y.laid h.cursor)
           (up w.current here);
     }
 
 pub named : {y : Layout} → IsLaidOut y → Named y
-named begun = record { distinct = λ g h lt lt' e. (let none : g ≡ 0 = omega (arith, lt) in let also : h ≡ 0 = omega (arith, lt') in none ∙ sym also); standing = tt }
+named begun = record { distinct = λ g h lt lt' e. (let none : g ≡ 0 = omega (arith, lt) in let also : h ≡ 0 = omega (arith, lt') in none ∙ sym also); cursor = tt }
 named (behind y place x d none) = later y place x (placed 0 d).here (named d)
 
 -- ---- Lines of a segment by its name and by its number.
@@ -170,10 +170,10 @@ named (behind y place x d none) = later y place x (placed 0 d).here (named d)
 pub itself : (xs : List ℕ) → bytes_eq xs xs ≡ true
 itself xs = grind (arith, bytes_eq-Decides xs xs)
 
-name_or_number : (y : Layout) (g h : ℕ) → Distinct y.standing.segments → g < length y.standing.segments → h < length y.standing.segments → bytes_eq (segment_name y h) (segment_name y g) ≡ nat_eq h g
+name_or_number : (y : Layout) (g h : ℕ) → Distinct y.cursor.segments → g < length y.cursor.segments → h < length y.cursor.segments → bytes_eq (segment_name y h) (segment_name y g) ≡ nat_eq h g
 name_or_number y g h d lg lh = grind (arith, common_steps, nat_tests, itself)
 
-pub by_number : (owner : ℕ) (y : Layout) (g : ℕ) → Distinct y.standing.segments → g < length y.standing.segments → (before ls : List Laid) → AllByRecursion (λ (l : Laid). l.context.segment < length y.standing.segments) ls → filter (λ (x : Line). stands_in y (segment_name y g) x.laid) (lines_behind owner before ls) ≡ lines_at g (lines_behind owner before ls)
+pub by_number : (owner : ℕ) (y : Layout) (g : ℕ) → Distinct y.cursor.segments → g < length y.cursor.segments → (before ls : List Laid) → AllByRecursion (λ (l : Laid). l.context.segment < length y.cursor.segments) ls → filter (λ (x : Line). stands_in y (segment_name y g) x.laid) (lines_behind owner before ls) ≡ lines_at g (lines_behind owner before ls)
 by_number owner y g d lg before [] h = refl
 by_number owner y g d lg before (l ∷ ls) h = grind (arith, common_steps, (by_number owner y g d lg (before ++ l ∷ []) ls h.1), name_or_number)
 
@@ -229,8 +229,8 @@ module _ (owner place : ℕ) (y : Layout) (l : Laid) (d : IsLaidOut y) (there : 
       ∙ ap (lines_at g) (lines_both owner [] (take place y.laid) (drop place y.laid))
       ∙ filter-append (λ (x : Line). nat_eq x.laid.context.segment g) (lines_behind owner [] (take place y.laid)) (lines_behind owner (take place y.laid) (drop place y.laid))
 
-  below : g < length y.standing.segments
-  below = all_get (λ (k : Laid). k.context.segment < length y.standing.segments) y.laid place l (named d).standing there
+  below : g < length y.cursor.segments
+  below = all_get (λ (k : Laid). k.context.segment < length y.cursor.segments) y.laid place l (named d).cursor there
 
   all_powers : ArePowers (front ++ behind_front)
   all_powers = subst ArePowers in_order (powers_at g (lines_behind owner [] y.laid) (placed owner d).powers)
@@ -239,7 +239,7 @@ module _ (owner place : ℕ) (y : Layout) (l : Laid) (d : IsLaidOut y) (there : 
   pub in_part : (at : ℕ) (rest : List Item) → has_section y (segment_name y g) ≡ true → end_of at (items_before owner place (part_of owner y (segment_name y g) ++ rest)) ≡ next_multiple_of at (largest_multiple (lines_in owner y (segment_name y g))) + l.context.offset
   in_part at rest asked =
       let n = named d in
-      let all : lines_in owner y (segment_name y g) ≡ lines_at g (lines_behind owner [] y.laid) = by_number owner y g n.distinct below [] y.laid n.standing in
+      let all : lines_in owner y (segment_name y g) ≡ lines_at g (lines_behind owner [] y.laid) = by_number owner y g n.distinct below [] y.laid n.cursor in
       let multiple : ℕ = largest_multiple (lines_in owner y (segment_name y g)) in
       let begin : ℕ = next_multiple_of at multiple in
       let power = largest_power (front ++ behind_front) all_powers in
@@ -249,7 +249,7 @@ module _ (owner place : ℕ) (y : Layout) (l : Laid) (d : IsLaidOut y) (there : 
       let yes : stands_in y (segment_name y g) l ≡ true = itself (segment_name y g) in
       let before : items_before owner place (map line (lines_in owner y (segment_name y g)) ++ rest) ≡ map line front =
       stopped owner place (stands_in y (segment_name y g)) [] y.laid rest place l (omega arith) there yes
-      ∙ ap (map line) (by_number owner y g n.distinct below [] (take place y.laid) (all_front (λ (k : Laid). k.context.segment < length y.standing.segments) y.laid place n.standing)) in
+      ∙ ap (map line) (by_number owner y g n.distinct below [] (take place y.laid) (all_front (λ (k : Laid). k.context.segment < length y.cursor.segments) y.laid place n.cursor)) in
       ap (λ b. end_of at (items_before owner place (cond b (rounding multiple ∷ map line (lines_in owner y (segment_name y g))) [] ++ rest))) asked
       ∙ ap (end_of begin) before
       ∙ shift_law front begin (powers_first front behind_front all_powers) (front_multiple begin front behind_front all_powers is_multiple)
@@ -310,5 +310,5 @@ power_at (x ∷ gs) zero = refl
 power_at (x ∷ gs) (suc g) = power_at gs g
 
 -- The section of an object for a segment is aligned as the module's lines in that segment are.
-pub alignment_law : (y : Layout) (owner g : ℕ) → IsLaidOut y → 2 ^ segment_power (slice_get y.standing.segments g) ≡ largest_multiple (lines_at g (lines_behind owner [] y.laid))
+pub alignment_law : (y : Layout) (owner g : ℕ) → IsLaidOut y → 2 ^ segment_power (slice_get y.cursor.segments g) ≡ largest_multiple (lines_at g (lines_behind owner [] y.laid))
 alignment_law y owner g d = grind (arith, common_steps, placed, power_at, its_power, largest_power, powers_at)

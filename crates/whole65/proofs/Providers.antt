@@ -16,7 +16,7 @@ use Rattle.script65.specs.declared.placement.Placement.{Placement}
 use Rattle.script65.specs.declared.script.Script.{Script}
 use Rattle.language65.proofs.Lists.{same_bytes}
 use Rattle.source65.specs.declared.place.Place.{Place}
-use Rattle.language65.specs.Contents.{Content, Said, Exported, Demanded, Checked}
+use Rattle.language65.specs.Contents.{Content, Declaration, Exported, ForcedImport, Asserted}
 use Rattle.language65.specs.declared.fault.AsmFault.TheVariants.{Undefined}
 use Rattle.language65.specs.Symbols.{Laid, or_else, or_fault, Symbols, defined, imported, named}
 use Rattle.language65.specs.Layout.{Layout}
@@ -40,8 +40,8 @@ use Rattle.whole65.proofs.Keyed.{form_law, keyed_law}
 use Rattle.whole65.proofs.Linked.{linked_law}
 use Rattle.whole65.proofs.Positions.{all_get}
 use Rattle.whole65.proofs.Sources.{contents_of}
-use Rattle.whole65.proofs.LinkedObjects.{IsKeyed, IsKeyedContent, IsKeyedSaid, provider_named, imports_linked, linked_objects, spot_in, symbols_at}
-use Rattle.whole65.specs.Modules.{global_spot, spot_or, table_of}
+use Rattle.whole65.proofs.LinkedObjects.{IsKeyed, IsKeyedContent, IsKeyedSaid, provider_named, imports_linked, linked_objects, context_in, symbols_at}
+use Rattle.whole65.specs.Modules.{global_context, context_or, table_of}
 use Rattle.whole65.specs.Objects.{IsExport, IsGiven, IsGivenBy, Objects, AreObjects}
 use Rattle.whole65.specs.Offsets.{IsLaidOut}
 use Rattle.whole65.specs.Programs as whole
@@ -57,7 +57,7 @@ abbrev IsWritten : Symbols → (sections numbers : List ℕ) → ℕ → Export 
 IsWritten z sections numbers count e =
     (f : Form) × (j : ℕ) × IsKeyed sections numbers count f × (e.form ≡ numbered sections numbers f) × (defined z (named 0 e.name) ≡ Some j) × (defined_form z j ≡ Ok f)
 
-written_among : (z : Symbols) (origins : Place → Origin) (sections numbers : List ℕ) (count : ℕ) (ss : List Said) (found : List Export) → AllByRecursion (IsWritten z sections numbers count) found → AllByRecursion (IsDefined z) ss → AllByRecursion (IsKeyedSaid sections numbers count) ss → AllByRecursion (IsWritten z sections numbers count) (exports_among origins sections numbers found ss)
+written_among : (z : Symbols) (origins : Place → Origin) (sections numbers : List ℕ) (count : ℕ) (ss : List Declaration) (found : List Export) → AllByRecursion (IsWritten z sections numbers count) found → AllByRecursion (IsDefined z) ss → AllByRecursion (IsKeyedSaid sections numbers count) ss → AllByRecursion (IsWritten z sections numbers count) (exports_among origins sections numbers found ss)
 written_among z origins sections numbers count [] found h d k = h
 written_among z origins sections numbers count (Exported n place f ∷ ss) found h d k =
     written_among z origins sections numbers count ss (cond (list_any (λ e. bytes_eq n e.name) found) found (found ++ record { name = n; origin = origins place; form = numbered sections numbers f } ∷ [])) (go (list_any (λ e. bytes_eq n e.name) found)) d.1 k.1
@@ -65,8 +65,8 @@ written_among z origins sections numbers count (Exported n place f ∷ ss) found
     go : (b : Bool) → AllByRecursion (IsWritten z sections numbers count) (cond b found (found ++ record { name = n; origin = origins place; form = numbered sections numbers f } ∷ []))
     go true = h
     go false = all_more (IsWritten z sections numbers count) found (record { name = n; origin = origins place; form = numbered sections numbers f }) h (f, d.0.0, k.0, refl, d.0.1, d.0.2)
-written_among z origins sections numbers count (Demanded n ∷ ss) found h d k = written_among z origins sections numbers count ss found h d.1 k.1
-written_among z origins sections numbers count (Checked act place words f ∷ ss) found h d k = written_among z origins sections numbers count ss found h d.1 k.1
+written_among z origins sections numbers count (ForcedImport n ∷ ss) found h d k = written_among z origins sections numbers count ss found h d.1 k.1
+written_among z origins sections numbers count (Asserted act place words f ∷ ss) found h d k = written_among z origins sections numbers count ss found h d.1 k.1
 
 pub keyed_said : (sections numbers : List ℕ) (count : ℕ) (cs : List Content) → AllByRecursion (IsKeyedContent sections numbers count) cs → AllByRecursion (IsKeyedSaid sections numbers count) (all_said cs)
 keyed_said sections numbers count [] h = tt
@@ -236,7 +236,7 @@ pub past_all : (ls : List Laid) → slice_get ls (length ls) ≡ None
 past_all [] = refl
 past_all (l ∷ ls) = past_all ls
 
-pub global_form : (y : Layout) (x : List ℕ) (j : ℕ) (f : Form) → defined (table_of y) (named 0 x) ≡ Some j → defined_form (table_of y) j ≡ Ok f → norm (suc (suc (length (table_of y).definitions))) (table_of y) (global_spot y) (tree.name false (x ∷ [])) ≡ Ok f
+pub global_form : (y : Layout) (x : List ℕ) (j : ℕ) (f : Form) → defined (table_of y) (named 0 x) ≡ Some j → defined_form (table_of y) j ≡ Ok f → norm (suc (suc (length (table_of y).definitions))) (table_of y) (global_context y) (tree.name false (x ∷ [])) ≡ Ok f
 global_form y x j f e h = grind (arith, common_steps)
 
 all_laid_out : (ys : List Layout) (ms : List Module) → AreSources ys ms → AllByRecursion IsLaidOut ys
@@ -259,8 +259,8 @@ module _ (s : Script) (placement : Placement) (ys : List Layout) (ms : List Modu
   l = linkage_of s (program_of ms) placement
 
   -- the normal form of an export's name behind the last statement
-  pub export_normal : (e : parts.Exported) (m : IsExportOf ys ms e) → norm (suc (suc (length (table_of m.layout).definitions))) (o.symbols e.owner) (o.spots e.owner (p.global e.owner)) (tree.name false (e.name ∷ [])) ≡ Ok m.form
-  export_normal e m = grind (arith, common_steps, symbols_at, spot_in, past_all, global_form)
+  pub export_normal : (e : parts.Exported) (m : IsExportOf ys ms e) → norm (suc (suc (length (table_of m.layout).definitions))) (o.symbols e.owner) (o.contexts e.owner (p.global e.owner)) (tree.name false (e.name ∷ [])) ≡ Ok m.form
+  export_normal e m = grind (arith, common_steps, symbols_at, context_in, past_all, global_form)
 
   of_export : (h : AreSources ys ms) (owner k : ℕ) (x : List ℕ) (i : ℕ) (e : parts.Exported) → slice_get (program_of ms).exports i ≡ Some e → e.name ≡ x → ((turns : ℕ) → o.imports turns owner k ≡ exports_through l turns i) → IsExport p o owner k x e.owner
   of_export h owner k x i e at called says =
@@ -269,7 +269,7 @@ module _ (s : Script) (placement : Placement) (ys : List Layout) (ms : List Modu
       record {
         depth = suc (suc (length (table_of y).definitions));
         form = m.form;
-        normal = subst (λ n. norm (suc (suc (length (table_of y).definitions))) (o.symbols e.owner) (o.spots e.owner (p.global e.owner)) (tree.name false (n ∷ [])) ≡ Ok m.form) called (export_normal e m);
+        normal = subst (λ n. norm (suc (suc (length (table_of y).definitions))) (o.symbols e.owner) (o.contexts e.owner (p.global e.owner)) (tree.name false (n ∷ [])) ≡ Ok m.form) called (export_normal e m);
         first = λ v q. (let never : ◌≡◌ {A = Result ℤ ValueFault} (Err Circular) (Ok v) = sym (says zero) ∙ q in absurd cc);
         later = λ turns.
             says (suc turns)

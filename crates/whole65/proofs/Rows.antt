@@ -27,7 +27,7 @@ use Rattle.whole65.proofs.Sections.{asked_are, held, keys_of, or_both, or_false,
 use Rattle.whole65.proofs.Positions.{itself}
 use Rattle.whole65.proofs.Sources.{contents_of, size_law, Behind, begin_is_multiple, behind_source, grows, no_part, part_end, section_begin, size_or, size_or_empty, unchanged, whole_part}
 use Rattle.whole65.specs.Laws.{PlacementLaw}
-use Rattle.whole65.specs.Modules.{table_of, global_spot, spot_or}
+use Rattle.whole65.specs.Modules.{table_of, global_context, context_or}
 use Rattle.whole65.specs.Segments.{asked_by, end_of, items_of, need_of, segment_name, segments_of, Item, end_behind, items_from, largest_multiple, line, lines_behind, part_of, rounding}
 use Rattle.whole65.specs.Sources.{AreSources, IsSource}
 use Rattle.std.specs.Int.{next_multiple_of}
@@ -39,7 +39,7 @@ use Rattle.module65.specs.Module.{contents_from}
 use Rattle.module65.proofs.SoundForms.{all_append}
 use Rattle.whole65.proofs.Keyed.{source_at, form_law, keyed_law}
 use Rattle.whole65.proofs.ModuleBytes.{cells_joined, cells_split, of_filled, module_law}
-use Rattle.whole65.proofs.LinkedObjects.{AreCells, IsValuedIn, cells_or, behind_modules, behind_sections, or_empty, IsKeyedContent, IsKeyedPart, linked_objects, spot_in, symbols_at}
+use Rattle.whole65.proofs.LinkedObjects.{AreCells, IsValuedIn, cells_or, behind_modules, behind_sections, or_empty, IsKeyedContent, IsKeyedPart, linked_objects, context_in, symbols_at}
 use Rattle.whole65.specs.Contents.{AreBytes}
 use Rattle.whole65.specs.Objects.{AreObjects, Objects}
 use Rattle.whole65.specs.Offsets.{IsMultiple, lines_at}
@@ -90,7 +90,7 @@ all_sections : (owner : ℕ) (ss : List Section) (gs : List Segment) → names_o
 all_sections owner [] gs = refl
 all_sections owner (s ∷ ss) gs = all_sections owner ss (with_section owner gs s) ∙ ap (λ z. with_new z (map (λ s. s.name) ss)) (one_section owner gs s)
 
-section_names : (y : Layout) (origins : Place → Origin) (sections imports : List ℕ) (cs : List Content) (ks : List ℕ) → AllByRecursion (λ g. g < length y.standing.segments) ks → map (λ (s : Section). s.name) (map (section_of origins y.standing.segments sections imports cs) ks) ≡ map (segment_name y) ks
+section_names : (y : Layout) (origins : Place → Origin) (sections imports : List ℕ) (cs : List Content) (ks : List ℕ) → AllByRecursion (λ g. g < length y.cursor.segments) ks → map (λ (s : Section). s.name) (map (section_of origins y.cursor.segments sections imports cs) ks) ≡ map (segment_name y) ks
 section_names y origins sections imports cs [] h = refl
 section_names y origins sections imports cs (k ∷ ks) h = grind (arith, common_steps, (section_names y origins sections imports cs ks h.1), name_at)
 
@@ -105,7 +105,7 @@ one_source y m known h =
     let keys = keys_of y cs h.laid_out c.found in
     let imports : List ℕ = import_keys (table_of y).imports cs in
     ap (λ (o : Object). with_new known (map (λ (s : Section). s.name) o.sections)) c.object
-    ∙ ap (with_new known) (section_names y c.origins (section_keys cs) imports cs (section_keys cs) keys.standing)
+    ∙ ap (with_new known) (section_names y c.origins (section_keys cs) imports cs (section_keys cs) keys.cursor)
     ∙ names_once (segment_name y) known [] (segments_asked cs)
     ∙ ap (λ z. with_new known (map (segment_name y) z)) (asked_are (table_of y) y.laid cs c.found)
     ∙ ap (with_new known) (names_asked y (filter (λ (l : Laid). asks_section l.stated) y.laid))
@@ -210,14 +210,14 @@ module _ (s : Script) (placement : Placement) (ys : List Layout) (ms : List Modu
       valued cs e qs h.1,
     )
 
-    spot_is : (place : ℕ) (x : Laid) → slice_get y.laid place ≡ Some x → o.spots owner place ≡ x.context
-    spot_is place x e = ap (λ r. spot_in r place) at_y ∙ ap (spot_or (global_spot y)) e
+    context_is : (place : ℕ) (x : Laid) → slice_get y.laid place ≡ Some x → o.contexts owner place ≡ x.context
+    context_is place x e = ap (λ r. context_in r place) at_y ∙ ap (context_or (global_context y)) e
 
-    lines_have : (begin key : ℕ) (origins : Place → Origin) (cs : List Content) (bytes : List ℕ) → contents_from (table_of y) y.laid ≡ Ok cs → IsMultiple begin (largest_multiple (lines_at key (lines_behind owner [] y.laid))) → AreBytes p fill begin (map line (lines_at key (lines_behind owner [] y.laid))) bytes ↔ AreCells l fill (flat_map (fragment_cells owner) (section_of origins y.standing.segments (section_keys cs) (import_keys (table_of y).imports cs) cs key).fragments) bytes
+    lines_have : (begin key : ℕ) (origins : Place → Origin) (cs : List Content) (bytes : List ℕ) → contents_from (table_of y) y.laid ≡ Ok cs → IsMultiple begin (largest_multiple (lines_at key (lines_behind owner [] y.laid))) → AreBytes p fill begin (map line (lines_at key (lines_behind owner [] y.laid))) bytes ↔ AreCells l fill (flat_map (fragment_cells owner) (section_of origins y.cursor.segments (section_keys cs) (import_keys (table_of y).imports cs) cs key).fragments) bytes
     lines_have begin key origins cs bytes e multiple =
         let sections : List ℕ = section_keys cs in
         let imports : List ℕ = import_keys (table_of y).imports cs in
-        module_law ValueFault p o l fill begin owner key y cs origins sections imports bytes objects (ap symbols_at at_y) spot_is source.laid_out multiple e
+        module_law ValueFault p o l fill begin owner key y cs origins sections imports bytes objects (ap symbols_at at_y) context_is source.laid_out multiple e
         (valued cs e (parts_in cs key) (keyed_in sections imports (length (table_of y).imports) key cs (keyed_law y cs source.sound e)))
 
     one_part : (g : Option Segment) (bytes : List ℕ) → AreCells l fill (cells_or (behind_sections owner name g m.object.sections)) bytes ↔ Split (cells_or g) (size_or g) (part_of owner y name) bytes
@@ -238,7 +238,7 @@ module _ (s : Script) (placement : Placement) (ys : List Layout) (ms : List Modu
             origins = (contents_of y m source).origins
 
             sec : Section
-            sec = section_of origins y.standing.segments (section_keys cs) (import_keys (table_of y).imports cs) cs key
+            sec = section_of origins y.cursor.segments (section_keys cs) (import_keys (table_of y).imports cs) cs key
 
             multiple : ℕ
             multiple = largest_multiple (lines_at key (lines_behind owner [] y.laid))

@@ -148,8 +148,8 @@ one_value_law p owner place e v w d h = unique p d w h
 
 -- the form of what means this, through at most so many constants
 abbrev pub IsFormOf : {E : Type 0} → Objects E → ℕ → ℕ → Form → Meaning → Type 0
-IsFormOf o depth owner f (label_at place) = f ≡ address_of (o.spots owner place)
-IsFormOf o depth owner f (constant_at place e) = norm depth (o.symbols owner) (o.spots owner place) e ≡ Ok f
+IsFormOf o depth owner f (label_at place) = f ≡ address_of (o.contexts owner place)
+IsFormOf o depth owner f (constant_at place e) = norm depth (o.symbols owner) (o.contexts owner place) e ≡ Ok f
 IsFormOf o depth owner f (import_of x) = (k : ℕ) × (slice_get (o.symbols owner).imports k ≡ Some x) × (f ≡ imp k)
 
 abbrev pub IsForm : {E : Type 0} → Objects E → ℕ → ℕ → Form → Option Meaning → Type 0
@@ -158,11 +158,11 @@ IsForm o depth owner f None = (k : ℕ) × (slice_get (o.symbols owner).imports 
 
 module _ {E : Type 0} (p : Program) (o : Objects E) (h : AreObjects p o) where
   -- the form of an operand is that of what it means
-  pub operand : (depth owner place : ℕ) (e : Tree) (f : Form) → (meaning_of (o.symbols owner) (o.spots owner place) e >>= form_of_meaning (norm depth (o.symbols owner)) (o.symbols owner)) ≡ Ok f → IsForm o depth owner f (p.means owner place e)
+  pub operand : (depth owner place : ℕ) (e : Tree) (f : Form) → (meaning_of (o.symbols owner) (o.contexts owner place) e >>= form_of_meaning (norm depth (o.symbols owner)) (o.symbols owner)) ≡ Ok f → IsForm o depth owner f (p.means owner place e)
   operand depth owner place e f q = grind (arith, common_steps)
 
   -- likewise of an expression that has a meaning
-  pub meant : (depth owner place : ℕ) (e : Tree) (m : Meaning) (f : Form) → meaning_in p owner place e ≡ Some m → norm (suc depth) (o.symbols owner) (o.spots owner place) e ≡ Ok f → IsFormOf o depth owner f m
+  pub meant : (depth owner place : ℕ) (e : Tree) (m : Meaning) (f : Form) → meaning_in p owner place e ≡ Some m → norm (suc depth) (o.symbols owner) (o.contexts owner place) e ≡ Ok f → IsFormOf o depth owner f m
   meant depth owner place x m f w q = grind (arith, common_steps)
 
 -- ---- A normal form has the value of its expression.
@@ -175,16 +175,16 @@ or_none_from none x v q = grind (arith, common_steps)
 
 module _ {E : Type 0} (p : Program) (o : Objects E) (h : AreObjects p o) where
   -- the forms of an operation's parts
-  one_part : (depth owner place : ℕ) (op : Op1) (e : Tree) (f : Form) → norm (suc depth) (o.symbols owner) (o.spots owner place) (tree.unary op e) ≡ Ok f → (g : Form) × (norm (suc depth) (o.symbols owner) (o.spots owner place) e ≡ Ok g) × (fold1 op g ≡ Ok f)
+  one_part : (depth owner place : ℕ) (op : Op1) (e : Tree) (f : Form) → norm (suc depth) (o.symbols owner) (o.contexts owner place) (tree.unary op e) ≡ Ok f → (g : Form) × (norm (suc depth) (o.symbols owner) (o.contexts owner place) e ≡ Ok g) × (fold1 op g ≡ Ok f)
   one_part depth owner place op e f q = grind (arith, common_steps)
 
-  two_parts : (depth owner place : ℕ) (op : Op2) (d e : Tree) (f : Form) → norm (suc depth) (o.symbols owner) (o.spots owner place) (tree.binary op d e) ≡ Ok f → (g : Form) × (k : Form) × (norm (suc depth) (o.symbols owner) (o.spots owner place) d ≡ Ok g) × (norm (suc depth) (o.symbols owner) (o.spots owner place) e ≡ Ok k) × (fold2 op g k ≡ Ok f)
+  two_parts : (depth owner place : ℕ) (op : Op2) (d e : Tree) (f : Form) → norm (suc depth) (o.symbols owner) (o.contexts owner place) (tree.binary op d e) ≡ Ok f → (g : Form) × (k : Form) × (norm (suc depth) (o.symbols owner) (o.contexts owner place) d ≡ Ok g) × (norm (suc depth) (o.symbols owner) (o.contexts owner place) e ≡ Ok k) × (fold2 op g k ≡ Ok f)
   two_parts depth owner place op d e f q =
-      let (g, r, t) = bind_ok (norm (suc depth) (o.symbols owner) (o.spots owner place) d) (λ g. norm (suc depth) (o.symbols owner) (o.spots owner place) e >>= (λ k. folded (fold2 op g k))) f q in
-      let (k, s, u) = bind_ok (norm (suc depth) (o.symbols owner) (o.spots owner place) e) (λ k. folded (fold2 op g k)) f t in
+      let (g, r, t) = bind_ok (norm (suc depth) (o.symbols owner) (o.contexts owner place) d) (λ g. norm (suc depth) (o.symbols owner) (o.contexts owner place) e >>= (λ k. folded (fold2 op g k))) f q in
+      let (k, s, u) = bind_ok (norm (suc depth) (o.symbols owner) (o.contexts owner place) e) (λ k. folded (fold2 op g k)) f t in
       (g, k, r, s, folded_ok (fold2 op g k) f u)
 
-  at_place : (turns owner place : ℕ) → form_value o turns owner (address_of (o.spots owner place)) ≡ Ok (p.address owner place)
+  at_place : (turns owner place : ℕ) → form_value o turns owner (address_of (o.contexts owner place)) ≡ Ok (p.address owner place)
   at_place turns owner place = ap Ok (sym (h.addresses owner place))
 
   -- ---- From the program to the objects.
@@ -199,7 +199,7 @@ module _ {E : Type 0} (p : Program) (o : Objects E) (h : AreObjects p o) where
   of_script : (owner k : ℕ) (x : List ℕ) (v : ℤ) → slice_get (o.symbols owner).imports k ≡ Some x → p.provider x ≡ by_script v → o.imports zero owner k ≡ Ok v
   of_script owner k x v there g = grind (arith, common_steps)
 
-  linked : {owner place : ℕ} {e : Tree} {v : ℤ} → Value p owner place e v → (depth : ℕ) (f : Form) → norm depth (o.symbols owner) (o.spots owner place) e ≡ Ok f → HasValue o owner f v
+  linked : {owner place : ℕ} {e : Tree} {v : ℤ} → Value p owner place e v → (depth : ℕ) (f : Form) → norm depth (o.symbols owner) (o.contexts owner place) e ≡ Ok f → HasValue o owner f v
   linked d zero f q = cc
   linked (number {n = n}) (suc depth) f q = let same : lit (pos n) ≡ f = cc in (0, rw (← same) refl)
   linked (here {owner = owner} {place = place}) (suc depth) f q = grind (arith, common_steps, at_place)
@@ -227,14 +227,14 @@ module _ {E : Type 0} (p : Program) (o : Objects E) (h : AreObjects p o) where
   -- ---- From the objects to the program.
   -- what is known of forms, one export deeper
   abbrev Below : ℕ → Type 0
-  Below turns = (depth owner place : ℕ) (e : Tree) (f : Form) (v : ℤ) → norm depth (o.symbols owner) (o.spots owner place) e ≡ Ok f → form_value o turns owner f ≡ Ok v → Value p owner place e v
+  Below turns = (depth owner place : ℕ) (e : Tree) (f : Form) (v : ℤ) → norm depth (o.symbols owner) (o.contexts owner place) e ≡ Ok f → form_value o turns owner f ≡ Ok v → Value p owner place e v
 
   abbrev BelowExport : ℕ → Type 0
   BelowExport turns = (before : ℕ) → turns ≡ suc before → Below before
 
   -- what is known through one constant less
   abbrev Through : ℕ → ℕ → Type 0
-  Through turns depth = (owner place : ℕ) (e : Tree) (f : Form) (v : ℤ) → norm depth (o.symbols owner) (o.spots owner place) e ≡ Ok f → form_value o turns owner f ≡ Ok v → Value p owner place e v
+  Through turns depth = (owner place : ℕ) (e : Tree) (f : Form) (v : ℤ) → norm depth (o.symbols owner) (o.contexts owner place) e ≡ Ok f → form_value o turns owner f ≡ Ok v → Value p owner place e v
 
   import_back : (turns : ℕ) → BelowExport turns → (owner place k : ℕ) (e : Tree) (x : List ℕ) (v : ℤ) → meaning_in p owner place e ≡ Some (import_of x) → (g : Provider) → p.provider x ≡ g → IsGivenBy p o owner k x g → o.imports turns owner k ≡ Ok v → Value p owner place e v
   import_back zero below owner place k e x v w (by_module provider) g given d = absurd (given.first v d)
@@ -255,14 +255,14 @@ module _ {E : Type 0} (p : Program) (o : Objects E) (h : AreObjects p o) where
   meaning_back turns below depth through owner place e f v (Some (constant_at at g)) w q d = constant w (through owner at g f v q d)
   meaning_back turns below depth through owner place e f v (Some (import_of x)) w (k, there, same) d = grind (arith, common_steps, import_back)
 
-  expression_back : (turns : ℕ) → BelowExport turns → (depth : ℕ) → Through turns depth → (owner place : ℕ) (e : Tree) (f : Form) (v : ℤ) → norm (suc depth) (o.symbols owner) (o.spots owner place) e ≡ Ok f → form_value o turns owner f ≡ Ok v → Value p owner place e v
+  expression_back : (turns : ℕ) → BelowExport turns → (depth : ℕ) → Through turns depth → (owner place : ℕ) (e : Tree) (f : Form) (v : ℤ) → norm (suc depth) (o.symbols owner) (o.contexts owner place) e ≡ Ok f → form_value o turns owner f ≡ Ok v → Value p owner place e v
   expression_back turns below depth through owner place (tree.number n) f v q d =
       let same : lit (pos n) ≡ f = cc in
       let there : Ok (pos n) ≡ Ok v = rw (← same) at d in
       let one : pos n ≡ v = cc there in
       subst (λ z. Value p owner place (tree.number n) z) one number
   expression_back turns below depth through owner place tree.here f v q d =
-      let same : address_of (o.spots owner place) ≡ f = cc in
+      let same : address_of (o.contexts owner place) ≡ f = cc in
       let there : Ok (p.address owner place) ≡ Ok v = sym (at_place turns owner place) ∙ (rw (← same) at d) in
       let one : p.address owner place ≡ v = cc there in
       subst (λ z. Value p owner place tree.here z) one here

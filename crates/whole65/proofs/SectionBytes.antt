@@ -14,7 +14,7 @@ use Rattle.object65.specs.Objects.{fits_width, value_bytes}
 use Rattle.object65.specs.declared.object.Width.{Width}
 use Rattle.object65.specs.declared.object.Width.TheVariants.{Byte, Word, HighFirst, Dword, Branch}
 use Rattle.source65.specs.declared.place.Place.{Place}
-use Rattle.language65.specs.Contents.{Part, Known, Waiting, Content, Said, operand_form, stored, written, instruction_parts, item_part, opcode_part, operand_part, operand_parts, operand_tree, parts_of, room_part, content_of, said_of}
+use Rattle.language65.specs.Contents.{Part, Known, Waiting, Content, Declaration, operand_form, stored, written, instruction_parts, item_part, opcode_part, operand_part, operand_parts, operand_tree, parts_of, room_part, content_of, said_of}
 use Rattle.language65.specs.declared.fault.AsmFault.{AsmFault}
 use Rattle.language65.specs.declared.fault.AsmFault.TheVariants.{OutOfRange}
 use Rattle.language65.specs.declared.laid.Context.{Context}
@@ -115,7 +115,7 @@ module _ {E : Type 0} (o : Objects E) (owner fill : ℕ) where
 
 -- ---- The bytes of lines and those of parts.
 
-module _ {E : Type 0} (p : Program) (o : Objects E) (h : AreObjects p o) (fill : ℕ) (x : Line) (at_spot : o.spots x.owner x.place ≡ x.laid.context) where
+module _ {E : Type 0} (p : Program) (o : Objects E) (h : AreObjects p o) (fill : ℕ) (x : Line) (at_context : o.contexts x.owner x.place ≡ x.laid.context) where
   -- one part alone
   single : (q : Part) (bytes : List ℕ) → ArePart (HasValue o x.owner) fill q bytes ↔ AreParts (HasValue o x.owner) fill (q ∷ []) bytes
   single q bytes = grind (arith, common_steps)
@@ -126,11 +126,11 @@ module _ {E : Type 0} (p : Program) (o : Objects E) (h : AreObjects p o) (fill :
   -- an expression has the value of its form
   values : (e : Tree) (f : Form) (v : ℤ) → norm_of (o.symbols x.owner) x.laid.context e ≡ Ok f → Value p x.owner x.place e v ↔ HasValue o x.owner f v
   values e f v q =
-      let there = subst (λ s. norm_of (o.symbols x.owner) s e ≡ Ok f) (sym at_spot) q in
+      let there = subst (λ s. norm_of (o.symbols x.owner) s e ≡ Ok f) (sym at_context) q in
       same_values_law E p o h (suc (length (o.symbols x.owner).definitions)) x.owner x.place e f v there
 
   address : p.address x.owner x.place ≡ wrapped (o.bases x.owner x.laid.context.segment +ℤ pos x.laid.context.offset)
-  address = subst (λ (s : Context). p.address x.owner x.place ≡ wrapped (o.bases x.owner s.segment +ℤ pos s.offset)) at_spot (h.addresses x.owner x.place)
+  address = subst (λ (s : Context). p.address x.owner x.place ≡ wrapped (o.bases x.owner s.segment +ℤ pos s.offset)) at_context (h.addresses x.owner x.place)
 
   -- ---- Data.
 
@@ -205,7 +205,7 @@ module _ {E : Type 0} (p : Program) (o : Objects E) (h : AreObjects p o) (fill :
       let same : ArePart (HasValue o x.owner) fill (room_part len s) bytes ≡ (bytes ≡ replicate count (filling fill s)) = of_room len s bytes ∙ ap (λ n. bytes ≡ replicate n (filling fill s)) (sym e) in
       (λ k. alone.0 (subst (λ z. z) (sym same) k), λ k. subst (λ z. z) same (alone.1 k))
 
-of_line : {E : Type 0} (p : Program) (o : Objects E) → AreObjects p o → (fill at : ℕ) (x : Line) (t : Statement) (ps : List Part) (bytes : List ℕ) → o.spots x.owner x.place ≡ x.laid.context → line_end at x.multiple (record x.laid { stated = t }) ≡ at + x.laid.length → parts_of (o.symbols x.owner) (record x.laid { stated = t }) ≡ Ok ps → AreLine p fill at (record x { laid = record x.laid { stated = t } }) bytes ↔ AreParts (HasValue o x.owner) fill ps bytes
+of_line : {E : Type 0} (p : Program) (o : Objects E) → AreObjects p o → (fill at : ℕ) (x : Line) (t : Statement) (ps : List Part) (bytes : List ℕ) → o.contexts x.owner x.place ≡ x.laid.context → line_end at x.multiple (record x.laid { stated = t }) ≡ at + x.laid.length → parts_of (o.symbols x.owner) (record x.laid { stated = t }) ≡ Ok ps → AreLine p fill at (record x { laid = record x.laid { stated = t } }) bytes ↔ AreParts (HasValue o x.owner) fill ps bytes
 of_line p o h fill at x (statement.Instruction m d) ps bytes s e q = of_instruction p o h fill x s m d x.laid.settled ps bytes q
 of_line p o h fill at x (statement.Values width is) ps bytes s e q = of_items p o h fill x s width is ps bytes q
 of_line p o h fill at x (statement.Reserve n v) ps bytes s e q = room p o h fill x s x.laid.length x.laid.length x.laid.settled ps bytes refl q
@@ -217,7 +217,7 @@ of_line p o h fill at x t ps bytes s e q = none p o h fill x s ps bytes q
 
 -- A line of the whole program has the bytes of the parts that its statement puts into the section, at a position at which it
 -- ends its length further on.
-pub parts_law : (E : Type 0) → (p : Program) (o : Objects E) (fill at : ℕ) (x : Line) (ps : List Part) (bytes : List ℕ) → AreObjects p o → o.spots x.owner x.place ≡ x.laid.context → line_end at x.multiple x.laid ≡ at + x.laid.length → parts_of (o.symbols x.owner) x.laid ≡ Ok ps → AreLine p fill at x bytes ↔ AreParts (HasValue o x.owner) fill ps bytes
+pub parts_law : (E : Type 0) → (p : Program) (o : Objects E) (fill at : ℕ) (x : Line) (ps : List Part) (bytes : List ℕ) → AreObjects p o → o.contexts x.owner x.place ≡ x.laid.context → line_end at x.multiple x.laid ≡ at + x.laid.length → parts_of (o.symbols x.owner) x.laid ≡ Ok ps → AreLine p fill at x bytes ↔ AreParts (HasValue o x.owner) fill ps bytes
 parts_law E p o fill at x ps bytes h s e q = of_line p o h fill at x x.laid.stated ps bytes s e q
 
 -- ---- Parts behind parts.
@@ -254,7 +254,7 @@ pub in_middle : (before : List Laid) (l : Laid) (ls : List Laid) → slice_get (
 in_middle [] l ls = refl
 in_middle (x ∷ before) l ls = in_middle before l ls
 
-module _ {E : Type 0} (p : Program) (o : Objects E) (h : AreObjects p o) (fill owner g : ℕ) (all : List Laid) (spots : (place : ℕ) (l : Laid) → slice_get all place ≡ Some l → o.spots owner place ≡ l.context) where
+module _ {E : Type 0} (p : Program) (o : Objects E) (h : AreObjects p o) (fill owner g : ℕ) (all : List Laid) (contexts : (place : ℕ) (l : Laid) → slice_get all place ≡ Some l → o.contexts owner place ≡ l.context) where
   abbrev here : List Laid → List Laid → List Line
   here before ls = lines_at g (lines_behind owner before ls)
 
@@ -268,11 +268,11 @@ module _ {E : Type 0} (p : Program) (o : Objects E) (h : AreObjects p o) (fill o
       let content = content_is (o.symbols owner) l c (placed_ok l.place (content_of (o.symbols owner) l) c first) in
       let next : (before ++ l ∷ []) ++ ls ≡ all = append_assoc before (l ∷ []) ls ∙ w in
       let there : slice_get all (length before) ≡ Some l = subst (λ z. slice_get z (length before) ≡ Some l) w (in_middle before l ls) in
-      let context = spots (length before) l there in
+      let context = contexts (length before) l there in
       let step = go c content ds (λ z more_bytes ends. of_lines (before ++ l ∷ []) ls ds z more_bytes next ends more) context (nat_eq l.context.segment g) refl ends in
       (λ k. subst (λ z. AreParts (HasValue o owner) fill (parts_in z g) bytes) same (step.0 k), λ k. step.1 (subst (λ z. AreParts (HasValue o owner) fill (parts_in z g) bytes) (sym same) k))
     where
-      go : (c : Content) → IsContent (o.symbols owner) l c → (ds : List Content) → ((z : ℕ) (more : List ℕ) → EndsAt z (lines_at g (lines_behind owner (before ++ l ∷ []) ls)) → AreBytes p fill z (map line (lines_at g (lines_behind owner (before ++ l ∷ []) ls))) more ↔ AreParts (HasValue o owner) fill (parts_in ds g) more) → o.spots owner (length before) ≡ l.context → (b : Bool) → nat_eq l.context.segment g ≡ b → EndsAt at (cond (nat_eq l.context.segment g) (line_of owner before l ∷ lines_at g (lines_behind owner (before ++ l ∷ []) ls)) (lines_at g (lines_behind owner (before ++ l ∷ []) ls))) → AreBytes p fill at (map line (cond (nat_eq l.context.segment g) (line_of owner before l ∷ lines_at g (lines_behind owner (before ++ l ∷ []) ls)) (lines_at g (lines_behind owner (before ++ l ∷ []) ls)))) bytes ↔ AreParts (HasValue o owner) fill (parts_in (c ∷ ds) g) bytes
+      go : (c : Content) → IsContent (o.symbols owner) l c → (ds : List Content) → ((z : ℕ) (more : List ℕ) → EndsAt z (lines_at g (lines_behind owner (before ++ l ∷ []) ls)) → AreBytes p fill z (map line (lines_at g (lines_behind owner (before ++ l ∷ []) ls))) more ↔ AreParts (HasValue o owner) fill (parts_in ds g) more) → o.contexts owner (length before) ≡ l.context → (b : Bool) → nat_eq l.context.segment g ≡ b → EndsAt at (cond (nat_eq l.context.segment g) (line_of owner before l ∷ lines_at g (lines_behind owner (before ++ l ∷ []) ls)) (lines_at g (lines_behind owner (before ++ l ∷ []) ls))) → AreBytes p fill at (map line (cond (nat_eq l.context.segment g) (line_of owner before l ∷ lines_at g (lines_behind owner (before ++ l ∷ []) ls)) (lines_at g (lines_behind owner (before ++ l ∷ []) ls)))) bytes ↔ AreParts (HasValue o owner) fill (parts_in (c ∷ ds) g) bytes
       go c content ds deeper context b e ends =
           let number : nat_eq c.segment g ≡ b = ap (λ n. nat_eq n g) content.segment ∙ e in
           let lines_are : cond (nat_eq l.context.segment g) (line_of owner before l ∷ lines_at g (lines_behind owner (before ++ l ∷ []) ls)) (lines_at g (lines_behind owner (before ++ l ∷ []) ls)) ≡ cond b (line_of owner before l ∷ lines_at g (lines_behind owner (before ++ l ∷ []) ls)) (lines_at g (lines_behind owner (before ++ l ∷ []) ls)) = ap (λ z. cond z (line_of owner before l ∷ lines_at g (lines_behind owner (before ++ l ∷ []) ls)) (lines_at g (lines_behind owner (before ++ l ∷ []) ls))) e in
@@ -294,5 +294,5 @@ module _ {E : Type 0} (p : Program) (o : Objects E) (h : AreObjects p o) (fill o
 
 -- A module's lines in a segment, from a multiple of their alignment on, have the bytes of what its statements put into the
 -- section.
-pub section_law : (E : Type 0) → (p : Program) (o : Objects E) (fill begin owner g : ℕ) (y : Layout) (cs : List Content) (bytes : List ℕ) → AreObjects p o → o.symbols owner ≡ table_of y → ((place : ℕ) (l : Laid) → slice_get y.laid place ≡ Some l → o.spots owner place ≡ l.context) → IsLaidOut y → IsMultiple begin (largest_multiple (lines_at g (lines_behind owner [] y.laid))) → contents_from (table_of y) y.laid ≡ Ok cs → AreBytes p fill begin (map line (lines_at g (lines_behind owner [] y.laid))) bytes ↔ AreParts (HasValue o owner) fill (parts_in cs g) bytes
-section_law x p o fill begin owner g y cs bytes h table spots d m e = grind (arith, common_steps, powers_at, placed, ends_moved, all_end, of_lines)
+pub section_law : (E : Type 0) → (p : Program) (o : Objects E) (fill begin owner g : ℕ) (y : Layout) (cs : List Content) (bytes : List ℕ) → AreObjects p o → o.symbols owner ≡ table_of y → ((place : ℕ) (l : Laid) → slice_get y.laid place ≡ Some l → o.contexts owner place ≡ l.context) → IsLaidOut y → IsMultiple begin (largest_multiple (lines_at g (lines_behind owner [] y.laid))) → contents_from (table_of y) y.laid ≡ Ok cs → AreBytes p fill begin (map line (lines_at g (lines_behind owner [] y.laid))) bytes ↔ AreParts (HasValue o owner) fill (parts_in cs g) bytes
+section_law x p o fill begin owner g y cs bytes h table contexts d m e = grind (arith, common_steps, powers_at, placed, ends_moved, all_end, of_lines)

@@ -142,7 +142,7 @@ below_all bound (l ∷ ls) h = grind (arith, common_steps, (below_all bound ls h
 -- the keys of a module's sections
 pub record AreKeys (y : Layout) (keys : List ℕ) : Type 0 where
   pub single : AreOnce keys
-  pub standing : AllByRecursion (λ g. g < length y.standing.segments) keys
+  pub cursor : AllByRecursion (λ g. g < length y.cursor.segments) keys
   pub has : (name : List ℕ) → has_section y name ≡ list_any (λ g. bytes_eq (segment_name y g) name) keys
 
 pub keys_of : (y : Layout) (cs : List Content) → IsLaidOut y → contents_from (table_of y) y.laid ≡ Ok cs → AreKeys y (section_keys cs)
@@ -150,7 +150,7 @@ keys_of y cs d e =
     let asked = asked_are (table_of y) y.laid cs e in
     record {
       single = are_once [] (segments_asked cs) tt;
-      standing = all_once (λ g. g < length y.standing.segments) [] (segments_asked cs) tt (subst (AllByRecursion (λ g. g < length y.standing.segments)) (sym asked) (below_all (length y.standing.segments) y.laid (named d).standing));
+      cursor = all_once (λ g. g < length y.cursor.segments) [] (segments_asked cs) tt (subst (AllByRecursion (λ g. g < length y.cursor.segments)) (sym asked) (below_all (length y.cursor.segments) y.laid (named d).cursor));
       has = λ name. asked_there y name y.laid ∙ ap (list_any (λ g. bytes_eq (segment_name y g) name)) (sym asked) ∙ sym (any_once (λ g. bytes_eq (segment_name y g) name) [] (segments_asked cs));
     }
 
@@ -163,15 +163,15 @@ name_at (x ∷ gs) (suc g) lt = name_at gs g (omega (arith, lt))
 
 module _ (y : Layout) (owner : ℕ) (origins : Place → Origin) (sections imports : List ℕ) (cs : List Content) (name : List ℕ) where
   abbrev pub its_section : ℕ → Section
-  its_section g = section_of origins y.standing.segments sections imports cs g
+  its_section g = section_of origins y.cursor.segments sections imports cs g
 
   abbrev is_named : ℕ → Bool
   is_named g = bytes_eq (segment_name y g) name
 
-  section_named : (g : ℕ) → g < length y.standing.segments → bytes_eq (its_section g).name name ≡ is_named g
-  section_named g lt = ap (λ n. bytes_eq n name) (name_at y.standing.segments g lt)
+  section_named : (g : ℕ) → g < length y.cursor.segments → bytes_eq (its_section g).name name ≡ is_named g
+  section_named g lt = ap (λ n. bytes_eq n name) (name_at y.cursor.segments g lt)
 
-  pub none_there : (ks : List ℕ) → AllByRecursion (λ g. g < length y.standing.segments) ks → list_any is_named ks ≡ false → (g : Option linked.Segment) → behind_sections owner name g (map its_section ks) ≡ g
+  pub none_there : (ks : List ℕ) → AllByRecursion (λ g. g < length y.cursor.segments) ks → list_any is_named ks ≡ false → (g : Option linked.Segment) → behind_sections owner name g (map its_section ks) ≡ g
   none_there [] h e g = refl
   none_there (k ∷ ks) h e g =
       let both = neither (is_named k) (list_any is_named ks) e in
@@ -179,7 +179,7 @@ module _ (y : Layout) (owner : ℕ) (origins : Place → Origin) (sections impor
       ∙ none_there ks h.1 both.1 g
 
   -- no other key is of the same name
-  others_apart : (k : ℕ) → Distinct y.standing.segments → k < length y.standing.segments → is_named k ≡ true → (ks : List ℕ) → AllByRecursion (λ g. g < length y.standing.segments) ks → list_any (nat_eq k) ks ≡ false → list_any is_named ks ≡ false
+  others_apart : (k : ℕ) → Distinct y.cursor.segments → k < length y.cursor.segments → is_named k ≡ true → (ks : List ℕ) → AllByRecursion (λ g. g < length y.cursor.segments) ks → list_any (nat_eq k) ks ≡ false → list_any is_named ks ≡ false
   others_apart k d lt e [] h apart = refl
   others_apart k d lt e (x ∷ ks) h apart =
       let both = neither (nat_eq k x) (list_any (nat_eq k) ks) apart in
@@ -199,11 +199,11 @@ module _ (y : Layout) (owner : ℕ) (origins : Place → Origin) (sections impor
   pub record IsGrown (ks : List ℕ) (g : Option linked.Segment) : Type 0 where
     pub key : ℕ
     pub among : list_any (nat_eq key) ks ≡ true
-    pub below : key < length y.standing.segments
+    pub below : key < length y.cursor.segments
     pub called : segment_name y key ≡ name
     pub is : behind_sections owner name g (map its_section ks) ≡ Some (grown owner (or_empty name g) (its_section key))
 
-  pub one_there : (ks : List ℕ) → Distinct y.standing.segments → AllByRecursion (λ g. g < length y.standing.segments) ks → AreOnce ks → list_any is_named ks ≡ true → (g : Option linked.Segment) → IsGrown ks g
+  pub one_there : (ks : List ℕ) → Distinct y.cursor.segments → AllByRecursion (λ g. g < length y.cursor.segments) ks → AreOnce ks → list_any is_named ks ≡ true → (g : Option linked.Segment) → IsGrown ks g
   one_there [] d h o e g = cc
   one_there (k ∷ ks) d h o e g = go (is_named k) refl e (λ e. one_there ks d h.1 o.1 e g)
     where

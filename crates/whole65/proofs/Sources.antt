@@ -161,7 +161,7 @@ module _ (z : Symbols) (owner g : ℕ) where
               omega (arith, first, rest, own, both)
 
 -- It is as long as they are.
-pub length_law : (y : Layout) (owner g : ℕ) (cs : List Content) (origins : Place → Origin) (sections imports : List ℕ) → IsLaidOut y → IsSoundLayout y → contents_from (table_of y) y.laid ≡ Ok cs → section_len (section_of origins y.standing.segments sections imports cs g) ≡ end_of 0 (map line (lines_at g (lines_behind owner [] y.laid)))
+pub length_law : (y : Layout) (owner g : ℕ) (cs : List Content) (origins : Place → Origin) (sections imports : List ℕ) → IsLaidOut y → IsSoundLayout y → contents_from (table_of y) y.laid ≡ Ok cs → section_len (section_of origins y.cursor.segments sections imports cs g) ≡ end_of 0 (map line (lines_at g (lines_behind owner [] y.laid)))
 length_law y owner g cs origins sections imports d s e =
     let parts = joined_parts_long origins sections imports (parts_in cs g) in
     let lines = lines_long (table_of y) owner g [] y.laid cs 0 (all_end owner g d) (all_lines_long y s) e in
@@ -177,16 +177,16 @@ pub record HasContents (y : Layout) (m : Module) : Type 0 where
   pub files : List (List ℕ)
   -- what places are in the object
   pub origins : Place → Origin
-  pub object : m.object ≡ object_by version files origins y.standing.segments (table_of y).imports contents
+  pub object : m.object ≡ object_by version files origins y.cursor.segments (table_of y).imports contents
 
 pub contents_of : (y : Layout) (m : Module) → IsSource y m → HasContents y m
 contents_of y m h =
     let names : List (List ℕ) = (table_of y).imports in
-    let (cs, first, last) = bind_ok (contents_from (table_of y) y.laid) (λ cs. Ok (object_with y.standing.segments names cs)) h.written h.object in
-    let same : object_with y.standing.segments names cs ≡ h.written = cc last in
+    let (cs, first, last) = bind_ok (contents_from (table_of y) y.laid) (λ cs. Ok (object_with y.cursor.segments names cs)) h.written h.object in
+    let same : object_with y.cursor.segments names cs ≡ h.written = cc last in
     go cs first same h.version
   where
-    go : (cs : List Content) → contents_from (table_of y) y.laid ≡ Ok cs → object_with y.standing.segments (table_of y).imports cs ≡ h.written → IsEitherVersion h.written m.object → HasContents y m
+    go : (cs : List Content) → contents_from (table_of y) y.laid ≡ Ok cs → object_with y.cursor.segments (table_of y).imports cs ≡ h.written → IsEitherVersion h.written m.object → HasContents y m
     go cs first same (inl as_written) = record {
       contents = cs;
       found = first;
@@ -201,15 +201,15 @@ contents_of y m h =
       version = 1;
       files = [];
       origins = λ place. line_alone (in_files (files_of cs) place);
-      object = in_one ∙ ap in_version_one (sym same) ∙ by_lines 2 (files_of cs) (in_files (files_of cs)) y.standing.segments (table_of y).imports cs;
+      object = in_one ∙ ap in_version_one (sym same) ∙ by_lines 2 (files_of cs) (in_files (files_of cs)) y.cursor.segments (table_of y).imports cs;
     }
 
-pub same_object : (y : Layout) (m : Module) (cs : List Content) → (h : IsSource y m) → contents_from (table_of y) y.laid ≡ Ok cs → m.object ≡ object_by (contents_of y m h).version (contents_of y m h).files (contents_of y m h).origins y.standing.segments (table_of y).imports cs
+pub same_object : (y : Layout) (m : Module) (cs : List Content) → (h : IsSource y m) → contents_from (table_of y) y.laid ≡ Ok cs → m.object ≡ object_by (contents_of y m h).version (contents_of y m h).files (contents_of y m h).origins y.cursor.segments (table_of y).imports cs
 same_object y m cs h e =
     let c = contents_of y m h in
     let both : ◌≡◌ {A = Result (List Content) PlacedFault} (Ok c.contents) (Ok cs) = sym c.found ∙ e in
     let same : c.contents ≡ cs = cc both in
-    c.object ∙ ap (object_by c.version c.files c.origins y.standing.segments (table_of y).imports) same
+    c.object ∙ ap (object_by c.version c.files c.origins y.cursor.segments (table_of y).imports) same
 
 -- ---- One section.
 
@@ -223,9 +223,9 @@ size_or_empty name x = grind (arith, common_steps)
 pub data Behind (y : Layout) (m : Module) (origins : Place → Origin) (cs : List Content) (owner : ℕ) (name : List ℕ) (g : Option linked.Segment) : Type 0 where
   unchanged : has_section y name ≡ false → behind_sections owner name g m.object.sections ≡ g → Behind y m origins cs owner name g
   grows :
-      (key : ℕ) → has_section y name ≡ true → list_any (nat_eq key) (section_keys cs) ≡ true → key < length y.standing.segments →
+      (key : ℕ) → has_section y name ≡ true → list_any (nat_eq key) (section_keys cs) ≡ true → key < length y.cursor.segments →
       segment_name y key ≡ name →
-      behind_sections owner name g m.object.sections ≡ Some (grown owner (or_empty name g) (section_of origins y.standing.segments (section_keys cs) (import_keys (table_of y).imports cs) cs key)) →
+      behind_sections owner name g m.object.sections ≡ Some (grown owner (or_empty name g) (section_of origins y.cursor.segments (section_keys cs) (import_keys (table_of y).imports cs) cs key)) →
       Behind y m origins cs owner name g
 
 pub behind_source : (y : Layout) (m : Module) → (h : IsSource y m) → (owner : ℕ) (name : List ℕ) (g : Option linked.Segment) → Behind y m (contents_of y m h).origins (contents_of y m h).contents owner name g
@@ -242,18 +242,18 @@ behind_source y m h owner name g = go (has_section y name) refl
       where
         by : (b : Bool) (origins : Place → Origin) (cs : List Content) → AreKeys y (section_keys cs) → behind_sections owner name g m.object.sections ≡ behind_sections owner name g (map (its_section y owner origins (section_keys cs) (import_keys (table_of y).imports cs) cs name) (section_keys cs)) → has_section y name ≡ b → Behind y m origins cs owner name g
         by false origins cs keys same e =
-            unchanged e (same ∙ none_there y owner origins (section_keys cs) (import_keys (table_of y).imports cs) cs name (section_keys cs) keys.standing (sym (keys.has name) ∙ e) g)
+            unchanged e (same ∙ none_there y owner origins (section_keys cs) (import_keys (table_of y).imports cs) cs name (section_keys cs) keys.cursor (sym (keys.has name) ∙ e) g)
         by true origins cs keys same e =
-            let r = one_there y owner origins (section_keys cs) (import_keys (table_of y).imports cs) cs name (section_keys cs) (named h.laid_out).distinct keys.standing keys.single (sym (keys.has name) ∙ e) g in
+            let r = one_there y owner origins (section_keys cs) (import_keys (table_of y).imports cs) cs name (section_keys cs) (named h.laid_out).distinct keys.cursor keys.single (sym (keys.has name) ∙ e) g in
             grows r.key e r.among r.below r.called (same ∙ r.is)
 
 -- ---- Where a part begins and ends.
 
 -- the lines of a name are those of its segment's number
-pub in_segment : (owner : ℕ) (y : Layout) (g : ℕ) → IsLaidOut y → g < length y.standing.segments → lines_in owner y (segment_name y g) ≡ lines_at g (lines_behind owner [] y.laid)
-in_segment owner y g d lt = by_number owner y g (named d).distinct lt [] y.laid (named d).standing
+pub in_segment : (owner : ℕ) (y : Layout) (g : ℕ) → IsLaidOut y → g < length y.cursor.segments → lines_in owner y (segment_name y g) ≡ lines_at g (lines_behind owner [] y.laid)
+in_segment owner y g d lt = by_number owner y g (named d).distinct lt [] y.laid (named d).cursor
 
-pub section_begin : (y : Layout) (owner key at : ℕ) (origins : Place → Origin) (sections imports : List ℕ) (cs : List Content) → IsLaidOut y → rounded_up at (linked.align_of (section_of origins y.standing.segments sections imports cs key)) ≡ next_multiple_of at (largest_multiple (lines_at key (lines_behind owner [] y.laid)))
+pub section_begin : (y : Layout) (owner key at : ℕ) (origins : Place → Origin) (sections imports : List ℕ) (cs : List Content) → IsLaidOut y → rounded_up at (linked.align_of (section_of origins y.cursor.segments sections imports cs key)) ≡ next_multiple_of at (largest_multiple (lines_at key (lines_behind owner [] y.laid)))
 section_begin y owner key at origins sections imports cs d = grind (arith, common_steps, power_positive, largest_power, powers_at, placed, alignment_law, rounding_law)
 
 pub begin_is_multiple : (y : Layout) (owner key at : ℕ) → IsLaidOut y → IsMultiple (next_multiple_of at (largest_multiple (lines_at key (lines_behind owner [] y.laid)))) (largest_multiple (lines_at key (lines_behind owner [] y.laid)))
@@ -262,7 +262,7 @@ begin_is_multiple y owner key at d =
     rounded at (largest_multiple lines) (power_positive (largest_multiple lines) (largest_power lines (powers_at key (lines_behind owner [] y.laid) (placed owner d).powers)))
 
 -- the part of a module that has a section
-pub whole_part : (y : Layout) (owner key : ℕ) (name : List ℕ) → IsLaidOut y → key < length y.standing.segments → segment_name y key ≡ name → has_section y name ≡ true → part_of owner y name ≡ rounding (largest_multiple (lines_at key (lines_behind owner [] y.laid))) ∷ map line (lines_at key (lines_behind owner [] y.laid))
+pub whole_part : (y : Layout) (owner key : ℕ) (name : List ℕ) → IsLaidOut y → key < length y.cursor.segments → segment_name y key ≡ name → has_section y name ≡ true → part_of owner y name ≡ rounding (largest_multiple (lines_at key (lines_behind owner [] y.laid))) ∷ map line (lines_at key (lines_behind owner [] y.laid))
 whole_part y owner key name d lt called has = grind (arith, common_steps, in_segment)
 
 pub no_part : (y : Layout) (owner : ℕ) (name : List ℕ) → has_section y name ≡ false → part_of owner y name ≡ []
@@ -281,8 +281,8 @@ part_end y m owner name g h = go (behind_source y m h owner name g)
         let lines : List Line = lines_at key (lines_behind owner [] y.laid) in
         let begin : ℕ = next_multiple_of (size_or g) (largest_multiple lines) in
         ap size_or e
-        ∙ ap (λ n. rounded_up n (linked.align_of (section_of c.origins y.standing.segments sections imports cs key)) + section_len (section_of c.origins y.standing.segments sections imports cs key)) (size_or_empty name g)
-        ∙ ap (λ n. n + section_len (section_of c.origins y.standing.segments sections imports cs key)) (section_begin y owner key (size_or g) c.origins sections imports cs h.laid_out)
+        ∙ ap (λ n. rounded_up n (linked.align_of (section_of c.origins y.cursor.segments sections imports cs key)) + section_len (section_of c.origins y.cursor.segments sections imports cs key)) (size_or_empty name g)
+        ∙ ap (λ n. n + section_len (section_of c.origins y.cursor.segments sections imports cs key)) (section_begin y owner key (size_or g) c.origins sections imports cs h.laid_out)
         ∙ ap (λ n. begin + n) (length_law y owner key cs c.origins sections imports h.laid_out h.sound c.found)
         ∙ sym (shift_law lines begin (powers_at key (lines_behind owner [] y.laid) (placed owner h.laid_out).powers) (begin_is_multiple y owner key (size_or g) h.laid_out))
         ∙ ap (end_of (size_or g)) (sym (whole_part y owner key name h.laid_out lt called has))

@@ -9,7 +9,7 @@ use Rattle.syntax65.specs.Trees as tree
 use Rattle.object65.specs.Form.{Form}
 use Rattle.script65.specs.declared.placement.Placement.{Placement}
 use Rattle.script65.specs.declared.script.Script.{Script}
-use Rattle.language65.specs.Contents.{Content, Part, Known, Filled, Waiting, Said, Exported, Demanded, Checked, content_of, parts_of}
+use Rattle.language65.specs.Contents.{Content, Part, Known, Filled, Waiting, Declaration, Exported, ForcedImport, Asserted, content_of, parts_of}
 use Rattle.language65.specs.Symbols.{Laid, asks_section, Symbols, defined, named, with_new}
 use Rattle.language65.specs.declared.language.Statement.{Statement}
 use Rattle.language65.specs.declared.language.Statement.TheVariants as statement
@@ -33,8 +33,8 @@ use Rattle.whole65.proofs.SameValues.{bind_ok, same_values_law}
 use Rattle.whole65.proofs.Rows.{any_new, any_map, names_asked, bytes_split}
 use Rattle.whole65.proofs.SectionBytes.{content_is, in_middle, placed_ok, section_law}
 use Rattle.whole65.proofs.Sources.{contents_of, begin_is_multiple, whole_part}
-use Rattle.whole65.proofs.LinkedObjects.{linked_objects, spot_in, symbols_at, AreParts}
-use Rattle.whole65.specs.Modules.{exports_of, forced_of, global_spot, spot_or, table_of}
+use Rattle.whole65.proofs.LinkedObjects.{linked_objects, context_in, symbols_at, AreParts}
+use Rattle.whole65.specs.Modules.{exports_of, forced_of, global_context, context_or, table_of}
 use Rattle.whole65.specs.Objects.{AreObjects, HasNone, HasValue, IsGivenBy, Objects}
 use Rattle.whole65.specs.Objects as objects
 use Rattle.whole65.specs.Programs as whole
@@ -133,15 +133,15 @@ module _ (s : Script) (placement : Placement) (ys : List Layout) (ms : List Modu
   IsValuedPart (Filled n) = ⊤
   IsValuedPart (Waiting width place f) = HasSome f
 
-  abbrev IsValuedExport : Said → Type 0
+  abbrev IsValuedExport : Declaration → Type 0
   IsValuedExport (Exported n place f) = HasSome f
-  IsValuedExport (Demanded n) = ⊤
-  IsValuedExport (Checked act place words f) = ⊤
+  IsValuedExport (ForcedImport n) = ⊤
+  IsValuedExport (Asserted act place words f) = ⊤
 
-  abbrev IsValuedCheck : Said → Type 0
+  abbrev IsValuedCheck : Declaration → Type 0
   IsValuedCheck (Exported n place f) = ⊤
-  IsValuedCheck (Demanded n) = ⊤
-  IsValuedCheck (Checked act place words f) = HasSome f
+  IsValuedCheck (ForcedImport n) = ⊤
+  IsValuedCheck (Asserted act place words f) = HasSome f
 
   -- an import that comes to a value has a name that is given
   one_given : (turns k : ℕ) (w : ℤ) → o.imports turns owner k ≡ Ok w → OfKey (IsGiven p) z.imports k
@@ -175,41 +175,41 @@ module _ (s : Script) (placement : Placement) (ys : List Layout) (ms : List Modu
   demand_given : (n : List ℕ) → IsGiven p n → AllByRecursion (OfKey (IsGiven p) z.imports) (optional_key (key_of z.imports n))
   demand_given n k = grind (arith, common_steps, key_for, at_key, no_key)
 
-  said_given : (ss : List Said) → AllByRecursion (IsGiven p) (demanded_names ss) → AllByRecursion IsValuedExport ss → AllByRecursion IsValuedCheck ss → AllByRecursion (OfSaid (IsGiven p) z.imports) ss
+  said_given : (ss : List Declaration) → AllByRecursion (IsGiven p) (demanded_names ss) → AllByRecursion IsValuedExport ss → AllByRecursion IsValuedCheck ss → AllByRecursion (OfSaid (IsGiven p) z.imports) ss
   said_given [] d e a = tt
   said_given (Exported n place f ∷ ss) d e a = (form_given f e.0, said_given ss d e.1 a.1)
-  said_given (Demanded n ∷ ss) d e a = (demand_given n d.0, said_given ss d.1 e.1 a.1)
-  said_given (Checked act place words f ∷ ss) d e a = (form_given f a.0, said_given ss d e.1 a.1)
+  said_given (ForcedImport n ∷ ss) d e a = (demand_given n d.0, said_given ss d.1 e.1 a.1)
+  said_given (Asserted act place words f ∷ ss) d e a = (form_given f a.0, said_given ss d e.1 a.1)
 
   -- ---- Exports.
 
   export_valued : (n : List ℕ) (j : ℕ) (f : Form) → defined z (named 0 n) ≡ Some j → defined_form z j ≡ Ok f → HasExport p owner n → HasSome f
   export_valued n j f e normal has =
       let depth : ℕ = suc (suc (length z.definitions)) in
-      let same : norm depth (o.symbols owner) (o.spots owner (p.global owner)) (tree.name false (n ∷ [])) ≡ Ok f =
-      ap (λ r. norm depth (symbols_at r) (spot_in r (length_of r)) (tree.name false (n ∷ []))) at_y
-      ∙ ap (λ r. norm depth z (spot_or (global_spot y) r) (tree.name false (n ∷ []))) (past_all y.laid)
+      let same : norm depth (o.symbols owner) (o.contexts owner (p.global owner)) (tree.name false (n ∷ [])) ≡ Ok f =
+      ap (λ r. norm depth (symbols_at r) (context_in r (length_of r)) (tree.name false (n ∷ []))) at_y
+      ∙ ap (λ r. norm depth z (context_or (global_context y) r) (tree.name false (n ∷ []))) (past_all y.laid)
       ∙ global_form y n j f e normal in
       (has.0, (same_values_law ValueFault p o (sources_law s placement ys ms h) depth owner (p.global owner) (tree.name false (n ∷ [])) f has.0 same).0 has.1)
 
-  exports_valued : (ss : List Said) → AllByRecursion (IsDefined z) ss → AllByRecursion (HasExport p owner) (exported_names ss) → AllByRecursion IsValuedExport ss
+  exports_valued : (ss : List Declaration) → AllByRecursion (IsDefined z) ss → AllByRecursion (HasExport p owner) (exported_names ss) → AllByRecursion IsValuedExport ss
   exports_valued [] d e = tt
   exports_valued (Exported n place f ∷ ss) d e = (export_valued n d.0.0 f d.0.1 d.0.2 e.0, exports_valued ss d.1 e.1)
-  exports_valued (Demanded n ∷ ss) d e = (tt, exports_valued ss d.1 e)
-  exports_valued (Checked act place words f ∷ ss) d e = (tt, exports_valued ss d.1 e)
+  exports_valued (ForcedImport n ∷ ss) d e = (tt, exports_valued ss d.1 e)
+  exports_valued (Asserted act place words f ∷ ss) d e = (tt, exports_valued ss d.1 e)
 
   -- ---- Assertions.
 
-  check_valued : (before : List Laid) (l : Laid) (x : Said) → o.spots owner (length before) ≡ l.context → HasAssertion p (line_of owner before l) → IsAsserted z l x → IsValuedCheck x
+  check_valued : (before : List Laid) (l : Laid) (x : Declaration) → o.contexts owner (length before) ≡ l.context → HasAssertion p (line_of owner before l) → IsAsserted z l x → IsValuedCheck x
   check_valued before l (Exported n place f) context has k = tt
-  check_valued before l (Demanded n) context has k = tt
-  check_valued before l (Checked act place words f) context has (e, stated, normal) =
+  check_valued before l (ForcedImport n) context has k = tt
+  check_valued before l (Asserted act place words f) context has (e, stated, normal) =
       let own : HasAssertion p (line_of owner before (record l { stated = Assert e act words })) = subst (λ x. HasAssertion p (line_of owner before (record l { stated = x }))) stated has in
       let depth : ℕ = suc (length z.definitions) in
-      let same : norm depth (o.symbols owner) (o.spots owner (length before)) e ≡ Ok f = ap (λ r. norm depth (symbols_at r) (o.spots owner (length before)) e) at_y ∙ ap (λ r. norm depth z r e) context ∙ normal in
+      let same : norm depth (o.symbols owner) (o.contexts owner (length before)) e ≡ Ok f = ap (λ r. norm depth (symbols_at r) (o.contexts owner (length before)) e) at_y ∙ ap (λ r. norm depth z r e) context ∙ normal in
       (own.0, (same_values_law ValueFault p o (sources_law s placement ys ms h) depth owner (length before) e f own.0 same).0 own.1)
 
-  line_valued : (before : List Laid) (l : Laid) (ss : List Said) → o.spots owner (length before) ≡ l.context → HasAssertion p (line_of owner before l) → AllByRecursion (IsAsserted z l) ss → AllByRecursion IsValuedCheck ss
+  line_valued : (before : List Laid) (l : Laid) (ss : List Declaration) → o.contexts owner (length before) ≡ l.context → HasAssertion p (line_of owner before l) → AllByRecursion (IsAsserted z l) ss → AllByRecursion IsValuedCheck ss
   line_valued before l [] context has k = tt
   line_valued before l (x ∷ ss) context has k = (check_valued before l x context has k.0, line_valued before l ss context has k.1)
 
@@ -223,7 +223,7 @@ module _ (s : Script) (placement : Placement) (ys : List Layout) (ms : List Modu
       let content = content_is z l c (placed_ok l.place (content_of z l) c first) in
       let next : (before ++ l ∷ []) ++ ls ≡ y.laid = append_assoc before (l ∷ []) ls ∙ w in
       let there : slice_get y.laid (length before) ≡ Some l = subst (λ k. slice_get k (length before) ≡ Some l) w (in_middle before l ls) in
-      let context : o.spots owner (length before) ≡ l.context = ap (λ r. spot_in r (length before)) at_y ∙ ap (spot_or (global_spot y)) there in
+      let context : o.contexts owner (length before) ≡ l.context = ap (λ r. context_in r (length before)) at_y ∙ ap (context_or (global_context y)) there in
       subst (λ k. AllByRecursion IsValuedCheck (all_said k)) same
       (all_append IsValuedCheck c.said (all_said ds) (line_valued before l c.said context has.0 (one_tells z l c.said content.said).asserted) (checks_valued (before ++ l ∷ []) ls ds next more has.1))
 
@@ -312,7 +312,7 @@ module _ (s : Script) (placement : Placement) (ys : List Layout) (ms : List Modu
       let keys = keys_of y cs d c.found in
       let name : List ℕ = segment_name y g in
       let key : list_any (nat_eq g) (section_keys cs) ≡ true = any_once (nat_eq g) [] (segments_asked cs) ∙ asked in
-      let below : g < length y.standing.segments = one_of (λ k. k < length y.standing.segments) (section_keys cs) g keys.standing key in
+      let below : g < length y.cursor.segments = one_of (λ k. k < length y.cursor.segments) (section_keys cs) g keys.cursor key in
       let has : has_section y name ≡ true = keys.has name ∙ held (λ k. bytes_eq (segment_name y k) name) g (section_keys cs) key (itself name) in
       let asking : List Laid = filter (λ (l : Laid). asks_section l.stated) y.laid in
       let shown : list_any (nat_eq g) (map (λ (l : Laid). l.context.segment) asking) ≡ true = ap (list_any (nat_eq g)) (sym (asked_are (table_of y) y.laid cs c.found)) ∙ asked in
@@ -329,8 +329,8 @@ module _ (s : Script) (placement : Placement) (ys : List Layout) (ms : List Modu
       let begin : ℕ = next_multiple_of at (largest_multiple lines) in
       let mine : AreBytes whole_program r.fill_value at (rounding (largest_multiple lines) ∷ map line lines) own =
       subst (λ xs. AreBytes whole_program r.fill_value at xs own) (whole_part y owner g name d below refl has) (subst (λ n. AreBytes whole_program r.fill_value at (part_of n y name) own) first part) in
-      let spots : (place : ℕ) (x : Laid) → slice_get y.laid place ≡ Some x → linked_ones.spots owner place ≡ x.context = λ place x e. ap (λ r. spot_in r place) at_y ∙ ap (spot_or (global_spot y)) e in
-      let parts : AreParts (HasValue linked_ones owner) r.fill_value (parts_in cs g) mine.1 = (section_law ValueFault whole_program linked_ones r.fill_value begin owner g y cs mine.1 (sources_law s placement ys ms h) (ap symbols_at at_y) spots d (begin_is_multiple y owner g at d) c.found).0 mine.3 in
+      let contexts : (place : ℕ) (x : Laid) → slice_get y.laid place ≡ Some x → linked_ones.contexts owner place ≡ x.context = λ place x e. ap (λ r. context_in r place) at_y ∙ ap (context_or (global_context y)) e in
+      let parts : AreParts (HasValue linked_ones owner) r.fill_value (parts_in cs g) mine.1 = (section_law ValueFault whole_program linked_ones r.fill_value begin owner g y cs mine.1 (sources_law s placement ys ms h) (ap symbols_at at_y) contexts d (begin_is_multiple y owner g at d) c.found).0 mine.3 in
       parts_valued owner y at_y r.fill_value (parts_in cs g) mine.1 parts
 
   modules_given : (rest : List Layout) (ns : List Module) (owner : ℕ) → AreSources rest ns → ((i : ℕ) → slice_get rest i ≡ slice_get ys (owner + i)) → AreForced whole_program rest → AreExported whole_program owner rest → AreAsserted whole_program owner rest → AllByRecursion (IsGiven whole_program) (flat_map (λ (m : Module). m.object.imports) ns)

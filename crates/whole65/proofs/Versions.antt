@@ -12,7 +12,7 @@ use Rattle.object65.specs.declared.object.Fragment.TheVariants.{Literal, Fill, V
 use Rattle.object65.specs.declared.object.Object.{Object}
 use Rattle.object65.specs.declared.object.Origin.{Origin}
 use Rattle.source65.specs.declared.place.Place.{Place}
-use Rattle.language65.specs.Contents.{Content, Part, Known, Filled, Waiting, Said, Exported, Demanded, Checked}
+use Rattle.language65.specs.Contents.{Content, Part, Known, Filled, Waiting, Declaration, Exported, ForcedImport, Asserted}
 use Rattle.language65.specs.declared.contents.Segment.{Segment}
 use Rattle.language65.specs.Numbering.{all_joined, all_said, assert_of, exports_among, fragment_of, fragments_of, import_keys, is_empty, joined, numbered, object_by, parts_in, section_keys, section_of}
 
@@ -63,10 +63,10 @@ module _ (origins : Place → Origin) (sections imports : List ℕ) where
   same_names n [] = refl
   same_names n (e ∷ found) = ap (λ b. bytes_eq n e.name || b) (same_names n found)
 
-  exports_by_line : (found : List Export) (ss : List Said) → map export_in_one (exports_among origins sections imports found ss) ≡ exports_among lines sections imports (map export_in_one found) ss
+  exports_by_line : (found : List Export) (ss : List Declaration) → map export_in_one (exports_among origins sections imports found ss) ≡ exports_among lines sections imports (map export_in_one found) ss
   exports_by_line found [] = refl
-  exports_by_line found (Demanded n ∷ ss) = exports_by_line found ss
-  exports_by_line found (Checked act place words f ∷ ss) = exports_by_line found ss
+  exports_by_line found (ForcedImport n ∷ ss) = exports_by_line found ss
+  exports_by_line found (Asserted act place words f ∷ ss) = exports_by_line found ss
   exports_by_line found (Exported n place f ∷ ss) =
       exports_by_line (cond (list_any (λ e. bytes_eq n e.name) found) found (found ++ export origins ∷ [])) ss
       ∙ ap (λ z. exports_among lines sections imports z ss) (go (list_any (λ e. bytes_eq n e.name) found) ∙ ap (λ b. cond b (map export_in_one found) (map export_in_one found ++ export lines ∷ [])) (sym (same_names n found)))
@@ -78,11 +78,11 @@ module _ (origins : Place → Origin) (sections imports : List ℕ) where
       go true = refl
       go false = map-append export_in_one found (export origins ∷ [])
 
-  asserts_by_line : (ss : List Said) → map assert_in_one (filter_map (assert_of origins sections imports) ss) ≡ filter_map (assert_of lines sections imports) ss
+  asserts_by_line : (ss : List Declaration) → map assert_in_one (filter_map (assert_of origins sections imports) ss) ≡ filter_map (assert_of lines sections imports) ss
   asserts_by_line [] = refl
   asserts_by_line (Exported n place f ∷ ss) = asserts_by_line ss
-  asserts_by_line (Demanded n ∷ ss) = asserts_by_line ss
-  asserts_by_line (Checked act place words f ∷ ss) = ap (λ z. record { action = act; origin = lines place; text = words; form = numbered sections imports f } ∷ z) (asserts_by_line ss)
+  asserts_by_line (ForcedImport n ∷ ss) = asserts_by_line ss
+  asserts_by_line (Asserted act place words f ∷ ss) = ap (λ z. record { action = act; origin = lines place; text = words; form = numbered sections imports f } ∷ z) (asserts_by_line ss)
 
 -- ---- Objects.
 

@@ -36,7 +36,7 @@ OneValueLaw =
 abbrev pub SameValuesLaw : Type 0 → Type 0
 SameValuesLaw E =
     (p : Program) (o : Objects E) → AreObjects p o → (depth owner place : ℕ) (e : Tree) (f : Form) (v : ℤ) →
-    norm depth (o.symbols owner) (o.spots owner place) e ≡ Ok f → Value p owner place e v ↔ HasValue o owner f v
+    norm depth (o.symbols owner) (o.contexts owner place) e ≡ Ok f → Value p owner place e v ↔ HasValue o owner f v
 
 -- The offset of a statement in its section is the position behind the lines before it in its segment; the section's size is
 -- the position behind all, and its alignment the largest of their multiples.
@@ -46,10 +46,10 @@ pub record AreOffsets (y : Layout) (owner : ℕ) : Type 0 where
       l.context.offset ≡ end_of 0 (map line (lines_at l.context.segment (lines_behind owner [] (take place y.laid))))
   pub size :
       (g : ℕ) →
-      (segment_at y.standing.segments g).end ≡ end_of 0 (map line (lines_at g (lines_behind owner [] y.laid)))
+      (segment_at y.cursor.segments g).end ≡ end_of 0 (map line (lines_at g (lines_behind owner [] y.laid)))
   pub alignment :
       (g : ℕ) →
-      (segment_at y.standing.segments g).align ≡ largest_multiple (lines_at g (lines_behind owner [] y.laid))
+      (segment_at y.cursor.segments g).align ≡ largest_multiple (lines_at g (lines_behind owner [] y.laid))
   pub powers : ArePowers (lines_behind owner [] y.laid)
 
 abbrev pub OffsetLaw : Type 0

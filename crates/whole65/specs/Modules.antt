@@ -47,26 +47,26 @@ meaning_by y (Ok (names.imported_as k)) = import_named (slice_get (table_of y).i
 meaning_by y (Err e) = None
 
 -- behind the last statement, in the global scope and in no segment
-abbrev pub global_spot : Layout → Context
-global_spot y = record {
+abbrev pub global_context : Layout → Context
+global_context y = record {
   scope = 0;
-  opened = y.standing.opened;
-  region = y.standing.region;
-  unnamed = y.standing.unnamed;
-  segment = length y.standing.segments;
+  opened = y.cursor.opened;
+  region = y.cursor.region;
+  unnamed = y.cursor.unnamed;
+  segment = length y.cursor.segments;
   offset = 0;
 }
 
-abbrev pub spot_or : Context → Option Laid → Context
-spot_or other None = other
-spot_or other (Some l) = l.context
+abbrev pub context_or : Context → Option Laid → Context
+context_or other None = other
+context_or other (Some l) = l.context
 
-abbrev pub spot_at : Layout → ℕ → Context
-spot_at y place = spot_or (global_spot y) (slice_get y.laid place)
+abbrev pub context_at : Layout → ℕ → Context
+context_at y place = context_or (global_context y) (slice_get y.laid place)
 
 -- what an operand means at a place, among all statements of the module
 abbrev pub means_in : Layout → ℕ → Tree → Option Meaning
-means_in y place e = meaning_by y (names.meaning_of (table_of y) (spot_at y place) e)
+means_in y place e = meaning_by y (names.meaning_of (table_of y) (context_at y place) e)
 
 -- ---- What a module gives and needs.
 

@@ -17,7 +17,7 @@ pub record Objects (E : Type 0) : Type 0 where
   -- that an operation has no value
   pub none : E
   pub symbols : (owner : ℕ) → Symbols
-  pub spots : (owner place : ℕ) → Context
+  pub contexts : (owner place : ℕ) → Context
   -- the place of the statement that makes the definition of a number
   pub places : (owner definition : ℕ) → ℕ
   -- the address at which the section of a segment begins
@@ -59,7 +59,7 @@ HasNone o owner k = (turns : ℕ) (v : ℤ) → o.imports turns owner k ≢ Ok v
 pub record IsExport {E : Type 0} (p : Program) (o : Objects E) (owner k : ℕ) (x : List ℕ) (provider : ℕ) : Type 0 where
   pub depth : ℕ
   pub form : Form
-  pub normal : norm depth (o.symbols provider) (o.spots provider (p.global provider)) (name false (x ∷ [])) ≡ Ok form
+  pub normal : norm depth (o.symbols provider) (o.contexts provider (p.global provider)) (name false (x ∷ [])) ≡ Ok form
   pub first : (v : ℤ) → o.imports zero owner k ≢ Ok v
   pub later : (turns : ℕ) → o.imports (suc turns) owner k ≡ form_value o turns provider form
 
@@ -77,13 +77,13 @@ IsGiven p o owner k (Some x) = IsGivenBy p o owner k x (p.provider x)
 pub record AreObjects {E : Type 0} (p : Program) (o : Objects E) : Type 0 where
   pub means :
       (owner place : ℕ) (e : Tree) →
-      p.means owner place e ≡ meaning_shown o owner (meaning_of (o.symbols owner) (o.spots owner place) e)
-  pub spots :
+      p.means owner place e ≡ meaning_shown o owner (meaning_of (o.symbols owner) (o.contexts owner place) e)
+  pub contexts :
       (owner definition : ℕ) (d : Definition) → slice_get (o.symbols owner).definitions definition ≡ Some d →
-      o.spots owner (o.places owner definition) ≡ d.context
+      o.contexts owner (o.places owner definition) ≡ d.context
   pub addresses :
       (owner place : ℕ) →
-      p.address owner place ≡ wrapped (o.bases owner (o.spots owner place).segment +ℤ pos (o.spots owner place).offset)
+      p.address owner place ≡ wrapped (o.bases owner (o.contexts owner place).segment +ℤ pos (o.contexts owner place).offset)
   pub given : (owner k : ℕ) → IsGiven p o owner k (slice_get (o.symbols owner).imports k)
 
 -- through some number of exports a form comes to a value

@@ -26,7 +26,7 @@ pub data IsLaidOut : Layout → Type 0 where
   begun : IsLaidOut nothing_laid
   behind :
       (y : Layout) (place : Place) (x : Statement) →
-      IsLaidOut y → line_fault (symbols_of y.laid) y.standing x ≡ None → IsLaidOut (layout_behind y place x)
+      IsLaidOut y → line_fault (symbols_of y.laid) y.cursor x ≡ None → IsLaidOut (layout_behind y place x)
 
 -- the lines of a module that stand in its segment of a number
 abbrev pub lines_at : ℕ → List Line → List Line

@@ -26,7 +26,7 @@ pub data Item : Type 0 where
 -- ---- The list of a segment.
 
 abbrev pub segment_name : Layout → ℕ → List ℕ
-segment_name y g = (segment_at y.standing.segments g).name
+segment_name y g = (segment_at y.cursor.segments g).name
 
 -- a module's statement behind those before it
 abbrev pub line_of : ℕ → List Laid → Laid → Line

@@ -15,9 +15,9 @@ use Rattle.symbols65.specs.Views.{table_of}
 use Rattle.asm65.specs.declared.assembler.Assembler.{Assembler}
 use Rattle.asm65.specs.declared.assembler.Piece.{Piece}
 use Rattle.asm65.specs.declared.assembler.Piece.TheVariants.{Datum, Operand, Constant, Assertion, Import, Demand, Export}
-use Rattle.asm65.specs.declared.assembler.Waiting.{Waiting}
+use Rattle.asm65.specs.declared.assembler.Fixup.{Fixup}
 use Rattle.layout65.specs.Counting.{AreInside}
-use Rattle.layout65.specs.Sounds.{AreWithin, IsCounted, IsSoundStanding, standing_of}
+use Rattle.layout65.specs.Sounds.{AreWithin, IsCounted, IsSoundCursor, cursor_of}
 use Rattle.expand65.specs.State.{Meaning}
 use Rattle.language65.specs.Norms.{constant_in, IsFinal}
 use Rattle.module65.specs.Reading.{is_definition}
@@ -49,17 +49,17 @@ IsPiece y s (Demand n) p = p ≡ piece.demanded n
 IsPiece y s (Export must n) p = p ≡ piece.exported must n
 
 -- by the names of files
-pub record IsWaiting (y : Symbols) (files : List (List ℕ)) (w : Waiting) (v : machine.Waiting) : Type 0 where
+pub record IsFixup (y : Symbols) (files : List (List ℕ)) (w : Fixup) (v : machine.Fixup) : Type 0 where
   pub file : slice_get files w.file ≡ Some v.place.file
   pub line : v.place.line ≡ w.line
   pub context : v.context ≡ w.context
   pub piece : IsPiece y v.context w.piece v.piece
 
 -- one behind the other
-abbrev pub AreWaiting : Symbols → List (List ℕ) → List Waiting → List machine.Waiting → Type 0
-AreWaiting y files [] vs = vs ≡ []
-AreWaiting y files (w ∷ ws) [] = ⊥
-AreWaiting y files (w ∷ ws) (v ∷ vs) = IsWaiting y files w v × AreWaiting y files ws vs
+abbrev pub AreFixups : Symbols → List (List ℕ) → List Fixup → List machine.Fixup → Type 0
+AreFixups y files [] vs = vs ≡ []
+AreFixups y files (w ∷ ws) [] = ⊥
+AreFixups y files (w ∷ ws) (v ∷ vs) = IsFixup y files w v × AreFixups y files ws vs
 
 -- ---- What is counted.
 
@@ -74,7 +74,7 @@ AreBefore next ds = AllByRecursion (λ d. IsBefore next d.key) ds
 -- ---- An assembler.
 
 -- contents for what waits, none of which asks for a section
-abbrev pub AreAwaited : List machine.Waiting → List Content → Type 0
+abbrev pub AreAwaited : List machine.Fixup → List Content → Type 0
 AreAwaited vs ws = (length ws ≡ length vs) × AllByRecursion (λ c. c.asks ≡ false) ws
 
 -- An assembler holds a state, behind statements that opened so much. Whatever will be in place of
@@ -82,15 +82,15 @@ AreAwaited vs ws = (length ws ≡ length vs) × AllByRecursion (λ c. c.asks ≡
 pub record Holds (count : ℕ) (t : State) (a : Assembler) : Type 0 where
   pub symbols : table_of a.symbols ≡ t.symbols
   pub known : IsTable t.symbols a.known.states.items
-  pub standing : standing_of a.standing ≡ t.standing
-  pub sound : IsSoundStanding a.standing
-  pub ends : AreWithin a.standing.segments.items
-  pub counted : IsCounted count a.standing
+  pub cursor : cursor_of a.cursor ≡ t.cursor
+  pub sound : IsSoundCursor a.cursor
+  pub ends : AreWithin a.cursor.segments.items
+  pub counted : IsCounted count a.cursor
   pub inside : AreInside count t.symbols.scopes
-  pub unnamed : AreBefore t.standing.unnamed t.symbols.definitions
-  pub waiting : AreWaiting t.symbols (map string_bytes a.files.keys) a.waiting.items t.waiting
-  pub sections : (ws : List Content) → AreAwaited t.waiting ws → Stands (filled t.slots ws) ws a.sections
-  pub slots : awaited_in t.slots ≡ length t.waiting
+  pub unnamed : AreBefore t.cursor.unnamed t.symbols.definitions
+  pub fixups : AreFixups t.symbols (map string_bytes a.files.keys) a.fixups.items t.fixups
+  pub sections : (ws : List Content) → AreAwaited t.fixups ws → Stands (filled t.slots ws) ws a.sections
+  pub slots : awaited_in t.slots ≡ length t.fixups
   pub out : a.texts.out ≡ t.out
   pub err : a.texts.err ≡ t.err
 
@@ -117,7 +117,7 @@ known_where y s = record {
 pub record KeepsTables (old new : Assembler) : Type 0 where
   pub symbols : new.symbols ≡ old.symbols
   pub known : new.known ≡ old.known
-  pub standing : new.standing ≡ old.standing
+  pub cursor : new.cursor ≡ old.cursor
   pub texts : new.texts ≡ old.texts
 
 -- A piece of a statement that stands here waits.

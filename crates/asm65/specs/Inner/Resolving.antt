@@ -3,7 +3,7 @@ use Rattle.std.specs.Prelude.{◌≡◌, ℕ, Bool, List, [], ◌∷◌, ◌++�
 use Rattle.base65.specs.Outcome.{◌>>=◌, Unless}
 use Rattle.source65.specs.declared.place.Place.{Place}
 use Rattle.language65.specs.Contents.{Content, put, telling, written}
-use Rattle.language65.specs.declared.contents.Said.{Said}
+use Rattle.language65.specs.declared.contents.Declaration.{Declaration}
 use Rattle.language65.specs.declared.fault.AsmFault.{AsmFault}
 use Rattle.language65.specs.declared.laid.Context.{Context}
 use Rattle.language65.specs.Norms.{defined_form}
@@ -39,7 +39,7 @@ abbrev pub made_in : Place → code.Made → Made
 made_in place m = record { content = content_of place m.filling; warning = warning_in place m.warning }
 
 -- what a saying comes to that is written with its place
-abbrev pub noted : Place → Said → Result Made AsmFault
+abbrev pub noted : Place → Declaration → Result Made AsmFault
 noted place s = written place (said_at place s ∷ []) >>= as_said
 
 -- what an export comes to that isn't defined
@@ -66,37 +66,37 @@ ReceivesAll old new ws =
     (cs rest : List Content) → Stands cs (ws ++ rest) old → Stands cs rest new
 
 -- a piece that waits has come to its content, and its warning is said
-pub record IsSettled (y : Symbols) (v : machine.Waiting) (old new : Ending) : Type 0 where
+pub record IsSettled (y : Symbols) (v : machine.Fixup) (old new : Ending) : Type 0 where
   pub made : Made
   pub found : made_of y v.place v.context v.piece ≡ Ok made
   pub sections : Receives old.sections new.sections made.content
   pub err : new.err ≡ old.err ++ made.warning
 
 -- it has a fault instead, and nothing is said
-pub record IsFaulty (y : Symbols) (v : machine.Waiting) (e : AsmRefusal) (old new : Ending) :
+pub record IsFaulty (y : Symbols) (v : machine.Fixup) (e : AsmRefusal) (old new : Ending) :
     Type 0 where
   pub found : made_of y v.place v.context v.piece ≡ Err (placed_of e).fault
   pub place : (placed_of e).place ≡ v.place
   pub err : new.err ≡ old.err
 
-abbrev pub Settles : Symbols → machine.Waiting → Ending → Ending → Result Unit AsmRefusal → Type 0
+abbrev pub Settles : Symbols → machine.Fixup → Ending → Ending → Result Unit AsmRefusal → Type 0
 Settles y v old new (Ok u) = IsSettled y v old new
 Settles y v old new (Err e) = Unless (is_outside_refusal e) (IsFaulty y v e old new)
 
 -- all that waits has come to its contents
-pub record AreSettled (y : Symbols) (vs : List machine.Waiting) (old new : Ending) : Type 0 where
+pub record AreSettled (y : Symbols) (vs : List machine.Fixup) (old new : Ending) : Type 0 where
   pub contents : List Content
   pub found : (machine.resolved y vs).found ≡ Ok contents
   pub sections : ReceivesAll old.sections new.sections contents
   pub err : new.err ≡ old.err ++ (machine.resolved y vs).warned
 
 -- there is a first fault, behind the warnings of what stands before it
-pub record AreFaulty (y : Symbols) (vs : List machine.Waiting) (e : AsmRefusal)
+pub record AreFaulty (y : Symbols) (vs : List machine.Fixup) (e : AsmRefusal)
     (old new : Ending) : Type 0 where
   pub found : (machine.resolved y vs).found ≡ Err (placed_of e)
   pub err : new.err ≡ old.err ++ (machine.resolved y vs).warned
 
 abbrev pub SettlesAll :
-    Symbols → List machine.Waiting → Ending → Ending → Result Unit AsmRefusal → Type 0
+    Symbols → List machine.Fixup → Ending → Ending → Result Unit AsmRefusal → Type 0
 SettlesAll y vs old new (Ok u) = AreSettled y vs old new
 SettlesAll y vs old new (Err e) = Unless (is_outside_refusal e) (AreFaulty y vs e old new)

@@ -7,7 +7,7 @@ use Rattle.language65.specs.Contents.{asking}
 use Rattle.language65.specs.Symbols.{Laid, asks_section, Definition, Key, Symbols, defined, key_defined}
 use Rattle.language65.specs.declared.laid.Context.{Context}
 use Rattle.language65.specs.declared.language.Statement.{Statement}
-use Rattle.language65.specs.Layout.{context_of, standing_behind, line_fault, opened_twice, scope_name}
+use Rattle.language65.specs.Layout.{context_of, cursor_behind, line_fault, opened_twice, scope_name}
 use Rattle.language65.specs.declared.fault.AsmFault.{AsmFault}
 use Rattle.language65.specs.Faults.{is_outside}
 use Rattle.module65.specs.Module.{out_of, warning_of}
@@ -18,7 +18,7 @@ use Rattle.module65.specs.Machine.{PutsAll, State, awaiting, entered}
 use Rattle.module65.specs.Module as piece
 use Rattle.asm65.specs.declared.assembler.Assembler.{Assembler}
 use Rattle.asm65.specs.declared.naming.stating.Mention.{Mention}
-use Rattle.asm65.specs.declared.naming.stating.Mention.TheVariants.{Demanded, Exported, Imported}
+use Rattle.asm65.specs.declared.naming.stating.Mention.TheVariants.{ForcedImport, Exported, Imported}
 use Rattle.asm65.specs.Inner.Holding.{AreBefore, Holds}
 use Rattle.layout65.specs.Counting.{AreInside, opening_limit}
 
@@ -40,9 +40,9 @@ pub record IsNew (y : Symbols) (s : Context) (x : Statement) : Type 0 where
 
 -- the same, but for names and what is known of them
 pub record KeepsPut (old new : Assembler) : Type 0 where
-  pub standing : new.standing ≡ old.standing
+  pub cursor : new.cursor ≡ old.cursor
   pub sections : new.sections ≡ old.sections
-  pub waiting : new.waiting ≡ old.waiting
+  pub fixups : new.fixups ≡ old.fixups
   pub files : new.files ≡ old.files
   pub texts : new.texts ≡ old.texts
 
@@ -54,7 +54,7 @@ with_symbols t y = record t { symbols = y }
 abbrev pub Turns : Place → Context → List piece.Piece → (Symbols → Symbols) → Assembler → Assembler → Type 0
 Turns place s ps becomes old new =
     (count : ℕ) (t : State) → Holds count t old → AreInside count (becomes t.symbols).scopes →
-    AreBefore t.standing.unnamed (becomes t.symbols).definitions →
+    AreBefore t.cursor.unnamed (becomes t.symbols).definitions →
     (u : State) × PutsAll place s t ps u × Holds count (with_symbols u (becomes t.symbols)) new
 
 -- some state is held, behind statements that may be followed by one more
@@ -73,20 +73,20 @@ Asks segment x old new =
 
 -- a statement here has no fault at its line, and places so much
 pub record IsPlaced (t : State) (x : Statement) (s : Context) (m : Measured) : Type 0 where
-  pub faultless : line_fault t.symbols t.standing x ≡ None
-  pub context : s ≡ context_of t.standing
-  pub measured : m ≡ measure_of t.symbols t.standing x
+  pub faultless : line_fault t.symbols t.cursor x ≡ None
+  pub context : s ≡ context_of t.cursor
+  pub measured : m ≡ measure_of t.symbols t.cursor x
 
 -- it has this fault there, unless that came from outside
 abbrev pub IsRefused : State → Statement → AsmFault → Type 0
-IsRefused t x e = Unless (is_outside e) (line_fault t.symbols t.standing x ≡ Some e)
+IsRefused t x e = Unless (is_outside e) (line_fault t.symbols t.cursor x ≡ Some e)
 
 -- the state in which a statement's pieces are entered
 abbrev pub stepped : State → Place → Statement → State
 stepped t place x =
-    let u : State = asked_of (context_of t.standing).segment x t in
+    let u : State = asked_of (context_of t.cursor).segment x t in
     record u {
-      standing = standing_behind t.symbols t.standing x;
+      cursor = cursor_behind t.symbols t.cursor x;
       out = u.out ++ out_of x;
       err = u.err ++ warning_of place x;
     }
@@ -103,7 +103,7 @@ is_for_zero_page size.Absolute = false
 
 abbrev pub mentioned : Mention → List ℕ → piece.Piece
 mentioned Imported n = piece.imported n
-mentioned Demanded n = piece.demanded n
+mentioned ForcedImport n = piece.demanded n
 mentioned (Exported must) n = piece.exported must n
 
 -- pieces that wait, one behind the other

@@ -27,7 +27,7 @@ use syntax65::{AddressSize, Expr};
 pub enum Mention {
     Imported,
     /// It is imported though nothing may use it.
-    Demanded,
+    ForcedImport,
     /// It is exported where it is defined, or has to be.
     Exported { must: bool },
 }
@@ -39,7 +39,7 @@ fn piece_of(alloc: Global, mention: Mention, name: &[u8]) -> Result<Piece, Alloc
     let name = Sequence::from_vec(Vec::from_slice(alloc, name)?);
     match mention {
         Mention::Imported => Ok(Piece::Import(name)),
-        Mention::Demanded => Ok(Piece::Demand(name)),
+        Mention::ForcedImport => Ok(Piece::Demand(name)),
         Mention::Exported { must } => Ok(Piece::Export { must, name }),
     }
 }
@@ -228,7 +228,7 @@ impl Assembler {
             (λ y. with_names y false names.now) self.old self.new) }
     {
         self.mention(alloc, site, Mention::Imported, names)?;
-        self.mention(alloc, site, Mention::Demanded, names)?;
+        self.mention(alloc, site, Mention::ForcedImport, names)?;
         self.import(alloc, names, false)
     }
 }

@@ -12,7 +12,7 @@ ghost use Rattle.module65.specs.Module.{datum, operand, valued};
 
 use super::Site;
 use super::parts::{put_form, put_operand};
-use crate::assembler::{Assembler, Piece, Waiting};
+use crate::assembler::{Assembler, Piece, Fixup};
 use base65::{Seed, Sequence};
 use indexmap::IndexSet;
 use language65::{AsmFault, At, Part};
@@ -101,7 +101,7 @@ fn place_of_file(
 impl Assembler {
     /// The place of the file in which the last piece waits.
     fn last_file(&self) -> Option<usize> {
-        let last = self.waiting.as_slice().last()?;
+        let last = self.fixups.as_slice().last()?;
         Some(last.file)
     }
 
@@ -117,7 +117,7 @@ impl Assembler {
         let file = place_of_file(alloc, &mut self.files, last, site.at.file)?;
         let line = site.at.line;
         let context = site.context;
-        self.waiting.push(Waiting {
+        self.fixups.push(Fixup {
             file,
             line,
             context,

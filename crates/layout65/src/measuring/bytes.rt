@@ -11,27 +11,27 @@ ghost use Rattle.language65.specs.Norms.{counted, optional_value, item_len, mode
 ghost use Rattle.symbols65.specs.Resolving.{IsTable};
 ghost use Rattle.symbols65.specs.Views.{table_of};
 ghost use Rattle.layout65.specs.Measuring.{IsFound, is_within, or_default, placed, ranged, unread_fault, fitted};
-ghost use Rattle.layout65.specs.Sounds.{IsSoundStanding, standing_of};
+ghost use Rattle.layout65.specs.Sounds.{IsSoundCursor, cursor_of};
 ghost use Rattle.object65.specs.Objects.{width_len};
 ghost use Rattle.language65.specs.Items.{numbered};
 ghost use Rattle.language65.specs.Symbols.{Symbols as Table};
 
 use super::trees::check_range;
 use crate::measuring::{Before, Measured, fit};
-use crate::standing::Standing;
+use crate::cursor::Cursor;
 use base65::Sequence;
 use language65::{AsmFault, Item, Items, ItemsKind, Operand, OptionalExpr, PartRange, Settled, Context};
 use object65::Width;
 use source65::MAX_FILE;
 use std::alloc::Global;
-use symbols65::{Known, Symbols, knowing};
+use symbols65::{NormCache, Symbols, knowing};
 use syntax65::{Mnemonic, Mode};
 
 /// The value of an expression that has to be constant, if there is one.
 fn named(
     alloc: Global,
     symbols: &Symbols,
-    known: &mut Known,
+    known: &mut NormCache,
     context: Context,
     value: &OptionalExpr,
 ) -> Result<Option<i64>, AsmFault>
@@ -55,18 +55,18 @@ fn named(
 pub fn check_unread(
     alloc: Global,
     before: Before<'_>,
-    known: &mut Known,
+    known: &mut NormCache,
     range: PartRange<'_>,
 ) -> Result<(), AsmFault>
     requires table { IsTable (table_of before.symbols.now) known.old.states.items }
-    requires standing { IsSoundStanding before.standing.now }
+    requires cursor { IsSoundCursor before.cursor.now }
     ensures checked { Gives is_memory (λ u. u) result (unless_fault (unread_fault
-        (table_of before.entry.symbols.now) (standing_of before.entry.standing.now)
+        (table_of before.entry.symbols.now) (cursor_of before.entry.cursor.now)
         range.entry.start.now range.entry.len.now) tt) }
     ensures table { OnOk result
         (IsTable (table_of before.entry.symbols.now) known.new.states.items) }
 {
-    let context = before.standing.context();
+    let context = before.cursor.context();
     check_range(alloc, before.symbols, context.scope as usize, range)?;
     named(alloc, before.symbols, known, context, range.start)?;
     named(alloc, before.symbols, known, context, range.len)?;
@@ -114,29 +114,29 @@ fn ranged(count: usize, start: Option<i64>, len: Option<i64>) -> Result<(usize, 
 pub fn file_part(
     alloc: Global,
     before: Before<'_>,
-    known: &mut Known,
+    known: &mut NormCache,
     bytes: &Option<Sequence<u8>>,
     range: PartRange<'_>,
 ) -> Result<Measured, AsmFault>
     requires table { IsTable (table_of before.symbols.now) known.old.states.items }
-    requires standing { IsSoundStanding before.standing.now }
+    requires cursor { IsSoundCursor before.cursor.now }
     ensures placed { Gives is_memory (λ m. m) result (placed
-        (table_of before.entry.symbols.now) (standing_of before.entry.standing.now)
+        (table_of before.entry.symbols.now) (cursor_of before.entry.cursor.now)
         (FilePart bytes.now range.entry.start.now range.entry.len.now)) }
     ensures table { OnOk result
         (IsTable (table_of before.entry.symbols.now) known.new.states.items) }
 {
-    let context = before.standing.context();
+    let context = before.cursor.context();
     let start = named(alloc, before.symbols, known, context, range.start)?;
     let len = named(alloc, before.symbols, known, context, range.len)?;
     let Some(bytes) = bytes else {
         return Err(AsmFault::FileNotFound);
     };
     let (start, len) = ranged(bytes.len(), start, len)?;
-    let length = fit(before.standing, len)?;
+    let length = fit(before.cursor, len)?;
     Ok(Measured {
         length,
-        size: before.standing.segment().size,
+        size: before.cursor.segment().size,
         multiple: 1,
         settled: Settled::FromByte(start as u32),
     })
@@ -157,25 +157,25 @@ fn mode_len(mode: Mode) -> usize
 pub fn instruction(
     alloc: Global,
     before: Before<'_>,
-    known: &mut Known,
+    known: &mut NormCache,
     mnemonic: Mnemonic,
     operand: &Operand,
 ) -> Result<Measured, AsmFault>
     requires table { IsTable (table_of before.symbols.now) known.old.states.items }
-    requires standing { IsSoundStanding before.standing.now }
+    requires cursor { IsSoundCursor before.cursor.now }
     ensures placed { Gives is_memory (λ m. m) result (placed
-        (table_of before.entry.symbols.now) (standing_of before.entry.standing.now)
+        (table_of before.entry.symbols.now) (cursor_of before.entry.cursor.now)
         (Instruction mnemonic operand.now)) }
     ensures table { OnOk result
         (IsTable (table_of before.entry.symbols.now) known.new.states.items) }
 {
-    let own = before.standing.segment().size;
-    let context = before.standing.context();
+    let own = before.cursor.segment().size;
+    let context = before.cursor.context();
     let mode = knowing::mode(alloc, before.symbols, known, context, own, mnemonic, operand)?;
     let Some(mode) = mode else {
         return Err(AsmFault::NoSuchForm);
     };
-    let length = fit(before.standing, mode_len(mode))?;
+    let length = fit(before.cursor, mode_len(mode))?;
     Ok(Measured {
         length,
         size: own,
@@ -238,12 +238,12 @@ fn room_behind(width: Width, items: &Items, room: usize) -> Option<usize>
 
 /// How many bytes a list of values takes, if the section has room for them.
 #[tactic(auto, using(crate::proofs::Measures::same_test))]
-fn list_len(standing: &Standing, width: Width, items: &Items) -> Result<u32, AsmFault>
-    requires { IsSoundStanding standing.now }
-    ensures { result ≡ fitted (standing_of standing.now)
+fn list_len(cursor: &Cursor, width: Width, items: &Items) -> Result<u32, AsmFault>
+    requires { IsSoundCursor cursor.now }
+    ensures { result ≡ fitted (cursor_of cursor.now)
         (sum_by (item_len width) items.now) }
 {
-    let room = standing.room();
+    let room = cursor.room();
     match room_behind(width, items, room as usize) {
         None => Err(AsmFault::SectionTooLarge),
         Some(left) => Ok(room - left as u32),
@@ -252,15 +252,15 @@ fn list_len(standing: &Standing, width: Width, items: &Items) -> Result<u32, Asm
 
 /// What a list of values places.
 #[inline(never)]
-pub fn values(standing: &Standing, width: Width, items: &Items) -> Result<Measured, AsmFault>
-    requires { IsSoundStanding standing.now }
+pub fn values(cursor: &Cursor, width: Width, items: &Items) -> Result<Measured, AsmFault>
+    requires { IsSoundCursor cursor.now }
     ensures { (y : Table) → Gives is_memory (λ m. m) result (placed y
-        (standing_of standing.now) (Values width items.now)) }
+        (cursor_of cursor.now) (Values width items.now)) }
 {
-    let length = list_len(standing, width, items)?;
+    let length = list_len(cursor, width, items)?;
     Ok(Measured {
         length,
-        size: standing.segment().size,
+        size: cursor.segment().size,
         multiple: 1,
         settled: Settled::Unsettled,
     })

@@ -8,14 +8,14 @@ ghost use Rattle.language65.specs.declared.language.Statement.TheVariants.{Const
 ghost use Rattle.symbols65.specs.Resolving.{IsTable};
 ghost use Rattle.symbols65.specs.Views.{table_of};
 ghost use Rattle.layout65.specs.Measuring.{is_bare, placed};
-ghost use Rattle.layout65.specs.Sounds.{IsSoundStanding, standing_of};
+ghost use Rattle.layout65.specs.Sounds.{IsSoundCursor, cursor_of};
 
 use super::bytes::{file_part, instruction, values};
 use super::rooms::{align, check_kept, check_proc, check_scope, check_segment, reserve};
 use crate::measuring::{Before, Measured, nothing};
 use language65::{AsmFault, PartRange, Statement};
 use std::alloc::Global;
-use symbols65::{Known, knowing};
+use symbols65::{NormCache, knowing};
 use syntax65::{Expr, ExprKind};
 
 /// Whether an expression has a `*`.
@@ -55,19 +55,19 @@ pub fn asks_section(statement: &Statement) -> bool
 fn constant(
     alloc: Global,
     before: Before<'_>,
-    known: &mut Known,
+    known: &mut NormCache,
     value: &Expr,
 ) -> Result<Measured, AsmFault>
     requires table { IsTable (table_of before.symbols.now) known.old.states.items }
-    requires standing { IsSoundStanding before.standing.now }
+    requires cursor { IsSoundCursor before.cursor.now }
     ensures placed { (name : List ℕ) → Gives is_memory (λ m. m) result (placed
-        (table_of before.entry.symbols.now) (standing_of before.entry.standing.now)
+        (table_of before.entry.symbols.now) (cursor_of before.entry.cursor.now)
         (Constant name value.now)) }
     ensures table { OnOk result
         (IsTable (table_of before.entry.symbols.now) known.new.states.items) }
 {
-    let measure = nothing(before.standing);
-    let context = before.standing.context();
+    let measure = nothing(before.cursor);
+    let context = before.cursor.context();
     let size = knowing::size(alloc, before.symbols, known, context, measure.size, value)?;
     Ok(Measured { size, ..measure })
 }
@@ -76,30 +76,30 @@ fn constant(
 /// has no bytes.
 #[inline(never)]
 fn without_bytes(before: Before<'_>, statement: &Statement) -> Result<Measured, AsmFault>
-    requires standing { IsSoundStanding before.standing.now }
+    requires cursor { IsSoundCursor before.cursor.now }
     requires bare { is_bare statement.now ≡ true }
     ensures { Gives is_memory (λ m. m) result (placed
-        (table_of before.entry.symbols.now) (standing_of before.entry.standing.now)
+        (table_of before.entry.symbols.now) (cursor_of before.entry.cursor.now)
         statement.now) }
 {
     match statement {
         Statement::Segment { name, size } => {
-            check_segment(before.standing, name.as_slice(), *size)?;
-            Ok(nothing(before.standing))
+            check_segment(before.cursor, name.as_slice(), *size)?;
+            Ok(nothing(before.cursor))
         }
         Statement::PopSegment => {
-            check_kept(before.standing)?;
-            Ok(nothing(before.standing))
+            check_kept(before.cursor)?;
+            Ok(nothing(before.cursor))
         }
         Statement::CloseScope => {
-            check_scope(before.symbols, before.standing.scope as usize)?;
-            Ok(nothing(before.standing))
+            check_scope(before.symbols, before.cursor.scope as usize)?;
+            Ok(nothing(before.cursor))
         }
         Statement::CloseProc => {
-            check_proc(before.symbols, before.standing.scope as usize)?;
-            Ok(nothing(before.standing))
+            check_proc(before.symbols, before.cursor.scope as usize)?;
+            Ok(nothing(before.cursor))
         }
-        _ => Ok(nothing(before.standing)),
+        _ => Ok(nothing(before.cursor)),
     }
 }
 
@@ -107,13 +107,13 @@ fn without_bytes(before: Before<'_>, statement: &Statement) -> Result<Measured, 
 pub fn place(
     alloc: Global,
     before: Before<'_>,
-    known: &mut Known,
+    known: &mut NormCache,
     statement: &Statement,
 ) -> Result<Measured, AsmFault>
     requires table { IsTable (table_of before.symbols.now) known.old.states.items }
-    requires standing { IsSoundStanding before.standing.now }
+    requires cursor { IsSoundCursor before.cursor.now }
     ensures placed { Gives is_memory (λ m. m) result (placed
-        (table_of before.entry.symbols.now) (standing_of before.entry.standing.now)
+        (table_of before.entry.symbols.now) (cursor_of before.entry.cursor.now)
         statement.now) }
     ensures table { OnOk result
         (IsTable (table_of before.entry.symbols.now) known.new.states.items) }
@@ -122,7 +122,7 @@ pub fn place(
         Statement::Instruction { mnemonic, operand } => {
             instruction(alloc, before, known, *mnemonic, operand)
         }
-        Statement::Values { width, items } => values(before.standing, *width, items),
+        Statement::Values { width, items } => values(before.cursor, *width, items),
         Statement::Reserve { count, value } => reserve(alloc, before, known, count, value),
         Statement::Align { multiple, value } => align(alloc, before, known, multiple, value),
         Statement::FilePart { bytes, start, len } => {

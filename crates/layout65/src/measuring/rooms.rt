@@ -1,10 +1,10 @@
 //! Segments and blocks, and statements that place room.
 
 ghost use Rattle.std.specs.Prelude.{◌≡◌, ◌&&◌, not, slice_get, ◌<◌, ◌≤◌, IfOk, OnOk, pos, Some};
-ghost use Rattle.language65.specs.Layout.{place_of, segment_at, context_of as standing_spot, changed_size, is_kept, is_open, is_scope, opened_as, same_size, when, unless_fault, is_byte_value, is_count, is_there, multiple_fault};
+ghost use Rattle.language65.specs.Layout.{place_of, segment_at, context_of as cursor_context, changed_size, is_kept, is_open, is_scope, opened_as, same_size, when, unless_fault, is_byte_value, is_count, is_there, multiple_fault};
 ghost use Rattle.language65.specs.declared.fault.AsmFault.TheVariants.{BadScope, PopWithoutPush, BadOperand};
 ghost use Rattle.symbols65.specs.Views.{table_of};
-ghost use Rattle.layout65.specs.Sounds.{IsSoundStanding, standing_of};
+ghost use Rattle.layout65.specs.Sounds.{IsSoundCursor, cursor_of};
 ghost use Rattle.std.specs.Option.{option_map};
 ghost use Rattle.base65.specs.Outcome.{Gives};
 ghost use Rattle.language65.specs.Faults.{is_memory};
@@ -14,10 +14,10 @@ ghost use Rattle.symbols65.specs.Resolving.{IsTable};
 ghost use Rattle.layout65.specs.Measuring.{any_settled, placed};
 
 use crate::measuring::{Before, Measured, fit};
-use crate::standing::Standing;
+use crate::cursor::Cursor;
 use language65::{AsmFault, OptionalExpr, Segment, Settled, Context};
 use std::alloc::Global;
-use symbols65::{Known, Symbols, knowing};
+use symbols65::{NormCache, Symbols, knowing};
 use syntax65::{AddressSize, Expr};
 
 /// Whether the scope at a place was opened by `.scope`.
@@ -65,11 +65,11 @@ pub fn check_proc(symbols: &Symbols, scope: usize) -> Result<(), AsmFault>
 }
 
 /// Refuses to go back to a segment where none was kept.
-pub fn check_kept(standing: &Standing) -> Result<(), AsmFault>
+pub fn check_kept(cursor: &Cursor) -> Result<(), AsmFault>
     ensures { result ≡ unless_fault
-        (when (not (is_kept (standing_of standing.now).kept)) PopWithoutPush) tt }
+        (when (not (is_kept (cursor_of cursor.now).kept)) PopWithoutPush) tt }
 {
-    if standing.kept.is_empty() {
+    if cursor.kept.is_empty() {
         Err(AsmFault::PopWithoutPush)
     } else {
         Ok(())
@@ -97,21 +97,21 @@ fn size_at(segments: &[Segment], place: usize) -> AddressSize
 
 /// Refuses another size for a segment that has one.
 pub fn check_segment(
-    standing: &Standing,
+    cursor: &Cursor,
     name: &[u8],
     size: Option<AddressSize>,
 ) -> Result<(), AsmFault>
-    requires { IsSoundStanding standing.now }
-    ensures { result ≡ unless_fault (changed_size standing.now.segments.items size
-        (place_of standing.now.segments.items name.now)) tt }
+    requires { IsSoundCursor cursor.now }
+    ensures { result ≡ unless_fault (changed_size cursor.now.segments.items size
+        (place_of cursor.now.segments.items name.now)) tt }
 {
     let Some(size) = size else {
         return Ok(());
     };
-    let Some(place) = standing.place_of(name) else {
+    let Some(place) = cursor.place_of(name) else {
         return Ok(());
     };
-    if same_size(size, size_at(&standing.segments, place)) {
+    if same_size(size, size_at(&cursor.segments, place)) {
         Ok(())
     } else {
         Err(AsmFault::SizeChanged)
@@ -133,7 +133,7 @@ fn byte_of(value: Option<i64>) -> Result<u8, AsmFault>
 fn fill(
     alloc: Global,
     symbols: &Symbols,
-    known: &mut Known,
+    known: &mut NormCache,
     context: Context,
     value: &OptionalExpr,
 ) -> Result<Settled, AsmFault>
@@ -168,25 +168,25 @@ fn count_of(value: Option<i64>) -> Result<usize, AsmFault>
 pub fn reserve(
     alloc: Global,
     before: Before<'_>,
-    known: &mut Known,
+    known: &mut NormCache,
     count: &Expr,
     value: &OptionalExpr,
 ) -> Result<Measured, AsmFault>
     requires table { IsTable (table_of before.symbols.now) known.old.states.items }
-    requires standing { IsSoundStanding before.standing.now }
+    requires cursor { IsSoundCursor before.cursor.now }
     ensures placed { Gives is_memory (λ m. m) result (placed
-        (table_of before.entry.symbols.now) (standing_of before.entry.standing.now)
+        (table_of before.entry.symbols.now) (cursor_of before.entry.cursor.now)
         (Reserve count.now value.now)) }
     ensures table { OnOk result
         (IsTable (table_of before.entry.symbols.now) known.new.states.items) }
 {
-    let context = before.standing.context();
+    let context = before.cursor.context();
     let count = count_of(knowing::constant(alloc, before.symbols, known, context, count)?)?;
     let settled = fill(alloc, before.symbols, known, context, value)?;
-    let length = fit(before.standing, count)?;
+    let length = fit(before.cursor, count)?;
     Ok(Measured {
         length,
-        size: before.standing.segment().size,
+        size: before.cursor.segment().size,
         multiple: 1,
         settled,
     })
@@ -234,13 +234,13 @@ fn multiple_of(value: Option<i64>) -> Result<u32, AsmFault>
 }
 
 /// How far the end of the section moves up to a multiple.
-fn gap(standing: &Standing, multiple: u32) -> u32
-    requires standing { IsSoundStanding standing.now }
+fn gap(cursor: &Cursor, multiple: u32) -> u32
+    requires cursor { IsSoundCursor cursor.now }
     requires bounds { multiple ≤ 32768 }
     requires positive { 0 < multiple }
-    ensures { result ≡ gap (standing_spot (standing_of standing.now)).offset (Some (pos multiple)) }
+    ensures { result ≡ gap (cursor_context (cursor_of cursor.now)).offset (Some (pos multiple)) }
 {
-    let offset = standing.context().offset;
+    let offset = cursor.context().offset;
     offset.next_multiple_of(multiple) - offset
 }
 
@@ -249,27 +249,27 @@ fn gap(standing: &Standing, multiple: u32) -> u32
 pub fn align(
     alloc: Global,
     before: Before<'_>,
-    known: &mut Known,
+    known: &mut NormCache,
     multiple: &Expr,
     value: &OptionalExpr,
 ) -> Result<Measured, AsmFault>
     requires table { IsTable (table_of before.symbols.now) known.old.states.items }
-    requires standing { IsSoundStanding before.standing.now }
+    requires cursor { IsSoundCursor before.cursor.now }
     ensures placed { Gives is_memory (λ m. m) result (placed
-        (table_of before.entry.symbols.now) (standing_of before.entry.standing.now)
+        (table_of before.entry.symbols.now) (cursor_of before.entry.cursor.now)
         (Align multiple.now value.now)) }
     ensures table { OnOk result
         (IsTable (table_of before.entry.symbols.now) known.new.states.items) }
 {
-    let context = before.standing.context();
+    let context = before.cursor.context();
     let multiple = knowing::constant(alloc, before.symbols, known, context, multiple)?;
     check_constant(multiple)?;
     let settled = fill(alloc, before.symbols, known, context, value)?;
     let multiple = multiple_of(multiple)?;
-    let length = fit(before.standing, gap(before.standing, multiple) as usize)?;
+    let length = fit(before.cursor, gap(before.cursor, multiple) as usize)?;
     Ok(Measured {
         length,
-        size: before.standing.segment().size,
+        size: before.cursor.segment().size,
         multiple,
         settled,
     })

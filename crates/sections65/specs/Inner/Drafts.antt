@@ -13,7 +13,7 @@ use Rattle.object65.specs.declared.object.Object.{Object}
 use Rattle.object65.specs.declared.object.Origin.{Origin}
 use Rattle.object65.specs.declared.object.Section.{Section}
 use Rattle.object65.specs.Objects.{FitsBits, FragmentFits, OriginFits}
-use Rattle.language65.specs.declared.contents.Said.{Said}
+use Rattle.language65.specs.declared.contents.Declaration.{Declaration}
 use Rattle.language65.specs.declared.contents.Segment.{Segment}
 use Rattle.language65.specs.Numbering.{assert_of, exports_among, is_empty, key_of, name_of, numbered, segment_name, segment_power}
 use Rattle.language65.specs.Views.{place_in, said_at}
@@ -90,7 +90,7 @@ with_entries sections imports [] ds = ds
 with_entries sections imports (e ∷ es) ds = with_entries sections imports es (map (with_entry sections imports e) ds)
 
 -- exports behind those found
-abbrev pub exports_at : (sections imports : List ℕ) → Origin → List Export → List Said → List Export
+abbrev pub exports_at : (sections imports : List ℕ) → Origin → List Export → List Declaration → List Export
 exports_at sections imports origin found ss = exports_among (here origin) sections imports found (map (said_at anywhere) ss)
 
 abbrev pub exports_from : (sections imports : List ℕ) → List Export → List Entry → List Export
@@ -98,7 +98,7 @@ exports_from sections imports found [] = found
 exports_from sections imports found (Told o ss ∷ es) = exports_from sections imports (exports_at sections imports (origin_by o) found ss) es
 exports_from sections imports found (e ∷ es) = exports_from sections imports found es
 
-abbrev pub asserts_at : (sections imports : List ℕ) → Origin → List Said → List Assert
+abbrev pub asserts_at : (sections imports : List ℕ) → Origin → List Declaration → List Assert
 asserts_at sections imports origin ss = filter_map (assert_of (here origin) sections imports) (map (said_at anywhere) ss)
 
 abbrev pub entry_asserts : (sections imports : List ℕ) → Entry → List Assert

@@ -87,10 +87,10 @@ fn add_put(
         Entry::Value {
             width,
             segment: _,
-            context,
+            pos,
             form,
         } => {
-            let origin = context.origin();
+            let origin = pos.origin();
             let form = numbered(alloc, numbers, &form)?;
             begin(
                 draft,

@@ -8,7 +8,7 @@ use super::keys::{Numbers, numbered};
 use crate::entries::Entry;
 use base65::{Seed, Sequence};
 use indexmap::IndexSet;
-use language65::Said;
+use language65::Declaration;
 use object65::{Assert, Export, Origin};
 use std::alloc::{AllocError, Global};
 
@@ -25,14 +25,14 @@ fn add_assert(
     numbers: &Numbers,
     asserts: &mut Sequence<Assert>,
     origin: Origin,
-    said: &Said,
+    said: &Declaration,
 ) -> Result<(), AllocError>
     ensures added { OnOk result (asserts.new ≡ asserts.old ++ asserts_at numbers.now.sections.keys
         numbers.now.imports.keys origin (said.now ∷ [])) }
     ensures fits { OnOk result (AllByRecursion AssertFits asserts.old →
         AllByRecursion AssertFits asserts.new) }
 {
-    if let Said::Checked { action, text, form } = said {
+    if let Declaration::Asserted { action, text, form } = said {
         asserts.push(Assert {
             action: *action,
             origin,
@@ -49,7 +49,7 @@ fn add_asserts(
     numbers: &Numbers,
     asserts: &mut Sequence<Assert>,
     origin: Origin,
-    said: &[Said],
+    said: &[Declaration],
 ) -> Result<(), AllocError>
     ensures added { OnOk result (asserts.new ≡ asserts.old ++ asserts_at numbers.now.sections.keys
         numbers.now.imports.keys origin said.now) }
@@ -75,8 +75,8 @@ fn add_entry_asserts(
         AllByRecursion AssertFits asserts.new) }
 {
     match entry {
-        Entry::Told { context, said } => {
-            add_asserts(alloc, numbers, asserts, context.origin(), said.as_slice())
+        Entry::Told { pos, said } => {
+            add_asserts(alloc, numbers, asserts, pos.origin(), said.as_slice())
         }
         Entry::Bytes { .. } | Entry::Room { .. } | Entry::Value { .. } | Entry::Open => Ok(()),
     }
@@ -105,7 +105,7 @@ fn add_export<'a>(
     numbers: &Numbers,
     exports: &mut Exports<'a>,
     origin: Origin,
-    said: &'a Said,
+    said: &'a Declaration,
 ) -> Result<(), AllocError>
     requires { AreNamed exports.old }
     ensures added { OnOk result (exports.new.all ≡ exports_at numbers.now.sections.keys
@@ -114,7 +114,7 @@ fn add_export<'a>(
         AllByRecursion ExportFits exports.new.all) }
     ensures named { OnOk result (AreNamed exports.new) }
 {
-    if let Said::Exported { name, form } = said {
+    if let Declaration::Exported { name, form } = said {
         if exports.names.insert(name.as_slice())? {
             exports.all.push(Export {
                 name: Sequence::copy_of(alloc, name.as_slice())?,
@@ -132,7 +132,7 @@ fn add_exports<'a>(
     numbers: &Numbers,
     exports: &mut Exports<'a>,
     origin: Origin,
-    said: &'a [Said],
+    said: &'a [Declaration],
 ) -> Result<(), AllocError>
     requires { AreNamed exports.old }
     ensures added { OnOk result (exports.new.all ≡ exports_at numbers.now.sections.keys
@@ -162,8 +162,8 @@ fn add_entry_exports<'a>(
     ensures named { OnOk result (AreNamed exports.new) }
 {
     match entry {
-        Entry::Told { context, said } => {
-            add_exports(alloc, numbers, exports, context.origin(), said.as_slice())
+        Entry::Told { pos, said } => {
+            add_exports(alloc, numbers, exports, pos.origin(), said.as_slice())
         }
         Entry::Bytes { .. } | Entry::Room { .. } | Entry::Value { .. } | Entry::Open => Ok(()),
     }

@@ -12,7 +12,7 @@ ghost use Rattle.language65.specs.Views.{said_at};
 use crate::entries::Entry;
 use base65::Seed;
 use indexmap::IndexSet;
-use language65::Said;
+use language65::Declaration;
 use object65::{Node, Norm};
 use std::alloc::{AllocError, Global};
 
@@ -109,14 +109,14 @@ fn add_name(keys: &mut IndexSet<u32>, imports: &Imports, name: &[u8]) -> Result<
 }
 
 /// Adds the imports of what a statement says.
-fn add_saying(keys: &mut IndexSet<u32>, imports: &Imports, said: &Said) -> Result<(), AllocError>
+fn add_saying(keys: &mut IndexSet<u32>, imports: &Imports, said: &Declaration) -> Result<(), AllocError>
     ensures { OnOk result (keys.new.keys ≡ once keys.old.keys
         (said_imports (names_of imports.now) (said_at anywhere said.now))) }
 {
     match said {
-        Said::Exported { name: _, form } => add_form(keys, form),
-        Said::Demanded(name) => add_name(keys, imports, name.as_slice()),
-        Said::Checked {
+        Declaration::Exported { name: _, form } => add_form(keys, form),
+        Declaration::ForcedImport(name) => add_name(keys, imports, name.as_slice()),
+        Declaration::Asserted {
             action: _,
             text: _,
             form,
@@ -125,7 +125,7 @@ fn add_saying(keys: &mut IndexSet<u32>, imports: &Imports, said: &Said) -> Resul
 }
 
 /// Adds the imports of all that a statement says.
-fn add_said(keys: &mut IndexSet<u32>, imports: &Imports, said: &[Said]) -> Result<(), AllocError>
+fn add_said(keys: &mut IndexSet<u32>, imports: &Imports, said: &[Declaration]) -> Result<(), AllocError>
     ensures { OnOk result (keys.new.keys ≡ once keys.old.keys
         (flat_map (said_imports (names_of imports.now)) (map (said_at anywhere) said.now))) }
 {
@@ -142,7 +142,7 @@ fn add_entry(keys: &mut IndexSet<u32>, imports: &Imports, entry: &Entry) -> Resu
 {
     match entry {
         Entry::Value { form, .. } => add_form(keys, form),
-        Entry::Told { context: _, said } => add_said(keys, imports, said.as_slice()),
+        Entry::Told { pos: _, said } => add_said(keys, imports, said.as_slice()),
         Entry::Bytes { .. } | Entry::Room { .. } | Entry::Open => Ok(()),
     }
 }

@@ -6,7 +6,7 @@ ghost use Rattle.symbols65.specs.Resolving.{IsTable};
 ghost use Rattle.symbols65.specs.Views.{table_of};
 
 use super::sizes::size;
-use crate::resolving::Known;
+use crate::resolving::NormCache;
 use crate::table::Symbols;
 use language65::{Index, Operand, Context};
 use std::alloc::{AllocError, Global};
@@ -78,7 +78,7 @@ fn address_mode(
 pub fn mode(
     alloc: Global,
     symbols: &Symbols,
-    known: &mut Known,
+    known: &mut NormCache,
     context: Context,
     own: AddressSize,
     mnemonic: Mnemonic,

@@ -8,7 +8,7 @@ ghost use Rattle.symbols65.specs.Views.{table_of};
 ghost use Rattle.std.specs.Result.{result_ok};
 ghost use Rattle.language65.specs.Symbols.{meaning_of};
 
-use crate::resolving::{Known, Meaning, Stop, address, binary_form, meaning_of, meant_norm, norm, number_of, prefix_form, settled};
+use crate::resolving::{NormCache, Meaning, Stop, address, binary_form, meaning_of, meant_norm, norm, number_of, prefix_form, settled};
 use crate::table::Symbols;
 use base65::Op1;
 use language65::{AsmFault, Context};
@@ -50,7 +50,7 @@ pub fn pass_on_memory(fault: &AsmFault) -> Result<(), AllocError>
 pub fn constant(
     alloc: Global,
     symbols: &Symbols,
-    known: &mut Known,
+    known: &mut NormCache,
     context: Context,
     value: &Expr,
 ) -> Result<Option<i64>, AllocError>
@@ -85,7 +85,7 @@ pub fn constant_now(
             Ok(None)
         }
         Err(Stop::Needs(_)) => {
-            let mut known = Known::unknown(alloc, symbols)?;
+            let mut known = NormCache::unknown(alloc, symbols)?;
             constant(alloc, symbols, &mut known, context, value)
         }
     }
@@ -185,7 +185,7 @@ fn sized_by_value(form: Option<Norm>, other: AddressSize) -> FormAndSize
 fn reference_form_and_size(
     alloc: Global,
     symbols: &Symbols,
-    known: &mut Known,
+    known: &mut NormCache,
     context: Context,
     operand: &Expr,
 ) -> Result<FormAndSize, AllocError>
@@ -222,7 +222,7 @@ fn reference_form_and_size(
 fn form_and_size(
     alloc: Global,
     symbols: &Symbols,
-    known: &mut Known,
+    known: &mut NormCache,
     context: Context,
     own: AddressSize,
     value: &Expr,
@@ -276,7 +276,7 @@ fn form_and_size(
 pub fn size(
     alloc: Global,
     symbols: &Symbols,
-    known: &mut Known,
+    known: &mut NormCache,
     context: Context,
     own: AddressSize,
     value: &Expr,

@@ -9,7 +9,7 @@ ghost use Rattle.symbols65.specs.Resolving.{IsTable, meaning_in, Settles};
 ghost use Rattle.symbols65.specs.Views.{table_of};
 
 use super::attempt::{Source, Stop, address, meant, try_norm};
-use super::known::Known;
+use super::cache::NormCache;
 use super::meaning::Meaning;
 use crate::table::Symbols;
 use language65::{AsmFault, Context};
@@ -28,7 +28,7 @@ pub fn settled(alloc: Global, symbols: &Symbols, context: Context, value: &Expr)
 pub fn norm(
     alloc: Global,
     symbols: &Symbols,
-    known: &mut Known,
+    known: &mut NormCache,
     context: Context,
     value: &Expr,
 ) -> Result<Norm, AsmFault>
@@ -49,7 +49,7 @@ pub fn norm(
 pub fn meant_norm(
     alloc: Global,
     symbols: &Symbols,
-    known: &mut Known,
+    known: &mut NormCache,
     context: Context,
     operand: &Expr,
     meaning: Meaning,
@@ -73,7 +73,7 @@ pub fn meant_norm(
 pub fn defined_norm(
     alloc: Global,
     symbols: &Symbols,
-    known: &mut Known,
+    known: &mut NormCache,
     place: usize,
 ) -> Result<Norm, AsmFault>
     requires { IsTable (table_of symbols.now) known.old.states.items }

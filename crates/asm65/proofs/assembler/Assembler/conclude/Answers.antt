@@ -16,7 +16,7 @@ returns-in-Ok-clause-concluded c =
     let files = map (string_bytes {Z = Global}) c.as_slice.result.now in
     λ (count : ℕ) (t : State).
     λ (h : Holds count t a).
-    let k : AreSettled t.symbols t.waiting (ending_of a) new = all_settled count t a files new (Ok tt) h (ap (map (string_bytes {Z = Global})) c.as_slice.ensures.keys) c.in-Ok.ensures.settled in
+    let k : AreSettled t.symbols t.fixups (ending_of a) new = all_settled count t a files new (Ok tt) h (ap (map (string_bytes {Z = Global})) c.as_slice.ensures.keys) c.in-Ok.ensures.settled in
     c.answered.ensures.concluded (concluded t None) (either_concluded count t a new c.object_of-object.result h k (subst (λ (gs : List Segment). IfOk c.object_of-object.result (IsMade gs (imports_of a) new)) c.as_slice-segments.ensures.value c.object_of-object.ensures.object) c.object_of-object.ensures.inside)
 
 pub returns-in-Ok-clause-good : goal.returns-in-Ok-clause-good
@@ -35,5 +35,5 @@ returns-clause-concluded c =
     let files = map (string_bytes {Z = Global}) c.as_slice.result.now in
     λ (count : ℕ) (t : State).
     λ (h : Holds count t a).
-    let k : Unless (is_outside_refusal c.in-Err.refusal) (AreFaulty t.symbols t.waiting c.in-Err.refusal (ending_of a) new) = all_settled count t a files new (Err c.in-Err.refusal) h (ap (map (string_bytes {Z = Global})) c.as_slice.ensures.keys) c.in-Err.ensures.settled in
-    c.answered-in-Err.ensures.concluded (concluded t None) (λ (e : is_outside_refusal c.in-Err.refusal ≡ false). fault_concluded count t a new c.in-Err.refusal h (certain (is_outside_refusal c.in-Err.refusal) (AreFaulty t.symbols t.waiting c.in-Err.refusal (ending_of a) new) k e))
+    let k : Unless (is_outside_refusal c.in-Err.refusal) (AreFaulty t.symbols t.fixups c.in-Err.refusal (ending_of a) new) = all_settled count t a files new (Err c.in-Err.refusal) h (ap (map (string_bytes {Z = Global})) c.as_slice.ensures.keys) c.in-Err.ensures.settled in
+    c.answered-in-Err.ensures.concluded (concluded t None) (λ (e : is_outside_refusal c.in-Err.refusal ≡ false). fault_concluded count t a new c.in-Err.refusal h (certain (is_outside_refusal c.in-Err.refusal) (AreFaulty t.symbols t.fixups c.in-Err.refusal (ending_of a) new) k e))

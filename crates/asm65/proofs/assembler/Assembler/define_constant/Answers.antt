@@ -64,6 +64,6 @@ returns-else-waits c = λ count t h inside unnamed.
     let (f, is) = formed_there c.in_ok-form.form c.if-waits.ensures in
     let final : IsFinal t.symbols s e f = subst (λ (z : Symbols). IsFinal z s e f) h.symbols (c.in_ok-form.ensures.stays f is) in
     let u : State = entered t (telling []) in
-    let quiet : Holds count u old = holds_entered count t old old h (record { symbols = refl; known = refl; standing = refl; texts = refl }) (telling []) (says_nothing old.sections) refl refl in
+    let quiet : Holds count u old = holds_entered count t old old h (record { symbols = refl; known = refl; cursor = refl; texts = refl }) (telling []) (says_nothing old.sections) refl refl in
     let held = holds_grown count u old mid y (quiet) c.in_ok-define.ensures.keeps table c.in_ok-define.ensures.known (more_defined t.symbols d) inside unnamed in
     (u, (u, at_once (telling []) (final_settles t.symbols place s equated e f (telling []) final refl), refl), held))

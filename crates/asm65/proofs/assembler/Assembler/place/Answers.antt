@@ -6,14 +6,14 @@ use Rattle.source65.specs.declared.place.Place.{Place}
 use Rattle.language65.specs.declared.laid.Context.{Context}
 use Rattle.language65.specs.declared.language.Statement.{Statement}
 use Rattle.language65.specs.Layout as layout
-use Rattle.language65.specs.Layout.{Standing}
+use Rattle.language65.specs.Layout.{Cursor}
 use Rattle.language65.specs.Symbols.{Symbols}
 use Rattle.language65.specs.Views.{place_in}
 use Rattle.layout65.specs.Measuring.{advanced}
 use Rattle.layout65.specs.Counting.{AreInside, HasNumbers}
 use Rattle.layout65.specs.declared.measuring.Measured.{Measured}
-use Rattle.layout65.specs.Sounds.{IsCounted, standing_of}
-use Rattle.layout65.specs.declared.standing.Standing as code
+use Rattle.layout65.specs.Sounds.{IsCounted, cursor_of}
+use Rattle.layout65.specs.declared.cursor.Cursor as code
 use Rattle.layout65.specs.declared.measuring.Measured as found
 use Rattle.layout65.proofs.Behind.{has_numbers, without_fault}
 use Rattle.symbols65.specs.Views.{table_of}
@@ -31,8 +31,8 @@ advance-requires-clause-numbers c =
     let mid : Assembler = c.ask.new.self in
     let (count, t, h, few) = c.requires in
     let inside : AreInside count (table_of old.symbols).scopes = subst (λ (y : Symbols). AreInside count y.scopes) (sym h.symbols) h.inside in
-    subst (λ (y : Symbols). HasNumbers y mid.standing) (ap table_of (sym c.in_ok-ask.ensures.tables.symbols))
-    (subst (λ (w : code.Standing). HasNumbers (table_of old.symbols) w) (sym c.in_ok-ask.ensures.tables.standing) (has_numbers count (table_of old.symbols) old.standing h.counted inside few))
+    subst (λ (y : Symbols). HasNumbers y mid.cursor) (ap table_of (sym c.in_ok-ask.ensures.tables.symbols))
+    (subst (λ (w : code.Cursor). HasNumbers (table_of old.symbols) w) (sym c.in_ok-ask.ensures.tables.cursor) (has_numbers count (table_of old.symbols) old.cursor h.counted inside few))
 
 pub returns-clause-placed : goal.returns-clause-placed
 returns-clause-placed c = λ count t h.
@@ -44,9 +44,9 @@ returns-clause-new c =
     let mid : Assembler = c.ask.new.self in
     let x : Statement = c.args.statement.now in
     let y : Symbols = table_of old.symbols in
-    let w : Standing = standing_of old.standing in
+    let w : Cursor = cursor_of old.cursor in
     let (count, t, h, few) = c.requires in
-    let before : AreBefore w.unnamed y.definitions = subst (λ (z : Symbols). AreBefore w.unnamed z.definitions) (sym h.symbols) (subst (λ (v : Standing). AreBefore v.unnamed t.symbols.definitions) (sym h.standing) h.unnamed) in
+    let before : AreBefore w.unnamed y.definitions = subst (λ (z : Symbols). AreBefore w.unnamed z.definitions) (sym h.symbols) (subst (λ (v : Cursor). AreBefore v.unnamed t.symbols.definitions) (sym h.cursor) h.unnamed) in
     let new : IsNew y (layout.context_of w) x = is_new y w x (without_fault y w x c.in_ok-measured.measured c.in_ok-measured.ensures.measured) before in
     subst (λ (z : Symbols). IsNew z (c.context-context.result) x) (ap table_of (sym c.in_ok-ask.ensures.tables.symbols))
     (subst (λ (s : Context). IsNew y s x) (sym c.context-context.ensures) new)
@@ -59,18 +59,18 @@ returns-clause-holds c = λ count t h.
     let place : Place = place_in c.args.at.file.now c.args.at.line in
     let m : Measured = c.in_ok-measured.measured in
     let y : Symbols = table_of old.symbols in
-    let w : Standing = standing_of old.standing in
+    let w : Cursor = cursor_of old.cursor in
     let same : table_of mid.symbols ≡ y = ap table_of c.in_ok-ask.ensures.tables.symbols in
-    let site : standing_of mid.standing ≡ w = ap standing_of c.in_ok-ask.ensures.tables.standing in
-    let segment = ap (λ (s : Context). s.segment) c.context-context.ensures ∙ ap (λ (v : Standing). (layout.context_of v).segment) h.standing in
+    let site : cursor_of mid.cursor ≡ w = ap cursor_of c.in_ok-ask.ensures.tables.cursor in
+    let segment = ap (λ (s : Context). s.segment) c.context-context.ensures ∙ ap (λ (v : Cursor). (layout.context_of v).segment) h.cursor in
     let knows = holds_known count t old c.measure.new.known h c.in_ok-measured.ensures.table in
-    let held : Holds count (asked_of (layout.context_of t.standing).segment x t) mid = subst (λ (g : ℕ). Holds count (asked_of g x t) mid) segment (c.in_ok-ask.ensures.asked count t knows) in
-    let moved : standing_of c.advance.new.self ≡ layout.standing_behind t.symbols t.standing x =
+    let held : Holds count (asked_of (layout.context_of t.cursor).segment x t) mid = subst (λ (g : ℕ). Holds count (asked_of g x t) mid) segment (c.in_ok-ask.ensures.asked count t knows) in
+    let moved : cursor_of c.advance.new.self ≡ layout.cursor_behind t.symbols t.cursor x =
     c.in_ok-advance.ensures.moved
-    ∙ ap (λ (z : Symbols). advanced z (standing_of mid.standing) x m.length m.multiple) same
-    ∙ ap (λ (v : Standing). advanced y v x m.length m.multiple) site
+    ∙ ap (λ (z : Symbols). advanced z (cursor_of mid.cursor) x m.length m.multiple) same
+    ∙ ap (λ (v : Cursor). advanced y v x m.length m.multiple) site
     ∙ moved_behind count t old h x m c.in_ok-measured.ensures.measured in
-    let counted : IsCounted count mid.standing = subst (IsCounted count) (sym c.in_ok-ask.ensures.tables.standing) h.counted in
+    let counted : IsCounted count mid.cursor = subst (IsCounted count) (sym c.in_ok-ask.ensures.tables.cursor) h.counted in
     let inside : AreInside count (table_of mid.symbols).scopes = subst (λ (z : Symbols). AreInside count z.scopes) (sym (same ∙ h.symbols)) h.inside in
     holds_stepped count t place x mid c.advance.new.self c.say.new.self held moved c.in_ok-advance.ensures.sound c.in_ok-advance.ensures.ends (c.in_ok-advance.ensures.counted count counted inside) c.in_ok-say.ensures.out c.in_ok-say.ensures.err)
 
@@ -83,4 +83,4 @@ pub returns-in_err-measured-clause-inside : goal.returns-in_err-measured-clause-
 returns-in_err-measured-clause-inside c =
     let p = err_from_is_err_and c.from_residual.result c.from_residual.ensures.1 in
     let answer : Result found.Measured AsmFault = Err c.in_err-measured.field-0.0 in
-    rw (p.1, p.2) (measured_inside answer (λ m. m) (table_of c.args.self.now.symbols) (standing_of c.args.self.now.standing) c.args.statement.now c.in_err-measured.ensures.measured)
+    rw (p.1, p.2) (measured_inside answer (λ m. m) (table_of c.args.self.now.symbols) (cursor_of c.args.self.now.cursor) c.args.statement.now c.in_err-measured.ensures.measured)

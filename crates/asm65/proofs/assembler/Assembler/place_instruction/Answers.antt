@@ -8,12 +8,12 @@ use Rattle.language65.specs.declared.laid.Context.{Context}
 use Rattle.language65.specs.declared.language.Statement.{Statement}
 use Rattle.language65.specs.declared.language.Statement.TheVariants.{Instruction}
 use Rattle.language65.specs.Layout as layout
-use Rattle.language65.specs.Layout.{Standing}
+use Rattle.language65.specs.Layout.{Cursor}
 use Rattle.language65.specs.Symbols.{Symbols}
 use Rattle.layout65.specs.Measuring.{advanced}
 use Rattle.layout65.specs.Counting.{AreInside}
 use Rattle.layout65.specs.declared.measuring.Measured.{Measured}
-use Rattle.layout65.specs.Sounds.{standing_of}
+use Rattle.layout65.specs.Sounds.{cursor_of}
 use Rattle.layout65.specs.declared.measuring.Measured as found
 use Rattle.layout65.proofs.Behind.{is_measured}
 use Rattle.module65.specs.Machine.{entered}
@@ -37,15 +37,15 @@ returns-clause-holds c = λ place count t h.
     let x : Statement = Instruction c.args.mnemonic c.args.operand.now in
     let m : Measured = c.in_ok-measured.measured in
     let y : Symbols = table_of old.symbols in
-    let w : Standing = standing_of old.standing in
+    let w : Cursor = cursor_of old.cursor in
     let known : Assembler = record old { known = c.measure_instruction.new.known } in
     let mid : Assembler = record known { sections = c.ask.new.self } in
-    let segment = ap (λ (s : Context). s.segment) c.context-context.ensures ∙ ap (λ (v : Standing). (layout.context_of v).segment) h.standing in
+    let segment = ap (λ (s : Context). s.segment) c.context-context.ensures ∙ ap (λ (v : Cursor). (layout.context_of v).segment) h.cursor in
     let knows : Holds count t known = holds_known count t old c.measure_instruction.new.known h c.in_ok-measured.ensures.table in
-    let asked : Holds count (entered t (asking c.context-context.result.segment)) mid = holds_entered count t known mid knows (record { symbols = refl; known = refl; standing = refl; texts = refl }) (asking c.context-context.result.segment) c.in_ok-ask.ensures refl refl in
-    let held : Holds count (asked_of (layout.context_of t.standing).segment x t) mid = subst (λ (g : ℕ). Holds count (entered t (asking g)) mid) segment asked in
+    let asked : Holds count (entered t (asking c.context-context.result.segment)) mid = holds_entered count t known mid knows (record { symbols = refl; known = refl; cursor = refl; texts = refl }) (asking c.context-context.result.segment) c.in_ok-ask.ensures refl refl in
+    let held : Holds count (asked_of (layout.context_of t.cursor).segment x t) mid = subst (λ (g : ℕ). Holds count (entered t (asking g)) mid) segment asked in
     let one : 1 ≡ m.multiple = ap (λ (k : Measured). k.multiple) (is_measured y w x m c.in_ok-measured.ensures.measured) in
-    let moved : standing_of c.advance_by.new.self ≡ layout.standing_behind t.symbols t.standing x =
+    let moved : cursor_of c.advance_by.new.self ≡ layout.cursor_behind t.symbols t.cursor x =
     c.advance_by.ensures.moved y c.args.mnemonic c.args.operand.now
     ∙ ap (λ (k : ℕ). advanced y w x m.length k) one
     ∙ moved_behind count t old h x m c.in_ok-measured.ensures.measured in
@@ -61,4 +61,4 @@ pub returns-in_err-measured-clause-inside : goal.returns-in_err-measured-clause-
 returns-in_err-measured-clause-inside c =
     let p = err_from_is_err_and c.from_residual.result c.from_residual.ensures.1 in
     let answer : Result found.Measured AsmFault = Err c.in_err-measured.field-0.0 in
-    rw (p.1, p.2) (measured_inside answer (λ m. m) (table_of c.args.self.now.symbols) (standing_of c.args.self.now.standing) (Instruction c.args.mnemonic c.args.operand.now) c.in_err-measured.ensures.measured)
+    rw (p.1, p.2) (measured_inside answer (λ m. m) (table_of c.args.self.now.symbols) (cursor_of c.args.self.now.cursor) (Instruction c.args.mnemonic c.args.operand.now) c.in_err-measured.ensures.measured)

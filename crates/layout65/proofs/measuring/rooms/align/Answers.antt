@@ -5,7 +5,7 @@ use Rattle.syntax65.specs.Trees.{Tree}
 use Rattle.language65.specs.declared.fault.AsmFault.TheVariants.{BadOperand}
 use Rattle.language65.specs.declared.laid.Context.{Context}
 use Rattle.language65.specs.Layout.{context_of, is_byte_value, when, unless_fault}
-use Rattle.layout65.specs.Sounds.{standing_of}
+use Rattle.layout65.specs.Sounds.{cursor_of}
 use Rattle.language65.specs.Norms.{constant_in, fill_settled, optional_value}
 use Rattle.symbols65.specs.Views.{table_of}
 use Rattle.layout65.proofs.Measures.{aligned_as, aligned_well, as_ok, bad_byte, bad_multiple, refused_same}
@@ -16,7 +16,7 @@ returns-in_err-multiple-2-clause-placed c =
     let p = err_from_is_err_and c.from_residual-in_err-multiple-2.result c.from_residual-in_err-multiple-2.ensures.1 in
     let e = c.in_err-multiple-2.field-0.0 in
     let y = table_of c.args.before.symbols.now in
-    let w = standing_of c.args.before.standing.now in
+    let w = cursor_of c.args.before.cursor.now in
     let n : Tree = c.args.multiple.now in
     let v : Option Tree = c.args.value.now in
     let k = ap (λ s. constant_in y s n) (sym c.context-context.ensures) ∙ sym c.in_ok-multiple.ensures.value in
@@ -29,7 +29,7 @@ returns-in_err-multiple-2-clause-placed c =
 pub returns-clause-placed : goal.returns-clause-placed
 returns-clause-placed c =
     let y = table_of c.args.before.symbols.now in
-    let w = standing_of c.args.before.standing.now in
+    let w = cursor_of c.args.before.cursor.now in
     let n : Tree = c.args.multiple.now in
     let v : Option Tree = c.args.value.now in
     let k = ap (λ s. constant_in y s n) (sym c.context-context.ensures) ∙ sym c.in_ok-multiple.ensures.value in
@@ -46,7 +46,7 @@ returns-in_err-settled-clause-placed c =
     let p = err_from_is_err_and c.from_residual-in_err-settled.result c.from_residual-in_err-settled.ensures.1 in
     let e = c.in_err-settled.field-0.0 in
     let y = table_of c.args.before.symbols.now in
-    let w = standing_of c.args.before.standing.now in
+    let w = cursor_of c.args.before.cursor.now in
     let n : Tree = c.args.multiple.now in
     let v : Option Tree = c.args.value.now in
     let k = ap (λ s. constant_in y s n) (sym c.context-context.ensures) ∙ sym c.in_ok-multiple.ensures.value in

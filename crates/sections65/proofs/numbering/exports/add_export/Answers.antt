@@ -1,7 +1,7 @@
 use Rattle.std.proofs.Common.{◌∙◌, ◌++◌, ◌∷◌, [], sym, ap, List, ℕ}
 use Rattle.object65.specs.Form.{Form}
 use Rattle.object65.specs.declared.object.Export.{Export}
-use Rattle.language65.specs.declared.contents.Said.TheVariants as told
+use Rattle.language65.specs.declared.contents.Declaration.TheVariants as told
 use Rattle.sections65.specs.Inner.Drafts.{anywhere, exports_at, here}
 use Rattle.sections65.proofs.Exporting.{export_new, export_old}
 use Rattle.sections65.proofs.numbering.exports.add_export.Goals as goal

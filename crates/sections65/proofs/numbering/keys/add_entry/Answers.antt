@@ -13,6 +13,6 @@ returns-in-Told c =
     let names = names_of c.args.imports.now in
     let same =
     ap (λ ss. flat_map (said_imports names) (map (said_at anywhere) ss)) c.as_slice.ensures
-    ∙ said_anywhere names anywhere (place_by [] c.in-Told.context) c.in-Told.said
+    ∙ said_anywhere names anywhere (place_by [] c.in-Told.pos) c.in-Told.said
     ∙ ap (λ e. content_imports names (content_of [] e)) (sym c.in-Told.is) in
     subst (λ (l : List ℕ). OnOk c.add_said.result (c.add_said.new.keys.keys ≡ once c.args.keys.now.keys l)) same c.add_said.ensures

@@ -1,0 +1,15 @@
+use Rattle.std.proofs.Common.{◌≡◌, length, ap, sym, ◌∙◌}
+use Rattle.std.specs.Prelude.{replicate}
+use Rattle.std.proofs.lemmas.List.{length-map}
+use Rattle.symbols65.specs.declared.resolving.attempt.State.TheVariants.{Unknown}
+use Rattle.symbols65.specs.Tables.{definition_in}
+use Rattle.symbols65.specs.Views.{table_of, words_of}
+use Rattle.symbols65.proofs.Beginnings.{blank_replicated}
+use Rattle.symbols65.proofs.resolving.cache.NormCache.unknown.Goals as goal
+
+pub returns : goal.returns
+returns c =
+    let t = c.args.symbols.now in
+    let y = table_of t in
+    let long : c.len-count.result ≡ length y.definitions = c.len-count.ensures.len ∙ sym (length-map t.definitions.entries (definition_in (words_of t))) in
+    blank_replicated y c.in_ok-unknown_states.field-0.items (c.in_ok-unknown_states.ensures ∙ ap (λ n. replicate n Unknown) long)

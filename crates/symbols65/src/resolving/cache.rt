@@ -1,0 +1,208 @@
+//! Forms of constants that were found by a symbol table.
+
+ghost use Rattle.std.specs.Prelude.{◌+◌, ◌<◌, ◌≡◌, IfOk, OnOk, replicate, Some, [], length, map, ℕ, slice_get, slice_set, true};
+ghost use Rattle.base65.specs.Outcome.{Finds, Gives};
+ghost use Rattle.language65.specs.Faults.{is_memory};
+ghost use Rattle.symbols65.specs.declared.resolving.attempt.State.TheVariants.{Unknown, Waiting, Found};
+ghost use Rattle.symbols65.specs.Inner.Knowns.{AreNoted, is_found, without};
+ghost use Rattle.language65.specs.Norms.{Extends, norm_of};
+ghost use Rattle.symbols65.specs.Resolving.{AreHung, Reaches, bare, IsTable, may_be_looked_for};
+ghost use Rattle.symbols65.specs.Views.{Table, nothing_defined, table_of};
+
+use super::attempt::{State, Stop, try_last};
+use super::hanging::{hang_all, may_be_looked_for, root};
+use crate::table::Symbols;
+use language65::{AsmFault, Context};
+use object65::Norm;
+use std::alloc::{AllocError, Global};
+use syntax65::Expr;
+
+/// The table of the forms of constants, with the places of those that are found.
+#[derive(Drop)]
+pub struct NormCache {
+    pub states: Vec<State>,
+    noted: Vec<usize>,
+    ghost noted_all: { AreNoted states.items noted.items },
+}
+
+impl NormCache {
+    /// The table for no definition.
+    pub fn new(alloc: Global) -> Self
+        ensures { IsTable nothing_defined result.states.items }
+    {
+        NormCache {
+            states: Vec::new(alloc),
+            noted: Vec::new(alloc),
+        }
+    }
+
+    /// The table for the definitions of a symbol table, of which nothing is known.
+    pub fn unknown(alloc: Global, symbols: &Symbols) -> Result<Self, AllocError>
+        ensures { IfOk result (λ k. IsTable (table_of symbols.now) k.states.items) }
+    {
+        let count = symbols.definitions.len();
+        Ok(NormCache {
+            states: unknown_states(alloc, count)?,
+            noted: Vec::new(alloc),
+        })
+    }
+
+    /// The table for one more definition, of which nothing is known. The forms that were found are forgotten.
+    pub fn grow(&mut self) -> Result<(), AllocError>
+        requires { (j : ℕ) → slice_get self.old.states.items j ≡ Some Waiting → ⊥ }
+        ensures { OnOk result ((x y : Table) → AreHung x self.old.states.items → Extends x y → length y.definitions ≡ length self.old.states.items + 1 → IsTable y self.new.states.items) }
+    {
+        self.states.push(State::Unknown)?;
+        self.forget();
+        Ok(())
+    }
+
+    /// Forgets the forms that were found: the table for more statements with as many definitions.
+    pub fn forget(&mut self)
+        requires { (j : ℕ) → slice_get self.old.states.items j ≡ Some Waiting → ⊥ }
+        ensures long { length self.new.states.items ≡ length self.old.states.items }
+        ensures table { (x y : Table) → AreHung x self.old.states.items → Extends x y → length self.old.states.items ≡ length y.definitions → IsTable y self.new.states.items }
+    {
+        forget_noted(&mut self.states, &mut self.noted);
+    }
+
+    /// The constant at a place waits for others.
+    fn wait(&mut self, place: usize)
+        requires { place < length self.old.states.items }
+        ensures { self.new.states.items ≡ slice_set self.old.states.items place Waiting }
+    {
+        self.states[place] = State::Waiting;
+    }
+
+    /// The form of the constant at a place is found.
+    fn settle(&mut self, place: usize, form: Norm) -> Result<(), AllocError>
+        requires { place < length self.old.states.items }
+        ensures { OnOk result (self.new.states.items ≡ slice_set self.old.states.items place (Found form)) }
+    {
+        self.noted.push(place)?;
+        self.states[place] = State::Found(form);
+        Ok(())
+    }
+
+    /// The last constant waits no more, and those before it hang on others.
+    fn give_up(
+        &mut self,
+        alloc: Global,
+        symbols: &Symbols,
+        waiting: &[usize],
+    ) -> Result<(), AllocError>
+        ensures same { map bare self.new.states.items ≡ map bare (without self.old.states.items waiting.now) }
+        ensures hung { AreHung (table_of symbols.now) (without self.old.states.items waiting.now) → AreHung (table_of symbols.now) self.new.states.items }
+    {
+        lose_all(&mut self.states, waiting);
+        // The last one's fault is its own.
+        match waiting.split_last() {
+            Some((_, others)) => hang_all(alloc, symbols, &mut self.states, others),
+            None => Ok(()),
+        }
+    }
+
+    /// The constant whose form is looked for where that of another is needed: the last on which it hangs, or itself if
+    /// that one's form is found.
+    fn behind(&mut self, place: usize) -> usize
+        ensures same { map bare self.new.states.items ≡ map bare self.old.states.items }
+        ensures hung { (y : Table) → AreHung y self.old.states.items → AreHung y self.new.states.items }
+        ensures reached { (y : Table) → AreHung y self.old.states.items → Reaches y place result }
+        ensures found { is_found (slice_get self.new.states.items result) ≡ true → result ≡ place }
+    {
+        let last = root(&mut self.states, place);
+        if is_found(&self.states, last) {
+            place
+        } else {
+            last
+        }
+    }
+
+    /// The normal form of an expression. The forms of constants that are found on the way stay, and after a fault no
+    /// constant waits.
+    pub fn find(
+        &mut self,
+        alloc: Global,
+        symbols: &Symbols,
+        context: Context,
+        value: &Expr,
+    ) -> Result<Norm, AsmFault>
+        requires table { IsTable (table_of symbols.now) self.old.states.items }
+        ensures form { Gives is_memory (λ f. f) result (norm_of (table_of symbols.now) context value.now) }
+        ensures table { Finds is_memory (λ _. IsTable (table_of symbols.now) self.new.states.items) result }
+    {
+        let mut waiting: Vec<usize> = Vec::new(alloc);
+        'find: loop {
+            let attempt = try_last(alloc, symbols, &self.states, context, value, &waiting);
+            match attempt {
+                Ok(form) => match waiting.pop() {
+                    None => return Ok(form),
+                    Some(last) => self.settle(last, form)?,
+                },
+                Err(Stop::Fault(fault)) => {
+                    self.give_up(alloc, symbols, &waiting)?;
+                    return Err(fault);
+                }
+                Err(Stop::Needs(place)) => {
+                    let next = self.behind(place);
+                    if !may_be_looked_for(&self.states, next) {
+                        self.give_up(alloc, symbols, &waiting)?;
+                        return Err(AsmFault::Circular);
+                    }
+                    self.wait(next);
+                    waiting.push(next)?;
+                }
+            }
+        }
+    }
+}
+
+/// So many constants of which nothing is known.
+fn unknown_states(alloc: Global, count: usize) -> Result<Vec<State>, AllocError>
+    ensures { IfOk result (λ states. states.items ≡ replicate count Unknown) }
+{
+    let mut states = Vec::with_capacity(alloc, count)?;
+    for _ in 0..count {
+        states.push(State::Unknown)?;
+    }
+    Ok(states)
+}
+
+/// Whether the form of the constant at a place is found.
+fn is_found(states: &[State], place: usize) -> bool
+    ensures { result ≡ is_found (slice_get states.now place) }
+{
+    matches!(states.get(place), Some(State::Found(_)))
+}
+
+/// Forgets what is known at a place, if there is one.
+fn lose(states: &mut [State], place: usize)
+    ensures { states.new ≡ slice_set states.old place Unknown }
+{
+    if place < states.len() {
+        states[place] = State::Unknown;
+    }
+}
+
+/// Forgets what is known at places.
+fn lose_all(states: &mut [State], places: &[usize])
+    ensures { states.new ≡ without states.old places.now }
+{
+    for place in places {
+        lose(states, *place);
+    }
+}
+
+/// Forgets what is known at the places that are noted.
+fn forget_noted(states: &mut [State], noted: &mut Vec<usize>)
+    requires noted { AreNoted states.old noted.old.items }
+    requires idle { (j : ℕ) → slice_get states.old j ≡ Some Waiting → ⊥ }
+    ensures noted { AreNoted states.new noted.new.items }
+    ensures idle { (j : ℕ) → slice_get states.new j ≡ Some Waiting → ⊥ }
+    ensures none { noted.new.items ≡ [] }
+    ensures hung { (y : Table) → AreHung y states.old → AreHung y states.new }
+{
+    'places: while let Some(place) = noted.pop() {
+        lose(states, place);
+    }
+}

@@ -5,7 +5,6 @@ mod assembler;
 mod assembling;
 mod concluding;
 mod files;
-mod given;
 mod naming;
 mod putting;
 mod resolving;

@@ -1,6 +1,5 @@
 //! What statements put into sections and what waits.
 
-mod parts;
 mod statements;
 pub mod values;
 

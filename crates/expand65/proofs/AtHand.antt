@@ -10,7 +10,7 @@ use Rattle.reader65.specs.Inside.{left_of, NamesFiles}
 use Rattle.reader65.specs.Left.{labelled}
 use Rattle.reader65.specs.Playing.{tokens_in}
 use Rattle.reader65.specs.Lines.{Takes}
-use Rattle.reader65.specs.declared.directives.Directive.{Directive}
+use Rattle.reader65.specs.declared.fronts.Directive.{Directive}
 use Rattle.reader65.specs.declared.line.Line.{Line}
 use Rattle.reader65.specs.declared.line.Word.{Word}
 use Rattle.reader65.specs.declared.reader.Reader.{Reader}

@@ -15,7 +15,7 @@ use Rattle.expand65.specs.State.{Meaning, State, plain, label, Stepped, goes, gi
 use Rattle.expand65.specs.Standing.{IsOpening, Turns, state_of, turned, Comes, FollowsFrom, fronted, is_end, led, place_of, state_in, stated}
 use Rattle.reader65.specs.Left.{Item, written, played, labelled, branch, mark}
 use Rattle.reader65.specs.Lines.{Taken, Takes}
-use Rattle.reader65.specs.declared.directives.Directive.{Directive}
+use Rattle.reader65.specs.declared.fronts.Directive.{Directive}
 use Rattle.source65.specs.declared.fault.ExpandFault.{ExpandFault}
 use Rattle.source65.specs.declared.fault.ExpandFault.TheVariants.{NotUnderstood}
 use Rattle.reader65.specs.declared.line.Line.{Line}
@@ -28,7 +28,7 @@ use Rattle.expand65.specs.declared.rewriter.Turn.TheVariants.{Parts}
 use Rattle.reader65.proofs.Inputs.{AreLines, lines_left, own_split}
 use Rattle.std.specs.Prelude.{OnOk}
 use Rattle.std.specs.Result.{is_err}
-use Rattle.reader65.specs.declared.directives.Test.TheVariants.{True}
+use Rattle.reader65.specs.declared.fronts.Test.TheVariants.{True}
 use Rattle.expand65.specs.declared.expander.Expander.{Expander}
 use Rattle.expand65.specs.declared.expander.Front.{Front}
 use Rattle.expand65.specs.declared.expander.Front.TheVariants.{Nothing, Rest, Branch, End}

@@ -24,8 +24,8 @@ use Rattle.expand65.specs.declared.rewriter.Rewriter.{Rewriter}
 use Rattle.reader65.proofs.Inputs.{innermost_is, own_split}
 use Rattle.reader65.specs.Playing.{tokens_in}
 use Rattle.reader65.specs.Lines.{Takes}
-use Rattle.reader65.specs.declared.directives.Directive.{Directive}
-use Rattle.reader65.specs.declared.directives.Test.TheVariants.{True}
+use Rattle.reader65.specs.declared.fronts.Directive.{Directive}
+use Rattle.reader65.specs.declared.fronts.Test.TheVariants.{True}
 use Rattle.reader65.specs.declared.line.Line.{Line}
 use Rattle.expand65.specs.Failing.{FailsActing, FailsAt, FailsAtElse, FailsAtIf, FailsBy, FailsFrom, FailsTaking, FailsUnlabelled, Goes, IsOnItsWay, Reading, StopsOnItsWay, StopsReading, back_of, no_step, one_more}
 use Rattle.expand65.specs.declared.expander.Expander.{Expander}

@@ -13,10 +13,10 @@ use Rattle.reader65.specs.Fronts.{front_directive, is_mislabelled, label_len, li
 use Rattle.expand65.specs.Macros.{IsKept, IsDefined, header_of, kept, macro_of, IsRepeat, IsRepeated, repeat_of, repeated}
 use Rattle.reader65.specs.Left.{Item, written, played, labelled, branch, mark, Left, left, Stop, moved, Definition}
 use Rattle.reader65.specs.Lines.{IsOpened, Taken, Takes, TakesFrom, taken_as, lexed}
-use Rattle.reader65.specs.declared.directives.Directive.{Directive}
-use Rattle.reader65.specs.declared.directives.Directive.TheVariants as directive
-use Rattle.reader65.specs.declared.directives.Test.{Test}
-use Rattle.reader65.specs.declared.directives.Test.TheVariants.{True, Defined, NotDefined, Blank, NotBlank}
+use Rattle.reader65.specs.declared.fronts.Directive.{Directive}
+use Rattle.reader65.specs.declared.fronts.Directive.TheVariants as directive
+use Rattle.reader65.specs.declared.fronts.Test.{Test}
+use Rattle.reader65.specs.declared.fronts.Test.TheVariants.{True, Defined, NotDefined, Blank, NotBlank}
 use Rattle.source65.specs.declared.fault.ExpandFault.{ExpandFault}
 use Rattle.source65.specs.declared.fault.ExpandFault.TheVariants.{NotClosed}
 use Rattle.source65.specs.declared.place.Place.{Place}

@@ -12,9 +12,9 @@ use Rattle.reader65.specs.Left.{Mark, numbered, Item, labelled, branch, mark, le
 use Rattle.expand65.specs.State.{State, Stepped, stops, Meaning, label, goes, gives, ends, with_left, with_items, Stated, IsIf, IsElse, conditions_in, ended_if, popped}
 use Rattle.source65.specs.declared.fault.ExpandFault.{ExpandFault}
 use Rattle.source65.specs.declared.fault.ExpandFault.TheVariants.{FileNotFound, FileTooLong, NotUnderstood}
-use Rattle.reader65.specs.declared.directives.Directive.{Directive}
-use Rattle.reader65.specs.declared.directives.Directive.TheVariants.{Macro, EndMacro, ExitMacro, Local, Repeat, EndRepeat, If, ElseIf, Else, EndIf, Include, Error, End}
-use Rattle.reader65.specs.declared.directives.Test.TheVariants.{True}
+use Rattle.reader65.specs.declared.fronts.Directive.{Directive}
+use Rattle.reader65.specs.declared.fronts.Directive.TheVariants.{Macro, EndMacro, ExitMacro, Local, Repeat, EndRepeat, If, ElseIf, Else, EndIf, Include, Error, End}
+use Rattle.reader65.specs.declared.fronts.Test.TheVariants.{True}
 use Rattle.source65.specs.declared.fault.ExpandFault.TheVariants as fault
 use Rattle.base65.specs.Outcome.{◌>>=◌}
 

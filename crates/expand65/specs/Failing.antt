@@ -17,10 +17,10 @@ use Rattle.syntax65.specs.declared.expressions.words.ExprFault.{ExprFault}
 use Rattle.reader65.specs.Blocks.{collects, gathers, passes, skips}
 use Rattle.reader65.specs.Fronts.{front_directive, label_len, string_of}
 use Rattle.reader65.specs.Lines.{Takes}
-use Rattle.reader65.specs.declared.directives.Directive.{Directive}
-use Rattle.reader65.specs.declared.directives.Directive.TheVariants.{Macro, Repeat, If, ElseIf, Else, Include}
-use Rattle.reader65.specs.declared.directives.Test.{Test}
-use Rattle.reader65.specs.declared.directives.Test.TheVariants.{True}
+use Rattle.reader65.specs.declared.fronts.Directive.{Directive}
+use Rattle.reader65.specs.declared.fronts.Directive.TheVariants.{Macro, Repeat, If, ElseIf, Else, Include}
+use Rattle.reader65.specs.declared.fronts.Test.{Test}
+use Rattle.reader65.specs.declared.fronts.Test.TheVariants.{True}
 use Rattle.expand65.specs.Macros.{header_of, macro_of, repeat_of, macro_at}
 use Rattle.reader65.specs.Playing.{IsNext}
 use Rattle.reader65.specs.declared.passing.Peeked.{Peeked}

@@ -11,8 +11,8 @@ use Rattle.reader65.specs.Playing.{tokens_in, definition_of}
 use Rattle.expand65.specs.Macros.{macro_at}
 use Rattle.reader65.specs.Left.{labelled, branch, Definition, Item}
 use Rattle.expand65.specs.State.{State, with_items, label, plain, Stepped, goes, gives, stops, Meaning, Stated}
-use Rattle.reader65.specs.declared.directives.Directive.{Directive}
-use Rattle.reader65.specs.declared.directives.Directive.TheVariants as directive
+use Rattle.reader65.specs.declared.fronts.Directive.{Directive}
+use Rattle.reader65.specs.declared.fronts.Directive.TheVariants as directive
 use Rattle.source65.specs.declared.fault.ExpandFault.{ExpandFault}
 use Rattle.expand65.specs.declared.macros.Opening.{Opening}
 use Rattle.expand65.specs.declared.macros.Opening.TheVariants as opening

@@ -8,8 +8,8 @@ use Rattle.base65.specs.Outcome.{◌>>=◌}
 use Rattle.syntax65.specs.declared.expressions.words.ExprFault.{ExprFault}
 use Rattle.reader65.specs.Blocks.{Block, Branch, at_elseif, at_else, at_endif, skips, passes}
 use Rattle.reader65.specs.Fronts.{opens_parenthesis, unknown}
-use Rattle.reader65.specs.declared.directives.Test.{Test}
-use Rattle.reader65.specs.declared.directives.Test.TheVariants.{True, Defined, NotDefined, Blank, NotBlank}
+use Rattle.reader65.specs.declared.fronts.Test.{Test}
+use Rattle.reader65.specs.declared.fronts.Test.TheVariants.{True, Defined, NotDefined, Blank, NotBlank}
 use Rattle.source65.specs.declared.fault.ExpandFault.{ExpandFault}
 use Rattle.source65.specs.declared.fault.ExpandFault.TheVariants.{NotConstant, NotOpened}
 

@@ -1,11 +1,12 @@
 //! The statements of a source, one after another.
 
-ghost use Rattle.std.specs.Prelude.{◌≡◌, ◌<◌, ◌≤◌, ◌+◌, ◌*◌, true, false, length, take, drop, Err, IfOk, IfSome, IsErrOf, IsTrue, List, OnErr, OnOk, ℕ};
+ghost use Rattle.std.specs.Prelude.{◌≡◌, ◌≤◌, IfSome, is_some, length, ◌<◌, ◌+◌, ◌*◌, true, false, take, drop, Err, IfOk, IsErrOf, IsTrue, List, OnErr, OnOk, ℕ};
+ghost use Rattle.syntax65.specs.Tokens.{lexeme_of, lexemes, Lexeme};
+ghost use Rattle.expand65.specs.Failing.{IsGivenAs, Gives, IsAhead, given_parts, StopsOnItsWay, StopsReading};
+ghost use Rattle.expand65.specs.Macros.{macro_at};
+ghost use Rattle.expand65.specs.Standing.{macros_of, Comes, FollowsFrom, Opens, StandsFor, is_end, led, measure_of, place_of, state_in, Turns, size_of, state_of, turned, weight_of};
 ghost use Rattle.base65.specs.Store.{Asks, Files, IsBlamed, Passes};
 ghost use Rattle.syntax65.specs.Held.{HoldsNothing, held};
-ghost use Rattle.syntax65.specs.Tokens.{Lexeme, lexemes};
-ghost use Rattle.expand65.specs.Failing.{Gives, IsAhead, IsGivenAs, given_parts, StopsOnItsWay, StopsReading};
-ghost use Rattle.expand65.specs.Standing.{Comes, FollowsFrom, Opens, StandsFor, is_end, led, measure_of, place_of, state_in, Turns, size_of, state_of, turned, weight_of};
 ghost use Rattle.source65.specs.Faults.{is_outside};
 ghost use Rattle.expand65.specs.Expansion.{first_left, opened_in, IsStep};
 ghost use Rattle.expand65.specs.State.{State};
@@ -13,17 +14,51 @@ ghost use Rattle.reader65.specs.Inside.{NamesFiles, left_of, mark_of};
 ghost use Rattle.reader65.specs.Left.{moved};
 ghost use Rattle.reader65.specs.Lines.{bytes_of};
 
+use crate::rewriter::{Rewriter, Turn};
+use reader65::{front_directive, label_len, Input, Line, OpenFile, Peeked, Reader, Source};
+use syntax65::{Token, TokenKind, LineTokens};
 use crate::conditions::Conditions;
 use crate::includes::is_there;
 use crate::knows::Knows;
-use crate::rewriter::{Rewriter, Turn};
 use base65::{Sequence, Store, Text};
 use indexmap::IndexMap;
-use reader65::{Input, Line, OpenFile, Peeked, Reader, Source};
 use source65::{ExpandFault, Place};
 use std::alloc::{AllocError, Global};
 use std::mem;
-use syntax65::{LineTokens, Token};
+
+impl Rewriter {
+    /// Whether a token names a macro.
+    #[inline(always)]
+    fn is_macro(&self, token: &Token<'_>) -> bool
+        ensures { result ≡ is_some (macro_at (macros_of self.now) (lexeme_of token.now)) }
+    {
+        // Most sources define no macro, and then no line's first name is looked up.
+        if self.macros.is_empty() {
+            return false;
+        }
+        match token.kind {
+            TokenKind::Identifier => self.has_macro(token.text),
+            _ => false,
+        }
+    }
+
+    /// How many tokens the label has of a line that is given as it stands: behind it stands nothing, or a statement.
+    #[inline(always)]
+    pub fn label_of_given(&self, tokens: &[Token<'_>]) -> Option<usize>
+        ensures given { IfSome result (λ n. IsGivenAs n self.now (lexemes tokens.now)) }
+        ensures within { IfSome result (λ n. n ≤ length tokens.now) }
+    {
+        let len = label_len(tokens);
+        let (_, rest) = tokens.split_at(len);
+        if front_directive(rest).is_some() {
+            return None;
+        }
+        match rest.split_first() {
+            Some((first, _)) if self.is_macro(first) => None,
+            _ => Some(len),
+        }
+    }
+}
 
 /// How many lines are read, skipped, collected and replayed at most, all together.
 const MAX_LINES: u32 = 1_048_576;

@@ -1,7 +1,6 @@
 //! The statements of a source: macros, repeats, conditions and includes rewritten, line by line.
 #![tactic(auto)]
 
-mod at_hand;
 mod conditions;
 mod expander;
 mod includes;

@@ -2,7 +2,6 @@
 
 mod bytes;
 mod kinds;
-mod names;
 mod rooms;
 mod trees;
 
@@ -21,8 +20,7 @@ ghost use Rattle.layout65.specs.Sounds.{IsSoundCursor, cursor_of};
 pub use self::bytes::check_unread;
 use self::bytes::instruction;
 pub use self::kinds::asks_section;
-use self::kinds::place;
-use self::names::{check_defined, check_opened, check_outside};
+use self::kinds::{check_defined, check_opened, check_outside, place};
 use self::trees::{check_operand, check_trees};
 use crate::cursor::Cursor;
 use language65::{AsmFault, Operand, Settled, Context, Statement};

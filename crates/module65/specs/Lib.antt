@@ -1,4 +1,3 @@
-pub mod Inner
 pub mod Laws
 pub mod Machine
 pub mod Module

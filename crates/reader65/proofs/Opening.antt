@@ -7,8 +7,8 @@ use Rattle.syntax65.specs.Faults.{is_lex_outside}
 use Rattle.base65.specs.Outcome.{Unless, Refuses}
 use Rattle.base65.specs.Store.{Files}
 use Rattle.syntax65.specs.Tokens.{Lexeme, IsRead}
-use Rattle.syntax65.specs.declared.lexing.fault.LexFault.{LexFault}
-use Rattle.syntax65.specs.declared.lexing.fault.LexFault.TheVariants as lex
+use Rattle.syntax65.specs.declared.lexing.tokens.LexFault.{LexFault}
+use Rattle.syntax65.specs.declared.lexing.tokens.LexFault.TheVariants as lex
 use Rattle.source65.specs.Faults.{fault_of_lexing, is_outside}
 use Rattle.reader65.specs.Left.{numbered, Item, written, played, Replacing, replaced}
 use Rattle.reader65.specs.Inside.{ComesNext, TakesLine}

@@ -12,7 +12,7 @@ use Rattle.source65.specs.declared.fault.ExpandFault.{ExpandFault}
 use Rattle.source65.specs.declared.fault.ExpandFault.TheVariants.{NotUnderstood}
 use Rattle.reader65.specs.Fronts.{front_directive, is_colon, is_label_name, is_mislabelled, label_len, line_directive, may_follow_label, directive_in}
 use Rattle.reader65.specs.Playing.{behind_word, behind_words, cut, directive_of_first, is_colon_there, IsColonAt, IsPlain}
-use Rattle.reader65.specs.declared.directives.Directive.{Directive}
+use Rattle.reader65.specs.declared.fronts.Directive.{Directive}
 use Rattle.reader65.specs.declared.line.Word.{Word}
 
 no_name : (b : Bool) → ◌≡◌ {A = ℕ} (if b && false then 2 else 0) 0

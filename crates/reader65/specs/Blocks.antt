@@ -5,8 +5,8 @@ use Rattle.reader65.specs.Left.{Left, Stop}
 use Rattle.reader65.specs.Lines.{Taken, Takes}
 use Rattle.source65.specs.declared.fault.ExpandFault.TheVariants.{NotClosed, MacroInside, NotUnderstood}
 use Rattle.reader65.specs.Fronts.{is_mislabelled, is_nothing, line_directive}
-use Rattle.reader65.specs.declared.directives.Directive.{Directive}
-use Rattle.reader65.specs.declared.directives.Directive.TheVariants.{Macro, EndMacro, Repeat, EndRepeat, If, ElseIf, Else, EndIf}
+use Rattle.reader65.specs.declared.fronts.Directive.{Directive}
+use Rattle.reader65.specs.declared.fronts.Directive.TheVariants.{Macro, EndMacro, Repeat, EndRepeat, If, ElseIf, Else, EndIf}
 use Rattle.source65.specs.declared.fault.ExpandFault.{ExpandFault}
 
 -- ---- The next line of a block.

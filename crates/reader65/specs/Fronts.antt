@@ -1,9 +1,9 @@
 -- The first words of a line: labels and directives of expansion.
 use Rattle.std.specs.Prelude.{ℕ, List, [], ◌∷◌, codes, Option, Some, None, if◌then◌else◌, Bool, true, false, not, nat_lt, ◌-◌, ◌&&◌, length, take, drop, Result, Ok, Err}
 use Rattle.std.specs.Str.{str_eq_ignore_ascii_case}
-use Rattle.reader65.specs.declared.directives.Test.TheVariants.{True, Defined, NotDefined, Blank, NotBlank}
-use Rattle.reader65.specs.declared.directives.Directive.{Directive}
-use Rattle.reader65.specs.declared.directives.Directive.TheVariants.{Macro, EndMacro, ExitMacro, Local, Repeat, EndRepeat, If, ElseIf, Else, EndIf, Include, Error, End}
+use Rattle.reader65.specs.declared.fronts.Test.TheVariants.{True, Defined, NotDefined, Blank, NotBlank}
+use Rattle.reader65.specs.declared.fronts.Directive.{Directive}
+use Rattle.reader65.specs.declared.fronts.Directive.TheVariants.{Macro, EndMacro, ExitMacro, Local, Repeat, EndRepeat, If, ElseIf, Else, EndIf, Include, Error, End}
 use Rattle.syntax65.specs.Tokens.{Lexeme}
 use Rattle.syntax65.specs.Expressions.{is_reserved}
 use Rattle.syntax65.specs.declared.lexing.tokens.Mark.TheVariants.{Colon, Comma, OpenBrace, CloseBrace, OpenParenthesis}

@@ -3,7 +3,7 @@ use Rattle.std.specs.Prelude.{ℕ, Bool, false, nat_eq, ◌&&◌, List, [], ◌�
 use Rattle.std.specs.FinMap as fmap
 use Rattle.base65.specs.Outcome.{Unless}
 use Rattle.base65.specs.Store.{Files}
-use Rattle.syntax65.specs.declared.lexing.fault.LexFault.TheVariants as lex
+use Rattle.syntax65.specs.declared.lexing.tokens.LexFault.TheVariants as lex
 use Rattle.source65.specs.Faults.{is_outside, fault_of_lexing}
 use Rattle.reader65.specs.Left.{numbered, Item, mark, Mark, Left, left, Stop, marks, come_back, written, played, moved, replaced}
 use Rattle.source65.specs.declared.fault.ExpandFault.{ExpandFault}
@@ -12,7 +12,7 @@ use Rattle.reader65.specs.declared.file.OpenFile.{OpenFile}
 use Rattle.source65.specs.declared.place.Place.{Place}
 use Rattle.reader65.specs.declared.reader.MacroEnd.{MacroEnd}
 use Rattle.syntax65.specs.Tokens.{Lexeme, IsRead}
-use Rattle.syntax65.specs.declared.lexing.fault.LexFault.{LexFault}
+use Rattle.syntax65.specs.declared.lexing.tokens.LexFault.{LexFault}
 
 -- ---- The lines of a file.
 

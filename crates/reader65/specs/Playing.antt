@@ -16,7 +16,7 @@ use Rattle.reader65.specs.declared.playing.StandIn.{StandIn}
 use Rattle.reader65.specs.declared.playing.StandIn.TheVariants.{Itself, Nothing, Tokens}
 use Rattle.std.specs.List.{prefix_len}
 use Rattle.reader65.specs.Lines.{is_inside, without_return, Takes}
-use Rattle.reader65.specs.declared.directives.Directive.{Directive}
+use Rattle.reader65.specs.declared.fronts.Directive.{Directive}
 use Rattle.reader65.specs.declared.file.OpenFile.{OpenFile}
 use Rattle.reader65.specs.declared.input.Source.{Source}
 use Rattle.reader65.specs.declared.input.Source.TheVariants as source

@@ -9,8 +9,7 @@ ghost use Rattle.reader65.specs.Fronts.{is_nothing};
 ghost use Rattle.reader65.specs.Inside.{Answers, left_of, mark_of, IsDeeper, IsPassedOver, Judges, alone_or, answer_of, is_kept, judge_of, state_of, FailsInBlock, NamesFiles, StopsAt};
 ghost use Rattle.reader65.specs.Playing.{tokens_in};
 
-use crate::directives::Directive;
-use crate::fronts::{behind_first, is_mislabelled, line_directive};
+use crate::fronts::{Directive, behind_first, is_mislabelled, line_directive};
 use crate::line::Line;
 use crate::reader::Reader;
 use base65::{Sequence, Store};

@@ -3,7 +3,6 @@
 #![tactic(auto)]
 
 mod blocks;
-mod directives;
 mod file;
 mod fronts;
 mod input;
@@ -13,7 +12,7 @@ mod playing;
 mod reader;
 
 pub use blocks::{BlockEnd, BlockKind, WholeBlock};
-pub use directives::{Directive, Test};
+pub use fronts::{Directive, Test};
 pub use file::OpenFile;
 pub use fronts::{
     behind_first, closes_brace, front_directive, is_comma, label_len, name_in, opens_brace,

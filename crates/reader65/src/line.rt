@@ -3,14 +3,13 @@
 ghost use Rattle.std.specs.Prelude.{◌≡◌, ◌≤◌, ◌++◌, [], false, length, slice_get, option_map, take, IsTrue, IfErr, IfOk, IfSome, List, OnOk, Result};
 ghost use Rattle.base65.specs.Relations.{Answers};
 ghost use Rattle.syntax65.specs.Tokens.{IsRead, Lexeme, lexeme_of, lexemes};
-ghost use Rattle.syntax65.specs.declared.lexing.fault.LexFault.{LexFault};
+ghost use Rattle.syntax65.specs.declared.lexing.tokens.LexFault.{LexFault};
 ghost use Rattle.source65.specs.Faults.{is_failure, is_outside};
 ghost use Rattle.reader65.specs.Fronts.{front_directive, label_len};
 ghost use Rattle.reader65.specs.Playing.{behind_word, cut, text_of, tokens_in, IsParted, IsColon, IsColonAt, IsOrNone, IsPlain};
 ghost use Rattle.reader65.specs.Lines.{lexed};
 
-use crate::directives::Directive;
-use crate::fronts::{directive_in, is_mislabelled, label_len};
+use crate::fronts::{Directive, directive_in, is_mislabelled, label_len};
 use base65::Sequence;
 use source65::ExpandFault;
 use std::alloc::{AllocError, Global};

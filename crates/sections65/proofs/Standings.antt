@@ -12,7 +12,7 @@ use Rattle.language65.specs.Numbering.{once, section_keys, segments_asked}
 use Rattle.sections65.specs.declared.entries.Entries.{Entries}
 use Rattle.sections65.specs.declared.entries.Entry.{Entry}
 use Rattle.sections65.specs.declared.entries.Entry.TheVariants.{Bytes, Open, Room}
-use Rattle.sections65.specs.declared.files.Files.{Files}
+use Rattle.sections65.specs.declared.sections.Files.{Files}
 use Rattle.sections65.specs.declared.sections.Sections.{Sections}
 use Rattle.sections65.specs.Fed.{AreAlike, content_of, filled, is_open, open_count, stands_in, Begins, DefersIn, IsAdded, IsEntry, IsSettled, SettlesIn, StandIn, Stands, TakesIn, contents_in, growing, names_in}
 use Rattle.sections65.proofs.Alikes.{alike_back, alike_front, alike_nothing, alike_same, alike_sym, alike_trans, bytes_alike, empty_alike, no_bytes_alike, no_room_alike, room_alike}

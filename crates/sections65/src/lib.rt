@@ -2,7 +2,6 @@
 #![tactic(auto)]
 
 mod entries;
-mod files;
 pub mod laws;
 mod numbering;
 mod sections;

@@ -3,8 +3,8 @@ use Rattle.std.specs.Prelude.{ℕ, List, [], codes, Bool, true, false}
 use Rattle.syntax65.specs.Faults.{lex_fault_words}
 use Rattle.syntax65.specs.declared.expressions.words.ExprFault.{ExprFault}
 use Rattle.syntax65.specs.declared.expressions.words.ExprFault.TheVariants as expr
-use Rattle.syntax65.specs.declared.lexing.fault.LexFault.{LexFault}
-use Rattle.syntax65.specs.declared.lexing.fault.LexFault.TheVariants as lex
+use Rattle.syntax65.specs.declared.lexing.tokens.LexFault.{LexFault}
+use Rattle.syntax65.specs.declared.lexing.tokens.LexFault.TheVariants as lex
 use Rattle.base65.specs.declared.store.StoreFault.{StoreFault}
 use Rattle.base65.specs.declared.store.StoreFault.TheVariants as store
 use Rattle.source65.specs.declared.fault.ExpandFault.{ExpandFault}

@@ -8,7 +8,7 @@ use Rattle.syntax65.specs.Forms.{class_of, is_word, is_word_class, IsForm, IsTok
 use Rattle.syntax65.specs.declared.lexing.places.Class.{Class}
 use Rattle.syntax65.specs.declared.lexing.places.Class.TheVariants.{Letter, Digit, Radix, At, Dot, Apostrophe, Quote, Colon, Semicolon, Blank, Other}
 use Rattle.syntax65.specs.Tokens.{Lexeme, Reads, IsRead, after_blanks}
-use Rattle.syntax65.specs.declared.lexing.fault.LexFault.{LexFault}
+use Rattle.syntax65.specs.declared.lexing.tokens.LexFault.{LexFault}
 use Rattle.syntax65.specs.declared.lexing.tokens.TokenKind.{TokenKind}
 use Rattle.syntax65.specs.declared.lexing.tokens.TokenKind.TheVariants.{Identifier}
 use Rattle.object65.proofs.Goods.{and, left, right}

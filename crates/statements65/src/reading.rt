@@ -1,11 +1,7 @@
 //! From the tokens of a line to its label and its statement.
 
-mod amounts;
-mod lists;
-mod messages;
+mod directives;
 mod operands;
-mod parts;
-mod places;
 mod statements;
 mod tokens;
 mod words;

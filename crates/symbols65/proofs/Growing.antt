@@ -12,11 +12,11 @@ use Rattle.indexmap.specs.IndexMap.{insert_entry}
 use Rattle.language65.specs.Symbols as l
 use Rattle.language65.specs.Symbols.{Key, named, cheap_in, unnamed_at}
 use Rattle.language65.specs.Layout.{opened_twice}
-use Rattle.symbols65.specs.declared.table.entries.Entry.{Entry}
-use Rattle.symbols65.specs.declared.table.entries.Entry.TheVariants as entry
-use Rattle.symbols65.specs.declared.table.entries.Opening.{Opening}
-use Rattle.symbols65.specs.declared.table.entries.Opening.TheVariants as opening
-use Rattle.symbols65.specs.declared.table.definition.Definition.{Definition}
+use Rattle.symbols65.specs.declared.table.symbols.Entry.{Entry}
+use Rattle.symbols65.specs.declared.table.symbols.Entry.TheVariants as entry
+use Rattle.symbols65.specs.declared.table.symbols.Opening.{Opening}
+use Rattle.symbols65.specs.declared.table.symbols.Opening.TheVariants as opening
+use Rattle.symbols65.specs.declared.table.symbols.Definition.{Definition}
 use Rattle.language65.specs.Norms.{Extends}
 use Rattle.symbols65.specs.Tables.{AreCounted, AreDistinct, AreFinal, AreNumbered, Begins, HasNumber, IsCounted, IsOpening, KeepsFinal, definition_in, entry_of, first_number, key_in, same_opening, scope_by, scope_opened, table_without_imports, word_at, word_of, word_opened}
 use Rattle.symbols65.proofs.Words.{position_none, first_within, first_passes, get_more, map_same, position_same, position_stays, finds_opened, get_word, keys_get}

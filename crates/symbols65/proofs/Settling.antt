@@ -15,8 +15,8 @@ use Rattle.symbols65.specs.declared.resolving.attempt.Source.TheVariants.{Finals
 use Rattle.symbols65.specs.declared.resolving.attempt.State.TheVariants.{Found}
 use Rattle.symbols65.specs.declared.resolving.attempt.Stop.{Stop}
 use Rattle.symbols65.specs.declared.resolving.attempt.Stop.TheVariants.{Needs, Fault}
-use Rattle.symbols65.specs.declared.table.definition.Definition.{Definition}
-use Rattle.symbols65.specs.declared.table.entries.Entry.{Entry}
+use Rattle.symbols65.specs.declared.table.symbols.Definition.{Definition}
+use Rattle.symbols65.specs.declared.table.symbols.Entry.{Entry}
 use Rattle.symbols65.specs.declared.table.symbols.Symbols.{Symbols}
 use Rattle.symbols65.specs.Resolving.{formed, FoundBy, lacks_memory, meaning_form, tried, Settles}
 use Rattle.symbols65.specs.Inner.Knowns.{kept, known_by}

@@ -11,11 +11,11 @@ use Rattle.std.specs.Str.{bytes_eq}
 use Rattle.std.proofs.lemmas.Slice.Eq.{bytes_eq-Decides}
 use Rattle.language65.specs.Symbols.{Key, Scope, named, cheap_in, unnamed_at, same_key, is_named}
 use Rattle.language65.proofs.Lists.{bytes_swap, position_mapped, same_bytes}
-use Rattle.symbols65.specs.declared.table.entries.Entry.{Entry}
-use Rattle.symbols65.specs.declared.table.entries.Entry.TheVariants as entry
-use Rattle.symbols65.specs.declared.table.entries.Opening.{Opening}
-use Rattle.symbols65.specs.declared.table.entries.Opening.TheVariants as opening
-use Rattle.symbols65.specs.declared.table.definition.Definition.{Definition}
+use Rattle.symbols65.specs.declared.table.symbols.Entry.{Entry}
+use Rattle.symbols65.specs.declared.table.symbols.Entry.TheVariants as entry
+use Rattle.symbols65.specs.declared.table.symbols.Opening.{Opening}
+use Rattle.symbols65.specs.declared.table.symbols.Opening.TheVariants as opening
+use Rattle.symbols65.specs.declared.table.symbols.Definition.{Definition}
 use Rattle.symbols65.specs.Tables.{AreCounted, AreNumbered, IsCounted, definition_in, entry_of, first_number, key_in, place_of_entry, place_of_opening, same_entry, same_opening, scope_by, scope_opened, word_at, word_of, word_opened, Begins}
 use Rattle.indexmap.specs.IndexSet.{insert_key}
 

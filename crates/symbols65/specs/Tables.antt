@@ -6,13 +6,13 @@ use Rattle.std.specs.Str.{bytes_eq}
 use Rattle.object65.specs.Form.{Form, form_code}
 use Rattle.language65.specs.Symbols as l
 use Rattle.language65.specs.Symbols.{Scope, named, cheap_in, unnamed_at}
-use Rattle.symbols65.specs.declared.table.entries.Key as code
-use Rattle.symbols65.specs.declared.table.entries.Key.TheVariants as key
-use Rattle.symbols65.specs.declared.table.entries.Entry.{Entry}
-use Rattle.symbols65.specs.declared.table.entries.Entry.TheVariants as entry
-use Rattle.symbols65.specs.declared.table.entries.Opening.{Opening}
-use Rattle.symbols65.specs.declared.table.entries.Opening.TheVariants as opening
-use Rattle.symbols65.specs.declared.table.definition.Definition.{Definition}
+use Rattle.symbols65.specs.declared.table.symbols.Key as code
+use Rattle.symbols65.specs.declared.table.symbols.Key.TheVariants as key
+use Rattle.symbols65.specs.declared.table.symbols.Entry.{Entry}
+use Rattle.symbols65.specs.declared.table.symbols.Entry.TheVariants as entry
+use Rattle.symbols65.specs.declared.table.symbols.Opening.{Opening}
+use Rattle.symbols65.specs.declared.table.symbols.Opening.TheVariants as opening
+use Rattle.symbols65.specs.declared.table.symbols.Definition.{Definition}
 use Rattle.symbols65.specs.Resolving.{DefinesFinally}
 
 abbrev pub key_of : code.Key → l.Key

@@ -3,8 +3,8 @@ use Rattle.std.specs.Prelude.{ℕ, List, [], ◌∷◌, ◌++◌, map, slice_get
 use Rattle.language65.specs.Symbols as l
 use Rattle.language65.specs.Symbols.{Definition, Scope, unnamed_at, with_new}
 use Rattle.symbols65.specs.Tables.{definition_in, key_in, scope_opened}
-use Rattle.symbols65.specs.declared.table.definition.Definition as code
-use Rattle.symbols65.specs.declared.table.entries.Entry.{Entry}
+use Rattle.symbols65.specs.declared.table.symbols.Definition as code
+use Rattle.symbols65.specs.declared.table.symbols.Entry.{Entry}
 use Rattle.symbols65.specs.declared.table.symbols.Symbols.{Symbols}
 
 -- the language's, where the code's has the name

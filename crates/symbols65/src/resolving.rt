@@ -3,7 +3,6 @@
 mod attempt;
 mod cache;
 mod finals;
-mod hanging;
 mod meaning;
 mod scopes;
 mod settling;

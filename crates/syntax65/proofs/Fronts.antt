@@ -17,7 +17,7 @@ use Rattle.syntax65.specs.declared.lexing.tokens.Mark.{Mark}
 use Rattle.syntax65.specs.declared.lexing.tokens.Mark.TheVariants.{Scope, Define}
 use Rattle.syntax65.specs.declared.lexing.tokens.TokenKind.{TokenKind}
 use Rattle.syntax65.specs.declared.lexing.tokens.TokenKind.TheVariants.{Identifier, CheapName, Directive, Number, Character, Text, Unnamed, SizePrefix, Symbol}
-use Rattle.syntax65.specs.declared.lexing.fault.LexFault.TheVariants.{BadCharacter, StringNotClosed}
+use Rattle.syntax65.specs.declared.lexing.tokens.LexFault.TheVariants.{BadCharacter, StringNotClosed}
 
 -- ---- The table of the bytes of words.
 

@@ -9,7 +9,7 @@ use Rattle.syntax65.specs.Faults.{is_lex_outside}
 use Rattle.base65.specs.Outcome.{Unless}
 use Rattle.syntax65.specs.Tokens.{IsCutOff, Lexeme, after_blanks, Reads, IsRead}
 use Rattle.syntax65.specs.declared.lexing.places.Class.TheVariants.{Blank}
-use Rattle.syntax65.specs.declared.lexing.fault.LexFault.{LexFault}
+use Rattle.syntax65.specs.declared.lexing.tokens.LexFault.{LexFault}
 
 abbrev FirstFails : (ℕ → Bool) → List ℕ → Type 0
 FirstFails p [] = Unit {0}

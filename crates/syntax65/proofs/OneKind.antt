@@ -11,7 +11,7 @@ use Rattle.syntax65.specs.declared.lexing.places.Class.TheVariants.{Quote, Colon
 use Rattle.syntax65.specs.declared.lexing.tokens.Mark.{Mark}
 use Rattle.syntax65.specs.declared.lexing.tokens.TokenKind.{TokenKind}
 use Rattle.syntax65.specs.declared.lexing.tokens.TokenKind.TheVariants.{Unnamed, Symbol, Identifier, CheapName, Directive, Number, Character, Text, SizePrefix}
-use Rattle.syntax65.specs.declared.lexing.fault.LexFault.TheVariants.{BadCharacter}
+use Rattle.syntax65.specs.declared.lexing.tokens.LexFault.TheVariants.{BadCharacter}
 use Rattle.syntax65.proofs.Fronts.{and_both, all_front, not_all, eqb_is, Behind, mark_size, at_class, empty, behind}
 use Rattle.syntax65.specs.declared.lexing.places.Class.{Class}
 use Rattle.syntax65.specs.declared.lexing.tokens.AddressSize.{AddressSize}

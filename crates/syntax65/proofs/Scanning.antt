@@ -3,9 +3,9 @@ use Rattle.std.proofs.Common.{ℕ, ◌≤◌, Bool, true, List, [], ◌++◌, le
 use Rattle.std.proofs.lemmas.List.{append-nil}
 use Rattle.syntax65.specs.Forms.{FaultAt}
 use Rattle.syntax65.specs.Tokens.{IsFront, Lexeme, after_blanks, Reads, IsEnd, IsRead}
-use Rattle.syntax65.specs.declared.lexing.fault.LexFault.{LexFault}
-use Rattle.syntax65.specs.declared.lexing.fault.LexFault.TheVariants.{OutOfMemory, BadCharacter, BadNumber, StringNotClosed, LineTooLong, NameTooLong}
-use Rattle.syntax65.specs.declared.lexing.front.LineFront.{LineFront}
+use Rattle.syntax65.specs.declared.lexing.tokens.LexFault.{LexFault}
+use Rattle.syntax65.specs.declared.lexing.tokens.LexFault.TheVariants.{OutOfMemory, BadCharacter, BadNumber, StringNotClosed, LineTooLong, NameTooLong}
+use Rattle.syntax65.specs.declared.lexing.lines.LineFront.{LineFront}
 
 -- so many tokens were read, of which the first two are kept, and what is left of the line goes on behind them
 abbrev pub SoFar : List ℕ → LineFront → Bool → List ℕ → List Lexeme → Type 0

@@ -3,7 +3,7 @@ use Rattle.std.specs.Prelude.{◌≡◌, ℕ, List, Result}
 use Rattle.syntax65.specs.Tokens.{Lexeme, IsRead}
 use Rattle.syntax65.specs.Trees.{Tree}
 use Rattle.syntax65.specs.Expressions.{IsParsed}
-use Rattle.syntax65.specs.declared.lexing.fault.LexFault.{LexFault}
+use Rattle.syntax65.specs.declared.lexing.tokens.LexFault.{LexFault}
 use Rattle.syntax65.specs.declared.expressions.words.ExprFault.{ExprFault}
 
 -- a line is read in one way at most: as one list of tokens, or as one fault

@@ -5,12 +5,12 @@ use Rattle.syntax65.specs.Forms.{class_of, is_blank, IsToken, FaultAt}
 use Rattle.syntax65.specs.declared.lexing.places.Class.TheVariants.{Semicolon}
 use Rattle.syntax65.specs.declared.lexing.tokens.TokenKind.{TokenKind}
 use Rattle.syntax65.specs.declared.lexing.tokens.Token.{Token}
-use Rattle.syntax65.specs.declared.lexing.fault.LexFault.{LexFault}
-use Rattle.syntax65.specs.declared.lexing.fault.LexFault.TheVariants.{LineTooLong}
+use Rattle.syntax65.specs.declared.lexing.tokens.LexFault.{LexFault}
+use Rattle.syntax65.specs.declared.lexing.tokens.LexFault.TheVariants.{LineTooLong}
 use Rattle.base65.specs.Relations.{Answers}
 use Rattle.syntax65.specs.Faults.{is_lex_outside}
-use Rattle.syntax65.specs.declared.lexing.lexer.Lexer.{Lexer}
-use Rattle.syntax65.specs.declared.lexing.front.LineFront.{LineFront}
+use Rattle.syntax65.specs.declared.lexing.lines.Lexer.{Lexer}
+use Rattle.syntax65.specs.declared.lexing.lines.LineFront.{LineFront}
 
 -- ---- The tokens of a line, or its fault.
 

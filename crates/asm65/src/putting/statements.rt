@@ -13,8 +13,7 @@ ghost use Rattle.module65.specs.Module.{asserted, given, instruction_pieces, val
 ghost use Rattle.language65.specs.Items.{numbered};
 
 use super::Site;
-use super::parts::{bytes_of, items_of, put_code, put_part, put_room};
-use super::values::literal_of;
+use super::values::{bytes_of, items_of, put_code, put_part, put_room, literal_of};
 use crate::assembler::{Assembler, Piece};
 use base65::Sequence;
 use language65::{Item, Items, ItemsKind, Operand, Settled, Context};

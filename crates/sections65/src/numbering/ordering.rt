@@ -10,7 +10,7 @@ ghost use Rattle.sections65.specs.Inner.Ordering.{assert_by, assert_key, export_
 ghost use Rattle.sections65.specs.Fed.{names_in};
 
 use super::keys::{narrow, number_of};
-use crate::files::Files;
+use crate::sections::Files;
 use base65::Sequence;
 use indexmap::IndexSet;
 use object65::{Assert, Export, Fragment, Object, Origin, Section};

@@ -1,15 +1,16 @@
-//! What single tokens say.
+//! Tokens at places of a line, and what they are.
 
 ghost use Rattle.std.specs.Prelude.{◌≡◌, false, option_map, IfErr};
 ghost use Rattle.base65.specs.Relations.{Answers};
 ghost use Rattle.syntax65.specs.Tokens.{lexeme_of, lexemes};
 ghost use Rattle.language65.specs.Faults.{is_failure, is_outside};
-ghost use Rattle.statements65.specs.Parsing.{defines, inner, is_close, is_colon, is_comma, name_of, quoted_in, spelled, spells, string_of, understood, word_in, word_of, Parses};
+ghost use Rattle.statements65.specs.Parsing.{defines, inner, is_close, is_colon, is_comma, name_of, quoted_in, spelled, spells, string_of, understood, word_in, word_of, Parses, is_identifier, is_letter, is_letter_or_digit, proc_of, scope_of, segment_named, segment_of, size_behind, size_word};
+ghost use Rattle.std.specs.List.{list_all};
 
 use base65::Sequence;
-use language65::AsmFault;
+use language65::{AsmFault, Statement};
 use std::alloc::Global;
-use syntax65::{Mark, Token, TokenKind, is_reserved};
+use syntax65::{Mark, Token, TokenKind, is_reserved, AddressSize, MAX_NAME};
 
 pub fn is_comma(token: &Token<'_>) -> bool
     ensures { result ≡ is_comma (lexeme_of token.now) }
@@ -127,4 +128,97 @@ pub fn name_of(alloc: Global, tokens: &[Token<'_>]) -> Result<Sequence<u8>, AsmF
         return Err(AsmFault::NotUnderstood);
     }
     Ok(Sequence::copy_of(alloc, name)?)
+}
+
+fn size_word(word: &[u8]) -> Result<AddressSize, AsmFault>
+    ensures { result ≡ size_word word.now }
+{
+    if word == b"zeropage".as_slice() {
+        Ok(AddressSize::ZeroPage)
+    } else if word == b"absolute".as_slice() {
+        Ok(AddressSize::Absolute)
+    } else {
+        Err(AsmFault::NotUnderstood)
+    }
+}
+
+/// Nothing, or `: zeropage` or `: absolute`.
+fn size_behind(tokens: &[Token<'_>]) -> Result<Option<AddressSize>, AsmFault>
+    ensures value { Parses result (λ r. r ≡ size_behind (lexemes tokens.now)) }
+    ensures inside { IfErr result (λ e. is_failure e ≡ false) }
+{
+    let Some((colon, behind)) = tokens.split_first() else {
+        return Ok(None);
+    };
+    if !is_colon(colon) {
+        return Err(AsmFault::NotUnderstood);
+    }
+    let word = needed(word_of(behind))?;
+    Ok(Some(size_word(word)?))
+}
+
+fn is_letter(byte: u8) -> bool
+    ensures { result ≡ is_letter byte }
+{
+    byte.is_ascii_alphabetic() || byte == b'_'
+}
+
+fn is_letter_or_digit(byte: u8) -> bool
+    ensures { result ≡ is_letter_or_digit byte }
+{
+    is_letter(byte) || byte.is_ascii_digit()
+}
+
+fn are_letters_or_digits(bytes: &[u8]) -> bool
+    ensures { result ≡ list_all is_letter_or_digit bytes.now }
+{
+    bytes.iter().all(|byte| is_letter_or_digit(*byte))
+}
+
+/// Whether the bytes are those of an identifier.
+fn is_identifier(bytes: &[u8]) -> bool
+    ensures { result ≡ is_identifier bytes.now }
+{
+    match bytes.split_first() {
+        Some((first, behind)) => {
+            is_letter(*first) && are_letters_or_digits(behind) && bytes.len() <= MAX_NAME
+        }
+        None => false,
+    }
+}
+
+/// `.segment`
+pub fn segment(alloc: Global, tokens: &[Token<'_>]) -> Result<Statement, AsmFault>
+    ensures value { Parses result (λ r. r ≡ segment_of (lexemes tokens.now)) }
+    ensures inside { IfErr result (λ e. is_failure e ≡ false) }
+{
+    let Some((first, behind)) = tokens.split_first() else {
+        return Err(AsmFault::NotUnderstood);
+    };
+    let name = needed(quoted_in(first))?;
+    let size = size_behind(behind)?;
+    if !is_identifier(name) {
+        return Err(AsmFault::NotUnderstood);
+    }
+    let name = Sequence::copy_of(alloc, name)?;
+    Ok(Statement::Segment { name, size })
+}
+
+/// `.scope`
+pub fn scope(alloc: Global, tokens: &[Token<'_>]) -> Result<Statement, AsmFault>
+    ensures value { Parses result (λ r. r ≡ scope_of (lexemes tokens.now)) }
+    ensures inside { IfErr result (λ e. is_failure e ≡ false) }
+{
+    if tokens.is_empty() {
+        return Ok(Statement::OpenScope(None));
+    }
+    Ok(Statement::OpenScope(Some(name_of(alloc, tokens)?)))
+}
+
+/// `.proc`
+pub fn proc(alloc: Global, tokens: &[Token<'_>]) -> Result<Statement, AsmFault>
+    ensures value { Parses result (λ r. r ≡ proc_of (lexemes tokens.now)) }
+    ensures inside { IfErr result (λ e. is_failure e ≡ false) }
+{
+    Ok(Statement::OpenProc(name_of(alloc, tokens)?))
 }

@@ -4,7 +4,7 @@ use Rattle.symbols65.specs.declared.resolving.attempt.State.{State}
 use Rattle.symbols65.specs.declared.resolving.attempt.State.TheVariants.{Found, Unknown}
 use Rattle.symbols65.specs.declared.resolving.attempt.Source.{Source}
 use Rattle.symbols65.specs.declared.resolving.attempt.Source.TheVariants as source
-use Rattle.symbols65.specs.declared.table.definition.Definition.{Definition}
+use Rattle.symbols65.specs.declared.table.symbols.Definition.{Definition}
 use Rattle.symbols65.specs.declared.table.symbols.Symbols.{Symbols}
 use Rattle.std.specs.List.{list_any}
 

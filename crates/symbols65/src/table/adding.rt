@@ -9,8 +9,7 @@ ghost use Rattle.language65.specs.Symbols.{with_new};
 ghost use Rattle.symbols65.specs.Tables.{Begins, HasNumber, IsOpening, first_number, same_opening, scope_by, word_opened};
 ghost use Rattle.symbols65.specs.Views.{table_of, with_names, with_scope, words_of};
 
-use super::entries::Opening;
-use super::symbols::Symbols;
+use super::symbols::{Opening, Symbols};
 use base65::{Seed, Sequence};
 use indexmap::{IndexMap, IndexSet};
 use std::alloc::{AllocError, Global};

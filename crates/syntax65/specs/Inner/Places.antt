@@ -8,7 +8,7 @@ use Rattle.syntax65.specs.declared.lexing.tokens.AddressSize.{AddressSize}
 use Rattle.syntax65.specs.declared.lexing.tokens.Mark.{Mark}
 use Rattle.syntax65.specs.declared.lexing.tokens.TokenKind.{TokenKind}
 use Rattle.syntax65.specs.declared.lexing.tokens.TokenKind.TheVariants.{CheapName, Directive, SizePrefix, Symbol}
-use Rattle.syntax65.specs.declared.lexing.fault.LexFault.{LexFault}
+use Rattle.syntax65.specs.declared.lexing.tokens.LexFault.{LexFault}
 
 -- a token of this kind and length stands here, or none does for this reason
 abbrev pub IsAt : Bool → List ℕ → Result (TokenKind × ℕ) LexFault → Type 0

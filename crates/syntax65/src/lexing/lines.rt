@@ -1,15 +1,13 @@
-//! The tokens of a line.
+//! Lines as tokens: the whole of a line, a line a token at a time, and its first words.
 
-ghost use Rattle.std.specs.Prelude.{◌≡◌, ◌≤◌, ◌↔◌, ◌++◌, ◌∷◌, [], IsTrue};
+ghost use Rattle.std.specs.Prelude.{◌≡◌, ◌≤◌, ◌↔◌, ◌++◌, ◌∷◌, [], IsTrue, ◌<◌, IfOk, IfSome, length, List};
 ghost use Rattle.syntax65.specs.Faults.{is_lex_outside};
 ghost use Rattle.base65.specs.Relations.{Answers};
-ghost use Rattle.syntax65.specs.Tokens.{ReadsOn, after_blanks, lexeme_of, lexemes, IsEnd, IsRead};
+ghost use Rattle.syntax65.specs.Tokens.{ReadsOn, after_blanks, lexeme_of, lexemes, IsEnd, IsRead, IsCutOff, IsNext, IsStart, Lexeme, IsFront, IsScanned};
 ghost use Rattle.syntax65.specs.Held.{HoldsNothing, held};
 
-use super::fault::LexFault;
-use super::lexer::Lexer;
-use super::places::blank_len;
-use super::tokens::{Token, TokenKind};
+use super::tokens::{LexFault, Token, TokenKind};
+use super::places::{blank_len, token_at};
 use std::alloc::{AllocError, Global};
 
 /// How many bytes a line has at most.
@@ -152,5 +150,95 @@ pub fn is_end(here: &[u8]) -> bool
     match here.first() {
         None => true,
         Some(first) => *first == b';',
+    }
+}
+
+/// What is left of a line that is read token by token.
+#[derive(Clone, Copy)]
+pub struct Lexer<'a> {
+    pub rest: &'a [u8],
+    /// Whether no token was read yet.
+    pub first: bool,
+}
+
+impl<'a> Lexer<'a> {
+    /// A line before its first token.
+    ///
+    /// # Errors
+    ///
+    /// `LineTooLong`.
+    pub fn new(line: &'a [u8]) -> Result<Self, LexFault>
+        ensures { IsStart line.now result }
+    {
+        if line.len() > MAX_LINE {
+            return Err(LexFault::LineTooLong);
+        }
+        Ok(Lexer {
+            rest: line,
+            first: true,
+        })
+    }
+
+    /// The next token, or none where the line ends.
+    ///
+    /// # Errors
+    ///
+    /// The fault of the place where no token stands.
+    #[inline(always)]
+    pub fn next(&mut self) -> Result<Option<Token<'a>>, LexFault>
+        ensures next { IsNext self.old.first self.old.rest.now result self.new.first self.new.rest.now }
+        ensures cut { IfOk result (λ t. IfSome t (λ t. IsCutOff self.old.rest.now t.text.now self.new.rest.now)) }
+        ensures less { IfOk result (λ t. IfSome t (λ _. length self.new.rest.now < length self.old.rest.now)) }
+    {
+        let here = skip_blanks(self.rest);
+        if is_end(here) {
+            return Ok(None);
+        }
+        let (kind, len) = token_at(self.first, here)?;
+        let (text, behind) = here.split_at(len);
+        self.first = false;
+        self.rest = behind;
+        Ok(Some(Token { kind, text }))
+    }
+}
+
+/// The first two tokens of a line, where they are there.
+#[derive(Clone, Copy)]
+pub struct LineFront<'a> {
+    pub first: Option<Token<'a>>,
+    pub second: Option<Token<'a>>,
+}
+
+impl<'a> LineFront<'a> {
+    /// One token more of the line.
+    fn add(&mut self, token: Token<'a>)
+        ensures { (ts : List Lexeme) → IsFront ts self.old → IsFront (ts ++ lexeme_of token.entry ∷ []) self.new }
+    {
+        if self.first.is_none() {
+            self.first = Some(token);
+        } else if self.second.is_none() {
+            self.second = Some(token);
+        }
+    }
+}
+
+/// The first two tokens of a line that is read whole, as by `line_tokens`, where nothing is kept of the others.
+///
+/// # Errors
+///
+/// `LineTooLong`, or else the fault of the first place where no token stands.
+pub fn line_front(line: &[u8]) -> Result<LineFront<'_>, LexFault>
+    ensures { IsScanned line.now result }
+{
+    let mut lexer = Lexer::new(line)?;
+    let mut front = LineFront {
+        first: None,
+        second: None,
+    };
+    'line: loop {
+        match lexer.next()? {
+            Some(token) => front.add(token),
+            None => return Ok(front),
+        }
     }
 }

@@ -4,8 +4,8 @@ use Rattle.std.proofs.lemmas.Result.{err_from_is_err_and}
 use Rattle.syntax65.specs.Faults.{is_lex_outside}
 use Rattle.base65.specs.Outcome.{Unless}
 use Rattle.syntax65.specs.Tokens.{IsRead, Lexeme, Reads, after_blanks, lexeme_of, IsCutOff}
-use Rattle.syntax65.specs.declared.lexing.fault.LexFault.{LexFault}
-use Rattle.syntax65.specs.declared.lexing.fault.LexFault.TheVariants as lex
+use Rattle.syntax65.specs.declared.lexing.tokens.LexFault.{LexFault}
+use Rattle.syntax65.specs.declared.lexing.tokens.LexFault.TheVariants as lex
 use Rattle.syntax65.proofs.Lines.{refuse}
 use Rattle.std.proofs.Math.Seq.{drop-append_seam, take-append_seam}
 use Rattle.syntax65.specs.declared.lexing.tokens.Token.{Token}

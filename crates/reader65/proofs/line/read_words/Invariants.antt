@@ -1,6 +1,6 @@
 use Rattle.std.proofs.Common.{◌≡◌, ℕ, ◌≤◌, ◌++◌, List, Option, length, true}
 use Rattle.syntax65.specs.Tokens.{Lexeme, Reads}
-use Rattle.syntax65.specs.declared.lexing.fault.LexFault.{LexFault}
+use Rattle.syntax65.specs.declared.lexing.tokens.LexFault.{LexFault}
 use Rattle.reader65.specs.Playing.{AreKept}
 use Rattle.reader65.proofs.line.read_words.Given as goal
 

@@ -1,7 +1,7 @@
 use Rattle.std.proofs.Common.{◌≡◌, ◌∙◌, refl}
 use Rattle.symbols65.specs.contracts.table.entries.EntryPartialEq.TheImpl.{eq-value}
-use Rattle.symbols65.specs.declared.table.entries.Entry.{Entry}
-use Rattle.symbols65.specs.declared.table.entries.Entry.TheVariants as entry
+use Rattle.symbols65.specs.declared.table.symbols.Entry.{Entry}
+use Rattle.symbols65.specs.declared.table.symbols.Entry.TheVariants as entry
 use Rattle.symbols65.specs.Tables.{same_entry}
 use Rattle.symbols65.proofs.Growing.{inserted_by}
 use Rattle.asm65.proofs.naming.adding.push.Goals as goal

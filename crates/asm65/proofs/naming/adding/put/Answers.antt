@@ -1,7 +1,7 @@
 use Rattle.std.proofs.Common.{List, sym, subst}
 use Rattle.std.specs.Map.{keys_of}
-use Rattle.symbols65.specs.declared.table.definition.Definition.{Definition}
-use Rattle.symbols65.specs.declared.table.entries.Entry.{Entry}
+use Rattle.symbols65.specs.declared.table.symbols.Definition.{Definition}
+use Rattle.symbols65.specs.declared.table.symbols.Entry.{Entry}
 use Rattle.symbols65.specs.Tables.{AreCounted, AreFinal, AreNumbered, word_of}
 use Rattle.symbols65.specs.Views.{words_of}
 use Rattle.symbols65.proofs.Growing.{after, counted_pushed, final_pushed, numbered_pushed}

@@ -1,6 +1,6 @@
 use Rattle.std.proofs.Common.{◌≡◌, ◌∙◌, ◌+◌, ap, refl, subst, List, ℕ, Result, Ok}
 use Rattle.syntax65.specs.Tokens.{Lexeme, IsRead}
-use Rattle.syntax65.specs.declared.lexing.fault.LexFault.{LexFault}
+use Rattle.syntax65.specs.declared.lexing.tokens.LexFault.{LexFault}
 use Rattle.reader65.specs.Playing.{tokens_in}
 use Rattle.reader65.specs.Lines.{lexed}
 use Rattle.std.proofs.lemmas.Result.{err_from_is_err_and}

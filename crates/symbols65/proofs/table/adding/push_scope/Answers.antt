@@ -1,7 +1,7 @@
 use Rattle.std.proofs.Common.{◌≡◌, ◌∙◌, refl}
 use Rattle.symbols65.specs.contracts.table.entries.OpeningPartialEq.TheImpl.{eq-value}
-use Rattle.symbols65.specs.declared.table.entries.Opening.{Opening}
-use Rattle.symbols65.specs.declared.table.entries.Opening.TheVariants as opening
+use Rattle.symbols65.specs.declared.table.symbols.Opening.{Opening}
+use Rattle.symbols65.specs.declared.table.symbols.Opening.TheVariants as opening
 use Rattle.symbols65.specs.Tables.{same_opening}
 use Rattle.symbols65.proofs.Growing.{inserted_by}
 use Rattle.symbols65.proofs.table.adding.push_scope.Goals as goal

@@ -1,6 +1,6 @@
 use Rattle.std.proofs.Common.{Bool, List, sym, subst}
 use Rattle.std.specs.Map.{keys_of}
-use Rattle.symbols65.specs.declared.table.entries.Opening.{Opening}
+use Rattle.symbols65.specs.declared.table.symbols.Opening.{Opening}
 use Rattle.symbols65.specs.Tables.{AreDistinct, AreFinal, AreNumbered, word_opened}
 use Rattle.symbols65.specs.Views.{words_of}
 use Rattle.symbols65.proofs.Growing.{after, distinct_pushed, final_scoped, numbered_pushed}

@@ -1,6 +1,6 @@
 use Rattle.std.proofs.Common.{◌≡◌, ◌≤◌, List, ◌++◌, length, take, None, Option, true}
 use Rattle.syntax65.specs.Tokens.{Lexeme, lexemes, Reads}
-use Rattle.syntax65.specs.declared.lexing.fault.LexFault.{LexFault}
+use Rattle.syntax65.specs.declared.lexing.tokens.LexFault.{LexFault}
 use Rattle.syntax65.proofs.lexing.lines.LineTokens.read.Given as goal
 
 abbrev pub invariant-line : goal.invariant-line

@@ -1,1 +1,0 @@
--- What only the contracts within the crate cite: definitions in the terms of its code.

@@ -9,8 +9,8 @@ use Rattle.expand65.specs.Failing.{Gives, IsAhead, given_behind, given_parts}
 use Rattle.expand65.specs.Standing.{measure_of, place_of}
 use Rattle.expand65.specs.declared.expander.Expander.{Expander}
 use Rattle.expand65.specs.State.{label, plain}
-use Rattle.reader65.specs.declared.passing.Peeked.{Peeked}
-use Rattle.source65.specs.declared.place.Place.{Place}
+use Rattle.expand65.specs.declared.passing.Peeked.{Peeked}
+use Rattle.syntax65.specs.declared.place.Place.{Place}
 use Rattle.language65.specs.Numbering.{AreNamed}
 use Rattle.language65.specs.declared.fault.AsmFault.{AsmFault}
 use Rattle.module65.specs.Machine.{State, Takes}

@@ -2,7 +2,7 @@
 use Rattle.std.proofs.Common.{◌≡◌, ◌∙◌, ◌||◌, ℕ, Bool, true, false, List, refl, sym, ap, [], ◌∷◌, ◌++◌, subst, append_assoc, suc, map, string_bytes}
 use Rattle.base65.specs.Outcome.{◌>>=◌, Unless}
 use Rattle.syntax65.specs.Trees.{Tree}
-use Rattle.source65.specs.declared.place.Place.{Place}
+use Rattle.syntax65.specs.declared.place.Place.{Place}
 use Rattle.language65.specs.declared.fault.AsmFault.{AsmFault}
 use Rattle.language65.specs.Faults.{is_failure, is_memory, is_outside}
 use Rattle.language65.specs.declared.laid.Context.{Context}

@@ -2,7 +2,7 @@
 use Rattle.std.proofs.Common.{◌≡◌, ◌∙◌, ℕ, zero, suc, ◌+◌, ◌≤◌, ◌<◌, false, List, [], ◌∷◌, length, drop, get_or, map, refl, sym, ap, subst, arith}
 use Rattle.std.specs.Prelude.{Ok, Err, IfErr, ⊤}
 use Rattle.syntax65.specs.Trees.{number}
-use Rattle.source65.specs.declared.place.Place.{Place}
+use Rattle.syntax65.specs.declared.place.Place.{Place}
 use Rattle.language65.specs.declared.fault.AsmFault.{AsmFault}
 use Rattle.language65.specs.Faults.{is_outside}
 use Rattle.language65.specs.declared.language.Statement.TheVariants.{Constant}

@@ -4,7 +4,7 @@ use Rattle.std.specs.Prelude.{ℤ, pos, negsuc, Bool, true, false, Result, Ok, E
 use Rattle.std.specs.List.{list_all}
 use Rattle.base65.specs.Outcome.{◌>>=◌}
 use Rattle.syntax65.specs.Trees.{Tree, number}
-use Rattle.source65.specs.declared.place.Place.{Place}
+use Rattle.syntax65.specs.declared.place.Place.{Place}
 use Rattle.object65.specs.Form.{Form, lit}
 use Rattle.object65.specs.Objects.{fits_width, value_bytes}
 use Rattle.object65.proofs.Goods.{left, right}

@@ -4,8 +4,8 @@ use Rattle.std.specs.Prelude.{Result, Ok, Err, IfErr, ◌-◌, nat_le, nat_lt, �
 use Rattle.base65.specs.Outcome.{◌>>=◌, Gives, Unless}
 use Rattle.syntax65.specs.Trees.{Tree, number, here, name, cheap, forward, backward, unary, binary}
 use Rattle.syntax65.specs.declared.lexing.tokens.AddressSize.{AddressSize}
-use Rattle.source65.specs.declared.place.Place.{Place}
-use Rattle.source65.specs.declared.fault.ExpandFault.TheVariants as expand
+use Rattle.syntax65.specs.declared.place.Place.{Place}
+use Rattle.syntax65.specs.declared.fault.ExpandFault.TheVariants as expand
 use Rattle.object65.specs.Form.{Form, lit, sec, imp, prefix as prefix_form, binary as binary_form}
 use Rattle.object65.specs.Folding.{fold1, fold2}
 use Rattle.object65.specs.Objects.{fits_width, is_file_name, section_limit, value_bytes}

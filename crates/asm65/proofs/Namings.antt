@@ -11,7 +11,7 @@ use Rattle.asm65.specs.Inner.Holding.{Holds, AreBefore, Enters, known_where, Kee
 use Rattle.std.specs.Prelude.{string_bytes, slice_get, Some, Bool, OnOk, Result, Ok, Err, true, false, Option}
 use Rattle.std.proofs.lemmas.List.{take_all}
 use Rattle.language65.proofs.Lists.{map_length}
-use Rattle.source65.specs.declared.place.Place.{Place}
+use Rattle.syntax65.specs.declared.place.Place.{Place}
 use Rattle.language65.specs.Norms.{Extends}
 use Rattle.language65.specs.Layout as layout
 use Rattle.language65.specs.Symbols.{Definition, Scope, Symbols, cheap_in, named, unnamed_at, with_new}

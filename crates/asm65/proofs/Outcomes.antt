@@ -4,13 +4,13 @@ use Rattle.std.specs.Prelude.{Result, Ok, Err, IfOk, IfErr, IfSome, ⊤, ◌||�
 use Rattle.base65.specs.Outcome.{Finds, Unless, ◌>>=◌}
 use Rattle.base65.specs.Store.{Files, IsBlamed, Passes, PassesBy}
 use Rattle.std.proofs.lemmas.Bool.Decides.{nat_tests}
-use Rattle.source65.specs.declared.fault.ExpandFault.TheVariants.{FileError}
+use Rattle.syntax65.specs.declared.fault.ExpandFault.TheVariants.{FileError}
 use Rattle.expand65.specs.declared.expander.Expander.{Expander}
-use Rattle.source65.specs.declared.fault.ExpandFault.{ExpandFault}
+use Rattle.syntax65.specs.declared.fault.ExpandFault.{ExpandFault}
 use Rattle.expand65.specs.Expansion.{opened_in}
 use Rattle.object65.specs.declared.object.Object.{Object}
 use Rattle.object65.specs.Objects.{is_good_object}
-use Rattle.source65.specs.declared.place.Place.{Place}
+use Rattle.syntax65.specs.declared.place.Place.{Place}
 use Rattle.expand65.specs.Standing.{Opens, measure_of, place_of}
 use Rattle.language65.specs.declared.fault.AsmFault.TheVariants.{Expansion, OutOfMemory, FileError as PartError}
 use Rattle.language65.specs.Contents.{Content}

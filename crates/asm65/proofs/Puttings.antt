@@ -4,7 +4,7 @@ use Rattle.std.specs.Prelude.{â„¤, Bool, true, Some, None, Result, Ok, Err, ifâ—
 use Rattle.object65.specs.Form.{Form, lit, sec, imp, prefix, binary}
 use Rattle.object65.specs.Objects.{fits_width, is_file_name, value_bytes}
 use Rattle.object65.specs.declared.object.Width.{Width}
-use Rattle.source65.specs.declared.place.Place.{Place}
+use Rattle.syntax65.specs.declared.place.Place.{Place}
 use Rattle.language65.specs.Contents.{Part, Known, Filled, Waiting, put, room_part, stored, written}
 use Rattle.language65.specs.declared.fault.AsmFault.{AsmFault}
 use Rattle.language65.specs.declared.fault.AsmFault.TheVariants.{FileNameTooLong, OutOfRange}

@@ -5,13 +5,13 @@ use Rattle.std.proofs.lemmas.List.{append-nil}
 use Rattle.base65.specs.Outcome.{First, Unless}
 use Rattle.base65.specs.Store.{Files}
 use Rattle.syntax65.specs.Tokens.{Lexeme}
-use Rattle.reader65.specs.Playing.{tokens_in}
+use Rattle.expand65.specs.Playing.{tokens_in}
 use Rattle.expand65.specs.Standing.{stated}
 use Rattle.expand65.specs.State as expand
 use Rattle.expand65.specs.declared.expander.Statement as given
 use Rattle.expand65.specs.declared.expander.Statement.TheVariants.{Label, Plain}
-use Rattle.reader65.specs.declared.line.Line.{Line}
-use Rattle.source65.specs.declared.place.Place.{Place}
+use Rattle.expand65.specs.declared.line.Line.{Line}
+use Rattle.syntax65.specs.declared.place.Place.{Place}
 use Rattle.language65.specs.declared.fault.AsmFault.{AsmFault}
 use Rattle.language65.specs.declared.fault.AsmFault.TheVariants.{FileError, FileNotFound}
 use Rattle.language65.specs.Faults.{is_failure, is_outside}

@@ -14,7 +14,7 @@ use Rattle.language65.specs.Views.{place_in}
 use Rattle.asm65.specs.Inner.Running.{read_bytes}
 use Rattle.std.proofs.lemmas.Bool.Decides.{nat_tests}
 use Rattle.std.proofs.lemmas.List.{length-take-le, take_all}
-use Rattle.source65.specs.declared.place.Place.{Place}
+use Rattle.syntax65.specs.declared.place.Place.{Place}
 use Rattle.language65.specs.declared.fault.AsmFault.{AsmFault}
 use Rattle.language65.specs.declared.fault.AsmFault.TheVariants.{BadPart}
 use Rattle.language65.specs.Layout.{Cursor, laid, context_of, file_limit, first_fault, is_part, left_from, line_fault, lost_scopes, operand_fault, or_then, part_fault, trees_of, when}

@@ -3,7 +3,7 @@ use Rattle.std.specs.Prelude.{◌≡◌, ℕ, List, Option, None, Result, Err, B
 use Rattle.base65.specs.Store.{Files, IsBlamed}
 use Rattle.expand65.specs.Expansion.{file_named}
 use Rattle.expand65.specs.State as expand
-use Rattle.source65.specs.declared.place.Place.{Place}
+use Rattle.syntax65.specs.declared.place.Place.{Place}
 use Rattle.language65.specs.declared.fault.AsmFault.{AsmFault}
 use Rattle.language65.specs.declared.fault.AsmFault.TheVariants.{FileNotFound}
 use Rattle.module65.specs.Machine.{State, Takes}

@@ -5,8 +5,8 @@ use Rattle.expand65.specs.Expansion.{Reaches, opened_in, statement}
 use Rattle.expand65.specs.Standing.{Opens, place_of}
 use Rattle.expand65.specs.State as expand
 use Rattle.expand65.specs.Failing.{IsOnItsWay}
-use Rattle.source65.specs.declared.fault.ExpandFault.TheVariants as expansion
-use Rattle.source65.specs.declared.place.Place.{Place}
+use Rattle.syntax65.specs.declared.fault.ExpandFault.TheVariants as expansion
+use Rattle.syntax65.specs.declared.place.Place.{Place}
 use Rattle.language65.specs.declared.fault.AsmFault.{AsmFault}
 use Rattle.language65.specs.declared.fault.AsmFault.TheVariants.{Expansion, FileError}
 use Rattle.language65.specs.Faults.{is_failure}

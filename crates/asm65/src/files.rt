@@ -4,7 +4,7 @@ ghost use Rattle.std.specs.Prelude.{◌≡◌, ℕ, IfErr, IfOk, IfSome, OnOk, f
 ghost use Rattle.std.specs.Option.{option_map};
 ghost use Rattle.base65.specs.Store.{Files, IsBlamed, PassesBy};
 ghost use Rattle.expand65.specs.Expansion.{beside, file_named};
-ghost use Rattle.source65.specs.declared.place.Place.{Place};
+ghost use Rattle.syntax65.specs.declared.place.Place.{Place};
 ghost use Rattle.language65.specs.declared.fault.AsmFault.TheVariants.{FileError};
 ghost use Rattle.language65.specs.Faults.{is_failure, is_outside, is_memory};
 ghost use Rattle.language65.specs.Views.{place_at};
@@ -21,7 +21,7 @@ use base65::{Sequence, Store, StoreFault, read_front};
 use expand65::name_beside;
 use language65::{AsmFault, At, PartRange, Statement};
 use layout65::{Before, check_unread};
-use source65::MAX_FILE;
+use syntax65::MAX_FILE;
 use std::alloc::Global;
 use std::mem::replace;
 

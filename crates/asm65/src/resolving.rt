@@ -2,7 +2,7 @@
 
 ghost use Rattle.std.specs.Prelude.{◌≡◌, ◌∷◌, [], None, Option, OnOk, IfOk};
 ghost use Rattle.base65.specs.Outcome.{Gives};
-ghost use Rattle.source65.specs.declared.place.Place.{Place};
+ghost use Rattle.syntax65.specs.declared.place.Place.{Place};
 ghost use Rattle.language65.specs.Contents.{telling};
 ghost use Rattle.language65.specs.Faults.{is_memory};
 ghost use Rattle.language65.specs.declared.laid.Context.{Context as Site};

@@ -10,11 +10,11 @@ use Rattle.syntax65.specs.Trees.{Tree}
 use Rattle.syntax65.specs.declared.expressions.words.ExprFault.{ExprFault}
 use Rattle.syntax65.specs.declared.expressions.words.ExprFault.TheVariants.{OutOfMemory, OperandExpected, ParenthesisExpected, TooDeep}
 use Rattle.syntax65.specs.declared.lexing.tokens.Token.{Token}
-use Rattle.source65.specs.Faults.{fault_of_parsing, is_outside}
-use Rattle.reader65.specs.Fronts.{understood, ◌>=>◌}
+use Rattle.syntax65.specs.ExpandFaults.{fault_of_parsing, is_outside}
+use Rattle.expand65.specs.Fronts.{understood, ◌>=>◌}
 use Rattle.expand65.specs.Macros.{is_comma_at, name_at, repeat_header, variable_of, IsRepeated, repeat_mark, IsKept, entered, kept, macro_of}
-use Rattle.source65.specs.declared.fault.ExpandFault.{ExpandFault}
-use Rattle.source65.specs.declared.fault.ExpandFault.TheVariants.{NotUnderstood, MacroTwice, Nested}
+use Rattle.syntax65.specs.declared.fault.ExpandFault.{ExpandFault}
+use Rattle.syntax65.specs.declared.fault.ExpandFault.TheVariants.{NotUnderstood, MacroTwice, Nested}
 use Rattle.std.specs.Map.{lookup}
 use Rattle.std.specs.Option.{option_map}
 use Rattle.std.specs.Prelude.{is_some, nat_le, if◌then◌else◌}
@@ -23,19 +23,19 @@ use Rattle.std.specs.declared.rc.Rc.{Rc}
 use Rattle.indexmap.specs.IndexMap.{IndexMap, insert_entry}
 use Rattle.indexmap.proofs.CallerLemmas.{insert_entry-new}
 use Rattle.base65.specs.Store.{Files}
-use Rattle.reader65.specs.Blocks.{Block, collects, gathers}
-use Rattle.reader65.specs.Lines.{pushed, nesting_limit}
-use Rattle.reader65.specs.Inside.{left_of, turns_left}
-use Rattle.reader65.specs.Playing.{tokens_in, definition_of, replacing_of}
-use Rattle.reader65.specs.Left.{repeating, Definition, turns, Item, played, Mark, mark, Left, left, Stop, marks}
+use Rattle.expand65.specs.Blocks.{Block, collects, gathers}
+use Rattle.expand65.specs.Lines.{pushed, nesting_limit}
+use Rattle.expand65.specs.Inside.{left_of, turns_left}
+use Rattle.expand65.specs.Playing.{tokens_in, definition_of, replacing_of}
+use Rattle.expand65.specs.Left.{repeating, Definition, turns, Item, played, Mark, mark, Left, left, Stop, marks}
 use Rattle.expand65.specs.Standing.{macros_of, state_of}
 use Rattle.expand65.specs.State.{State, Stepped, goes, stops, with_left}
-use Rattle.source65.specs.declared.place.Place.{Place}
-use Rattle.reader65.specs.declared.playing.Body.{Body}
-use Rattle.reader65.specs.declared.playing.Replay.{Replay}
-use Rattle.reader65.specs.declared.reader.Reader.{Reader}
+use Rattle.syntax65.specs.declared.place.Place.{Place}
+use Rattle.expand65.specs.declared.playing.Body.{Body}
+use Rattle.expand65.specs.declared.playing.Replay.{Replay}
+use Rattle.expand65.specs.declared.reader.Reader.{Reader}
 use Rattle.expand65.specs.declared.rewriter.Rewriter.{Rewriter}
-use Rattle.reader65.proofs.Tables.{lookup_mapped, same_name}
+use Rattle.expand65.proofs.Tables.{lookup_mapped, same_name}
 
 -- ---- The variable.
 

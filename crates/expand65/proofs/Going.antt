@@ -6,29 +6,29 @@ use Rattle.base65.specs.Outcome.{Unless}
 use Rattle.base65.specs.Store.{Files}
 use Rattle.syntax65.specs.Tokens.{Lexeme}
 use Rattle.expand65.specs.Macros.{arguments_of, called, called_or_given, ordinary, file_of}
-use Rattle.source65.specs.Faults.{is_outside}
-use Rattle.reader65.specs.Fronts.{front_directive, is_mislabelled, label_len, line_directive, string_of}
+use Rattle.syntax65.specs.ExpandFaults.{is_outside}
+use Rattle.expand65.specs.Fronts.{front_directive, is_mislabelled, label_len, line_directive, string_of}
 use Rattle.expand65.specs.Expansion.{first_file, include_line, included, included_by, tried, IsActed, IsDirected, IsLabelled, IsSplit, IsStep, IsStepBehind, IsStepFrom, Next, statement, nothing, fault, Reaches, further, given, ended, stopped}
-use Rattle.reader65.specs.Inside.{left_in, left_of, mark_of, outside, NamesFiles}
-use Rattle.reader65.specs.Playing.{tokens_in, AreParts, definition_of}
+use Rattle.expand65.specs.Inside.{left_in, left_of, mark_of, outside, NamesFiles}
+use Rattle.expand65.specs.Playing.{tokens_in, AreParts, definition_of}
 use Rattle.expand65.specs.State.{Meaning, State, plain, label, Stepped, goes, gives, stops, with_items, ends, IsIf}
 use Rattle.expand65.specs.Standing.{IsOpening, Turns, state_of, turned, Comes, FollowsFrom, fronted, is_end, led, place_of, state_in, stated}
-use Rattle.reader65.specs.Left.{Item, written, played, labelled, branch, mark}
-use Rattle.reader65.specs.Lines.{Taken, Takes}
-use Rattle.reader65.specs.declared.fronts.Directive.{Directive}
-use Rattle.source65.specs.declared.fault.ExpandFault.{ExpandFault}
-use Rattle.source65.specs.declared.fault.ExpandFault.TheVariants.{NotUnderstood}
-use Rattle.reader65.specs.declared.line.Line.{Line}
+use Rattle.expand65.specs.Left.{Item, written, played, labelled, branch, mark}
+use Rattle.expand65.specs.Lines.{Taken, Takes}
+use Rattle.expand65.specs.declared.fronts.Directive.{Directive}
+use Rattle.syntax65.specs.declared.fault.ExpandFault.{ExpandFault}
+use Rattle.syntax65.specs.declared.fault.ExpandFault.TheVariants.{NotUnderstood}
+use Rattle.expand65.specs.declared.line.Line.{Line}
 use Rattle.expand65.specs.declared.macros.Opening.TheVariants as opening
-use Rattle.source65.specs.declared.place.Place.{Place}
-use Rattle.reader65.specs.declared.playing.Body.{Body}
+use Rattle.syntax65.specs.declared.place.Place.{Place}
+use Rattle.expand65.specs.declared.playing.Body.{Body}
 use Rattle.expand65.specs.declared.rewriter.Rewriter.{Rewriter}
 use Rattle.expand65.specs.declared.rewriter.Turn.{Turn}
 use Rattle.expand65.specs.declared.rewriter.Turn.TheVariants.{Parts}
-use Rattle.reader65.proofs.Inputs.{AreLines, lines_left, own_split}
+use Rattle.expand65.proofs.Inputs.{AreLines, lines_left, own_split}
 use Rattle.std.specs.Prelude.{OnOk}
 use Rattle.std.specs.Result.{is_err}
-use Rattle.reader65.specs.declared.fronts.Test.TheVariants.{True}
+use Rattle.expand65.specs.declared.fronts.Test.TheVariants.{True}
 use Rattle.expand65.specs.declared.expander.Expander.{Expander}
 use Rattle.expand65.specs.declared.expander.Front.{Front}
 use Rattle.expand65.specs.declared.expander.Front.TheVariants.{Nothing, Rest, Branch, End}

@@ -8,10 +8,10 @@ use Rattle.std.proofs.lemmas.List.{map-append, take-append-drop, take_all}
 use Rattle.std.proofs.lemmas.List.Folds.{list_any-append}
 use Rattle.indexmap.specs.IndexSet.{insert_key}
 use Rattle.expand65.specs.Macros.{are_distinct, distinct_of, braces_behind, parts_within, put_in_first, unbraced, is_comma_at, name_at, part_len}
-use Rattle.reader65.proofs.Tables.{any_seen, drop_seen, take_seen, same_name}
+use Rattle.expand65.proofs.Tables.{any_seen, drop_seen, take_seen, same_name}
 use Rattle.std.proofs.lemmas.Grind.{common_steps}
 use Rattle.syntax65.specs.Tokens.{Lexeme}
-use Rattle.reader65.specs.Fronts.{is_comma, names_from, ◌>=>◌}
+use Rattle.expand65.specs.Fronts.{is_comma, names_from, ◌>=>◌}
 
 -- ---- Names of which no two are alike, found one after another; and tables that take one more name.
 

@@ -5,28 +5,28 @@ use Rattle.std.specs.Prelude.{if◌then◌else◌}
 use Rattle.base65.specs.Outcome.{Unless}
 use Rattle.base65.specs.Store.{Files}
 use Rattle.syntax65.specs.Tokens.{Lexeme}
-use Rattle.reader65.specs.Blocks.{Block, passes}
+use Rattle.expand65.specs.Blocks.{Block, passes}
 use Rattle.expand65.specs.State.{IsElse, conditions_in, popped, Stepped, goes, stops, with_conditions, with_items, State, with_left, Meaning}
-use Rattle.source65.specs.Faults.{is_outside, is_failure}
-use Rattle.reader65.specs.Fronts.{understood, front_directive}
-use Rattle.reader65.specs.Inside.{is_call, left_in, left_of, mark_of, outside, own, NamesFiles, FailsInBlock, StopsAt, last_read}
-use Rattle.reader65.specs.Left.{localised, Item, Mark, mark, branch, innermost, labelled, mark as end_mark, played, written}
+use Rattle.syntax65.specs.ExpandFaults.{is_outside, is_failure}
+use Rattle.expand65.specs.Fronts.{understood, front_directive}
+use Rattle.expand65.specs.Inside.{is_call, left_in, left_of, mark_of, outside, own, NamesFiles, FailsInBlock, StopsAt, last_read}
+use Rattle.expand65.specs.Left.{localised, Item, Mark, mark, branch, innermost, labelled, mark as end_mark, played, written}
 use Rattle.expand65.specs.Macros.{in_macro, local_line, local_named, new_names}
 use Rattle.expand65.specs.Standing.{state_of, turned, fronted, led, place_of, state_in}
 use Rattle.expand65.specs.Expansion.{last_condition, IsStep}
-use Rattle.source65.specs.declared.fault.ExpandFault.{ExpandFault}
-use Rattle.source65.specs.declared.fault.ExpandFault.TheVariants.{NotOpened, NotUnderstood, FileError}
-use Rattle.reader65.specs.declared.input.Source.{Source}
-use Rattle.source65.specs.declared.place.Place.{Place}
-use Rattle.reader65.specs.declared.reader.Input.{Input}
-use Rattle.reader65.specs.declared.reader.Reader.{Reader}
+use Rattle.syntax65.specs.declared.fault.ExpandFault.{ExpandFault}
+use Rattle.syntax65.specs.declared.fault.ExpandFault.TheVariants.{NotOpened, NotUnderstood, FileError}
+use Rattle.expand65.specs.declared.input.Source.{Source}
+use Rattle.syntax65.specs.declared.place.Place.{Place}
+use Rattle.expand65.specs.declared.reader.Input.{Input}
+use Rattle.expand65.specs.declared.reader.Reader.{Reader}
 use Rattle.expand65.specs.declared.rewriter.Rewriter.{Rewriter}
-use Rattle.reader65.proofs.Inputs.{innermost_is, own_split}
-use Rattle.reader65.specs.Playing.{tokens_in}
-use Rattle.reader65.specs.Lines.{Takes}
-use Rattle.reader65.specs.declared.fronts.Directive.{Directive}
-use Rattle.reader65.specs.declared.fronts.Test.TheVariants.{True}
-use Rattle.reader65.specs.declared.line.Line.{Line}
+use Rattle.expand65.proofs.Inputs.{innermost_is, own_split}
+use Rattle.expand65.specs.Playing.{tokens_in}
+use Rattle.expand65.specs.Lines.{Takes}
+use Rattle.expand65.specs.declared.fronts.Directive.{Directive}
+use Rattle.expand65.specs.declared.fronts.Test.TheVariants.{True}
+use Rattle.expand65.specs.declared.line.Line.{Line}
 use Rattle.expand65.specs.Failing.{FailsActing, FailsAt, FailsAtElse, FailsAtIf, FailsBy, FailsFrom, FailsTaking, FailsUnlabelled, Goes, IsOnItsWay, Reading, StopsOnItsWay, StopsReading, back_of, no_step, one_more}
 use Rattle.expand65.specs.declared.expander.Expander.{Expander}
 use Rattle.expand65.specs.declared.expander.Front.{Front}

@@ -12,9 +12,9 @@ use Rattle.syntax65.specs.declared.expressions.words.ExprFault.{ExprFault}
 use Rattle.syntax65.specs.declared.expressions.words.ExprFault.TheVariants.{OutOfMemory, OperandExpected, ParenthesisExpected, TooDeep}
 use Rattle.syntax65.specs.declared.lexing.tokens.Token.{Token}
 use Rattle.expand65.specs.State.{whole}
-use Rattle.source65.specs.Faults.{fault_of_parsing, is_outside}
-use Rattle.reader65.specs.Fronts.{unknown}
-use Rattle.source65.specs.declared.fault.ExpandFault.{ExpandFault}
+use Rattle.syntax65.specs.ExpandFaults.{fault_of_parsing, is_outside}
+use Rattle.expand65.specs.Fronts.{unknown}
+use Rattle.syntax65.specs.declared.fault.ExpandFault.{ExpandFault}
 
 -- these tokens are read as an expression of all of them, or not
 abbrev pub IsWhole : List Lexeme → Result Tree ExpandFault → Type 0

@@ -5,17 +5,17 @@ use Rattle.std.specs.List.{list_any}
 use Rattle.std.specs.Str.{is_utf8}
 use Rattle.base65.specs.Store.{Files}
 use Rattle.syntax65.specs.Tokens.{Lexeme}
-use Rattle.reader65.specs.Fronts.{string_of, front_directive, is_mislabelled, label_len, line_directive}
-use Rattle.reader65.specs.Lines.{lines_of, file_limit, Taken, Takes, line_limit}
+use Rattle.expand65.specs.Fronts.{string_of, front_directive, is_mislabelled, label_len, line_directive}
+use Rattle.expand65.specs.Lines.{lines_of, file_limit, Taken, Takes, line_limit}
 use Rattle.expand65.specs.Macros.{entered, IsMacro, exit_macro, local_line, ordinary, IsRepeat}
-use Rattle.reader65.specs.Left.{Mark, numbered, Item, labelled, branch, mark, left, innermost, come_back, Left, Stop}
+use Rattle.expand65.specs.Left.{Mark, numbered, Item, labelled, branch, mark, left, innermost, come_back, Left, Stop}
 use Rattle.expand65.specs.State.{State, Stepped, stops, Meaning, label, goes, gives, ends, with_left, with_items, Stated, IsIf, IsElse, conditions_in, ended_if, popped}
-use Rattle.source65.specs.declared.fault.ExpandFault.{ExpandFault}
-use Rattle.source65.specs.declared.fault.ExpandFault.TheVariants.{FileNotFound, FileTooLong, NotUnderstood}
-use Rattle.reader65.specs.declared.fronts.Directive.{Directive}
-use Rattle.reader65.specs.declared.fronts.Directive.TheVariants.{Macro, EndMacro, ExitMacro, Local, Repeat, EndRepeat, If, ElseIf, Else, EndIf, Include, Error, End}
-use Rattle.reader65.specs.declared.fronts.Test.TheVariants.{True}
-use Rattle.source65.specs.declared.fault.ExpandFault.TheVariants as fault
+use Rattle.syntax65.specs.declared.fault.ExpandFault.{ExpandFault}
+use Rattle.syntax65.specs.declared.fault.ExpandFault.TheVariants.{FileNotFound, FileTooLong, NotUnderstood}
+use Rattle.expand65.specs.declared.fronts.Directive.{Directive}
+use Rattle.expand65.specs.declared.fronts.Directive.TheVariants.{Macro, EndMacro, ExitMacro, Local, Repeat, EndRepeat, If, ElseIf, Else, EndIf, Include, Error, End}
+use Rattle.expand65.specs.declared.fronts.Test.TheVariants.{True}
+use Rattle.syntax65.specs.declared.fault.ExpandFault.TheVariants as fault
 use Rattle.base65.specs.Outcome.{◌>>=◌}
 
 -- ---- Files.

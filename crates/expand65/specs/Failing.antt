@@ -5,25 +5,25 @@ use Rattle.expand65.specs.State.{Meaning, State, goes, with_items, with_left, St
 use Rattle.expand65.specs.Standing.{StandsFor, place_of, FollowsFrom, measure_of, state_in, stated, macros_of}
 use Rattle.expand65.specs.Expansion.{IsStep, last_condition, tried}
 use Rattle.expand65.specs.declared.expander.Expander.{Expander}
-use Rattle.reader65.specs.Left.{Mark, innermost, Item, Left, branch, labelled, Definition}
-use Rattle.reader65.specs.Inside.{last_read, FailsAtLine, FailsInBlock, NamesFiles}
-use Rattle.source65.specs.Faults.{is_failure}
-use Rattle.source65.specs.declared.fault.ExpandFault.{ExpandFault}
-use Rattle.source65.specs.declared.place.Place.{Place}
+use Rattle.expand65.specs.Left.{Mark, innermost, Item, Left, branch, labelled, Definition}
+use Rattle.expand65.specs.Inside.{last_read, FailsAtLine, FailsInBlock, NamesFiles}
+use Rattle.syntax65.specs.ExpandFaults.{is_failure}
+use Rattle.syntax65.specs.declared.fault.ExpandFault.{ExpandFault}
+use Rattle.syntax65.specs.declared.place.Place.{Place}
 use Rattle.syntax65.specs.Expressions.{IsParsed}
 use Rattle.syntax65.specs.Tokens.{Lexeme}
 use Rattle.syntax65.specs.Trees.{Tree}
 use Rattle.syntax65.specs.declared.expressions.words.ExprFault.{ExprFault}
-use Rattle.reader65.specs.Blocks.{collects, gathers, passes, skips}
-use Rattle.reader65.specs.Fronts.{front_directive, label_len, string_of}
-use Rattle.reader65.specs.Lines.{Takes}
-use Rattle.reader65.specs.declared.fronts.Directive.{Directive}
-use Rattle.reader65.specs.declared.fronts.Directive.TheVariants.{Macro, Repeat, If, ElseIf, Else, Include}
-use Rattle.reader65.specs.declared.fronts.Test.{Test}
-use Rattle.reader65.specs.declared.fronts.Test.TheVariants.{True}
+use Rattle.expand65.specs.Blocks.{collects, gathers, passes, skips}
+use Rattle.expand65.specs.Fronts.{front_directive, label_len, string_of}
+use Rattle.expand65.specs.Lines.{Takes}
+use Rattle.expand65.specs.declared.fronts.Directive.{Directive}
+use Rattle.expand65.specs.declared.fronts.Directive.TheVariants.{Macro, Repeat, If, ElseIf, Else, Include}
+use Rattle.expand65.specs.declared.fronts.Test.{Test}
+use Rattle.expand65.specs.declared.fronts.Test.TheVariants.{True}
 use Rattle.expand65.specs.Macros.{header_of, macro_of, repeat_of, macro_at}
-use Rattle.reader65.specs.Playing.{IsNext}
-use Rattle.reader65.specs.declared.passing.Peeked.{Peeked}
+use Rattle.expand65.specs.Playing.{IsNext}
+use Rattle.expand65.specs.declared.passing.Peeked.{Peeked}
 use Rattle.expand65.specs.declared.expander.Front.TheVariants.{Nothing}
 use Rattle.expand65.specs.declared.expander.Statement.{Statement}
 use Rattle.expand65.specs.declared.rewriter.Rewriter.{Rewriter}

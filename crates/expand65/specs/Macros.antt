@@ -1,24 +1,24 @@
 -- Macros: their bodies, calls and parts of calls.
 use Rattle.std.specs.Prelude.{ℕ, ◌+◌, ◌-◌, ◌==◌, ◌&&◌, Bool, false, List, [], ◌∷◌, length, take, drop, map, if◌then◌else◌, ◌≡◌, nat_le, true, ◌++◌, Option, Some, None, Result, Ok, Err, ℤ, pos, negsuc, slice_get}
 use Rattle.syntax65.specs.Tokens.{Lexeme}
-use Rattle.reader65.specs.Fronts.{is_comma, opens_brace, closes_brace, name_in, names_of, ◌>=>◌, understood, unknown}
+use Rattle.expand65.specs.Fronts.{is_comma, opens_brace, closes_brace, name_in, names_of, ◌>=>◌, understood, unknown}
 use Rattle.std.specs.List.{list_any}
 use Rattle.std.specs.Map.{lookup}
 use Rattle.std.specs.Str.{bytes_eq}
 use Rattle.syntax65.specs.declared.lexing.tokens.TokenKind.TheVariants as token
-use Rattle.reader65.specs.Blocks.{Block, collects, gathers}
-use Rattle.reader65.specs.Lines.{nesting_limit, file_limit, bytes_of}
-use Rattle.reader65.specs.Left.{Definition, Replacing, number_token, repeating, Item, played, mark, Mark, Left, left, Stop, innermost, localised, marks, outside_macro, turns}
+use Rattle.expand65.specs.Blocks.{Block, collects, gathers}
+use Rattle.expand65.specs.Lines.{nesting_limit, file_limit, bytes_of}
+use Rattle.expand65.specs.Left.{Definition, Replacing, number_token, repeating, Item, played, mark, Mark, Left, left, Stop, innermost, localised, marks, outside_macro, turns}
 use Rattle.expand65.specs.State.{State, plain, Stepped, goes, gives, stops, with_left, with_items, Meaning}
-use Rattle.source65.specs.declared.fault.ExpandFault.TheVariants.{Nested, TooManyArguments, MacroTwice, NotOpened, NotUnderstood, NotConstant, CountOutOfRange, FileTooLong}
-use Rattle.source65.specs.declared.place.Place.{Place}
+use Rattle.syntax65.specs.declared.fault.ExpandFault.TheVariants.{Nested, TooManyArguments, MacroTwice, NotOpened, NotUnderstood, NotConstant, CountOutOfRange, FileTooLong}
+use Rattle.syntax65.specs.declared.place.Place.{Place}
 use Rattle.syntax65.specs.Expressions.{IsParsed}
 use Rattle.base65.specs.Outcome.{◌>>=◌, Unless}
 use Rattle.syntax65.specs.Trees.{Tree}
 use Rattle.syntax65.specs.declared.expressions.words.ExprFault.{ExprFault}
-use Rattle.source65.specs.declared.fault.ExpandFault.{ExpandFault}
+use Rattle.syntax65.specs.declared.fault.ExpandFault.{ExpandFault}
 use Rattle.base65.specs.Store.{Files}
-use Rattle.source65.specs.Faults.{is_outside}
+use Rattle.syntax65.specs.ExpandFaults.{is_outside}
 
 -- ---- The arguments of a macro's call.
 

@@ -5,18 +5,18 @@ use Rattle.std.specs.Global.{Global}
 use Rattle.base65.specs.Outcome.{Unless}
 use Rattle.base65.specs.Store.{Files}
 use Rattle.syntax65.specs.Tokens.{Lexeme}
-use Rattle.source65.specs.Faults.{is_outside}
-use Rattle.reader65.specs.Inside.{left_of, NamesFiles}
-use Rattle.reader65.specs.Playing.{tokens_in, definition_of}
+use Rattle.syntax65.specs.ExpandFaults.{is_outside}
+use Rattle.expand65.specs.Inside.{left_of, NamesFiles}
+use Rattle.expand65.specs.Playing.{tokens_in, definition_of}
 use Rattle.expand65.specs.Macros.{macro_at}
-use Rattle.reader65.specs.Left.{labelled, branch, Definition, Item}
+use Rattle.expand65.specs.Left.{labelled, branch, Definition, Item}
 use Rattle.expand65.specs.State.{State, with_items, label, plain, Stepped, goes, gives, stops, Meaning, Stated}
-use Rattle.reader65.specs.declared.fronts.Directive.{Directive}
-use Rattle.reader65.specs.declared.fronts.Directive.TheVariants as directive
-use Rattle.source65.specs.declared.fault.ExpandFault.{ExpandFault}
+use Rattle.expand65.specs.declared.fronts.Directive.{Directive}
+use Rattle.expand65.specs.declared.fronts.Directive.TheVariants as directive
+use Rattle.syntax65.specs.declared.fault.ExpandFault.{ExpandFault}
 use Rattle.expand65.specs.declared.macros.Opening.{Opening}
 use Rattle.expand65.specs.declared.macros.Opening.TheVariants as opening
-use Rattle.reader65.specs.declared.playing.Body.{Body}
+use Rattle.expand65.specs.declared.playing.Body.{Body}
 use Rattle.expand65.specs.declared.rewriter.Rewriter.{Rewriter}
 use Rattle.expand65.specs.declared.rewriter.Turn.{Turn}
 use Rattle.expand65.specs.declared.rewriter.Turn.TheVariants.{Goes, Gives, Parts, Decides, Ends}
@@ -26,7 +26,7 @@ use Rattle.expand65.specs.declared.expander.Front.{Front}
 use Rattle.expand65.specs.declared.expander.Front.TheVariants.{Nothing, Rest, Branch, End}
 use Rattle.expand65.specs.declared.expander.Statement.{Statement}
 use Rattle.expand65.specs.declared.expander.Statement.TheVariants.{Label, Plain}
-use Rattle.source65.specs.declared.place.Place.{Place}
+use Rattle.syntax65.specs.declared.place.Place.{Place}
 
 -- ---- The state that a rewriter stands for, and what its calls lead to.
 

@@ -2,16 +2,16 @@
 use Rattle.std.specs.Prelude.{ℕ, ℤ, Bool, List, Option, ◌≡◌, pos, negsuc, zero, suc, ◌+◌, nat_lt, ◌==◌, true, false, not, [], ◌∷◌, length, Some, None, Result, Ok, Err, if◌then◌else◌}
 use Rattle.syntax65.specs.Trees.{Tree, name}
 use Rattle.syntax65.specs.Tokens.{Lexeme}
-use Rattle.reader65.specs.Left.{Item, Left, left, Stop, Definition, branch, Mark}
+use Rattle.expand65.specs.Left.{Item, Left, left, Stop, Definition, branch, Mark}
 use Rattle.syntax65.specs.Expressions.{IsParsed}
 use Rattle.base65.specs.Outcome.{◌>>=◌}
 use Rattle.syntax65.specs.declared.expressions.words.ExprFault.{ExprFault}
-use Rattle.reader65.specs.Blocks.{Block, Branch, at_elseif, at_else, at_endif, skips, passes}
-use Rattle.reader65.specs.Fronts.{opens_parenthesis, unknown}
-use Rattle.reader65.specs.declared.fronts.Test.{Test}
-use Rattle.reader65.specs.declared.fronts.Test.TheVariants.{True, Defined, NotDefined, Blank, NotBlank}
-use Rattle.source65.specs.declared.fault.ExpandFault.{ExpandFault}
-use Rattle.source65.specs.declared.fault.ExpandFault.TheVariants.{NotConstant, NotOpened}
+use Rattle.expand65.specs.Blocks.{Block, Branch, at_elseif, at_else, at_endif, skips, passes}
+use Rattle.expand65.specs.Fronts.{opens_parenthesis, unknown}
+use Rattle.expand65.specs.declared.fronts.Test.{Test}
+use Rattle.expand65.specs.declared.fronts.Test.TheVariants.{True, Defined, NotDefined, Blank, NotBlank}
+use Rattle.syntax65.specs.declared.fault.ExpandFault.{ExpandFault}
+use Rattle.syntax65.specs.declared.fault.ExpandFault.TheVariants.{NotConstant, NotOpened}
 
 -- ---- What expressions and names mean at a line.
 

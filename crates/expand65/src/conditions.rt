@@ -7,16 +7,15 @@ ghost use Rattle.syntax65.specs.Tokens.{lexemes};
 ghost use Rattle.syntax65.specs.Trees.{Tree};
 ghost use Rattle.syntax65.specs.declared.expressions.words.ExprFault.{ExprFault};
 ghost use Rattle.expand65.specs.State.{IsCondition, begins_enclosed, defined_tree, popped, truth, whole};
-ghost use Rattle.source65.specs.Faults.{is_failure, is_outside};
+ghost use Rattle.syntax65.specs.ExpandFaults.{is_failure, is_outside};
 ghost use Rattle.expand65.specs.Macros.{outermost};
 ghost use Rattle.expand65.specs.Standing.{PopsTo};
 
 use crate::knows::Knows;
-use reader65::{Test, opens_parenthesis};
-use source65::ExpandFault;
+use crate::fronts::{Test, opens_parenthesis};
+use syntax65::{ExpandFault, Expr, ExprKind, Name, Token, read_expr};
 use std::alloc::{AllocError, Global};
 use std::marker::Model;
-use syntax65::{Expr, ExprKind, Name, Token, read_expr};
 
 /// An expression of all the tokens.
 pub fn expression(alloc: Global, tokens: &[Token<'_>]) -> Result<Expr, ExpandFault>

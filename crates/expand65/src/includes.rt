@@ -5,13 +5,13 @@ ghost use Rattle.std.specs.FinMap as fmap;
 ghost use Rattle.std.specs.Str.{is_utf8};
 ghost use Rattle.base65.specs.Outcome.{Gives};
 ghost use Rattle.base65.specs.Store.{Asks, IsBlamed, Passes};
-ghost use Rattle.source65.specs.Faults.{is_outside};
+ghost use Rattle.syntax65.specs.ExpandFaults.{is_outside};
 ghost use Rattle.expand65.specs.Failing.{IsAmong};
 ghost use Rattle.expand65.specs.Expansion.{as_text, begins_with_slash, beside, file_named, first_file, folder_of, found_or, is_slash, tried, within};
 ghost use Rattle.expand65.specs.Macros.{Tries, file_of, is_there};
 
 use base65::{Store, StoreFault, Text};
-use source65::{ExpandFault, MAX_FILE};
+use syntax65::{ExpandFault, MAX_FILE};
 use std::alloc::{AllocError, Global};
 
 /// A file's name up to and with its last `/`, nothing where it has none.

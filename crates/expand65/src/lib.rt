@@ -1,17 +1,36 @@
 //! The statements of a source: macros, repeats, conditions and includes rewritten, line by line.
 #![tactic(auto)]
 
+mod blocks;
 mod conditions;
 mod expander;
+mod file;
+mod fronts;
 mod includes;
+mod input;
 mod knows;
 pub mod laws;
+mod line;
 mod macros;
+mod passing;
+mod playing;
+mod reader;
 mod repeats;
 mod rewriter;
 
+pub use blocks::{BlockEnd, BlockKind, WholeBlock};
 pub use expander::{Expander, Options, Statement};
+pub use file::OpenFile;
+pub use fronts::{
+    behind_first, closes_brace, front_directive, is_comma, label_len, name_in, opens_brace,
+    opens_parenthesis, string_of,
+};
+pub use fronts::{Directive, Test};
 pub use includes::name_beside;
+pub use input::{Source, number_line};
 pub use knows::Knows;
-pub use reader65::Line;
-pub use source65::{ExpandFault, Place};
+pub use line::Line;
+pub use passing::Peeked;
+pub use playing::{Body, Replay};
+pub use reader::{Input, Reader};
+pub use syntax65::{ExpandFault, Place};

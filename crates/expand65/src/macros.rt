@@ -3,24 +3,28 @@
 ghost use Rattle.std.specs.Prelude.{◌≡◌, ◌<◌, ◌≤◌, ◌+◌, ◌^◌, IfOk, IsSome, IsTrue, length, map, option_map, ◌∷◌, [], false, is_some, IfErr, IfSome, Ok, Some, OnOk};
 ghost use Rattle.syntax65.specs.Tokens.{lexeme_of, lexemes};
 ghost use Rattle.expand65.specs.Macros.{arguments_of, braces_behind, closes_last, is_braced, parts_within, unbraced, IsDefined, IsMacro, called, distinct_of, header_of, header_with, macro_of, ordinary, params_of, is_comma_at, name_at, part_len};
-ghost use Rattle.reader65.specs.Fronts.{names_of, understood};
-ghost use Rattle.reader65.specs.Playing.{tokens_in, definition_of};
+ghost use Rattle.expand65.specs.Fronts.{names_of, understood};
+ghost use Rattle.expand65.specs.Playing.{tokens_in, definition_of};
 ghost use Rattle.base65.specs.Outcome.{Gives};
 ghost use Rattle.base65.specs.Store.{Files, Passes};
-ghost use Rattle.source65.specs.Faults.{is_failure, is_outside};
+ghost use Rattle.syntax65.specs.ExpandFaults.{is_failure, is_outside};
 ghost use Rattle.expand65.specs.Failing.{FailsDefining};
-ghost use Rattle.reader65.specs.Inside.{StopsAt, NamesFiles};
-ghost use Rattle.reader65.specs.Left.{number_token};
+ghost use Rattle.expand65.specs.Inside.{StopsAt, NamesFiles};
+ghost use Rattle.expand65.specs.Left.{number_token};
 ghost use Rattle.expand65.specs.Standing.{MacroFound, IsOpening, Turns, macros_of, size_of, state_of, weight_of};
 
 use crate::rewriter::{Rewriter, Turn};
 use base65::{Sequence, Store};
 use indexmap::{IndexMap, IndexSet};
-use reader65::{BlockKind, Body, Input, Line, Replay, Source, behind_first, closes_brace, is_comma, name_in, number_line, opens_brace};
-use source65::ExpandFault;
+use crate::blocks::BlockKind;
+use crate::playing::{Body, Replay};
+use crate::reader::Input;
+use crate::line::Line;
+use crate::input::{Source, number_line};
+use crate::fronts::{behind_first, closes_brace, is_comma, name_in, opens_brace};
+use syntax65::{ExpandFault, Token, TokenKind};
 use std::alloc::{AllocError, Global};
 use std::rc::Rc;
-use syntax65::{Token, TokenKind};
 
 /// The name at a place, if one stands there.
 pub fn name_at<'a>(tokens: &[Token<'a>], at: usize) -> Option<&'a [u8]>

@@ -5,11 +5,11 @@ ghost use Rattle.std.specs.List.{list_any};
 ghost use Rattle.base65.specs.Outcome.{Gives};
 ghost use Rattle.base65.specs.Store.{Files, Passes};
 ghost use Rattle.syntax65.specs.Tokens.{lexemes};
-ghost use Rattle.source65.specs.Faults.{is_failure, is_outside};
-ghost use Rattle.reader65.specs.Fronts.{understood};
+ghost use Rattle.syntax65.specs.ExpandFaults.{is_failure, is_outside};
+ghost use Rattle.expand65.specs.Fronts.{understood};
 ghost use Rattle.expand65.specs.Macros.{exit_macro, is_made, local_line, new_names, IsRepeat, IsRepeated, repeat_header, turns_of, variable_of};
 ghost use Rattle.expand65.specs.Standing.{Turns, size_of, state_of, weight_of};
-ghost use Rattle.reader65.specs.Inside.{NamesFiles, StopsAt};
+ghost use Rattle.expand65.specs.Inside.{NamesFiles, StopsAt};
 ghost use Rattle.syntax65.specs.Expressions.{IsParsed};
 ghost use Rattle.base65.specs.Relations.{Answers};
 ghost use Rattle.syntax65.specs.Trees.{Tree};
@@ -21,11 +21,13 @@ use crate::macros::{is_comma_at, name_at, names_of};
 use crate::rewriter::{Rewriter, Turn};
 use base65::{Sequence, Store};
 use indexmap::{IndexMap, IndexSet};
-use reader65::{BlockKind, Body, Input, Replay, Source};
-use source65::ExpandFault;
+use crate::blocks::BlockKind;
+use crate::playing::{Body, Replay};
+use crate::reader::Input;
+use crate::input::Source;
+use syntax65::{ExpandFault, Expr, Token, read_expr};
 use std::alloc::{AllocError, Global};
 use std::rc::Rc;
-use syntax65::{Expr, Token, read_expr};
 
 /// Whether a name was made of one of an expansion's own.
 fn is_made(name: &[u8]) -> bool

@@ -5,12 +5,12 @@ ghost use Rattle.base65.specs.Store.{Files, Passes};
 ghost use Rattle.syntax65.specs.Tokens.{lexemes};
 ghost use Rattle.expand65.specs.State.{IsDecided, IsElse, IsIf, ended_if, Meaning};
 ghost use Rattle.expand65.specs.Failing.{FailsActing, FailsAlone, FailsAtElse, FailsAtIf, FailsBy, FailsDeciding, FailsIncluding, FailsTaking, FailsUnlabelled};
-ghost use Rattle.source65.specs.Faults.{is_failure};
-ghost use Rattle.reader65.specs.Inside.{StopsAt, NamesFiles, left_in, left_of};
-ghost use Rattle.reader65.specs.Fronts.{front_directive, is_mislabelled, string_of};
+ghost use Rattle.syntax65.specs.ExpandFaults.{is_failure};
+ghost use Rattle.expand65.specs.Inside.{StopsAt, NamesFiles, left_in, left_of};
+ghost use Rattle.expand65.specs.Fronts.{front_directive, is_mislabelled, string_of};
 ghost use Rattle.expand65.specs.Expansion.{include_line, included, IsActed, IsDirected, IsLabelled, IsStep, at_mark, error_by, last_condition};
-ghost use Rattle.reader65.specs.Playing.{tokens_in};
-ghost use Rattle.reader65.specs.Lines.{bytes_of};
+ghost use Rattle.expand65.specs.Playing.{tokens_in};
+ghost use Rattle.expand65.specs.Lines.{bytes_of};
 ghost use Rattle.expand65.specs.Standing.{Turns, size_of, stands_alone, state_of, weight_of};
 ghost use Rattle.expand65.specs.Macros.{file_of};
 
@@ -19,11 +19,16 @@ use crate::includes::find_file;
 use crate::knows::Knows;
 use base65::{Seed, Sequence, Store, Text};
 use indexmap::IndexMap;
-use reader65::{BlockEnd, BlockKind, Body, Directive, Input, Line, OpenFile, Reader, Source, Test, behind_first, string_of};
-use source65::{ExpandFault, Place};
+use crate::blocks::{BlockEnd, BlockKind};
+use crate::playing::Body;
+use crate::fronts::{Directive, Test, behind_first, string_of};
+use crate::reader::{Input, Reader};
+use crate::line::Line;
+use crate::file::OpenFile;
+use crate::input::Source;
+use syntax65::{ExpandFault, Place, Token};
 use std::alloc::Global;
 use std::rc::Rc;
-use syntax65::Token;
 
 /// Where a line or an end mark leads to.
 #[derive(Drop)]

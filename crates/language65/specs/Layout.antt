@@ -7,7 +7,7 @@ use Rattle.syntax65.specs.declared.lexing.tokens.AddressSize.TheVariants as size
 use Rattle.language65.specs.declared.contents.Segment.{Segment}
 use Rattle.language65.specs.declared.language.Statement.{Statement}
 use Rattle.language65.specs.declared.language.Statement.TheVariants as statement
-use Rattle.source65.specs.declared.place.Place.{Place}
+use Rattle.syntax65.specs.declared.place.Place.{Place}
 use Rattle.language65.specs.Symbols.{Laid, opens_region, is_unnamed, Symbols, symbols_of, Scope, Key, named, cheap_in, unnamed_at, defined, key_defined, enclosing, scope_in, scope_from, scopes_of, shown}
 use Rattle.language65.specs.declared.laid.Context.{Context}
 use Rattle.language65.specs.Norms.{constant_in, counted, length_of, settled_of, size_of, is_byte, mode_of, optional_value}

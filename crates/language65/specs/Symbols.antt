@@ -1,6 +1,6 @@
 -- The symbol table that laid statements make, and what names mean in it.
 use Rattle.std.specs.Prelude.{ℕ, Bool, true, false, ◌||◌, List, [], ◌∷◌, ◌++◌, Option, Some, None, ◌==◌, ◌&&◌, if◌then◌else◌, zero, suc, slice_get, ◌+◌, ◌-◌, nat_le, take, Result, Ok, Err, codes}
-use Rattle.source65.specs.declared.place.Place.{Place}
+use Rattle.syntax65.specs.declared.place.Place.{Place}
 use Rattle.syntax65.specs.declared.lexing.tokens.AddressSize.{AddressSize}
 use Rattle.syntax65.specs.Trees.{Tree, here, unary, binary, name, cheap, forward, backward}
 use Rattle.language65.specs.declared.laid.Settled.{Settled}

@@ -1,6 +1,6 @@
 -- What statements put into an object, at the place of the statement.
 use Rattle.std.specs.Prelude.{ℕ, List}
-use Rattle.source65.specs.declared.place.Place.{Place}
+use Rattle.syntax65.specs.declared.place.Place.{Place}
 use Rattle.language65.specs.declared.contents.Part.{Part}
 use Rattle.language65.specs.declared.contents.Part.TheVariants as part
 use Rattle.language65.specs.declared.contents.Declaration.{Declaration}

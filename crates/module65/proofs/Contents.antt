@@ -20,7 +20,7 @@ use Rattle.language65.specs.declared.language.Operand.{Operand}
 use Rattle.language65.specs.declared.language.Statement.{Statement}
 use Rattle.language65.specs.declared.language.Statement.TheVariants.{Constant, Instruction, Values, Import, Export, Global, ForceImport, Assert}
 use Rattle.language65.specs.declared.language.Item.TheVariants.{Value, Text}
-use Rattle.source65.specs.declared.place.Place.{Place}
+use Rattle.syntax65.specs.declared.place.Place.{Place}
 use Rattle.language65.specs.Symbols.{Laid, asks_section, Symbols, defined, named}
 use Rattle.language65.specs.declared.laid.Settled.{Settled}
 use Rattle.language65.specs.declared.laid.Settled.TheVariants.{Unsettled, InMode, FilledWith, FromByte}

@@ -9,7 +9,7 @@ use Rattle.std.proofs.lemmas.List.{append-nil, map-append}
 use Rattle.std.proofs.lemmas.List.Elements.{filter-append}
 use Rattle.object65.specs.declared.object.Object.{Object}
 use Rattle.object65.specs.declared.object.Origin.{Origin}
-use Rattle.source65.specs.declared.place.Place.{Place}
+use Rattle.syntax65.specs.declared.place.Place.{Place}
 use Rattle.language65.specs.Contents.{Content, Part, Declaration, asking, put, telling}
 use Rattle.language65.specs.declared.contents.Segment.{Segment}
 use Rattle.language65.specs.Numbering.{all_joined, all_said, assert_files, assert_of, content_imports, export_files, exports_among, fragments_of, in_files, name_of, names_once, object_with, once, part_files, part_imports, parts_in, said_imports, segment_name, segment_power, segments_asked}

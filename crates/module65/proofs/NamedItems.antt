@@ -6,12 +6,12 @@ use Rattle.std.specs.Prelude.{Result, Ok, Err, nat_le, if◌then◌else◌, ⊤}
 use Rattle.std.specs.List.{AllByRecursion}
 use Rattle.syntax65.specs.Tokens.{Lexeme, IsRead}
 use Rattle.syntax65.specs.declared.lexing.tokens.LexFault.{LexFault}
-use Rattle.source65.specs.declared.fault.ExpandFault.{ExpandFault}
-use Rattle.source65.specs.declared.fault.ExpandFault.TheVariants.{LineTooLong}
-use Rattle.source65.specs.declared.place.Place.{Place}
-use Rattle.reader65.specs.Blocks.{Block, a_fault, a_mark, a_refusal, the_last, one_more, Verdict, on, closed, refused}
-use Rattle.reader65.specs.Left.{numbered, localised, outside_macro, turns, Item, written, played, labelled, branch, mark, Left, left, Mark, Stop, come_back, in_turn, repeating, Replacing, replaced}
-use Rattle.reader65.specs.Lines.{token_limit, IsOpened, Taken, Takes, TakesFrom, lexed, reached, taken_as}
+use Rattle.syntax65.specs.declared.fault.ExpandFault.{ExpandFault}
+use Rattle.syntax65.specs.declared.fault.ExpandFault.TheVariants.{LineTooLong}
+use Rattle.syntax65.specs.declared.place.Place.{Place}
+use Rattle.expand65.specs.Blocks.{Block, a_fault, a_mark, a_refusal, the_last, one_more, Verdict, on, closed, refused}
+use Rattle.expand65.specs.Left.{numbered, localised, outside_macro, turns, Item, written, played, labelled, branch, mark, Left, left, Mark, Stop, come_back, in_turn, repeating, Replacing, replaced}
+use Rattle.expand65.specs.Lines.{token_limit, IsOpened, Taken, Takes, TakesFrom, lexed, reached, taken_as}
 use Rattle.module65.proofs.NamedLines.{AreAllFit, Each, IsReplacingFit, replaced_fit, with_locals_fit, AreFit, IsBase, read_fit}
 use Rattle.module65.proofs.SoundForms.{all_append}
 

@@ -8,8 +8,8 @@ use Rattle.base65.specs.Outcome.{First}
 use Rattle.base65.specs.Store.{Files}
 use Rattle.syntax65.specs.Tokens.{Lexeme}
 use Rattle.syntax65.specs.Trees.{number}
-use Rattle.source65.specs.declared.fault.ExpandFault.{ExpandFault}
-use Rattle.source65.specs.declared.place.Place.{Place}
+use Rattle.syntax65.specs.declared.fault.ExpandFault.{ExpandFault}
+use Rattle.syntax65.specs.declared.place.Place.{Place}
 use Rattle.expand65.specs.Expansion.{Next, Reaches, statement, nothing, fault, opened_in}
 use Rattle.language65.specs.declared.fault.AsmFault.{AsmFault}
 use Rattle.language65.specs.declared.language.Statement.{Statement}
@@ -17,7 +17,7 @@ use Rattle.language65.specs.declared.language.Statement.TheVariants.{Constant}
 use Rattle.statements65.specs.Parsing.{IsStatement, label_of}
 use Rattle.module65.specs.Reading.{AreDefined, AreTaken, taken, faulty, refused, ended, Between, Define, Follows, IsBegun, IsGiven, IsLabel, IsLabelled, IsRest, IsSource, Job, Reached, Taking, no_line, open_fault, with_bytes, stopped, AreLaid, IsLaid, laying, with_statement}
 use Rattle.expand65.proofs.Unique.{one_next}
-use Rattle.reader65.specs.Left.{Stop}
+use Rattle.expand65.specs.Left.{Stop}
 use Rattle.language65.specs.declared.fault.AsmFault.TheVariants.{Expansion}
 use Rattle.language65.specs.Layout.{Layout, nothing_laid}
 use Rattle.statements65.proofs.OneStatements.{One, followed_one, made_one, same_one, statement_one}

@@ -10,7 +10,7 @@ use Rattle.language65.specs.Contents.{Content, asking}
 use Rattle.language65.specs.declared.contents.Segment.{Segment}
 use Rattle.language65.specs.declared.fault.AsmFault.{AsmFault}
 use Rattle.language65.specs.declared.language.Statement.{Statement}
-use Rattle.source65.specs.declared.place.Place.{Place}
+use Rattle.syntax65.specs.declared.place.Place.{Place}
 use Rattle.language65.specs.Symbols.{Laid, asks_section, Symbols, symbols_of}
 use Rattle.language65.specs.declared.laid.Context.{Context}
 use Rattle.language65.specs.Layout.{Layout, Cursor, laid, layout_behind, nothing_laid, cursor_behind, line_fault, unless_fault}

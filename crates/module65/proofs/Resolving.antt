@@ -11,7 +11,7 @@ use Rattle.language65.specs.Norms.{Extends, norm_of}
 use Rattle.module65.specs.Machine.{symbols_behind, IsSettled, Finished, Slot, Fixup, awaited, before_it, filled, holds, resolved, awaited_in}
 use Rattle.base65.specs.Outcome.{◌>>=◌}
 use Rattle.language65.specs.Contents.{Part, Content, Declaration, put, telling, decided, export_said, import_fault, operand_form, stored}
-use Rattle.source65.specs.declared.place.Place.{Place}
+use Rattle.syntax65.specs.declared.place.Place.{Place}
 use Rattle.language65.specs.declared.laid.Context.{Context}
 use Rattle.module65.specs.Laws.{FinalSettles}
 use Rattle.module65.specs.Module.{demanded, given, used, Made, Piece, Purpose, absent_of, as_part, as_said, asserted, datum, equated, exported, imported, made_of, operand, valued, failed}

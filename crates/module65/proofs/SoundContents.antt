@@ -15,7 +15,7 @@ use Rattle.object65.proofs.Reached.{names_push}
 use Rattle.language65.specs.Contents.{Content, content_of, parts_of, said_of}
 use Rattle.language65.specs.declared.fault.AsmFault.{AsmFault}
 use Rattle.module65.specs.Reading.{at_place}
-use Rattle.source65.specs.declared.place.Place.{Place}
+use Rattle.syntax65.specs.declared.place.Place.{Place}
 use Rattle.language65.specs.Symbols.{Laid, asks_section, Symbols, imported, imports_of, symbols_of, with_new}
 use Rattle.language65.specs.declared.language.Statement.{Statement}
 use Rattle.language65.specs.declared.language.Statement.TheVariants as statement

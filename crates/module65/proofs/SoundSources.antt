@@ -11,8 +11,8 @@ use Rattle.syntax65.specs.Trees.{number}
 use Rattle.syntax65.specs.Expressions.{is_reserved}
 use Rattle.syntax65.specs.declared.lexing.tokens.TokenKind.{TokenKind}
 use Rattle.syntax65.specs.declared.lexing.tokens.TokenKind.TheVariants as token
-use Rattle.source65.specs.declared.fault.ExpandFault.{ExpandFault}
-use Rattle.source65.specs.declared.place.Place.{Place}
+use Rattle.syntax65.specs.declared.fault.ExpandFault.{ExpandFault}
+use Rattle.syntax65.specs.declared.place.Place.{Place}
 use Rattle.expand65.specs.Expansion.{statement, first_state, opened_in, bytes_in}
 use Rattle.expand65.specs.State as expand
 use Rattle.language65.specs.declared.fault.AsmFault.{AsmFault}

@@ -2,14 +2,14 @@
 use borrow.Author.Rules.{rules}
 use Rattle.std.proofs.lemmas.Grind.{common_steps}
 use Rattle.expand65.specs.State as expand
-use Rattle.source65.specs.Faults as expansion
+use Rattle.syntax65.specs.ExpandFaults as expansion
 use Rattle.syntax65.specs.declared.lexing.tokens.TokenKind.TheVariants as token
 use Rattle.std.proofs.Common.{arith, ◌≡◌, List, [], ◌∷◌, refl, sym, subst, Some, None, Bool, true, false, ap, ℕ, Option}
 use Rattle.std.specs.Prelude.{Result, Ok, Err, length, if◌then◌else◌}
 use Rattle.base65.specs.Store.{Files}
 use Rattle.syntax65.specs.Trees.{number}
-use Rattle.source65.specs.declared.fault.ExpandFault.{ExpandFault}
-use Rattle.source65.specs.declared.place.Place.{Place}
+use Rattle.syntax65.specs.declared.fault.ExpandFault.{ExpandFault}
+use Rattle.syntax65.specs.declared.place.Place.{Place}
 use Rattle.expand65.specs.Expansion.{Reaches, statement, nothing, fault, opened_in}
 use Rattle.language65.specs.declared.fault.AsmFault.{AsmFault}
 use Rattle.language65.specs.declared.fault.AsmFault.TheVariants.{Expansion}
@@ -17,7 +17,7 @@ use Rattle.language65.specs.declared.language.Statement.TheVariants.{Constant, L
 use Rattle.module65.specs.Reading.{DefinesOn, GoesOn, AreDefined, taken, faulty, refused, ended, Between, Define, IsBegun, IsGiven, IsSource, Job, Reached, Taking, no_line, open_fault, stopped}
 use Rattle.base65.specs.Outcome.{Unless}
 use Rattle.expand65.specs.declared.expander.Expander.{Expander}
-use Rattle.source65.specs.declared.fault.ExpandFault.TheVariants.{OutOfMemory, FileError}
+use Rattle.syntax65.specs.declared.fault.ExpandFault.TheVariants.{OutOfMemory, FileError}
 use Rattle.expand65.specs.Standing.{Opens, StandsFor, place_of}
 use Rattle.language65.specs.Faults.{is_outside}
 use Rattle.syntax65.specs.Tokens.{Lexeme, lexemes}

@@ -5,7 +5,7 @@ use Rattle.base65.specs.Store.{Files}
 use Rattle.syntax65.specs.Trees.{Tree}
 use Rattle.object65.specs.Form.{Form}
 use Rattle.language65.specs.Contents.{Content}
-use Rattle.source65.specs.declared.place.Place.{Place}
+use Rattle.syntax65.specs.declared.place.Place.{Place}
 use Rattle.language65.specs.declared.laid.Context.{Context}
 use Rattle.language65.specs.Layout.{Layout}
 use Rattle.language65.specs.Numbering.{all_said, content_imports, parts_in, segments_asked, AreSound, IsSoundLayout}

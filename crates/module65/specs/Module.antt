@@ -9,7 +9,7 @@ use Rattle.object65.specs.declared.object.Action.TheVariants as action
 use Rattle.object65.specs.declared.object.Object.{Object}
 use Rattle.language65.specs.Contents.{Content, content_of, Part, Known, Declaration, ForcedImport, put, telling, decided, export_said, file_bytes, import_fault, opcode_part, operand_form, operand_tree, room_part, stored}
 use Rattle.language65.specs.declared.fault.AsmFault.{AsmFault}
-use Rattle.source65.specs.declared.place.Place.{Place}
+use Rattle.syntax65.specs.declared.place.Place.{Place}
 use Rattle.language65.specs.Symbols.{Laid, Symbols, symbols_of, defined, named}
 use Rattle.language65.specs.declared.language.Statement.{Statement}
 use Rattle.language65.specs.declared.language.Statement.TheVariants as statement

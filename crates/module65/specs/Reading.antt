@@ -1,12 +1,12 @@
 -- How the statements of a source are taken, one behind the other, and laid.
 use Rattle.std.specs.Prelude.{Result, Ok, Err, ◌≡◌, ℕ, List, [], ◌∷◌, Option, Some, None, if◌then◌else◌, Bool, true, false}
-use Rattle.source65.specs.declared.place.Place.{Place}
+use Rattle.syntax65.specs.declared.place.Place.{Place}
 use Rattle.language65.specs.declared.fault.AsmFault.{AsmFault}
 use Rattle.base65.specs.Outcome.{First, Unless}
 use Rattle.base65.specs.Store.{Files}
 use Rattle.syntax65.specs.Tokens.{Lexeme}
 use Rattle.syntax65.specs.Trees.{number, name}
-use Rattle.source65.specs.declared.fault.ExpandFault.{ExpandFault}
+use Rattle.syntax65.specs.declared.fault.ExpandFault.{ExpandFault}
 use Rattle.expand65.specs.Expansion.{Reaches, statement, nothing, fault, opened_in, beside, file_named}
 use Rattle.expand65.specs.State as expand
 use Rattle.language65.specs.declared.fault.AsmFault.TheVariants.{BadScope, Expansion}

@@ -8,7 +8,7 @@ use Rattle.std.specs.Str.{bytes_eq}
 use Rattle.object65.specs.Form.{Form}
 use Rattle.object65.specs.declared.object.Export.{Export}
 use Rattle.object65.specs.declared.object.Origin.{Origin}
-use Rattle.source65.specs.declared.place.Place.{Place}
+use Rattle.syntax65.specs.declared.place.Place.{Place}
 use Rattle.language65.specs.Contents.{Declaration, Exported, ForcedImport, Asserted}
 use Rattle.language65.specs.declared.contents.Declaration as told
 use Rattle.language65.specs.Numbering.{exports_among, numbered}

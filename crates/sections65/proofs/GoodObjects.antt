@@ -12,7 +12,7 @@ use Rattle.object65.specs.declared.object.Export.{Export}
 use Rattle.object65.specs.declared.object.Object.{Object}
 use Rattle.object65.specs.declared.object.Origin.{Origin}
 use Rattle.object65.specs.declared.object.Section.{Section}
-use Rattle.source65.specs.declared.place.Place.{Place}
+use Rattle.syntax65.specs.declared.place.Place.{Place}
 use Rattle.object65.specs.Folding.{is_literal}
 use Rattle.object65.specs.Objects.{are_files_of, are_names, has_good_origins, has_good_parts, is_good_assert, is_good_form, is_good_object, is_good_section}
 use Rattle.language65.specs.Contents.{Content, Part, Known, Filled, Waiting, Declaration, Exported, ForcedImport, Asserted}

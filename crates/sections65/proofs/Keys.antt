@@ -8,7 +8,7 @@ use Rattle.std.specs.Global.{Vec}
 use Rattle.std.proofs.lemmas.Cmp.{nat_list_eq_equiv}
 use Rattle.indexmap.specs.IndexSet.{IndexSet}
 use Rattle.language65.proofs.Lists.{position_mapped}
-use Rattle.source65.specs.declared.place.Place.{Place}
+use Rattle.syntax65.specs.declared.place.Place.{Place}
 use Rattle.language65.specs.declared.contents.Declaration as said
 use Rattle.language65.specs.declared.contents.Declaration.TheVariants as told
 use Rattle.language65.specs.Numbering.{content_imports, imports_in, key_of, once, optional_key, said_imports}

@@ -18,7 +18,7 @@ use Rattle.sections65.specs.Inner.Ordering.{assert_by, assert_key, export_by, ex
 use Rattle.sections65.proofs.Renumbering.{HasAll, first_has, has, left, number_at, number_below, once_has, second_has, once_all, right}
 use Rattle.std.proofs.lemmas.Grind.{common_steps, flat_map-append}
 use Rattle.std.proofs.lemmas.List.{map-append}
-use Rattle.source65.specs.declared.place.Place.{Place}
+use Rattle.syntax65.specs.declared.place.Place.{Place}
 use Rattle.object65.specs.declared.object.Origin.{Origin}
 use Rattle.language65.specs.Contents.{Content, Part, Known, Filled, Waiting, Declaration, Exported, ForcedImport, Asserted}
 use Rattle.language65.specs.declared.contents.Segment.{Segment}

@@ -2,9 +2,11 @@
 #![tactic(auto)]
 
 mod expressions;
+mod fault;
 mod instructions;
 pub mod laws;
 mod lexing;
+mod place;
 mod spelling;
 
 pub use base65::{
@@ -13,8 +15,10 @@ pub use base65::{
 pub use expressions::{
     Expr, ExprFault, ExprKind, Identifier, MAX_DEPTH, Name, Operands, is_reserved, read_expr,
 };
+pub use fault::ExpandFault;
 pub use instructions::{Mnemonic, Mode, mnemonic, opcode};
 pub use lexing::{
     AddressSize, LexFault, Lexer, LineFront, LineTokens, MAX_LINE, MAX_NAME, Mark, Token,
     TokenKind, line_front, line_tokens,
 };
+pub use place::{MAX_FILE, Place};

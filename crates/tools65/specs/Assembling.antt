@@ -1,6 +1,6 @@
 -- What ca65 names and says.
 use Rattle.std.specs.Prelude.{◌≡◌, ℕ, nat_eq, List, map, Option, Some, None, if◌then◌else◌}
-use Rattle.source65.specs.declared.place.Place.{Place}
+use Rattle.syntax65.specs.declared.place.Place.{Place}
 use Rattle.language65.specs.Faults.{fault_text}
 use Rattle.cli65.specs.Defining.{Defining}
 use Rattle.cli65.specs.Line.{Assembling}

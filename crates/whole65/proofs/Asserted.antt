@@ -9,7 +9,7 @@ use Rattle.syntax65.specs.Trees.{Tree}
 use Rattle.object65.specs.Form.{Form, lit, sec, imp, prefix, binary}
 use Rattle.object65.specs.declared.object.Action.{Action}
 use Rattle.object65.specs.declared.object.Action.TheVariants as action
-use Rattle.source65.specs.declared.place.Place.{Place}
+use Rattle.syntax65.specs.declared.place.Place.{Place}
 use Rattle.language65.specs.Contents.{Content, Declaration, Exported, ForcedImport, Asserted, content_of, decided, each_of, export_said, import_fault, said_of, written}
 use Rattle.language65.specs.declared.fault.AsmFault.{AsmFault}
 use Rattle.language65.specs.declared.fault.AsmFault.TheVariants.{ImportedAndDefined, NotDefined}

@@ -16,7 +16,7 @@ use Rattle.language65.specs.declared.fault.AsmFault.{AsmFault}
 use Rattle.language65.specs.declared.fault.AsmFault.TheVariants.{BadAlignment, NotUnderstood, SectionTooLarge}
 use Rattle.language65.specs.Layout.{Cursor, laid, multiple_of, own_size, powers, context_of, alignment_fault, block_fault, defined_twice, first_fault, form_fault, is_open, line_fault, lost_scopes, missing_file, multiple_fault, opened_twice, operand_fault, part_fault, pop_fault, scope_name, size_fault, stands_outside, trees_of, when}
 use Rattle.language65.specs.Norms.{constant_in, counted, gap, length_of}
-use Rattle.source65.specs.declared.place.Place.{Place}
+use Rattle.syntax65.specs.declared.place.Place.{Place}
 use Rattle.object65.specs.Objects.{section_limit}
 use Rattle.script65.specs.Placing.{rounded_up}
 

@@ -13,7 +13,7 @@ use Rattle.language65.specs.Symbols.{Symbols, symbols_of, Laid}
 use Rattle.language65.proofs.Segments.{all_same, end_behind, grown_end, grown_length, grown_other, named_there, one_longer, all_more}
 use Rattle.std.proofs.lemmas.List.{append-nil, append_assoc, map-append}
 use Rattle.std.proofs.lemmas.List.Elements.{filter-append}
-use Rattle.source65.specs.declared.place.Place.{Place}
+use Rattle.syntax65.specs.declared.place.Place.{Place}
 use Rattle.whole65.proofs.Multiples.{line_ends, multiple_power, equal, end_of-append, largest_power, line_shift, Larger, larger, multiple_of_multiple}
 use Rattle.whole65.specs.Laws.{OffsetLaw}
 use Rattle.whole65.specs.Offsets.{ArePowers, IsLaidOut, IsPower, begun, behind, lines_at, IsMultiple}

@@ -16,7 +16,7 @@ use Rattle.language65.specs.declared.contents.Segment.{Segment}
 use Rattle.language65.specs.declared.language.Statement.{Statement}
 use Rattle.language65.specs.declared.language.Statement.TheVariants as statement
 use Rattle.language65.specs.Norms.{length_of}
-use Rattle.source65.specs.declared.place.Place.{Place}
+use Rattle.syntax65.specs.declared.place.Place.{Place}
 use Rattle.language65.proofs.Segments.{all_more, all_same, grown_length, one_longer}
 use Rattle.whole65.proofs.Offsets.{behind_more, placed, largest_push}
 use Rattle.whole65.proofs.Multiples.{equal, larger, multiple_of_multiple, power_positive, rounded, end_of-append, largest_power, shift_law}

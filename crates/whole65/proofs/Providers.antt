@@ -15,7 +15,7 @@ use Rattle.object65.specs.declared.object.Origin.{Origin}
 use Rattle.script65.specs.declared.placement.Placement.{Placement}
 use Rattle.script65.specs.declared.script.Script.{Script}
 use Rattle.language65.proofs.Lists.{same_bytes}
-use Rattle.source65.specs.declared.place.Place.{Place}
+use Rattle.syntax65.specs.declared.place.Place.{Place}
 use Rattle.language65.specs.Contents.{Content, Declaration, Exported, ForcedImport, Asserted}
 use Rattle.language65.specs.declared.fault.AsmFault.TheVariants.{Undefined}
 use Rattle.language65.specs.Symbols.{Laid, or_else, or_fault, Symbols, defined, imported, named}

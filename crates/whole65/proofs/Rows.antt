@@ -14,7 +14,7 @@ use Rattle.script65.proofs.Apart.{same_needs}
 use Rattle.script65.specs.Placing.{size_of}
 use Rattle.script65.specs.declared.placement.SegmentNeed.{SegmentNeed}
 use Rattle.language65.proofs.Lists.{bytes_swap, same_bytes}
-use Rattle.source65.specs.declared.place.Place.{Place}
+use Rattle.syntax65.specs.declared.place.Place.{Place}
 use Rattle.language65.specs.Contents.{Content, Part, Known, Filled, Waiting}
 use Rattle.language65.specs.Symbols.{Laid, asks_section, with_new}
 use Rattle.language65.specs.Layout.{Layout}

@@ -26,7 +26,7 @@ use Rattle.whole65.specs.Segments.{has_section, segment_name, stands_in}
 use Rattle.object65.specs.declared.object.Origin.{Origin}
 use Rattle.object65.specs.declared.object.Section.{Section}
 use Rattle.language65.proofs.Lists.{same_bytes}
-use Rattle.source65.specs.declared.place.Place.{Place}
+use Rattle.syntax65.specs.declared.place.Place.{Place}
 use Rattle.language65.specs.declared.contents.Segment.{Segment}
 use Rattle.language65.specs.Numbering as numbering
 use Rattle.link65.specs.Programs.{grown, Module, Program, member, no_program, with_module, with_modules, Segment as LinkedSegment, segment_of, with_section, with_sections}

@@ -2,7 +2,7 @@
 use Rattle.std.specs.Prelude.{◌≡◌, ℕ, ◌<◌, ⊤, false, List, [], ◌∷◌, length, map, slice_get, string_bytes, Some, ℤ, Bool, true, pos, Option, None, Result, Ok, Err}
 use Rattle.std.specs.List.{AllByRecursion, flat_map, list_all}
 use Rattle.syntax65.specs.Trees.{Tree, name}
-use Rattle.source65.specs.declared.place.Place.{Place}
+use Rattle.syntax65.specs.declared.place.Place.{Place}
 use Rattle.language65.specs.Contents.{Content, Part, operand_form, put, stored}
 use Rattle.language65.specs.declared.laid.Context.{Context}
 use Rattle.language65.specs.Symbols.{Definition, Key, Symbols, unnamed_at, meaning_of}

@@ -1,7 +1,7 @@
 -- What waits comes to its content behind the last line.
 use Rattle.std.specs.Prelude.{◌≡◌, ℕ, Bool, List, [], ◌∷◌, ◌++◌, map, Option, Some, None, Result, Ok, Err}
 use Rattle.base65.specs.Outcome.{◌>>=◌, Unless}
-use Rattle.source65.specs.declared.place.Place.{Place}
+use Rattle.syntax65.specs.declared.place.Place.{Place}
 use Rattle.language65.specs.Contents.{Content, put, telling, written}
 use Rattle.language65.specs.declared.contents.Declaration.{Declaration}
 use Rattle.language65.specs.declared.fault.AsmFault.{AsmFault}

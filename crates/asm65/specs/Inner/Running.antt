@@ -7,7 +7,7 @@ use Rattle.syntax65.specs.Trees.{number}
 use Rattle.expand65.specs.Failing.{Gives}
 use Rattle.expand65.specs.State as expand
 use Rattle.expand65.specs.Standing.{measure_of, place_of}
-use Rattle.source65.specs.declared.place.Place.{Place}
+use Rattle.syntax65.specs.declared.place.Place.{Place}
 use Rattle.language65.specs.declared.fault.AsmFault.{AsmFault}
 use Rattle.language65.specs.declared.fault.AsmFault.TheVariants.{FileError, FileNotFound}
 use Rattle.language65.specs.Faults.{is_failure, is_outside}

@@ -11,7 +11,7 @@ ghost use Rattle.module65.specs.Module.{equated, valued, demanded, imported};
 ghost use Rattle.symbols65.specs.Resolving.{IsTable};
 ghost use Rattle.symbols65.specs.Views.{table_of, with_definition, with_names, with_scope};
 ghost use Rattle.std.specs.Option.{option_map};
-ghost use Rattle.source65.specs.declared.place.Place.{Place};
+ghost use Rattle.syntax65.specs.declared.place.Place.{Place};
 ghost use Rattle.language65.specs.Layout.{opened_twice};
 
 use crate::assembler::{Assembler, Piece};

@@ -5,7 +5,7 @@ ghost use Rattle.language65.specs.Contents.{operand_tree, file_bytes, opcode_par
 ghost use Rattle.language65.specs.Norms.{width_of};
 ghost use Rattle.symbols65.specs.Views.{table_of};
 ghost use Rattle.asm65.specs.Inner.Holding.{IsSo, Enters};
-ghost use Rattle.source65.specs.declared.place.Place.{Place};
+ghost use Rattle.syntax65.specs.declared.place.Place.{Place};
 ghost use Rattle.language65.specs.declared.laid.Settled.TheVariants.{InMode};
 ghost use Rattle.language65.specs.Views.{place_at};
 ghost use Rattle.syntax65.specs.Opcodes.{opcode_of};

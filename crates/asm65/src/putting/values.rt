@@ -2,7 +2,7 @@
 
 ghost use Rattle.std.specs.Prelude.{◌≡◌, drop, IfOk, IfSome, map, OnOk, take, Some, slice_get, string_bytes, ◌∷◌, []};
 ghost use Rattle.object65.specs.Form.{lit};
-ghost use Rattle.source65.specs.declared.place.Place.{Place};
+ghost use Rattle.syntax65.specs.declared.place.Place.{Place};
 ghost use Rattle.language65.specs.Contents.{file_bytes, opcode_part, operand_form, put, room_part, stored, Known};
 ghost use Rattle.language65.specs.Items.{numbered};
 ghost use Rattle.language65.specs.Views.{place_at, part_at};

@@ -22,10 +22,9 @@ use crate::cursor::Cursor;
 use base65::Sequence;
 use language65::{AsmFault, Item, Items, ItemsKind, Operand, OptionalExpr, PartRange, Settled, Context};
 use object65::Width;
-use source65::MAX_FILE;
+use syntax65::{MAX_FILE, Mnemonic, Mode};
 use std::alloc::Global;
 use symbols65::{NormCache, Symbols, knowing};
-use syntax65::{Mnemonic, Mode};
 
 /// The value of an expression that has to be constant, if there is one.
 fn named(

@@ -1,5 +1,5 @@
 use Rattle.std.proofs.Common.{◌≡◌, ◌∙◌, ap, sym, subst}
-use Rattle.source65.specs.declared.place.Place.{Place}
+use Rattle.syntax65.specs.declared.place.Place.{Place}
 use Rattle.expand65.specs.Standing.{place_of}
 use Rattle.language65.specs.Views.{place_in}
 use Rattle.asm65.proofs.Outcomes.{RefusedBy, memory_silent, stopped_silent}

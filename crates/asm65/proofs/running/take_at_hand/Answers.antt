@@ -4,7 +4,7 @@ use Rattle.std.proofs.lemmas.List.{drop-map, take-map}
 use Rattle.std.proofs.lemmas.Result.{err_from_is_err_and}
 use Rattle.syntax65.specs.Held.{held}
 use Rattle.syntax65.specs.Tokens.{Lexeme, lexeme_of, lexemes}
-use Rattle.reader65.specs.declared.passing.Peeked.{Peeked}
+use Rattle.expand65.specs.declared.passing.Peeked.{Peeked}
 use Rattle.expand65.specs.Failing.{IsAhead, IsGivenAs}
 use Rattle.expand65.specs.Standing.{place_of}
 use Rattle.language65.specs.Views.{place_in}

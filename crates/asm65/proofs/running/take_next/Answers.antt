@@ -1,5 +1,5 @@
 use Rattle.std.proofs.Common.{◌≡◌, ◌∙◌, ap, subst}
-use Rattle.source65.specs.declared.place.Place.{Place}
+use Rattle.syntax65.specs.declared.place.Place.{Place}
 use Rattle.expand65.specs.Standing.{place_of, stated}
 use Rattle.language65.specs.Numbering.{AreNamed}
 use Rattle.asm65.specs.Inner.Running.{TakesBy, tokens_of}

@@ -1,7 +1,7 @@
 use Rattle.std.proofs.Common.{◌∙◌, None, refl, sym}
-use Rattle.reader65.specs.declared.input.Source.TheVariants as source
-use Rattle.reader65.specs.declared.reader.Reader.{Reader}
-use Rattle.reader65.proofs.Naming.{source_named}
+use Rattle.expand65.specs.declared.input.Source.TheVariants as source
+use Rattle.expand65.specs.declared.reader.Reader.{Reader}
+use Rattle.expand65.proofs.Naming.{source_named}
 use Rattle.expand65.proofs.expander.reader_of.Goals as goal
 
 pub returns-clause-named : goal.returns-clause-named

@@ -1,7 +1,7 @@
 use Rattle.std.proofs.Common.{◌≡◌, ◌∙◌, Err, ap, get_or, subst}
 use Rattle.std.proofs.lemmas.Result.{err_from_is_err_and}
 use Rattle.base65.specs.Store.{IsBlamed}
-use Rattle.source65.specs.declared.fault.ExpandFault.TheVariants.{FileError}
+use Rattle.syntax65.specs.declared.fault.ExpandFault.TheVariants.{FileError}
 use Rattle.expand65.specs.Expansion.{within}
 use Rattle.expand65.proofs.Seeking.{among_at}
 use Rattle.expand65.proofs.includes.find_in_folders.Goals as goal

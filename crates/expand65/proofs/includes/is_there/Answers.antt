@@ -2,7 +2,7 @@ use Rattle.std.proofs.Common.{◌≡◌, ◌<◌, true, arith, length, Ok, Err}
 use Rattle.std.specs.FinMap as fmap
 use Rattle.base65.specs.Store.{ReadsAt}
 use Rattle.expand65.specs.Macros.{is_there}
-use Rattle.source65.specs.declared.fault.ExpandFault.TheVariants.{FileTooLong}
+use Rattle.syntax65.specs.declared.fault.ExpandFault.TheVariants.{FileTooLong}
 use Rattle.expand65.proofs.Going.{where_known}
 use Rattle.expand65.proofs.Seeking.{fits, too_long}
 use Rattle.expand65.proofs.includes.is_there.Goals as goal

@@ -2,10 +2,10 @@ use Rattle.std.proofs.Common.{◌≡◌, ◌∙◌, ℕ, List, true, false, Resu
 use Rattle.std.proofs.lemmas.Result.{err_from_is_err_and}
 use Rattle.std.specs.FinMap as fmap
 use Rattle.base65.specs.Outcome.{Unless}
-use Rattle.source65.specs.Faults.{is_outside}
+use Rattle.syntax65.specs.ExpandFaults.{is_outside}
 use Rattle.expand65.specs.Expansion.{file_named, found_or}
 use Rattle.expand65.specs.Macros.{file_of, is_there}
-use Rattle.source65.specs.declared.fault.ExpandFault.{ExpandFault}
+use Rattle.syntax65.specs.declared.fault.ExpandFault.{ExpandFault}
 use Rattle.expand65.proofs.Going.{where_known}
 use Rattle.expand65.proofs.Seeking.{is_found, is_missing, is_refused}
 use Rattle.expand65.proofs.includes.look_up.Goals as goal

@@ -1,5 +1,5 @@
 use Rattle.std.proofs.Common.{ap}
-use Rattle.reader65.specs.Fronts.{understood}
+use Rattle.expand65.specs.Fronts.{understood}
 use Rattle.expand65.proofs.Names.{names_again, names_more}
 use Rattle.expand65.proofs.macros.distinct.Goals as goal
 

@@ -4,8 +4,8 @@ use Rattle.std.proofs.lemmas.List.{map-append, length-map, length-drop, take-map
 use Rattle.syntax65.specs.Tokens.{lexeme_of, lexemes}
 use Rattle.syntax65.specs.declared.lexing.tokens.Token.{Token}
 use Rattle.expand65.specs.Macros.{unbraced, parts_within}
-use Rattle.reader65.specs.Playing.{tokens_in}
-use Rattle.reader65.specs.declared.line.Line.{Line}
+use Rattle.expand65.specs.Playing.{tokens_in}
+use Rattle.expand65.specs.declared.line.Line.{Line}
 use Rattle.expand65.proofs.Names.{parts_end, parts_more}
 use Rattle.expand65.proofs.macros.parts_of.Goals as goal
 

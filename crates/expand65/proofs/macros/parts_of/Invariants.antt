@@ -1,7 +1,7 @@
 use Rattle.std.proofs.Common.{◌≡◌, ◌≤◌, ◌-◌, ◌++◌, map, drop, length}
 use Rattle.syntax65.specs.Tokens.{lexemes}
 use Rattle.expand65.specs.Macros.{parts_within, unbraced}
-use Rattle.reader65.specs.Playing.{tokens_in}
+use Rattle.expand65.specs.Playing.{tokens_in}
 use Rattle.expand65.proofs.macros.parts_of.Given as goal
 
 abbrev pub invariant-parts : goal.invariant-parts

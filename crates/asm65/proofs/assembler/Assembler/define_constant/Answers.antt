@@ -1,7 +1,7 @@
 use Rattle.std.proofs.Common.{◌≡◌, ◌∙◌, [], Option, None, Some, length, refl, sym, ap, subst}
 use Rattle.std.specs.Prelude.{is_some, slice_get, true}
 use Rattle.syntax65.specs.Trees.{Tree}
-use Rattle.source65.specs.declared.place.Place.{Place}
+use Rattle.syntax65.specs.declared.place.Place.{Place}
 use Rattle.object65.specs.Form.{Form}
 use Rattle.language65.specs.Contents.{telling}
 use Rattle.language65.specs.Norms.{IsFinal}

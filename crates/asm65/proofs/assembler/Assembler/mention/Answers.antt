@@ -1,5 +1,5 @@
 use Rattle.std.proofs.Common.{List, ℕ, map, take, sym, subst, arith}
-use Rattle.source65.specs.declared.place.Place.{Place}
+use Rattle.syntax65.specs.declared.place.Place.{Place}
 use Rattle.language65.specs.declared.laid.Context.{Context}
 use Rattle.language65.specs.Views.{place_in}
 use Rattle.module65.specs.Machine.{State}

@@ -1,6 +1,6 @@
 use Rattle.std.proofs.Common.{◌∙◌, ap, reverse}
 use Rattle.expand65.specs.Macros.{outermost}
-use Rattle.reader65.proofs.Tables.{reverse_take}
+use Rattle.expand65.proofs.Tables.{reverse_take}
 use Rattle.expand65.proofs.conditions.Conditions.truncate.Goals as goal
 
 pub returns : goal.returns

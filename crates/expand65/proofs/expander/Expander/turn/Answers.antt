@@ -1,10 +1,10 @@
 use Rattle.std.proofs.Common.{◌∙◌, sym}
 use Rattle.expand65.specs.State.{IsIf}
-use Rattle.reader65.specs.Fronts.{front_directive}
-use Rattle.reader65.specs.Playing.{tokens_in}
+use Rattle.expand65.specs.Fronts.{front_directive}
+use Rattle.expand65.specs.Playing.{tokens_in}
 use Rattle.expand65.specs.Standing.{Turns, state_of, state_in}
 use Rattle.expand65.specs.Expansion.{IsActed, IsStep}
-use Rattle.reader65.specs.declared.fronts.Test.TheVariants.{True}
+use Rattle.expand65.specs.declared.fronts.Test.TheVariants.{True}
 use Rattle.expand65.proofs.Going.{turns_so, where_known, step_branch, step_rest}
 use Rattle.expand65.proofs.Stopping.{stops_branch, stops_plain, stops_rest}
 use Rattle.expand65.proofs.expander.Expander.turn.Goals as goal

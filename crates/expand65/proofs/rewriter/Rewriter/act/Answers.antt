@@ -1,8 +1,8 @@
 use Rattle.std.proofs.Common.{◌∙◌, List, ap, drop, sym}
 use Rattle.syntax65.specs.Tokens.{lexemes}
 use Rattle.syntax65.specs.declared.lexing.tokens.Token.{Token}
-use Rattle.reader65.specs.Fronts.{front_directive}
-use Rattle.reader65.specs.Playing.{tokens_in}
+use Rattle.expand65.specs.Fronts.{front_directive}
+use Rattle.expand65.specs.Playing.{tokens_in}
 use Rattle.expand65.specs.Standing.{Turns, state_of}
 use Rattle.expand65.specs.Expansion.{IsActed, IsDirected}
 use Rattle.expand65.proofs.Going.{acted_by, turns_so, where_known}

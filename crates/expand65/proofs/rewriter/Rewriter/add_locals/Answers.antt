@@ -1,11 +1,11 @@
 use Rattle.std.proofs.Common.{◌≡◌, ◌∙◌, ◌++◌, ◌∷◌, ℕ, Bor, List, map, refl, subst, sym}
 use Rattle.std.proofs.lemmas.Result.{err_from_is_err_and}
 use Rattle.syntax65.specs.Tokens.{lexemes}
-use Rattle.reader65.specs.Inside.{left_in}
-use Rattle.reader65.specs.Left.{localised, mark}
+use Rattle.expand65.specs.Inside.{left_in}
+use Rattle.expand65.specs.Left.{localised, mark}
 use Rattle.expand65.proofs.Stopping.{bad_names, names_added, no_macro}
-use Rattle.reader65.specs.declared.reader.Reader.{Reader}
-use Rattle.reader65.proofs.Naming.{call_named, reads_on}
+use Rattle.expand65.specs.declared.reader.Reader.{Reader}
+use Rattle.expand65.proofs.Naming.{call_named, reads_on}
 use Rattle.expand65.proofs.rewriter.Rewriter.add_locals.Goals as goal
 
 pub returns-then-not-is_call-clause-turns : goal.returns-then-not-is_call-clause-turns

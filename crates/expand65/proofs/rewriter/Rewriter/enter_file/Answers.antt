@@ -1,7 +1,7 @@
 use Rattle.std.proofs.Common.{◌∙◌, refl, sym}
-use Rattle.source65.specs.declared.place.Place.{Place}
-use Rattle.reader65.specs.declared.reader.Reader.{Reader}
-use Rattle.reader65.proofs.Naming.{goes_back}
+use Rattle.syntax65.specs.declared.place.Place.{Place}
+use Rattle.expand65.specs.declared.reader.Reader.{Reader}
+use Rattle.expand65.proofs.Naming.{goes_back}
 use Rattle.expand65.proofs.rewriter.Rewriter.enter_file.Goals as goal
 
 pub returns-clause-named : goal.returns-clause-named

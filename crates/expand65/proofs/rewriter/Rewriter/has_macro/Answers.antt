@@ -2,7 +2,7 @@ use Rattle.std.proofs.Common.{◌≡◌, ◌∙◌, Bor, Global, Option, None, S
 use Rattle.std.specs.Option.{option_map}
 use Rattle.std.specs.Prelude.{is_some, option_copied}
 use Rattle.std.specs.declared.rc.Rc.{Rc}
-use Rattle.reader65.specs.declared.playing.Body.{Body}
+use Rattle.expand65.specs.declared.playing.Body.{Body}
 use Rattle.expand65.proofs.Defining.{named, shared}
 use Rattle.expand65.proofs.rewriter.Rewriter.has_macro.Goals as goal
 

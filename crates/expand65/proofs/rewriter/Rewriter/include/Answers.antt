@@ -2,7 +2,7 @@ use Rattle.std.proofs.Common.{◌≡◌, ◌∙◌, ℕ, Bor, List, Err, Ok, Opt
 use Rattle.std.specs.Option.{option_map}
 use Rattle.base65.specs.Store.{Files}
 use Rattle.syntax65.specs.Tokens.{lexemes}
-use Rattle.reader65.specs.Fronts.{string_of}
+use Rattle.expand65.specs.Fronts.{string_of}
 use Rattle.std.proofs.lemmas.Result.{err_from_is_err_and}
 use Rattle.expand65.specs.Failing.{FailsIncluding, IsAmong}
 use Rattle.expand65.specs.declared.rewriter.Turn.{Turn}

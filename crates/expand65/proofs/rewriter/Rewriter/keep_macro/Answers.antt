@@ -2,15 +2,15 @@ use Rattle.std.proofs.Common.{◌∙◌, ℕ, List, [], ap, map, sym, Ok, Err}
 use Rattle.std.specs.Prelude.{is_some}
 use Rattle.std.proofs.lemmas.Result.{err_from_is_err_and}
 use Rattle.base65.specs.Outcome.{Unless}
-use Rattle.reader65.specs.Blocks.{Block, collects}
-use Rattle.source65.specs.Faults.{is_outside}
-use Rattle.reader65.specs.Inside.{left_of}
-use Rattle.reader65.specs.Playing.{tokens_in}
+use Rattle.expand65.specs.Blocks.{Block, collects}
+use Rattle.syntax65.specs.ExpandFaults.{is_outside}
+use Rattle.expand65.specs.Inside.{left_of}
+use Rattle.expand65.specs.Playing.{tokens_in}
 use Rattle.expand65.specs.Macros.{IsKept, macro_of}
 use Rattle.expand65.specs.Standing.{macros_of, state_of}
 use Rattle.expand65.specs.State.{goes, stops}
-use Rattle.source65.specs.declared.fault.ExpandFault.TheVariants.{MacroTwice}
-use Rattle.reader65.specs.declared.playing.Body.{Body}
+use Rattle.syntax65.specs.declared.fault.ExpandFault.TheVariants.{MacroTwice}
+use Rattle.expand65.specs.declared.playing.Body.{Body}
 use Rattle.expand65.proofs.Going.{where_known, where_so}
 use Rattle.expand65.proofs.Defining.{entry_of, is_none, kept_one, once_refused, rewritten, twice}
 use Rattle.expand65.proofs.rewriter.Rewriter.keep_macro.Goals as goal

@@ -2,9 +2,9 @@ use Rattle.std.proofs.Common.{◌∙◌, Some, ap, sym}
 use Rattle.std.specs.Option.{option_map}
 use Rattle.std.specs.Prelude.{option_copied}
 use Rattle.expand65.specs.Macros.{macro_at}
-use Rattle.reader65.specs.Playing.{definition_of}
+use Rattle.expand65.specs.Playing.{definition_of}
 use Rattle.expand65.specs.Standing.{macros_of}
-use Rattle.reader65.specs.declared.playing.Body.{Body}
+use Rattle.expand65.specs.declared.playing.Body.{Body}
 use Rattle.expand65.proofs.Defining.{named, shared}
 use Rattle.expand65.proofs.rewriter.Rewriter.macro_at.Goals as goal
 

@@ -1,19 +1,19 @@
 use Rattle.std.proofs.Common.{◌≡◌, ℕ, [], false, None, Ok, Err, map, refl, subst}
 use Rattle.std.proofs.lemmas.Result.{err_from_is_err_and}
 use Rattle.base65.specs.Outcome.{Unless}
-use Rattle.source65.specs.Faults.{is_outside}
-use Rattle.reader65.specs.Blocks.{Block, gathers}
-use Rattle.reader65.specs.Lines.{pushed}
-use Rattle.reader65.specs.Inside.{left_of, turns_left}
-use Rattle.reader65.specs.Playing.{tokens_in}
+use Rattle.syntax65.specs.ExpandFaults.{is_outside}
+use Rattle.expand65.specs.Blocks.{Block, gathers}
+use Rattle.expand65.specs.Lines.{pushed}
+use Rattle.expand65.specs.Inside.{left_of, turns_left}
+use Rattle.expand65.specs.Playing.{tokens_in}
 use Rattle.expand65.specs.Macros.{IsRepeated}
 use Rattle.expand65.specs.Standing.{macros_of, state_of}
 use Rattle.expand65.specs.State.{goes, stops}
-use Rattle.reader65.specs.declared.playing.Body.{Body}
-use Rattle.reader65.specs.declared.playing.Replay.{Replay}
+use Rattle.expand65.specs.declared.playing.Body.{Body}
+use Rattle.expand65.specs.declared.playing.Replay.{Replay}
 use Rattle.expand65.proofs.Going.{where_known}
 use Rattle.expand65.proofs.Defining.{repeated_none, repeated_one, rewritten, turns_ready}
-use Rattle.reader65.proofs.Naming.{goes_back}
+use Rattle.expand65.proofs.Naming.{goes_back}
 use Rattle.expand65.proofs.rewriter.Rewriter.repeat.Goals as goal
 
 pub returns-clause-turns : goal.returns-clause-turns

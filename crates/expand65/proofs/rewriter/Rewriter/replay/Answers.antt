@@ -1,5 +1,5 @@
 use Rattle.std.proofs.Common.{refl}
-use Rattle.reader65.proofs.Naming.{goes_back}
+use Rattle.expand65.proofs.Naming.{goes_back}
 use Rattle.expand65.proofs.rewriter.Rewriter.replay.Goals as goal
 
 pub returns-clause-named : goal.returns-clause-named

@@ -3,19 +3,19 @@ use Rattle.std.specs.Option.{option_map}
 use Rattle.std.specs.Prelude.{IfNone}
 use Rattle.std.proofs.lemmas.Result.{err_from_is_err_and}
 use Rattle.base65.specs.Outcome.{Unless}
-use Rattle.source65.specs.Faults.{is_outside}
-use Rattle.reader65.specs.Inside.{left_in, left_of, StopsAt}
-use Rattle.reader65.specs.Fronts.{is_mislabelled}
-use Rattle.reader65.specs.Playing.{tokens_in}
+use Rattle.syntax65.specs.ExpandFaults.{is_outside}
+use Rattle.expand65.specs.Inside.{left_in, left_of, StopsAt}
+use Rattle.expand65.specs.Fronts.{is_mislabelled}
+use Rattle.expand65.specs.Playing.{tokens_in}
 use Rattle.expand65.specs.Failing.{FailsUnlabelled}
 use Rattle.expand65.specs.Standing.{Turns, state_of}
 use Rattle.expand65.specs.Expansion.{IsLabelled, IsStep, at_mark}
 use Rattle.expand65.specs.State.{stops}
-use Rattle.reader65.specs.Lines.{Takes}
-use Rattle.reader65.specs.declared.line.Line.{Line}
+use Rattle.expand65.specs.Lines.{Takes}
+use Rattle.expand65.specs.declared.line.Line.{Line}
 use Rattle.expand65.specs.declared.rewriter.Rewriter.{Rewriter}
 use Rattle.expand65.proofs.Going.{refused_step, step_taken, turns_so, where_both, where_known}
-use Rattle.reader65.proofs.Lines.{moved_to}
+use Rattle.expand65.proofs.Lines.{moved_to}
 use Rattle.expand65.proofs.Stopping.{stops_behind}
 use Rattle.expand65.proofs.rewriter.Rewriter.take.Goals as goal
 

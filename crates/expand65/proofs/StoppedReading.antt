@@ -1,0 +1,88 @@
+-- Where lines were being read when the store failed.
+use Rattle.std.proofs.lemmas.Grind.{common_steps}
+use Rattle.std.proofs.Common.{arith, ◌≡◌, ◌∙◌, ℕ, Bool, true, List, [], ◌∷◌, ◌++◌, refl, sym, ap, subst, Option, Some, None, IfSome, false, Ok}
+use Rattle.base65.specs.Store.{Files, IsBlamed}
+use Rattle.syntax65.specs.Tokens.{Lexeme}
+use Rattle.syntax65.specs.declared.fault.ExpandFault.{ExpandFault}
+use Rattle.syntax65.specs.ExpandFaults.{is_failure}
+use Rattle.syntax65.specs.declared.place.Place.{Place}
+use Rattle.expand65.specs.Blocks.{TakesInBlock, Verdict, on}
+use Rattle.expand65.specs.Inside.{ComesNext, IsFile, is_call, left_in, left_of, mark_of, moved_by, outside, IsPassedOver, FailsAtLine, FailsInBlock, HasStopped, IsAsked, at_line, before, behind_line, within}
+use Rattle.expand65.specs.Left.{Item, Left, Mark, mark, numbered, played, Replacing}
+use Rattle.expand65.specs.Lines.{lines_of, rest_of}
+use Rattle.expand65.specs.Playing.{Plainly, no_line, a_line, IsPlain}
+use Rattle.expand65.specs.declared.input.NextLine.{NextLine}
+use Rattle.expand65.specs.declared.input.NextLine.TheVariants.{AtEnd, Numbered, Replayed}
+use Rattle.expand65.specs.declared.input.Source.{Source}
+use Rattle.expand65.specs.declared.input.Source.TheVariants as source
+use Rattle.expand65.specs.declared.reader.Reader.{Reader}
+use Rattle.expand65.proofs.Blocking.{some_line}
+use Rattle.expand65.proofs.Inputs.{parted}
+
+-- ---- The next line.
+
+asked_numbered : (n : ℕ) (lines : List (List ℕ)) (k : Mark) (is : List Item) → k.is_macro ≡ false → IsAsked (numbered n lines ++ mark k ∷ is)
+asked_numbered n [] k is h = h
+asked_numbered n (line ∷ lines) k is h = tt
+
+asked_in : (m : Files) (s : Source) (k : Mark) (is : List Item) → k.is_macro ≡ is_call s → IsFile s → IsAsked (left_in m s ++ mark k ∷ is)
+asked_in m x k is e h = grind (arith, common_steps, asked_numbered)
+
+pub fails_before : (o : Option Files) (blamed : Option (List ℕ)) (old : Reader) → IsFile old.top.source → IsBlamed blamed old.place.file → IfSome o (λ m. FailsAtLine blamed (left_of m old) old.place)
+fails_before None blamed old h a = tt
+fails_before (Some m) blamed old h a =
+    let is = outside m old.outer.items in
+    before (subst IsAsked (sym (parted m old)) (asked_in m old.top.source (mark_of old.top) is refl h)) a
+
+none_played : (n : ℕ) (lines : List (List ℕ)) (e : Replacing) (ts : List Lexeme) (is : List Item) → numbered n lines ≡ played e ts ∷ is → ⊥
+none_played n [] e ts is h = absurd cc
+none_played n (line ∷ lines) e ts is h = absurd cc
+
+-- the line of a file that comes next
+within_next : (m : Files) (blamed : Option (List ℕ)) (s : Source) (tail : List Item) (n : NextLine) (l : Left) → IsFile s → ComesNext (left_in m s) n → (n ≡ AtEnd → ⊥) → l.items ≡ left_in m s ++ tail → IsBlamed blamed l.place.file → FailsAtLine blamed l (moved_by n l.place)
+within_next m blamed (source.File f) tail AtEnd l h c more same a = absurd (more refl)
+within_next m blamed (source.File f) tail (Numbered n) l h (bytes, (others, e)) more same a = within n bytes (others ++ tail) (same ∙ ap (λ is. is ++ tail) e) a
+within_next m blamed (source.File f) tail Replayed l h (e, (ts, (others, is))) more same a = absurd (none_played f.line (lines_of (rest_of m f)) e ts others is)
+within_next m blamed (source.Call r) tail n l h c more same a = absurd h
+within_next m blamed (source.Repeat r next count) tail n l h c more same a = absurd h
+
+pub fails_within : (o : Option Files) (blamed : Option (List ℕ)) (old : Reader) (mid : Source) (place : Place) (n : NextLine) → IsFile mid → IfSome o (λ m. ComesNext (left_in m mid) n) → IfSome o (λ m. left_in m mid ≡ left_in m old.top.source) → (n ≡ AtEnd → ⊥) → place ≡ moved_by n old.place → IsBlamed blamed old.place.file → IfSome o (λ m. FailsAtLine blamed (left_of m old) place)
+fails_within None blamed old mid place n h c s more p a = tt
+fails_within (Some m) blamed old mid place n h c s more p a =
+    let tail = mark (mark_of old.top) ∷ outside m old.outer.items in
+    let items : (left_of m old).items ≡ left_in m mid ++ tail = parted m old ∙ ap (λ is. is ++ tail) (sym s) in
+    let P : Place → Type 0 = λ q. FailsAtLine blamed (left_of m old) q in
+    subst P (sym p) (within_next m blamed mid tail n (left_of m old) h c more items a)
+
+-- a reader that stopped there
+pub stopped_so : (o : Option Files) (IsThere : Files → Place → Type 0) (old new : Reader) (f : ExpandFault) → mark_of new.top ≡ mark_of old.top → (is_failure f ≡ true → IfSome o (λ m. IsThere m new.place)) → IfSome o (λ m. is_failure f ≡ true → HasStopped (IsThere m) old new)
+stopped_so x y old new f k h = grind (arith, common_steps)
+
+-- ---- Blocks.
+
+-- where the store fails in the rest of a block, it fails in the block
+abbrev pub Fails : {A B : Type 0} → (A → List Lexeme → Verdict A B) → A → Reader → A → Reader → Files → Type 0
+Fails judge a reader a0 first m = (blamed : Option (List ℕ)) (p : Place) → FailsInBlock blamed judge a (left_of m reader) p → FailsInBlock blamed judge a0 (left_of m first) p
+
+pub line_read : {A B : Type 0} (judge : A → List Lexeme → Verdict A B) (o : Option Files) (first reader new : Reader) (a0 a c : A) (ts : List Lexeme) → IfSome o (Fails judge a reader a0 first) → IfSome o (λ m. TakesInBlock (left_of m reader) (Ok (ts, left_of m new))) → judge a ts ≡ on c → IfSome o (Fails judge c new a0 first)
+line_read judge None first reader new a0 a c ts h t j = tt
+line_read judge (Some m) first reader new a0 a c ts h t j = λ blamed p k. h blamed p (behind_line a c (left_of m reader) (left_of m new) ts p (some_line (left_of m reader) (left_of m new) ts t) j k)
+
+-- lines that change nothing
+over_plainly : {A B : Type 0} (blamed : Option (List ℕ)) (judge : A → List Lexeme → Verdict A B) (a : A) (l n : Left) (p : Place) → ((ts : List Lexeme) → IsPlain ts → judge a ts ≡ on a) → Plainly l n → FailsInBlock blamed judge a n p → FailsInBlock blamed judge a l p
+over_plainly blamed judge a _ _ p same (no_line l) h = h
+over_plainly blamed judge a _ _ p same (a_line l m n passed (ts, taken, plain)) h = over_plainly blamed judge a l m p same passed (behind_line a a m n ts p taken (same ts plain) h)
+
+pub plainly_read : {A B : Type 0} (judge : A → List Lexeme → Verdict A B) (o : Option Files) (first reader new : Reader) (a0 a : A) (kept : Bool) → (kept ≡ false → (ts : List Lexeme) → IsPlain ts → judge a ts ≡ on a) → ((m : Files) → IsPassedOver kept (left_of m reader) (left_of m new)) → IfSome o (Fails judge a reader a0 first) → IfSome o (Fails judge a new a0 first)
+plainly_read judge None first reader new a0 a kept same passed h = tt
+plainly_read judge (Some m) first reader new a0 a true same passed h = λ blamed p k. h blamed p (subst (λ l. FailsInBlock blamed judge a l p) (passed m) k)
+plainly_read judge (Some m) first reader new a0 a false same passed h = λ blamed p k. h blamed p (over_plainly blamed judge a (left_of m reader) (left_of m new) p (same refl) (passed m) k)
+
+-- a reader that stopped at a line of a block
+pub stops_on : {A B : Type 0} (blamed : Option (List ℕ)) (judge : A → List Lexeme → Verdict A B) (o : Option Files) (first reader new : Reader) (a0 a : A) (f : ExpandFault) → IfSome o (Fails judge a reader a0 first) → mark_of reader.top ≡ mark_of first.top → IfSome o (λ m. is_failure f ≡ true → HasStopped (FailsAtLine blamed (left_of m reader)) reader new) → IfSome o (λ m. is_failure f ≡ true → HasStopped (FailsInBlock blamed judge a0 (left_of m first)) first new)
+stops_on blamed judge None first reader new a0 a f h k s = tt
+stops_on blamed judge (Some m) first reader new a0 a f h k s = λ failed. (let so = s failed in record { there = h blamed new.place (at_line a (left_of m reader) new.place so.there); mark = so.mark ∙ k })
+
+-- a fault that isn't the store's
+pub not_stopped : (o : Option Files) (IsThere : Files → Place → Type 0) (first new : Reader) (f : ExpandFault) → is_failure f ≡ false → IfSome o (λ m. is_failure f ≡ true → HasStopped (IsThere m) first new)
+not_stopped x y first new f h = grind (arith, common_steps)

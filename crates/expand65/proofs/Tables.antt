@@ -1,0 +1,99 @@
+-- Tables of names: those of an expansion, and the macros.
+use Rattle.std.proofs.Common.{◌≡◌, ℕ, zero, suc, ◌+◌, ◌-◌, ◌≤◌, ◌<◌, ◌||◌, Bool, true, false, cond, List, [], ◌∷◌, ◌++◌, length, map, take, drop, get_or, reverse, Some, None, position, refl, sym, ap, ◌∙◌, arith, slice_get, Bor, Vec, Global}
+use Rattle.std.specs.List.{list_any, position_from}
+use Rattle.std.specs.Map.{lookup}
+use Rattle.std.specs.Option.{option_map}
+use Rattle.std.proofs.lemmas.Grind.{common_steps}
+use Rattle.std.proofs.lemmas.Iterator.Adapters.{position_from-zero}
+use Rattle.std.proofs.lemmas.List.{drop-map, drop_more, map-append, take-map, take_more, length-drop, length-reverse, reverse-append, take-append-drop, drop_at as std_drop_at}
+use Rattle.std.proofs.lemmas.Option.{gets}
+use Rattle.std.specs.Str.{bytes_eq}
+use Rattle.std.specs.declared.rc.Rc.{Rc}
+use Rattle.indexmap.specs.IndexMap.{insert_entry}
+use Rattle.base65.specs.Store.{Files}
+use Rattle.syntax65.specs.Tokens.{Lexeme}
+use Rattle.expand65.specs.Playing.{tokens_in, left_to_play, replacing_of}
+use Rattle.expand65.specs.Left.{all_local, with_local, with_locals, Replacing, own_token, localised, Item, played, mark, Mark}
+use Rattle.expand65.specs.declared.line.Line.{Line}
+use Rattle.expand65.specs.declared.playing.Body.{Body}
+use Rattle.expand65.specs.declared.playing.Replay.{Replay}
+
+-- ---- Lists and tables of entries.
+
+from_mapped : {A B : Type 0} (p : B → Bool) (f : A → B) (i : ℕ) (xs : List A) → position_from p i (map f xs) ≡ position_from (λ x. p (f x)) i xs
+from_mapped p f i [] = refl
+from_mapped p f i (x ∷ xs) = ap (cond (p (f x)) (Some i)) (from_mapped p f (i + 1) xs)
+
+pub position_mapped : {A B : Type 0} (p : B → Bool) (f : A → B) (xs : List A) → position p (map f xs) ≡ position (λ x. p (f x)) xs
+position_mapped p f xs = position_from-zero p (map f xs) ∙ from_mapped p f 0 xs ∙ sym (position_from-zero (λ x. p (f x)) xs)
+
+-- a table seen by other keys and values
+pub lookup_mapped : {K L X Y : Type 0} (p : L → Bool) (f : K → L) (g : X → Y) (es : List (K × X)) → lookup p (map (λ e. (f e.0, g e.1)) es) ≡ option_map g (lookup (λ k. p (f k)) es)
+lookup_mapped p f g [] = refl
+lookup_mapped p f g (e ∷ es) = grind (arith, common_steps, (lookup_mapped p f g es))
+
+-- the front of a list is what stands last in the list the other way round
+pub reverse_take : {A : Type 0} (n : ℕ) (xs : List A) → reverse (take n xs) ≡ drop (length (reverse xs) - n) (reverse xs)
+reverse_take n xs =
+    let whole : reverse xs ≡ reverse (drop n xs) ++ reverse (take n xs) = ap reverse (sym (take-append-drop n xs)) ∙ reverse-append (take n xs) (drop n xs) in
+    let count : length (reverse (drop n xs)) ≡ length (reverse xs) - n = length-reverse (drop n xs) ∙ length-drop n xs ∙ ap (λ k. k - n) (sym (length-reverse xs)) in
+    sym (ap (drop (length (reverse xs) - n)) whole ∙ std_drop_at (reverse (drop n xs)) (reverse (take n xs)) (length (reverse xs) - n) count)
+
+-- what stands at a place of a list that is seen by a function
+pub take_seen : {A B : Type 0} (f : A → B) (xs : List A) (i : ℕ) (d : A) → i < length xs → take (i + 1) (map f xs) ≡ take i (map f xs) ++ f (get_or xs i d) ∷ []
+take_seen f xs i d h = take-map f (i + 1) xs ∙ ap (map f) (take_more xs i d h) ∙ map-append f (take i xs) (get_or xs i d ∷ []) ∙ ap (λ l. l ++ f (get_or xs i d) ∷ []) (sym (take-map f i xs))
+
+pub drop_seen : {A B : Type 0} (f : A → B) (xs : List A) (i : ℕ) (d : A) → i < length xs → drop i (map f xs) ≡ f (get_or xs i d) ∷ drop (i + 1) (map f xs)
+drop_seen f xs i d h = drop-map f i xs ∙ ap (map f) (drop_more xs i d h) ∙ ap (λ l. f (get_or xs i d) ∷ l) (sym (drop-map f (i + 1) xs))
+
+pub any_seen : {A B : Type 0} (p : B → Bool) (f : A → B) (xs : List A) → list_any p (map f xs) ≡ list_any (λ x. p (f x)) xs
+any_seen p f [] = refl
+any_seen p f (x ∷ xs) = ap (λ b. p (f x) || b) (any_seen p f xs)
+
+-- ---- Tables of names: an expansion's own, and the macros.
+
+-- whether two names are the same
+abbrev pub same_name : Vec ℕ Global → Vec ℕ Global → Bool
+same_name a b = bytes_eq a.items b.items
+
+-- a name of an expansion's own with what stands for it
+abbrev pub local_of : Vec ℕ Global × Line → List ℕ × List Lexeme
+local_of e = (e.0.items, tokens_in e.1)
+
+pub inserted : (es : List (Vec ℕ Global × Line)) (k : Vec ℕ Global) (v : Line) → map local_of (insert_entry same_name es k v) ≡ with_local (map local_of es) k.items (tokens_in v)
+inserted [] k v = refl
+inserted (e ∷ es) k v = grind (arith, common_steps, (inserted es k v))
+
+-- other names of an expansion's own
+abbrev pub own_locals : Replacing → List (List ℕ × List Lexeme) → Replacing
+own_locals r ls = record { params = r.params; arguments = r.arguments; count = r.count; locals = ls; number = r.number }
+
+-- the names one after another
+pub all_more : (n : ℕ) (names : List (List ℕ)) (name : List ℕ) (ls : List (List ℕ × List Lexeme)) → all_local n (names ++ name ∷ []) ls ≡ with_local (all_local n names ls) name (own_token n name ∷ [])
+all_more n [] name ls = refl
+all_more n (x ∷ names) name ls = all_more n names name (with_local ls x (own_token n x ∷ []))
+
+-- more names for the lines up to the end mark
+pub localised_lines : (names : List (List ℕ)) (e : Replacing) (ls : List (List Lexeme)) (k : Mark) (is : List Item) → localised names (map (played e) ls ++ mark k ∷ is) ≡ map (played (with_locals names e)) ls ++ mark k ∷ is
+localised_lines names e [] k is = refl
+localised_lines names e (l ∷ ls) k is = ap (λ x. played (with_locals names e) l ∷ x) (localised_lines names e ls k is)
+
+-- ---- One more name of an expansion's own, and more.
+
+pub with_own : (old : Replay) (es : List (Vec ℕ Global × Line)) (k : Vec ℕ Global) (v : Line) (name : List ℕ) → es ≡ insert_entry same_name old.locals.entries k v → k.items ≡ name → tokens_in v ≡ own_token old.number name ∷ [] → own_locals (replacing_of old) (map local_of es) ≡ with_locals (name ∷ []) (replacing_of old)
+with_own old es k v name e n t =
+    let ls = map local_of old.locals.entries in
+    ap (own_locals (replacing_of old)) (ap (map local_of) e ∙ inserted old.locals.entries k v ∙ ap (λ x. with_local ls x (tokens_in v)) n ∙ ap (with_local ls name) t)
+
+pub more_names : (names : List (Bor (List ℕ))) (i : ℕ) (d : Bor (List ℕ)) (init old new : Replacing) → i < length names → new ≡ with_locals ((get_or names i d).now ∷ []) old → old ≡ with_locals (take i (map (λ s. s.now) names)) init → new ≡ with_locals (take (i + 1) (map (λ s. s.now) names)) init
+more_names names i d init old new l h e =
+    let ns = map (λ s. s.now) names in
+    let name = (get_or names i d).now in
+    h ∙ ap (with_locals (name ∷ [])) e ∙ ap (own_locals init) (sym (all_more init.number (take i ns) name init.locals)) ∙ ap (λ l. with_locals l init) (sym (take_seen (λ s. s.now) names i d l))
+
+-- what is left of an expansion, with more names
+pub left_localised : (m : Files) (old new : Replay) (names : List (List ℕ)) (k : Mark) (is : List Item) → replacing_of new ≡ with_locals names (replacing_of old) → new.body ≡ old.body → new.at ≡ old.at → left_to_play new ++ mark k ∷ is ≡ localised names (left_to_play old ++ mark k ∷ is)
+left_localised m old new names k is r b a =
+    let ls = drop old.at (map tokens_in old.body.value.lines) in
+    let lines : drop new.at (map tokens_in new.body.value.lines) ≡ ls = ap (λ i. drop i (map tokens_in new.body.value.lines)) a ∙ ap (λ (x : Rc Body Global). drop old.at (map tokens_in x.value.lines)) b in
+    ap (λ e. map (played e) (drop new.at (map tokens_in new.body.value.lines)) ++ mark k ∷ is) r ∙ ap (λ l. map (played (with_locals names (replacing_of old))) l ++ mark k ∷ is) lines ∙ sym (localised_lines names (replacing_of old) ls k is)

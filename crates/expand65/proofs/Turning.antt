@@ -1,0 +1,68 @@
+-- The turns of a repeat.
+use Rattle.std.proofs.lemmas.Grind.{common_steps}
+use Rattle.std.proofs.Common.{◌≡◌, ℕ, zero, suc, ◌+◌, ◌-◌, ◌<◌, ◌≤◌, List, [], ◌∷◌, ◌++◌, length, map, drop, refl, sym, ap, ◌∙◌, arith, ◌⊎◌, inl, inr, Bool, true, false, Result, Ok, Err}
+use Rattle.std.proofs.lemmas.List.{length-map}
+use Rattle.base65.specs.Outcome.{Unless}
+use Rattle.syntax65.specs.ExpandFaults.{is_outside}
+use Rattle.expand65.specs.Lines.{IsOpened}
+use Rattle.syntax65.specs.declared.fault.ExpandFault.{ExpandFault}
+use Rattle.expand65.specs.declared.input.NextLine.TheVariants.{Replayed}
+use Rattle.syntax65.specs.Tokens.{Lexeme}
+use Rattle.expand65.specs.Inside.{ComesNext, TakesLine, turns_left}
+use Rattle.expand65.specs.Playing.{tokens_in, left_to_play, replacing_of}
+use Rattle.expand65.specs.Left.{in_turn, Replacing, turns, Item, played}
+use Rattle.expand65.specs.declared.line.Line.{Line}
+use Rattle.expand65.specs.declared.playing.Replay.{Replay}
+
+-- turns of no lines
+pub no_lines : (e : Replacing) (t n : ℕ) → turns e [] t n ≡ []
+no_lines e t zero = refl
+no_lines e t (suc n) = no_lines e (t + 1) n
+
+-- turns don't look at the number of the turn before
+pub same_turns : (e : Replacing) (s : ℕ) (body : List (List Lexeme)) (t n : ℕ) → turns (in_turn e s) body t n ≡ turns e body t n
+same_turns e s body t zero = refl
+same_turns e s body t (suc n) = ap (λ l. map (played (in_turn e t)) body ++ l) (same_turns e s body (t + 1) n)
+
+pub turns_over : (r : Replay) (next count : ℕ) → left_to_play r ≡ [] → (length r.body.value.lines ≡ 0) ⊎ (count ≤ next) → turns_left r next count ≡ []
+turns_over r next count e x = grind (arith, common_steps, no_lines)
+
+pub next_turn : (old new : Replay) (next count : ℕ) → left_to_play old ≡ [] → next < count → new.body ≡ old.body → new.at ≡ 0 → replacing_of new ≡ in_turn (replacing_of old) next → turns_left new (next + 1) count ≡ turns_left old next count
+next_turn old new next count e lt body at r =
+    let lines = map tokens_in old.body.value.lines in
+    let more : count - next ≡ suc (count - (next + 1)) = omega arith in
+    let front : left_to_play new ≡ map (played (in_turn (replacing_of old) next)) lines =
+    ap (λ z. map (played z) (drop new.at (map tokens_in new.body.value.lines))) r
+    ∙ ap (λ b. map (played (in_turn (replacing_of old) next)) (drop new.at (map tokens_in b.value.lines))) body
+    ∙ ap (λ a. map (played (in_turn (replacing_of old) next)) (drop a lines)) at in
+    let behind : turns (replacing_of new) (map tokens_in new.body.value.lines) (next + 1) (count - (next + 1)) ≡ turns (replacing_of old) lines (next + 1) (count - (next + 1)) =
+    ap (λ b. turns (replacing_of new) (map tokens_in b.value.lines) (next + 1) (count - (next + 1))) body ∙ ap (λ z. turns z lines (next + 1) (count - (next + 1))) r ∙ same_turns (replacing_of old) next lines (next + 1) (count - (next + 1)) in
+    ap (λ l. l ++ turns (replacing_of new) (map tokens_in new.body.value.lines) (next + 1) (count - (next + 1))) front
+    ∙ ap (λ l. map (played (in_turn (replacing_of old) next)) lines ++ l) behind
+    ∙ ap (turns (replacing_of old) lines next) (sym more)
+    ∙ ap (λ l. l ++ turns (replacing_of old) lines next (count - next)) (sym e)
+
+-- ---- What comes next.
+
+some_at : (ls : List (List Lexeme)) (at : ℕ) → at < length ls → (t : List Lexeme) × (drop at ls ≡ t ∷ drop (at + 1) ls)
+some_at [] at h = absurd (omega arith)
+some_at (l ∷ ls) zero h = (l, refl)
+some_at (l ∷ ls) (suc at) h =
+    let more = some_at ls at (omega arith) in
+    let n : suc at + 1 ≡ suc (at + 1) = omega arith in
+    (more.0, more.1 ∙ ap (λ k. more.0 ∷ drop k (l ∷ ls)) (sym n))
+
+pub body_begins : (r : Replay) → r.at < length r.body.value.lines → ComesNext (left_to_play r) Replayed
+body_begins r h =
+    let one = some_at (map tokens_in r.body.value.lines) r.at (omega (arith, h, length-map r.body.value.lines tokens_in)) in
+    (replacing_of r, (one.0, (map (played (replacing_of r)) (drop (r.at + 1) (map tokens_in r.body.value.lines)), ap (map (played (replacing_of r))) one.1)))
+
+pub turn_begins : (r : Replay) (next count : ℕ) → r.at < length r.body.value.lines → ComesNext (turns_left r next count) Replayed
+turn_begins r next count h =
+    let c = body_begins r h in
+    let more = turns (replacing_of r) (map tokens_in r.body.value.lines) next (count - next) in
+    (c.0, (c.1.0, (c.1.1.0 ++ more, ap (λ l. l ++ more) c.1.1.1)))
+
+-- a line that is taken before others
+pub takes_before : (before after more rest : List Item) (r : Result Line ExpandFault) → TakesLine before r after → more ≡ rest → TakesLine (before ++ more) r (after ++ rest)
+takes_before before after more rest x y same = grind (arith, common_steps)

@@ -1,0 +1,5 @@
+use Rattle.expand65.proofs.Opening.{opens}
+use Rattle.expand65.proofs.file.OpenFile.new.Goals as goal
+
+pub returns-clause-lines : goal.returns-clause-lines
+returns-clause-lines c = λ m h. opens m c.args.name c.new.result.items c.new.ensures.items h

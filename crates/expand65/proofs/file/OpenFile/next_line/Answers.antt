@@ -1,0 +1,49 @@
+use Rattle.std.proofs.Common.{◌≡◌, ℕ, ◌<◌, rules, Bool, List, [], ◌∷◌, length, drop, sym, ◌∙◌, subst, arith, Ok, IfSome}
+use Rattle.expand65.specs.Lines.{lines_of, TakesPiece, rest_of}
+use Rattle.expand65.proofs.Lines.{moved_to, line_ends, line_goes_on, with_more, line_is_last, given_that}
+use Rattle.expand65.proofs.file.OpenFile.next_line.Goals as goal
+
+pub returns-then-branch-clause-read : goal.returns-then-branch-clause-read
+returns-then-branch-clause-read g c =
+    let self = c.pieces.self in
+    let new = c.take_piece.new.self in
+    let P : Bool → Type 0 = λ b. (behind : List ℕ) → TakesPiece c.pieces.line.items (drop self.at self.buffer.items) behind (Ok b) c.take_piece.new.line.items (drop new.at new.buffer.items) in
+    let taken = subst P c.if-branch.true c.in_ok-take_piece.ensures.read in
+    let Q : List ℕ → Type 0 = λ l. IfSome (g.S.Store.files c.args.store.now) (λ m. lines_of (rest_of m c.args.self.now) ≡ l ∷ lines_of (rest_of m new)) in
+    subst Q (sym (c.from_vec.ensures ∙ c.drop_return.ensures)) (line_ends (g.S.Store.files c.args.store.now) c.args.self.now self new c.pieces.line.items c.take_piece.new.line.items c.pieces.invariant.so_far c.in_ok-take_piece.ensures.same.0 c.in_ok-take_piece.ensures.same.1 taken)
+
+pub returns-then-not-branch-clause-read : goal.returns-then-not-branch-clause-read
+returns-then-not-branch-clause-read g c =
+    let o = g.S.Store.files c.args.store.now in
+    let self = c.pieces.self in
+    let mid = c.take_piece.new.self in
+    let new = c.has_more.new.self in
+    let P : Bool → Type 0 = λ b. (behind : List ℕ) → TakesPiece c.pieces.line.items (drop self.at self.buffer.items) behind (Ok b) c.take_piece.new.line.items (drop mid.at mid.buffer.items) in
+    let taken = subst P c.if-branch.false c.in_ok-take_piece.ensures.read in
+    let on = line_goes_on o c.args.self.now self mid c.pieces.line.items c.take_piece.new.line.items c.pieces.invariant.so_far c.in_ok-take_piece.ensures.same.0 c.in_ok-take_piece.ensures.same.1 taken in
+    let longer : length c.pieces.line.items < length c.take_piece.new.line.items = c.in_ok-take_piece.ensures.more c.if-branch.false in
+    let kept = moved_to (λ m. rest_of m new ≡ rest_of m mid) o (g.S.Store.files c.pieces.store) c.pieces.invariant.files c.in_ok-has_more.ensures.kept in
+    let none = moved_to (λ m. rest_of m new ≡ []) o (g.S.Store.files c.pieces.store) c.pieces.invariant.files (given_that (λ m. rest_of m new ≡ []) (g.S.Store.files c.pieces.store) c.if-not-branch.true c.in_ok-has_more.ensures.none) in
+    let Q : List ℕ → Type 0 = λ l. IfSome o (λ m. lines_of (rest_of m c.args.self.now) ≡ l ∷ lines_of (rest_of m new)) in
+    subst Q (sym c.from_vec-then-not-branch.ensures) (line_is_last o c.args.self.now mid new c.take_piece.new.line.items (omega (arith, longer)) c.in_ok-take_piece.ensures.part on kept none)
+
+pub pieces-preserved : goal.pieces-preserved
+pieces-preserved g c =
+    let o = g.S.Store.files c.args.store.now in
+    let self = c.pieces.self in
+    let mid = c.take_piece.new.self in
+    let new = c.has_more.new.self in
+    let P : Bool → Type 0 = λ b. (behind : List ℕ) → TakesPiece c.pieces.line.items (drop self.at self.buffer.items) behind (Ok b) c.take_piece.new.line.items (drop mid.at mid.buffer.items) in
+    let taken = subst P c.if-branch.false c.in_ok-take_piece.ensures.read in
+    let on = line_goes_on o c.args.self.now self mid c.pieces.line.items c.take_piece.new.line.items c.pieces.invariant.so_far c.in_ok-take_piece.ensures.same.0 c.in_ok-take_piece.ensures.same.1 taken in
+    let kept = moved_to (λ m. rest_of m new ≡ rest_of m mid) o (g.S.Store.files c.pieces.store) c.pieces.invariant.files c.in_ok-has_more.ensures.kept in
+    record {
+      more = c.in_ok-has_more.ensures.more c.if-not-branch.false;
+      part = c.in_ok-take_piece.ensures.part;
+      few = c.in_ok-take_piece.ensures.few;
+      number = c.in_ok-has_more.ensures.line ∙ c.in_ok-take_piece.ensures.same.2 ∙ c.pieces.invariant.number;
+      name = c.in_ok-has_more.ensures.name ∙ c.in_ok-take_piece.ensures.same.0 ∙ c.pieces.invariant.name;
+      files = c.in_ok-has_more.ensures.files ∙ c.pieces.invariant.files;
+      count = search rules;
+      so_far = with_more o c.args.self.now mid new c.take_piece.new.line.items on kept;
+    }

@@ -1,0 +1,22 @@
+use Rattle.std.proofs.Common.{◌≡◌, ◌≤◌, [], map}
+use Rattle.std.specs.Prelude.{IfSome}
+use Rattle.expand65.specs.Inside.{mark_of, judge_of, state_of, NamesFiles}
+use Rattle.expand65.specs.Playing.{tokens_in}
+use Rattle.expand65.proofs.Blocking.{Leads}
+use Rattle.expand65.proofs.StoppedReading.{Fails}
+use Rattle.expand65.proofs.reader.Reader.block.Given as goal
+
+abbrev pub invariant-lines : goal.invariant-lines
+invariant-lines g l = record {
+  outer : l.self.outer ≡ l.fn.self.outer;
+  mark : mark_of l.self.top ≡ mark_of l.fn.self.top;
+  room : l.self.room ≤ l.fn.self.room;
+  files : g.S.Store.files l.store ≡ g.S.Store.files l.fn.store;
+  count : g.S.Store.failures l.store ≡ g.S.Store.failures l.fn.store;
+  named : NamesFiles l.fn.self → NamesFiles l.self;
+  reads : IfSome (g.S.Store.files l.fn.store) (Fails (judge_of l.kind) (state_of l.kind l.depth (map tokens_in l.lines)) l.self (state_of l.kind 0 []) l.fn.self);
+  so_far : IfSome (g.S.Store.files l.fn.store) (Leads (judge_of l.kind) (state_of l.kind l.depth (map tokens_in l.lines)) l.self (state_of l.kind 0 []) l.fn.self);
+}
+
+abbrev pub decreases-lines : goal.decreases-lines
+decreases-lines g l = l.self.room

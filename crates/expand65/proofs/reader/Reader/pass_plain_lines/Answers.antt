@@ -1,0 +1,25 @@
+use Rattle.std.proofs.Common.{refl, ◌∙◌, arith}
+use Rattle.expand65.specs.Inside.{left_of}
+use Rattle.expand65.specs.Playing.{no_line, a_line}
+use Rattle.expand65.proofs.reader.Reader.pass_plain_lines.Goals as goal
+
+pub lines-init : goal.lines-init
+lines-init c = record {
+  outer = refl;
+  mark = refl;
+  room = omega arith;
+  named = λ h. h;
+  so_far = λ m. no_line (left_of m c.args.self.now);
+}
+
+pub lines-preserved : goal.lines-preserved
+lines-preserved c =
+    let new = c.pass_line.new.self in
+    let less = c.pass_line.ensures.room c.if-not-pass_line.false in
+    record {
+      outer = c.pass_line.ensures.outer ∙ c.lines.invariant.outer;
+      mark = c.pass_line.ensures.mark ∙ c.lines.invariant.mark;
+      room = omega (arith, less, c.lines.invariant.room);
+      named = λ h. c.pass_line.ensures.named (c.lines.invariant.named h);
+      so_far = λ m. a_line (left_of m c.args.self.now) (left_of m c.lines.self) (left_of m new) (c.lines.invariant.so_far m) (c.pass_line.ensures.passed m c.if-not-pass_line.false);
+    }

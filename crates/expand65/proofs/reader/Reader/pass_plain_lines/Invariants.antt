@@ -1,0 +1,17 @@
+use Rattle.std.proofs.Common.{◌≡◌, ◌≤◌}
+use Rattle.base65.specs.Store.{Files}
+use Rattle.expand65.specs.Inside.{left_of, mark_of, NamesFiles}
+use Rattle.expand65.specs.Playing.{Plainly}
+use Rattle.expand65.proofs.reader.Reader.pass_plain_lines.Given as goal
+
+abbrev pub invariant-lines : goal.invariant-lines
+invariant-lines l = record {
+  outer : l.self.outer ≡ l.fn.self.outer;
+  mark : mark_of l.self.top ≡ mark_of l.fn.self.top;
+  room : l.self.room ≤ l.fn.self.room;
+  named : NamesFiles l.fn.self → NamesFiles l.self;
+  so_far : (m : Files) → Plainly (left_of m l.fn.self) (left_of m l.self);
+}
+
+abbrev pub decreases-lines : goal.decreases-lines
+decreases-lines l = l.self.room

@@ -1,0 +1,177 @@
+-- The first words of a line: labels and directives of expansion.
+use Rattle.std.specs.Prelude.{ℕ, List, [], ◌∷◌, codes, Option, Some, None, if◌then◌else◌, Bool, true, false, not, nat_lt, ◌-◌, ◌&&◌, length, take, drop, Result, Ok, Err}
+use Rattle.std.specs.Str.{str_eq_ignore_ascii_case}
+use Rattle.expand65.specs.declared.fronts.Test.TheVariants.{True, Defined, NotDefined, Blank, NotBlank}
+use Rattle.expand65.specs.declared.fronts.Directive.{Directive}
+use Rattle.expand65.specs.declared.fronts.Directive.TheVariants.{Macro, EndMacro, ExitMacro, Local, Repeat, EndRepeat, If, ElseIf, Else, EndIf, Include, Error, End}
+use Rattle.syntax65.specs.Tokens.{Lexeme}
+use Rattle.syntax65.specs.Expressions.{is_reserved}
+use Rattle.syntax65.specs.declared.lexing.tokens.Mark.TheVariants.{Colon, Comma, OpenBrace, CloseBrace, OpenParenthesis}
+use Rattle.syntax65.specs.declared.lexing.tokens.TokenKind.TheVariants as token
+use Rattle.syntax65.specs.declared.fault.ExpandFault.{ExpandFault}
+use Rattle.syntax65.specs.declared.fault.ExpandFault.TheVariants.{NotUnderstood}
+
+-- ---- The words of the directives of expansion.
+
+abbrev pub condition_words : List (List ℕ × Directive)
+condition_words =
+    (codes ".if", If True)
+    ∷ (codes ".ifdef", If Defined)
+    ∷ (codes ".ifndef", If NotDefined)
+    ∷ (codes ".ifblank", If Blank)
+    ∷ (codes ".ifnblank", If NotBlank)
+    ∷ (codes ".elseif", ElseIf)
+    ∷ (codes ".else", Else)
+    ∷ (codes ".endif", EndIf)
+    ∷ []
+
+abbrev pub macro_words : List (List ℕ × Directive)
+macro_words =
+    (codes ".macro", Macro)
+    ∷ (codes ".mac", Macro)
+    ∷ (codes ".endmacro", EndMacro)
+    ∷ (codes ".endmac", EndMacro)
+    ∷ (codes ".exitmacro", ExitMacro)
+    ∷ (codes ".exitmac", ExitMacro)
+    ∷ (codes ".local", Local)
+    ∷ []
+
+abbrev pub block_words : List (List ℕ × Directive)
+block_words =
+    (codes ".repeat", Repeat)
+    ∷ (codes ".endrepeat", EndRepeat)
+    ∷ (codes ".endrep", EndRepeat)
+    ∷ (codes ".include", Include)
+    ∷ (codes ".error", Error)
+    ∷ (codes ".end", End)
+    ∷ []
+
+-- what a word stands for in a table, in either case
+abbrev pub among : List (List ℕ × Directive) → List ℕ → Option Directive
+among [] word = None
+among ((name, directive) ∷ others) word = if str_eq_ignore_ascii_case word name then Some directive else among others word
+
+abbrev pub or_else : Option Directive → Option Directive → Option Directive
+or_else None other = other
+or_else (Some directive) other = Some directive
+
+-- the directive that a word is, if it is one
+abbrev pub directive_of : List ℕ → Option Directive
+directive_of word = or_else (among condition_words word) (or_else (among macro_words word) (among block_words word))
+
+-- ---- What stands at the front of a line's tokens: a label, a directive; and what single tokens are.
+
+-- what isn't understood
+abbrev pub unknown : {A : Type 0} → Result A ExpandFault
+unknown = Err NotUnderstood
+
+abbrev pub understood : {A : Type 0} → Option A → Result A ExpandFault
+understood None = unknown
+understood (Some x) = Ok x
+
+-- this, and then what follows from it, where both are there
+infixl 10 ◌>=>◌
+abbrev pub ◌>=>◌ : {A B : Type 0} → Option A → (A → Option B) → Option B
+None >=> f = None
+(Some x) >=> f = f x
+
+-- ---- Single tokens.
+
+abbrev pub is_colon : Lexeme → Bool
+is_colon (token.Symbol Colon, text) = true
+is_colon _ = false
+
+abbrev pub is_comma : Lexeme → Bool
+is_comma (token.Symbol Comma, text) = true
+is_comma _ = false
+
+abbrev pub opens_brace : Lexeme → Bool
+opens_brace (token.Symbol OpenBrace, text) = true
+opens_brace _ = false
+
+abbrev pub closes_brace : Lexeme → Bool
+closes_brace (token.Symbol CloseBrace, text) = true
+closes_brace _ = false
+
+abbrev pub opens_parenthesis : Lexeme → Bool
+opens_parenthesis (token.Symbol OpenParenthesis, text) = true
+opens_parenthesis _ = false
+
+-- an identifier that is neither a mnemonic nor a register
+abbrev pub name_in : Lexeme → Option (List ℕ)
+name_in (token.Identifier, text) = if is_reserved text then None else Some text
+name_in _ = None
+
+-- the bytes between the quotes of a string
+abbrev pub quoted_in : Lexeme → Option (List ℕ)
+quoted_in (token.Text, text) = Some (take (length text - 2) (drop 1 text))
+quoted_in _ = None
+
+-- ---- Lists of tokens.
+
+-- nothing stands here
+abbrev pub is_nothing : List Lexeme → Bool
+is_nothing [] = true
+is_nothing (t ∷ ts) = false
+
+-- the bytes of one string
+abbrev pub string_of : List Lexeme → Option (List ℕ)
+string_of (t ∷ []) = quoted_in t
+string_of _ = None
+
+-- names with commas between them, a name being next, or a comma or the end
+abbrev pub names_from : Bool → List Lexeme → Option (List (List ℕ))
+names_from true [] = None
+names_from false [] = Some []
+names_from true (t ∷ ts) = name_in t >=> (λ name. names_from false ts >=> (λ names. Some (name ∷ names)))
+names_from false (c ∷ ts) = if is_comma c then names_from true ts else None
+
+-- one name or more with commas between them
+abbrev pub names_of : List Lexeme → Option (List (List ℕ))
+names_of ts = names_from true ts
+
+-- ---- Labels.
+
+-- a name or a cheap name
+abbrev pub is_label_name : Lexeme → Bool
+is_label_name (token.Identifier, text) = not (is_reserved text)
+is_label_name (token.CheapName, text) = true
+is_label_name _ = false
+
+abbrev pub begins_with_colon : List Lexeme → Bool
+begins_with_colon [] = false
+begins_with_colon (t ∷ ts) = is_colon t
+
+-- how many tokens the label at the front has: `:`, or a name and `:`; or there is none
+abbrev pub label_len : List Lexeme → ℕ
+label_len [] = 0
+label_len (t ∷ ts) = if is_colon t then 1 else if is_label_name t && begins_with_colon ts then 2 else 0
+
+-- ---- Directives.
+
+abbrev pub directive_in : Lexeme → Option Directive
+directive_in (token.Directive, text) = directive_of text
+directive_in _ = None
+
+-- the directive of expansion at the front
+abbrev pub front_directive : List Lexeme → Option Directive
+front_directive [] = None
+front_directive (t ∷ ts) = directive_in t
+
+-- whether a label may stand before this directive, or before another statement
+abbrev pub may_follow_label : Option Directive → Bool
+may_follow_label None = true
+may_follow_label (Some Repeat) = true
+may_follow_label (Some (If test)) = true
+may_follow_label (Some Include) = true
+may_follow_label (Some Error) = true
+may_follow_label (Some End) = true
+may_follow_label (Some _) = false
+
+-- the directive of a line, behind its label if it has one
+abbrev pub line_directive : List Lexeme → Option Directive
+line_directive ts = front_directive (drop (label_len ts) ts)
+
+-- whether a line has a label before a directive that it may not stand before
+abbrev pub is_mislabelled : List Lexeme → Bool
+is_mislabelled ts = nat_lt 0 (label_len ts) && not (may_follow_label (line_directive ts))

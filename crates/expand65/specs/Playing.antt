@@ -1,0 +1,158 @@
+-- Lines that are played again, and lines that need no step.
+use Rattle.std.specs.Prelude.{◌≡◌, ℕ, List, [], ◌∷◌, ◌++◌, take, drop, suc, true, false, Option, Some, None, Result, Ok, Err, map, Bool, slice_get, ◌<◌, length, ◌+◌}
+use Rattle.syntax65.specs.Tokens.{Lexeme, IsRead}
+use Rattle.expand65.specs.declared.line.Word.{Word}
+use Rattle.expand65.specs.declared.line.Line.{Line}
+use Rattle.base65.specs.Outcome.{Unless}
+use Rattle.syntax65.specs.ExpandFaults.{is_outside}
+use Rattle.expand65.specs.Fronts.{is_mislabelled, label_len, directive_in, front_directive, is_colon}
+use Rattle.syntax65.specs.declared.fault.ExpandFault.{ExpandFault}
+use Rattle.syntax65.specs.declared.fault.ExpandFault.TheVariants.{NotUnderstood}
+use Rattle.std.specs.Option.{option_map}
+use Rattle.expand65.specs.Left.{Replacing, Definition, Item, played, written, Left}
+use Rattle.expand65.specs.declared.playing.Body.{Body}
+use Rattle.expand65.specs.declared.playing.Replay.{Replay}
+use Rattle.expand65.specs.declared.playing.StandIn.{StandIn}
+use Rattle.expand65.specs.declared.playing.StandIn.TheVariants.{Itself, Nothing, Tokens}
+use Rattle.std.specs.List.{prefix_len}
+use Rattle.expand65.specs.Lines.{is_inside, without_return, Takes}
+use Rattle.expand65.specs.declared.fronts.Directive.{Directive}
+use Rattle.expand65.specs.declared.file.OpenFile.{OpenFile}
+use Rattle.expand65.specs.declared.input.Source.{Source}
+use Rattle.expand65.specs.declared.input.Source.TheVariants as source
+use Rattle.expand65.specs.declared.passing.Peeked.{Peeked}
+use Rattle.expand65.specs.declared.reader.Reader.{Reader}
+
+-- ---- Lines as they are kept.
+
+-- the token of a word at the front of the bytes, and what stands behind it
+abbrev pub text_of : Word → List ℕ → Lexeme
+text_of w bytes = (w.kind, take w.len (drop w.blanks bytes))
+
+abbrev pub behind_word : Word → List ℕ → List ℕ
+behind_word w bytes = drop w.len (drop w.blanks bytes)
+
+abbrev pub behind_words : List Word → List ℕ → List ℕ
+behind_words [] bytes = bytes
+behind_words (w ∷ ws) bytes = behind_words ws (behind_word w bytes)
+
+-- words cut off the bytes one after another
+abbrev pub cut : List Word → List ℕ → List Lexeme
+cut [] bytes = []
+cut (w ∷ ws) bytes = text_of w bytes ∷ cut ws (behind_word w bytes)
+
+-- these words are so many tokens in the bytes, whatever is put behind them
+abbrev pub AreKept : List Word → List ℕ → List Lexeme → Type 0
+AreKept words bytes ts = (ws : List Word) (bs : List ℕ) → cut (words ++ ws) (bytes ++ bs) ≡ ts ++ cut ws bs
+
+-- the tokens of a line
+abbrev pub tokens_in : Line → List Lexeme
+tokens_in line = cut line.words line.bytes
+
+-- ---- A line parted into its label and the rest.
+
+-- the label and the rest of a line that has a label of n tokens
+pub record AreParts (ts : List Lexeme) (n : ℕ) (front behind : Line) : Type 0 where
+  pub some : label_len ts ≡ suc n
+  pub right : is_mislabelled ts ≡ false
+  pub label : tokens_in front ≡ take (suc n) ts
+  pub rest : tokens_in behind ≡ drop (suc n) ts
+
+abbrev pub IsParted : List Lexeme → Result (Option (Line × Line)) ExpandFault → Type 0
+IsParted ts (Ok None) = label_len ts ≡ 0
+IsParted ts (Ok (Some (label, rest))) = (n : ℕ) × AreParts ts n label rest
+IsParted ts (Err f) = Unless (is_outside f) ((f ≡ NotUnderstood) × (is_mislabelled ts ≡ true))
+
+-- ---- Bodies as they are kept and replayed.
+
+-- a macro, or what a repeat replays
+abbrev pub definition_of : Body → Definition
+definition_of b = record { params = map (λ k. k.items) b.params.keys; body = map tokens_in b.lines }
+
+-- what is put into the lines of a body
+abbrev pub replacing_of : Replay → Replacing
+replacing_of r = record {
+  params = map (λ k. k.items) r.body.value.params.keys;
+  arguments = map tokens_in r.arguments;
+  count = option_map tokens_in r.count;
+  locals = map (λ e. (e.0.items, tokens_in e.1)) r.locals.entries;
+  number = r.number;
+}
+
+-- the lines that are left of it
+abbrev pub left_to_play : Replay → List Item
+left_to_play r = map (played (replacing_of r)) (drop r.at (map tokens_in r.body.value.lines))
+
+-- what stands for a token
+abbrev pub tokens_for : StandIn → Option (List Lexeme)
+tokens_for Itself = None
+tokens_for Nothing = Some []
+tokens_for (Tokens line) = Some (tokens_in line.now)
+
+-- ---- Lines that have no label and no directive of expansion.
+
+-- whether a word is a colon, whatever its text
+abbrev pub IsColon : Word → Bool → Type 0
+IsColon w b = (text : List ℕ) → b ≡ is_colon (w.kind, text)
+
+abbrev pub IsColonIn : Option Word → Bool → Type 0
+IsColonIn None b = b ≡ false
+IsColonIn (Some w) b = IsColon w b
+
+-- whether a word is there at a place, and is a colon
+abbrev pub IsColonAt : List Word → ℕ → Bool → Type 0
+IsColonAt ws i b = IsColonIn (slice_get ws i) b
+
+abbrev pub IsPlain : List Lexeme → Type 0
+IsPlain ts = (label_len ts ≡ 0) × (front_directive ts ≡ None)
+
+-- a word of which it is known that it is no directive, whatever its text; or nothing is known
+abbrev pub IsOrNone : Word → Bool → Type 0
+IsOrNone w b = b ≡ false → (text : List ℕ) → directive_in (w.kind, text) ≡ None
+
+-- ---- Lines without a label and a directive of expansion, passed over one after another.
+
+-- whether a token is there that is a colon
+abbrev pub is_colon_there : Option Lexeme → Bool
+is_colon_there None = false
+is_colon_there (Some t) = is_colon t
+
+-- the directive of expansion that a line's first token is
+abbrev pub directive_of_first : Option Lexeme → Option Directive
+directive_of_first None = None
+directive_of_first (Some t) = directive_in t
+
+-- the bytes of a line that is read as tokens, without a label and a directive of expansion
+abbrev pub IsPlainLine : List ℕ → Type 0
+IsPlainLine bytes = (ts : List Lexeme) × IsRead bytes (Ok ts) × IsPlain ts
+
+-- such a line is taken
+abbrev pub PassesPlain : Left → Left → Type 0
+PassesPlain l m = (ts : List Lexeme) × Takes l (Ok (Some ts, m)) × IsPlain ts
+
+-- such lines are taken one after another
+pub data Plainly : Left → Left → Type 0 where
+  no_line : (l : Left) → Plainly l l
+  a_line : (l m n : Left) → Plainly l m → PassesPlain m n → Plainly l n
+
+-- ---- A line of a file that is read where it stands, before it is taken.
+
+-- these bytes begin with a line that is read so, and that ends behind n of them
+abbrev pub IsFirstLine : List ℕ → ℕ → List Lexeme → Type 0
+IsFirstLine bytes n ts = (n ≡ prefix_len is_inside bytes) × (n < length bytes) × IsRead (without_return (take n bytes)) (Ok ts)
+
+-- so does what is at hand of a file, and that is the line of this number
+abbrev pub IsFirstOf : OpenFile → Peeked → List Lexeme → Type 0
+IsFirstOf f p ts = (n : ℕ) × IsFirstLine (drop f.at f.buffer.items) n ts × (p.behind ≡ f.at + (n + 1)) × (p.number ≡ f.line + 1)
+
+abbrev pub IsAtHand : Source → Peeked → List Lexeme → Type 0
+IsAtHand (source.File f) p ts = IsFirstOf f p ts
+IsAtHand _ p ts = ⊥
+
+-- and it may be taken
+abbrev pub IsNext : Reader → Peeked → List Lexeme → Type 0
+IsNext r p ts = IsAtHand r.top.source p ts × (0 < r.room)
+
+-- the first of the lines is read so, and has this number
+abbrev pub TakesWritten : List Item → ℕ → List Lexeme → List Item → Type 0
+TakesWritten before n ts after = (bytes : List ℕ) × (before ≡ written n bytes ∷ after) × IsRead bytes (Ok ts)

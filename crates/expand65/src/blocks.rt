@@ -1,0 +1,296 @@
+//! Blocks of lines that are taken as a whole.
+
+ghost use Rattle.std.specs.Prelude.{◌≡◌, ◌∷◌, ◌++◌, ◌<◌, ◌≤◌, [], List, ℕ, drop, false, map, IfErr, IfSome, OnOk, Some};
+ghost use Rattle.base65.specs.Store.{Files, Passes};
+ghost use Rattle.syntax65.specs.Tokens.{Lexeme, lexemes};
+ghost use Rattle.syntax65.specs.ExpandFaults.{is_failure};
+ghost use Rattle.expand65.specs.Blocks.{Block, collecting, gathering, passing, skipping};
+ghost use Rattle.expand65.specs.Fronts.{is_nothing};
+ghost use Rattle.expand65.specs.Inside.{Answers, left_of, mark_of, IsDeeper, IsPassedOver, Judges, alone_or, answer_of, is_kept, judge_of, state_of, FailsInBlock, NamesFiles, StopsAt};
+ghost use Rattle.expand65.specs.Playing.{tokens_in};
+
+use crate::fronts::{Directive, behind_first, is_mislabelled, line_directive};
+use crate::line::Line;
+use crate::reader::Reader;
+use base65::{Sequence, Store};
+use syntax65::{ExpandFault, Token};
+use std::alloc::{AllocError, Global};
+
+/// What is taken as a whole.
+#[derive(Clone, Copy)]
+pub enum BlockKind {
+    /// The body of a macro.
+    Macro,
+    /// The body of a repeat.
+    Repeat,
+    /// The lines that go with a false condition, up to the next branch of its level.
+    Skipped,
+    /// The branches behind a true condition, through its `.endif`.
+    Passed,
+}
+
+/// What closes a block.
+#[derive(Drop)]
+pub enum BlockEnd {
+    /// `.elseif`, with what stands behind it.
+    ElseIf(Line),
+    Else,
+    /// The end of a macro, a repeat or a condition.
+    End,
+}
+
+/// The lines of a body, and what closed the block.
+#[derive(Drop)]
+pub struct WholeBlock {
+    pub lines: Sequence<Line>,
+    pub end: BlockEnd,
+}
+
+/// What a line does to the block that it stands in.
+#[derive(Drop)]
+pub enum BlockStep {
+    /// The block goes on, with so many others open in it.
+    On(u32),
+    Closed(BlockEnd),
+}
+
+/// A block is closed by a directive that nothing stands behind.
+fn closed_alone(tokens: &[Token<'_>]) -> Result<(), ExpandFault>
+    ensures { result ≡ alone_or (is_nothing (drop 1 (lexemes tokens.now))) }
+{
+    match tokens {
+        [] | [_] => Ok(()),
+        _ => Err(ExpandFault::NotUnderstood),
+    }
+}
+
+fn deeper(depth: u32) -> Result<BlockStep, ExpandFault>
+    ensures { IsDeeper depth result }
+{
+    match depth.checked_add(1) {
+        Some(depth) => Ok(BlockStep::On(depth)),
+        None => Err(ExpandFault::OutOfMemory),
+    }
+}
+
+/// What a directive does to the body of a macro, in which no other may be defined.
+fn macro_step(directive: Directive, tokens: &[Token<'_>]) -> Result<BlockStep, ExpandFault>
+    ensures step { (body : List (List Lexeme)) →
+        Judges BlockKind.Macro body (lexemes tokens.now) result
+        (collecting body (lexemes tokens.now) (Some directive)) }
+    ensures inside { IfErr result (λ e. is_failure e ≡ false) }
+{
+    match directive {
+        Directive::EndMacro => {
+            closed_alone(tokens)?;
+            Ok(BlockStep::Closed(BlockEnd::End))
+        }
+        Directive::Macro => Err(ExpandFault::MacroInside),
+        _ => Ok(BlockStep::On(0)),
+    }
+}
+
+/// What a directive does to the body of a repeat with so many others open in it.
+fn repeat_step(
+    directive: Directive,
+    tokens: &[Token<'_>],
+    depth: u32,
+) -> Result<BlockStep, ExpandFault>
+    ensures step { (body : List (List Lexeme)) →
+        Judges BlockKind.Repeat body (lexemes tokens.now) result
+        (gathering depth body (lexemes tokens.now) (Some directive)) }
+    ensures inside { IfErr result (λ e. is_failure e ≡ false) }
+{
+    match directive {
+        Directive::Repeat => deeper(depth),
+        Directive::EndRepeat => {
+            if depth > 0 {
+                return Ok(BlockStep::On(depth - 1));
+            }
+            closed_alone(tokens)?;
+            Ok(BlockStep::Closed(BlockEnd::End))
+        }
+        _ => Ok(BlockStep::On(depth)),
+    }
+}
+
+/// What a directive does to lines through an `.endif` with so many conditions open in them.
+fn passed_step(directive: Directive, depth: u32) -> Result<BlockStep, ExpandFault>
+    ensures step { (body : List (List Lexeme)) (ts : List Lexeme) →
+        Judges BlockKind.Passed body ts result (passing depth (Some directive)) }
+    ensures inside { IfErr result (λ e. is_failure e ≡ false) }
+{
+    match directive {
+        Directive::If(_) => deeper(depth),
+        Directive::EndIf => {
+            if depth > 0 {
+                Ok(BlockStep::On(depth - 1))
+            } else {
+                Ok(BlockStep::Closed(BlockEnd::End))
+            }
+        }
+        _ => Ok(BlockStep::On(depth)),
+    }
+}
+
+/// What a directive does to lines that are skipped with no condition open in them.
+fn branch_step(
+    alloc: Global,
+    directive: Directive,
+    tokens: &[Token<'_>],
+) -> Result<BlockStep, ExpandFault>
+    ensures step { (body : List (List Lexeme)) →
+        Judges BlockKind.Skipped body (lexemes tokens.now) result
+        (skipping 0 (lexemes tokens.now) (Some directive)) }
+    ensures inside { IfErr result (λ e. is_failure e ≡ false) }
+{
+    match directive {
+        Directive::If(_) => Ok(BlockStep::On(1)),
+        Directive::ElseIf => {
+            let behind = Line::copy_of(alloc, behind_first(tokens))?;
+            Ok(BlockStep::Closed(BlockEnd::ElseIf(behind)))
+        }
+        Directive::Else => {
+            closed_alone(tokens)?;
+            Ok(BlockStep::Closed(BlockEnd::Else))
+        }
+        Directive::EndIf => {
+            closed_alone(tokens)?;
+            Ok(BlockStep::Closed(BlockEnd::End))
+        }
+        _ => Ok(BlockStep::On(0)),
+    }
+}
+
+/// What a directive does to lines that are skipped with so many conditions open in them.
+fn skipped_step(
+    alloc: Global,
+    directive: Directive,
+    tokens: &[Token<'_>],
+    depth: u32,
+) -> Result<BlockStep, ExpandFault>
+    ensures step { (body : List (List Lexeme)) →
+        Judges BlockKind.Skipped body (lexemes tokens.now) result
+        (skipping depth (lexemes tokens.now) (Some directive)) }
+    ensures inside { IfErr result (λ e. is_failure e ≡ false) }
+{
+    if depth == 0 {
+        return branch_step(alloc, directive, tokens);
+    }
+    match directive {
+        Directive::If(_) => deeper(depth),
+        Directive::EndIf => Ok(BlockStep::On(depth - 1)),
+        _ => Ok(BlockStep::On(depth)),
+    }
+}
+
+impl BlockKind {
+    /// Whether the lines are kept.
+    fn is_kept(self) -> bool
+        ensures { result ≡ is_kept self }
+    {
+        matches!(self, BlockKind::Macro | BlockKind::Repeat)
+    }
+
+    /// What tokens do to the block with so many others open in it.
+    fn token_step(
+        self,
+        alloc: Global,
+        tokens: &[Token<'_>],
+        depth: u32,
+    ) -> Result<BlockStep, ExpandFault>
+        ensures step { (body : List (List Lexeme)) →
+            Judges self body (lexemes tokens.now) result
+            (judge_of self (state_of self depth body) (lexemes tokens.now)) }
+        ensures inside { IfErr result (λ e. is_failure e ≡ false) }
+    {
+        if is_mislabelled(tokens) {
+            return Err(ExpandFault::NotUnderstood);
+        }
+        let Some(directive) = line_directive(tokens) else {
+            return Ok(BlockStep::On(depth));
+        };
+        match self {
+            BlockKind::Macro => macro_step(directive, tokens),
+            BlockKind::Repeat => repeat_step(directive, tokens, depth),
+            BlockKind::Skipped => skipped_step(alloc, directive, tokens, depth),
+            BlockKind::Passed => passed_step(directive, depth),
+        }
+    }
+
+    /// What a line does to the block with so many others open in it.
+    fn step(self, alloc: Global, line: &Line, depth: u32) -> Result<BlockStep, ExpandFault>
+        ensures step { (body : List (List Lexeme)) →
+            Judges self body (tokens_in line.now) result
+            (judge_of self (state_of self depth body) (tokens_in line.now)) }
+        ensures inside { IfErr result (λ e. is_failure e ≡ false) }
+    {
+        if line.is_plain() {
+            return Ok(BlockStep::On(depth));
+        }
+        let tokens = line.tokens(alloc)?;
+        self.token_step(alloc, tokens.as_slice(), depth)
+    }
+
+    /// Puts a line behind the others, where they are kept.
+    fn keep(self, lines: &mut Sequence<Line>, line: Line) -> Result<(), AllocError>
+        ensures { OnOk result ((depth : ℕ) → state_of self depth (map tokens_in lines.new) ≡
+            state_of self depth (map tokens_in lines.old ++ tokens_in line ∷ [])) }
+    {
+        if self.is_kept() {
+            lines.push(line)?;
+        }
+        Ok(())
+    }
+}
+
+impl Reader {
+    /// Passes over plain lines where lines aren't kept.
+    fn pass_unkept(&mut self, kind: BlockKind)
+        ensures passed { (m : Files) → IsPassedOver (is_kept kind) (left_of m self.old) (left_of m self.new) }
+        ensures room { self.new.room ≤ self.old.room }
+        ensures mark { mark_of self.new.top ≡ mark_of self.old.top }
+        ensures outer { self.new.outer ≡ self.old.outer }
+        ensures named { NamesFiles self.old → NamesFiles self.new }
+    {
+        if !kind.is_kept() {
+            self.pass_plain_lines();
+        }
+    }
+
+    /// The lines of a block up to the one that closes it.
+    pub fn block<S: Store>(
+        &mut self,
+        alloc: Global,
+        store: &mut S,
+        kind: BlockKind,
+    ) -> Result<WholeBlock, ExpandFault>
+        ensures read { IfSome (S.files store.old) (λ m.
+            Answers (λ b. (answer_of kind (map tokens_in b.lines) b.end, left_of m self.new))
+            self.new.place result
+            (Block (judge_of kind) (state_of kind 0 []) (left_of m self.old))) }
+        ensures room { OnOk result (self.new.room < self.old.room) }
+        ensures mark { mark_of self.new.top ≡ mark_of self.old.top }
+        ensures outer { self.new.outer ≡ self.old.outer }
+        ensures files { S.files store.new ≡ S.files store.old }
+        ensures count { Passes ExpandFault.FileError (S.failures store.old) (S.failures store.new) result }
+        ensures named { NamesFiles self.old → NamesFiles self.new }
+        ensures stopped { NamesFiles self.old → IfSome (S.files store.old) (λ m. StopsAt
+            (FailsInBlock (S.blamed store.new) (judge_of kind) (state_of kind 0 [])
+            (left_of m self.old)) self.old self.new result) }
+    {
+        let mut lines = Sequence::new(alloc);
+        let mut depth = 0;
+        'lines: loop {
+            self.pass_unkept(kind);
+            let line = self.block_line(alloc, store)?;
+            match kind.step(alloc, &line, depth)? {
+                BlockStep::Closed(end) => return Ok(WholeBlock { lines, end }),
+                BlockStep::On(deeper) => {
+                    depth = deeper;
+                    kind.keep(&mut lines, line)?;
+                }
+            }
+        }
+    }
+}

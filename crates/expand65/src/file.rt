@@ -1,0 +1,235 @@
+//! Open files, read a buffer at a time.
+
+ghost use Rattle.std.specs.Prelude.{◌≡◌, ◌<◌, ◌≤◌, ◌+◌, ◌-◌, ◌++◌, [], min, length, drop, true, false, IsTrue, IfErr, IfOk, IfSome, List, OnOk, ℕ};
+ghost use Rattle.std.specs.FinMap as fmap;
+ghost use Rattle.std.specs.List.{prefix_len};
+ghost use Rattle.base65.specs.Store.{Files, Fills, IsBlamed, Passes};
+ghost use Rattle.syntax65.specs.ExpandFaults.{is_failure, is_outside};
+ghost use Rattle.expand65.specs.Left.{numbered};
+ghost use Rattle.expand65.specs.Lines.{lines_of, IsPiece, ReadsLine, TakesPiece, bytes_of, is_inside, left_in_file, rest_of, without_return};
+
+use base65::{Sequence, Store, StoreFault, Text};
+use memchr::memchr;
+use syntax65::{ExpandFault, LexFault, MAX_FILE, MAX_LINE};
+use std::alloc::Global;
+use std::mem;
+
+/// How many bytes of a file are at hand at most.
+const BUFFER: usize = 4096;
+
+/// A file that is read line by line: the bytes at hand of which some were taken, and how many bytes of the file were
+/// read.
+#[derive(Drop)]
+pub struct OpenFile {
+    pub name: Text,
+    pub buffer: Vec<u8>,
+    pub at: usize,
+    pub next: u64,
+    /// How many lines were taken.
+    pub line: u32,
+    /// Room that a line before had, for the next one.
+    pub spare: Vec<u8>,
+}
+
+/// Reads what a file has from a place on into the front of a buffer. A file that isn't there has no bytes.
+fn read_some<S: Store>(
+    store: &mut S,
+    name: &str,
+    at: u64,
+    buffer: &mut [u8],
+) -> Result<usize, ExpandFault>
+    ensures bound { IfOk result (λ n. n ≤ length buffer.new) }
+    ensures read { IfSome (S.files store.old) (λ m.
+        IfOk result (λ n. Fills (drop at (bytes_of m name.now)) n buffer.new)) }
+    ensures outside { IfErr result (λ e. is_outside e ≡ true) }
+    ensures blamed { IfErr result (λ e. is_failure e ≡ true → IsBlamed (S.blamed store.new) name.now) }
+    ensures files { S.files store.new ≡ S.files store.old }
+    ensures count { Passes ExpandFault.FileError (S.failures store.old) (S.failures store.new) result }
+{
+    match store.read_at(name, at, buffer) {
+        Ok(n) => Ok(n),
+        Err(StoreFault::FileNotFound) => Ok(0),
+        Err(fault) => Err(ExpandFault::from(fault)),
+    }
+}
+
+/// Reads so many bytes at most that a file has from a place on, in the place of those that were there.
+fn read_piece<S: Store>(
+    store: &mut S,
+    name: &str,
+    at: u64,
+    want: usize,
+    bytes: &mut Vec<u8>,
+) -> Result<usize, ExpandFault>
+    requires { want ≤ 4096 }
+    ensures read { IfSome (S.files store.old) (λ m.
+        IfOk result (λ n. IsPiece (drop at (bytes_of m name.now)) want n bytes.new.items)) }
+    ensures few { IfOk result (λ n. (n ≤ want) × (length bytes.new.items ≡ n)) }
+    ensures outside { IfErr result (λ e. is_outside e ≡ true) }
+    ensures blamed { IfErr result (λ e. is_failure e ≡ true → IsBlamed (S.blamed store.new) name.now) }
+    ensures files { S.files store.new ≡ S.files store.old }
+    ensures count { Passes ExpandFault.FileError (S.failures store.old) (S.failures store.new) result }
+{
+    // Where as many were read before, there is nothing to fill.
+    bytes.resize(want, 0)?;
+    let n = read_some(store, name, at, bytes.as_mut_slice())?;
+    bytes.truncate(n);
+    Ok(n)
+}
+
+/// How many bytes to read from a place on.
+fn wanted(at: u64) -> usize
+    ensures { result ≡ min 4096 (16777216 - at) }
+{
+    BUFFER.min(MAX_FILE.saturating_sub(at) as usize)
+}
+
+impl OpenFile {
+    /// A file that is there, before its first line.
+    pub fn new(alloc: Global, name: Text) -> Self
+        ensures name { result.name ≡ name }
+        ensures lines { (m : Files) →
+            length (bytes_of m name) ≤ 16777216 → left_in_file m result ≡ numbered 0
+            (lines_of (bytes_of m name)) }
+    {
+        OpenFile {
+            name,
+            buffer: Vec::new(alloc),
+            at: 0,
+            next: 0,
+            line: 0,
+            spare: Vec::new(alloc),
+        }
+    }
+
+    /// Reads on where nothing is at hand.
+    fn read_on<S: Store>(&mut self, store: &mut S) -> Result<(), ExpandFault>
+        requires { length self.old.buffer.items ≤ self.old.at }
+        ensures kept { IfSome (S.files store.old) (λ m. OnOk result (rest_of m self.new ≡ rest_of m self.old)) }
+        ensures front { OnOk result (self.new.at ≡ 0) }
+        ensures none { IfSome (S.files store.old) (λ m.
+            OnOk result (self.new.buffer.items ≡ [] → rest_of m self.new ≡ [])) }
+        ensures outside { IfErr result (λ e. is_outside e ≡ true) }
+        ensures line { self.new.line ≡ self.old.line }
+        ensures name { self.new.name ≡ self.old.name }
+        ensures blamed { IfErr result (λ e. is_failure e ≡ true → IsBlamed (S.blamed store.new) self.old.name) }
+        ensures files { S.files store.new ≡ S.files store.old }
+        ensures count { Passes ExpandFault.FileError (S.failures store.old) (S.failures store.new) result }
+    {
+        let want = wanted(self.next);
+        let n = read_piece(store, self.name.as_str(), self.next, want, &mut self.buffer)?;
+        self.at = 0;
+        self.next += n as u64;
+        Ok(())
+    }
+
+    /// Whether the file has more, which is then at hand.
+    #[inline(always)]
+    pub fn has_more<S: Store>(&mut self, store: &mut S) -> Result<bool, ExpandFault>
+        ensures kept { IfSome (S.files store.old) (λ m. OnOk result (rest_of m self.new ≡ rest_of m self.old)) }
+        ensures more { IfOk result (λ b. IsTrue b → self.new.at < length self.new.buffer.items) }
+        ensures none { IfSome (S.files store.old) (λ m.
+            IfOk result (λ b. b ≡ false → rest_of m self.new ≡ [])) }
+        ensures outside { IfErr result (λ e. is_outside e ≡ true) }
+        ensures line { self.new.line ≡ self.old.line }
+        ensures name { self.new.name ≡ self.old.name }
+        ensures blamed { IfErr result (λ e. is_failure e ≡ true → IsBlamed (S.blamed store.new) self.old.name) }
+        ensures files { S.files store.new ≡ S.files store.old }
+        ensures count { Passes ExpandFault.FileError (S.failures store.old) (S.failures store.new) result }
+    {
+        if self.at < self.buffer.len() {
+            return Ok(true);
+        }
+        self.read_on(store)?;
+        Ok(!self.buffer.is_empty())
+    }
+
+    /// Puts what is at hand of a line behind what was taken of it; whether the line has ended.
+    fn take_piece(&mut self, line: &mut Vec<u8>) -> Result<bool, ExpandFault>
+        requires more { self.old.at < length self.old.buffer.items }
+        requires part { prefix_len is_inside line.old.items ≡ length line.old.items }
+        requires few { length line.old.items ≤ 4097 }
+        ensures read { (behind : List ℕ) →
+            TakesPiece line.old.items (drop self.old.at self.old.buffer.items) behind result
+            line.new.items (drop self.new.at self.new.buffer.items) }
+        ensures part { OnOk result (prefix_len is_inside line.new.items ≡ length line.new.items) }
+        ensures few { OnOk result (length line.new.items ≤ 4097) }
+        ensures inside { IfErr result (λ e. is_failure e ≡ false) }
+        ensures more { IfOk result (λ ended. ended ≡ false → length line.old.items < length line.new.items) }
+        ensures same { (self.new.name ≡ self.old.name) × (self.new.next ≡ self.old.next) ×
+            (self.new.line ≡ self.old.line) }
+    {
+        let (_, rest) = self.buffer.split_at(self.at);
+        let len = line_len(rest);
+        if line.len() + len > MAX_LINE + 1 {
+            return Err(ExpandFault::Syntax(LexFault::LineTooLong));
+        }
+        let (piece, behind) = rest.split_at(len);
+        line.extend_from_slice(piece)?;
+        if behind.is_empty() {
+            self.at += len;
+            return Ok(false);
+        }
+        self.at += len + 1;
+        Ok(true)
+    }
+
+    /// No bytes, in the room that a line before had.
+    fn empty_line(&mut self, alloc: Global) -> Vec<u8>
+        ensures empty { result.items ≡ [] }
+        ensures at { self.new.at ≡ self.old.at }
+        ensures buffer { self.new.buffer ≡ self.old.buffer }
+        ensures next { self.new.next ≡ self.old.next }
+        ensures line { self.new.line ≡ self.old.line }
+        ensures name { self.new.name ≡ self.old.name }
+    {
+        let mut line = mem::replace(&mut self.spare, Vec::new(alloc));
+        line.clear();
+        line
+    }
+
+    /// The next line.
+    #[inline(never)]
+    pub fn next_line<S: Store>(
+        &mut self,
+        alloc: Global,
+        store: &mut S,
+    ) -> Result<Sequence<u8>, ExpandFault>
+        requires { self.old.at < length self.old.buffer.items }
+        ensures read { IfSome (S.files store.old) (λ m.
+            ReadsLine (lines_of (rest_of m self.old)) result (lines_of (rest_of m self.new))) }
+        ensures line { self.new.line ≡ self.old.line }
+        ensures name { self.new.name ≡ self.old.name }
+        ensures blamed { IfErr result (λ e. is_failure e ≡ true → IsBlamed (S.blamed store.new) self.old.name) }
+        ensures files { S.files store.new ≡ S.files store.old }
+        ensures count { Passes ExpandFault.FileError (S.failures store.old) (S.failures store.new) result }
+    {
+        let mut line = self.empty_line(alloc);
+        'pieces: loop {
+            if self.take_piece(&mut line)? {
+                drop_return(&mut line);
+                return Ok(Sequence::from_vec(line));
+            }
+            if !self.has_more(store)? {
+                return Ok(Sequence::from_vec(line));
+            }
+        }
+    }
+}
+
+/// Drops a CR at a line's end.
+fn drop_return(line: &mut Vec<u8>)
+    ensures { line.new.items ≡ without_return line.old.items }
+{
+    if line.last() == Some(&b'\r') {
+        line.pop();
+    }
+}
+
+/// How many bytes stand before the first LF.
+pub fn line_len(bytes: &[u8]) -> usize
+    ensures count { result ≡ prefix_len is_inside bytes.now }
+    ensures within { result ≤ length bytes.now }
+{
+    memchr(b'\n', bytes).unwrap_or(bytes.len())
+}

@@ -1,0 +1,295 @@
+//! The first words of a line: labels and directives of expansion.
+
+ghost use Rattle.std.specs.Prelude.{◌≡◌, ◌∷◌, ℕ, List, None, false, ◌≤◌, drop, length, option_map};
+ghost use Rattle.expand65.specs.Fronts.{among, block_words, condition_words, directive_of, macro_words, begins_with_colon, closes_brace, directive_in, front_directive, is_colon, is_comma, is_label_name, is_mislabelled, is_nothing, label_len, line_directive, may_follow_label, name_in, opens_brace, opens_parenthesis, quoted_in, string_of};
+ghost use Rattle.syntax65.specs.Tokens.{lexeme_of, lexemes};
+
+use syntax65::{Mark, Token, TokenKind, is_reserved};
+
+/// What a condition asks for.
+#[derive(Clone, Copy)]
+pub enum Test {
+    /// `.if`
+    True,
+    /// `.ifdef`
+    Defined,
+    /// `.ifndef`
+    NotDefined,
+    /// `.ifblank`
+    Blank,
+    /// `.ifnblank`
+    NotBlank,
+}
+
+/// A directive of expansion.
+#[derive(Clone, Copy)]
+pub enum Directive {
+    Macro,
+    EndMacro,
+    ExitMacro,
+    Local,
+    Repeat,
+    EndRepeat,
+    If(Test),
+    ElseIf,
+    Else,
+    EndIf,
+    Include,
+    Error,
+    End,
+}
+
+fn condition_word(word: &[u8]) -> Option<Directive>
+    ensures { result ≡ among condition_words word.now }
+{
+    if word.eq_ignore_ascii_case(b".if") {
+        Some(Directive::If(Test::True))
+    } else if word.eq_ignore_ascii_case(b".ifdef") {
+        Some(Directive::If(Test::Defined))
+    } else if word.eq_ignore_ascii_case(b".ifndef") {
+        Some(Directive::If(Test::NotDefined))
+    } else if word.eq_ignore_ascii_case(b".ifblank") {
+        Some(Directive::If(Test::Blank))
+    } else if word.eq_ignore_ascii_case(b".ifnblank") {
+        Some(Directive::If(Test::NotBlank))
+    } else if word.eq_ignore_ascii_case(b".elseif") {
+        Some(Directive::ElseIf)
+    } else if word.eq_ignore_ascii_case(b".else") {
+        Some(Directive::Else)
+    } else if word.eq_ignore_ascii_case(b".endif") {
+        Some(Directive::EndIf)
+    } else {
+        None
+    }
+}
+
+fn macro_word(word: &[u8]) -> Option<Directive>
+    ensures { result ≡ among macro_words word.now }
+{
+    if word.eq_ignore_ascii_case(b".macro") || word.eq_ignore_ascii_case(b".mac") {
+        Some(Directive::Macro)
+    } else if word.eq_ignore_ascii_case(b".endmacro") || word.eq_ignore_ascii_case(b".endmac") {
+        Some(Directive::EndMacro)
+    } else if word.eq_ignore_ascii_case(b".exitmacro") || word.eq_ignore_ascii_case(b".exitmac") {
+        Some(Directive::ExitMacro)
+    } else if word.eq_ignore_ascii_case(b".local") {
+        Some(Directive::Local)
+    } else {
+        None
+    }
+}
+
+fn block_word(word: &[u8]) -> Option<Directive>
+    ensures { result ≡ among block_words word.now }
+{
+    if word.eq_ignore_ascii_case(b".repeat") {
+        Some(Directive::Repeat)
+    } else if word.eq_ignore_ascii_case(b".endrepeat") || word.eq_ignore_ascii_case(b".endrep") {
+        Some(Directive::EndRepeat)
+    } else if word.eq_ignore_ascii_case(b".include") {
+        Some(Directive::Include)
+    } else if word.eq_ignore_ascii_case(b".error") {
+        Some(Directive::Error)
+    } else if word.eq_ignore_ascii_case(b".end") {
+        Some(Directive::End)
+    } else {
+        None
+    }
+}
+
+/// Whether a directive of expansion may have this letter behind its dot.
+fn may_be_second(letter: u8) -> bool
+    ensures { result ≡ false → (dot : ℕ) (rest : List ℕ) → directive_of (dot ∷ letter ∷ rest) ≡ None }
+{
+    matches!(
+        letter.to_ascii_lowercase(),
+        b'e' | b'i' | b'l' | b'm' | b'r'
+    )
+}
+
+/// The directive of expansion that a word is, if it is one.
+pub fn directive_of(word: &[u8]) -> Option<Directive>
+    ensures { result ≡ directive_of word.now }
+{
+    // Most words of a source are other directives, such as `.byte`.
+    if let [_, letter, ..] = word {
+        if !may_be_second(*letter) {
+            return None;
+        }
+    }
+    condition_word(word)
+        .or_else(|| macro_word(word))
+        .or_else(|| block_word(word))
+}
+
+pub fn is_colon(token: &Token<'_>) -> bool
+    ensures { result ≡ is_colon (lexeme_of token.now) }
+{
+    matches!(token.kind, TokenKind::Symbol(Mark::Colon))
+}
+
+pub fn is_comma(token: &Token<'_>) -> bool
+    ensures { result ≡ is_comma (lexeme_of token.now) }
+{
+    matches!(token.kind, TokenKind::Symbol(Mark::Comma))
+}
+
+/// Whether a token is a `{`.
+pub fn opens_brace(token: &Token<'_>) -> bool
+    ensures { result ≡ opens_brace (lexeme_of token.now) }
+{
+    matches!(token.kind, TokenKind::Symbol(Mark::OpenBrace))
+}
+
+/// Whether a token is a `}`.
+pub fn closes_brace(token: &Token<'_>) -> bool
+    ensures { result ≡ closes_brace (lexeme_of token.now) }
+{
+    matches!(token.kind, TokenKind::Symbol(Mark::CloseBrace))
+}
+
+/// Whether a token is a `(`.
+pub fn opens_parenthesis(token: &Token<'_>) -> bool
+    ensures { result ≡ opens_parenthesis (lexeme_of token.now) }
+{
+    matches!(token.kind, TokenKind::Symbol(Mark::OpenParenthesis))
+}
+
+/// The bytes of an identifier that is neither a mnemonic nor a register.
+pub fn name_in<'a>(token: &Token<'a>) -> Option<&'a [u8]>
+    ensures { option_map (λ s. s.now) result ≡ name_in (lexeme_of token.now) }
+{
+    match token.kind {
+        TokenKind::Identifier if !is_reserved(token.text) => Some(token.text),
+        _ => None,
+    }
+}
+
+/// The bytes between the quotes of a string.
+fn quoted_in<'a>(token: &Token<'a>) -> Option<&'a [u8]>
+    ensures { option_map (λ s. s.now) result ≡ quoted_in (lexeme_of token.now) }
+{
+    match token.kind {
+        TokenKind::Text => {
+            if token.text.len() < 2 {
+                Some(b"")
+            } else {
+                Some(&token.text[1..token.text.len() - 1])
+            }
+        }
+        _ => None,
+    }
+}
+
+/// Whether no token is there.
+pub fn is_nothing(tokens: &[Token<'_>]) -> bool
+    ensures { result ≡ is_nothing (lexemes tokens.now) }
+{
+    tokens.is_empty()
+}
+
+/// The bytes of one string.
+pub fn string_of<'a>(tokens: &[Token<'a>]) -> Option<&'a [u8]>
+    ensures { option_map (λ s. s.now) result ≡ string_of (lexemes tokens.now) }
+{
+    match tokens {
+        [token] => quoted_in(token),
+        _ => None,
+    }
+}
+
+/// Whether a token is a name or a cheap name.
+pub fn is_label_name(token: &Token<'_>) -> bool
+    ensures { result ≡ is_label_name (lexeme_of token.now) }
+{
+    match token.kind {
+        TokenKind::Identifier => !is_reserved(token.text),
+        TokenKind::CheapName => true,
+        _ => false,
+    }
+}
+
+fn begins_with_colon(tokens: &[Token<'_>]) -> bool
+    ensures { result ≡ begins_with_colon (lexemes tokens.now) }
+{
+    match tokens.split_first() {
+        Some((first, _)) => is_colon(first),
+        None => false,
+    }
+}
+
+/// How many tokens the label at the front has, with its colon; 0 where there is none.
+#[inline(always)]
+pub fn label_len(tokens: &[Token<'_>]) -> usize
+    ensures count { result ≡ label_len (lexemes tokens.now) }
+    ensures within { result ≤ length tokens.now }
+{
+    let Some((first, behind)) = tokens.split_first() else {
+        return 0;
+    };
+    if is_colon(first) {
+        1
+    } else if begins_with_colon(behind) && is_label_name(first) {
+        2
+    } else {
+        0
+    }
+}
+
+/// The directive of expansion that a token is.
+#[inline(always)]
+pub fn directive_in(token: &Token<'_>) -> Option<Directive>
+    ensures { result ≡ directive_in (lexeme_of token.now) }
+{
+    match token.kind {
+        TokenKind::Directive => directive_of(token.text),
+        _ => None,
+    }
+}
+
+/// The directive of expansion at the front.
+#[inline(always)]
+pub fn front_directive(tokens: &[Token<'_>]) -> Option<Directive>
+    ensures { result ≡ front_directive (lexemes tokens.now) }
+{
+    match tokens.split_first() {
+        Some((first, _)) => directive_in(first),
+        None => None,
+    }
+}
+
+/// Whether a label may stand before a directive of expansion, or before another statement.
+fn may_follow_label(directive: Option<Directive>) -> bool
+    ensures { result ≡ may_follow_label directive }
+{
+    match directive {
+        None => true,
+        Some(Directive::Repeat | Directive::If(_)) => true,
+        Some(Directive::Include | Directive::Error | Directive::End) => true,
+        Some(_) => false,
+    }
+}
+
+/// The directive of a line, behind its label if it has one.
+pub fn line_directive(tokens: &[Token<'_>]) -> Option<Directive>
+    ensures { result ≡ line_directive (lexemes tokens.now) }
+{
+    front_directive(&tokens[label_len(tokens)..])
+}
+
+/// Whether a line has a label before a directive that it may not stand before.
+pub fn is_mislabelled(tokens: &[Token<'_>]) -> bool
+    ensures { result ≡ is_mislabelled (lexemes tokens.now) }
+{
+    label_len(tokens) > 0 && !may_follow_label(line_directive(tokens))
+}
+
+/// What stands behind the first token.
+pub fn behind_first<'a, 'b>(tokens: &'b [Token<'a>]) -> &'b [Token<'a>]
+    ensures { lexemes result.now ≡ drop 1 (lexemes tokens.now) }
+{
+    match tokens {
+        [] => tokens,
+        [_, behind @ ..] => behind,
+    }
+}

@@ -1,0 +1,268 @@
+//! Where lines come from.
+
+ghost use Rattle.std.specs.Prelude.{◌≡◌, ◌↔◌, ◌<◌, ◌≤◌, ◌+◌, ◌^◌, drop, length, true, false, [], ◌∷◌, Ok, IsTrue, IfErr, IfOk, IfSome, OnOk, Result};
+ghost use Rattle.std.specs.List.{prefix_len};
+ghost use Rattle.base65.specs.Store.{Files, IsBlamed, Passes};
+ghost use Rattle.syntax65.specs.ExpandFaults.{is_failure, is_outside};
+ghost use Rattle.expand65.specs.Inside.{ComesNext, IsFile, IsReady, TakesLine, is_call, left_in, turns_left, IsNamed};
+ghost use Rattle.expand65.specs.Playing.{tokens_in, left_to_play, replacing_of};
+ghost use Rattle.syntax65.specs.declared.place.Place.{Place};
+ghost use Rattle.expand65.specs.Lines.{is_inside, left_in_file};
+ghost use Rattle.expand65.specs.Left.{number_token};
+
+use crate::file::{OpenFile, line_len};
+use crate::line::Line;
+use crate::passing::trimmed;
+use crate::playing::Replay;
+use base65::{Sequence, Store};
+use syntax65::{ExpandFault, Token, TokenKind};
+use std::alloc::{AllocError, Global};
+
+/// Where lines come from.
+#[derive(Drop)]
+pub enum Source {
+    File(OpenFile),
+    Call(Replay),
+    /// A body with the number of the turn that comes next, and of turns.
+    Repeat(Replay, u32, u32),
+}
+
+/// What comes next of a source of lines.
+#[derive(Clone, Copy)]
+pub enum NextLine {
+    AtEnd,
+    /// A line of a file, by its number.
+    Numbered(u32),
+    /// A line of a body.
+    Replayed,
+}
+
+impl NextLine {
+    /// Whether nothing comes next.
+    pub fn is_end(self) -> bool
+        ensures { IsTrue result ↔ (self ≡ NextLine.AtEnd) }
+    {
+        matches!(self, NextLine::AtEnd)
+    }
+}
+
+/// A number as a line of one token.
+pub fn number_line(alloc: Global, number: u32) -> Result<Line, AllocError>
+    ensures { IfOk result (λ line. tokens_in line ≡ number_token number ∷ []) }
+{
+    let text = format!(in alloc; "{number}")?;
+    let token = Token {
+        kind: TokenKind::Number(number),
+        text: text.as_bytes(),
+    };
+    Line::copy_of(alloc, &[token])
+}
+
+impl OpenFile {
+    /// Whether the file has a line more, and its number.
+    fn begin_line<S: Store>(&mut self, store: &mut S) -> Result<NextLine, ExpandFault>
+        ensures comes { IfSome (S.files store.old) (λ m.
+            IfOk result (λ n. ComesNext (left_in_file m self.new) n)) }
+        ensures same { IfSome (S.files store.old) (λ m.
+            OnOk result (left_in_file m self.new ≡ left_in_file m self.old)) }
+        ensures more { IfOk result (λ n. (n ≡ NextLine.AtEnd →
+            ⊥) → self.new.at < length self.new.buffer.items) }
+        ensures outside { IfErr result (λ e. is_outside e ≡ true) }
+        ensures name { self.new.name ≡ self.old.name }
+        ensures blamed { IfErr result (λ e. is_failure e ≡ true → IsBlamed (S.blamed store.new) self.old.name) }
+        ensures files { S.files store.new ≡ S.files store.old }
+        ensures count { Passes ExpandFault.FileError (S.failures store.old) (S.failures store.new) result }
+    {
+        if !self.has_more(store)? {
+            return Ok(NextLine::AtEnd);
+        }
+        match self.line.checked_add(1) {
+            Some(number) => Ok(NextLine::Numbered(number)),
+            None => Err(ExpandFault::OutOfMemory),
+        }
+    }
+
+    /// Takes the next line, which ends behind so many bytes of those at hand.
+    #[inline(always)]
+    fn take_at_hand(&mut self, alloc: Global, len: usize) -> Result<Line, ExpandFault>
+        requires end { len ≡ prefix_len is_inside (drop self.old.at self.old.buffer.items) }
+        requires within { len < length (drop self.old.at self.old.buffer.items) }
+        ensures taken { (m : Files) → TakesLine (left_in_file m self.old) result (left_in_file m self.new) }
+        ensures name { self.new.name ≡ self.old.name }
+        ensures inside { IfErr result (λ e. is_failure e ≡ false) }
+    {
+        let (_, rest) = self.buffer.split_at(self.at);
+        let (bytes, _) = rest.split_at(len);
+        let line = Line::read(alloc, trimmed(bytes))?;
+        match self.line.checked_add(1) {
+            Some(number) => {
+                self.line = number;
+                self.at += len + 1;
+                Ok(line)
+            }
+            None => Err(ExpandFault::OutOfMemory),
+        }
+    }
+
+    /// Takes the next line, which begins in what is at hand.
+    fn take_line<S: Store>(&mut self, alloc: Global, store: &mut S) -> Result<Line, ExpandFault>
+        requires { self.old.at < length self.old.buffer.items }
+        ensures taken { IfSome (S.files store.old) (λ m.
+            TakesLine (left_in_file m self.old) result (left_in_file m self.new)) }
+        ensures name { self.new.name ≡ self.old.name }
+        ensures blamed { IfErr result (λ e. is_failure e ≡ true → IsBlamed (S.blamed store.new) self.old.name) }
+        ensures files { S.files store.new ≡ S.files store.old }
+        ensures count { Passes ExpandFault.FileError (S.failures store.old) (S.failures store.new) result }
+    {
+        let (_, rest) = self.buffer.split_at(self.at);
+        let len = line_len(rest);
+        if len < rest.len() {
+            return self.take_at_hand(alloc, len);
+        }
+        let bytes = self.next_line(alloc, store)?;
+        let line = Line::read(alloc, bytes.as_slice())?;
+        self.spare = bytes.into_vec();
+        match self.line.checked_add(1) {
+            Some(number) => {
+                self.line = number;
+                Ok(line)
+            }
+            None => Err(ExpandFault::OutOfMemory),
+        }
+    }
+}
+
+impl Replay {
+    /// Whether a line more is left of the body.
+    fn has_line(&self) -> bool
+        ensures more { IsTrue result → self.now.at < length self.now.body.value.lines }
+        ensures none { result ≡ false → left_to_play self.now ≡ [] }
+    {
+        self.at < self.body.lines.len()
+    }
+
+    /// What comes next of the body.
+    fn next_line(&self) -> NextLine
+        ensures comes { ComesNext (left_to_play self.now) result }
+        ensures ready { (result ≡ NextLine.AtEnd → ⊥) → self.now.at < length self.now.body.value.lines }
+    {
+        if self.has_line() {
+            NextLine::Replayed
+        } else {
+            NextLine::AtEnd
+        }
+    }
+
+    /// Takes the next line.
+    fn take_line(&mut self, alloc: Global) -> Result<Line, ExpandFault>
+        requires { self.old.at < length self.old.body.value.lines }
+        ensures taken { TakesLine (left_to_play self.old) result (left_to_play self.new) }
+        ensures body { self.new.body ≡ self.old.body }
+        ensures same { replacing_of self.new ≡ replacing_of self.old }
+        ensures inside { IfErr result (λ e. is_failure e ≡ false) }
+    {
+        let line = self.replaced(alloc, &self.body.lines.as_slice()[self.at])?;
+        self.at += 1;
+        Ok(line)
+    }
+}
+
+/// Begins the next turn of a repeat where the turn before is over; whether a line more is left.
+fn begin_turn(
+    alloc: Global,
+    replay: &mut Replay,
+    next: &mut u32,
+    count: u32,
+) -> Result<NextLine, ExpandFault>
+    ensures same { OnOk result (turns_left replay.new next.new count ≡ turns_left replay.old next.old count) }
+    ensures comes { IfOk result (λ n. ComesNext (turns_left replay.new next.new count) n) }
+    ensures ready { IfOk result (λ n. (n ≡ NextLine.AtEnd →
+        ⊥) → replay.new.at < length replay.new.body.value.lines) }
+    ensures inside { IfErr result (λ e. is_failure e ≡ false) }
+    ensures outside { IfErr result (λ e. is_outside e ≡ true) }
+{
+    if replay.has_line() {
+        return Ok(NextLine::Replayed);
+    }
+    if replay.body.lines.len() == 0 {
+        return Ok(NextLine::AtEnd);
+    }
+    if *next >= count {
+        return Ok(NextLine::AtEnd);
+    }
+    let number = number_line(alloc, *next)?;
+    let mut arguments = Sequence::new(alloc);
+    arguments.push(number)?;
+    replay.arguments = arguments;
+    replay.at = 0;
+    *next += 1;
+    Ok(NextLine::Replayed)
+}
+
+/// Takes the next line of a turn.
+fn take_in_turn(
+    alloc: Global,
+    replay: &mut Replay,
+    next: u32,
+    count: u32,
+) -> Result<Line, ExpandFault>
+    requires { replay.old.at < length replay.old.body.value.lines }
+    ensures taken { TakesLine (turns_left replay.old next count) result (turns_left replay.new next count) }
+    ensures inside { IfErr result (λ e. is_failure e ≡ false) }
+{
+    replay.take_line(alloc)
+}
+
+impl Source {
+    /// Whether it is an expansion.
+    pub fn is_call(&self) -> bool
+        ensures { result ≡ is_call self.now }
+    {
+        matches!(self, Source::Call(_))
+    }
+
+    /// What comes next, which is then at hand.
+    pub fn begin_line<S: Store>(
+        &mut self,
+        alloc: Global,
+        store: &mut S,
+    ) -> Result<NextLine, ExpandFault>
+        ensures comes { IfSome (S.files store.old) (λ m. IfOk result (λ n. ComesNext (left_in m self.new) n)) }
+        ensures same { IfSome (S.files store.old) (λ m. OnOk result (left_in m self.new ≡ left_in m self.old)) }
+        ensures ready { IfOk result (λ n. (n ≡ NextLine.AtEnd → ⊥) → IsReady self.new) }
+        ensures call { is_call self.new ≡ is_call self.old }
+        ensures file { IfErr result (λ e. is_failure e ≡ true → IsFile self.old) }
+        ensures outside { IfErr result (λ e. is_outside e ≡ true) }
+        ensures named { (p : Place) → IsNamed self.old p → IsNamed self.new p }
+        ensures blamed { (p : Place) → IsNamed self.old p →
+            IfErr result (λ e. is_failure e ≡ true → IsBlamed (S.blamed store.new) p.file) }
+        ensures files { S.files store.new ≡ S.files store.old }
+        ensures count { Passes ExpandFault.FileError (S.failures store.old) (S.failures store.new) result }
+    {
+        match self {
+            Source::File(file) => file.begin_line(store),
+            Source::Call(replay) => Ok(replay.next_line()),
+            Source::Repeat(replay, next, count) => begin_turn(alloc, replay, next, *count),
+        }
+    }
+
+    /// Takes the next line.
+    pub fn take_line<S: Store>(&mut self, alloc: Global, store: &mut S) -> Result<Line, ExpandFault>
+        requires { IsReady self.old }
+        ensures taken { IfSome (S.files store.old) (λ m.
+            TakesLine (left_in m self.old) result (left_in m self.new)) }
+        ensures call { is_call self.new ≡ is_call self.old }
+        ensures file { IfErr result (λ e. is_failure e ≡ true → IsFile self.old) }
+        ensures named { (p : Place) → IsNamed self.old p → IsNamed self.new p }
+        ensures blamed { (p : Place) → IsNamed self.old p →
+            IfErr result (λ e. is_failure e ≡ true → IsBlamed (S.blamed store.new) p.file) }
+        ensures files { S.files store.new ≡ S.files store.old }
+        ensures count { Passes ExpandFault.FileError (S.failures store.old) (S.failures store.new) result }
+    {
+        match self {
+            Source::File(file) => file.take_line(alloc, store),
+            Source::Call(replay) => replay.take_line(alloc),
+            Source::Repeat(replay, next, count) => take_in_turn(alloc, replay, *next, *count),
+        }
+    }
+}

@@ -1,0 +1,267 @@
+//! Lines that are kept.
+
+ghost use Rattle.std.specs.Prelude.{◌≡◌, ◌≤◌, ◌++◌, [], false, length, slice_get, option_map, take, IsTrue, IfErr, IfOk, IfSome, List, OnOk, Result};
+ghost use Rattle.base65.specs.Relations.{Answers};
+ghost use Rattle.syntax65.specs.Tokens.{IsRead, Lexeme, lexeme_of, lexemes};
+ghost use Rattle.syntax65.specs.declared.lexing.tokens.LexFault.{LexFault};
+ghost use Rattle.syntax65.specs.ExpandFaults.{is_failure, is_outside};
+ghost use Rattle.expand65.specs.Fronts.{front_directive, label_len};
+ghost use Rattle.expand65.specs.Playing.{behind_word, cut, text_of, tokens_in, IsParted, IsColon, IsColonAt, IsOrNone, IsPlain};
+ghost use Rattle.expand65.specs.Lines.{lexed};
+
+use crate::fronts::{Directive, directive_in, is_mislabelled, label_len};
+use base65::Sequence;
+use syntax65::{ExpandFault, Lexer, Mark, Token, TokenKind};
+use std::alloc::{AllocError, Global};
+
+/// What a token of a line is, how many of the line's bytes part it from the token before, and how many are its own.
+#[derive(Clone, Copy)]
+pub struct Word {
+    pub kind: TokenKind,
+    pub blanks: u32,
+    pub len: u32,
+}
+
+/// The tokens of a line, with its bytes up to the last token's end.
+#[derive(Drop)]
+pub struct Line {
+    pub words: Sequence<Word>,
+    pub bytes: Sequence<u8>,
+}
+
+impl Word {
+    /// A token of so many bytes, behind so many others.
+    #[inline(always)]
+    fn new(kind: TokenKind, blanks: usize, len: usize) -> Result<Word, AllocError>
+        ensures { IfOk result (λ w. (w.kind ≡ kind) × (w.blanks ≡ blanks) × (w.len ≡ len)) }
+    {
+        let (Ok(blanks), Ok(len)) = (u32::try_from(blanks), u32::try_from(len)) else {
+            return Err(AllocError);
+        };
+        Ok(Word { kind, blanks, len })
+    }
+
+    /// The token of the word at the front of some bytes, and what stands behind it.
+    #[inline(always)]
+    fn token<'a>(&self, bytes: &'a [u8]) -> (Token<'a>, &'a [u8])
+        ensures token { lexeme_of result.0 ≡ text_of self.now bytes.now }
+        ensures behind { result.1.now ≡ behind_word self.now bytes.now }
+    {
+        let (_, here) = bytes.split_at((self.blanks as usize).min(bytes.len()));
+        let (text, behind) = here.split_at((self.len as usize).min(here.len()));
+        let kind = self.kind;
+        (Token { kind, text }, behind)
+    }
+
+    /// A token of a line, so short that both are.
+    #[inline(always)]
+    fn within(kind: TokenKind, blanks: usize, len: usize) -> Word
+        requires blanks { blanks ≤ 4096 }
+        requires len { len ≤ 4096 }
+        ensures { (result.kind ≡ kind) × (result.blanks ≡ blanks) × (result.len ≡ len) }
+    {
+        Word {
+            kind,
+            blanks: blanks as u32,
+            len: len as u32,
+        }
+    }
+
+    fn is_colon(&self) -> bool
+        ensures { IsColon self.now result }
+    {
+        matches!(self.kind, TokenKind::Symbol(Mark::Colon))
+    }
+
+    /// Whether it is a directive, of expansion or not.
+    #[inline(always)]
+    fn is_directive(&self) -> bool
+        ensures { IsOrNone self.now result }
+    {
+        matches!(self.kind, TokenKind::Directive)
+    }
+}
+
+impl Line {
+    /// A line of these tokens.
+    #[inline(always)]
+    pub fn copy_of(alloc: Global, tokens: &[Token<'_>]) -> Result<Line, AllocError>
+        ensures { IfOk result (λ line. tokens_in line ≡ lexemes tokens.now) }
+    {
+        let mut words = Vec::with_capacity(alloc, tokens.len())?;
+        // A token has some four bytes.
+        let mut bytes = Vec::with_capacity(alloc, tokens.len().saturating_mul(4))?;
+        for token in tokens {
+            words.push(Word::new(token.kind, 0, token.text.len())?)?;
+            bytes.extend_from_slice(token.text)?;
+        }
+        Ok(Line {
+            words: Sequence::from_vec(words),
+            bytes: Sequence::from_vec(bytes),
+        })
+    }
+
+    /// The tokens of a line of a file.
+    #[inline(always)]
+    pub fn read(alloc: Global, bytes: &[u8]) -> Result<Line, ExpandFault>
+        ensures tokens { Answers is_outside tokens_in result
+            (λ r. (q : Result (List Lexeme) LexFault) × IsRead bytes.now q × (r ≡ lexed q)) }
+        ensures inside { IfErr result (λ e. is_failure e ≡ false) }
+    {
+        // Room for most lines, and not more: those of a macro stay as they are.
+        let mut words = Vec::with_capacity(alloc, (bytes.len() / 2 + 1).min(8))?;
+        let len = read_words(bytes, &mut words)?;
+        let (front, _) = bytes.split_at(len);
+        let kept = Vec::from_slice(alloc, front)?;
+        Ok(Line {
+            words: Sequence::from_vec(words),
+            bytes: Sequence::from_vec(kept),
+        })
+    }
+
+    /// Puts the line's tokens behind others.
+    pub fn add_to<'a>(&'a self, tokens: &mut Vec<Token<'a>>) -> Result<(), AllocError>
+        ensures { OnOk result (lexemes tokens.new.items ≡ lexemes tokens.old.items ++ tokens_in self.now) }
+    {
+        let mut rest = self.bytes.as_slice();
+        for word in self.words.as_slice() {
+            let (token, behind) = word.token(rest);
+            tokens.push(token)?;
+            rest = behind;
+        }
+        Ok(())
+    }
+
+    /// Puts the line's tokens into the front of some room, where they fit; how many they are.
+    #[inline(always)]
+    pub fn put_in<'a>(&'a self, room: &mut [Token<'a>]) -> Option<usize>
+        ensures within { IfSome result (λ n. n ≤ length room.new) }
+        ensures tokens { IfSome result (λ n. lexemes (take n room.new) ≡ tokens_in self.now) }
+    {
+        if self.words.len() > room.len() {
+            return None;
+        }
+        let mut count = 0;
+        let mut left = self.bytes.as_slice();
+        for word in self.words.as_slice() {
+            let (token, behind) = word.token(left);
+            room[count] = token;
+            count += 1;
+            left = behind;
+        }
+        Some(count)
+    }
+
+    /// The first token.
+    pub fn first(&self) -> Option<Token<'_>>
+        ensures { option_map lexeme_of result ≡ slice_get (tokens_in self.now) 0 }
+    {
+        let word = self.words.as_slice().first()?;
+        let (token, _) = word.token(self.bytes.as_slice());
+        Some(token)
+    }
+
+    /// The directive of expansion at the front.
+    pub fn directive(&self) -> Option<Directive>
+        ensures { result ≡ front_directive (tokens_in self.now) }
+    {
+        let word = self.words.as_slice().first()?;
+        // Most lines begin with no directive, and then their bytes aren't looked at.
+        if !word.is_directive() {
+            return None;
+        }
+        let (token, _) = word.token(self.bytes.as_slice());
+        directive_in(&token)
+    }
+
+    /// Whether a word is there at a place, and is a colon.
+    fn is_colon_at(&self, at: usize) -> bool
+        ensures { IsColonAt self.now.words at result }
+    {
+        match self.words.as_slice().get(at) {
+            Some(word) => word.is_colon(),
+            None => false,
+        }
+    }
+
+    /// Whether neither of the first two words is a colon, so that the line has no label.
+    fn has_no_colon(&self) -> bool
+        ensures { IsTrue result → label_len (tokens_in self.now) ≡ 0 }
+    {
+        let first = self.is_colon_at(0);
+        if first {
+            return false;
+        }
+        let second = self.is_colon_at(1);
+        !second
+    }
+
+    /// Whether the line has no label, and no directive of expansion.
+    pub fn is_plain(&self) -> bool
+        ensures { IsTrue result → IsPlain (tokens_in self.now) }
+    {
+        self.has_no_colon() && self.directive().is_none()
+    }
+
+    /// The label at the front and what stands behind it, if there is a label.
+    pub fn parted(&self, alloc: Global) -> Result<Option<(Line, Line)>, ExpandFault>
+        ensures parts { IsParted (tokens_in self.now) result }
+        ensures inside { IfErr result (λ e. is_failure e ≡ false) }
+    {
+        if self.has_no_colon() {
+            return Ok(None);
+        }
+        let tokens = self.tokens(alloc)?;
+        parted(alloc, tokens.as_slice())
+    }
+
+    /// The line's tokens.
+    pub fn tokens(&self, alloc: Global) -> Result<Vec<Token<'_>>, AllocError>
+        ensures { IfOk result (λ tokens. lexemes tokens.items ≡ tokens_in self.now) }
+    {
+        let mut tokens = Vec::with_capacity(alloc, self.words.len())?;
+        self.add_to(&mut tokens)?;
+        Ok(tokens)
+    }
+}
+
+/// Reads the words of a line of a file; how many of its bytes stand in front of the last one's end.
+#[inline(always)]
+fn read_words(bytes: &[u8], words: &mut Vec<Word>) -> Result<usize, ExpandFault>
+    requires { words.old.items ≡ [] }
+    ensures tokens { Answers is_outside (λ n. cut words.new.items (take n bytes.now)) result
+        (λ r. (q : Result (List Lexeme) LexFault) × IsRead bytes.now q × (r ≡ lexed q)) }
+    ensures within { IfOk result (λ n. n ≤ length bytes.now) }
+    ensures inside { IfErr result (λ e. is_failure e ≡ false) }
+{
+    let mut lexer = Lexer::new(bytes)?;
+    'tokens: loop {
+        let left = lexer.rest.len();
+        match lexer.next()? {
+            Some(token) => {
+                let len = token.text.len();
+                let blanks = left - lexer.rest.len() - len;
+                words.push(Word::within(token.kind, blanks, len))?;
+            }
+            None => return Ok(bytes.len() - left),
+        }
+    }
+}
+
+/// The label at the front of tokens and what stands behind it, if there is a label.
+fn parted(alloc: Global, tokens: &[Token<'_>]) -> Result<Option<(Line, Line)>, ExpandFault>
+    ensures parts { IsParted (lexemes tokens.now) result }
+    ensures inside { IfErr result (λ e. is_failure e ≡ false) }
+{
+    let len = label_len(tokens);
+    if len == 0 {
+        return Ok(None);
+    }
+    if is_mislabelled(tokens) {
+        return Err(ExpandFault::NotUnderstood);
+    }
+    let (label, rest) = tokens.split_at(len);
+    let label = Line::copy_of(alloc, label)?;
+    let rest = Line::copy_of(alloc, rest)?;
+    Ok(Some((label, rest)))
+}

@@ -1,0 +1,261 @@
+//! Lines of a file that are passed over or read where they stand.
+
+ghost use Rattle.std.specs.Prelude.{◌≡◌, ◌<◌, ◌≤◌, ◌-◌, List, IfSome, IsTrue, false, Ok, Some};
+ghost use Rattle.syntax65.specs.Tokens.{IsFront, Lexeme, lexeme_of};
+ghost use Rattle.base65.specs.Store.{Files};
+ghost use Rattle.std.specs.Option.{option_map};
+ghost use Rattle.expand65.specs.Inside.{is_call, left_in, left_of, mark_of, IsNamed, NamesFiles};
+ghost use Rattle.syntax65.specs.declared.place.Place.{Place};
+ghost use Rattle.expand65.specs.Left.{moved};
+ghost use Rattle.expand65.specs.Playing.{IsPlainLine, PassesPlain, Plainly, directive_of_first, is_colon_there, IsPlain, IsAtHand, IsFirstLine, IsFirstOf, IsNext, TakesWritten};
+ghost use Rattle.expand65.specs.Lines.{left_in_file, without_return, Takes};
+ghost use Rattle.syntax65.specs.Held.{HoldsNothing, held};
+
+use crate::fronts::{Directive, directive_in, is_colon};
+use crate::file::{OpenFile, line_len};
+use crate::input::Source;
+use crate::reader::Reader;
+use std::alloc::Global;
+use syntax65::{LineFront, LineTokens, Token, line_front};
+
+/// Whether a token is there that is a colon.
+fn is_colon_there(token: Option<Token<'_>>) -> bool
+    ensures { result ≡ is_colon_there (option_map lexeme_of token.entry) }
+{
+    match token {
+        Some(token) => is_colon(&token),
+        None => false,
+    }
+}
+
+/// The directive of expansion that a line's first token is.
+fn directive_of_first(token: Option<Token<'_>>) -> Option<Directive>
+    ensures { result ≡ directive_of_first (option_map lexeme_of token.entry) }
+{
+    match token {
+        Some(token) => directive_in(&token),
+        None => None,
+    }
+}
+
+/// Whether a line that begins so has no label, and no directive of expansion.
+fn is_plain_front(front: LineFront<'_>) -> bool
+    ensures { (ts : List Lexeme) → IsFront ts front.entry → IsTrue result → IsPlain ts }
+{
+    if is_colon_there(front.first) {
+        return false;
+    }
+    if is_colon_there(front.second) {
+        return false;
+    }
+    directive_of_first(front.first).is_none()
+}
+
+/// Whether a line has tokens, but no label and no directive of expansion.
+fn is_plain_line(line: &[u8]) -> bool
+    ensures { IsTrue result → IsPlainLine line.now }
+{
+    match line_front(line) {
+        Ok(front) => is_plain_front(front),
+        Err(_) => false,
+    }
+}
+
+/// A line without a CR at its end.
+pub fn trimmed(line: &[u8]) -> &[u8]
+    ensures { result.now ≡ without_return line.now }
+{
+    if line.last() == Some(&b'\r') {
+        let (front, _) = line.split_at(line.len() - 1);
+        return front;
+    }
+    line
+}
+
+/// How many bytes the first line of some has, where its end is there and it is plain.
+fn plain_len(bytes: &[u8]) -> Option<usize>
+    ensures { IfSome result (λ n. (ts : List Lexeme) × IsFirstLine bytes.now n ts × IsPlain ts) }
+{
+    let len = line_len(bytes);
+    if len >= bytes.len() {
+        return None;
+    }
+    let (line, _) = bytes.split_at(len);
+    if is_plain_line(trimmed(line)) {
+        Some(len)
+    } else {
+        None
+    }
+}
+
+/// A line at hand: where the next one begins, and its number.
+#[derive(Clone, Copy)]
+pub struct Peeked {
+    pub behind: usize,
+    pub number: u32,
+}
+
+/// The tokens of the first line of some bytes, where its end is there; how many bytes it has.
+#[inline(always)]
+fn peek<'a>(alloc: Global, bytes: &'a [u8], tokens: &mut LineTokens<'a>) -> Option<usize>
+    requires { HoldsNothing tokens.old }
+    ensures front { IfSome result (λ n. IsFirstLine bytes.now n (held tokens.new)) }
+    ensures within { tokens.new.few.count ≤ 8 }
+{
+    let len = line_len(bytes);
+    if len >= bytes.len() {
+        return None;
+    }
+    let (front, _) = bytes.split_at(len);
+    match tokens.read(alloc, trimmed(front)) {
+        Ok(()) => Some(len),
+        Err(_) => None,
+    }
+}
+
+impl OpenFile {
+    /// The next line, where all of it is at hand and it is plain.
+    fn peek_plain(&self) -> Option<Peeked>
+        ensures { IfSome result (λ p. (ts : List Lexeme) × IsFirstOf self.now p ts × IsPlain ts) }
+    {
+        if self.at >= self.buffer.len() {
+            return None;
+        }
+        let number = self.line.checked_add(1)?;
+        let (_, rest) = self.buffer.split_at(self.at);
+        let behind = self.at + plain_len(rest)? + 1;
+        Some(Peeked { behind, number })
+    }
+
+    /// The next line, where all of it is at hand, and its tokens.
+    #[inline(always)]
+    fn peek<'a>(&'a self, alloc: Global, tokens: &mut LineTokens<'a>) -> Option<Peeked>
+        requires { HoldsNothing tokens.old }
+        ensures ahead { IfSome result (λ p. IsFirstOf self.now p (held tokens.new)) }
+        ensures within { tokens.new.few.count ≤ 8 }
+    {
+        if self.at >= self.buffer.len() {
+            return None;
+        }
+        let number = self.line.checked_add(1)?;
+        let (_, rest) = self.buffer.split_at(self.at);
+        let behind = self.at + peek(alloc, rest, tokens)? + 1;
+        Some(Peeked { behind, number })
+    }
+
+    /// Takes the next line, which is this one.
+    #[inline(always)]
+    fn take_peeked(&mut self, line: Peeked)
+        ensures taken { (m : Files) (ts : List Lexeme) → IsFirstOf self.old line ts →
+            TakesWritten (left_in_file m self.old) line.number ts (left_in_file m self.new) }
+        ensures name { self.new.name ≡ self.old.name }
+    {
+        self.at = line.behind;
+        self.line = line.number;
+    }
+}
+
+impl Source {
+    /// The next line, where it is a file's, all of it is at hand and it is plain.
+    fn peek_plain(&self) -> Option<Peeked>
+        ensures { IfSome result (λ p. (ts : List Lexeme) × IsAtHand self.now p ts × IsPlain ts) }
+    {
+        match self {
+            Source::File(file) => file.peek_plain(),
+            Source::Call(_) | Source::Repeat(_, _, _) => None,
+        }
+    }
+
+    /// The next line, where it is a file's and all of it is at hand, and its tokens.
+    #[inline(always)]
+    fn peek<'a>(&'a self, alloc: Global, tokens: &mut LineTokens<'a>) -> Option<Peeked>
+        requires { HoldsNothing tokens.old }
+        ensures ahead { IfSome result (λ p. IsAtHand self.now p (held tokens.new)) }
+        ensures within { tokens.new.few.count ≤ 8 }
+    {
+        match self {
+            Source::File(file) => file.peek(alloc, tokens),
+            Source::Call(_) | Source::Repeat(_, _, _) => None,
+        }
+    }
+
+    /// Takes the next line of a file, which is this one.
+    #[inline(always)]
+    fn take_peeked(&mut self, line: Peeked)
+        ensures taken { (m : Files) (ts : List Lexeme) → IsAtHand self.old line ts →
+            TakesWritten (left_in m self.old) line.number ts (left_in m self.new) }
+        ensures named { (p : Place) → IsNamed self.old p → IsNamed self.new p }
+        ensures call { is_call self.new ≡ is_call self.old }
+    {
+        if let Source::File(file) = self {
+            file.take_peeked(line);
+        }
+    }
+}
+
+impl Reader {
+    /// The next line, where it is a file's, all of it is at hand, and a line more may be taken; and its tokens.
+    #[inline(always)]
+    pub fn peek<'a>(&'a self, alloc: Global, tokens: &mut LineTokens<'a>) -> Option<Peeked>
+        requires { HoldsNothing tokens.old }
+        ensures ahead { IfSome result (λ p. IsNext self.now p (held tokens.new)) }
+        ensures within { tokens.new.few.count ≤ 8 }
+    {
+        if self.room == 0 {
+            return None;
+        }
+        self.top.source.peek(alloc, tokens)
+    }
+
+    /// Takes the next line, which is this one.
+    #[inline(always)]
+    pub fn take_peeked(&mut self, line: Peeked)
+        ensures taken { (m : Files) (ts : List Lexeme) → IsNext self.old line ts →
+            Takes (left_of m self.old) (Ok (Some ts, left_of m self.new)) }
+        ensures place { self.new.place ≡ moved self.old.place line.number }
+        ensures room { self.new.room ≡ self.old.room - 1 }
+        ensures mark { mark_of self.new.top ≡ mark_of self.old.top }
+        ensures outer { self.new.outer ≡ self.old.outer }
+        ensures named { NamesFiles self.old → NamesFiles self.new }
+    {
+        self.top.source.take_peeked(line);
+        self.room = self.room.saturating_sub(1);
+        self.place.line = line.number;
+    }
+
+    /// Passes over the next line where it is a file's, all of it is at hand and it is plain; whether it was.
+    fn pass_line(&mut self) -> bool
+        ensures passed { (m : Files) → IsTrue result → PassesPlain (left_of m self.old) (left_of m self.new) }
+        ensures room { IsTrue result → self.new.room < self.old.room }
+        ensures mark { mark_of self.new.top ≡ mark_of self.old.top }
+        ensures outer { self.new.outer ≡ self.old.outer }
+        ensures named { NamesFiles self.old → NamesFiles self.new }
+        ensures none { result ≡ false → self.new ≡ self.old }
+    {
+        if self.room == 0 {
+            return false;
+        }
+        match self.top.source.peek_plain() {
+            Some(line) => {
+                self.take_peeked(line);
+                true
+            }
+            None => false,
+        }
+    }
+
+    /// Passes over plain lines of a file, each of which is taken. It stops at the latest where the bytes at hand end.
+    pub fn pass_plain_lines(&mut self)
+        ensures passed { (m : Files) → Plainly (left_of m self.old) (left_of m self.new) }
+        ensures room { self.new.room ≤ self.old.room }
+        ensures mark { mark_of self.new.top ≡ mark_of self.old.top }
+        ensures outer { self.new.outer ≡ self.old.outer }
+        ensures named { NamesFiles self.old → NamesFiles self.new }
+    {
+        'lines: loop {
+            if !self.pass_line() {
+                return;
+            }
+        }
+    }
+}

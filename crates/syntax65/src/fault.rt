@@ -1,0 +1,135 @@
+//! Why a source's statements can't be given.
+
+ghost use Rattle.std.specs.Prelude.{◌≡◌};
+ghost use Rattle.syntax65.specs.declared.fault.ExpandFault.TheVariants.{FileError, FileNotFound, OutOfMemory};
+ghost use Rattle.syntax65.specs.ExpandFaults.{fault_of_lexing, fault_of_parsing, fault_of_store};
+
+use base65::{Sequence, StoreFault};
+use std::alloc::{AllocError, AllocFailed};
+use std::error::Error;
+use std::fmt;
+use crate::{ExprFault, LexFault};
+
+/// Why a source's statements can't be given.
+#[derive(Debug, Drop)]
+pub enum ExpandFault {
+    /// An earlier call was refused.
+    FailedBefore,
+    OutOfMemory,
+    /// A line has no tokens.
+    Syntax(LexFault),
+    FileNotFound,
+    FileError,
+    /// A condition or a count isn't constant at its line.
+    NotConstant,
+    /// Too many files, expansions and repeats are open.
+    Nested,
+    TooManyLines,
+    /// A block isn't closed in the file, expansion or repeat that opened it.
+    NotClosed,
+    /// A block is closed, or left, that isn't open.
+    NotOpened,
+    TooManyArguments,
+    MacroTwice,
+    /// A macro is defined within a macro.
+    MacroInside,
+    /// A repeat's count is out of range.
+    CountOutOfRange,
+    FileTooLong,
+    /// The text of an `.error`.
+    Error(Sequence<u8>),
+    /// A directive isn't understood.
+    NotUnderstood,
+    /// A line has too many tokens once names are replaced.
+    LineTooLong,
+}
+
+impl ExpandFault {
+    ghost use Rattle.syntax65.specs.ExpandFaults.{own_words, expand_words};
+
+    /// The words of a fault that has no text of its own.
+    fn own_words(&self) -> &[u8]
+        ensures { result.now ≡ own_words self.now }
+    {
+        match self {
+            ExpandFault::FailedBefore => b"failed before",
+            ExpandFault::OutOfMemory => b"out of memory",
+            ExpandFault::FileNotFound => b"file not found",
+            ExpandFault::FileError => b"file error",
+            ExpandFault::NotConstant => b"not constant",
+            ExpandFault::Nested => b"nested over 256",
+            ExpandFault::TooManyLines => b"too many lines",
+            ExpandFault::NotClosed => b"block not closed",
+            ExpandFault::NotOpened => b"block end without begin",
+            ExpandFault::TooManyArguments => b"too many arguments",
+            ExpandFault::MacroTwice => b"macro defined twice",
+            ExpandFault::MacroInside => b"macro inside macro",
+            ExpandFault::CountOutOfRange => b"repeat count out of range",
+            ExpandFault::FileTooLong => b"file too long",
+            ExpandFault::NotUnderstood => b"directive not understood",
+            ExpandFault::LineTooLong => b"replaced line too long",
+            ExpandFault::Syntax(_) | ExpandFault::Error(_) => b"",
+        }
+    }
+
+    /// The words of a message. Those of an `.error` are the bytes of its text.
+    pub fn words(&self) -> &[u8]
+        ensures { result.now ≡ expand_words self.now }
+    {
+        match self {
+            ExpandFault::Syntax(fault) => fault.words().as_bytes(),
+            ExpandFault::Error(text) => text.as_slice(),
+            _ => self.own_words(),
+        }
+    }
+}
+
+impl From<AllocError> for ExpandFault {
+    ghost from_gives = { λ _ e. e ≡ OutOfMemory };
+
+    fn from(_e: AllocError) -> ExpandFault {
+        ExpandFault::OutOfMemory
+    }
+}
+
+impl<T: Drop> From<AllocFailed<T>> for ExpandFault {
+    ghost from_gives = { λ _ e. e ≡ OutOfMemory };
+
+    fn from(_e: AllocFailed<T>) -> ExpandFault {
+        ExpandFault::OutOfMemory
+    }
+}
+
+impl From<LexFault> for ExpandFault {
+    ghost from_gives = { λ fault e. e ≡ fault_of_lexing fault };
+
+    fn from(fault: LexFault) -> ExpandFault {
+        match fault {
+            LexFault::OutOfMemory => ExpandFault::OutOfMemory,
+            _ => ExpandFault::Syntax(fault),
+        }
+    }
+}
+
+impl From<ExprFault> for ExpandFault {
+    ghost from_gives = { λ fault e. e ≡ fault_of_parsing fault };
+
+    fn from(fault: ExprFault) -> ExpandFault {
+        match fault {
+            ExprFault::OutOfMemory => ExpandFault::OutOfMemory,
+            _ => ExpandFault::NotUnderstood,
+        }
+    }
+}
+
+impl From<StoreFault> for ExpandFault {
+    ghost from_gives = { λ fault e. e ≡ fault_of_store fault };
+
+    fn from(fault: StoreFault) -> ExpandFault {
+        match fault {
+            StoreFault::OutOfMemory => ExpandFault::OutOfMemory,
+            StoreFault::FileNotFound => ExpandFault::FileNotFound,
+            StoreFault::FileError => ExpandFault::FileError,
+        }
+    }
+}

@@ -1,7 +1,6 @@
-use Rattle.std.proofs.Common.{◌∙◌, ap}
+use Rattle.std.proofs.Common.{◌∙◌, ap, drop, ◌+◌}
 use Rattle.std.specs.List.{flat_map}
 use Rattle.language65.specs.Numbering.{once}
-use Rattle.std.proofs.Common.{drop, ◌+◌}
 use Rattle.sections65.specs.Inner.Ordering.{fragment_keys, section_files}
 use Rattle.sections65.proofs.Keys.{once_step}
 use Rattle.sections65.proofs.numbering.ordering.name_sections.Goals as goal

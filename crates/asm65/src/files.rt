@@ -21,9 +21,9 @@ use base65::{Sequence, Store, StoreFault, read_front};
 use expand65::name_beside;
 use language65::{AsmFault, At, PartRange, Statement};
 use layout65::{Before, check_unread};
-use syntax65::MAX_FILE;
 use std::alloc::Global;
 use std::mem::replace;
+use syntax65::MAX_FILE;
 
 /// The bytes of a file that is looked for beside another one, if it is there. Of one with too many
 /// bytes one byte behind the limit is read.

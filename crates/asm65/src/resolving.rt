@@ -13,10 +13,10 @@ ghost use Rattle.symbols65.specs.Resolving.{IsTable};
 ghost use Rattle.symbols65.specs.Views.{table_of};
 ghost use Rattle.asm65.specs.Inner.Resolving.{coming, lost, made_in, noted};
 
-use crate::assembler::{Piece, Fixup};
+use crate::assembler::{Fixup, Piece};
 use crate::putting::values::{is_file_name, literal_of, stored};
 use base65::Sequence;
-use language65::{AsmFault, At, GLOBAL_SCOPE, Part, Declaration, Context};
+use language65::{AsmFault, At, Context, Declaration, GLOBAL_SCOPE, Part};
 use object65::{Action, Norm, Width};
 use std::alloc::{AllocError, Global};
 use symbols65::{Key, NormCache, Symbols, defined_norm, norm, operand_form};

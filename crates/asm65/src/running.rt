@@ -23,10 +23,10 @@ use crate::files::read_part;
 use crate::taking::is_sound;
 use base65::Store;
 use expand65::{ExpandFault, Expander, Line, Statement as Given};
-use language65::{AsmFault, At, Statement, GLOBAL_SCOPE};
+use language65::{AsmFault, At, GLOBAL_SCOPE, Statement};
 use statements65::{instruction_front, label, operand, statement};
 use std::alloc::Global;
-use syntax65::{Token, TokenKind, LineTokens};
+use syntax65::{LineTokens, Token, TokenKind};
 
 /// How many tokens most lines have at most. For so many nothing is allocated.
 const FEW_TOKENS: usize = 8;

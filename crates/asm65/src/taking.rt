@@ -21,7 +21,7 @@ use crate::assembler::Assembler;
 use crate::naming::Mention;
 use crate::putting::Site;
 use base65::Sequence;
-use language65::{AsmFault, At, Operand, Settled, Context, Statement};
+use language65::{AsmFault, At, Context, Operand, Settled, Statement};
 use layout65::{Before, Measured, asks_section, measure, measure_instruction};
 use std::alloc::{AllocError, Global};
 use symbols65::Key;
@@ -175,7 +175,11 @@ impl Assembler {
             Statement::Constant { name, value } => {
                 self.define_constant(alloc, site, size, name.as_slice(), value)
             }
-            Statement::OpenScope(Some(name)) => self.open_block(alloc, context, Some(name.as_slice())),
+            Statement::OpenScope(Some(name)) => self.open_block(
+                alloc,
+                context,
+                Some(name.as_slice()),
+            ),
             Statement::OpenScope(None) => self.open_block(alloc, context, None),
             Statement::OpenProc(name) => self.open_proc(alloc, context, size, name.as_slice()),
             Statement::Import { size, names } => {

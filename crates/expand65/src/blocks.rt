@@ -13,8 +13,8 @@ use crate::fronts::{Directive, behind_first, is_mislabelled, line_directive};
 use crate::line::Line;
 use crate::reader::Reader;
 use base65::{Sequence, Store};
-use syntax65::{ExpandFault, Token};
 use std::alloc::{AllocError, Global};
+use syntax65::{ExpandFault, Token};
 
 /// What is taken as a whole.
 #[derive(Clone, Copy)]

@@ -11,11 +11,11 @@ ghost use Rattle.syntax65.specs.ExpandFaults.{is_failure, is_outside};
 ghost use Rattle.expand65.specs.Macros.{outermost};
 ghost use Rattle.expand65.specs.Standing.{PopsTo};
 
-use crate::knows::Knows;
 use crate::fronts::{Test, opens_parenthesis};
-use syntax65::{ExpandFault, Expr, ExprKind, Name, Token, read_expr};
+use crate::knows::Knows;
 use std::alloc::{AllocError, Global};
 use std::marker::Model;
+use syntax65::{ExpandFault, Expr, ExprKind, Name, Token, read_expr};
 
 /// An expression of all the tokens.
 pub fn expression(alloc: Global, tokens: &[Token<'_>]) -> Result<Expr, ExpandFault>

@@ -14,21 +14,21 @@ ghost use Rattle.expand65.specs.Inside.{NamesFiles, left_of, mark_of};
 ghost use Rattle.expand65.specs.Left.{moved};
 ghost use Rattle.expand65.specs.Lines.{bytes_of};
 
-use crate::rewriter::{Rewriter, Turn};
-use crate::fronts::{front_directive, label_len};
-use crate::reader::{Input, Reader};
-use crate::line::Line;
-use crate::file::OpenFile;
-use crate::passing::Peeked;
-use crate::input::Source;
-use syntax65::{ExpandFault, LineTokens, Place, Token, TokenKind};
 use crate::conditions::Conditions;
+use crate::file::OpenFile;
+use crate::fronts::{front_directive, label_len};
 use crate::includes::is_there;
+use crate::input::Source;
 use crate::knows::Knows;
+use crate::line::Line;
+use crate::passing::Peeked;
+use crate::reader::{Input, Reader};
+use crate::rewriter::{Rewriter, Turn};
 use base65::{Sequence, Store, Text};
 use indexmap::IndexMap;
 use std::alloc::{AllocError, Global};
 use std::mem;
+use syntax65::{ExpandFault, LineTokens, Place, Token, TokenKind};
 
 impl Rewriter {
     /// Whether a token names a macro.

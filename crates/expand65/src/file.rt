@@ -10,9 +10,9 @@ ghost use Rattle.expand65.specs.Lines.{lines_of, IsPiece, ReadsLine, TakesPiece,
 
 use base65::{Sequence, Store, StoreFault, Text};
 use memchr::memchr;
-use syntax65::{ExpandFault, LexFault, MAX_FILE, MAX_LINE};
 use std::alloc::Global;
 use std::mem;
+use syntax65::{ExpandFault, LexFault, MAX_FILE, MAX_LINE};
 
 /// How many bytes of a file are at hand at most.
 const BUFFER: usize = 4096;

@@ -11,8 +11,8 @@ ghost use Rattle.expand65.specs.Expansion.{as_text, begins_with_slash, beside, f
 ghost use Rattle.expand65.specs.Macros.{Tries, file_of, is_there};
 
 use base65::{Store, StoreFault, Text};
-use syntax65::{ExpandFault, MAX_FILE};
 use std::alloc::{AllocError, Global};
+use syntax65::{ExpandFault, MAX_FILE};
 
 /// A file's name up to and with its last `/`, nothing where it has none.
 fn folder_of(file: &[u8]) -> &[u8]

@@ -15,8 +15,8 @@ use crate::line::Line;
 use crate::passing::trimmed;
 use crate::playing::Replay;
 use base65::{Sequence, Store};
-use syntax65::{ExpandFault, Token, TokenKind};
 use std::alloc::{AllocError, Global};
+use syntax65::{ExpandFault, Token, TokenKind};
 
 /// Where lines come from.
 #[derive(Drop)]

@@ -22,10 +22,9 @@ pub use blocks::{BlockEnd, BlockKind, WholeBlock};
 pub use expander::{Expander, Options, Statement};
 pub use file::OpenFile;
 pub use fronts::{
-    behind_first, closes_brace, front_directive, is_comma, label_len, name_in, opens_brace,
-    opens_parenthesis, string_of,
+    Directive, Test, behind_first, closes_brace, front_directive, is_comma, label_len, name_in,
+    opens_brace, opens_parenthesis, string_of,
 };
-pub use fronts::{Directive, Test};
 pub use includes::name_beside;
 pub use input::{Source, number_line};
 pub use knows::Knows;

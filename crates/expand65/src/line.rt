@@ -11,8 +11,8 @@ ghost use Rattle.expand65.specs.Lines.{lexed};
 
 use crate::fronts::{Directive, directive_in, is_mislabelled, label_len};
 use base65::Sequence;
-use syntax65::{ExpandFault, Lexer, Mark, Token, TokenKind};
 use std::alloc::{AllocError, Global};
+use syntax65::{ExpandFault, Lexer, Mark, Token, TokenKind};
 
 /// What a token of a line is, how many of the line's bytes part it from the token before, and how many are its own.
 #[derive(Clone, Copy)]

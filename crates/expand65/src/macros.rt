@@ -13,18 +13,18 @@ ghost use Rattle.expand65.specs.Inside.{StopsAt, NamesFiles};
 ghost use Rattle.expand65.specs.Left.{number_token};
 ghost use Rattle.expand65.specs.Standing.{MacroFound, IsOpening, Turns, macros_of, size_of, state_of, weight_of};
 
+use crate::blocks::BlockKind;
+use crate::fronts::{behind_first, closes_brace, is_comma, name_in, opens_brace};
+use crate::input::{Source, number_line};
+use crate::line::Line;
+use crate::playing::{Body, Replay};
+use crate::reader::Input;
 use crate::rewriter::{Rewriter, Turn};
 use base65::{Sequence, Store};
 use indexmap::{IndexMap, IndexSet};
-use crate::blocks::BlockKind;
-use crate::playing::{Body, Replay};
-use crate::reader::Input;
-use crate::line::Line;
-use crate::input::{Source, number_line};
-use crate::fronts::{behind_first, closes_brace, is_comma, name_in, opens_brace};
-use syntax65::{ExpandFault, Token, TokenKind};
 use std::alloc::{AllocError, Global};
 use std::rc::Rc;
+use syntax65::{ExpandFault, Token, TokenKind};
 
 /// The name at a place, if one stands there.
 pub fn name_at<'a>(tokens: &[Token<'a>], at: usize) -> Option<&'a [u8]>

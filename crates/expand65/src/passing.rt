@@ -11,8 +11,8 @@ ghost use Rattle.expand65.specs.Playing.{IsPlainLine, PassesPlain, Plainly, dire
 ghost use Rattle.expand65.specs.Lines.{left_in_file, without_return, Takes};
 ghost use Rattle.syntax65.specs.Held.{HoldsNothing, held};
 
-use crate::fronts::{Directive, directive_in, is_colon};
 use crate::file::{OpenFile, line_len};
+use crate::fronts::{Directive, directive_in, is_colon};
 use crate::input::Source;
 use crate::reader::Reader;
 use std::alloc::Global;

@@ -16,9 +16,9 @@ use crate::input::Source;
 use crate::line::Line;
 use base65::{Seed, Sequence};
 use indexmap::{IndexMap, IndexSet};
-use syntax65::{ExpandFault, Token, TokenKind};
 use std::alloc::{AllocError, Global};
 use std::rc::Rc;
+use syntax65::{ExpandFault, Token, TokenKind};
 
 /// What stands for a name of an expansion's own.
 fn own_line(alloc: Global, number: u64, name: &[u8]) -> Result<Line, AllocError>

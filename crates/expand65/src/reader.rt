@@ -12,9 +12,9 @@ ghost use Rattle.expand65.specs.Blocks.{TakesInBlock};
 use crate::input::{NextLine, Source};
 use crate::line::Line;
 use base65::Store;
-use syntax65::{ExpandFault, Place};
 use std::alloc::Global;
 use std::mem;
+use syntax65::{ExpandFault, Place};
 
 /// How many files, expansions and repeats are open at most inside the source.
 const MAX_NESTING: usize = 256;

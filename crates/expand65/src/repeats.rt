@@ -16,18 +16,18 @@ ghost use Rattle.syntax65.specs.Trees.{Tree};
 ghost use Rattle.syntax65.specs.declared.expressions.words.ExprFault.{ExprFault};
 ghost use Rattle.expand65.specs.Failing.{FailsAtRepeat, FailsRepeating};
 
+use crate::blocks::BlockKind;
+use crate::input::Source;
 use crate::knows::Knows;
 use crate::macros::{is_comma_at, name_at, names_of};
+use crate::playing::{Body, Replay};
+use crate::reader::Input;
 use crate::rewriter::{Rewriter, Turn};
 use base65::{Sequence, Store};
 use indexmap::{IndexMap, IndexSet};
-use crate::blocks::BlockKind;
-use crate::playing::{Body, Replay};
-use crate::reader::Input;
-use crate::input::Source;
-use syntax65::{ExpandFault, Expr, Token, read_expr};
 use std::alloc::{AllocError, Global};
 use std::rc::Rc;
+use syntax65::{ExpandFault, Expr, Token, read_expr};
 
 /// Whether a name was made of one of an expansion's own.
 fn is_made(name: &[u8]) -> bool

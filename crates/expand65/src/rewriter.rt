@@ -14,21 +14,21 @@ ghost use Rattle.expand65.specs.Lines.{bytes_of};
 ghost use Rattle.expand65.specs.Standing.{Turns, size_of, stands_alone, state_of, weight_of};
 ghost use Rattle.expand65.specs.Macros.{file_of};
 
+use crate::blocks::{BlockEnd, BlockKind};
 use crate::conditions::{Conditions, condition};
+use crate::file::OpenFile;
+use crate::fronts::{Directive, Test, behind_first, string_of};
 use crate::includes::find_file;
+use crate::input::Source;
 use crate::knows::Knows;
+use crate::line::Line;
+use crate::playing::Body;
+use crate::reader::{Input, Reader};
 use base65::{Seed, Sequence, Store, Text};
 use indexmap::IndexMap;
-use crate::blocks::{BlockEnd, BlockKind};
-use crate::playing::Body;
-use crate::fronts::{Directive, Test, behind_first, string_of};
-use crate::reader::{Input, Reader};
-use crate::line::Line;
-use crate::file::OpenFile;
-use crate::input::Source;
-use syntax65::{ExpandFault, Place, Token};
 use std::alloc::Global;
 use std::rc::Rc;
+use syntax65::{ExpandFault, Place, Token};
 
 /// Where a line or an end mark leads to.
 #[derive(Drop)]

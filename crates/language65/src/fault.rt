@@ -4,10 +4,10 @@ ghost use Rattle.std.specs.Prelude.{◌≡◌, Some};
 ghost use Rattle.language65.specs.declared.fault.AsmFault.TheVariants.{Expansion, OutOfMemory};
 
 use base65::{Sequence, StoreFault};
-use syntax65::{ExpandFault, ExprFault};
 use std::alloc::{AllocError, AllocFailed};
 use std::error::Error;
 use std::fmt;
+use syntax65::{ExpandFault, ExprFault};
 
 /// Why a source has no object. Where a name is concerned, it is the name as it is written.
 #[derive(Debug, Drop)]

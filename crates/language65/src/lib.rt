@@ -7,7 +7,7 @@ mod fault;
 mod laid;
 mod language;
 
-pub use contents::{Part, Declaration, Segment};
+pub use contents::{Declaration, Part, Segment};
 pub use fault::AsmFault;
-pub use laid::{At, GLOBAL_SCOPE, Settled, Context};
+pub use laid::{At, Context, GLOBAL_SCOPE, Settled};
 pub use language::{Index, Item, Items, ItemsKind, Operand, OptionalExpr, PartRange, Statement};

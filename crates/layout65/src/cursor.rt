@@ -15,7 +15,7 @@ ghost use Rattle.layout65.specs.Sounds.{AreWithin, IsCounted, IsSoundCursor, cur
 use crate::measuring::Measured;
 use base65::Sequence;
 use indexmap::IndexSet;
-use language65::{GLOBAL_SCOPE, Segment, Context, Statement};
+use language65::{Context, GLOBAL_SCOPE, Segment, Statement};
 use object65::format::SECTION_LIMIT;
 use std::alloc::{AllocError, Global};
 use symbols65::Symbols;

@@ -23,7 +23,7 @@ pub use self::kinds::asks_section;
 use self::kinds::{check_defined, check_opened, check_outside, place};
 use self::trees::{check_operand, check_trees};
 use crate::cursor::Cursor;
-use language65::{AsmFault, Operand, Settled, Context, Statement};
+use language65::{AsmFault, Context, Operand, Settled, Statement};
 use std::alloc::Global;
 use symbols65::{NormCache, Symbols};
 use syntax65::{AddressSize, Mnemonic};

@@ -7,13 +7,13 @@ ghost use Rattle.sections65.specs.Fed.{place_by, Begins, IsEntry, names_in, name
 ghost use Rattle.object65.specs.Objects.{is_good_object, ObjectFits};
 ghost use Rattle.language65.specs.Numbering.{object_with, AreSound};
 
-use crate::entries::{Entry, SourcePos, Entries};
-use crate::numbering::{narrow, Imports, in_order, object_of};
+use crate::entries::{Entries, Entry, SourcePos};
+use crate::numbering::{Imports, in_order, narrow, object_of};
 use base65::Sequence;
 use indexmap::IndexSet;
-use language65::{At, Part, Declaration, Segment};
-use std::alloc::{AllocError, Global};
+use language65::{At, Declaration, Part, Segment};
 use object65::{Norm, Object, Width};
+use std::alloc::{AllocError, Global};
 
 /// The names of files in the order in which something stands in them, each once.
 #[derive(Drop)]

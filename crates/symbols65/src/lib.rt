@@ -7,7 +7,7 @@ mod resolving;
 mod table;
 
 pub use resolving::{
-    NormCache, Meaning, State, defined_norm, definition_of, stable_form, meaning_of, norm, operand_form,
-    plain_part, scope_of, scopes_in, shown,
+    Meaning, NormCache, State, defined_norm, definition_of, meaning_of, norm, operand_form,
+    plain_part, scope_of, scopes_in, shown, stable_form,
 };
 pub use table::{Definition, Entry, Key, Opening, Symbols};

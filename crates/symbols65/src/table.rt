@@ -3,6 +3,4 @@
 mod adding;
 mod symbols;
 
-pub use symbols::Definition;
-pub use symbols::{Entry, Key, Opening};
-pub use symbols::Symbols;
+pub use symbols::{Definition, Entry, Key, Opening, Symbols};

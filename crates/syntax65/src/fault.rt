@@ -4,11 +4,11 @@ ghost use Rattle.std.specs.Prelude.{◌≡◌};
 ghost use Rattle.syntax65.specs.declared.fault.ExpandFault.TheVariants.{FileError, FileNotFound, OutOfMemory};
 ghost use Rattle.syntax65.specs.ExpandFaults.{fault_of_lexing, fault_of_parsing, fault_of_store};
 
+use crate::{ExprFault, LexFault};
 use base65::{Sequence, StoreFault};
 use std::alloc::{AllocError, AllocFailed};
 use std::error::Error;
 use std::fmt;
-use crate::{ExprFault, LexFault};
 
 /// Why a source's statements can't be given.
 #[derive(Debug, Drop)]

@@ -4,9 +4,6 @@ mod lines;
 mod places;
 mod tokens;
 
-pub use tokens::LexFault;
-pub use lines::{LineFront, line_front};
-pub use lines::Lexer;
-pub use lines::{LineTokens, MAX_LINE, line_tokens};
+pub use lines::{Lexer, LineFront, LineTokens, MAX_LINE, line_front, line_tokens};
 pub use places::MAX_NAME;
-pub use tokens::{AddressSize, Mark, Token, TokenKind};
+pub use tokens::{AddressSize, LexFault, Mark, Token, TokenKind};

@@ -13,10 +13,10 @@ ghost use Rattle.module65.specs.Module.{asserted, given, instruction_pieces, val
 ghost use Rattle.language65.specs.Items.{numbered};
 
 use super::Site;
-use super::values::{bytes_of, items_of, put_code, put_part, put_room, literal_of};
+use super::values::{bytes_of, items_of, literal_of, put_code, put_part, put_room};
 use crate::assembler::{Assembler, Piece};
 use base65::Sequence;
-use language65::{Item, Items, ItemsKind, Operand, Settled, Context};
+use language65::{Context, Item, Items, ItemsKind, Operand, Settled};
 use object65::{Action, Width};
 use std::alloc::{AllocError, Global};
 use symbols65::{Symbols, stable_form};
@@ -49,7 +49,12 @@ fn operand_value(operand: Operand) -> Option<Expr>
 }
 
 /// Whether a value is another one than 0, whatever statements follow.
-fn is_so(alloc: Global, symbols: &Symbols, context: Context, value: &Expr) -> Result<bool, AllocError>
+fn is_so(
+    alloc: Global,
+    symbols: &Symbols,
+    context: Context,
+    value: &Expr,
+) -> Result<bool, AllocError>
     ensures { IfOk result (λ so. so ≡ true → IsSo (table_of symbols.now) context value.now) }
 {
     match stable_form(alloc, symbols, context, value)? {
@@ -186,7 +191,12 @@ impl Assembler {
 
     /// Enters room of so many bytes, filled with the byte that is settled, if there is one.
     #[inline(never)]
-    pub fn enter_room(&mut self, context: Context, count: u32, settled: Settled) -> Result<(), AllocError>
+    pub fn enter_room(
+        &mut self,
+        context: Context,
+        count: u32,
+        settled: Settled,
+    ) -> Result<(), AllocError>
         ensures { OnOk result ((place : Place) → Enters place context
             (given (room_part count settled) ∷ []) self.old self.new) }
     {

@@ -15,16 +15,16 @@ ghost use Rattle.symbols65.specs.Tables.{Begins};
 ghost use Rattle.module65.specs.Module.{datum, operand, valued};
 
 use super::Site;
-use base65::{Sequence, Seed};
-use language65::{At, Item, Settled, Context, AsmFault, Part};
-use object65::{Norm, Width, fits, put, Node};
+use crate::assembler::{Assembler, Fixup, Piece};
+use base65::{Seed, Sequence};
+use indexmap::IndexSet;
+use language65::{AsmFault, At, Context, Item, Part, Settled};
+use object65::format::FILE_NAME_LIMIT;
+use object65::{Node, Norm, Width, fits, put};
 use sections65::Sections;
 use std::alloc::{AllocError, Global};
 use symbols65::{operand_form, stable_form};
 use syntax65::{Expr, ExprKind};
-use crate::assembler::{Assembler, Piece, Fixup};
-use indexmap::IndexSet;
-use object65::format::FILE_NAME_LIMIT;
 
 /// Puts the bytes of a value into the section of a segment, if it lies in its range.
 fn put_literal(

@@ -17,14 +17,16 @@ ghost use Rattle.language65.specs.Items.{numbered};
 ghost use Rattle.language65.specs.Symbols.{Symbols as Table};
 
 use super::trees::check_range;
-use crate::measuring::{Before, Measured, fit};
 use crate::cursor::Cursor;
+use crate::measuring::{Before, Measured, fit};
 use base65::Sequence;
-use language65::{AsmFault, Item, Items, ItemsKind, Operand, OptionalExpr, PartRange, Settled, Context};
+use language65::{
+    AsmFault, Context, Item, Items, ItemsKind, Operand, OptionalExpr, PartRange, Settled,
+};
 use object65::Width;
-use syntax65::{MAX_FILE, Mnemonic, Mode};
 use std::alloc::Global;
 use symbols65::{NormCache, Symbols, knowing};
+use syntax65::{MAX_FILE, Mnemonic, Mode};
 
 /// The value of an expression that has to be constant, if there is one.
 fn named(
@@ -170,7 +172,15 @@ pub fn instruction(
 {
     let own = before.cursor.segment().size;
     let context = before.cursor.context();
-    let mode = knowing::mode(alloc, before.symbols, known, context, own, mnemonic, operand)?;
+    let mode = knowing::mode(
+        alloc,
+        before.symbols,
+        known,
+        context,
+        own,
+        mnemonic,
+        operand,
+    )?;
     let Some(mode) = mode else {
         return Err(AsmFault::NoSuchForm);
     };

@@ -13,13 +13,13 @@ ghost use Rattle.symbols65.specs.Resolving.{IsTable};
 ghost use Rattle.layout65.specs.Measuring.{is_bare, placed};
 ghost use Rattle.layout65.specs.Sounds.{IsSoundCursor, cursor_of};
 
-use base65::Sequence;
-use language65::{AsmFault, Context, Statement, PartRange};
-use std::alloc::Global;
-use symbols65::{Key, Symbols, NormCache, knowing};
 use super::bytes::{file_part, instruction, values};
 use super::rooms::{align, check_kept, check_proc, check_scope, check_segment, reserve};
 use crate::measuring::{Before, Measured, nothing};
+use base65::Sequence;
+use language65::{AsmFault, Context, PartRange, Statement};
+use std::alloc::Global;
+use symbols65::{Key, NormCache, Symbols, knowing};
 use syntax65::{Expr, ExprKind};
 
 fn stands_outside(statement: &Statement) -> bool
@@ -47,7 +47,12 @@ pub fn check_outside(scope: usize, statement: &Statement) -> Result<(), AsmFault
 
 /// Refuses a scope of a name that the scope around it has already.
 #[inline(never)]
-fn check_new_scope(alloc: Global, symbols: &Symbols, scope: usize, name: &[u8]) -> Result<(), AsmFault>
+fn check_new_scope(
+    alloc: Global,
+    symbols: &Symbols,
+    scope: usize,
+    name: &[u8],
+) -> Result<(), AsmFault>
     ensures { Gives is_memory (λ u. u) result (unless_fault (where_there
         (scope_in (table_of symbols.now).scopes scope name.now) (ScopeTwice name.now)) tt) }
 {

@@ -13,9 +13,9 @@ ghost use Rattle.language65.specs.Norms.{counted, fill_settled, gap, optional_va
 ghost use Rattle.symbols65.specs.Resolving.{IsTable};
 ghost use Rattle.layout65.specs.Measuring.{any_settled, placed};
 
-use crate::measuring::{Before, Measured, fit};
 use crate::cursor::Cursor;
-use language65::{AsmFault, OptionalExpr, Segment, Settled, Context};
+use crate::measuring::{Before, Measured, fit};
+use language65::{AsmFault, Context, OptionalExpr, Segment, Settled};
 use std::alloc::Global;
 use symbols65::{NormCache, Symbols, knowing};
 use syntax65::{AddressSize, Expr};

@@ -109,7 +109,11 @@ fn add_name(keys: &mut IndexSet<u32>, imports: &Imports, name: &[u8]) -> Result<
 }
 
 /// Adds the imports of what a statement says.
-fn add_saying(keys: &mut IndexSet<u32>, imports: &Imports, said: &Declaration) -> Result<(), AllocError>
+fn add_saying(
+    keys: &mut IndexSet<u32>,
+    imports: &Imports,
+    said: &Declaration,
+) -> Result<(), AllocError>
     ensures { OnOk result (keys.new.keys ≡ once keys.old.keys
         (said_imports (names_of imports.now) (said_at anywhere said.now))) }
 {
@@ -125,7 +129,11 @@ fn add_saying(keys: &mut IndexSet<u32>, imports: &Imports, said: &Declaration) -
 }
 
 /// Adds the imports of all that a statement says.
-fn add_said(keys: &mut IndexSet<u32>, imports: &Imports, said: &[Declaration]) -> Result<(), AllocError>
+fn add_said(
+    keys: &mut IndexSet<u32>,
+    imports: &Imports,
+    said: &[Declaration],
+) -> Result<(), AllocError>
     ensures { OnOk result (keys.new.keys ≡ once keys.old.keys
         (flat_map (said_imports (names_of imports.now)) (map (said_at anywhere) said.now))) }
 {

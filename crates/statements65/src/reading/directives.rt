@@ -10,12 +10,12 @@ ghost use Rattle.language65.specs.declared.language.Statement.TheVariants.{Segme
 
 use super::operands::{expression, first_part, number_in, one_or_two};
 use super::tokens::{is_comma, name_of, needed, string_of, word_of};
-use super::words::{Elements, Names, Amount, Lone, Message};
+use super::words::{Amount, Elements, Lone, Message, Names};
 use base65::Sequence;
-use language65::{AsmFault, Item, Items, ItemsKind, Statement, OptionalExpr};
-use object65::{Width, Action};
+use language65::{AsmFault, Item, Items, ItemsKind, OptionalExpr, Statement};
+use object65::{Action, Width};
 use std::alloc::{AllocError, Global};
-use syntax65::{Token, Expr};
+use syntax65::{Expr, Token};
 
 /// An element of a list.
 fn item(alloc: Global, elements: Elements, tokens: &[Token<'_>]) -> Result<Item, AsmFault>

@@ -12,9 +12,9 @@ ghost use Rattle.language65.specs.Faults.{is_failure, is_outside};
 ghost use Rattle.statements65.specs.Parsing.{is_comma, parts_behind, parts_of, quoted_in, IsExpression, IsFront, IsOneOrTwo, Parses, closing_of, index_of, indirect_by, IsAddress, IsImmediate, IsIndirect, IsOperand, IsOperandFrom, IsPlainOperand};
 
 use super::tokens::{is_close, is_comma, is_spelled, spells, word_of};
-use language65::{AsmFault, OptionalExpr, Index, Operand};
+use language65::{AsmFault, Index, Operand, OptionalExpr};
 use std::alloc::Global;
-use syntax65::{Expr, ExprFault, ExprKind, Token, TokenKind, read_expr, AddressSize, Mark};
+use syntax65::{AddressSize, Expr, ExprFault, ExprKind, Mark, Token, TokenKind, read_expr};
 
 /// The value of a number.
 pub fn number_in(token: &Token<'_>) -> Option<u32>

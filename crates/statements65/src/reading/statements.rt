@@ -9,9 +9,11 @@ ghost use Rattle.syntax65.specs.Mnemonics.{mnemonic_of};
 ghost use Rattle.language65.specs.declared.fault.AsmFault.{AsmFault};
 ghost use Rattle.language65.specs.declared.language.Statement.{Statement};
 
-use super::directives::{amount, file_part, ended_text, list, name_list, assertion, lone, message, processor};
-use super::operands::{operand, expression};
-use super::tokens::{proc, scope, segment, defines, is_colon};
+use super::directives::{
+    amount, assertion, ended_text, file_part, list, lone, message, name_list, processor,
+};
+use super::operands::{expression, operand};
+use super::tokens::{defines, is_colon, proc, scope, segment};
 use super::words::{Directive, directive_of};
 use base65::Sequence;
 use language65::{AsmFault, Statement};

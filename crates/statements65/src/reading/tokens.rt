@@ -10,7 +10,7 @@ ghost use Rattle.std.specs.List.{list_all};
 use base65::Sequence;
 use language65::{AsmFault, Statement};
 use std::alloc::Global;
-use syntax65::{Mark, Token, TokenKind, is_reserved, AddressSize, MAX_NAME};
+use syntax65::{AddressSize, MAX_NAME, Mark, Token, TokenKind, is_reserved};
 
 pub fn is_comma(token: &Token<'_>) -> bool
     ensures { result ≡ is_comma (lexeme_of token.now) }

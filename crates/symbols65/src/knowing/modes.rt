@@ -8,7 +8,7 @@ ghost use Rattle.symbols65.specs.Views.{table_of};
 use super::sizes::size;
 use crate::resolving::NormCache;
 use crate::table::Symbols;
-use language65::{Index, Operand, Context};
+use language65::{Context, Index, Operand};
 use std::alloc::{AllocError, Global};
 use syntax65::{AddressSize, Mnemonic, Mode, opcode};
 

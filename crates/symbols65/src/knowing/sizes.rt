@@ -8,7 +8,10 @@ ghost use Rattle.symbols65.specs.Views.{table_of};
 ghost use Rattle.std.specs.Result.{result_ok};
 ghost use Rattle.language65.specs.Symbols.{meaning_of};
 
-use crate::resolving::{NormCache, Meaning, Stop, address, binary_form, meaning_of, meant_norm, norm, number_of, prefix_form, settled};
+use crate::resolving::{
+    Meaning, NormCache, Stop, address, binary_form, meaning_of, meant_norm, norm, number_of,
+    prefix_form, settled,
+};
 use crate::table::Symbols;
 use base65::Op1;
 use language65::{AsmFault, Context};
@@ -267,7 +270,9 @@ fn form_and_size(
         | ExprKind::Scoped(_)
         | ExprKind::Cheap(_)
         | ExprKind::Forward(_)
-        | ExprKind::Backward(_) => { reference_form_and_size(alloc, symbols, known, context, value) }
+        | ExprKind::Backward(_) => {
+            reference_form_and_size(alloc, symbols, known, context, value)
+        }
     }
 }
 

@@ -10,13 +10,13 @@ ghost use Rattle.language65.specs.Faults.{is_memory};
 ghost use Rattle.symbols65.specs.declared.resolving.attempt.State.TheVariants.{Unknown, Waiting, Found};
 ghost use Rattle.language65.specs.Norms.{Extends, norm_of};
 
-use super::attempt::{Source, State, Stop, try_norm, try_last};
+use super::attempt::{Source, State, Stop, try_last, try_norm};
 use super::finals::are_final;
 use crate::table::Symbols;
-use language65::{Context, AsmFault};
+use language65::{AsmFault, Context};
+use object65::Norm;
 use std::alloc::{AllocError, Global};
 use syntax65::Expr;
-use object65::Norm;
 
 /// The constant for want of whose final form an expression has none yet, if there is one.
 fn needed_by(

@@ -155,7 +155,8 @@ pub fn are_final(symbols: &Symbols, context: Context, value: &Expr) -> bool
         ExprKind::Number(_) | ExprKind::Here => true,
         ExprKind::Prefix(_, part) => are_final(symbols, context, part),
         ExprKind::Binary(_, operands) => {
-            are_final(symbols, context, &operands.left) && are_final(symbols, context, &operands.right)
+            are_final(symbols, context, &operands.left)
+                && are_final(symbols, context, &operands.right)
         }
         ExprKind::Plain(_)
         | ExprKind::Scoped(_)

@@ -35,7 +35,12 @@ fn difference(alloc: Global, left: Norm, right: Norm) -> Result<Norm, AsmFault>
 }
 
 /// The form that is stored of an operand: of a branch, how far its target lies from behind it.
-pub fn operand_form(alloc: Global, width: Width, context: Context, form: Norm) -> Result<Norm, AsmFault>
+pub fn operand_form(
+    alloc: Global,
+    width: Width,
+    context: Context,
+    form: Norm,
+) -> Result<Norm, AsmFault>
     ensures { Gives is_memory (λ f. f) result (operand_form width context form) }
 {
     match width {

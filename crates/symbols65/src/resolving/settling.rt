@@ -18,7 +18,12 @@ use std::alloc::Global;
 use syntax65::Expr;
 
 /// The normal form of an expression where the forms of what its operands mean now are final.
-pub fn settled(alloc: Global, symbols: &Symbols, context: Context, value: &Expr) -> Result<Norm, Stop>
+pub fn settled(
+    alloc: Global,
+    symbols: &Symbols,
+    context: Context,
+    value: &Expr,
+) -> Result<Norm, Stop>
     ensures { Settles (norm_of (table_of symbols.now) context value.now) result }
 {
     try_norm(alloc, symbols, Source::Finals, context, value)

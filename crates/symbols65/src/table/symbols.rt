@@ -10,12 +10,12 @@ ghost use Rattle.language65.specs.Symbols.{enclosing, scope_in, within, defined,
 ghost use Rattle.language65.specs.Norms.{is_zero_page_name};
 ghost use Rattle.symbols65.specs.Views.{key_at, table_of, words_of};
 
-use language65::Context;
-use object65::Norm;
-use syntax65::{AddressSize, Expr};
 use base65::Seed;
 use indexmap::{IndexMap, IndexSet};
+use language65::Context;
+use object65::Norm;
 use std::alloc::Global;
+use syntax65::{AddressSize, Expr};
 
 /// What a key stands for.
 #[derive(Drop)]

@@ -6,8 +6,8 @@ ghost use Rattle.base65.specs.Relations.{Answers};
 ghost use Rattle.syntax65.specs.Tokens.{ReadsOn, after_blanks, lexeme_of, lexemes, IsEnd, IsRead, IsCutOff, IsNext, IsStart, Lexeme, IsFront, IsScanned};
 ghost use Rattle.syntax65.specs.Held.{HoldsNothing, held};
 
-use super::tokens::{LexFault, Token, TokenKind};
 use super::places::{blank_len, token_at};
+use super::tokens::{LexFault, Token, TokenKind};
 use std::alloc::{AllocError, Global};
 
 /// How many bytes a line has at most.

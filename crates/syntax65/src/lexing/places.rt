@@ -8,7 +8,7 @@ ghost use Rattle.syntax65.specs.Inner.Places.{AreDigitsAhead, IsPlainNumber, IsA
 ghost use Rattle.syntax65.specs.Tokens.{IsEnd};
 ghost use Rattle.syntax65.specs.declared.lexing.places.Class.TheVariants.{Letter, Apostrophe, Quote, Colon, Blank};
 
-use super::tokens::{LexFault, AddressSize, Mark, TokenKind};
+use super::tokens::{AddressSize, LexFault, Mark, TokenKind};
 use base65::digits;
 
 /// What a byte may begin.

@@ -10,12 +10,12 @@ use Rattle.expand65.specs.Lines.{lines_of, file_limit, Taken, Takes, line_limit}
 use Rattle.expand65.specs.Macros.{entered, IsMacro, exit_macro, local_line, ordinary, IsRepeat}
 use Rattle.expand65.specs.Left.{Mark, numbered, Item, labelled, branch, mark, left, innermost, come_back, Left, Stop}
 use Rattle.expand65.specs.State.{State, Stepped, stops, Meaning, label, goes, gives, ends, with_left, with_items, Stated, IsIf, IsElse, conditions_in, ended_if, popped}
-use Rattle.syntax65.specs.declared.fault.ExpandFault.{ExpandFault}
-use Rattle.syntax65.specs.declared.fault.ExpandFault.TheVariants.{FileNotFound, FileTooLong, NotUnderstood}
+use Rattle.syntax65.specs.declared.faults.ExpandFault.{ExpandFault}
+use Rattle.syntax65.specs.declared.faults.ExpandFault.TheVariants.{FileNotFound, FileTooLong, NotUnderstood}
 use Rattle.expand65.specs.declared.fronts.Directive.{Directive}
 use Rattle.expand65.specs.declared.fronts.Directive.TheVariants.{Macro, EndMacro, ExitMacro, Local, Repeat, EndRepeat, If, ElseIf, Else, EndIf, Include, Error, End}
 use Rattle.expand65.specs.declared.fronts.Test.TheVariants.{True}
-use Rattle.syntax65.specs.declared.fault.ExpandFault.TheVariants as fault
+use Rattle.syntax65.specs.declared.faults.ExpandFault.TheVariants as faults
 use Rattle.base65.specs.Outcome.{◌>>=◌}
 
 -- ---- Files.
@@ -91,11 +91,11 @@ include_line m s ts = included_by m s (string_of ts)
 -- what follows where nothing stands behind a directive
 abbrev pub if_alone : State → List Lexeme → Stepped → Stepped
 if_alone s [] r = r
-if_alone s _ r = stops (fault.NotUnderstood, s.left.place)
+if_alone s _ r = stops (faults.NotUnderstood, s.left.place)
 
 -- a block is closed, or left, that isn't open
 abbrev pub not_opened : State → Stepped
-not_opened s = stops (fault.NotOpened, s.left.place)
+not_opened s = stops (faults.NotOpened, s.left.place)
 
 -- the last open condition, where the innermost file, expansion or repeat opened it
 abbrev pub last_condition : State → Option (Bool × List Bool)
@@ -103,13 +103,13 @@ last_condition s = popped s.conditions (conditions_in (innermost s.left.items))
 
 -- `.error` and what stands behind it
 abbrev pub error_by : State → Option (List ℕ) → Stepped
-error_by s None = stops (fault.NotUnderstood, s.left.place)
-error_by s (Some text) = stops (fault.Error text, s.left.place)
+error_by s None = stops (faults.NotUnderstood, s.left.place)
+error_by s (Some text) = stops (faults.Error text, s.left.place)
 
 -- `.else` and what stands behind it
 abbrev pub IsElseLine : State → List Lexeme → Stepped → Type 0
 IsElseLine s [] r = IsElse s (last_condition s) r
-IsElseLine s _ r = r ≡ stops (fault.NotUnderstood, s.left.place)
+IsElseLine s _ r = r ≡ stops (faults.NotUnderstood, s.left.place)
 
 -- a directive and what stands behind it
 abbrev pub IsDirected : Files → Meaning → State → Directive → List Lexeme → Stepped → Type 0
@@ -139,13 +139,13 @@ IsSplit m k s ts directive (suc n) r = r ≡ gives (label (take (suc n) ts)) (wi
 
 -- a label comes first, and the rest of its line stands
 abbrev pub IsLabelled : Files → Meaning → State → List Lexeme → Bool → Stepped → Type 0
-IsLabelled m k s ts true r = r ≡ stops (fault.NotUnderstood, s.left.place)
+IsLabelled m k s ts true r = r ≡ stops (faults.NotUnderstood, s.left.place)
 IsLabelled m k s ts false r = IsSplit m k s ts (line_directive ts) (label_len ts) r
 
 -- an end mark is taken off where as many conditions are open as it says; behind the last one nothing is left
 abbrev pub at_mark : State → List Item → Stepped
 at_mark s [] = ends s
-at_mark s (mark k ∷ is) = if k.conditions == length s.conditions then goes (with_left s (left is s.left.room (come_back s.left.place k.back))) else stops (fault.NotClosed, s.left.place)
+at_mark s (mark k ∷ is) = if k.conditions == length s.conditions then goes (with_left s (left is s.left.room (come_back s.left.place k.back))) else stops (faults.NotClosed, s.left.place)
 at_mark s (_ ∷ is) = ends s
 
 abbrev pub IsStepBehind : Files → Meaning → State → Taken → Stepped → Type 0

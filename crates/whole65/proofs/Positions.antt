@@ -157,7 +157,7 @@ later y place x here h =
       distinct = distinct_behind w.segments w.current count multiple x h.distinct;
       standing =
           all_more (λ (l : Laid). l.context.segment < length z.cursor.segments) y.laid (laid table w place x)
-          (all_same (λ (l : Laid). l.context.segment < length w.segments) (λ (l : Laid). l.context.segment < length z.cursor.segments) (λ l below. up l.context.segment below) y.laid h.cursor)
+          (all_same (λ (l : Laid). l.context.segment < length w.segments) (λ (l : Laid). l.context.segment < length z.cursor.segments) (λ l below. up l.context.segment below) y.laid h.standing)
           (up w.current here);
     }
 
@@ -249,7 +249,7 @@ module _ (owner place : ℕ) (y : Layout) (l : Laid) (d : IsLaidOut y) (there : 
       let yes : stands_in y (segment_name y g) l ≡ true = itself (segment_name y g) in
       let before : items_before owner place (map line (lines_in owner y (segment_name y g)) ++ rest) ≡ map line front =
       stopped owner place (stands_in y (segment_name y g)) [] y.laid rest place l (omega arith) there yes
-      ∙ ap (map line) (by_number owner y g n.distinct below [] (take place y.laid) (all_front (λ (k : Laid). k.context.segment < length y.cursor.segments) y.laid place n.cursor)) in
+      ∙ ap (map line) (by_number owner y g n.distinct below [] (take place y.laid) (all_front (λ (k : Laid). k.context.segment < length y.cursor.segments) y.laid place n.standing)) in
       ap (λ b. end_of at (items_before owner place (cond b (rounding multiple ∷ map line (lines_in owner y (segment_name y g))) [] ++ rest))) asked
       ∙ ap (end_of begin) before
       ∙ shift_law front begin (powers_first front behind_front all_powers) (front_multiple begin front behind_front all_powers is_multiple)

@@ -150,7 +150,7 @@ keys_of y cs d e =
     let asked = asked_are (table_of y) y.laid cs e in
     record {
       single = are_once [] (segments_asked cs) tt;
-      cursor = all_once (λ g. g < length y.cursor.segments) [] (segments_asked cs) tt (subst (AllByRecursion (λ g. g < length y.cursor.segments)) (sym asked) (below_all (length y.cursor.segments) y.laid (named d).standing));
+      standing = all_once (λ g. g < length y.cursor.segments) [] (segments_asked cs) tt (subst (AllByRecursion (λ g. g < length y.cursor.segments)) (sym asked) (below_all (length y.cursor.segments) y.laid (named d).standing));
       has = λ name. asked_there y name y.laid ∙ ap (list_any (λ g. bytes_eq (segment_name y g) name)) (sym asked) ∙ sym (any_once (λ g. bytes_eq (segment_name y g) name) [] (segments_asked cs));
     }
 

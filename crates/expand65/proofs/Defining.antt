@@ -11,8 +11,8 @@ use Rattle.syntax65.specs.declared.expressions.words.ExprFault.{ExprFault}
 use Rattle.syntax65.specs.declared.expressions.words.ExprFault.TheVariants.{OutOfMemory, OperandExpected, ParenthesisExpected, TooDeep}
 use Rattle.syntax65.specs.declared.lexing.tokens.Token.{Token}
 use Rattle.syntax65.specs.ExpandFaults.{fault_of_parsing, is_outside}
-use Rattle.expand65.specs.Fronts.{understood, ◌>=>◌}
-use Rattle.expand65.specs.Macros.{is_comma_at, name_at, repeat_header, variable_of, IsRepeated, repeat_mark, IsKept, entered, kept, macro_of}
+use Rattle.expand65.specs.Fronts.{name_in, understood, ◌>=>◌}
+use Rattle.expand65.specs.Macros.{header_of, params_of, is_comma_at, name_at, repeat_header, variable_of, IsRepeated, repeat_mark, IsKept, entered, kept, macro_of}
 use Rattle.syntax65.specs.declared.fault.ExpandFault.{ExpandFault}
 use Rattle.syntax65.specs.declared.fault.ExpandFault.TheVariants.{NotUnderstood, MacroTwice, Nested}
 use Rattle.std.specs.Map.{lookup}
@@ -67,6 +67,9 @@ a_header ts behind e n v h b r =
 -- what isn't there isn't there with more
 pub refused_on : {A B : Type 0} (o : Option A) (f : A → Option B) (e : ExpandFault) → Unless (is_outside e) (understood o ≡ Err e) → Unless (is_outside e) (understood (o >=> f) ≡ Err e)
 refused_on {A} {B} o f e h = grind (arith, common_steps)
+
+pub header_split : (ts us : List Lexeme) (t : Lexeme) (name : List ℕ) → ts ≡ t ∷ us → name_in t ≡ Some name → header_of ts ≡ (params_of us >=> (λ params. Some (name, params)))
+header_split ts us t name e f = rw (e, f) refl
 
 -- ---- The table of macros.
 

@@ -11,7 +11,7 @@ use Rattle.expand65.specs.declared.blocks.BlockStep.{BlockStep}
 use Rattle.syntax65.specs.declared.fault.ExpandFault.{ExpandFault}
 use Rattle.syntax65.specs.declared.fault.ExpandFault.TheVariants.{NotUnderstood}
 use Rattle.expand65.specs.Fronts.{front_directive, is_colon, is_label_name, is_mislabelled, label_len, line_directive, may_follow_label, directive_in}
-use Rattle.expand65.specs.Playing.{behind_word, behind_words, cut, directive_of_first, is_colon_there, IsColonAt, IsPlain}
+use Rattle.expand65.specs.Playing.{behind_word, behind_words, cut, is_colon_there, IsColonAt, IsPlain}
 use Rattle.expand65.specs.declared.fronts.Directive.{Directive}
 use Rattle.expand65.specs.declared.line.Word.{Word}
 

@@ -66,3 +66,10 @@ turn_begins r next count h =
 -- a line that is taken before others
 pub takes_before : (before after more rest : List Item) (r : Result Line ExpandFault) → TakesLine before r after → more ≡ rest → TakesLine (before ++ more) r (after ++ rest)
 takes_before before after more rest x y same = grind (arith, common_steps)
+
+-- a line of a turn is taken
+pub takes_in_turn : (old new : Replay) (next count : ℕ) (r : Result Line ExpandFault) → TakesLine (left_to_play old) r (left_to_play new) → new.body ≡ old.body → replacing_of new ≡ replacing_of old → TakesLine (turns_left old next count) r (turns_left new next count)
+takes_in_turn old new next count r h body same =
+    let n = count - next in
+    let rest = ap (λ e. turns e (map tokens_in old.body.value.lines) next n) (sym same) ∙ ap (λ b. turns (replacing_of new) (map tokens_in b.value.lines) next n) (sym body) in
+    takes_before (left_to_play old) (left_to_play new) (turns (replacing_of old) (map tokens_in old.body.value.lines) next n) (turns (replacing_of new) (map tokens_in new.body.value.lines) next n) r h rest

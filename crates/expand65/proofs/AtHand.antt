@@ -1,6 +1,6 @@
 -- Lines of files that are given as they stand.
 use Rattle.std.proofs.lemmas.Grind.{common_steps}
-use Rattle.std.proofs.Common.{◌≡◌, ◌+◌, ◌-◌, ◌≤◌, ◌<◌, ◌++◌, arith, ℕ, zero, suc, length, take, drop, ap, List, [], ◌∷◌, Option, Some, None, Ok, Bool, true, false, IfSome, refl, sym, subst}
+use Rattle.std.proofs.Common.{◌≡◌, ◌-◌, ◌<◌, ◌++◌, arith, ℕ, zero, suc, length, take, drop, ap, List, [], ◌∷◌, Option, Some, None, Ok, Bool, true, false, refl, sym, subst}
 use Rattle.std.specs.Prelude.{◌&&◌, nat_lt}
 use Rattle.std.proofs.Math.Seq.{drop-append_seam, take-append_seam}
 use Rattle.base65.specs.Store.{Files}
@@ -14,7 +14,7 @@ use Rattle.expand65.specs.declared.fronts.Directive.{Directive}
 use Rattle.expand65.specs.declared.line.Line.{Line}
 use Rattle.expand65.specs.declared.line.Word.{Word}
 use Rattle.expand65.specs.declared.reader.Reader.{Reader}
-use Rattle.expand65.specs.Failing.{CallsNone, Follows, Gives, IsGivenAs, Passes, given_behind, given_parts, none, one_more, Goes, no_step, one_more as goes_once}
+use Rattle.expand65.specs.Failing.{CallsNone, Gives, IsGivenAs, given_behind, given_parts, none, one_more, Goes, no_step, one_more as goes_once}
 use Rattle.expand65.specs.Expansion.{Next, Reaches, further, given, statement, IsActed, IsLabelled, IsSplit, IsStep}
 use Rattle.expand65.specs.State.{Meaning, State, Stated, Stepped, label, plain, goes, gives, with_items}
 use Rattle.expand65.specs.Standing.{state_of, FollowsFrom, fronted, measure_of, place_of, state_in, stated}

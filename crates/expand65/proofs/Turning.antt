@@ -1,10 +1,7 @@
 -- The turns of a repeat.
 use Rattle.std.proofs.lemmas.Grind.{common_steps}
-use Rattle.std.proofs.Common.{◌≡◌, ℕ, zero, suc, ◌+◌, ◌-◌, ◌<◌, ◌≤◌, List, [], ◌∷◌, ◌++◌, length, map, drop, refl, sym, ap, ◌∙◌, arith, ◌⊎◌, inl, inr, Bool, true, false, Result, Ok, Err}
+use Rattle.std.proofs.Common.{◌≡◌, ℕ, zero, suc, ◌+◌, ◌-◌, ◌<◌, ◌≤◌, List, [], ◌∷◌, ◌++◌, length, map, drop, refl, sym, ap, ◌∙◌, arith, ◌⊎◌, Result}
 use Rattle.std.proofs.lemmas.List.{length-map}
-use Rattle.base65.specs.Outcome.{Unless}
-use Rattle.syntax65.specs.ExpandFaults.{is_outside}
-use Rattle.expand65.specs.Lines.{IsOpened}
 use Rattle.syntax65.specs.declared.fault.ExpandFault.{ExpandFault}
 use Rattle.expand65.specs.declared.input.NextLine.TheVariants.{Replayed}
 use Rattle.syntax65.specs.Tokens.{Lexeme}

@@ -90,13 +90,10 @@ tokens_for (Tokens line) = Some (tokens_in line.now)
 
 -- ---- Lines that have no label and no directive of expansion.
 
--- whether a word is a colon, whatever its text
-abbrev pub IsColon : Word → Bool → Type 0
-IsColon w b = (text : List ℕ) → b ≡ is_colon (w.kind, text)
-
+-- whether a word is there that is a colon, whatever its text
 abbrev pub IsColonIn : Option Word → Bool → Type 0
 IsColonIn None b = b ≡ false
-IsColonIn (Some w) b = IsColon w b
+IsColonIn (Some w) b = (text : List ℕ) → b ≡ is_colon (w.kind, text)
 
 -- whether a word is there at a place, and is a colon
 abbrev pub IsColonAt : List Word → ℕ → Bool → Type 0

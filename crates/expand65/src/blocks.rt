@@ -1,7 +1,7 @@
 //! Blocks of lines that are taken as a whole.
 
 ghost use Rattle.std.specs.Prelude.{◌≡◌, ◌∷◌, ◌++◌, ◌<◌, ◌≤◌, [], List, ℕ, drop, false, map, IfErr, IfSome, OnOk, Some};
-ghost use Rattle.base65.specs.Store.{Files, Passes};
+ghost use Rattle.base65.specs.Store.{Files};
 ghost use Rattle.syntax65.specs.Tokens.{Lexeme, lexemes};
 ghost use Rattle.syntax65.specs.ExpandFaults.{is_failure};
 ghost use Rattle.expand65.specs.Blocks.{Block, collecting, gathering, passing, skipping};

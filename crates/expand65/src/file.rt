@@ -1,7 +1,6 @@
 //! Open files, read a buffer at a time.
 
-ghost use Rattle.std.specs.Prelude.{◌≡◌, ◌<◌, ◌≤◌, ◌+◌, ◌-◌, ◌++◌, [], min, length, drop, true, false, IsTrue, IfErr, IfOk, IfSome, List, OnOk, ℕ};
-ghost use Rattle.std.specs.FinMap as fmap;
+ghost use Rattle.std.specs.Prelude.{◌≡◌, ◌<◌, ◌≤◌, ◌+◌, ◌-◌, [], min, length, drop, true, false, IsTrue, IfErr, IfOk, IfSome, List, OnOk, ℕ};
 ghost use Rattle.std.specs.List.{prefix_len};
 ghost use Rattle.base65.specs.Store.{Files};
 ghost use Rattle.syntax65.specs.ExpandFaults.{is_failure, is_outside};
@@ -151,20 +150,6 @@ impl OpenFile {
         Ok(true)
     }
 
-    /// No bytes, in the room that a line before had.
-    fn empty_line(&mut self, alloc: Global) -> Vec<u8>
-        ensures empty { result.items ≡ [] }
-        ensures at { self.new.at ≡ self.old.at }
-        ensures buffer { self.new.buffer ≡ self.old.buffer }
-        ensures next { self.new.next ≡ self.old.next }
-        ensures line { self.new.line ≡ self.old.line }
-        ensures name { self.new.name ≡ self.old.name }
-    {
-        let mut line = mem::replace(&mut self.spare, Vec::new(alloc));
-        line.clear();
-        line
-    }
-
     /// The next line.
     #[inline(never)]
     pub fn next_line<S: Store>(
@@ -179,7 +164,8 @@ impl OpenFile {
         ensures name { self.new.name ≡ self.old.name }
         ensures leaves { LeavesOf S.files S.failures S.blamed self.old.name store.old store.new result }
     {
-        let mut line = self.empty_line(alloc);
+        let mut line = mem::replace(&mut self.spare, Vec::new(alloc));
+        line.clear();
         'pieces: loop {
             if self.take_piece(&mut line)? {
                 drop_return(&mut line);

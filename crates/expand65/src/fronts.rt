@@ -1,6 +1,6 @@
 //! The first words of a line: labels and directives of expansion.
 
-ghost use Rattle.std.specs.Prelude.{◌≡◌, ◌∷◌, ℕ, List, None, false, ◌≤◌, drop, length, option_map};
+ghost use Rattle.std.specs.Prelude.{◌≡◌, None, false, ◌≤◌, drop, length, option_map};
 ghost use Rattle.expand65.specs.Fronts.{among, block_words, condition_words, directive_of, macro_words, closes_brace, directive_in, front_directive, is_colon, is_comma, is_label_name, is_mislabelled, label_len, line_directive, may_follow_label, name_in, opens_brace, opens_parenthesis, quoted_in, string_of};
 ghost use Rattle.syntax65.specs.Tokens.{lexeme_of, lexemes};
 

@@ -1,6 +1,6 @@
 //! Files that are included, and where they are looked for.
 
-ghost use Rattle.std.specs.Prelude.{◌≡◌, ◌<◌, ◌+◌, ◌^◌, ◌++◌, ◌∷◌, [], if◌then◌else◌, true, false, map, IfNone, IfOk, IfSome, IsErrOf, List, ℕ, Result};
+ghost use Rattle.std.specs.Prelude.{◌≡◌, ◌<◌, ◌+◌, ◌^◌, ◌++◌, if◌then◌else◌, true, false, map, IfNone, IfOk, IfSome, IsErrOf, List, ℕ, Result};
 ghost use Rattle.std.specs.FinMap as fmap;
 ghost use Rattle.std.specs.Str.{is_utf8};
 ghost use Rattle.base65.specs.Outcome.{Gives};

@@ -1,6 +1,6 @@
 //! Bodies of macros and repeats, replayed with names replaced, and an expansion's own names.
 
-ghost use Rattle.std.specs.Prelude.{◌≡◌, ◌++◌, ◌∷◌, [], List, true, map, IfOk, OnOk, ◌<◌, position, false, IfErr, unwrap_or, Some};
+ghost use Rattle.std.specs.Prelude.{◌≡◌, ◌++◌, ◌∷◌, [], List, true, map, IfOk, OnOk, position, false, IfErr, unwrap_or, Some};
 ghost use Rattle.base65.specs.Store.{Files};
 ghost use Rattle.expand65.specs.Inside.{is_call, left_in};
 ghost use Rattle.expand65.specs.Playing.{tokens_in, replacing_of, tokens_for};

@@ -1,6 +1,6 @@
 //! Repeats, the names of an expansion's own, and leaving one.
 
-ghost use Rattle.std.specs.Prelude.{◌≡◌, ◌≤◌, ◌+◌, false, map, IfErr, ◌∷◌, [], ℕ, Ok, Result};
+ghost use Rattle.std.specs.Prelude.{◌≡◌, false, map, IfErr, ℕ, Ok, Result};
 ghost use Rattle.std.specs.List.{list_any};
 ghost use Rattle.base65.specs.Outcome.{Gives};
 ghost use Rattle.syntax65.specs.Tokens.{lexemes};
@@ -24,7 +24,7 @@ use crate::reader::Input;
 use crate::rewriter::{Rewriter, Turn};
 use base65::{Sequence, Store};
 use indexmap::{IndexMap, IndexSet};
-use std::alloc::{AllocError, Global};
+use std::alloc::Global;
 use std::rc::Rc;
 use syntax65::{ExpandFault, Expr, Token, read_expr};
 

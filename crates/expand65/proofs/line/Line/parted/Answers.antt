@@ -1,4 +1,4 @@
-use Rattle.std.proofs.Common.{◌∙◌, refl, ap, sym}
+use Rattle.std.proofs.Common.{◌∙◌, ap, sym}
 use Rattle.syntax65.specs.Tokens.{lexemes}
 use Rattle.expand65.specs.Playing.{tokens_in}
 use Rattle.expand65.proofs.Labels.{parts}

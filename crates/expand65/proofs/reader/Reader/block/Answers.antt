@@ -1,4 +1,4 @@
-use Rattle.std.proofs.Common.{◌≡◌, true, ℕ, ◌∙◌, ◌++◌, ◌∷◌, [], List, map, ap, sym, subst, rules, Ok, Err, arith, IfSome}
+use Rattle.std.proofs.Common.{◌≡◌, true, ◌∙◌, ◌++◌, ◌∷◌, [], map, sym, subst, rules, Ok, Err, arith, IfSome}
 use Rattle.std.proofs.lemmas.Result.{err_from_is_err_and}
 use Rattle.base65.specs.Outcome.{Unless}
 use Rattle.expand65.specs.Blocks.{TakesInBlock}

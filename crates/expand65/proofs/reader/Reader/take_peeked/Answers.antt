@@ -1,4 +1,4 @@
-use Rattle.std.proofs.Common.{◌≡◌, ap, arith, refl, suc, sym, subst, ◌-◌, rules}
+use Rattle.std.proofs.Common.{◌≡◌, ap, arith, refl, suc, rules}
 use Rattle.expand65.specs.Left.{Mark}
 use Rattle.expand65.specs.declared.reader.Reader.{Reader}
 use Rattle.expand65.proofs.Naming.{reads_on}

@@ -1,7 +1,7 @@
 -- Macros that are defined, and repeats.
 use Rattle.std.proofs.lemmas.Grind.{common_steps}
-use Rattle.std.proofs.Common.{◌≡◌, ◌≢◌, ℕ, Bool, true, false, List, [], ◌∷◌, length, drop, Option, Some, None, Result, Ok, Err, ap, refl, sym, ◌∙◌, arith, ◌-◌, ◌++◌, map, subst, Vec, Global}
-use Rattle.std.proofs.lemmas.List.{drop-map, map-append, drop_all, length-map}
+use Rattle.std.proofs.Common.{◌≡◌, ℕ, Bool, true, false, List, [], ◌∷◌, length, drop, Option, Some, None, Result, Ok, Err, ap, refl, sym, ◌∙◌, arith, ◌++◌, map, subst, Vec, Global}
+use Rattle.std.proofs.lemmas.List.{drop-map, map-append}
 use Rattle.syntax65.specs.Expressions.{IsParsed}
 use Rattle.syntax65.specs.Faults.{is_expr_outside}
 use Rattle.base65.specs.Outcome.{Unless, ◌>>=◌}
@@ -11,25 +11,25 @@ use Rattle.syntax65.specs.declared.expressions.words.ExprFault.{ExprFault}
 use Rattle.syntax65.specs.declared.expressions.words.ExprFault.TheVariants.{OutOfMemory, OperandExpected, ParenthesisExpected, TooDeep}
 use Rattle.syntax65.specs.declared.lexing.tokens.Token.{Token}
 use Rattle.syntax65.specs.ExpandFaults.{fault_of_parsing, is_outside}
-use Rattle.expand65.specs.Fronts.{understood, ◌>=>◌}
-use Rattle.expand65.specs.Macros.{is_comma_at, name_at, repeat_header, variable_of, IsRepeated, repeat_mark, IsKept, entered, kept, macro_of}
+use Rattle.expand65.specs.Fronts.{name_in, understood, ◌>=>◌}
+use Rattle.expand65.specs.Macros.{header_of, params_of, repeat_header, variable_of, IsRepeated, repeat_mark, IsKept, kept, macro_of}
 use Rattle.syntax65.specs.declared.fault.ExpandFault.{ExpandFault}
-use Rattle.syntax65.specs.declared.fault.ExpandFault.TheVariants.{NotUnderstood, MacroTwice, Nested}
+use Rattle.syntax65.specs.declared.fault.ExpandFault.TheVariants.{MacroTwice}
 use Rattle.std.specs.Map.{lookup}
 use Rattle.std.specs.Option.{option_map}
-use Rattle.std.specs.Prelude.{is_some, nat_le, if◌then◌else◌}
+use Rattle.std.specs.Prelude.{is_some}
 use Rattle.std.specs.Str.{bytes_eq}
 use Rattle.std.specs.declared.rc.Rc.{Rc}
 use Rattle.indexmap.specs.IndexMap.{IndexMap, insert_entry}
 use Rattle.indexmap.proofs.CallerLemmas.{insert_entry-new}
 use Rattle.base65.specs.Store.{Files}
 use Rattle.expand65.specs.Blocks.{Block, collects, gathers}
-use Rattle.expand65.specs.Lines.{pushed, nesting_limit}
+use Rattle.expand65.specs.Lines.{pushed}
 use Rattle.expand65.specs.Inside.{left_of, turns_left}
-use Rattle.expand65.specs.Playing.{tokens_in, definition_of, replacing_of}
-use Rattle.expand65.specs.Left.{repeating, Definition, turns, Item, played, Mark, mark, Left, left, Stop, marks}
+use Rattle.expand65.specs.Playing.{tokens_in, definition_of}
+use Rattle.expand65.specs.Left.{repeating, Definition, turns, Left, Stop}
 use Rattle.expand65.specs.Standing.{macros_of, state_of}
-use Rattle.expand65.specs.State.{State, Stepped, goes, stops, with_left}
+use Rattle.expand65.specs.State.{State, Stepped, goes, stops}
 use Rattle.syntax65.specs.declared.place.Place.{Place}
 use Rattle.expand65.specs.declared.playing.Body.{Body}
 use Rattle.expand65.specs.declared.playing.Replay.{Replay}
@@ -67,6 +67,9 @@ a_header ts behind e n v h b r =
 -- what isn't there isn't there with more
 pub refused_on : {A B : Type 0} (o : Option A) (f : A → Option B) (e : ExpandFault) → Unless (is_outside e) (understood o ≡ Err e) → Unless (is_outside e) (understood (o >=> f) ≡ Err e)
 refused_on {A} {B} o f e h = grind (arith, common_steps)
+
+pub header_split : (ts us : List Lexeme) (t : Lexeme) (name : List ℕ) → ts ≡ t ∷ us → name_in t ≡ Some name → header_of ts ≡ (params_of us >=> (λ params. Some (name, params)))
+header_split ts us t name e f = rw (e, f) refl
 
 -- ---- The table of macros.
 

@@ -9,7 +9,7 @@ use Rattle.object65.specs.Folding.{fold1, fold2}
 use Rattle.language65.specs.Norms.{literal_in, form_of_value, norm, Extends, form_of_definition, address_of, folded}
 use Rattle.language65.specs.declared.fault.AsmFault.{AsmFault}
 use Rattle.language65.specs.declared.laid.Context.{Context}
-use Rattle.language65.specs.Symbols.{Symbols, Definition, Meaning, defined_at, imported_as, meaning_of, plain_meaning, scoped_meaning}
+use Rattle.language65.specs.Symbols.{Symbols, Definition, Meaning, defined_at, imported_as, meaning_of}
 use Rattle.language65.specs.declared.fault.AsmFault.TheVariants.{Circular, NoSuchLabel}
 use Rattle.symbols65.specs.declared.resolving.attempt.State.{State}
 use Rattle.symbols65.specs.declared.resolving.attempt.State.TheVariants.{Unknown, Hangs, Waiting, Found}
@@ -92,12 +92,6 @@ Reaches y j k = (j ≡ k) ⊎ HangsOn y j k
 abbrev pub AreHung : Symbols → List State → Type 0
 AreHung y states = (j k : ℕ) → slice_get states j ≡ Some (Hangs k) → HangsOn y j k
 
--- the constant whose form an attempt needs, if it stops for want of one
-abbrev pub needed_in : {A : Type 0} → Result A Stop → Option ℕ
-needed_in (Err (Needs k)) = Some k
-needed_in (Err (Fault e)) = None
-needed_in (Ok x) = None
-
 abbrev pub hung_on : Option State → Option ℕ
 hung_on (Some (Hangs k)) = Some k
 hung_on _ = None
@@ -127,14 +121,6 @@ defined_place _ = None
 abbrev pub plain_part : Bool → List (List ℕ) → Option (List ℕ)
 plain_part false (n ∷ []) = Some n
 plain_part global parts = None
-
--- what a name means where it stands
-abbrev pub name_meaning : Symbols → Context → Bool → List (List ℕ) → Result Meaning AsmFault
-name_meaning y s global parts = by (plain_part global parts)
-  where
-    by : Option (List ℕ) → Result Meaning AsmFault
-    by (Some n) = plain_meaning y s.scope n
-    by None = scoped_meaning y s global parts
 
 -- the parts behind the first, as they are shown
 abbrev pub joined_behind : List (List ℕ) → List ℕ

@@ -45,16 +45,6 @@ fn is_branch(mnemonic: Mnemonic) -> bool
     opcode(mnemonic, Mode::Relative).is_some()
 }
 
-/// The form of a branch, which takes a target alone, without a prefix.
-fn branch_mode(prefix: Option<AddressSize>, index: Option<Index>) -> Option<Mode>
-    ensures { result ≡ branch_mode prefix index }
-{
-    match (prefix, index) {
-        (None, None) => Some(Mode::Relative),
-        _ => None,
-    }
-}
-
 /// The form of an address that a prefix forces, or that goes by the size of its expression.
 fn address_mode(
     mnemonic: Mnemonic,
@@ -98,7 +88,11 @@ pub fn mode(
             index,
         } => {
             if is_branch(mnemonic) {
-                return Ok(branch_mode(*prefix, *index));
+                // A branch takes a target alone, without a prefix.
+                return match (prefix, index) {
+                    (None, None) => Ok(Some(Mode::Relative)),
+                    _ => Ok(None),
+                };
             }
             let size = match prefix {
                 Some(forced) => *forced,

@@ -10,7 +10,7 @@ ghost use Rattle.language65.specs.Symbols.{meaning_of};
 
 use crate::resolving::{
     Meaning, NormCache, Stop, address, binary_form, meaning_of, meant_norm, norm, number_of,
-    prefix_form, settled,
+    pass_on_memory, prefix_form, settled,
 };
 use crate::table::Symbols;
 use base65::Op1;
@@ -27,26 +27,6 @@ pub fn literal(form: &Norm) -> Option<i64>
         Node::Lit(value) => Some(*value),
         _ => None,
     }
-}
-
-/// The value of a form that is there and is a number.
-pub fn literal_of(form: &Option<Norm>) -> Option<i64>
-    ensures { result ≡ literal_of form.now }
-{
-    match form {
-        Some(form) => literal(form),
-        None => None,
-    }
-}
-
-/// Passes on want of memory, and takes any other fault for a form that is missing.
-pub fn pass_on_memory(fault: &AsmFault) -> Result<(), AllocError>
-    ensures { OnOk result (is_memory fault.now ≡ false) }
-{
-    if fault.is_memory() {
-        return Err(AllocError);
-    }
-    Ok(())
 }
 
 /// The value of an expression where it is constant by a symbol table.
@@ -94,16 +74,10 @@ pub fn constant_now(
     }
 }
 
-fn is_byte(value: i64) -> bool
-    ensures { result ≡ is_byte value }
-{
-    0 <= value && value < 256
-}
-
 fn size_of_value(value: i64) -> AddressSize
     ensures { result ≡ size_of_value value }
 {
-    if is_byte(value) {
+    if 0 <= value && value < 256 {
         AddressSize::ZeroPage
     } else {
         AddressSize::Absolute
@@ -120,50 +94,18 @@ fn larger(first: AddressSize, second: AddressSize) -> AddressSize
     }
 }
 
-/// Whether a prefix takes one byte of a value.
-fn takes_byte(op: Op1) -> bool
-    ensures { result ≡ takes_byte op }
-{
-    matches!(op, Op1::LowByte | Op1::HighByte | Op1::BankByte)
-}
-
-/// The size of what is defined at a place.
-fn size_at(symbols: &Symbols, place: usize) -> AddressSize
-    ensures { result ≡ size_defined (slice_get (table_of symbols.now).definitions place) }
-{
-    match symbols.definition(place) {
-        Some(definition) => definition.size,
-        None => AddressSize::Absolute,
-    }
-}
-
-/// The size of an import, by its place among the imports.
-fn size_of_import(symbols: &Symbols, key: usize) -> AddressSize
-    ensures { result ≡ size_of_import (table_of symbols.now)
-        (slice_get (table_of symbols.now).imports key) }
-{
-    match symbols.import_at(key) {
-        Some(name) if symbols.is_zero_page(name) => AddressSize::ZeroPage,
-        _ => AddressSize::Absolute,
-    }
-}
-
 fn size_of_meaning(symbols: &Symbols, meaning: Meaning) -> AddressSize
     ensures { result ≡ size_of_meaning (table_of symbols.now) (Ok (meaning_in meaning)) }
 {
     match meaning {
-        Meaning::Defined(place) => size_at(symbols, place),
-        Meaning::Imported(key) => size_of_import(symbols, key),
-    }
-}
-
-/// The size that goes by a value, if it is there, and else another.
-fn size_by(other: AddressSize, value: Option<i64>) -> AddressSize
-    ensures { result ≡ size_by other value }
-{
-    match value {
-        Some(value) => size_of_value(value),
-        None => other,
+        Meaning::Defined(place) => match symbols.definition(place) {
+            Some(definition) => definition.size,
+            None => AddressSize::Absolute,
+        },
+        Meaning::Imported(key) => match symbols.import_at(key) {
+            Some(name) if symbols.is_zero_page(name) => AddressSize::ZeroPage,
+            _ => AddressSize::Absolute,
+        },
     }
 }
 
@@ -180,7 +122,14 @@ fn sized_by_value(form: Option<Norm>, other: AddressSize) -> FormAndSize
     ensures form { result.form ≡ form }
     ensures size { result.size ≡ size_by other (literal_of form) }
 {
-    let size = size_by(other, literal_of(&form));
+    let value = match &form {
+        Some(form) => literal(form),
+        None => None,
+    };
+    let size = match value {
+        Some(value) => size_of_value(value),
+        None => other,
+    };
     FormAndSize { form, size }
 }
 
@@ -251,10 +200,9 @@ fn form_and_size(
         }),
         ExprKind::Prefix(op, part) => {
             let part = form_and_size(alloc, symbols, known, context, own, part)?;
-            let other = if takes_byte(*op) {
-                AddressSize::ZeroPage
-            } else {
-                part.size
+            let other = match op {
+                Op1::LowByte | Op1::HighByte | Op1::BankByte => AddressSize::ZeroPage,
+                _ => part.size,
             };
             let form = prefix_form(alloc, *op, part.form)?;
             Ok(sized_by_value(form, other))

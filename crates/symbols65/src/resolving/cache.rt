@@ -2,42 +2,21 @@
 
 ghost use Rattle.std.specs.Prelude.{◌≡◌, IfOk, IfSome, map, slice_get, ◌+◌, ◌<◌, OnOk, replicate, Some, [], length, ℕ, slice_set, true};
 ghost use Rattle.symbols65.specs.declared.resolving.attempt.Source.TheVariants.{Finals};
-ghost use Rattle.symbols65.specs.Resolving.{AreHung, HangsOn, Reaches, bare, hung_on, needed_in, may_be_looked_for, tried, IsTable};
-ghost use Rattle.symbols65.specs.Inner.Knowns.{known_by, AreNoted, is_found, without};
+ghost use Rattle.symbols65.specs.Resolving.{AreHung, HangsOn, Reaches, bare, hung_on, may_be_looked_for, IsTable};
+ghost use Rattle.symbols65.specs.Inner.Knowns.{AreNoted, is_found, without};
 ghost use Rattle.symbols65.specs.Views.{Table, table_of, nothing_defined};
 ghost use Rattle.base65.specs.Outcome.{Finds, Gives};
 ghost use Rattle.language65.specs.Faults.{is_memory};
 ghost use Rattle.symbols65.specs.declared.resolving.attempt.State.TheVariants.{Unknown, Waiting, Found};
 ghost use Rattle.language65.specs.Norms.{Extends, norm_of};
 
-use super::attempt::{Source, State, Stop, try_last, try_norm};
+use super::attempt::{Source, State, Stop, pass_on_memory, try_last, try_norm};
 use super::finals::are_final;
 use crate::table::Symbols;
 use language65::{AsmFault, Context};
 use object65::Norm;
 use std::alloc::{AllocError, Global};
 use syntax65::Expr;
-
-/// The constant for want of whose final form an expression has none yet, if there is one.
-fn needed_by(
-    alloc: Global,
-    symbols: &Symbols,
-    context: Context,
-    value: &Expr,
-) -> Result<Option<usize>, AllocError>
-    ensures { IfOk result (λ o. o ≡ needed_in (tried (known_by symbols.now Finals) (table_of symbols.now) context value.now)) }
-{
-    match try_norm(alloc, symbols, Source::Finals, context, value) {
-        Ok(_) => Ok(None),
-        Err(Stop::Needs(place)) => Ok(Some(place)),
-        Err(Stop::Fault(fault)) => {
-            if fault.is_memory() {
-                return Err(AllocError);
-            }
-            Ok(None)
-        }
-    }
-}
 
 /// The constant on which the one at a place hangs, where that is plain already.
 fn needed_at(alloc: Global, symbols: &Symbols, place: usize) -> Result<Option<usize>, AllocError>
@@ -46,14 +25,19 @@ fn needed_at(alloc: Global, symbols: &Symbols, place: usize) -> Result<Option<us
     let Some(definition) = symbols.definition(place) else {
         return Ok(None);
     };
-    match &definition.value {
-        Some(value) => {
-            if !are_final(symbols, definition.context, value) {
-                return Ok(None);
-            }
-            needed_by(alloc, symbols, definition.context, value)
+    let Some(value) = &definition.value else {
+        return Ok(None);
+    };
+    if !are_final(symbols, definition.context, value) {
+        return Ok(None);
+    }
+    match try_norm(alloc, symbols, Source::Finals, definition.context, value) {
+        Ok(_) => Ok(None),
+        Err(Stop::Needs(next)) => Ok(Some(next)),
+        Err(Stop::Fault(fault)) => {
+            pass_on_memory(&fault)?;
+            Ok(None)
         }
-        None => Ok(None),
     }
 }
 

@@ -11,7 +11,7 @@ ghost use Rattle.syntax65.specs.Trees.{name as name_tree, cheap as cheap_tree, b
 ghost use Rattle.language65.specs.Norms.{IsFinal};
 ghost use Rattle.symbols65.specs.Views.{table_of};
 
-use super::attempt::{Source, Stop, address, defined};
+use super::attempt::{Source, Stop, address, defined, pass_on_memory};
 use super::meaning::{last_in, plain_part, scopes_in};
 use super::scopes::scope_of;
 use crate::table::{Key, Symbols};
@@ -184,9 +184,7 @@ fn final_operand(
         Ok(form) => Ok(Some(form)),
         Err(Stop::Needs(_)) => Ok(None),
         Err(Stop::Fault(fault)) => {
-            if fault.is_memory() {
-                return Err(AllocError);
-            }
+            pass_on_memory(&fault)?;
             // A fault is found behind the last line.
             Ok(None)
         }

@@ -86,6 +86,9 @@ not_found xs ys same i j only none e = by (slice_get xs i) refl (ap (λ (q : ℕ
 
 -- ---- A constant that hangs on another.
 
+pub if_some : {P Q : ℕ → Type 0} (o : Option ℕ) → ((k : ℕ) → P k → Q k) → IfSome o P → IfSome o Q
+if_some x f h = grind (arith, common_steps)
+
 pub hung_is : (o : Option State) (k : ℕ) → Some k ≡ hung_on o → o ≡ Some (Hangs k)
 hung_is x k e = grind (arith, common_steps)
 

@@ -14,7 +14,7 @@ use Rattle.symbols65.specs.declared.resolving.attempt.Source.TheVariants.{Finals
 use Rattle.symbols65.specs.declared.resolving.attempt.Stop.{Stop}
 use Rattle.symbols65.specs.declared.resolving.attempt.Stop.TheVariants.{Needs}
 use Rattle.symbols65.specs.declared.table.symbols.Symbols.{Symbols}
-use Rattle.symbols65.specs.Resolving.{ExpressionHangsOn, HangsOn, Leads, FoundBy, operand_form, stopped, tried, tried_by, MeansFinally, Operands}
+use Rattle.symbols65.specs.Resolving.{ExpressionHangsOn, HangsOn, Leads, needed_in, FoundBy, operand_form, stopped, tried, tried_by, MeansFinally, Operands}
 use Rattle.symbols65.specs.Inner.Knowns.{known_by}
 use Rattle.symbols65.specs.Views.{table_of}
 use Rattle.symbols65.proofs.Hanging.{extends_itself}
@@ -48,6 +48,10 @@ module _ (t : Symbols) where
 
   pub needed_hangs : (s : Context) (e : Tree) (k : ℕ) → Operands (MeansFinally y s) e → tried (known_by t Finals) y s e ≡ Err (Needs k) → ExpressionHangsOn y s e k
   needed_hangs s e k p h = λ z more. leads_from (length y.definitions) z (known_by t Finals) (expression_course z s e) (tried (known_by t Finals) z s e) k (attempt_first (length y.definitions) z (known_by t Finals) (finals_later z more) s e) (tried_same (MeansFinally y s) (operand_form (known_by t Finals) z s) (operand_form (known_by t Finals) y s) s (λ u m. operand_stays s z more u m) e p ∙ h)
+
+  -- so does one by what an attempt at it needs
+  pub needed_is : (s : Context) (e : Tree) (o : Option ℕ) → Operands (MeansFinally y s) e → o ≡ needed_in (tried (known_by t Finals) y s e) → IfSome o (λ k. ExpressionHangsOn y s e k)
+  needed_is s e o p is = grind (arith, common_steps, needed_hangs)
 
 -- a constant hangs on that on which its expression does
 pub constant_hangs : (y : l.Symbols) (j k : ℕ) (d : l.Definition) (e : Tree) → slice_get y.definitions j ≡ Some d → d.value ≡ Some e → ExpressionHangsOn y d.context e k → HangsOn y j k

@@ -92,6 +92,12 @@ Reaches y j k = (j ≡ k) ⊎ HangsOn y j k
 abbrev pub AreHung : Symbols → List State → Type 0
 AreHung y states = (j k : ℕ) → slice_get states j ≡ Some (Hangs k) → HangsOn y j k
 
+-- the constant whose form an attempt needs, if it stops for want of one
+abbrev pub needed_in : {A : Type 0} → Result A Stop → Option ℕ
+needed_in (Err (Needs k)) = Some k
+needed_in (Err (Fault e)) = None
+needed_in (Ok x) = None
+
 abbrev pub hung_on : Option State → Option ℕ
 hung_on (Some (Hangs k)) = Some k
 hung_on _ = None

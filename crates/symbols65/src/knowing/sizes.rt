@@ -102,8 +102,8 @@ fn size_of_meaning(symbols: &Symbols, meaning: Meaning) -> AddressSize
             Some(definition) => definition.size,
             None => AddressSize::Absolute,
         },
-        Meaning::Imported(key) => match symbols.import_at(key) {
-            Some(name) if symbols.is_zero_page(name) => AddressSize::ZeroPage,
+        Meaning::Imported(key) => match symbols.imports.get_index(key) {
+            Some(name) if symbols.is_zero_page(name.as_slice()) => AddressSize::ZeroPage,
             _ => AddressSize::Absolute,
         },
     }

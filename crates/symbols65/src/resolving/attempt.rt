@@ -8,7 +8,7 @@ ghost use Rattle.language65.specs.Faults.{is_memory};
 ghost use Rattle.language65.specs.Norms.{address_of};
 ghost use Rattle.symbols65.specs.declared.resolving.attempt.Stop.TheVariants.{Fault};
 ghost use Rattle.symbols65.specs.declared.resolving.attempt.State.TheVariants.{Found};
-ghost use Rattle.symbols65.specs.Resolving.{attempt_definition, known_form, lacks_memory, meaning_form, meaning_in, operand_form, tried, tried_at, tried_last};
+ghost use Rattle.symbols65.specs.Resolving.{attempt_definition, known_form, lacks_memory, meaning_form, meaning_in, tried, tried_at, tried_last};
 ghost use Rattle.symbols65.specs.Inner.Knowns.{known_by};
 ghost use Rattle.symbols65.specs.Views.{table_of};
 
@@ -140,20 +140,6 @@ pub fn meant(
     }
 }
 
-/// The form of an operand that isn't a number.
-fn operand_norm(
-    alloc: Global,
-    symbols: &Symbols,
-    source: Source<'_>,
-    context: Context,
-    operand: &Expr,
-) -> Result<Norm, Stop>
-    ensures { Gives lacks_memory (λ f. f) result (operand_form (known_by symbols.now source.entry) (table_of symbols.now) context operand.now) }
-{
-    let meaning = meaning_of(alloc, symbols, context, operand)?;
-    meant(alloc, symbols, source, meaning)
-}
-
 /// The form of an expression where it stands.
 pub fn try_norm(
     alloc: Global,
@@ -180,7 +166,10 @@ pub fn try_norm(
         | ExprKind::Scoped(_)
         | ExprKind::Cheap(_)
         | ExprKind::Forward(_)
-        | ExprKind::Backward(_) => { operand_norm(alloc, symbols, source, context, value) }
+        | ExprKind::Backward(_) => {
+            let meaning = meaning_of(alloc, symbols, context, value)?;
+            meant(alloc, symbols, source, meaning)
+        }
     }
 }
 

@@ -2,8 +2,8 @@
 
 ghost use Rattle.std.specs.Prelude.{◌≡◌, IfOk, IfSome, map, slice_get, ◌+◌, ◌<◌, OnOk, replicate, Some, [], length, ℕ, slice_set, true};
 ghost use Rattle.symbols65.specs.declared.resolving.attempt.Source.TheVariants.{Finals};
-ghost use Rattle.symbols65.specs.Resolving.{AreHung, HangsOn, Reaches, bare, hung_on, may_be_looked_for, IsTable};
-ghost use Rattle.symbols65.specs.Inner.Knowns.{AreNoted, is_found, without};
+ghost use Rattle.symbols65.specs.Resolving.{AreHung, HangsOn, Reaches, bare, hung_on, needed_in, may_be_looked_for, tried, IsTable};
+ghost use Rattle.symbols65.specs.Inner.Knowns.{known_by, AreNoted, is_found, without};
 ghost use Rattle.symbols65.specs.Views.{Table, table_of, nothing_defined};
 ghost use Rattle.base65.specs.Outcome.{Finds, Gives};
 ghost use Rattle.language65.specs.Faults.{is_memory};
@@ -18,6 +18,26 @@ use object65::Norm;
 use std::alloc::{AllocError, Global};
 use syntax65::Expr;
 
+/// The constant for want of whose final form an expression has none yet, if there is one.
+fn needed_by(
+    alloc: Global,
+    symbols: &Symbols,
+    context: Context,
+    value: &Expr,
+) -> Result<Option<usize>, AllocError>
+    ensures { IfOk result (λ o. o ≡ needed_in
+        (tried (known_by symbols.now Finals) (table_of symbols.now) context value.now)) }
+{
+    match try_norm(alloc, symbols, Source::Finals, context, value) {
+        Ok(_) => Ok(None),
+        Err(Stop::Needs(place)) => Ok(Some(place)),
+        Err(Stop::Fault(fault)) => {
+            pass_on_memory(&fault)?;
+            Ok(None)
+        }
+    }
+}
+
 /// The constant on which the one at a place hangs, where that is plain already.
 fn needed_at(alloc: Global, symbols: &Symbols, place: usize) -> Result<Option<usize>, AllocError>
     ensures { IfOk result (λ o. IfSome o (λ k. HangsOn (table_of symbols.now) place k)) }
@@ -25,19 +45,11 @@ fn needed_at(alloc: Global, symbols: &Symbols, place: usize) -> Result<Option<us
     let Some(definition) = symbols.definition(place) else {
         return Ok(None);
     };
-    let Some(value) = &definition.value else {
-        return Ok(None);
-    };
-    if !are_final(symbols, definition.context, value) {
-        return Ok(None);
-    }
-    match try_norm(alloc, symbols, Source::Finals, definition.context, value) {
-        Ok(_) => Ok(None),
-        Err(Stop::Needs(next)) => Ok(Some(next)),
-        Err(Stop::Fault(fault)) => {
-            pass_on_memory(&fault)?;
-            Ok(None)
+    match &definition.value {
+        Some(value) if are_final(symbols, definition.context, value) => {
+            needed_by(alloc, symbols, definition.context, value)
         }
+        _ => Ok(None),
     }
 }
 

@@ -119,16 +119,6 @@ impl Symbols {
         self.imports.get_index_of(name)
     }
 
-    /// The name of the import at a place among the imports.
-    pub fn import_at(&self, place: usize) -> Option<&[u8]>
-        ensures { option_map (λ n. n.now) result ≡ slice_get (table_of self.now).imports place }
-    {
-        match self.imports.get_index(place) {
-            Some(name) => Some(name.as_slice()),
-            None => None,
-        }
-    }
-
     /// Whether a name was imported for the zero page.
     pub fn is_zero_page(&self, name: &[u8]) -> bool
         ensures { result ≡ is_zero_page_name (table_of self.now) name.now }

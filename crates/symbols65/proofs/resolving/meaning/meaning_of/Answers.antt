@@ -1,4 +1,4 @@
-use Rattle.std.proofs.Common.{◌≡◌, ap, ◌∙◌, sym, subst, Bool, List, Option, ℕ, Result}
+use Rattle.std.proofs.Common.{ap, ◌∙◌, sym, subst, Result}
 use Rattle.std.specs.Prelude.{option_map}
 use Rattle.base65.specs.Outcome.{Gives}
 use Rattle.syntax65.specs.Kinds.{tree_of}

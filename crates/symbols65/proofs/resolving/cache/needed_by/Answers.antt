@@ -1,0 +1,16 @@
+use Rattle.std.proofs.Common.{ap, sym, subst}
+use Rattle.base65.specs.Outcome.{Refuses}
+use Rattle.symbols65.specs.declared.resolving.attempt.Source.TheVariants.{Finals}
+use Rattle.symbols65.specs.declared.resolving.attempt.Stop.{Stop}
+use Rattle.symbols65.specs.Resolving.{needed_in, lacks_memory, tried}
+use Rattle.symbols65.specs.Inner.Knowns.{known_by}
+use Rattle.symbols65.specs.Views.{table_of}
+use Rattle.symbols65.proofs.resolving.cache.needed_by.Goals as goal
+
+pub returns-in-Err-Needs : goal.returns-in-Err-Needs
+returns-in-Err-Needs c =
+    let t = c.args.symbols.now in
+    let s = c.args.context in
+    let e = c.args.value.now in
+    let P : Stop → Type 0 = λ q. Refuses lacks_memory q (tried (known_by t Finals) (table_of t) s e) in
+    sym (ap needed_in (subst P c.in-Err-Needs.field-0-is c.in-Err-Needs.ensures))

@@ -3,7 +3,7 @@ use Rattle.std.specs.Prelude.{ℕ, ◌+◌, if◌then◌else◌, ◌≡◌, ℤ,
 use Rattle.language65.specs.Symbols.{opens_region, is_unnamed, Symbols, Scope, key_defined, scope_from, scopes_of, shown}
 use Rattle.language65.specs.declared.language.Statement.{Statement}
 use Rattle.language65.specs.Layout.{Cursor, current_behind, kept_behind, opens_scope, scope_behind, segments_behind, multiple_of, own_size, size_stated, context_of, alignment_fault, block_fault, defined_twice, file_limit, first_fault, form_fault, is_open, is_part, left_from, line_fault, lost_scopes, missing_file, opened_twice, operand_fault, optional_tree, or_then, part_fault, pop_fault, scope_name, size_fault, stands_outside, trees_of, unless_there, when, unless_fault}
-use Rattle.base65.specs.Outcome.{Unless}
+use Rattle.base65.specs.Outcome.{Gives, Unless}
 use Rattle.syntax65.specs.Trees.{Tree}
 use Rattle.object65.specs.Objects.{section_limit}
 use Rattle.language65.specs.declared.fault.AsmFault.{AsmFault}
@@ -13,7 +13,10 @@ use Rattle.language65.specs.declared.laid.Settled.{Settled}
 use Rattle.language65.specs.declared.laid.Context.{Context}
 use Rattle.language65.specs.declared.language.Statement.TheVariants.{Align, Constant, FilePart, Instruction, Reserve, Values}
 use Rattle.language65.specs.Norms.{counted, length_of, settled_of}
+use Rattle.layout65.specs.declared.measuring.Before.{Before}
 use Rattle.layout65.specs.declared.measuring.Measured.{Measured}
+use Rattle.layout65.specs.Sounds.{cursor_of}
+use Rattle.symbols65.specs.Views.{table_of}
 
 -- ---- What stands behind a statement, by what it places.
 
@@ -75,6 +78,15 @@ placing_faults y w x =
 -- what a statement whose names are understood comes to, or its first fault of those
 abbrev pub placed : Symbols → Cursor → Statement → Result Measured AsmFault
 placed y w x = unless_fault (first_fault (placing_faults y w x)) (measure_of y w x)
+
+-- a statement is refused for this fault, and for nothing else but want of memory
+abbrev pub Checks : Result (Unit {0}) AsmFault → Option AsmFault → Type 0
+Checks result fault = Gives is_memory (λ u. u) result (unless_fault fault tt)
+
+-- what a statement places, where its names are understood, or its first fault
+abbrev pub Places : Before → Result Measured AsmFault → Statement → Type 0
+Places before result x =
+    Gives is_memory (λ m. m) result (placed (table_of before.symbols.now) (cursor_of before.cursor.now) x)
 
 -- so many bytes, if the section has room for them
 abbrev pub fitted : Cursor → ℕ → Result ℕ AsmFault

@@ -11,7 +11,7 @@ use Rattle.std.specs.Str.{bytes_eq}
 use Rattle.object65.specs.Objects.{section_limit}
 use Rattle.layout65.specs.declared.cursor.Cursor.{Cursor}
 use Rattle.language65.specs.Layout.{grown, grown_at, place_of, segment_at}
-use Rattle.layout65.specs.Sounds.{AreWithin, IsSoundCursor}
+use Rattle.layout65.specs.Measuring.{AreWithin, IsSoundCursor}
 use Rattle.symbols65.proofs.Knowns.{written_over}
 use Rattle.language65.proofs.Lists.{bytes_swap, position_mapped}
 use Rattle.language65.proofs.Segments.{all_more, all_same, grown_length, grown_names}

@@ -8,9 +8,7 @@ ghost use Rattle.syntax65.specs.declared.instructions.names.Mnemonic.{Mnemonic};
 ghost use Rattle.language65.specs.declared.language.Operand.{Operand};
 ghost use Rattle.language65.specs.declared.language.Statement.TheVariants.{Instruction};
 ghost use Rattle.symbols65.specs.Views.{table_of};
-ghost use Rattle.layout65.specs.Measuring.{advanced};
-ghost use Rattle.layout65.specs.Counting.{AreInside, HasNumbers, opened_by};
-ghost use Rattle.layout65.specs.Sounds.{AreWithin, IsCounted, IsSoundCursor, cursor_of};
+ghost use Rattle.layout65.specs.Measuring.{advanced, AreInside, HasNumbers, opened_by, AreWithin, IsCounted, IsSoundCursor, cursor_of};
 
 use crate::measuring::Measured;
 use base65::Sequence;

@@ -14,8 +14,7 @@ ghost use Rattle.language65.specs.declared.language.Statement.TheVariants.{Instr
 ghost use Rattle.language65.specs.Layout.{own_size, context_of};
 ghost use Rattle.symbols65.specs.Resolving.{IsTable};
 ghost use Rattle.symbols65.specs.Views.{table_of};
-ghost use Rattle.layout65.specs.Measuring.{Checks, fitted, measured, naming_fault};
-ghost use Rattle.layout65.specs.Sounds.{IsSoundCursor, cursor_of};
+ghost use Rattle.layout65.specs.Measuring.{Checks, fitted, measured, naming_fault, IsSoundCursor, cursor_of};
 
 pub use self::bytes::check_unread;
 use self::bytes::instruction;

@@ -21,8 +21,7 @@ use Rattle.symbols65.specs.declared.resolving.attempt.State.{State}
 use Rattle.symbols65.specs.declared.resolving.attempt.State.TheVariants.{Found}
 use Rattle.symbols65.specs.declared.table.symbols.Symbols as code
 use Rattle.symbols65.specs.Resolving.{IsFinalWithin, IsReference, binary_form, prefix_form, attempt_definition, attempt_value, known_form, plain_part, MeansAlways, MeansFinally, Operands}
-use Rattle.symbols65.specs.Inner.Knowns.{known_by}
-use Rattle.symbols65.specs.Views.{table_of}
+use Rattle.symbols65.specs.Views.{known_by, table_of}
 use Rattle.symbols65.proofs.Scopes.{name_is, name_meaning}
 use Rattle.symbols65.proofs.Words.{first_within, get_stays, position_stays}
 use Rattle.symbols65.proofs.Hanging.{extends_itself}

@@ -6,7 +6,7 @@ use Rattle.syntax65.specs.Kinds.{tree_of}
 use Rattle.syntax65.specs.declared.expressions.trees.ExprKind.{ExprKind}
 use Rattle.syntax65.specs.declared.expressions.trees.ExprKind.TheVariants as kind
 use Rattle.syntax65.specs.declared.expressions.trees.Name.{Name}
-use Rattle.symbols65.specs.Resolving.{IsReference, defined_place, joined_behind, plain_part}
+use Rattle.symbols65.specs.Resolving.{IsReference, defined_place, plain_part}
 use Rattle.std.specs.Prelude.{Result, codes, slice_get}
 use Rattle.std.proofs.lemmas.List.{append_assoc}
 use Rattle.language65.specs.declared.laid.Context.{Context}
@@ -36,6 +36,11 @@ pub last_behind : (rest : List (List ℕ)) (n : List ℕ) → last_of (rest ++ n
 last_behind [] n = refl
 last_behind (m ∷ []) n = refl
 last_behind (m ∷ k ∷ rest) n = last_behind (k ∷ rest) n
+
+-- the parts behind the first, as they are shown
+abbrev pub joined_behind : List (List ℕ) → List ℕ
+joined_behind [] = []
+joined_behind (n ∷ names) = codes "::" ++ n ++ joined_behind names
 
 pub joined_first : (n : List ℕ) (names : List (List ℕ)) → joined (n ∷ names) ≡ n ++ joined_behind names
 joined_first n [] = grind (arith, common_steps)

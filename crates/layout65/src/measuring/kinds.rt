@@ -8,8 +8,7 @@ ghost use Rattle.symbols65.specs.Tables.{key_of};
 ghost use Rattle.symbols65.specs.Views.{table_of};
 ghost use Rattle.language65.specs.declared.language.Statement.TheVariants.{Constant};
 ghost use Rattle.symbols65.specs.Resolving.{IsTable};
-ghost use Rattle.layout65.specs.Measuring.{Checks, Places, is_bare};
-ghost use Rattle.layout65.specs.Sounds.{IsSoundCursor};
+ghost use Rattle.layout65.specs.Measuring.{Checks, Places, IsSoundCursor};
 
 use super::bytes::{file_part, instruction, values};
 use super::rooms::{align, check_segment, is_scope, reserve};
@@ -165,33 +164,6 @@ fn constant(
     Ok(Measured { size, ..measure })
 }
 
-/// What a statement that ends a block or changes the segment places, or one that does neither and
-/// has no bytes.
-#[inline(never)]
-fn without_bytes(before: Before<'_>, statement: &Statement) -> Result<Measured, AsmFault>
-    requires cursor { IsSoundCursor before.cursor.now }
-    requires bare { is_bare statement.now ≡ true }
-    ensures { Places before.entry result statement.now }
-{
-    let scope = before.cursor.scope as usize;
-    match statement {
-        Statement::Segment { name, size } => {
-            check_segment(before.cursor, name.as_slice(), *size)?;
-        }
-        Statement::PopSegment if before.cursor.kept.is_empty() => {
-            return Err(AsmFault::PopWithoutPush);
-        }
-        Statement::CloseScope if scope == 0 || !is_scope(before.symbols, scope) => {
-            return Err(AsmFault::BadScope);
-        }
-        Statement::CloseProc if scope == 0 || is_scope(before.symbols, scope) => {
-            return Err(AsmFault::BadScope);
-        }
-        _ => {}
-    }
-    Ok(nothing(before.cursor))
-}
-
 /// What a statement whose names are understood places, or its first fault.
 pub fn place(
     alloc: Global,
@@ -205,6 +177,7 @@ pub fn place(
     ensures table { OnOk result
         (IsTable (table_of before.entry.symbols.now) known.new.states.items) }
 {
+    let scope = before.cursor.scope as usize;
     match statement {
         Statement::Instruction { mnemonic, operand } => {
             instruction(alloc, before, known, *mnemonic, operand)
@@ -216,6 +189,17 @@ pub fn place(
             file_part(alloc, before, known, bytes, PartRange { start, len })
         }
         Statement::Constant { name: _, value } => constant(alloc, before, known, value),
-        _ => without_bytes(before, statement),
+        Statement::Segment { name, size } => {
+            check_segment(before.cursor, name.as_slice(), *size)?;
+            Ok(nothing(before.cursor))
+        }
+        Statement::PopSegment if before.cursor.kept.is_empty() => Err(AsmFault::PopWithoutPush),
+        Statement::CloseScope if scope == 0 || !is_scope(before.symbols, scope) => {
+            Err(AsmFault::BadScope)
+        }
+        Statement::CloseProc if scope == 0 || is_scope(before.symbols, scope) => {
+            Err(AsmFault::BadScope)
+        }
+        _ => Ok(nothing(before.cursor)),
     }
 }

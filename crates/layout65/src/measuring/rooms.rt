@@ -4,13 +4,12 @@ ghost use Rattle.std.specs.Prelude.{◌≡◌, not, slice_get, ◌<◌, ◌≤�
 ghost use Rattle.language65.specs.Layout.{place_of, segment_at, context_of as cursor_context, changed_size, is_scope, opened_as, same_size, when, unless_fault, is_byte_value, is_count, multiple_fault};
 ghost use Rattle.language65.specs.declared.fault.AsmFault.TheVariants.{BadOperand};
 ghost use Rattle.symbols65.specs.Views.{table_of};
-ghost use Rattle.layout65.specs.Sounds.{IsSoundCursor, cursor_of};
+ghost use Rattle.layout65.specs.Measuring.{IsSoundCursor, cursor_of, Places};
 ghost use Rattle.base65.specs.Outcome.{Gives};
 ghost use Rattle.language65.specs.Faults.{is_memory};
 ghost use Rattle.language65.specs.declared.language.Statement.TheVariants.{Align, Reserve};
 ghost use Rattle.language65.specs.Norms.{counted, fill_settled, gap, optional_value};
 ghost use Rattle.symbols65.specs.Resolving.{IsTable};
-ghost use Rattle.layout65.specs.Measuring.{Places, any_settled};
 
 use crate::cursor::Cursor;
 use crate::measuring::{Before, Measured, fit, nothing};
@@ -90,7 +89,7 @@ fn fill(
     value: &OptionalExpr,
 ) -> Result<Settled, AsmFault>
     requires { IsTable (table_of symbols.now) known.old.states.items }
-    ensures byte { Gives is_memory any_settled result (unless_fault
+    ensures byte { Gives is_memory (λ _. tt {0}) result (unless_fault
         (when (not (is_byte_value (optional_value (table_of symbols.now) context
         value.now (pos 0)))) BadOperand) tt) }
     ensures settled { IfOk result (λ s. s

@@ -9,8 +9,7 @@ ghost use Rattle.language65.specs.Norms.{address_of};
 ghost use Rattle.symbols65.specs.declared.resolving.attempt.Stop.TheVariants.{Fault};
 ghost use Rattle.symbols65.specs.declared.resolving.attempt.State.TheVariants.{Found};
 ghost use Rattle.symbols65.specs.Resolving.{attempt_definition, known_form, lacks_memory, meaning_form, meaning_in, tried, tried_at, tried_last};
-ghost use Rattle.symbols65.specs.Inner.Knowns.{known_by};
-ghost use Rattle.symbols65.specs.Views.{table_of};
+ghost use Rattle.symbols65.specs.Views.{known_by, table_of};
 
 use super::meaning::{Meaning, folded, meaning_of};
 use crate::table::Symbols;

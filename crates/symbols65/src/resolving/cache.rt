@@ -3,8 +3,7 @@
 ghost use Rattle.std.specs.Prelude.{◌≡◌, IfOk, IfSome, map, slice_get, ◌+◌, ◌<◌, OnOk, replicate, Some, [], length, ℕ, slice_set, true};
 ghost use Rattle.symbols65.specs.declared.resolving.attempt.Source.TheVariants.{Finals};
 ghost use Rattle.symbols65.specs.Resolving.{AreHung, HangsOn, Reaches, bare, hung_on, needed_in, may_be_looked_for, tried, IsTable};
-ghost use Rattle.symbols65.specs.Inner.Knowns.{known_by, AreNoted, is_found, without};
-ghost use Rattle.symbols65.specs.Views.{Table, table_of, nothing_defined};
+ghost use Rattle.symbols65.specs.Views.{known_by, AreNoted, is_found, without, Table, table_of, nothing_defined};
 ghost use Rattle.base65.specs.Outcome.{Finds, Gives};
 ghost use Rattle.language65.specs.Faults.{is_memory};
 ghost use Rattle.symbols65.specs.declared.resolving.attempt.State.TheVariants.{Unknown, Waiting, Found};

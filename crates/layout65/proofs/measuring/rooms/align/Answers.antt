@@ -5,7 +5,7 @@ use Rattle.syntax65.specs.Trees.{Tree}
 use Rattle.language65.specs.declared.fault.AsmFault.TheVariants.{BadOperand}
 use Rattle.language65.specs.declared.laid.Context.{Context}
 use Rattle.language65.specs.Layout.{context_of, is_byte_value, is_there, when, unless_fault}
-use Rattle.layout65.specs.Sounds.{cursor_of}
+use Rattle.layout65.specs.Measuring.{cursor_of}
 use Rattle.language65.specs.Norms.{constant_in, fill_settled, optional_value}
 use Rattle.symbols65.specs.Views.{table_of}
 use Rattle.layout65.proofs.Measures.{aligned_as, aligned_well, as_ok, bad_byte, bad_multiple, refused_same}

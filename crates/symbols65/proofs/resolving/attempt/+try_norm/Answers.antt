@@ -5,8 +5,7 @@ use Rattle.base65.specs.Outcome.{◌>>=◌, Gives}
 use Rattle.language65.specs.Faults.{is_memory}
 use Rattle.symbols65.specs.declared.resolving.attempt.Stop.{Stop}
 use Rattle.symbols65.specs.Resolving.{lacks_memory, meaning_form, operand_form, stopped}
-use Rattle.symbols65.specs.Inner.Knowns.{known_by}
-use Rattle.symbols65.specs.Views.{table_of}
+use Rattle.symbols65.specs.Views.{known_by, table_of}
 use Rattle.symbols65.proofs.Pursuits.{unless_more}
 use Rattle.symbols65.proofs.Scopes.{reference}
 use Rattle.symbols65.proofs.Tries.{operand_tried}

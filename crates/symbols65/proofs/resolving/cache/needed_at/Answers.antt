@@ -3,9 +3,8 @@ use Rattle.std.specs.Prelude.{IfSome}
 use Rattle.std.proofs.lemmas.Result.{IfOk-weaker}
 use Rattle.symbols65.specs.declared.resolving.attempt.Source.TheVariants.{Finals}
 use Rattle.symbols65.specs.Resolving.{HangsOn, needed_in, tried}
-use Rattle.symbols65.specs.Inner.Knowns.{known_by}
+use Rattle.symbols65.specs.Views.{known_by, key_at, table_of}
 use Rattle.symbols65.specs.Tables.{definition_seen}
-use Rattle.symbols65.specs.Views.{key_at, table_of}
 use Rattle.symbols65.proofs.Hanging.{if_some}
 use Rattle.symbols65.proofs.Needing.{constant_hangs, needed_is}
 use Rattle.symbols65.proofs.resolving.cache.needed_at.Goals as goal

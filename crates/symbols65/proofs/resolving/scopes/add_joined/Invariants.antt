@@ -1,6 +1,6 @@
 use Rattle.std.proofs.Common.{◌≡◌, ◌++◌, drop}
 use Rattle.language65.specs.Symbols.{joined}
-use Rattle.symbols65.specs.Resolving.{joined_behind}
+use Rattle.symbols65.proofs.Scopes.{joined_behind}
 use Rattle.symbols65.proofs.resolving.scopes.add_joined.Given as goal
 
 abbrev pub invariant-loop-part : goal.invariant-loop-part

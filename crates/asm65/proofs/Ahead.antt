@@ -20,7 +20,7 @@ use Rattle.asm65.specs.Inner.Running.{IsRoomy, IsRunning, StopsQuietly, TakesAll
 use Rattle.asm65.specs.Assembly.{Without}
 use Rattle.asm65.specs.declared.assembler.Assembler.{Assembler}
 use Rattle.asm65.specs.declared.running.Run.{Run}
-use Rattle.layout65.specs.Counting.{opening_limit}
+use Rattle.layout65.specs.Measuring.{opening_limit}
 
 -- the statements of a line more may be taken
 pub roomy_ahead : (run : Run) (p : Peeked) (ts : List Lexeme) → IsAhead run.expander p ts → IsRunning run → IsRoomy 4 run.assembler

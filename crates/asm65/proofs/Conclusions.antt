@@ -35,7 +35,7 @@ use Rattle.language65.specs.Numbering.{object_with, AreSound}
 use Rattle.symbols65.specs.Resolving.{IsTable}
 use Rattle.symbols65.specs.Views.{table_of}
 use Rattle.asm65.specs.declared.assembler.Assembler.{Assembler}
-use Rattle.layout65.specs.Sounds.{cursor_of}
+use Rattle.layout65.specs.Measuring.{cursor_of}
 
 -- ---- Faults from outside.
 

@@ -12,7 +12,7 @@ use Rattle.module65.proofs.Taken.{faulty_constant, first_constant, next_constant
 use Rattle.asm65.specs.declared.assembler.Assembler.{Assembler}
 use Rattle.asm65.specs.declared.assembling.Define as code
 use Rattle.asm65.specs.Assembly.{define_of}
-use Rattle.layout65.specs.Counting.{opening_limit}
+use Rattle.layout65.specs.Measuring.{opening_limit}
 use Rattle.asm65.specs.Inner.Holding.{Holds}
 use Rattle.asm65.specs.Inner.Running.{DefinesBy, IsReached, behind, at_first, IsRoomy, Leaves}
 use Rattle.asm65.proofs.Runs.{Answer, fault_first, fault_then, says_same, takes_quiet}

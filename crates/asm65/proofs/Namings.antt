@@ -5,7 +5,7 @@ use Rattle.language65.specs.Layout.{context_of}
 use Rattle.module65.specs.Reading.{known_at}
 use Rattle.module65.specs.Machine.{State, Puts, PutsAll, awaiting, at_once, later, symbols_behind}
 use Rattle.symbols65.specs.Views.{table_of, with_definition, with_names, with_scope}
-use Rattle.layout65.specs.Sounds.{cursor_of, AreWithin, IsCounted, IsSoundCursor}
+use Rattle.layout65.specs.Measuring.{cursor_of, AreWithin, IsCounted, IsSoundCursor, AreInside}
 use Rattle.asm65.specs.declared.assembler.Assembler.{Assembler}
 use Rattle.asm65.specs.Inner.Holding.{Holds, AreBefore, Enters, known_where, KeepsTables}
 use Rattle.std.specs.Prelude.{string_bytes, slice_get, Some, Bool, OnOk, Result, Ok, Err, true, false, Option}
@@ -19,7 +19,6 @@ use Rattle.layout65.specs.declared.cursor.Cursor.{Cursor}
 use Rattle.module65.specs.Module as piece
 use Rattle.symbols65.specs.Resolving.{IsTable}
 use Rattle.symbols65.specs.Tables.{Begins}
-use Rattle.layout65.specs.Counting.{AreInside}
 use Rattle.asm65.specs.Inner.Taking.{KeepsPut, Mentions, Turns, all_awaiting, with_symbols, is_for_zero_page, label_at, laid_as}
 use Rattle.asm65.proofs.Waitings.{waiting_stays}
 use Rattle.std.specs.declared.alloc.AllocError.{AllocError}

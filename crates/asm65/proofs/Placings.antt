@@ -8,9 +8,8 @@ use Rattle.language65.specs.declared.laid.Context.{Context}
 use Rattle.language65.specs.declared.language.Statement.{Statement}
 use Rattle.language65.specs.Layout.{Cursor, context_of, cursor_behind, line_fault}
 use Rattle.language65.specs.Symbols.{Symbols}
-use Rattle.layout65.specs.Measuring.{advanced, measured}
+use Rattle.layout65.specs.Measuring.{advanced, measured, cursor_of}
 use Rattle.layout65.specs.declared.measuring.Measured.{Measured}
-use Rattle.layout65.specs.Sounds.{cursor_of}
 use Rattle.layout65.proofs.Behind.{behind_measured, is_measured, with_fault, without_fault}
 use Rattle.layout65.proofs.Measures.{unless_then}
 use Rattle.module65.specs.Machine.{State}

@@ -32,7 +32,7 @@ use Rattle.module65.proofs.SoundSources.{label_sound}
 use Rattle.asm65.specs.declared.assembler.Assembler.{Assembler}
 use Rattle.asm65.specs.declared.texts.Texts.{Texts}
 use Rattle.layout65.proofs.Measures.{unless_then}
-use Rattle.layout65.specs.Counting.{opened_by, opening_limit}
+use Rattle.layout65.specs.Measuring.{opened_by, opening_limit}
 use Rattle.asm65.specs.Inner.Holding.{Holds}
 use Rattle.asm65.specs.Inner.Running.{IsRefusedUnread, read_bytes, behind, IsRoomy, IsSoundIf, Leaves, SaysAs, StopsQuietly, TakesBy, Told, tokens_of}
 use Rattle.asm65.specs.Assembly.{Without}

@@ -30,7 +30,7 @@ use Rattle.module65.proofs.NamedLines.{AreFit, are_named}
 use Rattle.module65.proofs.SoundSources.{opened_fit}
 use Rattle.asm65.specs.declared.assembler.Assembler.{Assembler}
 use Rattle.asm65.specs.declared.running.Run.{Run}
-use Rattle.layout65.specs.Counting.{opening_limit}
+use Rattle.layout65.specs.Measuring.{opening_limit}
 use Rattle.asm65.specs.Failing.{IsTakenTo, at_first, further, IsWhere, StopsAll, StopsBehind}
 use Rattle.asm65.specs.Assembly.{IsUnread, Without}
 use Rattle.asm65.specs.Inner.Holding.{Holds}

@@ -14,10 +14,8 @@ use Rattle.language65.specs.declared.language.Statement.{Statement}
 use Rattle.language65.specs.declared.language.Statement.TheVariants as statement
 use Rattle.language65.specs.Layout.{Cursor, laid, context_of, cursor_behind, defined_twice, first_fault, is_open, line_fault, lost_scopes, opened_twice, or_then, scope_name, stands_outside, trees_of, when, where_there, operand_fault, unless_fault}
 use Rattle.layout65.specs.declared.cursor.Cursor as code
-use Rattle.layout65.specs.Counting.{AreInside, opened_by}
+use Rattle.layout65.specs.Measuring.{AreInside, opened_by, measure_of, naming_fault, placing_faults, unread_fault, AreWithin, IsCounted, IsSoundCursor, cursor_of}
 use Rattle.layout65.specs.declared.measuring.Measured.{Measured}
-use Rattle.layout65.specs.Measuring.{measure_of, naming_fault, placing_faults, unread_fault}
-use Rattle.layout65.specs.Sounds.{AreWithin, IsCounted, IsSoundCursor, cursor_of}
 use Rattle.layout65.proofs.Behind.{inside_behind}
 use Rattle.layout65.proofs.Measures.{faults_are, unless_then}
 use Rattle.language65.proofs.Segments.{all_more, all_same}

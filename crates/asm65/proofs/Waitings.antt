@@ -29,7 +29,7 @@ use Rattle.asm65.specs.declared.assembler.Piece.{Piece}
 use Rattle.asm65.specs.declared.assembler.Piece.TheVariants.{Datum, Operand, Constant, Assertion, Import, Demand, Export}
 use Rattle.asm65.specs.declared.assembler.Fixup.{Fixup}
 use Rattle.asm65.specs.Inner.Holding.{AreAwaited, AreFixups, Enters, Holds, IsConstant, IsPiece, IsFixup, KeepsTables, Waits}
-use Rattle.layout65.specs.Sounds.{AreWithin, IsCounted, IsSoundCursor, cursor_of}
+use Rattle.layout65.specs.Measuring.{AreWithin, IsCounted, IsSoundCursor, cursor_of}
 use Rattle.layout65.proofs.Segments.{all_before}
 
 -- ---- What waits.

@@ -8,7 +8,7 @@ ghost use Rattle.syntax65.specs.declared.place.Place.{Place};
 ghost use Rattle.language65.specs.declared.language.Statement.TheVariants.{Instruction};
 ghost use Rattle.language65.specs.Faults.{is_failure, is_outside};
 ghost use Rattle.language65.specs.Views.{place_at};
-ghost use Rattle.layout65.specs.Counting.{opened_by, opening_limit};
+ghost use Rattle.layout65.specs.Measuring.{opened_by, opening_limit};
 ghost use Rattle.module65.specs.Machine.{State, Takes, symbols_behind};
 ghost use Rattle.module65.specs.Module.{instruction_pieces, pieces_of};
 ghost use Rattle.module65.specs.Reading.{Answers};

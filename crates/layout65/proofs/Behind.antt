@@ -10,10 +10,8 @@ use Rattle.language65.specs.declared.language.Statement.{Statement}
 use Rattle.language65.specs.declared.language.Statement.TheVariants as statement
 use Rattle.language65.specs.Layout.{Cursor, opens_scope, scope_behind, segments_behind, cursor_behind, line_fault}
 use Rattle.layout65.specs.declared.cursor.Cursor as code
-use Rattle.layout65.specs.Measuring.{advanced, measure_of, measured}
-use Rattle.layout65.specs.Counting.{AreInside, HasNumbers, opened_by, opening_limit}
+use Rattle.layout65.specs.Measuring.{advanced, measure_of, measured, AreInside, HasNumbers, opened_by, opening_limit, IsCounted, cursor_of}
 use Rattle.layout65.specs.declared.measuring.Measured.{Measured}
-use Rattle.layout65.specs.Sounds.{IsCounted, cursor_of}
 use Rattle.layout65.proofs.Measures.{no_fault}
 use Rattle.language65.proofs.Segments.{all_more, all_same, grown_length}
 

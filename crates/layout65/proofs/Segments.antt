@@ -1,6 +1,6 @@
 -- Segments whose sections grow.
 use Rattle.std.proofs.lemmas.Grind.{common_steps}
-use Rattle.std.proofs.Common.{◌≡◌, ◌∙◌, ℕ, zero, suc, ◌+◌, ◌<◌, ◌≤◌, List, [], ◌∷◌, ◌++◌, length, map, position, get_or, set, refl, sym, ap, arith}
+use Rattle.std.proofs.Common.{◌≡◌, ◌∙◌, ℕ, zero, suc, ◌+◌, ◌<◌, ◌≤◌, List, [], ◌∷◌, ◌++◌, length, map, position, get_or, set, take, drop, refl, sym, ap, arith}
 use Rattle.std.proofs.Math.Path.{fun_ext}
 use Rattle.std.specs.Prelude.{Bool, true, false, cond, ◌||◌, Some, None}
 use Rattle.std.specs.List.{list_any, position_from, AllByRecursion}
@@ -11,7 +11,8 @@ use Rattle.std.specs.Str.{bytes_eq}
 use Rattle.object65.specs.Objects.{section_limit}
 use Rattle.layout65.specs.declared.cursor.Cursor.{Cursor}
 use Rattle.language65.specs.Layout.{grown, grown_at, place_of, segment_at}
-use Rattle.layout65.specs.Sounds.{AreWithin, IsSoundCursor}
+use Rattle.layout65.specs.Measuring.{AreWithin, IsSoundCursor}
+use Rattle.symbols65.proofs.Knowns.{written_over}
 use Rattle.language65.proofs.Lists.{bytes_swap, position_mapped}
 use Rattle.language65.proofs.Segments.{all_more, all_same, grown_length, grown_names}
 
@@ -49,6 +50,14 @@ pub grown_within : (gs : List Segment) (i count multiple : ℕ) → (segment_at 
 grown_within [] i count multiple le h = tt
 grown_within (g ∷ gs) zero count multiple le h = (le, h.1)
 grown_within (g ∷ gs) (suc i) count multiple le h = (h.0, grown_within gs i count multiple le h.1)
+
+pub within_grown : (gs hs : List Segment) (i count multiple : ℕ) → hs ≡ grown_at gs i count multiple → (segment_at gs i).end + count ≤ section_limit → AreWithin gs → AreWithin hs
+within_grown gs hs i count multiple e le h = rw e (grown_within gs i count multiple le h)
+
+-- what is written over the segments, where it is they with one grown
+pub written_grown : (n : ℕ) (new held gs : List Segment) (i count multiple : ℕ) → held ≡ gs → length held ≡ n → length new ≡ length held → new ≡ grown_at held i count multiple → take n (new ++ drop (length new) gs) ≡ grown_at gs i count multiple
+written_grown n new held gs i count multiple value long same e =
+    written_over n new gs (same ∙ ap length value) (sym long ∙ ap length value) ∙ e ∙ ap (λ hs. grown_at hs i count multiple) value
 
 pub within_at : (gs : List Segment) (i : ℕ) → AreWithin gs → i < length gs → (segment_at gs i).end ≤ section_limit
 within_at [] i h lt = absurd (omega arith)

@@ -1,24 +1,93 @@
--- What is found of a statement at its line, and what stands behind it.
-use Rattle.std.specs.Prelude.{ℕ, ◌+◌, if◌then◌else◌, ◌≡◌, ℤ, pos, negsuc, ◌&&◌, nat_le, nat_lt, not, Bool, true, false, List, [], ◌∷◌, ◌++◌, Option, Some, None, Result, Ok, Err}
-use Rattle.language65.specs.Symbols.{opens_region, is_unnamed, Symbols, Scope, key_defined, scope_from, scopes_of, shown}
-use Rattle.language65.specs.declared.language.Statement.{Statement}
-use Rattle.language65.specs.Layout.{Cursor, current_behind, kept_behind, opens_scope, scope_behind, segments_behind, multiple_of, own_size, size_stated, context_of, alignment_fault, block_fault, defined_twice, file_limit, first_fault, form_fault, is_open, is_part, left_from, line_fault, lost_scopes, missing_file, opened_twice, operand_fault, optional_tree, or_then, part_fault, pop_fault, scope_name, size_fault, stands_outside, trees_of, unless_there, when, unless_fault}
-use Rattle.base65.specs.Outcome.{Unless}
-use Rattle.syntax65.specs.Trees.{Tree}
+-- What stands between statements as the code has it, what a statement comes to at its line, and what stands behind it.
+use Rattle.std.specs.Prelude.{reverse, ◌≡◌, ℕ, ◌+◌, ◌<◌, ◌≤◌, List, length, map, if◌then◌else◌, ℤ, pos, negsuc, ◌&&◌, nat_le, nat_lt, not, Bool, false, [], ◌∷◌, ◌++◌, Option, Some, None, Result, Ok, Err}
+use Rattle.language65.specs.Layout as layout
+use Rattle.layout65.specs.declared.cursor.Cursor.{Cursor}
+use Rattle.std.specs.List.{AllByRecursion}
 use Rattle.object65.specs.Objects.{section_limit}
+use Rattle.language65.specs.declared.contents.Segment.{Segment}
+use Rattle.language65.specs.Layout.{context_of, current_behind, kept_behind, opens_scope, scope_behind, segments_behind, multiple_of, own_size, size_stated, alignment_fault, block_fault, defined_twice, file_limit, first_fault, form_fault, is_open, is_part, left_from, line_fault, lost_scopes, missing_file, opened_twice, operand_fault, optional_tree, or_then, part_fault, pop_fault, scope_name, size_fault, stands_outside, trees_of, when, unless_fault}
+use Rattle.language65.specs.declared.language.Statement.{Statement}
+use Rattle.language65.specs.declared.language.Statement.TheVariants as statement
+use Rattle.language65.specs.declared.language.Statement.TheVariants.{Label, OpenProc, OpenScope, UnnamedLabel, FilePart}
+use Rattle.language65.specs.Symbols.{enclosing, Scope, Symbols, opens_region, is_unnamed, key_defined}
+use Rattle.base65.specs.Outcome.{Gives, Unless}
+use Rattle.syntax65.specs.Trees.{Tree}
 use Rattle.language65.specs.declared.fault.AsmFault.{AsmFault}
-use Rattle.language65.specs.declared.fault.AsmFault.TheVariants.{BadOperand, BadPart, NoSuchScope, NotUnderstood, SectionTooLarge}
+use Rattle.language65.specs.declared.fault.AsmFault.TheVariants.{BadOperand, BadPart, NotUnderstood, SectionTooLarge}
 use Rattle.language65.specs.Faults.{is_memory}
-use Rattle.language65.specs.declared.laid.Settled.{Settled}
 use Rattle.language65.specs.declared.laid.Context.{Context}
-use Rattle.language65.specs.declared.language.Statement.TheVariants.{Align, Constant, FilePart, Instruction, Reserve, Values}
 use Rattle.language65.specs.Norms.{counted, length_of, settled_of}
+use Rattle.layout65.specs.declared.measuring.Before.{Before}
 use Rattle.layout65.specs.declared.measuring.Measured.{Measured}
+use Rattle.symbols65.specs.Views.{table_of}
+
+-- ---- What stands between statements, without where it lies in memory.
+
+-- the segments that are kept stand with the last one last
+abbrev pub cursor_of : Cursor → layout.Cursor
+cursor_of w = record {
+  scope = w.scope;
+  opened = w.opened;
+  region = w.region;
+  unnamed = w.unnamed;
+  segments = w.segments.items;
+  current = w.current;
+  kept = reverse w.kept.items;
+}
+
+-- ---- What holds of the code's state between statements.
+
+-- The current segment is there, has room left, and each segment is found by its name; what is kept
+-- is there.
+pub record IsSoundCursor (w : Cursor) : Type 0 where
+  pub current : w.current < length w.segments.items
+  pub end : (context_of (cursor_of w)).offset ≤ section_limit
+  pub names : map (λ k. k.items) w.names.keys ≡ map (λ g. g.name) w.segments.items
+  pub kept : AllByRecursion (λ k. k < length w.segments.items) w.kept.items
+
+-- no section is longer than sections can be
+abbrev pub AreWithin : List Segment → Type 0
+AreWithin gs = AllByRecursion (λ g. g.end ≤ section_limit) gs
+
+-- no more of anything than so many statements open
+pub record IsCounted (count : ℕ) (w : Cursor) : Type 0 where
+  pub scope : w.scope ≤ count
+  pub scopes : w.opened ≤ count
+  pub regions : w.region ≤ count
+  pub unnamed : w.unnamed ≤ count
+  pub segments : length w.segments.items ≤ count + 1
+
+-- ---- How much statements open, and what the code's numbers have room for.
+
+-- whether a statement opens something that is counted: a scope, a region, a segment, an unnamed label
+abbrev pub opened_by : Statement → ℕ
+opened_by (Label n) = 1
+opened_by UnnamedLabel = 1
+opened_by (OpenScope n) = 1
+opened_by (OpenProc n) = 1
+opened_by (statement.Segment n size) = 1
+opened_by _ = 0
+
+-- each scope is opened within one of so many
+abbrev pub AreInside : ℕ → List Scope → Type 0
+AreInside count scopes = AllByRecursion (λ c. c.within ≤ count) scopes
+
+-- how much statements may open
+abbrev pub opening_limit : ℕ
+opening_limit = 4294967294
+
+-- the numbers in which a cursor counts have room for what one more statement opens
+pub record HasNumbers (y : Symbols) (w : Cursor) : Type 0 where
+  pub segments : length w.segments.items < 4294967295
+  pub opened : w.opened < 4294967295
+  pub region : w.region < 4294967295
+  pub unnamed : w.unnamed < 4294967295
+  pub enclosing : enclosing y.scopes w.scope < 4294967296
 
 -- ---- What stands behind a statement, by what it places.
 
 -- of so many bytes, which aligns its section to a multiple
-abbrev pub advanced : Symbols → Cursor → Statement → (count multiple : ℕ) → Cursor
+abbrev pub advanced : Symbols → layout.Cursor → Statement → (count multiple : ℕ) → layout.Cursor
 advanced y w x count multiple = record {
   scope = scope_behind y w x;
   opened = if opens_scope x then w.opened + 1 else w.opened;
@@ -31,7 +100,7 @@ advanced y w x count multiple = record {
 
 -- ---- What is found of a statement at its line, in the parts in which the code finds it.
 
-abbrev pub measure_of : Symbols → Cursor → Statement → Measured
+abbrev pub measure_of : Symbols → layout.Cursor → Statement → Measured
 measure_of y w x = record {
   length = length_of y (context_of w) (own_size w) x;
   size = size_stated y (context_of w) (own_size w) x;
@@ -40,15 +109,10 @@ measure_of y w x = record {
 }
 
 -- that, or the first fault of the statement
-abbrev pub measured : Symbols → Cursor → Statement → Result Measured AsmFault
+abbrev pub measured : Symbols → layout.Cursor → Statement → Result Measured AsmFault
 measured y w x = unless_fault (line_fault y w x) (measure_of y w x)
 
 -- ---- Faults in their groups.
-
--- a name that isn't plain, and whose scope isn't there
-abbrev pub lost_parts : List Scope → ℕ → Bool → List (List ℕ) → Option AsmFault
-lost_parts cs scope global parts =
-    unless_there (scope_from cs scope global (scopes_of parts)) (NoSuchScope (shown global parts))
 
 -- what names and scopes refuse a statement for
 abbrev pub naming_fault : Symbols → Context → Statement → Option AsmFault
@@ -58,7 +122,7 @@ naming_fault y s x =
     (or_then (opened_twice y.scopes s.scope (scope_name x)) (defined_twice y (key_defined s x))))
 
 -- all faults behind them
-abbrev pub placing_faults : Symbols → Cursor → Statement → List (Option AsmFault)
+abbrev pub placing_faults : Symbols → layout.Cursor → Statement → List (Option AsmFault)
 placing_faults y w x =
     let s : Context = context_of w in
     form_fault y s (own_size w) x
@@ -73,23 +137,22 @@ placing_faults y w x =
     ∷ []
 
 -- what a statement whose names are understood comes to, or its first fault of those
-abbrev pub placed : Symbols → Cursor → Statement → Result Measured AsmFault
+abbrev pub placed : Symbols → layout.Cursor → Statement → Result Measured AsmFault
 placed y w x = unless_fault (first_fault (placing_faults y w x)) (measure_of y w x)
 
+-- a statement is refused for this fault, and for nothing else but want of memory
+abbrev pub Checks : Result (Unit {0}) AsmFault → Option AsmFault → Type 0
+Checks result fault = Gives is_memory (λ u. u) result (unless_fault fault tt)
+
+-- what a statement places, where its names are understood, or its first fault
+abbrev pub Places : Before → Result Measured AsmFault → Statement → Type 0
+Places before result x =
+    Gives is_memory (λ m. m) result (placed (table_of before.symbols.now) (cursor_of before.cursor.now) x)
+
 -- so many bytes, if the section has room for them
-abbrev pub fitted : Cursor → ℕ → Result ℕ AsmFault
+abbrev pub fitted : layout.Cursor → ℕ → Result ℕ AsmFault
 fitted w count =
     unless_fault (when (nat_lt section_limit ((context_of w).offset + count)) SectionTooLarge) count
-
--- a statement that places no bytes and has no value that counts at its line
-abbrev pub is_bare : Statement → Bool
-is_bare (Constant n e) = false
-is_bare (Instruction m o) = false
-is_bare (Values width items) = false
-is_bare (Reserve n v) = false
-is_bare (Align n v) = false
-is_bare (FilePart bytes start len) = false
-is_bare _ = true
 
 -- ---- Parts of files.
 
@@ -105,7 +168,7 @@ IsFound value (Err e) =
     Unless (is_memory e) ((e ≡ BadOperand) × ((default : ℤ) → value default ≡ None))
 
 -- what a part of a file is refused for whatever the file has
-abbrev pub unread_fault : Symbols → Cursor → Option Tree → Option Tree → Option AsmFault
+abbrev pub unread_fault : Symbols → layout.Cursor → Option Tree → Option Tree → Option AsmFault
 unread_fault y w start len =
     or_then (lost_scopes y.scopes w.scope (optional_tree start ++ optional_tree len))
     (operand_fault y (context_of w) (FilePart None start len))
@@ -122,7 +185,3 @@ ranged count start len =
     let more : Option ℤ = Some (or_default len (left_from count from)) in
     unless_fault (when (not (nat_le count file_limit && is_part count from more)) BadPart)
     (counted from, counted more)
-
--- what is settled stands apart from its faults
-abbrev pub any_settled : Settled → Unit {0}
-any_settled x = tt

@@ -3,14 +3,12 @@
 ghost use Rattle.std.specs.Prelude.{◌≡◌, ℕ, ◌+◌, ◌<◌, ◌≤◌, length, OnOk, IfOk, None, ◌++◌, ◌∷◌, [], if◌then◌else◌};
 ghost use Rattle.object65.specs.Objects.{section_limit};
 ghost use Rattle.language65.specs.Symbols.{is_unnamed, opens_region, Symbols as Table};
-ghost use Rattle.language65.specs.Layout.{closes_scope, current_behind, first_size, grown_at, kept_behind, last_kept, named_segments, new_segment, opens_scope, or_last, place_of, rest_kept, scope_behind, segment_at, segments_behind, context_of, start};
+ghost use Rattle.language65.specs.Layout.{current_behind, first_size, grown_at, kept_behind, last_kept, named_segments, new_segment, opens_scope, or_last, place_of, rest_kept, scope_behind, segment_at, segments_behind, context_of, start};
 ghost use Rattle.syntax65.specs.declared.instructions.names.Mnemonic.{Mnemonic};
 ghost use Rattle.language65.specs.declared.language.Operand.{Operand};
 ghost use Rattle.language65.specs.declared.language.Statement.TheVariants.{Instruction};
 ghost use Rattle.symbols65.specs.Views.{table_of};
-ghost use Rattle.layout65.specs.Measuring.{advanced};
-ghost use Rattle.layout65.specs.Counting.{AreInside, HasNumbers, opened_by};
-ghost use Rattle.layout65.specs.Sounds.{AreWithin, IsCounted, IsSoundCursor, cursor_of};
+ghost use Rattle.layout65.specs.Measuring.{advanced, AreInside, HasNumbers, opened_by, AreWithin, IsCounted, IsSoundCursor, cursor_of};
 
 use crate::measuring::Measured;
 use base65::Sequence;
@@ -107,20 +105,6 @@ impl Cursor {
     }
 
     /// Moves the end of the section in which statements stand.
-    fn move_end(&mut self, count: u32, multiple: u32)
-        requires current { self.old.current < length self.old.segments.items }
-        requires room { (context_of (cursor_of self.old)).offset + count ≤ section_limit }
-        ensures moved { cursor_of self.new ≡ record (cursor_of self.old) {
-          segments = grown_at self.old.segments.items self.old.current count multiple;
-        } }
-        ensures names { self.new.names ≡ self.old.names }
-        ensures kept { self.new.kept ≡ self.old.kept }
-    {
-        let place = self.current as usize;
-        grow(&mut self.segments, place, count, multiple);
-    }
-
-    /// The same, where cursor stays sound.
     fn grow(&mut self, count: u32, multiple: u32)
         requires sound { IsSoundCursor self.old }
         requires ends { AreWithin self.old.segments.items }
@@ -131,7 +115,7 @@ impl Cursor {
         ensures sound { IsSoundCursor self.new }
         ensures ends { AreWithin self.new.segments.items }
     {
-        self.move_end(count, multiple);
+        grow(&mut self.segments, self.current as usize, count, multiple);
     }
 
     /// Begins a segment, in which the next statement stands.
@@ -311,31 +295,23 @@ impl Cursor {
               else self.old.unnamed);
         } }
     {
-        self.scope = self.scope_behind(symbols, statement);
-        if opens_scope(statement) {
-            self.opened += 1;
+        match statement {
+            Statement::OpenScope(_) => {
+                self.opened += 1;
+                self.scope = self.opened;
+            }
+            Statement::OpenProc(_) => {
+                self.opened += 1;
+                self.scope = self.opened;
+                self.region += 1;
+            }
+            Statement::CloseScope | Statement::CloseProc => {
+                self.scope = symbols.enclosing(self.scope as usize) as u32;
+            }
+            Statement::Label(_) => self.region += 1,
+            Statement::UnnamedLabel => self.unnamed += 1,
+            _ => {}
         }
-        if opens_region(statement) {
-            self.region += 1;
-        }
-        if is_unnamed(statement) {
-            self.unnamed += 1;
-        }
-    }
-
-    /// The scope that is open behind a statement.
-    fn scope_behind(&self, symbols: &Symbols, statement: &Statement) -> u32
-        requires { HasNumbers (table_of symbols.now) self.now }
-        ensures { result ≡ scope_behind (table_of symbols.now) (cursor_of self.now)
-            statement.now }
-    {
-        if opens_scope(statement) {
-            return self.opened + 1;
-        }
-        if closes_scope(statement) {
-            return symbols.enclosing(self.scope as usize) as u32;
-        }
-        self.scope
     }
 }
 
@@ -350,22 +326,15 @@ fn grow(segments: &mut [Segment], place: usize, count: u32, multiple: u32)
     segment.align = segment.align.max(multiple);
 }
 
-/// The address size of a new segment, which is absolute where none is given, but for ZEROPAGE.
-fn first_size(name: &[u8], size: Option<AddressSize>) -> AddressSize
-    ensures { result ≡ first_size name.now size }
-{
-    match size {
-        Some(size) => size,
-        None if name == b"ZEROPAGE".as_slice() => AddressSize::ZeroPage,
-        None => AddressSize::Absolute,
-    }
-}
-
-/// A new segment.
+/// A new segment. Its size is absolute where none is given, but for ZEROPAGE.
 fn segment_of(alloc: Global, name: &[u8], size: Option<AddressSize>) -> Result<Segment, AllocError>
     ensures { IfOk result (λ g. g ≡ new_segment name.now (first_size name.now size)) }
 {
-    let size = first_size(name, size);
+    let size = match size {
+        Some(size) => size,
+        None if name == b"ZEROPAGE".as_slice() => AddressSize::ZeroPage,
+        None => AddressSize::Absolute,
+    };
     let name = Sequence::from_vec(Vec::from_slice(alloc, name)?);
     Ok(Segment {
         name,
@@ -373,29 +342,4 @@ fn segment_of(alloc: Global, name: &[u8], size: Option<AddressSize>) -> Result<S
         end: 0,
         align: 1,
     })
-}
-
-fn opens_scope(statement: &Statement) -> bool
-    ensures { result ≡ opens_scope statement.now }
-{
-    matches!(statement, Statement::OpenScope(_) | Statement::OpenProc(_))
-}
-
-fn closes_scope(statement: &Statement) -> bool
-    ensures { result ≡ closes_scope statement.now }
-{
-    matches!(statement, Statement::CloseScope | Statement::CloseProc)
-}
-
-/// Whether a statement opens a region of cheap labels.
-fn opens_region(statement: &Statement) -> bool
-    ensures { result ≡ opens_region statement.now }
-{
-    matches!(statement, Statement::Label(_) | Statement::OpenProc(_))
-}
-
-fn is_unnamed(statement: &Statement) -> bool
-    ensures { result ≡ is_unnamed statement.now }
-{
-    matches!(statement, Statement::UnnamedLabel)
 }

@@ -11,11 +11,10 @@ ghost use Rattle.object65.specs.Objects.{section_limit};
 ghost use Rattle.language65.specs.Faults.{is_memory};
 ghost use Rattle.language65.specs.declared.laid.Settled.TheVariants.{Unsettled};
 ghost use Rattle.language65.specs.declared.language.Statement.TheVariants.{Instruction};
-ghost use Rattle.language65.specs.Layout.{own_size, context_of, unless_fault};
+ghost use Rattle.language65.specs.Layout.{own_size, context_of};
 ghost use Rattle.symbols65.specs.Resolving.{IsTable};
 ghost use Rattle.symbols65.specs.Views.{table_of};
-ghost use Rattle.layout65.specs.Measuring.{fitted, measured, naming_fault};
-ghost use Rattle.layout65.specs.Sounds.{IsSoundCursor, cursor_of};
+ghost use Rattle.layout65.specs.Measuring.{Checks, fitted, measured, naming_fault, IsSoundCursor, cursor_of};
 
 pub use self::bytes::check_unread;
 use self::bytes::instruction;
@@ -54,8 +53,7 @@ fn check_naming(
     context: Context,
     statement: &Statement,
 ) -> Result<(), AsmFault>
-    ensures { Gives is_memory (λ u. u) result (unless_fault
-        (naming_fault (table_of symbols.now) context statement.now) tt) }
+    ensures { Checks result (naming_fault (table_of symbols.now) context statement.now) }
 {
     let scope = context.scope as usize;
     check_outside(scope, statement)?;

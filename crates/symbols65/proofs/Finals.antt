@@ -12,19 +12,17 @@ use Rattle.syntax65.specs.Trees.{Tree, number, here, name, cheap, forward, backw
 use Rattle.object65.specs.Form.{Form}
 use Rattle.object65.specs.Folding.{fold1, fold2}
 use Rattle.object65.specs.declared.folding.FormFault.{FormFault}
-use Rattle.language65.specs.declared.fault.AsmFault.{AsmFault}
 use Rattle.language65.specs.declared.fault.AsmFault.TheVariants.{NoSuchLabel, NoSuchScope, Undefined}
 use Rattle.language65.specs.declared.laid.Context.{Context}
-use Rattle.language65.specs.Symbols.{Meaning, defined_at, enclosing, first_found, last_of, meaning_of, member_meaning, or_else, or_fault, outward_from, plain_meaning, scope_from, scoped_meaning, scopes_of, shown, unnamed_meaning, Definition, Key, Symbols, cheap_in, defined, imported, named, same_key, unnamed_at}
+use Rattle.language65.specs.Symbols.{defined_at, enclosing, first_found, last_of, meaning_of, member_meaning, or_else, or_fault, outward_from, scope_from, scopes_of, shown, unnamed_meaning, Definition, Key, Symbols, cheap_in, defined, imported, named, same_key, unnamed_at}
 use Rattle.language65.specs.Norms.{folded, form_of_definition, form_of_meaning, norm, norm_of, Extends}
 use Rattle.symbols65.specs.declared.resolving.attempt.Source.TheVariants.{Finals}
 use Rattle.symbols65.specs.declared.resolving.attempt.State.{State}
 use Rattle.symbols65.specs.declared.resolving.attempt.State.TheVariants.{Found}
 use Rattle.symbols65.specs.declared.table.symbols.Symbols as code
 use Rattle.symbols65.specs.Resolving.{IsFinalWithin, IsReference, binary_form, prefix_form, attempt_definition, attempt_value, known_form, plain_part, MeansAlways, MeansFinally, Operands}
-use Rattle.symbols65.specs.Inner.Knowns.{known_by}
-use Rattle.symbols65.specs.Views.{table_of}
-use Rattle.symbols65.proofs.Scopes.{name_is}
+use Rattle.symbols65.specs.Views.{known_by, table_of}
+use Rattle.symbols65.proofs.Scopes.{name_is, name_meaning}
 use Rattle.symbols65.proofs.Words.{first_within, get_stays, position_stays}
 use Rattle.symbols65.proofs.Hanging.{extends_itself}
 use Rattle.symbols65.proofs.Settling.{final_among}
@@ -60,15 +58,11 @@ label_before y s n i le h = by_key y s (backward n) (unnamed_at (s.unnamed - n))
 pub own_member : (y : Symbols) (s : Context) (global : Bool) (parts : List (List ℕ)) (q j : ℕ) → plain_part global parts ≡ None → s.opened ≤ length y.scopes →
     scope_from (take s.opened y.scopes) s.scope global (scopes_of parts) ≡ Some q → defined y (named q (last_of parts)) ≡ Some j → MeansAlways y s (name global parts) j
 own_member y s global parts q i plain le found h = by_key y s (name global parts) (named q (last_of parts)) i h (λ z j more e.
-    name_is z s global parts ∙ ap (by z) plain
+    name_is z s global parts ∙ ap (name_meaning z s global parts) plain
     ∙ ap (λ cs. member_meaning z (last_of parts) (Undefined (shown global parts)) (NoSuchScope (shown global parts)) (scope_from cs s.scope global (scopes_of parts))) (ap (take s.opened) more.scopes ∙ take-append-le s.opened y.scopes more.later_scopes le)
     ∙ ap (member_meaning z (last_of parts) (Undefined (shown global parts)) (NoSuchScope (shown global parts))) found
     ∙ member z q j e)
   where
-    by : Symbols → Option (List ℕ) → Result Meaning AsmFault
-    by z (Some n) = plain_meaning z s.scope n
-    by z None = scoped_meaning z s global parts
-
     member : (z : Symbols) (q j : ℕ) → defined z (named q (last_of parts)) ≡ Some j → member_meaning z (last_of parts) (Undefined (shown global parts)) (NoSuchScope (shown global parts)) (Some q) ≡ Ok (defined_at j)
     member z zero j e = ap (λ o. or_fault (Undefined (shown global parts)) o (imported z (last_of parts))) e
     member z (suc i) j e = ap (λ o. or_fault (Undefined (shown global parts)) o None) e

@@ -7,7 +7,7 @@ use Rattle.std.proofs.lemmas.List.Sums.{sum_by-set}
 use Rattle.std.proofs.lemmas.Option.{slice_get_within}
 use Rattle.symbols65.specs.declared.resolving.attempt.State.{State}
 use Rattle.symbols65.specs.declared.resolving.attempt.State.TheVariants.{Unknown, Waiting, Hangs, Found}
-use Rattle.symbols65.specs.Inner.Knowns.{without}
+use Rattle.symbols65.specs.Views.{without}
 use Rattle.language65.specs.Symbols.{Symbols}
 use Rattle.symbols65.specs.Resolving.{IsTable, is_open, unknown, AreHung, bare}
 use Rattle.symbols65.proofs.Hanging.{same_found, same_length, same_unknown, same_waiting}

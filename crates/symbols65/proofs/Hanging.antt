@@ -13,7 +13,7 @@ use Rattle.object65.specs.Form.{Form}
 use Rattle.symbols65.specs.declared.resolving.attempt.State.{State}
 use Rattle.symbols65.specs.declared.resolving.attempt.State.TheVariants.{Unknown, Waiting, Hangs, Found}
 use Rattle.symbols65.specs.Resolving.{AreHung, HangsOn, bare, hung_on, IsTable, is_open, may_be_looked_for, unknown}
-use Rattle.symbols65.specs.Inner.Knowns.{AreNoted, is_found}
+use Rattle.symbols65.specs.Views.{AreNoted, is_found}
 
 -- a table extends itself
 pub extends_itself : (y : Symbols) → Extends y y

@@ -14,15 +14,18 @@ use Rattle.symbols65.specs.declared.resolving.attempt.Source.TheVariants.{Finals
 use Rattle.symbols65.specs.declared.resolving.attempt.Stop.{Stop}
 use Rattle.symbols65.specs.declared.resolving.attempt.Stop.TheVariants.{Needs}
 use Rattle.symbols65.specs.declared.table.symbols.Symbols.{Symbols}
-use Rattle.symbols65.specs.Resolving.{ExpressionHangsOn, HangsOn, Leads, needed_in, FoundBy, operand_form, stopped, tried, tried_by, MeansFinally, Operands}
-use Rattle.symbols65.specs.Inner.Knowns.{known_by}
-use Rattle.symbols65.specs.Views.{table_of}
+use Rattle.symbols65.specs.Resolving.{HangsOn, Leads, needed_in, FoundBy, operand_form, stopped, tried, tried_by, MeansFinally, Operands}
+use Rattle.symbols65.specs.Views.{known_by, table_of}
 use Rattle.symbols65.proofs.Hanging.{extends_itself}
 use Rattle.symbols65.proofs.Words.{get_stays}
 use Rattle.symbols65.proofs.Pursuits.{leads_from}
 use Rattle.symbols65.proofs.Settling.{final_among, known_inside}
 use Rattle.symbols65.proofs.Tries.{attempt_first}
 use Rattle.symbols65.proofs.Turns.{expression_course}
+
+-- an expression has each fault of a constant, whatever statements follow
+abbrev pub ExpressionHangsOn : l.Symbols → Context → Tree → ℕ → Type 0
+ExpressionHangsOn y s e k = (z : l.Symbols) → Extends y z → Leads z (λ n. norm n z s e) k
 
 -- attempts whose operands come to the same
 tried_same : (P : Tree → Type 0) (a b : Tree → Result Form Stop) (s : Context) → ((t : Tree) → P t → a t ≡ b t) → (e : Tree) → Operands P e → tried_by a s e ≡ tried_by b s e

@@ -14,7 +14,7 @@ use Rattle.symbols65.specs.declared.resolving.attempt.Stop.{Stop}
 use Rattle.symbols65.specs.declared.resolving.attempt.Stop.TheVariants.{Needs, Fault}
 use Rattle.language65.specs.Symbols.{Symbols}
 use Rattle.symbols65.specs.Resolving.{FoundBy, IsTable, is_open, may_be_looked_for, unknown, AreHung, Comes, HangsOn, Leads, Reaches}
-use Rattle.symbols65.specs.Inner.Knowns.{is_found}
+use Rattle.symbols65.specs.Views.{is_found}
 use Rattle.symbols65.proofs.Hanging.{extends_itself}
 use Rattle.base65.specs.Outcome.{Unless}
 use Rattle.symbols65.proofs.Turns.{Course, IsCourse, constant_course, constant_is, ok_later, circular_before}

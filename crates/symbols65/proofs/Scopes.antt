@@ -6,12 +6,12 @@ use Rattle.syntax65.specs.Kinds.{tree_of}
 use Rattle.syntax65.specs.declared.expressions.trees.ExprKind.{ExprKind}
 use Rattle.syntax65.specs.declared.expressions.trees.ExprKind.TheVariants as kind
 use Rattle.syntax65.specs.declared.expressions.trees.Name.{Name}
-use Rattle.symbols65.specs.Resolving.{IsReference, defined_place, joined_behind, name_meaning, plain_part}
-use Rattle.std.specs.Prelude.{codes, slice_get}
+use Rattle.symbols65.specs.Resolving.{IsReference, defined_place, plain_part}
+use Rattle.std.specs.Prelude.{Result, codes, slice_get}
 use Rattle.std.proofs.lemmas.List.{append_assoc}
 use Rattle.language65.specs.declared.laid.Context.{Context}
 use Rattle.language65.specs.declared.fault.AsmFault.{AsmFault}
-use Rattle.language65.specs.Symbols.{Symbols, defined, named, Scope, first_found, joined, last_of, meaning_of, or_fault, scopes_from, scopes_of, enclosing, inside, scope_in, within}
+use Rattle.language65.specs.Symbols.{Symbols, Meaning, defined, named, Scope, first_found, joined, last_of, meaning_of, or_fault, plain_meaning, scoped_meaning, scopes_from, scopes_of, enclosing, inside, scope_in, within}
 use Rattle.std.specs.List.{position_from}
 use Rattle.std.proofs.lemmas.Bool.Decides.{nat_tests}
 use Rattle.std.proofs.lemmas.Iterator.Adapters.{position_from-zero}
@@ -37,11 +37,21 @@ last_behind [] n = refl
 last_behind (m ∷ []) n = refl
 last_behind (m ∷ k ∷ rest) n = last_behind (k ∷ rest) n
 
+-- the parts behind the first, as they are shown
+abbrev pub joined_behind : List (List ℕ) → List ℕ
+joined_behind [] = []
+joined_behind (n ∷ names) = codes "::" ++ n ++ joined_behind names
+
 pub joined_first : (n : List ℕ) (names : List (List ℕ)) → joined (n ∷ names) ≡ n ++ joined_behind names
 joined_first n [] = grind (arith, common_steps)
 joined_first n (m ∷ names) = append_assoc n (codes "::") (joined (m ∷ names)) ∙ ap (λ l. n ++ l) (ap (λ l. codes "::" ++ l) (joined_first m names) ∙ sym (append_assoc (codes "::") m (joined_behind names)))
 
-pub name_is : (y : Symbols) (s : Context) (global : Bool) (parts : List (List ℕ)) → meaning_of y s (name global parts) ≡ name_meaning y s global parts
+-- what a name means where it stands, by its one part if it is plain
+abbrev pub name_meaning : Symbols → Context → Bool → List (List ℕ) → Option (List ℕ) → Result Meaning AsmFault
+name_meaning y s global parts (Some n) = plain_meaning y s.scope n
+name_meaning y s global parts None = scoped_meaning y s global parts
+
+pub name_is : (y : Symbols) (s : Context) (global : Bool) (parts : List (List ℕ)) → meaning_of y s (name global parts) ≡ name_meaning y s global parts (plain_part global parts)
 name_is y s false [] = refl
 name_is y s false (n ∷ []) = refl
 name_is y s false (n ∷ m ∷ names) = refl

@@ -18,17 +18,17 @@ use Rattle.symbols65.specs.declared.resolving.attempt.Stop.TheVariants.{Needs, F
 use Rattle.symbols65.specs.declared.table.symbols.Definition.{Definition}
 use Rattle.symbols65.specs.declared.table.symbols.Entry.{Entry}
 use Rattle.symbols65.specs.declared.table.symbols.Symbols.{Symbols}
-use Rattle.symbols65.specs.Resolving.{formed, FoundBy, lacks_memory, meaning_form, tried, Settles}
-use Rattle.symbols65.specs.Inner.Knowns.{kept, known_by}
+use Rattle.std.specs.Result.{result_ok}
+use Rattle.symbols65.specs.Resolving.{FoundBy, lacks_memory, meaning_form, tried, Settles}
+use Rattle.symbols65.specs.Views.{kept, known_by, table_of, words_of}
 use Rattle.symbols65.specs.Tables.{definition_in, table_without_imports}
-use Rattle.symbols65.specs.Views.{table_of, words_of}
 use Rattle.symbols65.proofs.Words.{get_mapped, get_stays}
 use Rattle.symbols65.proofs.Hanging.{extends_itself}
 use Rattle.symbols65.proofs.Pursuits.{fault_from, form_from, unless_more}
 use Rattle.symbols65.proofs.Tries.{attempt_first, meant_tried}
 use Rattle.symbols65.proofs.Turns.{constant_course, constant_is, expression_course, ok_later}
 
-has_form : (r : Result Form AsmFault) (f : Form) → formed r ≡ Some f → r ≡ Ok f
+has_form : (r : Result Form AsmFault) (f : Form) → result_ok r ≡ Some f → r ≡ Ok f
 has_form x f e = grind (arith, common_steps)
 
 -- imports are free

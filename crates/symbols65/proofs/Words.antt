@@ -16,7 +16,7 @@ use Rattle.symbols65.specs.declared.table.symbols.Entry.TheVariants as entry
 use Rattle.symbols65.specs.declared.table.symbols.Opening.{Opening}
 use Rattle.symbols65.specs.declared.table.symbols.Opening.TheVariants as opening
 use Rattle.symbols65.specs.declared.table.symbols.Definition.{Definition}
-use Rattle.symbols65.specs.Tables.{AreCounted, AreNumbered, IsCounted, definition_in, entry_of, first_number, key_in, place_of_entry, place_of_opening, same_entry, same_opening, scope_by, scope_opened, word_at, word_of, word_opened, Begins}
+use Rattle.symbols65.specs.Tables.{AreCounted, AreNumbered, IsCounted, definition_in, entry_of, first_number, key_in, place_of_entry, same_entry, same_opening, scope_by, scope_opened, word_at, word_of, word_opened, Begins}
 use Rattle.indexmap.specs.IndexSet.{insert_key}
 
 -- ---- Tests.
@@ -162,6 +162,10 @@ opened_test s t v x = grind (arith, common_steps)
 
 other_opened : (s t v : ℕ) (o : Option ℕ) → opens (option_map (opening.Named s) o) (opening.Nameless t v) ≡ false
 other_opened s t v x = grind (arith, common_steps)
+
+abbrev pub place_of_opening : List (Opening × Bool) → Option Opening → Option ℕ
+place_of_opening ss None = None
+place_of_opening ss (Some k) = position (same_opening k) (keys_of ss)
 
 module _ (ws : List (List ℕ)) where
   entry_test : (q : Key) (k : Entry) → first_number ws (word_of k) ≡ word_of k → tests (entry_of ws q) k ≡ same_key (key_in ws k) q

@@ -1,4 +1,3 @@
-pub mod Inner
 pub mod Resolving
 pub mod Tables
 pub mod Views

@@ -1,15 +1,15 @@
 -- Forms that stay whatever follows, and how forms of constants are found.
-use Rattle.std.specs.Prelude.{ℤ, Option, Some, None, Ok, ⊤, ◌≡◌, ℕ, suc, Result, Err, ◌≤◌, List, slice_get, ◌⊎◌, ◌+◌, pos, codes, [], ◌∷◌, ◌++◌, length, sum_by, Bool, false, true, ◌<◌}
+use Rattle.std.specs.Prelude.{ℤ, Option, Some, None, Ok, ⊤, ◌≡◌, ℕ, suc, Result, Err, ◌≤◌, List, slice_get, ◌⊎◌, ◌+◌, pos, [], ◌∷◌, length, sum_by, Bool, false, true, ◌<◌}
 use Rattle.std.specs.Result.{result_ok}
 use Rattle.syntax65.specs.Trees.{Tree, number, here, unary, binary}
 use Rattle.base65.specs.declared.values.Op1.{Op1}
 use Rattle.base65.specs.declared.values.Op2.{Op2}
 use Rattle.object65.specs.Form.{Form, lit, imp}
 use Rattle.object65.specs.Folding.{fold1, fold2}
-use Rattle.language65.specs.Norms.{literal_in, form_of_value, norm, Extends, form_of_definition, address_of, folded}
+use Rattle.language65.specs.Norms.{literal_in, norm, Extends, form_of_definition, address_of, folded}
 use Rattle.language65.specs.declared.fault.AsmFault.{AsmFault}
 use Rattle.language65.specs.declared.laid.Context.{Context}
-use Rattle.language65.specs.Symbols.{Symbols, Definition, Meaning, defined_at, imported_as, meaning_of, plain_meaning, scoped_meaning}
+use Rattle.language65.specs.Symbols.{Symbols, Definition, Meaning, defined_at, imported_as, meaning_of}
 use Rattle.language65.specs.declared.fault.AsmFault.TheVariants.{Circular, NoSuchLabel}
 use Rattle.symbols65.specs.declared.resolving.attempt.State.{State}
 use Rattle.symbols65.specs.declared.resolving.attempt.State.TheVariants.{Unknown, Hangs, Waiting, Found}
@@ -51,15 +51,6 @@ IsReference e = ⊤
 abbrev pub IsFinalWithin : ℕ → Symbols → Context → Tree → Form → Type 0
 IsFinalWithin n y s e f = (z : Symbols) → Extends y z → norm (suc n) z s e ≡ Ok f
 
--- the form that there is
-abbrev pub formed : Result Form AsmFault → Option Form
-formed (Ok f) = Some f
-formed (Err e) = None
-
--- what is defined at a place has this form whatever statements follow
-abbrev pub DefinesFinally : Symbols → ℕ → Definition → Form → Type 0
-DefinesFinally y j d f = (z : Symbols) → Extends y z → formed (form_of_value (norm (suc j) z) d.context d.value) ≡ Some f
-
 -- ---- Constants whose faults are those of others, whatever statements follow.
 
 -- what is defined at a place, with at most so many expressions one inside the other
@@ -79,10 +70,6 @@ pub record Leads (y : Symbols) (v : ℕ → Result Form AsmFault) (j : ℕ) : Ty
 -- so does the first constant with the faults of the second, whatever statements follow
 abbrev pub HangsOn : Symbols → ℕ → ℕ → Type 0
 HangsOn y j k = (z : Symbols) → Extends y z → Leads z (defined_within z j) k
-
--- so does an expression with those of a constant
-abbrev pub ExpressionHangsOn : Symbols → Context → Tree → ℕ → Type 0
-ExpressionHangsOn y s e k = (z : Symbols) → Extends y z → Leads z (λ n. norm n z s e) k
 
 -- the second constant is the first, or the first hangs on it
 abbrev pub Reaches : Symbols → ℕ → ℕ → Type 0
@@ -127,19 +114,6 @@ defined_place _ = None
 abbrev pub plain_part : Bool → List (List ℕ) → Option (List ℕ)
 plain_part false (n ∷ []) = Some n
 plain_part global parts = None
-
--- what a name means where it stands
-abbrev pub name_meaning : Symbols → Context → Bool → List (List ℕ) → Result Meaning AsmFault
-name_meaning y s global parts = by (plain_part global parts)
-  where
-    by : Option (List ℕ) → Result Meaning AsmFault
-    by (Some n) = plain_meaning y s.scope n
-    by None = scoped_meaning y s global parts
-
--- the parts behind the first, as they are shown
-abbrev pub joined_behind : List (List ℕ) → List ℕ
-joined_behind [] = []
-joined_behind (n ∷ names) = codes "::" ++ n ++ joined_behind names
 
 -- ---- Attempts.
 

@@ -1,7 +1,8 @@
 -- What the parts of a table in memory stand for.
-use Rattle.std.specs.Prelude.{◌≡◌, ◌<◌, ◌^◌, ℕ, List, [], ◌++◌, map, get_or, slice_get, Bool, false, Option, Some, None, option_map, position, ◌==◌, ◌&&◌}
+use Rattle.std.specs.Prelude.{◌≡◌, ◌<◌, ◌^◌, ℕ, suc, List, [], ◌++◌, map, get_or, slice_get, Bool, false, Option, Some, None, option_map, position, ◌==◌, ◌&&◌}
 use Rattle.std.specs.Coded.{Coded-set, coded_option}
 use Rattle.std.specs.Map.{keys_of}
+use Rattle.std.specs.Result.{result_ok}
 use Rattle.std.specs.Str.{bytes_eq}
 use Rattle.object65.specs.Form.{Form, form_code}
 use Rattle.language65.specs.Symbols as l
@@ -13,7 +14,7 @@ use Rattle.symbols65.specs.declared.table.symbols.Entry.TheVariants as entry
 use Rattle.symbols65.specs.declared.table.symbols.Opening.{Opening}
 use Rattle.symbols65.specs.declared.table.symbols.Opening.TheVariants as opening
 use Rattle.symbols65.specs.declared.table.symbols.Definition.{Definition}
-use Rattle.symbols65.specs.Resolving.{DefinesFinally}
+use Rattle.language65.specs.Norms.{Extends, form_of_value, norm}
 
 abbrev pub key_of : code.Key → l.Key
 key_of (key.Named scope name) = named scope name.now
@@ -91,9 +92,9 @@ scope_opened ws s = scope_by ws s.0 s.1
 abbrev pub table_without_imports : List (List ℕ) → List (Entry × Definition) → List (Opening × Bool) → l.Symbols
 table_without_imports ws es ss = record { definitions = map (definition_in ws) es; scopes = map (scope_opened ws) ss; imports = []; zero_page = [] }
 
--- the form that is kept with what is defined at a place is final
+-- the form that is kept with what is defined at a place is final: it has this form whatever statements follow
 abbrev pub KeepsFinal : l.Symbols → ℕ → l.Definition → Option Form → Type 0
-KeepsFinal y j d kept = (f : Form) → kept ≡ Some f → DefinesFinally y j d f
+KeepsFinal y j d kept = (f : Form) → kept ≡ Some f → (z : l.Symbols) → Extends y z → result_ok (form_of_value (norm (suc j) z) d.context d.value) ≡ Some f
 
 -- each form that is kept is final
 abbrev pub AreFinal : List (List ℕ) → List (Entry × Definition) → List (Opening × Bool) → Type 0
@@ -124,7 +125,3 @@ entry_of ws (unnamed_at count) = Some (entry.Unnamed count)
 abbrev pub place_of_entry : List (Entry × Definition) → Option Entry → Option ℕ
 place_of_entry es None = None
 place_of_entry es (Some k) = position (same_entry k) (keys_of es)
-
-abbrev pub place_of_opening : List (Opening × Bool) → Option Opening → Option ℕ
-place_of_opening ss None = None
-place_of_opening ss (Some k) = position (same_opening k) (keys_of ss)

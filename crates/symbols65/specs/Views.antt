@@ -1,8 +1,13 @@
--- The language's symbol table for which one in memory stands.
-use Rattle.std.specs.Prelude.{ℕ, List, [], ◌∷◌, ◌++◌, map, slice_get, Bool, Option, Some, None, if◌then◌else◌}
+-- The language's symbol table for which one in memory stands, and what is known of forms by it.
+use Rattle.std.specs.Prelude.{◌≡◌, ℕ, List, [], ◌∷◌, ◌++◌, map, slice_get, slice_set, Bool, true, false, Option, Some, None, option_map, if◌then◌else◌, ◌==◌}
+use Rattle.std.specs.List.{list_any}
 use Rattle.language65.specs.Symbols as l
 use Rattle.language65.specs.Symbols.{Definition, Scope, unnamed_at, with_new}
 use Rattle.symbols65.specs.Tables.{definition_in, key_in, scope_opened}
+use Rattle.symbols65.specs.declared.resolving.attempt.State.{State}
+use Rattle.symbols65.specs.declared.resolving.attempt.State.TheVariants.{Found, Unknown}
+use Rattle.symbols65.specs.declared.resolving.attempt.Source.{Source}
+use Rattle.symbols65.specs.declared.resolving.attempt.Source.TheVariants as source
 use Rattle.symbols65.specs.declared.table.symbols.Definition as code
 use Rattle.symbols65.specs.declared.table.symbols.Entry.{Entry}
 use Rattle.symbols65.specs.declared.table.symbols.Symbols.{Symbols}
@@ -45,3 +50,29 @@ with_names y is_zero_page names = record { definitions = y.definitions; scopes =
 
 abbrev pub nothing_defined : l.Symbols
 nothing_defined = record { definitions = []; scopes = []; imports = []; zero_page = [] }
+
+-- ---- By what the forms of constants are known.
+
+-- the final form that is kept with a definition
+abbrev pub kept : Option code.Definition → Option State
+kept None = None
+kept (Some d) = option_map Found d.form
+
+abbrev pub known_by : Symbols → Source → ℕ → Option State
+known_by t source.Finals j = kept (option_map (λ e. e.1) (slice_get t.definitions.entries j))
+known_by t (source.Table states) j = slice_get states.now j
+
+-- ---- Which places of a table of forms are found, and the table without those that wait.
+
+abbrev pub is_found : Option State → Bool
+is_found (Some (Found f)) = true
+is_found _ = false
+
+-- each place whose form is found is noted
+abbrev pub AreNoted : List State → List ℕ → Type 0
+AreNoted states noted = (j : ℕ) → is_found (slice_get states j) ≡ true → list_any (λ i. i == j) noted ≡ true
+
+-- the table in which nothing is known at these places
+abbrev pub without : List State → List ℕ → List State
+without states [] = states
+without states (w ∷ ws) = without (slice_set states w Unknown) ws

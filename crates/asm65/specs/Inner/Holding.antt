@@ -16,8 +16,7 @@ use Rattle.asm65.specs.declared.assembler.Assembler.{Assembler}
 use Rattle.asm65.specs.declared.assembler.Piece.{Piece}
 use Rattle.asm65.specs.declared.assembler.Piece.TheVariants.{Datum, Operand, Constant, Assertion, Import, Demand, Export}
 use Rattle.asm65.specs.declared.assembler.Fixup.{Fixup}
-use Rattle.layout65.specs.Counting.{AreInside}
-use Rattle.layout65.specs.Sounds.{AreWithin, IsCounted, IsSoundCursor, cursor_of}
+use Rattle.layout65.specs.Measuring.{AreInside, AreWithin, IsCounted, IsSoundCursor, cursor_of}
 use Rattle.expand65.specs.State.{Meaning}
 use Rattle.language65.specs.Norms.{constant_in, IsFinal}
 use Rattle.module65.specs.Reading.{is_definition}

@@ -18,7 +18,7 @@ use Rattle.module65.specs.Machine.{Runs, State, Takes, begun}
 use Rattle.module65.specs.Reading.{Define, IsGiven, Job, stopped, bytes_for, with_bytes}
 use Rattle.asm65.specs.declared.assembler.Assembler.{Assembler}
 use Rattle.asm65.specs.declared.running.Run.{Run}
-use Rattle.layout65.specs.Counting.{opening_limit}
+use Rattle.layout65.specs.Measuring.{opening_limit}
 use Rattle.asm65.specs.Inner.Holding.{Holds}
 use Rattle.asm65.specs.Assembly.{Without}
 use Rattle.std.specs.Option.{option_map}

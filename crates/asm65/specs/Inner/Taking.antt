@@ -13,14 +13,13 @@ use Rattle.language65.specs.Faults.{is_outside}
 use Rattle.module65.specs.Module.{out_of, warning_of}
 use Rattle.base65.specs.Outcome.{Unless}
 use Rattle.layout65.specs.declared.measuring.Measured.{Measured}
-use Rattle.layout65.specs.Measuring.{measure_of}
+use Rattle.layout65.specs.Measuring.{measure_of, AreInside, opening_limit}
 use Rattle.module65.specs.Machine.{PutsAll, State, awaiting, entered}
 use Rattle.module65.specs.Module as piece
 use Rattle.asm65.specs.declared.assembler.Assembler.{Assembler}
 use Rattle.asm65.specs.declared.naming.stating.Mention.{Mention}
 use Rattle.asm65.specs.declared.naming.stating.Mention.TheVariants.{ForcedImport, Exported, Imported}
 use Rattle.asm65.specs.Inner.Holding.{AreBefore, Holds}
-use Rattle.layout65.specs.Counting.{AreInside, opening_limit}
 
 -- a statement with what it lies by
 abbrev pub laid_as : Place → Context → Measured → Statement → Laid

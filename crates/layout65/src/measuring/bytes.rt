@@ -10,15 +10,14 @@ ghost use Rattle.language65.specs.Layout.{when, unless_fault};
 ghost use Rattle.language65.specs.Norms.{counted, optional_value, item_len, mode_len};
 ghost use Rattle.symbols65.specs.Resolving.{IsTable};
 ghost use Rattle.symbols65.specs.Views.{table_of};
-ghost use Rattle.layout65.specs.Measuring.{IsFound, is_within, or_default, placed, ranged, unread_fault, fitted};
-ghost use Rattle.layout65.specs.Sounds.{IsSoundCursor, cursor_of};
+ghost use Rattle.layout65.specs.Measuring.{IsFound, is_within, Places, placed, ranged, unread_fault, IsSoundCursor, cursor_of};
 ghost use Rattle.object65.specs.Objects.{width_len};
 ghost use Rattle.language65.specs.Items.{numbered};
 ghost use Rattle.language65.specs.Symbols.{Symbols as Table};
 
 use super::trees::check_range;
 use crate::cursor::Cursor;
-use crate::measuring::{Before, Measured, fit};
+use crate::measuring::{Before, Measured, fit, nothing};
 use base65::Sequence;
 use language65::{
     AsmFault, Context, Item, Items, ItemsKind, Operand, OptionalExpr, PartRange, Settled,
@@ -87,15 +86,6 @@ fn place_in(count: usize, value: i64) -> Result<usize, AsmFault>
     }
 }
 
-fn or_default(value: Option<i64>, default: i64) -> i64
-    ensures { result ≡ or_default value default }
-{
-    match value {
-        Some(value) => value,
-        None => default,
-    }
-}
-
 /// The start and the length of a part of a file of so many bytes.
 fn ranged(count: usize, start: Option<i64>, len: Option<i64>) -> Result<(usize, usize), AsmFault>
     ensures part { Gives is_memory (λ p. p) result (ranged count start len) }
@@ -104,9 +94,9 @@ fn ranged(count: usize, start: Option<i64>, len: Option<i64>) -> Result<(usize, 
     if count > MAX_FILE as usize {
         return Err(AsmFault::BadPart);
     }
-    let start = place_in(count, or_default(start, 0))?;
+    let start = place_in(count, start.unwrap_or(0))?;
     let left = count - start;
-    let len = place_in(left, or_default(len, left as i64))?;
+    let len = place_in(left, len.unwrap_or(left as i64))?;
     Ok((start, len))
 }
 
@@ -121,9 +111,8 @@ pub fn file_part(
 ) -> Result<Measured, AsmFault>
     requires table { IsTable (table_of before.symbols.now) known.old.states.items }
     requires cursor { IsSoundCursor before.cursor.now }
-    ensures placed { Gives is_memory (λ m. m) result (placed
-        (table_of before.entry.symbols.now) (cursor_of before.entry.cursor.now)
-        (FilePart bytes.now range.entry.start.now range.entry.len.now)) }
+    ensures placed { Places before.entry result
+        (FilePart bytes.now range.entry.start.now range.entry.len.now) }
     ensures table { OnOk result
         (IsTable (table_of before.entry.symbols.now) known.new.states.items) }
 {
@@ -137,9 +126,8 @@ pub fn file_part(
     let length = fit(before.cursor, len)?;
     Ok(Measured {
         length,
-        size: before.cursor.segment().size,
-        multiple: 1,
         settled: Settled::FromByte(start as u32),
+        ..nothing(before.cursor)
     })
 }
 
@@ -164,9 +152,7 @@ pub fn instruction(
 ) -> Result<Measured, AsmFault>
     requires table { IsTable (table_of before.symbols.now) known.old.states.items }
     requires cursor { IsSoundCursor before.cursor.now }
-    ensures placed { Gives is_memory (λ m. m) result (placed
-        (table_of before.entry.symbols.now) (cursor_of before.entry.cursor.now)
-        (Instruction mnemonic operand.now)) }
+    ensures placed { Places before.entry result (Instruction mnemonic operand.now) }
     ensures table { OnOk result
         (IsTable (table_of before.entry.symbols.now) known.new.states.items) }
 {
@@ -225,52 +211,34 @@ fn room_behind_mixed(width: Width, items: &[Item], room: usize) -> Option<usize>
     Some(left)
 }
 
-/// The same behind so many numbers.
-fn room_behind_numbers(width: Width, numbers: &[u32], room: usize) -> Option<usize>
-    ensures { MatchOption result (room < sum_by (item_len width) (map numbered numbers.now))
-        (λ left. left + sum_by (item_len width) (map numbered numbers.now) ≡ room) }
-{
-    let length = numbers.len().checked_mul(width_len(width))?;
-    room.checked_sub(length)
-}
-
 /// What is left of some room behind a list, if it is enough.
 fn room_behind(width: Width, items: &Items, room: usize) -> Option<usize>
     ensures { MatchOption result (room < sum_by (item_len width) items.now)
         (λ left. left + sum_by (item_len width) items.now ≡ room) }
 {
     match items.kind() {
-        ItemsKind::Numbers(numbers) => room_behind_numbers(width, numbers.as_slice(), room),
+        ItemsKind::Numbers(numbers) => {
+            let length = numbers.as_slice().len().checked_mul(width_len(width))?;
+            room.checked_sub(length)
+        }
         ItemsKind::Mixed(items) => room_behind_mixed(width, items.as_slice(), room),
     }
 }
 
-/// How many bytes a list of values takes, if the section has room for them.
-#[tactic(auto, using(crate::proofs::Measures::same_test))]
-fn list_len(cursor: &Cursor, width: Width, items: &Items) -> Result<u32, AsmFault>
-    requires { IsSoundCursor cursor.now }
-    ensures { result ≡ fitted (cursor_of cursor.now)
-        (sum_by (item_len width) items.now) }
-{
-    let room = cursor.room();
-    match room_behind(width, items, room as usize) {
-        None => Err(AsmFault::SectionTooLarge),
-        Some(left) => Ok(room - left as u32),
-    }
-}
-
-/// What a list of values places.
+/// What a list of values places, if the section has room for them.
 #[inline(never)]
+#[tactic(auto, using(crate::proofs::Measures::same_test))]
 pub fn values(cursor: &Cursor, width: Width, items: &Items) -> Result<Measured, AsmFault>
     requires { IsSoundCursor cursor.now }
     ensures { (y : Table) → Gives is_memory (λ m. m) result (placed y
         (cursor_of cursor.now) (Values width items.now)) }
 {
-    let length = list_len(cursor, width, items)?;
+    let room = cursor.room();
+    let Some(left) = room_behind(width, items, room as usize) else {
+        return Err(AsmFault::SectionTooLarge);
+    };
     Ok(Measured {
-        length,
-        size: cursor.segment().size,
-        multiple: 1,
-        settled: Settled::Unsettled,
+        length: room - left as u32,
+        ..nothing(cursor)
     })
 }

@@ -1,20 +1,17 @@
 //! What is measured of each kind of statement, and its names.
 
 ghost use Rattle.std.specs.Prelude.{◌≡◌, ◌&&◌, ℕ, List, OnOk, true};
-ghost use Rattle.base65.specs.Outcome.{Gives};
 ghost use Rattle.language65.specs.declared.fault.AsmFault.TheVariants.{DefinedTwice, NotUnderstood, ScopeTwice};
-ghost use Rattle.language65.specs.Faults.{is_memory};
-ghost use Rattle.language65.specs.Layout.{defined_twice, is_open, opened_twice, scope_name, stands_outside, when, where_there, unless_fault};
+ghost use Rattle.language65.specs.Layout.{defined_twice, is_open, opened_twice, scope_name, stands_outside, when, where_there};
 ghost use Rattle.language65.specs.Symbols.{scope_in, defined, key_defined, asks_section, has_here};
 ghost use Rattle.symbols65.specs.Tables.{key_of};
 ghost use Rattle.symbols65.specs.Views.{table_of};
 ghost use Rattle.language65.specs.declared.language.Statement.TheVariants.{Constant};
 ghost use Rattle.symbols65.specs.Resolving.{IsTable};
-ghost use Rattle.layout65.specs.Measuring.{is_bare, placed};
-ghost use Rattle.layout65.specs.Sounds.{IsSoundCursor, cursor_of};
+ghost use Rattle.layout65.specs.Measuring.{Checks, Places, IsSoundCursor};
 
 use super::bytes::{file_part, instruction, values};
-use super::rooms::{align, check_kept, check_proc, check_scope, check_segment, reserve};
+use super::rooms::{align, check_segment, is_scope, reserve};
 use crate::measuring::{Before, Measured, nothing};
 use base65::Sequence;
 use language65::{AsmFault, Context, PartRange, Statement};
@@ -22,27 +19,18 @@ use std::alloc::Global;
 use symbols65::{Key, NormCache, Symbols, knowing};
 use syntax65::{Expr, ExprKind};
 
-fn stands_outside(statement: &Statement) -> bool
-    ensures { result ≡ stands_outside statement.now }
-{
-    matches!(
-        statement,
-        Statement::Import { .. }
-            | Statement::Export(_)
-            | Statement::Global { .. }
-            | Statement::ForceImport(_)
-    )
-}
-
 /// Refuses a statement with names of the global scope where another one is open.
 pub fn check_outside(scope: usize, statement: &Statement) -> Result<(), AsmFault>
-    ensures { Gives is_memory (λ u. u) result (unless_fault
-        (when (stands_outside statement.now && is_open scope) NotUnderstood) tt) }
+    ensures { Checks result (when (stands_outside statement.now && is_open scope) NotUnderstood) }
 {
-    if stands_outside(statement) && scope != 0 {
-        return Err(AsmFault::NotUnderstood);
+    match statement {
+        Statement::Import { .. }
+        | Statement::Export(_)
+        | Statement::Global { .. }
+        | Statement::ForceImport(_)
+            if scope != 0 => { Err(AsmFault::NotUnderstood) }
+        _ => Ok(()),
     }
-    Ok(())
 }
 
 /// Refuses a scope of a name that the scope around it has already.
@@ -53,8 +41,8 @@ fn check_new_scope(
     scope: usize,
     name: &[u8],
 ) -> Result<(), AsmFault>
-    ensures { Gives is_memory (λ u. u) result (unless_fault (where_there
-        (scope_in (table_of symbols.now).scopes scope name.now) (ScopeTwice name.now)) tt) }
+    ensures { Checks result (where_there (scope_in (table_of symbols.now).scopes scope name.now)
+        (ScopeTwice name.now)) }
 {
     match symbols.scope_in(scope, name) {
         None => Ok(()),
@@ -72,8 +60,8 @@ pub fn check_opened(
     scope: usize,
     statement: &Statement,
 ) -> Result<(), AsmFault>
-    ensures { Gives is_memory (λ u. u) result (unless_fault (opened_twice
-        (table_of symbols.now).scopes scope (scope_name statement.now)) tt) }
+    ensures { Checks result (opened_twice (table_of symbols.now).scopes scope
+        (scope_name statement.now)) }
 {
     match statement {
         Statement::OpenScope(Some(name)) | Statement::OpenProc(name) => {
@@ -86,8 +74,8 @@ pub fn check_opened(
 /// Refuses a name whose key has a definition already.
 #[inline(never)]
 fn check_key(alloc: Global, symbols: &Symbols, key: Key<'_>, name: &[u8]) -> Result<(), AsmFault>
-    ensures { Gives is_memory (λ u. u) result (unless_fault (where_there
-        (defined (table_of symbols.now) (key_of key.entry)) (DefinedTwice name.now)) tt) }
+    ensures { Checks result (where_there (defined (table_of symbols.now) (key_of key.entry))
+        (DefinedTwice name.now)) }
 {
     match symbols.defined(key) {
         None => Ok(()),
@@ -105,8 +93,8 @@ pub fn check_defined(
     context: Context,
     statement: &Statement,
 ) -> Result<(), AsmFault>
-    ensures { Gives is_memory (λ u. u) result (unless_fault (defined_twice
-        (table_of symbols.now) (key_defined context statement.now)) tt) }
+    ensures { Checks result (defined_twice (table_of symbols.now)
+        (key_defined context statement.now)) }
 {
     let scope = context.scope as usize;
     let region = context.region as usize;
@@ -151,8 +139,7 @@ pub fn asks_section(statement: &Statement) -> bool
         | Statement::Reserve { .. }
         | Statement::Align { .. }
         | Statement::FilePart { .. } => true,
-        Statement::Constant { value, .. } => has_here(value),
-        Statement::Assert { value, .. } => has_here(value),
+        Statement::Constant { value, .. } | Statement::Assert { value, .. } => has_here(value),
         _ => false,
     }
 }
@@ -167,9 +154,7 @@ fn constant(
 ) -> Result<Measured, AsmFault>
     requires table { IsTable (table_of before.symbols.now) known.old.states.items }
     requires cursor { IsSoundCursor before.cursor.now }
-    ensures placed { (name : List ℕ) → Gives is_memory (λ m. m) result (placed
-        (table_of before.entry.symbols.now) (cursor_of before.entry.cursor.now)
-        (Constant name value.now)) }
+    ensures placed { (name : List ℕ) → Places before.entry result (Constant name value.now) }
     ensures table { OnOk result
         (IsTable (table_of before.entry.symbols.now) known.new.states.items) }
 {
@@ -177,37 +162,6 @@ fn constant(
     let context = before.cursor.context();
     let size = knowing::size(alloc, before.symbols, known, context, measure.size, value)?;
     Ok(Measured { size, ..measure })
-}
-
-/// What a statement that ends a block or changes the segment places, or one that does neither and
-/// has no bytes.
-#[inline(never)]
-fn without_bytes(before: Before<'_>, statement: &Statement) -> Result<Measured, AsmFault>
-    requires cursor { IsSoundCursor before.cursor.now }
-    requires bare { is_bare statement.now ≡ true }
-    ensures { Gives is_memory (λ m. m) result (placed
-        (table_of before.entry.symbols.now) (cursor_of before.entry.cursor.now)
-        statement.now) }
-{
-    match statement {
-        Statement::Segment { name, size } => {
-            check_segment(before.cursor, name.as_slice(), *size)?;
-            Ok(nothing(before.cursor))
-        }
-        Statement::PopSegment => {
-            check_kept(before.cursor)?;
-            Ok(nothing(before.cursor))
-        }
-        Statement::CloseScope => {
-            check_scope(before.symbols, before.cursor.scope as usize)?;
-            Ok(nothing(before.cursor))
-        }
-        Statement::CloseProc => {
-            check_proc(before.symbols, before.cursor.scope as usize)?;
-            Ok(nothing(before.cursor))
-        }
-        _ => Ok(nothing(before.cursor)),
-    }
 }
 
 /// What a statement whose names are understood places, or its first fault.
@@ -219,12 +173,11 @@ pub fn place(
 ) -> Result<Measured, AsmFault>
     requires table { IsTable (table_of before.symbols.now) known.old.states.items }
     requires cursor { IsSoundCursor before.cursor.now }
-    ensures placed { Gives is_memory (λ m. m) result (placed
-        (table_of before.entry.symbols.now) (cursor_of before.entry.cursor.now)
-        statement.now) }
+    ensures placed { Places before.entry result statement.now }
     ensures table { OnOk result
         (IsTable (table_of before.entry.symbols.now) known.new.states.items) }
 {
+    let scope = before.cursor.scope as usize;
     match statement {
         Statement::Instruction { mnemonic, operand } => {
             instruction(alloc, before, known, *mnemonic, operand)
@@ -236,6 +189,17 @@ pub fn place(
             file_part(alloc, before, known, bytes, PartRange { start, len })
         }
         Statement::Constant { name: _, value } => constant(alloc, before, known, value),
-        _ => without_bytes(before, statement),
+        Statement::Segment { name, size } => {
+            check_segment(before.cursor, name.as_slice(), *size)?;
+            Ok(nothing(before.cursor))
+        }
+        Statement::PopSegment if before.cursor.kept.is_empty() => Err(AsmFault::PopWithoutPush),
+        Statement::CloseScope if scope == 0 || !is_scope(before.symbols, scope) => {
+            Err(AsmFault::BadScope)
+        }
+        Statement::CloseProc if scope == 0 || is_scope(before.symbols, scope) => {
+            Err(AsmFault::BadScope)
+        }
+        _ => Ok(nothing(before.cursor)),
     }
 }

@@ -1,20 +1,18 @@
 //! Segments and blocks, and statements that place room.
 
-ghost use Rattle.std.specs.Prelude.{◌≡◌, ◌&&◌, not, slice_get, ◌<◌, ◌≤◌, IfOk, OnOk, pos, Some};
-ghost use Rattle.language65.specs.Layout.{place_of, segment_at, context_of as cursor_context, changed_size, is_kept, is_open, is_scope, opened_as, same_size, when, unless_fault, is_byte_value, is_count, is_there, multiple_fault};
-ghost use Rattle.language65.specs.declared.fault.AsmFault.TheVariants.{BadScope, PopWithoutPush, BadOperand};
+ghost use Rattle.std.specs.Prelude.{◌≡◌, not, slice_get, ◌<◌, ◌≤◌, IfOk, OnOk, pos, Some};
+ghost use Rattle.language65.specs.Layout.{place_of, segment_at, context_of as cursor_context, changed_size, is_scope, opened_as, same_size, when, unless_fault, is_byte_value, is_count, multiple_fault};
+ghost use Rattle.language65.specs.declared.fault.AsmFault.TheVariants.{BadOperand};
 ghost use Rattle.symbols65.specs.Views.{table_of};
-ghost use Rattle.layout65.specs.Sounds.{IsSoundCursor, cursor_of};
-ghost use Rattle.std.specs.Option.{option_map};
+ghost use Rattle.layout65.specs.Measuring.{IsSoundCursor, cursor_of, Places};
 ghost use Rattle.base65.specs.Outcome.{Gives};
 ghost use Rattle.language65.specs.Faults.{is_memory};
 ghost use Rattle.language65.specs.declared.language.Statement.TheVariants.{Align, Reserve};
 ghost use Rattle.language65.specs.Norms.{counted, fill_settled, gap, optional_value};
 ghost use Rattle.symbols65.specs.Resolving.{IsTable};
-ghost use Rattle.layout65.specs.Measuring.{any_settled, placed};
 
 use crate::cursor::Cursor;
-use crate::measuring::{Before, Measured, fit};
+use crate::measuring::{Before, Measured, fit, nothing};
 use language65::{AsmFault, Context, OptionalExpr, Segment, Settled};
 use std::alloc::Global;
 use symbols65::{NormCache, Symbols, knowing};
@@ -31,48 +29,12 @@ fn is_scope_at(symbols: &Symbols, place: usize) -> bool
 }
 
 /// Whether a scope was opened by `.scope`.
-fn is_scope(symbols: &Symbols, scope: usize) -> bool
+pub fn is_scope(symbols: &Symbols, scope: usize) -> bool
     ensures { result ≡ is_scope (opened_as (table_of symbols.now).scopes scope) }
 {
     match scope.checked_sub(1) {
         None => false,
         Some(place) => is_scope_at(symbols, place),
-    }
-}
-
-/// Refuses the end of a scope where no scope is open.
-pub fn check_scope(symbols: &Symbols, scope: usize) -> Result<(), AsmFault>
-    ensures { result ≡ unless_fault (when (not (is_open scope
-        && is_scope (opened_as (table_of symbols.now).scopes scope))) BadScope) tt }
-{
-    if scope != 0 && is_scope(symbols, scope) {
-        Ok(())
-    } else {
-        Err(AsmFault::BadScope)
-    }
-}
-
-/// Refuses the end of a proc where no proc is open.
-pub fn check_proc(symbols: &Symbols, scope: usize) -> Result<(), AsmFault>
-    ensures { result ≡ unless_fault (when (not (is_open scope
-        && not (is_scope (opened_as (table_of symbols.now).scopes scope)))) BadScope) tt }
-{
-    if scope != 0 && !is_scope(symbols, scope) {
-        Ok(())
-    } else {
-        Err(AsmFault::BadScope)
-    }
-}
-
-/// Refuses to go back to a segment where none was kept.
-pub fn check_kept(cursor: &Cursor) -> Result<(), AsmFault>
-    ensures { result ≡ unless_fault
-        (when (not (is_kept (cursor_of cursor.now).kept)) PopWithoutPush) tt }
-{
-    if cursor.kept.is_empty() {
-        Err(AsmFault::PopWithoutPush)
-    } else {
-        Ok(())
     }
 }
 
@@ -118,17 +80,6 @@ pub fn check_segment(
     }
 }
 
-/// A value as the byte that fills room.
-fn byte_of(value: Option<i64>) -> Result<u8, AsmFault>
-    ensures { Gives is_memory (λ b. Some (pos b)) result (unless_fault
-        (when (not (is_byte_value value)) BadOperand) value) }
-{
-    match value {
-        Some(value) if 0 <= value && value < 256 => Ok(value as u8),
-        _ => Err(AsmFault::BadOperand),
-    }
-}
-
 /// What fills room.
 fn fill(
     alloc: Global,
@@ -138,7 +89,7 @@ fn fill(
     value: &OptionalExpr,
 ) -> Result<Settled, AsmFault>
     requires { IsTable (table_of symbols.now) known.old.states.items }
-    ensures byte { Gives is_memory any_settled result (unless_fault
+    ensures byte { Gives is_memory (λ _. tt {0}) result (unless_fault
         (when (not (is_byte_value (optional_value (table_of symbols.now) context
         value.now (pos 0)))) BadOperand) tt) }
     ensures settled { IfOk result (λ s. s
@@ -148,8 +99,10 @@ fn fill(
     let Some(value) = value.get() else {
         return Ok(Settled::Unsettled);
     };
-    let byte = byte_of(knowing::constant(alloc, symbols, known, context, value)?)?;
-    Ok(Settled::FilledWith(byte))
+    match knowing::constant(alloc, symbols, known, context, value)? {
+        Some(value) if 0 <= value && value < 256 => Ok(Settled::FilledWith(value as u8)),
+        _ => Err(AsmFault::BadOperand),
+    }
 }
 
 /// A value as a number of bytes.
@@ -174,9 +127,7 @@ pub fn reserve(
 ) -> Result<Measured, AsmFault>
     requires table { IsTable (table_of before.symbols.now) known.old.states.items }
     requires cursor { IsSoundCursor before.cursor.now }
-    ensures placed { Gives is_memory (λ m. m) result (placed
-        (table_of before.entry.symbols.now) (cursor_of before.entry.cursor.now)
-        (Reserve count.now value.now)) }
+    ensures placed { Places before.entry result (Reserve count.now value.now) }
     ensures table { OnOk result
         (IsTable (table_of before.entry.symbols.now) known.new.states.items) }
 {
@@ -186,21 +137,9 @@ pub fn reserve(
     let length = fit(before.cursor, count)?;
     Ok(Measured {
         length,
-        size: before.cursor.segment().size,
-        multiple: 1,
         settled,
+        ..nothing(before.cursor)
     })
-}
-
-/// Refuses what isn't constant.
-fn check_constant(value: Option<i64>) -> Result<(), AsmFault>
-    ensures { Gives is_memory (λ u. u) result (unless_fault
-        (when (not (is_there value)) BadOperand) tt) }
-{
-    match value {
-        Some(_) => Ok(()),
-        None => Err(AsmFault::BadOperand),
-    }
 }
 
 /// A value as a multiple to which sections are aligned.
@@ -255,22 +194,22 @@ pub fn align(
 ) -> Result<Measured, AsmFault>
     requires table { IsTable (table_of before.symbols.now) known.old.states.items }
     requires cursor { IsSoundCursor before.cursor.now }
-    ensures placed { Gives is_memory (λ m. m) result (placed
-        (table_of before.entry.symbols.now) (cursor_of before.entry.cursor.now)
-        (Align multiple.now value.now)) }
+    ensures placed { Places before.entry result (Align multiple.now value.now) }
     ensures table { OnOk result
         (IsTable (table_of before.entry.symbols.now) known.new.states.items) }
 {
     let context = before.cursor.context();
     let multiple = knowing::constant(alloc, before.symbols, known, context, multiple)?;
-    check_constant(multiple)?;
+    let Some(_) = multiple else {
+        return Err(AsmFault::BadOperand);
+    };
     let settled = fill(alloc, before.symbols, known, context, value)?;
     let multiple = multiple_of(multiple)?;
     let length = fit(before.cursor, gap(before.cursor, multiple) as usize)?;
     Ok(Measured {
         length,
-        size: before.cursor.segment().size,
         multiple,
         settled,
+        ..nothing(before.cursor)
     })
 }

@@ -1,13 +1,11 @@
 //! The expressions of statements, and names whose scope isn't there.
 
 ghost use Rattle.std.specs.Prelude.{◌≡◌, List, None, false, ℕ, [], ◌∷◌, ◌++◌, map};
-ghost use Rattle.base65.specs.Outcome.{Gives};
 ghost use Rattle.syntax65.specs.Trees.{name};
-ghost use Rattle.language65.specs.Faults.{is_memory};
-ghost use Rattle.language65.specs.Layout.{lost_scope, unless_fault, item_trees, lost_scopes, operand_trees, optional_tree, trees_of};
+ghost use Rattle.language65.specs.Layout.{lost_scope, item_trees, lost_scopes, operand_trees, optional_tree, trees_of};
 ghost use Rattle.language65.specs.Symbols.{Scope};
 ghost use Rattle.symbols65.specs.Views.{table_of};
-ghost use Rattle.layout65.specs.Measuring.{lost_parts};
+ghost use Rattle.layout65.specs.Measuring.{Checks};
 
 use language65::{AsmFault, Item, Items, ItemsKind, Operand, OptionalExpr, PartRange, Statement};
 use std::alloc::Global;
@@ -15,21 +13,6 @@ use symbols65::{Symbols, plain_part, scope_of, scopes_in, shown};
 use syntax65::{Expr, ExprKind, Name};
 
 /// Refuses a name with `::` whose scope isn't there.
-fn check_parts(alloc: Global, symbols: &Symbols, scope: usize, name: &Name) -> Result<(), AsmFault>
-    ensures { Gives is_memory (λ u. u) result (unless_fault (lost_parts
-        (table_of symbols.now).scopes scope name.now.is_global name.now.parts) tt) }
-{
-    let parts = name.parts.as_slice();
-    let opened = symbols.scope_count();
-    match scope_of(symbols, opened, scope, name.is_global, scopes_in(parts)) {
-        Some(_) => Ok(()),
-        None => {
-            let name = shown(alloc, name.is_global, parts)?;
-            Err(AsmFault::NoSuchScope(name))
-        }
-    }
-}
-
 #[inline(never)]
 fn check_name(
     alloc: Global,
@@ -37,13 +20,20 @@ fn check_name(
     scope: usize,
     written: &Name,
 ) -> Result<(), AsmFault>
-    ensures { Gives is_memory (λ u. u) result (unless_fault (lost_scope
-        (table_of symbols.now).scopes scope
-        (name written.now.is_global written.now.parts)) tt) }
+    ensures { Checks result (lost_scope (table_of symbols.now).scopes scope
+        (name written.now.is_global written.now.parts)) }
 {
-    match plain_part(written) {
+    if plain_part(written).is_some() {
+        return Ok(());
+    }
+    let parts = written.parts.as_slice();
+    let opened = symbols.scope_count();
+    match scope_of(symbols, opened, scope, written.is_global, scopes_in(parts)) {
         Some(_) => Ok(()),
-        None => check_parts(alloc, symbols, scope, written),
+        None => {
+            let name = shown(alloc, written.is_global, parts)?;
+            Err(AsmFault::NoSuchScope(name))
+        }
     }
 }
 
@@ -69,8 +59,7 @@ pub fn check_scopes(
     scope: usize,
     value: &Expr,
 ) -> Result<(), AsmFault>
-    ensures { Gives is_memory (λ u. u) result (unless_fault (lost_scope
-        (table_of symbols.now).scopes scope value.now) tt) }
+    ensures { Checks result (lost_scope (table_of symbols.now).scopes scope value.now) }
 {
     match value.kind() {
         ExprKind::Scoped(name) => check_name(alloc, symbols, scope, name),
@@ -84,8 +73,7 @@ pub fn check_scopes(
 }
 
 fn check_one(alloc: Global, symbols: &Symbols, scope: usize, value: &Expr) -> Result<(), AsmFault>
-    ensures { Gives is_memory (λ u. u) result (unless_fault (lost_scopes
-        (table_of symbols.now).scopes scope (value.now ∷ [])) tt) }
+    ensures { Checks result (lost_scopes (table_of symbols.now).scopes scope (value.now ∷ [])) }
 {
     if !names_scopes(value) {
         return Ok(());
@@ -99,8 +87,8 @@ fn check_optional(
     scope: usize,
     value: &OptionalExpr,
 ) -> Result<(), AsmFault>
-    ensures { Gives is_memory (λ u. u) result (unless_fault (lost_scopes
-        (table_of symbols.now).scopes scope (optional_tree value.now)) tt) }
+    ensures { Checks result (lost_scopes (table_of symbols.now).scopes scope
+        (optional_tree value.now)) }
 {
     match value.get() {
         Some(value) => check_one(alloc, symbols, scope, value),
@@ -116,9 +104,8 @@ fn check_two(
     value: &Expr,
     other: &OptionalExpr,
 ) -> Result<(), AsmFault>
-    ensures { Gives is_memory (λ u. u) result (unless_fault (lost_scopes
-        (table_of symbols.now).scopes scope
-        (value.now ∷ optional_tree other.now)) tt) }
+    ensures { Checks result (lost_scopes (table_of symbols.now).scopes scope
+        (value.now ∷ optional_tree other.now)) }
 {
     check_scopes(alloc, symbols, scope, value)?;
     check_optional(alloc, symbols, scope, other)
@@ -131,9 +118,8 @@ pub fn check_range(
     scope: usize,
     range: PartRange<'_>,
 ) -> Result<(), AsmFault>
-    ensures { Gives is_memory (λ u. u) result (unless_fault (lost_scopes
-        (table_of symbols.now).scopes scope
-        (optional_tree range.entry.start.now ++ optional_tree range.entry.len.now)) tt) }
+    ensures { Checks result (lost_scopes (table_of symbols.now).scopes scope
+        (optional_tree range.entry.start.now ++ optional_tree range.entry.len.now)) }
 {
     match range.start.get() {
         Some(start) => check_two(alloc, symbols, scope, start, range.len),
@@ -147,8 +133,8 @@ pub fn check_operand(
     scope: usize,
     operand: &Operand,
 ) -> Result<(), AsmFault>
-    ensures { Gives is_memory (λ u. u) result (unless_fault (lost_scopes
-        (table_of symbols.now).scopes scope (operand_trees operand.now)) tt) }
+    ensures { Checks result (lost_scopes (table_of symbols.now).scopes scope
+        (operand_trees operand.now)) }
 {
     match operand {
         Operand::Absent | Operand::Accumulator => Ok(()),
@@ -161,8 +147,8 @@ pub fn check_operand(
 }
 
 fn check_item(alloc: Global, symbols: &Symbols, scope: usize, item: &Item) -> Result<(), AsmFault>
-    ensures { Gives is_memory (λ u. u) result (unless_fault (lost_scopes
-        (table_of symbols.now).scopes scope (item_trees (item.now ∷ []))) tt) }
+    ensures { Checks result (lost_scopes (table_of symbols.now).scopes scope
+        (item_trees (item.now ∷ []))) }
 {
     match item {
         Item::Value(value) => match value.kind() {
@@ -180,8 +166,8 @@ fn check_mixed(
     scope: usize,
     items: &[Item],
 ) -> Result<(), AsmFault>
-    ensures { Gives is_memory (λ u. u) result (unless_fault (lost_scopes
-        (table_of symbols.now).scopes scope (item_trees items.now)) tt) }
+    ensures { Checks result (lost_scopes (table_of symbols.now).scopes scope
+        (item_trees items.now)) }
 {
     for item in items {
         check_item(alloc, symbols, scope, item)?;
@@ -195,8 +181,8 @@ fn check_items(
     scope: usize,
     items: &Items,
 ) -> Result<(), AsmFault>
-    ensures { Gives is_memory (λ u. u) result (unless_fault (lost_scopes
-        (table_of symbols.now).scopes scope (item_trees items.now)) tt) }
+    ensures { Checks result (lost_scopes (table_of symbols.now).scopes scope
+        (item_trees items.now)) }
 {
     match items.kind() {
         ItemsKind::Numbers(_) => Ok(()),
@@ -211,11 +197,13 @@ pub fn check_trees(
     scope: usize,
     statement: &Statement,
 ) -> Result<(), AsmFault>
-    ensures { Gives is_memory (λ u. u) result (unless_fault (lost_scopes
-        (table_of symbols.now).scopes scope (trees_of statement.now)) tt) }
+    ensures { Checks result (lost_scopes (table_of symbols.now).scopes scope
+        (trees_of statement.now)) }
 {
     match statement {
-        Statement::Constant { value, .. } => check_one(alloc, symbols, scope, value),
+        Statement::Constant { value, .. } | Statement::Assert { value, .. } => {
+            check_one(alloc, symbols, scope, value)
+        }
         Statement::Instruction { operand, .. } => check_operand(alloc, symbols, scope, operand),
         Statement::Values { items, .. } => check_items(alloc, symbols, scope, items),
         Statement::Reserve { count, value } => check_two(alloc, symbols, scope, count, value),
@@ -223,7 +211,6 @@ pub fn check_trees(
         Statement::FilePart { start, len, .. } => {
             check_range(alloc, symbols, scope, PartRange { start, len })
         }
-        Statement::Assert { value, .. } => check_one(alloc, symbols, scope, value),
         _ => Ok(()),
     }
 }

@@ -1,22 +1,20 @@
 //! Attempts at the form of an expression, with no more than the forms that are found so far.
 
-ghost use Rattle.std.specs.Prelude.{◌≡◌, slice_get};
+ghost use Rattle.std.specs.Prelude.{◌≡◌, OnOk, false, slice_get};
 ghost use Rattle.std.specs.Option.{option_map};
 ghost use Rattle.base65.specs.Outcome.{Gives};
-ghost use Rattle.object65.specs.Folding.{fold1, fold2};
 ghost use Rattle.language65.specs.declared.fault.AsmFault.TheVariants.{OutOfMemory};
-ghost use Rattle.language65.specs.Norms.{address_of, folded};
+ghost use Rattle.language65.specs.Faults.{is_memory};
+ghost use Rattle.language65.specs.Norms.{address_of};
 ghost use Rattle.symbols65.specs.declared.resolving.attempt.Stop.TheVariants.{Fault};
 ghost use Rattle.symbols65.specs.declared.resolving.attempt.State.TheVariants.{Found};
-ghost use Rattle.symbols65.specs.Resolving.{attempt_definition, known_form, lacks_memory, meaning_form, meaning_in, operand_form, stopped, tried, tried_at, tried_last};
-ghost use Rattle.symbols65.specs.Inner.Knowns.{known_by};
-ghost use Rattle.symbols65.specs.Views.{table_of};
+ghost use Rattle.symbols65.specs.Resolving.{attempt_definition, known_form, lacks_memory, meaning_form, meaning_in, tried, tried_at, tried_last};
+ghost use Rattle.symbols65.specs.Views.{known_by, table_of};
 
-use super::meaning::{Meaning, meaning_of};
+use super::meaning::{Meaning, folded, meaning_of};
 use crate::table::Symbols;
-use base65::{Op1, Op2};
 use language65::{AsmFault, Context};
-use object65::{FormFault, Node, Norm};
+use object65::{Node, Norm};
 use std::alloc::{AllocError, Global};
 use syntax65::{Expr, ExprKind};
 
@@ -71,28 +69,14 @@ pub fn address(context: Context) -> Norm
     Norm::new(Node::Sec(context.segment, i64::from(context.offset)))
 }
 
-/// The form of a prefix operation.
-fn fold_prefix(alloc: Global, op: Op1, part: Norm) -> Result<Norm, Stop>
-    ensures { Gives lacks_memory (λ f. f) result (stopped (folded (fold1 op part))) }
+/// Passes on want of memory, and takes any other fault for a form that is missing.
+pub fn pass_on_memory(fault: &AsmFault) -> Result<(), AllocError>
+    ensures { OnOk result (is_memory fault.now ≡ false) }
 {
-    match Norm::prefix(alloc, op, part) {
-        Ok(form) => Ok(form),
-        Err(FormFault::OutOfMemory) => Err(Stop::Fault(AsmFault::OutOfMemory)),
-        Err(FormFault::NoValue) => Err(Stop::Fault(AsmFault::NoValue)),
-        Err(FormFault::TooLarge) => Err(Stop::Fault(AsmFault::TooLarge)),
+    if fault.is_memory() {
+        return Err(AllocError);
     }
-}
-
-/// The form of an operation on two forms.
-fn fold_binary(alloc: Global, op: Op2, left: Norm, right: Norm) -> Result<Norm, Stop>
-    ensures { Gives lacks_memory (λ f. f) result (stopped (folded (fold2 op left right))) }
-{
-    match Norm::binary(alloc, op, left, right) {
-        Ok(form) => Ok(form),
-        Err(FormFault::OutOfMemory) => Err(Stop::Fault(AsmFault::OutOfMemory)),
-        Err(FormFault::NoValue) => Err(Stop::Fault(AsmFault::NoValue)),
-        Err(FormFault::TooLarge) => Err(Stop::Fault(AsmFault::TooLarge)),
-    }
+    Ok(())
 }
 
 /// The form of the constant at a place, if a table has it.
@@ -155,20 +139,6 @@ pub fn meant(
     }
 }
 
-/// The form of an operand that isn't a number.
-fn operand_norm(
-    alloc: Global,
-    symbols: &Symbols,
-    source: Source<'_>,
-    context: Context,
-    operand: &Expr,
-) -> Result<Norm, Stop>
-    ensures { Gives lacks_memory (λ f. f) result (operand_form (known_by symbols.now source.entry) (table_of symbols.now) context operand.now) }
-{
-    let meaning = meaning_of(alloc, symbols, context, operand)?;
-    meant(alloc, symbols, source, meaning)
-}
-
 /// The form of an expression where it stands.
 pub fn try_norm(
     alloc: Global,
@@ -184,18 +154,21 @@ pub fn try_norm(
         ExprKind::Here => Ok(address(context)),
         ExprKind::Prefix(op, part) => {
             let part = try_norm(alloc, symbols, source, context, part)?;
-            fold_prefix(alloc, *op, part)
+            Ok(folded(Norm::prefix(alloc, *op, part))?)
         }
         ExprKind::Binary(op, operands) => {
             let left = try_norm(alloc, symbols, source, context, &operands.left)?;
             let right = try_norm(alloc, symbols, source, context, &operands.right)?;
-            fold_binary(alloc, *op, left, right)
+            Ok(folded(Norm::binary(alloc, *op, left, right))?)
         }
         ExprKind::Plain(_)
         | ExprKind::Scoped(_)
         | ExprKind::Cheap(_)
         | ExprKind::Forward(_)
-        | ExprKind::Backward(_) => { operand_norm(alloc, symbols, source, context, value) }
+        | ExprKind::Backward(_) => {
+            let meaning = meaning_of(alloc, symbols, context, value)?;
+            meant(alloc, symbols, source, meaning)
+        }
     }
 }
 

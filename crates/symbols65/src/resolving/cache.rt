@@ -3,14 +3,13 @@
 ghost use Rattle.std.specs.Prelude.{◌≡◌, IfOk, IfSome, map, slice_get, ◌+◌, ◌<◌, OnOk, replicate, Some, [], length, ℕ, slice_set, true};
 ghost use Rattle.symbols65.specs.declared.resolving.attempt.Source.TheVariants.{Finals};
 ghost use Rattle.symbols65.specs.Resolving.{AreHung, HangsOn, Reaches, bare, hung_on, needed_in, may_be_looked_for, tried, IsTable};
-ghost use Rattle.symbols65.specs.Inner.Knowns.{known_by, AreNoted, is_found, without};
-ghost use Rattle.symbols65.specs.Views.{Table, table_of, nothing_defined};
+ghost use Rattle.symbols65.specs.Views.{known_by, AreNoted, is_found, without, Table, table_of, nothing_defined};
 ghost use Rattle.base65.specs.Outcome.{Finds, Gives};
 ghost use Rattle.language65.specs.Faults.{is_memory};
 ghost use Rattle.symbols65.specs.declared.resolving.attempt.State.TheVariants.{Unknown, Waiting, Found};
 ghost use Rattle.language65.specs.Norms.{Extends, norm_of};
 
-use super::attempt::{Source, State, Stop, try_last, try_norm};
+use super::attempt::{Source, State, Stop, pass_on_memory, try_last, try_norm};
 use super::finals::are_final;
 use crate::table::Symbols;
 use language65::{AsmFault, Context};
@@ -25,15 +24,14 @@ fn needed_by(
     context: Context,
     value: &Expr,
 ) -> Result<Option<usize>, AllocError>
-    ensures { IfOk result (λ o. o ≡ needed_in (tried (known_by symbols.now Finals) (table_of symbols.now) context value.now)) }
+    ensures { IfOk result (λ o. o ≡ needed_in
+        (tried (known_by symbols.now Finals) (table_of symbols.now) context value.now)) }
 {
     match try_norm(alloc, symbols, Source::Finals, context, value) {
         Ok(_) => Ok(None),
         Err(Stop::Needs(place)) => Ok(Some(place)),
         Err(Stop::Fault(fault)) => {
-            if fault.is_memory() {
-                return Err(AllocError);
-            }
+            pass_on_memory(&fault)?;
             Ok(None)
         }
     }
@@ -47,13 +45,10 @@ fn needed_at(alloc: Global, symbols: &Symbols, place: usize) -> Result<Option<us
         return Ok(None);
     };
     match &definition.value {
-        Some(value) => {
-            if !are_final(symbols, definition.context, value) {
-                return Ok(None);
-            }
+        Some(value) if are_final(symbols, definition.context, value) => {
             needed_by(alloc, symbols, definition.context, value)
         }
-        None => Ok(None),
+        _ => Ok(None),
     }
 }
 

@@ -7,11 +7,11 @@ ghost use Rattle.base65.specs.Outcome.{Gives};
 ghost use Rattle.object65.specs.Form.{Form};
 ghost use Rattle.object65.specs.Folding.{lacks_memory};
 ghost use Rattle.object65.specs.declared.folding.FormFault.{FormFault};
-ghost use Rattle.syntax65.specs.Trees.{name as name_tree, cheap as cheap_tree, backward as backward_tree};
+ghost use Rattle.syntax65.specs.Trees.{name as name_tree};
 ghost use Rattle.language65.specs.Norms.{IsFinal};
 ghost use Rattle.symbols65.specs.Views.{table_of};
 
-use super::attempt::{Source, Stop, address, defined};
+use super::attempt::{Source, Stop, address, defined, pass_on_memory};
 use super::meaning::{last_in, plain_part, scopes_in};
 use super::scopes::scope_of;
 use crate::table::{Key, Symbols};
@@ -108,26 +108,6 @@ fn opened_member(symbols: &Symbols, context: Context, name: &Name) -> Option<usi
     }
 }
 
-/// The place of what a cheap name means whatever follows: its region has defined it.
-fn own_label(symbols: &Symbols, context: Context, name: &[u8]) -> Option<usize>
-    ensures { IfSome result
-        (MeansAlways (table_of symbols.now) context (cheap_tree name.now)) }
-{
-    let region = context.region as usize;
-    symbols.defined(Key::Cheap { region, name })
-}
-
-/// The place of an unnamed label before a use, if it is there.
-fn label_before(symbols: &Symbols, context: Context, steps: usize) -> Option<usize>
-    ensures { IfSome result
-        (MeansAlways (table_of symbols.now) context (backward_tree steps)) }
-{
-    match (context.unnamed as usize).checked_sub(steps) {
-        Some(count) => symbols.defined(Key::Unnamed(count)),
-        None => None,
-    }
-}
-
 /// The place of the definition that an operand means whatever statements follow, where that is evident already: never
 /// of an import, of a reference further on, or of a name without `::` that is only defined further out.
 fn final_place(symbols: &Symbols, context: Context, operand: &Expr) -> Option<usize>
@@ -140,8 +120,15 @@ fn final_place(symbols: &Symbols, context: Context, operand: &Expr) -> Option<us
             Some(part) => own_name(symbols, context, part),
             None => opened_member(symbols, context, name),
         },
-        ExprKind::Cheap(name) => own_label(symbols, context, name.as_slice()),
-        ExprKind::Backward(steps) => label_before(symbols, context, *steps),
+        ExprKind::Cheap(name) => {
+            let region = context.region as usize;
+            let name = name.as_slice();
+            symbols.defined(Key::Cheap { region, name })
+        }
+        ExprKind::Backward(steps) => {
+            let count = (context.unnamed as usize).checked_sub(*steps)?;
+            symbols.defined(Key::Unnamed(count))
+        }
         _ => None,
     }
 }
@@ -184,9 +171,7 @@ fn final_operand(
         Ok(form) => Ok(Some(form)),
         Err(Stop::Needs(_)) => Ok(None),
         Err(Stop::Fault(fault)) => {
-            if fault.is_memory() {
-                return Err(AllocError);
-            }
+            pass_on_memory(&fault)?;
             // A fault is found behind the last line.
             Ok(None)
         }

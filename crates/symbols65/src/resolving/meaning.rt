@@ -1,15 +1,16 @@
 //! What operands and the definitions of names mean.
 
 ghost use Rattle.base65.specs.Outcome.{Gives};
-ghost use Rattle.base65.specs.declared.values.Op2.TheVariants.{Subtract};
-ghost use Rattle.object65.specs.Folding.{fold2};
+ghost use Rattle.object65.specs.Folding.{lacks_memory};
+ghost use Rattle.object65.specs.Form.{Form};
+ghost use Rattle.object65.specs.declared.folding.FormFault.{FormFault};
 ghost use Rattle.language65.specs.Contents.{operand_form};
 ghost use Rattle.language65.specs.Faults.{is_memory};
 ghost use Rattle.language65.specs.Norms.{folded};
-ghost use Rattle.std.specs.Prelude.{◌≡◌, ◌+◌, ◌-◌, ◌^◌, ◌≤◌, IfNone, IfSome, Some};
+ghost use Rattle.std.specs.Prelude.{◌≡◌, ◌+◌, ◌-◌, ◌^◌, ◌≤◌, IfNone, IfSome, Result, Some};
 ghost use Rattle.syntax65.specs.Trees.{name as name_tree};
-ghost use Rattle.language65.specs.Symbols.{meaning_of, scoped_meaning, backward_meaning, cheap_meaning, last_of, member_meaning, or_fault, plain_meaning, scopes_of, unnamed_meaning, imported};
-ghost use Rattle.symbols65.specs.Resolving.{defined_place, meaning_in, name_meaning, or_absent, plain_part};
+ghost use Rattle.language65.specs.Symbols.{meaning_of, scoped_meaning, backward_meaning, last_of, member_meaning, or_fault, plain_meaning, scopes_of, unnamed_meaning, imported};
+ghost use Rattle.symbols65.specs.Resolving.{defined_place, meaning_in, or_absent, plain_part};
 ghost use Rattle.symbols65.specs.Views.{table_of};
 ghost use Rattle.std.specs.Option.{option_map};
 ghost use Rattle.language65.specs.declared.fault.AsmFault.{AsmFault};
@@ -23,10 +24,12 @@ use object65::{FormFault, Node, Norm, Width};
 use std::alloc::Global;
 use syntax65::{Expr, ExprKind, Name};
 
-fn difference(alloc: Global, left: Norm, right: Norm) -> Result<Norm, AsmFault>
-    ensures { Gives is_memory (λ f. f) result (folded (fold2 Subtract left right)) }
+/// What folding gives, or its fault.
+pub fn folded(form: Result<Norm, FormFault>) -> Result<Norm, AsmFault>
+    ensures { (r : Result Form FormFault) → Gives lacks_memory (λ f. f) form r →
+        Gives is_memory (λ f. f) result (folded r) }
 {
-    match Norm::binary(alloc, Op2::Subtract, left, right) {
+    match form {
         Ok(form) => Ok(form),
         Err(FormFault::OutOfMemory) => Err(AsmFault::OutOfMemory),
         Err(FormFault::NoValue) => Err(AsmFault::NoValue),
@@ -46,23 +49,10 @@ pub fn operand_form(
     match width {
         Width::Branch => {
             let behind = Norm::new(Node::Sec(context.segment, i64::from(context.offset) + 2));
-            difference(alloc, form, behind)
+            folded(Norm::binary(alloc, Op2::Subtract, form, behind))
         }
         _ => Ok(form),
     }
-}
-
-/// The place of the definition that a name means with `::`, if it means one.
-fn scoped_definition(symbols: &Symbols, context: Context, name: &Name) -> Option<usize>
-    ensures { result ≡ defined_place (scoped_meaning (table_of symbols.now) context
-        name.now.is_global name.now.parts) }
-{
-    let parts = name.parts.as_slice();
-    let opened = context.opened as usize;
-    let scope = context.scope as usize;
-    let scope = scope_of(symbols, opened, scope, name.is_global, scopes_in(parts))?;
-    let name = last_in(parts);
-    symbols.defined(Key::Named { scope, name })
 }
 
 /// The place of the definition that a name means where it stands, if it means one: none where it is imported.
@@ -72,7 +62,14 @@ pub fn definition_of(symbols: &Symbols, context: Context, name: &Name) -> Option
 {
     match plain_part(name) {
         Some(part) => defined_outward(symbols, context.scope as usize, part),
-        None => scoped_definition(symbols, context, name),
+        None => {
+            let parts = name.parts.as_slice();
+            let opened = context.opened as usize;
+            let scope = context.scope as usize;
+            let scope = scope_of(symbols, opened, scope, name.is_global, scopes_in(parts))?;
+            let name = last_in(parts);
+            symbols.defined(Key::Named { scope, name })
+        }
     }
 }
 
@@ -107,16 +104,6 @@ fn member(symbols: &Symbols, scope: usize, name: &[u8]) -> Option<Meaning>
     match defined {
         Some(place) => Some(Meaning::Defined(place)),
         None => None,
-    }
-}
-
-/// A meaning that was looked for, or the fault that it has none.
-fn known(meaning: Option<Meaning>, fault: AsmFault) -> Result<Meaning, AsmFault>
-    ensures { Gives is_memory meaning_in result (or_absent fault meaning) }
-{
-    match meaning {
-        Some(meaning) => Ok(meaning),
-        None => Err(fault),
     }
 }
 
@@ -202,35 +189,6 @@ pub fn plain_part(name: &Name) -> Option<&[u8]>
     }
 }
 
-fn name_meaning(
-    alloc: Global,
-    symbols: &Symbols,
-    context: Context,
-    name: &Name,
-) -> Result<Meaning, AsmFault>
-    ensures { Gives is_memory meaning_in result (name_meaning (table_of symbols.now) context name.now.is_global name.now.parts) }
-{
-    match plain_part(name) {
-        Some(part) => plain_meaning(alloc, symbols, context.scope as usize, part),
-        None => scoped_meaning(alloc, symbols, context, name),
-    }
-}
-
-/// What a cheap name means: a cheap label of its region.
-fn cheap_meaning(
-    alloc: Global,
-    symbols: &Symbols,
-    region: usize,
-    name: &[u8],
-) -> Result<Meaning, AsmFault>
-    ensures { Gives is_memory meaning_in result (cheap_meaning (table_of symbols.now) region name.now) }
-{
-    match symbols.defined(Key::Cheap { region, name }) {
-        Some(place) => Ok(Meaning::Defined(place)),
-        None => named(alloc, None, name),
-    }
-}
-
 /// The unnamed label before which so many stand.
 fn unnamed_label(symbols: &Symbols, count: usize) -> Option<Meaning>
     ensures { unnamed_meaning (table_of symbols.now) count ≡ or_absent NoSuchLabel result }
@@ -282,21 +240,24 @@ pub fn meaning_of(
         ExprKind::Plain(name) => {
             plain_meaning(alloc, symbols, context.scope as usize, name.as_slice())
         }
-        ExprKind::Scoped(name) => name_meaning(alloc, symbols, context, name),
-        ExprKind::Cheap(name) => cheap_meaning(
-            alloc,
-            symbols,
-            context.region as usize,
-            name.as_slice(),
-        ),
-        ExprKind::Forward(steps) => known(
-            label_behind(symbols, context.unnamed, *steps),
-            AsmFault::NoSuchLabel,
-        ),
-        ExprKind::Backward(steps) => known(
-            label_before(symbols, context.unnamed, *steps),
-            AsmFault::NoSuchLabel,
-        ),
+        ExprKind::Scoped(name) => match plain_part(name) {
+            Some(part) => plain_meaning(alloc, symbols, context.scope as usize, part),
+            None => scoped_meaning(alloc, symbols, context, name),
+        },
+        ExprKind::Cheap(name) => {
+            let region = context.region as usize;
+            let name = name.as_slice();
+            match symbols.defined(Key::Cheap { region, name }) {
+                Some(place) => Ok(Meaning::Defined(place)),
+                None => named(alloc, None, name),
+            }
+        }
+        ExprKind::Forward(steps) => {
+            label_behind(symbols, context.unnamed, *steps).ok_or(AsmFault::NoSuchLabel)
+        }
+        ExprKind::Backward(steps) => {
+            label_before(symbols, context.unnamed, *steps).ok_or(AsmFault::NoSuchLabel)
+        }
         _ => Err(AsmFault::NoSuchLabel),
     }
 }

@@ -2,7 +2,6 @@
 
 ghost use Rattle.std.specs.Prelude.{◌≡◌, ◌++◌, IfOk, OnOk, Some, take};
 ghost use Rattle.language65.specs.Symbols.{joined, shown, enclosing, first_found, inside, scope_from, scope_in, scopes_from, defined, named};
-ghost use Rattle.symbols65.specs.Resolving.{joined_behind};
 ghost use Rattle.symbols65.specs.Views.{table_of};
 
 use crate::table::{Key, Symbols};
@@ -13,27 +12,19 @@ use std::alloc::{AllocError, Global};
 /// What stands between two parts of a name.
 const BETWEEN: &[u8] = b"::";
 
-/// Adds the parts behind the first.
-fn add_behind(text: &mut Sequence<u8>, parts: &[Sequence<u8>]) -> Result<(), AllocError>
-    ensures { OnOk result (text.new ≡ text.old ++ joined_behind parts.now) }
+/// Adds parts with `::` between them.
+fn add_joined(text: &mut Sequence<u8>, parts: &[Sequence<u8>]) -> Result<(), AllocError>
+    ensures { OnOk result (text.new ≡ text.old ++ joined parts.now) }
 {
-    for part in parts {
+    let Some((first, behind)) = parts.split_first() else {
+        return Ok(());
+    };
+    text.extend_from_slice(first.as_slice())?;
+    for part in behind {
         text.extend_from_slice(BETWEEN)?;
         text.extend_from_slice(part.as_slice())?;
     }
     Ok(())
-}
-
-fn add_joined(text: &mut Sequence<u8>, parts: &[Sequence<u8>]) -> Result<(), AllocError>
-    ensures { OnOk result (text.new ≡ text.old ++ joined parts.now) }
-{
-    match parts.split_first() {
-        None => Ok(()),
-        Some((first, behind)) => {
-            text.extend_from_slice(first.as_slice())?;
-            add_behind(text, behind)
-        }
-    }
 }
 
 /// The parts of a name with `::` between them, and before them if it begins so.

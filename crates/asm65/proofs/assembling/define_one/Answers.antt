@@ -4,7 +4,7 @@ use Rattle.language65.specs.declared.language.Statement.TheVariants.{Constant}
 use Rattle.module65.specs.Machine.{State, Takes}
 use Rattle.module65.specs.Reading.{Answers}
 use Rattle.asm65.specs.Assembly.{define_of}
-use Rattle.layout65.specs.Counting.{opening_limit}
+use Rattle.layout65.specs.Measuring.{opening_limit}
 use Rattle.asm65.specs.Inner.Holding.{Holds}
 use Rattle.language65.specs.Views.{place_in}
 use Rattle.asm65.proofs.Defines.{defines_by}

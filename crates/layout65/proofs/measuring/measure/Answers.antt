@@ -5,9 +5,8 @@ use Rattle.language65.specs.declared.fault.AsmFault.{AsmFault}
 use Rattle.language65.specs.Faults.{is_memory}
 use Rattle.language65.specs.declared.laid.Context.{Context}
 use Rattle.language65.specs.Layout.{unless_fault}
-use Rattle.layout65.specs.Sounds.{cursor_of}
+use Rattle.layout65.specs.Measuring.{cursor_of, naming_fault}
 use Rattle.layout65.specs.declared.measuring.Measured.{Measured}
-use Rattle.layout65.specs.Measuring.{naming_fault}
 use Rattle.symbols65.specs.Views.{table_of}
 use Rattle.layout65.proofs.Measures.{measured_named, measured_refused, refused_same, room_of}
 use Rattle.layout65.proofs.measuring.measure.Goals as goal

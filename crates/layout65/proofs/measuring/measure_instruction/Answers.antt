@@ -6,7 +6,7 @@ use Rattle.language65.specs.declared.language.Statement.TheVariants.{Instruction
 use Rattle.language65.specs.Faults.{is_memory}
 use Rattle.language65.specs.declared.laid.Context.{Context}
 use Rattle.language65.specs.Layout.{context_of, lost_scopes, operand_trees, unless_fault}
-use Rattle.layout65.specs.Sounds.{cursor_of}
+use Rattle.layout65.specs.Measuring.{cursor_of}
 use Rattle.layout65.specs.declared.measuring.Measured.{Measured}
 use Rattle.symbols65.specs.Views.{table_of}
 use Rattle.layout65.proofs.Measures.{last_of_two, measured_named, measured_refused, refused_same, room_of}

@@ -4,8 +4,7 @@ use Rattle.language65.specs.Faults.{is_memory}
 use Rattle.language65.specs.Layout.{Cursor, unless_fault}
 use Rattle.language65.specs.Symbols.{Symbols}
 use Rattle.symbols65.specs.Views.{table_of}
-use Rattle.layout65.specs.Measuring.{unread_fault}
-use Rattle.layout65.specs.Sounds.{cursor_of}
+use Rattle.layout65.specs.Measuring.{unread_fault, cursor_of}
 use Rattle.asm65.proofs.Insides.{unread_inside}
 use Rattle.asm65.proofs.Takings.{held_on}
 use Rattle.asm65.proofs.assembler.Assembler.check_unread.Goals as goal

@@ -12,7 +12,7 @@ use Rattle.language65.proofs.Lists.{map_length}
 use Rattle.module65.specs.Machine.{State, at_once, awaiting, entered, later}
 use Rattle.module65.specs.Module.{equated, valued}
 use Rattle.module65.proofs.Resolving.{final_settles}
-use Rattle.symbols65.specs.Resolving.{formed}
+use Rattle.std.specs.Result.{result_ok}
 use Rattle.symbols65.specs.Tables.{definition_in}
 use Rattle.symbols65.specs.Views.{table_of, with_definition, words_of}
 use Rattle.asm65.specs.declared.assembler.Assembler.{Assembler}
@@ -24,7 +24,7 @@ use Rattle.asm65.proofs.Waitings.{holds_entered}
 use Rattle.asm65.proofs.assembler.Assembler.define_constant.Goals as goal
 
 pub define-requires-clause-form : goal.define-requires-clause-form
-define-requires-clause-form c = λ f e z more. ap formed (c.in_ok-form.ensures.within f e z more)
+define-requires-clause-form c = λ f e z more. ap result_ok (c.in_ok-form.ensures.within f e z more)
 
 pub returns-in_ok-wait : goal.returns-in_ok-wait
 returns-in_ok-wait c = λ count t h inside unnamed.

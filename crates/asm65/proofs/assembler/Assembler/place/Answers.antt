@@ -9,10 +9,8 @@ use Rattle.language65.specs.Layout as layout
 use Rattle.language65.specs.Layout.{Cursor}
 use Rattle.language65.specs.Symbols.{Symbols}
 use Rattle.language65.specs.Views.{place_in}
-use Rattle.layout65.specs.Measuring.{advanced}
-use Rattle.layout65.specs.Counting.{AreInside, HasNumbers}
+use Rattle.layout65.specs.Measuring.{advanced, AreInside, HasNumbers, IsCounted, cursor_of}
 use Rattle.layout65.specs.declared.measuring.Measured.{Measured}
-use Rattle.layout65.specs.Sounds.{IsCounted, cursor_of}
 use Rattle.layout65.specs.declared.cursor.Cursor as code
 use Rattle.layout65.specs.declared.measuring.Measured as found
 use Rattle.layout65.proofs.Behind.{has_numbers, without_fault}

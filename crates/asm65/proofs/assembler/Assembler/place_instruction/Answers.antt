@@ -10,10 +10,8 @@ use Rattle.language65.specs.declared.language.Statement.TheVariants.{Instruction
 use Rattle.language65.specs.Layout as layout
 use Rattle.language65.specs.Layout.{Cursor}
 use Rattle.language65.specs.Symbols.{Symbols}
-use Rattle.layout65.specs.Measuring.{advanced}
-use Rattle.layout65.specs.Counting.{AreInside}
+use Rattle.layout65.specs.Measuring.{advanced, AreInside, cursor_of}
 use Rattle.layout65.specs.declared.measuring.Measured.{Measured}
-use Rattle.layout65.specs.Sounds.{cursor_of}
 use Rattle.layout65.specs.declared.measuring.Measured as found
 use Rattle.layout65.proofs.Behind.{is_measured}
 use Rattle.module65.specs.Machine.{entered}

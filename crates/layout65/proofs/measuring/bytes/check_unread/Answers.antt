@@ -2,7 +2,7 @@ use Rattle.std.proofs.Common.{ap}
 use Rattle.std.proofs.lemmas.Result.{err_from_is_err_and}
 use Rattle.language65.specs.declared.laid.Context.{Context}
 use Rattle.symbols65.specs.Views.{table_of}
-use Rattle.layout65.specs.Sounds.{cursor_of}
+use Rattle.layout65.specs.Measuring.{cursor_of}
 use Rattle.layout65.proofs.Parts.{unread_len, unread_lost, unread_start, unread_well}
 use Rattle.layout65.proofs.measuring.bytes.check_unread.Goals as goal
 

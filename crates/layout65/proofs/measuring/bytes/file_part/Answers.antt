@@ -3,8 +3,7 @@ use Rattle.std.proofs.lemmas.Result.{err_from_is_err_and}
 use Rattle.base65.specs.Outcome.{Unless}
 use Rattle.language65.specs.Faults.{is_memory}
 use Rattle.symbols65.specs.Views.{table_of}
-use Rattle.layout65.specs.Measuring.{ranged}
-use Rattle.layout65.specs.Sounds.{cursor_of}
+use Rattle.layout65.specs.Measuring.{ranged, cursor_of}
 use Rattle.layout65.proofs.Parts.{bad_len, bad_start, refused}
 use Rattle.layout65.proofs.measuring.bytes.file_part.Goals as goal
 

@@ -7,7 +7,7 @@ use Rattle.language65.specs.declared.laid.Context.{Context}
 use Rattle.language65.specs.Layout.{context_of, is_byte_value, when, unless_fault}
 use Rattle.language65.specs.Norms.{constant_in, fill_settled, optional_value}
 use Rattle.symbols65.specs.Views.{table_of}
-use Rattle.layout65.specs.Sounds.{cursor_of}
+use Rattle.layout65.specs.Measuring.{cursor_of}
 use Rattle.layout65.proofs.Measures.{bad_fill, refused_same, reserved_as}
 use Rattle.layout65.proofs.measuring.rooms.reserve.Goals as goal
 

@@ -5,7 +5,7 @@ use Rattle.object65.specs.Form.{Form}
 use Rattle.language65.specs.declared.laid.Context.{Context}
 use Rattle.symbols65.specs.declared.resolving.attempt.Stop.{Stop}
 use Rattle.symbols65.specs.Resolving.{attempt_definition, attempt_value, known_form, lacks_memory}
-use Rattle.symbols65.specs.Inner.Knowns.{kept, known_by}
+use Rattle.symbols65.specs.Views.{kept, known_by}
 use Rattle.symbols65.proofs.resolving.attempt.defined.Goals as goal
 
 pub returns-in-Finals : goal.returns-in-Finals

@@ -1,5 +1,5 @@
 use Rattle.std.proofs.Common.{subst}
-use Rattle.symbols65.specs.Inner.Knowns.{AreNoted}
+use Rattle.symbols65.specs.Views.{AreNoted}
 use Rattle.symbols65.proofs.Hanging.{hung_lost}
 use Rattle.symbols65.proofs.Knowns.{idle_set, noted_less}
 use Rattle.symbols65.proofs.resolving.cache.forget_noted.Goals as goal

@@ -1,5 +1,5 @@
 use Rattle.std.proofs.Common.{◌≡◌, drop}
-use Rattle.symbols65.specs.Inner.Knowns.{without}
+use Rattle.symbols65.specs.Views.{without}
 use Rattle.symbols65.proofs.resolving.cache.lose_all.Given as goal
 
 abbrev pub invariant-loop-place : goal.invariant-loop-place

@@ -3,15 +3,14 @@ use Rattle.std.specs.Prelude.{IfSome}
 use Rattle.std.proofs.lemmas.Result.{IfOk-weaker}
 use Rattle.symbols65.specs.declared.resolving.attempt.Source.TheVariants.{Finals}
 use Rattle.symbols65.specs.Resolving.{HangsOn, needed_in, tried}
-use Rattle.symbols65.specs.Inner.Knowns.{known_by}
+use Rattle.symbols65.specs.Views.{known_by, key_at, table_of}
 use Rattle.symbols65.specs.Tables.{definition_seen}
-use Rattle.symbols65.specs.Views.{key_at, table_of}
 use Rattle.symbols65.proofs.Hanging.{if_some}
 use Rattle.symbols65.proofs.Needing.{constant_hangs, needed_is}
 use Rattle.symbols65.proofs.resolving.cache.needed_at.Goals as goal
 
-pub returns-else-not-are_final : goal.returns-else-not-are_final
-returns-else-not-are_final c =
+pub returns-in-Some-value : goal.returns-in-Some-value
+returns-in-Some-value c =
     let t = c.args.symbols.now in
     let y = table_of t in
     let held = c.in-Some.definition.now in
@@ -20,5 +19,5 @@ returns-else-not-are_final c =
     let e = c.in-Some-value.value in
     let P : Option ℕ → Type 0 = λ o. o ≡ needed_in (tried (known_by t Finals) y s e) in
     IfOk-weaker c.needed_by.result P (λ o. IfSome o (λ k. HangsOn y c.args.place k))
-    (λ o is. if_some o (λ k h. constant_hangs y c.args.place k d e c.in-Some.ensures.definition c.in-Some-value.is h) (needed_is t s e o (c.are_final.ensures c.if-not-are_final.false) is))
+    (λ o is. if_some o (λ k h. constant_hangs y c.args.place k d e c.in-Some.ensures.definition c.in-Some-value.is h) (needed_is t s e o (c.are_final.ensures c.if-are_final.true) is))
     c.needed_by.ensures

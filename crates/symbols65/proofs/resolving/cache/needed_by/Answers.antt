@@ -3,8 +3,7 @@ use Rattle.base65.specs.Outcome.{Refuses}
 use Rattle.symbols65.specs.declared.resolving.attempt.Source.TheVariants.{Finals}
 use Rattle.symbols65.specs.declared.resolving.attempt.Stop.{Stop}
 use Rattle.symbols65.specs.Resolving.{needed_in, lacks_memory, tried}
-use Rattle.symbols65.specs.Inner.Knowns.{known_by}
-use Rattle.symbols65.specs.Views.{table_of}
+use Rattle.symbols65.specs.Views.{known_by, table_of}
 use Rattle.symbols65.proofs.resolving.cache.needed_by.Goals as goal
 
 pub returns-in-Err-Needs : goal.returns-in-Err-Needs

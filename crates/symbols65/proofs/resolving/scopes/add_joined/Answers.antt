@@ -1,16 +1,12 @@
 use Rattle.std.proofs.Common.{ap, ◌∙◌, sym, ◌++◌}
 use Rattle.std.proofs.lemmas.List.{append_assoc}
 use Rattle.language65.specs.Symbols.{joined}
-use Rattle.symbols65.specs.Resolving.{joined_behind}
-use Rattle.symbols65.proofs.Scopes.{joined_first}
-use Rattle.language65.proofs.Lists.{on_ok}
+use Rattle.symbols65.proofs.Scopes.{joined_behind, joined_first}
 use Rattle.symbols65.proofs.resolving.scopes.add_joined.Goals as goal
 
-pub returns-in_ok-extend_from_slice-in-Some : goal.returns-in_ok-extend_from_slice-in-Some
-returns-in_ok-extend_from_slice-in-Some c =
+pub loop-part-init : goal.loop-part-init
+loop-part-init c =
     let behind = joined_behind c.in-Some.behind.now in
-    on_ok c.add_behind.result
-    (λ e. e ∙ ap (λ l. l ++ behind) (c.in_ok-extend_from_slice-in-Some.ensures.ok ∙ ap (λ l. c.args.text.now ++ l) c.as_slice.ensures)
+    ap (λ l. l ++ behind) (c.in_ok-extend_from_slice.ensures.ok ∙ ap (λ l. c.args.text.now ++ l) c.as_slice.ensures)
     ∙ append_assoc c.args.text.now c.in-Some.first.now behind
-    ∙ ap (λ l. c.args.text.now ++ l) (sym (ap joined c.in-Some.ensures.cases.0 ∙ joined_first c.in-Some.first.now c.in-Some.behind.now)))
-    c.add_behind.ensures
+    ∙ ap (λ l. c.args.text.now ++ l) (sym (ap joined c.in-Some.ensures.cases.0 ∙ joined_first c.in-Some.first.now c.in-Some.behind.now))

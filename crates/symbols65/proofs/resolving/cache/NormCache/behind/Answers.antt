@@ -1,7 +1,7 @@
 use Rattle.std.proofs.Common.{◌≡◌, ◌∙◌, List, length, map, ap, sym, subst}
 use Rattle.symbols65.specs.declared.resolving.attempt.State.{State}
 use Rattle.symbols65.specs.Resolving.{AreHung, bare}
-use Rattle.symbols65.specs.Inner.Knowns.{AreNoted}
+use Rattle.symbols65.specs.Views.{AreNoted}
 use Rattle.symbols65.proofs.Hanging.{same_noted}
 use Rattle.symbols65.proofs.Knowns.{hung_written, written_over}
 use Rattle.symbols65.proofs.resolving.cache.NormCache.behind.Goals as goal

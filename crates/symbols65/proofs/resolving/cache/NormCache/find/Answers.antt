@@ -4,9 +4,8 @@ use Rattle.syntax65.specs.Trees.{Tree}
 use Rattle.object65.specs.Form.{Form}
 use Rattle.language65.specs.declared.laid.Context.{Context}
 use Rattle.language65.specs.Symbols.{Symbols}
-use Rattle.symbols65.specs.Views.{table_of}
+use Rattle.symbols65.specs.Views.{table_of, without}
 use Rattle.language65.specs.Faults.{is_memory}
-use Rattle.symbols65.specs.Inner.Knowns.{without}
 use Rattle.symbols65.specs.declared.resolving.attempt.State.{State}
 use Rattle.symbols65.specs.declared.resolving.attempt.Stop.TheVariants.{Needs}
 use Rattle.symbols65.specs.declared.resolving.attempt.Stop.{Stop}

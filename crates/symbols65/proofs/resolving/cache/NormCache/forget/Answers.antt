@@ -1,6 +1,6 @@
 use Rattle.std.proofs.Common.{◌≡◌, [], length, sym, ap, ◌∙◌, subst}
 use Rattle.symbols65.specs.Resolving.{AreHung, IsTable}
-use Rattle.symbols65.specs.Inner.Knowns.{AreNoted}
+use Rattle.symbols65.specs.Views.{AreNoted}
 use Rattle.symbols65.proofs.Knowns.{none_known, written_over}
 use Rattle.symbols65.proofs.resolving.cache.NormCache.forget.Goals as goal
 

@@ -1,8 +1,7 @@
 use Rattle.std.proofs.Common.{◌≡◌, ◌∙◌, List, ◌++◌, length, map, take, drop, ap, sym, subst}
 use Rattle.symbols65.specs.declared.resolving.attempt.State.{State}
 use Rattle.symbols65.specs.Resolving.{AreHung, bare}
-use Rattle.symbols65.specs.Inner.Knowns.{AreNoted, without}
-use Rattle.symbols65.specs.Views.{table_of}
+use Rattle.symbols65.specs.Views.{AreNoted, without, table_of}
 use Rattle.symbols65.proofs.Hanging.{same_noted}
 use Rattle.symbols65.proofs.Knowns.{hung_written, noted_without, written_over}
 use Rattle.symbols65.proofs.resolving.cache.NormCache.give_up.Goals as goal

@@ -1,6 +1,6 @@
 use Rattle.std.proofs.Common.{sym, subst}
 use Rattle.symbols65.specs.declared.resolving.attempt.State.TheVariants.{Found}
-use Rattle.symbols65.specs.Inner.Knowns.{AreNoted}
+use Rattle.symbols65.specs.Views.{AreNoted}
 use Rattle.std.specs.Prelude.{slice_set}
 use Rattle.symbols65.proofs.Knowns.{noted_found}
 use Rattle.symbols65.proofs.resolving.cache.NormCache.settle.Goals as goal

@@ -6,7 +6,7 @@ use Rattle.language65.specs.Norms.{literal_in, norm_of, larger, size_by, size_of
 use Rattle.symbols65.specs.Resolving.{binary_form, literal_of, prefix_form}
 use Rattle.symbols65.specs.Views.{table_of}
 use Rattle.symbols65.proofs.Sizing.{binary_known, literal_known, prefix_known}
-use Rattle.symbols65.proofs.knowing.sizes.+form_and_size.Goals as goal
+use Rattle.symbols65.proofs.knowing.+form_and_size.Goals as goal
 
 pub returns-in_ok-form-in-Prefix-clause-form : goal.returns-in_ok-form-in-Prefix-clause-form
 returns-in_ok-form-in-Prefix-clause-form t c =

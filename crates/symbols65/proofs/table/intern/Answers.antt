@@ -3,7 +3,7 @@ use Rattle.std.specs.Str.{bytes_eq}
 use Rattle.language65.proofs.Lists.{position_mapped}
 use Rattle.symbols65.specs.Tables.{Begins}
 use Rattle.symbols65.proofs.Words.{insert_name, number_mapped, one_begins, one_found, with_one}
-use Rattle.symbols65.proofs.table.adding.intern.Goals as goal
+use Rattle.symbols65.proofs.table.intern.Goals as goal
 
 pub returns-in-Some-clause-number : goal.returns-in-Some-clause-number
 returns-in-Some-clause-number c = position_mapped (bytes_eq c.args.name.now) (λ k. k.items) c.args.words.now.keys ∙ sym c.get_index_of.ensures.index ∙ c.in-Some.is

@@ -2,7 +2,7 @@ use Rattle.std.proofs.Common.{sym, ap, ◌∙◌, map, add-one, arith, drop, suc
 use Rattle.language65.specs.Symbols.{with_new}
 use Rattle.language65.proofs.Lists.{drop_item}
 use Rattle.symbols65.proofs.Words.{insert_name, with_one}
-use Rattle.symbols65.proofs.table.adding.add_names.Goals as goal
+use Rattle.symbols65.proofs.table.add_names.Goals as goal
 
 pub loop-name-preserved : goal.loop-name-preserved
 loop-name-preserved c =

@@ -4,7 +4,7 @@ use Rattle.symbols65.specs.declared.table.symbols.Opening.{Opening}
 use Rattle.symbols65.specs.declared.table.symbols.Opening.TheVariants as opening
 use Rattle.symbols65.specs.Tables.{same_opening}
 use Rattle.symbols65.proofs.Growing.{inserted_by}
-use Rattle.symbols65.proofs.table.adding.push_scope.Goals as goal
+use Rattle.symbols65.proofs.table.push_scope.Goals as goal
 
 agree : (x y : Opening) → eq-value.it x y ≡ same_opening x y
 agree (opening.Named s w) (opening.Named t v) = refl

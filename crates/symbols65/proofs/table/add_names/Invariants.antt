@@ -1,6 +1,6 @@
 use Rattle.std.proofs.Common.{◌≡◌, drop, map}
 use Rattle.language65.specs.Symbols.{with_new}
-use Rattle.symbols65.proofs.table.adding.add_names.Given as goal
+use Rattle.symbols65.proofs.table.add_names.Given as goal
 
 abbrev pub invariant-loop-name : goal.invariant-loop-name
 invariant-loop-name l = with_new (map (λ k. k.items) l.known.keys) (drop l.name-index l.names) ≡ with_new (map (λ k. k.items) l.fn.known.keys) l.names

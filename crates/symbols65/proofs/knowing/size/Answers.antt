@@ -3,7 +3,7 @@ use Rattle.std.proofs.lemmas.Int.{to_z-of_z}
 use Rattle.language65.specs.Norms.{size_of_value}
 use Rattle.symbols65.specs.Views.{table_of}
 use Rattle.symbols65.proofs.Sizing.{number_size}
-use Rattle.symbols65.proofs.knowing.sizes.size.Goals as goal
+use Rattle.symbols65.proofs.knowing.size.Goals as goal
 
 pub returns-in-Some-clause-size : goal.returns-in-Some-clause-size
 returns-in-Some-clause-size c =

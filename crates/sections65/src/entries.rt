@@ -141,22 +141,6 @@ impl Entries {
         Ok(())
     }
 
-    /// Ends the room that might have grown, where no bytes lie in front of it.
-    fn close_room(&mut self) -> Result<(), AllocError>
-        requires { self.old.bytes ≡ [] }
-        ensures same { OnOk result (Takes self.old self.new []) }
-        ensures none { OnOk result (self.new.room ≡ 0) }
-        ensures bytes { OnOk result (self.new.bytes ≡ []) }
-    {
-        if self.room > 0 {
-            let segment = self.segment;
-            let count = self.room;
-            self.room = 0;
-            self.add(Entry::Room { segment, count })?;
-        }
-        Ok(())
-    }
-
     /// Ends what might have grown.
     fn close(&mut self) -> Result<(), AllocError>
         ensures same { OnOk result (Takes self.old self.new []) }
@@ -164,7 +148,12 @@ impl Entries {
         ensures room { OnOk result (self.new.room ≡ 0) }
     {
         self.close_bytes()?;
-        self.close_room()?;
+        if self.room > 0 {
+            let segment = self.segment;
+            let count = self.room;
+            self.room = 0;
+            self.add(Entry::Room { segment, count })?;
+        }
         Ok(())
     }
 

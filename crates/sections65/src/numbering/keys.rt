@@ -108,13 +108,10 @@ fn add_saying(
         (said_imports (names_of imports.now) (said_at anywhere said.now))) }
 {
     match said {
-        Declaration::Exported { name: _, form } => add_form(keys, form),
+        Declaration::Exported { form, .. } | Declaration::Asserted { form, .. } => {
+            add_form(keys, form)
+        }
         Declaration::ForcedImport(name) => add_name(keys, imports, name.as_slice()),
-        Declaration::Asserted {
-            action: _,
-            text: _,
-            form,
-        } => add_form(keys, form),
     }
 }
 

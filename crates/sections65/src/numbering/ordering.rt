@@ -52,12 +52,7 @@ fn name_fragments(order: &mut Order, fragments: &[Fragment]) -> Result<(), Alloc
     ensures last { OnOk result (HasLast order.new) }
 {
     for fragment in fragments {
-        if let Fragment::Value {
-            width: _,
-            origin,
-            form: _,
-        } = fragment
-        {
+        if let Fragment::Value { origin, .. } = fragment {
             name_file(order, *origin)?;
         }
     }
@@ -152,20 +147,16 @@ fn reorder_fragment(order: &IndexSet<u32>, fragment: Fragment) -> Result<Fragmen
     ensures fits { FragmentFits fragment → IfOk result FragmentFits }
 {
     match fragment {
-        Fragment::Literal(bytes) => Ok(Fragment::Literal(bytes)),
-        Fragment::Fill(count) => Ok(Fragment::Fill(count)),
         Fragment::Value {
             width,
             origin,
             form,
-        } => {
-            let origin = reordered(order, origin)?;
-            Ok(Fragment::Value {
-                width,
-                origin,
-                form,
-            })
-        }
+        } => Ok(Fragment::Value {
+            width,
+            origin: reordered(order, origin)?,
+            form,
+        }),
+        known => Ok(known),
     }
 }
 

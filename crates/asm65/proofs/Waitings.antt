@@ -17,7 +17,7 @@ use Rattle.module65.specs.Module as piece
 use Rattle.module65.proofs.Resolving.{extends_same, awaited_append, filled_later}
 use Rattle.module65.proofs.Entries.{filled_append}
 use Rattle.sections65.specs.declared.sections.Sections.{Sections}
-use Rattle.sections65.specs.Fed.{Awaits, Feeds, Stands}
+use Rattle.sections65.specs.Fed.{Awaits, Feeds, Stands, names_in}
 use Rattle.symbols65.specs.declared.resolving.cache.NormCache.{NormCache}
 use Rattle.symbols65.specs.Resolving.{IsTable}
 use Rattle.symbols65.specs.Tables.{Begins}
@@ -127,7 +127,7 @@ all_entered t cs = record t { slots = t.slots ++ map holds cs }
 
 module _ (count : ℕ) (t : State) (old new : Assembler) (h : Holds count t old) (keeps : KeepsTables old new) where
   -- one more piece waits
-  pub holds_awaiting : (v : machine.Fixup) → Awaits old.sections new.sections → AreFixups t.symbols (map string_bytes new.files.keys) new.fixups.items (t.fixups ++ v ∷ []) → Holds count (awaiting t v) new
+  pub holds_awaiting : (v : machine.Fixup) → Awaits old.sections new.sections → AreFixups t.symbols (names_in new.files) new.fixups.items (t.fixups ++ v ∷ []) → Holds count (awaiting t v) new
   holds_awaiting v awaits fixups = record {
     symbols = ap table_of keeps.symbols ∙ h.symbols;
     known = subst (λ (k : NormCache). IsTable t.symbols k.states.items) (sym keeps.known) h.known;
@@ -175,11 +175,11 @@ module _ (count : ℕ) (t : State) (old new : Assembler) (h : Holds count t old)
   holds_entered c feeds = holds_all (c ∷ []) feeds
 
 -- one more piece waits behind those before it
-pub waits_behind : (old new : Assembler) (place : Place) (s : Context) (w : Fixup) → KeepsTables old new → Awaits old.sections new.sections → Begins (map string_bytes old.files.keys) (map string_bytes new.files.keys) → new.fixups.items ≡ old.fixups.items ++ w ∷ [] → slice_get (map string_bytes new.files.keys) w.file ≡ Some place.file → place.line ≡ w.line → s ≡ w.context → Waits place s w.piece old new
+pub waits_behind : (old new : Assembler) (place : Place) (s : Context) (w : Fixup) → KeepsTables old new → Awaits old.sections new.sections → Begins (names_in old.files) (names_in new.files) → new.fixups.items ≡ old.fixups.items ++ w ∷ [] → slice_get (names_in new.files) w.file ≡ Some place.file → place.line ≡ w.line → s ≡ w.context → Waits place s w.piece old new
 waits_behind old new place s w keeps awaits names fixups file line context count t v h is =
     let now : machine.Fixup = record { place = place; context = s; piece = v } in
-    let files = map string_bytes new.files.keys in
-    let before : AreFixups t.symbols files old.fixups.items t.fixups = waiting_stays t.symbols t.symbols (map string_bytes old.files.keys) files old.fixups.items t.fixups (extends_same t.symbols) names h.fixups in
+    let files = names_in new.files in
+    let before : AreFixups t.symbols files old.fixups.items t.fixups = waiting_stays t.symbols t.symbols (names_in old.files) files old.fixups.items t.fixups (extends_same t.symbols) names h.fixups in
     let one : IsFixup t.symbols files w now = record {
       file = file;
       line = line;

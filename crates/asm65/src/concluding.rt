@@ -58,27 +58,6 @@ fn file_at(files: &[String], place: usize) -> &str
     }
 }
 
-/// The first that waited, in a statement that stands here, has its content.
-fn fill(sections: &mut Sections, at: At<'_>, filling: Filling) -> Result<(), AllocError>
-    ensures { OnOk result (Receives sections.old sections.new
-        (content_of (place_at at.entry) filling)) }
-{
-    match filling {
-        Filling::Part { segment, part } => sections.settle(segment, at, part),
-        Filling::Told(said) => sections.settle_said(at, said),
-    }
-}
-
-/// Warns of an assertion with this text, where one failed.
-fn warn_of(err: &mut Sequence<u8>, at: At<'_>, text: Option<Sequence<u8>>) -> Result<(), AllocError>
-    ensures { OnOk result (err.new ≡ err.old ++ warning_in (place_at at.entry) text) }
-{
-    match text {
-        Some(text) => warn(err, at.file, at.line, text.as_slice()),
-        None => Ok(()),
-    }
-}
-
 /// The first that waited, in a statement that stands here, has what it came to.
 fn take_made(ending: &mut Ending, at: At<'_>, made: Made) -> Result<(), AllocError>
     ensures sections { OnOk result (Receives ending.old.sections ending.new.sections
@@ -87,9 +66,14 @@ fn take_made(ending: &mut Ending, at: At<'_>, made: Made) -> Result<(), AllocErr
         ending.old.err ++ warning_in (place_at at.entry) made.warning) }
     ensures known { ending.new.known ≡ ending.old.known }
 {
-    let Made { filling, warning } = made;
-    fill(&mut ending.sections, at, filling)?;
-    warn_of(&mut ending.err, at, warning)
+    match made.filling {
+        Filling::Part { segment, part } => ending.sections.settle(segment, at, part)?,
+        Filling::Told(said) => ending.sections.settle_said(at, said)?,
+    }
+    match made.warning {
+        Some(text) => warn(&mut ending.err, at.file, at.line, text.as_slice()),
+        None => Ok(()),
+    }
 }
 
 /// The first that waits comes to its content, or to its fault.
@@ -223,7 +207,7 @@ impl Assembler {
         };
         let whole = Whole {
             symbols: &symbols,
-            files: files.as_slice(),
+            files: files.table.as_slice(),
         };
         let settled = settle_all(alloc, whole, &mut ending, fixups);
         let Ending { sections, err, .. } = ending;

@@ -13,7 +13,7 @@ ghost use Rattle.module65.specs.Module.{asserted, given, instruction_pieces, val
 ghost use Rattle.language65.specs.Items.{numbered};
 
 use super::Site;
-use super::values::{bytes_of, items_of, literal_of, put_code, put_part, put_room};
+use super::values::{bytes_of, file_bytes, items_of, literal_of};
 use crate::assembler::{Assembler, Piece};
 use base65::Sequence;
 use language65::{Context, Item, Items, ItemsKind, Operand, Settled};
@@ -73,7 +73,10 @@ impl Assembler {
         ensures { OnOk result ((place : Place) → Enters place context
             (given (opcode_part code) ∷ []) self.old self.new) }
     {
-        put_code(&mut self.sections, context.segment, code)
+        match code {
+            Some(code) => self.sections.append(context.segment, &[code]),
+            None => self.sections.append(context.segment, &[]),
+        }
     }
 
     /// Enters the value of an operand, if there is one.
@@ -200,7 +203,10 @@ impl Assembler {
         ensures { OnOk result ((place : Place) → Enters place context
             (given (room_part count settled) ∷ []) self.old self.new) }
     {
-        put_room(&mut self.sections, context.segment, count, settled)
+        match settled {
+            Settled::FilledWith(byte) => self.sections.fill(context.segment, count, byte),
+            _ => self.sections.room(context.segment, count),
+        }
     }
 
     /// Enters so many bytes of a file from the one on that is settled.
@@ -215,7 +221,8 @@ impl Assembler {
         ensures { OnOk result ((place : Place) → Enters place context
             (given (Known (file_bytes count bytes settled)) ∷ []) self.old self.new) }
     {
-        put_part(&mut self.sections, context.segment, count, settled, &bytes)
+        let part = file_bytes(&bytes, settled, count);
+        self.sections.append(context.segment, part)
     }
 
     /// Enters an assertion.

@@ -1,5 +1,5 @@
 use Rattle.std.proofs.Common.{◌≡◌, ◌∙◌, refl}
-use Rattle.symbols65.specs.contracts.table.entries.OpeningPartialEq.TheImpl.{eq-value}
+use Rattle.symbols65.specs.contracts.table.symbols.OpeningPartialEq.TheImpl.{eq-value}
 use Rattle.symbols65.specs.declared.table.symbols.Opening.{Opening}
 use Rattle.symbols65.specs.declared.table.symbols.Opening.TheVariants as opening
 use Rattle.symbols65.specs.Tables.{same_opening}

@@ -123,27 +123,6 @@ fn settle_all(
     Ok(())
 }
 
-/// The object of sections in which nothing waits.
-fn object_of(
-    alloc: Global,
-    segments: &[Segment],
-    imports: &Imports,
-    sections: Sections,
-) -> Result<Object, AsmRefusal>
-    ensures object { IfOk result (λ o. (cs : List Content) → Stands cs [] sections →
-        o ≡ object_with segments.now (map (λ k. k.items) imports.now.keys) cs) }
-    ensures numbers { IfOk result ObjectFits }
-    ensures good { IfOk result (λ o. (cs : List Content) → Stands cs [] sections →
-        AreSound segments.now (map (λ k. k.items) imports.now.keys) cs → is_good_object o ≡ true) }
-    ensures inside { IfErr result (λ e. is_outside_refusal e ≡ true) }
-    ensures failed { IfErr result (λ e. has_failed e ≡ false) }
-{
-    match sections.finish(alloc, segments, imports) {
-        Ok(object) => Ok(object),
-        Err(_) => Err(AsmRefusal::without_memory()),
-    }
-}
-
 /// Whether memory ran out, or the store failed.
 fn is_from_outside(answer: &Result<Object, AsmRefusal>) -> bool
     ensures { result ≡ is_from_outside answer.now }
@@ -215,8 +194,10 @@ impl Assembler {
         match settled {
             Ok(()) => {
                 let segments = cursor.segments.as_slice();
-                let object = object_of(alloc, segments, &symbols.imports, sections);
-                answered(alloc, object, texts)
+                match sections.finish(alloc, segments, &symbols.imports) {
+                    Ok(object) => answered(alloc, Ok(object), texts),
+                    Err(_) => answered(alloc, Err(AsmRefusal::without_memory()), texts),
+                }
             }
             Err(refusal) => answered(alloc, Err(refusal), texts),
         }

@@ -117,24 +117,6 @@ impl Assembler {
         self.enter_operand_of(alloc, site, width_of(mode), operand_value(operand))
     }
 
-    /// Enters an element of a list.
-    fn enter_item(
-        &mut self,
-        alloc: Global,
-        site: Site<'_>,
-        width: Width,
-        item: Item,
-    ) -> Result<(), AllocError>
-        ensures { OnOk result (Enters
-            (place_at site.entry.at) site.entry.context
-            (item_piece width item ∷ []) self.old self.new) }
-    {
-        match item {
-            Item::Value(value) => self.enter_datum(alloc, site, width, value),
-            Item::Text(bytes) => self.sections.append(site.context.segment, bytes.as_slice()),
-        }
-    }
-
     /// Enters a list of any elements.
     fn enter_mixed(
         &mut self,
@@ -148,7 +130,13 @@ impl Assembler {
             (map (item_piece width) items) self.old self.new) }
     {
         for item in items.into_vec() {
-            self.enter_item(alloc, site, width, item)?;
+            match item {
+                Item::Value(value) => self.enter_datum(alloc, site, width, value)?,
+                Item::Text(bytes) => {
+                    self.sections
+                        .append(site.context.segment, bytes.as_slice())?
+                }
+            }
         }
         Ok(())
     }

@@ -24,23 +24,6 @@ use std::alloc::{AllocError, Global};
 use symbols65::{operand_form, stable_form};
 use syntax65::{Expr, ExprKind};
 
-/// Puts the bytes of a value into the section of a segment, if it lies in its range.
-fn put_literal(
-    sections: &mut Sections,
-    segment: u32,
-    width: Width,
-    value: i64,
-) -> Result<bool, AllocError>
-    ensures { (place : Place) → IfOk result
-        (IsPut sections.old sections.new segment (stored width place (lit value))) }
-{
-    if !fits(width, value) {
-        return Ok(false);
-    }
-    sections.append(segment, &put(width, value))?;
-    Ok(true)
-}
-
 /// The bytes of numbers, one behind the other, if each is in range.
 pub fn bytes_of(
     alloc: Global,
@@ -86,14 +69,15 @@ pub fn put_form(
         (stored width (place_at at.entry) form)) }
 {
     match literal_of(&form) {
-        Some(value) => put_literal(sections, segment, width, value),
-        None => {
-            if !is_file_name(at.file) {
-                return Ok(false);
-            }
+        Some(value) if fits(width, value) => {
+            sections.append(segment, &put(width, value))?;
+            Ok(true)
+        }
+        None if is_file_name(at.file) => {
             sections.value(segment, width, at, form)?;
             Ok(true)
         }
+        _ => Ok(false),
     }
 }
 

@@ -1,16 +1,14 @@
 -- What waits, with one more behind it, and behind statements that follow; and what an assembler holds
 -- when one more piece waits or is put at once.
-use Rattle.std.proofs.Common.{◌≡◌, ◌∙◌, ℕ, zero, suc, ◌+◌, List, [], ◌∷◌, ◌++◌, length, map, position, refl, sym, ap, subst, append-nil, length-append, arith}
-use Rattle.std.specs.Prelude.{string_bytes, false, slice_get, Some}
+use Rattle.std.proofs.Common.{◌≡◌, ◌∙◌, ℕ, zero, suc, ◌+◌, List, [], ◌∷◌, ◌++◌, length, map, refl, sym, ap, subst, append-nil, length-append, arith}
+use Rattle.std.specs.Prelude.{false, slice_get, Some}
 use Rattle.std.specs.List.{AllByRecursion}
-use Rattle.std.specs.Str.{bytes_eq}
 use Rattle.syntax65.specs.Trees.{Tree}
 use Rattle.language65.specs.Contents.{Content}
 use Rattle.language65.specs.Norms.{Extends}
 use Rattle.syntax65.specs.declared.place.Place.{Place}
 use Rattle.language65.specs.declared.laid.Context.{Context}
 use Rattle.language65.specs.Symbols.{Symbols}
-use Rattle.language65.proofs.Lists.{same_bytes}
 use Rattle.module65.specs.Machine as machine
 use Rattle.module65.specs.Machine.{State, awaited, awaited_in, awaiting, entered, filled, holds, later}
 use Rattle.module65.specs.Module as piece
@@ -22,7 +20,6 @@ use Rattle.symbols65.specs.declared.resolving.cache.NormCache.{NormCache}
 use Rattle.symbols65.specs.Resolving.{IsTable}
 use Rattle.symbols65.specs.Tables.{Begins}
 use Rattle.symbols65.specs.Views.{table_of}
-use Rattle.symbols65.proofs.Words.{first_passes}
 use Rattle.asm65.specs.declared.assembler.Assembler.{Assembler}
 use Rattle.layout65.specs.declared.cursor.Cursor.{Cursor}
 use Rattle.asm65.specs.declared.assembler.Piece.{Piece}
@@ -76,10 +73,6 @@ pub waiting_stays : (y z : Symbols) (files more : List (List ℕ)) (ws : List Fi
 waiting_stays y z files more [] vs symbols names h = h
 waiting_stays y z files more (w ∷ ws) [] symbols names h = h
 waiting_stays y z files more (w ∷ ws) (v ∷ vs) symbols names h = (waits_still y z files more w v symbols names h.0, waiting_stays y z files more ws vs symbols names h.1)
-
--- a name is where it is found
-pub named_there : (names : List (List ℕ)) (n : List ℕ) (i : ℕ) → position (bytes_eq n) names ≡ Some i → slice_get names i ≡ Some n
-named_there names n i e = let (x, at, same) = first_passes (bytes_eq n) names i e in at ∙ ap Some (sym (same_bytes n x same))
 
 -- ---- Contents for what waits.
 

@@ -143,7 +143,7 @@ parts_are_good segments names cs sound =
     let below = once_all (λ k. k < count) [] (flat_map (content_imports names) cs) tt (below_each count (flat_map (content_imports names) cs) (contents_below s names cs sound.contents)) in
     let imports : are_names (map (name_of names) i) ≡ true = names_at names i sound.imported (once_distinct [] (flat_map (content_imports names) cs) none_twice) below in
     let standing : AllByRecursion (λ k. k < length (map (λ g. g.name) segments)) s =
-    subst (λ n. AllByRecursion (λ k. k < n) s) (sym (map_length (λ (g : Segment). g.name) segments)) (once_all (λ k. k < length segments) [] (segments_asked cs) tt (asked_below (length segments) cs sound.cursor)) in
+    subst (λ n. AllByRecursion (λ k. k < n) s) (sym (map_length (λ (g : Segment). g.name) segments)) (once_all (λ k. k < length segments) [] (segments_asked cs) tt (asked_below (length segments) cs sound.standing)) in
     let section_names : are_names (map (λ (x : Section). x.name) (map (section_of at segments s i cs) s)) ≡ true =
     ap are_names (sections_named at segments s i cs s) ∙ names_at (map (λ g. g.name) segments) s sound.named (once_distinct [] (segments_asked cs) none_twice) standing in
     let said = said_sound at s i names count cs sound.contents in

@@ -1,15 +1,18 @@
-use Rattle.std.proofs.Common.{arith, ◌≡◌, List, ◌∷◌, [], map, sym, subst, ◌∙◌}
+use Rattle.std.proofs.Common.{arith, ◌≡◌, List, ℕ, ◌∷◌, [], map, sym, subst, ◌∙◌}
 use Rattle.std.proofs.lemmas.Grind.{common_steps}
 use Rattle.std.specs.Vec.Iter.{into_iter_items}
 use Rattle.syntax65.specs.declared.place.Place.{Place}
 use Rattle.object65.specs.declared.object.Width.{Width}
+use Rattle.language65.specs.Contents.{put, Known}
 use Rattle.language65.specs.declared.language.Item.{Item}
+use Rattle.language65.specs.declared.language.Item.TheVariants.{Text, Value}
 use Rattle.language65.specs.declared.laid.Context.{Context}
 use Rattle.language65.specs.Views.{place_in}
 use Rattle.module65.specs.Module.{item_piece}
+use Rattle.sections65.specs.Fed.{Feeds}
 use Rattle.asm65.specs.declared.assembler.Assembler.{Assembler}
 use Rattle.asm65.specs.Inner.Holding.{Enters}
-use Rattle.asm65.proofs.Enterings.{enters_both, enters_none}
+use Rattle.asm65.proofs.Enterings.{enters_both, enters_none, given_enters}
 use Rattle.asm65.proofs.assembler.Assembler.enter_mixed.Goals as goal
 
 abbrev Entered : Place → Context → Width → (old new : Assembler) → List Item → Type 0
@@ -26,11 +29,12 @@ loop-item-preserved c b h =
     let s = c.args.site.context in
     let width = c.args.width in
     let a = c.loop-item.self in
-    let mid = c.enter_item.new.self in
+    let mid = c.match-item.self in
     let rest = into_iter_items c.next.new.self in
+    let one : Enters place s (item_piece width c.in-Some.item ∷ []) a mid = ? in
     c.loop-item.invariant b
     (subst (Entered place s width a b) (sym c.in-Some.ensures.steps.0)
-    (enters_both place s (item_piece width c.in-Some.item ∷ []) (map (item_piece width) rest) a mid b c.in_ok-enter_item.ensures h))
+    (enters_both place s (item_piece width c.in-Some.item ∷ []) (map (item_piece width) rest) a mid b one h))
 
 pub returns : goal.returns
 returns c =

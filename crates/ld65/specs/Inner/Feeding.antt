@@ -14,9 +14,8 @@ use Rattle.link65.specs.declared.fault.LinkFault.TheVariants as link
 use Rattle.link65.specs.Names.{given_names, open_names}
 use Rattle.link65.specs.Programs.{Module, program_of}
 use Rattle.link65.specs.Standing.{Feeding, IsFed, IsFeeding, as_link, module_of}
-use Rattle.ld65.specs.Linkage.{AreInputs, Input, IsInput, IsLibraryInput, added_in, as_library, index_in, with_file, with_members}
+use Rattle.ld65.specs.Linkage.{AreInputs, Input, IsInput, IsLibraryInput, added_in, with_file, with_members}
 use Rattle.ld65.specs.Refusals.{is_outside}
-use Rattle.ld65.specs.declared.members.Choice.{Choice}
 use Rattle.ld65.specs.declared.linking.ObjectInput.{ObjectInput}
 use Rattle.ld65.specs.declared.refusal.Refusal.{Refusal}
 
@@ -73,12 +72,6 @@ FeedsMembers known library es old new r =
 abbrev pub AreChosen : List Entry → List ℕ → Feeding → Type 0
 AreChosen es places f =
     (before : List Module) → IsFed f before → IsSelection es (open_names f.script (program_of before)) (given_names f.script (program_of before)) places
-
--- the members of a library that are needed were chosen
-abbrev pub Chooses : Option Files → ℕ → List ℕ → Feeding → Result Choice Refusal → Type 0
-Chooses known k library f (Ok c) = IfSome known (λ m. index_in m library ≡ Ok c.index.entries) × AreChosen c.index.entries c.places.items f
-Chooses known k library f (Err e) =
-    (before : List Module) → IsFed f before → IfSome known (λ m. Refuses is_outside e (as_library k (index_in m library)))
 
 -- the needed members of a library were fed
 abbrev pub FeedsLibrary : Option Files → ℕ → List ℕ → Feeding → Feeding → Result (Unit {0}) Refusal → Type 0

@@ -1,7 +1,7 @@
 -- What calls leave of a store and of a linker, one behind another.
 use Rattle.std.proofs.lemmas.Grind.{common_steps}
-use Rattle.std.proofs.Common.{◌≡◌, ◌∙◌, ◌<◌, ℕ, List, [], true, false, Option, Some, Result, Ok, Err, refl, ap, arith, slice_get, subst, sym, IfErr, OnOk}
-use Rattle.base65.specs.Store.{Files, HasFailed, IsBlamed, Passes, PassesBy}
+use Rattle.std.proofs.Common.{◌≡◌, ◌∙◌, ◌<◌, ℕ, List, [], true, false, Option, Some, Result, Ok, Err, refl, ap, arith, slice_get, subst, sym, IfErr}
+use Rattle.base65.specs.Store.{Files, IsBlamed, Passes, PassesBy}
 use Rattle.object65.specs.declared.fault.ObjectFault.{ObjectFault}
 use Rattle.object65.specs.declared.fault.ObjectFault.TheVariants as object
 use Rattle.object65.specs.Reading.{Leaves}
@@ -148,24 +148,6 @@ kept_by : {T : Type 0} (a b : ℕ) (x : T) → PassesBy is_failure a b (Ok x) �
 kept_by a b x passes = let not_later : a < b → ⊥ = λ h. absurd (passes.told h) in omega (arith, passes.later, not_later)
 
 module _ {X : Type 0} {files_of : X → Option Files} {failures_of : X → ℕ} {blamed_of : X → Option (List ℕ)} (Names : Option (List ℕ) → Refusal → Type 0) where
-  -- a call that doesn't ask the store
-  pub unasked : (old : X) (before : Feeding) (r : Result (Unit {0}) Refusal) → OnOk r (is_open before ≡ false) → IfErr r (λ e. is_failure e ≡ false) → LeavesFed files_of failures_of blamed_of Names old old before before r
-  unasked old before r opened free = record {
-    opened = opened;
-    keeps = record { script = refl; output = refl };
-    files = refl;
-    count = λ modules stands. record { later = omega arith; told = λ h. absurd (omega arith); cause = caused r free };
-    named = λ modules stands. said r free;
-  }
-    where
-      caused : (r : Result (Unit {0}) Refusal) → IfErr r (λ e. is_failure e ≡ false) → IfErr r (λ e. is_failure e ≡ true → HasFailed (failures_of old) (failures_of old))
-      caused (Ok u) free = tt
-      caused (Err e) free = λ h. absurd cc
-
-      said : (r : Result (Unit {0}) Refusal) → IfErr r (λ e. is_failure e ≡ false) → IfErr r (Names (blamed_of old))
-      said (Ok u) free = tt
-      said (Err e) free = absurd cc
-
   -- a call that asks the store alone
   pub read_left : {T : Type 0} (old new : X) (before : Feeding) (x : T) → is_open before ≡ false → LeavesBy files_of failures_of blamed_of Names old new (Ok x) → LeavesFed files_of failures_of blamed_of Names old new before before (Ok tt)
   read_left old new before x opened left = record {
@@ -199,6 +181,16 @@ module _ {X : Type 0} {files_of : X → Option Files} {failures_of : X → ℕ} 
       by : (r : Result (Unit {0}) Refusal) → IfErr r (NamesOne (blamed_of new)) → IfErr r (Names (blamed_of new))
       by (Ok u) h = tt
       by (Err e) h = named (blamed_of new) e h
+
+-- a refusal of a call that doesn't ask the store
+pub unasked : {X : Type 0} {files_of : X → Option Files} {failures_of : X → ℕ} {blamed_of : X → Option (List ℕ)} (place : ℕ) (name : List ℕ) (old : X) (before : Feeding) (e : Refusal) → is_failure e ≡ false → LeavesFed files_of failures_of blamed_of (λ b. NamesInput b place name) old old before before (Err e)
+unasked place name old before e free = record {
+  opened = tt;
+  keeps = record { script = refl; output = refl };
+  files = refl;
+  count = λ modules stands. record { later = omega arith; told = λ h. absurd (omega arith); cause = λ h. absurd cc };
+  named = λ modules stands failed. absurd cc;
+}
 
 pub inputs_named : (inputs : List (List ℕ)) (place : ℕ) (name : List ℕ) → slice_get inputs place ≡ Some name → (blamed : Option (List ℕ)) (e : Refusal) → NamesInput blamed place name e → NamesInputs blamed inputs e
 inputs_named inputs place name at blamed e named failed = (place, name, at, named failed)

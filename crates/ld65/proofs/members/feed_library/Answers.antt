@@ -15,7 +15,7 @@ returns-in_err-index-clause-kept g c =
 pub returns-in_err-places-clause-kept : goal.returns-in_err-places-clause-kept
 returns-in_err-places-clause-kept g c =
     let p = err_from_is_err_and c.from_residual-in_err-places.result c.from_residual-in_err-places.ensures.1 in
-    rw (p.1, p.2) (behind_others _ _ _ _ _ _ _ _ (Err c.in_err-places.field-0.0) (λ b e h. h) (λ modules stands. (modules, stands)) (read_left _ _ _ _ c.in_ok-index.index c.requires c.in_ok-index.ensures.kept) (unasked _ _ _ _ tt c.in_err-places.ensures.cause))
+    rw (p.1, p.2) (behind_others _ _ _ _ _ _ _ _ (Err c.in_err-places.field-0.0) (λ b e h. h) (λ modules stands. (modules, stands)) (read_left _ _ _ _ c.in_ok-index.index c.requires c.in_ok-index.ensures.kept) (unasked c.args.input.now.place c.args.input.now.name.now _ _ _ c.in_err-places.ensures.cause))
 
 pub loop-place-init : goal.loop-place-init
 loop-place-init g c = record {
@@ -30,16 +30,17 @@ loop-place-preserved g c =
     let entries = c.as_slice-entries.result.now in
     let places = c.as_slice-place-items.result.now in
     let k = c.loop-place.place-index in
+    let files = g.S.Store.files c.loop-place.store in
     let old = c.args.linker.now in
     let mid = c.loop-place.linker in
     elim c.match-entry_at.branch [
       | in-Some+in_ok-feed_member w ↦ rw (w.linker-is, w.store-is) (record {
         kept = behind_others _ _ _ _ _ _ _ _ (Ok tt) (λ b e h. h c.args.input.now.place) (λ modules stands. let m = inv.stands modules stands in (m.0, m.1)) inv.kept w.in_ok-feed_member.ensures.kept;
-        stands = turn_fed _ _ library entries places k _ old mid _ (omega arith) inv.kept.files inv.kept.keeps.script inv.stands (entry_there _ library entries _ w.in-Some.entry.now mid _ _ w.in-Some.ensures w.in_ok-feed_member.ensures.fed);
+        stands = turn_fed _ files library entries places k 0 old mid w.feed_member.new.linker (omega arith) inv.kept.files inv.kept.keeps.script inv.stands (entry_there files library entries _ w.in-Some.entry.now mid w.feed_member.new.linker (Ok tt) w.in-Some.ensures w.in_ok-feed_member.ensures.fed);
       })
       | in_default w ↦ rw (w.linker-is, w.store-is) (record {
         kept = inv.kept;
-        stands = turn_fed _ _ library entries places k _ old mid mid (omega arith) inv.kept.files inv.kept.keeps.script inv.stands (none_there _ library entries _ mid (sym (none_mapped _ c.entry_at.result _ w.in_default.not-Some c.entry_at.ensures)));
+        stands = turn_fed _ files library entries places k 0 old mid mid (omega arith) inv.kept.files inv.kept.keeps.script inv.stands (none_there files library entries _ mid (sym (none_mapped _ c.entry_at.result _ w.in_default.not-Some c.entry_at.ensures)));
       })
     ]
 
@@ -50,9 +51,9 @@ returns-in_err-feed_member-clause-fed g c =
     let library = c.args.input.now.name.now in
     let entries = c.as_slice-entries.result.now in
     let e = c.in_err-feed_member.field-0.0 in
-    rw (p.1, p.2) (library_fed _ c.args.input.now.place library c.in_ok-index.index.entries entries c.in_ok-places.places.items c.as_slice-place-items.result.now c.args.linker.now _ (Err e) c.as_slice-entries.ensures c.as_slice-place-items.ensures.value c.in_ok-index.ensures.read c.in_ok-places.ensures.chosen
-    (turn_refused _ _ library entries c.as_slice-place-items.result.now c.loop-place.place-index _ c.args.linker.now c.loop-place.linker _ (omega arith) inv.kept.files inv.kept.keeps.script inv.stands e
-    (entry_there _ library entries _ c.in-Some.entry.now c.loop-place.linker _ (Err e) c.in-Some.ensures c.in_err-feed_member.ensures.fed)))
+    rw (p.1, p.2) (library_fed _ c.args.input.now.place library c.in_ok-index.index.entries entries c.in_ok-places.places.items c.as_slice-place-items.result.now c.args.linker.now c.feed_member.new.linker (Err e) c.as_slice-entries.ensures c.as_slice-place-items.ensures.value c.in_ok-index.ensures.read c.in_ok-places.ensures.chosen
+    (turn_refused _ _ library entries c.as_slice-place-items.result.now c.loop-place.place-index _ c.args.linker.now c.loop-place.linker c.feed_member.new.linker (omega arith) inv.kept.files inv.kept.keeps.script inv.stands e
+    (entry_there _ library entries _ c.in-Some.entry.now c.loop-place.linker c.feed_member.new.linker (Err e) c.in-Some.ensures c.in_err-feed_member.ensures.fed)))
 
 pub returns-in_err-feed_member-clause-kept : goal.returns-in_err-feed_member-clause-kept
 returns-in_err-feed_member-clause-kept g c =
@@ -65,5 +66,5 @@ returns-clause-fed g c =
     let library = c.args.input.now.name.now in
     let entries = c.as_slice-entries.result.now in
     let places = c.as_slice-place-items.result.now in
-    library_fed _ c.args.input.now.place library c.in_ok-index.index.entries entries c.in_ok-places.places.items places c.args.linker.now c.loop-place.linker _ c.as_slice-entries.ensures c.as_slice-place-items.ensures.value c.in_ok-index.ensures.read c.in_ok-places.ensures.chosen
+    library_fed _ c.args.input.now.place library c.in_ok-index.index.entries entries c.in_ok-places.places.items places c.args.linker.now c.loop-place.linker (Ok tt) c.as_slice-entries.ensures c.as_slice-place-items.ensures.value c.in_ok-index.ensures.read c.in_ok-places.ensures.chosen
     (after_all _ library entries places c.loop-place.place-index c.args.linker.now c.loop-place.linker (omega arith) c.loop-place.invariant.stands)

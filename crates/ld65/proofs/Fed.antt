@@ -1,8 +1,8 @@
 -- Records that are read and fed one after another, a module behind others.
-use Rattle.std.proofs.Common.{◌≡◌, ◌∙◌, ◌<◌, ℕ, List, [], ◌∷◌, ◌++◌, Bool, true, false, Option, Some, None, Result, Ok, Err, refl, ap, subst, arith, ◌==◌, sym}
+use Rattle.std.proofs.Common.{◌≡◌, ◌∙◌, ◌<◌, ℕ, List, [], ◌∷◌, ◌++◌, Bool, true, false, Option, Some, None, Result, Ok, Err, refl, ap, arith, ◌==◌, sym}
 use Rattle.std.specs.Prelude.{IfSome}
 use Rattle.base65.specs.Outcome.{Refuses, Unless}
-use Rattle.base65.specs.Store.{Files, Passes, PassesBy}
+use Rattle.base65.specs.Store.{Files}
 use Rattle.object65.specs.declared.fault.ObjectFault.{ObjectFault}
 use Rattle.object65.specs.declared.fault.ObjectFault.TheVariants as object
 use Rattle.object65.specs.declared.object.Object.{Object}
@@ -10,11 +10,11 @@ use Rattle.script65.specs.declared.script.Script.{Script}
 use Rattle.link65.specs.declared.fault.LinkFault.{LinkFault}
 use Rattle.link65.specs.declared.fault.LinkFault.TheVariants as link
 use Rattle.link65.specs.Programs.{Module}
-use Rattle.link65.specs.Standing.{Feeding, IsFed, module_of, Continues, IsFeeding, as_link}
+use Rattle.link65.specs.Standing.{Feeding, module_of, Continues, IsFeeding, as_link}
 use Rattle.ld65.specs.declared.refusal.Refusal.{Refusal}
 use Rattle.ld65.specs.Inner.Feeding.{is_link_outside, FeedsRecords, records_in}
 use Rattle.ld65.specs.Linkage.{Input, added_in, behind}
-use Rattle.ld65.specs.Refusals.{is_failure, is_outside, refusal_at, refusal_in}
+use Rattle.ld65.specs.Refusals.{is_outside, refusal_at, refusal_in}
 use Rattle.std.specs.FinMap.{get}
 use Rattle.std.proofs.lemmas.Bool.Decides.{nat_tests}
 use Rattle.object65.specs.Record.{is_outside as is_object_outside, is_memory as is_object_memory, Entry}

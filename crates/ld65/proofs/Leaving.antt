@@ -1,7 +1,7 @@
 -- What calls leave of a store and of a linker, one behind another.
 use Rattle.std.proofs.lemmas.Grind.{common_steps}
 use Rattle.std.proofs.Common.{◌≡◌, ◌∙◌, ◌<◌, ℕ, List, [], true, false, Option, Some, Result, Ok, Err, refl, ap, arith, slice_get, subst, sym, IfErr}
-use Rattle.base65.specs.Store.{Files, IsBlamed, Passes, PassesBy}
+use Rattle.base65.specs.Store.{Files, Passes, PassesBy}
 use Rattle.object65.specs.declared.fault.ObjectFault.{ObjectFault}
 use Rattle.object65.specs.declared.fault.ObjectFault.TheVariants as object
 use Rattle.object65.specs.Reading.{Leaves}

@@ -1,10 +1,10 @@
 -- From a script and the inputs of a line to what they are linked to.
-use Rattle.std.proofs.Common.{◌≡◌, ◌∙◌, ℕ, ◌+◌, ◌≤◌, ◌<◌, List, length, take, Bool, true, false, nat_lt, Option, Some, None, Result, Ok, Err, refl, ap, subst, arith, zero, suc, [], ◌∷◌, ◌++◌, Bor, drop, get_or, map, slice_get, sym, add-one}
+use Rattle.std.proofs.Common.{◌≡◌, ◌∙◌, ℕ, ◌+◌, ◌≤◌, ◌<◌, List, length, take, Bool, true, false, nat_lt, Option, Some, None, Result, Ok, Err, refl, ap, subst, arith, zero, suc, [], ◌∷◌, ◌++◌, Bor, drop, get_or, map, slice_get, add-one}
 use Rattle.std.specs.Prelude.{IfSome, ◌||◌, min}
 use Rattle.std.specs.FinMap.{get}
 use Rattle.std.proofs.lemmas.Bool.Decides.{nat_tests}
-use Rattle.std.proofs.lemmas.List.{take_all, length-take, drop_all}
-use Rattle.base65.specs.Outcome.{First, Finds, Unless, ◌>>=◌, Gives, Refuses}
+use Rattle.std.proofs.lemmas.List.{take_all, length-take}
+use Rattle.base65.specs.Outcome.{First, Finds, Unless, ◌>>=◌}
 use Rattle.base65.specs.Store.{Files}
 use Rattle.base65.specs.declared.store.StoreFault.TheVariants.{FileNotFound}
 use Rattle.script65.specs.declared.script.Script.{Script}
@@ -18,19 +18,13 @@ use Rattle.link65.specs.declared.linking.Linked.{Linked}
 use Rattle.cli65.specs.Line.{Linking}
 use Rattle.ld65.specs.declared.refusal.Refusal.{Refusal}
 use Rattle.ld65.specs.declared.refusal.Refusal.TheVariants as refusal
-use Rattle.ld65.specs.Linkage.{IsLinkedBy, IsLinked, as_script, text_of, AreInputs, IsInput, IsLibraryInput, file_input, is_library, is_library_in, with_file, as_refusal, output_of}
+use Rattle.ld65.specs.Linkage.{IsLinkedBy, IsLinked, as_script, text_of, AreInputs, IsInput, file_input, as_refusal, output_of}
 use Rattle.ld65.specs.Refusals.{is_outside, refusal_at}
 use Rattle.ld65.specs.Inner.Texts.{front_of, script_limit, script_text}
-use Rattle.std.specs.Option.{option_map_or}
-use Rattle.object65.specs.declared.fault.ObjectFault.{ObjectFault}
-use Rattle.object65.specs.declared.fault.ObjectFault.TheVariants as object
-use Rattle.object65.specs.Record.{is_outside as is_object_outside}
-use Rattle.object65.specs.Reading.{in_file}
 use Rattle.link65.specs.declared.fault.LinkFault.{LinkFault}
-use Rattle.link65.specs.declared.fault.LinkFault.TheVariants as link
 use Rattle.link65.specs.Programs.{Module, program_of}
 use Rattle.link65.specs.Standing.{Feeding, IsFed, module_of, Links}
-use Rattle.ld65.specs.Inner.Feeding.{FeedsFile, FeedsInput, FeedsInputs, FeedsLibrary, FeedsObject, Leads, LeadsBy}
+use Rattle.ld65.specs.Inner.Feeding.{FeedsFile, FeedsInput, FeedsInputs, FeedsObject}
 use Rattle.ld65.proofs.Fed.{at_outside, fed_behind, refused_behind}
 use Rattle.link65.specs.Faults.{is_memory}
 use Rattle.link65.specs.Links.{LinkOf, names_once}

@@ -1,14 +1,14 @@
 -- From the parts of an object's file to the module that it is.
-use Rattle.std.proofs.Common.{◌≡◌, ◌∙◌, ◌<◌, ◌≤◌, ℕ, List, [], ◌∷◌, ◌++◌, length, Bool, true, false, Option, Some, None, if◌then◌else◌, Result, Ok, Err, refl, sym, ap, subst, arith}
+use Rattle.std.proofs.Common.{◌≡◌, ◌∙◌, ℕ, List, [], ◌∷◌, ◌++◌, length, Bool, true, false, Option, Some, None, if◌then◌else◌, Result, Ok, Err, refl, sym, ap}
 use Rattle.std.specs.Prelude.{IfSome}
 use Rattle.std.specs.FinMap.{get}
 use Rattle.base65.specs.Outcome.{◌>>=◌, Refuses, Unless}
-use Rattle.base65.specs.Store.{Files, HasFailed, Passes}
+use Rattle.base65.specs.Store.{Files}
 use Rattle.base65.proofs.Outcome.{refused-then}
 use Rattle.object65.specs.declared.fault.ObjectFault.{ObjectFault}
 use Rattle.object65.specs.declared.fault.ObjectFault.TheVariants as object
 use Rattle.object65.specs.declared.object.Object.{Object}
-use Rattle.object65.specs.Record.{is_memory as is_object_memory, is_outside as is_object_outside}
+use Rattle.object65.specs.Record.{is_outside as is_object_outside}
 use Rattle.object65.specs.Reading.{end_at, head_at, in_file, object_at, records_at}
 use Rattle.object65.specs.Scanning.{State, finished, object_from, start}
 use Rattle.link65.specs.declared.fault.LinkFault.{LinkFault}
@@ -22,7 +22,7 @@ use Rattle.script65.specs.declared.script.Script.{Script}
 use Rattle.link65.specs.Standing.{Begins, Ends, Feeding, IsFed, Leads, agreed, agrees_with, as_link, joined, module_of, whole}
 use Rattle.ld65.specs.Inner.Feeding.{FeedsObject, FeedsRecords, Leads as LeadsIn, is_link_outside, records_in}
 use Rattle.ld65.specs.Linkage.{Input, added_in, object_in}
-use Rattle.ld65.proofs.Fed.{accepted, by_memory, memory_outside, of_object, unless}
+use Rattle.ld65.proofs.Fed.{accepted, memory_outside, of_object, unless}
 
 -- ---- What the parts of a file say of the object in it.
 

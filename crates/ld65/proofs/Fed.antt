@@ -30,58 +30,23 @@ use Rattle.library65.specs.declared.index.Entry.{Entry as Listing}
 object_outside : (f : ObjectFault) (k : ℕ) → is_outside (refusal_at k (link.Malformed f)) ≡ is_link_outside (link.Malformed f)
 object_outside object.OutOfMemory k = refl
 object_outside object.FileError k = refl
-object_outside object.FailedBefore k = refl
-object_outside object.NotAnObject k = refl
-object_outside object.UnknownVersion k = refl
-object_outside object.CutShort k = refl
-object_outside object.UnknownRecord k = refl
-object_outside object.OutOfOrder k = refl
-object_outside object.IndexOutOfRange k = refl
-object_outside object.BadSize k = refl
-object_outside object.NotCanonical k = refl
-object_outside object.BytesAfterEnd k = refl
-object_outside object.FileNotFound k = refl
+object_outside f k = cc
 
 pub at_outside : (k : ℕ) (e : LinkFault) → is_outside (refusal_at k e) ≡ is_link_outside e
 at_outside k (link.Malformed f) = object_outside f k
-at_outside k (link.Place f) = refl
-at_outside k link.FailedBefore = refl
 at_outside k link.OutOfMemory = refl
-at_outside k (link.DuplicateExport n) = refl
-at_outside k (link.Unresolved ns) = refl
-at_outside k (link.Circular s) = refl
-at_outside k (link.OutOfRange s) = refl
-at_outside k (link.NoValue s) = refl
-at_outside k (link.Assertion s t) = refl
-at_outside k link.IndexDisagrees = refl
+at_outside k e = cc
 
 member_outside : (f : ObjectFault) (name : List ℕ) → is_outside (refusal_in name (link.Malformed f)) ≡ is_link_outside (link.Malformed f)
 member_outside object.OutOfMemory name = refl
 member_outside object.FileError name = refl
-member_outside object.FailedBefore name = refl
-member_outside object.NotAnObject name = refl
-member_outside object.UnknownVersion name = refl
-member_outside object.CutShort name = refl
-member_outside object.UnknownRecord name = refl
-member_outside object.OutOfOrder name = refl
-member_outside object.IndexOutOfRange name = refl
-member_outside object.BadSize name = refl
-member_outside object.NotCanonical name = refl
-member_outside object.BytesAfterEnd name = refl
-member_outside object.FileNotFound name = refl
+member_outside f name = cc
 
 pub in_outside : (name : List ℕ) (e : LinkFault) → is_outside (refusal_in name e) ≡ is_link_outside e
 in_outside name (link.Malformed f) = member_outside f name
-in_outside name (link.Place f) = refl
-in_outside name link.FailedBefore = refl
 in_outside name link.OutOfMemory = refl
-in_outside name (link.DuplicateExport n) = refl
-in_outside name (link.Unresolved ns) = refl
-in_outside name (link.Circular s) = refl
-in_outside name (link.OutOfRange s) = refl
-in_outside name (link.NoValue s) = refl
-in_outside name (link.Assertion s t) = refl
 in_outside name link.IndexDisagrees = refl
+in_outside name e = cc
 
 -- ---- The module of an object behind others.
 

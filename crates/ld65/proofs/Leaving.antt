@@ -1,9 +1,10 @@
 -- What calls leave of a store and of a linker, one behind another.
 use Rattle.std.proofs.lemmas.Grind.{common_steps}
-use Rattle.std.proofs.Common.{◌≡◌, ◌∙◌, ◌<◌, ℕ, List, [], true, false, Option, Some, Result, Ok, Err, refl, ap, arith, slice_get, subst, sym, IfErr}
+use Rattle.std.proofs.Common.{◌≡◌, ◌∙◌, ◌<◌, ℕ, List, [], Bool, true, false, if◌then◌else◌, Option, Some, Result, Ok, Err, refl, ap, arith, slice_get, subst, sym, IfErr}
 use Rattle.base65.specs.Store.{Files, Passes, PassesBy}
 use Rattle.object65.specs.declared.fault.ObjectFault.{ObjectFault}
 use Rattle.object65.specs.declared.fault.ObjectFault.TheVariants as object
+use Rattle.object65.specs.Record.{is_memory as is_object_memory}
 use Rattle.object65.specs.Reading.{Leaves}
 use Rattle.link65.specs.declared.fault.LinkFault.{LinkFault}
 use Rattle.link65.specs.declared.fault.LinkFault.TheVariants as link
@@ -11,7 +12,7 @@ use Rattle.link65.specs.Faults.{of_object}
 use Rattle.link65.specs.Programs.{Module}
 use Rattle.link65.specs.Standing.{Feeding, IsFed, Keeps, is_open}
 use Rattle.ld65.specs.declared.refusal.Refusal.{Refusal}
-use Rattle.ld65.specs.Inner.Leaving.{LeavesBy, LeavesFed}
+use Rattle.ld65.specs.Inner.Feeding.{LeavesBy, LeavesFed}
 use Rattle.ld65.specs.Linkage.{as_refusal, member_module}
 use Rattle.ld65.specs.Naming.{IsOfInput, NamesInput, NamesInputs, NamesMember}
 use Rattle.ld65.specs.Refusals.{is_failure, refusal_at, refusal_in}
@@ -23,19 +24,11 @@ keeps_on old mid new first next = record { script = next.script ∙ first.script
 -- ---- Of the linker's faults none but the store's own is a failure of a file.
 
 stored : (f : ObjectFault) → of_object f ≡ file_failed → f ≡ object.FileError
-stored object.FileError h = refl
-stored object.OutOfMemory h = absurd cc
-stored object.FailedBefore h = absurd cc
-stored object.NotAnObject h = absurd cc
-stored object.UnknownVersion h = absurd cc
-stored object.CutShort h = absurd cc
-stored object.UnknownRecord h = absurd cc
-stored object.OutOfOrder h = absurd cc
-stored object.IndexOutOfRange h = absurd cc
-stored object.BadSize h = absurd cc
-stored object.NotCanonical h = absurd cc
-stored object.BytesAfterEnd h = absurd cc
-stored object.FileNotFound h = absurd cc
+stored f h = go (is_object_memory f) h
+  where
+    go : (b : Bool) → (if b then link.OutOfMemory else link.Malformed f) ≡ file_failed → f ≡ object.FileError
+    go true h = absurd cc
+    go false h = cc
 
 is_stored_at : (k : ℕ) (e : LinkFault) → is_failure (refusal_at k e) ≡ true → e ≡ file_failed
 is_stored_at k (link.Malformed object.FileError) h = refl

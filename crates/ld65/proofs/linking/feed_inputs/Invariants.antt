@@ -1,5 +1,5 @@
 use Rattle.std.proofs.Common.{map, Ok}
-use Rattle.ld65.specs.Inner.Leaving.{LeavesFed}
+use Rattle.ld65.specs.Inner.Feeding.{LeavesFed}
 use Rattle.ld65.specs.Naming.{NamesInputs}
 use Rattle.ld65.proofs.LineInputs.{IsBehind}
 use Rattle.ld65.proofs.linking.feed_inputs.Given as goal

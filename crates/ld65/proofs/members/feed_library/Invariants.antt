@@ -1,5 +1,5 @@
 use Rattle.std.proofs.Common.{drop, Ok}
-use Rattle.ld65.specs.Inner.Leaving.{LeavesFed}
+use Rattle.ld65.specs.Inner.Feeding.{LeavesFed}
 use Rattle.ld65.specs.Linkage.{chosen}
 use Rattle.ld65.specs.Naming.{NamesInput}
 use Rattle.ld65.proofs.Chosen.{IsAfter}

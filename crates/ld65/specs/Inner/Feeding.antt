@@ -57,8 +57,7 @@ FeedsObject known i old new r =
 
 -- modules were fed: the files give them and those before
 abbrev pub FeedsBy : Option Files → (Files → List Module → Result (List Module) Refusal → Type 0) → Feeding → Feeding → Result (Unit {0}) Refusal → Type 0
-FeedsBy known Reads old new r =
-    (before : List Module) → IsFed old before → LeadsBy is_outside (λ u modules. IsFed new modules) known (λ m. Reads m before) r
+FeedsBy known Reads old new r = (before : List Module) → IsFed old before → LeadsBy is_outside (λ u modules. IsFed new modules) known (λ m. Reads m before) r
 
 -- the object that takes a whole file was fed, the input at a place of the line
 abbrev pub FeedsFile : Option Files → ℕ → List ℕ → Feeding → Feeding → Result (Unit {0}) Refusal → Type 0

@@ -1,13 +1,13 @@
 -- Lists: names that are copied, places by name, lists beside each other.
 use Rattle.std.proofs.lemmas.Grind.{common_steps}
-use Rattle.std.proofs.Common.{◌≡◌, ◌∙◌, ℕ, List, [], ◌∷◌, map, Result, Ok, Err, refl, ap, vec_len, ◌<◌, ◌≤◌, ◌-◌, ◌+◌, Bool, cond, length, drop, slice_get, add-one, Option, Some, None, sym, arith, zero, suc, ◌++◌, get_or, append_assoc}
+use Rattle.std.proofs.Common.{◌≡◌, ◌∙◌, ℕ, List, [], ◌∷◌, map, Result, refl, ap, vec_len, ◌<◌, ◌≤◌, ◌-◌, ◌+◌, Bool, cond, length, drop, slice_get, add-one, Option, Some, None, sym, arith, zero, suc, ◌++◌, get_or, append_assoc}
 use Rattle.std.specs.Prelude.{IfOk, MatchResult}
 use Rattle.std.specs.Global.{Vec}
 use Rattle.std.specs.List.{AllZip, position_from, flat_map}
 use Rattle.std.specs.Borrow.{Bor}
 use Rattle.std.specs.Str.{bytes_eq}
 use Rattle.std.proofs.lemmas.List.{drop_all}
-use Rattle.script65.proofs.Eaches.{drop_at, append_none, drop_item}
+use Rattle.script65.proofs.Eaches.{drop_at, drop_item}
 use Rattle.link65.specs.Programs.{position_in, flat_zip}
 
 -- ---- Names that are copied.

@@ -2,7 +2,7 @@
 
 ghost use Rattle.std.specs.Prelude.{◌≡◌, ◌<◌, ◌≤◌, ◌+◌, ◌^◌, IfOk, IsSome, IsTrue, length, map, option_map, false, is_some, IfErr, Ok, Some};
 ghost use Rattle.syntax65.specs.Tokens.{lexeme_of, lexemes};
-ghost use Rattle.expand65.specs.Macros.{arguments_of, braces_behind, closes_last, is_braced, parts_within, unbraced, IsDefined, IsMacro, called, distinct_of, header_of, macro_of, ordinary, params_of, is_comma_at, name_at, part_len};
+ghost use Rattle.expand65.specs.Macros.{arguments_of, braces_behind, closes_last, is_braced, parts_within, unbraced, IsMacro, called, distinct_of, header_of, macro_of, ordinary, params_of, is_comma_at, name_at, part_len};
 ghost use Rattle.expand65.specs.Fronts.{names_of, understood};
 ghost use Rattle.expand65.specs.Playing.{tokens_in, definition_of};
 ghost use Rattle.base65.specs.Outcome.{Gives};

@@ -12,7 +12,7 @@ use Rattle.syntax65.specs.declared.expressions.words.ExprFault.TheVariants.{OutO
 use Rattle.syntax65.specs.declared.lexing.tokens.Token.{Token}
 use Rattle.syntax65.specs.ExpandFaults.{fault_of_parsing, is_outside}
 use Rattle.expand65.specs.Fronts.{name_in, understood, ◌>=>◌}
-use Rattle.expand65.specs.Macros.{header_of, params_of, repeat_header, variable_of, IsRepeated, repeat_mark, IsKept, kept, macro_of}
+use Rattle.expand65.specs.Macros.{header_of, params_of, IsDefined, repeat_header, variable_of, IsRepeated, repeat_mark, IsKept, kept, macro_of}
 use Rattle.syntax65.specs.declared.fault.ExpandFault.{ExpandFault}
 use Rattle.syntax65.specs.declared.fault.ExpandFault.TheVariants.{MacroTwice}
 use Rattle.std.specs.Map.{lookup}
@@ -25,7 +25,8 @@ use Rattle.indexmap.proofs.CallerLemmas.{insert_entry-new}
 use Rattle.base65.specs.Store.{Files}
 use Rattle.expand65.specs.Blocks.{Block, collects, gathers}
 use Rattle.expand65.specs.Lines.{pushed}
-use Rattle.expand65.specs.Inside.{left_of, turns_left}
+use Rattle.expand65.specs.Failing.{FailsDefining, FailsKeeping}
+use Rattle.expand65.specs.Inside.{FailsInBlock, left_of, turns_left}
 use Rattle.expand65.specs.Playing.{tokens_in, definition_of}
 use Rattle.expand65.specs.Left.{repeating, Definition, turns, Left, Stop}
 use Rattle.expand65.specs.Standing.{macros_of, state_of}
@@ -103,6 +104,20 @@ once s name params q x h b e = let P : Option Definition → Type 0 = λ o. IsKe
 
 pub once_refused : (s : State) (name : List ℕ) (params : List (List ℕ)) (f : ExpandFault) (p : Place) → macro_of s.macros name ≡ None → Unless (is_outside f) (Block collects [] s.left (Err (f, p))) → Unless (is_outside f) (IsKept s name params (macro_of s.macros name) (stops (f, p)))
 once_refused s name params f p h b = grind (arith, common_steps)
+
+-- what is kept under a header that is understood is defined
+pub defined : (s : State) (o : Option (List ℕ × List (List ℕ))) (name : List ℕ) (params : List (List ℕ)) (r : Stepped) → understood o ≡ Ok (name, params) → IsKept s name params (macro_of s.macros name) r → IsDefined s o r
+defined s None name params r e h = absurd cc
+defined s (Some o) name params r e h =
+    let same : (name, params) ≡ o = cc in
+    subst (λ o. IsDefined s (Some o) r) same h
+
+-- so the store fails in its body's lines
+pub fails_defining : (b : Option (List ℕ)) (s : State) (o : Option (List ℕ × List (List ℕ))) (name : List ℕ) (params : List (List ℕ)) → understood o ≡ Ok (name, params) → macro_of s.macros name ≡ None → (p : Place) → FailsInBlock b collects [] s.left p → FailsDefining b s o p
+fails_defining b s None name params e none p h = absurd cc
+fails_defining b s (Some o) name params e none p h =
+    let same : (name, params) ≡ o = cc in
+    subst (λ o. FailsDefining b s (Some o) p) same (subst (λ k. FailsKeeping b s k p) (sym none) h)
 
 -- ---- An input put in front of the lines.
 

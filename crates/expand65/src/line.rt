@@ -52,20 +52,6 @@ impl Word {
         let kind = self.kind;
         (Token { kind, text }, behind)
     }
-
-    /// A token of a line, so short that both are.
-    #[inline(always)]
-    fn within(kind: TokenKind, blanks: usize, len: usize) -> Word
-        requires blanks { blanks ≤ 4096 }
-        requires len { len ≤ 4096 }
-        ensures { (result.kind ≡ kind) × (result.blanks ≡ blanks) × (result.len ≡ len) }
-    {
-        Word {
-            kind,
-            blanks: blanks as u32,
-            len: len as u32,
-        }
-    }
 }
 
 impl Line {
@@ -238,7 +224,12 @@ fn read_words(bytes: &[u8], words: &mut Vec<Word>) -> Result<usize, ExpandFault>
             Some(token) => {
                 let len = token.text.len();
                 let blanks = left - lexer.rest.len() - len;
-                words.push(Word::within(token.kind, blanks, len))?;
+                // A line is so short that both are.
+                words.push(Word {
+                    kind: token.kind,
+                    blanks: blanks as u32,
+                    len: len as u32,
+                })?;
             }
             None => return Ok(bytes.len() - left),
         }

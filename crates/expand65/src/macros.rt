@@ -2,7 +2,7 @@
 
 ghost use Rattle.std.specs.Prelude.{◌≡◌, ◌<◌, ◌≤◌, ◌+◌, ◌^◌, IfOk, IsSome, IsTrue, length, map, option_map, false, is_some, IfErr, Ok, Some};
 ghost use Rattle.syntax65.specs.Tokens.{lexeme_of, lexemes};
-ghost use Rattle.expand65.specs.Macros.{arguments_of, braces_behind, closes_last, is_braced, parts_within, unbraced, IsDefined, IsMacro, called, distinct_of, header_of, macro_of, ordinary, params_of, is_comma_at, name_at, part_len};
+ghost use Rattle.expand65.specs.Macros.{arguments_of, braces_behind, closes_last, is_braced, parts_within, unbraced, IsMacro, called, distinct_of, header_of, macro_of, ordinary, params_of, is_comma_at, name_at, part_len};
 ghost use Rattle.expand65.specs.Fronts.{names_of, understood};
 ghost use Rattle.expand65.specs.Playing.{tokens_in, definition_of};
 ghost use Rattle.base65.specs.Outcome.{Gives};
@@ -225,24 +225,7 @@ impl Rewriter {
         ensures stopped { StopsBy (S.files store.old) self.old self.new result (λ s.
             FailsDefining (S.blamed store.new) s (header_of (lexemes tokens.now))) }
     {
-        let header = header_of(self.alloc, tokens)?;
-        self.keep_macro(store, header.name, header.params)
-    }
-
-    /// A macro that isn't there yet, with the lines that follow.
-    fn keep_macro<S: Store>(
-        &mut self,
-        store: &mut S,
-        name: Vec<u8>,
-        params: IndexSet<Vec<u8>>,
-    ) -> Result<Turn, ExpandFault>
-        ensures turns { TurnsTo (S.files store.old) self.old self.new result (λ m s.
-            IsDefined s (Some (name.items, map (λ k. k.items) params.keys))) }
-        ensures keeps { Keeps self.old self.new result }
-        ensures leaves { Leaves S.files S.failures store.old store.new result }
-        ensures stopped { StopsBy (S.files store.old) self.old self.new result (λ s.
-            FailsDefining (S.blamed store.new) s (Some (name.items, map (λ k. k.items) params.keys))) }
-    {
+        let Header { name, params } = header_of(self.alloc, tokens)?;
         if self.has_macro(name.as_slice()) {
             return Err(ExpandFault::MacroTwice);
         }

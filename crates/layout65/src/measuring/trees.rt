@@ -7,7 +7,7 @@ ghost use Rattle.language65.specs.Symbols.{Scope};
 ghost use Rattle.symbols65.specs.Views.{table_of};
 ghost use Rattle.layout65.specs.Measuring.{Checks};
 
-use language65::{AsmFault, Item, Items, ItemsKind, Operand, OptionalExpr, PartRange, Statement};
+use language65::{AsmFault, Item, ItemsKind, Operand, OptionalExpr, PartRange, Statement};
 use std::alloc::Global;
 use symbols65::{Symbols, plain_part, scope_of, scopes_in, shown};
 use syntax65::{Expr, ExprKind, Name};
@@ -175,21 +175,6 @@ fn check_mixed(
     Ok(())
 }
 
-fn check_items(
-    alloc: Global,
-    symbols: &Symbols,
-    scope: usize,
-    items: &Items,
-) -> Result<(), AsmFault>
-    ensures { Checks result (lost_scopes (table_of symbols.now).scopes scope
-        (item_trees items.now)) }
-{
-    match items.kind() {
-        ItemsKind::Numbers(_) => Ok(()),
-        ItemsKind::Mixed(items) => check_mixed(alloc, symbols, scope, items.as_slice()),
-    }
-}
-
 /// Refuses a statement with a name whose scope isn't there.
 pub fn check_trees(
     alloc: Global,
@@ -205,7 +190,10 @@ pub fn check_trees(
             check_one(alloc, symbols, scope, value)
         }
         Statement::Instruction { operand, .. } => check_operand(alloc, symbols, scope, operand),
-        Statement::Values { items, .. } => check_items(alloc, symbols, scope, items),
+        Statement::Values { items, .. } => match items.kind() {
+            ItemsKind::Numbers(_) => Ok(()),
+            ItemsKind::Mixed(items) => check_mixed(alloc, symbols, scope, items.as_slice()),
+        },
         Statement::Reserve { count, value } => check_two(alloc, symbols, scope, count, value),
         Statement::Align { multiple, value } => check_two(alloc, symbols, scope, multiple, value),
         Statement::FilePart { start, len, .. } => {

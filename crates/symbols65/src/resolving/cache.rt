@@ -59,25 +59,6 @@ pub fn may_be_looked_for(states: &[State], place: usize) -> bool
     matches!(states.get(place), Some(State::Unknown | State::Hangs(_)))
 }
 
-/// Lets the constant at a place hang on another, where its form isn't found.
-fn hang(
-    alloc: Global,
-    symbols: &Symbols,
-    states: &mut [State],
-    place: usize,
-) -> Result<(), AllocError>
-    ensures same { map bare states.new ≡ map bare states.old }
-    ensures hung { AreHung (table_of symbols.now) states.old → AreHung (table_of symbols.now) states.new }
-{
-    if !may_be_looked_for(states, place) {
-        return Ok(());
-    }
-    if let Some(next) = needed_at(alloc, symbols, place)? {
-        states[place] = State::Hangs(next);
-    }
-    Ok(())
-}
-
 /// Lets constants hang on others, where their forms aren't found.
 pub fn hang_all(
     alloc: Global,
@@ -89,7 +70,13 @@ pub fn hang_all(
     ensures hung { AreHung (table_of symbols.now) states.old → AreHung (table_of symbols.now) states.new }
 {
     for place in places {
-        hang(alloc, symbols, states, *place)?;
+        if !may_be_looked_for(states, *place) {
+            continue;
+        }
+        let Some(next) = needed_at(alloc, symbols, *place)? else {
+            continue;
+        };
+        states[*place] = State::Hangs(next);
     }
     Ok(())
 }
@@ -161,8 +148,12 @@ impl NormCache {
         ensures { IfOk result (λ k. IsTable (table_of symbols.now) k.states.items) }
     {
         let count = symbols.definitions.len();
+        let mut states = Vec::with_capacity(alloc, count)?;
+        for _ in 0..count {
+            states.push(State::Unknown)?;
+        }
         Ok(NormCache {
-            states: unknown_states(alloc, count)?,
+            states,
             noted: Vec::new(alloc),
         })
     }
@@ -275,17 +266,6 @@ impl NormCache {
             }
         }
     }
-}
-
-/// So many constants of which nothing is known.
-fn unknown_states(alloc: Global, count: usize) -> Result<Vec<State>, AllocError>
-    ensures { IfOk result (λ states. states.items ≡ replicate count Unknown) }
-{
-    let mut states = Vec::with_capacity(alloc, count)?;
-    for _ in 0..count {
-        states.push(State::Unknown)?;
-    }
-    Ok(states)
 }
 
 /// Whether the form of the constant at a place is found.

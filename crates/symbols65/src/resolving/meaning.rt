@@ -197,26 +197,16 @@ fn unnamed_label(symbols: &Symbols, count: usize) -> Option<Meaning>
     Some(Meaning::Defined(place))
 }
 
-/// How many unnamed labels stand before one behind a use before which so many stand. No table has one that no number of
-/// the machine counts.
-fn count_behind(before: u32, steps: usize) -> Option<usize>
-    ensures some { IfSome result (λ count. count ≡ before + steps - 1) }
-    ensures none { IfNone result (2 ^ 64 ≤ before + steps - 1) }
-{
-    match steps.checked_sub(1) {
-        Some(more) => (before as usize).checked_add(more),
-        None => Some((before as usize).saturating_sub(1)),
-    }
-}
-
 /// An unnamed label behind a use before which so many stand.
 fn label_behind(symbols: &Symbols, before: u32, steps: usize) -> Option<Meaning>
     ensures { unnamed_meaning (table_of symbols.now) (before + steps - 1) ≡ or_absent NoSuchLabel result }
 {
-    match count_behind(before, steps) {
-        Some(count) => unnamed_label(symbols, count),
-        None => None,
-    }
+    let count = match steps.checked_sub(1) {
+        // No table has a label that no number of the machine counts.
+        Some(more) => (before as usize).checked_add(more)?,
+        None => (before as usize).saturating_sub(1),
+    };
+    unnamed_label(symbols, count)
 }
 
 /// An unnamed label before a use before which so many stand.

@@ -1,11 +1,16 @@
-use Rattle.std.proofs.Common.{◌+◌, ◌-◌, None, ap}
+use Rattle.std.proofs.Common.{rules, arith, ◌≡◌, ◌+◌, ◌-◌, ◌^◌, ◌≤◌, None, ap}
 use Rattle.language65.specs.declared.fault.AsmFault.TheVariants.{NoSuchLabel}
 use Rattle.language65.specs.Symbols.{or_fault}
 use Rattle.symbols65.specs.Views.{words_of}
 use Rattle.symbols65.proofs.Words.{never_counted}
 use Rattle.symbols65.proofs.resolving.meaning.label_behind.Goals as goal
 
-pub returns-in-None : goal.returns-in-None
-returns-in-None c =
+pub returns-in_err-count-in-Some : goal.returns-in_err-count-in-Some
+returns-in_err-count-in-Some c =
     let t = c.args.symbols.now in
-    ap (λ o. or_fault NoSuchLabel o None) (never_counted (words_of t) t.definitions.entries (c.args.before + c.args.steps - 1) t.entries_numbered t.counts_fit c.in-None.ensures.none)
+    let count = c.args.before + c.args.steps - 1 in
+    let behind : 1 ≤ c.args.steps = search (rules, c.in-Some.ensures) in
+    let more : c.in-Some.more ≡ c.args.steps - 1 = search (rules, c.in-Some.ensures) in
+    let past : 2 ^ 64 ≤ c.args.before + c.in-Some.more = search (rules, c.in_err-count-in-Some.ensures) in
+    let never : 2 ^ 64 ≤ count = omega (arith, behind, more, past) in
+    rw c.from_residual.ensures (ap (λ o. or_fault NoSuchLabel o None) (never_counted (words_of t) t.definitions.entries count t.entries_numbered t.counts_fit never))

@@ -1,4 +1,4 @@
-use Rattle.std.proofs.Common.{◌≡◌, length, ap, sym, ◌∙◌}
+use Rattle.std.proofs.Common.{◌≡◌, length, ap, sym, ◌∙◌, arith}
 use Rattle.std.specs.Prelude.{replicate}
 use Rattle.std.proofs.lemmas.List.{length-map}
 use Rattle.symbols65.specs.declared.resolving.attempt.State.TheVariants.{Unknown}
@@ -12,4 +12,5 @@ returns c =
     let t = c.args.symbols.now in
     let y = table_of t in
     let long : c.len-count.result ≡ length y.definitions = c.len-count.ensures.len ∙ sym (length-map t.definitions.entries (definition_in (words_of t))) in
-    blank_replicated y c.in_ok-unknown_states.field-0.items (c.in_ok-unknown_states.ensures ∙ ap (λ n. replicate n Unknown) long)
+    let whole : c.loop.counter ≡ c.len-count.result = omega (arith, c.loop-test.false, c.loop.auto.counter-end) in
+    blank_replicated y c.loop.states.items (c.loop.invariant ∙ ap (λ n. replicate n Unknown) (whole ∙ long))

@@ -3,10 +3,10 @@ use Rattle.language65.specs.Items.{items_of}
 use Rattle.language65.specs.Layout.{item_trees, lost_scopes, unless_fault}
 use Rattle.symbols65.specs.Views.{table_of}
 use Rattle.layout65.proofs.Measures.{numbers_keep}
-use Rattle.layout65.proofs.measuring.trees.check_items.Goals as goal
+use Rattle.layout65.proofs.measuring.trees.check_trees.Goals as goal
 
 pub returns-in-Numbers : goal.returns-in-Numbers
 returns-in-Numbers c =
     let before = (table_of c.args.symbols.now).scopes in
-    ap (λ is. unless_fault {A = Unit {0}} (lost_scopes before c.args.scope (item_trees is)) tt) (sym c.kind.ensures ∙ ap items_of c.in-Numbers.is)
-    ∙ ap (λ f. unless_fault {A = Unit {0}} f tt) (numbers_keep before c.args.scope c.in-Numbers.field-0)
+    rw c.in-Values.is (ap (λ is. unless_fault {A = Unit {0}} (lost_scopes before c.args.scope (item_trees is)) tt) (sym c.kind.ensures ∙ ap items_of c.in-Numbers.is)
+    ∙ ap (λ f. unless_fault {A = Unit {0}} f tt) (numbers_keep before c.args.scope c.in-Numbers.field-0))

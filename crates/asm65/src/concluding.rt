@@ -66,11 +66,12 @@ fn take_made(ending: &mut Ending, at: At<'_>, made: Made) -> Result<(), AllocErr
         ending.old.err ++ warning_in (place_at at.entry) made.warning) }
     ensures known { ending.new.known ≡ ending.old.known }
 {
-    match made.filling {
+    let Made { filling, warning } = made;
+    match filling {
         Filling::Part { segment, part } => ending.sections.settle(segment, at, part)?,
         Filling::Told(said) => ending.sections.settle_said(at, said)?,
     }
-    match made.warning {
+    match warning {
         Some(text) => warn(&mut ending.err, at.file, at.line, text.as_slice()),
         None => Ok(()),
     }

@@ -30,11 +30,17 @@ use syntax65::{AddressSize, Mnemonic};
 /// How many bytes a name or a text has fewer than.
 const LEN_LIMIT: usize = 256;
 
+fn is_printed(name: &[u8]) -> bool
+    ensures { result ≡ list_all is_printed name.now }
+{
+    name.iter().all(|b| 0x20 < *b && *b < 0x7f)
+}
+
 #[inline(never)]
 fn is_name(name: &[u8]) -> bool
     ensures { result ≡ is_name name.now }
 {
-    !name.is_empty() && name.len() < LEN_LIMIT && name.iter().all(|b| 0x20 < *b && *b < 0x7f)
+    !name.is_empty() && name.len() < LEN_LIMIT && is_printed(name)
 }
 
 #[inline(never)]

@@ -224,7 +224,7 @@ fn read_words(bytes: &[u8], words: &mut Vec<Word>) -> Result<usize, ExpandFault>
             Some(token) => {
                 let len = token.text.len();
                 let blanks = left - lexer.rest.len() - len;
-                // A line is so short that both are.
+                // A line has 4,096 bytes at most, so both fit.
                 words.push(Word {
                     kind: token.kind,
                     blanks: blanks as u32,

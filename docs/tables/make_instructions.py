@@ -1,5 +1,5 @@
 #!/usr/bin/env python3
-"""Writes the mnemonics and the table of opcodes from opcodes.txt: code, definitions and the list of all mnemonics.
+"""Writes the mnemonics and the table of opcodes from opcodes.txt: code and definitions.
 Run it anywhere, then `rt fmt` in the crate."""
 import os
 
@@ -21,6 +21,14 @@ MODES = [
     ("relative", "Relative", "The target of a branch: a byte."),
 ]
 VARIANT = {word: variant for word, variant, _ in MODES}
+# forms of operand that several instructions have, no other form beside them
+ROWS = {
+    "arithmetic": ("arithmetic, and loads of `a`", ("immediate", "zeropage", "zeropage_x", "absolute", "absolute_x", "absolute_y", "indirect_x", "indirect_y")),
+    "shift": ("shifts", ("accumulator", "zeropage", "zeropage_x", "absolute", "absolute_x")),
+    "count": ("counting up and down in memory", ("zeropage", "zeropage_x", "absolute", "absolute_x")),
+    "implied": ("without an operand", ("implied",)),
+    "branch": ("branches", ("relative",)),
+}
 
 
 def read_table():
@@ -56,7 +64,7 @@ def names_rt(names):
 ghost use Rattle.std.specs.Prelude.{{◌≡◌}};
 
 /// A mnemonic of the 6502.
-#[derive(Clone, Copy, Debug, PartialEq, Eq)]
+#[derive(Clone, Copy, PartialEq, Eq)]
 pub enum Mnemonic {{
 {variants}}}
 
@@ -78,27 +86,11 @@ impl Mnemonic {{
 '''
 
 
-def letter_rt(letter, names):
-    arms = "".join(f"        (b'{n[1]}', b'{n[2]}') => Some(Mnemonic::{n.capitalize()}),\n" for n in names)
-    return f'''
-/// The mnemonic of `{letter}` and two small letters.
-fn with_{letter}(second: u8, third: u8) -> Option<Mnemonic>
-    ensures {{ IsNamed ({ord(letter)} ∷ second ∷ third ∷ []) result }}
-{{
-    match (second, third) {{
-{arms}        _ => None,
-    }}
-}}
-'''
-
-
 def lookup_rt(names):
-    letters = sorted({n[0] for n in names})
-    arms = "".join(f"        b'{letter}' => with_{letter}(second, third),\n" for letter in letters)
-    functions = "".join(letter_rt(letter, [n for n in names if n[0] == letter]) for letter in letters)
+    arms = "".join(f"        [b'{n[0]}', b'{n[1]}', b'{n[2]}'] => Mnemonic::{n.capitalize()},\n" for n in names)
     return f'''//! The mnemonic that bytes spell.
 
-ghost use Rattle.std.specs.Prelude.{{◌≡◌, ◌∷◌, []}};
+ghost use Rattle.std.specs.Prelude.{{◌≡◌}};
 ghost use Rattle.syntax65.specs.Mnemonics.{{IsNamed, IsSpelled, mnemonic_of}};
 
 use super::names::Mnemonic;
@@ -109,24 +101,24 @@ pub fn mnemonic(bytes: &[u8]) -> Option<Mnemonic>
     ensures spelled {{ IsSpelled bytes.now result }}
 {{
     match bytes {{
-        [first, second, third] => of_letters(
+        [first, second, third] => of_letters([
             first.to_ascii_lowercase(),
             second.to_ascii_lowercase(),
             third.to_ascii_lowercase(),
-        ),
+        ]),
         _ => None,
     }}
 }}
 
 /// The mnemonic of three small letters.
-fn of_letters(first: u8, second: u8, third: u8) -> Option<Mnemonic>
-    ensures {{ IsNamed (first ∷ second ∷ third ∷ []) result }}
+fn of_letters(letters: [u8; 3]) -> Option<Mnemonic>
+    ensures {{ IsNamed letters result }}
 {{
-    match first {{
-{arms}        _ => None,
-    }}
+    Some(match letters {{
+{arms}        _ => return None,
+    }})
 }}
-{functions}'''
+'''
 
 
 def names_antt(names):
@@ -163,101 +155,100 @@ mnemonic_of bytes = find (λ m. str_eq_ignore_ascii_case bytes (name_of m)) ALL
 '''
 
 
-def all_names_antt(names):
-    variants = ", ".join(n.capitalize() for n in names)
-    rows = "".join(f"place_of {n.capitalize()} = ({i}, lit< tt, λ d. refl)\n" for i, n in enumerate(names))
-    count = len(names)
-    return f'''-- The list of all mnemonics leaves none out.
-use Rattle.std.proofs.Common.{{◌≡◌, ℕ, ◌<◌, get_or, refl, lit<}}
-use Rattle.syntax65.specs.declared.instructions.names.Mnemonic.{{Mnemonic}}
-use Rattle.syntax65.specs.declared.instructions.names.Mnemonic.TheVariants.{{{variants}}}
-use Rattle.syntax65.specs.declared.instructions.names.TheConstants.Mnemonic.{{ALL}}
-
--- each mnemonic stands in the list of all
-pub place_of : (m : Mnemonic) → (i : ℕ) × (i < {count}) × ((d : Mnemonic) → get_or ALL i d ≡ m)
-{rows}'''
+def rows_of(table, names):
+    """The instructions by the forms that they have: those of one of the ROWS, and all others."""
+    columns = {it: tuple(w for w, _, _ in MODES if (it, w) in table) for it in names}
+    rows = [(it, row) for it in names for row, (_, words) in ROWS.items() if columns[it] == words]
+    listed = {it for it, _ in rows}
+    return rows, [(it, w) for it in names if it not in listed for w, _, _ in MODES if (it, w) in table]
 
 
 def codes_antt(table, names):
     variants = ", ".join(n.capitalize() for n in names)
     modes = ", ".join(v for _, v, _ in MODES)
-    rows = "".join(
-        f"opcode_of {n.capitalize()} {v} = Some 0x{table[n, w]}\n" for n in names for w, v, _ in MODES if (n, w) in table
-    )
+    rows, others = rows_of(table, names)
+    kinds = ""
+    for row, (doc, words) in ROWS.items():
+        name, kind = ("codes", "List ℕ") if len(words) > 1 else ("code", "ℕ")
+        codes = [f"get_or codes {i} 0" for i in range(len(words))] if len(words) > 1 else ["code"]
+        kinds += f"-- {doc}\nabbrev pub {row} : {kind} → Mode → Option ℕ\n"
+        kinds += "".join(f"{row} {name} {VARIANT[w]} = Some ({c})\n" for w, c in zip(words, codes))
+        kinds += f"{row} {name} _ = None\n\n"
+    alone = "".join(f"other_opcode {n.capitalize()} {VARIANT[w]} = Some 0x{table[n, w]}\n" for n, w in others)
+    listed = ""
+    for n, row in rows:
+        codes = " ∷ ".join("0x" + table[n, w] for w in ROWS[row][1])
+        listed += f"opcode_of {n.capitalize()} mode = {row} {codes if len(ROWS[row][1]) == 1 else f'({codes} ∷ [])'} mode\n"
     return f'''-- The table of opcodes.
-use Rattle.std.specs.Prelude.{{ℕ, Option, Some, None, Bool, true, false, if◌then◌else◌}}
+use Rattle.std.specs.Prelude.{{ℕ, List, [], ◌∷◌, get_or, Option, Some, None}}
 use Rattle.syntax65.specs.declared.instructions.names.Mnemonic.{{Mnemonic}}
 use Rattle.syntax65.specs.declared.instructions.names.Mnemonic.TheVariants.{{{variants}}}
 use Rattle.syntax65.specs.declared.instructions.codes.Mode.{{Mode}}
 use Rattle.syntax65.specs.declared.instructions.codes.Mode.TheVariants.{{{modes}}}
 
+{kinds}-- instructions with other forms
+abbrev pub other_opcode : Mnemonic → Mode → Option ℕ
+{alone}other_opcode _ _ = None
+
 -- the opcode of a mnemonic with a form of operand
 abbrev pub opcode_of : Mnemonic → Mode → Option ℕ
-{rows}opcode_of _ _ = None
-
--- the forms that are answered so far
-abbrev pub is_answered : Mode → Bool
-is_answered Implied = true
-is_answered Accumulator = true
-is_answered _ = false
-
-abbrev pub answered_opcode : Mnemonic → Mode → Option ℕ
-answered_opcode m mode = if is_answered mode then opcode_of m mode else None
+{listed}opcode_of m mode = other_opcode m mode
 '''
 
 
 def codes_rt(table, names):
     variants = "".join(f"    /// {doc}\n    {v},\n" for _, v, doc in MODES)
-    columns = "".join(f"        Mode::{v} => {w}(mnemonic),\n" for w, v, _ in MODES)
-    functions = ""
-    for w, v, _ in MODES:
-        rows = "".join(f"        Mnemonic::{n.capitalize()} => 0x{table[n, w]},\n" for n in names if (n, w) in table)
-        functions += f'''
-fn {w}(mnemonic: Mnemonic) -> Option<u8>
-    ensures {{ result ≡ opcode_of mnemonic Mode.{v} }}
+    rows, others = rows_of(table, names)
+    listed = ""
+    for n, row in rows:
+        codes = ", ".join(f"0x{table[n, w]}" for w in ROWS[row][1])
+        listed += f"        Mnemonic::{n.capitalize()} => {row}(mode, {codes if len(ROWS[row][1]) == 1 else f'[{codes}]'}),\n"
+    kinds = ""
+    for row, (doc, words) in ROWS.items():
+        count = len(words)
+        codes = [f"codes[{i}]" for i in range(count)] if count > 1 else ["code"]
+        arms = "".join(f"        Mode::{VARIANT[w]} => Some({c}),\n" for w, c in zip(words, codes))
+        kinds += f'''
+/// {doc[0].upper()}{doc[1:]}.
+fn {row}(mode: Mode, {f'codes: [u8; {count}]' if count > 1 else 'code: u8'}) -> Option<u8>
+    ensures {{ result ≡ {row} {'codes' if count > 1 else 'code'} mode }}
 {{
-    Some(match mnemonic {{
-{rows}        _ => return None,
-    }})
+    match mode {{
+{arms}        _ => None,
+    }}
 }}
 '''
+    alone = "".join(f"        (Mnemonic::{n.capitalize()}, Mode::{VARIANT[w]}) => 0x{table[n, w]},\n" for n, w in others)
     return f'''//! The opcodes.
 
 ghost use Rattle.std.specs.Prelude.{{◌≡◌}};
-ghost use Rattle.syntax65.specs.Opcodes.{{opcode_of, is_answered, answered_opcode}};
+ghost use Rattle.syntax65.specs.Opcodes.{{{", ".join(ROWS)}, opcode_of, other_opcode}};
 
 use super::names::Mnemonic;
 
 /// A form of operand.
-#[derive(Clone, Copy, Debug, PartialEq, Eq)]
+#[derive(Clone, Copy)]
 pub enum Mode {{
 {variants}}}
 
-/// The opcode of a mnemonic with a form of operand.
+/// The opcode of a mnemonic with a form of operand, if the instruction has that form.
 pub fn opcode(mnemonic: Mnemonic, mode: Mode) -> Option<u8>
-    ensures {{ result ≡ answered_opcode mnemonic mode }}
-{{
-    if is_answered(mode) {{
-        in_table(mnemonic, mode)
-    }} else {{
-        None
-    }}
-}}
-
-/// Whether the form is answered so far.
-fn is_answered(mode: Mode) -> bool
-    ensures {{ result ≡ is_answered mode }}
-{{
-    matches!(mode, Mode::Implied | Mode::Accumulator)
-}}
-
-fn in_table(mnemonic: Mnemonic, mode: Mode) -> Option<u8>
     ensures {{ result ≡ opcode_of mnemonic mode }}
 {{
-    match mode {{
-{columns}    }}
+    match mnemonic {{
+{listed}        _ => other_opcode(mnemonic, mode),
+    }}
 }}
-{functions}'''
+{kinds}
+/// Instructions with other forms.
+fn other_opcode(mnemonic: Mnemonic, mode: Mode) -> Option<u8>
+    ensures {{ result ≡ other_opcode mnemonic mode }}
+{{
+    Some(match (mnemonic, mode) {{
+{alone}        _ => return None,
+    }})
+}}
+'''
 
 
 def main():
@@ -269,7 +260,6 @@ def main():
     write("src/instructions/codes.rt", codes_rt(table, names))
     write("specs/Mnemonics.antt", names_antt(names))
     write("specs/Opcodes.antt", codes_antt(table, names))
-    write("proofs/AllMnemonics.antt", all_names_antt(names))
 
 
 main()

@@ -176,7 +176,7 @@ abbrev pub ending_of : Assembler → Ending
 ending_of a = record { known = a.known; sections = a.sections; err = a.texts.err }
 
 abbrev pub files_of : Assembler → List (List ℕ)
-files_of a = map string_bytes a.files.keys
+files_of a = names_in a.files
 
 -- by the symbol table of the state that it holds
 pub all_settled : (count : ℕ) (t : State) (a : Assembler) (files : List (List ℕ)) (new : Ending) (r : Result Unit AsmRefusal) → Holds count t a → files ≡ files_of a → ((vs : List machine.Fixup) → AreFixups (table_of a.symbols) files a.fixups.items vs → SettlesAll (table_of a.symbols) vs (ending_of a) new r) → SettlesAll t.symbols t.fixups (ending_of a) new r

@@ -117,7 +117,7 @@ says_nothing x cs fixups h = record {
   alike = alike_trans (cs ++ telling [] ∷ []) cs (contents_in (names_in x.files) fixups x.entries) (alike_nothing cs (telling [] ∷ []) (empty_alike 0 false)) h.alike;
   waits = h.waits;
   settled = h.settled;
-  cursor = h.cursor;
+  standing = h.standing;
 }
 
 so_used : (place : Place) (s : Context) (act : Action) (words : List ℕ) (v : ℤ) → (v ≡ pos 0 → ⊥) → used place s (asserted act words) (lit v) ≡ Ok (quietly (telling []))

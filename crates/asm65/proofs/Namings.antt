@@ -4,11 +4,12 @@ use Rattle.language65.specs.declared.laid.Context.{Context}
 use Rattle.language65.specs.Layout.{context_of}
 use Rattle.module65.specs.Reading.{known_at}
 use Rattle.module65.specs.Machine.{State, Puts, PutsAll, awaiting, at_once, later, symbols_behind}
+use Rattle.sections65.specs.Fed.{names_in}
 use Rattle.symbols65.specs.Views.{table_of, with_definition, with_names, with_scope}
 use Rattle.layout65.specs.Measuring.{cursor_of, AreWithin, IsCounted, IsSoundCursor, AreInside}
 use Rattle.asm65.specs.declared.assembler.Assembler.{Assembler}
 use Rattle.asm65.specs.Inner.Holding.{Holds, AreBefore, Enters, known_where, KeepsTables}
-use Rattle.std.specs.Prelude.{string_bytes, slice_get, Some, Bool, OnOk, Result, Ok, Err, true, false, Option}
+use Rattle.std.specs.Prelude.{slice_get, Some, Bool, OnOk, Result, Ok, Err, true, false, Option}
 use Rattle.std.proofs.lemmas.List.{take_all}
 use Rattle.language65.proofs.Lists.{map_length}
 use Rattle.syntax65.specs.declared.place.Place.{Place}
@@ -57,7 +58,7 @@ holds_grown count t old new y h keeps symbols known more inside unnamed = record
   counted = subst (IsCounted count) (sym keeps.cursor) h.counted;
   inside = inside;
   unnamed = unnamed;
-  fixups = rw (keeps.fixups, keeps.files) (waiting_stays t.symbols y (map string_bytes old.files.keys) (map string_bytes old.files.keys) old.fixups.items t.fixups more (begins_itself (map string_bytes old.files.keys)) h.fixups);
+  fixups = rw (keeps.fixups, keeps.files) (waiting_stays t.symbols y (names_in old.files) (names_in old.files) old.fixups.items t.fixups more (begins_itself (names_in old.files)) h.fixups);
   sections = λ ws are. rw keeps.sections (h.sections ws are);
   slots = h.slots;
   out = ap (λ x. x.out) keeps.texts ∙ h.out;

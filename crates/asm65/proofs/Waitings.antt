@@ -1,28 +1,25 @@
 -- What waits, with one more behind it, and behind statements that follow; and what an assembler holds
 -- when one more piece waits or is put at once.
-use Rattle.std.proofs.Common.{◌≡◌, ◌∙◌, ℕ, zero, suc, ◌+◌, List, [], ◌∷◌, ◌++◌, length, map, position, refl, sym, ap, subst, append-nil, length-append, arith}
-use Rattle.std.specs.Prelude.{string_bytes, false, slice_get, Some}
+use Rattle.std.proofs.Common.{◌≡◌, ◌∙◌, ℕ, zero, suc, ◌+◌, List, [], ◌∷◌, ◌++◌, length, map, refl, sym, ap, subst, append-nil, length-append, arith}
+use Rattle.std.specs.Prelude.{false, slice_get, Some}
 use Rattle.std.specs.List.{AllByRecursion}
-use Rattle.std.specs.Str.{bytes_eq}
 use Rattle.syntax65.specs.Trees.{Tree}
 use Rattle.language65.specs.Contents.{Content}
 use Rattle.language65.specs.Norms.{Extends}
 use Rattle.syntax65.specs.declared.place.Place.{Place}
 use Rattle.language65.specs.declared.laid.Context.{Context}
 use Rattle.language65.specs.Symbols.{Symbols}
-use Rattle.language65.proofs.Lists.{same_bytes}
 use Rattle.module65.specs.Machine as machine
 use Rattle.module65.specs.Machine.{State, awaited, awaited_in, awaiting, entered, filled, holds, later}
 use Rattle.module65.specs.Module as piece
 use Rattle.module65.proofs.Resolving.{extends_same, awaited_append, filled_later}
 use Rattle.module65.proofs.Entries.{filled_append}
 use Rattle.sections65.specs.declared.sections.Sections.{Sections}
-use Rattle.sections65.specs.Fed.{Awaits, Feeds, Stands}
+use Rattle.sections65.specs.Fed.{Awaits, Feeds, Stands, names_in}
 use Rattle.symbols65.specs.declared.resolving.cache.NormCache.{NormCache}
 use Rattle.symbols65.specs.Resolving.{IsTable}
 use Rattle.symbols65.specs.Tables.{Begins}
 use Rattle.symbols65.specs.Views.{table_of}
-use Rattle.symbols65.proofs.Words.{first_passes}
 use Rattle.asm65.specs.declared.assembler.Assembler.{Assembler}
 use Rattle.layout65.specs.declared.cursor.Cursor.{Cursor}
 use Rattle.asm65.specs.declared.assembler.Piece.{Piece}
@@ -77,10 +74,6 @@ waiting_stays y z files more [] vs symbols names h = h
 waiting_stays y z files more (w ∷ ws) [] symbols names h = h
 waiting_stays y z files more (w ∷ ws) (v ∷ vs) symbols names h = (waits_still y z files more w v symbols names h.0, waiting_stays y z files more ws vs symbols names h.1)
 
--- a name is where it is found
-pub named_there : (names : List (List ℕ)) (n : List ℕ) (i : ℕ) → position (bytes_eq n) names ≡ Some i → slice_get names i ≡ Some n
-named_there names n i e = let (x, at, same) = first_passes (bytes_eq n) names i e in at ∙ ap Some (sym (same_bytes n x same))
-
 -- ---- Contents for what waits.
 
 last_of : (cs : List Content) (n : ℕ) → length cs ≡ n + 1 → (front : List Content) × (c : Content) × (cs ≡ front ++ c ∷ [])
@@ -127,7 +120,7 @@ all_entered t cs = record t { slots = t.slots ++ map holds cs }
 
 module _ (count : ℕ) (t : State) (old new : Assembler) (h : Holds count t old) (keeps : KeepsTables old new) where
   -- one more piece waits
-  pub holds_awaiting : (v : machine.Fixup) → Awaits old.sections new.sections → AreFixups t.symbols (map string_bytes new.files.keys) new.fixups.items (t.fixups ++ v ∷ []) → Holds count (awaiting t v) new
+  pub holds_awaiting : (v : machine.Fixup) → Awaits old.sections new.sections → AreFixups t.symbols (names_in new.files) new.fixups.items (t.fixups ++ v ∷ []) → Holds count (awaiting t v) new
   holds_awaiting v awaits fixups = record {
     symbols = ap table_of keeps.symbols ∙ h.symbols;
     known = subst (λ (k : NormCache). IsTable t.symbols k.states.items) (sym keeps.known) h.known;
@@ -175,11 +168,11 @@ module _ (count : ℕ) (t : State) (old new : Assembler) (h : Holds count t old)
   holds_entered c feeds = holds_all (c ∷ []) feeds
 
 -- one more piece waits behind those before it
-pub waits_behind : (old new : Assembler) (place : Place) (s : Context) (w : Fixup) → KeepsTables old new → Awaits old.sections new.sections → Begins (map string_bytes old.files.keys) (map string_bytes new.files.keys) → new.fixups.items ≡ old.fixups.items ++ w ∷ [] → slice_get (map string_bytes new.files.keys) w.file ≡ Some place.file → place.line ≡ w.line → s ≡ w.context → Waits place s w.piece old new
+pub waits_behind : (old new : Assembler) (place : Place) (s : Context) (w : Fixup) → KeepsTables old new → Awaits old.sections new.sections → Begins (names_in old.files) (names_in new.files) → new.fixups.items ≡ old.fixups.items ++ w ∷ [] → slice_get (names_in new.files) w.file ≡ Some place.file → place.line ≡ w.line → s ≡ w.context → Waits place s w.piece old new
 waits_behind old new place s w keeps awaits names fixups file line context count t v h is =
     let now : machine.Fixup = record { place = place; context = s; piece = v } in
-    let files = map string_bytes new.files.keys in
-    let before : AreFixups t.symbols files old.fixups.items t.fixups = waiting_stays t.symbols t.symbols (map string_bytes old.files.keys) files old.fixups.items t.fixups (extends_same t.symbols) names h.fixups in
+    let files = names_in new.files in
+    let before : AreFixups t.symbols files old.fixups.items t.fixups = waiting_stays t.symbols t.symbols (names_in old.files) files old.fixups.items t.fixups (extends_same t.symbols) names h.fixups in
     let one : IsFixup t.symbols files w now = record {
       file = file;
       line = line;

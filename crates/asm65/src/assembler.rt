@@ -8,11 +8,10 @@ ghost use Rattle.module65.specs.Machine.{begun};
 use crate::texts::Texts;
 use base65::{Seed, Sequence};
 use expand65::Knows;
-use indexmap::IndexSet;
 use language65::Context;
 use layout65::Cursor;
 use object65::{Action, Width};
-use sections65::Sections;
+use sections65::{Files, Sections};
 use std::alloc::{AllocError, Global};
 use symbols65::knowing::constant_now;
 use symbols65::{NormCache, Symbols, definition_of};
@@ -90,7 +89,7 @@ pub struct Assembler {
     /// What waits, in the order of the source.
     pub fixups: Vec<Fixup>,
     /// The files in which something waits.
-    pub files: IndexSet<String, Seed>,
+    pub files: Files,
     pub texts: Texts,
 }
 
@@ -103,9 +102,9 @@ impl Assembler {
             symbols: Symbols::new(alloc, seed),
             known: NormCache::new(alloc),
             cursor: Cursor::start(alloc)?,
-            sections: Sections::new(alloc),
+            sections: Sections::new(alloc, seed),
             fixups: Vec::new(alloc),
-            files: IndexSet::with_hasher(alloc, seed),
+            files: Files::new(alloc, seed),
             texts: Texts::new(alloc),
         })
     }

@@ -180,18 +180,6 @@ fn refused_behind(
     refused(alloc, assembler, At { file, line }, fault)
 }
 
-/// A copy of the folders of a job.
-fn folders_of(alloc: Global, job: &AsmJob<'_>) -> Result<Options, ExpandFault>
-    ensures folders { IfOk result (λ options. options.include ≡ job.now.include.now) }
-    ensures inside { IfErr result (λ e. e ≡ ExpandFault.OutOfMemory) }
-{
-    let mut include = Sequence::new(alloc);
-    for folder in job.include {
-        include.push(Text::copy_of(alloc, folder.as_str())?)?;
-    }
-    Ok(Options { include })
-}
-
 /// Opens the source of a job.
 fn opened<S: Store>(alloc: Global, store: &mut S, job: &AsmJob<'_>) -> Result<Expander, ExpandFault>
     ensures opened { IfSome (S.files store.old) (λ m.
@@ -203,8 +191,11 @@ fn opened<S: Store>(alloc: Global, store: &mut S, job: &AsmJob<'_>) -> Result<Ex
         IsBlamed (S.blamed store.new) (job_of job.now).source }
     ensures asked { Asks is_expand_outside (S.failures store.old) result }
 {
-    let options = folders_of(alloc, job)?;
-    Expander::open(alloc, store, job.source, &options)
+    let mut include = Sequence::new(alloc);
+    for folder in job.include {
+        include.push(Text::copy_of(alloc, folder.as_str())?)?;
+    }
+    Expander::open(alloc, store, job.source, &Options { include })
 }
 
 /// What the statements of an opened source come to.

@@ -58,27 +58,6 @@ fn file_at(files: &[String], place: usize) -> &str
     }
 }
 
-/// The first that waited, in a statement that stands here, has its content.
-fn fill(sections: &mut Sections, at: At<'_>, filling: Filling) -> Result<(), AllocError>
-    ensures { OnOk result (Receives sections.old sections.new
-        (content_of (place_at at.entry) filling)) }
-{
-    match filling {
-        Filling::Part { segment, part } => sections.settle(segment, at, part),
-        Filling::Told(said) => sections.settle_said(at, said),
-    }
-}
-
-/// Warns of an assertion with this text, where one failed.
-fn warn_of(err: &mut Sequence<u8>, at: At<'_>, text: Option<Sequence<u8>>) -> Result<(), AllocError>
-    ensures { OnOk result (err.new ≡ err.old ++ warning_in (place_at at.entry) text) }
-{
-    match text {
-        Some(text) => warn(err, at.file, at.line, text.as_slice()),
-        None => Ok(()),
-    }
-}
-
 /// The first that waited, in a statement that stands here, has what it came to.
 fn take_made(ending: &mut Ending, at: At<'_>, made: Made) -> Result<(), AllocError>
     ensures sections { OnOk result (Receives ending.old.sections ending.new.sections
@@ -88,8 +67,14 @@ fn take_made(ending: &mut Ending, at: At<'_>, made: Made) -> Result<(), AllocErr
     ensures known { ending.new.known ≡ ending.old.known }
 {
     let Made { filling, warning } = made;
-    fill(&mut ending.sections, at, filling)?;
-    warn_of(&mut ending.err, at, warning)
+    match filling {
+        Filling::Part { segment, part } => ending.sections.settle(segment, at, part)?,
+        Filling::Told(said) => ending.sections.settle_said(at, said)?,
+    }
+    match warning {
+        Some(text) => warn(&mut ending.err, at.file, at.line, text.as_slice()),
+        None => Ok(()),
+    }
 }
 
 /// The first that waits comes to its content, or to its fault.
@@ -137,27 +122,6 @@ fn settle_all(
         settle(alloc, whole, ending, one)?;
     }
     Ok(())
-}
-
-/// The object of sections in which nothing waits.
-fn object_of(
-    alloc: Global,
-    segments: &[Segment],
-    imports: &Imports,
-    sections: Sections,
-) -> Result<Object, AsmRefusal>
-    ensures object { IfOk result (λ o. (cs : List Content) → Stands cs [] sections →
-        o ≡ object_with segments.now (map (λ k. k.items) imports.now.keys) cs) }
-    ensures numbers { IfOk result ObjectFits }
-    ensures good { IfOk result (λ o. (cs : List Content) → Stands cs [] sections →
-        AreSound segments.now (map (λ k. k.items) imports.now.keys) cs → is_good_object o ≡ true) }
-    ensures inside { IfErr result (λ e. is_outside_refusal e ≡ true) }
-    ensures failed { IfErr result (λ e. has_failed e ≡ false) }
-{
-    match sections.finish(alloc, segments, imports) {
-        Ok(object) => Ok(object),
-        Err(_) => Err(AsmRefusal::without_memory()),
-    }
 }
 
 /// Whether memory ran out, or the store failed.
@@ -223,7 +187,7 @@ impl Assembler {
         };
         let whole = Whole {
             symbols: &symbols,
-            files: files.as_slice(),
+            files: files.table.as_slice(),
         };
         let settled = settle_all(alloc, whole, &mut ending, fixups);
         let Ending { sections, err, .. } = ending;
@@ -231,8 +195,10 @@ impl Assembler {
         match settled {
             Ok(()) => {
                 let segments = cursor.segments.as_slice();
-                let object = object_of(alloc, segments, &symbols.imports, sections);
-                answered(alloc, object, texts)
+                match sections.finish(alloc, segments, &symbols.imports) {
+                    Ok(object) => answered(alloc, Ok(object), texts),
+                    Err(_) => answered(alloc, Err(AsmRefusal::without_memory()), texts),
+                }
             }
             Err(refusal) => answered(alloc, Err(refusal), texts),
         }

@@ -2,14 +2,13 @@
 
 ghost use Rattle.std.specs.Prelude.{◌≡◌, ℕ, IfErr, IfOk, IfSome, OnOk, false, take, true};
 ghost use Rattle.std.specs.Option.{option_map};
-ghost use Rattle.base65.specs.Store.{Files, IsBlamed, PassesBy};
+ghost use Rattle.base65.specs.Store.{IsBlamed};
 ghost use Rattle.expand65.specs.Expansion.{beside, file_named};
-ghost use Rattle.syntax65.specs.declared.place.Place.{Place};
 ghost use Rattle.language65.specs.declared.fault.AsmFault.TheVariants.{FileError};
 ghost use Rattle.language65.specs.Faults.{is_failure, is_outside, is_memory};
 ghost use Rattle.language65.specs.Views.{place_at};
 ghost use Rattle.module65.specs.Machine.{State};
-ghost use Rattle.asm65.specs.Inner.Running.{IsRefusedUnread, read_bytes};
+ghost use Rattle.asm65.specs.Inner.Running.{IsRefusedUnread, KeepsStore, read_bytes};
 ghost use Rattle.asm65.specs.Inner.Holding.{Holds};
 ghost use Rattle.asm65.specs.Inner.Taking.{IsHeld};
 ghost use Rattle.base65.specs.Outcome.{Gives};
@@ -40,8 +39,7 @@ fn bytes_beside<S: Store>(
     ensures failed { IfErr result (λ e. is_failure e ≡ true → e ≡ FileError) }
     ensures blamed { IfErr result (λ e. is_failure e ≡ true →
         IsBlamed (S.blamed store.new) (beside file.now name.now)) }
-    ensures files { S.files store.new ≡ S.files store.old }
-    ensures count { PassesBy is_failure (S.failures store.old) (S.failures store.new) result }
+    ensures kept { KeepsStore S.files S.failures store.old store.new result }
 {
     let Some(name) = name_beside(alloc, file, name)? else {
         return Ok(None);
@@ -94,8 +92,7 @@ fn with_bytes<S: Store>(
         statement) }
     ensures texts { assembler.new.texts ≡ assembler.old.texts }
     ensures failed { IfErr result (λ e. is_failure e ≡ true → e ≡ FileError) }
-    ensures files { S.files store.new ≡ S.files store.old }
-    ensures count { PassesBy is_failure (S.failures store.old) (S.failures store.new) result }
+    ensures kept { KeepsStore S.files S.failures store.old store.new result }
 {
     match statement {
         Statement::NamedPart { name, start, len } => {
@@ -109,22 +106,6 @@ fn with_bytes<S: Store>(
         }
         other => Ok(other),
     }
-}
-
-/// Whether a statement takes bytes from a file that it names.
-#[inline(always)]
-fn names_file(statement: &Statement) -> bool
-    ensures { result ≡ false → (m : Files) (place : Place) →
-        statement.now ≡ read_bytes m place statement.now }
-{
-    matches!(
-        statement,
-        Statement::NamedPart {
-            name: _,
-            start: _,
-            len: _,
-        }
-    )
 }
 
 /// Reads the bytes that a statement takes from a file into it. Most take none, and stay where they are.
@@ -146,12 +127,11 @@ pub fn read_part<S: Store>(
         statement.old) }
     ensures texts { assembler.new.texts ≡ assembler.old.texts }
     ensures failed { IfErr result (λ e. is_failure e ≡ true → e ≡ FileError) }
-    ensures files { S.files store.new ≡ S.files store.old }
-    ensures count { PassesBy is_failure (S.failures store.old) (S.failures store.new) result }
+    ensures kept { KeepsStore S.files S.failures store.old store.new result }
 {
-    if !names_file(statement) {
+    let Statement::NamedPart { .. } = statement else {
         return Ok(());
-    }
+    };
     let named = replace(statement, Statement::Nothing);
     match with_bytes(alloc, store, assembler, at, named) {
         Ok(whole) => {

@@ -93,21 +93,6 @@ fn use_datum(
     })
 }
 
-/// What an instruction's operand comes to.
-fn use_operand(
-    alloc: Global,
-    width: Width,
-    at: At<'_>,
-    context: Context,
-    form: Norm,
-) -> Result<Made, AsmFault>
-    ensures { Gives is_memory (made_in (place_at at.entry)) result
-        (used (place_at at.entry) context (operand width) form) }
-{
-    let form = operand_form(alloc, width, context, form)?;
-    use_datum(alloc, width, at, context, form)
-}
-
 /// What an assertion comes to.
 fn use_assertion(
     alloc: Global,
@@ -143,27 +128,6 @@ fn defined(symbols: &Symbols, name: &[u8]) -> Option<usize>
     })
 }
 
-/// What an import comes to. The module may not define it.
-fn resolve_import(alloc: Global, symbols: &Symbols, name: Sequence<u8>) -> Result<Made, AsmFault>
-    ensures { (place : Place) (s : Site) → Gives is_memory (made_in place) result
-        (made_of (table_of symbols.now) place s (imported name)) }
-{
-    if defined(symbols, name.as_slice()).is_some() {
-        return Err(AsmFault::ImportedAndDefined(name));
-    }
-    Ok(nothing(alloc))
-}
-
-/// What an export comes to that isn't defined.
-fn absent(alloc: Global, must: bool, name: Sequence<u8>) -> Result<Made, AsmFault>
-    ensures { (place : Place) → Gives is_memory (made_in place) result (lost must name) }
-{
-    if must {
-        return Err(AsmFault::NotDefined(name));
-    }
-    Ok(nothing(alloc))
-}
-
 /// What a piece that waits in a statement that stands here comes to, or its fault.
 pub fn resolve(
     alloc: Global,
@@ -186,7 +150,8 @@ pub fn resolve(
         }
         Piece::Operand { width, value } => {
             let form = norm(alloc, symbols, known, context, &value)?;
-            use_operand(alloc, width, at, context, form)
+            let form = operand_form(alloc, width, context, form)?;
+            use_datum(alloc, width, at, context, form)
         }
         Piece::Constant(place) => {
             defined_norm(alloc, symbols, known, place)?;
@@ -200,14 +165,19 @@ pub fn resolve(
             let form = norm(alloc, symbols, known, context, &value)?;
             use_assertion(alloc, action, at, text, form)
         }
-        Piece::Import(name) => resolve_import(alloc, symbols, name),
+        // The module may not define what it imports.
+        Piece::Import(name) => match defined(symbols, name.as_slice()) {
+            Some(_) => Err(AsmFault::ImportedAndDefined(name)),
+            None => Ok(nothing(alloc)),
+        },
         Piece::Demand(name) => Ok(told(alloc, Declaration::ForcedImport(name))?),
         Piece::Export { must, name } => match defined(symbols, name.as_slice()) {
             Some(place) => {
                 let form = defined_norm(alloc, symbols, known, place)?;
                 written(alloc, at, Declaration::Exported { name, form })
             }
-            None => absent(alloc, must, name),
+            None if must => Err(AsmFault::NotDefined(name)),
+            None => Ok(nothing(alloc)),
         },
     }
 }

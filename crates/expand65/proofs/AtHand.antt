@@ -1,6 +1,6 @@
 -- Lines of files that are given as they stand.
 use Rattle.std.proofs.lemmas.Grind.{common_steps}
-use Rattle.std.proofs.Common.{◌≡◌, ◌+◌, ◌-◌, ◌≤◌, ◌<◌, ◌++◌, arith, ℕ, zero, suc, length, take, drop, ap, List, [], ◌∷◌, Option, Some, None, Ok, Bool, true, false, IfSome, refl, sym, subst}
+use Rattle.std.proofs.Common.{◌≡◌, ◌-◌, ◌<◌, ◌++◌, arith, ℕ, zero, suc, length, take, drop, ap, List, [], ◌∷◌, Option, Some, None, Ok, Bool, true, false, refl, sym, subst}
 use Rattle.std.specs.Prelude.{◌&&◌, nat_lt}
 use Rattle.std.proofs.Math.Seq.{drop-append_seam, take-append_seam}
 use Rattle.base65.specs.Store.{Files}
@@ -14,16 +14,15 @@ use Rattle.expand65.specs.declared.fronts.Directive.{Directive}
 use Rattle.expand65.specs.declared.line.Line.{Line}
 use Rattle.expand65.specs.declared.line.Word.{Word}
 use Rattle.expand65.specs.declared.reader.Reader.{Reader}
-use Rattle.expand65.specs.Failing.{CallsNone, Follows, Gives, IsGivenAs, Passes, given_behind, given_parts, none, one_more, Goes, no_step, one_more as goes_once}
+use Rattle.expand65.specs.Failing.{CallsNone, Gives, IsGivenAs, given_behind, given_parts, none, one_more, Goes, no_step, one_more as goes_once}
 use Rattle.expand65.specs.Expansion.{Next, Reaches, further, given, statement, IsActed, IsLabelled, IsSplit, IsStep}
 use Rattle.expand65.specs.State.{Meaning, State, Stated, Stepped, label, plain, goes, gives, with_items}
-use Rattle.expand65.specs.Standing.{IsOpening, state_of, FollowsFrom, fronted, measure_of, place_of, state_in, stated}
+use Rattle.expand65.specs.Standing.{state_of, FollowsFrom, fronted, measure_of, place_of, state_in, stated}
 use Rattle.expand65.specs.declared.expander.Expander.{Expander}
 use Rattle.expand65.specs.declared.expander.Front.{Front}
 use Rattle.expand65.specs.declared.expander.Front.TheVariants.{Nothing, Rest}
 use Rattle.expand65.specs.declared.expander.Statement.{Statement}
 use Rattle.expand65.specs.declared.expander.Statement.TheVariants.{Label, Plain}
-use Rattle.expand65.specs.declared.macros.Opening.TheVariants as opening
 use Rattle.expand65.specs.declared.rewriter.Rewriter.{Rewriter}
 use Rattle.expand65.proofs.Going.{no_call, step_rest, step_taken, unlabelled}
 
@@ -113,7 +112,7 @@ rest_given old reader (t ∷ ts) right d calls =
     let s = state_of m new.rewriter in
     let P : Option Directive → Type 0 = λ o. IsActed m k s (t ∷ ts) o (gives (plain (t ∷ ts)) s) in
     let Q : List Lexeme → Type 0 = λ l. IsActed m k s l (front_directive l) (gives (plain (t ∷ ts)) s) in
-    given (state_in m mid) s (plain (t ∷ ts)) (step_rest m k mid (line_of (t ∷ ts)) (gives (plain (t ∷ ts)) s) refl (subst Q (sym kept) (subst P (sym d) (no_call m new.rewriter (t ∷ ts) calls))))) (omega arith) refl (none_more new)
+    given (state_in m mid) s (plain (t ∷ ts)) (step_rest m k mid (line_of (t ∷ ts)) (gives (plain (t ∷ ts)) s) refl (subst Q (sym kept) (subst P (sym d) (no_call m new.rewriter t ts calls))))) (omega arith) refl (none_more new)
 
 module _ (old : Expander) (reader : Reader) (right : old.failed ≡ false) (bare : old.front ≡ Nothing) (named : NamesFiles old.rewriter.reader → NamesFiles reader) (some : 0 < old.rewriter.reader.room) (fewer : reader.room ≡ old.rewriter.reader.room - 1) (outer : reader.outer ≡ old.rewriter.reader.outer) where
   as_many : length reader.outer.items ≡ length old.rewriter.reader.outer.items
@@ -136,7 +135,7 @@ module _ (old : Expander) (reader : Reader) (right : old.failed ≡ false) (bare
       let new = behind old reader Nothing in
       more old new new (Plain (line_of (t ∷ ts))) (plain (t ∷ ts)) [] (ap plain (line_kept (t ∷ ts))) right refl named (λ m k.
       let s = state_in m new in
-      given (state_in m old) s (plain (t ∷ ts)) (from m (λ z. IsStep m k z (gives (plain (t ∷ ts)) s)) (step_acted m k old.rewriter reader (t ∷ ts) (taken m) (gives (plain (t ∷ ts)) s) e d (no_call m new.rewriter (t ∷ ts) calls)))) less_behind refl (none_more new)
+      given (state_in m old) s (plain (t ∷ ts)) (from m (λ z. IsStep m k z (gives (plain (t ∷ ts)) s)) (step_acted m k old.rewriter reader (t ∷ ts) (taken m) (gives (plain (t ∷ ts)) s) e d (no_call m new.rewriter t ts calls)))) less_behind refl (none_more new)
   line_given (suc n) [] (e, d, calls) taken = absurd cc
   line_given (suc n) (t ∷ us) (e, d, calls) taken =
       let ts = t ∷ us in

@@ -1,6 +1,6 @@
 -- Blocks line by line, as the code takes them.
 use Rattle.std.proofs.lemmas.Grind.{common_steps}
-use Rattle.std.proofs.Common.{arith, ◌≡◌, ℕ, Bool, true, false, List, refl, ap, subst, Option, Some, None, IfSome, Result, Ok, Err}
+use Rattle.std.proofs.Common.{arith, ◌≡◌, Bool, true, false, List, refl, subst, Option, Some, None, IfSome, Result, Ok, Err}
 use Rattle.base65.specs.Outcome.{Unless}
 use Rattle.base65.specs.Store.{Files}
 use Rattle.syntax65.specs.Tokens.{Lexeme}

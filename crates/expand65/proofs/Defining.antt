@@ -1,7 +1,7 @@
 -- Macros that are defined, and repeats.
 use Rattle.std.proofs.lemmas.Grind.{common_steps}
-use Rattle.std.proofs.Common.{◌≡◌, ◌≢◌, ℕ, Bool, true, false, List, [], ◌∷◌, length, drop, Option, Some, None, Result, Ok, Err, ap, refl, sym, ◌∙◌, arith, ◌-◌, ◌++◌, map, subst, Vec, Global}
-use Rattle.std.proofs.lemmas.List.{drop-map, map-append, drop_all, length-map}
+use Rattle.std.proofs.Common.{◌≡◌, ℕ, Bool, true, false, List, [], ◌∷◌, length, drop, Option, Some, None, Result, Ok, Err, ap, refl, sym, ◌∙◌, arith, ◌++◌, map, subst, Vec, Global}
+use Rattle.std.proofs.lemmas.List.{drop-map, map-append}
 use Rattle.syntax65.specs.Expressions.{IsParsed}
 use Rattle.syntax65.specs.Faults.{is_expr_outside}
 use Rattle.base65.specs.Outcome.{Unless, ◌>>=◌}
@@ -11,25 +11,26 @@ use Rattle.syntax65.specs.declared.expressions.words.ExprFault.{ExprFault}
 use Rattle.syntax65.specs.declared.expressions.words.ExprFault.TheVariants.{OutOfMemory, OperandExpected, ParenthesisExpected, TooDeep}
 use Rattle.syntax65.specs.declared.lexing.tokens.Token.{Token}
 use Rattle.syntax65.specs.ExpandFaults.{fault_of_parsing, is_outside}
-use Rattle.expand65.specs.Fronts.{understood, ◌>=>◌}
-use Rattle.expand65.specs.Macros.{is_comma_at, name_at, repeat_header, variable_of, IsRepeated, repeat_mark, IsKept, entered, kept, macro_of}
+use Rattle.expand65.specs.Fronts.{name_in, understood, ◌>=>◌}
+use Rattle.expand65.specs.Macros.{header_of, params_of, IsDefined, repeat_header, variable_of, IsRepeated, repeat_mark, IsKept, kept, macro_of}
 use Rattle.syntax65.specs.declared.fault.ExpandFault.{ExpandFault}
-use Rattle.syntax65.specs.declared.fault.ExpandFault.TheVariants.{NotUnderstood, MacroTwice, Nested}
+use Rattle.syntax65.specs.declared.fault.ExpandFault.TheVariants.{MacroTwice}
 use Rattle.std.specs.Map.{lookup}
 use Rattle.std.specs.Option.{option_map}
-use Rattle.std.specs.Prelude.{is_some, nat_le, if◌then◌else◌}
+use Rattle.std.specs.Prelude.{is_some}
 use Rattle.std.specs.Str.{bytes_eq}
 use Rattle.std.specs.declared.rc.Rc.{Rc}
 use Rattle.indexmap.specs.IndexMap.{IndexMap, insert_entry}
 use Rattle.indexmap.proofs.CallerLemmas.{insert_entry-new}
 use Rattle.base65.specs.Store.{Files}
 use Rattle.expand65.specs.Blocks.{Block, collects, gathers}
-use Rattle.expand65.specs.Lines.{pushed, nesting_limit}
-use Rattle.expand65.specs.Inside.{left_of, turns_left}
-use Rattle.expand65.specs.Playing.{tokens_in, definition_of, replacing_of}
-use Rattle.expand65.specs.Left.{repeating, Definition, turns, Item, played, Mark, mark, Left, left, Stop, marks}
+use Rattle.expand65.specs.Lines.{pushed}
+use Rattle.expand65.specs.Failing.{FailsDefining, FailsKeeping}
+use Rattle.expand65.specs.Inside.{FailsInBlock, left_of, turns_left}
+use Rattle.expand65.specs.Playing.{tokens_in, definition_of}
+use Rattle.expand65.specs.Left.{repeating, Definition, turns, Left, Stop}
 use Rattle.expand65.specs.Standing.{macros_of, state_of}
-use Rattle.expand65.specs.State.{State, Stepped, goes, stops, with_left}
+use Rattle.expand65.specs.State.{State, Stepped, goes, stops}
 use Rattle.syntax65.specs.declared.place.Place.{Place}
 use Rattle.expand65.specs.declared.playing.Body.{Body}
 use Rattle.expand65.specs.declared.playing.Replay.{Replay}
@@ -68,6 +69,9 @@ a_header ts behind e n v h b r =
 pub refused_on : {A B : Type 0} (o : Option A) (f : A → Option B) (e : ExpandFault) → Unless (is_outside e) (understood o ≡ Err e) → Unless (is_outside e) (understood (o >=> f) ≡ Err e)
 refused_on {A} {B} o f e h = grind (arith, common_steps)
 
+pub header_split : (ts us : List Lexeme) (t : Lexeme) (name : List ℕ) → ts ≡ t ∷ us → name_in t ≡ Some name → header_of ts ≡ (params_of us >=> (λ params. Some (name, params)))
+header_split ts us t name e f = rw (e, f) refl
+
 -- ---- The table of macros.
 
 abbrev pub shared : Rc Body Global → Definition
@@ -100,6 +104,20 @@ once s name params q x h b e = let P : Option Definition → Type 0 = λ o. IsKe
 
 pub once_refused : (s : State) (name : List ℕ) (params : List (List ℕ)) (f : ExpandFault) (p : Place) → macro_of s.macros name ≡ None → Unless (is_outside f) (Block collects [] s.left (Err (f, p))) → Unless (is_outside f) (IsKept s name params (macro_of s.macros name) (stops (f, p)))
 once_refused s name params f p h b = grind (arith, common_steps)
+
+-- what is kept under a header that is understood is defined
+pub defined : (s : State) (o : Option (List ℕ × List (List ℕ))) (name : List ℕ) (params : List (List ℕ)) (r : Stepped) → understood o ≡ Ok (name, params) → IsKept s name params (macro_of s.macros name) r → IsDefined s o r
+defined s None name params r e h = absurd cc
+defined s (Some o) name params r e h =
+    let same : (name, params) ≡ o = cc in
+    subst (λ o. IsDefined s (Some o) r) same h
+
+-- so the store fails in its body's lines
+pub fails_defining : (b : Option (List ℕ)) (s : State) (o : Option (List ℕ × List (List ℕ))) (name : List ℕ) (params : List (List ℕ)) → understood o ≡ Ok (name, params) → macro_of s.macros name ≡ None → (p : Place) → FailsInBlock b collects [] s.left p → FailsDefining b s o p
+fails_defining b s None name params e none p h = absurd cc
+fails_defining b s (Some o) name params e none p h =
+    let same : (name, params) ≡ o = cc in
+    subst (λ o. FailsDefining b s (Some o) p) same (subst (λ k. FailsKeeping b s k p) (sym none) h)
 
 -- ---- An input put in front of the lines.
 

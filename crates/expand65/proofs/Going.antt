@@ -1,33 +1,26 @@
 -- What the first line that is left leads to, and steps one after another.
 use Rattle.std.proofs.lemmas.Grind.{common_steps}
-use Rattle.std.proofs.Common.{arith, ◌≡◌, ℕ, suc, Bool, true, false, List, [], ◌∷◌, ◌++◌, take, drop, Option, Some, None, IfSome, Result, Ok, Err, ap, refl, sym, subst, ◌∙◌, Global}
-use Rattle.std.specs.declared.rc.Rc.{Rc}
+use Rattle.std.proofs.Common.{arith, ◌≡◌, ℕ, Bool, true, false, List, [], ◌∷◌, ◌++◌, drop, Option, Some, None, IfSome, Result, Ok, Err, refl, sym, subst}
 use Rattle.base65.specs.Outcome.{Unless}
 use Rattle.base65.specs.Store.{Files}
 use Rattle.syntax65.specs.Tokens.{Lexeme}
-use Rattle.expand65.specs.Macros.{arguments_of, called, called_or_given, ordinary, file_of}
+use Rattle.expand65.specs.Macros.{macro_at, ordinary, file_of}
 use Rattle.syntax65.specs.ExpandFaults.{is_outside}
-use Rattle.expand65.specs.Fronts.{front_directive, is_mislabelled, label_len, line_directive, string_of}
-use Rattle.expand65.specs.Expansion.{first_file, include_line, included, included_by, tried, IsActed, IsDirected, IsLabelled, IsSplit, IsStep, IsStepBehind, IsStepFrom, Next, statement, nothing, fault, Reaches, further, given, ended, stopped}
-use Rattle.expand65.specs.Inside.{left_in, left_of, mark_of, outside, NamesFiles}
-use Rattle.expand65.specs.Playing.{tokens_in, AreParts, definition_of}
-use Rattle.expand65.specs.State.{Meaning, State, plain, label, Stepped, goes, gives, stops, with_items, ends, IsIf}
-use Rattle.expand65.specs.Standing.{IsOpening, Turns, state_of, turned, Comes, FollowsFrom, fronted, is_end, led, place_of, state_in, stated}
+use Rattle.expand65.specs.Fronts.{front_directive, is_mislabelled, label_len, string_of}
+use Rattle.expand65.specs.Expansion.{first_file, include_line, included, tried, IsActed, IsDirected, IsLabelled, IsStep, IsStepBehind, IsStepFrom, Next, statement, nothing, fault, Reaches, further, given, ended, stopped}
+use Rattle.expand65.specs.Inside.{left_of}
+use Rattle.expand65.specs.Playing.{tokens_in}
+use Rattle.expand65.specs.State.{Meaning, State, plain, Stepped, gives, stops, ends, IsIf}
+use Rattle.expand65.specs.Standing.{Turns, macros_of, state_of, turned, Comes, fronted, is_end, led, place_of, state_in, stated}
 use Rattle.expand65.specs.Left.{Item, written, played, labelled, branch, mark}
 use Rattle.expand65.specs.Lines.{Taken, Takes}
 use Rattle.expand65.specs.declared.fronts.Directive.{Directive}
 use Rattle.syntax65.specs.declared.fault.ExpandFault.{ExpandFault}
-use Rattle.syntax65.specs.declared.fault.ExpandFault.TheVariants.{NotUnderstood}
 use Rattle.expand65.specs.declared.line.Line.{Line}
-use Rattle.expand65.specs.declared.macros.Opening.TheVariants as opening
 use Rattle.syntax65.specs.declared.place.Place.{Place}
-use Rattle.expand65.specs.declared.playing.Body.{Body}
 use Rattle.expand65.specs.declared.rewriter.Rewriter.{Rewriter}
 use Rattle.expand65.specs.declared.rewriter.Turn.{Turn}
-use Rattle.expand65.specs.declared.rewriter.Turn.TheVariants.{Parts}
 use Rattle.expand65.proofs.Inputs.{AreLines, lines_left, own_split}
-use Rattle.std.specs.Prelude.{OnOk}
-use Rattle.std.specs.Result.{is_err}
 use Rattle.expand65.specs.declared.fronts.Test.TheVariants.{True}
 use Rattle.expand65.specs.declared.expander.Expander.{Expander}
 use Rattle.expand65.specs.declared.expander.Front.{Front}
@@ -45,10 +38,14 @@ where_known x y z f h = grind (arith, common_steps)
 pub where_so : (o : Option Files) (Q : Files → Type 0) → ((m : Files) → Q m) → IfSome o Q
 where_so x y f = grind (arith, common_steps)
 
+pub unless_so : (b : Bool) {P Q : Type 0} → (P → Q) → Unless b P → Unless b Q
+unless_so true f h = tt
+unless_so false f h = f h
+
 -- ---- A line without a directive.
 
-pub no_call : (m : Files) (r : Rewriter) (ts : List Lexeme) → IsOpening opening.Other r ts → gives (plain ts) (state_of m r) ≡ ordinary (state_of m r) ts
-no_call m r x h = grind (arith, common_steps)
+pub no_call : (m : Files) (r : Rewriter) (t : Lexeme) (ts : List Lexeme) → macro_at (macros_of r) t ≡ None → gives (plain (t ∷ ts)) (state_of m r) ≡ ordinary (state_of m r) (t ∷ ts)
+no_call m r t ts h = grind (arith, common_steps)
 
 -- ---- A line that may begin with a label.
 

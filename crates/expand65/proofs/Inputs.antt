@@ -1,7 +1,7 @@
 -- Inputs, their end marks, and the next line of the innermost one.
 use Rattle.std.proofs.lemmas.Grind.{common_steps}
 use Rattle.std.proofs.Common.{◌≡◌, ℕ, zero, suc, ◌+◌, ◌-◌, ◌≤◌, ◌<◌, refl, sym, ◌∙◌, ap, arith, List, [], ◌∷◌, ◌++◌, length, map, drop, append_assoc, Some, true, false, Ok, Err, ◌≢◌, Bool, Option, None, subst, IfSome}
-use Rattle.std.specs.Prelude.{nat_le, ◌==◌, if◌then◌else◌}
+use Rattle.std.specs.Prelude.{if◌then◌else◌}
 use Rattle.std.proofs.lemmas.Bool.Decides.{nat_tests}
 use Rattle.std.proofs.lemmas.List.{append-nil}
 use Rattle.base65.specs.Store.{Files}
@@ -10,7 +10,7 @@ use Rattle.expand65.specs.Lines.{pushed, closed, end_of, exit_of, if_more, IsOpe
 use Rattle.expand65.specs.Left.{numbered, turns, Item, written, played, labelled, branch, mark, Mark, left, marks, innermost, outside_macro, come_back, moved, in_turn, Replacing}
 use Rattle.expand65.specs.Inside.{left_in, mark_of, own, outside, left_of, is_call, ComesNext, TakesLine, moved_by}
 use Rattle.expand65.specs.Playing.{tokens_in, left_to_play, replacing_of, TakesWritten}
-use Rattle.syntax65.specs.declared.fault.ExpandFault.TheVariants.{Nested, NotClosed, TooManyLines}
+use Rattle.syntax65.specs.declared.fault.ExpandFault.TheVariants.{Nested, NotClosed}
 use Rattle.expand65.specs.declared.input.Source.{Source}
 use Rattle.expand65.specs.declared.input.Source.TheVariants as source
 use Rattle.expand65.specs.declared.reader.Input.{Input}

@@ -1,8 +1,8 @@
 -- A line with a label.
 use Rattle.std.proofs.lemmas.Grind.{common_steps}
-use Rattle.std.proofs.Common.{arith, ◌≡◌, ◌≢◌, ℕ, zero, suc, false, List, take, drop, ap, refl, sym, ◌∙◌}
+use Rattle.std.proofs.Common.{arith, ◌≡◌, ◌≢◌, ℕ, zero, suc, false, List, take, drop, refl}
 use Rattle.std.proofs.lemmas.List.{take-map, drop-map}
-use Rattle.syntax65.specs.Tokens.{Lexeme, lexeme_of, lexemes}
+use Rattle.syntax65.specs.Tokens.{Lexeme, lexemes}
 use Rattle.syntax65.specs.declared.lexing.tokens.Token.{Token}
 use Rattle.expand65.specs.Fronts.{is_mislabelled, label_len}
 use Rattle.expand65.specs.Playing.{tokens_in, AreParts}

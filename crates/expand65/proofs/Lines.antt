@@ -1,16 +1,15 @@
 -- The first line of what an open file has.
 use Rattle.std.proofs.lemmas.Grind.{common_steps}
-use Rattle.std.proofs.Common.{◌≡◌, ℕ, ◌+◌, ◌-◌, ◌<◌, ◌≤◌, List, [], ◌++◌, length, take, drop, min, refl, sym, ap, ◌∙◌, subst, arith, Option, Some, None, IfSome, Bool, true, false, nat_le, nat_lt, get_or, suc, ◌∷◌, slice_get, length-append, append_assoc, add-one, one-add, length-drop, Ok, Err}
+use Rattle.std.proofs.Common.{◌≡◌, ℕ, ◌+◌, ◌-◌, ◌<◌, ◌≤◌, List, [], ◌++◌, length, take, drop, min, refl, sym, ap, ◌∙◌, subst, arith, Option, Some, None, IfSome, Bool, true, false, nat_le, nat_lt, get_or, suc, ◌∷◌, length-append, append_assoc, add-one, one-add, length-drop, Ok}
 use Rattle.std.proofs.lemmas.Bool.Decides.{nat_tests}
-use Rattle.std.proofs.lemmas.List.{drop_all, drop-drop, drop-take, take-append-drop, length-take, take-take, take_all, take_at, append-nil}
+use Rattle.std.proofs.lemmas.List.{drop_all, drop-drop, drop-take, take-append-drop, length-take, take-take, take_at, append-nil}
 use Rattle.base65.specs.Store.{Files}
-use Rattle.expand65.specs.Lines.{IsPiece, bytes_of, content, is_inside, BeginsLong, ends_in_return, without_return, ReadsLine, TakesPiece, rest_of, is_line_end, is_return, begins_with_end, put_before, lines_of}
-use Rattle.std.specs.Prelude.{unwrap_or, ◌==◌, option_map, if◌then◌else◌}
+use Rattle.expand65.specs.Lines.{IsPiece, bytes_of, content, is_inside, BeginsLong, without_return, TakesPiece, rest_of, is_line_end, is_return, begins_with_end, put_before, lines_of}
+use Rattle.std.specs.Prelude.{unwrap_or}
 use Rattle.std.specs.List.{prefix_len}
 use Rattle.std.proofs.lemmas.List.Sums.{prefix_len_is}
 use Rattle.memchr.specs.Find.{IsFirstByte, is_byte}
 use Rattle.std.proofs.Math.Seq.{drop-append-add}
-use Rattle.syntax65.specs.declared.fault.ExpandFault.{ExpandFault}
 use Rattle.expand65.specs.declared.file.OpenFile.{OpenFile}
 
 -- ---- What an open file has, once more of it is at hand.

@@ -1,13 +1,11 @@
 -- Under which names open files are read.
 use Rattle.std.proofs.lemmas.Grind.{common_steps}
-use Rattle.std.proofs.Common.{arith, ◌≡◌, ◌∙◌, List, [], ◌∷◌, ◌++◌, Option, None, Some, ap, refl, reverse, sym, subst, true}
-use Rattle.std.proofs.lemmas.List.{reverse-append}
+use Rattle.std.proofs.Common.{arith, ◌≡◌, List, [], ◌∷◌, ◌++◌, Option, None, reverse, sym, subst, true}
 use Rattle.syntax65.specs.declared.place.Place.{Place}
 use Rattle.expand65.specs.Inside.{is_call, moved_by, AreNamed, IsNamed, NamesFiles, open_in}
 use Rattle.expand65.specs.Left.{come_back}
 use Rattle.expand65.specs.declared.file.OpenFile.{OpenFile}
 use Rattle.expand65.specs.declared.input.NextLine.{NextLine}
-use Rattle.expand65.specs.declared.input.NextLine.TheVariants.{AtEnd, Numbered, Replayed}
 use Rattle.expand65.specs.declared.input.Source.{Source}
 use Rattle.expand65.specs.declared.input.Source.TheVariants as source
 use Rattle.expand65.specs.declared.reader.Input.{Input}

@@ -1,6 +1,6 @@
 -- Lines that are taken of files and bodies.
 use Rattle.std.proofs.lemmas.Grind.{common_steps}
-use Rattle.std.proofs.Common.{◌≡◌, ℕ, suc, ◌+◌, ◌<◌, ◌≤◌, Bool, true, false, List, [], ◌∷◌, ◌++◌, length, map, take, drop, refl, sym, ap, ◌∙◌, arith, Option, Some, None, IfSome, Result, Ok, Err, get_or, drop-cons, add-one, length-append}
+use Rattle.std.proofs.Common.{◌≡◌, ℕ, ◌+◌, ◌<◌, ◌≤◌, Bool, true, false, List, [], ◌∷◌, ◌++◌, length, map, take, drop, refl, sym, ap, ◌∙◌, arith, Option, Some, None, IfSome, Result, Ok, Err, get_or, length-append}
 use Rattle.std.proofs.lemmas.List.{drop-map, drop-drop, length-drop, take_all}
 use Rattle.std.specs.List.{prefix_len}
 use Rattle.syntax65.specs.Faults.{is_lex_outside}

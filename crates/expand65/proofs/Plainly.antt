@@ -1,7 +1,7 @@
 -- Lines without a label and a directive, and what they do to blocks.
 use Rattle.std.proofs.lemmas.Grind.{common_steps}
-use Rattle.std.proofs.Common.{arith, ◌≡◌, ℕ, zero, suc, Bool, true, false, not, take, drop, List, [], ◌∷◌, ◌++◌, Option, None, Some, refl, subst, sym, ◌∙◌, Result}
-use Rattle.std.specs.Prelude.{if◌then◌else◌, ◌&&◌, nat_lt, slice_get}
+use Rattle.std.proofs.Common.{arith, ◌≡◌, ℕ, zero, suc, Bool, true, false, not, List, [], ◌∷◌, ◌++◌, Option, None, refl, subst, sym, ◌∙◌, Result}
+use Rattle.std.specs.Prelude.{if◌then◌else◌, ◌&&◌}
 use Rattle.syntax65.specs.Tokens.{Lexeme}
 use Rattle.expand65.specs.Blocks.{Verdict, on, collecting, gathering, passing, refused, skipping, mislabelled}
 use Rattle.expand65.specs.Inside.{AnswerOf, Judges, StateOf, is_kept, judge_of, state_of}
@@ -10,8 +10,8 @@ use Rattle.expand65.specs.declared.blocks.BlockKind.TheVariants.{Macro, Repeat, 
 use Rattle.expand65.specs.declared.blocks.BlockStep.{BlockStep}
 use Rattle.syntax65.specs.declared.fault.ExpandFault.{ExpandFault}
 use Rattle.syntax65.specs.declared.fault.ExpandFault.TheVariants.{NotUnderstood}
-use Rattle.expand65.specs.Fronts.{front_directive, is_colon, is_label_name, is_mislabelled, label_len, line_directive, may_follow_label, directive_in}
-use Rattle.expand65.specs.Playing.{behind_word, behind_words, cut, directive_of_first, is_colon_there, IsColonAt, IsPlain}
+use Rattle.expand65.specs.Fronts.{is_mislabelled, label_len, line_directive}
+use Rattle.expand65.specs.Playing.{cut, IsColonAt, IsPlain}
 use Rattle.expand65.specs.declared.fronts.Directive.{Directive}
 use Rattle.expand65.specs.declared.line.Word.{Word}
 

@@ -1,6 +1,6 @@
 -- Where expansion was when the store failed.
 use Rattle.std.proofs.lemmas.Grind.{common_steps}
-use Rattle.std.proofs.Common.{arith, ◌≡◌, ℕ, List, ◌∷◌, ◌++◌, Bool, true, false, Option, Some, None, IfSome, Ok, Err, ap, refl, sym, subst, ◌∙◌, [], drop, inr, Result}
+use Rattle.std.proofs.Common.{arith, ◌≡◌, ℕ, List, ◌∷◌, ◌++◌, Bool, true, false, Option, Some, None, IfSome, Ok, Err, ap, refl, sym, subst, ◌∙◌, drop, Result}
 use Rattle.std.specs.Prelude.{if◌then◌else◌}
 use Rattle.base65.specs.Outcome.{Unless}
 use Rattle.base65.specs.Store.{Files}
@@ -9,10 +9,10 @@ use Rattle.expand65.specs.Blocks.{Block, passes}
 use Rattle.expand65.specs.State.{IsElse, conditions_in, popped, Stepped, goes, stops, with_conditions, with_items, State, with_left, Meaning}
 use Rattle.syntax65.specs.ExpandFaults.{is_outside, is_failure}
 use Rattle.expand65.specs.Fronts.{understood, front_directive}
-use Rattle.expand65.specs.Inside.{is_call, left_in, left_of, mark_of, outside, own, NamesFiles, FailsInBlock, StopsAt, last_read}
-use Rattle.expand65.specs.Left.{localised, Item, Mark, mark, branch, innermost, labelled, mark as end_mark, played, written}
-use Rattle.expand65.specs.Macros.{in_macro, local_line, local_named, new_names}
-use Rattle.expand65.specs.Standing.{state_of, turned, fronted, led, place_of, state_in}
+use Rattle.expand65.specs.Inside.{is_call, left_in, left_of, mark_of, outside, own, FailsInBlock, StopsAt}
+use Rattle.expand65.specs.Left.{localised, Item, Mark, mark, innermost}
+use Rattle.expand65.specs.Macros.{local_line, local_named, new_names}
+use Rattle.expand65.specs.Standing.{state_of, turned, fronted, led, state_in}
 use Rattle.expand65.specs.Expansion.{last_condition, IsStep}
 use Rattle.syntax65.specs.declared.fault.ExpandFault.{ExpandFault}
 use Rattle.syntax65.specs.declared.fault.ExpandFault.TheVariants.{NotOpened, NotUnderstood, FileError}
@@ -27,7 +27,7 @@ use Rattle.expand65.specs.Lines.{Takes}
 use Rattle.expand65.specs.declared.fronts.Directive.{Directive}
 use Rattle.expand65.specs.declared.fronts.Test.TheVariants.{True}
 use Rattle.expand65.specs.declared.line.Line.{Line}
-use Rattle.expand65.specs.Failing.{FailsActing, FailsAt, FailsAtElse, FailsAtIf, FailsBy, FailsFrom, FailsTaking, FailsUnlabelled, Goes, IsOnItsWay, Reading, StopsOnItsWay, StopsReading, back_of, no_step, one_more}
+use Rattle.expand65.specs.Failing.{FailsActing, FailsAt, FailsAtElse, FailsAtIf, FailsBy, FailsFrom, FailsTaking, FailsUnlabelled, Goes, Reading, StopsReading, no_step, one_more}
 use Rattle.expand65.specs.declared.expander.Expander.{Expander}
 use Rattle.expand65.specs.declared.expander.Front.{Front}
 use Rattle.expand65.specs.declared.expander.Front.TheVariants.{Nothing, Rest, Branch}

@@ -1,12 +1,11 @@
 -- Tables of names: those of an expansion, and the macros.
-use Rattle.std.proofs.Common.{◌≡◌, ℕ, zero, suc, ◌+◌, ◌-◌, ◌≤◌, ◌<◌, ◌||◌, Bool, true, false, cond, List, [], ◌∷◌, ◌++◌, length, map, take, drop, get_or, reverse, Some, None, position, refl, sym, ap, ◌∙◌, arith, slice_get, Bor, Vec, Global}
+use Rattle.std.proofs.Common.{◌≡◌, ℕ, ◌+◌, ◌-◌, ◌<◌, ◌||◌, Bool, cond, List, [], ◌∷◌, ◌++◌, length, map, take, drop, get_or, reverse, Some, position, refl, sym, ap, ◌∙◌, arith, Bor, Vec, Global}
 use Rattle.std.specs.List.{list_any, position_from}
 use Rattle.std.specs.Map.{lookup}
 use Rattle.std.specs.Option.{option_map}
 use Rattle.std.proofs.lemmas.Grind.{common_steps}
 use Rattle.std.proofs.lemmas.Iterator.Adapters.{position_from-zero}
 use Rattle.std.proofs.lemmas.List.{drop-map, drop_more, map-append, take-map, take_more, length-drop, length-reverse, reverse-append, take-append-drop, drop_at as std_drop_at}
-use Rattle.std.proofs.lemmas.Option.{gets}
 use Rattle.std.specs.Str.{bytes_eq}
 use Rattle.std.specs.declared.rc.Rc.{Rc}
 use Rattle.indexmap.specs.IndexMap.{insert_entry}

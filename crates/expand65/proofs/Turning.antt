@@ -1,10 +1,7 @@
 -- The turns of a repeat.
 use Rattle.std.proofs.lemmas.Grind.{common_steps}
-use Rattle.std.proofs.Common.{◌≡◌, ℕ, zero, suc, ◌+◌, ◌-◌, ◌<◌, ◌≤◌, List, [], ◌∷◌, ◌++◌, length, map, drop, refl, sym, ap, ◌∙◌, arith, ◌⊎◌, inl, inr, Bool, true, false, Result, Ok, Err}
+use Rattle.std.proofs.Common.{◌≡◌, ℕ, zero, suc, ◌+◌, ◌-◌, ◌<◌, ◌≤◌, List, [], ◌∷◌, ◌++◌, length, map, drop, refl, sym, ap, ◌∙◌, arith, ◌⊎◌, Result}
 use Rattle.std.proofs.lemmas.List.{length-map}
-use Rattle.base65.specs.Outcome.{Unless}
-use Rattle.syntax65.specs.ExpandFaults.{is_outside}
-use Rattle.expand65.specs.Lines.{IsOpened}
 use Rattle.syntax65.specs.declared.fault.ExpandFault.{ExpandFault}
 use Rattle.expand65.specs.declared.input.NextLine.TheVariants.{Replayed}
 use Rattle.syntax65.specs.Tokens.{Lexeme}
@@ -66,3 +63,10 @@ turn_begins r next count h =
 -- a line that is taken before others
 pub takes_before : (before after more rest : List Item) (r : Result Line ExpandFault) → TakesLine before r after → more ≡ rest → TakesLine (before ++ more) r (after ++ rest)
 takes_before before after more rest x y same = grind (arith, common_steps)
+
+-- a line of a turn is taken
+pub takes_in_turn : (old new : Replay) (next count : ℕ) (r : Result Line ExpandFault) → TakesLine (left_to_play old) r (left_to_play new) → new.body ≡ old.body → replacing_of new ≡ replacing_of old → TakesLine (turns_left old next count) r (turns_left new next count)
+takes_in_turn old new next count r h body same =
+    let n = count - next in
+    let rest = ap (λ e. turns e (map tokens_in old.body.value.lines) next n) (sym same) ∙ ap (λ b. turns (replacing_of new) (map tokens_in b.value.lines) next n) (sym body) in
+    takes_before (left_to_play old) (left_to_play new) (turns (replacing_of old) (map tokens_in old.body.value.lines) next n) (turns (replacing_of new) (map tokens_in new.body.value.lines) next n) r h rest

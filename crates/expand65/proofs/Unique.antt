@@ -1,22 +1,19 @@
 -- From a state one thing at most comes next.
 use Rattle.std.proofs.lemmas.Grind.{common_steps}
-use Rattle.std.proofs.Common.{arith, ◌≡◌, ℕ, zero, suc, Bool, true, false, List, [], ◌∷◌, drop, refl, sym, ap, ◌∙◌, subst, Option, Some, None, Result, Ok, Err, length, not}
-use Rattle.base65.specs.Outcome.{◌>>=◌}
+use Rattle.std.proofs.Common.{arith, ◌≡◌, ℕ, zero, suc, Bool, true, false, List, [], ◌∷◌, drop, sym, ap, ◌∙◌, subst, Option, Some, None, Result, Ok, Err}
 use Rattle.base65.specs.Store.{Files}
 use Rattle.syntax65.specs.Tokens.{Lexeme}
-use Rattle.syntax65.specs.Trees.{Tree}
-use Rattle.syntax65.specs.declared.expressions.words.ExprFault.{ExprFault}
-use Rattle.expand65.specs.Blocks.{Verdict, on, closed, refused, Block, a_fault, a_mark, a_refusal, the_last, one_more, collects, gathers, skips, passes}
-use Rattle.expand65.specs.State.{IsCondition, IsDecided, IsIf, IsElse, defined_in, found, passed, truth, whole, Meaning, State, Stepped, goes, gives, ends, stops, with_left, with_items}
+use Rattle.expand65.specs.Blocks.{Verdict, on, closed, refused, Block, a_fault, a_mark, a_refusal, the_last, one_more}
+use Rattle.expand65.specs.State.{IsCondition, IsDecided, IsIf, IsElse, Meaning, State, Stepped, goes, gives, ends, stops, with_left, with_items}
 use Rattle.expand65.specs.Expansion.{Next, statement, nothing, fault, Reaches, further, given, ended, stopped, IsElseLine, IsDirected, IsActed, IsSplit, IsLabelled, IsStepBehind, IsStepFrom, IsStep, last_condition}
 use Rattle.expand65.specs.Fronts.{front_directive, is_mislabelled, label_len, line_directive}
-use Rattle.expand65.specs.Macros.{IsKept, IsDefined, header_of, kept, macro_of, IsRepeat, IsRepeated, repeat_of, repeated}
+use Rattle.expand65.specs.Macros.{IsKept, IsDefined, header_of, IsRepeat, IsRepeated}
 use Rattle.expand65.specs.Left.{Item, written, played, labelled, branch, mark, Left, left, Stop, moved, Definition}
-use Rattle.expand65.specs.Lines.{IsOpened, Taken, Takes, TakesFrom, taken_as, lexed}
+use Rattle.expand65.specs.Lines.{IsOpened, Taken, Takes, TakesFrom, taken_as}
 use Rattle.expand65.specs.declared.fronts.Directive.{Directive}
 use Rattle.expand65.specs.declared.fronts.Directive.TheVariants as directive
 use Rattle.expand65.specs.declared.fronts.Test.{Test}
-use Rattle.expand65.specs.declared.fronts.Test.TheVariants.{True, Defined, NotDefined, Blank, NotBlank}
+use Rattle.expand65.specs.declared.fronts.Test.TheVariants.{True}
 use Rattle.syntax65.specs.declared.fault.ExpandFault.{ExpandFault}
 use Rattle.syntax65.specs.declared.fault.ExpandFault.TheVariants.{NotClosed}
 use Rattle.syntax65.specs.declared.place.Place.{Place}

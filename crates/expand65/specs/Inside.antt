@@ -143,10 +143,10 @@ Judges k body ts (Ok (On d)) v = v ≡ on (state_of k d (body ++ ts ∷ []))
 Judges k body ts (Ok (Closed end)) v = v ≡ closed (answer_of k body end)
 Judges k body ts (Err f) v = Unless (is_outside f) (v ≡ refused f)
 
--- nothing stands behind a directive, or it isn't understood
-abbrev pub alone_or : Bool → Result (Unit {0}) ExpandFault
-alone_or true = Ok tt
-alone_or false = Err NotUnderstood
+-- a block is closed where nothing stands behind the directive, or it isn't understood
+abbrev pub closed_by : BlockEnd → Bool → Result BlockStep ExpandFault
+closed_by end true = Ok (Closed end)
+closed_by end false = Err NotUnderstood
 
 -- one more is open, unless there are too many to be counted
 abbrev pub IsDeeper : ℕ → Result BlockStep ExpandFault → Type 0
@@ -178,6 +178,12 @@ open_in r = r.top ∷ reverse r.outer.items
 
 unfoldable pub NamesFiles : Reader → Type 0
 NamesFiles r = AreNamed (open_in r) r.place
+
+-- what reading on leaves of a reader
+pub record Stays (old new : Reader) : Type 0 where
+  pub mark : mark_of new.top ≡ mark_of old.top
+  pub outer : new.outer ≡ old.outer
+  pub named : NamesFiles old → NamesFiles new
 
 -- ---- Where lines were being read when the store failed.
 

@@ -1,10 +1,13 @@
 -- What names stand for, and what a reader still has to give.
-use Rattle.std.specs.Prelude.{ℕ, Bool, List, [], ◌∷◌, ◌++◌, codes, decimal, position, slice_get, unwrap_or, Option, Some, None, if◌then◌else◌, zero, suc, ◌+◌, map}
+use Rattle.std.specs.Prelude.{ℕ, Bool, List, [], ◌∷◌, ◌++◌, codes, decimal, position, slice_get, unwrap_or, Option, Some, None, Result, IfErr, true, ◌≡◌, if◌then◌else◌, zero, suc, ◌+◌, map}
 use Rattle.std.specs.Map.{lookup}
 use Rattle.std.specs.Str.{bytes_eq, str_eq_ignore_ascii_case}
+use Rattle.base65.specs.Store.{Files, IsBlamed, Passes}
+use Rattle.syntax65.specs.ExpandFaults.{is_failure}
 use Rattle.syntax65.specs.Tokens.{Lexeme}
 use Rattle.syntax65.specs.declared.lexing.tokens.TokenKind.TheVariants as token
 use Rattle.syntax65.specs.declared.fault.ExpandFault.{ExpandFault}
+use Rattle.syntax65.specs.declared.fault.ExpandFault.TheVariants.{FileError}
 use Rattle.syntax65.specs.declared.place.Place.{Place}
 
 -- ---- What stands in place of names in the lines of a body.
@@ -176,3 +179,16 @@ localised names [] = []
 localised names (played r ts ∷ is) = played (with_locals names r) ts ∷ localised names is
 localised names (mark k ∷ is) = mark k ∷ is
 localised names (i ∷ is) = i ∷ localised names is
+
+-- ---- What a call that may ask a store leaves of it.
+
+-- its files as before, and its count of failures, a failure passed on as a file error
+pub record Leaves {X T : Type 0} (files_of : X → Option Files) (failures_of : X → ℕ) (old new : X) (result : Result T ExpandFault) : Type 0 where
+  pub files : files_of new ≡ files_of old
+  pub count : Passes FileError (failures_of old) (failures_of new) result
+
+-- the same of a call that asks for the file of one name
+pub record LeavesOf {X T : Type 0} (files_of : X → Option Files) (failures_of : X → ℕ) (blamed_of : X → Option (List ℕ)) (name : List ℕ) (old new : X) (result : Result T ExpandFault) : Type 0 where
+  pub blamed : IfErr result (λ e. is_failure e ≡ true → IsBlamed (blamed_of new) name)
+  pub files : files_of new ≡ files_of old
+  pub count : Passes FileError (failures_of old) (failures_of new) result

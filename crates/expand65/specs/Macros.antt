@@ -85,14 +85,10 @@ abbrev pub params_of : List Lexeme → Option (List (List ℕ))
 params_of [] = Some []
 params_of ts = names_of ts >=> distinct_of
 
--- a name with the parameters that stand behind it
-abbrev pub header_with : List ℕ → List Lexeme → Option (List ℕ × List (List ℕ))
-header_with name ts = params_of ts >=> (λ params. Some (name, params))
-
 -- a macro's name and its parameters
 abbrev pub header_of : List Lexeme → Option (List ℕ × List (List ℕ))
 header_of [] = None
-header_of (t ∷ ts) = name_in t >=> (λ name. header_with name ts)
+header_of (t ∷ ts) = name_in t >=> (λ name. params_of ts >=> (λ params. Some (name, params)))
 
 -- the macro of a name
 abbrev pub macro_of : List (List ℕ × Definition) → List ℕ → Option Definition

@@ -5,7 +5,7 @@ use Rattle.expand65.specs.declared.line.Word.{Word}
 use Rattle.expand65.specs.declared.line.Line.{Line}
 use Rattle.base65.specs.Outcome.{Unless}
 use Rattle.syntax65.specs.ExpandFaults.{is_outside}
-use Rattle.expand65.specs.Fronts.{is_mislabelled, label_len, directive_in, front_directive, is_colon}
+use Rattle.expand65.specs.Fronts.{is_mislabelled, label_len, front_directive, is_colon}
 use Rattle.syntax65.specs.declared.fault.ExpandFault.{ExpandFault}
 use Rattle.syntax65.specs.declared.fault.ExpandFault.TheVariants.{NotUnderstood}
 use Rattle.std.specs.Option.{option_map}
@@ -16,7 +16,6 @@ use Rattle.expand65.specs.declared.playing.StandIn.{StandIn}
 use Rattle.expand65.specs.declared.playing.StandIn.TheVariants.{Itself, Nothing, Tokens}
 use Rattle.std.specs.List.{prefix_len}
 use Rattle.expand65.specs.Lines.{is_inside, without_return, Takes}
-use Rattle.expand65.specs.declared.fronts.Directive.{Directive}
 use Rattle.expand65.specs.declared.file.OpenFile.{OpenFile}
 use Rattle.expand65.specs.declared.input.Source.{Source}
 use Rattle.expand65.specs.declared.input.Source.TheVariants as source
@@ -91,13 +90,10 @@ tokens_for (Tokens line) = Some (tokens_in line.now)
 
 -- ---- Lines that have no label and no directive of expansion.
 
--- whether a word is a colon, whatever its text
-abbrev pub IsColon : Word → Bool → Type 0
-IsColon w b = (text : List ℕ) → b ≡ is_colon (w.kind, text)
-
+-- whether a word is there that is a colon, whatever its text
 abbrev pub IsColonIn : Option Word → Bool → Type 0
 IsColonIn None b = b ≡ false
-IsColonIn (Some w) b = IsColon w b
+IsColonIn (Some w) b = (text : List ℕ) → b ≡ is_colon (w.kind, text)
 
 -- whether a word is there at a place, and is a colon
 abbrev pub IsColonAt : List Word → ℕ → Bool → Type 0
@@ -106,21 +102,12 @@ IsColonAt ws i b = IsColonIn (slice_get ws i) b
 abbrev pub IsPlain : List Lexeme → Type 0
 IsPlain ts = (label_len ts ≡ 0) × (front_directive ts ≡ None)
 
--- a word of which it is known that it is no directive, whatever its text; or nothing is known
-abbrev pub IsOrNone : Word → Bool → Type 0
-IsOrNone w b = b ≡ false → (text : List ℕ) → directive_in (w.kind, text) ≡ None
-
 -- ---- Lines without a label and a directive of expansion, passed over one after another.
 
 -- whether a token is there that is a colon
 abbrev pub is_colon_there : Option Lexeme → Bool
 is_colon_there None = false
 is_colon_there (Some t) = is_colon t
-
--- the directive of expansion that a line's first token is
-abbrev pub directive_of_first : Option Lexeme → Option Directive
-directive_of_first None = None
-directive_of_first (Some t) = directive_in t
 
 -- the bytes of a line that is read as tokens, without a label and a directive of expansion
 abbrev pub IsPlainLine : List ℕ → Type 0

@@ -1,12 +1,12 @@
 -- What an expander stands for.
-use Rattle.std.specs.Prelude.{◌≡◌, ℕ, ◌+◌, ◌*◌, Bool, true, false, List, [], ◌∷◌, length, map, Option, Some, None, Result, Ok, Err}
+use Rattle.std.specs.Prelude.{◌≡◌, ℕ, ◌+◌, ◌*◌, Bool, true, false, List, [], ◌∷◌, length, map, Option, Some, None, Result, Ok, Err, IfOk, IfSome, OnOk, ◌≤◌}
 use Rattle.std.specs.declared.rc.Rc.{Rc}
 use Rattle.std.specs.Global.{Global}
 use Rattle.base65.specs.Outcome.{Unless}
 use Rattle.base65.specs.Store.{Files}
 use Rattle.syntax65.specs.Tokens.{Lexeme}
 use Rattle.syntax65.specs.ExpandFaults.{is_outside}
-use Rattle.expand65.specs.Inside.{left_of, NamesFiles}
+use Rattle.expand65.specs.Inside.{left_of, NamesFiles, StopsAt}
 use Rattle.expand65.specs.Playing.{tokens_in, definition_of}
 use Rattle.expand65.specs.Macros.{macro_at}
 use Rattle.expand65.specs.Left.{labelled, branch, Definition, Item}
@@ -14,8 +14,6 @@ use Rattle.expand65.specs.State.{State, with_items, label, plain, Stepped, goes,
 use Rattle.expand65.specs.declared.fronts.Directive.{Directive}
 use Rattle.expand65.specs.declared.fronts.Directive.TheVariants as directive
 use Rattle.syntax65.specs.declared.fault.ExpandFault.{ExpandFault}
-use Rattle.expand65.specs.declared.macros.Opening.{Opening}
-use Rattle.expand65.specs.declared.macros.Opening.TheVariants as opening
 use Rattle.expand65.specs.declared.playing.Body.{Body}
 use Rattle.expand65.specs.declared.rewriter.Rewriter.{Rewriter}
 use Rattle.expand65.specs.declared.rewriter.Turn.{Turn}
@@ -48,15 +46,6 @@ abbrev pub MacroFound : Option (Rc Body Global) → Rewriter → Lexeme → Type
 MacroFound None r t = macro_at (macros_of r) t ≡ None
 MacroFound (Some body) r t = macro_at (macros_of r) t ≡ Some (definition_of body.value)
 
--- how a line without a directive of expansion begins
-abbrev pub IsOpening : Opening → Rewriter → List Lexeme → Type 0
-IsOpening opening.Nothing r [] = Unit {0}
-IsOpening opening.Nothing r (t ∷ ts) = ⊥
-IsOpening (opening.Call body) r [] = ⊥
-IsOpening (opening.Call body) r (t ∷ ts) = macro_at (macros_of r) t ≡ Some (definition_of body.value)
-IsOpening opening.Other r [] = ⊥
-IsOpening opening.Other r (t ∷ ts) = macro_at (macros_of r) t ≡ None
-
 -- where a turn leads to, the state behind it being that of the inputs' lines
 abbrev pub turned : State → Turn → Stepped
 turned s Goes = goes s
@@ -70,6 +59,18 @@ abbrev pub Turns : Result Turn ExpandFault → State → (Stepped → Type 0) �
 Turns (Ok t) s IsSo = IsSo (turned s t)
 Turns (Err f) s IsSo = Unless (is_outside f) (IsSo (stops (f, s.left.place)))
 
+-- it leads to such a step from the state before, where the store's files are known
+abbrev pub TurnsTo : Option Files → Rewriter → Rewriter → Result Turn ExpandFault → (Files → State → Stepped → Type 0) → Type 0
+TurnsTo files old new result IsSo = IfSome files (λ m. Turns result (state_of m new) (IsSo m (state_of m old)))
+
+-- it leads to this step, whatever the files are
+abbrev pub LeadsTo : Rewriter → Rewriter → Result Turn ExpandFault → (State → Stepped) → Type 0
+LeadsTo old new result step = (m : Files) → Turns result (state_of m new) (λ r. r ≡ step (state_of m old))
+
+-- the place of a rewriter that was refused since the store failed, from the state before, where the files are known
+abbrev pub StopsBy : Option Files → Rewriter → Rewriter → Result Turn ExpandFault → (State → Place → Type 0) → Type 0
+StopsBy files old new result IsThere = NamesFiles old.reader → IfSome files (λ m. StopsAt (IsThere (state_of m old)) old.reader new.reader result)
+
 -- What may follow a rewriter at most: lines, and ends of inputs. A line may open an input.
 abbrev pub size_of : Rewriter → ℕ
 size_of r = 3 * r.reader.room + length r.reader.outer.items
@@ -81,6 +82,11 @@ weight_of (Gives line) = 1
 weight_of (Parts line rest) = 3
 weight_of (Decides line) = 3
 weight_of Ends = 0
+
+-- what acting on one line leaves of a rewriter
+pub record Keeps (old new : Rewriter) (result : Result Turn ExpandFault) : Type 0 where
+  pub named : NamesFiles old.reader → OnOk result (NamesFiles new.reader)
+  pub size : IfOk result (λ t. size_of new + weight_of t ≤ size_of old + 2)
 
 -- a directive that nothing stands behind
 abbrev pub stands_alone : Directive → Bool

@@ -1,13 +1,14 @@
 //! Blocks of lines that are taken as a whole.
 
 ghost use Rattle.std.specs.Prelude.{◌≡◌, ◌∷◌, ◌++◌, ◌<◌, ◌≤◌, [], List, ℕ, drop, false, map, IfErr, IfSome, OnOk, Some};
-ghost use Rattle.base65.specs.Store.{Files, Passes};
+ghost use Rattle.base65.specs.Store.{Files};
 ghost use Rattle.syntax65.specs.Tokens.{Lexeme, lexemes};
 ghost use Rattle.syntax65.specs.ExpandFaults.{is_failure};
 ghost use Rattle.expand65.specs.Blocks.{Block, collecting, gathering, passing, skipping};
 ghost use Rattle.expand65.specs.Fronts.{is_nothing};
-ghost use Rattle.expand65.specs.Inside.{Answers, left_of, mark_of, IsDeeper, IsPassedOver, Judges, alone_or, answer_of, is_kept, judge_of, state_of, FailsInBlock, NamesFiles, StopsAt};
+ghost use Rattle.expand65.specs.Inside.{Stays, Answers, left_of, IsDeeper, IsPassedOver, Judges, closed_by, answer_of, is_kept, judge_of, state_of, FailsInBlock, NamesFiles, StopsAt};
 ghost use Rattle.expand65.specs.Playing.{tokens_in};
+ghost use Rattle.expand65.specs.Left.{Leaves};
 
 use crate::fronts::{Directive, behind_first, is_mislabelled, line_directive};
 use crate::line::Line;
@@ -55,11 +56,11 @@ pub enum BlockStep {
 }
 
 /// A block is closed by a directive that nothing stands behind.
-fn closed_alone(tokens: &[Token<'_>]) -> Result<(), ExpandFault>
-    ensures { result ≡ alone_or (is_nothing (drop 1 (lexemes tokens.now))) }
+fn closed_alone(tokens: &[Token<'_>], end: BlockEnd) -> Result<BlockStep, ExpandFault>
+    ensures { result ≡ closed_by end (is_nothing (drop 1 (lexemes tokens.now))) }
 {
     match tokens {
-        [] | [_] => Ok(()),
+        [] | [_] => Ok(BlockStep::Closed(end)),
         _ => Err(ExpandFault::NotUnderstood),
     }
 }
@@ -81,10 +82,7 @@ fn macro_step(directive: Directive, tokens: &[Token<'_>]) -> Result<BlockStep, E
     ensures inside { IfErr result (λ e. is_failure e ≡ false) }
 {
     match directive {
-        Directive::EndMacro => {
-            closed_alone(tokens)?;
-            Ok(BlockStep::Closed(BlockEnd::End))
-        }
+        Directive::EndMacro => closed_alone(tokens, BlockEnd::End),
         Directive::Macro => Err(ExpandFault::MacroInside),
         _ => Ok(BlockStep::On(0)),
     }
@@ -103,13 +101,8 @@ fn repeat_step(
 {
     match directive {
         Directive::Repeat => deeper(depth),
-        Directive::EndRepeat => {
-            if depth > 0 {
-                return Ok(BlockStep::On(depth - 1));
-            }
-            closed_alone(tokens)?;
-            Ok(BlockStep::Closed(BlockEnd::End))
-        }
+        Directive::EndRepeat if depth > 0 => Ok(BlockStep::On(depth - 1)),
+        Directive::EndRepeat => closed_alone(tokens, BlockEnd::End),
         _ => Ok(BlockStep::On(depth)),
     }
 }
@@ -122,13 +115,8 @@ fn passed_step(directive: Directive, depth: u32) -> Result<BlockStep, ExpandFaul
 {
     match directive {
         Directive::If(_) => deeper(depth),
-        Directive::EndIf => {
-            if depth > 0 {
-                Ok(BlockStep::On(depth - 1))
-            } else {
-                Ok(BlockStep::Closed(BlockEnd::End))
-            }
-        }
+        Directive::EndIf if depth > 0 => Ok(BlockStep::On(depth - 1)),
+        Directive::EndIf => Ok(BlockStep::Closed(BlockEnd::End)),
         _ => Ok(BlockStep::On(depth)),
     }
 }
@@ -150,14 +138,8 @@ fn branch_step(
             let behind = Line::copy_of(alloc, behind_first(tokens))?;
             Ok(BlockStep::Closed(BlockEnd::ElseIf(behind)))
         }
-        Directive::Else => {
-            closed_alone(tokens)?;
-            Ok(BlockStep::Closed(BlockEnd::Else))
-        }
-        Directive::EndIf => {
-            closed_alone(tokens)?;
-            Ok(BlockStep::Closed(BlockEnd::End))
-        }
+        Directive::Else => closed_alone(tokens, BlockEnd::Else),
+        Directive::EndIf => closed_alone(tokens, BlockEnd::End),
         _ => Ok(BlockStep::On(0)),
     }
 }
@@ -249,9 +231,7 @@ impl Reader {
     fn pass_unkept(&mut self, kind: BlockKind)
         ensures passed { (m : Files) → IsPassedOver (is_kept kind) (left_of m self.old) (left_of m self.new) }
         ensures room { self.new.room ≤ self.old.room }
-        ensures mark { mark_of self.new.top ≡ mark_of self.old.top }
-        ensures outer { self.new.outer ≡ self.old.outer }
-        ensures named { NamesFiles self.old → NamesFiles self.new }
+        ensures stays { Stays self.old self.new }
     {
         if !kind.is_kept() {
             self.pass_plain_lines();
@@ -270,11 +250,8 @@ impl Reader {
             self.new.place result
             (Block (judge_of kind) (state_of kind 0 []) (left_of m self.old))) }
         ensures room { OnOk result (self.new.room < self.old.room) }
-        ensures mark { mark_of self.new.top ≡ mark_of self.old.top }
-        ensures outer { self.new.outer ≡ self.old.outer }
-        ensures files { S.files store.new ≡ S.files store.old }
-        ensures count { Passes ExpandFault.FileError (S.failures store.old) (S.failures store.new) result }
-        ensures named { NamesFiles self.old → NamesFiles self.new }
+        ensures stays { Stays self.old self.new }
+        ensures leaves { Leaves S.files S.failures store.old store.new result }
         ensures stopped { NamesFiles self.old → IfSome (S.files store.old) (λ m. StopsAt
             (FailsInBlock (S.blamed store.new) (judge_of kind) (state_of kind 0 [])
             (left_of m self.old)) self.old self.new result) }

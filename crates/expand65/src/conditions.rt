@@ -6,7 +6,7 @@ ghost use Rattle.base65.specs.Relations.{Answers};
 ghost use Rattle.syntax65.specs.Tokens.{lexemes};
 ghost use Rattle.syntax65.specs.Trees.{Tree};
 ghost use Rattle.syntax65.specs.declared.expressions.words.ExprFault.{ExprFault};
-ghost use Rattle.expand65.specs.State.{IsCondition, begins_enclosed, defined_tree, popped, truth, whole};
+ghost use Rattle.expand65.specs.State.{IsCondition, popped, whole};
 ghost use Rattle.syntax65.specs.ExpandFaults.{is_failure, is_outside};
 ghost use Rattle.expand65.specs.Macros.{outermost};
 ghost use Rattle.expand65.specs.Standing.{PopsTo};
@@ -31,17 +31,6 @@ pub fn expression(alloc: Global, tokens: &[Token<'_>]) -> Result<Expr, ExpandFau
     Ok(value)
 }
 
-/// A value's truth.
-fn truth(value: Option<i64>) -> Result<bool, ExpandFault>
-    ensures { result ≡ truth value }
-{
-    match value {
-        None => Err(ExpandFault::NotConstant),
-        Some(0) => Ok(false),
-        Some(_) => Ok(true),
-    }
-}
-
 /// Whether an expression of all the tokens isn't 0.
 fn holds<K: Knows>(alloc: Global, knows: &K, tokens: &[Token<'_>]) -> Result<bool, ExpandFault>
     ensures value { Answers is_outside (λ b. b) result
@@ -49,28 +38,9 @@ fn holds<K: Knows>(alloc: Global, knows: &K, tokens: &[Token<'_>]) -> Result<boo
     ensures inside { IfErr result (λ e. is_failure e ≡ false) }
 {
     let value = expression(alloc, tokens)?;
-    truth(knows.value(alloc, &value)?)
-}
-
-fn begins_enclosed(tokens: &[Token<'_>]) -> bool
-    ensures { result ≡ begins_enclosed (lexemes tokens.now) }
-{
-    match tokens.split_first() {
-        Some((first, _)) => opens_parenthesis(first),
-        None => false,
-    }
-}
-
-/// Whether an expression that is a name is that of a label or constant.
-fn is_defined_name<K: Knows>(alloc: Global, knows: &K, expr: &Expr) -> Result<bool, ExpandFault>
-    ensures value { Answers is_outside (λ b. b) result
-        (λ r. r ≡ defined_tree (K.meaning knows.now) expr.now) }
-    ensures inside { IfErr result (λ e. is_failure e ≡ false) }
-{
-    match expr.kind() {
-        ExprKind::Plain(name) => Ok(knows.defined(&Name::of(alloc, name.as_slice())?)),
-        ExprKind::Scoped(name) => Ok(knows.defined(name)),
-        _ => Err(ExpandFault::NotUnderstood),
+    match knows.value(alloc, &value)? {
+        None => Err(ExpandFault::NotConstant),
+        Some(value) => Ok(value != 0),
     }
 }
 
@@ -81,24 +51,14 @@ fn is_defined<K: Knows>(alloc: Global, knows: &K, tokens: &[Token<'_>]) -> Resul
     ensures inside { IfErr result (λ e. is_failure e ≡ false) }
 {
     let name = expression(alloc, tokens)?;
-    if begins_enclosed(tokens) {
+    if matches!(tokens, [first, ..] if opens_parenthesis(first)) {
         return Err(ExpandFault::NotUnderstood);
     }
-    is_defined_name(alloc, knows, &name)
-}
-
-/// The opposite of whether a name is that of a label or constant.
-fn is_not_defined<K: Knows>(
-    alloc: Global,
-    knows: &K,
-    tokens: &[Token<'_>],
-) -> Result<bool, ExpandFault>
-    ensures value { Answers is_outside (λ b. b) result
-        (IsCondition (K.meaning knows.now) Test.NotDefined (lexemes tokens.now)) }
-    ensures inside { IfErr result (λ e. is_failure e ≡ false) }
-{
-    let defined = is_defined(alloc, knows, tokens)?;
-    Ok(!defined)
+    match name.kind() {
+        ExprKind::Plain(name) => Ok(knows.defined(&Name::of(alloc, name.as_slice())?)),
+        ExprKind::Scoped(name) => Ok(knows.defined(name)),
+        _ => Err(ExpandFault::NotUnderstood),
+    }
 }
 
 /// What a condition of these tokens comes to.
@@ -115,7 +75,7 @@ pub fn condition<K: Knows>(
     match test {
         Test::True => holds(alloc, knows, tokens),
         Test::Defined => is_defined(alloc, knows, tokens),
-        Test::NotDefined => is_not_defined(alloc, knows, tokens),
+        Test::NotDefined => Ok(!is_defined(alloc, knows, tokens)?),
         Test::Blank => Ok(tokens.is_empty()),
         Test::NotBlank => Ok(!tokens.is_empty()),
     }

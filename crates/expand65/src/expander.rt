@@ -1,6 +1,6 @@
 //! The statements of a source, one after another.
 
-ghost use Rattle.std.specs.Prelude.{◌≡◌, ◌≤◌, IfSome, is_some, length, ◌<◌, ◌+◌, ◌*◌, true, false, take, drop, Err, IfOk, IsErrOf, IsTrue, List, OnErr, OnOk, ℕ};
+ghost use Rattle.std.specs.Prelude.{◌≡◌, ◌≤◌, IfSome, is_some, length, ◌<◌, ◌+◌, ◌*◌, true, false, take, drop, Err, IfOk, IsErrOf, List, OnErr, OnOk, ℕ};
 ghost use Rattle.syntax65.specs.Tokens.{lexeme_of, lexemes, Lexeme};
 ghost use Rattle.expand65.specs.Failing.{IsGivenAs, Gives, IsAhead, given_parts, StopsOnItsWay, StopsReading};
 ghost use Rattle.expand65.specs.Macros.{macro_at};
@@ -11,12 +11,12 @@ ghost use Rattle.syntax65.specs.ExpandFaults.{is_outside};
 ghost use Rattle.expand65.specs.Expansion.{first_left, opened_in, IsStep};
 ghost use Rattle.expand65.specs.State.{State};
 ghost use Rattle.expand65.specs.Inside.{NamesFiles, left_of, mark_of};
-ghost use Rattle.expand65.specs.Left.{moved};
+ghost use Rattle.expand65.specs.Left.{Leaves, moved};
 ghost use Rattle.expand65.specs.Lines.{bytes_of};
 
 use crate::conditions::Conditions;
 use crate::file::OpenFile;
-use crate::fronts::{front_directive, label_len};
+use crate::fronts::{Test, front_directive, label_len};
 use crate::includes::is_there;
 use crate::input::Source;
 use crate::knows::Knows;
@@ -37,30 +37,9 @@ impl Rewriter {
         ensures { result ≡ is_some (macro_at (macros_of self.now) (lexeme_of token.now)) }
     {
         // Most sources define no macro, and then no line's first name is looked up.
-        if self.macros.is_empty() {
-            return false;
-        }
-        match token.kind {
-            TokenKind::Identifier => self.has_macro(token.text),
-            _ => false,
-        }
-    }
-
-    /// How many tokens the label has of a line that is given as it stands: behind it stands nothing, or a statement.
-    #[inline(always)]
-    pub fn label_of_given(&self, tokens: &[Token<'_>]) -> Option<usize>
-        ensures given { IfSome result (λ n. IsGivenAs n self.now (lexemes tokens.now)) }
-        ensures within { IfSome result (λ n. n ≤ length tokens.now) }
-    {
-        let len = label_len(tokens);
-        let (_, rest) = tokens.split_at(len);
-        if front_directive(rest).is_some() {
-            return None;
-        }
-        match rest.split_first() {
-            Some((first, _)) if self.is_macro(first) => None,
-            _ => Some(len),
-        }
+        !self.macros.is_empty()
+            && matches!(token.kind, TokenKind::Identifier)
+            && self.has_macro(token.text)
     }
 }
 
@@ -100,12 +79,6 @@ impl Front {
         ensures { result ≡ is_end self.now }
     {
         matches!(self, Front::End)
-    }
-
-    fn is_nothing(&self) -> bool
-        ensures { IsTrue result → self.now ≡ Front.Nothing }
-    {
-        matches!(self, Front::Nothing)
     }
 }
 
@@ -197,7 +170,7 @@ impl Expander {
         ensures ahead { IfSome result (λ p. IsAhead self.now p (held tokens.new)) }
         ensures within { tokens.new.few.count ≤ 8 }
     {
-        if self.failed || !self.front.is_nothing() {
+        if self.failed || !matches!(self.front, Front::Nothing) {
             return None;
         }
         self.rewriter.reader.peek(self.rewriter.alloc, tokens)
@@ -210,7 +183,15 @@ impl Expander {
         ensures given { IfSome result (λ n. IsGivenAs n self.now.rewriter (lexemes tokens.now)) }
         ensures within { IfSome result (λ n. n ≤ length tokens.now) }
     {
-        self.rewriter.label_of_given(tokens)
+        let len = label_len(tokens);
+        let (_, rest) = tokens.split_at(len);
+        if front_directive(rest).is_some() {
+            return None;
+        }
+        match rest.split_first() {
+            Some((first, _)) if self.rewriter.is_macro(first) => None,
+            _ => Some(len),
+        }
     }
 
     /// Takes the next line, which is this one.
@@ -253,8 +234,7 @@ impl Expander {
             StopsReading m (S.blamed store.new) (K.meaning knows.now) (state_in m self.old) result
             (mark_of self.new.rewriter.reader.top) (place_of self.new)) }
         ensures size { IfOk result (λ o. IfSome o (λ _. measure_of self.new < measure_of self.old)) }
-        ensures files { S.files store.new ≡ S.files store.old }
-        ensures count { Passes ExpandFault.FileError (S.failures store.old) (S.failures store.new) result }
+        ensures leaves { Leaves S.files S.failures store.old store.new result }
     {
         'steps: loop {
             if self.front.is_end() {
@@ -281,13 +261,16 @@ impl Expander {
             (mark_of self.new.rewriter.reader.top) (place_of self.new)) }
         ensures size { IfOk result (λ t. size_of self.new.rewriter + weight_of t < measure_of self.old) }
         ensures front { OnErr result (self.new.front ≡ Front.Nothing) }
-        ensures files { S.files store.new ≡ S.files store.old }
-        ensures count { Passes ExpandFault.FileError (S.failures store.old) (S.failures store.new) result }
+        ensures leaves { Leaves S.files S.failures store.old store.new result }
     {
         match mem::replace(&mut self.front, Front::Nothing) {
             Front::Nothing => self.rewriter.take(store, knows),
             Front::Rest(line) => self.rewriter.act(store, knows, line),
-            Front::Branch(line) => self.rewriter.begin_branch(store, knows, &line),
+            Front::Branch(line) => {
+                let tokens = line.tokens(self.rewriter.alloc)?;
+                self.rewriter
+                    .begin_if(store, knows, Test::True, tokens.as_slice())
+            }
             Front::End => unreachable!(),
         }
     }

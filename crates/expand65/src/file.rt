@@ -1,11 +1,10 @@
 //! Open files, read a buffer at a time.
 
-ghost use Rattle.std.specs.Prelude.{◌≡◌, ◌<◌, ◌≤◌, ◌+◌, ◌-◌, ◌++◌, [], min, length, drop, true, false, IsTrue, IfErr, IfOk, IfSome, List, OnOk, ℕ};
-ghost use Rattle.std.specs.FinMap as fmap;
+ghost use Rattle.std.specs.Prelude.{◌≡◌, ◌<◌, ◌≤◌, ◌+◌, ◌-◌, [], min, length, drop, true, false, IsTrue, IfErr, IfOk, IfSome, List, OnOk, ℕ};
 ghost use Rattle.std.specs.List.{prefix_len};
-ghost use Rattle.base65.specs.Store.{Files, Fills, IsBlamed, Passes};
+ghost use Rattle.base65.specs.Store.{Files};
 ghost use Rattle.syntax65.specs.ExpandFaults.{is_failure, is_outside};
-ghost use Rattle.expand65.specs.Left.{numbered};
+ghost use Rattle.expand65.specs.Left.{LeavesOf, numbered};
 ghost use Rattle.expand65.specs.Lines.{lines_of, IsPiece, ReadsLine, TakesPiece, bytes_of, is_inside, left_in_file, rest_of, without_return};
 
 use base65::{Sequence, Store, StoreFault, Text};
@@ -31,29 +30,8 @@ pub struct OpenFile {
     pub spare: Vec<u8>,
 }
 
-/// Reads what a file has from a place on into the front of a buffer. A file that isn't there has no bytes.
-fn read_some<S: Store>(
-    store: &mut S,
-    name: &str,
-    at: u64,
-    buffer: &mut [u8],
-) -> Result<usize, ExpandFault>
-    ensures bound { IfOk result (λ n. n ≤ length buffer.new) }
-    ensures read { IfSome (S.files store.old) (λ m.
-        IfOk result (λ n. Fills (drop at (bytes_of m name.now)) n buffer.new)) }
-    ensures outside { IfErr result (λ e. is_outside e ≡ true) }
-    ensures blamed { IfErr result (λ e. is_failure e ≡ true → IsBlamed (S.blamed store.new) name.now) }
-    ensures files { S.files store.new ≡ S.files store.old }
-    ensures count { Passes ExpandFault.FileError (S.failures store.old) (S.failures store.new) result }
-{
-    match store.read_at(name, at, buffer) {
-        Ok(n) => Ok(n),
-        Err(StoreFault::FileNotFound) => Ok(0),
-        Err(fault) => Err(ExpandFault::from(fault)),
-    }
-}
-
-/// Reads so many bytes at most that a file has from a place on, in the place of those that were there.
+/// Reads so many bytes at most that a file has from a place on, in the place of those that were there. A file that isn't
+/// there has no bytes.
 fn read_piece<S: Store>(
     store: &mut S,
     name: &str,
@@ -66,13 +44,15 @@ fn read_piece<S: Store>(
         IfOk result (λ n. IsPiece (drop at (bytes_of m name.now)) want n bytes.new.items)) }
     ensures few { IfOk result (λ n. (n ≤ want) × (length bytes.new.items ≡ n)) }
     ensures outside { IfErr result (λ e. is_outside e ≡ true) }
-    ensures blamed { IfErr result (λ e. is_failure e ≡ true → IsBlamed (S.blamed store.new) name.now) }
-    ensures files { S.files store.new ≡ S.files store.old }
-    ensures count { Passes ExpandFault.FileError (S.failures store.old) (S.failures store.new) result }
+    ensures leaves { LeavesOf S.files S.failures S.blamed name.now store.old store.new result }
 {
     // Where as many were read before, there is nothing to fill.
     bytes.resize(want, 0)?;
-    let n = read_some(store, name, at, bytes.as_mut_slice())?;
+    let n = match store.read_at(name, at, bytes.as_mut_slice()) {
+        Ok(n) => n,
+        Err(StoreFault::FileNotFound) => 0,
+        Err(fault) => return Err(ExpandFault::from(fault)),
+    };
     bytes.truncate(n);
     Ok(n)
 }
@@ -112,9 +92,7 @@ impl OpenFile {
         ensures outside { IfErr result (λ e. is_outside e ≡ true) }
         ensures line { self.new.line ≡ self.old.line }
         ensures name { self.new.name ≡ self.old.name }
-        ensures blamed { IfErr result (λ e. is_failure e ≡ true → IsBlamed (S.blamed store.new) self.old.name) }
-        ensures files { S.files store.new ≡ S.files store.old }
-        ensures count { Passes ExpandFault.FileError (S.failures store.old) (S.failures store.new) result }
+        ensures leaves { LeavesOf S.files S.failures S.blamed self.old.name store.old store.new result }
     {
         let want = wanted(self.next);
         let n = read_piece(store, self.name.as_str(), self.next, want, &mut self.buffer)?;
@@ -133,9 +111,7 @@ impl OpenFile {
         ensures outside { IfErr result (λ e. is_outside e ≡ true) }
         ensures line { self.new.line ≡ self.old.line }
         ensures name { self.new.name ≡ self.old.name }
-        ensures blamed { IfErr result (λ e. is_failure e ≡ true → IsBlamed (S.blamed store.new) self.old.name) }
-        ensures files { S.files store.new ≡ S.files store.old }
-        ensures count { Passes ExpandFault.FileError (S.failures store.old) (S.failures store.new) result }
+        ensures leaves { LeavesOf S.files S.failures S.blamed self.old.name store.old store.new result }
     {
         if self.at < self.buffer.len() {
             return Ok(true);
@@ -174,20 +150,6 @@ impl OpenFile {
         Ok(true)
     }
 
-    /// No bytes, in the room that a line before had.
-    fn empty_line(&mut self, alloc: Global) -> Vec<u8>
-        ensures empty { result.items ≡ [] }
-        ensures at { self.new.at ≡ self.old.at }
-        ensures buffer { self.new.buffer ≡ self.old.buffer }
-        ensures next { self.new.next ≡ self.old.next }
-        ensures line { self.new.line ≡ self.old.line }
-        ensures name { self.new.name ≡ self.old.name }
-    {
-        let mut line = mem::replace(&mut self.spare, Vec::new(alloc));
-        line.clear();
-        line
-    }
-
     /// The next line.
     #[inline(never)]
     pub fn next_line<S: Store>(
@@ -200,11 +162,10 @@ impl OpenFile {
             ReadsLine (lines_of (rest_of m self.old)) result (lines_of (rest_of m self.new))) }
         ensures line { self.new.line ≡ self.old.line }
         ensures name { self.new.name ≡ self.old.name }
-        ensures blamed { IfErr result (λ e. is_failure e ≡ true → IsBlamed (S.blamed store.new) self.old.name) }
-        ensures files { S.files store.new ≡ S.files store.old }
-        ensures count { Passes ExpandFault.FileError (S.failures store.old) (S.failures store.new) result }
+        ensures leaves { LeavesOf S.files S.failures S.blamed self.old.name store.old store.new result }
     {
-        let mut line = self.empty_line(alloc);
+        let mut line = mem::replace(&mut self.spare, Vec::new(alloc));
+        line.clear();
         'pieces: loop {
             if self.take_piece(&mut line)? {
                 drop_return(&mut line);

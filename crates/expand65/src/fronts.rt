@@ -1,7 +1,7 @@
 //! The first words of a line: labels and directives of expansion.
 
-ghost use Rattle.std.specs.Prelude.{◌≡◌, ◌∷◌, ℕ, List, None, false, ◌≤◌, drop, length, option_map};
-ghost use Rattle.expand65.specs.Fronts.{among, block_words, condition_words, directive_of, macro_words, begins_with_colon, closes_brace, directive_in, front_directive, is_colon, is_comma, is_label_name, is_mislabelled, is_nothing, label_len, line_directive, may_follow_label, name_in, opens_brace, opens_parenthesis, quoted_in, string_of};
+ghost use Rattle.std.specs.Prelude.{◌≡◌, None, false, ◌≤◌, drop, length, option_map};
+ghost use Rattle.expand65.specs.Fronts.{among, block_words, condition_words, directive_of, macro_words, closes_brace, directive_in, front_directive, is_colon, is_comma, is_label_name, is_mislabelled, label_len, line_directive, may_follow_label, name_in, opens_brace, opens_parenthesis, quoted_in, string_of};
 ghost use Rattle.syntax65.specs.Tokens.{lexeme_of, lexemes};
 
 use syntax65::{Mark, Token, TokenKind, is_reserved};
@@ -97,24 +97,15 @@ fn block_word(word: &[u8]) -> Option<Directive>
     }
 }
 
-/// Whether a directive of expansion may have this letter behind its dot.
-fn may_be_second(letter: u8) -> bool
-    ensures { result ≡ false → (dot : ℕ) (rest : List ℕ) → directive_of (dot ∷ letter ∷ rest) ≡ None }
-{
-    matches!(
-        letter.to_ascii_lowercase(),
-        b'e' | b'i' | b'l' | b'm' | b'r'
-    )
-}
-
 /// The directive of expansion that a word is, if it is one.
 pub fn directive_of(word: &[u8]) -> Option<Directive>
     ensures { result ≡ directive_of word.now }
 {
     // Most words of a source are other directives, such as `.byte`.
     if let [_, letter, ..] = word {
-        if !may_be_second(*letter) {
-            return None;
+        match letter.to_ascii_lowercase() {
+            b'e' | b'i' | b'l' | b'm' | b'r' => {}
+            _ => return None,
         }
     }
     condition_word(word)
@@ -170,22 +161,10 @@ fn quoted_in<'a>(token: &Token<'a>) -> Option<&'a [u8]>
     ensures { option_map (λ s. s.now) result ≡ quoted_in (lexeme_of token.now) }
 {
     match token.kind {
-        TokenKind::Text => {
-            if token.text.len() < 2 {
-                Some(b"")
-            } else {
-                Some(&token.text[1..token.text.len() - 1])
-            }
-        }
+        TokenKind::Text if token.text.len() < 2 => Some(b""),
+        TokenKind::Text => Some(&token.text[1..token.text.len() - 1]),
         _ => None,
     }
-}
-
-/// Whether no token is there.
-pub fn is_nothing(tokens: &[Token<'_>]) -> bool
-    ensures { result ≡ is_nothing (lexemes tokens.now) }
-{
-    tokens.is_empty()
 }
 
 /// The bytes of one string.
@@ -209,30 +188,16 @@ pub fn is_label_name(token: &Token<'_>) -> bool
     }
 }
 
-fn begins_with_colon(tokens: &[Token<'_>]) -> bool
-    ensures { result ≡ begins_with_colon (lexemes tokens.now) }
-{
-    match tokens.split_first() {
-        Some((first, _)) => is_colon(first),
-        None => false,
-    }
-}
-
 /// How many tokens the label at the front has, with its colon; 0 where there is none.
 #[inline(always)]
 pub fn label_len(tokens: &[Token<'_>]) -> usize
     ensures count { result ≡ label_len (lexemes tokens.now) }
     ensures within { result ≤ length tokens.now }
 {
-    let Some((first, behind)) = tokens.split_first() else {
-        return 0;
-    };
-    if is_colon(first) {
-        1
-    } else if begins_with_colon(behind) && is_label_name(first) {
-        2
-    } else {
-        0
+    match tokens {
+        [first, ..] if is_colon(first) => 1,
+        [first, second, ..] if is_colon(second) && is_label_name(first) => 2,
+        _ => 0,
     }
 }
 
@@ -252,10 +217,7 @@ pub fn directive_in(token: &Token<'_>) -> Option<Directive>
 pub fn front_directive(tokens: &[Token<'_>]) -> Option<Directive>
     ensures { result ≡ front_directive (lexemes tokens.now) }
 {
-    match tokens.split_first() {
-        Some((first, _)) => directive_in(first),
-        None => None,
-    }
+    directive_in(tokens.first()?)
 }
 
 /// Whether a label may stand before a directive of expansion, or before another statement.
@@ -263,8 +225,7 @@ fn may_follow_label(directive: Option<Directive>) -> bool
     ensures { result ≡ may_follow_label directive }
 {
     match directive {
-        None => true,
-        Some(Directive::Repeat | Directive::If(_)) => true,
+        None | Some(Directive::Repeat | Directive::If(_)) => true,
         Some(Directive::Include | Directive::Error | Directive::End) => true,
         Some(_) => false,
     }

@@ -1,14 +1,15 @@
 //! Files that are included, and where they are looked for.
 
-ghost use Rattle.std.specs.Prelude.{◌≡◌, ◌<◌, ◌+◌, ◌^◌, ◌++◌, ◌∷◌, [], if◌then◌else◌, true, false, map, IfNone, IfOk, IfSome, IsErrOf, List, ℕ, Result};
+ghost use Rattle.std.specs.Prelude.{◌≡◌, ◌<◌, ◌+◌, ◌^◌, ◌++◌, if◌then◌else◌, true, false, map, IfNone, IfOk, IfSome, IsErrOf, List, ℕ, Result};
 ghost use Rattle.std.specs.FinMap as fmap;
 ghost use Rattle.std.specs.Str.{is_utf8};
 ghost use Rattle.base65.specs.Outcome.{Gives};
-ghost use Rattle.base65.specs.Store.{Asks, IsBlamed, Passes};
+ghost use Rattle.base65.specs.Store.{Asks, IsBlamed};
 ghost use Rattle.syntax65.specs.ExpandFaults.{is_outside};
 ghost use Rattle.expand65.specs.Failing.{IsAmong};
 ghost use Rattle.expand65.specs.Expansion.{as_text, begins_with_slash, beside, file_named, first_file, folder_of, found_or, is_slash, tried, within};
 ghost use Rattle.expand65.specs.Macros.{Tries, file_of, is_there};
+ghost use Rattle.expand65.specs.Left.{Leaves};
 
 use base65::{Store, StoreFault, Text};
 use std::alloc::{AllocError, Global};
@@ -37,10 +38,7 @@ fn folder_len(before: usize, place: usize, byte: u8) -> usize
 fn begins_with_slash(name: &[u8]) -> bool
     ensures { result ≡ begins_with_slash name.now }
 {
-    match name.split_first() {
-        Some((first, _)) => *first == b'/',
-        None => false,
-    }
+    name.first() == Some(&b'/')
 }
 
 /// A name behind a folder's that ends in `/`, or behind nothing.
@@ -68,8 +66,7 @@ fn within(alloc: Global, name: &[u8], folder: &[u8]) -> Result<Vec<u8>, AllocErr
 pub fn is_there<S: Store>(store: &mut S, name: &str) -> Result<bool, ExpandFault>
     ensures there { IfSome (S.files store.old) (λ m.
         Gives is_outside (λ b. b) result (is_there (fmap.get m name.now))) }
-    ensures files { S.files store.new ≡ S.files store.old }
-    ensures count { Passes ExpandFault.FileError (S.failures store.old) (S.failures store.new) result }
+    ensures leaves { Leaves S.files S.failures store.old store.new result }
     ensures blamed { IsErrOf result ExpandFault.FileError → IsBlamed (S.blamed store.new) name.now }
     ensures asked { Asks is_outside (S.failures store.old) result }
 {
@@ -115,8 +112,7 @@ fn look_up<S: Store>(alloc: Global, store: &mut S, name: &[u8]) -> Result<Option
         (others : Result (List ℕ × List ℕ) ExpandFault) → Tries m result others
         (found_or name.now (file_named m name.now) others)) }
     ensures blamed { IsErrOf result ExpandFault.FileError → IsBlamed (S.blamed store.new) name.now }
-    ensures files { S.files store.new ≡ S.files store.old }
-    ensures count { Passes ExpandFault.FileError (S.failures store.old) (S.failures store.new) result }
+    ensures leaves { Leaves S.files S.failures store.old store.new result }
 {
     let Some(text) = text_of(name) else {
         return Ok(None);
@@ -140,8 +136,7 @@ fn find_in_folders<S: Store>(
         Gives is_outside (file_of m) result (first_file m (map (within name.now) folders.now))) }
     ensures blamed { IsErrOf result ExpandFault.FileError →
         IsAmong (S.blamed store.new) (map (within name.now) folders.now) }
-    ensures files { S.files store.new ≡ S.files store.old }
-    ensures count { Passes ExpandFault.FileError (S.failures store.old) (S.failures store.new) result }
+    ensures leaves { Leaves S.files S.failures store.old store.new result }
 {
     for folder in folders {
         let whole = within(alloc, name, folder.as_str().as_bytes())?;
@@ -164,30 +159,17 @@ pub fn find_file<S: Store>(
         Gives is_outside (file_of m) result (first_file m (tried file.now folders.now name.now))) }
     ensures blamed { IsErrOf result ExpandFault.FileError →
         IsAmong (S.blamed store.new) (tried file.now folders.now name.now) }
-    ensures files { S.files store.new ≡ S.files store.old }
-    ensures count { Passes ExpandFault.FileError (S.failures store.old) (S.failures store.new) result }
+    ensures leaves { Leaves S.files S.failures store.old store.new result }
 {
     if begins_with_slash(name) {
-        return find_as_given(alloc, store, name);
+        return match look_up(alloc, store, name)? {
+            Some(found) => Ok(found),
+            None => Err(ExpandFault::FileNotFound),
+        };
     }
     let beside = joined(alloc, folder_of(file.as_bytes()), name)?;
     match look_up(alloc, store, beside.as_slice())? {
         Some(found) => Ok(found),
         None => find_in_folders(alloc, store, folders, name),
-    }
-}
-
-/// The file of a name, which has to be there.
-fn find_as_given<S: Store>(alloc: Global, store: &mut S, name: &[u8]) -> Result<Text, ExpandFault>
-    ensures found { IfSome (S.files store.old) (λ m.
-        Gives is_outside (file_of m) result (first_file m (name.now ∷ []))) }
-    ensures blamed { IsErrOf result ExpandFault.FileError →
-        IsAmong (S.blamed store.new) (name.now ∷ []) }
-    ensures files { S.files store.new ≡ S.files store.old }
-    ensures count { Passes ExpandFault.FileError (S.failures store.old) (S.failures store.new) result }
-{
-    match look_up(alloc, store, name)? {
-        Some(found) => Ok(found),
-        None => Err(ExpandFault::FileNotFound),
     }
 }

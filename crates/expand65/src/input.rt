@@ -1,14 +1,14 @@
 //! Where lines come from.
 
-ghost use Rattle.std.specs.Prelude.{◌≡◌, ◌↔◌, ◌<◌, ◌≤◌, ◌+◌, ◌^◌, drop, length, true, false, [], ◌∷◌, Ok, IsTrue, IfErr, IfOk, IfSome, OnOk, Result};
+ghost use Rattle.std.specs.Prelude.{◌≡◌, ◌↔◌, ◌<◌, ◌+◌, drop, length, true, false, [], ◌∷◌, Ok, IsTrue, IfErr, IfOk, IfSome, OnOk, Result};
 ghost use Rattle.std.specs.List.{prefix_len};
-ghost use Rattle.base65.specs.Store.{Files, IsBlamed, Passes};
+ghost use Rattle.base65.specs.Store.{Files, IsBlamed};
 ghost use Rattle.syntax65.specs.ExpandFaults.{is_failure, is_outside};
 ghost use Rattle.expand65.specs.Inside.{ComesNext, IsFile, IsReady, TakesLine, is_call, left_in, turns_left, IsNamed};
 ghost use Rattle.expand65.specs.Playing.{tokens_in, left_to_play, replacing_of};
 ghost use Rattle.syntax65.specs.declared.place.Place.{Place};
 ghost use Rattle.expand65.specs.Lines.{is_inside, left_in_file};
-ghost use Rattle.expand65.specs.Left.{number_token};
+ghost use Rattle.expand65.specs.Left.{Leaves, LeavesOf, number_token};
 
 use crate::file::{OpenFile, line_len};
 use crate::line::Line;
@@ -69,9 +69,7 @@ impl OpenFile {
             ⊥) → self.new.at < length self.new.buffer.items) }
         ensures outside { IfErr result (λ e. is_outside e ≡ true) }
         ensures name { self.new.name ≡ self.old.name }
-        ensures blamed { IfErr result (λ e. is_failure e ≡ true → IsBlamed (S.blamed store.new) self.old.name) }
-        ensures files { S.files store.new ≡ S.files store.old }
-        ensures count { Passes ExpandFault.FileError (S.failures store.old) (S.failures store.new) result }
+        ensures leaves { LeavesOf S.files S.failures S.blamed self.old.name store.old store.new result }
     {
         if !self.has_more(store)? {
             return Ok(NextLine::AtEnd);
@@ -94,14 +92,12 @@ impl OpenFile {
         let (_, rest) = self.buffer.split_at(self.at);
         let (bytes, _) = rest.split_at(len);
         let line = Line::read(alloc, trimmed(bytes))?;
-        match self.line.checked_add(1) {
-            Some(number) => {
-                self.line = number;
-                self.at += len + 1;
-                Ok(line)
-            }
-            None => Err(ExpandFault::OutOfMemory),
-        }
+        let Some(number) = self.line.checked_add(1) else {
+            return Err(ExpandFault::OutOfMemory);
+        };
+        self.line = number;
+        self.at += len + 1;
+        Ok(line)
     }
 
     /// Takes the next line, which begins in what is at hand.
@@ -110,9 +106,7 @@ impl OpenFile {
         ensures taken { IfSome (S.files store.old) (λ m.
             TakesLine (left_in_file m self.old) result (left_in_file m self.new)) }
         ensures name { self.new.name ≡ self.old.name }
-        ensures blamed { IfErr result (λ e. is_failure e ≡ true → IsBlamed (S.blamed store.new) self.old.name) }
-        ensures files { S.files store.new ≡ S.files store.old }
-        ensures count { Passes ExpandFault.FileError (S.failures store.old) (S.failures store.new) result }
+        ensures leaves { LeavesOf S.files S.failures S.blamed self.old.name store.old store.new result }
     {
         let (_, rest) = self.buffer.split_at(self.at);
         let len = line_len(rest);
@@ -122,13 +116,11 @@ impl OpenFile {
         let bytes = self.next_line(alloc, store)?;
         let line = Line::read(alloc, bytes.as_slice())?;
         self.spare = bytes.into_vec();
-        match self.line.checked_add(1) {
-            Some(number) => {
-                self.line = number;
-                Ok(line)
-            }
-            None => Err(ExpandFault::OutOfMemory),
-        }
+        let Some(number) = self.line.checked_add(1) else {
+            return Err(ExpandFault::OutOfMemory);
+        };
+        self.line = number;
+        Ok(line)
     }
 }
 
@@ -199,20 +191,6 @@ fn begin_turn(
     Ok(NextLine::Replayed)
 }
 
-/// Takes the next line of a turn.
-fn take_in_turn(
-    alloc: Global,
-    replay: &mut Replay,
-    next: u32,
-    count: u32,
-) -> Result<Line, ExpandFault>
-    requires { replay.old.at < length replay.old.body.value.lines }
-    ensures taken { TakesLine (turns_left replay.old next count) result (turns_left replay.new next count) }
-    ensures inside { IfErr result (λ e. is_failure e ≡ false) }
-{
-    replay.take_line(alloc)
-}
-
 impl Source {
     /// Whether it is an expansion.
     pub fn is_call(&self) -> bool
@@ -236,8 +214,7 @@ impl Source {
         ensures named { (p : Place) → IsNamed self.old p → IsNamed self.new p }
         ensures blamed { (p : Place) → IsNamed self.old p →
             IfErr result (λ e. is_failure e ≡ true → IsBlamed (S.blamed store.new) p.file) }
-        ensures files { S.files store.new ≡ S.files store.old }
-        ensures count { Passes ExpandFault.FileError (S.failures store.old) (S.failures store.new) result }
+        ensures leaves { Leaves S.files S.failures store.old store.new result }
     {
         match self {
             Source::File(file) => file.begin_line(store),
@@ -256,13 +233,12 @@ impl Source {
         ensures named { (p : Place) → IsNamed self.old p → IsNamed self.new p }
         ensures blamed { (p : Place) → IsNamed self.old p →
             IfErr result (λ e. is_failure e ≡ true → IsBlamed (S.blamed store.new) p.file) }
-        ensures files { S.files store.new ≡ S.files store.old }
-        ensures count { Passes ExpandFault.FileError (S.failures store.old) (S.failures store.new) result }
+        ensures leaves { Leaves S.files S.failures store.old store.new result }
     {
         match self {
             Source::File(file) => file.take_line(alloc, store),
             Source::Call(replay) => replay.take_line(alloc),
-            Source::Repeat(replay, next, count) => take_in_turn(alloc, replay, *next, *count),
+            Source::Repeat(replay, _, _) => replay.take_line(alloc),
         }
     }
 }

@@ -6,7 +6,7 @@ ghost use Rattle.syntax65.specs.Tokens.{IsRead, Lexeme, lexeme_of, lexemes};
 ghost use Rattle.syntax65.specs.declared.lexing.tokens.LexFault.{LexFault};
 ghost use Rattle.syntax65.specs.ExpandFaults.{is_failure, is_outside};
 ghost use Rattle.expand65.specs.Fronts.{front_directive, label_len};
-ghost use Rattle.expand65.specs.Playing.{behind_word, cut, text_of, tokens_in, IsParted, IsColon, IsColonAt, IsOrNone, IsPlain};
+ghost use Rattle.expand65.specs.Playing.{behind_word, cut, text_of, tokens_in, IsParted, IsColonAt, IsPlain};
 ghost use Rattle.expand65.specs.Lines.{lexed};
 
 use crate::fronts::{Directive, directive_in, is_mislabelled, label_len};
@@ -51,34 +51,6 @@ impl Word {
         let (text, behind) = here.split_at((self.len as usize).min(here.len()));
         let kind = self.kind;
         (Token { kind, text }, behind)
-    }
-
-    /// A token of a line, so short that both are.
-    #[inline(always)]
-    fn within(kind: TokenKind, blanks: usize, len: usize) -> Word
-        requires blanks { blanks ≤ 4096 }
-        requires len { len ≤ 4096 }
-        ensures { (result.kind ≡ kind) × (result.blanks ≡ blanks) × (result.len ≡ len) }
-    {
-        Word {
-            kind,
-            blanks: blanks as u32,
-            len: len as u32,
-        }
-    }
-
-    fn is_colon(&self) -> bool
-        ensures { IsColon self.now result }
-    {
-        matches!(self.kind, TokenKind::Symbol(Mark::Colon))
-    }
-
-    /// Whether it is a directive, of expansion or not.
-    #[inline(always)]
-    fn is_directive(&self) -> bool
-        ensures { IsOrNone self.now result }
-    {
-        matches!(self.kind, TokenKind::Directive)
     }
 }
 
@@ -167,7 +139,7 @@ impl Line {
     {
         let word = self.words.as_slice().first()?;
         // Most lines begin with no directive, and then their bytes aren't looked at.
-        if !word.is_directive() {
+        if !matches!(word.kind, TokenKind::Directive) {
             return None;
         }
         let (token, _) = word.token(self.bytes.as_slice());
@@ -179,7 +151,7 @@ impl Line {
         ensures { IsColonAt self.now.words at result }
     {
         match self.words.as_slice().get(at) {
-            Some(word) => word.is_colon(),
+            Some(word) => matches!(word.kind, TokenKind::Symbol(Mark::Colon)),
             None => false,
         }
     }
@@ -212,7 +184,18 @@ impl Line {
             return Ok(None);
         }
         let tokens = self.tokens(alloc)?;
-        parted(alloc, tokens.as_slice())
+        let tokens = tokens.as_slice();
+        let len = label_len(tokens);
+        if len == 0 {
+            return Ok(None);
+        }
+        if is_mislabelled(tokens) {
+            return Err(ExpandFault::NotUnderstood);
+        }
+        let (label, rest) = tokens.split_at(len);
+        let label = Line::copy_of(alloc, label)?;
+        let rest = Line::copy_of(alloc, rest)?;
+        Ok(Some((label, rest)))
     }
 
     /// The line's tokens.
@@ -241,27 +224,14 @@ fn read_words(bytes: &[u8], words: &mut Vec<Word>) -> Result<usize, ExpandFault>
             Some(token) => {
                 let len = token.text.len();
                 let blanks = left - lexer.rest.len() - len;
-                words.push(Word::within(token.kind, blanks, len))?;
+                // A line is so short that both are.
+                words.push(Word {
+                    kind: token.kind,
+                    blanks: blanks as u32,
+                    len: len as u32,
+                })?;
             }
             None => return Ok(bytes.len() - left),
         }
     }
-}
-
-/// The label at the front of tokens and what stands behind it, if there is a label.
-fn parted(alloc: Global, tokens: &[Token<'_>]) -> Result<Option<(Line, Line)>, ExpandFault>
-    ensures parts { IsParted (lexemes tokens.now) result }
-    ensures inside { IfErr result (λ e. is_failure e ≡ false) }
-{
-    let len = label_len(tokens);
-    if len == 0 {
-        return Ok(None);
-    }
-    if is_mislabelled(tokens) {
-        return Err(ExpandFault::NotUnderstood);
-    }
-    let (label, rest) = tokens.split_at(len);
-    let label = Line::copy_of(alloc, label)?;
-    let rest = Line::copy_of(alloc, rest)?;
-    Ok(Some((label, rest)))
 }

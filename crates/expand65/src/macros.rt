@@ -1,17 +1,15 @@
 //! Macros: their definitions, their calls and the arguments of these.
 
-ghost use Rattle.std.specs.Prelude.{◌≡◌, ◌<◌, ◌≤◌, ◌+◌, ◌^◌, IfOk, IsSome, IsTrue, length, map, option_map, ◌∷◌, [], false, is_some, IfErr, IfSome, Ok, Some, OnOk};
+ghost use Rattle.std.specs.Prelude.{◌≡◌, ◌<◌, ◌≤◌, ◌+◌, ◌^◌, IfOk, IsSome, IsTrue, length, map, option_map, false, is_some, IfErr, Ok, Some};
 ghost use Rattle.syntax65.specs.Tokens.{lexeme_of, lexemes};
-ghost use Rattle.expand65.specs.Macros.{arguments_of, braces_behind, closes_last, is_braced, parts_within, unbraced, IsDefined, IsMacro, called, distinct_of, header_of, header_with, macro_of, ordinary, params_of, is_comma_at, name_at, part_len};
+ghost use Rattle.expand65.specs.Macros.{arguments_of, braces_behind, closes_last, is_braced, parts_within, unbraced, IsMacro, called, distinct_of, header_of, macro_of, ordinary, params_of, is_comma_at, name_at, part_len};
 ghost use Rattle.expand65.specs.Fronts.{names_of, understood};
 ghost use Rattle.expand65.specs.Playing.{tokens_in, definition_of};
 ghost use Rattle.base65.specs.Outcome.{Gives};
-ghost use Rattle.base65.specs.Store.{Files, Passes};
 ghost use Rattle.syntax65.specs.ExpandFaults.{is_failure, is_outside};
 ghost use Rattle.expand65.specs.Failing.{FailsDefining};
-ghost use Rattle.expand65.specs.Inside.{StopsAt, NamesFiles};
-ghost use Rattle.expand65.specs.Left.{number_token};
-ghost use Rattle.expand65.specs.Standing.{MacroFound, IsOpening, Turns, macros_of, size_of, state_of, weight_of};
+ghost use Rattle.expand65.specs.Standing.{Keeps, TurnsTo, LeadsTo, StopsBy, MacroFound, macros_of};
+ghost use Rattle.expand65.specs.Left.{Leaves};
 
 use crate::blocks::BlockKind;
 use crate::fronts::{behind_first, closes_brace, is_comma, name_in, opens_brace};
@@ -31,10 +29,7 @@ pub fn name_at<'a>(tokens: &[Token<'a>], at: usize) -> Option<&'a [u8]>
     ensures name { option_map (λ s. s.now) result ≡ name_at (lexemes tokens.now) at }
     ensures inside { IsSome result → at < length tokens.now }
 {
-    match tokens.get(at) {
-        Some(token) => name_in(token),
-        None => None,
-    }
+    name_in(tokens.get(at)?)
 }
 
 /// Whether a comma stands at a place.
@@ -42,10 +37,7 @@ pub fn is_comma_at(tokens: &[Token<'_>], at: usize) -> bool
     ensures comma { result ≡ is_comma_at (lexemes tokens.now) at }
     ensures inside { IsTrue result → at < length tokens.now }
 {
-    match tokens.get(at) {
-        Some(token) => is_comma(token),
-        None => false,
-    }
+    matches!(tokens.get(at), Some(token) if is_comma(token))
 }
 
 /// One name or more with commas between them.
@@ -122,10 +114,7 @@ fn closes_last(tokens: &[Token<'_>]) -> bool
 fn is_braced(tokens: &[Token<'_>]) -> bool
     ensures { result ≡ is_braced (lexemes tokens.now) }
 {
-    match tokens.split_first() {
-        Some((first, behind)) => opens_brace(first) && closes_last(behind),
-        None => false,
-    }
+    matches!(tokens, [first, behind @ ..] if opens_brace(first) && closes_last(behind))
 }
 
 /// An argument without the pair of braces round it.
@@ -217,16 +206,7 @@ fn header_of(alloc: Global, tokens: &[Token<'_>]) -> Result<Header, ExpandFault>
     let Some(name) = name_in(first) else {
         return Err(ExpandFault::NotUnderstood);
     };
-    header_with(alloc, name, behind)
-}
-
-/// A macro's name, and its parameters.
-fn header_with(alloc: Global, name: &[u8], tokens: &[Token<'_>]) -> Result<Header, ExpandFault>
-    ensures header { Gives is_outside (λ h. (h.name.items, map (λ k. k.items) h.params.keys)) result
-        (understood (header_with name.now (lexemes tokens.now))) }
-    ensures inside { IfErr result (λ e. is_failure e ≡ false) }
-{
-    let params = params_of(alloc, tokens)?;
+    let params = params_of(alloc, behind)?;
     let name = Vec::from_slice(alloc, name)?;
     Ok(Header { name, params })
 }
@@ -238,41 +218,14 @@ impl Rewriter {
         store: &mut S,
         tokens: &[Token<'_>],
     ) -> Result<Turn, ExpandFault>
-        ensures turns { IfSome (S.files store.old) (λ m.
-            Turns result (state_of m self.new)
-            (IsMacro (state_of m self.old) (lexemes tokens.now))) }
-        ensures named { NamesFiles self.old.reader → OnOk result (NamesFiles self.new.reader) }
-        ensures size { IfOk result (λ t. size_of self.new + weight_of t ≤ size_of self.old + 2) }
-        ensures files { S.files store.new ≡ S.files store.old }
-        ensures count { Passes ExpandFault.FileError (S.failures store.old) (S.failures store.new) result }
-        ensures stopped { NamesFiles self.old.reader → IfSome (S.files store.old) (λ m. StopsAt
-            (FailsDefining (S.blamed store.new) (state_of m self.old) (header_of
-            (lexemes tokens.now)))
-            self.old.reader self.new.reader result) }
+        ensures turns { TurnsTo (S.files store.old) self.old self.new result (λ m s.
+            IsMacro s (lexemes tokens.now)) }
+        ensures keeps { Keeps self.old self.new result }
+        ensures leaves { Leaves S.files S.failures store.old store.new result }
+        ensures stopped { StopsBy (S.files store.old) self.old self.new result (λ s.
+            FailsDefining (S.blamed store.new) s (header_of (lexemes tokens.now))) }
     {
-        let header = header_of(self.alloc, tokens)?;
-        self.keep_macro(store, header.name, header.params)
-    }
-
-    /// A macro that isn't there yet, with the lines that follow.
-    fn keep_macro<S: Store>(
-        &mut self,
-        store: &mut S,
-        name: Vec<u8>,
-        params: IndexSet<Vec<u8>>,
-    ) -> Result<Turn, ExpandFault>
-        ensures turns { IfSome (S.files store.old) (λ m.
-            Turns result (state_of m self.new)
-            (IsDefined (state_of m self.old) (Some (name.items, map (λ k. k.items) params.keys)))) }
-        ensures named { NamesFiles self.old.reader → OnOk result (NamesFiles self.new.reader) }
-        ensures size { IfOk result (λ t. size_of self.new + weight_of t ≤ size_of self.old + 2) }
-        ensures files { S.files store.new ≡ S.files store.old }
-        ensures count { Passes ExpandFault.FileError (S.failures store.old) (S.failures store.new) result }
-        ensures stopped { NamesFiles self.old.reader → IfSome (S.files store.old) (λ m. StopsAt
-            (FailsDefining (S.blamed store.new) (state_of m self.old)
-            (Some (name.items, map (λ k. k.items) params.keys)))
-            self.old.reader self.new.reader result) }
-    {
+        let Header { name, params } = header_of(self.alloc, tokens)?;
         if self.has_macro(name.as_slice()) {
             return Err(ExpandFault::MacroTwice);
         }
@@ -309,12 +262,9 @@ impl Rewriter {
 
     /// A call of a macro with what stands behind its name.
     fn call(&mut self, body: Rc<Body>, tokens: &[Token<'_>]) -> Result<Turn, ExpandFault>
-        ensures turns { (m : Files) →
-            Turns result (state_of m self.new)
-            (λ r. r ≡ called (state_of m self.old) (definition_of body.value)
-            (arguments_of (lexemes tokens.now))) }
-        ensures named { NamesFiles self.old.reader → OnOk result (NamesFiles self.new.reader) }
-        ensures size { IfOk result (λ t. size_of self.new + weight_of t ≤ size_of self.old + 2) }
+        ensures turns { LeadsTo self.old self.new result (λ s.
+            called s (definition_of body.value) (arguments_of (lexemes tokens.now))) }
+        ensures keeps { Keeps self.old self.new result }
         ensures inside { IfErr result (λ e. is_failure e ≡ false) }
     {
         let arguments = arguments_of(self.alloc, tokens)?;
@@ -327,18 +277,18 @@ impl Rewriter {
     /// The macro's lines with these arguments in them.
     fn replay(&mut self, body: Rc<Body>, arguments: Sequence<Line>) -> Result<Turn, ExpandFault>
         requires { length arguments ≤ length body.value.params.keys }
-        ensures turns { (m : Files) →
-            Turns result (state_of m self.new)
-            (λ r. r ≡ called (state_of m self.old) (definition_of body.value)
-            (map tokens_in arguments)) }
-        ensures named { NamesFiles self.old.reader → OnOk result (NamesFiles self.new.reader) }
-        ensures size { IfOk result (λ t. size_of self.new + weight_of t ≤ size_of self.old + 2) }
+        ensures turns { LeadsTo self.old self.new result (λ s.
+            called s (definition_of body.value) (map tokens_in arguments)) }
+        ensures keeps { Keeps self.old self.new result }
         ensures inside { IfErr result (λ e. is_failure e ≡ false) }
     {
         let Some(number) = self.expansions.checked_add(1) else {
             return Err(ExpandFault::OutOfMemory);
         };
-        let count = count_line(self.alloc, arguments.len())?;
+        let Ok(count) = u32::try_from(arguments.len()) else {
+            return Err(ExpandFault::OutOfMemory);
+        };
+        let count = number_line(self.alloc, count)?;
         let replay = Replay {
             body,
             at: 0,
@@ -358,53 +308,19 @@ impl Rewriter {
 
     /// A line without a directive of expansion: nothing, a call or a statement.
     pub fn call_or_give(&mut self, line: Line) -> Result<Turn, ExpandFault>
-        ensures turns { (m : Files) →
-            Turns result (state_of m self.new)
-            (λ r. r ≡ ordinary (state_of m self.old) (tokens_in line)) }
-        ensures named { NamesFiles self.old.reader → OnOk result (NamesFiles self.new.reader) }
-        ensures size { IfOk result (λ t. size_of self.new + weight_of t ≤ size_of self.old + 2) }
+        ensures turns { LeadsTo self.old self.new result (λ s. ordinary s (tokens_in line)) }
+        ensures keeps { Keeps self.old self.new result }
         ensures inside { IfErr result (λ e. is_failure e ≡ false) }
     {
-        match self.macro_in(&line)? {
-            Opening::Nothing => Ok(Turn::Goes),
-            Opening::Other => Ok(Turn::Gives(line)),
-            Opening::Call(body) => {
+        let Some(first) = line.first() else {
+            return Ok(Turn::Goes);
+        };
+        match self.macro_at(&first)? {
+            Some(body) => {
                 let tokens = line.tokens(self.alloc)?;
                 self.call(body, behind_first(tokens.as_slice()))
             }
+            None => Ok(Turn::Gives(line)),
         }
-    }
-
-    /// How a line begins.
-    fn macro_in(&self, line: &Line) -> Result<Opening, AllocError>
-        ensures { IfOk result (λ o. IsOpening o self.now (tokens_in line.now)) }
-    {
-        let Some(first) = line.first() else {
-            return Ok(Opening::Nothing);
-        };
-        match self.macro_at(&first)? {
-            Some(body) => Ok(Opening::Call(body)),
-            None => Ok(Opening::Other),
-        }
-    }
-}
-
-/// How a line begins that has no directive of expansion.
-#[derive(Drop)]
-pub enum Opening {
-    /// It has no token.
-    Nothing,
-    Call(Rc<Body>),
-    Other,
-}
-
-/// How many arguments there are, as a line.
-fn count_line(alloc: Global, count: usize) -> Result<Line, ExpandFault>
-    ensures line { Gives is_outside tokens_in result (Ok (number_token count ∷ [])) }
-    ensures inside { IfErr result (λ e. is_failure e ≡ false) }
-{
-    match u32::try_from(count) {
-        Ok(count) => Ok(number_line(alloc, count)?),
-        Err(_) => Err(ExpandFault::OutOfMemory),
     }
 }

@@ -4,15 +4,15 @@ ghost use Rattle.std.specs.Prelude.{◌≡◌, ◌<◌, ◌≤◌, ◌-◌, List
 ghost use Rattle.syntax65.specs.Tokens.{IsFront, Lexeme, lexeme_of};
 ghost use Rattle.base65.specs.Store.{Files};
 ghost use Rattle.std.specs.Option.{option_map};
-ghost use Rattle.expand65.specs.Inside.{is_call, left_in, left_of, mark_of, IsNamed, NamesFiles};
+ghost use Rattle.expand65.specs.Inside.{Stays, is_call, left_in, left_of, IsNamed};
 ghost use Rattle.syntax65.specs.declared.place.Place.{Place};
 ghost use Rattle.expand65.specs.Left.{moved};
-ghost use Rattle.expand65.specs.Playing.{IsPlainLine, PassesPlain, Plainly, directive_of_first, is_colon_there, IsPlain, IsAtHand, IsFirstLine, IsFirstOf, IsNext, TakesWritten};
+ghost use Rattle.expand65.specs.Playing.{IsPlainLine, PassesPlain, Plainly, is_colon_there, IsPlain, IsAtHand, IsFirstLine, IsFirstOf, IsNext, TakesWritten};
 ghost use Rattle.expand65.specs.Lines.{left_in_file, without_return, Takes};
 ghost use Rattle.syntax65.specs.Held.{HoldsNothing, held};
 
 use crate::file::{OpenFile, line_len};
-use crate::fronts::{Directive, directive_in, is_colon};
+use crate::fronts::{directive_in, is_colon};
 use crate::input::Source;
 use crate::reader::Reader;
 use std::alloc::Global;
@@ -22,33 +22,20 @@ use syntax65::{LineFront, LineTokens, Token, line_front};
 fn is_colon_there(token: Option<Token<'_>>) -> bool
     ensures { result ≡ is_colon_there (option_map lexeme_of token.entry) }
 {
-    match token {
-        Some(token) => is_colon(&token),
-        None => false,
-    }
-}
-
-/// The directive of expansion that a line's first token is.
-fn directive_of_first(token: Option<Token<'_>>) -> Option<Directive>
-    ensures { result ≡ directive_of_first (option_map lexeme_of token.entry) }
-{
-    match token {
-        Some(token) => directive_in(&token),
-        None => None,
-    }
+    matches!(token, Some(token) if is_colon(&token))
 }
 
 /// Whether a line that begins so has no label, and no directive of expansion.
 fn is_plain_front(front: LineFront<'_>) -> bool
     ensures { (ts : List Lexeme) → IsFront ts front.entry → IsTrue result → IsPlain ts }
 {
-    if is_colon_there(front.first) {
+    if is_colon_there(front.first) || is_colon_there(front.second) {
         return false;
     }
-    if is_colon_there(front.second) {
-        return false;
+    match front.first {
+        Some(first) => directive_in(&first).is_none(),
+        None => true,
     }
-    directive_of_first(front.first).is_none()
 }
 
 /// Whether a line has tokens, but no label and no directive of expansion.
@@ -81,11 +68,7 @@ fn plain_len(bytes: &[u8]) -> Option<usize>
         return None;
     }
     let (line, _) = bytes.split_at(len);
-    if is_plain_line(trimmed(line)) {
-        Some(len)
-    } else {
-        None
-    }
+    is_plain_line(trimmed(line)).then_some(len)
 }
 
 /// A line at hand: where the next one begins, and its number.
@@ -214,9 +197,7 @@ impl Reader {
             Takes (left_of m self.old) (Ok (Some ts, left_of m self.new)) }
         ensures place { self.new.place ≡ moved self.old.place line.number }
         ensures room { self.new.room ≡ self.old.room - 1 }
-        ensures mark { mark_of self.new.top ≡ mark_of self.old.top }
-        ensures outer { self.new.outer ≡ self.old.outer }
-        ensures named { NamesFiles self.old → NamesFiles self.new }
+        ensures stays { Stays self.old self.new }
     {
         self.top.source.take_peeked(line);
         self.room = self.room.saturating_sub(1);
@@ -227,30 +208,24 @@ impl Reader {
     fn pass_line(&mut self) -> bool
         ensures passed { (m : Files) → IsTrue result → PassesPlain (left_of m self.old) (left_of m self.new) }
         ensures room { IsTrue result → self.new.room < self.old.room }
-        ensures mark { mark_of self.new.top ≡ mark_of self.old.top }
-        ensures outer { self.new.outer ≡ self.old.outer }
-        ensures named { NamesFiles self.old → NamesFiles self.new }
+        ensures stays { Stays self.old self.new }
         ensures none { result ≡ false → self.new ≡ self.old }
     {
         if self.room == 0 {
             return false;
         }
-        match self.top.source.peek_plain() {
-            Some(line) => {
-                self.take_peeked(line);
-                true
-            }
-            None => false,
-        }
+        let Some(line) = self.top.source.peek_plain() else {
+            return false;
+        };
+        self.take_peeked(line);
+        true
     }
 
     /// Passes over plain lines of a file, each of which is taken. It stops at the latest where the bytes at hand end.
     pub fn pass_plain_lines(&mut self)
         ensures passed { (m : Files) → Plainly (left_of m self.old) (left_of m self.new) }
         ensures room { self.new.room ≤ self.old.room }
-        ensures mark { mark_of self.new.top ≡ mark_of self.old.top }
-        ensures outer { self.new.outer ≡ self.old.outer }
-        ensures named { NamesFiles self.old → NamesFiles self.new }
+        ensures stays { Stays self.old self.new }
     {
         'lines: loop {
             if !self.pass_line() {

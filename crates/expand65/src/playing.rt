@@ -1,10 +1,10 @@
 //! Bodies of macros and repeats, replayed with names replaced, and an expansion's own names.
 
-ghost use Rattle.std.specs.Prelude.{◌≡◌, ◌++◌, ◌∷◌, [], List, true, map, IfOk, OnOk, ◌<◌, position, false, IfErr, unwrap_or, Some};
+ghost use Rattle.std.specs.Prelude.{◌≡◌, ◌++◌, ◌∷◌, [], List, true, map, IfOk, OnOk, position, false, IfErr, unwrap_or, Some};
 ghost use Rattle.base65.specs.Store.{Files};
 ghost use Rattle.expand65.specs.Inside.{is_call, left_in};
 ghost use Rattle.expand65.specs.Playing.{tokens_in, replacing_of, tokens_for};
-ghost use Rattle.expand65.specs.Left.{Item, Mark, localised, mark, own_token, with_locals, argument_at, for_name, for_word, is_count_word, replaced, stand_in};
+ghost use Rattle.expand65.specs.Left.{Item, Mark, localised, mark, own_token, with_locals, argument_at, for_name, for_word, replaced, stand_in};
 ghost use Rattle.std.specs.Map.{lookup};
 ghost use Rattle.std.specs.Str.{bytes_eq};
 ghost use Rattle.base65.specs.Outcome.{Gives};
@@ -110,12 +110,6 @@ pub enum StandIn<'a> {
     Tokens(&'a Line),
 }
 
-fn is_count_word(text: &[u8]) -> bool
-    ensures { result ≡ is_count_word text.now }
-{
-    text.eq_ignore_ascii_case(b".paramcount")
-}
-
 impl Replay {
     /// What is given for the parameter at a place.
     fn argument_at(&self, place: usize) -> StandIn<'_>
@@ -160,12 +154,9 @@ impl Replay {
     fn for_word(&self, text: &[u8]) -> StandIn<'_>
         ensures { tokens_for result ≡ for_word (replacing_of self.now) text.now }
     {
-        if !is_count_word(text) {
-            return StandIn::Itself;
-        }
         match &self.count {
-            Some(line) => StandIn::Tokens(line),
-            None => StandIn::Itself,
+            Some(line) if text.eq_ignore_ascii_case(b".paramcount") => StandIn::Tokens(line),
+            _ => StandIn::Itself,
         }
     }
 

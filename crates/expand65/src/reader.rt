@@ -1,12 +1,12 @@
 //! The open files, expansions and repeats, one inside the other.
 
-ghost use Rattle.std.specs.Prelude.{◌≡◌, ◌<◌, ◌≤◌, ◌-◌, ◌+◌, length, IfErr, IfNone, IfOk, IfSome, IsTrue, OnOk, [], false, option_map};
-ghost use Rattle.base65.specs.Store.{Passes, Files};
+ghost use Rattle.std.specs.Prelude.{◌≡◌, ◌<◌, ◌≤◌, ◌+◌, length, IfErr, IfNone, IfOk, IfSome, IsTrue, OnOk, [], false, option_map};
+ghost use Rattle.base65.specs.Store.{Files};
 ghost use Rattle.syntax65.specs.ExpandFaults.{is_failure, is_outside};
-ghost use Rattle.expand65.specs.Inside.{FailsAtLine, StopsAt, last_read, AreNamed, IsNamed, NamesFiles, open_in, Answers, left_in, left_of, mark_of, moved_by, outside};
+ghost use Rattle.expand65.specs.Inside.{Stays, FailsAtLine, StopsAt, last_read, AreNamed, IsNamed, NamesFiles, open_in, Answers, left_in, left_of, mark_of, moved_by, outside};
 ghost use Rattle.expand65.specs.Playing.{tokens_in};
 ghost use Rattle.expand65.specs.Lines.{closed, end_of, exit_of, if_more, pushed, Takes};
-ghost use Rattle.expand65.specs.Left.{outside_macro, come_back};
+ghost use Rattle.expand65.specs.Left.{Leaves, outside_macro, come_back};
 ghost use Rattle.expand65.specs.Blocks.{TakesInBlock};
 
 use crate::input::{NextLine, Source};
@@ -67,11 +67,8 @@ impl Reader {
             IfOk result (λ l. IfNone l (left_in m self.new.top.source ≡ []))) }
         ensures room { IfOk result (λ l. IfSome l (λ _. self.new.room < self.old.room)) }
         ensures less { OnOk result (self.new.room ≤ self.old.room) }
-        ensures mark { mark_of self.new.top ≡ mark_of self.old.top }
-        ensures outer { self.new.outer ≡ self.old.outer }
-        ensures files { S.files store.new ≡ S.files store.old }
-        ensures count { Passes ExpandFault.FileError (S.failures store.old) (S.failures store.new) result }
-        ensures named { NamesFiles self.old → NamesFiles self.new }
+        ensures stays { Stays self.old self.new }
+        ensures leaves { Leaves S.files S.failures store.old store.new result }
         ensures stopped { NamesFiles self.old → IfSome (S.files store.old) (λ m. StopsAt
             (FailsAtLine (S.blamed store.new) (left_of m self.old)) self.old self.new result) }
     {
@@ -98,11 +95,8 @@ impl Reader {
             Answers (λ l. (tokens_in l, left_of m self.new)) self.new.place result
             (TakesInBlock (left_of m self.old))) }
         ensures room { OnOk result (self.new.room < self.old.room) }
-        ensures mark { mark_of self.new.top ≡ mark_of self.old.top }
-        ensures outer { self.new.outer ≡ self.old.outer }
-        ensures files { S.files store.new ≡ S.files store.old }
-        ensures count { Passes ExpandFault.FileError (S.failures store.old) (S.failures store.new) result }
-        ensures named { NamesFiles self.old → NamesFiles self.new }
+        ensures stays { Stays self.old self.new }
+        ensures leaves { Leaves S.files S.failures store.old store.new result }
         ensures stopped { NamesFiles self.old → IfSome (S.files store.old) (λ m. StopsAt
             (FailsAtLine (S.blamed store.new) (left_of m self.old)) self.old self.new result) }
     {

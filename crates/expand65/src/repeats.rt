@@ -1,20 +1,19 @@
 //! Repeats, the names of an expansion's own, and leaving one.
 
-ghost use Rattle.std.specs.Prelude.{◌≡◌, ◌≤◌, ◌+◌, false, map, IfErr, IfOk, OnOk, ◌∷◌, [], ℕ, IfSome, Ok, Result};
+ghost use Rattle.std.specs.Prelude.{◌≡◌, false, map, IfErr, ℕ, Ok, Result};
 ghost use Rattle.std.specs.List.{list_any};
 ghost use Rattle.base65.specs.Outcome.{Gives};
-ghost use Rattle.base65.specs.Store.{Files, Passes};
 ghost use Rattle.syntax65.specs.Tokens.{lexemes};
 ghost use Rattle.syntax65.specs.ExpandFaults.{is_failure, is_outside};
 ghost use Rattle.expand65.specs.Fronts.{understood};
 ghost use Rattle.expand65.specs.Macros.{exit_macro, is_made, local_line, new_names, IsRepeat, IsRepeated, repeat_header, turns_of, variable_of};
-ghost use Rattle.expand65.specs.Standing.{Turns, size_of, state_of, weight_of};
-ghost use Rattle.expand65.specs.Inside.{NamesFiles, StopsAt};
+ghost use Rattle.expand65.specs.Standing.{Keeps, TurnsTo, LeadsTo, StopsBy};
 ghost use Rattle.syntax65.specs.Expressions.{IsParsed};
 ghost use Rattle.base65.specs.Relations.{Answers};
 ghost use Rattle.syntax65.specs.Trees.{Tree};
 ghost use Rattle.syntax65.specs.declared.expressions.words.ExprFault.{ExprFault};
 ghost use Rattle.expand65.specs.Failing.{FailsAtRepeat, FailsRepeating};
+ghost use Rattle.expand65.specs.Left.{Leaves};
 
 use crate::blocks::BlockKind;
 use crate::input::Source;
@@ -25,7 +24,7 @@ use crate::reader::Input;
 use crate::rewriter::{Rewriter, Turn};
 use base65::{Sequence, Store};
 use indexmap::{IndexMap, IndexSet};
-use std::alloc::{AllocError, Global};
+use std::alloc::Global;
 use std::rc::Rc;
 use syntax65::{ExpandFault, Expr, Token, read_expr};
 
@@ -66,11 +65,8 @@ fn new_names<'a>(alloc: Global, tokens: &[Token<'a>]) -> Result<Vec<&'a [u8]>, E
 impl Rewriter {
     /// `.local` and what stands behind it.
     pub fn add_locals(&mut self, tokens: &[Token<'_>]) -> Result<Turn, ExpandFault>
-        ensures turns { (m : Files) →
-            Turns result (state_of m self.new)
-            (λ r. r ≡ local_line (state_of m self.old) (lexemes tokens.now)) }
-        ensures named { NamesFiles self.old.reader → OnOk result (NamesFiles self.new.reader) }
-        ensures size { IfOk result (λ t. size_of self.new + weight_of t ≤ size_of self.old + 2) }
+        ensures turns { LeadsTo self.old self.new result (λ s. local_line s (lexemes tokens.now)) }
+        ensures keeps { Keeps self.old self.new result }
         ensures inside { IfErr result (λ e. is_failure e ≡ false) }
     {
         if !self.reader.top.source.is_call() {
@@ -86,10 +82,8 @@ impl Rewriter {
 
     /// Leaves the innermost expansion.
     pub fn exit_macro(&mut self) -> Result<Turn, ExpandFault>
-        ensures turns { (m : Files) →
-            Turns result (state_of m self.new) (λ r. r ≡ exit_macro (state_of m self.old)) }
-        ensures named { NamesFiles self.old.reader → OnOk result (NamesFiles self.new.reader) }
-        ensures size { IfOk result (λ t. size_of self.new + weight_of t ≤ size_of self.old + 2) }
+        ensures turns { LeadsTo self.old self.new result exit_macro }
+        ensures keeps { Keeps self.old self.new result }
         ensures inside { IfErr result (λ e. is_failure e ≡ false) }
     {
         let Some(end) = self.reader.leave_macro() else {
@@ -114,15 +108,6 @@ pub struct Header {
     pub variable: IndexSet<Vec<u8>>,
 }
 
-/// One name.
-fn one_name(alloc: Global, name: &[u8]) -> Result<IndexSet<Vec<u8>>, AllocError>
-    ensures { IfOk result (λ s. map (λ k. k.items) s.keys ≡ name.now ∷ []) }
-{
-    let mut names = IndexSet::new(alloc);
-    names.insert(Vec::from_slice(alloc, name)?)?;
-    Ok(names)
-}
-
 /// Nothing, or a comma and a name.
 fn variable_of(alloc: Global, tokens: &[Token<'_>]) -> Result<IndexSet<Vec<u8>>, ExpandFault>
     ensures variable { Gives is_outside (λ s. map (λ k. k.items) s.keys) result
@@ -135,10 +120,12 @@ fn variable_of(alloc: Global, tokens: &[Token<'_>]) -> Result<IndexSet<Vec<u8>>,
     if tokens.len() != 2 || !is_comma_at(tokens, 0) {
         return Err(ExpandFault::NotUnderstood);
     }
-    match name_at(tokens, 1) {
-        Some(name) => Ok(one_name(alloc, name)?),
-        None => Err(ExpandFault::NotUnderstood),
-    }
+    let Some(name) = name_at(tokens, 1) else {
+        return Err(ExpandFault::NotUnderstood);
+    };
+    let mut names = IndexSet::new(alloc);
+    names.insert(Vec::from_slice(alloc, name)?)?;
+    Ok(names)
 }
 
 /// The expression of a count, and the variable, if there is one.
@@ -159,12 +146,8 @@ fn turns_of(value: Option<i64>) -> Result<u32, ExpandFault>
 {
     match value {
         None => Err(ExpandFault::NotConstant),
-        Some(count) => {
-            if count < 0 || count > MAX_TURNS {
-                return Err(ExpandFault::CountOutOfRange);
-            }
-            Ok(count as u32)
-        }
+        Some(count) if count < 0 || count > MAX_TURNS => Err(ExpandFault::CountOutOfRange),
+        Some(count) => Ok(count as u32),
     }
 }
 
@@ -176,17 +159,12 @@ impl Rewriter {
         knows: &K,
         tokens: &[Token<'_>],
     ) -> Result<Turn, ExpandFault>
-        ensures turns { IfSome (S.files store.old) (λ m.
-            Turns result (state_of m self.new)
-            (IsRepeat (K.meaning knows.now) (state_of m self.old) (lexemes tokens.now))) }
-        ensures named { NamesFiles self.old.reader → OnOk result (NamesFiles self.new.reader) }
-        ensures size { IfOk result (λ t. size_of self.new + weight_of t ≤ size_of self.old + 2) }
-        ensures files { S.files store.new ≡ S.files store.old }
-        ensures count { Passes ExpandFault.FileError (S.failures store.old) (S.failures store.new) result }
-        ensures stopped { NamesFiles self.old.reader → IfSome (S.files store.old) (λ m. StopsAt
-            (FailsAtRepeat (S.blamed store.new) (K.meaning knows.now) (state_of m self.old)
-            (lexemes tokens.now))
-            self.old.reader self.new.reader result) }
+        ensures turns { TurnsTo (S.files store.old) self.old self.new result (λ m s.
+            IsRepeat (K.meaning knows.now) s (lexemes tokens.now)) }
+        ensures keeps { Keeps self.old self.new result }
+        ensures leaves { Leaves S.files S.failures store.old store.new result }
+        ensures stopped { StopsBy (S.files store.old) self.old self.new result (λ s.
+            FailsAtRepeat (S.blamed store.new) (K.meaning knows.now) s (lexemes tokens.now)) }
     {
         let header = header_of(self.alloc, tokens)?;
         let count = turns_of(knows.value(self.alloc, &header.count)?)?;
@@ -200,17 +178,12 @@ impl Rewriter {
         count: u32,
         variable: IndexSet<Vec<u8>>,
     ) -> Result<Turn, ExpandFault>
-        ensures turns { IfSome (S.files store.old) (λ m.
-            Turns result (state_of m self.new)
-            (IsRepeated (state_of m self.old) (Ok (count, map (λ k. k.items) variable.keys)))) }
-        ensures named { NamesFiles self.old.reader → OnOk result (NamesFiles self.new.reader) }
-        ensures size { IfOk result (λ t. size_of self.new + weight_of t ≤ size_of self.old + 2) }
-        ensures files { S.files store.new ≡ S.files store.old }
-        ensures count { Passes ExpandFault.FileError (S.failures store.old) (S.failures store.new) result }
-        ensures stopped { NamesFiles self.old.reader → IfSome (S.files store.old) (λ m. StopsAt
-            (FailsRepeating (S.blamed store.new) (state_of m self.old)
-            (Ok (count, map (λ k. k.items) variable.keys)))
-            self.old.reader self.new.reader result) }
+        ensures turns { TurnsTo (S.files store.old) self.old self.new result (λ m s.
+            IsRepeated s (Ok (count, map (λ k. k.items) variable.keys))) }
+        ensures keeps { Keeps self.old self.new result }
+        ensures leaves { Leaves S.files S.failures store.old store.new result }
+        ensures stopped { StopsBy (S.files store.old) self.old self.new result (λ s.
+            FailsRepeating (S.blamed store.new) s (Ok (count, map (λ k. k.items) variable.keys))) }
     {
         let block = self.reader.block(self.alloc, store, BlockKind::Repeat)?;
         let lines = block.lines;

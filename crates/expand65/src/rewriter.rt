@@ -1,18 +1,19 @@
 //! Lines rewritten one after another.
 
 ghost use Rattle.std.specs.Prelude.{◌≡◌, ◌≤◌, ◌<◌, ◌+◌, [], true, false, length, IfErr, IfOk, IfSome, Ok, OnOk};
-ghost use Rattle.base65.specs.Store.{Files, Passes};
+ghost use Rattle.base65.specs.Store.{Files};
 ghost use Rattle.syntax65.specs.Tokens.{lexemes};
-ghost use Rattle.expand65.specs.State.{IsDecided, IsElse, IsIf, ended_if, Meaning};
-ghost use Rattle.expand65.specs.Failing.{FailsActing, FailsAlone, FailsAtElse, FailsAtIf, FailsBy, FailsDeciding, FailsIncluding, FailsTaking, FailsUnlabelled};
+ghost use Rattle.expand65.specs.State.{IsElse, IsIf, ended_if, Meaning};
+ghost use Rattle.expand65.specs.Failing.{FailsActing, FailsAlone, FailsAtElse, FailsAtIf, FailsBy, FailsIncluding, FailsTaking, FailsUnlabelled};
 ghost use Rattle.syntax65.specs.ExpandFaults.{is_failure};
-ghost use Rattle.expand65.specs.Inside.{StopsAt, NamesFiles, left_in, left_of};
+ghost use Rattle.expand65.specs.Inside.{NamesFiles, left_in, left_of};
 ghost use Rattle.expand65.specs.Fronts.{front_directive, is_mislabelled, string_of};
-ghost use Rattle.expand65.specs.Expansion.{include_line, included, IsActed, IsDirected, IsLabelled, IsStep, at_mark, error_by, last_condition};
+ghost use Rattle.expand65.specs.Expansion.{include_line, included, IsActed, IsDirected, IsLabelled, IsStep, at_mark, last_condition};
 ghost use Rattle.expand65.specs.Playing.{tokens_in};
 ghost use Rattle.expand65.specs.Lines.{bytes_of};
-ghost use Rattle.expand65.specs.Standing.{Turns, size_of, stands_alone, state_of, weight_of};
+ghost use Rattle.expand65.specs.Standing.{Keeps, TurnsTo, LeadsTo, StopsBy, Turns, size_of, stands_alone, state_of, weight_of};
 ghost use Rattle.expand65.specs.Macros.{file_of};
+ghost use Rattle.expand65.specs.Left.{Leaves};
 
 use crate::blocks::{BlockEnd, BlockKind};
 use crate::conditions::{Conditions, condition};
@@ -58,19 +59,22 @@ pub struct Rewriter {
 }
 
 impl Rewriter {
-    /// A condition that is true, or false.
-    fn decide<S: Store>(&mut self, store: &mut S, holds: bool) -> Result<Turn, ExpandFault>
-        ensures turns { IfSome (S.files store.old) (λ m.
-            Turns result (state_of m self.new) (IsDecided (state_of m self.old) (Ok holds))) }
-        ensures named { NamesFiles self.old.reader → OnOk result (NamesFiles self.new.reader) }
-        ensures size { IfOk result (λ t. size_of self.new + weight_of t ≤ size_of self.old + 2) }
-        ensures files { S.files store.new ≡ S.files store.old }
-        ensures count { Passes ExpandFault.FileError (S.failures store.old) (S.failures store.new) result }
-        ensures stopped { NamesFiles self.old.reader → IfSome (S.files store.old) (λ m. StopsAt
-            (FailsDeciding (S.blamed store.new) (state_of m self.old) (Ok holds))
-            self.old.reader self.new.reader result) }
+    /// An `.if` of some kind, or an `.elseif` that has to be decided.
+    pub fn begin_if<S: Store, K: Knows>(
+        &mut self,
+        store: &mut S,
+        knows: &K,
+        test: Test,
+        tokens: &[Token<'_>],
+    ) -> Result<Turn, ExpandFault>
+        ensures turns { TurnsTo (S.files store.old) self.old self.new result (λ m s.
+            IsIf (K.meaning knows.now) s test (lexemes tokens.now)) }
+        ensures keeps { Keeps self.old self.new result }
+        ensures leaves { Leaves S.files S.failures store.old store.new result }
+        ensures stopped { StopsBy (S.files store.old) self.old self.new result (λ s.
+            FailsAtIf (S.blamed store.new) (K.meaning knows.now) s test (lexemes tokens.now)) }
     {
-        if holds {
+        if condition(self.alloc, knows, test, tokens)? {
             self.conditions.push(false)?;
             return Ok(Turn::Goes);
         }
@@ -86,37 +90,10 @@ impl Rewriter {
         }
     }
 
-    /// An `.if` of some kind, or an `.elseif` that has to be decided.
-    pub fn begin_if<S: Store, K: Knows>(
-        &mut self,
-        store: &mut S,
-        knows: &K,
-        test: Test,
-        tokens: &[Token<'_>],
-    ) -> Result<Turn, ExpandFault>
-        ensures turns { IfSome (S.files store.old) (λ m.
-            Turns result (state_of m self.new)
-            (IsIf (K.meaning knows.now) (state_of m self.old) test (lexemes tokens.now))) }
-        ensures named { NamesFiles self.old.reader → OnOk result (NamesFiles self.new.reader) }
-        ensures size { IfOk result (λ t. size_of self.new + weight_of t ≤ size_of self.old + 2) }
-        ensures files { S.files store.new ≡ S.files store.old }
-        ensures count { Passes ExpandFault.FileError (S.failures store.old) (S.failures store.new) result }
-        ensures stopped { NamesFiles self.old.reader → IfSome (S.files store.old) (λ m. StopsAt
-            (FailsAtIf (S.blamed store.new) (K.meaning knows.now) (state_of m self.old) test
-            (lexemes tokens.now))
-            self.old.reader self.new.reader result) }
-    {
-        let holds = condition(self.alloc, knows, test, tokens)?;
-        self.decide(store, holds)
-    }
-
     /// An `.endif` of an open condition.
     pub fn end_if(&mut self) -> Result<Turn, ExpandFault>
-        ensures turns { (m : Files) →
-            Turns result (state_of m self.new)
-            (λ r. r ≡ ended_if (state_of m self.old) (last_condition (state_of m self.old))) }
-        ensures named { NamesFiles self.old.reader → OnOk result (NamesFiles self.new.reader) }
-        ensures size { IfOk result (λ t. size_of self.new + weight_of t ≤ size_of self.old + 2) }
+        ensures turns { LeadsTo self.old self.new result (λ s. ended_if s (last_condition s)) }
+        ensures keeps { Keeps self.old self.new result }
         ensures inside { IfErr result (λ e. is_failure e ≡ false) }
     {
         match self.conditions.pop_above(self.reader.top.conditions) {
@@ -127,17 +104,12 @@ impl Rewriter {
 
     /// An `.elseif` or `.else` behind a condition that was true.
     pub fn pass_else<S: Store>(&mut self, store: &mut S) -> Result<Turn, ExpandFault>
-        ensures turns { IfSome (S.files store.old) (λ m.
-            Turns result (state_of m self.new)
-            (IsElse (state_of m self.old) (last_condition (state_of m self.old)))) }
-        ensures named { NamesFiles self.old.reader → OnOk result (NamesFiles self.new.reader) }
-        ensures size { IfOk result (λ t. size_of self.new + weight_of t ≤ size_of self.old + 2) }
-        ensures files { S.files store.new ≡ S.files store.old }
-        ensures count { Passes ExpandFault.FileError (S.failures store.old) (S.failures store.new) result }
-        ensures stopped { NamesFiles self.old.reader → IfSome (S.files store.old) (λ m. StopsAt
-            (FailsAtElse (S.blamed store.new) (state_of m self.old) (last_condition
-            (state_of m self.old)))
-            self.old.reader self.new.reader result) }
+        ensures turns { TurnsTo (S.files store.old) self.old self.new result (λ m s.
+            IsElse s (last_condition s)) }
+        ensures keeps { Keeps self.old self.new result }
+        ensures leaves { Leaves S.files S.failures store.old store.new result }
+        ensures stopped { StopsBy (S.files store.old) self.old self.new result (λ s.
+            FailsAtElse (S.blamed store.new) s (last_condition s)) }
     {
         match self.conditions.pop_above(self.reader.top.conditions) {
             None => Err(ExpandFault::NotOpened),
@@ -149,46 +121,18 @@ impl Rewriter {
         }
     }
 
-    /// What stands behind an `.elseif` that has to be decided.
-    pub fn begin_branch<S: Store, K: Knows>(
-        &mut self,
-        store: &mut S,
-        knows: &K,
-        line: &Line,
-    ) -> Result<Turn, ExpandFault>
-        ensures turns { IfSome (S.files store.old) (λ m.
-            Turns result (state_of m self.new)
-            (IsIf (K.meaning knows.now) (state_of m self.old) Test.True (tokens_in line.now))) }
-        ensures named { NamesFiles self.old.reader → OnOk result (NamesFiles self.new.reader) }
-        ensures size { IfOk result (λ t. size_of self.new + weight_of t ≤ size_of self.old + 2) }
-        ensures files { S.files store.new ≡ S.files store.old }
-        ensures count { Passes ExpandFault.FileError (S.failures store.old) (S.failures store.new) result }
-        ensures stopped { NamesFiles self.old.reader → IfSome (S.files store.old) (λ m. StopsAt
-            (FailsAtIf (S.blamed store.new) (K.meaning knows.now) (state_of m self.old) Test.True
-            (tokens_in line.now))
-            self.old.reader self.new.reader result) }
-    {
-        let tokens = line.tokens(self.alloc)?;
-        self.begin_if(store, knows, Test::True, tokens.as_slice())
-    }
-
     /// `.include` and what stands behind it.
     fn include<S: Store>(
         &mut self,
         store: &mut S,
         tokens: &[Token<'_>],
     ) -> Result<Turn, ExpandFault>
-        ensures turns { IfSome (S.files store.old) (λ m.
-            Turns result (state_of m self.new)
-            (λ r. r ≡ include_line m (state_of m self.old) (lexemes tokens.now))) }
-        ensures named { NamesFiles self.old.reader → OnOk result (NamesFiles self.new.reader) }
-        ensures size { IfOk result (λ t. size_of self.new + weight_of t ≤ size_of self.old + 2) }
-        ensures files { S.files store.new ≡ S.files store.old }
-        ensures count { Passes ExpandFault.FileError (S.failures store.old) (S.failures store.new) result }
-        ensures stopped { NamesFiles self.old.reader → IfSome (S.files store.old) (λ m. StopsAt
-            (FailsIncluding (S.blamed store.new) (state_of m self.old) (string_of
-            (lexemes tokens.now)))
-            self.old.reader self.new.reader result) }
+        ensures turns { TurnsTo (S.files store.old) self.old self.new result (λ m s r.
+            r ≡ include_line m s (lexemes tokens.now)) }
+        ensures keeps { Keeps self.old self.new result }
+        ensures leaves { Leaves S.files S.failures store.old store.new result }
+        ensures stopped { StopsBy (S.files store.old) self.old self.new result (λ s.
+            FailsIncluding (S.blamed store.new) s (string_of (lexemes tokens.now))) }
     {
         let Some(name) = string_of(tokens) else {
             return Err(ExpandFault::NotUnderstood);
@@ -203,8 +147,7 @@ impl Rewriter {
         ensures turns { (m : Files) →
             length (bytes_of m file) ≤ 16777216 → Turns result (state_of m self.new)
             (λ r. r ≡ included (state_of m self.old) (Ok (file_of m file))) }
-        ensures named { NamesFiles self.old.reader → OnOk result (NamesFiles self.new.reader) }
-        ensures size { IfOk result (λ t. size_of self.new + weight_of t ≤ size_of self.old + 2) }
+        ensures keeps { Keeps self.old self.new result }
         ensures inside { IfErr result (λ e. is_failure e ≡ false) }
     {
         let place = Place {
@@ -221,22 +164,6 @@ impl Rewriter {
         Ok(Turn::Goes)
     }
 
-    /// `.error` and what stands behind it.
-    fn refuse(&mut self, tokens: &[Token<'_>]) -> Result<Turn, ExpandFault>
-        ensures turns { (m : Files) →
-            Turns result (state_of m self.new)
-            (λ r. r ≡ error_by (state_of m self.old) (string_of (lexemes tokens.now))) }
-        ensures named { NamesFiles self.old.reader → OnOk result (NamesFiles self.new.reader) }
-        ensures size { IfOk result (λ t. size_of self.new + weight_of t ≤ size_of self.old + 2) }
-        ensures inside { IfErr result (λ e. is_failure e ≡ false) }
-    {
-        let Some(text) = string_of(tokens) else {
-            return Err(ExpandFault::NotUnderstood);
-        };
-        let text = Vec::from_slice(self.alloc, text)?;
-        Err(ExpandFault::Error(Sequence::from_vec(text)))
-    }
-
     /// A directive that nothing stands behind.
     fn act_alone<S: Store>(
         &mut self,
@@ -248,13 +175,10 @@ impl Rewriter {
         ensures turns { IfSome (S.files store.old) (λ m.
             (k : Meaning) → Turns result (state_of m self.new)
             (IsDirected m k (state_of m self.old) directive (lexemes tokens.now))) }
-        ensures named { NamesFiles self.old.reader → OnOk result (NamesFiles self.new.reader) }
-        ensures size { IfOk result (λ t. size_of self.new + weight_of t ≤ size_of self.old + 2) }
-        ensures files { S.files store.new ≡ S.files store.old }
-        ensures count { Passes ExpandFault.FileError (S.failures store.old) (S.failures store.new) result }
-        ensures stopped { NamesFiles self.old.reader → IfSome (S.files store.old) (λ m. StopsAt
-            (FailsAlone (S.blamed store.new) (state_of m self.old) directive (lexemes tokens.now))
-            self.old.reader self.new.reader result) }
+        ensures keeps { Keeps self.old self.new result }
+        ensures leaves { Leaves S.files S.failures store.old store.new result }
+        ensures stopped { StopsBy (S.files store.old) self.old self.new result (λ s.
+            FailsAlone (S.blamed store.new) s directive (lexemes tokens.now)) }
     {
         if !tokens.is_empty() {
             return Err(ExpandFault::NotUnderstood);
@@ -277,18 +201,12 @@ impl Rewriter {
         directive: Directive,
         tokens: &[Token<'_>],
     ) -> Result<Turn, ExpandFault>
-        ensures turns { IfSome (S.files store.old) (λ m.
-            Turns result (state_of m self.new)
-            (IsDirected m (K.meaning knows.now) (state_of m self.old) directive
-            (lexemes tokens.now))) }
-        ensures named { NamesFiles self.old.reader → OnOk result (NamesFiles self.new.reader) }
-        ensures size { IfOk result (λ t. size_of self.new + weight_of t ≤ size_of self.old + 2) }
-        ensures files { S.files store.new ≡ S.files store.old }
-        ensures count { Passes ExpandFault.FileError (S.failures store.old) (S.failures store.new) result }
-        ensures stopped { NamesFiles self.old.reader → IfSome (S.files store.old) (λ m. StopsAt
-            (FailsBy (S.blamed store.new) (K.meaning knows.now) (state_of m self.old) directive
-            (lexemes tokens.now))
-            self.old.reader self.new.reader result) }
+        ensures turns { TurnsTo (S.files store.old) self.old self.new result (λ m s.
+            IsDirected m (K.meaning knows.now) s directive (lexemes tokens.now)) }
+        ensures keeps { Keeps self.old self.new result }
+        ensures leaves { Leaves S.files S.failures store.old store.new result }
+        ensures stopped { StopsBy (S.files store.old) self.old self.new result (λ s.
+            FailsBy (S.blamed store.new) (K.meaning knows.now) s directive (lexemes tokens.now)) }
     {
         match directive {
             Directive::Macro => self.begin_macro(store, tokens),
@@ -297,7 +215,13 @@ impl Rewriter {
             Directive::If(test) => self.begin_if(store, knows, test, tokens),
             Directive::ElseIf => self.pass_else(store),
             Directive::Include => self.include(store, tokens),
-            Directive::Error => self.refuse(tokens),
+            Directive::Error => {
+                let Some(text) = string_of(tokens) else {
+                    return Err(ExpandFault::NotUnderstood);
+                };
+                let text = Vec::from_slice(self.alloc, text)?;
+                Err(ExpandFault::Error(Sequence::from_vec(text)))
+            }
             Directive::Else | Directive::EndIf => self.act_alone(store, directive, tokens),
             Directive::EndMacro | Directive::EndRepeat => self.act_alone(store, directive, tokens),
             Directive::ExitMacro | Directive::End => self.act_alone(store, directive, tokens),
@@ -312,18 +236,12 @@ impl Rewriter {
         knows: &K,
         line: Line,
     ) -> Result<Turn, ExpandFault>
-        ensures turns { IfSome (S.files store.old) (λ m.
-            Turns result (state_of m self.new)
-            (IsActed m (K.meaning knows.now) (state_of m self.old) (tokens_in line)
-            (front_directive (tokens_in line)))) }
-        ensures named { NamesFiles self.old.reader → OnOk result (NamesFiles self.new.reader) }
-        ensures size { IfOk result (λ t. size_of self.new + weight_of t ≤ size_of self.old + 2) }
-        ensures files { S.files store.new ≡ S.files store.old }
-        ensures count { Passes ExpandFault.FileError (S.failures store.old) (S.failures store.new) result }
-        ensures stopped { NamesFiles self.old.reader → IfSome (S.files store.old) (λ m. StopsAt
-            (FailsActing (S.blamed store.new) (K.meaning knows.now) (state_of m self.old)
-            (tokens_in line)
-            (front_directive (tokens_in line))) self.old.reader self.new.reader result) }
+        ensures turns { TurnsTo (S.files store.old) self.old self.new result (λ m s.
+            IsActed m (K.meaning knows.now) s (tokens_in line) (front_directive (tokens_in line))) }
+        ensures keeps { Keeps self.old self.new result }
+        ensures leaves { Leaves S.files S.failures store.old store.new result }
+        ensures stopped { StopsBy (S.files store.old) self.old self.new result (λ s.
+            FailsActing (S.blamed store.new) (K.meaning knows.now) s (tokens_in line) (front_directive (tokens_in line))) }
     {
         match line.directive() {
             Some(directive) => {
@@ -342,18 +260,13 @@ impl Rewriter {
         knows: &K,
         line: Line,
     ) -> Result<Turn, ExpandFault>
-        ensures turns { IfSome (S.files store.old) (λ m.
-            Turns result (state_of m self.new)
-            (IsLabelled m (K.meaning knows.now) (state_of m self.old) (tokens_in line)
-            (is_mislabelled (tokens_in line)))) }
+        ensures turns { TurnsTo (S.files store.old) self.old self.new result (λ m s.
+            IsLabelled m (K.meaning knows.now) s (tokens_in line) (is_mislabelled (tokens_in line))) }
         ensures named { NamesFiles self.old.reader → OnOk result (NamesFiles self.new.reader) }
         ensures size { IfOk result (λ t. size_of self.new + weight_of t ≤ size_of self.old + 3) }
-        ensures files { S.files store.new ≡ S.files store.old }
-        ensures count { Passes ExpandFault.FileError (S.failures store.old) (S.failures store.new) result }
-        ensures stopped { NamesFiles self.old.reader → IfSome (S.files store.old) (λ m. StopsAt
-            (FailsUnlabelled (S.blamed store.new) (K.meaning knows.now) (state_of m self.old)
-            (tokens_in line))
-            self.old.reader self.new.reader result) }
+        ensures leaves { Leaves S.files S.failures store.old store.new result }
+        ensures stopped { StopsBy (S.files store.old) self.old self.new result (λ s.
+            FailsUnlabelled (S.blamed store.new) (K.meaning knows.now) s (tokens_in line)) }
     {
         match line.parted(self.alloc)? {
             Some((label, rest)) => Ok(Turn::Parts(label, rest)),
@@ -384,16 +297,13 @@ impl Rewriter {
         store: &mut S,
         knows: &K,
     ) -> Result<Turn, ExpandFault>
-        ensures turns { IfSome (S.files store.old) (λ m.
-            Turns result (state_of m self.new)
-            (IsStep m (K.meaning knows.now) (state_of m self.old))) }
+        ensures turns { TurnsTo (S.files store.old) self.old self.new result (λ m s.
+            IsStep m (K.meaning knows.now) s) }
         ensures named { NamesFiles self.old.reader → OnOk result (NamesFiles self.new.reader) }
         ensures size { IfOk result (λ t. size_of self.new + weight_of t < size_of self.old + 1) }
-        ensures files { S.files store.new ≡ S.files store.old }
-        ensures count { Passes ExpandFault.FileError (S.failures store.old) (S.failures store.new) result }
-        ensures stopped { NamesFiles self.old.reader → IfSome (S.files store.old) (λ m. StopsAt
-            (FailsTaking (S.blamed store.new) (K.meaning knows.now) (state_of m self.old))
-            self.old.reader self.new.reader result) }
+        ensures leaves { Leaves S.files S.failures store.old store.new result }
+        ensures stopped { StopsBy (S.files store.old) self.old self.new result (λ s.
+            FailsTaking (S.blamed store.new) (K.meaning knows.now) s) }
     {
         match self.reader.next_line(self.alloc, store)? {
             None => self.end_input(),

@@ -240,7 +240,7 @@ pub record IsMeasured (y : Symbols) (l : Laid) : Type 0 where
 pub record IsSoundLayout (y : Layout) : Type 0 where
   pub named : are_names (map (λ g. g.name) y.cursor.segments) ≡ true
   pub sound : AllByRecursion (λ l. IsSound l.stated) y.laid
-  pub cursor : AllByRecursion (λ l. l.context.segment < length y.cursor.segments) y.laid
+  pub standing : AllByRecursion (λ l. l.context.segment < length y.cursor.segments) y.laid
   pub measured : (i : ℕ) (l : Laid) → slice_get y.laid i ≡ Some l → IsMeasured (symbols_of (take i y.laid)) l
   pub room : (g : ℕ) → sum_by (λ l. l.length) (statements_in y.laid g) ≤ section_limit
 
@@ -288,6 +288,6 @@ part_len (Waiting width place f) = width_len width
 pub record AreSound (segments : List Segment) (names : List (List ℕ)) (cs : List Content) : Type 0 where
   pub named : are_names (map (λ g. g.name) segments) ≡ true
   pub imported : are_names names ≡ true
-  pub cursor : AllByRecursion (λ c. c.segment < length segments) cs
+  pub standing : AllByRecursion (λ c. c.segment < length segments) cs
   pub room : (g : ℕ) → sum_by part_len (parts_in cs g) ≤ section_limit
   pub contents : AllByRecursion (IsSoundContent (section_keys cs) (length names)) cs

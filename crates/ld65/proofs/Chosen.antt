@@ -1,23 +1,24 @@
 -- The members of a library that are needed, one after another.
-use Rattle.std.proofs.Common.{◌≡◌, ◌∙◌, ◌<◌, ◌+◌, ℕ, zero, suc, List, [], ◌∷◌, ◌++◌, drop, get_or, length, Bool, true, false, slice_get, Option, Some, None, Result, Ok, Err, refl, sym, ap, subst, arith}
+use Rattle.std.proofs.lemmas.Grind.{common_steps}
+use Rattle.std.proofs.Common.{◌≡◌, ◌∙◌, ◌<◌, ◌≤◌, ◌+◌, ℕ, zero, suc, List, [], ◌∷◌, ◌++◌, drop, get_or, length, Bool, true, false, slice_get, Option, Some, None, Result, Ok, Err, refl, sym, ap, subst, arith}
 use Rattle.std.specs.Prelude.{IfSome}
 use Rattle.std.specs.Option.{option_map_or}
 use Rattle.script65.proofs.Eaches.{drop_item}
 use Rattle.base65.specs.Outcome.{◌>>=◌, Refuses, Unless}
-use Rattle.base65.specs.Store.{Files, PassesBy}
+use Rattle.base65.specs.Store.{Files}
 use Rattle.base65.proofs.Outcome.{refused-then}
+use Rattle.library65.specs.declared.fault.LibraryFault.{LibraryFault}
 use Rattle.library65.specs.declared.index.Entry.{Entry}
 use Rattle.script65.specs.declared.script.Script.{Script}
 use Rattle.link65.specs.declared.fault.LinkFault.{LinkFault}
 use Rattle.link65.specs.Programs.{Module}
 use Rattle.link65.specs.Standing.{Feeding, IsFed, module_of}
-use Rattle.ld65.specs.declared.members.Choice.{Choice}
 use Rattle.ld65.specs.declared.refusal.Refusal.{Refusal}
 use Rattle.ld65.specs.declared.refusal.Refusal.TheVariants as refusal
-use Rattle.ld65.specs.Inner.Feeding.{Chooses, FeedsLibrary, FeedsMembers, FeedsObject, Leads, LeadsBy}
+use Rattle.ld65.specs.Inner.Feeding.{AreChosen, FeedsLibrary, FeedsMembers, FeedsObject, Leads, LeadsBy}
 use Rattle.ld65.specs.Linkage.{Input, IsLibraryInput, as_library, chosen, chosen_at, index_in, member_input, member_module, with_member, with_members}
-use Rattle.ld65.specs.Refusals.{is_failure, is_outside, refusal_in}
-use Rattle.ld65.proofs.Fed.{Counted, fed_behind, in_outside, kept_by, later_count, refused_behind}
+use Rattle.ld65.specs.Refusals.{is_outside, refusal_in}
+use Rattle.ld65.proofs.Fed.{fed_behind, in_outside, refused_behind}
 
 -- ---- One member.
 
@@ -122,19 +123,12 @@ place_at known library es places k d old mid lt is =
     let place = get_or places k d in
     subst (λ (left : List Entry). IsAfter known library (chosen es places) left old mid) (ap (chosen es) (drop_item places k place lt (any_default places k d place lt))) is
 
--- an index and places of it as they are borrowed
-module _ (known now : Option Files) (library : List ℕ) (es entries : List Entry) (places ps : List ℕ) (k d : ℕ) (old mid new : Feeding) (same_es : entries ≡ es) (same_places : ps ≡ places) (lt : k < length ps) (same : now ≡ known) (script : mid.script ≡ old.script) (is : IsAfter known library (chosen es places) (chosen es (drop k places)) old mid) where
-  at_turn : (r : Result (Unit {0}) Refusal) → FeedsMembers now library (chosen_at entries (get_or ps k d)) mid new r → FeedsMembers now library (chosen_at es (get_or places k d)) mid new r
-  at_turn r fed = subst (λ (left : List Entry). FeedsMembers now library left mid new r) (ap (λ xs. chosen_at xs (get_or ps k d)) same_es ∙ ap (λ xs. chosen_at es (get_or xs k d)) same_places) fed
+module _ (known now : Option Files) (library : List ℕ) (es : List Entry) (places : List ℕ) (k d : ℕ) (old mid new : Feeding) (lt : k < length places) (same : now ≡ known) (script : mid.script ≡ old.script) (is : IsAfter known library (chosen es places) (chosen es (drop k places)) old mid) where
+  pub turn_refused : (x : Refusal) → FeedsMembers now library (chosen_at es (get_or places k d)) mid new (Err x) → FeedsMembers known library (chosen es places) old new (Err x)
+  turn_refused x fed = after_refused known library (chosen es places) (chosen_at es (get_or places k d)) (chosen es (drop (k + 1) places)) now old mid new x same script (place_at known library es places k d old mid lt is) fed
 
-  is_next : IsAfter known library (chosen es places) (chosen_at es (get_or places k d) ++ chosen es (drop (k + 1) places)) old mid
-  is_next = place_at known library es places k d old mid (subst (λ (xs : List ℕ). k < length xs) same_places lt) is
-
-  pub turn_refused : (x : Refusal) → FeedsMembers now library (chosen_at entries (get_or ps k d)) mid new (Err x) → FeedsMembers known library (chosen es places) old new (Err x)
-  turn_refused x fed = after_refused known library (chosen es places) (chosen_at es (get_or places k d)) (chosen es (drop (k + 1) places)) now old mid new x same script is_next (at_turn (Err x) fed)
-
-  pub turn_fed : FeedsMembers now library (chosen_at entries (get_or ps k d)) mid new (Ok tt) → IsAfter known library (chosen es places) (chosen es (drop (k + 1) places)) old new
-  turn_fed fed = after_more known library (chosen es places) (chosen_at es (get_or places k d)) (chosen es (drop (k + 1) places)) now old mid new same script is_next (at_turn (Ok tt) fed)
+  pub turn_fed : FeedsMembers now library (chosen_at es (get_or places k d)) mid new (Ok tt) → IsAfter known library (chosen es places) (chosen es (drop (k + 1) places)) old new
+  turn_fed fed = after_more known library (chosen es places) (chosen_at es (get_or places k d)) (chosen es (drop (k + 1) places)) now old mid new same script (place_at known library es places k d old mid lt is) fed
 
 pub entry_there : (known : Option Files) (library : List ℕ) (es : List Entry) (place : ℕ) (e : Entry) (old new : Feeding) (r : Result (Unit {0}) Refusal) → Some e ≡ slice_get es place → FeedsMembers known library (e ∷ []) old new r → FeedsMembers known library (chosen_at es place) old new r
 entry_there known library es place e old new r there fed =
@@ -151,33 +145,56 @@ none_there known library es place old there =
         go None = tt
         go (Some m) = refl
 
+-- before the first of the members
+pub after_none : (known : Option Files) (library : List ℕ) (all : List Entry) (old : Feeding) → IsAfter known library all all old old
+after_none known library all old before stands = (before, stands, go known)
+  where
+    go : (f : Option Files) → IfSome f (λ m. with_members old.script m library before all ≡ with_members old.script m library before all)
+    go None = tt
+    go (Some m) = refl
+
+-- behind the last
+pub after_all : (known : Option Files) (library : List ℕ) (es : List Entry) (places : List ℕ) (k : ℕ) (old new : Feeding) → length places ≤ k → IsAfter known library (chosen es places) (chosen es (drop k places)) old new → FeedsMembers known library (chosen es places) old new (Ok tt)
+after_all known library es places k old new le is before stands =
+    let p = is before stands in
+    (p.0, subst (λ (ps : List ℕ). IfSome known (λ m. with_members old.script m library before (chosen es places) ≡ with_members old.script m library p.0 (chosen es ps))) (drop_past places k le) p.2, p.1)
+  where
+    drop_past : (ps : List ℕ) (k : ℕ) → length ps ≤ k → drop k ps ≡ []
+    drop_past ps k le = grind (arith, common_steps)
+
 -- ---- A library.
 
-pub library_fed : (known now : Option Files) (k : ℕ) (library : List ℕ) (c : Choice) (old new : Feeding) (r : Result (Unit {0}) Refusal) → now ≡ known → Chooses known k library old (Ok c) → FeedsMembers now library (chosen c.index.entries c.places.items) old new r → FeedsLibrary known k library old new r
-library_fed known now k library c old new r same chooses fed before stands = by r (rw same at fed before stands)
+-- an index that was read
+indexed : (known : Option Files) (k : ℕ) (library : List ℕ) (es : List Entry) → IfSome known (λ m. as_library k (index_in m library) ≡ Ok es) → IfSome known (λ m. index_in m library ≡ Ok es)
+indexed None k library es h = tt
+indexed (Some m) k library es h = go (index_in m library) h
   where
+    go : (r : Result (List Entry) LibraryFault) → as_library k r ≡ Ok es → r ≡ Ok es
+    go (Ok x) h = let same : x ≡ es = cc in ap Ok same
+    go (Err f) h = absurd cc
+
+-- the members were fed, an index and places of it as they are borrowed
+pub library_fed : (known : Option Files) (k : ℕ) (library : List ℕ) (es entries : List Entry) (places ps : List ℕ) (old new : Feeding) (r : Result (Unit {0}) Refusal) → entries ≡ es → ps ≡ places → IfSome known (λ m. as_library k (index_in m library) ≡ Ok es) → AreChosen es places old → FeedsMembers known library (chosen entries ps) old new r → FeedsLibrary known k library old new r
+library_fed known k library es entries places ps old new r same_es same_places read chosen_so fed before stands = by r (rw (same_es, same_places) at fed before stands)
+  where
+    index : IfSome known (λ m. index_in m library ≡ Ok es)
+    index = indexed known k library es read
+
     all_in : Files → Result (List Module) Refusal
-    all_in m = with_members old.script m library before (chosen c.index.entries c.places.items)
+    all_in m = with_members old.script m library before (chosen es places)
 
-    as_input : (m : Files) (q : Result (List Module) Refusal) → index_in m library ≡ Ok c.index.entries → all_in m ≡ q → IsLibraryInput old.script m k before library q
-    as_input m q index h = rw index (c.places.items, chooses.1 before stands, sym h)
+    as_input : (m : Files) (q : Result (List Module) Refusal) → index_in m library ≡ Ok es → all_in m ≡ q → IsLibraryInput old.script m k before library q
+    as_input m q index h = rw index (places, chosen_so before stands, sym h)
 
-    told : (f : Option Files) (q : Result (List Module) Refusal) → IfSome f (λ m. index_in m library ≡ Ok c.index.entries) → IfSome f (λ m. all_in m ≡ q) → IfSome f (λ m. IsLibraryInput old.script m k before library q)
+    told : (f : Option Files) (q : Result (List Module) Refusal) → IfSome f (λ m. index_in m library ≡ Ok es) → IfSome f (λ m. all_in m ≡ q) → IfSome f (λ m. IsLibraryInput old.script m k before library q)
     told None q index h = tt
     told (Some m) q index h = as_input m q index h
 
-    refused : (f : Option Files) (b : Bool) (q : Result (List Module) Refusal) → IfSome f (λ m. index_in m library ≡ Ok c.index.entries) → IfSome f (λ m. Unless b (all_in m ≡ q)) → IfSome f (λ m. Unless b (IsLibraryInput old.script m k before library q))
+    refused : (f : Option Files) (b : Bool) (q : Result (List Module) Refusal) → IfSome f (λ m. index_in m library ≡ Ok es) → IfSome f (λ m. Unless b (all_in m ≡ q)) → IfSome f (λ m. Unless b (IsLibraryInput old.script m k before library q))
     refused None b q index h = tt
     refused (Some m) true q index h = tt
     refused (Some m) false q index h = as_input m q index h
 
     by : (r : Result (Unit {0}) Refusal) → Leads is_outside (λ u modules. IsFed new modules) known all_in r → LeadsBy is_outside (λ u modules. IsFed new modules) known (λ m. IsLibraryInput old.script m k before library) r
-    by (Ok u) h = (h.0, told known (Ok h.0) chooses.0 h.1, h.2)
-    by (Err e) h = refused known (is_outside e) (Err e) chooses.0 h
-
--- ---- The count of failures.
-
-pub after_counted : (known : Option Files) (library : List ℕ) (all left : List Entry) (old mid : Feeding) (a b c : ℕ) → IsAfter known library all left old mid → Counted old a b → ((modules : List Module) → IsFed mid modules → PassesBy {T = Unit {0}} is_failure b c (Ok tt)) → Counted old a c
-after_counted known library all left old mid a b c is same passes before stands =
-    let p = is before stands in
-    kept_by b c tt (passes p.0 p.1) ∙ same before stands
+    by (Ok u) h = (h.0, told known (Ok h.0) index h.1, h.2)
+    by (Err e) h = refused known (is_outside e) (Err e) index h

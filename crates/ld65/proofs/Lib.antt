@@ -1,5 +1,5 @@
-pub mod Blaming
 pub mod Chosen
 pub mod Fed
+pub mod Leaving
 pub mod LineInputs
 pub mod Objects

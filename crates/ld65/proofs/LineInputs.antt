@@ -1,11 +1,11 @@
 -- From a script and the inputs of a line to what they are linked to.
-use Rattle.std.proofs.Common.{◌≡◌, ◌∙◌, ℕ, ◌+◌, ◌≤◌, ◌<◌, List, length, take, Bool, true, false, nat_lt, Option, Some, None, Result, Ok, Err, refl, ap, subst, arith, zero, suc, [], ◌∷◌, ◌++◌, Bor, drop, get_or, map, slice_get, sym, add-one}
+use Rattle.std.proofs.Common.{◌≡◌, ◌∙◌, ℕ, ◌+◌, ◌≤◌, ◌<◌, List, length, take, Bool, true, false, nat_lt, Option, Some, None, Result, Ok, Err, refl, ap, subst, arith, zero, suc, [], ◌∷◌, ◌++◌, Bor, drop, get_or, map, slice_get, add-one}
 use Rattle.std.specs.Prelude.{IfSome, ◌||◌, min}
 use Rattle.std.specs.FinMap.{get}
 use Rattle.std.proofs.lemmas.Bool.Decides.{nat_tests}
-use Rattle.std.proofs.lemmas.List.{take_all, length-take, drop_all}
-use Rattle.base65.specs.Outcome.{First, Finds, Unless, ◌>>=◌, Gives, Refuses}
-use Rattle.base65.specs.Store.{Files, PassesBy}
+use Rattle.std.proofs.lemmas.List.{take_all, length-take}
+use Rattle.base65.specs.Outcome.{First, Finds, Unless, ◌>>=◌}
+use Rattle.base65.specs.Store.{Files}
 use Rattle.base65.specs.declared.store.StoreFault.TheVariants.{FileNotFound}
 use Rattle.script65.specs.declared.script.Script.{Script}
 use Rattle.script65.specs.declared.fault.Stop.{Stop}
@@ -18,20 +18,14 @@ use Rattle.link65.specs.declared.linking.Linked.{Linked}
 use Rattle.cli65.specs.Line.{Linking}
 use Rattle.ld65.specs.declared.refusal.Refusal.{Refusal}
 use Rattle.ld65.specs.declared.refusal.Refusal.TheVariants as refusal
-use Rattle.ld65.specs.Linkage.{IsLinkedBy, IsLinked, as_script, text_of, AreInputs, IsInput, IsLibraryInput, file_input, is_library, is_library_in, with_file, as_refusal, output_of}
-use Rattle.ld65.specs.Refusals.{is_outside, is_failure, refusal_at}
+use Rattle.ld65.specs.Linkage.{IsLinkedBy, IsLinked, as_script, text_of, AreInputs, IsInput, file_input, as_refusal, output_of}
+use Rattle.ld65.specs.Refusals.{is_outside, refusal_at}
 use Rattle.ld65.specs.Inner.Texts.{front_of, script_limit, script_text}
-use Rattle.std.specs.Option.{option_map_or}
-use Rattle.object65.specs.declared.fault.ObjectFault.{ObjectFault}
-use Rattle.object65.specs.declared.fault.ObjectFault.TheVariants as object
-use Rattle.object65.specs.Record.{is_outside as is_object_outside}
-use Rattle.object65.specs.Reading.{in_file}
 use Rattle.link65.specs.declared.fault.LinkFault.{LinkFault}
-use Rattle.link65.specs.declared.fault.LinkFault.TheVariants as link
 use Rattle.link65.specs.Programs.{Module, program_of}
 use Rattle.link65.specs.Standing.{Feeding, IsFed, module_of, Links}
-use Rattle.ld65.specs.Inner.Feeding.{FeedsFile, FeedsInput, FeedsInputs, FeedsLibrary, FeedsObject, Leads, LeadsBy}
-use Rattle.ld65.proofs.Fed.{Counted, at_outside, fed_behind, kept_by, later_count, refused_behind}
+use Rattle.ld65.specs.Inner.Feeding.{FeedsFile, FeedsInput, FeedsInputs, FeedsObject}
+use Rattle.ld65.proofs.Fed.{at_outside, fed_behind, refused_behind}
 use Rattle.link65.specs.Faults.{is_memory}
 use Rattle.link65.specs.Links.{LinkOf, names_once}
 
@@ -185,18 +179,6 @@ module _ (known : Option Files) (names : List (List ℕ)) where
       go modules (Some m) true h refused = tt
       go modules (Some m) false h refused = h (Err e) (from_here old.script m k modules name (Err e) (Err e) here (subst (λ (s : Script). IsInput s m k modules name (Err e)) script refused) refl)
 
--- ---- The count of failures.
-
-pub behind_counted : (known : Option Files) (names : List (List ℕ)) (k : ℕ) (old mid : Feeding) (a b c : ℕ) → IsBehind known names k old mid → Counted old a b → ((modules : List Module) → IsFed mid modules → PassesBy {T = Unit {0}} is_failure b c (Ok tt)) → Counted old a c
-behind_counted known names k old mid a b c is same passes before stands =
-    let p = is before stands in
-    kept_by b c tt (passes p.0 p.1) ∙ same before stands
-
-pub refused_counted : (known : Option Files) (names : List (List ℕ)) (k : ℕ) (old mid : Feeding) (a b c : ℕ) (e : Refusal) → IsBehind known names k old mid → Counted old a b → ((modules : List Module) → IsFed mid modules → PassesBy {T = Unit {0}} is_failure b c (Err e)) → (before : List Module) → IsFed old before → PassesBy {T = Unit {0}} is_failure a c (Err e)
-refused_counted known names k old mid a b c e is same passes before stands =
-    let p = is before stands in
-    later_count a b c (Err e) (same before stands) (passes p.0 p.1)
-
 -- ---- From the inputs of a line to what they are linked to.
 
 -- an input is refused
@@ -229,12 +211,3 @@ inputs_linked known l names output s fresh fed r same named once script kept kep
             unless : (b : Bool) → Unless b (LinkOf (output_of l) s modules (Err e)) → Unless (b || false) (IsLinkedBy m l s (Err (refusal.Link e)))
             unless true is = tt
             unless false is = rw once (Ok modules, h, (Err e, is, refl))
-
--- behind a call that answered, no other fails the store
-pub passed_on : {T : Type 0} (old new : ℕ) (r : Result T LinkFault) → PassesBy {T = Unit {0}} is_failure old new (Ok tt) → PassesBy is_failure old new (as_refusal r)
-passed_on old new (Ok x) p = record { later = p.later; told = λ h. absurd (p.told h); cause = tt }
-passed_on old new (Err e) p = record { later = p.later; told = λ h. absurd (p.told h); cause = λ h. absurd cc }
-
--- a refusal of an input is the call's
-pub refused_so : {T : Type 0} (old new : ℕ) (e : Refusal) → PassesBy {T = Unit {0}} is_failure old new (Err e) → PassesBy {T = T} is_failure old new (Err e)
-refused_so old new e p = record { later = p.later; told = λ h. p.told h; cause = λ h. p.cause h }

@@ -1,14 +1,14 @@
 -- From the parts of an object's file to the module that it is.
-use Rattle.std.proofs.Common.{◌≡◌, ◌∙◌, ◌<◌, ◌≤◌, ℕ, List, [], ◌∷◌, ◌++◌, length, Bool, true, false, Option, Some, None, if◌then◌else◌, Result, Ok, Err, refl, sym, ap, subst, arith}
+use Rattle.std.proofs.Common.{◌≡◌, ◌∙◌, ℕ, List, [], ◌∷◌, ◌++◌, length, Bool, true, false, Option, Some, None, if◌then◌else◌, Result, Ok, Err, refl, sym, ap}
 use Rattle.std.specs.Prelude.{IfSome}
 use Rattle.std.specs.FinMap.{get}
 use Rattle.base65.specs.Outcome.{◌>>=◌, Refuses, Unless}
-use Rattle.base65.specs.Store.{Files, HasFailed, Passes}
+use Rattle.base65.specs.Store.{Files}
 use Rattle.base65.proofs.Outcome.{refused-then}
 use Rattle.object65.specs.declared.fault.ObjectFault.{ObjectFault}
 use Rattle.object65.specs.declared.fault.ObjectFault.TheVariants as object
 use Rattle.object65.specs.declared.object.Object.{Object}
-use Rattle.object65.specs.Record.{is_memory as is_object_memory, is_outside as is_object_outside}
+use Rattle.object65.specs.Record.{is_outside as is_object_outside}
 use Rattle.object65.specs.Reading.{end_at, head_at, in_file, object_at, records_at}
 use Rattle.object65.specs.Scanning.{State, finished, object_from, start}
 use Rattle.link65.specs.declared.fault.LinkFault.{LinkFault}
@@ -22,7 +22,7 @@ use Rattle.script65.specs.declared.script.Script.{Script}
 use Rattle.link65.specs.Standing.{Begins, Ends, Feeding, IsFed, Leads, agreed, agrees_with, as_link, joined, module_of, whole}
 use Rattle.ld65.specs.Inner.Feeding.{FeedsObject, FeedsRecords, Leads as LeadsIn, is_link_outside, records_in}
 use Rattle.ld65.specs.Linkage.{Input, added_in, object_in}
-use Rattle.ld65.proofs.Fed.{accepted, by_memory, memory_outside, of_object, unless}
+use Rattle.ld65.proofs.Fed.{accepted, memory_outside, of_object, unless}
 
 -- ---- What the parts of a file say of the object in it.
 
@@ -131,36 +131,25 @@ module _ (known : Option Files) (i : Input) (old : Feeding) where
           refused None same = tt
           refused (Some m) same = rw same (memory_outside e (whole fed.script modules i.name i.entry t) h)
 
--- ---- The count of failures.
+-- ---- The end of a module is no failure of the store.
 
-abbrev Passed : {T : Type 0} → ℕ → ℕ → Result T LinkFault → Type 0
-Passed old new r = Passes (link.Malformed object.FileError) old new r
+abbrev pub file_failed : LinkFault
+file_failed = link.Malformed object.FileError
 
-unpassed : {T : Type 0} (old new : ℕ) (e : LinkFault) → new ≡ old → (e ≡ link.Malformed object.FileError → ⊥) → Passed {T = T} old new (Err e)
-unpassed {T} old new e same other = record {
-  later = omega (arith, same);
-  told = λ h. absurd (omega (arith, same));
-  cause = λ h. absurd (other (let f : e ≡ link.Malformed object.FileError = cc h in f));
-}
-
--- the end of a module is no failure of the store
-finished_free : (t : State) → as_link (finished t) ≡ Err (link.Malformed object.FileError) → ⊥
+finished_free : (t : State) → as_link (finished t) ≡ Err file_failed → ⊥
 finished_free t h = go t.failed t.ended h
   where
-    go : (a b : Bool) → as_link (if a then Err object.FailedBefore else if b then Ok (object_from t) else Err object.CutShort) ≡ Err (link.Malformed object.FileError) → ⊥
+    go : (a b : Bool) → as_link (if a then Err object.FailedBefore else if b then Ok (object_from t) else Err object.CutShort) ≡ Err file_failed → ⊥
     go true b h = cc
     go false true h = cc
     go false false h = cc
 
-names_free : (s : Script) (p : Program) → names_once s p ≡ Err (link.Malformed object.FileError) → ⊥
+names_free : (s : Script) (p : Program) → names_once s p ≡ Err file_failed → ⊥
 names_free s p h = go (first_again [] (given_names s p)) h
   where
-    go : (o : Option (List ℕ)) → no_name_again o ≡ Err (link.Malformed object.FileError) → ⊥
+    go : (o : Option (List ℕ)) → no_name_again o ≡ Err file_failed → ⊥
     go None h = cc
     go (Some n) h = cc
-
-abbrev file_failed : LinkFault
-file_failed = link.Malformed object.FileError
 
 free_then : (r : Result Object LinkFault) (f : Object → Result Object LinkFault) → (r ≡ Err file_failed → ⊥) → ((o : Object) → f o ≡ Err file_failed → ⊥) → (r >>= f) ≡ Err file_failed → ⊥
 free_then (Ok o) f free next h = next o h
@@ -188,45 +177,8 @@ whole_free s modules name entry t h =
     (free_then (as_link (finished t)) (agreed entry) (finished_free t) (agreed_free entry))
     (joined_free s modules name) h
 
-pub ends_count : (first : ℕ × ℕ) (end_at : ℕ) (now : Option Files) (i : Input) (old mid fed new : Feeding) (count_old count_new : ℕ) (r : Result (Unit {0}) LinkFault) → count_new ≡ count_old → Begins i.name first.0 i.entry old mid (Ok tt) → FeedsRecords now i first mid fed (Ok end_at) → Ends fed new r → (modules : List Module) → IsFed old modules → Passed count_old count_new r
-ends_count first end_at now i old mid fed new count_old count_new (Ok u) same begun feeds ends modules stands = record {
-  later = omega (arith, same);
-  told = λ h. absurd (omega (arith, same));
-  cause = λ h. absurd cc;
-}
-ends_count first end_at now i old mid fed new count_old count_new (Err e) same begun feeds ends modules stands =
+pub end_free : (first : ℕ × ℕ) (end_at : ℕ) (now : Option Files) (i : Input) (old mid fed new : Feeding) (r : Result (Unit {0}) LinkFault) → Begins i.name first.0 i.entry old mid (Ok tt) → FeedsRecords now i first mid fed (Ok end_at) → Ends fed new r → (modules : List Module) → IsFed old modules → r ≡ Err file_failed → ⊥
+end_free first end_at now i old mid fed new r begun feeds ends modules stands is =
     let x = feeds modules i.name i.entry (begun modules stands) in
-    unpassed count_old count_new e same (other x.0.0 (ends modules i.name i.entry x.0.0 x.2.1))
-  where
-    other : (t : State) → Refuses is_memory e (whole fed.script modules i.name i.entry t) → e ≡ link.Malformed object.FileError → ⊥
-    other t h is = whole_free fed.script modules i.name i.entry t (rw is at h)
-
--- ---- Calls as they answered.
-
-pub kept_link_count : {T : Type 0} (old now : ℕ) (x : T) → Passed old now (Ok x) → now ≡ old
-kept_link_count old now x passes = let not_later : old < now → ⊥ = λ h. no_error x (passes.told h) in omega (arith, passes.later, not_later)
-  where
-    no_error : {T : Type 0} (x : T) → ◌≡◌ {A = Result T LinkFault} (Ok x) (Err (link.Malformed object.FileError)) → ⊥
-    no_error x e = cc
-
--- a refusal behind a call that didn't fail the store
-pub err_count : {A B : Type 0} (a b c : ℕ) (e : LinkFault) → b ≡ a → Passed {T = A} b c (Err e) → Passed {T = B} a c (Err e)
-err_count a b c e same passes = record {
-  later = subst (λ (n : ℕ). n ≤ c) same passes.later;
-  told = λ h. ap Err (let f : e ≡ link.Malformed object.FileError = cc (passes.told (subst (λ (n : ℕ). n < c) (sym same) h)) in f);
-  cause = λ h. subst (λ (n : ℕ). HasFailed n c) same (passes.cause (ap Err (let f : e ≡ link.Malformed object.FileError = cc h in f)));
-}
-
--- a fault of reading behind calls that didn't fail the store
-pub read_count : {A B : Type 0} (a b c : ℕ) (f : ObjectFault) → b ≡ a → Passes {T = A} object.FileError b c (Err f) → Passed {T = B} a c (Err (as_fault f))
-read_count a b c f same passes = record {
-  later = subst (λ (n : ℕ). n ≤ c) same passes.later;
-  told = λ h. ap Err (let g : f ≡ object.FileError = cc (passes.told (subst (λ (n : ℕ). n < c) (sym same) h)) in ap as_fault g);
-  cause = λ h. subst (λ (n : ℕ). HasFailed n c) same (passes.cause (ap Err (from_link f (let g : as_fault f ≡ link.Malformed object.FileError = cc h in g))));
-}
-  where
-    from_link : (f : ObjectFault) → as_fault f ≡ link.Malformed object.FileError → f ≡ object.FileError
-    from_link f e = go (is_object_memory f) e where
-      go : (b : Bool) → (if b then link.OutOfMemory else link.Malformed f) ≡ link.Malformed object.FileError → f ≡ object.FileError
-      go true e = absurd cc
-      go false e = cc
+    let refused : Refuses is_memory file_failed (whole fed.script modules i.name i.entry x.0.0) = rw is at ends modules i.name i.entry x.0.0 x.2.1 in
+    whole_free fed.script modules i.name i.entry x.0.0 refused

@@ -1,6 +1,5 @@
 -- Why nothing is linked: in words, and whether the cause lies outside the files.
 use Rattle.std.specs.Prelude.{ℕ, List, [], Bool, true, false, codes, ◌||◌, get_or, if◌then◌else◌}
-use Rattle.base65.specs.declared.store.StoreFault.{StoreFault}
 use Rattle.base65.specs.declared.store.StoreFault.TheVariants as store
 use Rattle.base65.specs.StoreFaults.{store_words}
 use Rattle.object65.specs.declared.fault.ObjectFault.TheVariants as object
@@ -17,14 +16,11 @@ use Rattle.cli65.specs.Messages.{file_message, line_message}
 use Rattle.ld65.specs.declared.refusal.Refusal.{Refusal}
 use Rattle.ld65.specs.declared.refusal.Refusal.TheVariants.{OutOfMemory, ScriptFile, Script, Object, Library, Member, Disagrees, Link}
 
-abbrev store_memory : StoreFault → Bool
-store_memory store.OutOfMemory = true
-store_memory _ = false
-
 -- memory ran out
 abbrev pub is_memory : Refusal → Bool
 is_memory OutOfMemory = true
-is_memory (ScriptFile f) = store_memory f
+is_memory (ScriptFile store.OutOfMemory) = true
+is_memory (ScriptFile f) = false
 is_memory (Script f) = is_memory_fault f.fault
 is_memory (Object k f) = is_object_memory f
 is_memory (Library k f) = is_library_memory f

@@ -1,18 +1,18 @@
 //! From the inputs of a line to what they are linked to.
 
-ghost use Rattle.std.specs.Prelude.{◌≡◌, [], List, ℕ, IsErrOf, OnOk, Option, true, false, IfErr, IfSome, Ok, map};
-ghost use Rattle.base65.specs.Store.{IsBlamed, Passes, PassesBy, Asks};
+ghost use Rattle.std.specs.Prelude.{◌≡◌, [], List, ℕ, OnOk, Option, true, false, IfErr, IfSome, Ok, map};
+ghost use Rattle.base65.specs.Store.{PassesBy, Asks};
 ghost use Rattle.object65.specs.declared.fault.ObjectFault.TheVariants.{FileError};
 ghost use Rattle.object65.specs.Scanning.{start};
 ghost use Rattle.library65.specs.declared.index.Entry as index;
 ghost use Rattle.link65.specs.declared.fault.LinkFault.TheVariants.{Malformed};
 ghost use Rattle.link65.specs.Programs.{Module};
 ghost use Rattle.link65.specs.Standing.{IsFed, IsFeeding, Keeps, is_open};
-ghost use Rattle.ld65.specs.Inner.Feeding.{FeedsObject, FeedsRecords, input_of, FeedsFile, FeedsInput, FeedsInputs};
+ghost use Rattle.ld65.specs.Inner.Feeding.{FeedsObject, FeedsRecords, input_of, FeedsFile, FeedsInput, FeedsInputs, LeavesBy, LeavesFed};
 ghost use Rattle.std.specs.FinMap.{get};
 ghost use Rattle.base65.specs.Outcome.{Gives, Finds};
 ghost use Rattle.object65.specs.Record.{is_outside as is_object_outside};
-ghost use Rattle.object65.specs.Reading.{in_file};
+ghost use Rattle.object65.specs.Reading.{Leaves, in_file};
 ghost use Rattle.ld65.specs.Linkage.{is_library, output_of, IsLinkedBy, IsLinked};
 ghost use Rattle.ld65.specs.Refusals.{is_failure, is_outside};
 ghost use Rattle.ld65.specs.Naming.{NamesInput, NamesInputs, NamesOfLine, NamesScript};
@@ -57,10 +57,10 @@ fn feed_records<S: Store>(
     ensures opened { is_open linker.new ≡ true }
     ensures keeps { Keeps linker.old linker.new }
     ensures files { S.files store.new ≡ S.files store.old }
-    ensures count { (modules : List Module) (called : List ℕ) (entry : Option index.Entry) → IsFeeding linker.old modules called entry (start head.0) →
-        Passes (Malformed FileError) (S.failures store.old) (S.failures store.new) result }
-    ensures blamed { (modules : List Module) (called : List ℕ) (entry : Option index.Entry) → IsFeeding linker.old modules called entry (start head.0) →
-        IsErrOf result (Malformed FileError) → IsBlamed (S.blamed store.new) object.now.file.now }
+    ensures kept { (modules : List Module) (called : List ℕ) (entry : Option index.Entry) →
+        IsFeeding linker.old modules called entry (start head.0) →
+        Leaves S.files S.failures S.blamed (Malformed FileError) object.now.file.now
+        store.old store.new result }
 {
     let (version, first) = head;
     let mut next = first;
@@ -86,10 +86,9 @@ pub fn feed_object<S: Store>(
     ensures opened { OnOk result (is_open linker.new ≡ false) }
     ensures keeps { Keeps linker.old linker.new }
     ensures files { S.files store.new ≡ S.files store.old }
-    ensures count { (modules : List Module) → IsFed linker.old modules →
-        Passes (Malformed FileError) (S.failures store.old) (S.failures store.new) result }
-    ensures blamed { (modules : List Module) → IsFed linker.old modules →
-        IsErrOf result (Malformed FileError) → IsBlamed (S.blamed store.new) object.now.file.now }
+    ensures kept { (modules : List Module) → IsFed linker.old modules →
+        Leaves S.files S.failures S.blamed (Malformed FileError) object.now.file.now
+        store.old store.new result }
 {
     let head = read_head(store, object.file, object.begin, object.end)?;
     linker.begin_module(object.name, head.0, object.entry)?;
@@ -105,9 +104,7 @@ const LIBRARY: [u8; 4] = [0x52, 0x36, 0x35, 0x6c];
 /// Whether a file begins as a library.
 fn is_library<S: Store>(store: &mut S, name: &str) -> Result<bool, ObjectFault>
     ensures read { IfSome (S.files store.old) (λ m. Gives is_object_outside (λ b. b) result (in_file (get m name.now) (λ bytes. Ok (is_library bytes)))) }
-    ensures files { S.files store.new ≡ S.files store.old }
-    ensures count { Passes FileError (S.failures store.old) (S.failures store.new) result }
-    ensures blamed { IsErrOf result FileError → IsBlamed (S.blamed store.new) name.now }
+    ensures kept { Leaves S.files S.failures S.blamed FileError name.now store.old store.new result }
 {
     let mut front = [0u8; 4];
     let n = read_full(store, name, 0, &mut front)?;
@@ -123,13 +120,9 @@ fn feed_file<S: Store>(
 ) -> Result<(), Refusal>
     requires { is_open linker.old ≡ false }
     ensures fed { FeedsFile (S.files store.old) input.now.place input.now.name.now linker.old linker.new result }
-    ensures opened { OnOk result (is_open linker.new ≡ false) }
-    ensures keeps { Keeps linker.old linker.new }
-    ensures files { S.files store.new ≡ S.files store.old }
-    ensures count { (modules : List Module) → IsFed linker.old modules →
-        PassesBy is_failure (S.failures store.old) (S.failures store.new) result }
-    ensures named { (modules : List Module) → IsFed linker.old modules →
-        IfErr result (NamesInput (S.blamed store.new) input.now.place input.now.name.now) }
+    ensures kept { LeavesFed S.files S.failures S.blamed
+        (λ b. NamesInput b input.now.place input.now.name.now)
+        store.old store.new linker.old linker.new result }
 {
     let object = ObjectInput {
         file: input.name,
@@ -154,13 +147,9 @@ fn feed_input<S: Store>(
 ) -> Result<(), Refusal>
     requires { is_open linker.old ≡ false }
     ensures fed { FeedsInput (S.files store.old) input.now.place input.now.name.now linker.old linker.new result }
-    ensures opened { OnOk result (is_open linker.new ≡ false) }
-    ensures keeps { Keeps linker.old linker.new }
-    ensures files { S.files store.new ≡ S.files store.old }
-    ensures count { (modules : List Module) → IsFed linker.old modules →
-        PassesBy is_failure (S.failures store.old) (S.failures store.new) result }
-    ensures named { (modules : List Module) → IsFed linker.old modules →
-        IfErr result (NamesInput (S.blamed store.new) input.now.place input.now.name.now) }
+    ensures kept { LeavesFed S.files S.failures S.blamed
+        (λ b. NamesInput b input.now.place input.now.name.now)
+        store.old store.new linker.old linker.new result }
 {
     match is_library(store, input.name) {
         Ok(true) => feed_library(alloc, store, linker, input),
@@ -178,13 +167,9 @@ fn feed_inputs<S: Store>(
 ) -> Result<(), Refusal>
     requires { is_open linker.old ≡ false }
     ensures fed { FeedsInputs (S.files store.old) (map (λ s. s.now) inputs.now) linker.old linker.new result }
-    ensures opened { OnOk result (is_open linker.new ≡ false) }
-    ensures keeps { Keeps linker.old linker.new }
-    ensures files { S.files store.new ≡ S.files store.old }
-    ensures count { (modules : List Module) → IsFed linker.old modules →
-        PassesBy is_failure (S.failures store.old) (S.failures store.new) result }
-    ensures named { (modules : List Module) → IsFed linker.old modules →
-        IfErr result (NamesInputs (S.blamed store.new) (map (λ s. s.now) inputs.now)) }
+    ensures kept { LeavesFed S.files S.failures S.blamed
+        (λ b. NamesInputs b (map (λ s. s.now) inputs.now))
+        store.old store.new linker.old linker.new result }
 {
     let mut reader = RecordReader::new();
     for (place, name) in inputs.iter().enumerate() {
@@ -211,9 +196,8 @@ fn link_inputs<S: Store>(
     script: Script,
 ) -> Result<Linked, Refusal>
     ensures linked { IfSome (S.files store.old) (λ m. Finds is_outside (IsLinkedBy m (linking line.now) script) result) }
-    ensures files { S.files store.new ≡ S.files store.old }
-    ensures count { PassesBy is_failure (S.failures store.old) (S.failures store.new) result }
-    ensures named { IfErr result (NamesInputs (S.blamed store.new) (linking line.now).inputs) }
+    ensures kept { LeavesBy S.files S.failures S.blamed
+        (λ b. NamesInputs b (linking line.now).inputs) store.old store.new result }
 {
     let mut linker = Linker::new(alloc, script, output_of(line))?;
     feed_inputs(alloc, store, &mut linker, line.inputs.as_slice())?;
@@ -223,9 +207,8 @@ fn link_inputs<S: Store>(
 /// The script's bytes, no more of them than tell that it is too long.
 fn read_text<S: Store>(alloc: Global, store: &mut S, name: &str) -> Result<Sequence<u8>, Refusal>
     ensures read { IfSome (S.files store.old) (λ m. Finds is_outside (λ r. r ≡ script_text m name.now) result) }
-    ensures files { S.files store.new ≡ S.files store.old }
-    ensures count { PassesBy is_failure (S.failures store.old) (S.failures store.new) result }
-    ensures named { IfErr result (NamesScript (S.blamed store.new) name.now) }
+    ensures kept { LeavesBy S.files S.failures S.blamed
+        (λ b. NamesScript b name.now) store.old store.new result }
     ensures asked { Asks is_outside (S.failures store.old) result }
 {
     Ok(Sequence::from_vec(read_front(alloc, store, name, SCRIPT_LIMIT + 1)?))

@@ -1,14 +1,13 @@
 //! The members of a library that are needed.
 
-ghost use Rattle.std.specs.Prelude.{◌≡◌, ◌+◌, ◌≤◌, List, IfErr, IfOk, IfSome, false, true, ◌∷◌, [], OnOk, option_map, slice_get};
+ghost use Rattle.std.specs.Prelude.{◌≡◌, ◌+◌, ◌≤◌, List, IfErr, IfOk, IfSome, false, true, ◌∷◌, [], option_map, slice_get};
 ghost use Rattle.std.specs.List.{AllByRecursion};
 ghost use Rattle.base65.specs.Outcome.{Gives};
-ghost use Rattle.base65.specs.Store.{PassesBy};
 ghost use Rattle.object65.specs.Reading.{file_limit};
 ghost use Rattle.link65.specs.Programs.{Module};
-ghost use Rattle.link65.specs.Standing.{IsFed, Keeps, is_open};
-ghost use Rattle.ld65.specs.Inner.Feeding.{AreChosen, Chooses, FeedsLibrary, FeedsMembers};
-ghost use Rattle.ld65.specs.Linkage.{as_library, index_in, chosen, chosen_at, member_module};
+ghost use Rattle.link65.specs.Standing.{IsFed, is_open};
+ghost use Rattle.ld65.specs.Inner.Feeding.{AreChosen, FeedsLibrary, FeedsMembers, LeavesBy, LeavesFed};
+ghost use Rattle.ld65.specs.Linkage.{as_library, index_in, member_module};
 ghost use Rattle.ld65.specs.Refusals.{is_failure, is_memory, is_outside};
 ghost use Rattle.ld65.specs.Naming.{NamesInput, NamesMember};
 
@@ -28,20 +27,12 @@ pub struct Named<'a> {
     pub name: &'a str,
 }
 
-/// The members of a library that a link needs.
-#[derive(Drop)]
-pub struct Choice {
-    pub index: Index,
-    /// Their places in the index, rising.
-    pub places: Vec<usize>,
-}
-
+/// The index of a library.
 fn index_of<S: Store>(alloc: Global, store: &mut S, input: &Named<'_>) -> Result<Index, Refusal>
     ensures read { IfSome (S.files store.old) (λ m. Gives is_outside (λ x. x.entries) result (as_library input.now.place (index_in m input.now.name.now))) }
     ensures within { IfOk result (λ x. AllByRecursion (λ e. e.place + e.size ≤ file_limit) x.entries) }
-    ensures files { S.files store.new ≡ S.files store.old }
-    ensures count { PassesBy is_failure (S.failures store.old) (S.failures store.new) result }
-    ensures named { IfErr result (NamesInput (S.blamed store.new) input.now.place input.now.name.now) }
+    ensures kept { LeavesBy S.files S.failures S.blamed
+        (λ b. NamesInput b input.now.place input.now.name.now) store.old store.new result }
 {
     match read_index(alloc, store, input.name) {
         Ok(index) => Ok(index),
@@ -61,24 +52,6 @@ fn places_of(alloc: Global, linker: &Linker, index: &Index) -> Result<Vec<usize>
         Ok(places) => Ok(places),
         Err(_) => Err(Refusal::OutOfMemory),
     }
-}
-
-/// The members of a library that the script and the modules fed so far need. Of the library only its index is read.
-fn choose_members<S: Store>(
-    alloc: Global,
-    store: &mut S,
-    linker: &Linker,
-    input: &Named<'_>,
-) -> Result<Choice, Refusal>
-    ensures chosen { Chooses (S.files store.old) input.now.place input.now.name.now linker.now result }
-    ensures within { IfOk result (λ c. AllByRecursion (λ e. e.place + e.size ≤ file_limit) c.index.entries) }
-    ensures files { S.files store.new ≡ S.files store.old }
-    ensures count { PassesBy is_failure (S.failures store.old) (S.failures store.new) result }
-    ensures named { IfErr result (NamesInput (S.blamed store.new) input.now.place input.now.name.now) }
-{
-    let index = index_of(alloc, store, input)?;
-    let places = places_of(alloc, linker, &index)?;
-    Ok(Choice { index, places })
 }
 
 /// A member of a library: the library's file, and the member's entry in its index.
@@ -114,13 +87,9 @@ fn feed_member<S: Store>(
     requires opened { is_open linker.old ≡ false }
     requires within { member.now.entry.now.place + member.now.entry.now.size ≤ file_limit }
     ensures fed { FeedsMembers (S.files store.old) member.now.library.now (member.now.entry.now ∷ []) linker.old linker.new result }
-    ensures opened { OnOk result (is_open linker.new ≡ false) }
-    ensures keeps { Keeps linker.old linker.new }
-    ensures files { S.files store.new ≡ S.files store.old }
-    ensures count { (modules : List Module) → IsFed linker.old modules →
-        PassesBy is_failure (S.failures store.old) (S.failures store.new) result }
-    ensures named { (modules : List Module) → IsFed linker.old modules →
-        IfErr result (NamesMember (S.blamed store.new) member.now.library.now) }
+    ensures kept { LeavesFed S.files S.failures S.blamed
+        (λ b. NamesMember b member.now.library.now)
+        store.old store.new linker.old linker.new result }
 {
     let name = module_name(alloc, member)?;
     let object = ObjectInput {
@@ -136,77 +105,10 @@ fn feed_member<S: Store>(
     }
 }
 
-/// The place of a member in a library's index.
-#[derive(Clone, Copy)]
-struct Chosen<'a> {
-    library: &'a str,
-    entries: &'a [Entry],
-    place: usize,
-}
-
 fn entry_at(entries: &[Entry], place: usize) -> Option<&Entry>
     ensures { option_map (λ e. e.now) result ≡ slice_get entries.now place }
 {
     entries.get(place)
-}
-
-/// Feeds the member at a place of a library's index, if there is one.
-fn feed_chosen<S: Store>(
-    alloc: Global,
-    store: &mut S,
-    linker: &mut Linker,
-    reader: &mut RecordReader,
-    chosen: &Chosen<'_>,
-) -> Result<(), Refusal>
-    requires opened { is_open linker.old ≡ false }
-    requires within { AllByRecursion (λ e. e.place + e.size ≤ file_limit) chosen.now.entries.now }
-    ensures fed { FeedsMembers (S.files store.old) chosen.now.library.now (chosen_at chosen.now.entries.now chosen.now.place) linker.old linker.new result }
-    ensures opened { OnOk result (is_open linker.new ≡ false) }
-    ensures keeps { Keeps linker.old linker.new }
-    ensures files { S.files store.new ≡ S.files store.old }
-    ensures count { (modules : List Module) → IsFed linker.old modules →
-        PassesBy is_failure (S.failures store.old) (S.failures store.new) result }
-    ensures named { (modules : List Module) → IsFed linker.old modules →
-        IfErr result (NamesMember (S.blamed store.new) chosen.now.library.now) }
-{
-    let library = chosen.library;
-    match entry_at(chosen.entries, chosen.place) {
-        Some(entry) => feed_member(alloc, store, linker, reader, &Member { library, entry }),
-        None => Ok(()),
-    }
-}
-
-/// Feeds the chosen members of a library, in the order in which they stand.
-fn feed_members<S: Store>(
-    alloc: Global,
-    store: &mut S,
-    linker: &mut Linker,
-    library: &str,
-    choice: &Choice,
-) -> Result<(), Refusal>
-    requires opened { is_open linker.old ≡ false }
-    requires within { AllByRecursion (λ e. e.place + e.size ≤ file_limit) choice.now.index.entries }
-    ensures fed { FeedsMembers (S.files store.old) library.now (chosen choice.now.index.entries choice.now.places.items) linker.old linker.new result }
-    ensures opened { OnOk result (is_open linker.new ≡ false) }
-    ensures keeps { Keeps linker.old linker.new }
-    ensures files { S.files store.new ≡ S.files store.old }
-    ensures count { (modules : List Module) → IsFed linker.old modules →
-        PassesBy is_failure (S.failures store.old) (S.failures store.new) result }
-    ensures named { (modules : List Module) → IsFed linker.old modules →
-        IfErr result (NamesMember (S.blamed store.new) library.now) }
-{
-    let entries = choice.index.entries.as_slice();
-    let places = choice.places.as_slice();
-    let mut reader = RecordReader::new();
-    for turn in 0..places.len() {
-        let chosen = Chosen {
-            library,
-            entries,
-            place: places[turn],
-        };
-        feed_chosen(alloc, store, linker, &mut reader, &chosen)?;
-    }
-    Ok(())
 }
 
 /// Feeds the members of a library that the script and the modules fed so far need. Of the library only its index and
@@ -219,14 +121,20 @@ pub fn feed_library<S: Store>(
 ) -> Result<(), Refusal>
     requires { is_open linker.old ≡ false }
     ensures fed { FeedsLibrary (S.files store.old) input.now.place input.now.name.now linker.old linker.new result }
-    ensures opened { OnOk result (is_open linker.new ≡ false) }
-    ensures keeps { Keeps linker.old linker.new }
-    ensures files { S.files store.new ≡ S.files store.old }
-    ensures count { (modules : List Module) → IsFed linker.old modules →
-        PassesBy is_failure (S.failures store.old) (S.failures store.new) result }
-    ensures named { (modules : List Module) → IsFed linker.old modules →
-        IfErr result (NamesInput (S.blamed store.new) input.now.place input.now.name.now) }
+    ensures kept { LeavesFed S.files S.failures S.blamed
+        (λ b. NamesInput b input.now.place input.now.name.now)
+        store.old store.new linker.old linker.new result }
 {
-    let choice = choose_members(alloc, store, linker, input)?;
-    feed_members(alloc, store, linker, input.name, &choice)
+    let index = index_of(alloc, store, input)?;
+    let places = places_of(alloc, linker, &index)?;
+    let library = input.name;
+    let entries = index.entries.as_slice();
+    let mut reader = RecordReader::new();
+    for place in places.as_slice() {
+        if let Some(entry) = entry_at(entries, *place) {
+            let member = Member { library, entry };
+            feed_member(alloc, store, linker, &mut reader, &member)?;
+        }
+    }
+    Ok(())
 }

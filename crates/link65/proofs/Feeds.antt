@@ -1,12 +1,12 @@
 -- What calls lead a linker to, and what it keeps of the modules that have ended.
 use Rattle.std.proofs.lemmas.Grind.{common_steps}
-use Rattle.std.proofs.Common.{arith, ◌≡◌, ◌∙◌, List, length, map, inl, inr, Option, sym, ap, ◌<◌, ◌&&◌, ℕ, suc, false, ◌∷◌, drop, get_or, [], ◌++◌, Some, None, Bool, true, Result, Ok, Err, if◌then◌else◌, refl, subst}
-use Rattle.std.proofs.Math.Seq.{take-append_seam, drop-cons, drop-append_seam}
+use Rattle.std.proofs.Common.{arith, ◌≡◌, ◌∙◌, List, length, map, inl, Option, sym, ap, ◌<◌, ℕ, false, ◌∷◌, drop, get_or, [], ◌++◌, Some, None, Bool, true, Result, Ok, Err, if◌then◌else◌, refl, subst}
+use Rattle.std.proofs.Math.Seq.{drop-append_seam}
 use Rattle.link65.specs.Names.{given_names, first_again}
 use Rattle.link65.specs.Growing.{Growth, at_rest, ended, grown_by}
-use Rattle.link65.specs.Programs.{Module, exported, program_of, Program, with_module, with_modules}
+use Rattle.link65.specs.Programs.{Module, program_of, Program, with_module, with_modules}
 use Rattle.link65.specs.Inner.Fields.{Comes, are_listed, exports_from, matched}
-use Rattle.link65.specs.Standing.{Feeding, HaveEnded, Opened, IsFed, IsFeeding, Leads, agreed, agrees_with, as_link, joined, listed_of, module_of, opening, whole, all_once}
+use Rattle.link65.specs.Standing.{Feeding, HaveEnded, Opened, IsFed, IsFeeding, Leads, agreed, agrees_with, as_link, joined, listed_of, module_of, whole, all_once}
 use Rattle.link65.proofs.GivenLemmas.{given_all, map_behind, module_gives, once_behind}
 use Rattle.std.specs.Str.{bytes_eq}
 use Rattle.library65.specs.Libraries.{are_same}
@@ -16,9 +16,8 @@ use Rattle.library65.specs.declared.index.Entry.{Entry as Listing}
 use Rattle.object65.specs.declared.fault.ObjectFault.{ObjectFault}
 use Rattle.object65.specs.declared.record.Item.{Item}
 use Rattle.object65.specs.declared.object.Object.{Object}
-use Rattle.object65.specs.declared.record.Item.TheVariants as item
 use Rattle.object65.specs.declared.fault.ObjectFault.TheVariants as object
-use Rattle.base65.specs.Outcome.{◌>>=◌, Finds, First, Refuses, Unless}
+use Rattle.base65.specs.Outcome.{◌>>=◌, Finds, Refuses, Unless}
 use Rattle.link65.specs.declared.linking.Linked.{Linked}
 use Rattle.link65.specs.Links.{IsProgramLink, LinkOf, no_name_again}
 use Rattle.script65.specs.declared.script.Script.{Script}
@@ -32,7 +31,6 @@ use Rattle.link65.specs.declared.fault.LinkFault.{LinkFault}
 use Rattle.link65.specs.declared.fault.LinkFault.TheVariants as fault
 use Rattle.link65.specs.Faults.{is_memory}
 use Rattle.link65.proofs.GrowingLaw.{growth_law}
-use Rattle.link65.specs.Grounds.{IsSmall}
 use Rattle.link65.specs.declared.feeding.Listed.{Listed}
 
 -- ---- What a linker keeps of the modules that have ended, whether one is open behind them or none.

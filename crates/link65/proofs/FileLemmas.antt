@@ -1,10 +1,10 @@
 -- The files of areas: pieces over pieces, and the rows of each.
 use Rattle.std.proofs.lemmas.Grind.{common_steps}
-use Rattle.std.proofs.Common.{◌≡◌, ◌∙◌, ℕ, ◌+◌, ◌-◌, ◌<◌, ◌≤◌, Bool, true, false, cond, List, [], ◌∷◌, length, get_or, drop, map, refl, sym, ap, subst, arith, zero, suc, ◌++◌, slice_get, Option, Some, None, append_assoc, add-one, inl, inr}
+use Rattle.std.proofs.Common.{◌≡◌, ◌∙◌, ℕ, ◌+◌, ◌<◌, ◌≤◌, Bool, true, false, List, [], ◌∷◌, length, get_or, drop, map, refl, sym, ap, subst, arith, zero, suc, ◌++◌, slice_get, Option, Some, None, append_assoc, add-one, inl, inr}
 use Rattle.std.specs.Prelude.{◌&&◌, ◌==◌, filter, if◌then◌else◌, nat_le, nat_lt, not, IsUtf8, ◌||◌, slice_set}
 use Rattle.std.proofs.lemmas.Bool.Decides.{nat_tests}
 use Rattle.std.proofs.lemmas.List.{drop_all, map-append}
-use Rattle.script65.proofs.Eaches.{drop_item, append_none, drop_at}
+use Rattle.script65.proofs.Eaches.{drop_item, drop_at}
 use Rattle.script65.specs.declared.placement.AreaPlace.{AreaPlace}
 use Rattle.script65.specs.declared.script.Area.{Area}
 use Rattle.link65.specs.declared.files.Load.{Load}
@@ -14,13 +14,12 @@ use Rattle.std.specs.Option.{option_map}
 use Rattle.std.proofs.lemmas.Option.{slice_get_cases}
 use Rattle.script65.specs.declared.placement.RowPlace.{RowPlace}
 use Rattle.script65.specs.declared.script.Row.{Row}
-use Rattle.script65.specs.Placing.{is_written}
 use Rattle.std.specs.Borrow.{Bor}
 use Rattle.std.specs.List.{list_any, position_or_len}
 use Rattle.std.specs.Str.{bytes_eq}
 use Rattle.std.proofs.lemmas.Str.{is_utf8-from_IsUtf8}
 use Rattle.base65.proofs.Texts.{not_utf8}
-use Rattle.script65.proofs.Walks.{drop_suc, there}
+use Rattle.script65.proofs.Walks.{there}
 use Rattle.script65.specs.declared.placement.Placement.{Placement}
 use Rattle.script65.specs.declared.script.AreaFile.{AreaFile}
 use Rattle.script65.specs.declared.script.AreaFile.TheVariants.{Named}

@@ -1,12 +1,12 @@
 -- From the parts of a link to the whole, and with which faults it is refused at all.
-use Rattle.std.proofs.Common.{◌≡◌, ◌≢◌, ℕ, zero, suc, ◌+◌, ◌<◌, ◌≤◌, refl, sym, ◌∙◌, ap, subst, arith, List, [], ◌∷◌, length, slice_get, Option, Some, None, Bool, true, false, Result, Ok, Err, ◌⊎◌, inl, inr, nat_lt, map, ℤ, ◌||◌, if◌then◌else◌}
-use Rattle.std.specs.Prelude.{IfErr, pos, replicate}
+use Rattle.std.proofs.Common.{◌≡◌, ◌≢◌, ℕ, zero, suc, ◌+◌, ◌<◌, ◌≤◌, refl, sym, ◌∙◌, ap, subst, arith, List, [], ◌∷◌, length, slice_get, Option, Some, None, Bool, true, false, Result, Ok, Err, ◌⊎◌, inl, inr, nat_lt, map, ℤ, ◌||◌}
+use Rattle.std.specs.Prelude.{IfErr, replicate}
 use Rattle.std.proofs.lemmas.Grind.{common_steps}
 use Rattle.std.proofs.lemmas.Bool.Decides.{nat_tests}
 use Rattle.std.proofs.lemmas.List.{length-replicate}
 use Rattle.std.proofs.lemmas.Option.{gets}
-use Rattle.base65.specs.Outcome.{◌>>=◌, Finds, Unless, First, Refuses}
-use Rattle.base65.specs.Values.{value1, value2}
+use Rattle.base65.specs.Outcome.{◌>>=◌, Finds, Unless, First}
+use Rattle.base65.specs.Values.{value1}
 use Rattle.object65.specs.Form.{Form, lit, sec, imp, prefix, binary}
 use Rattle.object65.specs.FormValue.{or_none, value_in}
 use Rattle.link65.specs.declared.evaluation.Mark.{Mark}
@@ -19,30 +19,19 @@ use Rattle.link65.specs.declared.parts.Resolved.{Resolved}
 use Rattle.link65.specs.declared.parts.ValueFault.{ValueFault}
 use Rattle.link65.specs.declared.parts.ValueFault.TheVariants.{NoValue, Unresolved}
 use Rattle.link65.specs.Placed.{AllFound, AreAllFound, AreSettled, IsFound, KeepsFound, as_found, as_outcome, import_tried, marked, table_of, tried, IsPassed, IsPlacedPassed}
-use Rattle.link65.specs.Values.{AreExports, ExportComesTo, Linkage, base_of, provider_at, import_value, in_table, value_by, linkage, Exports, linkage_of, resolved, needs_of}
+use Rattle.link65.specs.Values.{AreExports, ExportComesTo, Linkage, base_of, provider_at, import_value, in_table, value_by, linkage, Exports, linkage_of, resolved}
 use Rattle.script65.specs.declared.placement.Placement.{Placement}
 use Rattle.script65.specs.declared.script.Script.{Script}
 use Rattle.link65.specs.declared.fault.LinkFault.{LinkFault}
 use Rattle.link65.specs.declared.finishing.Passed.{Passed}
 use Rattle.link65.specs.Faults.{is_memory, RefusesBy, is_of_finish}
 use Rattle.link65.specs.Programs.{Program}
-use Rattle.std.specs.Ordering.{int_eq}
-use Rattle.script65.specs.declared.placement.PlaceFault.{PlaceFault}
-use Rattle.script65.specs.Placing.{place_of}
-use Rattle.object65.specs.declared.object.Action.{Action}
-use Rattle.object65.specs.declared.object.Action.TheVariants as action
-use Rattle.object65.specs.Objects.{fits_width}
-use Rattle.link65.specs.declared.fault.LinkFault.TheVariants as fault
-use Rattle.link65.specs.declared.fault.Site.{Site}
 use Rattle.link65.specs.declared.linking.Linked.{Linked}
 use Rattle.link65.specs.declared.parts.Asserted.{Asserted}
 use Rattle.link65.specs.declared.parts.Exported.{Exported}
 use Rattle.link65.specs.declared.parts.Member.{Member}
-use Rattle.link65.specs.declared.parts.ValueFault.TheVariants as value
 use Rattle.link65.specs.declared.parts.Fixup.{Fixup}
-use Rattle.link65.specs.Links.{assertion_result, check_assert, check_asserts, check_export, check_fixup, each_passes, fitting, site, value_at, fixups_by_row, IsImaged, IsPlacedLink, IsProgramLink, as_placement, checked, names_given, none_unresolved, placed}
-use Rattle.link65.specs.Names.{unresolved}
-use Rattle.link65.specs.Texts.{assertion_warning}
+use Rattle.link65.specs.Links.{check_assert, check_asserts, check_export, check_fixup, each_passes, IsImaged, IsPlacedLink, checked}
 
 -- ---- The table.
 

@@ -1,14 +1,13 @@
 -- Names that are given, none twice, and names that nobody gives.
 use Rattle.std.proofs.lemmas.Grind.{common_steps}
-use Rattle.std.proofs.Common.{arith, ◌≡◌, ◌∙◌, ℕ, Bool, true, false, not, List, [], ◌∷◌, ◌++◌, Result, Ok, Err, append_assoc, refl, sym, ap, map, length, drop, get_or, append-nil, ◌+◌, ◌<◌, ◌||◌, cond, filter, Option, Some, is_some, if◌then◌else◌, subst}
-use Rattle.base65.specs.Outcome.{◌>>=◌, Refuses, Unless}
+use Rattle.std.proofs.Common.{arith, ◌≡◌, ◌∙◌, ℕ, Bool, true, false, not, List, [], ◌∷◌, ◌++◌, Result, Ok, Err, append_assoc, refl, sym, ap, map, length, drop, get_or, ◌+◌, ◌<◌, ◌||◌, filter, Option, if◌then◌else◌}
+use Rattle.base65.specs.Outcome.{◌>>=◌}
 use Rattle.link65.specs.declared.fault.LinkFault.{LinkFault}
 use Rattle.link65.specs.declared.fault.LinkFault.TheVariants.{DuplicateExport, Unresolved}
 use Rattle.link65.specs.Standing.{all_once, with_each, with_new}
 use Rattle.link65.specs.Names.{first_again, is_among, given_names, each_once, is_given, open_names, references, unresolved, weak_definition, weak_symbols, symbol_imports}
-use Rattle.link65.specs.Links.{no_name_again, none_unresolved, names_once}
-use Rattle.link65.specs.Faults.{is_memory}
-use Rattle.link65.specs.Programs.{Module, Program, exported, program_of, with_module}
+use Rattle.link65.specs.Links.{no_name_again, none_unresolved}
+use Rattle.link65.specs.Programs.{Module, Program, with_module}
 use Rattle.script65.specs.declared.script.Script.{Script}
 use Rattle.script65.specs.declared.script.Symbol.{Symbol}
 use Rattle.script65.specs.declared.script.SymbolKind.{SymbolKind}

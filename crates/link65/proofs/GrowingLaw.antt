@@ -1,35 +1,27 @@
 -- An item grows a program as the module grows that it belongs to.
-use Rattle.std.proofs.Common.{◌≡◌, ◌∙◌, ◌+◌, ◌-◌, ◌^◌, ℕ, zero, suc, List, [], ◌∷◌, ◌++◌, length, map, replicate, cond, Option, Some, Bool, true, false, ◌&&◌, ◌||◌, not, if◌then◌else◌, refl, sym, ap, subst, arith, append_assoc, length-append}
-use Rattle.std.specs.Prelude.{slice_get, slice_set, find, max}
-use Rattle.std.proofs.lemmas.Grind.{common_steps, flat_map-append}
+use Rattle.std.proofs.Common.{◌≡◌, ◌∙◌, ◌+◌, ℕ, zero, suc, List, [], ◌∷◌, ◌++◌, length, map, cond, Option, Some, Bool, true, false, ◌&&◌, ◌||◌, not, if◌then◌else◌, refl, sym, ap, subst, arith, append_assoc}
+use Rattle.std.specs.Prelude.{slice_get, slice_set, find}
+use Rattle.std.proofs.lemmas.Grind.{common_steps}
 use Rattle.std.proofs.lemmas.Cmp.{nat_list_eq_equiv}
 use Rattle.std.proofs.lemmas.List.{map-append, map-set}
-use Rattle.std.proofs.lemmas.List.Sums.{sum_by-append}
 use Rattle.std.proofs.lemmas.Option.{slice_get-map}
-use Rattle.std.specs.List.{flat_map, list_any, sum_by}
+use Rattle.std.specs.List.{flat_map, list_any}
 use Rattle.std.specs.Option.{option_map, option_map_or}
 use Rattle.std.specs.Str.{bytes_eq}
 use Rattle.object65.specs.declared.builder.Draft.{Draft}
 use Rattle.object65.specs.declared.record.Item.{Item}
 use Rattle.object65.specs.declared.record.Item.TheVariants as item
 use Rattle.object65.specs.declared.object.Fragment.{Fragment}
-use Rattle.object65.specs.declared.object.Fragment.TheVariants.{Literal, Fill, Value}
 use Rattle.object65.specs.declared.object.Section.{Section}
-use Rattle.object65.specs.declared.object.Export.{Export}
-use Rattle.object65.specs.declared.object.Assert.{Assert}
 use Rattle.object65.specs.Items
 use Rattle.object65.specs.Objects.{are_names, fragment_len, is_among, is_name, section_len}
 use Rattle.object65.specs.Scanning
-use Rattle.object65.proofs.Closings.{nil, closing_is, shut_len, turned}
+use Rattle.object65.proofs.Closings.{turned}
 use Rattle.object65.proofs.Goods.{left, right}
-use Rattle.object65.proofs.Closings as closings
 use Rattle.object65.proofs.Scannings.{IsPlaced}
 use Rattle.object65.specs.Scanning.{outline_of}
 use Rattle.object65.proofs.Withins.{reached_parts, led}
-use Rattle.script65.specs.Placing.{rounded_up}
 use Rattle.link65.specs.declared.parts.SectionPlace.{SectionPlace}
-use Rattle.link65.specs.declared.parts.Exported.{Exported}
-use Rattle.link65.specs.declared.parts.Asserted.{Asserted}
 use Rattle.link65.specs.Growing
 use Rattle.link65.specs.Programs.{Program, asserted, exported, with_module}
 use Rattle.link65.specs.Programs

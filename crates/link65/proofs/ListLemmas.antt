@@ -1,13 +1,13 @@
 -- Lists: names that are copied, places by name, lists beside each other.
 use Rattle.std.proofs.lemmas.Grind.{common_steps}
-use Rattle.std.proofs.Common.{◌≡◌, ◌∙◌, ℕ, List, [], ◌∷◌, map, Result, Ok, Err, refl, ap, vec_len, ◌<◌, ◌≤◌, ◌-◌, ◌+◌, Bool, cond, length, drop, slice_get, add-one, Option, Some, None, sym, arith, zero, suc, ◌++◌, get_or, append_assoc}
+use Rattle.std.proofs.Common.{◌≡◌, ◌∙◌, ℕ, List, [], ◌∷◌, map, Result, refl, ap, vec_len, ◌<◌, ◌≤◌, ◌-◌, ◌+◌, Bool, cond, length, drop, slice_get, add-one, Option, Some, None, sym, arith, ◌++◌, append_assoc, append-nil, ◌⊎◌, inl, inr}
 use Rattle.std.specs.Prelude.{IfOk, MatchResult}
 use Rattle.std.specs.Global.{Vec}
 use Rattle.std.specs.List.{AllZip, position_from, flat_map}
 use Rattle.std.specs.Borrow.{Bor}
 use Rattle.std.specs.Str.{bytes_eq}
 use Rattle.std.proofs.lemmas.List.{drop_all}
-use Rattle.script65.proofs.Eaches.{drop_at, append_none, drop_item}
+use Rattle.script65.proofs.Eaches.{drop_at}
 use Rattle.link65.specs.Programs.{position_in, flat_zip}
 
 -- ---- Names that are copied.
@@ -65,35 +65,19 @@ all_names names name = position_map names name 0
 
 -- ---- Lists beside each other.
 
--- what comes of an item and what may stand beside it
-abbrev with_beside : {A B C : Type 0} → (A → B → List C) → A → Option B → List C
-with_beside f x (Some y) = f x y
-with_beside f x None = []
-
+-- pairs, where either list may end first
 module _ {A B C : Type 0} (f : A → B → List C) where
-  none_left : (xs : List A) → flat_zip f xs [] ≡ []
-  none_left [] = refl
-  none_left (x ∷ xs) = refl
+  pub pair_next : (xs rest : List A) (ys more : List B) (x : A) (y : B) (done next all : List C) → xs ≡ x ∷ rest → ys ≡ y ∷ more → next ≡ done ++ f x y → done ++ flat_zip f xs ys ≡ all → next ++ flat_zip f rest more ≡ all
+  pair_next xs rest ys more x y done next all a b e inv = grind (arith, common_steps, append_assoc)
 
-  drop_none : (ys : List B) (i : ℕ) → slice_get ys i ≡ None → (drop i ys ≡ []) × (drop (suc i) ys ≡ [])
-  drop_none [] zero e = (refl, refl)
-  drop_none [] (suc i) e = (refl, refl)
-  drop_none (y ∷ ys) zero e = absurd cc
-  drop_none (y ∷ ys) (suc i) e = drop_none ys i e
-
-  beside : (xs : List A) (ys : List B) (i : ℕ) (x : A) (o : Option B) → i < length xs → x ≡ get_or xs i x → slice_get ys i ≡ o → flat_zip f (drop i xs) (drop i ys) ≡ with_beside f x o ++ flat_zip f (drop (i + 1) xs) (drop (i + 1) ys)
-  beside xs ys i x y lt at e = grind (arith, common_steps, drop_none, none_left, drop_at, drop_item)
-
-  pub zip_next : (xs : List A) (ys : List B) (i : ℕ) (x : A) (o : Option B) (before done next whole : List C) → i < length xs → x ≡ get_or xs i x → o ≡ slice_get ys i → next ≡ done ++ with_beside f x o → done ++ flat_zip f (drop i xs) (drop i ys) ≡ before ++ whole → next ++ flat_zip f (drop (i + 1) xs) (drop (i + 1) ys) ≡ before ++ whole
-  zip_next xs ys i x o before done next whole lt at e more inv = grind (arith, common_steps, append_assoc, beside)
-
-  pub zip_end : (xs : List A) (ys : List B) (i : ℕ) (before done whole : List C) → length xs ≤ i → done ++ flat_zip f (drop i xs) (drop i ys) ≡ before ++ whole → done ≡ before ++ whole
-  zip_end xs ys i before done whole le inv = grind (arith, common_steps)
-
--- where there is none
-pub none_at : {A : Type 0} (o s : Option A) → ((x : A) → o ≡ Some x → ⊥) → o ≡ s → None ≡ s
-none_at None s h e = e
-none_at (Some x) s h e = absurd (h x refl)
+  pub pair_end : {P Q : Type 0} (xs : List A) (ys : List B) (done all : List C) → P ⊎ Q → (P → length xs ≡ 0) → (Q → length ys ≡ 0) → done ++ flat_zip f xs ys ≡ all → done ≡ all
+  pair_end {P} {Q} xs ys done all ends first second inv = sym (append-nil done) ∙ ap (λ zs. done ++ zs) (sym (none ends xs ys first second)) ∙ inv
+    where
+      none : P ⊎ Q → (xs : List A) (ys : List B) → (P → length xs ≡ 0) → (Q → length ys ≡ 0) → flat_zip f xs ys ≡ []
+      none h [] ys first second = refl
+      none h (x ∷ xs) [] first second = refl
+      none (inl p) (x ∷ xs) (y ∷ ys) first second = absurd (omega (arith, first p))
+      none (inr q) (x ∷ xs) (y ∷ ys) first second = absurd (omega (arith, second q))
 
 -- what stands beside each item is made of it
 pub zip_mapped : {A B C : Type 0} (f : A → B → List C) (g : A → B) (h : A → List C) → ((x : A) → f x (g x) ≡ h x) → (xs : List A) → flat_zip f xs (map g xs) ≡ flat_map h xs

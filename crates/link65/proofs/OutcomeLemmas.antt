@@ -1,6 +1,6 @@
 -- A link has one outcome, and a weak name that nothing uses changes no image.
-use Rattle.std.proofs.Common.{◌≡◌, ◌∙◌, ℕ, zero, suc, ◌+◌, ◌<◌, Bool, true, false, List, [], ◌∷◌, ◌++◌, length, get_or, Result, Ok, Err, refl, sym, ap, subst, arith, not, ◌||◌, cond, filter, map, slice_get, Option, Some, None, if◌then◌else◌}
-use Rattle.std.specs.Prelude.{ℤ, ◌==◌, pos}
+use Rattle.std.proofs.Common.{◌≡◌, ◌∙◌, ℕ, zero, suc, ◌+◌, ◌<◌, Bool, true, false, List, [], ◌∷◌, ◌++◌, length, get_or, Result, Ok, Err, refl, sym, ap, subst, arith, not, ◌||◌, cond, filter, map, slice_get, Option, Some, if◌then◌else◌}
+use Rattle.std.specs.Prelude.{ℤ, ◌==◌}
 use Rattle.base65.proofs.Outcome.{first_once}
 use Rattle.script65.specs.declared.placement.Placement.{Placement}
 use Rattle.script65.specs.declared.script.Area.{Area}
@@ -11,18 +11,17 @@ use Rattle.base65.specs.declared.output.OutputFile.{OutputFile}
 use Rattle.link65.specs.declared.parts.ValueFault.{ValueFault}
 use Rattle.link65.specs.declared.parts.ValueFault.TheVariants.{Unresolved}
 use Rattle.link65.specs.Files.{AddsArea, AddsAreas, IsAreaFile, IsImage, Piece, file_name, with_bytes}
-use Rattle.link65.specs.Values.{row_bytes, linkage_of, address_of, needs_of, resolved, AreExports, Exports, Linkage, exports_through, in_table, linkage}
+use Rattle.link65.specs.Values.{row_bytes, linkage_of, needs_of, resolved, AreExports, Exports, Linkage, exports_through, in_table, linkage}
 use Rattle.link65.specs.Links.{IsFinished, IsImaged, IsPlacedLink, IsProgramLink, LinkOf, checked, names_once, placed, as_placement, no_name_again, none_unresolved}
 use Rattle.link65.specs.Texts.{map_text, warnings_of_rows}
-use Rattle.link65.specs.Programs.{Module, Program, program_of, position_in}
+use Rattle.link65.specs.Programs.{Module, Program, program_of}
 use Rattle.link65.proofs.Tries.{exports_grow, settles_once}
-use Rattle.std.proofs.lemmas.Grind.{common_steps, flat_map-append}
-use Rattle.std.proofs.lemmas.List.{append-nil, map-append}
+use Rattle.std.proofs.lemmas.Grind.{common_steps}
+use Rattle.std.proofs.lemmas.List.{map-append}
 use Rattle.std.proofs.lemmas.List.Folds.{list_any-append}
 use Rattle.std.proofs.lemmas.Cmp.{nat_list_eq_equiv}
 use Rattle.std.specs.Int.{w64, cast_signed}
 use Rattle.std.specs.List.{flat_map, position_from}
-use Rattle.std.specs.Option.{option_map_or}
 use Rattle.std.specs.Str.{bytes_eq}
 use Rattle.base65.specs.Outcome.{◌>>=◌, First}
 use Rattle.script65.specs.Placing.{place_of}
@@ -31,10 +30,9 @@ use Rattle.script65.specs.declared.script.SymbolKind.TheVariants as kind
 use Rattle.link65.specs.declared.parts.Definition.{Definition}
 use Rattle.link65.specs.declared.parts.Exported.{Exported}
 use Rattle.link65.specs.declared.parts.Provider.{Provider}
-use Rattle.link65.specs.declared.parts.Provider.TheVariants.{ByScript, Nobody}
 use Rattle.link65.specs.declared.parts.Member.{Member}
 use Rattle.link65.specs.declared.parts.Resolved.{Resolved}
-use Rattle.link65.specs.Names.{by_definition, by_export, defined_at, each_once, export_names, exported_at, first_again, given_names, provider_of, is_among, is_given, references, unresolved, areas_definitions, rows_definitions, area_names, row_names, export_definition, import_name, script_definitions, symbol_exports, symbol_imports, weak_definition, weak_symbols, SameImages, is_used, with_weak}
+use Rattle.link65.specs.Names.{by_definition, defined_at, each_once, first_again, given_names, provider_of, is_among, is_given, references, unresolved, script_definitions, symbol_imports, weak_symbols, SameImages, is_used, with_weak}
 use Rattle.link65.specs.Laws.{UnusedWeakLaw, UnusedWeakLinks}
 
 -- ---- A link has one outcome.

@@ -3,11 +3,11 @@ use Rattle.std.proofs.lemmas.Grind.{common_steps}
 use Rattle.std.proofs.Common.{arith, ◌≡◌, ◌<◌, ℕ, zero, suc, ◌+◌, map, Bool, true, false, List, [], ◌∷◌, ◌++◌, length, drop, get_or, refl, sym, ap, ◌∙◌, Result, Ok, Err, append_assoc, if◌then◌else◌}
 use Rattle.std.specs.List.{flat_map}
 use Rattle.script65.proofs.Eaches.{drop_item}
-use Rattle.base65.specs.Outcome.{◌>>=◌, Refuses, Unless}
+use Rattle.base65.specs.Outcome.{◌>>=◌, Refuses}
 use Rattle.link65.specs.declared.fault.LinkFault.{LinkFault}
 use Rattle.std.specs.Prelude.{replicate}
 use Rattle.link65.specs.declared.parts.Piece.{Piece}
-use Rattle.link65.specs.declared.parts.Piece.TheVariants.{Known, Filled, Waits}
+use Rattle.link65.specs.declared.parts.Piece.TheVariants.{Known, Filled}
 use Rattle.link65.specs.declared.parts.Fixup.{Fixup}
 use Rattle.link65.specs.Links.{each_passes, fixups_in}
 use Rattle.link65.specs.Grounds.{cells_of, piece_cells, piece_fixups}

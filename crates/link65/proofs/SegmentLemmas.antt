@@ -1,11 +1,10 @@
 -- Segments by their places and names, and how a section begins in its segment.
 use Rattle.std.proofs.lemmas.Grind.{common_steps}
-use Rattle.std.proofs.Common.{◌≡◌, ◌∙◌, ◌+◌, ℕ, suc, List, [], ◌∷◌, ◌++◌, length, map, cond, Option, Some, None, Bool, true, false, nat_lt, if◌then◌else◌, refl, sym, ap, subst, arith, ◌||◌, slice_get, ◌<◌, zero, ◌-◌, ◌^◌, get_or, replicate, Ok, Result}
+use Rattle.std.proofs.Common.{◌≡◌, ◌∙◌, ℕ, suc, List, [], ◌∷◌, ◌++◌, length, map, cond, Option, Some, None, Bool, true, false, if◌then◌else◌, refl, sym, ap, subst, arith, ◌||◌, slice_get, ◌<◌, zero, ◌-◌, ◌^◌, get_or, Ok, Result}
 use Rattle.std.specs.Prelude.{slice_set, position, max}
-use Rattle.std.proofs.lemmas.Bool.Decides.{nat_tests}
 use Rattle.std.proofs.lemmas.Cmp.{nat_list_eq_equiv}
-use Rattle.std.specs.List.{list_any, position_or_len}
-use Rattle.std.proofs.lemmas.List.{length-map, map-append, map-set}
+use Rattle.std.specs.List.{list_any}
+use Rattle.std.proofs.lemmas.List.{length-map, map-set}
 use Rattle.std.specs.Option.{option_map}
 use Rattle.std.specs.Str.{bytes_eq}
 use Rattle.object65.specs.declared.object.Section.{Section}
@@ -18,7 +17,6 @@ use Rattle.std.proofs.lemmas.Option.{slice_get-map, slice_get_read}
 use Rattle.link65.specs.declared.parts.SectionPlace.{SectionPlace}
 use Rattle.object65.specs.declared.object.Fragment.{Fragment}
 use Rattle.object65.specs.Objects.{fragment_len}
-use Rattle.object65.proofs.Closings.{nil}
 use Rattle.script65.specs.Placing.{rounded_up}
 use Rattle.link65.specs.declared.fault.LinkFault.{LinkFault}
 use Rattle.link65.specs.declared.growing.Growing.{Growing}

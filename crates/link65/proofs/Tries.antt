@@ -6,7 +6,7 @@ use Rattle.link65.specs.declared.parts.ValueFault.{ValueFault}
 use Rattle.link65.specs.declared.parts.ValueFault.TheVariants.{Circular, NoValue, Unresolved}
 use Rattle.link65.specs.Values.{Settles, ExportComesTo, Exports, Linkage, base_of, export_value, exports_through, provider_at, import_value, value_by}
 use Rattle.base65.specs.Outcome.{◌>>=◌}
-use Rattle.base65.specs.Values.{value1, value2, wrapped}
+use Rattle.base65.specs.Values.{value2, wrapped}
 use Rattle.object65.specs.Form.{Form, lit, sec, imp, prefix, binary}
 use Rattle.object65.specs.FormValue.{or_none, value_in}
 use Rattle.link65.specs.declared.evaluation.Mark.{Mark}

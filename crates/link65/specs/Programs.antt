@@ -1,5 +1,5 @@
 -- Programs: modules one behind the other, and what they put into segments.
-use Rattle.std.specs.Prelude.{ℕ, List, [], ◌∷◌, ◌++◌, Option, Some, None, ◌+◌, ◌-◌, ◌^◌, max, map, replicate, find, if◌then◌else◌, length}
+use Rattle.std.specs.Prelude.{ℕ, List, [], ◌∷◌, ◌++◌, Option, ◌+◌, ◌-◌, ◌^◌, max, map, replicate, find, if◌then◌else◌, length}
 use Rattle.std.specs.List.{position_from, flat_map}
 use Rattle.std.specs.Str.{bytes_eq}
 use Rattle.object65.specs.declared.object.Object.{Object}

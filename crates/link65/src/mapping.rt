@@ -1,12 +1,11 @@
 //! The map.
 
-ghost use Rattle.std.specs.Prelude.{◌≡◌, ◌≤◌, ◌%◌, ◌++◌, IfOk, OnOk, slice_get};
+ghost use Rattle.std.specs.Prelude.{◌≡◌, ◌≤◌, ◌%◌, ◌++◌, IfOk, OnOk};
 ghost use Rattle.std.specs.List.{flat_map};
 ghost use Rattle.link65.specs.Placed.{lines_by, map_by, value_line, AreNames};
 ghost use Rattle.link65.specs.Programs.{flat_zip};
 ghost use Rattle.link65.specs.Texts.{address_text, definition_line, hex_digit, hex_digits, member_lines, row_line, row_lines, section_line, symbol_line, weak_line};
 
-use crate::naming::row_place;
 use crate::parts::{Definition, Exported, Member, SectionPlace};
 use crate::resolving::{Names, is_defined};
 use crate::texts::{add_all, join};
@@ -114,10 +113,8 @@ fn rows_text(alloc: Global, rows: &[Row], places: &[RowPlace]) -> Result<Sequenc
     ensures { IfOk result (λ text. text ≡ row_lines rows.now places.now) }
 {
     let mut text = Sequence::new(alloc);
-    for (i, row) in rows.iter().enumerate() {
-        if let Some(place) = row_place(places, i) {
-            add_row_line(&mut text, row, place)?;
-        }
+    for (row, place) in rows.iter().zip(places) {
+        add_row_line(&mut text, row, *place)?;
     }
     Ok(text)
 }
@@ -147,12 +144,6 @@ fn definition_lines(alloc: Global, definitions: &[Definition]) -> Result<Sequenc
     Ok(text)
 }
 
-fn value_at(values: &[i64], i: usize) -> Option<i64>
-    ensures { result ≡ slice_get values.now i }
-{
-    values.get(i).copied()
-}
-
 fn export_lines(
     alloc: Global,
     exports: &[Exported],
@@ -161,10 +152,8 @@ fn export_lines(
     ensures { IfOk result (λ text. text ≡ flat_zip value_line exports.now values.now) }
 {
     let mut text = Sequence::new(alloc);
-    for (i, export) in exports.iter().enumerate() {
-        if let Some(value) = value_at(values, i) {
-            add_symbol_line(&mut text, export.name.as_slice(), value.cast_unsigned())?;
-        }
+    for (export, value) in exports.iter().zip(values) {
+        add_symbol_line(&mut text, export.name.as_slice(), value.cast_unsigned())?;
     }
     Ok(text)
 }

@@ -1,6 +1,6 @@
 //! The names that a script gives.
 
-ghost use Rattle.std.specs.Prelude.{◌≡◌, ◌++◌, IfOk, OnOk, slice_get, map};
+ghost use Rattle.std.specs.Prelude.{◌≡◌, ◌++◌, IfOk, OnOk, map};
 ghost use Rattle.std.specs.Int.{w64, cast_signed};
 ghost use Rattle.script65.specs.AreaSums.{part_name};
 ghost use Rattle.link65.specs.Names.{area_definitions, areas_definitions, part, row_definitions, rows_definitions, script_definitions, symbol_exports, weak_symbols, area_names, row_names, script_names};
@@ -75,19 +75,6 @@ fn add_row(
     Ok(())
 }
 
-fn area_place(places: &[AreaPlace], i: usize) -> Option<AreaPlace>
-    ensures { result ≡ slice_get places.now i }
-{
-    places.get(i).copied()
-}
-
-/// Where the row at a place stands, if it is placed.
-pub fn row_place(places: &[RowPlace], i: usize) -> Option<RowPlace>
-    ensures { result ≡ slice_get places.now i }
-{
-    places.get(i).copied()
-}
-
 /// Adds what areas define.
 fn add_areas(
     alloc: Global,
@@ -97,10 +84,8 @@ fn add_areas(
 ) -> Result<(), AllocError>
     ensures { OnOk result (definitions.new ≡ definitions.old ++ areas_definitions areas.now places.now) }
 {
-    for (i, area) in areas.iter().enumerate() {
-        if let Some(place) = area_place(places, i) {
-            add_area(alloc, definitions, area, place)?;
-        }
+    for (area, place) in areas.iter().zip(places) {
+        add_area(alloc, definitions, area, *place)?;
     }
     Ok(())
 }
@@ -114,10 +99,8 @@ fn add_rows(
 ) -> Result<(), AllocError>
     ensures { OnOk result (definitions.new ≡ definitions.old ++ rows_definitions rows.now places.now) }
 {
-    for (i, row) in rows.iter().enumerate() {
-        if let Some(place) = row_place(places, i) {
-            add_row(alloc, definitions, row, place)?;
-        }
+    for (row, place) in rows.iter().zip(places) {
+        add_row(alloc, definitions, row, *place)?;
     }
     Ok(())
 }

@@ -28,7 +28,7 @@ use Rattle.language65.specs.declared.laid.Context.{Context}
 use Rattle.language65.specs.Norms.{norm_of, width_of}
 use Rattle.module65.specs.Reading.{PlacedFault, at_place}
 use Rattle.module65.specs.Machine.{Finished}
-use Rattle.module65.specs.Module.{asserted, asserted_by, contents_from, failed, has_content, sound_from, Made, Piece, absent_of, as_part, as_said, demanded, equated, exported, given, imported, instruction_pieces, item_piece, made_of, operand, operand_pieces, pieces_of, used, valued}
+use Rattle.module65.specs.Module.{asserted, assertion_warnings, asserted_by, contents_from, failed, has_content, sound_from, Made, Piece, absent_of, as_part, as_said, demanded, equated, exported, given, imported, instruction_pieces, item_piece, made_of, operand, operand_pieces, pieces_of, used, valued}
 use Rattle.module65.specs.Module as p
 use Rattle.module65.proofs.Entries.{Entry, all_entries, asked_by, entries_of, part, tells, after, after_after, after_nothing, nothing, nothing_after, placed}
 
@@ -176,7 +176,7 @@ made_of_pieces y l = made_with y l.stated l.place l.context l.length l.size l.se
 -- ---- All statements.
 
 abbrev pub all_made : Symbols → List Laid → Finished Entry
-all_made y ls = record { found = contents_from y ls >>= (λ cs. Ok (all_entries cs)); warned = asserted y ls }
+all_made y ls = record { found = contents_from y ls >>= (λ cs. Ok (all_entries cs)); warned = assertion_warnings y ls }
 
 all_cons : (y : Symbols) (l : Laid) (ls : List Laid) → all_made y (l ∷ ls) ≡ after (content_made y l) (all_made y ls)
 all_cons y l ls = grind (arith, common_steps)

@@ -19,7 +19,7 @@ use Rattle.module65.specs.Laws.{AreFoundAlike, LaidRuns, OnePass, RunsLaid, Stan
 use Rattle.module65.specs.Reading.{IsLaid, laying, PlacedFault}
 use Rattle.language65.specs.Norms.{Extends}
 use Rattle.module65.specs.Machine.{Finished, Puts, at_once, later, PutsAll, Slot, awaited, holds, State, Steps, Takes, UnlessFault, Fixup, asked, awaited_in, awaiting, before_it, begun, concluded, entered, finished, known, running, symbols_behind}
-use Rattle.module65.specs.Module.{Outcome, asserted, contents_from, out_of, outcome_of, printed, warned, warning_of, Made, Piece, made_of, pieces_of}
+use Rattle.module65.specs.Module.{Outcome, assertion_warnings, contents_from, out_of, outcome_of, printed, warned, warning_of, Made, Piece, made_of, pieces_of}
 use Rattle.module65.proofs.Contents.{all_append, all_made, made_of_pieces, piece_made, pieces_made}
 use Rattle.module65.proofs.Entries.{Entry, alike_by, all_entries, asked_by, entries_of, object_alike, after, after_after, after_nothing, as_entries, come, come_append, nothing, placed, slots_filled}
 use Rattle.module65.proofs.Resolving.{awaited_append, extends_behind, extends_same, extends_then, flat_push, symbols_push}
@@ -208,10 +208,10 @@ concluded_for y t None for =
     let z = symbols_of y.laid in
     ap (λ (r : Result Object PlacedFault). record { result = r; out = t.out; err = t.err ++ (finished t).warned }) (same_object t.cursor.segments t.symbols.imports (finished t).found (contents_from t.symbols y.laid) for.found)
     ∙ ap (λ w. answered t.symbols t.cursor (contents_from t.symbols y.laid) t.out (t.err ++ w)) for.asserted
-    ∙ ap (λ (v : Symbols). answered v t.cursor (contents_from v y.laid) t.out (t.err ++ asserted v y.laid)) for.symbols
-    ∙ ap (λ (w : Cursor). answered z w (contents_from z y.laid) t.out (t.err ++ asserted z y.laid)) for.cursor
-    ∙ ap (λ out. answered z y.cursor (contents_from z y.laid) out (t.err ++ asserted z y.laid)) for.out
-    ∙ ap (λ err. answered z y.cursor (contents_from z y.laid) (printed y.laid) (err ++ asserted z y.laid)) for.err
+    ∙ ap (λ (v : Symbols). answered v t.cursor (contents_from v y.laid) t.out (t.err ++ assertion_warnings v y.laid)) for.symbols
+    ∙ ap (λ (w : Cursor). answered z w (contents_from z y.laid) t.out (t.err ++ assertion_warnings z y.laid)) for.cursor
+    ∙ ap (λ out. answered z y.cursor (contents_from z y.laid) out (t.err ++ assertion_warnings z y.laid)) for.out
+    ∙ ap (λ err. answered z y.cursor (contents_from z y.laid) (printed y.laid) (err ++ assertion_warnings z y.laid)) for.err
 concluded_for y t (Some e) for = grind (arith, common_steps)
 
 pub one_pass : OnePass

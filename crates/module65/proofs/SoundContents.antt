@@ -117,7 +117,7 @@ asked_keys ls cs h = asks_more (asked_in (segments_asked cs)) (asked_in (section
 -- what is known of each statement
 record IsSafe (asked : List ℕ) (bound : ℕ) (l : Laid) : Type 0 where
   sound : IsSound l.stated
-  cursor : l.context.segment < bound
+  standing : l.context.segment < bound
   asks : Asks (asked_in asked) l
   measured : (before : Symbols) × IsMeasured before l
 
@@ -131,7 +131,7 @@ content_for : (asked : List ℕ) (count bound : ℕ) (y : Symbols) → IsKnown a
 content_for asked count bound y k l p =
     well_then (PartsOf asked count l.length) (IsFor asked count bound l) (parts_of y l) (λ ps. said_of y l >>= (λ ss. Ok (record { segment = l.context.segment; asks = asks_section l.stated; parts = ps; said = ss }))) (parts_sound asked count y p.measured.0 k l p.asks p.measured.1)
     (λ ps w. well_then (AreSoundDeclarations asked count) (IsFor asked count bound l) (said_of y l) (λ ss. Ok (record { segment = l.context.segment; asks = asks_section l.stated; parts = ps; said = ss })) (said_sound asked count y k l p.sound p.asks)
-    (λ ss v. record { place = refl; within = p.cursor; sound = record { parts = w.0; said = v }; long = w.1 }))
+    (λ ss v. record { place = refl; within = p.standing; sound = record { parts = w.0; said = v }; long = w.1 }))
 
 abbrev AreMeasured : List Laid → Type 0
 AreMeasured ls = AllByRecursion (λ l. (before : Symbols) × IsMeasured before l) ls
@@ -143,7 +143,7 @@ all_places P (x ∷ xs) h = (h 0 x refl, all_places P xs (λ i y e. h (suc i) y 
 
 safe_all : (asked : List ℕ) (bound : ℕ) (ls : List Laid) → AllByRecursion (λ l. IsSound l.stated) ls → AllByRecursion (λ l. l.context.segment < bound) ls → AllByRecursion (Asks (asked_in asked)) ls → AreMeasured ls → AllByRecursion (IsSafe asked bound) ls
 safe_all asked bound [] s b a m = tt
-safe_all asked bound (l ∷ ls) (s, ss) (b, bs) (a, every) (m, ms) = (record { sound = s; cursor = b; asks = a; measured = m }, safe_all asked bound ls ss bs every ms)
+safe_all asked bound (l ∷ ls) (s, ss) (b, bs) (a, every) (m, ms) = (record { sound = s; standing = b; asks = a; measured = m }, safe_all asked bound ls ss bs every ms)
 
 -- ---- What holds of all contents.
 
@@ -179,12 +179,12 @@ sound_contents = λ y cs s e.
     let asks = asked_keys y.laid cs shape in
     let known : IsKnown asked count z = record { definitions = definitions_pass (asked_in asked) y.laid asks; imports = imports_below z } in
     let measured = all_places (λ l. (before : Symbols) × IsMeasured before l) y.laid (λ i l at. (symbols_of (take i y.laid), s.measured i l at)) in
-    let safe = safe_all asked bound y.laid s.sound s.cursor asks measured in
+    let safe = safe_all asked bound y.laid s.sound s.standing asks measured in
     let made = given (EachWith (IsFor asked count bound) y.laid) (contents_from z y.laid) cs e (contents_with (IsFor asked count bound) z (IsSafe asked bound) (content_for asked count bound z known) y.laid safe) in
     record {
       named = s.named;
       imported = all_names y.laid [] refl s.sound;
-      cursor = contents_stand asked count bound y.laid cs made;
+      standing = contents_stand asked count bound y.laid cs made;
       room = λ g. (let same : sum_by part_len (parts_in cs g) ≡ sum_by (λ l. l.length) (statements_in y.laid g) = same_room asked count bound g y.laid cs made in let room = s.room g in omega (arith, same, room));
       contents = contents_sound asked count bound y.laid cs made;
     }

@@ -61,7 +61,7 @@ EachBehind M ls = (i : ℕ) (l : Laid) → slice_get ls i ≡ Some l → M (take
 pub record Good (ls : List Laid) (gs : List Segment) (current : ℕ) (kept : List ℕ) : Type 0 where
   named : are_names (map (λ (g : Segment). g.name) gs) ≡ true
   sound : AllByRecursion (λ (l : Laid). IsSound l.stated) ls
-  cursor : AllByRecursion (stands_in (length gs)) ls
+  standing : AllByRecursion (stands_in (length gs)) ls
   measured : EachBehind (λ before l. IsMeasured (symbols_of before) l) ls
   here : current < length gs
   keeps : are_below (length gs) kept
@@ -89,7 +89,7 @@ good_push : (ls : List Laid) (gs hs : List Segment) (current : ℕ) (kept : List
 good_push ls gs hs current kept l good more at sound measured room = record {
   named = ap are_names more.names ∙ good.named;
   sound = all_more (λ (m : Laid). IsSound m.stated) ls l good.sound sound;
-  cursor = subst (λ n. AllByRecursion (stands_in n) (ls ++ l ∷ [])) (sym more.size) (all_more (stands_in (length gs)) ls l good.cursor (subst (λ n. n < length gs) (sym at) good.here));
+  standing = subst (λ n. AllByRecursion (stands_in n) (ls ++ l ∷ [])) (sym more.size) (all_more (stands_in (length gs)) ls l good.standing (subst (λ n. n < length gs) (sym at) good.here));
   measured = behind_push MeasuredBehind ls l good.measured measured;
   here = subst (λ n. current < n) (sym more.size) good.here;
   keeps = subst (λ n. are_below n kept) (sym more.size) good.keeps;

@@ -13,7 +13,7 @@ use Rattle.language65.specs.Symbols.{Symbols, symbols_of}
 use Rattle.module65.specs.Reading.{AreLaid, PlacedFault, Job, Reached}
 use Rattle.language65.specs.Norms.{IsFinal}
 use Rattle.module65.specs.Machine.{IsSettled, Runs, State, concluded, finished}
-use Rattle.module65.specs.Module.{IsOutcome, Outcome, asserted, contents_from, printed, warned, Purpose, quietly, used, valued}
+use Rattle.module65.specs.Module.{IsOutcome, Outcome, assertion_warnings, contents_from, printed, warned, Purpose, quietly, used, valued}
 
 -- a source is laid in one way at most
 abbrev pub OneLayout : Type 0
@@ -67,7 +67,7 @@ pub record StandsFor (y : Layout) (t : State) : Type 0 where
   pub out : t.out ≡ printed y.laid
   pub err : t.err ≡ warned y.laid
   pub found : AreFoundAlike (finished t).found (contents_from t.symbols y.laid)
-  pub asserted : (finished t).warned ≡ asserted t.symbols y.laid
+  pub asserted : (finished t).warned ≡ assertion_warnings t.symbols y.laid
 
 -- what the machine reaches stands for what is laid, with the same fault of a line
 abbrev pub RunsLaid : Type 0

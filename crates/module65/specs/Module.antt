@@ -79,8 +79,8 @@ asserted_by y l = go l.stated
     go _ = []
 
 -- the warnings of assertions by the symbol table of all, up to the first statement without contents
-abbrev pub asserted : Symbols → List Laid → List ℕ
-asserted y ls = flat_map (asserted_by y) (sound_from y ls)
+abbrev pub assertion_warnings : Symbols → List Laid → List ℕ
+assertion_warnings y ls = flat_map (asserted_by y) (sound_from y ls)
 
 -- what statements print while they are read
 abbrev pub printed : List Laid → List ℕ
@@ -91,7 +91,7 @@ warned ls = flat_map (λ l. warning_of l.place l.stated) ls
 
 -- the warnings of a module whose lines have no fault: those of assertions stand behind the others
 abbrev pub all_warned : List Laid → List ℕ
-all_warned ls = warned ls ++ asserted (symbols_of ls) ls
+all_warned ls = warned ls ++ assertion_warnings (symbols_of ls) ls
 
 -- ---- What a module comes to.
 

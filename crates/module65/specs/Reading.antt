@@ -55,11 +55,11 @@ IsLabelled Takes y place (Some x) r = Takes y place x r
 
 -- the bytes of the file of a name, in the folder of the file in which a statement stands
 abbrev pub bytes_for : Files → Place → List ℕ → Option (List ℕ)
-bytes_for m place name = file_named m (beside place.file name)
+bytes_for m place n = file_named m (beside place.file n)
 
 -- a statement with the bytes that it takes from a file
 abbrev pub with_bytes : Files → Place → Statement → Statement
-with_bytes m place (NamedPart name start len) = FilePart (bytes_for m place name) start len
+with_bytes m place (NamedPart n start len) = FilePart (bytes_for m place n) start len
 with_bytes m place x = x
 
 -- tokens as a statement, if there are any

@@ -1,7 +1,7 @@
 -- Sections that are filled statement by statement.
 use Rattle.std.proofs.lemmas.Grind.{common_steps}
-use Rattle.std.proofs.Common.{◌≡◌, ◌∙◌, ℕ, zero, suc, ◌+◌, Bool, true, false, not, nat_eq, nat_lt, cond, List, [], ◌∷◌, ◌++◌, map, length, get_or, slice_set, Option, Some, None, refl, sym, ap, arith, append_assoc, subst}
-use Rattle.std.specs.Prelude.{◌||◌, if◌then◌else◌, slice_get}
+use Rattle.std.proofs.Common.{◌≡◌, ◌∙◌, ℕ, zero, suc, ◌+◌, Bool, true, false, not, nat_eq, cond, List, [], ◌∷◌, ◌++◌, map, get_or, slice_set, Option, Some, None, refl, sym, ap, arith}
+use Rattle.std.specs.Prelude.{if◌then◌else◌, slice_get}
 use Rattle.std.specs.List.{AllByRecursion, IsDistinct, list_any, position, position_or_len, filter, flat_map}
 use Rattle.std.proofs.lemmas.Bool.Decides.{nat_tests}
 use Rattle.std.proofs.lemmas.Map.Keys.{IsDistinct-head, IsDistinct-tail}
@@ -12,10 +12,10 @@ use Rattle.object65.specs.declared.object.Section.{Section}
 use Rattle.language65.specs.declared.contents.Segment.{Segment}
 use Rattle.language65.specs.Numbering.{all_joined, is_empty, joined, numbered, segment_name, segment_power}
 use Rattle.sections65.specs.declared.entries.Entry.{Entry}
-use Rattle.sections65.specs.declared.entries.Entry.TheVariants.{Bytes, Room, Value, Told, Open}
+use Rattle.sections65.specs.declared.entries.Entry.TheVariants.{Bytes, Room, Value}
 use Rattle.sections65.specs.declared.numbering.drafts.Draft.{Draft}
 use Rattle.sections65.specs.Fed.{origin_by}
-use Rattle.sections65.specs.Inner.Drafts.{all_of_draft, grown, in_segment, new_draft, section_from, segment_of, with_entries, with_entry, with_fragment, with_put}
+use Rattle.sections65.specs.Inner.Drafts.{all_of_draft, in_segment, new_draft, section_from, segment_of, with_entries, with_entry, with_put}
 
 -- ---- One item of a list in which each has a key of its own.
 

@@ -9,12 +9,11 @@ use Rattle.object65.specs.Form.{Form}
 use Rattle.object65.specs.declared.object.Export.{Export}
 use Rattle.object65.specs.declared.object.Origin.{Origin}
 use Rattle.syntax65.specs.declared.place.Place.{Place}
-use Rattle.language65.specs.Contents.{Declaration, Exported, ForcedImport, Asserted}
+use Rattle.language65.specs.Contents.{Declaration, Exported}
 use Rattle.language65.specs.declared.contents.Declaration as told
 use Rattle.language65.specs.Numbering.{exports_among, numbered}
 use Rattle.language65.specs.Views.{said_at}
 use Rattle.sections65.specs.declared.entries.Entry.{Entry}
-use Rattle.sections65.specs.declared.entries.Entry.TheVariants.{Bytes, Room, Value, Told, Open}
 use Rattle.sections65.specs.Inner.Drafts.{anywhere, exports_at, exports_from, here}
 
 pub any_map : {A B : Type 0} (p : B → Bool) (f : A → B) (xs : List A) → list_any p (map f xs) ≡ list_any (λ x. p (f x)) xs

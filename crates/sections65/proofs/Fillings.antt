@@ -1,10 +1,9 @@
 -- Entries of which some are open, and the files in which they stand.
 use Rattle.std.proofs.lemmas.Grind.{common_steps}
-use Rattle.std.proofs.Common.{◌≡◌, ◌∙◌, ℕ, zero, suc, ◌+◌, ◌<◌, true, false, List, [], ◌∷◌, ◌++◌, length, take, get_or, slice_set, Some, refl, sym, ap, arith, ◌≤◌, map, length-append}
+use Rattle.std.proofs.Common.{◌≡◌, ◌∙◌, ℕ, zero, suc, ◌+◌, ◌<◌, true, false, List, [], ◌∷◌, ◌++◌, length, take, get_or, slice_set, Some, refl, sym, ap, arith, ◌≤◌, map}
 use Rattle.std.specs.Prelude.{slice_get, ◌||◌, nat_lt}
 use Rattle.std.specs.List.{list_any, list_all}
-use Rattle.std.proofs.lemmas.List.{take_more}
-use Rattle.std.proofs.lemmas.List.Folds.{list_any-append, list_all-append}
+use Rattle.std.proofs.lemmas.List.Folds.{list_all-append}
 use Rattle.language65.specs.Contents.{Content, Filled, Known, Waiting, put, telling}
 use Rattle.sections65.specs.declared.entries.Entry.{Entry}
 use Rattle.sections65.specs.declared.entries.Entry.TheVariants.{Bytes, Room, Value, Told, Open}
@@ -128,6 +127,13 @@ none_up_to e (Told o ss ∷ es) (suc i) h lt none = none_up_to e es i h (omega (
 
 pub none_so_far : (es : List Entry) (i : ℕ) (x : Entry) → i < length es → x ≡ get_or es i x → is_open x ≡ false → list_any is_open (take i es) ≡ false → list_any is_open (take (i + 1) es) ≡ false
 none_so_far es i x lt at closed none = grind (arith, common_steps)
+
+pub closed : (x : Entry) → (x ≡ Open → ⊥) → is_open x ≡ false
+closed Open other = absurd (other refl)
+closed (Bytes g bytes) other = refl
+closed (Room g n) other = refl
+closed (Value width g o f) other = refl
+closed (Told o ss) other = refl
 
 pub found : (es : List Entry) (i : ℕ) (x : Entry) → i < length es → x ≡ get_or es i x → is_open x ≡ true → slice_get es i ≡ Some Open
 found [] i x lt at waits = absurd (omega (arith, lt))

@@ -1,14 +1,11 @@
 -- Objects in the making whose numbers are those of their types.
-use Rattle.std.proofs.Common.{◌≡◌, ℕ, zero, suc, Bool, true, false, List, [], ◌∷◌, ◌++◌, cond, get_or, map, slice_set, Option, Some, sym, subst}
+use Rattle.std.proofs.Common.{◌≡◌, ℕ, zero, suc, List, [], ◌∷◌, ◌++◌, get_or, map, slice_set, sym, subst}
 use Rattle.std.specs.List.{AllByRecursion}
-use Rattle.object65.specs.declared.object.Fragment.{Fragment}
-use Rattle.object65.specs.declared.object.Fragment.TheVariants.{Literal}
 use Rattle.object65.specs.declared.object.Section.{Section}
 use Rattle.object65.specs.Objects.{FragmentFits}
 use Rattle.language65.specs.declared.contents.Segment.{Segment}
 use Rattle.sections65.specs.declared.numbering.drafts.Draft.{Draft}
-use Rattle.sections65.specs.Inner.Drafts.{DraftFits, all_of_draft, begun, grown, new_draft, optional_fragment, section_from, with_fragment}
-use Rattle.language65.specs.Numbering.{is_empty}
+use Rattle.sections65.specs.Inner.Drafts.{DraftFits, all_of_draft, new_draft, optional_fragment, section_from}
 
 pub all_more : {A : Type 0} (P : A → Type 0) (xs ys : List A) → AllByRecursion P xs → AllByRecursion P ys → AllByRecursion P (xs ++ ys)
 all_more P [] ys h g = g

@@ -1,26 +1,22 @@
 -- The object of all that was fed is that of its contents.
 use Rattle.std.proofs.lemmas.Grind.{common_steps}
-use Rattle.std.proofs.Common.{◌≡◌, ◌∙◌, ℕ, ◌<◌, Bool, true, false, not, List, [], ◌∷◌, ◌++◌, length, map, position, Some, nat_eq, nat_lt, refl, sym, ap, arith, subst}
+use Rattle.std.proofs.Common.{◌≡◌, ◌∙◌, ℕ, ◌<◌, true, List, [], ◌∷◌, ◌++◌, length, map, position, Some, nat_lt, refl, sym, ap, arith, subst}
 use Rattle.std.specs.Prelude.{filter_map, slice_get, if◌then◌else◌}
-use Rattle.std.specs.List.{IsDistinct, filter, flat_map, list_all, list_any}
+use Rattle.std.specs.List.{IsDistinct, flat_map, list_all, list_any}
 use Rattle.std.specs.Str.{bytes_eq}
 use Rattle.std.proofs.lemmas.Bool.Decides.{nat_tests}
 use Rattle.std.proofs.lemmas.List.Elements.{filter_map-append}
 use Rattle.std.proofs.lemmas.List.Folds.{list_all-append}
 use Rattle.syntax65.specs.declared.place.Place.{Place}
-use Rattle.object65.specs.declared.object.Assert.{Assert}
 use Rattle.object65.specs.declared.object.Export.{Export}
 use Rattle.object65.specs.declared.object.Fragment.{Fragment}
 use Rattle.object65.specs.declared.object.Fragment.TheVariants.{Literal, Fill}
-use Rattle.object65.specs.declared.object.Fragment.TheVariants as fragment
-use Rattle.object65.specs.declared.object.Object.{Object}
 use Rattle.object65.specs.declared.object.Origin.{Origin}
-use Rattle.object65.specs.declared.object.Section.{Section}
-use Rattle.language65.specs.Contents.{put, telling, Content, Filled, Known, Part, Declaration, Waiting}
+use Rattle.language65.specs.Contents.{put, telling, Content, Filled, Known, Part, Declaration}
 use Rattle.language65.specs.declared.contents.Declaration as telled
 use Rattle.language65.specs.declared.contents.Declaration.TheVariants as told
 use Rattle.language65.specs.declared.contents.Segment.{Segment}
-use Rattle.language65.specs.Numbering.{all_joined, all_said, assert_of, exports_among, fragment_of, fragments_of, import_keys, in_files, is_empty, name_of, numbered, once, parts_in, section_of, segment_name, segment_power, object_with}
+use Rattle.language65.specs.Numbering.{all_joined, all_said, assert_of, exports_among, fragment_of, fragments_of, import_keys, in_files, name_of, numbered, once, parts_in, section_of, segment_name, segment_power, object_with}
 use Rattle.language65.specs.Views.{said_at}
 use Rattle.sections65.specs.declared.entries.Entry.{Entry}
 use Rattle.sections65.specs.declared.entries.Entry.TheVariants.{Bytes, Room, Value, Told, Open}

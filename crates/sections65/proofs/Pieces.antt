@@ -4,7 +4,7 @@ use Rattle.std.specs.Prelude.{if◌then◌else◌}
 use Rattle.std.specs.List.{flat_map}
 use Rattle.std.proofs.lemmas.Grind.{common_steps, flat_map-append}
 use Rattle.language65.specs.Contents.{Content, Part, Declaration, Known, asking, put, telling}
-use Rattle.language65.specs.Numbering.{all_joined, all_said, content_imports, fragments_of, once, part_files, part_imports, parts_in, said_imports, section_keys, segments_asked}
+use Rattle.language65.specs.Numbering.{all_said, content_imports, once, part_imports, parts_in, section_keys, segments_asked}
 use Rattle.sections65.specs.declared.sections.Sections.{Sections}
 use Rattle.sections65.specs.Fed.{AreAlike, in_pieces, Feeds, Stands}
 use Rattle.sections65.proofs.Alikes.{alike_back, alike_sym, alike_trans, bytes_alike, no_bytes_alike}

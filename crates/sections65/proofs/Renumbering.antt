@@ -1,18 +1,16 @@
 -- What the numbers of sections and imports keep of a form.
 use Rattle.std.proofs.lemmas.Grind.{common_steps}
-use Rattle.std.proofs.Common.{◌≡◌, ◌∙◌, ℕ, ◌+◌, ◌<◌, ◌≤◌, Bool, true, false, not, ◌&&◌, ◌||◌, nat_eq, nat_lt, nat_le, cond, List, [], ◌∷◌, ◌++◌, length, get_or, Some, None, refl, sym, ap, subst, arith}
-use Rattle.std.specs.Prelude.{unwrap_or, if◌then◌else◌, ◌==◌}
+use Rattle.std.proofs.Common.{◌≡◌, ◌∙◌, ℕ, ◌+◌, ◌<◌, Bool, true, false, not, ◌&&◌, nat_eq, nat_le, List, [], ◌∷◌, ◌++◌, length, get_or, refl, sym, ap, subst, arith}
+use Rattle.std.specs.Prelude.{if◌then◌else◌, ◌==◌}
 use Rattle.std.specs.Cmp.{nat_eq_equiv}
 use Rattle.std.specs.List.{AllByRecursion, IsDistinct, list_any, list_all, position_or_len}
 use Rattle.std.proofs.lemmas.Bool.Decides.{nat_tests}
-use Rattle.std.proofs.lemmas.List.Folds.{list_any-append, list_all-append}
+use Rattle.std.proofs.lemmas.List.Folds.{list_all-append}
 use Rattle.std.proofs.lemmas.List.Sums.{passes_at_first}
 use Rattle.std.proofs.lemmas.Map.Keys.{IsDistinct-push}
 use Rattle.base65.specs.declared.values.Op1.{Op1}
-use Rattle.base65.specs.declared.values.Op1.TheVariants.{Plus}
 use Rattle.base65.specs.declared.values.Op2.{Op2}
-use Rattle.base65.specs.declared.values.Op2.TheVariants.{Add, Subtract}
-use Rattle.object65.specs.Folding.{is_literal, is_normal, is_within, folds1, folds2, folds_sum, folds_difference, node_limit}
+use Rattle.object65.specs.Folding.{is_literal, is_normal, is_within, folds1, folds2, folds_sum, folds_difference}
 use Rattle.object65.specs.Form.{Form, lit, sec, imp, prefix, binary, nodes}
 use Rattle.object65.specs.Objects.{is_good_form}
 use Rattle.language65.specs.Numbering.{imports_in, number_of, numbered, once, sections_in, IsSoundForm}

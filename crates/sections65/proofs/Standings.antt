@@ -1,21 +1,19 @@
 -- What sections in the making stand for, call by call.
 use Rattle.std.proofs.lemmas.Grind.{common_steps}
-use Rattle.std.proofs.Common.{◌≡◌, ◌∙◌, ℕ, suc, ◌+◌, ◌≤◌, ◌<◌, Bool, true, false, nat_eq, List, [], ◌∷◌, ◌++◌, length, map, take, slice_set, Option, Some, refl, sym, ap, subst, append_assoc, append-nil, length-append, arith, add-one}
-use Rattle.std.specs.Prelude.{slice_get, if◌then◌else◌, IfSome, ◌||◌}
-use Rattle.std.specs.List.{filter, list_any}
-use Rattle.std.proofs.lemmas.List.{take-append-le, map-append, length-set}
+use Rattle.std.proofs.Common.{◌≡◌, ◌∙◌, ℕ, ◌+◌, ◌<◌, true, false, nat_eq, List, [], ◌∷◌, ◌++◌, length, map, take, slice_set, Option, Some, refl, sym, ap, subst, append_assoc, append-nil, length-append, arith}
+use Rattle.std.specs.Prelude.{slice_get, if◌then◌else◌, IfSome}
+use Rattle.std.specs.List.{list_any}
+use Rattle.std.proofs.lemmas.List.{map-append, length-set}
 use Rattle.std.proofs.lemmas.List.Elements.{filter-append}
-use Rattle.std.proofs.lemmas.List.Folds.{list_any-append}
-use Rattle.std.proofs.lemmas.Bool.Decides.{nat_tests}
 use Rattle.language65.specs.Contents.{Content, Known, Filled, asking, put}
 use Rattle.language65.specs.Numbering.{once, section_keys, segments_asked}
 use Rattle.sections65.specs.declared.entries.Entries.{Entries}
 use Rattle.sections65.specs.declared.entries.Entry.{Entry}
 use Rattle.sections65.specs.declared.entries.Entry.TheVariants.{Bytes, Open, Room}
-use Rattle.sections65.specs.declared.sections.Files.{Files}
+use Rattle.sections65.specs.declared.files.Files.{Files}
 use Rattle.sections65.specs.declared.sections.Sections.{Sections}
 use Rattle.sections65.specs.Fed.{AreAlike, content_of, filled, is_open, open_count, stands_in, Begins, DefersIn, IsAdded, IsEntry, IsSettled, SettlesIn, StandIn, Stands, TakesIn, contents_in, growing, names_in}
-use Rattle.sections65.proofs.Alikes.{alike_back, alike_front, alike_nothing, alike_same, alike_sym, alike_trans, bytes_alike, empty_alike, no_bytes_alike, no_room_alike, room_alike}
+use Rattle.sections65.proofs.Alikes.{alike_back, alike_front, alike_nothing, alike_sym, alike_trans, bytes_alike, empty_alike, no_bytes_alike, no_room_alike, room_alike}
 use Rattle.sections65.proofs.Fillings.{count_closed, count_more, count_settled, filled_deferred, filled_more, filled_settled, none_counted, none_up_to, settled_at, begins_long, filled_grown, standing_grown, standing_more, standing_settled}
 use Rattle.sections65.proofs.Keys.{once_append}
 

@@ -15,7 +15,7 @@ use Rattle.sections65.specs.declared.entries.Entry.{Entry}
 use Rattle.sections65.specs.declared.entries.Entry.TheVariants.{Bytes, Room, Value, Told, Open}
 use Rattle.sections65.specs.declared.entries.SourcePos.{SourcePos}
 use Rattle.sections65.specs.declared.entries.Entries.{Entries}
-use Rattle.sections65.specs.declared.sections.Files.{Files}
+use Rattle.sections65.specs.declared.files.Files.{Files}
 use Rattle.sections65.specs.declared.sections.Sections.{Sections}
 
 -- ---- What is fed to sections in the making: contents in the order of the source, of which some wait.

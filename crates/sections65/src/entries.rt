@@ -84,19 +84,6 @@ pub fn sum_of(left: u32, right: u32) -> Result<u32, AllocError>
     }
 }
 
-impl Entry {
-    /// Whether it waits.
-    fn is_open(&self) -> bool
-        ensures { result ≡ is_open self.now }
-    {
-        match self {
-            Entry::Bytes { .. } | Entry::Room { .. } | Entry::Value { .. } => false,
-            Entry::Told { .. } => false,
-            Entry::Open => true,
-        }
-    }
-}
-
 /// The place of the first open entry, where none in front of a place is open.
 fn next_open(entries: &[Entry], from: usize) -> Option<usize>
     ensures within { IfSome result (λ i. i < length entries.now) }
@@ -107,7 +94,7 @@ fn next_open(entries: &[Entry], from: usize) -> Option<usize>
         IfNone result (list_any is_open entries.now ≡ false) }
 {
     for i in from..entries.len() {
-        if entries[i].is_open() {
+        if let Entry::Open = &entries[i] {
             return Some(i);
         }
     }
@@ -154,22 +141,6 @@ impl Entries {
         Ok(())
     }
 
-    /// Ends the room that might have grown, where no bytes lie in front of it.
-    fn close_room(&mut self) -> Result<(), AllocError>
-        requires { self.old.bytes ≡ [] }
-        ensures same { OnOk result (Takes self.old self.new []) }
-        ensures none { OnOk result (self.new.room ≡ 0) }
-        ensures bytes { OnOk result (self.new.bytes ≡ []) }
-    {
-        if self.room > 0 {
-            let segment = self.segment;
-            let count = self.room;
-            self.room = 0;
-            self.add(Entry::Room { segment, count })?;
-        }
-        Ok(())
-    }
-
     /// Ends what might have grown.
     fn close(&mut self) -> Result<(), AllocError>
         ensures same { OnOk result (Takes self.old self.new []) }
@@ -177,7 +148,12 @@ impl Entries {
         ensures room { OnOk result (self.new.room ≡ 0) }
     {
         self.close_bytes()?;
-        self.close_room()?;
+        if self.room > 0 {
+            let segment = self.segment;
+            let count = self.room;
+            self.room = 0;
+            self.add(Entry::Room { segment, count })?;
+        }
         Ok(())
     }
 
@@ -195,34 +171,14 @@ impl Entries {
         Ok(())
     }
 
-    /// Ends the room that might have grown, and bytes in front of it.
-    fn end_room(&mut self) -> Result<(), AllocError>
-        ensures same { OnOk result (Takes self.old self.new []) }
-        ensures room { OnOk result (self.new.room ≡ 0) }
-    {
-        if self.room == 0 {
-            return Ok(());
-        }
-        self.close()?;
-        Ok(())
-    }
-
-    /// Lets bytes grow, those of a segment.
-    fn begin_bytes(&mut self, segment: u32) -> Result<(), AllocError>
-        ensures same { OnOk result (Takes self.old self.new []) }
-        ensures segment { OnOk result (self.new.segment ≡ segment) }
-        ensures room { OnOk result (self.new.room ≡ 0) }
-    {
-        self.end_room()?;
-        self.begin(segment)?;
-        Ok(())
-    }
-
     /// Adds bytes to the section of a segment.
     pub fn add_bytes(&mut self, segment: u32, bytes: &[u8]) -> Result<(), AllocError>
         ensures { OnOk result (Takes self.old self.new (put segment (Known bytes.now) ∷ [])) }
     {
-        self.begin_bytes(segment)?;
+        if self.room > 0 {
+            self.close()?;
+        }
+        self.begin(segment)?;
         self.bytes.extend_from_slice(bytes)?;
         Ok(())
     }

@@ -16,7 +16,7 @@ mod ordering;
 use crate::entries::Entry;
 use base65::Sequence;
 use drafts::{Draft, filled};
-use exports::{asserts_of, exports_of};
+use exports::declared_by;
 use indexmap::IndexSet;
 pub use keys::{Imports, narrow};
 use keys::{Numbers, import_keys};
@@ -49,26 +49,6 @@ fn power_of(align: u32) -> u8
     }
 }
 
-/// The name of a segment's section.
-fn section_name(alloc: Global, segment: Option<&Segment>) -> Result<Sequence<u8>, AllocError>
-    ensures { IfOk result (λ s. s ≡ segment_name (option_copied segment.entry)) }
-{
-    match segment {
-        Some(segment) => Sequence::copy_of(alloc, segment.name.as_slice()),
-        None => Ok(Sequence::new(alloc)),
-    }
-}
-
-/// The alignment of a segment's section.
-fn section_power(segment: Option<&Segment>) -> u8
-    ensures { result ≡ segment_power (option_copied segment.entry) }
-{
-    match segment {
-        Some(segment) => power_of(segment.align),
-        None => 0,
-    }
-}
-
 /// The fragments of a section that is full.
 fn fragments_of(draft: Draft) -> Result<Sequence<Fragment>, AllocError>
     ensures { IfOk result (λ fragments. fragments ≡ all_of_draft draft) }
@@ -86,11 +66,19 @@ fn finish_section(alloc: Global, segments: &[Segment], draft: Draft) -> Result<S
     ensures { IfOk result (λ s. s ≡ section_from segments.now draft) }
 {
     let segment = segments.get(draft.segment as usize);
-    Ok(Section {
-        name: section_name(alloc, segment)?,
-        align: section_power(segment),
-        fragments: fragments_of(draft)?,
-    })
+    let fragments = fragments_of(draft)?;
+    match segment {
+        Some(segment) => Ok(Section {
+            name: Sequence::copy_of(alloc, segment.name.as_slice())?,
+            align: power_of(segment.align),
+            fragments,
+        }),
+        None => Ok(Section {
+            name: Sequence::new(alloc),
+            align: 0,
+            fragments,
+        }),
+    }
 }
 
 /// The sections of a module.
@@ -133,32 +121,6 @@ fn import_names(
     Ok(found)
 }
 
-/// The object of entries, where sections and imports have these numbers. Its files come later.
-fn numbered_object(
-    alloc: Global,
-    segments: &[Segment],
-    imports: &Imports,
-    numbers: &Numbers,
-    entries: Vec<Entry>,
-) -> Result<Object, AllocError>
-    requires { IsDistinct nat_eq numbers.now.sections.keys }
-    ensures object { IfOk result (λ o. o ≡ object_before segments.now
-        (names_of imports.now) numbers.now.sections.keys numbers.now.imports.keys entries.items) }
-    ensures fits { IfOk result ObjectFits }
-{
-    let exports = exports_of(alloc, *imports.hasher(), numbers, entries.as_slice())?;
-    let asserts = asserts_of(alloc, numbers, entries.as_slice())?;
-    let drafts = filled(alloc, numbers, entries)?;
-    Ok(Object {
-        version: 2,
-        files: Sequence::new(alloc),
-        imports: import_names(alloc, imports, numbers.imports.as_slice())?,
-        sections: finish_sections(alloc, segments, drafts)?,
-        exports,
-        asserts,
-    })
-}
-
 /// The object of a module: of its segments, the names of its imports in the order of their keys, the segments of which
 /// a section was asked for, and the entries. Its files come later: origins name them as entries do.
 pub fn object_of(
@@ -177,5 +139,14 @@ pub fn object_of(
         sections: asked,
         imports: import_keys(alloc, imports, entries.as_slice())?,
     };
-    numbered_object(alloc, segments, imports, &numbers, entries)
+    let (exports, asserts) = declared_by(alloc, *imports.hasher(), &numbers, entries.as_slice())?;
+    let drafts = filled(alloc, &numbers, entries)?;
+    Ok(Object {
+        version: 2,
+        files: Sequence::new(alloc),
+        imports: import_names(alloc, imports, numbers.imports.as_slice())?,
+        sections: finish_sections(alloc, segments, drafts)?,
+        exports,
+        asserts,
+    })
 }

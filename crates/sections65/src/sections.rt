@@ -1,6 +1,6 @@
-//! Sections that are fed, and the files in which something stands.
+//! Sections that are fed.
 
-ghost use Rattle.std.specs.Prelude.{◌≡◌, ◌<◌, length, IfOk, IfSome, Some, map, slice_get, string_bytes, [], List, replicate, true, OnOk};
+ghost use Rattle.std.specs.Prelude.{◌≡◌, ◌<◌, length, IfOk, map, [], List, replicate, true, OnOk};
 ghost use Rattle.language65.specs.Contents.{put, telling, Content, Filled, Known, Waiting, asking};
 ghost use Rattle.language65.specs.Views.{part_at, place_in, said_at};
 ghost use Rattle.sections65.specs.Fed.{place_by, Begins, IsEntry, names_in, names_of, Awaits, Feeds, Receives, Stands};
@@ -8,72 +8,15 @@ ghost use Rattle.object65.specs.Objects.{is_good_object, ObjectFits};
 ghost use Rattle.language65.specs.Numbering.{object_with, AreSound};
 
 use crate::entries::{Entries, Entry, SourcePos};
+use crate::files::Files;
 use crate::numbering::{Imports, in_order, narrow, object_of};
-use base65::Sequence;
+use base65::{Seed, Sequence};
 use indexmap::IndexSet;
 use language65::{At, Declaration, Part, Segment};
 use object65::{Norm, Object, Width};
 use std::alloc::{AllocError, Global};
 
-/// The names of files in the order in which something stands in them, each once.
-#[derive(Drop)]
-pub struct Files {
-    pub table: IndexSet<String>,
-    /// The place of the one that was asked for last.
-    last: Option<usize>,
-}
-
-/// A place among files, where the file at it has this name.
-fn same_place(table: &IndexSet<String>, place: Option<usize>, name: &str) -> Option<usize>
-    ensures { IfSome result (λ i. slice_get (map string_bytes table.now.keys) i ≡ Some name.now) }
-{
-    let place = place?;
-    let file = table.get_index(place)?;
-    if file.as_str() == name {
-        Some(place)
-    } else {
-        None
-    }
-}
-
 impl Files {
-    /// No file.
-    pub fn new(alloc: Global) -> Self
-        ensures { length (names_in result) ≡ 0 }
-    {
-        Files {
-            table: IndexSet::new(alloc),
-            last: None,
-        }
-    }
-
-    /// The place of a file by its name, which is put in if it is new.
-    fn look_up(&mut self, alloc: Global, name: &str) -> Result<usize, AllocError>
-        ensures more { Begins (names_in self.old) (names_in self.new) }
-        ensures place { IfOk result (λ i. slice_get (names_in self.new) i ≡ Some name.now) }
-    {
-        match self.table.get_index_of(name) {
-            Some(place) => Ok(place),
-            None => {
-                let (place, _) = self.table.insert_full(String::from_str(alloc, name)?)?;
-                Ok(place)
-            }
-        }
-    }
-
-    /// The place of a file. It is mostly the one before, and then it isn't looked up.
-    fn place_of(&mut self, alloc: Global, name: &str) -> Result<usize, AllocError>
-        ensures more { Begins (names_in self.old) (names_in self.new) }
-        ensures place { IfOk result (λ i. slice_get (names_in self.new) i ≡ Some name.now) }
-    {
-        if let Some(place) = same_place(&self.table, self.last, name) {
-            return Ok(place);
-        }
-        let place = self.look_up(alloc, name)?;
-        self.last = Some(place);
-        Ok(place)
-    }
-
     /// Where something stands, by its file's place.
     fn pos_of(&mut self, alloc: Global, at: At<'_>) -> Result<SourcePos, AllocError>
         ensures more { Begins (names_in self.old) (names_in self.new) }
@@ -89,7 +32,7 @@ impl Files {
     }
 
     /// A part of the section of a segment, of a statement that stands at this place. A value alone needs it.
-    pub fn put(
+    fn put(
         &mut self,
         alloc: Global,
         segment: u32,
@@ -114,21 +57,6 @@ impl Files {
             }
         }
     }
-
-    /// What a statement says that stands at this place.
-    pub fn tell(
-        &mut self,
-        alloc: Global,
-        at: At<'_>,
-        said: Sequence<Declaration>,
-    ) -> Result<Entry, AllocError>
-        ensures more { Begins (names_in self.old) (names_in self.new) }
-        ensures entry { IfOk result (λ e. IsEntry (names_in self.new) e
-            (telling (map (said_at (place_in at.entry.file.now at.entry.line)) said))) }
-    {
-        let pos = self.pos_of(alloc, at)?;
-        Ok(Entry::Told { pos, said })
-    }
 }
 
 /// Sections in the making: what statements put into them and say to other modules and to the linker, in the order of
@@ -144,24 +72,15 @@ pub struct Sections {
     entries: Entries,
 }
 
-/// So many bytes of one value.
-fn repeated(alloc: Global, count: u32, byte: u8) -> Result<Sequence<u8>, AllocError>
-    ensures { IfOk result (λ bytes. bytes ≡ replicate count byte) }
-{
-    let mut bytes = Vec::new(alloc);
-    bytes.resize(count as usize, byte)?;
-    Ok(Sequence::from_vec(bytes))
-}
-
 impl Sections {
     /// No section, and nothing said.
-    pub fn new(alloc: Global) -> Self
+    pub fn new(alloc: Global, seed: Seed) -> Self
         ensures { Stands [] [] result }
     {
         Sections {
             asked: IndexSet::new(alloc),
             latest: None,
-            files: Files::new(alloc),
+            files: Files::new(alloc, seed),
             entries: Entries::new(alloc),
         }
     }
@@ -192,7 +111,8 @@ impl Sections {
     pub fn fill(&mut self, segment: u32, count: u32, byte: u8) -> Result<(), AllocError>
         ensures { OnOk result (Feeds self.old self.new (put segment (Known (replicate count byte)))) }
     {
-        let bytes = repeated(self.entries.alloc, count, byte)?;
+        let mut bytes = Vec::new(self.entries.alloc);
+        bytes.resize(count as usize, byte)?;
         self.entries.add_bytes(segment, bytes.as_slice())?;
         Ok(())
     }
@@ -247,8 +167,8 @@ impl Sections {
         ensures { OnOk result (Receives self.old self.new
             (telling (map (said_at (place_in at.entry.file.now at.entry.line)) said))) }
     {
-        let entry = self.files.tell(self.entries.alloc, at, said)?;
-        self.entries.settle(entry);
+        let pos = self.files.pos_of(self.entries.alloc, at)?;
+        self.entries.settle(Entry::Told { pos, said });
         Ok(())
     }
 

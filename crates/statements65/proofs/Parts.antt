@@ -1,5 +1,5 @@
 -- Parts between commas.
-use Rattle.std.proofs.Common.{◌≡◌, ◌≢◌, ℕ, zero, suc, ◌+◌, ◌-◌, ◌<◌, ◌≤◌, Bool, true, false, nat_eq, not, List, [], ◌∷◌, None, if◌then◌else◌, length, take, drop, Result, Ok, Err, refl, ap, sym, ◌∙◌, arith, add-one, one-add, length-drop, subst}
+use Rattle.std.proofs.Common.{◌≡◌, ◌≢◌, ℕ, zero, suc, ◌+◌, ◌-◌, ◌<◌, ◌≤◌, Bool, true, false, nat_eq, not, List, [], ◌∷◌, None, if◌then◌else◌, ◌&&◌, codes, Option, Some, length, take, drop, Result, Ok, Err, IfErr, refl, ap, sym, ◌∙◌, arith, add-one, one-add, length-drop, subst}
 use Rattle.std.proofs.lemmas.Bool.Decides.{nat_tests}
 use Rattle.std.specs.List.{prefix_len}
 use Rattle.std.proofs.lemmas.List.{take_all}
@@ -8,13 +8,15 @@ use Rattle.std.specs.Result.{IsErrAnd}
 use Rattle.base65.specs.Outcome.{◌>>=◌, First, Unless}
 use Rattle.base65.specs.Relations.{Answers}
 use Rattle.language65.specs.declared.fault.AsmFault.{AsmFault}
-use Rattle.language65.specs.Faults.{is_outside}
+use Rattle.language65.specs.Faults.{is_failure, is_outside}
 use Rattle.syntax65.specs.Tokens.{Lexeme, lexeme_of, lexemes}
 use Rattle.syntax65.specs.Trees.{Tree, number}
 use Rattle.syntax65.specs.declared.lexing.tokens.Token.{Token}
-use Rattle.statements65.specs.Parsing.{before_parts, is_comma, parts_of, string_of, unknown, whole, words_of, IsExpression, IsFront, IsItem, IsOneOrTwo, Then}
+use Rattle.statements65.specs.Parsing.{before_parts, closing_of, index_of, is_close, is_comma, spells, parts_of, string_of, unknown, whole, words_of, IsExpression, IsFront, IsItem, IsOneOrTwo, ParsesAs, Then}
 use Rattle.statements65.specs.declared.reading.words.Elements.{Elements}
 use Rattle.statements65.specs.declared.reading.words.Elements.TheVariants.{Values, ValuesAndTexts}
+use Rattle.language65.specs.declared.language.Index.{Index}
+use Rattle.language65.specs.declared.language.Index.TheVariants as index
 use Rattle.language65.specs.declared.language.Item.TheVariants.{Value}
 
 pub lexemes_len : (ts : List Token) → length (lexemes ts) ≡ length ts
@@ -57,6 +59,44 @@ then_fault Is next view (Err f) e h i = rw h (go (is_outside e) i)
     go : (t : Bool) → Unless t (Is (Err e)) → Unless t (Then Is next (Err e))
     go true j = tt
     go false j = (Err e, j, refl)
+
+-- a fault is handed on, and no store failed
+pub parses_fault : {A X : Type 0} (Is : Result A AsmFault → Type 0) (view : X → A) (result : Result X AsmFault) (e : AsmFault) → IsErrAnd result (λ f. f ≡ e) → is_failure e ≡ false → Answers is_outside view result Is → ParsesAs view result Is
+parses_fault {X = X} Is view result e h inside value = record { value = value; inside = by result h }
+  where
+    by : (r : Result X AsmFault) → IsErrAnd r (λ f. f ≡ e) → IfErr r (λ f. is_failure f ≡ false)
+    by (Ok x) i = absurd i
+    by (Err f) i = rw i inside
+
+abbrev pub IsInside : {X : Type 0} → Result X AsmFault → Type 0
+IsInside r = IfErr r (λ f. is_failure f ≡ false)
+
+pub index_inside : (ts : List Lexeme) → IsInside (index_of ts)
+index_inside [] = tt
+index_inside (c ∷ []) = refl
+index_inside (c ∷ t ∷ []) = by (is_comma c && spells t (codes "x")) (is_comma c && spells t (codes "y"))
+  where
+    by : (x y : Bool) → IsInside {X = Option Index} (if x then Ok (Some index.X) else if y then Ok (Some index.Y) else unknown)
+    by true y = tt
+    by false true = tt
+    by false false = refl
+index_inside (c ∷ t ∷ u ∷ ts) = refl
+
+pub closing_inside : (ts : List Lexeme) → IsInside (closing_of ts)
+closing_inside [] = refl
+closing_inside (a ∷ []) = by (is_close a)
+  where
+    by : (x : Bool) → IsInside {X = Option Index} (if x then Ok None else unknown)
+    by true = tt
+    by false = refl
+closing_inside (a ∷ b ∷ []) = refl
+closing_inside (a ∷ b ∷ c ∷ []) = by (is_comma a && spells b (codes "x") && is_close c) (is_close a && is_comma b && spells c (codes "y"))
+  where
+    by : (x y : Bool) → IsInside {X = Option Index} (if x then Ok (Some index.X) else if y then Ok (Some index.Y) else unknown)
+    by true y = tt
+    by false true = tt
+    by false false = refl
+closing_inside (a ∷ b ∷ c ∷ d ∷ ts) = refl
 
 -- ---- The first part.
 

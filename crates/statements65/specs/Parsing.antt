@@ -1,5 +1,5 @@
 -- What a line's tokens say: a label, and a statement behind it.
-use Rattle.std.specs.Prelude.{◌≡◌, ℕ, ◌-◌, nat_le, Bool, true, false, ◌==◌, ◌&&◌, ◌||◌, List, [], ◌∷◌, ◌++◌, length, take, drop, codes, Option, Some, None, Result, Ok, Err, if◌then◌else◌}
+use Rattle.std.specs.Prelude.{◌≡◌, ℕ, ◌-◌, nat_le, Bool, true, false, ◌==◌, ◌&&◌, ◌||◌, List, [], ◌∷◌, ◌++◌, length, take, drop, codes, Option, Some, None, Result, Ok, Err, IfErr, if◌then◌else◌}
 use Rattle.std.specs.Char.{is_ascii_alphabetic, is_ascii_digit}
 use Rattle.std.specs.List.{list_all}
 use Rattle.std.specs.Str.{bytes_eq, str_eq_ignore_ascii_case}
@@ -21,7 +21,7 @@ use Rattle.object65.specs.declared.object.Action.TheVariants as action
 use Rattle.object65.specs.declared.object.Width.{Width}
 use Rattle.object65.specs.declared.object.Width.TheVariants.{Byte, Word, HighFirst, Dword}
 use Rattle.language65.specs.declared.fault.AsmFault.{AsmFault}
-use Rattle.language65.specs.Faults.{is_outside}
+use Rattle.language65.specs.Faults.{is_failure, is_outside}
 use Rattle.language65.specs.declared.fault.AsmFault.TheVariants.{NotUnderstood}
 use Rattle.language65.specs.declared.language.Index.{Index}
 use Rattle.language65.specs.declared.language.Index.TheVariants as index
@@ -44,9 +44,13 @@ use Rattle.language65.specs.declared.language.Statement.TheVariants.{Label, Chea
 use Rattle.language65.specs.declared.language.Operand.TheVariants.{Absent, Accumulator, Immediate, Address, Indirect, IndirectX, IndirectY}
 use Rattle.language65.specs.declared.language.Item.TheVariants.{Value, Text}
 
--- what a call answered is so parsed, unless it was refused from outside
+-- what a call answered, seen by view, is so parsed, unless it was refused from outside; no store failed
+pub record ParsesAs {A B : Type 0} (view : A → B) (result : Result A AsmFault) (IsParsedAs : Result B AsmFault → Type 0) : Type 0 where
+  pub value : Answers is_outside view result IsParsedAs
+  pub inside : IfErr result (λ e. is_failure e ≡ false)
+
 abbrev pub Parses : {A : Type 0} → Result A AsmFault → (Result A AsmFault → Type 0) → Type 0
-Parses result IsParsedAs = Answers is_outside (λ x. x) result IsParsedAs
+Parses result IsParsedAs = ParsesAs (λ x. x) result IsParsedAs
 
 -- what isn't understood
 abbrev pub unknown : {A : Type 0} → Result A AsmFault

@@ -1,161 +1,133 @@
 -- The table of opcodes.
-use Rattle.std.specs.Prelude.{ℕ, Option, Some, None}
+use Rattle.std.specs.Prelude.{ℕ, List, [], ◌∷◌, get_or, Option, Some, None}
 use Rattle.syntax65.specs.declared.instructions.names.Mnemonic.{Mnemonic}
 use Rattle.syntax65.specs.declared.instructions.names.Mnemonic.TheVariants.{Adc, And, Asl, Bcc, Bcs, Beq, Bit, Bmi, Bne, Bpl, Brk, Bvc, Bvs, Clc, Cld, Cli, Clv, Cmp, Cpx, Cpy, Dec, Dex, Dey, Eor, Inc, Inx, Iny, Jmp, Jsr, Lda, Ldx, Ldy, Lsr, Nop, Ora, Pha, Php, Pla, Plp, Rol, Ror, Rti, Rts, Sbc, Sec, Sed, Sei, Sta, Stx, Sty, Tax, Tay, Tsx, Txa, Txs, Tya}
 use Rattle.syntax65.specs.declared.instructions.codes.Mode.{Mode}
 use Rattle.syntax65.specs.declared.instructions.codes.Mode.TheVariants.{Implied, Accumulator, Immediate, ZeroPage, ZeroPageX, ZeroPageY, Absolute, AbsoluteX, AbsoluteY, Indirect, IndirectX, IndirectY, Relative}
 
+-- arithmetic, and loads of `a`
+abbrev pub arithmetic : List ℕ → Mode → Option ℕ
+arithmetic codes Immediate = Some (get_or codes 0 0)
+arithmetic codes ZeroPage = Some (get_or codes 1 0)
+arithmetic codes ZeroPageX = Some (get_or codes 2 0)
+arithmetic codes Absolute = Some (get_or codes 3 0)
+arithmetic codes AbsoluteX = Some (get_or codes 4 0)
+arithmetic codes AbsoluteY = Some (get_or codes 5 0)
+arithmetic codes IndirectX = Some (get_or codes 6 0)
+arithmetic codes IndirectY = Some (get_or codes 7 0)
+arithmetic codes _ = None
+
+-- shifts
+abbrev pub shift : List ℕ → Mode → Option ℕ
+shift codes Accumulator = Some (get_or codes 0 0)
+shift codes ZeroPage = Some (get_or codes 1 0)
+shift codes ZeroPageX = Some (get_or codes 2 0)
+shift codes Absolute = Some (get_or codes 3 0)
+shift codes AbsoluteX = Some (get_or codes 4 0)
+shift codes _ = None
+
+-- counting up and down in memory
+abbrev pub count : List ℕ → Mode → Option ℕ
+count codes ZeroPage = Some (get_or codes 0 0)
+count codes ZeroPageX = Some (get_or codes 1 0)
+count codes Absolute = Some (get_or codes 2 0)
+count codes AbsoluteX = Some (get_or codes 3 0)
+count codes _ = None
+
+-- without an operand
+abbrev pub implied : ℕ → Mode → Option ℕ
+implied code Implied = Some (code)
+implied code _ = None
+
+-- branches
+abbrev pub branch : ℕ → Mode → Option ℕ
+branch code Relative = Some (code)
+branch code _ = None
+
+-- instructions with other forms
+abbrev pub other_opcode : Mnemonic → Mode → Option ℕ
+other_opcode Bit ZeroPage = Some 0x24
+other_opcode Bit Absolute = Some 0x2C
+other_opcode Cpx Immediate = Some 0xE0
+other_opcode Cpx ZeroPage = Some 0xE4
+other_opcode Cpx Absolute = Some 0xEC
+other_opcode Cpy Immediate = Some 0xC0
+other_opcode Cpy ZeroPage = Some 0xC4
+other_opcode Cpy Absolute = Some 0xCC
+other_opcode Jmp Absolute = Some 0x4C
+other_opcode Jmp Indirect = Some 0x6C
+other_opcode Jsr Absolute = Some 0x20
+other_opcode Ldx Immediate = Some 0xA2
+other_opcode Ldx ZeroPage = Some 0xA6
+other_opcode Ldx ZeroPageY = Some 0xB6
+other_opcode Ldx Absolute = Some 0xAE
+other_opcode Ldx AbsoluteY = Some 0xBE
+other_opcode Ldy Immediate = Some 0xA0
+other_opcode Ldy ZeroPage = Some 0xA4
+other_opcode Ldy ZeroPageX = Some 0xB4
+other_opcode Ldy Absolute = Some 0xAC
+other_opcode Ldy AbsoluteX = Some 0xBC
+other_opcode Sta ZeroPage = Some 0x85
+other_opcode Sta ZeroPageX = Some 0x95
+other_opcode Sta Absolute = Some 0x8D
+other_opcode Sta AbsoluteX = Some 0x9D
+other_opcode Sta AbsoluteY = Some 0x99
+other_opcode Sta IndirectX = Some 0x81
+other_opcode Sta IndirectY = Some 0x91
+other_opcode Stx ZeroPage = Some 0x86
+other_opcode Stx ZeroPageY = Some 0x96
+other_opcode Stx Absolute = Some 0x8E
+other_opcode Sty ZeroPage = Some 0x84
+other_opcode Sty ZeroPageX = Some 0x94
+other_opcode Sty Absolute = Some 0x8C
+other_opcode _ _ = None
+
 -- the opcode of a mnemonic with a form of operand
 abbrev pub opcode_of : Mnemonic → Mode → Option ℕ
-opcode_of Adc Immediate = Some 0x69
-opcode_of Adc ZeroPage = Some 0x65
-opcode_of Adc ZeroPageX = Some 0x75
-opcode_of Adc Absolute = Some 0x6D
-opcode_of Adc AbsoluteX = Some 0x7D
-opcode_of Adc AbsoluteY = Some 0x79
-opcode_of Adc IndirectX = Some 0x61
-opcode_of Adc IndirectY = Some 0x71
-opcode_of And Immediate = Some 0x29
-opcode_of And ZeroPage = Some 0x25
-opcode_of And ZeroPageX = Some 0x35
-opcode_of And Absolute = Some 0x2D
-opcode_of And AbsoluteX = Some 0x3D
-opcode_of And AbsoluteY = Some 0x39
-opcode_of And IndirectX = Some 0x21
-opcode_of And IndirectY = Some 0x31
-opcode_of Asl Accumulator = Some 0x0A
-opcode_of Asl ZeroPage = Some 0x06
-opcode_of Asl ZeroPageX = Some 0x16
-opcode_of Asl Absolute = Some 0x0E
-opcode_of Asl AbsoluteX = Some 0x1E
-opcode_of Bcc Relative = Some 0x90
-opcode_of Bcs Relative = Some 0xB0
-opcode_of Beq Relative = Some 0xF0
-opcode_of Bit ZeroPage = Some 0x24
-opcode_of Bit Absolute = Some 0x2C
-opcode_of Bmi Relative = Some 0x30
-opcode_of Bne Relative = Some 0xD0
-opcode_of Bpl Relative = Some 0x10
-opcode_of Brk Implied = Some 0x00
-opcode_of Bvc Relative = Some 0x50
-opcode_of Bvs Relative = Some 0x70
-opcode_of Clc Implied = Some 0x18
-opcode_of Cld Implied = Some 0xD8
-opcode_of Cli Implied = Some 0x58
-opcode_of Clv Implied = Some 0xB8
-opcode_of Cmp Immediate = Some 0xC9
-opcode_of Cmp ZeroPage = Some 0xC5
-opcode_of Cmp ZeroPageX = Some 0xD5
-opcode_of Cmp Absolute = Some 0xCD
-opcode_of Cmp AbsoluteX = Some 0xDD
-opcode_of Cmp AbsoluteY = Some 0xD9
-opcode_of Cmp IndirectX = Some 0xC1
-opcode_of Cmp IndirectY = Some 0xD1
-opcode_of Cpx Immediate = Some 0xE0
-opcode_of Cpx ZeroPage = Some 0xE4
-opcode_of Cpx Absolute = Some 0xEC
-opcode_of Cpy Immediate = Some 0xC0
-opcode_of Cpy ZeroPage = Some 0xC4
-opcode_of Cpy Absolute = Some 0xCC
-opcode_of Dec ZeroPage = Some 0xC6
-opcode_of Dec ZeroPageX = Some 0xD6
-opcode_of Dec Absolute = Some 0xCE
-opcode_of Dec AbsoluteX = Some 0xDE
-opcode_of Dex Implied = Some 0xCA
-opcode_of Dey Implied = Some 0x88
-opcode_of Eor Immediate = Some 0x49
-opcode_of Eor ZeroPage = Some 0x45
-opcode_of Eor ZeroPageX = Some 0x55
-opcode_of Eor Absolute = Some 0x4D
-opcode_of Eor AbsoluteX = Some 0x5D
-opcode_of Eor AbsoluteY = Some 0x59
-opcode_of Eor IndirectX = Some 0x41
-opcode_of Eor IndirectY = Some 0x51
-opcode_of Inc ZeroPage = Some 0xE6
-opcode_of Inc ZeroPageX = Some 0xF6
-opcode_of Inc Absolute = Some 0xEE
-opcode_of Inc AbsoluteX = Some 0xFE
-opcode_of Inx Implied = Some 0xE8
-opcode_of Iny Implied = Some 0xC8
-opcode_of Jmp Absolute = Some 0x4C
-opcode_of Jmp Indirect = Some 0x6C
-opcode_of Jsr Absolute = Some 0x20
-opcode_of Lda Immediate = Some 0xA9
-opcode_of Lda ZeroPage = Some 0xA5
-opcode_of Lda ZeroPageX = Some 0xB5
-opcode_of Lda Absolute = Some 0xAD
-opcode_of Lda AbsoluteX = Some 0xBD
-opcode_of Lda AbsoluteY = Some 0xB9
-opcode_of Lda IndirectX = Some 0xA1
-opcode_of Lda IndirectY = Some 0xB1
-opcode_of Ldx Immediate = Some 0xA2
-opcode_of Ldx ZeroPage = Some 0xA6
-opcode_of Ldx ZeroPageY = Some 0xB6
-opcode_of Ldx Absolute = Some 0xAE
-opcode_of Ldx AbsoluteY = Some 0xBE
-opcode_of Ldy Immediate = Some 0xA0
-opcode_of Ldy ZeroPage = Some 0xA4
-opcode_of Ldy ZeroPageX = Some 0xB4
-opcode_of Ldy Absolute = Some 0xAC
-opcode_of Ldy AbsoluteX = Some 0xBC
-opcode_of Lsr Accumulator = Some 0x4A
-opcode_of Lsr ZeroPage = Some 0x46
-opcode_of Lsr ZeroPageX = Some 0x56
-opcode_of Lsr Absolute = Some 0x4E
-opcode_of Lsr AbsoluteX = Some 0x5E
-opcode_of Nop Implied = Some 0xEA
-opcode_of Ora Immediate = Some 0x09
-opcode_of Ora ZeroPage = Some 0x05
-opcode_of Ora ZeroPageX = Some 0x15
-opcode_of Ora Absolute = Some 0x0D
-opcode_of Ora AbsoluteX = Some 0x1D
-opcode_of Ora AbsoluteY = Some 0x19
-opcode_of Ora IndirectX = Some 0x01
-opcode_of Ora IndirectY = Some 0x11
-opcode_of Pha Implied = Some 0x48
-opcode_of Php Implied = Some 0x08
-opcode_of Pla Implied = Some 0x68
-opcode_of Plp Implied = Some 0x28
-opcode_of Rol Accumulator = Some 0x2A
-opcode_of Rol ZeroPage = Some 0x26
-opcode_of Rol ZeroPageX = Some 0x36
-opcode_of Rol Absolute = Some 0x2E
-opcode_of Rol AbsoluteX = Some 0x3E
-opcode_of Ror Accumulator = Some 0x6A
-opcode_of Ror ZeroPage = Some 0x66
-opcode_of Ror ZeroPageX = Some 0x76
-opcode_of Ror Absolute = Some 0x6E
-opcode_of Ror AbsoluteX = Some 0x7E
-opcode_of Rti Implied = Some 0x40
-opcode_of Rts Implied = Some 0x60
-opcode_of Sbc Immediate = Some 0xE9
-opcode_of Sbc ZeroPage = Some 0xE5
-opcode_of Sbc ZeroPageX = Some 0xF5
-opcode_of Sbc Absolute = Some 0xED
-opcode_of Sbc AbsoluteX = Some 0xFD
-opcode_of Sbc AbsoluteY = Some 0xF9
-opcode_of Sbc IndirectX = Some 0xE1
-opcode_of Sbc IndirectY = Some 0xF1
-opcode_of Sec Implied = Some 0x38
-opcode_of Sed Implied = Some 0xF8
-opcode_of Sei Implied = Some 0x78
-opcode_of Sta ZeroPage = Some 0x85
-opcode_of Sta ZeroPageX = Some 0x95
-opcode_of Sta Absolute = Some 0x8D
-opcode_of Sta AbsoluteX = Some 0x9D
-opcode_of Sta AbsoluteY = Some 0x99
-opcode_of Sta IndirectX = Some 0x81
-opcode_of Sta IndirectY = Some 0x91
-opcode_of Stx ZeroPage = Some 0x86
-opcode_of Stx ZeroPageY = Some 0x96
-opcode_of Stx Absolute = Some 0x8E
-opcode_of Sty ZeroPage = Some 0x84
-opcode_of Sty ZeroPageX = Some 0x94
-opcode_of Sty Absolute = Some 0x8C
-opcode_of Tax Implied = Some 0xAA
-opcode_of Tay Implied = Some 0xA8
-opcode_of Tsx Implied = Some 0xBA
-opcode_of Txa Implied = Some 0x8A
-opcode_of Txs Implied = Some 0x9A
-opcode_of Tya Implied = Some 0x98
-opcode_of _ _ = None
+opcode_of Adc mode = arithmetic (0x69 ∷ 0x65 ∷ 0x75 ∷ 0x6D ∷ 0x7D ∷ 0x79 ∷ 0x61 ∷ 0x71 ∷ []) mode
+opcode_of And mode = arithmetic (0x29 ∷ 0x25 ∷ 0x35 ∷ 0x2D ∷ 0x3D ∷ 0x39 ∷ 0x21 ∷ 0x31 ∷ []) mode
+opcode_of Asl mode = shift (0x0A ∷ 0x06 ∷ 0x16 ∷ 0x0E ∷ 0x1E ∷ []) mode
+opcode_of Bcc mode = branch 0x90 mode
+opcode_of Bcs mode = branch 0xB0 mode
+opcode_of Beq mode = branch 0xF0 mode
+opcode_of Bmi mode = branch 0x30 mode
+opcode_of Bne mode = branch 0xD0 mode
+opcode_of Bpl mode = branch 0x10 mode
+opcode_of Brk mode = implied 0x00 mode
+opcode_of Bvc mode = branch 0x50 mode
+opcode_of Bvs mode = branch 0x70 mode
+opcode_of Clc mode = implied 0x18 mode
+opcode_of Cld mode = implied 0xD8 mode
+opcode_of Cli mode = implied 0x58 mode
+opcode_of Clv mode = implied 0xB8 mode
+opcode_of Cmp mode = arithmetic (0xC9 ∷ 0xC5 ∷ 0xD5 ∷ 0xCD ∷ 0xDD ∷ 0xD9 ∷ 0xC1 ∷ 0xD1 ∷ []) mode
+opcode_of Dec mode = count (0xC6 ∷ 0xD6 ∷ 0xCE ∷ 0xDE ∷ []) mode
+opcode_of Dex mode = implied 0xCA mode
+opcode_of Dey mode = implied 0x88 mode
+opcode_of Eor mode = arithmetic (0x49 ∷ 0x45 ∷ 0x55 ∷ 0x4D ∷ 0x5D ∷ 0x59 ∷ 0x41 ∷ 0x51 ∷ []) mode
+opcode_of Inc mode = count (0xE6 ∷ 0xF6 ∷ 0xEE ∷ 0xFE ∷ []) mode
+opcode_of Inx mode = implied 0xE8 mode
+opcode_of Iny mode = implied 0xC8 mode
+opcode_of Lda mode = arithmetic (0xA9 ∷ 0xA5 ∷ 0xB5 ∷ 0xAD ∷ 0xBD ∷ 0xB9 ∷ 0xA1 ∷ 0xB1 ∷ []) mode
+opcode_of Lsr mode = shift (0x4A ∷ 0x46 ∷ 0x56 ∷ 0x4E ∷ 0x5E ∷ []) mode
+opcode_of Nop mode = implied 0xEA mode
+opcode_of Ora mode = arithmetic (0x09 ∷ 0x05 ∷ 0x15 ∷ 0x0D ∷ 0x1D ∷ 0x19 ∷ 0x01 ∷ 0x11 ∷ []) mode
+opcode_of Pha mode = implied 0x48 mode
+opcode_of Php mode = implied 0x08 mode
+opcode_of Pla mode = implied 0x68 mode
+opcode_of Plp mode = implied 0x28 mode
+opcode_of Rol mode = shift (0x2A ∷ 0x26 ∷ 0x36 ∷ 0x2E ∷ 0x3E ∷ []) mode
+opcode_of Ror mode = shift (0x6A ∷ 0x66 ∷ 0x76 ∷ 0x6E ∷ 0x7E ∷ []) mode
+opcode_of Rti mode = implied 0x40 mode
+opcode_of Rts mode = implied 0x60 mode
+opcode_of Sbc mode = arithmetic (0xE9 ∷ 0xE5 ∷ 0xF5 ∷ 0xED ∷ 0xFD ∷ 0xF9 ∷ 0xE1 ∷ 0xF1 ∷ []) mode
+opcode_of Sec mode = implied 0x38 mode
+opcode_of Sed mode = implied 0xF8 mode
+opcode_of Sei mode = implied 0x78 mode
+opcode_of Tax mode = implied 0xAA mode
+opcode_of Tay mode = implied 0xA8 mode
+opcode_of Tsx mode = implied 0xBA mode
+opcode_of Txa mode = implied 0x8A mode
+opcode_of Txs mode = implied 0x9A mode
+opcode_of Tya mode = implied 0x98 mode
+opcode_of m mode = other_opcode m mode

@@ -43,7 +43,7 @@ use Rattle.link65.specs.Texts.{assertion_warning}
 use Rattle.link65.specs.declared.fault.LinkFault.{LinkFault}
 use Rattle.link65.specs.declared.fault.LinkFault.TheVariants as fault
 use Rattle.link65.specs.declared.fault.Site.{Site}
-use Rattle.link65.specs.declared.parts.Asserted.{Asserted}
+use Rattle.link65.specs.declared.parts.Asserted.{Asserted as LinkedAssertion}
 use Rattle.link65.specs.declared.parts.Member.{Member}
 use Rattle.link65.specs.declared.parts.ValueFault.{ValueFault}
 use Rattle.whole65.proofs.Providers.{keyed_said, sources_law}
@@ -174,7 +174,7 @@ module _ {E : Type 0} (p : Program) (o : Objects E) (h : AreObjects p o) (owner 
 
 -- ---- Assertions of all modules.
 
-abbrev linked_asserts : ℕ → List Module → List Asserted
+abbrev linked_asserts : ℕ → List Module → List LinkedAssertion
 linked_asserts owner [] = []
 linked_asserts owner (m ∷ ms) = map (linked.asserted owner) m.object.asserts ++ linked_asserts (suc owner) ms
 
@@ -216,10 +216,10 @@ result_told s act text (Err e) = grind (arith, common_steps)
 
 module _ (l : Linkage) (members : List Member) (exports : Exports) where
   -- an assertion of a linked module comes to a value and passes
-  abbrev pub Succeeds : Asserted → Type 0
+  abbrev pub Succeeds : LinkedAssertion → Type 0
   Succeeds a = ComesToPass a.action (value_by l exports a.owner a.form)
 
-  asserts_told : (xs : List Asserted) → IsTold (check_asserts l members exports xs) ↔ AllByRecursion Succeeds xs
+  asserts_told : (xs : List LinkedAssertion) → IsTold (check_asserts l members exports xs) ↔ AllByRecursion Succeeds xs
   asserts_told [] = (λ k. tt, λ k. ([], refl))
   asserts_told (a ∷ rest) =
       let one = result_told (site members a.owner a.origin) a.action a.text (value_by l exports a.owner a.form) in
@@ -247,7 +247,7 @@ module _ (s : Script) (placement : Placement) (ys : List Layout) (ms : List Modu
   abbrev l : Linkage
   l = linkage_of s (linked.program_of ms) placement
 
-  abbrev Passing : Asserted → Type 0
+  abbrev Passing : LinkedAssertion → Type 0
   Passing = Succeeds l (linked.program_of ms).members (in_table table)
 
   module _ (owner : ℕ) (y : Layout) (m : Module) (cs : List Content) (at_y : slice_get ys owner ≡ Some y) (at_m : slice_get ms owner ≡ Some m) (found : contents_from (table_of y) y.laid ≡ Ok cs) where
@@ -313,8 +313,8 @@ module _ (s : Script) (placement : Placement) (ys : List Layout) (ms : List Modu
       let at_y : slice_get ys owner ≡ Some y = ap (slice_get ys) (sym here) ∙ sym (up_y 0) in
       let at_m : slice_get ms owner ≡ Some m = ap (slice_get ms) (sym here) ∙ sym (up_m 0) in
       let next : (i : ℕ) → owner + suc i ≡ suc owner + i = λ i. omega arith in
-      let first : List Asserted = map (linked.asserted owner) m.object.asserts in
-      let others : List Asserted = linked_asserts (suc owner) ns in
+      let first : List LinkedAssertion = map (linked.asserted owner) m.object.asserts in
+      let others : List LinkedAssertion = linked_asserts (suc owner) ns in
       let one = one_source owner y m at_y at_m k.0 in
       let more = all_sources rest ns (suc owner) k.1 (λ i. up_y (suc i) ∙ ap (slice_get ys) (next i)) (λ i. up_m (suc i) ∙ ap (slice_get ms) (next i)) in (
         λ q. (let both = all_split Passing first others q in (one.0 both.0, more.0 both.1)),

@@ -133,10 +133,10 @@ module _ (l : Linkage) (members : List Member) (table : List (Result ℤ ValueFa
   abbrev check : Fixup → Result (Unit {0}) LinkFault
   check w = check_fixup l members exports w
 
-  abbrev Asserted : List Cell → List ℕ → Type 0
-  Asserted cells bytes = (each_passes check (flat_map fixups_in cells) ≡ Ok tt) × (bytes ≡ flat_map (cell_bytes l exports fill) cells)
+  abbrev Checked : List Cell → List ℕ → Type 0
+  Checked cells bytes = (each_passes check (flat_map fixups_in cells) ≡ Ok tt) × (bytes ≡ flat_map (cell_bytes l exports fill) cells)
 
-  there : (cells : List Cell) (bytes : List ℕ) → AreCells l fill cells bytes → Asserted cells bytes
+  there : (cells : List Cell) (bytes : List ℕ) → AreCells l fill cells bytes → Checked cells bytes
   there [] bytes k = (refl, k)
   there (known b ∷ cells) bytes (own, rest, first, more, e) =
       let (passed, same) = there cells rest more in
@@ -152,7 +152,7 @@ module _ (l : Linkage) (members : List Member) (table : List (Result ℤ ValueFa
         e ∙ ap (λ z. z ++ rest) (first ∙ sym (written w (value_by l exports w.owner w.form) v found fits)) ∙ ap (λ z. stored w.width (or_zero (value_by l exports w.owner w.form)) ++ z) same,
       )
 
-  back : (cells : List Cell) (bytes : List ℕ) → Asserted cells bytes → AreCells l fill cells bytes
+  back : (cells : List Cell) (bytes : List ℕ) → Checked cells bytes → AreCells l fill cells bytes
   back [] bytes k = k.1
   back (known b ∷ cells) bytes (passed, e) =
       let rest : List ℕ = flat_map (cell_bytes l exports fill) cells in

@@ -169,7 +169,7 @@ section_base_law s placement ys ms owner g y m cs h at_y at_m e among =
     let names = (table_of y).imports in
     let imports : List ℕ = import_keys names cs in
     let sections : List ℕ = section_keys cs in
-    let lt : g < length y.cursor.segments = one_of (λ k. k < length y.cursor.segments) sections g keys.cursor among in
+    let lt : g < length y.cursor.segments = one_of (λ k. k < length y.cursor.segments) sections g keys.standing among in
     let name : List ℕ = segment_name y g in
     let before : Program = program_of (take owner ms) in
     let A : SectionPlace → ℤ = address_of s.rows placement.rows in
@@ -183,7 +183,7 @@ section_base_law s placement ys ms owner g y m cs h at_y at_m e among =
     let lines_are : lines_in owner y name ≡ lines_at g (lines_behind owner [] y.laid) = in_segment owner y g d lt in
     ap (λ r. base_of r (number_of sections g)) (resolved_at s placement ms owner m at_m)
     ∙ ap (λ (o : Object). get_or (map A (section_places (length before.members) before.segments o.sections)) (number_of sections g) (pos 0)) object
-    ∙ place_at y (length before.members) origins sections imports cs A (named d).distinct before.segments sections g keys.cursor keys.single among
+    ∙ place_at y (length before.members) origins sections imports cs A (named d).distinct before.segments sections g keys.standing keys.single among
     ∙ base_law s.rows placement.rows (section_place before.segments sec_g)
     ∙ ap (λ n. wrapped (pos (run_of s.rows placement.rows n + rounded_up (linked.end_of before.segments n) (linked.align_of sec_g)))) named_so
     ∙ ap (λ n. wrapped (pos (run + rounded_up n (linked.align_of sec_g)))) size

@@ -258,7 +258,7 @@ module _ (s : Script) (p : Placement) (ys : List Layout) (laid_out : AllByRecurs
       let name : List ℕ = segment_name y l.context.segment in
       let run : ℕ = run_of s.rows p.rows name in
       let begin : ℕ = begin_in ys owner y name in
-      let below : l.context.segment < length y.cursor.segments = all_get (λ (k : Laid). k.context.segment < length y.cursor.segments) y.laid place l (named (all_get IsLaidOut ys owner y laid_out e)).cursor there in
+      let below : l.context.segment < length y.cursor.segments = all_get (λ (k : Laid). k.context.segment < length y.cursor.segments) y.laid place l (named (all_get IsLaidOut ys owner y laid_out e)).standing there in
       ap (λ n. wrapped (pos (run + n))) (position_is owner place y l e there (has_section y name) refl)
       ∙ moved run begin l.context.offset
       ∙ ap (λ b. wrapped (cond b (wrapped (pos (run + begin))) (pos 0) +ℤ pos l.context.offset)) (sym (less l.context.segment (length y.cursor.segments) below))

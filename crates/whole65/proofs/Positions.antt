@@ -142,7 +142,7 @@ distinct_behind gs current count multiple x d = grind (arith, common_steps, dist
 
 pub record Named (y : Layout) : Type 0 where
   pub distinct : Distinct y.cursor.segments
-  pub cursor : AllByRecursion (λ (l : Laid). l.context.segment < length y.cursor.segments) y.laid
+  pub standing : AllByRecursion (λ (l : Laid). l.context.segment < length y.cursor.segments) y.laid
 
 later : (y : Layout) (place : Place) (x : Statement) → y.cursor.current < length y.cursor.segments → Named y → Named (layout_behind y place x)
 later y place x here h =
@@ -155,14 +155,14 @@ later y place x here h =
     let up : (k : ℕ) → k < length w.segments → k < length z.cursor.segments = λ k lt. omega (arith, more, lt) in
     record {
       distinct = distinct_behind w.segments w.current count multiple x h.distinct;
-      cursor =
+      standing =
           all_more (λ (l : Laid). l.context.segment < length z.cursor.segments) y.laid (laid table w place x)
-          (all_same (λ (l : Laid). l.context.segment < length w.segments) (λ (l : Laid). l.context.segment < length z.cursor.segments) (λ l below. up l.context.segment below) y.laid h.cursor)
+          (all_same (λ (l : Laid). l.context.segment < length w.segments) (λ (l : Laid). l.context.segment < length z.cursor.segments) (λ l below. up l.context.segment below) y.laid h.standing)
           (up w.current here);
     }
 
 pub named : {y : Layout} → IsLaidOut y → Named y
-named begun = record { distinct = λ g h lt lt' e. (let none : g ≡ 0 = omega (arith, lt) in let also : h ≡ 0 = omega (arith, lt') in none ∙ sym also); cursor = tt }
+named begun = record { distinct = λ g h lt lt' e. (let none : g ≡ 0 = omega (arith, lt) in let also : h ≡ 0 = omega (arith, lt') in none ∙ sym also); standing = tt }
 named (behind y place x d none) = later y place x (placed 0 d).here (named d)
 
 -- ---- Lines of a segment by its name and by its number.
@@ -230,7 +230,7 @@ module _ (owner place : ℕ) (y : Layout) (l : Laid) (d : IsLaidOut y) (there : 
       ∙ filter-append (λ (x : Line). nat_eq x.laid.context.segment g) (lines_behind owner [] (take place y.laid)) (lines_behind owner (take place y.laid) (drop place y.laid))
 
   below : g < length y.cursor.segments
-  below = all_get (λ (k : Laid). k.context.segment < length y.cursor.segments) y.laid place l (named d).cursor there
+  below = all_get (λ (k : Laid). k.context.segment < length y.cursor.segments) y.laid place l (named d).standing there
 
   all_powers : ArePowers (front ++ behind_front)
   all_powers = subst ArePowers in_order (powers_at g (lines_behind owner [] y.laid) (placed owner d).powers)
@@ -239,7 +239,7 @@ module _ (owner place : ℕ) (y : Layout) (l : Laid) (d : IsLaidOut y) (there : 
   pub in_part : (at : ℕ) (rest : List Item) → has_section y (segment_name y g) ≡ true → end_of at (items_before owner place (part_of owner y (segment_name y g) ++ rest)) ≡ next_multiple_of at (largest_multiple (lines_in owner y (segment_name y g))) + l.context.offset
   in_part at rest asked =
       let n = named d in
-      let all : lines_in owner y (segment_name y g) ≡ lines_at g (lines_behind owner [] y.laid) = by_number owner y g n.distinct below [] y.laid n.cursor in
+      let all : lines_in owner y (segment_name y g) ≡ lines_at g (lines_behind owner [] y.laid) = by_number owner y g n.distinct below [] y.laid n.standing in
       let multiple : ℕ = largest_multiple (lines_in owner y (segment_name y g)) in
       let begin : ℕ = next_multiple_of at multiple in
       let power = largest_power (front ++ behind_front) all_powers in
@@ -249,7 +249,7 @@ module _ (owner place : ℕ) (y : Layout) (l : Laid) (d : IsLaidOut y) (there : 
       let yes : stands_in y (segment_name y g) l ≡ true = itself (segment_name y g) in
       let before : items_before owner place (map line (lines_in owner y (segment_name y g)) ++ rest) ≡ map line front =
       stopped owner place (stands_in y (segment_name y g)) [] y.laid rest place l (omega arith) there yes
-      ∙ ap (map line) (by_number owner y g n.distinct below [] (take place y.laid) (all_front (λ (k : Laid). k.context.segment < length y.cursor.segments) y.laid place n.cursor)) in
+      ∙ ap (map line) (by_number owner y g n.distinct below [] (take place y.laid) (all_front (λ (k : Laid). k.context.segment < length y.cursor.segments) y.laid place n.standing)) in
       ap (λ b. end_of at (items_before owner place (cond b (rounding multiple ∷ map line (lines_in owner y (segment_name y g))) [] ++ rest))) asked
       ∙ ap (end_of begin) before
       ∙ shift_law front begin (powers_first front behind_front all_powers) (front_multiple begin front behind_front all_powers is_multiple)

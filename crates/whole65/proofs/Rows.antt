@@ -105,7 +105,7 @@ one_source y m known h =
     let keys = keys_of y cs h.laid_out c.found in
     let imports : List ℕ = import_keys (table_of y).imports cs in
     ap (λ (o : Object). with_new known (map (λ (s : Section). s.name) o.sections)) c.object
-    ∙ ap (with_new known) (section_names y c.origins (section_keys cs) imports cs (section_keys cs) keys.cursor)
+    ∙ ap (with_new known) (section_names y c.origins (section_keys cs) imports cs (section_keys cs) keys.standing)
     ∙ names_once (segment_name y) known [] (segments_asked cs)
     ∙ ap (λ z. with_new known (map (segment_name y) z)) (asked_are (table_of y) y.laid cs c.found)
     ∙ ap (with_new known) (names_asked y (filter (λ (l : Laid). asks_section l.stated) y.laid))

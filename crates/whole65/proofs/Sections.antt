@@ -142,7 +142,7 @@ below_all bound (l ∷ ls) h = grind (arith, common_steps, (below_all bound ls h
 -- the keys of a module's sections
 pub record AreKeys (y : Layout) (keys : List ℕ) : Type 0 where
   pub single : AreOnce keys
-  pub cursor : AllByRecursion (λ g. g < length y.cursor.segments) keys
+  pub standing : AllByRecursion (λ g. g < length y.cursor.segments) keys
   pub has : (name : List ℕ) → has_section y name ≡ list_any (λ g. bytes_eq (segment_name y g) name) keys
 
 pub keys_of : (y : Layout) (cs : List Content) → IsLaidOut y → contents_from (table_of y) y.laid ≡ Ok cs → AreKeys y (section_keys cs)
@@ -150,7 +150,7 @@ keys_of y cs d e =
     let asked = asked_are (table_of y) y.laid cs e in
     record {
       single = are_once [] (segments_asked cs) tt;
-      cursor = all_once (λ g. g < length y.cursor.segments) [] (segments_asked cs) tt (subst (AllByRecursion (λ g. g < length y.cursor.segments)) (sym asked) (below_all (length y.cursor.segments) y.laid (named d).cursor));
+      standing = all_once (λ g. g < length y.cursor.segments) [] (segments_asked cs) tt (subst (AllByRecursion (λ g. g < length y.cursor.segments)) (sym asked) (below_all (length y.cursor.segments) y.laid (named d).standing));
       has = λ name. asked_there y name y.laid ∙ ap (list_any (λ g. bytes_eq (segment_name y g) name)) (sym asked) ∙ sym (any_once (λ g. bytes_eq (segment_name y g) name) [] (segments_asked cs));
     }
 

@@ -242,16 +242,16 @@ behind_source y m h owner name g = go (has_section y name) refl
       where
         by : (b : Bool) (origins : Place → Origin) (cs : List Content) → AreKeys y (section_keys cs) → behind_sections owner name g m.object.sections ≡ behind_sections owner name g (map (its_section y owner origins (section_keys cs) (import_keys (table_of y).imports cs) cs name) (section_keys cs)) → has_section y name ≡ b → Behind y m origins cs owner name g
         by false origins cs keys same e =
-            unchanged e (same ∙ none_there y owner origins (section_keys cs) (import_keys (table_of y).imports cs) cs name (section_keys cs) keys.cursor (sym (keys.has name) ∙ e) g)
+            unchanged e (same ∙ none_there y owner origins (section_keys cs) (import_keys (table_of y).imports cs) cs name (section_keys cs) keys.standing (sym (keys.has name) ∙ e) g)
         by true origins cs keys same e =
-            let r = one_there y owner origins (section_keys cs) (import_keys (table_of y).imports cs) cs name (section_keys cs) (named h.laid_out).distinct keys.cursor keys.single (sym (keys.has name) ∙ e) g in
+            let r = one_there y owner origins (section_keys cs) (import_keys (table_of y).imports cs) cs name (section_keys cs) (named h.laid_out).distinct keys.standing keys.single (sym (keys.has name) ∙ e) g in
             grows r.key e r.among r.below r.called (same ∙ r.is)
 
 -- ---- Where a part begins and ends.
 
 -- the lines of a name are those of its segment's number
 pub in_segment : (owner : ℕ) (y : Layout) (g : ℕ) → IsLaidOut y → g < length y.cursor.segments → lines_in owner y (segment_name y g) ≡ lines_at g (lines_behind owner [] y.laid)
-in_segment owner y g d lt = by_number owner y g (named d).distinct lt [] y.laid (named d).cursor
+in_segment owner y g d lt = by_number owner y g (named d).distinct lt [] y.laid (named d).standing
 
 pub section_begin : (y : Layout) (owner key at : ℕ) (origins : Place → Origin) (sections imports : List ℕ) (cs : List Content) → IsLaidOut y → rounded_up at (linked.align_of (section_of origins y.cursor.segments sections imports cs key)) ≡ next_multiple_of at (largest_multiple (lines_at key (lines_behind owner [] y.laid)))
 section_begin y owner key at origins sections imports cs d = grind (arith, common_steps, power_positive, largest_power, powers_at, placed, alignment_law, rounding_law)

@@ -312,7 +312,7 @@ module _ (s : Script) (placement : Placement) (ys : List Layout) (ms : List Modu
       let keys = keys_of y cs d c.found in
       let name : List ℕ = segment_name y g in
       let key : list_any (nat_eq g) (section_keys cs) ≡ true = any_once (nat_eq g) [] (segments_asked cs) ∙ asked in
-      let below : g < length y.cursor.segments = one_of (λ k. k < length y.cursor.segments) (section_keys cs) g keys.cursor key in
+      let below : g < length y.cursor.segments = one_of (λ k. k < length y.cursor.segments) (section_keys cs) g keys.standing key in
       let has : has_section y name ≡ true = keys.has name ∙ held (λ k. bytes_eq (segment_name y k) name) g (section_keys cs) key (itself name) in
       let asking : List Laid = filter (λ (l : Laid). asks_section l.stated) y.laid in
       let shown : list_any (nat_eq g) (map (λ (l : Laid). l.context.segment) asking) ≡ true = ap (list_any (nat_eq g)) (sym (asked_are (table_of y) y.laid cs c.found)) ∙ asked in

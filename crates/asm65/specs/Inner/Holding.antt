@@ -9,7 +9,7 @@ use Rattle.language65.specs.Symbols.{Definition, Key, Symbols, unnamed_at, meani
 use Rattle.module65.specs.Machine as machine
 use Rattle.module65.specs.Machine.{PutsAll, State, awaited_in, filled, awaiting}
 use Rattle.module65.specs.Module as piece
-use Rattle.sections65.specs.Fed.{Stands, Feeds}
+use Rattle.sections65.specs.Fed.{Stands, Feeds, names_in}
 use Rattle.symbols65.specs.Resolving.{IsTable}
 use Rattle.symbols65.specs.Views.{table_of}
 use Rattle.asm65.specs.declared.assembler.Assembler.{Assembler}
@@ -87,7 +87,7 @@ pub record Holds (count : ℕ) (t : State) (a : Assembler) : Type 0 where
   pub counted : IsCounted count a.cursor
   pub inside : AreInside count t.symbols.scopes
   pub unnamed : AreBefore t.cursor.unnamed t.symbols.definitions
-  pub fixups : AreFixups t.symbols (map string_bytes a.files.keys) a.fixups.items t.fixups
+  pub fixups : AreFixups t.symbols (names_in a.files) a.fixups.items t.fixups
   pub sections : (ws : List Content) → AreAwaited t.fixups ws → Stands (filled t.slots ws) ws a.sections
   pub slots : awaited_in t.slots ≡ length t.fixups
   pub out : a.texts.out ≡ t.out

@@ -1,7 +1,7 @@
 -- How statements are taken, and their files.
 use Rattle.std.specs.Prelude.{◌≡◌, ℕ, ◌+◌, ◌*◌, ◌≤◌, ◌<◌, List, [], ◌∷◌, Option, Some, None, IfErr, IfSome, Bool, true, false, Result, Ok, Err, ⊤, take}
 use Rattle.base65.specs.Outcome.{Unless}
-use Rattle.base65.specs.Store.{Files}
+use Rattle.base65.specs.Store.{Files, PassesBy}
 use Rattle.syntax65.specs.Tokens.{Lexeme}
 use Rattle.syntax65.specs.Trees.{number}
 use Rattle.expand65.specs.Failing.{Gives}
@@ -24,6 +24,11 @@ use Rattle.asm65.specs.Assembly.{Without}
 use Rattle.std.specs.Option.{option_map}
 
 -- ---- What a call that takes statements leaves.
+
+-- of a store: its files as before, and its count of failures, by the answer
+pub record KeepsStore {X T : Type 0} (files_of : X → Option Files) (failures_of : X → ℕ) (old new : X) (result : Result T AsmFault) : Type 0 where
+  pub files : files_of new ≡ files_of old
+  pub count : PassesBy is_failure (failures_of old) (failures_of new) result
 
 -- a state is held, behind statements that opened at most so much
 abbrev pub HoldsWithin : ℕ → State → Assembler → Type 0

@@ -13,7 +13,7 @@ ghost use Rattle.module65.specs.Module.{asserted, given, instruction_pieces, val
 ghost use Rattle.language65.specs.Items.{numbered};
 
 use super::Site;
-use super::values::{bytes_of, items_of, literal_of, put_code, put_part, put_room};
+use super::values::{bytes_of, file_bytes, items_of, literal_of};
 use crate::assembler::{Assembler, Piece};
 use base65::Sequence;
 use language65::{Context, Item, Items, ItemsKind, Operand, Settled};
@@ -73,7 +73,10 @@ impl Assembler {
         ensures { OnOk result ((place : Place) → Enters place context
             (given (opcode_part code) ∷ []) self.old self.new) }
     {
-        put_code(&mut self.sections, context.segment, code)
+        match code {
+            Some(code) => self.sections.append(context.segment, &[code]),
+            None => self.sections.append(context.segment, &[]),
+        }
     }
 
     /// Enters the value of an operand, if there is one.
@@ -114,24 +117,6 @@ impl Assembler {
         self.enter_operand_of(alloc, site, width_of(mode), operand_value(operand))
     }
 
-    /// Enters an element of a list.
-    fn enter_item(
-        &mut self,
-        alloc: Global,
-        site: Site<'_>,
-        width: Width,
-        item: Item,
-    ) -> Result<(), AllocError>
-        ensures { OnOk result (Enters
-            (place_at site.entry.at) site.entry.context
-            (item_piece width item ∷ []) self.old self.new) }
-    {
-        match item {
-            Item::Value(value) => self.enter_datum(alloc, site, width, value),
-            Item::Text(bytes) => self.sections.append(site.context.segment, bytes.as_slice()),
-        }
-    }
-
     /// Enters a list of any elements.
     fn enter_mixed(
         &mut self,
@@ -145,7 +130,13 @@ impl Assembler {
             (map (item_piece width) items) self.old self.new) }
     {
         for item in items.into_vec() {
-            self.enter_item(alloc, site, width, item)?;
+            match item {
+                Item::Value(value) => self.enter_datum(alloc, site, width, value)?,
+                Item::Text(bytes) => {
+                    self.sections
+                        .append(site.context.segment, bytes.as_slice())?
+                }
+            }
         }
         Ok(())
     }
@@ -200,7 +191,10 @@ impl Assembler {
         ensures { OnOk result ((place : Place) → Enters place context
             (given (room_part count settled) ∷ []) self.old self.new) }
     {
-        put_room(&mut self.sections, context.segment, count, settled)
+        match settled {
+            Settled::FilledWith(byte) => self.sections.fill(context.segment, count, byte),
+            _ => self.sections.room(context.segment, count),
+        }
     }
 
     /// Enters so many bytes of a file from the one on that is settled.
@@ -215,7 +209,8 @@ impl Assembler {
         ensures { OnOk result ((place : Place) → Enters place context
             (given (Known (file_bytes count bytes settled)) ∷ []) self.old self.new) }
     {
-        put_part(&mut self.sections, context.segment, count, settled, &bytes)
+        let part = file_bytes(&bytes, settled, count);
+        self.sections.append(context.segment, part)
     }
 
     /// Enters an assertion.

@@ -1,6 +1,6 @@
 //! Values and other parts of statements, which are put at once where they are settled without a fault, or wait.
 
-ghost use Rattle.std.specs.Prelude.{◌≡◌, drop, IfOk, IfSome, map, OnOk, take, Some, slice_get, string_bytes, ◌∷◌, []};
+ghost use Rattle.std.specs.Prelude.{◌≡◌, drop, IfOk, IfSome, map, OnOk, take, ◌∷◌, []};
 ghost use Rattle.object65.specs.Form.{lit};
 ghost use Rattle.syntax65.specs.declared.place.Place.{Place};
 ghost use Rattle.language65.specs.Contents.{file_bytes, opcode_part, operand_form, put, room_part, stored, Known};
@@ -11,13 +11,11 @@ ghost use Rattle.asm65.specs.Inner.Holding.{AreStored, IsFaultless, IsPut, opera
 ghost use Rattle.base65.specs.Outcome.{Gives};
 ghost use Rattle.language65.specs.Faults.{is_memory};
 ghost use Rattle.object65.specs.Objects.{is_file_name};
-ghost use Rattle.symbols65.specs.Tables.{Begins};
 ghost use Rattle.module65.specs.Module.{datum, operand, valued};
 
 use super::Site;
 use crate::assembler::{Assembler, Fixup, Piece};
-use base65::{Seed, Sequence};
-use indexmap::IndexSet;
+use base65::Sequence;
 use language65::{AsmFault, At, Context, Item, Part, Settled};
 use object65::format::FILE_NAME_LIMIT;
 use object65::{Node, Norm, Width, fits, put};
@@ -25,23 +23,6 @@ use sections65::Sections;
 use std::alloc::{AllocError, Global};
 use symbols65::{operand_form, stable_form};
 use syntax65::{Expr, ExprKind};
-
-/// Puts the bytes of a value into the section of a segment, if it lies in its range.
-fn put_literal(
-    sections: &mut Sections,
-    segment: u32,
-    width: Width,
-    value: i64,
-) -> Result<bool, AllocError>
-    ensures { (place : Place) → IfOk result
-        (IsPut sections.old sections.new segment (stored width place (lit value))) }
-{
-    if !fits(width, value) {
-        return Ok(false);
-    }
-    sections.append(segment, &put(width, value))?;
-    Ok(true)
-}
 
 /// The bytes of numbers, one behind the other, if each is in range.
 pub fn bytes_of(
@@ -88,14 +69,15 @@ pub fn put_form(
         (stored width (place_at at.entry) form)) }
 {
     match literal_of(&form) {
-        Some(value) => put_literal(sections, segment, width, value),
-        None => {
-            if !is_file_name(at.file) {
-                return Ok(false);
-            }
+        Some(value) if fits(width, value) => {
+            sections.append(segment, &put(width, value))?;
+            Ok(true)
+        }
+        None if is_file_name(at.file) => {
             sections.value(segment, width, at, form)?;
             Ok(true)
         }
+        _ => Ok(false),
     }
 }
 
@@ -138,66 +120,19 @@ pub fn put_operand(
     }
 }
 
-/// Puts the code of an instruction into the section of a segment.
-pub fn put_code(sections: &mut Sections, segment: u32, code: Option<u8>) -> Result<(), AllocError>
-    ensures { OnOk result (Feeds sections.old sections.new (put segment (opcode_part code))) }
-{
-    match code {
-        Some(code) => sections.append(segment, &[code]),
-        None => sections.append(segment, &[]),
-    }
-}
-
-/// Puts room of so many bytes into the section of a segment, filled with the byte that is settled,
-/// if there is one.
-pub fn put_room(
-    sections: &mut Sections,
-    segment: u32,
-    count: u32,
-    settled: Settled,
-) -> Result<(), AllocError>
-    ensures { OnOk result (Feeds sections.old sections.new
-        (put segment (room_part count settled))) }
-{
-    match settled {
-        Settled::FilledWith(byte) => sections.fill(segment, count, byte),
-        _ => sections.room(segment, count),
-    }
-}
-
-/// So many bytes of a file from one on, as far as it goes.
-fn between(bytes: &[u8], start: usize, count: usize) -> &[u8]
-    ensures { result.now ≡ take count (drop start bytes.now) }
-{
-    let (_, rest) = bytes.split_at(start.min(bytes.len()));
-    let (part, _) = rest.split_at(count.min(rest.len()));
-    part
-}
-
 /// So many bytes of a file, if it is there, from the one on that is settled.
-fn file_bytes(bytes: &Option<Sequence<u8>>, settled: Settled, count: u32) -> &[u8]
+pub fn file_bytes(bytes: &Option<Sequence<u8>>, settled: Settled, count: u32) -> &[u8]
     ensures { result.now ≡ file_bytes count bytes.now settled }
 {
     match (bytes, settled) {
         (Some(bytes), Settled::FromByte(start)) => {
-            between(bytes.as_slice(), start as usize, count as usize)
+            let bytes = bytes.as_slice();
+            let (_, rest) = bytes.split_at(bytes.len().min(start as usize));
+            let (part, _) = rest.split_at(rest.len().min(count as usize));
+            part
         }
         _ => b"",
     }
-}
-
-/// Puts so many bytes of a file from the one on that is settled into the section of a segment.
-pub fn put_part(
-    sections: &mut Sections,
-    segment: u32,
-    count: u32,
-    settled: Settled,
-    bytes: &Option<Sequence<u8>>,
-) -> Result<(), AllocError>
-    ensures { OnOk result (Feeds sections.old sections.new
-        (put segment (Known (file_bytes count bytes.now settled)))) }
-{
-    sections.append(segment, file_bytes(bytes, settled, count))
 }
 
 /// The value of a form that is a literal.
@@ -239,50 +174,7 @@ pub fn stored(alloc: Global, width: Width, at: At<'_>, form: Norm) -> Result<Par
     }
 }
 
-/// A place among files, where the file at it has this name.
-fn same_place(files: &IndexSet<String, Seed>, place: Option<usize>, name: &str) -> Option<usize>
-    ensures { IfSome result (λ i. slice_get (map string_bytes files.now.keys) i ≡ Some name.now) }
-{
-    let place = place?;
-    let file = files.get_index(place)?;
-    if file.as_str() == name {
-        Some(place)
-    } else {
-        None
-    }
-}
-
-/// The place of a file among those that are named, where it is put in if it is new. It is mostly the one of
-/// the piece before, and then it isn't looked up.
-fn place_of_file(
-    alloc: Global,
-    files: &mut IndexSet<String, Seed>,
-    last: Option<usize>,
-    name: &str,
-) -> Result<usize, AllocError>
-    ensures more { Begins (map string_bytes files.old.keys) (map string_bytes files.new.keys) }
-    ensures place { IfOk result (λ i.
-        slice_get (map string_bytes files.new.keys) i ≡ Some name.now) }
-{
-    if let Some(place) = same_place(files, last, name) {
-        return Ok(place);
-    }
-    match files.get_index_of(name) {
-        Some(place) => Ok(place),
-        None => {
-            let (place, _) = files.insert_full(String::from_str(alloc, name)?)?;
-            Ok(place)
-        }
-    }
-}
-
 impl Assembler {
-    /// The place of the file in which the last piece waits.
-    fn last_file(&self) -> Option<usize> {
-        let last = self.fixups.as_slice().last()?;
-        Some(last.file)
-    }
-
     /// A piece of a statement waits.
     #[inline(never)]
     pub fn wait(&mut self, alloc: Global, site: Site<'_>, piece: Piece) -> Result<(), AllocError>
@@ -291,8 +183,7 @@ impl Assembler {
             piece self.old self.new) }
         ensures tables { KeepsTables self.old self.new }
     {
-        let last = self.last_file();
-        let file = place_of_file(alloc, &mut self.files, last, site.at.file)?;
+        let file = self.files.place_of(alloc, site.at.file)?;
         let line = site.at.line;
         let context = site.context;
         self.fixups.push(Fixup {

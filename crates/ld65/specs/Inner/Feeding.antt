@@ -1,8 +1,8 @@
 -- What feeding a linker comes to: the records of an object, an object, a library's members, and the inputs of a line.
-use Rattle.std.specs.Prelude.{◌≡◌, ℕ, List, [], ◌∷◌, ◌++◌, length, option_map, Option, Result, Ok, Err, IfSome, Bool, true, false}
+use Rattle.std.specs.Prelude.{◌≡◌, ℕ, List, [], ◌∷◌, ◌++◌, length, option_map, Option, Result, Ok, Err, IfErr, IfSome, OnOk, Bool, true, false}
 use Rattle.std.specs.FinMap.{get}
-use Rattle.base65.specs.Outcome.{Refuses, Unless}
-use Rattle.base65.specs.Store.{Files}
+use Rattle.base65.specs.Outcome.{Unless}
+use Rattle.base65.specs.Store.{Files, PassesBy}
 use Rattle.object65.specs.declared.fault.ObjectFault.{ObjectFault}
 use Rattle.object65.specs.Record.{is_outside as is_object_outside}
 use Rattle.object65.specs.Reading.{in_file, records_at}
@@ -13,10 +13,9 @@ use Rattle.link65.specs.declared.fault.LinkFault.{LinkFault}
 use Rattle.link65.specs.declared.fault.LinkFault.TheVariants as link
 use Rattle.link65.specs.Names.{given_names, open_names}
 use Rattle.link65.specs.Programs.{Module, program_of}
-use Rattle.link65.specs.Standing.{Feeding, IsFed, IsFeeding, as_link, module_of}
-use Rattle.ld65.specs.Linkage.{AreInputs, Input, IsInput, IsLibraryInput, added_in, as_library, index_in, with_file, with_members}
-use Rattle.ld65.specs.Refusals.{is_outside}
-use Rattle.ld65.specs.declared.members.Choice.{Choice}
+use Rattle.link65.specs.Standing.{Feeding, IsFed, IsFeeding, Keeps, as_link, is_open, module_of}
+use Rattle.ld65.specs.Linkage.{AreInputs, Input, IsInput, IsLibraryInput, added_in, with_file, with_members}
+use Rattle.ld65.specs.Refusals.{is_failure, is_outside}
 use Rattle.ld65.specs.declared.linking.ObjectInput.{ObjectInput}
 use Rattle.ld65.specs.declared.refusal.Refusal.{Refusal}
 
@@ -26,16 +25,15 @@ is_link_outside link.OutOfMemory = true
 is_link_outside (link.Malformed f) = is_object_outside f
 is_link_outside _ = false
 
--- A call gives what reading the files gives and leads to a next state, or is refused as reading is, unless from
--- outside. Where the files aren't known, it still leads to a next state.
-abbrev pub Leads : {E A R : Type 0} → (E → Bool) → (R → A → Type 0) → Option Files → (Files → Result A E) → Result R E → Type 0
-Leads {E} {A} is_out Next known read (Ok r) = (x : A) × IfSome known (λ m. read m ≡ Ok x) × Next r x
-Leads is_out Next known read (Err e) = IfSome known (λ m. Refuses is_out e (read m))
-
--- the same where what the files give is said by a relation
+-- A call leads to a next state by something that the files give, or is refused as they say, unless from outside. Where
+-- the files aren't known, it still leads to a next state.
 abbrev pub LeadsBy : {E A R : Type 0} → (E → Bool) → (R → A → Type 0) → Option Files → (Files → Result A E → Type 0) → Result R E → Type 0
 LeadsBy {E} {A} is_out Next known Reads (Ok r) = (x : A) × IfSome known (λ m. Reads m (Ok x)) × Next r x
 LeadsBy is_out Next known Reads (Err e) = IfSome known (λ m. Unless (is_out e) (Reads m (Err e)))
+
+-- the same where reading the files gives one result
+abbrev pub Leads : {E A R : Type 0} → (E → Bool) → (R → A → Type 0) → Option Files → (Files → Result A E) → Result R E → Type 0
+Leads is_out Next known read r = LeadsBy is_out Next known (λ m q. read m ≡ q) r
 
 -- an object as the code names it
 abbrev pub input_of : ObjectInput → Input
@@ -57,43 +55,47 @@ FeedsObject known i old new r =
     (modules : List Module) → IsFed old modules
     → Leads is_link_outside (λ u o. IsFed new (modules ++ module_of i.name o ∷ [])) known (λ m. added_in old.script modules m i) r
 
+-- modules were fed: the files give them and those before
+abbrev pub FeedsBy : Option Files → (Files → List Module → Result (List Module) Refusal → Type 0) → Feeding → Feeding → Result (Unit {0}) Refusal → Type 0
+FeedsBy known Reads old new r = (before : List Module) → IsFed old before → LeadsBy is_outside (λ u modules. IsFed new modules) known (λ m. Reads m before) r
+
 -- the object that takes a whole file was fed, the input at a place of the line
 abbrev pub FeedsFile : Option Files → ℕ → List ℕ → Feeding → Feeding → Result (Unit {0}) Refusal → Type 0
-FeedsFile known k name old new r =
-    (before : List Module) → IsFed old before
-    → Leads is_outside (λ u modules. IsFed new modules) known (λ m. with_file old.script m k before name) r
+FeedsFile known k name old new r = FeedsBy known (λ m before q. with_file old.script m k before name ≡ q) old new r
 
 -- members of a library were fed, in order
 abbrev pub FeedsMembers : Option Files → List ℕ → List Entry → Feeding → Feeding → Result (Unit {0}) Refusal → Type 0
-FeedsMembers known library es old new r =
-    (before : List Module) → IsFed old before
-    → Leads is_outside (λ u modules. IsFed new modules) known (λ m. with_members old.script m library before es) r
+FeedsMembers known library es old new r = FeedsBy known (λ m before q. with_members old.script m library before es ≡ q) old new r
 
 -- the places of an index at which the members stand that are needed
 abbrev pub AreChosen : List Entry → List ℕ → Feeding → Type 0
 AreChosen es places f =
     (before : List Module) → IsFed f before → IsSelection es (open_names f.script (program_of before)) (given_names f.script (program_of before)) places
 
--- the members of a library that are needed were chosen
-abbrev pub Chooses : Option Files → ℕ → List ℕ → Feeding → Result Choice Refusal → Type 0
-Chooses known k library f (Ok c) = IfSome known (λ m. index_in m library ≡ Ok c.index.entries) × AreChosen c.index.entries c.places.items f
-Chooses known k library f (Err e) =
-    (before : List Module) → IsFed f before → IfSome known (λ m. Refuses is_outside e (as_library k (index_in m library)))
-
 -- the needed members of a library were fed
 abbrev pub FeedsLibrary : Option Files → ℕ → List ℕ → Feeding → Feeding → Result (Unit {0}) Refusal → Type 0
-FeedsLibrary known k library old new r =
-    (before : List Module) → IsFed old before
-    → LeadsBy is_outside (λ u modules. IsFed new modules) known (λ m. IsLibraryInput old.script m k before library) r
+FeedsLibrary known k library old new r = FeedsBy known (λ m before. IsLibraryInput old.script m k before library) old new r
 
 -- an input was fed
 abbrev pub FeedsInput : Option Files → ℕ → List ℕ → Feeding → Feeding → Result (Unit {0}) Refusal → Type 0
-FeedsInput known k name old new r =
-    (before : List Module) → IsFed old before
-    → LeadsBy is_outside (λ u modules. IsFed new modules) known (λ m. IsInput old.script m k before name) r
+FeedsInput known k name old new r = FeedsBy known (λ m before. IsInput old.script m k before name) old new r
 
 -- inputs were fed, in order
 abbrev pub FeedsInputs : Option Files → List (List ℕ) → Feeding → Feeding → Result (Unit {0}) Refusal → Type 0
-FeedsInputs known names old new r =
-    (before : List Module) → IsFed old before
-    → LeadsBy is_outside (λ u modules. IsFed new modules) known (λ m. AreInputs old.script m 0 before names) r
+FeedsInputs known names old new r = FeedsBy known (λ m before. AreInputs old.script m 0 before names) old new r
+
+-- ---- What a call leaves of a store, and of a linker that it feeds.
+
+-- of a store its files as before, and its count of failures, each passed on; and what a refusal names
+pub record LeavesBy {X T : Type 0} (files_of : X → Option Files) (failures_of : X → ℕ) (blamed_of : X → Option (List ℕ)) (Names : Option (List ℕ) → Refusal → Type 0) (old new : X) (result : Result T Refusal) : Type 0 where
+  pub files : files_of new ≡ files_of old
+  pub count : PassesBy is_failure (failures_of old) (failures_of new) result
+  pub named : IfErr result (Names (blamed_of new))
+
+-- the same where the linker stands for modules; of a linker its script and output, and no open module where it answered
+pub record LeavesFed {X : Type 0} (files_of : X → Option Files) (failures_of : X → ℕ) (blamed_of : X → Option (List ℕ)) (Names : Option (List ℕ) → Refusal → Type 0) (old new : X) (before after : Feeding) (result : Result (Unit {0}) Refusal) : Type 0 where
+  pub opened : OnOk result (is_open after ≡ false)
+  pub keeps : Keeps before after
+  pub files : files_of new ≡ files_of old
+  pub count : (modules : List Module) → IsFed before modules → PassesBy is_failure (failures_of old) (failures_of new) result
+  pub named : (modules : List Module) → IsFed before modules → IfErr result (Names (blamed_of new))

@@ -1,8 +1,6 @@
 -- Tables and sections in the making, from which the object of a module's contents is built.
 use Rattle.std.specs.Prelude.{◌≡◌, ℕ, ◌+◌, nat_eq, List, [], ◌∷◌, ◌++◌, map, filter_map, Option, Some, None, slice_get, if◌then◌else◌}
 use Rattle.std.specs.List.{AllByRecursion, flat_map}
-use Rattle.std.specs.Str.{bytes_eq}
-use Rattle.indexmap.specs.IndexMap.{get_by}
 use Rattle.syntax65.specs.declared.place.Place.{Place}
 use Rattle.object65.specs.declared.object.Assert.{Assert}
 use Rattle.object65.specs.declared.object.Export.{Export}
@@ -15,17 +13,17 @@ use Rattle.object65.specs.declared.object.Section.{Section}
 use Rattle.object65.specs.Objects.{FitsBits, FragmentFits, OriginFits}
 use Rattle.language65.specs.declared.contents.Declaration.{Declaration}
 use Rattle.language65.specs.declared.contents.Segment.{Segment}
-use Rattle.language65.specs.Numbering.{assert_of, exports_among, is_empty, key_of, name_of, numbered, segment_name, segment_power}
+use Rattle.language65.specs.Numbering.{assert_of, exports_among, is_empty, name_of, numbered, segment_name, segment_power}
 use Rattle.language65.specs.Views.{place_in, said_at}
 use Rattle.sections65.specs.declared.entries.Entry.{Entry}
 use Rattle.sections65.specs.declared.entries.Entry.TheVariants.{Bytes, Room, Value, Told}
 use Rattle.sections65.specs.Fed.{origin_by}
 use Rattle.sections65.specs.declared.numbering.drafts.Draft.{Draft}
-use Rattle.sections65.specs.declared.numbering.exports.Exports.{Exports}
+use Rattle.sections65.specs.declared.numbering.exports.Declared.{Declared}
 
 -- the names are those of the exports
-abbrev pub AreNamed : Exports → Type 0
-AreNamed t = map (λ k. k.now) t.names.keys ≡ map (λ e. e.name) t.all
+abbrev pub AreNamed : Declared → Type 0
+AreNamed t = map (λ k. k.now) t.names.keys ≡ map (λ e. e.name) t.exports
 
 -- ---- Sections in the making.
 
@@ -126,6 +124,10 @@ ExportFits e = OriginFits e.origin × FitsBits e.form
 
 abbrev pub AssertFits : Assert → Type 0
 AssertFits a = OriginFits a.origin × FitsBits a.form
+
+pub record DeclaredFits (t : Declared) : Type 0 where
+  pub exports : AllByRecursion ExportFits t.exports
+  pub asserts : AllByRecursion AssertFits t.asserts
 
 -- ---- The object before its files have their order.
 

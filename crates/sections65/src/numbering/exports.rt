@@ -2,7 +2,7 @@
 
 ghost use Rattle.std.specs.Prelude.{◌≡◌, ◌++◌, ◌∷◌, [], IfOk, OnOk};
 ghost use Rattle.std.specs.List.{AllByRecursion, flat_map};
-ghost use Rattle.sections65.specs.Inner.Drafts.{asserts_at, AreNamed, AssertFits, entry_asserts, exports_at, ExportFits, exports_from};
+ghost use Rattle.sections65.specs.Inner.Drafts.{asserts_at, AreNamed, AssertFits, DeclaredFits, entry_asserts, exports_at, ExportFits, exports_from};
 
 use super::keys::{Numbers, numbered};
 use crate::entries::Entry;
@@ -12,181 +12,98 @@ use language65::Declaration;
 use object65::{Assert, Export, Origin};
 use std::alloc::{AllocError, Global};
 
-/// Exports, with the names by which a second one is found.
+/// Exports, with the names by which a second one is found, and assertions.
 #[derive(Drop)]
-pub struct Exports<'a> {
-    pub all: Sequence<Export>,
+pub struct Declared<'a> {
+    pub exports: Sequence<Export>,
     pub names: IndexSet<&'a [u8], Seed>,
+    pub asserts: Sequence<Assert>,
 }
 
-/// Adds the assertion that a statement makes at this origin, if it makes one.
-fn add_assert(
+/// Adds an export of this origin, unless its name is there, or an assertion.
+fn add_saying<'a>(
     alloc: Global,
     numbers: &Numbers,
-    asserts: &mut Sequence<Assert>,
-    origin: Origin,
-    said: &Declaration,
-) -> Result<(), AllocError>
-    ensures added { OnOk result (asserts.new ≡ asserts.old ++ asserts_at numbers.now.sections.keys
-        numbers.now.imports.keys origin (said.now ∷ [])) }
-    ensures fits { OnOk result (AllByRecursion AssertFits asserts.old →
-        AllByRecursion AssertFits asserts.new) }
-{
-    if let Declaration::Asserted { action, text, form } = said {
-        asserts.push(Assert {
-            action: *action,
-            origin,
-            text: Sequence::copy_of(alloc, text.as_slice())?,
-            form: numbered(alloc, numbers, form)?,
-        })?;
-    }
-    Ok(())
-}
-
-/// Adds the assertions that a statement makes at this origin.
-fn add_asserts(
-    alloc: Global,
-    numbers: &Numbers,
-    asserts: &mut Sequence<Assert>,
-    origin: Origin,
-    said: &[Declaration],
-) -> Result<(), AllocError>
-    ensures added { OnOk result (asserts.new ≡ asserts.old ++ asserts_at numbers.now.sections.keys
-        numbers.now.imports.keys origin said.now) }
-    ensures fits { OnOk result (AllByRecursion AssertFits asserts.old →
-        AllByRecursion AssertFits asserts.new) }
-{
-    for saying in said {
-        add_assert(alloc, numbers, asserts, origin, saying)?;
-    }
-    Ok(())
-}
-
-/// Adds the assertions of an entry.
-fn add_entry_asserts(
-    alloc: Global,
-    numbers: &Numbers,
-    asserts: &mut Sequence<Assert>,
-    entry: &Entry,
-) -> Result<(), AllocError>
-    ensures added { OnOk result (asserts.new ≡ asserts.old ++ entry_asserts numbers.now.sections.keys
-        numbers.now.imports.keys entry.now) }
-    ensures fits { OnOk result (AllByRecursion AssertFits asserts.old →
-        AllByRecursion AssertFits asserts.new) }
-{
-    match entry {
-        Entry::Told { pos, said } => {
-            add_asserts(alloc, numbers, asserts, pos.origin(), said.as_slice())
-        }
-        Entry::Bytes { .. } | Entry::Room { .. } | Entry::Value { .. } | Entry::Open => Ok(()),
-    }
-}
-
-/// The assertions of a module.
-pub fn asserts_of(
-    alloc: Global,
-    numbers: &Numbers,
-    entries: &[Entry],
-) -> Result<Sequence<Assert>, AllocError>
-    ensures asserts { IfOk result (λ asserts. asserts ≡ flat_map (entry_asserts
-        numbers.now.sections.keys numbers.now.imports.keys) entries.now) }
-    ensures fits { IfOk result (λ asserts. AllByRecursion AssertFits asserts) }
-{
-    let mut asserts = Sequence::new(alloc);
-    for entry in entries {
-        add_entry_asserts(alloc, numbers, &mut asserts, entry)?;
-    }
-    Ok(asserts)
-}
-
-/// Adds an export of this origin, unless its name is there.
-fn add_export<'a>(
-    alloc: Global,
-    numbers: &Numbers,
-    exports: &mut Exports<'a>,
+    declared: &mut Declared<'a>,
     origin: Origin,
     said: &'a Declaration,
 ) -> Result<(), AllocError>
-    requires { AreNamed exports.old }
-    ensures added { OnOk result (exports.new.all ≡ exports_at numbers.now.sections.keys
-        numbers.now.imports.keys origin exports.old.all (said.entry.now ∷ [])) }
-    ensures fits { OnOk result (AllByRecursion ExportFits exports.old.all →
-        AllByRecursion ExportFits exports.new.all) }
-    ensures named { OnOk result (AreNamed exports.new) }
+    requires { AreNamed declared.old }
+    ensures exports { OnOk result (declared.new.exports ≡ exports_at numbers.now.sections.keys
+        numbers.now.imports.keys origin declared.old.exports (said.entry.now ∷ [])) }
+    ensures asserts { OnOk result (declared.new.asserts ≡ declared.old.asserts ++ asserts_at
+        numbers.now.sections.keys numbers.now.imports.keys origin (said.entry.now ∷ [])) }
+    ensures fits { OnOk result (DeclaredFits declared.old → DeclaredFits declared.new) }
+    ensures named { OnOk result (AreNamed declared.new) }
 {
-    if let Declaration::Exported { name, form } = said {
-        if exports.names.insert(name.as_slice())? {
-            exports.all.push(Export {
-                name: Sequence::copy_of(alloc, name.as_slice())?,
-                origin,
-                form: numbered(alloc, numbers, form)?,
-            })?;
+    match said {
+        Declaration::Exported { name, form } => {
+            if declared.names.insert(name.as_slice())? {
+                declared.exports.push(Export {
+                    name: Sequence::copy_of(alloc, name.as_slice())?,
+                    origin,
+                    form: numbered(alloc, numbers, form)?,
+                })?;
+            }
+            Ok(())
         }
+        Declaration::Asserted { action, text, form } => {
+            declared.asserts.push(Assert {
+                action: *action,
+                origin,
+                text: Sequence::copy_of(alloc, text.as_slice())?,
+                form: numbered(alloc, numbers, form)?,
+            })
+        }
+        Declaration::ForcedImport(_) => Ok(()),
     }
-    Ok(())
 }
 
-/// Adds the exports of a statement, of this origin.
-fn add_exports<'a>(
+/// Adds the exports and assertions of an entry.
+fn add_entry<'a>(
     alloc: Global,
     numbers: &Numbers,
-    exports: &mut Exports<'a>,
-    origin: Origin,
-    said: &'a [Declaration],
-) -> Result<(), AllocError>
-    requires { AreNamed exports.old }
-    ensures added { OnOk result (exports.new.all ≡ exports_at numbers.now.sections.keys
-        numbers.now.imports.keys origin exports.old.all said.entry.now) }
-    ensures fits { OnOk result (AllByRecursion ExportFits exports.old.all →
-        AllByRecursion ExportFits exports.new.all) }
-    ensures named { OnOk result (AreNamed exports.new) }
-{
-    for saying in said {
-        add_export(alloc, numbers, exports, origin, saying)?;
-    }
-    Ok(())
-}
-
-/// Adds the exports of an entry.
-fn add_entry_exports<'a>(
-    alloc: Global,
-    numbers: &Numbers,
-    exports: &mut Exports<'a>,
+    declared: &mut Declared<'a>,
     entry: &'a Entry,
 ) -> Result<(), AllocError>
-    requires { AreNamed exports.old }
-    ensures added { OnOk result (exports.new.all ≡ exports_from numbers.now.sections.keys
-        numbers.now.imports.keys exports.old.all (entry.entry.now ∷ [])) }
-    ensures fits { OnOk result (AllByRecursion ExportFits exports.old.all →
-        AllByRecursion ExportFits exports.new.all) }
-    ensures named { OnOk result (AreNamed exports.new) }
+    requires { AreNamed declared.old }
+    ensures exports { OnOk result (declared.new.exports ≡ exports_from numbers.now.sections.keys
+        numbers.now.imports.keys declared.old.exports (entry.entry.now ∷ [])) }
+    ensures asserts { OnOk result (declared.new.asserts ≡ declared.old.asserts ++ entry_asserts
+        numbers.now.sections.keys numbers.now.imports.keys entry.entry.now) }
+    ensures fits { OnOk result (DeclaredFits declared.old → DeclaredFits declared.new) }
+    ensures named { OnOk result (AreNamed declared.new) }
 {
-    match entry {
-        Entry::Told { pos, said } => {
-            add_exports(alloc, numbers, exports, pos.origin(), said.as_slice())
-        }
-        Entry::Bytes { .. } | Entry::Room { .. } | Entry::Value { .. } | Entry::Open => Ok(()),
+    let Entry::Told { pos, said } = entry else {
+        return Ok(());
+    };
+    for saying in said.as_slice() {
+        add_saying(alloc, numbers, declared, pos.origin(), saying)?;
     }
+    Ok(())
 }
 
-/// The exports of a module.
-pub fn exports_of(
+/// The exports and the assertions of a module.
+pub fn declared_by(
     alloc: Global,
     seed: Seed,
     numbers: &Numbers,
     entries: &[Entry],
-) -> Result<Sequence<Export>, AllocError>
-    ensures exports { IfOk result (λ exports. exports ≡ exports_from numbers.now.sections.keys
+) -> Result<(Sequence<Export>, Sequence<Assert>), AllocError>
+    ensures exports { IfOk result (λ made. made.0 ≡ exports_from numbers.now.sections.keys
         numbers.now.imports.keys [] entries.now) }
-    ensures fits { IfOk result (λ exports. AllByRecursion ExportFits exports) }
+    ensures asserts { IfOk result (λ made. made.1 ≡ flat_map (entry_asserts
+        numbers.now.sections.keys numbers.now.imports.keys) entries.now) }
+    ensures exports_fit { IfOk result (λ made. AllByRecursion ExportFits made.0) }
+    ensures asserts_fit { IfOk result (λ made. AllByRecursion AssertFits made.1) }
 {
-    let mut exports = Exports {
-        all: Sequence::new(alloc),
+    let mut declared = Declared {
+        exports: Sequence::new(alloc),
         names: IndexSet::with_hasher(alloc, seed),
+        asserts: Sequence::new(alloc),
     };
     for entry in entries {
-        add_entry_exports(alloc, numbers, &mut exports, entry)?;
+        add_entry(alloc, numbers, &mut declared, entry)?;
     }
-    let Exports { all, names: _ } = exports;
-    Ok(all)
+    Ok((declared.exports, declared.asserts))
 }

@@ -19,16 +19,6 @@ use std::alloc::{AllocError, Global};
 /// The names of imports, each once. The key of one is its place.
 pub type Imports = IndexSet<Vec<u8>, Seed>;
 
-/// The key of an import, if there is one of that name.
-fn key_of(imports: &Imports, name: &[u8]) -> Result<Option<u32>, AllocError>
-    ensures { IfOk result (λ key. key ≡ key_of (names_of imports.now) name.now) }
-{
-    match imports.get_index_of(name) {
-        Some(place) => Ok(Some(narrow(place)?)),
-        None => Ok(None),
-    }
-}
-
 /// The keys of sections and imports, whose places are their numbers.
 #[derive(Drop)]
 pub struct Numbers {
@@ -102,8 +92,8 @@ fn add_name(keys: &mut IndexSet<u32>, imports: &Imports, name: &[u8]) -> Result<
     ensures { OnOk result (keys.new.keys ≡ once keys.old.keys
         (optional_key (key_of (names_of imports.now) name.now))) }
 {
-    if let Some(key) = key_of(imports, name)? {
-        keys.insert(key)?;
+    if let Some(place) = imports.get_index_of(name) {
+        keys.insert(narrow(place)?)?;
     }
     Ok(())
 }
@@ -118,29 +108,11 @@ fn add_saying(
         (said_imports (names_of imports.now) (said_at anywhere said.now))) }
 {
     match said {
-        Declaration::Exported { name: _, form } => add_form(keys, form),
+        Declaration::Exported { form, .. } | Declaration::Asserted { form, .. } => {
+            add_form(keys, form)
+        }
         Declaration::ForcedImport(name) => add_name(keys, imports, name.as_slice()),
-        Declaration::Asserted {
-            action: _,
-            text: _,
-            form,
-        } => add_form(keys, form),
     }
-}
-
-/// Adds the imports of all that a statement says.
-fn add_said(
-    keys: &mut IndexSet<u32>,
-    imports: &Imports,
-    said: &[Declaration],
-) -> Result<(), AllocError>
-    ensures { OnOk result (keys.new.keys ≡ once keys.old.keys
-        (flat_map (said_imports (names_of imports.now)) (map (said_at anywhere) said.now))) }
-{
-    for saying in said {
-        add_saying(keys, imports, saying)?;
-    }
-    Ok(())
 }
 
 /// Adds the imports of an entry.
@@ -150,7 +122,12 @@ fn add_entry(keys: &mut IndexSet<u32>, imports: &Imports, entry: &Entry) -> Resu
 {
     match entry {
         Entry::Value { form, .. } => add_form(keys, form),
-        Entry::Told { pos: _, said } => add_said(keys, imports, said.as_slice()),
+        Entry::Told { pos: _, said } => {
+            for saying in said.as_slice() {
+                add_saying(keys, imports, saying)?;
+            }
+            Ok(())
+        }
         Entry::Bytes { .. } | Entry::Room { .. } | Entry::Open => Ok(()),
     }
 }

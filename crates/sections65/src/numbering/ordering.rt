@@ -10,7 +10,7 @@ ghost use Rattle.sections65.specs.Inner.Ordering.{assert_by, assert_key, export_
 ghost use Rattle.sections65.specs.Fed.{names_in};
 
 use super::keys::{narrow, number_of};
-use crate::sections::Files;
+use crate::files::Files;
 use base65::Sequence;
 use indexmap::IndexSet;
 use object65::{Assert, Export, Fragment, Object, Origin, Section};
@@ -52,12 +52,7 @@ fn name_fragments(order: &mut Order, fragments: &[Fragment]) -> Result<(), Alloc
     ensures last { OnOk result (HasLast order.new) }
 {
     for fragment in fragments {
-        if let Fragment::Value {
-            width: _,
-            origin,
-            form: _,
-        } = fragment
-        {
+        if let Fragment::Value { origin, .. } = fragment {
             name_file(order, *origin)?;
         }
     }
@@ -152,20 +147,16 @@ fn reorder_fragment(order: &IndexSet<u32>, fragment: Fragment) -> Result<Fragmen
     ensures fits { FragmentFits fragment → IfOk result FragmentFits }
 {
     match fragment {
-        Fragment::Literal(bytes) => Ok(Fragment::Literal(bytes)),
-        Fragment::Fill(count) => Ok(Fragment::Fill(count)),
         Fragment::Value {
             width,
             origin,
             form,
-        } => {
-            let origin = reordered(order, origin)?;
-            Ok(Fragment::Value {
-                width,
-                origin,
-                form,
-            })
-        }
+        } => Ok(Fragment::Value {
+            width,
+            origin: reordered(order, origin)?,
+            form,
+        }),
+        known => Ok(known),
     }
 }
 
@@ -266,29 +257,6 @@ fn file_names(
     Ok(names)
 }
 
-/// The parts of an object by an order of files.
-fn reorder(alloc: Global, order: &IndexSet<u32>, object: Object) -> Result<Object, AllocError>
-    ensures object { IfOk result (λ o. o ≡ parts_by order.now.keys object) }
-    ensures fits { ObjectFits object → IfOk result ObjectFits }
-{
-    let Object {
-        version,
-        files,
-        imports,
-        sections,
-        exports,
-        asserts,
-    } = object;
-    Ok(Object {
-        version,
-        files,
-        imports,
-        sections: reorder_sections(alloc, order, sections)?,
-        exports: reorder_exports(alloc, order, exports)?,
-        asserts: reorder_asserts(alloc, order, asserts)?,
-    })
-}
-
 /// An object with the files that it names, in its order, where its origins name them by their places in the table.
 pub fn in_order(alloc: Global, files: &Files, object: Object) -> Result<Object, AllocError>
     ensures object { IfOk result (λ o. o ≡ in_order (names_in files.now) object) }
@@ -302,5 +270,10 @@ pub fn in_order(alloc: Global, files: &Files, object: Object) -> Result<Object, 
     if is_same(order.as_slice()) {
         return Ok(object);
     }
-    reorder(alloc, &order, object)
+    Ok(Object {
+        sections: reorder_sections(alloc, &order, object.sections)?,
+        exports: reorder_exports(alloc, &order, object.exports)?,
+        asserts: reorder_asserts(alloc, &order, object.asserts)?,
+        ..object
+    })
 }

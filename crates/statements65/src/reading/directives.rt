@@ -1,11 +1,10 @@
 //! What stands behind a directive: lists, amounts and messages.
 
-ghost use Rattle.std.specs.Prelude.{◌≡◌, ◌<◌, ◌∷◌, [], false, length, map, option_map, take, IfErr, IfOk, IfSome, None, Ok};
+ghost use Rattle.std.specs.Prelude.{◌≡◌, ◌<◌, ◌∷◌, [], false, length, map, option_map, take, IfOk, IfSome, None, Ok};
 ghost use Rattle.syntax65.specs.Tokens.{lexemes};
-ghost use Rattle.language65.specs.Faults.{is_failure};
 ghost use Rattle.language65.specs.Items.{numbered};
 ghost use Rattle.statements65.specs.declared.reading.words.Elements.{Elements};
-ghost use Rattle.statements65.specs.Parsing.{parts_behind, parts_of, string_of, EachIs, IsItem, IsValue, Parses, ended, names_statement, IsList, IsName, IsNames, amount_statement, IsAmount, IsFilePart, IsRange, action_of, action_word, asserted, own_words, words_of, IsAssertion, alone, lone_statement, processor_of, told};
+ghost use Rattle.statements65.specs.Parsing.{parts_behind, parts_of, string_of, EachIs, IsItem, IsValue, Parses, ended, IsList, IsName, IsNames, amount_statement, IsAmount, IsFilePart, IsRange, action_of, action_word, asserted, own_words, words_of, IsAssertion, alone, lone_statement, processor_of, told};
 ghost use Rattle.language65.specs.declared.language.Statement.TheVariants.{Segment};
 
 use super::operands::{expression, first_part, number_in, one_or_two};
@@ -15,12 +14,11 @@ use base65::Sequence;
 use language65::{AsmFault, Item, Items, ItemsKind, OptionalExpr, Statement};
 use object65::{Action, Width};
 use std::alloc::{AllocError, Global};
-use syntax65::{Expr, Token};
+use syntax65::Token;
 
 /// An element of a list.
 fn item(alloc: Global, elements: Elements, tokens: &[Token<'_>]) -> Result<Item, AsmFault>
-    ensures value { Parses result (IsItem elements (lexemes tokens.now)) }
-    ensures inside { IfErr result (λ e. is_failure e ≡ false) }
+    ensures { Parses result (IsItem elements (lexemes tokens.now)) }
 {
     match elements {
         Elements::Values => Ok(Item::Value(expression(alloc, tokens)?)),
@@ -84,8 +82,7 @@ fn mixed(
     elements: Elements,
     tokens: &[Token<'_>],
 ) -> Result<Sequence<Item>, AsmFault>
-    ensures value { Parses result (EachIs (IsItem elements) (parts_of (lexemes tokens.now))) }
-    ensures inside { IfErr result (λ e. is_failure e ≡ false) }
+    ensures { Parses result (EachIs (IsItem elements) (parts_of (lexemes tokens.now))) }
 {
     let mut items = no_elements(alloc, tokens.len())?;
     let mut rest = Some(tokens);
@@ -99,8 +96,7 @@ fn mixed(
 
 /// The elements of a list, with a comma between each two.
 pub fn items(alloc: Global, elements: Elements, tokens: &[Token<'_>]) -> Result<Items, AsmFault>
-    ensures value { Parses result (EachIs (IsItem elements) (parts_of (lexemes tokens.now))) }
-    ensures inside { IfErr result (λ e. is_failure e ≡ false) }
+    ensures { Parses result (EachIs (IsItem elements) (parts_of (lexemes tokens.now))) }
 {
     if let Some(numbers) = numbers(alloc, tokens)? {
         return Ok(Items::new(ItemsKind::Numbers(numbers)));
@@ -116,8 +112,7 @@ pub fn list(
     width: Width,
     tokens: &[Token<'_>],
 ) -> Result<Statement, AsmFault>
-    ensures value { Parses result (IsList elements width (lexemes tokens.now)) }
-    ensures inside { IfErr result (λ e. is_failure e ≡ false) }
+    ensures { Parses result (IsList elements width (lexemes tokens.now)) }
 {
     let items = items(alloc, elements, tokens)?;
     Ok(Statement::Values { width, items })
@@ -125,8 +120,7 @@ pub fn list(
 
 /// `.asciiz`: a string and a 0.
 pub fn ended_text(alloc: Global, tokens: &[Token<'_>]) -> Result<Statement, AsmFault>
-    ensures value { Parses result (λ r. r ≡ ended (lexemes tokens.now)) }
-    ensures inside { IfErr result (λ e. is_failure e ≡ false) }
+    ensures { Parses result (λ r. r ≡ ended (lexemes tokens.now)) }
 {
     let text = needed(string_of(tokens))?;
     let mut bytes = Sequence::new(alloc);
@@ -142,8 +136,7 @@ pub fn ended_text(alloc: Global, tokens: &[Token<'_>]) -> Result<Statement, AsmF
 
 /// Names, with a comma between each two.
 fn names(alloc: Global, tokens: &[Token<'_>]) -> Result<Sequence<Sequence<u8>>, AsmFault>
-    ensures value { Parses result (EachIs IsName (parts_of (lexemes tokens.now))) }
-    ensures inside { IfErr result (λ e. is_failure e ≡ false) }
+    ensures { Parses result (EachIs IsName (parts_of (lexemes tokens.now))) }
 {
     let mut names = Sequence::new(alloc);
     let mut rest = Some(tokens);
@@ -155,24 +148,17 @@ fn names(alloc: Global, tokens: &[Token<'_>]) -> Result<Sequence<Sequence<u8>>, 
     Ok(names)
 }
 
-fn names_statement(which: Names, names: Sequence<Sequence<u8>>) -> Statement
-    ensures { result ≡ names_statement which names }
+/// `.import` and the like.
+pub fn name_list(alloc: Global, which: Names, tokens: &[Token<'_>]) -> Result<Statement, AsmFault>
+    ensures { Parses result (IsNames which (lexemes tokens.now)) }
 {
-    match which {
+    let names = names(alloc, tokens)?;
+    Ok(match which {
         Names::Import(size) => Statement::Import { size, names },
         Names::Export => Statement::Export(names),
         Names::Global(size) => Statement::Global { size, names },
         Names::ForceImport => Statement::ForceImport(names),
-    }
-}
-
-/// `.import` and the like.
-pub fn name_list(alloc: Global, which: Names, tokens: &[Token<'_>]) -> Result<Statement, AsmFault>
-    ensures value { Parses result (IsNames which (lexemes tokens.now)) }
-    ensures inside { IfErr result (λ e. is_failure e ≡ false) }
-{
-    let names = names(alloc, tokens)?;
-    Ok(names_statement(which, names))
+    })
 }
 
 /// A start and a length, each where it is there.
@@ -180,8 +166,7 @@ type PartRange = (OptionalExpr, OptionalExpr);
 
 /// What stands behind a file's name.
 fn range(alloc: Global, behind: Option<&[Token<'_>]>) -> Result<PartRange, AsmFault>
-    ensures value { Parses result (IsRange (parts_behind (option_map (λ rest. lexemes rest.now) behind.entry))) }
-    ensures inside { IfErr result (λ e. is_failure e ≡ false) }
+    ensures { Parses result (IsRange (parts_behind (option_map (λ rest. lexemes rest.now) behind.entry))) }
 {
     let Some(behind) = behind else {
         return Ok((OptionalExpr::none(), OptionalExpr::none()));
@@ -192,8 +177,7 @@ fn range(alloc: Global, behind: Option<&[Token<'_>]>) -> Result<PartRange, AsmFa
 
 /// `.incbin`
 pub fn file_part(alloc: Global, tokens: &[Token<'_>]) -> Result<Statement, AsmFault>
-    ensures value { Parses result (IsFilePart (parts_of (lexemes tokens.now))) }
-    ensures inside { IfErr result (λ e. is_failure e ≡ false) }
+    ensures { Parses result (IsFilePart (parts_of (lexemes tokens.now))) }
 {
     let (name, behind) = first_part(tokens);
     let name = needed(string_of(name))?;
@@ -202,25 +186,21 @@ pub fn file_part(alloc: Global, tokens: &[Token<'_>]) -> Result<Statement, AsmFa
     Ok(Statement::NamedPart { name, start, len })
 }
 
-fn amount_statement(which: Amount, count: Expr, value: OptionalExpr) -> Statement
-    ensures { result ≡ amount_statement which count value }
-{
-    match which {
-        Amount::Reserve => Statement::Reserve { count, value },
-        Amount::Align => Statement::Align {
-            multiple: count,
-            value,
-        },
-    }
-}
-
 /// `n[,v]`
 pub fn amount(alloc: Global, which: Amount, tokens: &[Token<'_>]) -> Result<Statement, AsmFault>
-    ensures value { Parses result (IsAmount (amount_statement which) (parts_of (lexemes tokens.now))) }
-    ensures inside { IfErr result (λ e. is_failure e ≡ false) }
+    ensures { Parses result (IsAmount (amount_statement which) (parts_of (lexemes tokens.now))) }
 {
-    let (count, value) = one_or_two(alloc, tokens)?;
-    Ok(amount_statement(which, count, value))
+    let (amount, value) = one_or_two(alloc, tokens)?;
+    Ok(match which {
+        Amount::Reserve => Statement::Reserve {
+            count: amount,
+            value,
+        },
+        Amount::Align => Statement::Align {
+            multiple: amount,
+            value,
+        },
+    })
 }
 
 /// How many bytes the text of an assertion has at most.
@@ -240,8 +220,7 @@ fn action_word(word: &[u8]) -> Result<Action, AsmFault>
 
 /// An assertion's own text.
 fn own_text(alloc: Global, tokens: &[Token<'_>]) -> Result<Sequence<u8>, AsmFault>
-    ensures value { Parses result (λ r. r ≡ own_words (lexemes tokens.now)) }
-    ensures inside { IfErr result (λ e. is_failure e ≡ false) }
+    ensures { Parses result (λ r. r ≡ own_words (lexemes tokens.now)) }
 {
     let text = needed(string_of(tokens))?;
     if text.len() > MAX_TEXT {
@@ -252,8 +231,7 @@ fn own_text(alloc: Global, tokens: &[Token<'_>]) -> Result<Sequence<u8>, AsmFaul
 
 /// An assertion's text, if it has one of its own.
 fn text_of(alloc: Global, rest: Option<&[Token<'_>]>) -> Result<Sequence<u8>, AsmFault>
-    ensures value { Parses result (λ r. r ≡ words_of (parts_behind (option_map (λ rest. lexemes rest.now) rest.entry))) }
-    ensures inside { IfErr result (λ e. is_failure e ≡ false) }
+    ensures { Parses result (λ r. r ≡ words_of (parts_behind (option_map (λ rest. lexemes rest.now) rest.entry))) }
 {
     let Some(rest) = rest else {
         return Ok(Sequence::copy_of(alloc, b"assertion failed")?);
@@ -267,8 +245,7 @@ fn text_of(alloc: Global, rest: Option<&[Token<'_>]>) -> Result<Sequence<u8>, As
 
 /// `.assert`
 pub fn assertion(alloc: Global, tokens: &[Token<'_>]) -> Result<Statement, AsmFault>
-    ensures value { Parses result (IsAssertion (parts_of (lexemes tokens.now))) }
-    ensures inside { IfErr result (λ e. is_failure e ≡ false) }
+    ensures { Parses result (IsAssertion (parts_of (lexemes tokens.now))) }
 {
     let (value, behind) = first_part(tokens);
     let Some(behind) = behind else {
@@ -286,8 +263,7 @@ pub fn assertion(alloc: Global, tokens: &[Token<'_>]) -> Result<Statement, AsmFa
 }
 
 fn standard_segment(alloc: Global, name: &[u8]) -> Result<Statement, AsmFault>
-    ensures value { Parses result (λ r. r ≡ Ok (Segment name.now None)) }
-    ensures inside { IfErr result (λ e. is_failure e ≡ false) }
+    ensures { Parses result (λ r. r ≡ Ok (Segment name.now None)) }
 {
     Ok(Statement::Segment {
         name: Sequence::copy_of(alloc, name)?,
@@ -296,8 +272,7 @@ fn standard_segment(alloc: Global, name: &[u8]) -> Result<Statement, AsmFault>
 }
 
 fn lone_statement(alloc: Global, which: Lone) -> Result<Statement, AsmFault>
-    ensures value { Parses result (λ r. r ≡ Ok (lone_statement which)) }
-    ensures inside { IfErr result (λ e. is_failure e ≡ false) }
+    ensures { Parses result (λ r. r ≡ Ok (lone_statement which)) }
 {
     match which {
         Lone::PushSegment => Ok(Statement::PushSegment),
@@ -315,8 +290,7 @@ fn lone_statement(alloc: Global, which: Lone) -> Result<Statement, AsmFault>
 
 /// A statement without operands.
 pub fn lone(alloc: Global, which: Lone, tokens: &[Token<'_>]) -> Result<Statement, AsmFault>
-    ensures value { Parses result (λ r. r ≡ alone (lone_statement which) (lexemes tokens.now)) }
-    ensures inside { IfErr result (λ e. is_failure e ≡ false) }
+    ensures { Parses result (λ r. r ≡ alone (lone_statement which) (lexemes tokens.now)) }
 {
     if tokens.is_empty() {
         lone_statement(alloc, which)
@@ -327,8 +301,7 @@ pub fn lone(alloc: Global, which: Lone, tokens: &[Token<'_>]) -> Result<Statemen
 
 /// `.out` and `.warning`
 pub fn message(alloc: Global, which: Message, tokens: &[Token<'_>]) -> Result<Statement, AsmFault>
-    ensures value { Parses result (λ r. r ≡ told which (lexemes tokens.now)) }
-    ensures inside { IfErr result (λ e. is_failure e ≡ false) }
+    ensures { Parses result (λ r. r ≡ told which (lexemes tokens.now)) }
 {
     let text = Sequence::copy_of(alloc, needed(string_of(tokens))?)?;
     Ok(match which {
@@ -339,8 +312,7 @@ pub fn message(alloc: Global, which: Message, tokens: &[Token<'_>]) -> Result<St
 
 /// `.setcpu`
 pub fn processor(tokens: &[Token<'_>]) -> Result<Statement, AsmFault>
-    ensures value { Parses result (λ r. r ≡ processor_of (lexemes tokens.now)) }
-    ensures inside { IfErr result (λ e. is_failure e ≡ false) }
+    ensures { Parses result (λ r. r ≡ processor_of (lexemes tokens.now)) }
 {
     if needed(string_of(tokens))? == b"6502".as_slice() {
         Ok(Statement::Nothing)

@@ -1,6 +1,6 @@
 //! Expressions and operands.
 
-ghost use Rattle.std.specs.Prelude.{◌≡◌, ◌<◌, ◌≤◌, ◌∷◌, [], false, length, not, option_map, IfErr, IfOk, IfSome, IsTrue, None, Ok, Some};
+ghost use Rattle.std.specs.Prelude.{◌≡◌, ◌<◌, ◌≤◌, ◌∷◌, [], false, length, not, option_map, IfOk, IfSome, IsTrue, None, Ok, Some};
 ghost use Rattle.std.specs.List.{prefix_len};
 ghost use Rattle.syntax65.specs.Expressions.{IsParsed, binary_at, opening_in};
 ghost use Rattle.syntax65.specs.Faults.{is_expr_outside};
@@ -8,8 +8,7 @@ ghost use Rattle.base65.specs.Relations.{Answers};
 ghost use Rattle.syntax65.specs.Tokens.{lexeme_of, lexemes};
 ghost use Rattle.syntax65.specs.Trees.{number};
 ghost use Rattle.syntax65.specs.declared.expressions.words.Opening.TheVariants.{Number};
-ghost use Rattle.language65.specs.Faults.{is_failure, is_outside};
-ghost use Rattle.statements65.specs.Parsing.{is_comma, parts_behind, parts_of, quoted_in, IsExpression, IsFront, IsOneOrTwo, Parses, closing_of, index_of, indirect_by, IsAddress, IsImmediate, IsIndirect, IsOperand, IsOperandFrom, IsPlainOperand};
+ghost use Rattle.statements65.specs.Parsing.{is_comma, parts_behind, parts_of, quoted_in, IsExpression, IsFront, IsOneOrTwo, Parses, closing_of, index_of, indirect_by, IsAddress, IsImmediate, IsIndirect, IsOperand, IsOperandFrom, IsPlainOperand, ParsesAs};
 
 use super::tokens::{is_close, is_comma, is_spelled, spells, word_of};
 use language65::{AsmFault, Index, Operand, OptionalExpr};
@@ -67,8 +66,7 @@ fn parsed(alloc: Global, tokens: &[Token<'_>]) -> Result<(Expr, usize), ExprFaul
 
 /// An expression of all the tokens.
 pub fn expression(alloc: Global, tokens: &[Token<'_>]) -> Result<Expr, AsmFault>
-    ensures value { Parses result (IsExpression (lexemes tokens.now)) }
-    ensures inside { IfErr result (λ e. is_failure e ≡ false) }
+    ensures { Parses result (IsExpression (lexemes tokens.now)) }
 {
     let (value, count) = parsed(alloc, tokens)?;
     if count == tokens.len() {
@@ -103,8 +101,7 @@ pub fn front<'a, 'b>(
     alloc: Global,
     tokens: &'b [Token<'a>],
 ) -> Result<(Expr, &'b [Token<'a>]), AsmFault>
-    ensures value { Answers is_outside (λ x. (x.0, lexemes x.1.now)) result (IsFront (lexemes tokens.now)) }
-    ensures inside { IfErr result (λ e. is_failure e ≡ false) }
+    ensures { ParsesAs (λ x. (x.0, lexemes x.1.now)) result (IsFront (lexemes tokens.now)) }
 {
     let (value, count) = parsed(alloc, tokens)?;
     Ok((value, &tokens[count..]))
@@ -116,8 +113,7 @@ fn two(
     first: &[Token<'_>],
     second: &[Token<'_>],
 ) -> Result<(Expr, OptionalExpr), AsmFault>
-    ensures value { Parses result (IsOneOrTwo (lexemes first.now ∷ lexemes second.now ∷ [])) }
-    ensures inside { IfErr result (λ e. is_failure e ≡ false) }
+    ensures { Parses result (IsOneOrTwo (lexemes first.now ∷ lexemes second.now ∷ [])) }
 {
     let first = expression(alloc, first)?;
     let second = expression(alloc, second)?;
@@ -126,8 +122,7 @@ fn two(
 
 /// One expression or two, with a comma between them.
 pub fn one_or_two(alloc: Global, tokens: &[Token<'_>]) -> Result<(Expr, OptionalExpr), AsmFault>
-    ensures value { Parses result (IsOneOrTwo (parts_of (lexemes tokens.now))) }
-    ensures inside { IfErr result (λ e. is_failure e ≡ false) }
+    ensures { Parses result (IsOneOrTwo (parts_of (lexemes tokens.now))) }
 {
     let (first, behind) = first_part(tokens);
     let Some(behind) = behind else {
@@ -158,8 +153,7 @@ fn address(
     prefix: Option<AddressSize>,
     tokens: &[Token<'_>],
 ) -> Result<Operand, AsmFault>
-    ensures value { Parses result (IsAddress prefix (lexemes tokens.now)) }
-    ensures inside { IfErr result (λ e. is_failure e ≡ false) }
+    ensures { Parses result (IsAddress prefix (lexemes tokens.now)) }
 {
     let (value, behind) = front(alloc, tokens)?;
     let index = index_of(behind)?;
@@ -207,8 +201,7 @@ fn indirect_by(index: Option<Index>, value: Expr) -> Operand
 
 /// What stands behind a `(`.
 fn indirect(alloc: Global, tokens: &[Token<'_>]) -> Result<Operand, AsmFault>
-    ensures value { Parses result (IsIndirect (lexemes tokens.now)) }
-    ensures inside { IfErr result (λ e. is_failure e ≡ false) }
+    ensures { Parses result (IsIndirect (lexemes tokens.now)) }
 {
     let (value, behind) = front(alloc, tokens)?;
     let index = closing_of(behind)?;
@@ -217,8 +210,7 @@ fn indirect(alloc: Global, tokens: &[Token<'_>]) -> Result<Operand, AsmFault>
 
 /// `a`, or an address without a prefix.
 fn plain_operand(alloc: Global, tokens: &[Token<'_>]) -> Result<Operand, AsmFault>
-    ensures value { Parses result (IsPlainOperand (lexemes tokens.now)) }
-    ensures inside { IfErr result (λ e. is_failure e ≡ false) }
+    ensures { Parses result (IsPlainOperand (lexemes tokens.now)) }
 {
     if is_spelled(word_of(tokens), b"a") {
         Ok(Operand::Accumulator)
@@ -230,8 +222,7 @@ fn plain_operand(alloc: Global, tokens: &[Token<'_>]) -> Result<Operand, AsmFaul
 /// What stands behind a mnemonic.
 #[inline(always)]
 pub fn operand(alloc: Global, tokens: &[Token<'_>]) -> Result<Operand, AsmFault>
-    ensures value { Parses result (IsOperand (lexemes tokens.now)) }
-    ensures inside { IfErr result (λ e. is_failure e ≡ false) }
+    ensures { Parses result (IsOperand (lexemes tokens.now)) }
 {
     let Some((first, behind)) = tokens.split_first() else {
         return Ok(Operand::Absent);

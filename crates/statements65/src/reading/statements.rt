@@ -1,10 +1,8 @@
 //! Labels and statements, those of directives by their words.
 
-ghost use Rattle.std.specs.Prelude.{◌≡◌, false, IfErr, Ok, option_map, IfSome, Result, Some};
-ghost use Rattle.base65.specs.Relations.{Answers};
+ghost use Rattle.std.specs.Prelude.{◌≡◌, false, Ok, option_map, IfSome, Result, Some};
 ghost use Rattle.syntax65.specs.Tokens.{lexeme_of, lexemes};
-ghost use Rattle.language65.specs.Faults.{is_failure, is_outside};
-ghost use Rattle.statements65.specs.Parsing.{front_label, label_before, label_of, named_label, Parses, directive_of, IsDirective, IsDirectiveStatement, IsConstant, IsInstruction, IsNamed, IsStatement};
+ghost use Rattle.statements65.specs.Parsing.{front_label, label_before, label_of, named_label, Parses, directive_of, IsDirective, IsDirectiveStatement, IsConstant, IsInstruction, IsNamed, IsStatement, ParsesAs};
 ghost use Rattle.syntax65.specs.Mnemonics.{mnemonic_of};
 ghost use Rattle.language65.specs.declared.fault.AsmFault.{AsmFault};
 ghost use Rattle.language65.specs.declared.language.Statement.{Statement};
@@ -13,7 +11,7 @@ use super::directives::{
     amount, assertion, ended_text, file_part, list, lone, message, name_list, processor,
 };
 use super::operands::{expression, operand};
-use super::tokens::{defines, is_colon, proc, scope, segment};
+use super::tokens::{defines, is_colon, name_of, scope, segment};
 use super::words::{Directive, directive_of};
 use base65::Sequence;
 use language65::{AsmFault, Statement};
@@ -22,8 +20,7 @@ use syntax65::{Mnemonic, Token, TokenKind, is_reserved, mnemonic};
 
 /// The label that a token before a `:` is, if it is one.
 fn named_label(alloc: Global, token: &Token<'_>) -> Result<Option<Statement>, AsmFault>
-    ensures value { Parses result (λ r. r ≡ Ok (named_label (lexeme_of token.now).0 (lexeme_of token.now).1)) }
-    ensures inside { IfErr result (λ e. is_failure e ≡ false) }
+    ensures { Parses result (λ r. r ≡ Ok (named_label (lexeme_of token.now).0 (lexeme_of token.now).1)) }
 {
     match token.kind {
         TokenKind::Identifier => {
@@ -46,8 +43,7 @@ fn label_before<'a, 'b>(
     token: &Token<'a>,
     behind: &'b [Token<'a>],
 ) -> Result<Option<(Statement, &'b [Token<'a>])>, AsmFault>
-    ensures value { Answers is_outside (λ label. option_map (λ x. (x.0, lexemes x.1.now)) label) result (λ r. r ≡ Ok (label_before (lexeme_of token.now) (lexemes behind.now))) }
-    ensures inside { IfErr result (λ e. is_failure e ≡ false) }
+    ensures { ParsesAs (λ label. option_map (λ x. (x.0, lexemes x.1.now)) label) result (λ r. r ≡ Ok (label_before (lexeme_of token.now) (lexemes behind.now))) }
 {
     let Some((colon, rest)) = behind.split_first() else {
         return Ok(None);
@@ -66,8 +62,7 @@ pub fn label<'a, 'b>(
     alloc: Global,
     tokens: &'b [Token<'a>],
 ) -> Result<(Option<Statement>, &'b [Token<'a>]), AsmFault>
-    ensures value { Answers is_outside (λ x. (x.0, lexemes x.1.now)) result (λ r. r ≡ Ok (label_of (lexemes tokens.now))) }
-    ensures inside { IfErr result (λ e. is_failure e ≡ false) }
+    ensures { ParsesAs (λ x. (x.0, lexemes x.1.now)) result (λ r. r ≡ Ok (label_of (lexemes tokens.now))) }
 {
     let Some((first, behind)) = tokens.split_first() else {
         return Ok((None, tokens));
@@ -87,8 +82,7 @@ fn directive_statement(
     word: &[u8],
     tokens: &[Token<'_>],
 ) -> Result<Statement, AsmFault>
-    ensures value { Parses result (IsDirectiveStatement (directive_of word.now) (lexemes tokens.now)) }
-    ensures inside { IfErr result (λ e. is_failure e ≡ false) }
+    ensures { Parses result (IsDirectiveStatement (directive_of word.now) (lexemes tokens.now)) }
 {
     let Some(directive) = directive_of(word) else {
         return Err(AsmFault::NotUnderstood);
@@ -101,7 +95,7 @@ fn directive_statement(
         Directive::Segment => segment(alloc, tokens),
         Directive::Lone(which) => lone(alloc, which, tokens),
         Directive::Scope => scope(alloc, tokens),
-        Directive::Proc => proc(alloc, tokens),
+        Directive::Proc => Ok(Statement::OpenProc(name_of(alloc, tokens)?)),
         Directive::Names(which) => name_list(alloc, which, tokens),
         Directive::Assert => assertion(alloc, tokens),
         Directive::Message(which) => message(alloc, which, tokens),
@@ -111,8 +105,7 @@ fn directive_statement(
 
 /// `name = e`, by the name and what stands behind the mark.
 fn constant(alloc: Global, name: &[u8], tokens: &[Token<'_>]) -> Result<Statement, AsmFault>
-    ensures value { Parses result (IsConstant name.now (lexemes tokens.now)) }
-    ensures inside { IfErr result (λ e. is_failure e ≡ false) }
+    ensures { Parses result (IsConstant name.now (lexemes tokens.now)) }
 {
     if is_reserved(name) {
         return Err(AsmFault::NotUnderstood);
@@ -124,8 +117,7 @@ fn constant(alloc: Global, name: &[u8], tokens: &[Token<'_>]) -> Result<Statemen
 
 /// An instruction, by its name and its operand.
 fn instruction(alloc: Global, name: &[u8], tokens: &[Token<'_>]) -> Result<Statement, AsmFault>
-    ensures value { Parses result (IsInstruction (mnemonic_of name.now) (lexemes tokens.now)) }
-    ensures inside { IfErr result (λ e. is_failure e ≡ false) }
+    ensures { Parses result (IsInstruction (mnemonic_of name.now) (lexemes tokens.now)) }
 {
     let Some(mnemonic) = mnemonic(name) else {
         return Err(AsmFault::NotUnderstood);
@@ -156,8 +148,7 @@ pub fn instruction_front<'a, 'b>(tokens: &'a [Token<'b>]) -> Option<(Mnemonic, &
 
 /// A statement that begins with an identifier.
 fn named(alloc: Global, name: &[u8], tokens: &[Token<'_>]) -> Result<Statement, AsmFault>
-    ensures value { Parses result (IsNamed name.now (lexemes tokens.now)) }
-    ensures inside { IfErr result (λ e. is_failure e ≡ false) }
+    ensures { Parses result (IsNamed name.now (lexemes tokens.now)) }
 {
     match tokens.split_first() {
         Some((first, behind)) => {
@@ -178,8 +169,7 @@ fn named(alloc: Global, name: &[u8], tokens: &[Token<'_>]) -> Result<Statement, 
 /// Tokens that are no statement aren't understood.
 #[inline(never)]
 pub fn statement(alloc: Global, tokens: &[Token<'_>]) -> Result<Statement, AsmFault>
-    ensures value { Parses result (IsStatement (lexemes tokens.now)) }
-    ensures inside { IfErr result (λ e. is_failure e ≡ false) }
+    ensures { Parses result (IsStatement (lexemes tokens.now)) }
 {
     let Some((first, behind)) = tokens.split_first() else {
         return Err(AsmFault::NotUnderstood);

@@ -1,11 +1,9 @@
 //! Tokens at places of a line, and what they are.
 
-ghost use Rattle.std.specs.Prelude.{◌≡◌, false, option_map, IfErr};
-ghost use Rattle.base65.specs.Relations.{Answers};
+ghost use Rattle.std.specs.Prelude.{◌≡◌, false, option_map};
 ghost use Rattle.syntax65.specs.Tokens.{lexeme_of, lexemes};
-ghost use Rattle.language65.specs.Faults.{is_failure, is_outside};
-ghost use Rattle.statements65.specs.Parsing.{defines, inner, is_close, is_colon, is_comma, name_of, quoted_in, spelled, spells, string_of, understood, word_in, word_of, Parses, is_identifier, is_letter, is_letter_or_digit, proc_of, scope_of, segment_named, segment_of, size_behind, size_word};
 ghost use Rattle.std.specs.List.{list_all};
+ghost use Rattle.statements65.specs.Parsing.{defines, inner, is_close, is_colon, is_comma, name_of, quoted_in, spelled, spells, string_of, understood, word_in, word_of, Parses, is_identifier, is_letter, is_letter_or_digit, scope_of, segment_named, segment_of, size_behind, size_word, ParsesAs};
 
 use base65::Sequence;
 use language65::{AsmFault, Statement};
@@ -108,9 +106,8 @@ pub fn spells(token: &Token<'_>, name: &[u8]) -> bool
 
 /// What was looked for, which has to be there.
 pub fn needed(found: Option<&[u8]>) -> Result<&[u8], AsmFault>
-    ensures value { Answers is_outside (λ s. s.now) result
+    ensures { ParsesAs (λ s. s.now) result
         (λ r. r ≡ understood (option_map (λ s. s.now) found.entry)) }
-    ensures inside { IfErr result (λ e. is_failure e ≡ false) }
 {
     match found {
         Some(text) => Ok(text),
@@ -120,8 +117,7 @@ pub fn needed(found: Option<&[u8]>) -> Result<&[u8], AsmFault>
 
 /// A plain name.
 pub fn name_of(alloc: Global, tokens: &[Token<'_>]) -> Result<Sequence<u8>, AsmFault>
-    ensures value { Parses result (λ r. r ≡ name_of (lexemes tokens.now)) }
-    ensures inside { IfErr result (λ e. is_failure e ≡ false) }
+    ensures { Parses result (λ r. r ≡ name_of (lexemes tokens.now)) }
 {
     let name = needed(word_of(tokens))?;
     if is_reserved(name) {
@@ -144,8 +140,7 @@ fn size_word(word: &[u8]) -> Result<AddressSize, AsmFault>
 
 /// Nothing, or `: zeropage` or `: absolute`.
 fn size_behind(tokens: &[Token<'_>]) -> Result<Option<AddressSize>, AsmFault>
-    ensures value { Parses result (λ r. r ≡ size_behind (lexemes tokens.now)) }
-    ensures inside { IfErr result (λ e. is_failure e ≡ false) }
+    ensures { Parses result (λ r. r ≡ size_behind (lexemes tokens.now)) }
 {
     let Some((colon, behind)) = tokens.split_first() else {
         return Ok(None);
@@ -179,18 +174,15 @@ fn are_letters_or_digits(bytes: &[u8]) -> bool
 fn is_identifier(bytes: &[u8]) -> bool
     ensures { result ≡ is_identifier bytes.now }
 {
-    match bytes.split_first() {
-        Some((first, behind)) => {
-            is_letter(*first) && are_letters_or_digits(behind) && bytes.len() <= MAX_NAME
-        }
-        None => false,
-    }
+    let [first, behind @ ..] = bytes else {
+        return false;
+    };
+    is_letter(*first) && are_letters_or_digits(behind) && bytes.len() <= MAX_NAME
 }
 
 /// `.segment`
 pub fn segment(alloc: Global, tokens: &[Token<'_>]) -> Result<Statement, AsmFault>
-    ensures value { Parses result (λ r. r ≡ segment_of (lexemes tokens.now)) }
-    ensures inside { IfErr result (λ e. is_failure e ≡ false) }
+    ensures { Parses result (λ r. r ≡ segment_of (lexemes tokens.now)) }
 {
     let Some((first, behind)) = tokens.split_first() else {
         return Err(AsmFault::NotUnderstood);
@@ -206,19 +198,10 @@ pub fn segment(alloc: Global, tokens: &[Token<'_>]) -> Result<Statement, AsmFaul
 
 /// `.scope`
 pub fn scope(alloc: Global, tokens: &[Token<'_>]) -> Result<Statement, AsmFault>
-    ensures value { Parses result (λ r. r ≡ scope_of (lexemes tokens.now)) }
-    ensures inside { IfErr result (λ e. is_failure e ≡ false) }
+    ensures { Parses result (λ r. r ≡ scope_of (lexemes tokens.now)) }
 {
     if tokens.is_empty() {
         return Ok(Statement::OpenScope(None));
     }
     Ok(Statement::OpenScope(Some(name_of(alloc, tokens)?)))
-}
-
-/// `.proc`
-pub fn proc(alloc: Global, tokens: &[Token<'_>]) -> Result<Statement, AsmFault>
-    ensures value { Parses result (λ r. r ≡ proc_of (lexemes tokens.now)) }
-    ensures inside { IfErr result (λ e. is_failure e ≡ false) }
-{
-    Ok(Statement::OpenProc(name_of(alloc, tokens)?))
 }

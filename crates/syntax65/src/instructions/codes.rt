@@ -1,7 +1,7 @@
 //! The opcodes.
 
 ghost use Rattle.std.specs.Prelude.{◌≡◌};
-ghost use Rattle.syntax65.specs.Opcodes.{opcode_of};
+ghost use Rattle.syntax65.specs.Opcodes.{arithmetic, shift, count, implied, branch, opcode_of, other_opcode};
 
 use super::names::Mnemonic;
 
@@ -40,274 +40,160 @@ pub enum Mode {
 pub fn opcode(mnemonic: Mnemonic, mode: Mode) -> Option<u8>
     ensures { result ≡ opcode_of mnemonic mode }
 {
-    match mode {
-        Mode::Implied => implied(mnemonic),
-        Mode::Accumulator => accumulator(mnemonic),
-        Mode::Immediate => immediate(mnemonic),
-        Mode::ZeroPage => zeropage(mnemonic),
-        Mode::ZeroPageX => zeropage_x(mnemonic),
-        Mode::ZeroPageY => zeropage_y(mnemonic),
-        Mode::Absolute => absolute(mnemonic),
-        Mode::AbsoluteX => absolute_x(mnemonic),
-        Mode::AbsoluteY => absolute_y(mnemonic),
-        Mode::Indirect => indirect(mnemonic),
-        Mode::IndirectX => indirect_x(mnemonic),
-        Mode::IndirectY => indirect_y(mnemonic),
-        Mode::Relative => relative(mnemonic),
+    match mnemonic {
+        Mnemonic::Adc => arithmetic(mode, [0x69, 0x65, 0x75, 0x6D, 0x7D, 0x79, 0x61, 0x71]),
+        Mnemonic::And => arithmetic(mode, [0x29, 0x25, 0x35, 0x2D, 0x3D, 0x39, 0x21, 0x31]),
+        Mnemonic::Asl => shift(mode, [0x0A, 0x06, 0x16, 0x0E, 0x1E]),
+        Mnemonic::Bcc => branch(mode, 0x90),
+        Mnemonic::Bcs => branch(mode, 0xB0),
+        Mnemonic::Beq => branch(mode, 0xF0),
+        Mnemonic::Bmi => branch(mode, 0x30),
+        Mnemonic::Bne => branch(mode, 0xD0),
+        Mnemonic::Bpl => branch(mode, 0x10),
+        Mnemonic::Brk => implied(mode, 0x00),
+        Mnemonic::Bvc => branch(mode, 0x50),
+        Mnemonic::Bvs => branch(mode, 0x70),
+        Mnemonic::Clc => implied(mode, 0x18),
+        Mnemonic::Cld => implied(mode, 0xD8),
+        Mnemonic::Cli => implied(mode, 0x58),
+        Mnemonic::Clv => implied(mode, 0xB8),
+        Mnemonic::Cmp => arithmetic(mode, [0xC9, 0xC5, 0xD5, 0xCD, 0xDD, 0xD9, 0xC1, 0xD1]),
+        Mnemonic::Dec => count(mode, [0xC6, 0xD6, 0xCE, 0xDE]),
+        Mnemonic::Dex => implied(mode, 0xCA),
+        Mnemonic::Dey => implied(mode, 0x88),
+        Mnemonic::Eor => arithmetic(mode, [0x49, 0x45, 0x55, 0x4D, 0x5D, 0x59, 0x41, 0x51]),
+        Mnemonic::Inc => count(mode, [0xE6, 0xF6, 0xEE, 0xFE]),
+        Mnemonic::Inx => implied(mode, 0xE8),
+        Mnemonic::Iny => implied(mode, 0xC8),
+        Mnemonic::Lda => arithmetic(mode, [0xA9, 0xA5, 0xB5, 0xAD, 0xBD, 0xB9, 0xA1, 0xB1]),
+        Mnemonic::Lsr => shift(mode, [0x4A, 0x46, 0x56, 0x4E, 0x5E]),
+        Mnemonic::Nop => implied(mode, 0xEA),
+        Mnemonic::Ora => arithmetic(mode, [0x09, 0x05, 0x15, 0x0D, 0x1D, 0x19, 0x01, 0x11]),
+        Mnemonic::Pha => implied(mode, 0x48),
+        Mnemonic::Php => implied(mode, 0x08),
+        Mnemonic::Pla => implied(mode, 0x68),
+        Mnemonic::Plp => implied(mode, 0x28),
+        Mnemonic::Rol => shift(mode, [0x2A, 0x26, 0x36, 0x2E, 0x3E]),
+        Mnemonic::Ror => shift(mode, [0x6A, 0x66, 0x76, 0x6E, 0x7E]),
+        Mnemonic::Rti => implied(mode, 0x40),
+        Mnemonic::Rts => implied(mode, 0x60),
+        Mnemonic::Sbc => arithmetic(mode, [0xE9, 0xE5, 0xF5, 0xED, 0xFD, 0xF9, 0xE1, 0xF1]),
+        Mnemonic::Sec => implied(mode, 0x38),
+        Mnemonic::Sed => implied(mode, 0xF8),
+        Mnemonic::Sei => implied(mode, 0x78),
+        Mnemonic::Tax => implied(mode, 0xAA),
+        Mnemonic::Tay => implied(mode, 0xA8),
+        Mnemonic::Tsx => implied(mode, 0xBA),
+        Mnemonic::Txa => implied(mode, 0x8A),
+        Mnemonic::Txs => implied(mode, 0x9A),
+        Mnemonic::Tya => implied(mode, 0x98),
+        _ => other_opcode(mnemonic, mode),
     }
 }
 
-fn implied(mnemonic: Mnemonic) -> Option<u8>
-    ensures { result ≡ opcode_of mnemonic Mode.Implied }
+/// Arithmetic, and loads of `a`.
+fn arithmetic(mode: Mode, codes: [u8; 8]) -> Option<u8>
+    ensures { result ≡ arithmetic codes mode }
 {
-    Some(match mnemonic {
-        Mnemonic::Brk => 0x00,
-        Mnemonic::Clc => 0x18,
-        Mnemonic::Cld => 0xD8,
-        Mnemonic::Cli => 0x58,
-        Mnemonic::Clv => 0xB8,
-        Mnemonic::Dex => 0xCA,
-        Mnemonic::Dey => 0x88,
-        Mnemonic::Inx => 0xE8,
-        Mnemonic::Iny => 0xC8,
-        Mnemonic::Nop => 0xEA,
-        Mnemonic::Pha => 0x48,
-        Mnemonic::Php => 0x08,
-        Mnemonic::Pla => 0x68,
-        Mnemonic::Plp => 0x28,
-        Mnemonic::Rti => 0x40,
-        Mnemonic::Rts => 0x60,
-        Mnemonic::Sec => 0x38,
-        Mnemonic::Sed => 0xF8,
-        Mnemonic::Sei => 0x78,
-        Mnemonic::Tax => 0xAA,
-        Mnemonic::Tay => 0xA8,
-        Mnemonic::Tsx => 0xBA,
-        Mnemonic::Txa => 0x8A,
-        Mnemonic::Txs => 0x9A,
-        Mnemonic::Tya => 0x98,
-        _ => return None,
-    })
+    match mode {
+        Mode::Immediate => Some(codes[0]),
+        Mode::ZeroPage => Some(codes[1]),
+        Mode::ZeroPageX => Some(codes[2]),
+        Mode::Absolute => Some(codes[3]),
+        Mode::AbsoluteX => Some(codes[4]),
+        Mode::AbsoluteY => Some(codes[5]),
+        Mode::IndirectX => Some(codes[6]),
+        Mode::IndirectY => Some(codes[7]),
+        _ => None,
+    }
 }
 
-fn accumulator(mnemonic: Mnemonic) -> Option<u8>
-    ensures { result ≡ opcode_of mnemonic Mode.Accumulator }
+/// Shifts.
+fn shift(mode: Mode, codes: [u8; 5]) -> Option<u8>
+    ensures { result ≡ shift codes mode }
 {
-    Some(match mnemonic {
-        Mnemonic::Asl => 0x0A,
-        Mnemonic::Lsr => 0x4A,
-        Mnemonic::Rol => 0x2A,
-        Mnemonic::Ror => 0x6A,
-        _ => return None,
-    })
+    match mode {
+        Mode::Accumulator => Some(codes[0]),
+        Mode::ZeroPage => Some(codes[1]),
+        Mode::ZeroPageX => Some(codes[2]),
+        Mode::Absolute => Some(codes[3]),
+        Mode::AbsoluteX => Some(codes[4]),
+        _ => None,
+    }
 }
 
-fn immediate(mnemonic: Mnemonic) -> Option<u8>
-    ensures { result ≡ opcode_of mnemonic Mode.Immediate }
+/// Counting up and down in memory.
+fn count(mode: Mode, codes: [u8; 4]) -> Option<u8>
+    ensures { result ≡ count codes mode }
 {
-    Some(match mnemonic {
-        Mnemonic::Adc => 0x69,
-        Mnemonic::And => 0x29,
-        Mnemonic::Cmp => 0xC9,
-        Mnemonic::Cpx => 0xE0,
-        Mnemonic::Cpy => 0xC0,
-        Mnemonic::Eor => 0x49,
-        Mnemonic::Lda => 0xA9,
-        Mnemonic::Ldx => 0xA2,
-        Mnemonic::Ldy => 0xA0,
-        Mnemonic::Ora => 0x09,
-        Mnemonic::Sbc => 0xE9,
-        _ => return None,
-    })
+    match mode {
+        Mode::ZeroPage => Some(codes[0]),
+        Mode::ZeroPageX => Some(codes[1]),
+        Mode::Absolute => Some(codes[2]),
+        Mode::AbsoluteX => Some(codes[3]),
+        _ => None,
+    }
 }
 
-fn zeropage(mnemonic: Mnemonic) -> Option<u8>
-    ensures { result ≡ opcode_of mnemonic Mode.ZeroPage }
+/// Without an operand.
+fn implied(mode: Mode, code: u8) -> Option<u8>
+    ensures { result ≡ implied code mode }
 {
-    Some(match mnemonic {
-        Mnemonic::Adc => 0x65,
-        Mnemonic::And => 0x25,
-        Mnemonic::Asl => 0x06,
-        Mnemonic::Bit => 0x24,
-        Mnemonic::Cmp => 0xC5,
-        Mnemonic::Cpx => 0xE4,
-        Mnemonic::Cpy => 0xC4,
-        Mnemonic::Dec => 0xC6,
-        Mnemonic::Eor => 0x45,
-        Mnemonic::Inc => 0xE6,
-        Mnemonic::Lda => 0xA5,
-        Mnemonic::Ldx => 0xA6,
-        Mnemonic::Ldy => 0xA4,
-        Mnemonic::Lsr => 0x46,
-        Mnemonic::Ora => 0x05,
-        Mnemonic::Rol => 0x26,
-        Mnemonic::Ror => 0x66,
-        Mnemonic::Sbc => 0xE5,
-        Mnemonic::Sta => 0x85,
-        Mnemonic::Stx => 0x86,
-        Mnemonic::Sty => 0x84,
-        _ => return None,
-    })
+    match mode {
+        Mode::Implied => Some(code),
+        _ => None,
+    }
 }
 
-fn zeropage_x(mnemonic: Mnemonic) -> Option<u8>
-    ensures { result ≡ opcode_of mnemonic Mode.ZeroPageX }
+/// Branches.
+fn branch(mode: Mode, code: u8) -> Option<u8>
+    ensures { result ≡ branch code mode }
 {
-    Some(match mnemonic {
-        Mnemonic::Adc => 0x75,
-        Mnemonic::And => 0x35,
-        Mnemonic::Asl => 0x16,
-        Mnemonic::Cmp => 0xD5,
-        Mnemonic::Dec => 0xD6,
-        Mnemonic::Eor => 0x55,
-        Mnemonic::Inc => 0xF6,
-        Mnemonic::Lda => 0xB5,
-        Mnemonic::Ldy => 0xB4,
-        Mnemonic::Lsr => 0x56,
-        Mnemonic::Ora => 0x15,
-        Mnemonic::Rol => 0x36,
-        Mnemonic::Ror => 0x76,
-        Mnemonic::Sbc => 0xF5,
-        Mnemonic::Sta => 0x95,
-        Mnemonic::Sty => 0x94,
-        _ => return None,
-    })
+    match mode {
+        Mode::Relative => Some(code),
+        _ => None,
+    }
 }
 
-fn zeropage_y(mnemonic: Mnemonic) -> Option<u8>
-    ensures { result ≡ opcode_of mnemonic Mode.ZeroPageY }
+/// Instructions with other forms.
+fn other_opcode(mnemonic: Mnemonic, mode: Mode) -> Option<u8>
+    ensures { result ≡ other_opcode mnemonic mode }
 {
-    Some(match mnemonic {
-        Mnemonic::Ldx => 0xB6,
-        Mnemonic::Stx => 0x96,
-        _ => return None,
-    })
-}
-
-fn absolute(mnemonic: Mnemonic) -> Option<u8>
-    ensures { result ≡ opcode_of mnemonic Mode.Absolute }
-{
-    Some(match mnemonic {
-        Mnemonic::Adc => 0x6D,
-        Mnemonic::And => 0x2D,
-        Mnemonic::Asl => 0x0E,
-        Mnemonic::Bit => 0x2C,
-        Mnemonic::Cmp => 0xCD,
-        Mnemonic::Cpx => 0xEC,
-        Mnemonic::Cpy => 0xCC,
-        Mnemonic::Dec => 0xCE,
-        Mnemonic::Eor => 0x4D,
-        Mnemonic::Inc => 0xEE,
-        Mnemonic::Jmp => 0x4C,
-        Mnemonic::Jsr => 0x20,
-        Mnemonic::Lda => 0xAD,
-        Mnemonic::Ldx => 0xAE,
-        Mnemonic::Ldy => 0xAC,
-        Mnemonic::Lsr => 0x4E,
-        Mnemonic::Ora => 0x0D,
-        Mnemonic::Rol => 0x2E,
-        Mnemonic::Ror => 0x6E,
-        Mnemonic::Sbc => 0xED,
-        Mnemonic::Sta => 0x8D,
-        Mnemonic::Stx => 0x8E,
-        Mnemonic::Sty => 0x8C,
-        _ => return None,
-    })
-}
-
-fn absolute_x(mnemonic: Mnemonic) -> Option<u8>
-    ensures { result ≡ opcode_of mnemonic Mode.AbsoluteX }
-{
-    Some(match mnemonic {
-        Mnemonic::Adc => 0x7D,
-        Mnemonic::And => 0x3D,
-        Mnemonic::Asl => 0x1E,
-        Mnemonic::Cmp => 0xDD,
-        Mnemonic::Dec => 0xDE,
-        Mnemonic::Eor => 0x5D,
-        Mnemonic::Inc => 0xFE,
-        Mnemonic::Lda => 0xBD,
-        Mnemonic::Ldy => 0xBC,
-        Mnemonic::Lsr => 0x5E,
-        Mnemonic::Ora => 0x1D,
-        Mnemonic::Rol => 0x3E,
-        Mnemonic::Ror => 0x7E,
-        Mnemonic::Sbc => 0xFD,
-        Mnemonic::Sta => 0x9D,
-        _ => return None,
-    })
-}
-
-fn absolute_y(mnemonic: Mnemonic) -> Option<u8>
-    ensures { result ≡ opcode_of mnemonic Mode.AbsoluteY }
-{
-    Some(match mnemonic {
-        Mnemonic::Adc => 0x79,
-        Mnemonic::And => 0x39,
-        Mnemonic::Cmp => 0xD9,
-        Mnemonic::Eor => 0x59,
-        Mnemonic::Lda => 0xB9,
-        Mnemonic::Ldx => 0xBE,
-        Mnemonic::Ora => 0x19,
-        Mnemonic::Sbc => 0xF9,
-        Mnemonic::Sta => 0x99,
-        _ => return None,
-    })
-}
-
-fn indirect(mnemonic: Mnemonic) -> Option<u8>
-    ensures { result ≡ opcode_of mnemonic Mode.Indirect }
-{
-    Some(match mnemonic {
-        Mnemonic::Jmp => 0x6C,
-        _ => return None,
-    })
-}
-
-fn indirect_x(mnemonic: Mnemonic) -> Option<u8>
-    ensures { result ≡ opcode_of mnemonic Mode.IndirectX }
-{
-    Some(match mnemonic {
-        Mnemonic::Adc => 0x61,
-        Mnemonic::And => 0x21,
-        Mnemonic::Cmp => 0xC1,
-        Mnemonic::Eor => 0x41,
-        Mnemonic::Lda => 0xA1,
-        Mnemonic::Ora => 0x01,
-        Mnemonic::Sbc => 0xE1,
-        Mnemonic::Sta => 0x81,
-        _ => return None,
-    })
-}
-
-fn indirect_y(mnemonic: Mnemonic) -> Option<u8>
-    ensures { result ≡ opcode_of mnemonic Mode.IndirectY }
-{
-    Some(match mnemonic {
-        Mnemonic::Adc => 0x71,
-        Mnemonic::And => 0x31,
-        Mnemonic::Cmp => 0xD1,
-        Mnemonic::Eor => 0x51,
-        Mnemonic::Lda => 0xB1,
-        Mnemonic::Ora => 0x11,
-        Mnemonic::Sbc => 0xF1,
-        Mnemonic::Sta => 0x91,
-        _ => return None,
-    })
-}
-
-fn relative(mnemonic: Mnemonic) -> Option<u8>
-    ensures { result ≡ opcode_of mnemonic Mode.Relative }
-{
-    Some(match mnemonic {
-        Mnemonic::Bcc => 0x90,
-        Mnemonic::Bcs => 0xB0,
-        Mnemonic::Beq => 0xF0,
-        Mnemonic::Bmi => 0x30,
-        Mnemonic::Bne => 0xD0,
-        Mnemonic::Bpl => 0x10,
-        Mnemonic::Bvc => 0x50,
-        Mnemonic::Bvs => 0x70,
+    Some(match (mnemonic, mode) {
+        (Mnemonic::Bit, Mode::ZeroPage) => 0x24,
+        (Mnemonic::Bit, Mode::Absolute) => 0x2C,
+        (Mnemonic::Cpx, Mode::Immediate) => 0xE0,
+        (Mnemonic::Cpx, Mode::ZeroPage) => 0xE4,
+        (Mnemonic::Cpx, Mode::Absolute) => 0xEC,
+        (Mnemonic::Cpy, Mode::Immediate) => 0xC0,
+        (Mnemonic::Cpy, Mode::ZeroPage) => 0xC4,
+        (Mnemonic::Cpy, Mode::Absolute) => 0xCC,
+        (Mnemonic::Jmp, Mode::Absolute) => 0x4C,
+        (Mnemonic::Jmp, Mode::Indirect) => 0x6C,
+        (Mnemonic::Jsr, Mode::Absolute) => 0x20,
+        (Mnemonic::Ldx, Mode::Immediate) => 0xA2,
+        (Mnemonic::Ldx, Mode::ZeroPage) => 0xA6,
+        (Mnemonic::Ldx, Mode::ZeroPageY) => 0xB6,
+        (Mnemonic::Ldx, Mode::Absolute) => 0xAE,
+        (Mnemonic::Ldx, Mode::AbsoluteY) => 0xBE,
+        (Mnemonic::Ldy, Mode::Immediate) => 0xA0,
+        (Mnemonic::Ldy, Mode::ZeroPage) => 0xA4,
+        (Mnemonic::Ldy, Mode::ZeroPageX) => 0xB4,
+        (Mnemonic::Ldy, Mode::Absolute) => 0xAC,
+        (Mnemonic::Ldy, Mode::AbsoluteX) => 0xBC,
+        (Mnemonic::Sta, Mode::ZeroPage) => 0x85,
+        (Mnemonic::Sta, Mode::ZeroPageX) => 0x95,
+        (Mnemonic::Sta, Mode::Absolute) => 0x8D,
+        (Mnemonic::Sta, Mode::AbsoluteX) => 0x9D,
+        (Mnemonic::Sta, Mode::AbsoluteY) => 0x99,
+        (Mnemonic::Sta, Mode::IndirectX) => 0x81,
+        (Mnemonic::Sta, Mode::IndirectY) => 0x91,
+        (Mnemonic::Stx, Mode::ZeroPage) => 0x86,
+        (Mnemonic::Stx, Mode::ZeroPageY) => 0x96,
+        (Mnemonic::Stx, Mode::Absolute) => 0x8E,
+        (Mnemonic::Sty, Mode::ZeroPage) => 0x84,
+        (Mnemonic::Sty, Mode::ZeroPageX) => 0x94,
+        (Mnemonic::Sty, Mode::Absolute) => 0x8C,
         _ => return None,
     })
 }

@@ -8,7 +8,7 @@ pub returns-in-Ok-clause-assembled : goal.returns-in-Ok-clause-assembled
 returns-in-Ok-clause-assembled g c = all_concluded (g.S.Store.files c.args.store.now) c.args.run c.take_all-ran.new.run c.in-Ok.field-0 c.conclude.result c.conclude.ensures.concluded c.in-Ok.ensures.ran
 
 pub returns-in-Ok-clause-count : goal.returns-in-Ok-clause-count
-returns-in-Ok-clause-count g c = passed_on _ _ c.in-Ok.field-0 c.conclude.result.result c.in-Ok.ensures.count c.conclude.ensures.inside
+returns-in-Ok-clause-count g c = passed_on _ _ c.in-Ok.field-0 c.conclude.result.result c.in-Ok.ensures.kept.count c.conclude.ensures.inside
 
 pub returns-in-Ok-clause-good : goal.returns-in-Ok-clause-good
 returns-in-Ok-clause-good g c = good_answer c.conclude.result c.take_all-ran.new.run.assembler c.in-Ok.ensures.held c.conclude.ensures.concluded
@@ -25,7 +25,7 @@ returns-in-Err-clause-assembled g c =
     all_refused (g.S.Store.files c.args.store.now) c.args.run now c.in-Err.fault (place_of now.expander) c.refused_behind.result refl c.refused_behind.ensures.outside c.refused_behind.ensures.refused c.in-Err.ensures.ran
 
 pub returns-in-Err-clause-count : goal.returns-in-Err-clause-count
-returns-in-Err-clause-count g c = passed_as _ _ c.in-Err.fault c.refused_behind.result.result c.in-Err.ensures.count c.refused_behind.ensures.none c.refused_behind.ensures.failed
+returns-in-Err-clause-count g c = passed_as _ _ c.in-Err.fault c.refused_behind.result.result c.in-Err.ensures.kept.count c.refused_behind.ensures.none c.refused_behind.ensures.failed
 
 pub returns-in-Err-clause-good : goal.returns-in-Err-clause-good
 returns-in-Err-clause-good g c = not_answered (λ o. is_good_object o ≡ true) c.refused_behind.result.result c.refused_behind.ensures.none

@@ -49,4 +49,4 @@ returns-clause-taken g c =
     let new = c.take_behind-2.new.assembler in
     let some : ls ≡ [] → ⊥ = some_tokens c.args.parts.label.now (some_there (length c.args.parts.label.now) c.if-is_empty.ensures) in
     let P : Option Files → Type 0 = λ o. TakesAll o blamed place (given_behind ts) mid new c.take_behind-2.result in
-    label_taken (g.S.Store.files c.args.store.now) blamed place ls ts c.args.assembler.now mid new c.in_ok-take_label.field-0 c.take_behind-2.result some c.in_ok-take_label.ensures.taken (subst P c.in_ok-take_label.ensures.files c.take_behind-2.ensures.taken)
+    label_taken (g.S.Store.files c.args.store.now) blamed place ls ts c.args.assembler.now mid new c.in_ok-take_label.field-0 c.take_behind-2.result some c.in_ok-take_label.ensures.taken (subst P c.in_ok-take_label.ensures.kept.files c.take_behind-2.ensures.taken)

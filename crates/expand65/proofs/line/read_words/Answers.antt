@@ -88,8 +88,8 @@ tokens-preserved c =
     let behind = c.next.new.self.rest.now in
     let apart : IsCutOff left text behind = rw c.in-Some.is at c.in_ok-token.ensures.cut in
     let kept = so_far.1 in
-    let word = c.within.ensures in
-    let more = more_kept c.tokens.words.items kept.0 so_far.0 c.within.result c.in-Some.token apart.0 word.0 (word.1 ∙ apart_by left apart.0 text behind apart.1) word.2 kept.2 in
+    let word : Word = record { kind = c.in-Some.token.kind; blanks = length left - length behind - length text; len = length text } in
+    let more = more_kept c.tokens.words.items kept.0 so_far.0 word c.in-Some.token apart.0 refl (apart_by left apart.0 text behind apart.1) refl kept.2 in
     record {
       short = c.tokens.invariant.short;
       so_far = (so_far.0 ++ token ∷ [], (kept.0 ++ (apart.0 ++ text), front_more c.args.bytes.now kept.0 left apart.0 text behind kept.1 apart.1, rw c.in_ok-push-in-Some.ensures.items more), λ us end h. rw append_assoc (so_far.2 (token ∷ us) end (next us end h)));

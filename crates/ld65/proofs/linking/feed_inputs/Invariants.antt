@@ -1,14 +1,11 @@
-use Rattle.std.proofs.Common.{◌≡◌, map, false}
-use Rattle.link65.specs.Standing.{Keeps, is_open}
-use Rattle.ld65.proofs.Fed.{Counted}
+use Rattle.std.proofs.Common.{map, Ok}
+use Rattle.ld65.specs.Inner.Feeding.{LeavesFed}
+use Rattle.ld65.specs.Naming.{NamesInputs}
 use Rattle.ld65.proofs.LineInputs.{IsBehind}
 use Rattle.ld65.proofs.linking.feed_inputs.Given as goal
 
 abbrev pub invariant-loop-place : goal.invariant-loop-place
 invariant-loop-place g l = record {
-  files : g.S.Store.files l.store ≡ g.S.Store.files l.fn.store;
-  opened : is_open l.linker ≡ false;
-  keeps : Keeps l.fn.linker l.linker;
+  kept : LeavesFed g.S.Store.files g.S.Store.failures g.S.Store.blamed (λ b. NamesInputs b (map (λ s. s.now) l.inputs)) l.fn.store l.store l.fn.linker l.linker (Ok tt);
   stands : IsBehind (g.S.Store.files l.fn.store) (map (λ s. s.now) l.inputs) l.place l.fn.linker l.linker;
-  count : Counted l.fn.linker (g.S.Store.failures l.fn.store) (g.S.Store.failures l.store);
 }

@@ -22,4 +22,4 @@ returns-in_err-script-clause-linked g c =
 pub returns-clause-linked : goal.returns-clause-linked
 returns-clause-linked g c =
     let is = subst (λ (text : List ℕ). IsScript text (Ok c.in_ok-script.script)) c.as_slice.ensures c.in_ok-script.ensures in
-    script_ok _ _ (linking c.args.line.now) c.in_ok-text.text c.in_ok-script.script _ c.in_ok-text.ensures.files c.in_ok-text.ensures.read is c.link_inputs.ensures.linked
+    script_ok _ _ (linking c.args.line.now) c.in_ok-text.text c.in_ok-script.script _ c.in_ok-text.ensures.kept.files c.in_ok-text.ensures.read is c.link_inputs.ensures.linked

@@ -1,8 +1,7 @@
 use Rattle.std.proofs.Common.{◌∙◌}
 use Rattle.std.proofs.lemmas.Result.{err_from_is_err_and}
-use Rattle.ld65.proofs.Fed.{fed_count, in_count}
-use Rattle.ld65.proofs.Blaming.{member_named}
 use Rattle.ld65.proofs.Chosen.{member_fed, member_refused, member_unnamed}
+use Rattle.ld65.proofs.Leaving.{member_left, object_left}
 use Rattle.ld65.proofs.members.feed_member.Goals as goal
 
 pub returns-in_err-name-clause-fed : goal.returns-in_err-name-clause-fed
@@ -14,18 +13,17 @@ pub returns-in-Ok-clause-fed : goal.returns-in-Ok-clause-fed
 returns-in-Ok-clause-fed g c =
     member_fed _ c.args.member.now.library.now c.args.member.now.entry.now c.args.linker.now c.feed_object.new.linker _ (c.as_slice.ensures ∙ c.in_ok-name.ensures) c.in-Ok.ensures.fed
 
-pub returns-in-Ok-clause-count : goal.returns-in-Ok-clause-count
-returns-in-Ok-clause-count g c modules stands = fed_count _ _ (c.in-Ok.ensures.count modules stands)
+pub returns-in-Ok-clause-kept : goal.returns-in-Ok-clause-kept
+returns-in-Ok-clause-kept g c =
+    let fed = c.in-Ok.ensures in
+    object_left _ _ _ _ fed.keeps fed.files _ c.args.member.now.library.now fed.opened fed.kept
 
 pub returns-in-Err-clause-fed : goal.returns-in-Err-clause-fed
 returns-in-Err-clause-fed g c =
     let called = c.as_slice.ensures in
     rw c.of_member.ensures (member_refused _ c.args.member.now.library.now c.args.member.now.entry.now c.args.linker.now c.feed_object.new.linker _ c.in-Err.fault (c.in_ok-name.ensures) (rw called at c.in-Err.ensures.fed))
 
-pub returns-in-Err-clause-count : goal.returns-in-Err-clause-count
-returns-in-Err-clause-count g c modules stands =
-    rw c.of_member.ensures (in_count c.in_ok-name.name _ _ c.in-Err.fault (c.in-Err.ensures.count modules stands))
-
-pub returns-in-Err-clause-named : goal.returns-in-Err-clause-named
-returns-in-Err-clause-named g c modules stands =
-    rw c.of_member.ensures (λ place. member_named _ place c.args.member.now.library.now c.args.member.now.entry.now.name c.in_ok-name.name c.in-Err.fault c.in_ok-name.ensures (c.in-Err.ensures.blamed modules stands))
+pub returns-in-Err-clause-kept : goal.returns-in-Err-clause-kept
+returns-in-Err-clause-kept g c =
+    let refused = c.in-Err.ensures in
+    rw c.of_member.ensures (member_left _ _ _ _ refused.keeps refused.files c.args.member.now.library.now c.args.member.now.entry.now.name c.in_ok-name.name c.in-Err.fault c.in_ok-name.ensures refused.kept)

@@ -1,22 +1,9 @@
-use Rattle.std.proofs.Common.{Some, None, sym}
-use Rattle.script65.proofs.Eaches.{append_none}
-use Rattle.link65.specs.Programs.{flat_zip}
 use Rattle.link65.specs.Names.{row_definitions}
-use Rattle.link65.proofs.ListLemmas.{none_at, zip_end, zip_next}
+use Rattle.link65.proofs.ListLemmas.{pair_end, pair_next}
 use Rattle.link65.proofs.naming.add_rows.Goals as goal
-use Rattle.link65.proofs.naming.add_rows.Goals.{in-Some+in_ok-add_row, in_default}
 
-pub loop-i-preserved : goal.loop-i-preserved
-loop-i-preserved c =
-    let rows = c.args.rows.now in
-    let places = c.args.places.now in
-    let i = c.loop-i.i in
-    let done = c.loop-i.definitions in
-    let whole = flat_zip row_definitions rows places in
-    elim c.match-row_place.branch [
-      | in-Some+in_ok-add_row w ↦ rw w.definitions-is (zip_next row_definitions rows places i c.index-rows-i.result (Some w.in-Some.place) c.args.definitions.now done _ whole c.loop-i-test.true c.index-rows-i.is w.in-Some.ensures w.in_ok-add_row.ensures c.loop-i.invariant)
-      | in_default w ↦ rw w.definitions-is (zip_next row_definitions rows places i c.index-rows-i.result None c.args.definitions.now done done whole c.loop-i-test.true c.index-rows-i.is (none_at c.row_place.result _ w.in_default.not-Some c.row_place.ensures) (sym (append_none done)) c.loop-i.invariant)
-    ]
+pub loop-row-preserved : goal.loop-row-preserved
+loop-row-preserved c = let s = c.in-Some.ensures.steps in pair_next row_definitions _ _ _ _ _ _ c.loop-row.definitions _ _ s.0 s.1 c.in_ok-add_row.ensures c.loop-row.invariant
 
 pub returns : goal.returns
-returns c = zip_end row_definitions c.args.rows.now c.args.places.now c.loop-i.i c.args.definitions.now c.loop-i.definitions (flat_zip row_definitions c.args.rows.now c.args.places.now) c.loop-i-test.false c.loop-i.invariant
+returns c = pair_end row_definitions _ _ c.loop-row.definitions _ c.in-None.ensures.steps (λ p. p.1.0) (λ p. p.1.0) c.loop-row.invariant

@@ -1,7 +1,11 @@
+use Rattle.std.proofs.Common.{Some, None}
 use Rattle.language65.specs.Contents.{opcode_part}
 use Rattle.asm65.proofs.Enterings.{given_enters}
 use Rattle.layout65.proofs.Measures.{ok_then}
 use Rattle.asm65.proofs.assembler.Assembler.enter_code.Goals as goal
 
-pub returns : goal.returns
-returns c = ok_then c.put_code.result (λ feeds place. given_enters c.args.self.now c.put_code.new.sections place c.args.context (opcode_part c.args.code) feeds) c.put_code.ensures
+pub returns-in-Some : goal.returns-in-Some
+returns-in-Some c = rw c.in-Some.is (ok_then c.append.result (λ feeds place. given_enters c.args.self.now c.append.new.self place c.args.context (opcode_part (Some c.in-Some.code)) feeds) c.append.ensures)
+
+pub returns-in-None : goal.returns-in-None
+returns-in-None c = rw c.in-None.is (ok_then c.append-in-None.result (λ feeds place. given_enters c.args.self.now c.append-in-None.new.self place c.args.context (opcode_part None) feeds) c.append-in-None.ensures)

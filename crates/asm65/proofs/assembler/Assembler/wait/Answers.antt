@@ -9,8 +9,8 @@ use Rattle.asm65.proofs.assembler.Assembler.wait.Goals as goal
 pub returns-clause-waits : goal.returns-clause-waits
 returns-clause-waits c =
     let old : Assembler = c.args.self.now in
-    let new : Assembler = record old { sections = c.defer.new.self; fixups = c.push.new.self; files = c.place_of_file.new.files } in
+    let new : Assembler = record old { sections = c.defer.new.self; fixups = c.push.new.self; files = c.place_of.new.self } in
     let place = place_in c.args.site.at.file.now c.args.site.at.line in
     let w : Fixup = record { file = c.in_ok-file.file; line = c.args.site.at.line; context = c.args.site.context; piece = c.args.piece } in
     let file = c.in_ok-file.ensures.place in
-    ok_then c.defer.result (λ awaits. waits_behind old new place c.args.site.context w (record { symbols = refl; known = refl; cursor = refl; texts = refl }) awaits c.place_of_file.ensures.more c.in_ok-push.ensures.items file refl refl) c.defer.ensures
+    ok_then c.defer.result (λ awaits. waits_behind old new place c.args.site.context w (record { symbols = refl; known = refl; cursor = refl; texts = refl }) awaits c.place_of.ensures.more c.in_ok-push.ensures.items file refl refl) c.defer.ensures

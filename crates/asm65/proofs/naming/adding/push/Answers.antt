@@ -1,5 +1,5 @@
 use Rattle.std.proofs.Common.{◌≡◌, ◌∙◌, refl}
-use Rattle.symbols65.specs.contracts.table.entries.EntryPartialEq.TheImpl.{eq-value}
+use Rattle.symbols65.specs.contracts.table.symbols.EntryPartialEq.TheImpl.{eq-value}
 use Rattle.symbols65.specs.declared.table.symbols.Entry.{Entry}
 use Rattle.symbols65.specs.declared.table.symbols.Entry.TheVariants as entry
 use Rattle.symbols65.specs.Tables.{same_entry}

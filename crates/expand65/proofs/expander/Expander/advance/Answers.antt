@@ -49,7 +49,7 @@ steps-preserved g c =
     let t = c.in_ok-turn.turn in
     let step = moved_to (λ m. IsStep m k (state_in m c.steps.self) (turned (state_of m mid.rewriter) t)) o (g.S.Store.files c.steps.store) c.steps.invariant.files c.in_ok-turn.ensures.turns in
     record {
-      files = c.in_ok-turn.ensures.files ∙ c.steps.invariant.files;
+      files = c.in_ok-turn.ensures.leaves.files ∙ c.steps.invariant.files;
       count = search rules;
       size = omega (arith, c.steps.invariant.size, c.in_ok-turn.ensures.size, c.follow.ensures.size);
       named = λ h. c.follow.ensures.named (c.in_ok-turn.ensures.named (c.steps.invariant.named h));

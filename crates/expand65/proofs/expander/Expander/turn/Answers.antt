@@ -1,4 +1,7 @@
-use Rattle.std.proofs.Common.{◌∙◌, sym}
+use Rattle.std.proofs.Common.{◌∙◌, List, IfSome, ap, subst, sym}
+use Rattle.syntax65.specs.Tokens.{Lexeme, lexemes}
+use Rattle.expand65.specs.Inside.{StopsAt}
+use Rattle.expand65.specs.Failing.{FailsAtIf}
 use Rattle.expand65.specs.State.{IsIf}
 use Rattle.expand65.specs.Fronts.{front_directive}
 use Rattle.expand65.specs.Playing.{tokens_in}
@@ -18,14 +21,18 @@ returns-in-Rest-clause-turns g c =
     let new = c.act.new.self in
     where_known (g.S.Store.files c.args.store.now) (λ m. Turns c.act.result (state_of m new) (IsActed m k (state_of m old.rewriter) ts (front_directive ts))) (λ m. Turns c.act.result (state_of m new) (IsStep m k (state_in m old))) (λ m h. turns_so c.act.result (state_of m new) (IsActed m k (state_of m old.rewriter) ts (front_directive ts)) (IsStep m k (state_in m old)) (λ x s. step_rest m k old line x (sym c.replace.ensures.value ∙ c.in-Rest.is) s) h) c.act.ensures.turns
 
-pub returns-in-Branch-clause-turns : goal.returns-in-Branch-clause-turns
-returns-in-Branch-clause-turns g c =
+pub returns-in_ok-tokens-in-Branch-clause-turns : goal.returns-in_ok-tokens-in-Branch-clause-turns
+returns-in_ok-tokens-in-Branch-clause-turns g c =
+    let o = g.S.Store.files c.args.store.now in
     let old = c.args.self.now in
     let k = g.K.Knows.meaning c.args.knows.now in
     let line = c.in-Branch.line in
     let ts = tokens_in line in
-    let new = c.begin_branch.new.self in
-    where_known (g.S.Store.files c.args.store.now) (λ m. Turns c.begin_branch.result (state_of m new) (IsIf k (state_of m old.rewriter) True ts)) (λ m. Turns c.begin_branch.result (state_of m new) (IsStep m k (state_in m old))) (λ m h. turns_so c.begin_branch.result (state_of m new) (IsIf k (state_of m old.rewriter) True ts) (IsStep m k (state_in m old)) (λ x s. step_branch m k old line x (sym c.replace.ensures.value ∙ c.in-Branch.is) s) h) c.begin_branch.ensures.turns
+    let r = c.begin_if.result in
+    let new = c.begin_if.new.self in
+    let P : List Lexeme → Type 0 = λ us. IfSome o (λ m. Turns r (state_of m new) (IsIf k (state_of m old.rewriter) True us)) in
+    let turns = subst P (ap lexemes c.as_slice.ensures.value ∙ c.in_ok-tokens-in-Branch.ensures) c.begin_if.ensures.turns in
+    where_known o (λ m. Turns r (state_of m new) (IsIf k (state_of m old.rewriter) True ts)) (λ m. Turns r (state_of m new) (IsStep m k (state_in m old))) (λ m h. turns_so r (state_of m new) (IsIf k (state_of m old.rewriter) True ts) (IsStep m k (state_in m old)) (λ x s. step_branch m k old line x (sym c.replace.ensures.value ∙ c.in-Branch.is) s) h) turns
 
 pub returns-in-Nothing-clause-stopped : goal.returns-in-Nothing-clause-stopped
 returns-in-Nothing-clause-stopped g c = λ names.
@@ -35,6 +42,13 @@ pub returns-in-Rest-clause-stopped : goal.returns-in-Rest-clause-stopped
 returns-in-Rest-clause-stopped g c = λ names.
     stops_rest (g.S.Store.files c.args.store.now) (g.S.Store.blamed c.act.new.store) (g.K.Knows.meaning c.args.knows.now) c.args.self.now c.act.new.self.reader c.in-Rest.line c.act.result (sym c.replace.ensures.value ∙ c.in-Rest.is) (c.act.ensures.stopped names)
 
-pub returns-in-Branch-clause-stopped : goal.returns-in-Branch-clause-stopped
-returns-in-Branch-clause-stopped g c = λ names.
-    stops_branch (g.S.Store.files c.args.store.now) (g.S.Store.blamed c.begin_branch.new.store) (g.K.Knows.meaning c.args.knows.now) c.args.self.now c.begin_branch.new.self.reader c.in-Branch.line c.begin_branch.result (sym c.replace.ensures.value ∙ c.in-Branch.is) (c.begin_branch.ensures.stopped names)
+pub returns-in_ok-tokens-in-Branch-clause-stopped : goal.returns-in_ok-tokens-in-Branch-clause-stopped
+returns-in_ok-tokens-in-Branch-clause-stopped g c = λ names.
+    (let o = g.S.Store.files c.args.store.now in
+    let old = c.args.self.now in
+    let k = g.K.Knows.meaning c.args.knows.now in
+    let blamed = g.S.Store.blamed c.begin_if.new.store in
+    let new = c.begin_if.new.self.reader in
+    let P : List Lexeme → Type 0 = λ us. IfSome o (λ m. StopsAt (FailsAtIf blamed k (state_of m old.rewriter) True us) old.rewriter.reader new c.begin_if.result) in
+    let stopped = subst P (ap lexemes c.as_slice.ensures.value ∙ c.in_ok-tokens-in-Branch.ensures) (c.begin_if.ensures.stopped names) in
+    stops_branch o blamed k old new c.in-Branch.line c.begin_if.result (sym c.replace.ensures.value ∙ c.in-Branch.is) stopped)

@@ -43,7 +43,7 @@ pieces-preserved g c =
       few = c.in_ok-take_piece.ensures.few;
       number = c.in_ok-has_more.ensures.line ∙ c.in_ok-take_piece.ensures.same.2 ∙ c.pieces.invariant.number;
       name = c.in_ok-has_more.ensures.name ∙ c.in_ok-take_piece.ensures.same.0 ∙ c.pieces.invariant.name;
-      files = c.in_ok-has_more.ensures.files ∙ c.pieces.invariant.files;
+      files = c.in_ok-has_more.ensures.leaves.files ∙ c.pieces.invariant.files;
       count = search rules;
       so_far = with_more o c.args.self.now mid new c.take_piece.new.line.items on kept;
     }

@@ -20,8 +20,8 @@ returns-in_err-line-clause-taken c = λ m.
     let P : List ℕ → Type 0 = λ bytes. Unless (is_outside c.in_err-line.field-0.0) ((q : Result (List Lexeme) LexFault) × IsRead bytes q × (Err c.in_err-line.field-0.0 ≡ lexed q)) in
     rw (p.1, p.2) (file_refused (Some m) old next old (without_return (take c.args.len (drop old.at old.buffer.items))) c.in_err-line.field-0.0 (first_at_hand m old c.args.len old.line c.requires.end c.requires.within) (subst P same c.in_err-line.ensures.tokens))
 
-pub returns-in-Some-clause-taken : goal.returns-in-Some-clause-taken
-returns-in-Some-clause-taken c = λ m.
+pub returns-clause-taken : goal.returns-clause-taken
+returns-clause-taken c = λ m.
     let old = c.args.self.now in
     let new : OpenFile = record { name = old.name; buffer = old.buffer; at = old.at + (c.args.len + 1); next = old.next; line = c.in-Some.number; spare = old.spare } in
     let here = c.split_at.ensures.back ∙ ap (drop old.at) c.deref.ensures.value in

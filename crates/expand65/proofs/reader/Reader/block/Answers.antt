@@ -1,4 +1,4 @@
-use Rattle.std.proofs.Common.{◌≡◌, true, ℕ, ◌∙◌, ◌++◌, ◌∷◌, [], List, map, ap, sym, subst, rules, Ok, Err, arith, IfSome}
+use Rattle.std.proofs.Common.{◌≡◌, true, ◌∙◌, ◌++◌, ◌∷◌, [], map, sym, subst, rules, Ok, Err, arith, IfSome}
 use Rattle.std.proofs.lemmas.Result.{err_from_is_err_and}
 use Rattle.base65.specs.Outcome.{Unless}
 use Rattle.expand65.specs.Blocks.{TakesInBlock}
@@ -72,12 +72,12 @@ lines-preserved g c =
     let Q : StateOf k → Type 0 = λ a. IfSome o (Leads (judge_of k) a new first c.args.self.now) in
     let R : StateOf k → Type 0 = λ a. IfSome o (Fails (judge_of k) a new first c.args.self.now) in
     record {
-      outer = c.in_ok-line.ensures.outer ∙ c.pass_unkept.ensures.outer ∙ c.lines.invariant.outer;
-      mark = c.in_ok-line.ensures.mark ∙ c.pass_unkept.ensures.mark ∙ c.lines.invariant.mark;
+      outer = c.in_ok-line.ensures.stays.outer ∙ c.pass_unkept.ensures.stays.outer ∙ c.lines.invariant.outer;
+      mark = c.in_ok-line.ensures.stays.mark ∙ c.pass_unkept.ensures.stays.mark ∙ c.lines.invariant.mark;
       room = omega (arith, c.in_ok-line.ensures.room, c.pass_unkept.ensures.room, c.lines.invariant.room);
-      files = c.in_ok-line.ensures.files ∙ c.lines.invariant.files;
+      files = c.in_ok-line.ensures.leaves.files ∙ c.lines.invariant.files;
       count = search rules;
-      named = λ h. c.in_ok-line.ensures.named (c.pass_unkept.ensures.named (c.lines.invariant.named h));
+      named = λ h. c.in_ok-line.ensures.stays.named (c.pass_unkept.ensures.stays.named (c.lines.invariant.named h));
       reads = subst R (sym kept) (line_read (judge_of k) o c.args.self.now mid new first here next (tokens_in line) reads taken goes);
       so_far = subst Q (sym kept) (line_goes_on (judge_of k) o c.args.self.now mid new first here next (tokens_in line) so_far taken goes);
     }
@@ -91,5 +91,5 @@ returns-in_err-line-clause-stopped g c = λ names.
     let mid = c.pass_unkept.new.self in
     let f = c.in_err-line.field-0.0 in
     let reads = plainly_read (judge_of k) o c.args.self.now c.lines.self mid (state_of k 0 []) (state_of k c.lines.depth body) (is_kept k) (λ e ts q. plain_unkept k c.lines.depth body ts e q) c.pass_unkept.ensures.passed c.lines.invariant.reads in
-    let stops = moved_to (λ m. is_failure f ≡ true → HasStopped (FailsAtLine (g.S.Store.blamed c.block_line.new.store) (left_of m mid)) mid c.block_line.new.self) o (g.S.Store.files c.lines.store) c.lines.invariant.files (c.in_err-line.ensures.stopped (c.pass_unkept.ensures.named (c.lines.invariant.named names))) in
-    rw (p.1, p.2) (stops_on (g.S.Store.blamed c.block_line.new.store) (judge_of k) o c.args.self.now mid c.block_line.new.self (state_of k 0 []) (state_of k c.lines.depth body) f reads (c.pass_unkept.ensures.mark ∙ c.lines.invariant.mark) stops))
+    let stops = moved_to (λ m. is_failure f ≡ true → HasStopped (FailsAtLine (g.S.Store.blamed c.block_line.new.store) (left_of m mid)) mid c.block_line.new.self) o (g.S.Store.files c.lines.store) c.lines.invariant.files (c.in_err-line.ensures.stopped (c.pass_unkept.ensures.stays.named (c.lines.invariant.named names))) in
+    rw (p.1, p.2) (stops_on (g.S.Store.blamed c.block_line.new.store) (judge_of k) o c.args.self.now mid c.block_line.new.self (state_of k 0 []) (state_of k c.lines.depth body) f reads (c.pass_unkept.ensures.stays.mark ∙ c.lines.invariant.mark) stops))

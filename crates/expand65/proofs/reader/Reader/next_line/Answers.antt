@@ -1,4 +1,4 @@
-use Rattle.std.proofs.Common.{◌≡◌, ◌∙◌, ap, refl, suc, arith, ◌-◌, true, Ok, Err}
+use Rattle.std.proofs.Common.{◌≡◌, ◌∙◌, ap, refl, suc, arith, ◌-◌, true, Ok, Err, rules}
 use Rattle.std.proofs.lemmas.Result.{err_from_is_err_and}
 use Rattle.expand65.specs.Inside.{TakesLine, left_in, left_of, FailsAtLine}
 use Rattle.expand65.specs.Left.{Mark}
@@ -20,7 +20,7 @@ returns-in_err-line-clause-read g c =
     let f = c.in_err-line.field-0.0 in
     let not_end : c.in_ok-next.next ≡ AtEnd → ⊥ = λ e. let t : c.is_end.result ≡ true = c.is_end.ensures.1 e in let u = c.if-is_end.false in absurd cc in
     let more : suc (old.room - 1) ≡ old.room = omega (arith, c.if-self-eq0.false) in
-    let taken = moved_to (λ m. TakesLine (left_in m mid) (Err f) (left_in m c.take_line.new.self)) o (g.S.Store.files c.begin_line.new.store) c.in_ok-next.ensures.files c.in_err-line.ensures.taken in
+    let taken = moved_to (λ m. TakesLine (left_in m mid) (Err f) (left_in m c.take_line.new.self)) o (g.S.Store.files c.begin_line.new.store) c.in_ok-next.ensures.leaves.files c.in_err-line.ensures.taken in
     rw (p.1, p.2) (told_refused o old mid c.take_line.new.self c.move_by.new.place (old.room - 1) c.in_ok-next.next f c.in_ok-next.ensures.comes c.in_ok-next.ensures.same not_end taken c.move_by.ensures more)
 
 pub returns-clause-read : goal.returns-clause-read
@@ -32,7 +32,7 @@ returns-clause-read g c =
     let new : Reader = record { top = record { source = c.take_line.new.self; conditions = old.top.conditions; back = old.top.back }; outer = old.outer; room = old.room - 1; place = c.move_by.new.place } in
     let not_end : c.in_ok-next.next ≡ AtEnd → ⊥ = λ e. let t : c.is_end.result ≡ true = c.is_end.ensures.1 e in let u = c.if-is_end.false in absurd cc in
     let more : suc (old.room - 1) ≡ old.room = omega (arith, c.if-self-eq0.false) in
-    let taken = moved_to (λ m. TakesLine (left_in m mid) (Ok line) (left_in m c.take_line.new.self)) o (g.S.Store.files c.begin_line.new.store) c.in_ok-next.ensures.files c.in_ok-line.ensures.taken in
+    let taken = moved_to (λ m. TakesLine (left_in m mid) (Ok line) (left_in m c.take_line.new.self)) o (g.S.Store.files c.begin_line.new.store) c.in_ok-next.ensures.leaves.files c.in_ok-line.ensures.taken in
     let same = ap (λ b. let k : Mark = record { is_macro = b; conditions = old.top.conditions; back = old.top.back } in k) (c.in_ok-line.ensures.call ∙ c.in_ok-next.ensures.call) in
     told_taken o old new mid c.in_ok-next.next line c.in_ok-next.ensures.comes c.in_ok-next.ensures.same not_end taken same refl c.move_by.ensures more
 
@@ -58,32 +58,32 @@ returns-in_err-line-clause-stopped g c = λ named.
     let blamed = g.S.Store.blamed c.take_line.new.store in
     rw (p.1, p.2) (stopped_so o (λ m. FailsAtLine blamed (left_of m old)) old new c.in_err-line.field-0.0 same (λ failed. fails_within o blamed old mid c.move_by.new.place c.in_ok-next.next (c.in_err-line.ensures.file failed) c.in_ok-next.ensures.comes c.in_ok-next.ensures.same not_end c.move_by.ensures (c.in_err-line.ensures.blamed old.place (c.in_ok-next.ensures.named old.place (innermost_named old named)) failed))))
 
-pub returns-in_err-next-clause-named : goal.returns-in_err-next-clause-named
-returns-in_err-next-clause-named g c =
+pub returns-in_err-next-clause-stays : goal.returns-in_err-next-clause-stays
+returns-in_err-next-clause-stays g c =
     let old = c.args.self.now in
     let new : Reader = record { top = record { source = c.begin_line.new.self; conditions = old.top.conditions; back = old.top.back }; outer = old.outer; room = old.room; place = old.place } in
-    reads_on old new refl refl c.in_err-next.ensures.named refl
+    record { mark = search rules; outer = refl; named = reads_on old new refl refl c.in_err-next.ensures.named refl }
 
-pub returns-then-is_end-clause-named : goal.returns-then-is_end-clause-named
-returns-then-is_end-clause-named g c =
+pub returns-then-is_end-clause-stays : goal.returns-then-is_end-clause-stays
+returns-then-is_end-clause-stays g c =
     let old = c.args.self.now in
     let new : Reader = record { top = record { source = c.begin_line.new.self; conditions = old.top.conditions; back = old.top.back }; outer = old.outer; room = old.room; place = old.place } in
-    reads_on old new refl refl c.in_ok-next.ensures.named refl
+    record { mark = search rules; outer = refl; named = reads_on old new refl refl c.in_ok-next.ensures.named refl }
 
-pub returns-then-self-eq0-clause-named : goal.returns-then-self-eq0-clause-named
-returns-then-self-eq0-clause-named g c =
+pub returns-then-self-eq0-clause-stays : goal.returns-then-self-eq0-clause-stays
+returns-then-self-eq0-clause-stays g c =
     let old = c.args.self.now in
     let new : Reader = record { top = record { source = c.begin_line.new.self; conditions = old.top.conditions; back = old.top.back }; outer = old.outer; room = old.room; place = c.move_by.new.place } in
-    reads_on old new refl refl c.in_ok-next.ensures.named (ap (λ (p : Place). p.file) c.move_by.ensures ∙ moved_file c.in_ok-next.next old.place)
+    record { mark = search rules; outer = refl; named = reads_on old new refl refl c.in_ok-next.ensures.named (ap (λ (p : Place). p.file) c.move_by.ensures ∙ moved_file c.in_ok-next.next old.place) }
 
-pub returns-in_err-line-clause-named : goal.returns-in_err-line-clause-named
-returns-in_err-line-clause-named g c =
+pub returns-in_err-line-clause-stays : goal.returns-in_err-line-clause-stays
+returns-in_err-line-clause-stays g c =
     let old = c.args.self.now in
     let new : Reader = record { top = record { source = c.take_line.new.self; conditions = old.top.conditions; back = old.top.back }; outer = old.outer; room = old.room - 1; place = c.move_by.new.place } in
-    reads_on old new refl refl (λ p h. c.in_err-line.ensures.named p (c.in_ok-next.ensures.named p h)) (ap (λ (p : Place). p.file) c.move_by.ensures ∙ moved_file c.in_ok-next.next old.place)
+    record { mark = search rules; outer = refl; named = reads_on old new refl refl (λ p h. c.in_err-line.ensures.named p (c.in_ok-next.ensures.named p h)) (ap (λ (p : Place). p.file) c.move_by.ensures ∙ moved_file c.in_ok-next.next old.place) }
 
-pub returns-clause-named : goal.returns-clause-named
-returns-clause-named g c =
+pub returns-clause-stays : goal.returns-clause-stays
+returns-clause-stays g c =
     let old = c.args.self.now in
     let new : Reader = record { top = record { source = c.take_line.new.self; conditions = old.top.conditions; back = old.top.back }; outer = old.outer; room = old.room - 1; place = c.move_by.new.place } in
-    reads_on old new refl refl (λ p h. c.in_ok-line.ensures.named p (c.in_ok-next.ensures.named p h)) (ap (λ (p : Place). p.file) c.move_by.ensures ∙ moved_file c.in_ok-next.next old.place)
+    record { mark = search rules; outer = refl; named = reads_on old new refl refl (λ p h. c.in_ok-line.ensures.named p (c.in_ok-next.ensures.named p h)) (ap (λ (p : Place). p.file) c.move_by.ensures ∙ moved_file c.in_ok-next.next old.place) }

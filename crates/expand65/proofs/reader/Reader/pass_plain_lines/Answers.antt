@@ -17,9 +17,9 @@ lines-preserved c =
     let new = c.pass_line.new.self in
     let less = c.pass_line.ensures.room c.if-not-pass_line.false in
     record {
-      outer = c.pass_line.ensures.outer ∙ c.lines.invariant.outer;
-      mark = c.pass_line.ensures.mark ∙ c.lines.invariant.mark;
+      outer = c.pass_line.ensures.stays.outer ∙ c.lines.invariant.outer;
+      mark = c.pass_line.ensures.stays.mark ∙ c.lines.invariant.mark;
       room = omega (arith, less, c.lines.invariant.room);
-      named = λ h. c.pass_line.ensures.named (c.lines.invariant.named h);
+      named = λ h. c.pass_line.ensures.stays.named (c.lines.invariant.named h);
       so_far = λ m. a_line (left_of m c.args.self.now) (left_of m c.lines.self) (left_of m new) (c.lines.invariant.so_far m) (c.pass_line.ensures.passed m c.if-not-pass_line.false);
     }

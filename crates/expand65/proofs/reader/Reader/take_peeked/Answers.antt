@@ -1,4 +1,4 @@
-use Rattle.std.proofs.Common.{◌≡◌, ap, arith, refl, suc, sym, subst, ◌-◌}
+use Rattle.std.proofs.Common.{◌≡◌, ap, arith, refl, suc, rules}
 use Rattle.expand65.specs.Left.{Mark}
 use Rattle.expand65.specs.declared.reader.Reader.{Reader}
 use Rattle.expand65.proofs.Naming.{reads_on}
@@ -14,8 +14,8 @@ returns-clause-taken c = λ m ts (there, some).
     let same = ap (λ b. let k : Mark = record { is_macro = b; conditions = old.top.conditions; back = old.top.back } in k) c.take_peeked.ensures.call in
     written_taken m old new number ts (c.take_peeked.ensures.taken m ts there) same refl refl more
 
-pub returns-clause-named : goal.returns-clause-named
-returns-clause-named c =
+pub returns-clause-stays : goal.returns-clause-stays
+returns-clause-stays c =
     let old = c.args.self.now in
     let new : Reader = record { top = record { source = c.take_peeked.new.self; conditions = old.top.conditions; back = old.top.back }; outer = old.outer; room = c.saturating_sub-self.result; place = record { file = old.place.file; line = c.args.line.number } } in
-    reads_on old new refl refl c.take_peeked.ensures.named refl
+    record { mark = search rules; outer = refl; named = reads_on old new refl refl c.take_peeked.ensures.named refl }

@@ -1,4 +1,4 @@
-use Rattle.std.proofs.Common.{◌≡◌, ◌∙◌, ◌++◌, ◌∷◌, ℕ, Bor, List, map, refl, subst, sym}
+use Rattle.std.proofs.Common.{◌≡◌, ◌∙◌, ◌++◌, ◌∷◌, ℕ, Bor, List, map, refl, subst, sym, rules}
 use Rattle.std.proofs.lemmas.Result.{err_from_is_err_and}
 use Rattle.syntax65.specs.Tokens.{lexemes}
 use Rattle.expand65.specs.Inside.{left_in}
@@ -19,8 +19,8 @@ returns-in_err-names-clause-turns c =
 pub returns-clause-turns : goal.returns-clause-turns
 returns-clause-turns c = λ m. names_added m c.args.self.now c.add_locals.new.self (lexemes c.args.tokens.now) (map (λ s. s.now) c.in_ok-names.names.items) (sym c.is_call.ensures ∙ c.if-not-is_call.false) c.in_ok-names.ensures.names c.add_locals.ensures.call (λ k is. let P : List (Bor (List ℕ)) → Type 0 = λ ns. left_in m c.add_locals.new.self ++ mark k ∷ is ≡ localised (map (λ s. s.now) ns) (left_in m c.args.self.now.reader.top.source ++ mark k ∷ is) in subst P c.as_slice.ensures.value (c.in_ok-add_locals.ensures.added m k is))
 
-pub returns-clause-named : goal.returns-clause-named
-returns-clause-named c =
+pub returns-clause-keeps : goal.returns-clause-keeps
+returns-clause-keeps c =
     let old = c.args.self.now.reader in
     let new : Reader = record { top = record { source = c.add_locals.new.self; conditions = old.top.conditions; back = old.top.back }; outer = old.outer; room = old.room; place = old.place } in
-    reads_on old new refl refl (λ p h. call_named c.add_locals.new.self p (c.add_locals.ensures.call ∙ sym c.is_call.ensures ∙ c.if-not-is_call.false)) refl
+    record { named = reads_on old new refl refl (λ p h. call_named c.add_locals.new.self p (c.add_locals.ensures.call ∙ sym c.is_call.ensures ∙ c.if-not-is_call.false)) refl; size = search rules }

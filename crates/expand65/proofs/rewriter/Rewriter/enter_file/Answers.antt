@@ -1,12 +1,12 @@
-use Rattle.std.proofs.Common.{◌∙◌, refl, sym}
+use Rattle.std.proofs.Common.{◌∙◌, refl, sym, rules}
 use Rattle.syntax65.specs.declared.place.Place.{Place}
 use Rattle.expand65.specs.declared.reader.Reader.{Reader}
 use Rattle.expand65.proofs.Naming.{goes_back}
 use Rattle.expand65.proofs.rewriter.Rewriter.enter_file.Goals as goal
 
-pub returns-clause-named : goal.returns-clause-named
-returns-clause-named c = λ h.
-    (let place : Place = record { file = c.in_ok-copy_of.field-0; line = 0 } in
+pub returns-clause-keeps : goal.returns-clause-keeps
+returns-clause-keeps c =
+    let place : Place = record { file = c.in_ok-copy_of.field-0; line = 0 } in
     let mid = c.enter.new.self in
     let new : Reader = record { top = mid.top; outer = mid.outer; room = mid.room; place = place } in
-    goes_back mid new place refl refl refl (c.in_ok-enter.ensures.named place (c.new.ensures.name ∙ sym (c.in_ok-copy_of.ensures ∙ c.as_str.ensures)) c.in_ok-back.ensures h))
+    record { named = λ h. goes_back mid new place refl refl refl (c.in_ok-enter.ensures.named place (c.new.ensures.name ∙ sym (c.in_ok-copy_of.ensures ∙ c.as_str.ensures)) c.in_ok-back.ensures h); size = search rules }

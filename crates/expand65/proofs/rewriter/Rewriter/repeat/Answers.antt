@@ -1,4 +1,4 @@
-use Rattle.std.proofs.Common.{◌≡◌, ℕ, [], false, None, Ok, Err, map, refl, subst}
+use Rattle.std.proofs.Common.{◌≡◌, ℕ, [], false, None, Ok, Err, map, refl, subst, rules}
 use Rattle.std.proofs.lemmas.Result.{err_from_is_err_and}
 use Rattle.base65.specs.Outcome.{Unless}
 use Rattle.syntax65.specs.ExpandFaults.{is_outside}
@@ -44,8 +44,8 @@ returns-in_err-enter-clause-turns g c =
     let ready = turns_ready replay body n c.in_ok-body.ensures.ok c.len-at.ensures c.new-arguments.ensures refl c.with_hasher-locals.ensures.empty refl in
     rw (p.1, p.2) (where_known (g.S.Store.files c.args.store.now) (λ m. Block gathers (0, []) (left_of m old.reader) (Ok (map tokens_in lines, left_of m rd))) (λ m. Unless (is_outside f) (IsRepeated (state_of m old) (Ok (n, params)) (stops (f, place)))) (λ m h. let P : ℕ → Type 0 = λ i. Unless (is_outside f) (Err (f, place) ≡ pushed (turns_left replay 0 n) (record { is_macro = false; conditions = i; back = None }) (left_of m rd)) in repeated_none m old rd replay body n (is_outside f) f place h ready (subst P c.len.ensures (c.in_err-enter.ensures.entered m))) c.in_ok-block.ensures.read)
 
-pub returns-clause-named : goal.returns-clause-named
-returns-clause-named g c = λ h.
-    (let mid = c.block.new.self in
+pub returns-clause-keeps : goal.returns-clause-keeps
+returns-clause-keeps g c =
+    let mid = c.block.new.self in
     let new = c.enter.new.self in
-    goes_back new new mid.place refl refl c.enter.ensures.place (c.in_ok-enter.ensures.named mid.place tt refl (c.in_ok-block.ensures.named h)))
+    record { named = λ h. goes_back new new mid.place refl refl c.enter.ensures.place (c.in_ok-enter.ensures.named mid.place tt refl (c.in_ok-block.ensures.stays.named h)); size = search rules }

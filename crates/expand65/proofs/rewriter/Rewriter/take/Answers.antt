@@ -55,7 +55,7 @@ returns-in-Some-clause-turns g c =
     let end = c.begin.new.self in
     let P : Option Line → Type 0 = λ l. IfSome o (λ m. Takes (left_of m old.reader) (Ok (option_map tokens_in l, left_of m new))) in
     let taken = subst P c.in-Some.is c.in_ok-next_line.ensures.read in
-    let begun = moved_to (λ m. Turns r (state_of m end) (IsLabelled m k (state_of m mid) ts (is_mislabelled ts))) o (g.S.Store.files c.next_line.new.store) c.in_ok-next_line.ensures.files c.begin.ensures.turns in
+    let begun = moved_to (λ m. Turns r (state_of m end) (IsLabelled m k (state_of m mid) ts (is_mislabelled ts))) o (g.S.Store.files c.next_line.new.store) c.in_ok-next_line.ensures.leaves.files c.begin.ensures.turns in
     where_both o (λ m. Takes (left_of m old.reader) (Ok (Some ts, left_of m new))) (λ m. Turns r (state_of m end) (IsLabelled m k (state_of m mid) ts (is_mislabelled ts))) (λ m. Turns r (state_of m end) (IsStep m k (state_of m old))) (λ m h e. turns_so r (state_of m end) (IsLabelled m k (state_of m mid) ts (is_mislabelled ts)) (IsStep m k (state_of m old)) (λ x y. step_taken m k old (Ok (Some ts, left_of m new)) x h y) e) taken begun
 
 pub returns-in-Some-clause-stopped : goal.returns-in-Some-clause-stopped
@@ -71,5 +71,5 @@ returns-in-Some-clause-stopped g c = λ names.
     let P : Option Line → Type 0 = λ l. IfSome o (λ m. Takes (left_of m old.reader) (Ok (option_map tokens_in l, left_of m new))) in
     let blamed = g.S.Store.blamed c.begin.new.store in
     let taken = subst P c.in-Some.is c.in_ok-next_line.ensures.read in
-    let stopped = moved_to (λ m. StopsAt (FailsUnlabelled blamed k (state_of m mid) ts) new end.reader r) o (g.S.Store.files c.next_line.new.store) c.in_ok-next_line.ensures.files (c.begin.ensures.stopped (c.in_ok-next_line.ensures.named names)) in
-    stops_behind o blamed k old mid end.reader ts r taken (λ m. refl) c.in_ok-next_line.ensures.mark stopped)
+    let stopped = moved_to (λ m. StopsAt (FailsUnlabelled blamed k (state_of m mid) ts) new end.reader r) o (g.S.Store.files c.next_line.new.store) c.in_ok-next_line.ensures.leaves.files (c.begin.ensures.stopped (c.in_ok-next_line.ensures.stays.named names)) in
+    stops_behind o blamed k old mid end.reader ts r taken (λ m. refl) c.in_ok-next_line.ensures.stays.mark stopped)

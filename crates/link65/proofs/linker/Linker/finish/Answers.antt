@@ -1,4 +1,4 @@
-use Rattle.std.proofs.Common.{◌≡◌, ◌∙◌, ℕ, List, ap, subst, sym}
+use Rattle.std.proofs.Common.{◌≡◌, ◌∙◌, ℕ, List, ap, subst}
 use Rattle.script65.specs.declared.script.Script.{Script}
 use Rattle.base65.specs.Outcome.{Finds}
 use Rattle.link65.specs.Faults.{is_memory}

@@ -18,6 +18,15 @@ returns-then-is_same-clause-object c =
 pub returns-in_err-order-clause-distinct : goal.returns-in_err-order-clause-distinct
 returns-in_err-order-clause-distinct c = distinct_mapped string_bytes c.args.files.now.table.keys c.as_slice-table.ensures.unique
 
+pub returns-in_err-reorder_sections-clause-distinct : goal.returns-in_err-reorder_sections-clause-distinct
+returns-in_err-reorder_sections-clause-distinct c = distinct_mapped string_bytes c.args.files.now.table.keys c.as_slice-table.ensures.unique
+
+pub returns-in_err-reorder_exports-clause-distinct : goal.returns-in_err-reorder_exports-clause-distinct
+returns-in_err-reorder_exports-clause-distinct c = distinct_mapped string_bytes c.args.files.now.table.keys c.as_slice-table.ensures.unique
+
+pub returns-in_err-reorder_asserts-clause-distinct : goal.returns-in_err-reorder_asserts-clause-distinct
+returns-in_err-reorder_asserts-clause-distinct c = distinct_mapped string_bytes c.args.files.now.table.keys c.as_slice-table.ensures.unique
+
 pub returns-in_err-object-clause-distinct : goal.returns-in_err-object-clause-distinct
 returns-in_err-object-clause-distinct c = distinct_mapped string_bytes c.args.files.now.table.keys c.as_slice-table.ensures.unique
 

@@ -1,0 +1,212 @@
+-- What calls leave of a store and of a linker, one behind another.
+use Rattle.std.proofs.lemmas.Grind.{common_steps}
+use Rattle.std.proofs.Common.{◌≡◌, ◌∙◌, ◌<◌, ℕ, List, [], Bool, true, false, if◌then◌else◌, Option, Some, Result, Ok, Err, refl, ap, arith, slice_get, subst, sym, IfErr}
+use Rattle.base65.specs.Store.{Files, Passes, PassesBy}
+use Rattle.object65.specs.declared.fault.ObjectFault.{ObjectFault}
+use Rattle.object65.specs.declared.fault.ObjectFault.TheVariants as object
+use Rattle.object65.specs.Record.{is_memory as is_object_memory}
+use Rattle.object65.specs.Reading.{Leaves}
+use Rattle.link65.specs.declared.fault.LinkFault.{LinkFault}
+use Rattle.link65.specs.declared.fault.LinkFault.TheVariants as link
+use Rattle.link65.specs.Faults.{of_object}
+use Rattle.link65.specs.Programs.{Module}
+use Rattle.link65.specs.Standing.{Feeding, IsFed, Keeps, is_open}
+use Rattle.ld65.specs.declared.refusal.Refusal.{Refusal}
+use Rattle.ld65.specs.Inner.Feeding.{LeavesBy, LeavesFed}
+use Rattle.ld65.specs.Linkage.{as_refusal, member_module}
+use Rattle.ld65.specs.Naming.{IsOfInput, NamesInput, NamesInputs, NamesMember}
+use Rattle.ld65.specs.Refusals.{is_failure, refusal_at, refusal_in}
+use Rattle.ld65.proofs.Objects.{file_failed}
+
+pub keeps_on : (old mid new : Feeding) → Keeps old mid → Keeps mid new → Keeps old new
+keeps_on old mid new first next = record { script = next.script ∙ first.script; output = next.output ∙ first.output }
+
+-- ---- Of the linker's faults none but the store's own is a failure of a file.
+
+stored : (f : ObjectFault) → of_object f ≡ file_failed → f ≡ object.FileError
+stored f h = go (is_object_memory f) h
+  where
+    go : (b : Bool) → (if b then link.OutOfMemory else link.Malformed f) ≡ file_failed → f ≡ object.FileError
+    go true h = absurd cc
+    go false h = cc
+
+is_stored_at : (k : ℕ) (e : LinkFault) → is_failure (refusal_at k e) ≡ true → e ≡ file_failed
+is_stored_at k (link.Malformed object.FileError) h = refl
+is_stored_at k (link.Malformed f) h = absurd cc
+is_stored_at k e h = absurd cc
+
+is_stored_in : (name : List ℕ) (e : LinkFault) → is_failure (refusal_in name e) ≡ true → e ≡ file_failed
+is_stored_in name (link.Malformed object.FileError) h = refl
+is_stored_in name (link.Malformed f) h = absurd cc
+is_stored_in name e h = absurd cc
+
+-- ---- Calls that feed an object.
+
+pub err_is : {T : Type 0} (e f : LinkFault) → ◌≡◌ {A = Result T LinkFault} (Err e) (Err f) → e ≡ f
+err_is e f h = cc h
+
+-- where a call answered, none failed
+pub none_passed : {T : Type 0} (a b : ℕ) (x : T) → Passes file_failed a b (Ok x) → b ≡ a
+none_passed a b x passes = grind (arith, common_steps)
+
+module _ {X : Type 0} {files_of : X → Option Files} {failures_of : X → ℕ} {blamed_of : X → Option (List ℕ)} (name : List ℕ) (old new : X) where
+  -- a call that doesn't ask the store
+  pub untouched : {T : Type 0} (r : Result T LinkFault) → files_of new ≡ files_of old → failures_of new ≡ failures_of old → (r ≡ Err file_failed → ⊥) → Leaves files_of failures_of blamed_of file_failed name old new r
+  untouched r files same free = record {
+    files = files;
+    count = record { later = omega (arith, same); told = λ h. absurd (omega (arith, same)); cause = λ h. absurd (free h) };
+    blamed = λ h. absurd (free h);
+  }
+
+  -- a fault of reading, as the linker's, behind calls that didn't fail the store
+  pub unread_behind : {A B : Type 0} (mid : X) (f : ObjectFault) → files_of mid ≡ files_of old → failures_of mid ≡ failures_of old → Leaves {T = A} files_of failures_of blamed_of object.FileError name mid new (Err f) → Leaves {T = B} files_of failures_of blamed_of file_failed name old new (Err (of_object f))
+  unread_behind {A} {B} mid f files same left = record {
+    files = left.files ∙ files;
+    count = subst (λ (n : ℕ). Passes {T = B} file_failed n (failures_of new) (Err (of_object f))) same (record {
+      later = left.count.later;
+      told = λ h. let is : f ≡ object.FileError = cc (left.count.told h) in ap (λ g. Err (of_object g)) is;
+      cause = λ h. left.count.cause (ap Err (as_read h));
+    });
+    blamed = λ h. left.blamed (ap Err (as_read h));
+  }
+    where
+      as_read : ◌≡◌ {A = Result B LinkFault} (Err (of_object f)) (Err file_failed) → f ≡ object.FileError
+      as_read h = stored f (let is : of_object f ≡ file_failed = cc h in is)
+
+  -- any other refusal
+  pub fault_behind : {A B : Type 0} (mid : X) (e : LinkFault) → files_of mid ≡ files_of old → failures_of mid ≡ failures_of old → Leaves {T = A} files_of failures_of blamed_of file_failed name mid new (Err e) → Leaves {T = B} files_of failures_of blamed_of file_failed name old new (Err e)
+  fault_behind {A} {B} mid e files same left = record {
+    files = left.files ∙ files;
+    count = subst (λ (n : ℕ). Passes {T = B} file_failed n (failures_of new) (Err e)) same (record {
+      later = left.count.later;
+      told = λ h. ap Err (let is : e ≡ file_failed = cc (left.count.told h) in is);
+      cause = λ h. left.count.cause (ap Err (err_is e file_failed h));
+    });
+    blamed = λ h. left.blamed (ap Err (err_is e file_failed h));
+  }
+
+-- ---- An object as an input and as a member.
+
+fed_count : (a b : ℕ) → Passes {T = Unit {0}} file_failed a b (Ok tt) → PassesBy {T = Unit {0}} is_failure a b (Ok tt)
+fed_count a b passes = record { later = passes.later; told = λ h. let no : ⊥ = cc (passes.told h) in absurd no; cause = tt }
+
+named_count : (named : LinkFault → Refusal) (a b : ℕ) (e : LinkFault) → is_failure (named file_failed) ≡ true → (is_failure (named e) ≡ true → e ≡ file_failed) → Passes {T = Unit {0}} file_failed a b (Err e) → PassesBy {T = Unit {0}} is_failure a b (Err (named e))
+named_count named a b e fails stored passes = record {
+  later = passes.later;
+  told = λ h. let same : e ≡ file_failed = cc (passes.told h) in ap (λ x. is_failure (named x)) same ∙ fails;
+  cause = λ h. passes.cause (ap Err (stored h));
+}
+
+-- what is left behind an object, where the linker stands for modules
+abbrev LeavesObject : {X : Type 0} → (X → Option Files) → (X → ℕ) → (X → Option (List ℕ)) → List ℕ → X → X → Feeding → Result (Unit {0}) LinkFault → Type 0
+LeavesObject files_of failures_of blamed_of name old new before r = (modules : List Module) → IsFed before modules → Leaves files_of failures_of blamed_of file_failed name old new r
+
+module _ {X : Type 0} {files_of : X → Option Files} {failures_of : X → ℕ} {blamed_of : X → Option (List ℕ)} (old new : X) (before after : Feeding) (keeps : Keeps before after) (files : files_of new ≡ files_of old) where
+  pub object_left : (Names : Option (List ℕ) → Refusal → Type 0) (name : List ℕ) → is_open after ≡ false → LeavesObject files_of failures_of blamed_of name old new before (Ok tt) → LeavesFed files_of failures_of blamed_of Names old new before after (Ok tt)
+  object_left Names name opened left = record {
+    opened = opened;
+    keeps = keeps;
+    files = files;
+    count = λ modules stands. fed_count _ _ (left modules stands).count;
+    named = λ modules stands. tt;
+  }
+
+  pub file_left : (place : ℕ) (name : List ℕ) (e : LinkFault) → LeavesObject files_of failures_of blamed_of name old new before (Err e) → LeavesFed files_of failures_of blamed_of (λ b. NamesInput b place name) old new before after (Err (refusal_at place e))
+  file_left place name e left = record {
+    opened = tt;
+    keeps = keeps;
+    files = files;
+    count = λ modules stands. named_count (refusal_at place) _ _ e refl (is_stored_at place e) (left modules stands).count;
+    named = λ modules stands failed.
+        let fault = is_stored_at place e failed in
+        let P : LinkFault → Type 0 = λ f. IsOfInput (blamed_of new) place name (refusal_at place f) in
+        subst P (sym fault) (refl, (left modules stands).blamed (ap Err fault));
+  }
+
+  pub member_left : (library member called : List ℕ) (e : LinkFault) → called ≡ member_module library member → LeavesObject files_of failures_of blamed_of library old new before (Err e) → LeavesFed files_of failures_of blamed_of (λ b. NamesMember b library) old new before after (Err (refusal_in called e))
+  member_left library member called e is left = record {
+    opened = tt;
+    keeps = keeps;
+    files = files;
+    count = λ modules stands. named_count (refusal_in called) _ _ e refl (is_stored_in called e) (left modules stands).count;
+    named = λ modules stands place failed.
+        let fault = is_stored_in called e failed in
+        let P : LinkFault → Type 0 = λ f. IsOfInput (blamed_of new) place library (refusal_in called f) in
+        subst P (sym fault) ((member, is), (left modules stands).blamed (ap Err fault));
+  }
+
+-- ---- Inputs and members, one behind another.
+
+kept_by : {T : Type 0} (a b : ℕ) (x : T) → PassesBy is_failure a b (Ok x) → b ≡ a
+kept_by a b x passes = let not_later : a < b → ⊥ = λ h. absurd (passes.told h) in omega (arith, passes.later, not_later)
+
+module _ {X : Type 0} {files_of : X → Option Files} {failures_of : X → ℕ} {blamed_of : X → Option (List ℕ)} (Names : Option (List ℕ) → Refusal → Type 0) where
+  -- a call that asks the store alone
+  pub read_left : {T : Type 0} (old new : X) (before : Feeding) (x : T) → is_open before ≡ false → LeavesBy files_of failures_of blamed_of Names old new (Ok x) → LeavesFed files_of failures_of blamed_of Names old new before before (Ok tt)
+  read_left old new before x opened left = record {
+    opened = opened;
+    keeps = record { script = refl; output = refl };
+    files = left.files;
+    count = λ modules stands. let p = left.count in record { later = p.later; told = λ h. absurd (p.told h); cause = tt };
+    named = λ modules stands. tt;
+  }
+
+  pub unread_left : {T : Type 0} (old new : X) (before : Feeding) (e : Refusal) → LeavesBy {T = T} files_of failures_of blamed_of Names old new (Err e) → LeavesFed files_of failures_of blamed_of Names old new before before (Err e)
+  unread_left old new before e left = record {
+    opened = tt;
+    keeps = record { script = refl; output = refl };
+    files = left.files;
+    count = λ modules stands. let p = left.count in record { later = p.later; told = λ h. p.told h; cause = λ h. p.cause h };
+    named = λ modules stands. left.named;
+  }
+
+  pub behind_others : (NamesOne : Option (List ℕ) → Refusal → Type 0) (old mid new : X) (before middle after : Feeding) (r : Result (Unit {0}) Refusal) → ((b : Option (List ℕ)) (e : Refusal) → NamesOne b e → Names b e) → ((modules : List Module) → IsFed before modules → (more : List Module) × IsFed middle more) → LeavesFed files_of failures_of blamed_of Names old mid before middle (Ok tt) → LeavesFed files_of failures_of blamed_of NamesOne mid new middle after r → LeavesFed files_of failures_of blamed_of Names old new before after r
+  behind_others NamesOne old mid new before middle after r named so first next = record {
+    opened = next.opened;
+    keeps = keeps_on before middle after first.keeps next.keeps;
+    files = next.files ∙ first.files;
+    count = λ modules stands.
+        let p = so modules stands in
+        subst (λ (n : ℕ). PassesBy is_failure n (failures_of new) r) (kept_by _ _ tt (first.count modules stands)) (next.count p.0 p.1);
+    named = λ modules stands. let p = so modules stands in by r (next.named p.0 p.1);
+  }
+    where
+      by : (r : Result (Unit {0}) Refusal) → IfErr r (NamesOne (blamed_of new)) → IfErr r (Names (blamed_of new))
+      by (Ok u) h = tt
+      by (Err e) h = named (blamed_of new) e h
+
+-- a refusal of a call that doesn't ask the store
+pub unasked : {X : Type 0} {files_of : X → Option Files} {failures_of : X → ℕ} {blamed_of : X → Option (List ℕ)} (place : ℕ) (name : List ℕ) (old : X) (before : Feeding) (e : Refusal) → is_failure e ≡ false → LeavesFed files_of failures_of blamed_of (λ b. NamesInput b place name) old old before before (Err e)
+unasked place name old before e free = record {
+  opened = tt;
+  keeps = record { script = refl; output = refl };
+  files = refl;
+  count = λ modules stands. record { later = omega arith; told = λ h. absurd (omega arith); cause = λ h. absurd cc };
+  named = λ modules stands failed. absurd cc;
+}
+
+pub inputs_named : (inputs : List (List ℕ)) (place : ℕ) (name : List ℕ) → slice_get inputs place ≡ Some name → (blamed : Option (List ℕ)) (e : Refusal) → NamesInput blamed place name e → NamesInputs blamed inputs e
+inputs_named inputs place name at blamed e named failed = (place, name, at, named failed)
+
+-- ---- All inputs.
+
+module _ {X T : Type 0} {files_of : X → Option Files} {failures_of : X → ℕ} {blamed_of : X → Option (List ℕ)} (names inputs : List (List ℕ)) (old new : X) (fresh fed : Feeding) (stands : IsFed fresh []) where
+  pub refused_left : (e : Refusal) → names ≡ inputs → LeavesFed files_of failures_of blamed_of (λ b. NamesInputs b names) old new fresh fed (Err e) → LeavesBy {T = T} files_of failures_of blamed_of (λ b. NamesInputs b inputs) old new (Err e)
+  refused_left e same left = record {
+    files = left.files;
+    count = let p = left.count [] stands in record { later = p.later; told = λ h. p.told h; cause = λ h. p.cause h };
+    named = let P : List (List ℕ) → Type 0 = λ ns. NamesInputs (blamed_of new) ns e in subst P same (left.named [] stands);
+  }
+
+  -- behind them no other call fails the store
+  pub linked_left : (r : Result T LinkFault) → LeavesFed files_of failures_of blamed_of (λ b. NamesInputs b names) old new fresh fed (Ok tt) → LeavesBy files_of failures_of blamed_of (λ b. NamesInputs b inputs) old new (as_refusal r)
+  linked_left (Ok x) left = let p = left.count [] stands in record {
+    files = left.files;
+    count = record { later = p.later; told = λ h. absurd (p.told h); cause = tt };
+    named = tt;
+  }
+  linked_left (Err e) left = let p = left.count [] stands in record {
+    files = left.files;
+    count = record { later = p.later; told = λ h. absurd (p.told h); cause = λ h. absurd cc };
+    named = λ h. absurd cc;
+  }

@@ -1,6 +1,0 @@
-use Rattle.std.proofs.Common.{[]}
-use Rattle.sections65.proofs.Standings.{takes_both}
-use Rattle.sections65.proofs.entries.Entries.begin_bytes.Goals as goal
-
-pub returns-clause-same : goal.returns-clause-same
-returns-clause-same c = λ files. takes_both files c.args.self.now _ _ [] [] (c.in_ok-end_room.ensures.same files) (c.in_ok-begin.ensures.same files)

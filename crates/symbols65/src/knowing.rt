@@ -1,9 +1,8 @@
 //! What is known of expressions at a line: their values where they are constant there, their sizes, and the addressing
 //! forms of instructions.
 
-ghost use Rattle.std.specs.Prelude.{◌≡◌, false, Ok, OnOk, IfOk, slice_get};
-ghost use Rattle.language65.specs.Faults.{is_memory};
-ghost use Rattle.language65.specs.Norms.{literal_in, constant_in, norm_of, is_byte, larger, size_by, size_defined, size_of, size_of_import, size_of_meaning, size_of_value, takes_byte, address_mode, branch_mode, first_of, is_branch, mode_for, mode_of};
+ghost use Rattle.std.specs.Prelude.{◌≡◌, Ok, OnOk, IfOk};
+ghost use Rattle.language65.specs.Norms.{literal_in, constant_in, norm_of, larger, size_by, size_of, size_of_meaning, size_of_value, address_mode, first_of, is_branch, mode_for, mode_of};
 ghost use Rattle.symbols65.specs.Resolving.{literal_of, IsReference, IsTable, meaning_in};
 ghost use Rattle.symbols65.specs.Views.{table_of};
 ghost use Rattle.std.specs.Result.{result_ok};

@@ -9,9 +9,8 @@ ghost use Rattle.std.specs.Str.{bytes_eq};
 ghost use Rattle.indexmap.specs.IndexMap.{keys, index_map_len};
 ghost use Rattle.language65.specs.Layout.{opened_twice};
 ghost use Rattle.language65.specs.Symbols.{with_new, enclosing, scope_in, within, defined, imported};
-ghost use Rattle.symbols65.specs.Tables.{Begins, HasNumber, IsOpening, first_number, same_opening, scope_by, word_opened, KeepsFinal, definition_seen, entry_of, key_of, place_of_entry, same_entry};
+ghost use Rattle.symbols65.specs.Tables.{Begins, HasNumber, IsOpening, first_number, same_opening, scope_by, word_opened, KeepsFinal, definition_seen, entry_of, key_of, same_entry};
 ghost use Rattle.symbols65.specs.Views.{table_of, with_names, with_scope, words_of, key_at};
-ghost use Rattle.std.specs.List.{list_any};
 ghost use Rattle.language65.specs.Norms.{is_zero_page_name};
 
 use base65::{Seed, Sequence};

@@ -1,7 +1,6 @@
 //! Statements that place bytes which they name, or a part of a file.
 
-ghost use Rattle.std.specs.Prelude.{◌≡◌, ◌≤◌, IfOk, List, not, OnOk, Some, ℕ, ◌+◌, ◌<◌, map, MatchOption, sum_by};
-ghost use Rattle.std.specs.Option.{option_map};
+ghost use Rattle.std.specs.Prelude.{◌≡◌, ◌≤◌, IfOk, not, OnOk, Some, ◌+◌, ◌<◌, MatchOption, sum_by};
 ghost use Rattle.base65.specs.Outcome.{Gives};
 ghost use Rattle.language65.specs.declared.fault.AsmFault.TheVariants.{BadPart};
 ghost use Rattle.language65.specs.Faults.{is_memory};
@@ -12,7 +11,6 @@ ghost use Rattle.symbols65.specs.Resolving.{IsTable};
 ghost use Rattle.symbols65.specs.Views.{table_of};
 ghost use Rattle.layout65.specs.Measuring.{IsFound, is_within, Places, placed, ranged, unread_fault, IsSoundCursor, cursor_of};
 ghost use Rattle.object65.specs.Objects.{width_len};
-ghost use Rattle.language65.specs.Items.{numbered};
 ghost use Rattle.language65.specs.Symbols.{Symbols as Table};
 
 use super::trees::check_range;

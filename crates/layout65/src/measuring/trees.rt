@@ -1,6 +1,6 @@
 //! The expressions of statements, and names whose scope isn't there.
 
-ghost use Rattle.std.specs.Prelude.{◌≡◌, List, None, false, ℕ, [], ◌∷◌, ◌++◌, map};
+ghost use Rattle.std.specs.Prelude.{◌≡◌, List, None, false, ℕ, [], ◌∷◌, ◌++◌};
 ghost use Rattle.syntax65.specs.Trees.{name};
 ghost use Rattle.language65.specs.Layout.{lost_scope, item_trees, lost_scopes, operand_trees, optional_tree, trees_of};
 ghost use Rattle.language65.specs.Symbols.{Scope};

@@ -1,6 +1,6 @@
 //! Forms of constants that were found by a symbol table, and constants that hang on others.
 
-ghost use Rattle.std.specs.Prelude.{◌≡◌, IfOk, IfSome, map, slice_get, ◌+◌, ◌<◌, OnOk, replicate, Some, [], length, ℕ, slice_set, true};
+ghost use Rattle.std.specs.Prelude.{◌≡◌, IfOk, IfSome, map, slice_get, ◌+◌, ◌<◌, OnOk, Some, [], length, ℕ, slice_set, true};
 ghost use Rattle.symbols65.specs.declared.resolving.attempt.Source.TheVariants.{Finals};
 ghost use Rattle.symbols65.specs.Resolving.{AreHung, HangsOn, Reaches, bare, hung_on, needed_in, may_be_looked_for, tried, IsTable};
 ghost use Rattle.symbols65.specs.Views.{known_by, AreNoted, is_found, without, Table, table_of, nothing_defined};

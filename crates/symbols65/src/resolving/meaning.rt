@@ -7,7 +7,7 @@ ghost use Rattle.object65.specs.declared.folding.FormFault.{FormFault};
 ghost use Rattle.language65.specs.Contents.{operand_form};
 ghost use Rattle.language65.specs.Faults.{is_memory};
 ghost use Rattle.language65.specs.Norms.{folded};
-ghost use Rattle.std.specs.Prelude.{◌≡◌, ◌+◌, ◌-◌, ◌^◌, ◌≤◌, IfNone, IfSome, Result, Some};
+ghost use Rattle.std.specs.Prelude.{◌≡◌, ◌+◌, ◌-◌, Result, Some};
 ghost use Rattle.syntax65.specs.Trees.{name as name_tree};
 ghost use Rattle.language65.specs.Symbols.{meaning_of, scoped_meaning, backward_meaning, last_of, member_meaning, or_fault, plain_meaning, scopes_of, unnamed_meaning, imported};
 ghost use Rattle.symbols65.specs.Resolving.{defined_place, meaning_in, or_absent, plain_part};

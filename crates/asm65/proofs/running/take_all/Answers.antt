@@ -199,3 +199,9 @@ statements-preserved-then-branch g c =
       running = line_running o blamed (place_of new.expander) line.statements old.expander new.expander old.assembler new.assembler line.given line.taken refl c.statements.invariant.running;
       so_far = all_on (g.S.Store.files c.args.store.now) blamed c.args.run.now old new (subst (λ q. TakesLine q blamed old new (Ok tt)) c.statements.invariant.files line) c.statements.invariant.so_far;
     }
+
+pub returns-in_err-take_next-clause-kept : goal.returns-in_err-take_next-clause-kept
+returns-in_err-take_next-clause-kept g c = record {
+  files = c.in_err-take_next.ensures.kept.files ∙ c.in_ok-statement.ensures.files ∙ c.in_ok-take_at_hand.ensures.kept.files ∙ c.statements.invariant.files;
+  count = search rules;
+}

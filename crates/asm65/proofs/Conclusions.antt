@@ -22,7 +22,7 @@ use Rattle.std.proofs.lemmas.List.{append-nil}
 use Rattle.language65.specs.Contents.{Content}
 use Rattle.module65.specs.Reading.{PlacedFault}
 use Rattle.module65.proofs.Resolving.{made_asks, resolved_more, resolved_stops}
-use Rattle.sections65.specs.Fed.{Stands}
+use Rattle.sections65.specs.Fed.{Stands, names_in}
 use Rattle.asm65.specs.declared.concluding.Ending.{Ending}
 use Rattle.asm65.specs.declared.texts.AsmRefusal.{AsmRefusal}
 use Rattle.asm65.specs.Assembly.{is_outside_refusal, placed_of, in_places, is_from_outside}

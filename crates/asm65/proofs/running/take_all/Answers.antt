@@ -1,9 +1,11 @@
 use Rattle.std.proofs.Common.{rules, ◌≡◌, ◌<◌, ◌∙◌, ap, refl, sym, subst, Option, Some, None, Ok, Err}
 use Rattle.std.specs.Prelude.{IfSome}
 use Rattle.std.proofs.lemmas.Result.{err_from_is_err_and}
-use Rattle.base65.specs.Store.{Files}
+use Rattle.base65.specs.Store.{Files, PassesBy}
 use Rattle.expand65.specs.Standing.{measure_of, place_of}
 use Rattle.expand65.specs.declared.expander.Statement.{Statement}
+use Rattle.language65.specs.Faults.{is_failure}
+use Rattle.language65.specs.declared.fault.AsmFault.{AsmFault}
 use Rattle.asm65.specs.Inner.Running.{IsRunning, TakesLine}
 use Rattle.asm65.specs.declared.running.Run.{Run}
 use Rattle.asm65.proofs.Ahead.{line_taken, no_line_taken}
@@ -198,4 +200,16 @@ statements-preserved-then-branch g c =
       count = search rules;
       running = line_running o blamed (place_of new.expander) line.statements old.expander new.expander old.assembler new.assembler line.given line.taken refl c.statements.invariant.running;
       so_far = all_on (g.S.Store.files c.args.store.now) blamed c.args.run.now old new (subst (λ q. TakesLine q blamed old new (Ok tt)) c.statements.invariant.files line) c.statements.invariant.so_far;
+    }
+
+pub returns-in_err-take_next-clause-kept : goal.returns-in_err-take_next-clause-kept
+returns-in_err-take_next-clause-kept g c =
+    let r = c.from_residual-in_err-take_next.result in
+    let p = err_from_is_err_and r c.from_residual-in_err-take_next.ensures.1 in
+    let now = g.S.Store.failures c.take_next.new.store in
+    let same : g.S.Store.failures c.next.new.store ≡ g.S.Store.failures c.args.store.now = search rules in
+    let here = subst (λ n. PassesBy {T = Unit {0}} {E = AsmFault} is_failure n now (Err c.in_err-take_next.field-0.0)) same c.in_err-take_next.ensures.kept.count in
+    record {
+      files = c.in_err-take_next.ensures.kept.files ∙ c.in_ok-statement.ensures.files ∙ c.in_ok-take_at_hand.ensures.kept.files ∙ c.statements.invariant.files;
+      count = subst (λ x. PassesBy {T = Unit {0}} {E = AsmFault} is_failure (g.S.Store.failures c.args.store.now) now x) (sym (p.1 ∙ ap Err p.2)) here;
     }

@@ -32,8 +32,8 @@ returns-in-Ok-finish-clause-good c =
     (λ (count : ℕ) (t : State). λ (h : Holds count t a). all_settled count t a files new (Ok tt) h (ap (map (string_bytes {Z = Global})) c.as_slice.ensures.keys) c.in-Ok.ensures.settled)
     (subst (λ (gs : List Segment). IfOk made (IsGoodWhere gs (imports_of a) new)) c.as_slice-segments.ensures.value c.in-Ok-finish.ensures.good)
 
-pub returns-in-Err-finish-clause-concluded : goal.returns-in-Err-finish-clause-concluded
-returns-in-Err-finish-clause-concluded c =
+pub returns-in-Ok-clause-concluded : goal.returns-in-Ok-clause-concluded
+returns-in-Ok-clause-concluded c =
     let a = c.args.self in
     let new = c.settle_all-settled.new.ending in
     let files = map (string_bytes {Z = Global}) c.as_slice.result.now in
@@ -41,7 +41,7 @@ returns-in-Err-finish-clause-concluded c =
     λ (count : ℕ) (t : State).
     λ (h : Holds count t a).
     let k : AreSettled t.symbols t.fixups (ending_of a) new = all_settled count t a files new (Ok tt) h (ap (map (string_bytes {Z = Global})) c.as_slice.ensures.keys) c.in-Ok.ensures.settled in
-    c.answered-in-Err.ensures.concluded (concluded t None) (either_concluded count t a new lost h k tt c.without_memory.ensures.outside)
+    c.answered-in-Err-finish.ensures.concluded (concluded t None) (either_concluded count t a new lost h k tt c.without_memory.ensures.outside)
 
 pub returns-clause-concluded : goal.returns-clause-concluded
 returns-clause-concluded c =
@@ -51,4 +51,4 @@ returns-clause-concluded c =
     λ (count : ℕ) (t : State).
     λ (h : Holds count t a).
     let k : Unless (is_outside_refusal c.in-Err.refusal) (AreFaulty t.symbols t.fixups c.in-Err.refusal (ending_of a) new) = all_settled count t a files new (Err c.in-Err.refusal) h (ap (map (string_bytes {Z = Global})) c.as_slice.ensures.keys) c.in-Err.ensures.settled in
-    c.answered-in-Err-2.ensures.concluded (concluded t None) (λ (e : is_outside_refusal c.in-Err.refusal ≡ false). fault_concluded count t a new c.in-Err.refusal h (certain (is_outside_refusal c.in-Err.refusal) (AreFaulty t.symbols t.fixups c.in-Err.refusal (ending_of a) new) k e))
+    c.answered-in-Err.ensures.concluded (concluded t None) (λ (e : is_outside_refusal c.in-Err.refusal ≡ false). fault_concluded count t a new c.in-Err.refusal h (certain (is_outside_refusal c.in-Err.refusal) (AreFaulty t.symbols t.fixups c.in-Err.refusal (ending_of a) new) k e))

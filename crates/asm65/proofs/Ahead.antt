@@ -1,6 +1,6 @@
 -- The statements of a line that is taken where it stands.
 use Rattle.std.proofs.lemmas.Bool.Decides.{nat_tests}
-use Rattle.std.proofs.Common.{◌≡◌, ◌∙◌, ℕ, Bool, true, false, ◌+◌, ◌*◌, ◌<◌, ◌≤◌, List, [], ◌∷◌, length, take, drop, refl, subst, arith, Option}
+use Rattle.std.proofs.Common.{◌≡◌, ◌∙◌, ℕ, Bool, true, false, ◌+◌, ◌<◌, ◌≤◌, List, [], ◌∷◌, length, take, drop, refl, subst, arith, Option}
 use Rattle.std.specs.Prelude.{Ok, Err, ◌==◌}
 use Rattle.base65.specs.Store.{Files}
 use Rattle.syntax65.specs.Tokens.{Lexeme, lexemes}
@@ -16,11 +16,10 @@ use Rattle.language65.specs.declared.fault.AsmFault.{AsmFault}
 use Rattle.module65.specs.Machine.{State, Takes}
 use Rattle.module65.specs.Reading.{IsLabel, IsRest}
 use Rattle.asm65.proofs.Runs.{Answer, LabelBy, RestBy, stops_wider, wider}
-use Rattle.asm65.specs.Inner.Running.{IsRoomy, IsRunning, StopsQuietly, TakesAll, TakesBy, TakesLine, TakesLineIf, none, one_more, refused, running_limit}
+use Rattle.asm65.specs.Inner.Running.{IsRoomy, IsRunning, StopsQuietly, TakesAll, TakesBy, TakesLine, TakesLineIf, none, one_more, refused}
 use Rattle.asm65.specs.Assembly.{Without}
 use Rattle.asm65.specs.declared.assembler.Assembler.{Assembler}
 use Rattle.asm65.specs.declared.running.Run.{Run}
-use Rattle.layout65.specs.Measuring.{opening_limit}
 
 -- the statements of a line more may be taken
 pub roomy_ahead : (run : Run) (p : Peeked) (ts : List Lexeme) → IsAhead run.expander p ts → IsRunning run → IsRoomy 4 run.assembler

@@ -1,5 +1,5 @@
 -- The statements of a source as an expander gives them and an assembler takes them.
-use Rattle.std.proofs.Common.{◌≡◌, List, ◌∙◌, ℕ, ◌+◌, ◌*◌, ◌≤◌, ◌<◌, Bool, true, false, Option, Some, None, refl, sym, ap, subst, arith}
+use Rattle.std.proofs.Common.{◌≡◌, [], List, ◌∙◌, ℕ, ◌+◌, ◌*◌, ◌≤◌, ◌<◌, Bool, true, false, Option, Some, None, refl, sym, ap, subst, arith}
 use Rattle.std.specs.Prelude.{Result, Ok, Err, IfSome, if◌then◌else◌}
 use Rattle.base65.specs.Outcome.{Unless}
 use Rattle.base65.specs.Store.{Files}
@@ -34,7 +34,7 @@ use Rattle.layout65.specs.Measuring.{opening_limit}
 use Rattle.asm65.specs.Failing.{IsTakenTo, at_first, further, IsWhere, StopsAll, StopsBehind}
 use Rattle.asm65.specs.Assembly.{IsUnread, Without}
 use Rattle.asm65.specs.Inner.Holding.{Holds}
-use Rattle.asm65.specs.Inner.Running.{HoldsWithin, IsHeldBy, IsReachedBy, IsRoomy, IsRunning, Ran, SaysAs, StopsQuietly, TakesAll, TakesBy, TakesLine, TakesOne, none, one_more, refused, running_limit, tokens_of}
+use Rattle.asm65.specs.Inner.Running.{HoldsWithin, IsHeldBy, IsRunning, Ran, SaysAs, StopsQuietly, TakesAll, TakesBy, TakesLine, TakesOne, none, one_more, refused, running_limit, tokens_of}
 use Rattle.asm65.proofs.Runs.{Answer, GivenBy}
 
 pub some_then : (P Q : Files → Type 0) (o : Option Files) → ((m : Files) → P m → Q m) → IfSome o P → IfSome o Q

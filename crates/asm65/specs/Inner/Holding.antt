@@ -1,5 +1,5 @@
 -- What an assembler holds of a state, and what is put into its sections.
-use Rattle.std.specs.Prelude.{◌≡◌, ℕ, ◌<◌, ⊤, false, List, [], ◌∷◌, length, map, slice_get, string_bytes, Some, ℤ, Bool, true, pos, Option, None, Result, Ok, Err}
+use Rattle.std.specs.Prelude.{◌≡◌, ℕ, ◌<◌, ⊤, false, List, [], ◌∷◌, length, slice_get, Some, ℤ, Bool, true, pos, Option, None, Result, Ok, Err}
 use Rattle.std.specs.List.{AllByRecursion, flat_map, list_all}
 use Rattle.syntax65.specs.Trees.{Tree, name}
 use Rattle.syntax65.specs.declared.place.Place.{Place}

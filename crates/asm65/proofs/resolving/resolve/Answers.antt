@@ -1,4 +1,3 @@
-use Rattle.language65.specs.Views.{place_in}
 use Rattle.asm65.proofs.resolving.resolve.Goals as goal
 
 pub returns-in_ok-form-in-Assertion-clause-made : goal.returns-in_ok-form-in-Assertion-clause-made

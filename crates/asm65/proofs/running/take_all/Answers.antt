@@ -1,7 +1,7 @@
 use Rattle.std.proofs.Common.{rules, ◌≡◌, ◌<◌, ◌∙◌, ap, refl, sym, subst, Option, Some, None, Ok, Err}
 use Rattle.std.specs.Prelude.{IfSome}
 use Rattle.std.proofs.lemmas.Result.{err_from_is_err_and}
-use Rattle.base65.specs.Store.{Files, PassesBy}
+use Rattle.base65.specs.Store.{PassesBy}
 use Rattle.expand65.specs.Standing.{measure_of, place_of}
 use Rattle.expand65.specs.declared.expander.Statement.{Statement}
 use Rattle.language65.specs.Faults.{is_failure}

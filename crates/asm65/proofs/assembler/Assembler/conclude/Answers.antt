@@ -1,4 +1,4 @@
-use Rattle.std.proofs.Common.{◌≡◌, ℕ, List, ap, false, map, refl, string_bytes, subst, Global}
+use Rattle.std.proofs.Common.{◌≡◌, ℕ, List, ap, false, map, string_bytes, subst, Global}
 use Rattle.std.specs.Prelude.{IfOk, None, Ok, Err, Result}
 use Rattle.base65.specs.Outcome.{Unless}
 use Rattle.object65.specs.declared.object.Object.{Object}

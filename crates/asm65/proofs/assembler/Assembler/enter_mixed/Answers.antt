@@ -31,8 +31,8 @@ loop-item-preserved c b h =
     let mid : Assembler = record a { sections = c.append.new.self } in
     let rest = into_iter_items c.next.new.self in
     let one : Enters place s (item_piece width c.in-Some.item ∷ []) a mid =
-        rw c.in-Text.is (given_enters a c.append.new.self place s (Known c.in-Text.bytes)
-        (subst (λ (bytes : List ℕ). Feeds a.sections c.append.new.self (put s.segment (Known bytes))) c.as_slice.ensures c.in_ok-append-in-Text.ensures)) in
+    rw c.in-Text.is (given_enters a c.append.new.self place s (Known c.in-Text.bytes)
+    (subst (λ (bytes : List ℕ). Feeds a.sections c.append.new.self (put s.segment (Known bytes))) c.as_slice.ensures c.in_ok-append-in-Text.ensures)) in
     c.loop-item.invariant b
     (subst (Entered place s width a b) (sym c.in-Some.ensures.steps.0)
     (enters_both place s (item_piece width c.in-Some.item ∷ []) (map (item_piece width) rest) a mid b one h))

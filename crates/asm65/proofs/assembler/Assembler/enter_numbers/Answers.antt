@@ -1,7 +1,6 @@
 use Rattle.std.proofs.Common.{List, ℕ, map, subst}
 use Rattle.std.specs.Prelude.{IfSome, OnOk, Option}
 use Rattle.language65.specs.Contents.{put, Known}
-use Rattle.language65.specs.Items.{numbered}
 use Rattle.language65.specs.Views.{place_in}
 use Rattle.language65.specs.declared.language.Item.{Item}
 use Rattle.layout65.proofs.Measures.{ok_then}

@@ -1,7 +1,7 @@
 use Rattle.std.proofs.Common.{◌≡◌, sym, subst, ◌∙◌, rules, FitsSigned, to_z, of_z, w64}
-use Rattle.std.specs.Prelude.{ℤ, true}
+use Rattle.std.specs.Prelude.{true}
 use Rattle.std.proofs.lemmas.Int.{to_z-of_z}
-use Rattle.object65.specs.Form.{Form, lit}
+use Rattle.object65.specs.Form.{Form}
 use Rattle.object65.specs.Objects.{fits_width, value_bytes}
 use Rattle.language65.specs.Contents.{stored}
 use Rattle.language65.specs.Views.{place_in}

@@ -10,4 +10,4 @@ pub use resolving::{
     Meaning, NormCache, State, defined_norm, definition_of, meaning_of, norm, operand_form,
     plain_part, scope_of, scopes_in, shown, stable_form,
 };
-pub use table::{Definition, Entry, Key, Opening, Symbols};
+pub use table::{Definition, Entry, Key, Opening, Symbols, define};

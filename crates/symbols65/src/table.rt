@@ -1,6 +1,7 @@
 //! The symbol table: definitions by their keys, scopes by their names, and imports; looking things up in it takes no
 //! memory.
 
+mod defining;
 mod symbols;
 
 ghost use Rattle.std.specs.Prelude.{◌≡◌, ◌++◌, ◌∷◌, [], IfOk, None, OnErr, OnOk, Some, length, map, position, ◌<◌, IfSome, slice_get};
@@ -14,6 +15,7 @@ ghost use Rattle.symbols65.specs.Views.{table_of, with_names, with_scope, words_
 ghost use Rattle.language65.specs.Norms.{is_zero_page_name};
 
 use base65::{Seed, Sequence};
+pub use defining::define;
 use indexmap::{IndexMap, IndexSet};
 use std::alloc::{AllocError, Global};
 pub use symbols::{Definition, Entry, Key, Opening, Symbols};

@@ -5,7 +5,7 @@ use Rattle.symbols65.specs.Tables.{KeepsFinal, definition_in, definition_seen, k
 use Rattle.symbols65.specs.Views.{table_of, with_definition, words_of}
 use Rattle.symbols65.proofs.Growing.{entry_is}
 use Rattle.symbols65.proofs.Words.{finds}
-use Rattle.asm65.proofs.naming.adding.define.Goals as goal
+use Rattle.symbols65.proofs.table.defining.define.Goals as goal
 
 pub put-requires-clause-number : goal.put-requires-clause-number
 put-requires-clause-number c = (entry_is (words_of c.entry.new.symbols) (key_of c.args.key) c.in_ok-entry.entry c.in_ok-entry.ensures.entry).0

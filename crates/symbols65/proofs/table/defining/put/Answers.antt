@@ -5,7 +5,7 @@ use Rattle.symbols65.specs.declared.table.symbols.Entry.{Entry}
 use Rattle.symbols65.specs.Tables.{AreCounted, AreFinal, AreNumbered, word_of}
 use Rattle.symbols65.specs.Views.{words_of}
 use Rattle.symbols65.proofs.Growing.{after, counted_pushed, final_pushed, numbered_pushed}
-use Rattle.asm65.proofs.naming.adding.put.Goals as goal
+use Rattle.symbols65.proofs.table.defining.put.Goals as goal
 
 pub invariant_of-symbols : goal.invariant_of-symbols
 invariant_of-symbols c =

@@ -4,7 +4,7 @@ use Rattle.symbols65.specs.declared.table.symbols.Entry.{Entry}
 use Rattle.symbols65.specs.declared.table.symbols.Entry.TheVariants as entry
 use Rattle.symbols65.specs.Tables.{same_entry}
 use Rattle.symbols65.proofs.Growing.{inserted_by}
-use Rattle.asm65.proofs.naming.adding.push.Goals as goal
+use Rattle.symbols65.proofs.table.defining.push.Goals as goal
 
 agree : (x y : Entry) → eq-value.it x y ≡ same_entry x y
 agree (entry.Named s w) (entry.Named t v) = refl

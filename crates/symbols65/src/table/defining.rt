@@ -1,0 +1,82 @@
+//! Definitions that are added to a symbol table.
+
+ghost use Rattle.std.specs.Prelude.{◌≡◌, ◌++◌, ◌∷◌, [], IfOk, None, OnErr, OnOk, Some, length, position};
+ghost use Rattle.indexmap.specs.IndexMap.{keys};
+ghost use Rattle.language65.specs.Symbols.{defined};
+ghost use Rattle.symbols65.specs.Tables.{IsCounted, KeepsFinal, definition_in, definition_seen, entry_of, first_number, key_of, same_entry, word_of};
+ghost use Rattle.symbols65.specs.Views.{table_of, with_definition, words_of};
+
+use super::symbols::{Definition, Entry, Key, Symbols};
+use base65::Seed;
+use indexmap::IndexMap;
+use std::alloc::{AllocError, Global};
+
+/// The entry of a key, whose name is put in where it is new.
+fn entry(alloc: Global, symbols: &mut Symbols, key: Key<'_>) -> Result<Entry, AllocError>
+    ensures table { table_of symbols.new ≡ table_of symbols.old }
+    ensures definitions { symbols.new.definitions ≡ symbols.old.definitions }
+    ensures entry { IfOk result (λ e. entry_of (words_of symbols.new) (key_of key.entry) ≡ Some e) }
+    ensures counted { IfOk result IsCounted }
+{
+    match key {
+        Key::Named { scope, name } => {
+            let word = symbols.number(alloc, name)?;
+            Ok(Entry::Named { scope, word })
+        }
+        Key::Cheap { region, name } => {
+            let word = symbols.number(alloc, name)?;
+            Ok(Entry::Cheap { region, word })
+        }
+        Key::Unnamed(count) => Ok(Entry::Unnamed(count)),
+    }
+}
+
+/// Adds a definition behind all others, where there is none by its entry.
+fn push(
+    definitions: &mut IndexMap<Entry, Definition, Seed>,
+    entry: Entry,
+    definition: Definition,
+) -> Result<(), AllocError>
+    requires { position (same_entry entry) (keys definitions.old) ≡ None }
+    ensures pushed { OnOk result (definitions.new.entries ≡
+        definitions.old.entries ++ (entry, definition) ∷ []) }
+    ensures unchanged { OnErr result (definitions.new.entries ≡ definitions.old.entries) }
+{
+    match definitions.insert(entry, definition) {
+        Ok(_) => Ok(()),
+        Err(_) => Err(AllocError),
+    }
+}
+
+/// Adds a definition behind all others, where its entry has none.
+fn put(symbols: &mut Symbols, entry: Entry, definition: Definition) -> Result<(), AllocError>
+    requires number { first_number (words_of symbols.old) (word_of entry) ≡ word_of entry }
+    requires counted { IsCounted entry }
+    requires form { KeepsFinal (table_of symbols.old) (length symbols.old.definitions.entries)
+        (definition_in (words_of symbols.old) (entry, definition)) definition.form }
+    ensures { OnOk result (position (same_entry entry) (keys symbols.old.definitions) ≡ None →
+        table_of symbols.new ≡ with_definition (table_of symbols.old)
+        (definition_in (words_of symbols.old) (entry, definition))) }
+{
+    match symbols.place_of(entry) {
+        Some(_) => Ok(()),
+        None => push(&mut symbols.definitions, entry, definition),
+    }
+}
+
+/// Adds a definition behind all others. Nothing is said where its key has one.
+pub fn define(
+    alloc: Global,
+    symbols: &mut Symbols,
+    key: Key<'_>,
+    definition: Definition,
+) -> Result<(), AllocError>
+    requires { KeepsFinal (table_of symbols.old) (length (table_of symbols.old).definitions)
+        (definition_seen (key_of key) definition) definition.form }
+    ensures { OnOk result (defined (table_of symbols.old) (key_of key.entry) ≡ None →
+        table_of symbols.new ≡ with_definition (table_of symbols.old)
+        (definition_seen (key_of key.entry) definition)) }
+{
+    let entry = entry(alloc, symbols, key)?;
+    put(symbols, entry, definition)
+}

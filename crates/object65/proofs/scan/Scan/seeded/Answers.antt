@@ -1,7 +1,7 @@
 use Rattle.std.proofs.Common.{refl, arith}
 use Rattle.object65.specs.Scanning.{start}
 use Rattle.object65.proofs.Withins.{reached_start}
-use Rattle.object65.proofs.scan.Scan.new.Goals as goal
+use Rattle.object65.proofs.scan.Scan.seeded.Goals as goal
 
 pub invariant_of-result : goal.invariant_of-result
 invariant_of-result c = λ running. record {

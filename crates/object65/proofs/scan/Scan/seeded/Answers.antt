@@ -6,5 +6,5 @@ use Rattle.object65.proofs.scan.Scan.seeded.Goals as goal
 pub invariant_of-result : goal.invariant_of-result
 invariant_of-result c = λ running. record {
   sound = record { filling = omega arith };
-  stands = record { state = start c.args.version; reached = reached_start c.args.version c.requires; same = rw (c.new.ensures.empty, c.new-2.ensures.empty, c.new-3.ensures.empty, c.new-4.ensures.items, c.new-5.ensures.empty) refl };
+  stands = record { state = start c.args.version; reached = reached_start c.args.version c.requires; same = rw (c.with_hasher.ensures.empty, c.with_hasher-2.ensures.empty, c.with_hasher-3.ensures.empty, c.new.ensures.items, c.with_hasher-4.ensures.empty) refl };
 }

@@ -41,7 +41,7 @@ pub fn load_or_begin<S: Store>(
     ensures asked { Asks is_library_outside (S.failures store.old) result }
 {
     match Library::load(alloc, store, file) {
-        Err(LibraryFault::FileNotFound) => Ok(Library::empty(alloc)),
+        Err(LibraryFault::FileNotFound) => Ok(Library::seeded(alloc, store.seed())),
         loaded => loaded,
     }
 }

@@ -199,7 +199,7 @@ fn link_inputs<S: Store>(
     ensures kept { LeavesBy S.files S.failures S.blamed
         (λ b. NamesInputs b (linking line.now).inputs) store.old store.new result }
 {
-    let mut linker = Linker::new(alloc, script, output_of(line))?;
+    let mut linker = Linker::seeded(alloc, store.seed(), script, output_of(line))?;
     feed_inputs(alloc, store, &mut linker, line.inputs.as_slice())?;
     Ok(linker.finish()?)
 }

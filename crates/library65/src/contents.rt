@@ -15,7 +15,7 @@ ghost use Rattle.library65.specs.Inner.Contents.{ReadsContents, contents_at};
 use crate::index::is_file_name;
 use crate::{Entry, LibraryFault};
 use arrayvec::ArrayVec;
-use base65::Sequence;
+use base65::{Seed, Sequence};
 use object65::{Export, Item, Object, ObjectFault, Record, Scan, decode_head, decode_record};
 use std::alloc::Global;
 
@@ -30,7 +30,7 @@ pub struct Contents {
 #[tactic(auto, unfolding(crate::specs::Libraries::checked, crate::specs::Libraries::contents_in))]
 pub fn check_member(
     alloc: Global,
-    space: &mut Record,
+    space: &mut Space,
     name: &[u8],
     bytes: &[u8],
 ) -> Result<Contents, LibraryFault>
@@ -66,11 +66,25 @@ pub fn agrees(entry: &Entry, contents: &Contents) -> bool
         && are_same(entry.imports.as_slice(), contents.imports.as_slice())
 }
 
-/// Space that the records of all members take in turn.
-pub fn empty_record() -> Record {
-    Record {
-        kind: 0,
-        body: ArrayVec::new(),
+/// What the members of a library are read with, one after the other.
+#[derive(Drop)]
+pub struct Space {
+    /// Their records take it in turn.
+    pub record: Record,
+    /// What tables of names begin with.
+    pub seed: Seed,
+}
+
+impl Space {
+    /// Space with tables of this seed.
+    pub fn of(seed: Seed) -> Self {
+        Space {
+            record: Record {
+                kind: 0,
+                body: ArrayVec::new(),
+            },
+            seed,
+        }
     }
 }
 
@@ -95,7 +109,7 @@ fn add_item(contents: &mut Contents, item: Item) -> Result<(), ObjectFault>
 /// Reads the records of an object of this version one by one up to the END: what they export and import, and where the END ends.
 fn read_records(
     alloc: Global,
-    space: &mut Record,
+    space: &mut Space,
     bytes: &[u8],
     version: u8,
     at: usize,
@@ -106,15 +120,15 @@ fn read_records(
     ensures within { IfOk result (λ x. x.1 ≤ length bytes.now) }
     ensures symbols { IfOk result (λ x. AreSymbols x.0) }
 {
-    let mut scan = Scan::new(alloc, version);
+    let mut scan = Scan::seeded(alloc, space.seed, version);
     let mut contents = Contents {
         exports: Sequence::new(alloc),
         imports: Sequence::new(alloc),
     };
     let mut next = at;
     'records: loop {
-        next = decode_record(space, version, bytes, next)?;
-        let item = scan.take(space)?;
+        next = decode_record(&mut space.record, version, bytes, next)?;
+        let item = scan.take(&space.record)?;
         add_item(&mut contents, item)?;
         if scan.is_ended() {
             return Ok((contents, next));
@@ -138,7 +152,7 @@ fn check_end(bytes: &[u8], at: usize) -> Result<(), ObjectFault>
 #[tactic(auto, unfolding(object65::specs::Reading::object_at))]
 pub fn read_contents(
     alloc: Global,
-    space: &mut Record,
+    space: &mut Space,
     bytes: &[u8],
 ) -> Result<Contents, ObjectFault>
     ensures read { Gives is_object_memory (λ c. c) result (contents_at bytes.now) }

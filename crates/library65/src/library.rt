@@ -14,13 +14,12 @@ ghost use Rattle.library65.specs.Spelling.{is_among, AreSymbols};
 ghost use Rattle.library65.specs.declared.fault.LibraryFault.TheVariants.{FileError};
 
 use crate::LibraryFault;
-use crate::contents::{Contents, check_member, empty_record};
+use crate::contents::{Contents, Space, check_member};
 use crate::loading::read_members;
 use crate::writing::put_library;
-use base65::{Sequence, Store};
+use base65::{Seed, Sequence, Store};
 use indexmap::IndexMap;
 use indexmap::map::Keys;
-use object65::Record;
 use object65::format::FILE_LIMIT;
 use std::alloc::{AllocError, Global};
 use std::marker::Model;
@@ -37,9 +36,9 @@ pub struct Stored {
 #[derive(Drop)]
 pub struct Library {
     alloc: Global,
-    members: IndexMap<Vec<u8>, Stored>,
+    members: IndexMap<Vec<u8>, Stored, Seed>,
     /// It takes the records of each member that is put in, one after another.
-    space: Record,
+    space: Space,
 }
 
 impl Model for Library {
@@ -89,7 +88,7 @@ impl<'a> Iterator for MemberNames<'a> {
 
 /// Puts a member in the place of the one of its name, or else last.
 pub fn put_member(
-    members: &mut IndexMap<Vec<u8>, Stored>,
+    members: &mut IndexMap<Vec<u8>, Stored, Seed>,
     name: Vec<u8>,
     stored: Stored,
 ) -> Result<(), AllocError>
@@ -107,7 +106,7 @@ pub fn put_member(
 /// Puts copies in, in the place of the member of the name, or else last.
 pub fn put_copy(
     alloc: Global,
-    members: &mut IndexMap<Vec<u8>, Stored>,
+    members: &mut IndexMap<Vec<u8>, Stored, Seed>,
     name: &[u8],
     bytes: &[u8],
     contents: Contents,
@@ -126,7 +125,7 @@ pub fn put_copy(
 }
 
 /// Takes the member of a name out.
-fn remove_member(members: &mut IndexMap<Vec<u8>, Stored>, name: &[u8])
+fn remove_member(members: &mut IndexMap<Vec<u8>, Stored, Seed>, name: &[u8])
     requires { IsSound members.old }
     ensures removed { members_of members.new ≡ without_member (members_of members.old) name.now }
     ensures sound { IsSound members.new }
@@ -134,13 +133,13 @@ fn remove_member(members: &mut IndexMap<Vec<u8>, Stored>, name: &[u8])
     members.shift_remove(name);
 }
 
-fn has_member(members: &IndexMap<Vec<u8>, Stored>, name: &[u8]) -> bool
+fn has_member(members: &IndexMap<Vec<u8>, Stored, Seed>, name: &[u8]) -> bool
     ensures { result ≡ is_among (member_names (members_of members.now)) name.now }
 {
     members.contains_key(name)
 }
 
-fn member_bytes<'a>(members: &'a IndexMap<Vec<u8>, Stored>, name: &[u8]) -> Option<&'a [u8]>
+fn member_bytes<'a>(members: &'a IndexMap<Vec<u8>, Stored, Seed>, name: &[u8]) -> Option<&'a [u8]>
     ensures { option_copied result ≡ bytes_of (members_of members.entry.now) name.now }
 {
     Some(members.get(name)?.bytes.as_slice())
@@ -151,10 +150,17 @@ impl Library {
     pub fn empty(alloc: Global) -> Self
         ensures { result ≡ [] }
     {
+        Library::seeded(alloc, Seed::default())
+    }
+
+    /// The same, whose tables of names begin with a seed.
+    pub fn seeded(alloc: Global, seed: Seed) -> Self
+        ensures { result ≡ [] }
+    {
         Library {
             alloc,
-            members: IndexMap::new(alloc),
-            space: empty_record(),
+            members: IndexMap::with_hasher(alloc, seed),
+            space: Space::of(seed),
         }
     }
 
@@ -168,7 +174,7 @@ impl Library {
         Ok(Library {
             alloc,
             members,
-            space: empty_record(),
+            space: Space::of(store.seed()),
         })
     }
 

@@ -13,12 +13,11 @@ ghost use Rattle.library65.specs.Reading.{in_file};
 ghost use Rattle.library65.specs.Spelling.{AreSymbols};
 ghost use Rattle.library65.specs.declared.fault.LibraryFault.TheVariants.{FileError};
 
-use crate::contents::{Contents, agrees, check_member, empty_record};
+use crate::contents::{Contents, Space, agrees, check_member};
 use crate::library::{Stored, put_member};
 use crate::{Entry, LibraryFault, read_index};
-use base65::{Store, StoreFault, read_full};
+use base65::{Seed, Store, StoreFault, read_full};
 use indexmap::IndexMap;
-use object65::Record;
 use std::alloc::Global;
 
 const CHUNK: usize = 4096;
@@ -27,8 +26,8 @@ const CHUNK: usize = 4096;
 #[derive(Drop)]
 struct Loading {
     alloc: Global,
-    members: IndexMap<Vec<u8>, Stored>,
-    space: Record,
+    members: IndexMap<Vec<u8>, Stored, Seed>,
+    space: Space,
     chunk: [u8; CHUNK],
 }
 
@@ -89,7 +88,7 @@ fn read_piece<S: Store>(
 #[tactic(auto, unfolding(crate::specs::Libraries::agreed))]
 fn check_entry(
     alloc: Global,
-    space: &mut Record,
+    space: &mut Space,
     entry: &Entry,
     bytes: &[u8],
 ) -> Result<Contents, LibraryFault>
@@ -141,7 +140,7 @@ pub fn read_members<S: Store>(
     alloc: Global,
     store: &mut S,
     file: &str,
-) -> Result<IndexMap<Vec<u8>, Stored>, LibraryFault>
+) -> Result<IndexMap<Vec<u8>, Stored, Seed>, LibraryFault>
     ensures read { IfSome (S.files store.old) (λ m. Gives is_outside (λ ms. members_of ms) result (in_file (map.get m file.now) library_at)) }
     ensures kept { Leaves S.files S.failures S.blamed FileError file.now store.old store.new result }
     ensures asked { Asks is_outside (S.failures store.old) result }
@@ -150,8 +149,8 @@ pub fn read_members<S: Store>(
     let index = read_index(alloc, store, file)?;
     let mut loading = Loading {
         alloc,
-        members: IndexMap::new(alloc),
-        space: empty_record(),
+        members: IndexMap::with_hasher(alloc, store.seed()),
+        space: Space::of(store.seed()),
         chunk: [0u8; CHUNK],
     };
     for entry in index.entries.as_slice() {

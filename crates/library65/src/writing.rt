@@ -9,7 +9,7 @@ ghost use Rattle.library65.specs.Spelling.{is_name, listing_bytes, name_bytes, n
 use crate::LibraryFault;
 use crate::indexing::HEAD;
 use crate::library::Stored;
-use base65::Sequence;
+use base65::{Seed, Sequence};
 use byteorder::{ByteOrder, LittleEndian};
 use indexmap::IndexMap;
 use std::alloc::AllocError;
@@ -81,7 +81,10 @@ fn put_listing(out: &mut Vec<u8>, name: &[u8], stored: &Stored) -> Result<(), Li
 }
 
 /// Adds what the index says of the members.
-fn put_listings(out: &mut Vec<u8>, members: &IndexMap<Vec<u8>, Stored>) -> Result<(), LibraryFault>
+fn put_listings(
+    out: &mut Vec<u8>,
+    members: &IndexMap<Vec<u8>, Stored, Seed>,
+) -> Result<(), LibraryFault>
     requires { IsSound members.now }
     ensures { Puts (flat_map member_listing (members_of members.now)) (length (flat_map member_listing (members_of members.now)) + length (flat_map (λ m. m.1) (members_of members.now))) out.old.items out.new.items result }
 {
@@ -92,7 +95,10 @@ fn put_listings(out: &mut Vec<u8>, members: &IndexMap<Vec<u8>, Stored>) -> Resul
 }
 
 /// Adds the members' bytes.
-fn put_bodies(out: &mut Vec<u8>, members: &IndexMap<Vec<u8>, Stored>) -> Result<(), AllocError>
+fn put_bodies(
+    out: &mut Vec<u8>,
+    members: &IndexMap<Vec<u8>, Stored, Seed>,
+) -> Result<(), AllocError>
     ensures { OnOk result (out.new.items ≡ out.old.items ++ flat_map (λ m. m.1) (members_of members.now)) }
 {
     for stored in members.values() {
@@ -104,7 +110,7 @@ fn put_bodies(out: &mut Vec<u8>, members: &IndexMap<Vec<u8>, Stored>) -> Result<
 /// Adds the bytes of a library of these members.
 pub fn put_library(
     out: &mut Vec<u8>,
-    members: &IndexMap<Vec<u8>, Stored>,
+    members: &IndexMap<Vec<u8>, Stored, Seed>,
 ) -> Result<(), LibraryFault>
     requires { IsSound members.now }
     ensures { Puts (library_bytes (members_of members.now)) (length (library_bytes (members_of members.now))) out.old.items out.new.items result }

@@ -1,6 +1,6 @@
 //! The module that is open: its records, and what a library's index says of it.
 
-ghost use Rattle.std.specs.Prelude.{◌≡◌, IfOk, map, ◌+◌, drop, Ok, OnErr, OnOk, IfErr, true};
+ghost use Rattle.std.specs.Prelude.{length, ◌≡◌, IfOk, map, ◌+◌, drop, Ok, OnErr, OnOk, IfErr, true};
 ghost use Rattle.std.specs.Option.{option_map};
 ghost use Rattle.library65.specs.Libraries.{are_same};
 ghost use Rattle.link65.specs.Inner.Fields.{are_listed, Closes, Grows};
@@ -92,20 +92,21 @@ pub struct Open {
 
 /// Opens a module of this name and of an object of this version, a library's member where there is an entry of it.
 pub fn open_module(
-    alloc: Global,
+    growing: &Growing,
     name: &[u8],
     version: u8,
     entry: Option<&Entry>,
-    first_export: usize,
 ) -> Result<Open, LinkFault>
     requires { is_version version ≡ true }
-    ensures opened { IfOk result (λ o. o ≡ record { name = name.now; scan = outline_of (start version); first_export = first_export; listed = option_map (λ e. listed_of e.now) entry.entry }) }
+    ensures opened { IfOk result (λ o. o ≡ record { name = name.now; scan = outline_of (start version); first_export = length growing.now.exports; listed = option_map (λ e. listed_of e.now) entry.entry }) }
     ensures memory { IfErr result (λ e. is_memory e ≡ true) }
 {
+    let alloc = growing.alloc;
+    let seed = *growing.names.hasher();
     Ok(Open {
         name: Sequence::copy_of(alloc, name)?,
-        scan: Scan::new(alloc, version),
-        first_export,
+        scan: Scan::seeded(alloc, seed, version),
+        first_export: growing.exports.len(),
         listed: listed_of(alloc, entry)?,
     })
 }

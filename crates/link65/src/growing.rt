@@ -13,8 +13,9 @@ ghost use Rattle.link65.specs.Programs.{no_program, empty_segment, fragment_cell
 
 use crate::fault::LinkFault;
 use crate::parts::{Asserted, Content, Exported, Fixup, Member, Piece, SectionPlace};
-use base65::Sequence;
+use base65::{Seed, Sequence};
 use indexmap::IndexSet;
+use library65::Names;
 use object65::{Fragment, Item, Width};
 use std::alloc::{AllocError, Global};
 use std::mem;
@@ -25,7 +26,7 @@ pub struct Growing {
     pub alloc: Global,
     pub members: Sequence<Member>,
     /// The names of the segments, by which their places are found.
-    pub names: IndexSet<Vec<u8>>,
+    pub names: Names,
     pub contents: Vec<Content>,
     pub exports: Sequence<Exported>,
     pub asserts: Sequence<Asserted>,
@@ -143,7 +144,7 @@ fn add_fragment(
 }
 
 /// The place of the segment of a name, if there is one.
-pub fn place_of(names: &IndexSet<Vec<u8>>, name: &[u8]) -> Option<usize>
+pub fn place_of(names: &Names, name: &[u8]) -> Option<usize>
     ensures place { result ≡ place_in name.now (map (λ n. n.items) names.now.keys) }
     ensures within { IfSome result (λ i. i < length names.now.keys) }
 {
@@ -312,14 +313,14 @@ pub fn end_module(growing: &mut Growing, name: Sequence<u8>) -> Result<(), LinkF
 }
 
 /// A program that no module has been taken of.
-pub fn no_module(alloc: Global) -> Growing
+pub fn no_module(alloc: Global, seed: Seed) -> Growing
     ensures empty { growth_in result ≡ at_rest no_program }
     ensures named { AreNamed result }
 {
     Growing {
         alloc,
         members: Sequence::new(alloc),
-        names: IndexSet::new(alloc),
+        names: IndexSet::with_hasher(alloc, seed),
         contents: Vec::new(alloc),
         exports: Sequence::new(alloc),
         asserts: Sequence::new(alloc),

@@ -15,7 +15,7 @@ use crate::feeding::{Open, close_module, open_module, take_record};
 use crate::given::{Given, copy_of, open_names};
 use crate::growing::{Growing, no_module};
 use crate::linking::{Linked, link};
-use base65::Text;
+use base65::{Seed, Text};
 use library65::{Entry, Names};
 use object65::Record;
 use script65::Script;
@@ -63,12 +63,28 @@ impl Linker {
         ensures pending { IfOk result (λ l. l.pending ≡ 0) }
         ensures names { Gives is_memory (λ _. tt) result (names_once script (program_of [])) }
     {
-        let given = Given::of(alloc, &script)?;
+        Linker::seeded(alloc, Seed::default(), script, output)
+    }
+
+    /// The same, whose tables of names begin with a seed.
+    pub fn seeded(
+        alloc: Global,
+        seed: Seed,
+        script: Script,
+        output: &str,
+    ) -> Result<Self, LinkFault>
+        ensures fed { IfOk result (λ l. IsFed l []) }
+        ensures script { IfOk result (λ l. l.script ≡ script) }
+        ensures output { IfOk result (λ l. l.output ≡ output.now) }
+        ensures pending { IfOk result (λ l. l.pending ≡ 0) }
+        ensures names { Gives is_memory (λ _. tt) result (names_once script (program_of [])) }
+    {
+        let given = Given::of(alloc, seed, &script)?;
         let output = Text::copy_of(alloc, output)?;
         Ok(Linker {
             script,
             output,
-            growing: no_module(alloc),
+            growing: no_module(alloc, seed),
             given,
             opened: None,
             pending: 0,
@@ -137,8 +153,7 @@ impl Linker {
         if self.failed {
             return Err(LinkFault::FailedBefore);
         }
-        let first_export = self.growing.exports.len();
-        match open_module(self.growing.alloc, name, version, entry, first_export) {
+        match open_module(&self.growing, name, version, entry) {
             Ok(opened) => {
                 self.opened = Some(opened);
                 Ok(())

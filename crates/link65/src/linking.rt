@@ -114,7 +114,8 @@ fn pass_placed(
     let own = definitions_of(alloc, script, placement)?;
     let weak = weak_symbols(alloc, script.symbols.as_slice())?;
     let exports = program.exports.as_slice();
-    let names = Names::of(alloc, own.as_slice(), exports, weak.as_slice())?;
+    let seed = *program.names.hasher();
+    let names = Names::of(alloc, seed, own.as_slice(), exports, weak.as_slice())?;
     pass_named(alloc, script, placement, &names, &program)
 }
 

@@ -9,7 +9,7 @@ ghost use Rattle.link65.specs.Placed.{AreAddresses, AreNames, IsTable, provider_
 ghost use Rattle.link65.specs.declared.parts.Provider.TheVariants.{Nobody};
 
 use crate::parts::{Definition, Exported, Member, Provider, Resolved, SectionPlace};
-use base65::Sequence;
+use base65::{Seed, Sequence};
 use indexmap::IndexMap;
 use script65::{Row, RowPlace};
 use std::alloc::{AllocError, Global};
@@ -17,7 +17,7 @@ use std::alloc::{AllocError, Global};
 /// The place of the first of names that equals one.
 #[derive(Drop)]
 pub struct Places<'a> {
-    pub by_name: IndexMap<&'a [u8], usize>,
+    pub by_name: IndexMap<&'a [u8], usize, Seed>,
 }
 
 fn name_at<'a>(names: &[&'a [u8]], i: usize) -> &'a [u8]
@@ -28,10 +28,14 @@ fn name_at<'a>(names: &[&'a [u8]], i: usize) -> &'a [u8]
 }
 
 /// The places of names. Of two that are equal the first counts, so it comes last.
-pub fn places_of<'a>(alloc: Global, names: &[&'a [u8]]) -> Result<Places<'a>, AllocError>
+pub fn places_of<'a>(
+    alloc: Global,
+    seed: Seed,
+    names: &[&'a [u8]],
+) -> Result<Places<'a>, AllocError>
     ensures { IfOk result (λ t. IsTable t (map (λ n. n.now) names.now)) }
 {
-    let mut by_name = IndexMap::new(alloc);
+    let mut by_name = IndexMap::with_hasher(alloc, seed);
     for i in (0..names.len()).rev() {
         let name = name_at(names, i);
         by_name.insert(name, i)?;
@@ -125,6 +129,7 @@ impl<'a> Names<'a> {
     /// All names by their places.
     pub fn of(
         alloc: Global,
+        seed: Seed,
         own: &'a [Definition],
         exports: &'a [Exported],
         weak: &'a [Definition],
@@ -136,11 +141,11 @@ impl<'a> Names<'a> {
     {
         Ok(Names {
             own,
-            own_places: definition_places(alloc, own)?,
+            own_places: definition_places(alloc, seed, own)?,
             exports,
-            export_places: export_places(alloc, exports)?,
+            export_places: export_places(alloc, seed, exports)?,
             weak,
-            weak_places: definition_places(alloc, weak)?,
+            weak_places: definition_places(alloc, seed, weak)?,
         })
     }
 
@@ -165,26 +170,31 @@ pub fn is_defined(names: &Names<'_>, name: &[u8]) -> bool
 
 pub fn definition_places<'a>(
     alloc: Global,
+    seed: Seed,
     definitions: &'a [Definition],
 ) -> Result<Places<'a>, AllocError>
     ensures { IfOk result (λ t. IsTable t (map (λ d. d.name) definitions.entry.now)) }
 {
     let names = definition_names(alloc, definitions)?;
-    places_of(alloc, names.as_slice())
+    places_of(alloc, seed, names.as_slice())
 }
 
-pub fn export_places<'a>(alloc: Global, exports: &'a [Exported]) -> Result<Places<'a>, AllocError>
+pub fn export_places<'a>(
+    alloc: Global,
+    seed: Seed,
+    exports: &'a [Exported],
+) -> Result<Places<'a>, AllocError>
     ensures { IfOk result (λ t. IsTable t (map (λ e. e.name) exports.entry.now)) }
 {
     let names = export_names(alloc, exports)?;
-    places_of(alloc, names.as_slice())
+    places_of(alloc, seed, names.as_slice())
 }
 
 fn row_places<'a>(alloc: Global, rows: &'a [Row]) -> Result<Places<'a>, AllocError>
     ensures { IfOk result (λ t. IsTable t (map (λ r. r.name) rows.entry.now)) }
 {
     let names = row_names(alloc, rows)?;
-    places_of(alloc, names.as_slice())
+    places_of(alloc, Seed::default(), names.as_slice())
 }
 
 /// Where rows are placed, each found by its name.

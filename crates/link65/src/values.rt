@@ -18,8 +18,8 @@ use crate::growing::place_of;
 use crate::parts::{Asserted, Content, Exported, Fixup, Member, Resolved, ValueFault};
 use crate::texts::{join, site_name};
 use base65::Sequence;
-use indexmap::IndexSet;
 use itoa::Buffer;
+use library65::Names;
 use object65::{Action, Norm, Origin, fits};
 use std::alloc::{AllocError, Global};
 
@@ -28,7 +28,7 @@ use std::alloc::{AllocError, Global};
 pub struct Placed<'a> {
     pub members: &'a [Member],
     /// The names of the segments, by which their places are found.
-    pub names: &'a IndexSet<Vec<u8>>,
+    pub names: &'a Names,
     pub contents: &'a [Content],
     pub exports: &'a [Exported],
     pub asserts: &'a [Asserted],

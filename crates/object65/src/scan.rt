@@ -12,9 +12,9 @@ ghost use Rattle.object65.specs.Inner.Sound.{outline_in, IsSound, Takes};
 
 use crate::filling::{check_form, check_open_form, check_parts};
 use crate::forming::{byte_at, form_of, origin_at, text_of};
-use crate::taking::{add_name, all_full, check, check_file_name, check_name, take_record};
+use crate::taking::{Names, add_name, all_full, check, check_file_name, check_name, take_record};
 use crate::{Action, Assert, Export, Item, ObjectFault, Record};
-use base65::Sequence;
+use base65::{Seed, Sequence};
 use indexmap::IndexSet;
 use std::alloc::Global;
 use std::marker::Model;
@@ -46,18 +46,18 @@ pub struct Kept {
     pub alloc: Global,
     pub version: u8,
     /// The names of the files.
-    pub files: IndexSet<Vec<u8>>,
+    pub files: Names,
     /// The names of the imports.
-    pub imports: IndexSet<Vec<u8>>,
+    pub imports: Names,
     /// The names of the sections.
-    pub sections: IndexSet<Vec<u8>>,
+    pub sections: Names,
     pub rooms: Vec<Room>,
     /// Whether a fragment was taken.
     pub begun: bool,
     /// The sections before this place are full.
     pub filling: usize,
     /// The names of the exports.
-    pub exports: IndexSet<Vec<u8>>,
+    pub exports: Names,
     /// Whether an assertion was taken.
     pub asserting: bool,
     pub ended: bool,
@@ -211,17 +211,25 @@ impl Scan {
         requires { is_version version ≡ true }
         ensures { result ≡ outline_of (start version) }
     {
+        Scan::seeded(alloc, Seed::default(), version)
+    }
+
+    /// The same, whose tables of names begin with a seed.
+    pub fn seeded(alloc: Global, seed: Seed, version: u8) -> Self
+        requires { is_version version ≡ true }
+        ensures { result ≡ outline_of (start version) }
+    {
         Scan {
             kept: Kept {
                 alloc,
                 version,
-                files: IndexSet::new(alloc),
-                imports: IndexSet::new(alloc),
-                sections: IndexSet::new(alloc),
+                files: IndexSet::with_hasher(alloc, seed),
+                imports: IndexSet::with_hasher(alloc, seed),
+                sections: IndexSet::with_hasher(alloc, seed),
                 rooms: Vec::new(alloc),
                 begun: false,
                 filling: 0,
-                exports: IndexSet::new(alloc),
+                exports: IndexSet::with_hasher(alloc, seed),
                 asserting: false,
                 ended: false,
             },

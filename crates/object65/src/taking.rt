@@ -15,7 +15,7 @@ use crate::filling::{room_with_fill, room_with_literal, room_with_value};
 use crate::format::{ASSERT, EXPORT, FILE, FILL, IMPORT, LITERAL, SECTION, SECTION_LIMIT, VALUE};
 use crate::scan::{Kept, Last, Room, take_assert, take_export, take_file, take_import};
 use crate::{Fragment, Item, ObjectFault, Record};
-use base65::{Sequence, is_utf8};
+use base65::{Seed, Sequence, is_utf8};
 use byteorder::{ByteOrder, LittleEndian};
 use indexmap::IndexSet;
 use std::alloc::Global;
@@ -29,6 +29,9 @@ pub fn check(holds: bool, fault: ObjectFault) -> Result<(), ObjectFault>
     if holds { Ok(()) } else { Err(fault) }
 }
 
+/// Names, each once, in the order in which they came.
+pub type Names = IndexSet<Vec<u8>, Seed>;
+
 fn is_printed_name(name: &[u8]) -> bool
     ensures { result ≡ list_all is_printed name.now }
 {
@@ -41,14 +44,14 @@ fn is_good_name(name: &[u8]) -> bool
     !name.is_empty() && name.len() < 256 && is_printed_name(name)
 }
 
-fn has_name(names: &IndexSet<Vec<u8>>, name: &[u8]) -> bool
+fn has_name(names: &Names, name: &[u8]) -> bool
     ensures { result ≡ is_among (map (λ n. n.items) names.now.keys) name.now }
 {
     names.contains(name)
 }
 
 /// Refuses a bad name and one that is there.
-pub fn check_name(names: &IndexSet<Vec<u8>>, name: &[u8]) -> Result<(), ObjectFault>
+pub fn check_name(names: &Names, name: &[u8]) -> Result<(), ObjectFault>
     ensures { result ≡ new_name (map (λ n. n.items) names.now.keys) name.now }
 {
     check(
@@ -58,7 +61,7 @@ pub fn check_name(names: &IndexSet<Vec<u8>>, name: &[u8]) -> Result<(), ObjectFa
 }
 
 /// Refuses a file's name that is no text and one that is there.
-pub fn check_file_name(names: &IndexSet<Vec<u8>>, name: &[u8]) -> Result<(), ObjectFault>
+pub fn check_file_name(names: &Names, name: &[u8]) -> Result<(), ObjectFault>
     ensures { result ≡ new_file (map (λ n. n.items) names.now.keys) name.now }
 {
     check(
@@ -68,11 +71,7 @@ pub fn check_file_name(names: &IndexSet<Vec<u8>>, name: &[u8]) -> Result<(), Obj
 }
 
 /// Adds a new name.
-pub fn add_name(
-    alloc: Global,
-    names: &mut IndexSet<Vec<u8>>,
-    name: &[u8],
-) -> Result<(), ObjectFault>
+pub fn add_name(alloc: Global, names: &mut Names, name: &[u8]) -> Result<(), ObjectFault>
     requires { is_among (map (λ n. n.items) names.old.keys) name.now ≡ false }
     ensures { Gives is_memory (λ _. map (λ n. n.items) names.new.keys) result (Ok (map (λ n. n.items) names.old.keys ++ name.now ∷ [])) }
 {

@@ -2,4 +2,4 @@ use Rattle.ar65.proofs.Begun.{begun_empty}
 use Rattle.ar65.proofs.members.load_or_begin.Goals as goal
 
 pub returns-in-Err-FileNotFound-clause-read : goal.returns-in-Err-FileNotFound-clause-read
-returns-in-Err-FileNotFound-clause-read g c = begun_empty _ c.args.file.now _ c.in-Err-FileNotFound.field-0 c.empty.ensures c.in-Err-FileNotFound.field-0-is c.in-Err-FileNotFound.ensures.read
+returns-in-Err-FileNotFound-clause-read g c = begun_empty _ c.args.file.now _ c.in-Err-FileNotFound.field-0 c.seeded.ensures c.in-Err-FileNotFound.field-0-is c.in-Err-FileNotFound.ensures.read

@@ -7,7 +7,7 @@ use Rattle.library65.proofs.contents.read_records.Goals as goal
 pub records-init : goal.records-init
 records-init c = record {
   within = c.requires.within;
-  taken = rw (c.new-scan.ensures, c.new.ensures, c.new-2.ensures) (nothing_taken c.args.version c.args.bytes.now c.args.at c.requires.version);
+  taken = rw (c.seeded-scan.ensures, c.new.ensures, c.new-2.ensures) (nothing_taken c.args.version c.args.bytes.now c.args.at c.requires.version);
 }
 
 pub returns-in_err-next-clause-read : goal.returns-in_err-next-clause-read

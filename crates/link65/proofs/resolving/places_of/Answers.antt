@@ -7,7 +7,7 @@ use Rattle.link65.proofs.ListLemmas.{all_names, at_name, none_there, one_more}
 use Rattle.link65.proofs.resolving.places_of.Goals as goal
 
 pub loop-i-init : goal.loop-i-init
-loop-i-init c = λ name. ap (lookup (λ (k : Bor (List ℕ)). bytes_eq name k.now)) c.new-by_name.ensures.empty ∙ sym (none_there c.args.names.now name)
+loop-i-init c = λ name. ap (lookup (λ (k : Bor (List ℕ)). bytes_eq name k.now)) c.with_hasher-by_name.ensures.empty ∙ sym (none_there c.args.names.now name)
 
 pub loop-i-preserved : goal.loop-i-preserved
 loop-i-preserved c = λ name.

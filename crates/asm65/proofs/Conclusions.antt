@@ -184,7 +184,7 @@ all_settled count t a files new r h same settled =
     let waits : AreFixups (table_of a.symbols) files a.fixups.items t.fixups = subst (λ (fs : List (List ℕ)). AreFixups (table_of a.symbols) fs a.fixups.items t.fixups) (sym same) there in
     subst (λ (y : Symbols). SettlesAll y t.fixups (ending_of a) new r) h.symbols (settled t.fixups waits)
 
--- the sections site for the contents of the state
+-- the sections stand for the contents of the state
 pub stands_finished : (count : ℕ) (t : State) (a : Assembler) (new : Ending) → Holds count t a → (k : AreSettled t.symbols t.fixups (ending_of a) new) → Stands (filled t.slots k.contents) [] new.sections
 stands_finished count t a new h k =
     let cs = k.contents in

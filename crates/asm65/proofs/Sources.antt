@@ -84,7 +84,7 @@ module _ (old mid : Run) (same : mid.assembler ≡ old.assembler) (less : measur
 
 -- ---- Where files are told.
 
--- What is left comes, behind a state that is held, to what all comes to. The expander may site some steps further on,
+-- What is left comes, behind a state that is held, to what all comes to. The expander may stand some steps further on,
 -- none of which gave a statement.
 pub record Stays (m : Files) (job : Job) (run : Run) (u : State) : Type 0 where
   pub left : expand.State

@@ -82,7 +82,7 @@ last_of (c ∷ []) n e = ([], c, refl)
 last_of (c ∷ d ∷ cs) zero e = absurd (omega arith)
 last_of (c ∷ d ∷ cs) (suc n) e = let (front, l, is) = last_of (d ∷ cs) n (omega arith) in (c ∷ front, l, ap (λ ds. c ∷ ds) is)
 
--- sections site for these contents more
+-- sections stand for these contents more
 abbrev FeedsAll : Sections → Sections → List Content → Type 0
 FeedsAll old new cs = (ds ws : List Content) → Stands ds ws old → Stands (ds ++ cs) ws new
 

@@ -42,7 +42,7 @@ job_of job = record {
   defines = map define_of job.defines.now;
 }
 
--- no file where the source itself is meant
+-- no file where memory ran out or the source couldn't be opened
 abbrev pub placed_of : AsmRefusal → PlacedFault
 placed_of e = record {
   place = record { file = unwrap_or e.file []; line = e.line };

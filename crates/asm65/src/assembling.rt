@@ -40,7 +40,7 @@ pub struct AsmJob<'a> {
     pub source: &'a str,
     /// The folders in which included files are looked for, behind that of the file that includes them.
     pub include: &'a [Text],
-    /// Constants of the global scope, which site before the first line.
+    /// Constants of the global scope, which stand before the first line.
     pub defines: &'a [Define<'a>],
 }
 
@@ -72,7 +72,7 @@ fn define_one(
     assembler.take(alloc, at, Statement::Constant { name, value })
 }
 
-/// Takes the constants of a job, which site before the first line.
+/// Takes the constants of a job, which stand before the first line.
 pub fn define_all(
     alloc: Global,
     assembler: &mut Assembler,

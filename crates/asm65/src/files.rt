@@ -8,7 +8,7 @@ ghost use Rattle.language65.specs.declared.fault.AsmFault.TheVariants.{FileError
 ghost use Rattle.language65.specs.Faults.{is_failure, is_outside, is_memory};
 ghost use Rattle.language65.specs.Views.{place_at};
 ghost use Rattle.module65.specs.Machine.{State};
-ghost use Rattle.asm65.specs.Inner.Running.{IsRefusedUnread, KeepsStore, read_bytes};
+ghost use Rattle.asm65.specs.Inner.Running.{IsRefusedUnread, LeavesStore, read_bytes};
 ghost use Rattle.asm65.specs.Inner.Holding.{Holds};
 ghost use Rattle.asm65.specs.Inner.Taking.{IsHeld};
 ghost use Rattle.base65.specs.Outcome.{Gives};
@@ -39,7 +39,7 @@ fn bytes_beside<S: Store>(
     ensures failed { IfErr result (λ e. is_failure e ≡ true → e ≡ FileError) }
     ensures blamed { IfErr result (λ e. is_failure e ≡ true →
         IsBlamed (S.blamed store.new) (beside file.now name.now)) }
-    ensures kept { KeepsStore S.files S.failures store.old store.new result }
+    ensures kept { LeavesStore S.files S.failures store.old store.new result }
 {
     let Some(name) = name_beside(alloc, file, name)? else {
         return Ok(None);
@@ -92,7 +92,7 @@ fn with_bytes<S: Store>(
         statement) }
     ensures texts { assembler.new.texts ≡ assembler.old.texts }
     ensures failed { IfErr result (λ e. is_failure e ≡ true → e ≡ FileError) }
-    ensures kept { KeepsStore S.files S.failures store.old store.new result }
+    ensures kept { LeavesStore S.files S.failures store.old store.new result }
 {
     match statement {
         Statement::NamedPart { name, start, len } => {
@@ -127,7 +127,7 @@ pub fn read_part<S: Store>(
         statement.old) }
     ensures texts { assembler.new.texts ≡ assembler.old.texts }
     ensures failed { IfErr result (λ e. is_failure e ≡ true → e ≡ FileError) }
-    ensures kept { KeepsStore S.files S.failures store.old store.new result }
+    ensures kept { LeavesStore S.files S.failures store.old store.new result }
 {
     let Statement::NamedPart { .. } = statement else {
         return Ok(());

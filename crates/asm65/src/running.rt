@@ -12,7 +12,7 @@ ghost use Rattle.language65.specs.Views.{place_at};
 ghost use Rattle.module65.specs.Machine.{Takes, State, begun};
 ghost use Rattle.module65.specs.Reading.{IsGiven, IsLabel, IsLabelled, IsRest, known_at, AreDefined, Job, no_line};
 ghost use Rattle.expand65.specs.Playing.{tokens_in};
-ghost use Rattle.asm65.specs.Inner.Running.{IsRoomy, IsSoundIf, StopsQuietly, TakesAll, TakesBy, Told, tokens_of, IsHeldBy, IsReachedBy, IsRunning, KeepsStore, Ran, TakesLineIf};
+ghost use Rattle.asm65.specs.Inner.Running.{IsRoomy, IsSoundIf, StopsQuietly, TakesAll, TakesBy, Told, tokens_of, IsHeldBy, IsReachedBy, IsRunning, LeavesStore, Ran, TakesLineIf};
 ghost use Rattle.asm65.specs.Assembly.{Without};
 ghost use Rattle.expand65.specs.Expansion.{opened_in};
 ghost use Rattle.language65.specs.Layout.{is_open};
@@ -77,7 +77,7 @@ pub fn take_rest<S: Store>(
     ensures stopped { StopsQuietly (Without (S.blamed store.new)
         (λ m t. IsRest m Takes t (place_at at.entry) (lexemes tokens.now)))
         1 assembler.old assembler.new result }
-    ensures kept { KeepsStore S.files S.failures store.old store.new result }
+    ensures kept { LeavesStore S.files S.failures store.old store.new result }
 {
     if tokens.is_empty() {
         return Ok(());
@@ -126,7 +126,7 @@ fn take_label<S: Store>(
     ensures stopped { StopsQuietly (Without (S.blamed store.new)
         (λ m t. IsLabel m Takes t (place_at at.entry) (lexemes tokens.now)))
         2 assembler.old assembler.new result }
-    ensures kept { KeepsStore S.files S.failures store.old store.new result }
+    ensures kept { LeavesStore S.files S.failures store.old store.new result }
 {
     let (label, rest) = label(alloc, tokens)?;
     take_front(alloc, assembler, at, label)?;
@@ -153,7 +153,7 @@ fn take_behind<S: Store>(
     ensures taken { TakesAll (S.files store.old) (S.blamed store.new)
         (place_at at.entry) (given_behind (lexemes tokens.now))
         assembler.old assembler.new result }
-    ensures kept { KeepsStore S.files S.failures store.old store.new result }
+    ensures kept { LeavesStore S.files S.failures store.old store.new result }
 {
     if tokens.is_empty() {
         return Ok(());
@@ -175,7 +175,7 @@ pub fn take_parts<S: Store>(
         (place_at at.entry)
         (given_parts (lexemes parts.entry.label.now) (lexemes parts.entry.rest.now))
         assembler.old assembler.new result }
-    ensures kept { KeepsStore S.files S.failures store.old store.new result }
+    ensures kept { LeavesStore S.files S.failures store.old store.new result }
 {
     if parts.label.is_empty() {
         return take_behind(alloc, store, assembler, at, parts.rest);
@@ -199,7 +199,7 @@ fn take_line<S: Store>(
     ensures stopped { StopsQuietly (Without (S.blamed store.new)
         (λ m t. IsRest m Takes t (place_at at.entry) (tokens_in line.now)))
         1 assembler.old assembler.new result }
-    ensures kept { KeepsStore S.files S.failures store.old store.new result }
+    ensures kept { LeavesStore S.files S.failures store.old store.new result }
 {
     let blank = Token {
         kind: TokenKind::Identifier,
@@ -230,7 +230,7 @@ pub fn take_given<S: Store>(
     ensures stopped { StopsQuietly (Without (S.blamed store.new)
         (λ m t. IsGiven m Takes t (place_at at.entry) (stated given.now)))
         2 assembler.old assembler.new result }
-    ensures kept { KeepsStore S.files S.failures store.old store.new result }
+    ensures kept { LeavesStore S.files S.failures store.old store.new result }
 {
     match given {
         Given::Label(line) => {
@@ -287,7 +287,7 @@ fn take_next<S: Store>(
         (λ m t. IsGiven m Takes t (place_of run.old.expander) (stated statement.now)))
         2 run.old.assembler run.new.assembler result }
     ensures same { run.new.expander ≡ run.old.expander }
-    ensures kept { KeepsStore S.files S.failures store.old store.new result }
+    ensures kept { LeavesStore S.files S.failures store.old store.new result }
 {
     let (file, line) = run.expander.place();
     let at = At { file, line };
@@ -299,7 +299,7 @@ fn take_next<S: Store>(
 fn take_at_hand<S: Store>(alloc: Global, store: &mut S, run: &mut Run) -> Result<bool, AsmFault>
     requires { IsRunning run.old }
     ensures next { TakesLineIf (S.files store.old) (S.blamed store.new) run.old run.new result }
-    ensures kept { KeepsStore S.files S.failures store.old store.new result }
+    ensures kept { LeavesStore S.files S.failures store.old store.new result }
 {
     let mut tokens = LineTokens::new();
     let Some(line) = run.expander.peek(&mut tokens) else {
@@ -343,7 +343,7 @@ pub fn take_all<S: Store>(alloc: Global, store: &mut S, run: &mut Run) -> Result
     ensures stopped { IfSome (S.files store.old) (λ m.
         StopsAll m (S.blamed store.new) run.old run.new result) }
     ensures held { OnOk result (IsReachedBy run.new.assembler) }
-    ensures kept { KeepsStore S.files S.failures store.old store.new result }
+    ensures kept { LeavesStore S.files S.failures store.old store.new result }
 {
     'statements: loop {
         if take_at_hand(alloc, store, run)? {

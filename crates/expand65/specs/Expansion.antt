@@ -24,7 +24,7 @@ use Rattle.base65.specs.Outcome.{◌>>=◌}
 abbrev pub file_named : Files → List ℕ → Option (List ℕ)
 file_named m name = if is_utf8 name then fmap.get m name else None
 
--- a file's bytes, unless they are too many
+-- a file's bytes, unless it isn't there or they are too many
 abbrev pub bytes_in : Option (List ℕ) → Result (List ℕ) ExpandFault
 bytes_in None = Err FileNotFound
 bytes_in (Some bytes) = if nat_le (length bytes) file_limit then Ok bytes else Err FileTooLong

@@ -1,4 +1,4 @@
--- What stands after a fault, and statements at hand.
+-- Where expansion is when the store fails, and the statements of lines at hand.
 use Rattle.std.specs.Prelude.{◌≡◌, ℕ, true, List, Option, Some, None, Result, IfErr, ◌⊎◌, Bool, false, [], ◌∷◌, drop, Ok, ◌<◌, ◌≤◌}
 use Rattle.base65.specs.Store.{Files, IsBlamed}
 use Rattle.expand65.specs.State.{Meaning, State, goes, with_items, with_left, Stated, label, plain, IsCondition}
@@ -137,7 +137,7 @@ abbrev pub StopsOnItsWay : {A : Type 0} → Files → Option (List ℕ) → Mean
 StopsOnItsWay m blamed k old result new =
     (s : State) → StandsFor m old s → IfErr result (λ e. is_failure e ≡ true → IsOnItsWay m blamed k s (place_of new))
 
--- ---- Before the place is that of the line that was read last.
+-- ---- Where a reader was reading, before its place becomes that of the line that was read last.
 
 -- where a reader was reading when the store failed
 pub record Reading (m : Files) (blamed : Option (List ℕ)) (k : Meaning) (s : State) (mark : Mark) (place : Place) : Type 0 where

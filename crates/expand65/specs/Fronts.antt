@@ -59,7 +59,7 @@ or_else (Some directive) other = Some directive
 abbrev pub directive_of : List ℕ → Option Directive
 directive_of word = or_else (among condition_words word) (or_else (among macro_words word) (among block_words word))
 
--- ---- What stands at the front of a line's tokens: a label, a directive; and what single tokens are.
+-- ---- What isn't understood, or isn't there.
 
 -- what isn't understood
 abbrev pub unknown : {A : Type 0} → Result A ExpandFault

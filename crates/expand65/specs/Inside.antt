@@ -179,7 +179,7 @@ open_in r = r.top ∷ reverse r.outer.items
 unfoldable pub NamesFiles : Reader → Type 0
 NamesFiles r = AreNamed (open_in r) r.place
 
--- what reading on leaves of a reader
+-- the innermost end mark and the inputs outside stay, and files are read under the names of their places
 pub record Stays (old new : Reader) : Type 0 where
   pub mark : mark_of new.top ≡ mark_of old.top
   pub outer : new.outer ≡ old.outer

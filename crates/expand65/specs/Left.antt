@@ -1,4 +1,4 @@
--- What names stand for, and what a reader still has to give.
+-- What names stand for, what a reader still has to give, and what a call leaves of a store.
 use Rattle.std.specs.Prelude.{ℕ, Bool, List, [], ◌∷◌, ◌++◌, codes, decimal, position, slice_get, unwrap_or, Option, Some, None, Result, IfErr, true, ◌≡◌, if◌then◌else◌, zero, suc, ◌+◌, map}
 use Rattle.std.specs.Map.{lookup}
 use Rattle.std.specs.Str.{bytes_eq, str_eq_ignore_ascii_case}
@@ -183,7 +183,7 @@ localised names (i ∷ is) = i ∷ localised names is
 -- ---- What a call that may ask a store leaves of it.
 
 -- its files as before, and its count of failures, a failure passed on as a file error
-pub record Leaves {X T : Type 0} (files_of : X → Option Files) (failures_of : X → ℕ) (old new : X) (result : Result T ExpandFault) : Type 0 where
+pub record LeavesStore {X T : Type 0} (files_of : X → Option Files) (failures_of : X → ℕ) (old new : X) (result : Result T ExpandFault) : Type 0 where
   pub files : files_of new ≡ files_of old
   pub count : Passes FileError (failures_of old) (failures_of new) result
 

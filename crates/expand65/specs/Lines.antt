@@ -1,4 +1,4 @@
--- The lines of files and of texts at hand, and what is taken of them.
+-- The lines of files, what is left of them, and how the next is read.
 use Rattle.std.specs.Prelude.{ℕ, Bool, false, nat_eq, ◌&&◌, List, [], ◌∷◌, if◌then◌else◌, ◌≡◌, ◌<◌, ◌≤◌, ◌-◌, not, true, ◌++◌, length, take, drop, slice_get, option_map, unwrap_or, Result, Ok, Err, ◌==◌, nat_le, Option, Some, None, zero, suc}
 use Rattle.std.specs.FinMap as fmap
 use Rattle.base65.specs.Outcome.{Unless}

@@ -1,4 +1,4 @@
--- Lines that are played again, and lines that need no step.
+-- Lines as they are kept, played again, passed over, or read where they stand.
 use Rattle.std.specs.Prelude.{◌≡◌, ℕ, List, [], ◌∷◌, ◌++◌, take, drop, suc, true, false, Option, Some, None, Result, Ok, Err, map, Bool, slice_get, ◌<◌, length, ◌+◌}
 use Rattle.syntax65.specs.Tokens.{Lexeme, IsRead}
 use Rattle.expand65.specs.declared.line.Word.{Word}
@@ -102,7 +102,7 @@ IsColonAt ws i b = IsColonIn (slice_get ws i) b
 abbrev pub IsPlain : List Lexeme → Type 0
 IsPlain ts = (label_len ts ≡ 0) × (front_directive ts ≡ None)
 
--- ---- Lines without a label and a directive of expansion, passed over one after another.
+-- ---- Plain lines, passed over one after another.
 
 -- whether a token is there that is a colon
 abbrev pub is_colon_there : Option Lexeme → Bool

@@ -1,4 +1,4 @@
--- What an expander stands for.
+-- What a rewriter and an expander stand for, and what their calls lead to.
 use Rattle.std.specs.Prelude.{◌≡◌, ℕ, ◌+◌, ◌*◌, Bool, true, false, List, [], ◌∷◌, length, map, Option, Some, None, Result, Ok, Err, IfOk, IfSome, OnOk, ◌≤◌}
 use Rattle.std.specs.declared.rc.Rc.{Rc}
 use Rattle.std.specs.Global.{Global}
@@ -153,7 +153,7 @@ Answered m k s (Err f) new = Unless (is_outside f) (Reaches m k s (fault (f, pla
 abbrev pub FollowsFrom : Files → Meaning → Expander → Result (Option Statement) ExpandFault → Expander → Type 0
 FollowsFrom m k old r new = (s : State) → StandsFor m old s → Answered m k s r new
 
--- ---- One step.
+-- ---- One step, and what may follow at most.
 
 -- a step goes on, or gives a statement
 abbrev pub led : State → Option Statement → Stepped

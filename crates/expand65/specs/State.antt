@@ -1,4 +1,4 @@
--- The state of expansion, and the conditions that are open in it.
+-- The state of expansion, what a step leads to, and conditions.
 use Rattle.std.specs.Prelude.{ℕ, ℤ, Bool, List, Option, ◌≡◌, pos, negsuc, zero, suc, ◌+◌, nat_lt, ◌==◌, true, false, not, [], ◌∷◌, length, Some, None, Result, Ok, Err, if◌then◌else◌}
 use Rattle.syntax65.specs.Trees.{Tree, name}
 use Rattle.syntax65.specs.Tokens.{Lexeme}

@@ -8,7 +8,7 @@ ghost use Rattle.expand65.specs.Blocks.{Block, collecting, gathering, passing, s
 ghost use Rattle.expand65.specs.Fronts.{is_nothing};
 ghost use Rattle.expand65.specs.Inside.{Stays, Answers, left_of, IsDeeper, IsPassedOver, Judges, closed_by, answer_of, is_kept, judge_of, state_of, FailsInBlock, NamesFiles, StopsAt};
 ghost use Rattle.expand65.specs.Playing.{tokens_in};
-ghost use Rattle.expand65.specs.Left.{Leaves};
+ghost use Rattle.expand65.specs.Left.{LeavesStore};
 
 use crate::fronts::{Directive, behind_first, is_mislabelled, line_directive};
 use crate::line::Line;
@@ -251,7 +251,7 @@ impl Reader {
             (Block (judge_of kind) (state_of kind 0 []) (left_of m self.old))) }
         ensures room { OnOk result (self.new.room < self.old.room) }
         ensures stays { Stays self.old self.new }
-        ensures leaves { Leaves S.files S.failures store.old store.new result }
+        ensures leaves { LeavesStore S.files S.failures store.old store.new result }
         ensures stopped { NamesFiles self.old → IfSome (S.files store.old) (λ m. StopsAt
             (FailsInBlock (S.blamed store.new) (judge_of kind) (state_of kind 0 [])
             (left_of m self.old)) self.old self.new result) }

@@ -127,7 +127,7 @@ impl Conditions {
         self.flags.pop()
     }
 
-    /// Leaves only so many of the outermost.
+    /// LeavesStore only so many of the outermost.
     pub fn truncate(&mut self, count: usize)
         ensures { self.new ≡ outermost count self.old }
     {

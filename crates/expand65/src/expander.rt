@@ -11,7 +11,7 @@ ghost use Rattle.syntax65.specs.ExpandFaults.{is_outside};
 ghost use Rattle.expand65.specs.Expansion.{first_left, opened_in, IsStep};
 ghost use Rattle.expand65.specs.State.{State};
 ghost use Rattle.expand65.specs.Inside.{NamesFiles, left_of, mark_of};
-ghost use Rattle.expand65.specs.Left.{Leaves, moved};
+ghost use Rattle.expand65.specs.Left.{LeavesStore, moved};
 ghost use Rattle.expand65.specs.Lines.{bytes_of};
 
 use crate::conditions::Conditions;
@@ -234,7 +234,7 @@ impl Expander {
             StopsReading m (S.blamed store.new) (K.meaning knows.now) (state_in m self.old) result
             (mark_of self.new.rewriter.reader.top) (place_of self.new)) }
         ensures size { IfOk result (λ o. IfSome o (λ _. measure_of self.new < measure_of self.old)) }
-        ensures leaves { Leaves S.files S.failures store.old store.new result }
+        ensures leaves { LeavesStore S.files S.failures store.old store.new result }
     {
         'steps: loop {
             if self.front.is_end() {
@@ -261,7 +261,7 @@ impl Expander {
             (mark_of self.new.rewriter.reader.top) (place_of self.new)) }
         ensures size { IfOk result (λ t. size_of self.new.rewriter + weight_of t < measure_of self.old) }
         ensures front { OnErr result (self.new.front ≡ Front.Nothing) }
-        ensures leaves { Leaves S.files S.failures store.old store.new result }
+        ensures leaves { LeavesStore S.files S.failures store.old store.new result }
     {
         match mem::replace(&mut self.front, Front::Nothing) {
             Front::Nothing => self.rewriter.take(store, knows),

@@ -9,7 +9,7 @@ ghost use Rattle.syntax65.specs.ExpandFaults.{is_outside};
 ghost use Rattle.expand65.specs.Failing.{IsAmong};
 ghost use Rattle.expand65.specs.Expansion.{as_text, begins_with_slash, beside, file_named, first_file, folder_of, found_or, is_slash, tried, within};
 ghost use Rattle.expand65.specs.Macros.{Tries, file_of, is_there};
-ghost use Rattle.expand65.specs.Left.{Leaves};
+ghost use Rattle.expand65.specs.Left.{LeavesStore};
 
 use base65::{Store, StoreFault, Text};
 use std::alloc::{AllocError, Global};
@@ -66,7 +66,7 @@ fn within(alloc: Global, name: &[u8], folder: &[u8]) -> Result<Vec<u8>, AllocErr
 pub fn is_there<S: Store>(store: &mut S, name: &str) -> Result<bool, ExpandFault>
     ensures there { IfSome (S.files store.old) (λ m.
         Gives is_outside (λ b. b) result (is_there (fmap.get m name.now))) }
-    ensures leaves { Leaves S.files S.failures store.old store.new result }
+    ensures leaves { LeavesStore S.files S.failures store.old store.new result }
     ensures blamed { IsErrOf result ExpandFault.FileError → IsBlamed (S.blamed store.new) name.now }
     ensures asked { Asks is_outside (S.failures store.old) result }
 {
@@ -112,7 +112,7 @@ fn look_up<S: Store>(alloc: Global, store: &mut S, name: &[u8]) -> Result<Option
         (others : Result (List ℕ × List ℕ) ExpandFault) → Tries m result others
         (found_or name.now (file_named m name.now) others)) }
     ensures blamed { IsErrOf result ExpandFault.FileError → IsBlamed (S.blamed store.new) name.now }
-    ensures leaves { Leaves S.files S.failures store.old store.new result }
+    ensures leaves { LeavesStore S.files S.failures store.old store.new result }
 {
     let Some(text) = text_of(name) else {
         return Ok(None);
@@ -136,7 +136,7 @@ fn find_in_folders<S: Store>(
         Gives is_outside (file_of m) result (first_file m (map (within name.now) folders.now))) }
     ensures blamed { IsErrOf result ExpandFault.FileError →
         IsAmong (S.blamed store.new) (map (within name.now) folders.now) }
-    ensures leaves { Leaves S.files S.failures store.old store.new result }
+    ensures leaves { LeavesStore S.files S.failures store.old store.new result }
 {
     for folder in folders {
         let whole = within(alloc, name, folder.as_str().as_bytes())?;
@@ -159,7 +159,7 @@ pub fn find_file<S: Store>(
         Gives is_outside (file_of m) result (first_file m (tried file.now folders.now name.now))) }
     ensures blamed { IsErrOf result ExpandFault.FileError →
         IsAmong (S.blamed store.new) (tried file.now folders.now name.now) }
-    ensures leaves { Leaves S.files S.failures store.old store.new result }
+    ensures leaves { LeavesStore S.files S.failures store.old store.new result }
 {
     if begins_with_slash(name) {
         return match look_up(alloc, store, name)? {

@@ -8,7 +8,7 @@ ghost use Rattle.expand65.specs.Inside.{ComesNext, IsFile, IsReady, TakesLine, i
 ghost use Rattle.expand65.specs.Playing.{tokens_in, left_to_play, replacing_of};
 ghost use Rattle.syntax65.specs.declared.place.Place.{Place};
 ghost use Rattle.expand65.specs.Lines.{is_inside, left_in_file};
-ghost use Rattle.expand65.specs.Left.{Leaves, LeavesOf, number_token};
+ghost use Rattle.expand65.specs.Left.{LeavesStore, LeavesOf, number_token};
 
 use crate::file::{OpenFile, line_len};
 use crate::line::Line;
@@ -214,7 +214,7 @@ impl Source {
         ensures named { (p : Place) → IsNamed self.old p → IsNamed self.new p }
         ensures blamed { (p : Place) → IsNamed self.old p →
             IfErr result (λ e. is_failure e ≡ true → IsBlamed (S.blamed store.new) p.file) }
-        ensures leaves { Leaves S.files S.failures store.old store.new result }
+        ensures leaves { LeavesStore S.files S.failures store.old store.new result }
     {
         match self {
             Source::File(file) => file.begin_line(store),
@@ -233,7 +233,7 @@ impl Source {
         ensures named { (p : Place) → IsNamed self.old p → IsNamed self.new p }
         ensures blamed { (p : Place) → IsNamed self.old p →
             IfErr result (λ e. is_failure e ≡ true → IsBlamed (S.blamed store.new) p.file) }
-        ensures leaves { Leaves S.files S.failures store.old store.new result }
+        ensures leaves { LeavesStore S.files S.failures store.old store.new result }
     {
         match self {
             Source::File(file) => file.take_line(alloc, store),

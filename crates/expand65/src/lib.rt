@@ -1,4 +1,4 @@
-//! The statements of a source: macros, repeats, conditions and includes rewritten, line by line.
+//! A source's lines and its statements: macros, repeats, conditions and includes rewritten, line by line.
 #![tactic(auto)]
 
 mod blocks;

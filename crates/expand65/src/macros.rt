@@ -9,7 +9,7 @@ ghost use Rattle.base65.specs.Outcome.{Gives};
 ghost use Rattle.syntax65.specs.ExpandFaults.{is_failure, is_outside};
 ghost use Rattle.expand65.specs.Failing.{FailsDefining};
 ghost use Rattle.expand65.specs.Standing.{Keeps, TurnsTo, LeadsTo, StopsBy, MacroFound, macros_of};
-ghost use Rattle.expand65.specs.Left.{Leaves};
+ghost use Rattle.expand65.specs.Left.{LeavesStore};
 
 use crate::blocks::BlockKind;
 use crate::fronts::{behind_first, closes_brace, is_comma, name_in, opens_brace};
@@ -221,7 +221,7 @@ impl Rewriter {
         ensures turns { TurnsTo (S.files store.old) self.old self.new result (λ m s.
             IsMacro s (lexemes tokens.now)) }
         ensures keeps { Keeps self.old self.new result }
-        ensures leaves { Leaves S.files S.failures store.old store.new result }
+        ensures leaves { LeavesStore S.files S.failures store.old store.new result }
         ensures stopped { StopsBy (S.files store.old) self.old self.new result (λ s.
             FailsDefining (S.blamed store.new) s (header_of (lexemes tokens.now))) }
     {

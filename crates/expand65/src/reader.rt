@@ -6,7 +6,7 @@ ghost use Rattle.syntax65.specs.ExpandFaults.{is_failure, is_outside};
 ghost use Rattle.expand65.specs.Inside.{Stays, FailsAtLine, StopsAt, last_read, AreNamed, IsNamed, NamesFiles, open_in, Answers, left_in, left_of, mark_of, moved_by, outside};
 ghost use Rattle.expand65.specs.Playing.{tokens_in};
 ghost use Rattle.expand65.specs.Lines.{closed, end_of, exit_of, if_more, pushed, Takes};
-ghost use Rattle.expand65.specs.Left.{Leaves, outside_macro, come_back};
+ghost use Rattle.expand65.specs.Left.{LeavesStore, outside_macro, come_back};
 ghost use Rattle.expand65.specs.Blocks.{TakesInBlock};
 
 use crate::input::{NextLine, Source};
@@ -68,7 +68,7 @@ impl Reader {
         ensures room { IfOk result (λ l. IfSome l (λ _. self.new.room < self.old.room)) }
         ensures less { OnOk result (self.new.room ≤ self.old.room) }
         ensures stays { Stays self.old self.new }
-        ensures leaves { Leaves S.files S.failures store.old store.new result }
+        ensures leaves { LeavesStore S.files S.failures store.old store.new result }
         ensures stopped { NamesFiles self.old → IfSome (S.files store.old) (λ m. StopsAt
             (FailsAtLine (S.blamed store.new) (left_of m self.old)) self.old self.new result) }
     {
@@ -96,7 +96,7 @@ impl Reader {
             (TakesInBlock (left_of m self.old))) }
         ensures room { OnOk result (self.new.room < self.old.room) }
         ensures stays { Stays self.old self.new }
-        ensures leaves { Leaves S.files S.failures store.old store.new result }
+        ensures leaves { LeavesStore S.files S.failures store.old store.new result }
         ensures stopped { NamesFiles self.old → IfSome (S.files store.old) (λ m. StopsAt
             (FailsAtLine (S.blamed store.new) (left_of m self.old)) self.old self.new result) }
     {
@@ -152,7 +152,7 @@ impl Reader {
         }
     }
 
-    /// Leaves the innermost input, at whose end so many conditions are open; whether anything is left.
+    /// LeavesStore the innermost input, at whose end so many conditions are open; whether anything is left.
     pub fn leave(&mut self, conditions: usize) -> Result<bool, ExpandFault>
         ensures left { (m : Files) →
             left_in m self.old.top.source ≡ [] → Answers
@@ -174,7 +174,7 @@ impl Reader {
         Ok(more)
     }
 
-    /// Leaves the innermost expansion with all that is open in it.
+    /// LeavesStore the innermost expansion with all that is open in it.
     pub fn leave_macro(&mut self) -> Option<MacroEnd>
         ensures left { (m : Files) →
             exit_of (outside_macro (left_of m self.old).items self.old.place) ≡ end_of result

@@ -13,7 +13,7 @@ ghost use Rattle.base65.specs.Relations.{Answers};
 ghost use Rattle.syntax65.specs.Trees.{Tree};
 ghost use Rattle.syntax65.specs.declared.expressions.words.ExprFault.{ExprFault};
 ghost use Rattle.expand65.specs.Failing.{FailsAtRepeat, FailsRepeating};
-ghost use Rattle.expand65.specs.Left.{Leaves};
+ghost use Rattle.expand65.specs.Left.{LeavesStore};
 
 use crate::blocks::BlockKind;
 use crate::input::Source;
@@ -80,7 +80,7 @@ impl Rewriter {
         Ok(Turn::Goes)
     }
 
-    /// Leaves the innermost expansion.
+    /// LeavesStore the innermost expansion.
     pub fn exit_macro(&mut self) -> Result<Turn, ExpandFault>
         ensures turns { LeadsTo self.old self.new result exit_macro }
         ensures keeps { Keeps self.old self.new result }
@@ -162,7 +162,7 @@ impl Rewriter {
         ensures turns { TurnsTo (S.files store.old) self.old self.new result (λ m s.
             IsRepeat (K.meaning knows.now) s (lexemes tokens.now)) }
         ensures keeps { Keeps self.old self.new result }
-        ensures leaves { Leaves S.files S.failures store.old store.new result }
+        ensures leaves { LeavesStore S.files S.failures store.old store.new result }
         ensures stopped { StopsBy (S.files store.old) self.old self.new result (λ s.
             FailsAtRepeat (S.blamed store.new) (K.meaning knows.now) s (lexemes tokens.now)) }
     {
@@ -181,7 +181,7 @@ impl Rewriter {
         ensures turns { TurnsTo (S.files store.old) self.old self.new result (λ m s.
             IsRepeated s (Ok (count, map (λ k. k.items) variable.keys))) }
         ensures keeps { Keeps self.old self.new result }
-        ensures leaves { Leaves S.files S.failures store.old store.new result }
+        ensures leaves { LeavesStore S.files S.failures store.old store.new result }
         ensures stopped { StopsBy (S.files store.old) self.old self.new result (λ s.
             FailsRepeating (S.blamed store.new) s (Ok (count, map (λ k. k.items) variable.keys))) }
     {

@@ -13,7 +13,7 @@ ghost use Rattle.expand65.specs.Playing.{tokens_in};
 ghost use Rattle.expand65.specs.Lines.{bytes_of};
 ghost use Rattle.expand65.specs.Standing.{Keeps, TurnsTo, LeadsTo, StopsBy, Turns, size_of, stands_alone, state_of, weight_of};
 ghost use Rattle.expand65.specs.Macros.{file_of};
-ghost use Rattle.expand65.specs.Left.{Leaves};
+ghost use Rattle.expand65.specs.Left.{LeavesStore};
 
 use crate::blocks::{BlockEnd, BlockKind};
 use crate::conditions::{Conditions, condition};
@@ -70,7 +70,7 @@ impl Rewriter {
         ensures turns { TurnsTo (S.files store.old) self.old self.new result (λ m s.
             IsIf (K.meaning knows.now) s test (lexemes tokens.now)) }
         ensures keeps { Keeps self.old self.new result }
-        ensures leaves { Leaves S.files S.failures store.old store.new result }
+        ensures leaves { LeavesStore S.files S.failures store.old store.new result }
         ensures stopped { StopsBy (S.files store.old) self.old self.new result (λ s.
             FailsAtIf (S.blamed store.new) (K.meaning knows.now) s test (lexemes tokens.now)) }
     {
@@ -107,7 +107,7 @@ impl Rewriter {
         ensures turns { TurnsTo (S.files store.old) self.old self.new result (λ m s.
             IsElse s (last_condition s)) }
         ensures keeps { Keeps self.old self.new result }
-        ensures leaves { Leaves S.files S.failures store.old store.new result }
+        ensures leaves { LeavesStore S.files S.failures store.old store.new result }
         ensures stopped { StopsBy (S.files store.old) self.old self.new result (λ s.
             FailsAtElse (S.blamed store.new) s (last_condition s)) }
     {
@@ -130,7 +130,7 @@ impl Rewriter {
         ensures turns { TurnsTo (S.files store.old) self.old self.new result (λ m s r.
             r ≡ include_line m s (lexemes tokens.now)) }
         ensures keeps { Keeps self.old self.new result }
-        ensures leaves { Leaves S.files S.failures store.old store.new result }
+        ensures leaves { LeavesStore S.files S.failures store.old store.new result }
         ensures stopped { StopsBy (S.files store.old) self.old self.new result (λ s.
             FailsIncluding (S.blamed store.new) s (string_of (lexemes tokens.now))) }
     {
@@ -176,7 +176,7 @@ impl Rewriter {
             (k : Meaning) → Turns result (state_of m self.new)
             (IsDirected m k (state_of m self.old) directive (lexemes tokens.now))) }
         ensures keeps { Keeps self.old self.new result }
-        ensures leaves { Leaves S.files S.failures store.old store.new result }
+        ensures leaves { LeavesStore S.files S.failures store.old store.new result }
         ensures stopped { StopsBy (S.files store.old) self.old self.new result (λ s.
             FailsAlone (S.blamed store.new) s directive (lexemes tokens.now)) }
     {
@@ -204,7 +204,7 @@ impl Rewriter {
         ensures turns { TurnsTo (S.files store.old) self.old self.new result (λ m s.
             IsDirected m (K.meaning knows.now) s directive (lexemes tokens.now)) }
         ensures keeps { Keeps self.old self.new result }
-        ensures leaves { Leaves S.files S.failures store.old store.new result }
+        ensures leaves { LeavesStore S.files S.failures store.old store.new result }
         ensures stopped { StopsBy (S.files store.old) self.old self.new result (λ s.
             FailsBy (S.blamed store.new) (K.meaning knows.now) s directive (lexemes tokens.now)) }
     {
@@ -239,7 +239,7 @@ impl Rewriter {
         ensures turns { TurnsTo (S.files store.old) self.old self.new result (λ m s.
             IsActed m (K.meaning knows.now) s (tokens_in line) (front_directive (tokens_in line))) }
         ensures keeps { Keeps self.old self.new result }
-        ensures leaves { Leaves S.files S.failures store.old store.new result }
+        ensures leaves { LeavesStore S.files S.failures store.old store.new result }
         ensures stopped { StopsBy (S.files store.old) self.old self.new result (λ s.
             FailsActing (S.blamed store.new) (K.meaning knows.now) s (tokens_in line) (front_directive (tokens_in line))) }
     {
@@ -264,7 +264,7 @@ impl Rewriter {
             IsLabelled m (K.meaning knows.now) s (tokens_in line) (is_mislabelled (tokens_in line))) }
         ensures named { NamesFiles self.old.reader → OnOk result (NamesFiles self.new.reader) }
         ensures size { IfOk result (λ t. size_of self.new + weight_of t ≤ size_of self.old + 3) }
-        ensures leaves { Leaves S.files S.failures store.old store.new result }
+        ensures leaves { LeavesStore S.files S.failures store.old store.new result }
         ensures stopped { StopsBy (S.files store.old) self.old self.new result (λ s.
             FailsUnlabelled (S.blamed store.new) (K.meaning knows.now) s (tokens_in line)) }
     {
@@ -301,7 +301,7 @@ impl Rewriter {
             IsStep m (K.meaning knows.now) s) }
         ensures named { NamesFiles self.old.reader → OnOk result (NamesFiles self.new.reader) }
         ensures size { IfOk result (λ t. size_of self.new + weight_of t < size_of self.old + 1) }
-        ensures leaves { Leaves S.files S.failures store.old store.new result }
+        ensures leaves { LeavesStore S.files S.failures store.old store.new result }
         ensures stopped { StopsBy (S.files store.old) self.old self.new result (λ s.
             FailsTaking (S.blamed store.new) (K.meaning knows.now) s) }
     {

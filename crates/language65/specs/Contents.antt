@@ -58,7 +58,7 @@ pub record Content : Type 0 where
   pub parts : List Part
   pub said : List Declaration
 
--- ---- What a module's statements put into its object: the parts of sections, exports, assertions; and their first fault.
+-- ---- Where an object can hold the name of the file.
 
 -- what is written with its place, where an object can hold the name of the file
 abbrev pub written : {A : Type 0} → Place → A → Result A AsmFault

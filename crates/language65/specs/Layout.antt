@@ -238,7 +238,7 @@ abbrev pub or_then : Option AsmFault → Option AsmFault → Option AsmFault
 or_then (Some e) other = Some e
 or_then None other = other
 
--- the first name with `::` whose scope isn't open or closed before
+-- the first name with `::` whose scope wasn't opened before
 abbrev pub lost_scope : List Scope → ℕ → Tree → Option AsmFault
 lost_scope cs scope (name false (n ∷ [])) = None
 lost_scope cs scope (name global parts) = unless_there (scope_from cs scope global (scopes_of parts)) (NoSuchScope (shown global parts))

@@ -1,4 +1,4 @@
--- Values and forms of expressions, their sizes, and forms that stay.
+-- Values and forms of expressions, forms that stay, sizes, addressing forms and lengths.
 use Rattle.std.specs.Prelude.{ℕ, zero, suc, ℤ, pos, length, Option, Some, None, slice_get, Result, Ok, Err, ◌≡◌, ◌++◌, List, ◌+◌, ◌-◌, negsuc, Bool, true, false, nat_lt, [], take, drop, sum_by, if◌then◌else◌}
 use Rattle.base65.specs.Outcome.{◌>>=◌}
 use Rattle.syntax65.specs.Trees.{Tree, number, here, unary, binary}

@@ -1,4 +1,4 @@
--- What statements put into an object, at the place of the statement.
+-- What the code puts into an object, as the definitions have it: at the place of the statement.
 use Rattle.std.specs.Prelude.{ℕ, List}
 use Rattle.syntax65.specs.declared.place.Place.{Place}
 use Rattle.language65.specs.declared.contents.Part.{Part}

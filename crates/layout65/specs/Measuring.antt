@@ -49,7 +49,7 @@ pub record IsSoundCursor (w : Cursor) : Type 0 where
 abbrev pub AreWithin : List Segment → Type 0
 AreWithin gs = AllByRecursion (λ g. g.end ≤ section_limit) gs
 
--- no more of anything than so many statements open
+-- no more of anything than so many statements open, and of segments one more
 pub record IsCounted (count : ℕ) (w : Cursor) : Type 0 where
   pub scope : w.scope ≤ count
   pub scopes : w.opened ≤ count
@@ -59,7 +59,7 @@ pub record IsCounted (count : ℕ) (w : Cursor) : Type 0 where
 
 -- ---- How much statements open, and what the code's numbers have room for.
 
--- whether a statement opens something that is counted: a scope, a region, a segment, an unnamed label
+-- 1 where a statement opens something that is counted: a scope, a region, a segment, an unnamed label
 abbrev pub opened_by : Statement → ℕ
 opened_by (Label n) = 1
 opened_by UnnamedLabel = 1

@@ -1,4 +1,4 @@
--- What is proved of the definitions.
+-- What holds of a source's layout, its answer and the one pass.
 use Rattle.std.specs.Prelude.{◌≡◌, ℕ, List, Result, Ok, Err}
 use Rattle.std.specs.List.{flat_map}
 use Rattle.base65.specs.Store.{Files}

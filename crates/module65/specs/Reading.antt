@@ -165,7 +165,7 @@ abbrev pub Answers :
 Answers IsAnswer Holds (Ok x) = (z : _) × IsAnswer (Ok z) × Holds z
 Answers IsAnswer Holds (Err e) = Unless (is_outside e) (IsAnswer (Err e))
 
--- ---- How the statements of a source are taken while they are: what is left is what decides all.
+-- ---- From the middle of a source: what is left decides.
 
 -- what the statements from a state of expansion on come to behind what stands there, all come to
 abbrev pub GoesOn :

@@ -18,7 +18,7 @@ use Rattle.sections65.specs.declared.entries.Entries.{Entries}
 use Rattle.sections65.specs.declared.files.Files.{Files}
 use Rattle.sections65.specs.declared.sections.Sections.{Sections}
 
--- ---- What is fed to sections in the making: contents in the order of the source, of which some wait.
+-- ---- Names of imports.
 
 -- the names of imports, in the order of their keys
 abbrev pub names_of : {S : Type 0} → IndexSet (Vec ℕ) S → List (List ℕ)
@@ -132,7 +132,7 @@ names_in t = map string_bytes t.table.keys
 abbrev pub Begins : (names more : List (List ℕ)) → Type 0
 Begins names more = (later : List (List ℕ)) × (more ≡ names ++ later)
 
--- ---- Entries.
+-- ---- Entries in the making, and sections.
 
 -- an entry that doesn't wait, with this content where these are the files
 pub record IsEntry (files : List (List ℕ)) (e : Entry) (c : Content) : Type 0 where

@@ -44,7 +44,7 @@ IsReference (unary op e) = ⊥
 IsReference (binary op e f) = ⊥
 IsReference e = ⊤
 
--- ---- Tables with more behind, and forms that stay whatever follows.
+-- ---- Forms that stay, within so many expressions.
 
 -- an expression has this form whatever statements follow, and needs no more expressions one inside the other than there
 -- are definitions, and itself
@@ -94,7 +94,7 @@ abbrev pub bare : State → State
 bare (Hangs k) = Unknown
 bare x = x
 
--- ---- What names mean, as the code divides it, and attempts at forms by what is found so far.
+-- ---- What names mean, as the code divides it.
 
 abbrev pub meaning_in : code.Meaning → Meaning
 meaning_in (Defined i) = defined_at i

@@ -1,4 +1,4 @@
--- What is proved of the definitions.
+-- A line has one reading, an expression one tree.
 use Rattle.std.specs.Prelude.{◌≡◌, ℕ, List, Result}
 use Rattle.syntax65.specs.Tokens.{Lexeme, IsRead}
 use Rattle.syntax65.specs.Trees.{Tree}

@@ -1,4 +1,5 @@
-//! What a source line is written in: its tokens and expressions, the instructions and their opcodes.
+//! What a source line is written in: its tokens and expressions, the instructions and their opcodes; and where it stands,
+//! and why a source's statements can't be given.
 #![tactic(auto)]
 
 mod expressions;

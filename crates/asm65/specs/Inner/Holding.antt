@@ -77,7 +77,7 @@ abbrev pub AreAwaited : List machine.Fixup → List Content → Type 0
 AreAwaited vs ws = (length ws ≡ length vs) × AllByRecursion (λ c. c.asks ≡ false) ws
 
 -- An assembler holds a state, behind statements that opened so much. Whatever will be in place of
--- what waits, its sections site for the state's contents.
+-- what waits, its sections stand for the state's contents.
 pub record Holds (count : ℕ) (t : State) (a : Assembler) : Type 0 where
   pub symbols : table_of a.symbols ≡ t.symbols
   pub known : IsTable t.symbols a.known.states.items
@@ -110,7 +110,7 @@ known_where y s = record {
   defined = λ global parts. is_definition (meaning_of y s (name global parts));
 }
 
--- ---- What waits.
+-- ---- A piece that is left waiting.
 
 -- the same, but for what is put into sections and what waits
 pub record KeepsTables (old new : Assembler) : Type 0 where

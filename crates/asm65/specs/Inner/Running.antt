@@ -26,7 +26,7 @@ use Rattle.std.specs.Option.{option_map}
 -- ---- What a call that takes statements leaves.
 
 -- of a store: its files as before, and its count of failures, by the answer
-pub record KeepsStore {X T : Type 0} (files_of : X → Option Files) (failures_of : X → ℕ) (old new : X) (result : Result T AsmFault) : Type 0 where
+pub record LeavesStore {X T : Type 0} (files_of : X → Option Files) (failures_of : X → ℕ) (old new : X) (result : Result T AsmFault) : Type 0 where
   pub files : files_of new ≡ files_of old
   pub count : PassesBy is_failure (failures_of old) (failures_of new) result
 
@@ -44,7 +44,7 @@ SaysAs t a = (a.texts.out ≡ t.out) × (a.texts.err ≡ t.err)
 
 -- ---- States that statements lead to.
 
--- behind statements whose names objects can hold, wherever they site
+-- behind statements whose names objects can hold, wherever they stand
 pub data IsReached : State → Type 0 where
   at_first : IsReached begun
   behind :
@@ -125,7 +125,7 @@ pub record IsHeldBy (t : State) (run : Run) : Type 0 where
 abbrev pub IsRunning : Run → Type 0
 IsRunning run = (t : State) × IsReached t × IsHeldBy t run
 
--- behind as many statements as there were
+-- a state is held, however much was opened before
 abbrev pub HoldsSome : State → Assembler → Type 0
 HoldsSome t a = (count : ℕ) × Holds count t a
 

@@ -8,10 +8,10 @@ ghost use Rattle.language65.specs.Faults.{is_memory};
 ghost use Rattle.language65.specs.declared.laid.Context.{Context as Site};
 ghost use Rattle.language65.specs.Symbols.{defined, named};
 ghost use Rattle.language65.specs.Views.{place_at, said_at};
-ghost use Rattle.module65.specs.Module.{asserted, datum, imported, made_of, operand, quietly, used};
+ghost use Rattle.module65.specs.Module.{asserted, datum, quietly, used};
 ghost use Rattle.symbols65.specs.Resolving.{IsTable};
 ghost use Rattle.symbols65.specs.Views.{table_of};
-ghost use Rattle.asm65.specs.Inner.Resolving.{coming, lost, made_in, noted};
+ghost use Rattle.asm65.specs.Inner.Resolving.{coming, made_in, noted};
 
 use crate::assembler::{Fixup, Piece};
 use crate::putting::values::{is_file_name, literal_of, stored};

@@ -1,12 +1,11 @@
 //! From entries to the object.
 
-ghost use Rattle.std.specs.Prelude.{◌≡◌, [], map, nat_eq, slice_get, option_copied, IfOk};
-ghost use Rattle.std.specs.List.{IsDistinct};
+ghost use Rattle.std.specs.Prelude.{◌≡◌, [], map, IfOk};
 ghost use Rattle.object65.specs.Objects.{ObjectFits};
 ghost use Rattle.sections65.specs.Inner.Drafts.{all_of_draft, object_before, section_from};
 ghost use Rattle.sections65.specs.Fed.{content_of, names_of};
 ghost use Rattle.language65.specs.Layout.{powers};
-ghost use Rattle.language65.specs.Numbering.{import_keys, name_of, number_of, segment_name, segment_power};
+ghost use Rattle.language65.specs.Numbering.{import_keys, name_of, number_of};
 
 mod drafts;
 mod exports;

@@ -65,9 +65,7 @@ impl Assembler {
         }
         Ok(())
     }
-}
 
-impl Assembler {
     /// A constant is defined. Where its form isn't final it waits: its expression may have a fault.
     #[inline(never)]
     pub fn define_constant(

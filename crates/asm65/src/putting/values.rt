@@ -1,12 +1,9 @@
 //! Values and other parts of statements, which are put at once where they are settled without a fault, or wait.
 
 ghost use Rattle.std.specs.Prelude.{◌≡◌, drop, IfOk, IfSome, map, OnOk, take, ◌∷◌, []};
-ghost use Rattle.object65.specs.Form.{lit};
-ghost use Rattle.syntax65.specs.declared.place.Place.{Place};
-ghost use Rattle.language65.specs.Contents.{file_bytes, opcode_part, operand_form, put, room_part, stored, Known};
+ghost use Rattle.language65.specs.Contents.{file_bytes, operand_form, put, stored, Known};
 ghost use Rattle.language65.specs.Items.{numbered};
 ghost use Rattle.language65.specs.Views.{place_at, part_at};
-ghost use Rattle.sections65.specs.Fed.{Feeds};
 ghost use Rattle.asm65.specs.Inner.Holding.{AreStored, IsFaultless, IsPut, operand_stored, literal_of, KeepsTables, Waits, IsTried, Enters};
 ghost use Rattle.base65.specs.Outcome.{Gives};
 ghost use Rattle.language65.specs.Faults.{is_memory};
@@ -194,9 +191,7 @@ impl Assembler {
         })?;
         self.sections.defer()
     }
-}
 
-impl Assembler {
     /// Puts a value of a list, if it is settled without a fault.
     fn put_datum(
         &mut self,

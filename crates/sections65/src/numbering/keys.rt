@@ -1,10 +1,9 @@
 //! The keys of imports, by name and in the order of their numbers, and the numbers of sections.
 
-ghost use Rattle.std.specs.Prelude.{◌≡◌, IfOk, option_copied, [], map, nat_eq, OnOk};
+ghost use Rattle.std.specs.Prelude.{◌≡◌, IfOk, [], map, nat_eq, OnOk};
 ghost use Rattle.sections65.specs.Inner.Drafts.{anywhere};
 ghost use Rattle.language65.specs.Numbering.{key_of, number_of, numbered, content_imports, import_keys, imports_in, once, optional_key, said_imports};
 ghost use Rattle.object65.specs.Objects.{FitsBits};
-ghost use Rattle.std.specs.List.{flat_map};
 ghost use Rattle.indexmap.specs.IndexSet.{IsUnique};
 ghost use Rattle.sections65.specs.Fed.{content_of, names_of};
 ghost use Rattle.language65.specs.Views.{said_at};

@@ -9,15 +9,15 @@ ghost use Rattle.library65.specs.Fault.{is_memory};
 ghost use Rattle.library65.specs.Spelling.{is_among, is_folder, is_member_name, is_name, is_plain};
 
 use crate::LibraryFault;
-use base65::{Seed, Sequence};
+use base65::Sequence;
 use indexmap::IndexSet;
 use std::alloc::Global;
 
 /// Names, each once.
-pub type Names = IndexSet<Vec<u8>, Seed>;
+pub type Names = IndexSet<Vec<u8>>;
 
 /// Whether a name is there.
-pub fn has_name(names: &Names, name: &[u8]) -> bool
+pub fn has_name(names: &IndexSet<Vec<u8>>, name: &[u8]) -> bool
     ensures { result ≡ is_among (map (λ n. n.items) names.now.keys) name.now }
 {
     names.contains(name)
@@ -103,7 +103,11 @@ pub fn is_file_name(name: &[u8]) -> bool
 }
 
 /// Adds a new name.
-pub fn add_name(alloc: Global, names: &mut Names, name: &[u8]) -> Result<(), LibraryFault>
+pub fn add_name(
+    alloc: Global,
+    names: &mut IndexSet<Vec<u8>>,
+    name: &[u8],
+) -> Result<(), LibraryFault>
     requires { is_among (map (λ n. n.items) names.old.keys) name.now ≡ false }
     ensures { Gives is_memory (λ _. map (λ n. n.items) names.new.keys) result (Ok (map (λ n. n.items) names.old.keys ++ name.now ∷ [])) }
 {

@@ -11,7 +11,7 @@ ghost use Rattle.library65.specs.Reading.{in_file, field_at, head_at, name_at, n
 ghost use Rattle.std.specs.List.{AllByRecursion};
 ghost use Rattle.library65.specs.declared.fault.LibraryFault.TheVariants.{FileError};
 
-use crate::index::{Listing, Names, add_name, has_name, is_file_name, is_symbol_name};
+use crate::index::{Listing, add_name, has_name, is_file_name, is_symbol_name};
 use crate::{Entry, Index, LibraryFault};
 use base65::{Sequence, Store, read_full};
 use byteorder::{ByteOrder, LittleEndian};
@@ -152,7 +152,7 @@ fn read_member_name<S: Store>(
     store: &mut S,
     file: &str,
     at: u64,
-    names: &Names,
+    names: &IndexSet<Vec<u8>>,
 ) -> Result<(Sequence<u8>, u64), LibraryFault>
     requires { at ≤ file_limit }
     ensures read { IfSome (S.files store.old) (λ m. Gives is_outside (λ x. x) result (in_file (map.get m file.now) (member_name_at (map (λ n. n.items) names.now.keys) at))) }
@@ -175,7 +175,7 @@ fn read_listing<S: Store>(
     store: &mut S,
     file: &str,
     at: u64,
-    names: &Names,
+    names: &IndexSet<Vec<u8>>,
 ) -> Result<(Listing, u64), LibraryFault>
     requires { at ≤ file_limit }
     ensures read { IfSome (S.files store.old) (λ m. Gives is_outside (λ x. x) result (in_file (map.get m file.now) (listing_at (map (λ n. n.items) names.now.keys) at))) }
@@ -222,7 +222,7 @@ pub fn read_list<S: Store>(
     ensures some { IfOk result (λ x. 0 < x.1) }
 {
     let count = read_count(store, file)?;
-    let mut names = IndexSet::with_hasher(alloc, store.seed());
+    let mut names = IndexSet::new(alloc);
     let mut members = Vec::new(alloc);
     let mut end = 9;
     for _ in 0..count {

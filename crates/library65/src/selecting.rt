@@ -10,7 +10,7 @@ ghost use Rattle.std.specs.List.{AllByRecursion};
 
 use crate::LibraryFault;
 use crate::index::{Entry, Index, Names, has_name};
-use base65::{Seed, Sequence};
+use base65::Sequence;
 use indexmap::IndexMap;
 use std::alloc::{AllocError, Global};
 
@@ -18,12 +18,12 @@ use std::alloc::{AllocError, Global};
 #[derive(Drop)]
 pub struct Exporters<'a> {
     pub entries: &'a [Entry],
-    pub by_name: IndexMap<&'a [u8], usize, Seed>,
+    pub by_name: IndexMap<&'a [u8], usize>,
 }
 
 /// Puts a member in the place of those that export the same names.
 fn add_exports<'a>(
-    by_name: &mut IndexMap<&'a [u8], usize, Seed>,
+    by_name: &mut IndexMap<&'a [u8], usize>,
     names: &'a [Sequence<u8>],
     place: usize,
 ) -> Result<(), AllocError>
@@ -37,11 +37,11 @@ fn add_exports<'a>(
 
 impl<'a> Exporters<'a> {
     /// The first exporters of members. The first member counts, so it comes last.
-    pub fn of(alloc: Global, seed: Seed, entries: &'a [Entry]) -> Result<Self, AllocError>
+    pub fn of(alloc: Global, entries: &'a [Entry]) -> Result<Self, AllocError>
         ensures table { IfOk result IsTable }
         ensures entries { IfOk result (λ t. t.entries.now ≡ entries.entry.now) }
     {
-        let mut by_name = IndexMap::with_hasher(alloc, seed);
+        let mut by_name = IndexMap::new(alloc);
         for place in (0..entries.len()).rev() {
             let entry = &entries[place];
             add_exports(&mut by_name, entry.exports.as_slice(), place)?;
@@ -225,7 +225,7 @@ pub fn select(
     ensures within { IfOk result (λ places. AllByRecursion (λ i. i < length index.now.entries) places.items) }
     ensures memory { IfErr result (λ e. e ≡ LibraryFault.OutOfMemory) }
 {
-    let exporters = Exporters::of(alloc, *defined.hasher(), index.entries.as_slice())?;
+    let exporters = Exporters::of(alloc, index.entries.as_slice())?;
     let mut found = Found::none(alloc, index.entries.len())?;
     find_all(&exporters, wanted, defined, &mut found)?;
     Ok(marked_places(alloc, found.marks.as_slice())?)

@@ -13,7 +13,7 @@ ghost use Rattle.link65.specs.Programs.{Program};
 use crate::fault::LinkFault;
 use crate::naming::script_names;
 use crate::parts::{Exported, Member};
-use base65::{Seed, Sequence};
+use base65::Sequence;
 use indexmap::IndexSet;
 use library65::Names;
 use script65::{Script, Symbol, SymbolKind};
@@ -23,7 +23,7 @@ use std::alloc::{AllocError, Global};
 #[derive(Drop)]
 pub struct Given {
     pub alloc: Global,
-    pub names: Names,
+    pub names: IndexSet<Vec<u8>>,
 }
 
 impl Given {
@@ -50,13 +50,13 @@ impl Given {
     }
 
     /// The names that a script gives by itself. The first that equals one before it is refused.
-    pub fn of(alloc: Global, seed: Seed, script: &Script) -> Result<Self, LinkFault>
+    pub fn of(alloc: Global, script: &Script) -> Result<Self, LinkFault>
         ensures { Gives is_memory names_in result (all_once [] (script_names script.now)) }
     {
         let names = script_names(alloc, script)?;
         let mut given = Given {
             alloc,
-            names: IndexSet::with_hasher(alloc, seed),
+            names: IndexSet::new(alloc),
         };
         given.add_names(names.as_slice())?;
         Ok(given)
@@ -141,7 +141,7 @@ fn add_imports(
 fn missing_names(given: &Given, symbols: &[Symbol], members: &[Member]) -> Result<Names, AllocError>
     ensures { IfOk result (λ names. map (λ n. n.items) names.keys ≡ missing_behind (names_in given.now) [] (symbol_imports symbols.now ++ flat_map (λ m. m.imports) members.now)) }
 {
-    let mut missing = IndexSet::with_hasher(given.alloc, *given.names.hasher());
+    let mut missing = IndexSet::new(given.alloc);
     add_symbols(&mut missing, given, symbols)?;
     for member in members {
         add_imports(&mut missing, given, member.imports.as_slice())?;

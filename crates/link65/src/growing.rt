@@ -15,10 +15,12 @@ use crate::fault::LinkFault;
 use crate::parts::{Asserted, Content, Exported, Fixup, Member, Piece, SectionPlace};
 use base65::{Seed, Sequence};
 use indexmap::IndexSet;
-use library65::Names;
 use object65::{Fragment, Item, Width};
 use std::alloc::{AllocError, Global};
 use std::mem;
+
+/// The names of segments, each once.
+pub type SegmentNames = IndexSet<Vec<u8>, Seed>;
 
 /// The modules taken so far, and what the open one has put into segments, exports and assertions.
 #[derive(Drop)]
@@ -26,7 +28,7 @@ pub struct Growing {
     pub alloc: Global,
     pub members: Sequence<Member>,
     /// The names of the segments, by which their places are found.
-    pub names: Names,
+    pub names: SegmentNames,
     pub contents: Vec<Content>,
     pub exports: Sequence<Exported>,
     pub asserts: Sequence<Asserted>,
@@ -144,7 +146,7 @@ fn add_fragment(
 }
 
 /// The place of the segment of a name, if there is one.
-pub fn place_of(names: &Names, name: &[u8]) -> Option<usize>
+pub fn place_of(names: &SegmentNames, name: &[u8]) -> Option<usize>
     ensures place { result ≡ place_in name.now (map (λ n. n.items) names.now.keys) }
     ensures within { IfSome result (λ i. i < length names.now.keys) }
 {

@@ -79,7 +79,7 @@ impl Linker {
         ensures pending { IfOk result (λ l. l.pending ≡ 0) }
         ensures names { Gives is_memory (λ _. tt) result (names_once script (program_of [])) }
     {
-        let given = Given::of(alloc, seed, &script)?;
+        let given = Given::of(alloc, &script)?;
         let output = Text::copy_of(alloc, output)?;
         Ok(Linker {
             script,

@@ -14,12 +14,11 @@ ghost use Rattle.link65.specs.Texts.{assertion_warning};
 
 use crate::evaluation::{Mark, value_of};
 use crate::fault::{LinkFault, Site};
-use crate::growing::place_of;
+use crate::growing::{SegmentNames, place_of};
 use crate::parts::{Asserted, Content, Exported, Fixup, Member, Resolved, ValueFault};
 use crate::texts::{join, site_name};
 use base65::Sequence;
 use itoa::Buffer;
-use library65::Names;
 use object65::{Action, Norm, Origin, fits};
 use std::alloc::{AllocError, Global};
 
@@ -28,7 +27,7 @@ use std::alloc::{AllocError, Global};
 pub struct Placed<'a> {
     pub members: &'a [Member],
     /// The names of the segments, by which their places are found.
-    pub names: &'a Names,
+    pub names: &'a SegmentNames,
     pub contents: &'a [Content],
     pub exports: &'a [Exported],
     pub asserts: &'a [Asserted],

@@ -1,6 +1,6 @@
 //! Libraries of small objects, byte by byte.
 
-use base65::{MemStore, Seed};
+use base65::MemStore;
 use library65::{Index, Library, LibraryFault, Names, read_index, select};
 use std::alloc::{AllocError, Global};
 use std::test::Fail;
@@ -109,7 +109,7 @@ fn a_member_is_an_object_with_a_good_name(rt: HostRuntime) -> Result<(), Fail> {
 }
 
 fn names_of(alloc: Global, letters: &[u8]) -> Result<Names, AllocError> {
-    let mut names = Names::with_hasher(alloc, Seed::default());
+    let mut names = Names::new(alloc);
     for letter in letters {
         names.insert(Vec::from_slice(alloc, &[*letter])?)?;
     }

@@ -10,7 +10,7 @@ loop-init g c = record {
   count = kept_count _ _ _ c.in_ok-count.ensures.kept.count;
   limit = omega arith;
   some = omega arith;
-  names = rw (c.with_hasher-names.ensures.empty, c.new-members.ensures.items) refl;
+  names = rw (c.new-names.ensures.empty, c.new-members.ensures.items) refl;
   read = rw c.new-members.ensures.items (goes_on c.args.file.now list_at list_at count_at (λ n. listings_at (n - 0) [] 9) list_begins _ _ c.in_ok-count.count refl (begins _ c.args.file.now list_at) c.in_ok-count.ensures.read);
 }
 

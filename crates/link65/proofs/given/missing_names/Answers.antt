@@ -12,7 +12,7 @@ pub loop-member-init : goal.loop-member-init
 loop-member-init c =
     let given = names_in c.args.given.now in
     let imports : List Member → List (List ℕ) = λ ms. flat_map (λ m. m.imports) ms in
-    ap (λ ns. missing_behind given ns (imports c.args.members.now)) (c.in_ok-add_symbols.ensures ∙ ap (λ ks. missing_behind given (map (λ n. n.items) ks) (symbol_imports c.args.symbols.now)) c.with_hasher-missing.ensures.empty)
+    ap (λ ns. missing_behind given ns (imports c.args.members.now)) (c.in_ok-add_symbols.ensures ∙ ap (λ ks. missing_behind given (map (λ n. n.items) ks) (symbol_imports c.args.symbols.now)) c.new-missing.ensures.empty)
     ∙ missing_append given (symbol_imports c.args.symbols.now) [] (imports c.args.members.now)
 
 pub loop-member-preserved : goal.loop-member-preserved

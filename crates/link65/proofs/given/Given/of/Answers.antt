@@ -11,8 +11,8 @@ use Rattle.link65.proofs.given.Given.of.Goals as goal
 pub returns-in_err-add_names : goal.returns-in_err-add_names
 returns-in_err-add_names c =
     let names = script_names c.args.script.now in
-    let same : with_each (map (λ n. n.items) c.with_hasher.result.keys) c.as_slice.result.now ≡ all_once [] names =
-    ap (λ ks. with_each (map (λ n. n.items) ks) c.as_slice.result.now) c.with_hasher.ensures.empty
+    let same : with_each (map (λ n. n.items) c.new.result.keys) c.as_slice.result.now ≡ all_once [] names =
+    ap (λ ks. with_each (map (λ n. n.items) ks) c.as_slice.result.now) c.new.ensures.empty
     ∙ ap (λ ns. with_each [] ns) (c.as_slice.ensures ∙ c.in_ok-names.ensures)
     ∙ each_once_all names [] in
     let p = err_from_is_err_and c.from_residual-in_err-add_names.result c.from_residual-in_err-add_names.ensures.1 in
@@ -21,8 +21,8 @@ returns-in_err-add_names c =
 pub returns : goal.returns
 returns c =
     let names = script_names c.args.script.now in
-    let same : with_each (map (λ n. n.items) c.with_hasher.result.keys) c.as_slice.result.now ≡ all_once [] names =
-    ap (λ ks. with_each (map (λ n. n.items) ks) c.as_slice.result.now) c.with_hasher.ensures.empty
+    let same : with_each (map (λ n. n.items) c.new.result.keys) c.as_slice.result.now ≡ all_once [] names =
+    ap (λ ks. with_each (map (λ n. n.items) ks) c.as_slice.result.now) c.new.ensures.empty
     ∙ ap (λ ns. with_each [] ns) (c.as_slice.ensures ∙ c.in_ok-names.ensures)
     ∙ each_once_all names [] in
     sym same ∙ c.in_ok-add_names.ensures

@@ -1,6 +1,6 @@
 //! The names of files in which something stands or waits.
 
-ghost use Rattle.std.specs.Prelude.{◌≡◌, IfOk, IfSome, Some, slice_get};
+ghost use Rattle.std.specs.Prelude.{◌≡◌, IfOk, IfSome, Some, length, slice_get};
 ghost use Rattle.sections65.specs.Fed.{Begins, names_in};
 
 use base65::Seed;
@@ -17,7 +17,9 @@ pub struct Files {
 
 impl Files {
     /// No file.
-    pub fn new(alloc: Global, seed: Seed) -> Self {
+    pub fn new(alloc: Global, seed: Seed) -> Self
+        ensures { length (names_in result) ≡ 0 }
+    {
         Files {
             table: IndexSet::with_hasher(alloc, seed),
             last: None,

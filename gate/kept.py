@@ -6,7 +6,7 @@ import re
 # A linker that is fed record by record makes no object of a module, and keeps none of its records or items.
 LINKER = ("link65",)
 # An assembler in one pass keeps of a statement what waits for names, and no list of statements.
-ASSEMBLER = ("asm65", "symbols65", "sections65", "layout65")
+ASSEMBLER = ("asm65", "symbols65", "emit65")
 
 # A clause: requires, ensures or a ghost item, with braces of at most three within each other, or up to a semicolon.
 BRACES = r"\{(?:[^{}]|\{(?:[^{}]|\{(?:[^{}]|\{[^{}]*\})*\})*\})*\}"

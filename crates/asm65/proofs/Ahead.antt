@@ -11,10 +11,10 @@ use Rattle.expand65.specs.declared.expander.Expander.{Expander}
 use Rattle.expand65.specs.State.{label, plain}
 use Rattle.expand65.specs.declared.passing.Peeked.{Peeked}
 use Rattle.syntax65.specs.declared.place.Place.{Place}
-use Rattle.language65.specs.Numbering.{AreNamed}
-use Rattle.language65.specs.declared.fault.AsmFault.{AsmFault}
-use Rattle.module65.specs.Machine.{State, Takes}
-use Rattle.module65.specs.Reading.{IsLabel, IsRest}
+use Rattle.semantics65.specs.Numbering.{AreNamed}
+use Rattle.ast65.specs.declared.fault.AsmFault.{AsmFault}
+use Rattle.semantics65.specs.Machine.{State, Takes}
+use Rattle.semantics65.specs.Reading.{IsLabel, IsRest}
 use Rattle.asm65.proofs.Runs.{Answer, LabelBy, RestBy, stops_wider, wider}
 use Rattle.asm65.specs.Inner.Running.{IsRoomy, IsRunning, StopsQuietly, TakesAll, TakesBy, TakesLine, TakesLineIf, none, one_more, refused}
 use Rattle.asm65.specs.Assembly.{Without}

@@ -3,15 +3,15 @@ use Rattle.std.proofs.Common.{◌≡◌, ◌∙◌, ◌||◌, ℕ, Bool, true, f
 use Rattle.base65.specs.Outcome.{◌>>=◌, Unless}
 use Rattle.syntax65.specs.Trees.{Tree}
 use Rattle.syntax65.specs.declared.place.Place.{Place}
-use Rattle.language65.specs.declared.fault.AsmFault.{AsmFault}
-use Rattle.language65.specs.Faults.{is_failure, is_memory, is_outside}
-use Rattle.language65.specs.declared.laid.Context.{Context}
-use Rattle.language65.specs.Norms.{defined_form, form_of_definition, form_of_value, norm_of}
-use Rattle.language65.specs.Symbols.{Symbols}
-use Rattle.module65.specs.Machine as machine
-use Rattle.module65.specs.Machine.{before_it, resolved, Finished, State, concluded, filled, finished}
-use Rattle.module65.specs.Module as piece
-use Rattle.module65.specs.Module.{Made, made_of, used, Outcome}
+use Rattle.ast65.specs.declared.fault.AsmFault.{AsmFault}
+use Rattle.ast65.specs.Faults.{is_failure, is_memory, is_outside}
+use Rattle.semantics65.specs.declared.laid.Context.{Context}
+use Rattle.semantics65.specs.Norms.{defined_form, form_of_definition, form_of_value, norm_of}
+use Rattle.semantics65.specs.Symbols.{Symbols}
+use Rattle.semantics65.specs.Machine as machine
+use Rattle.semantics65.specs.Machine.{before_it, resolved, Finished, State, concluded, filled, finished}
+use Rattle.semantics65.specs.Module as piece
+use Rattle.semantics65.specs.Module.{Made, made_of, used, Outcome}
 use Rattle.asm65.specs.declared.assembler.Piece.{Piece}
 use Rattle.asm65.specs.declared.assembler.Piece.TheVariants.{Datum, Operand, Constant, Assertion, Import, Demand, Export}
 use Rattle.asm65.specs.declared.assembler.Fixup.{Fixup}
@@ -19,22 +19,22 @@ use Rattle.asm65.specs.Inner.Holding.{IsConstant, IsPiece, IsFixup, AreAwaited, 
 use Rattle.asm65.specs.Inner.Resolving.{coming, AreFaulty, AreSettled, IsFaulty, IsSettled, ReceivesAll, SettlesAll}
 use Rattle.std.specs.Prelude.{IfOk, Result, Ok, Err, IfErr, None}
 use Rattle.std.proofs.lemmas.List.{append-nil}
-use Rattle.language65.specs.Contents.{Content}
-use Rattle.module65.specs.Reading.{PlacedFault}
-use Rattle.module65.proofs.Resolving.{made_asks, resolved_more, resolved_stops}
-use Rattle.sections65.specs.Fed.{Stands, names_in}
+use Rattle.semantics65.specs.Contents.{Content}
+use Rattle.semantics65.specs.Reading.{PlacedFault}
+use Rattle.semantics65.proofs.Resolving.{made_asks, resolved_more, resolved_stops}
+use Rattle.emit65.specs.Fed.{Stands, names_in}
 use Rattle.asm65.specs.declared.concluding.Ending.{Ending}
 use Rattle.asm65.specs.declared.texts.AsmRefusal.{AsmRefusal}
 use Rattle.asm65.specs.Assembly.{is_outside_refusal, placed_of, in_places, is_from_outside}
-use Rattle.layout65.proofs.Measures.{unless_then}
+use Rattle.symbols65.proofs.Measures.{unless_then}
 use Rattle.object65.specs.declared.object.Object.{Object}
 use Rattle.object65.specs.Objects.{is_good_object}
-use Rattle.language65.specs.declared.contents.Segment.{Segment}
-use Rattle.language65.specs.Layout.{Cursor}
-use Rattle.language65.specs.Numbering.{object_with, AreSound}
+use Rattle.semantics65.specs.declared.contents.Segment.{Segment}
+use Rattle.semantics65.specs.Layout.{Cursor}
+use Rattle.semantics65.specs.Numbering.{object_with, AreSound}
 use Rattle.symbols65.specs.Views.{table_of}
 use Rattle.asm65.specs.declared.assembler.Assembler.{Assembler}
-use Rattle.layout65.specs.Measuring.{cursor_of}
+use Rattle.symbols65.specs.Measuring.{cursor_of}
 
 -- ---- Faults from outside.
 

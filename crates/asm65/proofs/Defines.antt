@@ -3,16 +3,16 @@ use Rattle.std.proofs.Common.{◌≡◌, ◌∙◌, ℕ, zero, suc, ◌+◌, ◌
 use Rattle.std.specs.Prelude.{Ok, Err, IfErr, ⊤}
 use Rattle.syntax65.specs.Trees.{number}
 use Rattle.syntax65.specs.declared.place.Place.{Place}
-use Rattle.language65.specs.declared.fault.AsmFault.{AsmFault}
-use Rattle.language65.specs.Faults.{is_outside}
-use Rattle.language65.specs.declared.language.Statement.TheVariants.{Constant}
-use Rattle.module65.specs.Reading.{DefinesOn, Answers, AreDefined, Define}
-use Rattle.module65.specs.Machine.{State, Takes, begun}
-use Rattle.module65.proofs.Taken.{faulty_constant, first_constant, next_constant}
+use Rattle.ast65.specs.declared.fault.AsmFault.{AsmFault}
+use Rattle.ast65.specs.Faults.{is_outside}
+use Rattle.ast65.specs.declared.language.Statement.TheVariants.{Constant}
+use Rattle.semantics65.specs.Reading.{DefinesOn, Answers, AreDefined, Define}
+use Rattle.semantics65.specs.Machine.{State, Takes, begun}
+use Rattle.semantics65.proofs.Taken.{faulty_constant, first_constant, next_constant}
 use Rattle.asm65.specs.declared.assembler.Assembler.{Assembler}
 use Rattle.asm65.specs.declared.assembling.Define as code
 use Rattle.asm65.specs.Assembly.{define_of}
-use Rattle.layout65.specs.Measuring.{opening_limit}
+use Rattle.symbols65.specs.Measuring.{opening_limit}
 use Rattle.asm65.specs.Inner.Holding.{Holds}
 use Rattle.asm65.specs.Inner.Running.{DefinesBy, IsReached, behind, at_first, Leaves}
 use Rattle.asm65.proofs.Runs.{Answer, fault_first, fault_then, says_same, takes_quiet}

@@ -11,20 +11,20 @@ use Rattle.object65.proofs.Goods.{left, right}
 use Rattle.object65.specs.declared.object.Action.{Action}
 use Rattle.object65.specs.declared.object.Action.TheVariants as action
 use Rattle.object65.specs.declared.object.Width.{Width}
-use Rattle.language65.specs.Items.{numbered}
-use Rattle.language65.specs.Contents.{Content, Known, Part, put, stored, telling}
-use Rattle.language65.specs.declared.fault.AsmFault.{AsmFault}
-use Rattle.language65.specs.Norms.{IsFinal}
-use Rattle.language65.specs.declared.laid.Context.{Context}
-use Rattle.module65.specs.Machine.{IsSettled, PutsAll, State, at_once, entered, Slot, holds}
-use Rattle.module65.specs.Module.{Piece, Purpose, as_part, asserted, datum, given, operand, quietly, used, valued, item_piece}
-use Rattle.module65.proofs.Resolving.{final_settles, settled_given}
-use Rattle.language65.specs.Symbols.{Symbols}
-use Rattle.sections65.specs.declared.sections.Sections.{Sections}
-use Rattle.sections65.specs.Fed.{Feeds, contents_in, names_in}
-use Rattle.sections65.proofs.Alikes.{alike_nothing, alike_trans, empty_alike}
-use Rattle.sections65.proofs.Pieces.{runs, runs_stand}
-use Rattle.sections65.proofs.Standings.{asked_same}
+use Rattle.ast65.specs.Items.{numbered}
+use Rattle.semantics65.specs.Contents.{Content, Known, Part, put, stored, telling}
+use Rattle.ast65.specs.declared.fault.AsmFault.{AsmFault}
+use Rattle.semantics65.specs.Norms.{IsFinal}
+use Rattle.semantics65.specs.declared.laid.Context.{Context}
+use Rattle.semantics65.specs.Machine.{IsSettled, PutsAll, State, at_once, entered, Slot, holds}
+use Rattle.semantics65.specs.Module.{Piece, Purpose, as_part, asserted, datum, given, operand, quietly, used, valued, item_piece}
+use Rattle.semantics65.proofs.Resolving.{final_settles, settled_given}
+use Rattle.semantics65.specs.Symbols.{Symbols}
+use Rattle.emit65.specs.declared.sections.Sections.{Sections}
+use Rattle.emit65.specs.Fed.{Feeds, contents_in, names_in}
+use Rattle.emit65.proofs.Alikes.{alike_nothing, alike_trans, empty_alike}
+use Rattle.emit65.proofs.Pieces.{runs, runs_stand}
+use Rattle.emit65.proofs.Standings.{asked_same}
 use Rattle.symbols65.specs.Views.{table_of}
 use Rattle.asm65.specs.declared.assembler.Assembler.{Assembler}
 use Rattle.asm65.specs.declared.assembler.Piece as held

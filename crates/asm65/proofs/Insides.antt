@@ -15,22 +15,22 @@ use Rattle.object65.specs.declared.object.Action.{Action}
 use Rattle.object65.specs.declared.object.Action.TheVariants as action
 use Rattle.object65.specs.declared.object.Width.{Width}
 use Rattle.object65.specs.declared.object.Width.TheVariants as width
-use Rattle.language65.specs.Contents.{Part, Known, Waiting, Declaration, Exported, Asserted, decided, export_said, import_fault, operand_form, stored, written}
-use Rattle.language65.specs.declared.contents.Segment.{Segment}
-use Rattle.language65.specs.declared.fault.AsmFault.{AsmFault}
-use Rattle.language65.specs.declared.fault.AsmFault.TheVariants.{Expansion, FileError, FileNameTooLong, NotUnderstood, OutOfRange, SectionTooLarge, Undefined, NoSuchScope, NoSuchLabel}
-use Rattle.language65.specs.Faults.{is_failure, is_memory}
-use Rattle.language65.specs.declared.laid.Context.{Context}
-use Rattle.language65.specs.declared.language.Statement.{Statement}
-use Rattle.language65.specs.declared.language.Statement.TheVariants as statement
-use Rattle.language65.specs.Layout.{Cursor, own_size, place_of, context_of, unless_fault}
-use Rattle.language65.specs.Layout as faults
-use Rattle.language65.specs.Symbols.{Meaning, defined_at, imported_as, first_found, last_of, meaning_of, member_meaning, or_fault, scope_from, scopes_from, scopes_of, shown, unnamed_meaning, Definition, Key, Scope, Symbols, cheap_in, defined, imported, key_defined, named, unnamed_at}
-use Rattle.language65.specs.Norms.{constant_in, defined_form, folded, form_by, form_of_definition, form_of_meaning, form_of_value, norm, norm_of, length_of}
-use Rattle.module65.specs.Module as piece
-use Rattle.module65.specs.Module.{Made, Purpose, absent_of, as_part, as_said, made_of, used}
-use Rattle.layout65.specs.declared.measuring.Measured.{Measured}
-use Rattle.layout65.specs.Measuring.{measure_of, measured, unread_fault}
+use Rattle.semantics65.specs.Contents.{Part, Known, Waiting, Declaration, Exported, Asserted, decided, export_said, import_fault, operand_form, stored, written}
+use Rattle.semantics65.specs.declared.contents.Segment.{Segment}
+use Rattle.ast65.specs.declared.fault.AsmFault.{AsmFault}
+use Rattle.ast65.specs.declared.fault.AsmFault.TheVariants.{Expansion, FileError, FileNameTooLong, NotUnderstood, OutOfRange, SectionTooLarge, Undefined, NoSuchScope, NoSuchLabel}
+use Rattle.ast65.specs.Faults.{is_failure, is_memory}
+use Rattle.semantics65.specs.declared.laid.Context.{Context}
+use Rattle.ast65.specs.declared.language.Statement.{Statement}
+use Rattle.ast65.specs.declared.language.Statement.TheVariants as statement
+use Rattle.semantics65.specs.Layout.{Cursor, own_size, place_of, context_of, unless_fault}
+use Rattle.semantics65.specs.Layout as faults
+use Rattle.semantics65.specs.Symbols.{Meaning, defined_at, imported_as, first_found, last_of, meaning_of, member_meaning, or_fault, scope_from, scopes_from, scopes_of, shown, unnamed_meaning, Definition, Key, Scope, Symbols, cheap_in, defined, imported, key_defined, named, unnamed_at}
+use Rattle.semantics65.specs.Norms.{constant_in, defined_form, folded, form_by, form_of_definition, form_of_meaning, form_of_value, norm, norm_of, length_of}
+use Rattle.semantics65.specs.Module as piece
+use Rattle.semantics65.specs.Module.{Made, Purpose, absent_of, as_part, as_said, made_of, used}
+use Rattle.symbols65.specs.declared.measuring.Measured.{Measured}
+use Rattle.symbols65.specs.Measuring.{measure_of, measured, unread_fault}
 use Rattle.asm65.specs.declared.assembler.Piece.{Piece}
 use Rattle.asm65.specs.declared.assembler.Piece.TheVariants.{Datum, Operand, Constant, Assertion, Import, Demand, Export}
 use Rattle.asm65.specs.Inner.Resolving.{coming, lost}

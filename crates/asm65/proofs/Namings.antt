@@ -1,23 +1,23 @@
 -- What is held when names become known, and what each kind of statement adds.
 use Rattle.std.proofs.Common.{◌≡◌, ◌∙◌, ℕ, ap, zero, suc, ◌+◌, ◌<◌, ◌≤◌, add-one, get_or, List, [], ◌∷◌, ◌++◌, length, map, take, refl, sym, subst, append-nil, arith}
-use Rattle.language65.specs.declared.laid.Context.{Context}
-use Rattle.language65.specs.Layout.{context_of}
-use Rattle.module65.specs.Reading.{known_at}
-use Rattle.module65.specs.Machine.{State, Puts, PutsAll, awaiting, at_once, later, symbols_behind}
-use Rattle.sections65.specs.Fed.{names_in}
+use Rattle.semantics65.specs.declared.laid.Context.{Context}
+use Rattle.semantics65.specs.Layout.{context_of}
+use Rattle.semantics65.specs.Reading.{known_at}
+use Rattle.semantics65.specs.Machine.{State, Puts, PutsAll, awaiting, at_once, later, symbols_behind}
+use Rattle.emit65.specs.Fed.{names_in}
 use Rattle.symbols65.specs.Views.{table_of, with_definition, with_names, with_scope}
-use Rattle.layout65.specs.Measuring.{cursor_of, AreWithin, IsCounted, IsSoundCursor, AreInside}
+use Rattle.symbols65.specs.Measuring.{cursor_of, AreWithin, IsCounted, IsSoundCursor, AreInside}
 use Rattle.asm65.specs.declared.assembler.Assembler.{Assembler}
 use Rattle.asm65.specs.Inner.Holding.{Holds, AreBefore, Enters, known_where, KeepsTables}
 use Rattle.std.specs.Prelude.{slice_get, Some, Bool, OnOk, Result, Ok, Err, true, false, Option}
 use Rattle.std.proofs.lemmas.List.{take_all}
-use Rattle.language65.proofs.Lists.{map_length}
+use Rattle.ast65.proofs.Lists.{map_length}
 use Rattle.syntax65.specs.declared.place.Place.{Place}
-use Rattle.language65.specs.Norms.{Extends}
-use Rattle.language65.specs.Layout as layout
-use Rattle.language65.specs.Symbols.{Definition, Scope, Symbols, cheap_in, named, unnamed_at, with_new}
-use Rattle.layout65.specs.declared.cursor.Cursor.{Cursor}
-use Rattle.module65.specs.Module as piece
+use Rattle.semantics65.specs.Norms.{Extends}
+use Rattle.semantics65.specs.Layout as layout
+use Rattle.semantics65.specs.Symbols.{Definition, Scope, Symbols, cheap_in, named, unnamed_at, with_new}
+use Rattle.symbols65.specs.declared.cursor.Cursor.{Cursor}
+use Rattle.semantics65.specs.Module as piece
 use Rattle.symbols65.specs.Resolving.{IsTable}
 use Rattle.symbols65.specs.Tables.{Begins}
 use Rattle.asm65.specs.Inner.Taking.{KeepsPut, Mentions, Turns, all_awaiting, with_symbols, is_for_zero_page, label_at, laid_as}
@@ -26,11 +26,11 @@ use Rattle.std.specs.declared.alloc.AllocError.{AllocError}
 use Rattle.syntax65.specs.declared.lexing.tokens.AddressSize.{AddressSize}
 use Rattle.syntax65.specs.declared.lexing.tokens.AddressSize.TheVariants as size
 use Rattle.syntax65.specs.Trees.{Tree}
-use Rattle.language65.specs.declared.language.Statement.{Statement}
-use Rattle.language65.specs.declared.language.Statement.TheVariants.{CheapLabel, Constant, ForceImport, Global, Import, Label, OpenProc, OpenScope, UnnamedLabel}
-use Rattle.layout65.specs.declared.measuring.Measured.{Measured}
-use Rattle.layout65.proofs.Measures.{ok_then}
-use Rattle.module65.specs.Module.{demanded, equated, exported, imported, pieces_of, valued}
+use Rattle.ast65.specs.declared.language.Statement.{Statement}
+use Rattle.ast65.specs.declared.language.Statement.TheVariants.{CheapLabel, Constant, ForceImport, Global, Import, Label, OpenProc, OpenScope, UnnamedLabel}
+use Rattle.symbols65.specs.declared.measuring.Measured.{Measured}
+use Rattle.symbols65.proofs.Measures.{ok_then}
+use Rattle.semantics65.specs.Module.{demanded, equated, exported, imported, pieces_of, valued}
 
 -- ---- What a name or an expression means at a context.
 

@@ -12,25 +12,25 @@ use Rattle.object65.specs.declared.object.Object.{Object}
 use Rattle.object65.specs.Objects.{is_good_object}
 use Rattle.syntax65.specs.declared.place.Place.{Place}
 use Rattle.expand65.specs.Standing.{Opens, measure_of, place_of}
-use Rattle.language65.specs.declared.fault.AsmFault.TheVariants.{Expansion, OutOfMemory, FileError as PartError}
-use Rattle.language65.specs.Contents.{Content}
-use Rattle.language65.specs.declared.contents.Segment.{Segment}
-use Rattle.language65.specs.declared.fault.AsmFault.{AsmFault}
-use Rattle.language65.specs.Faults.{is_failure, is_memory, is_outside}
-use Rattle.language65.specs.Layout.{Layout, Cursor, nothing_laid}
-use Rattle.language65.specs.Numbering.{object_with, AreSound}
-use Rattle.language65.specs.Symbols.{Symbols, symbols_of}
-use Rattle.module65.specs.Laws.{AreFoundAlike, StandsFor}
-use Rattle.module65.specs.Machine.{Runs, State, Takes, begun, concluded, finished, running}
-use Rattle.module65.specs.Module.{IsOutcome, Outcome, contents_from}
-use Rattle.module65.specs.Reading.{PlacedFault, AreDefined, Job, no_line, stopped}
-use Rattle.module65.proofs.Taken.{constants_refused, open_refused}
-use Rattle.module65.proofs.Entries.{object_alike}
-use Rattle.module65.proofs.Passes.{Follows, begun_follows, one_pass, stands_for, takes_follows}
-use Rattle.module65.proofs.SoundContents.{sound_contents}
-use Rattle.module65.proofs.SoundLayouts as layouts
-use Rattle.module65.proofs.SoundLayouts.{IsGood, good_statement, nothing_good}
-use Rattle.sections65.proofs.GoodObjects.{good_object}
+use Rattle.ast65.specs.declared.fault.AsmFault.TheVariants.{Expansion, OutOfMemory, FileError as PartError}
+use Rattle.semantics65.specs.Contents.{Content}
+use Rattle.semantics65.specs.declared.contents.Segment.{Segment}
+use Rattle.ast65.specs.declared.fault.AsmFault.{AsmFault}
+use Rattle.ast65.specs.Faults.{is_failure, is_memory, is_outside}
+use Rattle.semantics65.specs.Layout.{Layout, Cursor, nothing_laid}
+use Rattle.semantics65.specs.Numbering.{object_with, AreSound}
+use Rattle.semantics65.specs.Symbols.{Symbols, symbols_of}
+use Rattle.semantics65.specs.Laws.{AreFoundAlike, StandsFor}
+use Rattle.semantics65.specs.Machine.{Runs, State, Takes, begun, concluded, finished, running}
+use Rattle.semantics65.specs.Module.{IsOutcome, Outcome, contents_from}
+use Rattle.semantics65.specs.Reading.{PlacedFault, AreDefined, Job, no_line, stopped}
+use Rattle.semantics65.proofs.Taken.{constants_refused, open_refused}
+use Rattle.semantics65.proofs.Entries.{object_alike}
+use Rattle.semantics65.proofs.Passes.{Follows, begun_follows, one_pass, stands_for, takes_follows}
+use Rattle.semantics65.proofs.SoundContents.{sound_contents}
+use Rattle.semantics65.proofs.SoundLayouts as layouts
+use Rattle.semantics65.proofs.SoundLayouts.{IsGood, good_statement, nothing_good}
+use Rattle.emit65.proofs.GoodObjects.{good_object}
 use Rattle.asm65.specs.declared.assembler.Assembler.{Assembler}
 use Rattle.asm65.specs.declared.assembling.Assembly.{Assembly}
 use Rattle.asm65.specs.declared.texts.AsmRefusal.{AsmRefusal}

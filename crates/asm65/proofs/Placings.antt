@@ -2,17 +2,17 @@
 use Rattle.std.proofs.Common.{◌≡◌, ◌∙◌, ℕ, sym, ap}
 use Rattle.std.specs.Prelude.{Ok, Err, Result, Some}
 use Rattle.base65.specs.Outcome.{Unless}
-use Rattle.language65.specs.declared.fault.AsmFault.{AsmFault}
-use Rattle.language65.specs.Faults.{is_failure, is_memory, is_outside}
-use Rattle.language65.specs.declared.laid.Context.{Context}
-use Rattle.language65.specs.declared.language.Statement.{Statement}
-use Rattle.language65.specs.Layout.{Cursor, context_of, cursor_behind, line_fault}
-use Rattle.language65.specs.Symbols.{Symbols}
-use Rattle.layout65.specs.Measuring.{advanced, measured, cursor_of}
-use Rattle.layout65.specs.declared.measuring.Measured.{Measured}
-use Rattle.layout65.proofs.Behind.{behind_measured, is_measured, with_fault, without_fault}
-use Rattle.layout65.proofs.Measures.{unless_then}
-use Rattle.module65.specs.Machine.{State}
+use Rattle.ast65.specs.declared.fault.AsmFault.{AsmFault}
+use Rattle.ast65.specs.Faults.{is_failure, is_memory, is_outside}
+use Rattle.semantics65.specs.declared.laid.Context.{Context}
+use Rattle.ast65.specs.declared.language.Statement.{Statement}
+use Rattle.semantics65.specs.Layout.{Cursor, context_of, cursor_behind, line_fault}
+use Rattle.semantics65.specs.Symbols.{Symbols}
+use Rattle.symbols65.specs.Measuring.{advanced, measured, cursor_of}
+use Rattle.symbols65.specs.declared.measuring.Measured.{Measured}
+use Rattle.symbols65.proofs.Behind.{behind_measured, is_measured, with_fault, without_fault}
+use Rattle.symbols65.proofs.Measures.{unless_then}
+use Rattle.semantics65.specs.Machine.{State}
 use Rattle.symbols65.specs.Views.{table_of}
 use Rattle.asm65.specs.declared.assembler.Assembler.{Assembler}
 use Rattle.asm65.specs.Inner.Holding.{Holds}

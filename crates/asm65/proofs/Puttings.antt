@@ -5,13 +5,13 @@ use Rattle.object65.specs.Form.{Form, lit, sec, imp, prefix, binary}
 use Rattle.object65.specs.Objects.{fits_width, is_file_name, value_bytes}
 use Rattle.object65.specs.declared.object.Width.{Width}
 use Rattle.syntax65.specs.declared.place.Place.{Place}
-use Rattle.language65.specs.Contents.{Part, Known, Filled, Waiting, put, room_part, stored, written}
-use Rattle.language65.specs.declared.fault.AsmFault.{AsmFault}
-use Rattle.language65.specs.declared.fault.AsmFault.TheVariants.{FileNameTooLong, OutOfRange}
-use Rattle.sections65.specs.declared.sections.Sections.{Sections}
-use Rattle.sections65.specs.Fed.{Feeds}
-use Rattle.language65.specs.declared.laid.Settled as held
-use Rattle.language65.specs.declared.laid.Settled.TheVariants as settled
+use Rattle.semantics65.specs.Contents.{Part, Known, Filled, Waiting, put, room_part, stored, written}
+use Rattle.ast65.specs.declared.fault.AsmFault.{AsmFault}
+use Rattle.ast65.specs.declared.fault.AsmFault.TheVariants.{FileNameTooLong, OutOfRange}
+use Rattle.emit65.specs.declared.sections.Sections.{Sections}
+use Rattle.emit65.specs.Fed.{Feeds}
+use Rattle.semantics65.specs.declared.laid.Settled as held
+use Rattle.semantics65.specs.declared.laid.Settled.TheVariants as settled
 use Rattle.asm65.specs.Inner.Holding.{IsPut, literal_of}
 
 -- ---- What is stored of a form.

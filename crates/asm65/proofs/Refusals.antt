@@ -6,9 +6,9 @@ use Rattle.syntax65.specs.ExpandFaults.{is_outside as is_expand_outside}
 use Rattle.syntax65.specs.declared.fault.ExpandFault.{ExpandFault}
 use Rattle.syntax65.specs.declared.fault.ExpandFault.TheVariants.{FileError, OutOfMemory}
 use Rattle.expand65.specs.declared.expander.Expander.{Expander}
-use Rattle.language65.specs.declared.fault.AsmFault.{AsmFault}
-use Rattle.language65.specs.declared.fault.AsmFault.TheVariants.{Expansion}
-use Rattle.language65.specs.Faults.{is_failure, is_memory, is_outside}
+use Rattle.ast65.specs.declared.fault.AsmFault.{AsmFault}
+use Rattle.ast65.specs.declared.fault.AsmFault.TheVariants.{Expansion}
+use Rattle.ast65.specs.Faults.{is_failure, is_memory, is_outside}
 use Rattle.asm65.specs.Assembly.{has_failed, is_from_outside, is_outside_refusal}
 use Rattle.asm65.proofs.Outcomes.{Found, only_error}
 

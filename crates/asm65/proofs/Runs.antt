@@ -12,27 +12,27 @@ use Rattle.expand65.specs.declared.expander.Statement as given
 use Rattle.expand65.specs.declared.expander.Statement.TheVariants.{Label, Plain}
 use Rattle.expand65.specs.declared.line.Line.{Line}
 use Rattle.syntax65.specs.declared.place.Place.{Place}
-use Rattle.language65.specs.declared.fault.AsmFault.{AsmFault}
-use Rattle.language65.specs.declared.fault.AsmFault.TheVariants.{FileError, FileNotFound}
-use Rattle.language65.specs.Faults.{is_failure, is_outside}
-use Rattle.language65.specs.Symbols.{Laid, asks_section}
-use Rattle.language65.specs.declared.laid.Context.{Context}
-use Rattle.language65.specs.declared.language.Statement.{Statement}
-use Rattle.language65.specs.declared.language.Statement.TheVariants as statement
-use Rattle.language65.specs.Layout.{laid, line_fault}
-use Rattle.language65.specs.Numbering.{AreNamed, IsSound}
-use Rattle.statements65.specs.Parsing.{IsStatement, label_of}
-use Rattle.statements65.proofs.Sounding.{statement_sound}
-use Rattle.module65.specs.Machine.{Puts, at_once, later, PutsAll, State, Steps, Takes, UnlessFault, asked, entered, known}
-use Rattle.module65.specs.Module.{out_of, warning_of, Piece, pieces_of}
-use Rattle.module65.specs.Reading.{Answers, IsGiven, IsLabel, IsLabelled, IsRest, with_bytes}
-use Rattle.language65.specs.Contents.{asking}
-use Rattle.module65.proofs.Taken.{label_quiet}
-use Rattle.module65.proofs.SoundSources.{label_sound}
+use Rattle.ast65.specs.declared.fault.AsmFault.{AsmFault}
+use Rattle.ast65.specs.declared.fault.AsmFault.TheVariants.{FileError, FileNotFound}
+use Rattle.ast65.specs.Faults.{is_failure, is_outside}
+use Rattle.semantics65.specs.Symbols.{Laid, asks_section}
+use Rattle.semantics65.specs.declared.laid.Context.{Context}
+use Rattle.ast65.specs.declared.language.Statement.{Statement}
+use Rattle.ast65.specs.declared.language.Statement.TheVariants as statement
+use Rattle.semantics65.specs.Layout.{laid, line_fault}
+use Rattle.semantics65.specs.Numbering.{AreNamed, IsSound}
+use Rattle.ast65.specs.Parsing.{IsStatement, label_of}
+use Rattle.ast65.proofs.Sounding.{statement_sound}
+use Rattle.semantics65.specs.Machine.{Puts, at_once, later, PutsAll, State, Steps, Takes, UnlessFault, asked, entered, known}
+use Rattle.semantics65.specs.Module.{out_of, warning_of, Piece, pieces_of}
+use Rattle.semantics65.specs.Reading.{Answers, IsGiven, IsLabel, IsLabelled, IsRest, with_bytes}
+use Rattle.semantics65.specs.Contents.{asking}
+use Rattle.semantics65.proofs.Taken.{label_quiet}
+use Rattle.semantics65.proofs.SoundSources.{label_sound}
 use Rattle.asm65.specs.declared.assembler.Assembler.{Assembler}
 use Rattle.asm65.specs.declared.texts.Texts.{Texts}
-use Rattle.layout65.proofs.Measures.{unless_then}
-use Rattle.layout65.specs.Measuring.{opened_by, opening_limit}
+use Rattle.symbols65.proofs.Measures.{unless_then}
+use Rattle.symbols65.specs.Measuring.{opened_by, opening_limit}
 use Rattle.asm65.specs.Inner.Holding.{Holds}
 use Rattle.asm65.specs.Inner.Running.{IsRefusedUnread, read_bytes, behind, IsRoomy, IsSoundIf, Leaves, SaysAs, StopsQuietly, TakesBy, Told, tokens_of}
 use Rattle.asm65.specs.Assembly.{Without}

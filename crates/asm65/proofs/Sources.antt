@@ -16,21 +16,21 @@ use Rattle.expand65.specs.Failing.{Gives, Passes, none as no_more, one_more as g
 use Rattle.expand65.proofs.AtHand.{reaches_behind}
 use Rattle.expand65.proofs.Stopping.{goes_over}
 use Rattle.expand65.specs.declared.expander.Expander.{Expander}
-use Rattle.language65.specs.declared.fault.AsmFault.{AsmFault}
-use Rattle.language65.specs.declared.fault.AsmFault.TheVariants.{BadScope, Expansion}
-use Rattle.language65.specs.Faults.{is_failure, is_outside}
-use Rattle.language65.specs.Layout.{is_open, Cursor}
-use Rattle.language65.specs.Numbering.{AreNamed}
-use Rattle.module65.specs.Reading.{GoesOn, known_at, AreDefined, IsGiven, IsSource, Job, no_line, open_fault, stopped}
-use Rattle.module65.specs.Machine.{Runs, State, Takes, begun, running}
-use Rattle.module65.proofs.Taken.{same_outside, same_place, begins, ends, goes_on, is_refused, stops}
-use Rattle.module65.proofs.NamedSteps as named
-use Rattle.module65.proofs.NamedSteps.{IsStateFit, next_fit}
-use Rattle.module65.proofs.NamedLines.{AreFit, are_named}
-use Rattle.module65.proofs.SoundSources.{opened_fit}
+use Rattle.ast65.specs.declared.fault.AsmFault.{AsmFault}
+use Rattle.ast65.specs.declared.fault.AsmFault.TheVariants.{BadScope, Expansion}
+use Rattle.ast65.specs.Faults.{is_failure, is_outside}
+use Rattle.semantics65.specs.Layout.{is_open, Cursor}
+use Rattle.semantics65.specs.Numbering.{AreNamed}
+use Rattle.semantics65.specs.Reading.{GoesOn, known_at, AreDefined, IsGiven, IsSource, Job, no_line, open_fault, stopped}
+use Rattle.semantics65.specs.Machine.{Runs, State, Takes, begun, running}
+use Rattle.semantics65.proofs.Taken.{same_outside, same_place, begins, ends, goes_on, is_refused, stops}
+use Rattle.semantics65.proofs.NamedSteps as named
+use Rattle.semantics65.proofs.NamedSteps.{IsStateFit, next_fit}
+use Rattle.semantics65.proofs.NamedLines.{AreFit, are_named}
+use Rattle.semantics65.proofs.SoundSources.{opened_fit}
 use Rattle.asm65.specs.declared.assembler.Assembler.{Assembler}
 use Rattle.asm65.specs.declared.running.Run.{Run}
-use Rattle.layout65.specs.Measuring.{opening_limit}
+use Rattle.symbols65.specs.Measuring.{opening_limit}
 use Rattle.asm65.specs.Failing.{IsTakenTo, at_first, further, IsWhere, StopsAll, StopsBehind}
 use Rattle.asm65.specs.Assembly.{IsUnread, Without}
 use Rattle.asm65.specs.Inner.Holding.{Holds}

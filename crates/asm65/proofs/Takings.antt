@@ -5,22 +5,22 @@ use Rattle.std.proofs.lemmas.Bool.Decides.{nat_tests}
 use Rattle.base65.specs.Outcome.{Unless}
 use Rattle.syntax65.specs.declared.place.Place.{Place}
 use Rattle.syntax65.specs.declared.lexing.tokens.AddressSize.{AddressSize}
-use Rattle.language65.specs.declared.fault.AsmFault.{AsmFault}
-use Rattle.language65.specs.declared.fault.AsmFault.TheVariants.{DefinedTwice, NotUnderstood, FileNotFound}
-use Rattle.language65.specs.Contents.{asking}
-use Rattle.language65.specs.Symbols.{Laid, asks_section, is_unnamed, Definition, Key, Scope, Symbols, cheap_in, defined, definition_with, definitions_of, key_defined, named, same_key, scope_opened, unnamed_at, value_defined}
-use Rattle.language65.specs.declared.laid.Context.{Context}
-use Rattle.language65.specs.declared.language.Statement.{Statement}
-use Rattle.language65.specs.declared.language.Statement.TheVariants as statement
-use Rattle.language65.specs.Layout.{Cursor, laid, context_of, cursor_behind, defined_twice, first_fault, is_open, line_fault, lost_scopes, opened_twice, or_then, scope_name, stands_outside, trees_of, when, where_there, operand_fault, unless_fault}
-use Rattle.layout65.specs.declared.cursor.Cursor as code
-use Rattle.layout65.specs.Measuring.{AreInside, opened_by, measure_of, naming_fault, placing_faults, unread_fault, AreWithin, IsCounted, IsSoundCursor, cursor_of}
-use Rattle.layout65.specs.declared.measuring.Measured.{Measured}
-use Rattle.layout65.proofs.Behind.{inside_behind}
-use Rattle.layout65.proofs.Measures.{faults_are, unless_then}
-use Rattle.language65.proofs.Segments.{all_more, all_same}
-use Rattle.module65.specs.Machine.{Puts, PutsAll, State, Steps, Takes, UnlessFault, at_once, entered, known, later, symbols_behind}
-use Rattle.module65.specs.Module.{out_of, warning_of, Piece, pieces_of}
+use Rattle.ast65.specs.declared.fault.AsmFault.{AsmFault}
+use Rattle.ast65.specs.declared.fault.AsmFault.TheVariants.{DefinedTwice, NotUnderstood, FileNotFound}
+use Rattle.semantics65.specs.Contents.{asking}
+use Rattle.semantics65.specs.Symbols.{Laid, asks_section, is_unnamed, Definition, Key, Scope, Symbols, cheap_in, defined, definition_with, definitions_of, key_defined, named, same_key, scope_opened, unnamed_at, value_defined}
+use Rattle.semantics65.specs.declared.laid.Context.{Context}
+use Rattle.ast65.specs.declared.language.Statement.{Statement}
+use Rattle.ast65.specs.declared.language.Statement.TheVariants as statement
+use Rattle.semantics65.specs.Layout.{Cursor, laid, context_of, cursor_behind, defined_twice, first_fault, is_open, line_fault, lost_scopes, opened_twice, or_then, scope_name, stands_outside, trees_of, when, where_there, operand_fault, unless_fault}
+use Rattle.symbols65.specs.declared.cursor.Cursor as code
+use Rattle.symbols65.specs.Measuring.{AreInside, opened_by, measure_of, naming_fault, placing_faults, unread_fault, AreWithin, IsCounted, IsSoundCursor, cursor_of}
+use Rattle.symbols65.specs.declared.measuring.Measured.{Measured}
+use Rattle.symbols65.proofs.Behind.{inside_behind}
+use Rattle.symbols65.proofs.Measures.{faults_are, unless_then}
+use Rattle.semantics65.proofs.Segments.{all_more, all_same}
+use Rattle.semantics65.specs.Machine.{Puts, PutsAll, State, Steps, Takes, UnlessFault, at_once, entered, known, later, symbols_behind}
+use Rattle.semantics65.specs.Module.{out_of, warning_of, Piece, pieces_of}
 use Rattle.symbols65.specs.declared.resolving.cache.NormCache.{NormCache}
 use Rattle.symbols65.specs.Resolving.{IsTable}
 use Rattle.symbols65.specs.Views.{table_of}
@@ -33,9 +33,9 @@ use Rattle.asm65.proofs.Namings.{IsBeside, puts_beside}
 use Rattle.base65.specs.Store.{Files, IsBlamed}
 use Rattle.syntax65.specs.Trees.{Tree}
 use Rattle.expand65.specs.Expansion.{beside, file_named}
-use Rattle.language65.specs.Faults.{is_failure, is_memory, is_outside}
-use Rattle.language65.specs.declared.language.Statement.TheVariants.{FilePart, NamedPart}
-use Rattle.module65.specs.Reading.{bytes_for, with_bytes}
+use Rattle.ast65.specs.Faults.{is_failure, is_memory, is_outside}
+use Rattle.ast65.specs.declared.language.Statement.TheVariants.{FilePart, NamedPart}
+use Rattle.semantics65.specs.Reading.{bytes_for, with_bytes}
 use Rattle.asm65.specs.Inner.Running.{IsRefusedUnread}
 
 -- ---- Unnamed labels.

@@ -4,30 +4,30 @@ use Rattle.std.proofs.Common.{◌≡◌, ◌∙◌, ℕ, zero, suc, ◌+◌, Lis
 use Rattle.std.specs.Prelude.{false, slice_get, Some}
 use Rattle.std.specs.List.{AllByRecursion}
 use Rattle.syntax65.specs.Trees.{Tree}
-use Rattle.language65.specs.Contents.{Content}
-use Rattle.language65.specs.Norms.{Extends}
+use Rattle.semantics65.specs.Contents.{Content}
+use Rattle.semantics65.specs.Norms.{Extends}
 use Rattle.syntax65.specs.declared.place.Place.{Place}
-use Rattle.language65.specs.declared.laid.Context.{Context}
-use Rattle.language65.specs.Symbols.{Symbols}
-use Rattle.module65.specs.Machine as machine
-use Rattle.module65.specs.Machine.{State, awaited, awaited_in, awaiting, entered, filled, holds, later}
-use Rattle.module65.specs.Module as piece
-use Rattle.module65.proofs.Resolving.{extends_same, awaited_append, filled_later}
-use Rattle.module65.proofs.Entries.{filled_append}
-use Rattle.sections65.specs.declared.sections.Sections.{Sections}
-use Rattle.sections65.specs.Fed.{Awaits, Feeds, Stands, names_in}
+use Rattle.semantics65.specs.declared.laid.Context.{Context}
+use Rattle.semantics65.specs.Symbols.{Symbols}
+use Rattle.semantics65.specs.Machine as machine
+use Rattle.semantics65.specs.Machine.{State, awaited, awaited_in, awaiting, entered, filled, holds, later}
+use Rattle.semantics65.specs.Module as piece
+use Rattle.semantics65.proofs.Resolving.{extends_same, awaited_append, filled_later}
+use Rattle.semantics65.proofs.Entries.{filled_append}
+use Rattle.emit65.specs.declared.sections.Sections.{Sections}
+use Rattle.emit65.specs.Fed.{Awaits, Feeds, Stands, names_in}
 use Rattle.symbols65.specs.declared.resolving.cache.NormCache.{NormCache}
 use Rattle.symbols65.specs.Resolving.{IsTable}
 use Rattle.symbols65.specs.Tables.{Begins}
 use Rattle.symbols65.specs.Views.{table_of}
 use Rattle.asm65.specs.declared.assembler.Assembler.{Assembler}
-use Rattle.layout65.specs.declared.cursor.Cursor.{Cursor}
+use Rattle.symbols65.specs.declared.cursor.Cursor.{Cursor}
 use Rattle.asm65.specs.declared.assembler.Piece.{Piece}
 use Rattle.asm65.specs.declared.assembler.Piece.TheVariants.{Datum, Operand, Constant, Assertion, Import, Demand, Export}
 use Rattle.asm65.specs.declared.assembler.Fixup.{Fixup}
 use Rattle.asm65.specs.Inner.Holding.{AreAwaited, AreFixups, Enters, Holds, IsConstant, IsPiece, IsFixup, KeepsTables, Waits}
-use Rattle.layout65.specs.Measuring.{AreWithin, IsCounted, IsSoundCursor, cursor_of}
-use Rattle.layout65.proofs.Segments.{all_before}
+use Rattle.symbols65.specs.Measuring.{AreWithin, IsCounted, IsSoundCursor, cursor_of}
+use Rattle.symbols65.proofs.Segments.{all_before}
 
 -- ---- What waits.
 

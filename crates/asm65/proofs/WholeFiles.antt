@@ -8,21 +8,21 @@ use Rattle.base65.specs.Store.{Files}
 use Rattle.base65.specs.declared.store.StoreFault.TheVariants.{FileNotFound}
 use Rattle.syntax65.specs.Trees.{Tree}
 use Rattle.expand65.specs.Expansion.{as_text, beside, file_named}
-use Rattle.language65.specs.declared.language.Statement.{Statement}
-use Rattle.language65.specs.declared.language.Statement.TheVariants.{FilePart, NamedPart}
-use Rattle.language65.specs.Views.{place_in}
+use Rattle.ast65.specs.declared.language.Statement.{Statement}
+use Rattle.ast65.specs.declared.language.Statement.TheVariants.{FilePart, NamedPart}
+use Rattle.semantics65.specs.Views.{place_in}
 use Rattle.asm65.specs.Inner.Running.{read_bytes}
 use Rattle.std.proofs.lemmas.Bool.Decides.{nat_tests}
 use Rattle.std.proofs.lemmas.List.{length-take-le, take_all}
 use Rattle.syntax65.specs.declared.place.Place.{Place}
-use Rattle.language65.specs.declared.fault.AsmFault.{AsmFault}
-use Rattle.language65.specs.declared.fault.AsmFault.TheVariants.{BadPart}
-use Rattle.language65.specs.Layout.{Cursor, laid, context_of, file_limit, first_fault, is_part, left_from, line_fault, lost_scopes, operand_fault, or_then, part_fault, trees_of, when}
-use Rattle.language65.specs.Norms.{optional_value}
-use Rattle.language65.specs.Numbering.{IsSound}
-use Rattle.language65.specs.Symbols.{Symbols}
-use Rattle.module65.specs.Machine.{State, Steps, Takes, UnlessFault}
-use Rattle.module65.specs.Reading.{bytes_for, with_bytes}
+use Rattle.ast65.specs.declared.fault.AsmFault.{AsmFault}
+use Rattle.ast65.specs.declared.fault.AsmFault.TheVariants.{BadPart}
+use Rattle.semantics65.specs.Layout.{Cursor, laid, context_of, file_limit, first_fault, is_part, left_from, line_fault, lost_scopes, operand_fault, or_then, part_fault, trees_of, when}
+use Rattle.semantics65.specs.Norms.{optional_value}
+use Rattle.semantics65.specs.Numbering.{IsSound}
+use Rattle.semantics65.specs.Symbols.{Symbols}
+use Rattle.semantics65.specs.Machine.{State, Steps, Takes, UnlessFault}
+use Rattle.semantics65.specs.Reading.{bytes_for, with_bytes}
 
 -- ---- The bytes of the file of a name.
 

@@ -4,14 +4,14 @@ use Rattle.base65.specs.Store.{Files, IsBlamed}
 use Rattle.expand65.specs.Expansion.{file_named}
 use Rattle.expand65.specs.State as expand
 use Rattle.syntax65.specs.declared.place.Place.{Place}
-use Rattle.language65.specs.declared.fault.AsmFault.{AsmFault}
-use Rattle.language65.specs.declared.fault.AsmFault.TheVariants.{FileNotFound}
-use Rattle.module65.specs.Machine.{State, Takes}
-use Rattle.module65.specs.Reading.{IsGiven, PlacedFault, Define, Job}
+use Rattle.ast65.specs.declared.fault.AsmFault.{AsmFault}
+use Rattle.ast65.specs.declared.fault.AsmFault.TheVariants.{FileNotFound}
+use Rattle.semantics65.specs.Machine.{State, Takes}
+use Rattle.semantics65.specs.Reading.{IsGiven, PlacedFault, Define, Job}
 use Rattle.base65.specs.Outcome.{Finds}
 use Rattle.object65.specs.declared.object.Object.{Object}
-use Rattle.language65.specs.Faults.{is_failure, is_memory, is_outside}
-use Rattle.module65.specs.Module.{IsOutcome, Outcome}
+use Rattle.ast65.specs.Faults.{is_failure, is_memory, is_outside}
+use Rattle.semantics65.specs.Module.{IsOutcome, Outcome}
 use Rattle.asm65.specs.declared.assembling.AsmJob.{AsmJob}
 use Rattle.asm65.specs.declared.assembling.Assembly.{Assembly}
 use Rattle.asm65.specs.declared.assembling.Define as code

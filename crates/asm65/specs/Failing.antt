@@ -7,11 +7,11 @@ use Rattle.expand65.specs.State as expand
 use Rattle.expand65.specs.Failing.{IsOnItsWay}
 use Rattle.syntax65.specs.declared.fault.ExpandFault.TheVariants as expansion
 use Rattle.syntax65.specs.declared.place.Place.{Place}
-use Rattle.language65.specs.declared.fault.AsmFault.{AsmFault}
-use Rattle.language65.specs.declared.fault.AsmFault.TheVariants.{Expansion, FileError}
-use Rattle.language65.specs.Faults.{is_failure}
-use Rattle.module65.specs.Reading.{known_at, PlacedFault, AreDefined, IsGiven, Job, no_line}
-use Rattle.module65.specs.Machine.{State, Takes, begun}
+use Rattle.ast65.specs.declared.fault.AsmFault.{AsmFault}
+use Rattle.ast65.specs.declared.fault.AsmFault.TheVariants.{Expansion, FileError}
+use Rattle.ast65.specs.Faults.{is_failure}
+use Rattle.semantics65.specs.Reading.{known_at, PlacedFault, AreDefined, IsGiven, Job, no_line}
+use Rattle.semantics65.specs.Machine.{State, Takes, begun}
 use Rattle.asm65.specs.Assembly.{has_failed, placed_of, IsUnread}
 use Rattle.asm65.specs.Inner.Running.{IsHeldBy}
 use Rattle.asm65.specs.declared.assembling.Assembly.{Assembly}

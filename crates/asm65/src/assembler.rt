@@ -3,18 +3,17 @@
 ghost use Rattle.symbols65.specs.Views.{table_of};
 ghost use Rattle.asm65.specs.Inner.Holding.{known_where, Holds};
 ghost use Rattle.std.specs.Prelude.{IfOk};
-ghost use Rattle.module65.specs.Machine.{begun};
+ghost use Rattle.semantics65.specs.Machine.{begun};
 
 use crate::texts::Texts;
 use base65::{Seed, Sequence};
 use expand65::Knows;
-use language65::Context;
-use layout65::Cursor;
+use semantics65::Context;
+use symbols65::{Cursor, NormCache, Symbols, definition_of};
 use object65::{Action, Width};
-use sections65::{Files, Sections};
+use emit65::{Files, Sections};
 use std::alloc::{AllocError, Global};
 use symbols65::knowing::constant_now;
-use symbols65::{NormCache, Symbols, definition_of};
 use syntax65::{Expr, Name};
 
 /// What waits of a statement.

@@ -1,13 +1,13 @@
 //! From a source to its object: what is assembled, and what that gives.
 
 ghost use Rattle.std.specs.Prelude.{◌≡◌, false, IfErr, ⊤, ◌≤◌, true, IfOk, IfSome, IsErrOf, Ok, Some, []};
-ghost use Rattle.language65.specs.Faults.{is_failure, is_outside};
-ghost use Rattle.module65.specs.Machine.{Takes, begun, State, concluded};
-ghost use Rattle.module65.specs.Reading.{AreDefined, no_line, Job};
+ghost use Rattle.ast65.specs.Faults.{is_failure, is_outside};
+ghost use Rattle.semantics65.specs.Machine.{Takes, begun, State, concluded};
+ghost use Rattle.semantics65.specs.Reading.{AreDefined, no_line, Job};
 ghost use Rattle.asm65.specs.Assembly.{define_of, job_of, Concludes, IsAssembled, answer_of, has_failed, is_from_memory, is_from_outside, is_outside_refusal, placed_of};
 ghost use Rattle.asm65.specs.Inner.Holding.{Holds};
 ghost use Rattle.asm65.specs.Inner.Running.{DefinesBy, IsRoomy, Leaves, IsHeldBy, IsRunning, SaysAs};
-ghost use Rattle.language65.specs.Views.{place_at};
+ghost use Rattle.semantics65.specs.Views.{place_at};
 ghost use Rattle.base65.specs.Outcome.{Finds};
 ghost use Rattle.base65.specs.Store.{Asks, IsBlamed, Passes, PassesBy};
 ghost use Rattle.object65.specs.Objects.{ObjectFits, is_good_object};
@@ -21,7 +21,8 @@ use crate::running::{Run, take_all};
 use crate::texts::{AsmRefusal, Texts, is_failure, is_outside};
 use base65::{Sequence, Store, Text};
 use expand65::{ExpandFault, Expander, Options, Place};
-use language65::{AsmFault, At, Statement};
+use ast65::{AsmFault, Statement};
+use semantics65::At;
 use object65::Object;
 use std::alloc::Global;
 use syntax65::{Expr, ExprKind};

@@ -2,29 +2,30 @@
 
 ghost use Rattle.std.specs.Prelude.{◌≡◌, ◌++◌, [], List, ℕ, IfOk, IfErr, None, Ok, OnOk, Some, map, slice_get, string_bytes, true, false};
 ghost use Rattle.object65.specs.Objects.{is_good_object, ObjectFits};
-ghost use Rattle.language65.specs.Contents.{Content};
-ghost use Rattle.language65.specs.Faults.{is_outside};
-ghost use Rattle.language65.specs.Numbering.{AreSound};
-ghost use Rattle.module65.specs.Machine as machine;
-ghost use Rattle.module65.specs.Machine.{State, concluded, finished};
-ghost use Rattle.module65.specs.Module.{Outcome};
-ghost use Rattle.sections65.specs.Fed.{Receives};
+ghost use Rattle.semantics65.specs.Contents.{Content};
+ghost use Rattle.ast65.specs.Faults.{is_outside};
+ghost use Rattle.semantics65.specs.Numbering.{AreSound};
+ghost use Rattle.semantics65.specs.Machine as machine;
+ghost use Rattle.semantics65.specs.Machine.{State, concluded, finished};
+ghost use Rattle.semantics65.specs.Module.{Outcome};
+ghost use Rattle.emit65.specs.Fed.{Receives};
 ghost use Rattle.symbols65.specs.Resolving.{IsTable};
 ghost use Rattle.symbols65.specs.Views.{table_of};
 ghost use Rattle.asm65.specs.Assembly.{Concludes, has_failed, in_places, is_from_outside};
 ghost use Rattle.asm65.specs.Inner.Holding.{AreFixups, Holds, IsFixup};
 ghost use Rattle.asm65.specs.Inner.Resolving.{Settles, SettlesAll, content_of, warning_in};
 ghost use Rattle.asm65.specs.Inner.Running.{SaysAs};
-ghost use Rattle.language65.specs.Views.{place_at};
+ghost use Rattle.semantics65.specs.Views.{place_at};
 
 use crate::assembler::{Assembler, Fixup};
 use crate::assembling::Assembly;
 use crate::resolving::{Filling, Made, resolve};
 use crate::texts::{AsmRefusal, Texts, warn};
 use base65::Sequence;
-use language65::{AsmFault, At};
+use ast65::AsmFault;
+use semantics65::At;
 use object65::Object;
-use sections65::Sections;
+use emit65::Sections;
 use std::alloc::{AllocError, Global};
 use symbols65::{NormCache, Symbols};
 

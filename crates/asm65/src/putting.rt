@@ -3,7 +3,7 @@
 mod statements;
 pub mod values;
 
-use language65::{At, Context};
+use semantics65::{At, Context};
 
 /// Where a piece of a statement stands.
 #[derive(Clone, Copy)]

@@ -3,15 +3,15 @@
 ghost use Rattle.std.specs.Prelude.{◌≡◌, true, Err, ◌+◌, ◌<◌, ℕ, IfErr, IfOk, OnOk, false};
 ghost use Rattle.std.specs.List.{list_all};
 ghost use Rattle.object65.specs.Objects.{is_name, is_printed};
-ghost use Rattle.language65.specs.Numbering.{IsSound};
+ghost use Rattle.semantics65.specs.Numbering.{IsSound};
 ghost use Rattle.syntax65.specs.declared.place.Place.{Place};
-ghost use Rattle.language65.specs.declared.language.Statement.TheVariants.{Instruction};
-ghost use Rattle.language65.specs.Faults.{is_failure, is_outside};
-ghost use Rattle.language65.specs.Views.{place_at};
-ghost use Rattle.layout65.specs.Measuring.{opened_by, opening_limit};
-ghost use Rattle.module65.specs.Machine.{State, Takes, symbols_behind};
-ghost use Rattle.module65.specs.Module.{instruction_pieces, pieces_of};
-ghost use Rattle.module65.specs.Reading.{Answers};
+ghost use Rattle.ast65.specs.declared.language.Statement.TheVariants.{Instruction};
+ghost use Rattle.ast65.specs.Faults.{is_failure, is_outside};
+ghost use Rattle.semantics65.specs.Views.{place_at};
+ghost use Rattle.symbols65.specs.Measuring.{opened_by, opening_limit};
+ghost use Rattle.semantics65.specs.Machine.{State, Takes, symbols_behind};
+ghost use Rattle.semantics65.specs.Module.{instruction_pieces, pieces_of};
+ghost use Rattle.semantics65.specs.Reading.{Answers};
 ghost use Rattle.symbols65.specs.Resolving.{IsTable};
 ghost use Rattle.symbols65.specs.Views.{table_of};
 ghost use Rattle.asm65.specs.Inner.Holding.{Enters, Holds, KeepsTables};
@@ -21,10 +21,10 @@ use crate::assembler::Assembler;
 use crate::naming::Mention;
 use crate::putting::Site;
 use base65::Sequence;
-use language65::{AsmFault, At, Context, Operand, Settled, Statement};
-use layout65::{Before, Measured, asks_section, measure, measure_instruction};
+use ast65::{AsmFault, Operand, Statement};
+use semantics65::{At, Context, Settled};
+use symbols65::{Before, Measured, asks_section, measure, measure_instruction, Key};
 use std::alloc::{AllocError, Global};
-use symbols65::Key;
 use syntax65::{AddressSize, Mnemonic};
 
 /// How many bytes a name or a text has fewer than.

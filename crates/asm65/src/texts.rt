@@ -1,15 +1,16 @@
 //! What is said while a source is assembled, and why it has no object.
 
 ghost use Rattle.std.specs.Prelude.{◌≡◌, [], false, true, unwrap_or, ◌++◌, codes, OnOk};
-ghost use Rattle.language65.specs.Faults.{is_failure, is_outside};
+ghost use Rattle.ast65.specs.Faults.{is_failure, is_outside};
 ghost use Rattle.asm65.specs.Assembly.{has_failed, is_outside_refusal, placed_of};
-ghost use Rattle.language65.specs.Views.{place_at, place_in};
-ghost use Rattle.module65.specs.Module.{out_of, warning_at, warning_of};
+ghost use Rattle.semantics65.specs.Views.{place_at, place_in};
+ghost use Rattle.semantics65.specs.Module.{out_of, warning_at, warning_of};
 
 use base65::{Sequence, Text};
 use expand65::ExpandFault;
 use itoa::Buffer;
-use language65::{AsmFault, At, Statement};
+use ast65::{AsmFault, Statement};
+use semantics65::At;
 use std::alloc::{AllocError, Global};
 
 /// Whether the store failed.

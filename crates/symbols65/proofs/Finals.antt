@@ -12,10 +12,10 @@ use Rattle.syntax65.specs.Trees.{Tree, number, here, name, cheap, forward, backw
 use Rattle.object65.specs.Form.{Form}
 use Rattle.object65.specs.Folding.{fold1, fold2}
 use Rattle.object65.specs.declared.folding.FormFault.{FormFault}
-use Rattle.language65.specs.declared.fault.AsmFault.TheVariants.{NoSuchLabel, NoSuchScope, Undefined}
-use Rattle.language65.specs.declared.laid.Context.{Context}
-use Rattle.language65.specs.Symbols.{defined_at, enclosing, first_found, last_of, meaning_of, member_meaning, or_else, or_fault, outward_from, scope_from, scopes_of, shown, unnamed_meaning, Definition, Key, Symbols, cheap_in, defined, imported, named, same_key, unnamed_at}
-use Rattle.language65.specs.Norms.{folded, form_of_definition, form_of_meaning, norm, norm_of, Extends}
+use Rattle.ast65.specs.declared.fault.AsmFault.TheVariants.{NoSuchLabel, NoSuchScope, Undefined}
+use Rattle.semantics65.specs.declared.laid.Context.{Context}
+use Rattle.semantics65.specs.Symbols.{defined_at, enclosing, first_found, last_of, meaning_of, member_meaning, or_else, or_fault, outward_from, scope_from, scopes_of, shown, unnamed_meaning, Definition, Key, Symbols, cheap_in, defined, imported, named, same_key, unnamed_at}
+use Rattle.semantics65.specs.Norms.{folded, form_of_definition, form_of_meaning, norm, norm_of, Extends}
 use Rattle.symbols65.specs.declared.resolving.attempt.Source.TheVariants.{Finals}
 use Rattle.symbols65.specs.declared.resolving.attempt.State.{State}
 use Rattle.symbols65.specs.declared.resolving.attempt.State.TheVariants.{Found}

@@ -8,7 +8,7 @@ use Rattle.std.proofs.lemmas.Option.{slice_get_within}
 use Rattle.symbols65.specs.declared.resolving.attempt.State.{State}
 use Rattle.symbols65.specs.declared.resolving.attempt.State.TheVariants.{Unknown, Waiting, Hangs, Found}
 use Rattle.symbols65.specs.Views.{without}
-use Rattle.language65.specs.Symbols.{Symbols}
+use Rattle.semantics65.specs.Symbols.{Symbols}
 use Rattle.symbols65.specs.Resolving.{IsTable, is_open, unknown, AreHung, bare}
 use Rattle.symbols65.proofs.Hanging.{same_found, same_length, same_unknown, same_waiting}
 use Rattle.symbols65.proofs.Knowns.{get_other, get_same}

@@ -9,18 +9,18 @@ use Rattle.std.proofs.lemmas.Iterator.Adapters.{position_from-zero}
 use Rattle.std.proofs.lemmas.Bool.Decides.{nat_tests}
 use Rattle.std.proofs.lemmas.Option.{slice_get_within}
 use Rattle.indexmap.specs.IndexMap.{insert_entry}
-use Rattle.language65.specs.Symbols as l
-use Rattle.language65.specs.Symbols.{Key, named, cheap_in, unnamed_at}
-use Rattle.language65.specs.Layout.{opened_twice}
+use Rattle.semantics65.specs.Symbols as l
+use Rattle.semantics65.specs.Symbols.{Key, named, cheap_in, unnamed_at}
+use Rattle.semantics65.specs.Layout.{opened_twice}
 use Rattle.symbols65.specs.declared.table.symbols.Entry.{Entry}
 use Rattle.symbols65.specs.declared.table.symbols.Entry.TheVariants as entry
 use Rattle.symbols65.specs.declared.table.symbols.Opening.{Opening}
 use Rattle.symbols65.specs.declared.table.symbols.Opening.TheVariants as opening
 use Rattle.symbols65.specs.declared.table.symbols.Definition.{Definition}
-use Rattle.language65.specs.Norms.{Extends}
+use Rattle.semantics65.specs.Norms.{Extends}
 use Rattle.symbols65.specs.Tables.{AreCounted, AreDistinct, AreFinal, AreNumbered, Begins, HasNumber, IsCounted, IsOpening, KeepsFinal, definition_in, entry_of, first_number, key_in, same_opening, scope_by, scope_opened, table_without_imports, word_at, word_of, word_opened}
 use Rattle.symbols65.proofs.Words.{position_none, first_within, first_passes, get_more, map_same, position_same, position_stays, finds_opened, get_word, keys_get}
-use Rattle.language65.proofs.Lists.{same_bytes}
+use Rattle.ast65.proofs.Lists.{same_bytes}
 
 -- ---- Maps.
 

@@ -6,9 +6,9 @@ use Rattle.std.proofs.lemmas.Grind.{common_steps}
 use Rattle.std.proofs.lemmas.List.Sums.{sum_by-cons}
 use Rattle.std.proofs.lemmas.Option.{gets, get_or_from_slice_get, slice_get-map, slice_get_within}
 use Rattle.std.proofs.Math.Seq.{map-set_same}
-use Rattle.language65.proofs.Lists.{map_length}
-use Rattle.language65.specs.Norms.{Extends}
-use Rattle.language65.specs.Symbols.{Symbols}
+use Rattle.ast65.proofs.Lists.{map_length}
+use Rattle.semantics65.specs.Norms.{Extends}
+use Rattle.semantics65.specs.Symbols.{Symbols}
 use Rattle.object65.specs.Form.{Form}
 use Rattle.symbols65.specs.declared.resolving.attempt.State.{State}
 use Rattle.symbols65.specs.declared.resolving.attempt.State.TheVariants.{Unknown, Waiting, Hangs, Found}

@@ -10,8 +10,8 @@ use Rattle.std.proofs.lemmas.Option.{gets, slice_get_within}
 use Rattle.symbols65.specs.declared.resolving.attempt.State.{State}
 use Rattle.symbols65.specs.declared.resolving.attempt.State.TheVariants.{Unknown, Waiting, Hangs, Found}
 use Rattle.symbols65.specs.Views.{AreNoted, is_found, without}
-use Rattle.language65.specs.Symbols.{Symbols}
-use Rattle.language65.specs.Norms.{Extends}
+use Rattle.semantics65.specs.Symbols.{Symbols}
+use Rattle.semantics65.specs.Norms.{Extends}
 use Rattle.symbols65.specs.Resolving.{AreHung, HangsOn, IsTable, is_open}
 use Rattle.symbols65.proofs.Beginnings.{AreOpen, blank_table}
 use Rattle.symbols65.proofs.Hanging.{hung_later}

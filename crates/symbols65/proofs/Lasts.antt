@@ -3,7 +3,7 @@ use Rattle.std.proofs.Common.{◌≡◌, ℕ, suc, ◌-◌, sym, ap, ◌∙◌, 
 use Rattle.object65.specs.Form.{Form}
 use Rattle.symbols65.specs.declared.resolving.attempt.State.{State}
 use Rattle.symbols65.specs.declared.resolving.attempt.Stop.{Stop}
-use Rattle.language65.specs.Symbols.{Symbols}
+use Rattle.semantics65.specs.Symbols.{Symbols}
 use Rattle.symbols65.specs.Resolving.{tried_at, tried_last}
 
 pub last_is : (known : ℕ → Option State) (table : Symbols) (a : Result Form Stop) (ws : List ℕ) (w : ℕ) → Some w ≡ slice_get ws (length ws - 1) → tried_last known table a ws ≡ tried_at known table w

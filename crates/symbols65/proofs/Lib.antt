@@ -1,13 +1,17 @@
 pub mod Beginnings
+pub mod Behind
 pub mod Finals
 pub mod GivenUp
 pub mod Growing
 pub mod Hanging
 pub mod Knowns
 pub mod Lasts
+pub mod Measures
 pub mod Needing
+pub mod Parts
 pub mod Pursuits
 pub mod Scopes
+pub mod Segments
 pub mod Settling
 pub mod Sizing
 pub mod Tries

@@ -9,9 +9,9 @@ use Rattle.syntax65.specs.declared.expressions.trees.Name.{Name}
 use Rattle.symbols65.specs.Resolving.{IsReference, defined_place, plain_part}
 use Rattle.std.specs.Prelude.{Result, codes, slice_get}
 use Rattle.std.proofs.lemmas.List.{append_assoc}
-use Rattle.language65.specs.declared.laid.Context.{Context}
-use Rattle.language65.specs.declared.fault.AsmFault.{AsmFault}
-use Rattle.language65.specs.Symbols.{Symbols, Meaning, defined, named, Scope, first_found, joined, last_of, meaning_of, or_fault, plain_meaning, scoped_meaning, scopes_from, scopes_of, enclosing, inside, scope_in, within}
+use Rattle.semantics65.specs.declared.laid.Context.{Context}
+use Rattle.ast65.specs.declared.fault.AsmFault.{AsmFault}
+use Rattle.semantics65.specs.Symbols.{Symbols, Meaning, defined, named, Scope, first_found, joined, last_of, meaning_of, or_fault, plain_meaning, scoped_meaning, scopes_from, scopes_of, enclosing, inside, scope_in, within}
 use Rattle.std.specs.List.{position_from}
 use Rattle.std.proofs.lemmas.Bool.Decides.{nat_tests}
 use Rattle.std.proofs.lemmas.Iterator.Adapters.{position_from-zero}

@@ -5,12 +5,12 @@ use Rattle.std.proofs.lemmas.Option.{slice_get_within}
 use Rattle.base65.specs.Outcome.{Gives}
 use Rattle.syntax65.specs.Trees.{Tree}
 use Rattle.object65.specs.Form.{Form}
-use Rattle.language65.specs.declared.fault.AsmFault.{AsmFault}
-use Rattle.language65.specs.Faults.{is_memory}
-use Rattle.language65.specs.declared.laid.Context.{Context}
-use Rattle.language65.specs.Symbols.{Meaning, meaning_of}
-use Rattle.language65.specs.Norms.{form_of_definition, norm, norm_of, Extends}
-use Rattle.language65.specs.Symbols as l
+use Rattle.ast65.specs.declared.fault.AsmFault.{AsmFault}
+use Rattle.ast65.specs.Faults.{is_memory}
+use Rattle.semantics65.specs.declared.laid.Context.{Context}
+use Rattle.semantics65.specs.Symbols.{Meaning, meaning_of}
+use Rattle.semantics65.specs.Norms.{form_of_definition, norm, norm_of, Extends}
+use Rattle.semantics65.specs.Symbols as l
 use Rattle.symbols65.specs.declared.resolving.attempt.Source.TheVariants.{Finals}
 use Rattle.symbols65.specs.declared.resolving.attempt.State.TheVariants.{Found}
 use Rattle.symbols65.specs.declared.resolving.attempt.Stop.{Stop}

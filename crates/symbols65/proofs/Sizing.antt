@@ -4,9 +4,9 @@ use Rattle.std.specs.Prelude.{ℤ, pos, if◌then◌else◌}
 use Rattle.syntax65.specs.Trees.{Tree, number, here, name, cheap, forward, backward, unary, binary}
 use Rattle.syntax65.specs.declared.lexing.tokens.AddressSize.{AddressSize}
 use Rattle.syntax65.specs.declared.lexing.tokens.AddressSize.TheVariants as size
-use Rattle.language65.specs.declared.laid.Context.{Context}
-use Rattle.language65.specs.Symbols.{meaning_of, Symbols}
-use Rattle.language65.specs.Norms.{constant_in, literal_in, folded, larger, size_by, size_of, size_of_meaning, size_of_value, takes_byte}
+use Rattle.semantics65.specs.declared.laid.Context.{Context}
+use Rattle.semantics65.specs.Symbols.{meaning_of, Symbols}
+use Rattle.semantics65.specs.Norms.{constant_in, literal_in, folded, larger, size_by, size_of, size_of_meaning, size_of_value, takes_byte}
 use Rattle.symbols65.specs.Resolving.{IsNumber, binary_form, literal_of, prefix_form}
 use Rattle.std.proofs.lemmas.Grind.{common_steps}
 use Rattle.std.specs.Result.{result_ok}
@@ -15,7 +15,7 @@ use Rattle.base65.specs.declared.values.Op1.{Op1}
 use Rattle.base65.specs.declared.values.Op2.{Op2}
 use Rattle.object65.specs.Form.{Form}
 use Rattle.object65.specs.Folding.{fold1, fold2}
-use Rattle.language65.specs.declared.fault.AsmFault.{AsmFault}
+use Rattle.ast65.specs.declared.fault.AsmFault.{AsmFault}
 
 -- ---- What expressions of numbers alone come to.
 

@@ -6,15 +6,15 @@ use Rattle.base65.specs.Outcome.{◌>>=◌}
 use Rattle.syntax65.specs.Trees.{Tree, number, here, name, cheap, forward, backward, unary, binary}
 use Rattle.object65.specs.Form.{Form}
 use Rattle.object65.specs.Folding.{fold1}
-use Rattle.language65.specs.declared.fault.AsmFault.{AsmFault}
-use Rattle.language65.specs.declared.fault.AsmFault.TheVariants.{Circular}
+use Rattle.ast65.specs.declared.fault.AsmFault.{AsmFault}
+use Rattle.ast65.specs.declared.fault.AsmFault.TheVariants.{Circular}
 use Rattle.symbols65.specs.declared.resolving.attempt.State.{State}
 use Rattle.symbols65.specs.declared.resolving.attempt.State.TheVariants.{Found}
 use Rattle.symbols65.specs.declared.resolving.attempt.Stop.{Stop}
 use Rattle.symbols65.specs.declared.resolving.attempt.Stop.TheVariants.{Needs, Fault}
-use Rattle.language65.specs.declared.laid.Context.{Context}
-use Rattle.language65.specs.Symbols.{Symbols, Definition, Meaning, meaning_of}
-use Rattle.language65.specs.Norms.{folded, form_by, form_of_definition, form_of_meaning, norm}
+use Rattle.semantics65.specs.declared.laid.Context.{Context}
+use Rattle.semantics65.specs.Symbols.{Symbols, Definition, Meaning, meaning_of}
+use Rattle.semantics65.specs.Norms.{folded, form_by, form_of_definition, form_of_meaning, norm}
 use Rattle.symbols65.specs.Resolving.{IsReference, stopped, attempt_definition, meaning_form, operand_form, tried_by, tried, tried_at, tried_last, FoundBy}
 use Rattle.symbols65.proofs.Turns.{NormCache, Course, expression_course, constant_course, constant_is, ok_later, ok_before}
 

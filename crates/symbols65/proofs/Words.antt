@@ -9,8 +9,8 @@ use Rattle.std.proofs.lemmas.Option.{slice_get_within}
 use Rattle.std.specs.Map.{keys_of}
 use Rattle.std.specs.Str.{bytes_eq}
 use Rattle.std.proofs.lemmas.Slice.Eq.{bytes_eq-Decides}
-use Rattle.language65.specs.Symbols.{Key, Scope, named, cheap_in, unnamed_at, same_key, is_named}
-use Rattle.language65.proofs.Lists.{bytes_swap, position_mapped, same_bytes}
+use Rattle.semantics65.specs.Symbols.{Key, Scope, named, cheap_in, unnamed_at, same_key, is_named}
+use Rattle.ast65.proofs.Lists.{bytes_swap, position_mapped, same_bytes}
 use Rattle.symbols65.specs.declared.table.symbols.Entry.{Entry}
 use Rattle.symbols65.specs.declared.table.symbols.Entry.TheVariants as entry
 use Rattle.symbols65.specs.declared.table.symbols.Opening.{Opening}

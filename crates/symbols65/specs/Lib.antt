@@ -1,3 +1,4 @@
+pub mod Measuring
 pub mod Resolving
 pub mod Tables
 pub mod Views

@@ -6,16 +6,16 @@ use Rattle.base65.specs.declared.values.Op1.{Op1}
 use Rattle.base65.specs.declared.values.Op2.{Op2}
 use Rattle.object65.specs.Form.{Form, lit, imp}
 use Rattle.object65.specs.Folding.{fold1, fold2}
-use Rattle.language65.specs.Norms.{literal_in, norm, Extends, form_of_definition, address_of, folded}
-use Rattle.language65.specs.declared.fault.AsmFault.{AsmFault}
-use Rattle.language65.specs.declared.laid.Context.{Context}
-use Rattle.language65.specs.Symbols.{Symbols, Definition, Meaning, defined_at, imported_as, meaning_of}
-use Rattle.language65.specs.declared.fault.AsmFault.TheVariants.{Circular, NoSuchLabel}
+use Rattle.semantics65.specs.Norms.{literal_in, norm, Extends, form_of_definition, address_of, folded}
+use Rattle.ast65.specs.declared.fault.AsmFault.{AsmFault}
+use Rattle.semantics65.specs.declared.laid.Context.{Context}
+use Rattle.semantics65.specs.Symbols.{Symbols, Definition, Meaning, defined_at, imported_as, meaning_of}
+use Rattle.ast65.specs.declared.fault.AsmFault.TheVariants.{Circular, NoSuchLabel}
 use Rattle.symbols65.specs.declared.resolving.attempt.State.{State}
 use Rattle.symbols65.specs.declared.resolving.attempt.State.TheVariants.{Unknown, Hangs, Waiting, Found}
 use Rattle.symbols65.specs.declared.resolving.attempt.Stop.{Stop}
 use Rattle.symbols65.specs.declared.resolving.attempt.Stop.TheVariants.{Needs, Fault}
-use Rattle.language65.specs.Faults.{is_memory}
+use Rattle.ast65.specs.Faults.{is_memory}
 use Rattle.base65.specs.Outcome.{◌>>=◌, Unless}
 use Rattle.symbols65.specs.declared.resolving.meaning.Meaning as code
 use Rattle.symbols65.specs.declared.resolving.meaning.Meaning.TheVariants.{Defined, Imported}

@@ -5,8 +5,8 @@ use Rattle.std.specs.Map.{keys_of}
 use Rattle.std.specs.Result.{result_ok}
 use Rattle.std.specs.Str.{bytes_eq}
 use Rattle.object65.specs.Form.{Form, form_code}
-use Rattle.language65.specs.Symbols as l
-use Rattle.language65.specs.Symbols.{Scope, named, cheap_in, unnamed_at}
+use Rattle.semantics65.specs.Symbols as l
+use Rattle.semantics65.specs.Symbols.{Scope, named, cheap_in, unnamed_at}
 use Rattle.symbols65.specs.declared.table.symbols.Key as code
 use Rattle.symbols65.specs.declared.table.symbols.Key.TheVariants as key
 use Rattle.symbols65.specs.declared.table.symbols.Entry.{Entry}
@@ -14,7 +14,7 @@ use Rattle.symbols65.specs.declared.table.symbols.Entry.TheVariants as entry
 use Rattle.symbols65.specs.declared.table.symbols.Opening.{Opening}
 use Rattle.symbols65.specs.declared.table.symbols.Opening.TheVariants as opening
 use Rattle.symbols65.specs.declared.table.symbols.Definition.{Definition}
-use Rattle.language65.specs.Norms.{Extends, form_of_value, norm}
+use Rattle.semantics65.specs.Norms.{Extends, form_of_value, norm}
 
 abbrev pub key_of : code.Key → l.Key
 key_of (key.Named scope name) = named scope name.now

@@ -1,8 +1,8 @@
 -- The language's symbol table for which one in memory stands, and what is known of forms by it.
 use Rattle.std.specs.Prelude.{◌≡◌, ℕ, List, [], ◌∷◌, ◌++◌, map, slice_get, slice_set, Bool, true, false, Option, Some, None, option_map, if◌then◌else◌, ◌==◌}
 use Rattle.std.specs.List.{list_any}
-use Rattle.language65.specs.Symbols as l
-use Rattle.language65.specs.Symbols.{Definition, Scope, unnamed_at, with_new}
+use Rattle.semantics65.specs.Symbols as l
+use Rattle.semantics65.specs.Symbols.{Definition, Scope, unnamed_at, with_new}
 use Rattle.symbols65.specs.Tables.{definition_in, key_in, scope_opened}
 use Rattle.symbols65.specs.declared.resolving.attempt.State.{State}
 use Rattle.symbols65.specs.declared.resolving.attempt.State.TheVariants.{Found, Unknown}

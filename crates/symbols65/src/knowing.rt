@@ -2,11 +2,11 @@
 //! forms of instructions.
 
 ghost use Rattle.std.specs.Prelude.{◌≡◌, Ok, OnOk, IfOk};
-ghost use Rattle.language65.specs.Norms.{literal_in, constant_in, norm_of, larger, size_by, size_of, size_of_meaning, size_of_value, address_mode, first_of, is_branch, mode_for, mode_of};
+ghost use Rattle.semantics65.specs.Norms.{literal_in, constant_in, norm_of, larger, size_by, size_of, size_of_meaning, size_of_value, address_mode, first_of, is_branch, mode_for, mode_of};
 ghost use Rattle.symbols65.specs.Resolving.{literal_of, IsReference, IsTable, meaning_in};
 ghost use Rattle.symbols65.specs.Views.{table_of};
 ghost use Rattle.std.specs.Result.{result_ok};
-ghost use Rattle.language65.specs.Symbols.{meaning_of};
+ghost use Rattle.semantics65.specs.Symbols.{meaning_of};
 
 use crate::resolving::{
     Meaning, NormCache, Stop, address, binary_form, meaning_of, meant_norm, norm, number_of,
@@ -14,7 +14,8 @@ use crate::resolving::{
 };
 use crate::table::Symbols;
 use base65::Op1;
-use language65::{AsmFault, Context, Index, Operand};
+use ast65::{AsmFault, Index, Operand};
+use semantics65::Context;
 use object65::{Node, Norm};
 use std::alloc::{AllocError, Global};
 use syntax65::{AddressSize, Expr, ExprKind, Mnemonic, Mode, opcode};

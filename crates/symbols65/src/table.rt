@@ -8,11 +8,11 @@ ghost use Rattle.std.specs.Prelude.{◌≡◌, ◌++◌, ◌∷◌, [], IfOk, No
 ghost use Rattle.std.specs.Option.{option_map};
 ghost use Rattle.std.specs.Str.{bytes_eq};
 ghost use Rattle.indexmap.specs.IndexMap.{keys, index_map_len};
-ghost use Rattle.language65.specs.Layout.{opened_twice};
-ghost use Rattle.language65.specs.Symbols.{with_new, enclosing, scope_in, within, defined, imported};
+ghost use Rattle.semantics65.specs.Layout.{opened_twice};
+ghost use Rattle.semantics65.specs.Symbols.{with_new, enclosing, scope_in, within, defined, imported};
 ghost use Rattle.symbols65.specs.Tables.{Begins, HasNumber, IsOpening, first_number, same_opening, scope_by, word_opened, KeepsFinal, definition_seen, entry_of, key_of, same_entry};
 ghost use Rattle.symbols65.specs.Views.{table_of, with_names, with_scope, words_of, key_at};
-ghost use Rattle.language65.specs.Norms.{is_zero_page_name};
+ghost use Rattle.semantics65.specs.Norms.{is_zero_page_name};
 
 use base65::{Seed, Sequence};
 pub use defining::define;

@@ -5,7 +5,7 @@ mod stores;
 use asm65::{AsmJob, AsmRefusal, Define, assemble};
 use base65::{MemStore, Text};
 use expand65::ExpandFault;
-use language65::AsmFault;
+use ast65::AsmFault;
 use object65::write_object;
 use std::alloc::{AllocError, Global};
 use std::test::Fail;

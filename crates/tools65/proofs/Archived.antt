@@ -17,9 +17,9 @@ use Rattle.library65.proofs.Edits.{checked_good, with_good}
 use Rattle.library65.proofs.Read.{library_loaded, stock_law}
 use Rattle.library65.proofs.Made.{written_is}
 use Rattle.base65.specs.declared.output.OutputFile.{OutputFile}
-use Rattle.language65.specs.Faults.{is_memory}
-use Rattle.module65.specs.Module as asm
-use Rattle.module65.specs.Reading.{PlacedFault}
+use Rattle.ast65.specs.Faults.{is_memory}
+use Rattle.semantics65.specs.Module as asm
+use Rattle.semantics65.specs.Reading.{PlacedFault}
 use Rattle.asm65.specs.Assembly.{IsAssembled}
 use Rattle.cli65.specs.declared.line.Operation.{Operation}
 use Rattle.cli65.specs.Line.{Archiving, Assembling}

@@ -9,8 +9,8 @@ use Rattle.object65.specs.declared.object.Object.{Object}
 use Rattle.asm65.specs.declared.texts.AsmRefusal.{AsmRefusal}
 use Rattle.asm65.specs.Assembly.{IsAssembled, has_failed, in_places, is_outside_refusal, placed_of}
 use Rattle.asm65.specs.Failing.{Stops}
-use Rattle.module65.specs.Reading.{PlacedFault, Job}
-use Rattle.language65.specs.Faults.{is_memory as is_asm_memory}
+use Rattle.semantics65.specs.Reading.{PlacedFault, Job}
+use Rattle.ast65.specs.Faults.{is_memory as is_asm_memory}
 use Rattle.cli65.specs.Line.{Archiving, Assembling, Linking, Says, assemble, link, archive, line_of}
 use Rattle.cli65.specs.Messages.{line_memory_message, line_message_of, memory_line}
 use Rattle.cli65.specs.declared.fault.LineFault.{LineFault}

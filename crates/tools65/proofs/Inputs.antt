@@ -21,15 +21,15 @@ use Rattle.library65.specs.Reading.{index_at, in_file as in_library}
 use Rattle.library65.specs.Spelling.{AreMembers as AreStored, IsLibrary, Member, index_bytes}
 use Rattle.library65.proofs.Again.{index_again}
 use Rattle.script65.specs.declared.script.Script.{Script}
-use Rattle.language65.specs.Contents.{Content}
-use Rattle.language65.specs.Layout.{Layout}
-use Rattle.language65.specs.Numbering.{object_with}
-use Rattle.language65.specs.Symbols.{symbols_of}
-use Rattle.module65.specs.Module as asm
-use Rattle.module65.specs.Reading.{PlacedFault, Job}
-use Rattle.module65.proofs.SoundContents.{sound_contents}
-use Rattle.module65.proofs.SoundSources.{sound_layout}
-use Rattle.sections65.proofs.GoodObjects.{good_object}
+use Rattle.semantics65.specs.Contents.{Content}
+use Rattle.semantics65.specs.Layout.{Layout}
+use Rattle.semantics65.specs.Numbering.{object_with}
+use Rattle.semantics65.specs.Symbols.{symbols_of}
+use Rattle.semantics65.specs.Module as asm
+use Rattle.semantics65.specs.Reading.{PlacedFault, Job}
+use Rattle.semantics65.proofs.SoundContents.{sound_contents}
+use Rattle.semantics65.proofs.SoundSources.{sound_layout}
+use Rattle.emit65.proofs.GoodObjects.{good_object}
 use Rattle.asm65.specs.Assembly.{IsAssembled}
 use Rattle.link65.specs.Names.{given_names, open_names}
 use Rattle.link65.specs.Programs.{Module, program_of}

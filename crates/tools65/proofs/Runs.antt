@@ -11,9 +11,9 @@ use Rattle.output65.specs.declared.outcome.Status.TheVariants.{Failure}
 use Rattle.object65.specs.declared.object.Object.{Object}
 use Rattle.asm65.specs.declared.texts.AsmRefusal.{AsmRefusal}
 use Rattle.asm65.specs.Assembly.{IsAssembled, has_failed, in_places, is_outside_refusal, placed_of}
-use Rattle.language65.specs.Faults.{is_memory as is_asm_memory}
+use Rattle.ast65.specs.Faults.{is_memory as is_asm_memory}
 use Rattle.output65.specs.Outputs.{failing}
-use Rattle.module65.specs.Reading.{Define, Job}
+use Rattle.semantics65.specs.Reading.{Define, Job}
 use Rattle.tools65.specs.Assembling.{define_in, job_in}
 use Rattle.tools65.specs.Command.{outcome_of, Assembles, AssemblesWith, Does, DoesLine, Commands, Ran, RanWords, line_memory, refused_with}
 use Rattle.output65.specs.Leaving.{Prints, SaysBoth, Settles, Performs, StopsShort, Streams, streams}

@@ -1,11 +1,11 @@
 -- What ca65 names and says.
 use Rattle.std.specs.Prelude.{◌≡◌, ℕ, nat_eq, List, map, Option, Some, None, if◌then◌else◌}
 use Rattle.syntax65.specs.declared.place.Place.{Place}
-use Rattle.language65.specs.Faults.{fault_text}
+use Rattle.ast65.specs.Faults.{fault_text}
 use Rattle.cli65.specs.Defining.{Defining}
 use Rattle.cli65.specs.Line.{Assembling}
 use Rattle.cli65.specs.Messages.{file_message, line_message}
-use Rattle.module65.specs.Reading.{PlacedFault, Define, Job}
+use Rattle.semantics65.specs.Reading.{PlacedFault, Define, Job}
 use Rattle.tools65.specs.Naming.{IsObjectName}
 
 -- a constant of a line, as the assembler has it

@@ -7,12 +7,12 @@ use Rattle.ar65.specs.Refusals as archives
 use Rattle.ld65.specs.declared.refusal.Refusal.{Refusal}
 use Rattle.ld65.specs.Refusals.{is_failure, refusal_message}
 use Rattle.ld65.specs.Naming.{IsOfLine}
-use Rattle.language65.specs.Faults as asm
+use Rattle.ast65.specs.Faults as asm
 use Rattle.cli65.specs.declared.fault.LineFault.{LineFault}
 use Rattle.cli65.specs.Messages.{line_memory_message}
 use Rattle.output65.specs.Outputs.{failing}
 use Rattle.cli65.specs.Line.{Says, assemble, link, archive, line_of}
-use Rattle.module65.specs.Reading.{PlacedFault}
+use Rattle.semantics65.specs.Reading.{PlacedFault}
 use Rattle.asm65.specs.Failing.{Stops}
 use Rattle.tools65.specs.Assembling.{asm_message, job_in}
 use Rattle.tools65.specs.Command.{DoesLine, RanWords, line_memory}

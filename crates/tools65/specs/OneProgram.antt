@@ -4,9 +4,9 @@ use Rattle.std.specs.FinMap.{get}
 use Rattle.base65.specs.Store.{Files}
 use Rattle.script65.specs.Scripts.{IsScript}
 use Rattle.script65.specs.declared.script.Script.{Script}
-use Rattle.language65.specs.Layout.{Layout}
-use Rattle.module65.specs.Reading.{AreLaid, Job}
-use Rattle.module65.specs.Module as asm
+use Rattle.semantics65.specs.Layout.{Layout}
+use Rattle.semantics65.specs.Reading.{AreLaid, Job}
+use Rattle.semantics65.specs.Module as asm
 use Rattle.asm65.specs.Assembly.{IsAssembled}
 use Rattle.object65.specs.declared.object.Object.{Object}
 use Rattle.object65.specs.Versions.{IsEitherVersion}

@@ -9,7 +9,7 @@ use Rattle.object65.specs.Reading.{file_limit}
 use Rattle.object65.specs.Spelling.{object_bytes}
 use Rattle.object65.specs.Versions.{IsEitherVersion}
 use Rattle.library65.specs.Spelling.{IsLibrary, Member}
-use Rattle.module65.specs.Module as asm
+use Rattle.semantics65.specs.Module as asm
 use Rattle.asm65.specs.Assembly.{IsAssembled}
 use Rattle.tools65.specs.OneProgram.{Source}
 

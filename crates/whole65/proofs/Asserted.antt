@@ -10,17 +10,17 @@ use Rattle.object65.specs.Form.{Form, lit, sec, imp, prefix, binary}
 use Rattle.object65.specs.declared.object.Action.{Action}
 use Rattle.object65.specs.declared.object.Action.TheVariants as action
 use Rattle.syntax65.specs.declared.place.Place.{Place}
-use Rattle.language65.specs.Contents.{Content, Declaration, Exported, ForcedImport, Asserted, content_of, decided, each_of, export_said, import_fault, said_of, written}
-use Rattle.language65.specs.declared.fault.AsmFault.{AsmFault}
-use Rattle.language65.specs.declared.fault.AsmFault.TheVariants.{ImportedAndDefined, NotDefined}
-use Rattle.language65.specs.Symbols.{Laid, Symbols, defined, named}
-use Rattle.language65.specs.declared.language.Statement.{Statement}
-use Rattle.language65.specs.declared.language.Statement.TheVariants.{Constant, Import, Export, Global, ForceImport, Assert}
-use Rattle.language65.specs.Norms.{defined_form, norm_of}
-use Rattle.language65.specs.Numbering.{all_said, assert_of, import_keys, numbered, section_keys}
-use Rattle.module65.proofs.SoundForms.{all_append}
-use Rattle.module65.specs.Module.{contents_from}
-use Rattle.module65.specs.Reading.{PlacedFault, at_place}
+use Rattle.semantics65.specs.Contents.{Content, Declaration, Exported, ForcedImport, Asserted, content_of, decided, each_of, export_said, import_fault, said_of, written}
+use Rattle.ast65.specs.declared.fault.AsmFault.{AsmFault}
+use Rattle.ast65.specs.declared.fault.AsmFault.TheVariants.{ImportedAndDefined, NotDefined}
+use Rattle.semantics65.specs.Symbols.{Laid, Symbols, defined, named}
+use Rattle.ast65.specs.declared.language.Statement.{Statement}
+use Rattle.ast65.specs.declared.language.Statement.TheVariants.{Constant, Import, Export, Global, ForceImport, Assert}
+use Rattle.semantics65.specs.Norms.{defined_form, norm_of}
+use Rattle.semantics65.specs.Numbering.{all_said, assert_of, import_keys, numbered, section_keys}
+use Rattle.semantics65.proofs.SoundForms.{all_append}
+use Rattle.semantics65.specs.Module.{contents_from}
+use Rattle.semantics65.specs.Reading.{PlacedFault, at_place}
 use Rattle.whole65.proofs.Files.{all_split, table_law}
 use Rattle.whole65.proofs.SameValues.{bind_ok, written_ok, same_values_law}
 use Rattle.whole65.proofs.SectionBytes.{content_is, in_middle, placed_ok}
@@ -34,7 +34,7 @@ use Rattle.object65.specs.declared.object.Object.{Object}
 use Rattle.object65.specs.declared.object.Origin.{Origin}
 use Rattle.script65.specs.declared.placement.Placement.{Placement}
 use Rattle.script65.specs.declared.script.Script.{Script}
-use Rattle.language65.specs.Layout.{Layout}
+use Rattle.semantics65.specs.Layout.{Layout}
 use Rattle.link65.specs.Links.{assertion_result, check_assert, check_asserts, site, value_at, value_fault}
 use Rattle.link65.specs.Programs.{Module}
 use Rattle.link65.specs.Values.{linkage_of, AreExports, Exports, Linkage, exports_through, in_table, value_by}

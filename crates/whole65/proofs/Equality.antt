@@ -6,7 +6,7 @@ use Rattle.std.specs.List.{AllByRecursion}
 use Rattle.syntax65.specs.Trees as tree
 use Rattle.script65.specs.declared.placement.Placement.{Placement}
 use Rattle.script65.specs.declared.script.Script.{Script}
-use Rattle.language65.specs.Layout.{Layout}
+use Rattle.semantics65.specs.Layout.{Layout}
 use Rattle.link65.specs.Programs.{Module}
 use Rattle.link65.specs.Values.{linkage_of, ExportComesTo, Linkage, export_value, exports_through, value_by, AreExports}
 use Rattle.link65.specs.Programs as linked

@@ -15,29 +15,29 @@ use Rattle.object65.specs.declared.object.Export.{Export}
 use Rattle.object65.specs.declared.object.Object.{Object}
 use Rattle.object65.specs.declared.object.Origin.{Origin}
 use Rattle.syntax65.specs.declared.place.Place.{Place}
-use Rattle.language65.specs.Contents.{Content, Declaration, Exported, ForcedImport, Asserted, content_of, decided, each_of, export_said, import_fault, said_of, written}
-use Rattle.language65.specs.declared.fault.AsmFault.{AsmFault}
-use Rattle.language65.specs.declared.fault.AsmFault.TheVariants.{ImportedAndDefined, NotDefined}
-use Rattle.language65.specs.Symbols.{Laid, Symbols, defined, named, with_new}
-use Rattle.language65.specs.declared.language.Statement.{Statement}
-use Rattle.language65.specs.declared.language.Statement.TheVariants as statement
-use Rattle.language65.specs.Layout.{Layout}
-use Rattle.language65.specs.Norms.{defined_form, norm_of}
-use Rattle.language65.specs.Numbering.{all_said, exports_among, import_keys, numbered, section_keys}
+use Rattle.semantics65.specs.Contents.{Content, Declaration, Exported, ForcedImport, Asserted, content_of, decided, each_of, export_said, import_fault, said_of, written}
+use Rattle.ast65.specs.declared.fault.AsmFault.{AsmFault}
+use Rattle.ast65.specs.declared.fault.AsmFault.TheVariants.{ImportedAndDefined, NotDefined}
+use Rattle.semantics65.specs.Symbols.{Laid, Symbols, defined, named, with_new}
+use Rattle.ast65.specs.declared.language.Statement.{Statement}
+use Rattle.ast65.specs.declared.language.Statement.TheVariants as statement
+use Rattle.semantics65.specs.Layout.{Layout}
+use Rattle.semantics65.specs.Norms.{defined_form, norm_of}
+use Rattle.semantics65.specs.Numbering.{all_said, exports_among, import_keys, numbered, section_keys}
 use Rattle.link65.specs.Names.{export_names}
 use Rattle.link65.specs.Programs.{Module, Program, no_program, program_of, with_module, with_modules}
 use Rattle.link65.specs.Programs as linked
 use Rattle.link65.specs.declared.parts.Exported as parts
-use Rattle.module65.proofs.SoundForms.{all_append}
-use Rattle.module65.specs.Module.{contents_from}
-use Rattle.module65.specs.Reading.{PlacedFault, at_place}
+use Rattle.semantics65.proofs.SoundForms.{all_append}
+use Rattle.semantics65.specs.Module.{contents_from}
+use Rattle.semantics65.specs.Reading.{PlacedFault, at_place}
 use Rattle.whole65.proofs.SameValues.{bind_ok, written_ok}
 use Rattle.whole65.proofs.SectionBytes.{content_is, placed_ok}
 use Rattle.whole65.proofs.Sources.{contents_of}
 use Rattle.whole65.specs.Modules.{exported_by, exports_of, table_of, forced_by}
 use Rattle.whole65.specs.Sources.{AreSources, IsSource}
 use Rattle.syntax65.specs.Trees.{Tree}
-use Rattle.language65.specs.declared.language.Statement.TheVariants.{Constant, Import, Export as ExportNames, Global, ForceImport, Assert}
+use Rattle.ast65.specs.declared.language.Statement.TheVariants.{Constant, Import, Export as ExportNames, Global, ForceImport, Assert}
 
 -- ---- What is said of names.
 

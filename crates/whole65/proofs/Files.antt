@@ -28,7 +28,7 @@ use Rattle.syntax65.specs.Trees as tree
 use Rattle.script65.specs.declared.placement.Placement.{Placement}
 use Rattle.script65.specs.declared.script.Row.{Row}
 use Rattle.script65.specs.declared.script.Script.{Script}
-use Rattle.language65.specs.Layout.{Layout}
+use Rattle.semantics65.specs.Layout.{Layout}
 use Rattle.link65.proofs.Passes.{passes_append}
 use Rattle.link65.specs.Files.{RowBytes, AddsArea, AddsAreas, IsAreaFile, IsImage, area_at, area_pieces, file_len, file_name, is_loaded, loaded_in, offset_of}
 use Rattle.link65.specs.Programs as linked
@@ -47,7 +47,7 @@ use Rattle.object65.specs.declared.object.Export.{Export}
 use Rattle.script65.specs.declared.placement.RowPlace.{RowPlace}
 use Rattle.script65.specs.declared.script.Area.{Area}
 use Rattle.base65.specs.declared.output.OutputFile.{OutputFile}
-use Rattle.module65.proofs.SoundForms.{all_append}
+use Rattle.semantics65.proofs.SoundForms.{all_append}
 use Rattle.whole65.proofs.Exports.{source_exports}
 use Rattle.whole65.specs.Programs.{program_of}
 

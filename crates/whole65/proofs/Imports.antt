@@ -15,8 +15,8 @@ use Rattle.script65.specs.declared.placement.SegmentNeed.{SegmentNeed}
 use Rattle.script65.specs.declared.script.Area.{Area}
 use Rattle.script65.specs.declared.script.Row.{Row}
 use Rattle.script65.specs.declared.script.Script.{Script}
-use Rattle.language65.proofs.Lists.{same_bytes, bytes_swap}
-use Rattle.language65.specs.Layout.{Layout}
+use Rattle.ast65.proofs.Lists.{same_bytes, bytes_swap}
+use Rattle.semantics65.specs.Layout.{Layout}
 use Rattle.link65.specs.Names.{by_definition, by_export, defined_at, each_once, export_names, exported_at, given_names, is_among, is_given, references, unresolved, area_definitions, area_names, areas_definitions, row_definitions, row_names, rows_definitions, script_definitions, script_names, symbol_exports, symbol_imports, weak_symbols}
 use Rattle.link65.specs.Names as linked
 use Rattle.link65.specs.Programs.{flat_zip, Module, Program, member, no_program, program_of, with_module, with_modules}
@@ -25,8 +25,8 @@ use Rattle.link65.specs.declared.parts.Exported as parts
 use Rattle.link65.specs.declared.parts.Provider.{Provider}
 use Rattle.link65.specs.declared.parts.Provider.TheVariants.{Nobody}
 use Rattle.link65.specs.declared.parts.Member.{Member}
-use Rattle.module65.proofs.SoundForms.{all_append}
-use Rattle.language65.proofs.Segments.{all_more}
+use Rattle.semantics65.proofs.SoundForms.{all_append}
+use Rattle.semantics65.proofs.Segments.{all_more}
 use Rattle.whole65.proofs.Providers.{Agree, providers_agree, of_module, of_nobody, of_script}
 use Rattle.whole65.specs.Programs as whole
 use Rattle.whole65.specs.Segments.{needs_of}
@@ -36,11 +36,11 @@ use Rattle.whole65.specs.Values.{by_nobody}
 use Rattle.whole65.specs.Whole.{IsGiven}
 use Rattle.std.specs.Option.{option_map}
 use Rattle.object65.specs.declared.object.Object.{Object}
-use Rattle.language65.specs.Contents.{Content, Part, Declaration, Exported, ForcedImport, Asserted}
-use Rattle.language65.specs.Symbols.{Laid, imports_of}
-use Rattle.language65.specs.declared.language.Statement.{Statement}
-use Rattle.language65.specs.declared.language.Statement.TheVariants.{ForceImport}
-use Rattle.language65.specs.Numbering.{all_said, content_imports, import_keys, key_of, name_of, once, optional_key, part_imports, said_imports}
+use Rattle.semantics65.specs.Contents.{Content, Part, Declaration, Exported, ForcedImport, Asserted}
+use Rattle.semantics65.specs.Symbols.{Laid, imports_of}
+use Rattle.ast65.specs.declared.language.Statement.{Statement}
+use Rattle.ast65.specs.declared.language.Statement.TheVariants.{ForceImport}
+use Rattle.semantics65.specs.Numbering.{all_said, content_imports, import_keys, key_of, name_of, once, optional_key, part_imports, said_imports}
 use Rattle.link65.proofs.SegmentLemmas.{at_front, behind_front}
 use Rattle.whole65.proofs.Keyed.{one_of, each_among, or_right}
 use Rattle.whole65.proofs.Exports.{all_demanded, demanded_names}

@@ -9,7 +9,7 @@ use Rattle.base65.specs.Outcome.{◌>>=◌}
 use Rattle.base65.specs.Values.{value1, value2, wrapped}
 use Rattle.object65.specs.Form.{lit, sec, imp, prefix, binary, Form}
 use Rattle.object65.specs.FormValue.{or_none, value_in}
-use Rattle.language65.specs.Numbering.{imports_in, import_keys, number_of, section_keys, section_of, content_imports, name_of, part_imports, said_imports, numbered, sections_in, IsSoundContent, IsSoundForm, IsSoundPart, IsSoundDeclaration, IsSoundLayout}
+use Rattle.semantics65.specs.Numbering.{imports_in, import_keys, number_of, section_keys, section_of, content_imports, name_of, part_imports, said_imports, numbered, sections_in, IsSoundContent, IsSoundForm, IsSoundPart, IsSoundDeclaration, IsSoundLayout}
 use Rattle.std.specs.Str.{bytes_eq}
 use Rattle.std.proofs.lemmas.Bool.Decides.{nat_tests}
 use Rattle.std.proofs.lemmas.List.{length-append}
@@ -20,8 +20,8 @@ use Rattle.script65.specs.Placing.{rounded_up}
 use Rattle.script65.specs.declared.placement.Placement.{Placement}
 use Rattle.script65.specs.declared.script.Script.{Script}
 use Rattle.syntax65.specs.declared.place.Place.{Place}
-use Rattle.language65.specs.Contents.{Content, Part, Known, Filled, Waiting, Declaration, Exported, ForcedImport, Asserted}
-use Rattle.language65.specs.Layout.{Layout}
+use Rattle.semantics65.specs.Contents.{Content, Part, Known, Filled, Waiting, Declaration, Exported, ForcedImport, Asserted}
+use Rattle.semantics65.specs.Layout.{Layout}
 use Rattle.link65.specs.Programs.{Module, Program, member, no_program, program_of, with_module, with_modules, grown, section_place, section_places, segment_of, with_section}
 use Rattle.link65.specs.Values.{address_of, linkage_of, resolved, run_of, base_of, exports_through, provider_at, import_value, Linkage, value_by}
 use Rattle.link65.specs.Programs as linked
@@ -42,11 +42,11 @@ use Rattle.link65.specs.declared.parts.Provider.{Provider}
 use Rattle.link65.specs.declared.parts.Provider.TheVariants.{Nobody}
 use Rattle.link65.specs.declared.parts.ValueFault.{ValueFault}
 use Rattle.link65.specs.declared.parts.ValueFault.TheVariants.{NoValue}
-use Rattle.module65.proofs.SoundContents.{sound_contents}
+use Rattle.semantics65.proofs.SoundContents.{sound_contents}
 use Rattle.whole65.proofs.ModuleBytes.{number_law}
 use Rattle.script65.specs.declared.script.Row.{Row}
 use Rattle.script65.specs.declared.placement.RowPlace.{RowPlace}
-use Rattle.module65.specs.Module.{contents_from}
+use Rattle.semantics65.specs.Module.{contents_from}
 use Rattle.whole65.specs.Objects.{form_value}
 
 -- ---- What the value of a form rests on.

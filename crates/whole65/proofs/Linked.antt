@@ -3,10 +3,10 @@ use Rattle.std.proofs.lemmas.Grind.{common_steps}
 use Rattle.std.proofs.Common.{◌≡◌, ℕ, zero, suc, ◌+◌, List, [], ◌∷◌, ◌++◌, map, slice_get, Option, Some, None, Result, Ok, Err, refl, sym, ◌∙◌, ap, arith, ◌≢◌, ◌<◌, Bool, true, false, nat_eq, cond, take, subst, length}
 use Rattle.std.specs.List.{flat_map, AllByRecursion, list_any}
 use Rattle.syntax65.specs.Trees.{Tree}
-use Rattle.language65.specs.declared.fault.AsmFault.{AsmFault}
-use Rattle.language65.specs.Symbols.{Laid, asks_section, Definition, Key, definition_with, definitions_of, key_defined, value_defined, Symbols, symbols_of, meaning_of}
-use Rattle.language65.specs.Layout.{Layout, laid, own_size, context_of}
-use Rattle.language65.specs.Symbols as names
+use Rattle.ast65.specs.declared.fault.AsmFault.{AsmFault}
+use Rattle.semantics65.specs.Symbols.{Laid, asks_section, Definition, Key, definition_with, definitions_of, key_defined, value_defined, Symbols, symbols_of, meaning_of}
+use Rattle.semantics65.specs.Layout.{Layout, laid, own_size, context_of}
+use Rattle.semantics65.specs.Symbols as names
 use Rattle.whole65.proofs.LinkedObjects.{or_first, place_in, symbols_at, base_in, begin_in, objects_of, context_in}
 use Rattle.whole65.specs.Modules.{defining_from, definition_at, import_named, meaning_by, context_at, statement_at, table_of, global_context, context_or}
 use Rattle.whole65.specs.Objects.{definition_shown, import_shown, value_shown, meaning_shown, AreObjects, IsGiven, Objects}
@@ -14,11 +14,11 @@ use Rattle.whole65.specs.Values.{Meaning, Program}
 use Rattle.std.specs.Prelude.{◌&&◌, ◌||◌, ℤ, pos, ◌+ℤ◌, nat_lt}
 use Rattle.std.specs.Str.{bytes_eq}
 use Rattle.syntax65.specs.declared.lexing.tokens.AddressSize.{AddressSize}
-use Rattle.language65.specs.declared.laid.Context.{Context}
-use Rattle.language65.specs.declared.language.Statement.{Statement}
-use Rattle.language65.specs.declared.language.Statement.TheVariants as statement
-use Rattle.language65.specs.Norms.{length_of}
-use Rattle.language65.proofs.Segments.{all_more}
+use Rattle.semantics65.specs.declared.laid.Context.{Context}
+use Rattle.ast65.specs.declared.language.Statement.{Statement}
+use Rattle.ast65.specs.declared.language.Statement.TheVariants as statement
+use Rattle.semantics65.specs.Norms.{length_of}
+use Rattle.semantics65.proofs.Segments.{all_more}
 use Rattle.whole65.proofs.Positions.{IsAbsent, other_part, all_front, itself, all_get, position_law, named}
 use Rattle.whole65.proofs.Multiples.{equal}
 use Rattle.whole65.proofs.Offsets.{placed}

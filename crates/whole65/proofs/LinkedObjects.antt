@@ -4,7 +4,7 @@ use Rattle.std.specs.Prelude.{◌≡◌, ℕ, ℤ, List, [], ◌∷◌, ◌++◌
 use Rattle.object65.specs.Form.{Form}
 use Rattle.object65.specs.FormValue.{value_in}
 use Rattle.object65.specs.declared.object.Fragment.{Fragment}
-use Rattle.language65.specs.Contents.{Part, Known, Filled, Waiting, Content, Declaration, Exported, ForcedImport, Asserted}
+use Rattle.semantics65.specs.Contents.{Part, Known, Filled, Waiting, Content, Declaration, Exported, ForcedImport, Asserted}
 use Rattle.whole65.specs.Contents.{AreStored}
 use Rattle.std.specs.Str.{bytes_eq}
 use Rattle.object65.specs.declared.object.Section.{Section}
@@ -13,15 +13,15 @@ use Rattle.base65.specs.Values.{wrapped}
 use Rattle.script65.specs.declared.placement.Placement.{Placement}
 use Rattle.script65.specs.declared.script.Script.{Script}
 use Rattle.link65.specs.Values.{run_of, linkage_of, exports_through, import_value, Linkage, base_of, provider_at}
-use Rattle.language65.specs.declared.laid.Context.{Context}
-use Rattle.language65.specs.Layout.{Layout}
-use Rattle.language65.specs.Symbols.{Symbols}
+use Rattle.semantics65.specs.declared.laid.Context.{Context}
+use Rattle.semantics65.specs.Layout.{Layout}
+use Rattle.semantics65.specs.Symbols.{Symbols}
 use Rattle.whole65.specs.Modules.{defining_from, context_at, table_of}
 use Rattle.whole65.specs.Objects.{Objects, HasValue}
 use Rattle.whole65.specs.Offsets.{begin_of}
 use Rattle.whole65.specs.Segments.{end_of, has_section, items_of, segment_name}
 use Rattle.std.specs.List.{AllByRecursion, list_any}
-use Rattle.language65.specs.Numbering.{imports_in, numbered, sections_in}
+use Rattle.semantics65.specs.Numbering.{imports_in, numbered, sections_in}
 use Rattle.link65.specs.Names.{provider_of, script_definitions, weak_symbols}
 use Rattle.link65.specs.declared.parts.Provider.{Provider}
 use Rattle.link65.specs.declared.parts.Provider.TheVariants.{Nobody}

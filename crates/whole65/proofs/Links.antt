@@ -25,20 +25,20 @@ use Rattle.expand65.specs.Expansion.{opened_in}
 use Rattle.expand65.specs.State as expand
 use Rattle.syntax65.specs.declared.fault.ExpandFault.{ExpandFault}
 use Rattle.syntax65.specs.declared.place.Place.{Place}
-use Rattle.language65.specs.declared.fault.AsmFault.{AsmFault}
-use Rattle.language65.specs.declared.language.Statement.{Statement}
-use Rattle.language65.specs.declared.language.Statement.TheVariants.{Constant}
-use Rattle.language65.specs.Layout.{Layout, layout_behind, nothing_laid, line_fault, unless_fault}
-use Rattle.language65.specs.Symbols.{symbols_of}
-use Rattle.statements65.specs.Parsing.{label_of}
-use Rattle.module65.specs.Reading.{IsLaid, laying, AreLaid, AreDefined, AreTaken, Define, Follows, IsBegun, IsGiven, IsLabelled, IsRest, Job, Reached, no_line, taken, faulty, refused, ended, with_bytes}
+use Rattle.ast65.specs.declared.fault.AsmFault.{AsmFault}
+use Rattle.ast65.specs.declared.language.Statement.{Statement}
+use Rattle.ast65.specs.declared.language.Statement.TheVariants.{Constant}
+use Rattle.semantics65.specs.Layout.{Layout, layout_behind, nothing_laid, line_fault, unless_fault}
+use Rattle.semantics65.specs.Symbols.{symbols_of}
+use Rattle.ast65.specs.Parsing.{label_of}
+use Rattle.semantics65.specs.Reading.{IsLaid, laying, AreLaid, AreDefined, AreTaken, Define, Follows, IsBegun, IsGiven, IsLabelled, IsRest, Job, Reached, no_line, taken, faulty, refused, ended, with_bytes}
 use Rattle.whole65.specs.Offsets.{IsLaidOut, begun, behind}
 use Rattle.base65.specs.Values.{value1, value2}
 use Rattle.object65.specs.Form.{lit, sec, imp, prefix, binary, Form}
 use Rattle.object65.specs.FormValue.{or_none, value_in}
-use Rattle.language65.specs.Numbering.{imports_in}
+use Rattle.semantics65.specs.Numbering.{imports_in}
 use Rattle.link65.specs.Names as linked
-use Rattle.module65.proofs.SoundForms.{all_append}
+use Rattle.semantics65.proofs.SoundForms.{all_append}
 use Rattle.whole65.proofs.Exports.{export_names_law}
 use Rattle.std.specs.List.{AllByRecursion}
 use Rattle.whole65.specs.Whole.{given_names}

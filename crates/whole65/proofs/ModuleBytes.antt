@@ -15,15 +15,15 @@ use Rattle.object65.specs.Form.{Form, lit, sec, imp, prefix, binary}
 use Rattle.object65.specs.FormValue.{or_none, value_in}
 use Rattle.object65.specs.declared.object.Origin.{Origin}
 use Rattle.syntax65.specs.declared.place.Place.{Place}
-use Rattle.language65.specs.Contents.{Part, Known, Filled, Waiting, Content}
-use Rattle.language65.specs.Numbering.{all_joined, fragment_of, fragments_of, is_empty, joined, number_of, numbered, parts_in, section_of}
+use Rattle.semantics65.specs.Contents.{Part, Known, Filled, Waiting, Content}
+use Rattle.semantics65.specs.Numbering.{all_joined, fragment_of, fragments_of, is_empty, joined, number_of, numbered, parts_in, section_of}
 use Rattle.whole65.proofs.SectionBytes.{section_law}
 use Rattle.whole65.specs.Objects.{HasValue, Objects, AreObjects}
-use Rattle.module65.specs.Module.{contents_from}
-use Rattle.language65.specs.Layout.{Layout}
+use Rattle.semantics65.specs.Module.{contents_from}
+use Rattle.semantics65.specs.Layout.{Layout}
 use Rattle.whole65.specs.Modules.{table_of}
 use Rattle.whole65.specs.Offsets.{lines_at, IsMultiple, IsLaidOut}
-use Rattle.language65.specs.Symbols.{Laid}
+use Rattle.semantics65.specs.Symbols.{Laid}
 use Rattle.whole65.specs.Segments.{largest_multiple, lines_behind, line}
 use Rattle.whole65.specs.Contents.{AreBytes}
 use Rattle.whole65.specs.Values.{Program}

@@ -5,26 +5,26 @@ use Rattle.std.specs.Prelude.{◌&&◌, ⊤}
 use Rattle.std.specs.List.{AllByRecursion, position_from}
 use Rattle.std.proofs.lemmas.Bool.Decides.{nat_tests}
 use Rattle.std.proofs.lemmas.List.{length-append, append-nil, append_assoc, take-append-drop}
-use Rattle.language65.specs.Symbols.{Laid, Symbols, symbols_of}
-use Rattle.language65.specs.Layout.{Layout, Cursor, first_size, grown_at, laid, layout_behind, multiple_of, named_segments, new_segment, own_size, place_of, segment_at, segments_behind, context_of, powers}
+use Rattle.semantics65.specs.Symbols.{Laid, Symbols, symbols_of}
+use Rattle.semantics65.specs.Layout.{Layout, Cursor, first_size, grown_at, laid, layout_behind, multiple_of, named_segments, new_segment, own_size, place_of, segment_at, segments_behind, context_of, powers}
 use Rattle.whole65.specs.Segments.{Item, Line, has_section, is_line, items_before, largest_multiple, line, line_of, lines_behind, lines_in, part_of, rounding, stands_in, end_of, items_from, segment_name, position_of}
 use Rattle.std.specs.Str.{bytes_eq}
 use Rattle.std.proofs.lemmas.Iterator.Adapters.{position_from-zero}
 use Rattle.syntax65.specs.declared.lexing.tokens.AddressSize.{AddressSize}
-use Rattle.language65.proofs.Lists.{bytes_swap}
-use Rattle.language65.specs.declared.contents.Segment.{Segment}
-use Rattle.language65.specs.declared.language.Statement.{Statement}
-use Rattle.language65.specs.declared.language.Statement.TheVariants as statement
-use Rattle.language65.specs.Norms.{length_of}
+use Rattle.ast65.proofs.Lists.{bytes_swap}
+use Rattle.semantics65.specs.declared.contents.Segment.{Segment}
+use Rattle.ast65.specs.declared.language.Statement.{Statement}
+use Rattle.ast65.specs.declared.language.Statement.TheVariants as statement
+use Rattle.semantics65.specs.Norms.{length_of}
 use Rattle.syntax65.specs.declared.place.Place.{Place}
-use Rattle.language65.proofs.Segments.{all_more, all_same, grown_length, one_longer}
+use Rattle.semantics65.proofs.Segments.{all_more, all_same, grown_length, one_longer}
 use Rattle.whole65.proofs.Offsets.{behind_more, placed, largest_push}
 use Rattle.whole65.proofs.Multiples.{equal, larger, multiple_of_multiple, power_positive, rounded, end_of-append, largest_power, shift_law}
 use Rattle.whole65.specs.Offsets.{IsLaidOut, begun, behind, ArePowers, IsMultiple, begin_from, lines_at, IsPower, begin_of}
 use Rattle.std.specs.Int.{next_multiple_of}
 use Rattle.std.proofs.lemmas.List.Elements.{filter-append}
 use Rattle.std.proofs.lemmas.Slice.Eq.{bytes_eq-Decides}
-use Rattle.language65.specs.Numbering.{number_of, segment_power}
+use Rattle.semantics65.specs.Numbering.{number_of, segment_power}
 
 -- ---- The items of a list before a statement.
 

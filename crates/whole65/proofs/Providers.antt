@@ -14,14 +14,14 @@ use Rattle.object65.specs.declared.object.Object.{Object}
 use Rattle.object65.specs.declared.object.Origin.{Origin}
 use Rattle.script65.specs.declared.placement.Placement.{Placement}
 use Rattle.script65.specs.declared.script.Script.{Script}
-use Rattle.language65.proofs.Lists.{same_bytes}
+use Rattle.ast65.proofs.Lists.{same_bytes}
 use Rattle.syntax65.specs.declared.place.Place.{Place}
-use Rattle.language65.specs.Contents.{Content, Declaration, Exported, ForcedImport, Asserted}
-use Rattle.language65.specs.declared.fault.AsmFault.TheVariants.{Undefined}
-use Rattle.language65.specs.Symbols.{Laid, or_else, or_fault, Symbols, defined, imported, named}
-use Rattle.language65.specs.Layout.{Layout}
-use Rattle.language65.specs.Norms.{defined_form, form_of_meaning, norm, norm_of}
-use Rattle.language65.specs.Numbering.{all_said, exports_among, import_keys, numbered, section_keys}
+use Rattle.semantics65.specs.Contents.{Content, Declaration, Exported, ForcedImport, Asserted}
+use Rattle.ast65.specs.declared.fault.AsmFault.TheVariants.{Undefined}
+use Rattle.semantics65.specs.Symbols.{Laid, or_else, or_fault, Symbols, defined, imported, named}
+use Rattle.semantics65.specs.Layout.{Layout}
+use Rattle.semantics65.specs.Norms.{defined_form, form_of_meaning, norm, norm_of}
+use Rattle.semantics65.specs.Numbering.{all_said, exports_among, import_keys, numbered, section_keys}
 use Rattle.link65.specs.Names.{by_definition, by_export, defined_at, exported_at, is_among, script_definitions, weak_symbols}
 use Rattle.link65.specs.Names as linked
 use Rattle.link65.specs.Programs.{position_in, Module, Program, exported, no_program, program_of, with_module, with_modules, member}
@@ -32,9 +32,9 @@ use Rattle.link65.specs.declared.parts.Provider.{Provider}
 use Rattle.link65.specs.declared.parts.Provider.TheVariants.{ByModule, ByScript, Nobody}
 use Rattle.link65.specs.declared.parts.ValueFault.{ValueFault}
 use Rattle.link65.specs.declared.parts.ValueFault.TheVariants.{Circular, NoValue, Unresolved}
-use Rattle.module65.proofs.SoundForms.{all_append}
-use Rattle.language65.proofs.Segments.{all_more}
-use Rattle.module65.specs.Module.{contents_from}
+use Rattle.semantics65.proofs.SoundForms.{all_append}
+use Rattle.semantics65.proofs.Segments.{all_more}
+use Rattle.semantics65.specs.Module.{contents_from}
 use Rattle.whole65.proofs.Exports.{IsDefined, said_all, source_exports}
 use Rattle.whole65.proofs.Keyed.{form_law, keyed_law}
 use Rattle.whole65.proofs.Linked.{linked_law}

@@ -13,16 +13,16 @@ use Rattle.object65.specs.declared.object.Section.{Section}
 use Rattle.script65.proofs.Apart.{same_needs}
 use Rattle.script65.specs.Placing.{size_of}
 use Rattle.script65.specs.declared.placement.SegmentNeed.{SegmentNeed}
-use Rattle.language65.proofs.Lists.{bytes_swap, same_bytes}
+use Rattle.ast65.proofs.Lists.{bytes_swap, same_bytes}
 use Rattle.syntax65.specs.declared.place.Place.{Place}
-use Rattle.language65.specs.Contents.{Content, Part, Known, Filled, Waiting}
-use Rattle.language65.specs.Symbols.{Laid, asks_section, with_new}
-use Rattle.language65.specs.Layout.{Layout}
-use Rattle.language65.specs.Numbering.{import_keys, once, section_keys, section_of, segments_asked, parts_in}
+use Rattle.semantics65.specs.Contents.{Content, Part, Known, Filled, Waiting}
+use Rattle.semantics65.specs.Symbols.{Laid, asks_section, with_new}
+use Rattle.semantics65.specs.Layout.{Layout}
+use Rattle.semantics65.specs.Numbering.{import_keys, once, section_keys, section_of, segments_asked, parts_in}
 use Rattle.link65.specs.Programs.{Module, Program as LinkedProgram, no_program, program_of, with_module, with_modules, Segment, grown, segment_of, with_section, with_sections, Cell, begin_behind, filled, fragment_cells}
 use Rattle.link65.specs.Values as places
 use Rattle.link65.specs.Programs as linked
-use Rattle.module65.proofs.Resolving.{new_append}
+use Rattle.semantics65.proofs.Resolving.{new_append}
 use Rattle.whole65.proofs.Sections.{asked_are, held, keys_of, or_both, or_false, or_true, with_key, name_at, segment_law}
 use Rattle.whole65.proofs.Positions.{itself}
 use Rattle.whole65.proofs.Sources.{contents_of, size_law, Behind, begin_is_multiple, behind_source, grows, no_part, part_end, section_begin, size_or, size_or_empty, unchanged, whole_part}
@@ -35,8 +35,8 @@ use Rattle.script65.specs.declared.placement.Placement.{Placement}
 use Rattle.script65.specs.declared.script.Script.{Script}
 use Rattle.link65.specs.Values.{linkage_of, Linkage}
 use Rattle.link65.specs.declared.parts.ValueFault.{ValueFault}
-use Rattle.module65.specs.Module.{contents_from}
-use Rattle.module65.proofs.SoundForms.{all_append}
+use Rattle.semantics65.specs.Module.{contents_from}
+use Rattle.semantics65.proofs.SoundForms.{all_append}
 use Rattle.whole65.proofs.Keyed.{source_at, form_law, keyed_law}
 use Rattle.whole65.proofs.ModuleBytes.{cells_joined, cells_split, of_filled, module_law}
 use Rattle.whole65.proofs.LinkedObjects.{AreCells, IsValuedIn, cells_or, behind_modules, behind_sections, or_empty, IsKeyedContent, IsKeyedPart, linked_objects, context_in, symbols_at}

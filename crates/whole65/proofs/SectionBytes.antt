@@ -14,10 +14,10 @@ use Rattle.object65.specs.Objects.{fits_width, value_bytes}
 use Rattle.object65.specs.declared.object.Width.{Width}
 use Rattle.object65.specs.declared.object.Width.TheVariants.{Byte, Word, HighFirst, Dword, Branch}
 use Rattle.syntax65.specs.declared.place.Place.{Place}
-use Rattle.language65.specs.Contents.{Part, Known, Waiting, Content, Declaration, operand_form, stored, written, instruction_parts, item_part, opcode_part, operand_part, operand_parts, operand_tree, parts_of, room_part, content_of, said_of}
-use Rattle.language65.specs.declared.fault.AsmFault.{AsmFault}
-use Rattle.language65.specs.declared.fault.AsmFault.TheVariants.{OutOfRange}
-use Rattle.language65.specs.declared.laid.Context.{Context}
+use Rattle.semantics65.specs.Contents.{Part, Known, Waiting, Content, Declaration, operand_form, stored, written, instruction_parts, item_part, opcode_part, operand_part, operand_parts, operand_tree, parts_of, room_part, content_of, said_of}
+use Rattle.ast65.specs.declared.fault.AsmFault.{AsmFault}
+use Rattle.ast65.specs.declared.fault.AsmFault.TheVariants.{OutOfRange}
+use Rattle.semantics65.specs.declared.laid.Context.{Context}
 use Rattle.whole65.proofs.SameValues.{bind_ok, folded_ok, written_ok, same_values_law}
 use Rattle.whole65.specs.Contents.{AreStored, counted_from, AreInstruction, AreItem, AreItems, AreLine, AreOperand, code_bytes, filling, AreBytes}
 use Rattle.whole65.specs.Objects.{HasValue, Objects, form_value, AreObjects}
@@ -26,25 +26,25 @@ use Rattle.std.proofs.lemmas.List.{append-nil, append_assoc}
 use Rattle.syntax65.specs.Opcodes.{opcode_of}
 use Rattle.syntax65.specs.Trees.{Tree}
 use Rattle.syntax65.specs.declared.instructions.names.Mnemonic.{Mnemonic}
-use Rattle.language65.specs.declared.laid.Settled.{Settled}
-use Rattle.language65.specs.declared.laid.Settled.TheVariants.{Unsettled, InMode, FilledWith, FromByte}
-use Rattle.language65.specs.declared.language.Item.{Item}
-use Rattle.language65.specs.declared.language.Operand.{Operand}
-use Rattle.language65.specs.declared.language.Statement.{Statement}
-use Rattle.language65.specs.declared.language.Statement.TheVariants as statement
-use Rattle.language65.specs.declared.language.Item.TheVariants as item
-use Rattle.language65.specs.Norms.{norm_of, width_of}
+use Rattle.semantics65.specs.declared.laid.Settled.{Settled}
+use Rattle.semantics65.specs.declared.laid.Settled.TheVariants.{Unsettled, InMode, FilledWith, FromByte}
+use Rattle.ast65.specs.declared.language.Item.{Item}
+use Rattle.ast65.specs.declared.language.Operand.{Operand}
+use Rattle.ast65.specs.declared.language.Statement.{Statement}
+use Rattle.ast65.specs.declared.language.Statement.TheVariants as statement
+use Rattle.ast65.specs.declared.language.Item.TheVariants as item
+use Rattle.semantics65.specs.Norms.{norm_of, width_of}
 use Rattle.whole65.specs.Segments.{Line, line_end, line, line_of, lines_behind, largest_multiple}
 use Rattle.whole65.specs.Values.{Program, Value}
 use Rattle.std.specs.List.{flat_map}
-use Rattle.language65.specs.Symbols.{Laid, asks_section, Symbols}
-use Rattle.language65.specs.Numbering.{parts_in}
-use Rattle.module65.specs.Module.{contents_from}
-use Rattle.module65.specs.Reading.{PlacedFault, at_place}
+use Rattle.semantics65.specs.Symbols.{Laid, asks_section, Symbols}
+use Rattle.semantics65.specs.Numbering.{parts_in}
+use Rattle.semantics65.specs.Module.{contents_from}
+use Rattle.semantics65.specs.Reading.{PlacedFault, at_place}
 use Rattle.whole65.proofs.Offsets.{EndsAt, all_end, ends_moved, placed}
 use Rattle.whole65.proofs.Positions.{powers_at}
 use Rattle.whole65.specs.Offsets.{ArePowers, lines_at, IsMultiple, IsLaidOut}
-use Rattle.language65.specs.Layout.{Layout}
+use Rattle.semantics65.specs.Layout.{Layout}
 use Rattle.whole65.specs.Modules.{table_of}
 
 -- ---- Values as they are stored.

@@ -9,13 +9,13 @@ use Rattle.std.proofs.lemmas.Bool.Decides.{nat_tests}
 use Rattle.std.proofs.lemmas.List.Folds.{list_any-append}
 use Rattle.base65.specs.Outcome.{◌>>=◌, each}
 use Rattle.link65.proofs.SegmentLemmas.{at_front, behind_front, none_among as none_found}
-use Rattle.language65.specs.Contents.{Content, content_of}
-use Rattle.language65.specs.Symbols.{Laid, asks_section, Symbols}
-use Rattle.language65.specs.Layout.{Layout, segment_at}
-use Rattle.language65.specs.Numbering.{number_of, once, section_keys, segments_asked, section_of}
-use Rattle.language65.proofs.Segments.{all_more}
-use Rattle.module65.specs.Module.{contents_from}
-use Rattle.module65.specs.Reading.{PlacedFault, at_place}
+use Rattle.semantics65.specs.Contents.{Content, content_of}
+use Rattle.semantics65.specs.Symbols.{Laid, asks_section, Symbols}
+use Rattle.semantics65.specs.Layout.{Layout, segment_at}
+use Rattle.semantics65.specs.Numbering.{number_of, once, section_keys, segments_asked, section_of}
+use Rattle.semantics65.proofs.Segments.{all_more}
+use Rattle.semantics65.specs.Module.{contents_from}
+use Rattle.semantics65.specs.Reading.{PlacedFault, at_place}
 use Rattle.whole65.proofs.SameValues.{bind_ok}
 use Rattle.whole65.proofs.Positions.{named, Distinct, itself}
 use Rattle.whole65.proofs.Multiples.{equal}
@@ -25,10 +25,10 @@ use Rattle.whole65.specs.Offsets.{IsLaidOut}
 use Rattle.whole65.specs.Segments.{has_section, segment_name, stands_in}
 use Rattle.object65.specs.declared.object.Origin.{Origin}
 use Rattle.object65.specs.declared.object.Section.{Section}
-use Rattle.language65.proofs.Lists.{same_bytes}
+use Rattle.ast65.proofs.Lists.{same_bytes}
 use Rattle.syntax65.specs.declared.place.Place.{Place}
-use Rattle.language65.specs.declared.contents.Segment.{Segment}
-use Rattle.language65.specs.Numbering as numbering
+use Rattle.semantics65.specs.declared.contents.Segment.{Segment}
+use Rattle.semantics65.specs.Numbering as numbering
 use Rattle.link65.specs.Programs.{grown, Module, Program, member, no_program, with_module, with_modules, Segment as LinkedSegment, segment_of, with_section, with_sections}
 use Rattle.link65.specs.Programs as linked
 use Rattle.whole65.proofs.LinkedObjects.{behind_sections, or_empty, behind_modules}

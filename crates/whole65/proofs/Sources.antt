@@ -14,15 +14,15 @@ use Rattle.object65.specs.declared.object.Fragment.{Fragment}
 use Rattle.object65.specs.declared.object.Fragment.TheVariants.{Literal, Fill, Value}
 use Rattle.object65.specs.declared.object.Origin.{Origin}
 use Rattle.syntax65.specs.declared.place.Place.{Place}
-use Rattle.language65.specs.Contents.{Content, Part, Known, Filled, Waiting, content_of, parts_of}
-use Rattle.language65.specs.declared.fault.AsmFault.{AsmFault}
-use Rattle.language65.specs.Symbols.{Laid, Symbols, imported, symbols_of}
-use Rattle.language65.specs.Layout.{Layout}
-use Rattle.language65.specs.Numbering.{all_joined, fragment_of, fragments_of, is_empty, joined, parts_in, files_of, import_keys, in_files, object_by, object_with, section_keys, section_of, IsMeasured, IsSoundLayout, part_len}
-use Rattle.module65.proofs.SoundForms.{Asks, definitions_pass}
-use Rattle.module65.proofs.SoundParts.{IsKnown, PartsOf, asked_in, below, parts_sound}
-use Rattle.module65.specs.Module.{contents_from}
-use Rattle.module65.specs.Reading.{PlacedFault, at_place}
+use Rattle.semantics65.specs.Contents.{Content, Part, Known, Filled, Waiting, content_of, parts_of}
+use Rattle.ast65.specs.declared.fault.AsmFault.{AsmFault}
+use Rattle.semantics65.specs.Symbols.{Laid, Symbols, imported, symbols_of}
+use Rattle.semantics65.specs.Layout.{Layout}
+use Rattle.semantics65.specs.Numbering.{all_joined, fragment_of, fragments_of, is_empty, joined, parts_in, files_of, import_keys, in_files, object_by, object_with, section_keys, section_of, IsMeasured, IsSoundLayout, part_len}
+use Rattle.semantics65.proofs.SoundForms.{Asks, definitions_pass}
+use Rattle.semantics65.proofs.SoundParts.{IsKnown, PartsOf, asked_in, below, parts_sound}
+use Rattle.semantics65.specs.Module.{contents_from}
+use Rattle.semantics65.specs.Reading.{PlacedFault, at_place}
 use Rattle.whole65.proofs.SameValues.{bind_ok}
 use Rattle.whole65.proofs.Offsets.{EndsAt, all_end, placed}
 use Rattle.whole65.proofs.SectionBytes.{IsContent, content_is, placed_ok}

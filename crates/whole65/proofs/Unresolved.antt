@@ -9,20 +9,20 @@ use Rattle.syntax65.specs.Trees as tree
 use Rattle.object65.specs.Form.{Form}
 use Rattle.script65.specs.declared.placement.Placement.{Placement}
 use Rattle.script65.specs.declared.script.Script.{Script}
-use Rattle.language65.specs.Contents.{Content, Part, Known, Filled, Waiting, Declaration, Exported, ForcedImport, Asserted, content_of, parts_of}
-use Rattle.language65.specs.Symbols.{Laid, asks_section, Symbols, defined, named, with_new}
-use Rattle.language65.specs.declared.language.Statement.{Statement}
-use Rattle.language65.specs.declared.language.Statement.TheVariants as statement
-use Rattle.language65.specs.declared.language.Statement.TheVariants.{Assert}
-use Rattle.language65.specs.Layout.{Layout}
-use Rattle.language65.specs.Norms.{defined_form, norm}
-use Rattle.language65.specs.Numbering.{all_said, imports_in, name_of, optional_key, key_of, parts_in, segments_asked, section_keys}
+use Rattle.semantics65.specs.Contents.{Content, Part, Known, Filled, Waiting, Declaration, Exported, ForcedImport, Asserted, content_of, parts_of}
+use Rattle.semantics65.specs.Symbols.{Laid, asks_section, Symbols, defined, named, with_new}
+use Rattle.ast65.specs.declared.language.Statement.{Statement}
+use Rattle.ast65.specs.declared.language.Statement.TheVariants as statement
+use Rattle.ast65.specs.declared.language.Statement.TheVariants.{Assert}
+use Rattle.semantics65.specs.Layout.{Layout}
+use Rattle.semantics65.specs.Norms.{defined_form, norm}
+use Rattle.semantics65.specs.Numbering.{all_said, imports_in, name_of, optional_key, key_of, parts_in, segments_asked, section_keys}
 use Rattle.link65.specs.Programs.{Module}
 use Rattle.link65.specs.declared.parts.ValueFault.{ValueFault}
 use Rattle.link65.specs.declared.parts.ValueFault.TheVariants.{NoValue}
-use Rattle.module65.proofs.SoundForms.{all_append}
-use Rattle.module65.specs.Module.{contents_from}
-use Rattle.module65.specs.Reading.{PlacedFault, at_place}
+use Rattle.semantics65.proofs.SoundForms.{all_append}
+use Rattle.semantics65.specs.Module.{contents_from}
+use Rattle.semantics65.specs.Reading.{PlacedFault, at_place}
 use Rattle.whole65.proofs.Exports.{IsAsserted, all_demanded, demanded_names, one_tells, IsDefined, exported_names, said_all}
 use Rattle.whole65.proofs.Links.{valued_imports_law}
 use Rattle.whole65.proofs.Providers.{global_form, past_all, sources_law}
@@ -50,7 +50,7 @@ use Rattle.script65.proofs.Apart.{rows_there}
 use Rattle.script65.specs.Placing.{has_row, place_of}
 use Rattle.script65.specs.declared.placement.SegmentNeed.{SegmentNeed}
 use Rattle.script65.specs.declared.script.Row.{Row}
-use Rattle.language65.proofs.Lists.{same_bytes}
+use Rattle.ast65.proofs.Lists.{same_bytes}
 use Rattle.link65.specs.Files.{RowBytes}
 use Rattle.whole65.proofs.Positions.{itself}
 use Rattle.whole65.specs.Contents.{AreBytes}

@@ -7,15 +7,15 @@ use Rattle.syntax65.specs.declared.instructions.names.Mnemonic.{Mnemonic}
 use Rattle.object65.specs.Objects.{fits_width, value_bytes}
 use Rattle.object65.specs.declared.object.Width.{Width}
 use Rattle.object65.specs.declared.object.Width.TheVariants.{Branch}
-use Rattle.language65.specs.Contents.{file_bytes, operand_tree}
-use Rattle.language65.specs.declared.laid.Settled.{Settled}
-use Rattle.language65.specs.declared.laid.Settled.TheVariants.{InMode, FilledWith}
-use Rattle.language65.specs.declared.language.Item.{Item}
-use Rattle.language65.specs.declared.language.Operand.{Operand}
-use Rattle.language65.specs.declared.language.Statement.{Statement}
-use Rattle.language65.specs.declared.language.Statement.TheVariants.{Instruction, Values, Reserve, Align, FilePart}
-use Rattle.language65.specs.declared.language.Item.TheVariants as item
-use Rattle.language65.specs.Norms.{width_of}
+use Rattle.semantics65.specs.Contents.{file_bytes, operand_tree}
+use Rattle.semantics65.specs.declared.laid.Settled.{Settled}
+use Rattle.semantics65.specs.declared.laid.Settled.TheVariants.{InMode, FilledWith}
+use Rattle.ast65.specs.declared.language.Item.{Item}
+use Rattle.ast65.specs.declared.language.Operand.{Operand}
+use Rattle.ast65.specs.declared.language.Statement.{Statement}
+use Rattle.ast65.specs.declared.language.Statement.TheVariants.{Instruction, Values, Reserve, Align, FilePart}
+use Rattle.ast65.specs.declared.language.Item.TheVariants as item
+use Rattle.semantics65.specs.Norms.{width_of}
 use Rattle.whole65.specs.Segments.{Line, end_behind, line_end, line, rounding}
 use Rattle.whole65.specs.Segments as segments
 use Rattle.whole65.specs.Values.{Program, Value}

@@ -1,7 +1,7 @@
 -- The whole program of sources, and a link of their objects.
 use Rattle.std.specs.Prelude.{◌≡◌, ℕ, ◌↔◌, List, Ok}
 use Rattle.script65.specs.declared.script.Script.{Script}
-use Rattle.language65.specs.Layout.{Layout}
+use Rattle.semantics65.specs.Layout.{Layout}
 use Rattle.link65.specs.Links.{LinkOf}
 use Rattle.link65.specs.Programs.{Module}
 use Rattle.link65.specs.declared.linking.Linked.{Linked}

@@ -2,9 +2,9 @@
 use Rattle.std.specs.Prelude.{◌≡◌, ℕ, ℤ, ◌↔◌, List, [], ◌∷◌, map, slice_get, take, false, Some, Result, Ok}
 use Rattle.syntax65.specs.Trees.{Tree, name}
 use Rattle.object65.specs.Form.{Form}
-use Rattle.language65.specs.Symbols.{Laid}
-use Rattle.language65.specs.Layout.{Layout, segment_at}
-use Rattle.language65.specs.Norms.{norm}
+use Rattle.semantics65.specs.Symbols.{Laid}
+use Rattle.semantics65.specs.Layout.{Layout, segment_at}
+use Rattle.semantics65.specs.Norms.{norm}
 use Rattle.whole65.specs.Offsets.{ArePowers, IsLaidOut, lines_at}
 use Rattle.whole65.specs.Sources.{AreSources}
 use Rattle.whole65.specs.Segments.{end_of, largest_multiple, line, lines_behind, needs_of}

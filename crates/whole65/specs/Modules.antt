@@ -2,13 +2,13 @@
 use Rattle.std.specs.Prelude.{ℕ, suc, Bool, List, [], ◌∷◌, ◌++◌, map, slice_get, is_some, Option, Some, None, Result, Ok, Err, filter, length}
 use Rattle.std.specs.List.{flat_map}
 use Rattle.syntax65.specs.Trees.{Tree}
-use Rattle.language65.specs.declared.fault.AsmFault.{AsmFault}
-use Rattle.language65.specs.Symbols.{Laid, Symbols, definitions_of, defined, named, symbols_of, value_defined, with_new}
-use Rattle.language65.specs.declared.laid.Context.{Context}
-use Rattle.language65.specs.declared.language.Statement.{Statement}
-use Rattle.language65.specs.declared.language.Statement.TheVariants.{Export, Global, ForceImport}
-use Rattle.language65.specs.Layout.{Layout}
-use Rattle.language65.specs.Symbols as names
+use Rattle.ast65.specs.declared.fault.AsmFault.{AsmFault}
+use Rattle.semantics65.specs.Symbols.{Laid, Symbols, definitions_of, defined, named, symbols_of, value_defined, with_new}
+use Rattle.semantics65.specs.declared.laid.Context.{Context}
+use Rattle.ast65.specs.declared.language.Statement.{Statement}
+use Rattle.ast65.specs.declared.language.Statement.TheVariants.{Export, Global, ForceImport}
+use Rattle.semantics65.specs.Layout.{Layout}
+use Rattle.semantics65.specs.Symbols as names
 use Rattle.whole65.specs.Values.{Meaning, label_at, constant_at, import_of}
 
 -- A module is its laid statements. A statement is named by its place among them.

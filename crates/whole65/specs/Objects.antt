@@ -4,11 +4,11 @@ use Rattle.syntax65.specs.Trees.{Tree, name}
 use Rattle.base65.specs.Values.{wrapped}
 use Rattle.object65.specs.Form.{Form}
 use Rattle.object65.specs.FormValue.{value_in}
-use Rattle.language65.specs.declared.fault.AsmFault.{AsmFault}
-use Rattle.language65.specs.declared.laid.Context.{Context}
-use Rattle.language65.specs.Symbols as names
-use Rattle.language65.specs.Symbols.{meaning_of, Definition, Symbols}
-use Rattle.language65.specs.Norms.{norm}
+use Rattle.ast65.specs.declared.fault.AsmFault.{AsmFault}
+use Rattle.semantics65.specs.declared.laid.Context.{Context}
+use Rattle.semantics65.specs.Symbols as names
+use Rattle.semantics65.specs.Symbols.{meaning_of, Definition, Symbols}
+use Rattle.semantics65.specs.Norms.{norm}
 use Rattle.whole65.specs.Values.{Provider, by_module, by_script, by_nobody, Meaning, label_at, constant_at, import_of, Program}
 
 -- Of each module, by its place: its symbol table, where its statements stand, and what its sections and imports come to.

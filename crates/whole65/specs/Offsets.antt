@@ -3,9 +3,9 @@ use Rattle.std.specs.Prelude.{◌≡◌, ◌<◌, ℕ, zero, suc, ◌*◌, ◌^�
 use Rattle.std.specs.Int.{next_multiple_of}
 use Rattle.std.specs.List.{AllByRecursion}
 use Rattle.syntax65.specs.declared.place.Place.{Place}
-use Rattle.language65.specs.declared.language.Statement.{Statement}
-use Rattle.language65.specs.Layout.{Layout, layout_behind, nothing_laid, line_fault}
-use Rattle.language65.specs.Symbols.{symbols_of}
+use Rattle.ast65.specs.declared.language.Statement.{Statement}
+use Rattle.semantics65.specs.Layout.{Layout, layout_behind, nothing_laid, line_fault}
+use Rattle.semantics65.specs.Symbols.{symbols_of}
 use Rattle.whole65.specs.Segments.{Line, end_of, largest_multiple, lines_in, part_of}
 
 pub record IsMultiple (n of : ℕ) : Type 0 where

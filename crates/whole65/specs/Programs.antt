@@ -8,8 +8,8 @@ use Rattle.script65.specs.declared.script.Script.{Script}
 use Rattle.link65.specs.declared.parts.Definition.{Definition}
 use Rattle.link65.specs.Names.{is_among, script_definitions, weak_symbols}
 use Rattle.link65.specs.Values.{run_of}
-use Rattle.language65.specs.Symbols.{Laid}
-use Rattle.language65.specs.Layout.{Layout}
+use Rattle.semantics65.specs.Symbols.{Laid}
+use Rattle.semantics65.specs.Layout.{Layout}
 use Rattle.whole65.specs.Modules.{exports_of, means_in}
 use Rattle.whole65.specs.Segments.{position_of, segment_name}
 use Rattle.whole65.specs.Values.{Provider, by_module, by_script, by_nobody, Meaning, Program}

@@ -4,10 +4,10 @@ use Rattle.std.specs.List.{flat_map, list_any}
 use Rattle.std.specs.Str.{bytes_eq}
 use Rattle.std.specs.Int.{next_multiple_of}
 use Rattle.script65.specs.declared.placement.SegmentNeed.{SegmentNeed}
-use Rattle.language65.specs.Symbols.{Laid, asks_section, symbols_of, with_new}
-use Rattle.language65.specs.declared.language.Statement.{Statement}
-use Rattle.language65.specs.declared.language.Statement.TheVariants.{Align}
-use Rattle.language65.specs.Layout.{Layout, multiple_of, segment_at}
+use Rattle.semantics65.specs.Symbols.{Laid, asks_section, symbols_of, with_new}
+use Rattle.ast65.specs.declared.language.Statement.{Statement}
+use Rattle.ast65.specs.declared.language.Statement.TheVariants.{Align}
+use Rattle.semantics65.specs.Layout.{Layout, multiple_of, segment_at}
 
 -- a statement, the module that has it and its place there
 pub record Line : Type 0 where

@@ -2,10 +2,10 @@
 use Rattle.std.specs.Prelude.{◌≡◌, List, [], ◌∷◌, Ok, ⊤}
 use Rattle.object65.specs.Versions.{IsEitherVersion}
 use Rattle.object65.specs.declared.object.Object.{Object}
-use Rattle.language65.specs.Layout.{Layout}
-use Rattle.language65.specs.Numbering.{IsSoundLayout}
+use Rattle.semantics65.specs.Layout.{Layout}
+use Rattle.semantics65.specs.Numbering.{IsSoundLayout}
 use Rattle.link65.specs.Programs.{Module}
-use Rattle.module65.specs.Module.{object_of}
+use Rattle.semantics65.specs.Module.{object_of}
 use Rattle.whole65.specs.Offsets.{IsLaidOut}
 
 -- a module's object is that of laid statements, of which no line has a fault, or that of version 1 of the same statements

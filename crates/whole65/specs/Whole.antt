@@ -11,9 +11,9 @@ use Rattle.script65.specs.declared.script.Script.{Script}
 use Rattle.base65.specs.declared.output.OutputFile.{OutputFile}
 use Rattle.link65.specs.Files.{AddsAreas, IsAreaFile, RowBytes}
 use Rattle.link65.specs.Names.{first_again, script_names, symbol_imports}
-use Rattle.language65.specs.declared.language.Statement.{Statement}
-use Rattle.language65.specs.declared.language.Statement.TheVariants.{Assert}
-use Rattle.language65.specs.Layout.{Layout}
+use Rattle.ast65.specs.declared.language.Statement.{Statement}
+use Rattle.ast65.specs.declared.language.Statement.TheVariants.{Assert}
+use Rattle.semantics65.specs.Layout.{Layout}
 use Rattle.whole65.specs.Contents.{AreBytes}
 use Rattle.whole65.specs.Modules.{exports_of, forced_of}
 use Rattle.whole65.specs.Programs.{program_of}

@@ -3,29 +3,29 @@ use Rattle.std.specs.Prelude.{◌≡◌, ℕ, ◌<◌, ⊤, false, List, [], ◌
 use Rattle.std.specs.List.{AllByRecursion, flat_map, list_all}
 use Rattle.syntax65.specs.Trees.{Tree, name}
 use Rattle.syntax65.specs.declared.place.Place.{Place}
-use Rattle.language65.specs.Contents.{Content, Part, operand_form, put, stored}
-use Rattle.language65.specs.declared.laid.Context.{Context}
-use Rattle.language65.specs.Symbols.{Definition, Key, Symbols, unnamed_at, meaning_of}
-use Rattle.module65.specs.Machine as machine
-use Rattle.module65.specs.Machine.{PutsAll, State, awaited_in, filled, awaiting}
-use Rattle.module65.specs.Module as piece
-use Rattle.sections65.specs.Fed.{Stands, Feeds, names_in}
+use Rattle.semantics65.specs.Contents.{Content, Part, operand_form, put, stored}
+use Rattle.semantics65.specs.declared.laid.Context.{Context}
+use Rattle.semantics65.specs.Symbols.{Definition, Key, Symbols, unnamed_at, meaning_of}
+use Rattle.semantics65.specs.Machine as machine
+use Rattle.semantics65.specs.Machine.{PutsAll, State, awaited_in, filled, awaiting}
+use Rattle.semantics65.specs.Module as piece
+use Rattle.emit65.specs.Fed.{Stands, Feeds, names_in}
 use Rattle.symbols65.specs.Resolving.{IsTable}
 use Rattle.symbols65.specs.Views.{table_of}
 use Rattle.asm65.specs.declared.assembler.Assembler.{Assembler}
 use Rattle.asm65.specs.declared.assembler.Piece.{Piece}
 use Rattle.asm65.specs.declared.assembler.Piece.TheVariants.{Datum, Operand, Constant, Assertion, Import, Demand, Export}
 use Rattle.asm65.specs.declared.assembler.Fixup.{Fixup}
-use Rattle.layout65.specs.Measuring.{AreInside, AreWithin, IsCounted, IsSoundCursor, cursor_of}
+use Rattle.symbols65.specs.Measuring.{AreInside, AreWithin, IsCounted, IsSoundCursor, cursor_of}
 use Rattle.expand65.specs.State.{Meaning}
-use Rattle.language65.specs.Norms.{constant_in, IsFinal}
-use Rattle.module65.specs.Reading.{is_definition}
+use Rattle.semantics65.specs.Norms.{constant_in, IsFinal}
+use Rattle.semantics65.specs.Reading.{is_definition}
 use Rattle.base65.specs.Outcome.{◌>>=◌}
 use Rattle.object65.specs.Form.{Form, lit}
 use Rattle.object65.specs.Objects.{fits_width, value_bytes}
 use Rattle.object65.specs.declared.object.Width.{Width}
-use Rattle.language65.specs.declared.fault.AsmFault.{AsmFault}
-use Rattle.sections65.specs.declared.sections.Sections.{Sections}
+use Rattle.ast65.specs.declared.fault.AsmFault.{AsmFault}
+use Rattle.emit65.specs.declared.sections.Sections.{Sections}
 
 -- ---- What waits.
 

@@ -2,18 +2,18 @@
 use Rattle.std.specs.Prelude.{◌≡◌, ℕ, Bool, List, [], ◌∷◌, ◌++◌, map, Option, Some, None, Result, Ok, Err}
 use Rattle.base65.specs.Outcome.{◌>>=◌, Unless}
 use Rattle.syntax65.specs.declared.place.Place.{Place}
-use Rattle.language65.specs.Contents.{Content, put, telling, written}
-use Rattle.language65.specs.declared.contents.Declaration.{Declaration}
-use Rattle.language65.specs.declared.fault.AsmFault.{AsmFault}
-use Rattle.language65.specs.declared.laid.Context.{Context}
-use Rattle.language65.specs.Norms.{defined_form}
-use Rattle.language65.specs.Symbols.{Symbols}
-use Rattle.language65.specs.Views.{part_at, said_at}
-use Rattle.module65.specs.Machine as machine
-use Rattle.module65.specs.Module.{warning_at, Made, absent_of, as_said, made_of, used}
-use Rattle.module65.specs.Module as piece
-use Rattle.sections65.specs.Fed.{Receives, Stands}
-use Rattle.sections65.specs.declared.sections.Sections.{Sections}
+use Rattle.semantics65.specs.Contents.{Content, put, telling, written}
+use Rattle.semantics65.specs.declared.contents.Declaration.{Declaration}
+use Rattle.ast65.specs.declared.fault.AsmFault.{AsmFault}
+use Rattle.semantics65.specs.declared.laid.Context.{Context}
+use Rattle.semantics65.specs.Norms.{defined_form}
+use Rattle.semantics65.specs.Symbols.{Symbols}
+use Rattle.semantics65.specs.Views.{part_at, said_at}
+use Rattle.semantics65.specs.Machine as machine
+use Rattle.semantics65.specs.Module.{warning_at, Made, absent_of, as_said, made_of, used}
+use Rattle.semantics65.specs.Module as piece
+use Rattle.emit65.specs.Fed.{Receives, Stands}
+use Rattle.emit65.specs.declared.sections.Sections.{Sections}
 use Rattle.asm65.specs.declared.concluding.Ending.{Ending}
 use Rattle.asm65.specs.declared.texts.AsmRefusal.{AsmRefusal}
 use Rattle.asm65.specs.declared.resolving.Filling.{Filling}

@@ -8,17 +8,17 @@ use Rattle.expand65.specs.Failing.{Gives}
 use Rattle.expand65.specs.State as expand
 use Rattle.expand65.specs.Standing.{measure_of, place_of}
 use Rattle.syntax65.specs.declared.place.Place.{Place}
-use Rattle.language65.specs.declared.fault.AsmFault.{AsmFault}
-use Rattle.language65.specs.declared.fault.AsmFault.TheVariants.{FileError, FileNotFound}
-use Rattle.language65.specs.Faults.{is_failure, is_outside}
-use Rattle.language65.specs.declared.language.Statement.{Statement}
-use Rattle.language65.specs.declared.language.Statement.TheVariants.{Constant, FilePart, NamedPart}
-use Rattle.language65.specs.Numbering.{AreNamed, IsSound}
-use Rattle.module65.specs.Machine.{Runs, State, Takes, begun}
-use Rattle.module65.specs.Reading.{Define, IsGiven, Job, stopped, bytes_for, with_bytes}
+use Rattle.ast65.specs.declared.fault.AsmFault.{AsmFault}
+use Rattle.ast65.specs.declared.fault.AsmFault.TheVariants.{FileError, FileNotFound}
+use Rattle.ast65.specs.Faults.{is_failure, is_outside}
+use Rattle.ast65.specs.declared.language.Statement.{Statement}
+use Rattle.ast65.specs.declared.language.Statement.TheVariants.{Constant, FilePart, NamedPart}
+use Rattle.semantics65.specs.Numbering.{AreNamed, IsSound}
+use Rattle.semantics65.specs.Machine.{Runs, State, Takes, begun}
+use Rattle.semantics65.specs.Reading.{Define, IsGiven, Job, stopped, bytes_for, with_bytes}
 use Rattle.asm65.specs.declared.assembler.Assembler.{Assembler}
 use Rattle.asm65.specs.declared.running.Run.{Run}
-use Rattle.layout65.specs.Measuring.{opening_limit}
+use Rattle.symbols65.specs.Measuring.{opening_limit}
 use Rattle.asm65.specs.Inner.Holding.{Holds}
 use Rattle.asm65.specs.Assembly.{Without}
 use Rattle.std.specs.Option.{option_map}

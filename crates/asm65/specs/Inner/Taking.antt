@@ -3,19 +3,19 @@ use Rattle.std.specs.Prelude.{◌≡◌, ℕ, ◌<◌, Bool, true, false, List, 
 use Rattle.syntax65.specs.declared.lexing.tokens.AddressSize.{AddressSize}
 use Rattle.syntax65.specs.declared.lexing.tokens.AddressSize.TheVariants as size
 use Rattle.syntax65.specs.declared.place.Place.{Place}
-use Rattle.language65.specs.Contents.{asking}
-use Rattle.language65.specs.Symbols.{Laid, asks_section, Definition, Key, Symbols, defined, key_defined}
-use Rattle.language65.specs.declared.laid.Context.{Context}
-use Rattle.language65.specs.declared.language.Statement.{Statement}
-use Rattle.language65.specs.Layout.{context_of, cursor_behind, line_fault, opened_twice, scope_name}
-use Rattle.language65.specs.declared.fault.AsmFault.{AsmFault}
-use Rattle.language65.specs.Faults.{is_outside}
-use Rattle.module65.specs.Module.{out_of, warning_of}
+use Rattle.semantics65.specs.Contents.{asking}
+use Rattle.semantics65.specs.Symbols.{Laid, asks_section, Definition, Key, Symbols, defined, key_defined}
+use Rattle.semantics65.specs.declared.laid.Context.{Context}
+use Rattle.ast65.specs.declared.language.Statement.{Statement}
+use Rattle.semantics65.specs.Layout.{context_of, cursor_behind, line_fault, opened_twice, scope_name}
+use Rattle.ast65.specs.declared.fault.AsmFault.{AsmFault}
+use Rattle.ast65.specs.Faults.{is_outside}
+use Rattle.semantics65.specs.Module.{out_of, warning_of}
 use Rattle.base65.specs.Outcome.{Unless}
-use Rattle.layout65.specs.declared.measuring.Measured.{Measured}
-use Rattle.layout65.specs.Measuring.{measure_of, AreInside, opening_limit}
-use Rattle.module65.specs.Machine.{PutsAll, State, awaiting, entered}
-use Rattle.module65.specs.Module as piece
+use Rattle.symbols65.specs.declared.measuring.Measured.{Measured}
+use Rattle.symbols65.specs.Measuring.{measure_of, AreInside, opening_limit}
+use Rattle.semantics65.specs.Machine.{PutsAll, State, awaiting, entered}
+use Rattle.semantics65.specs.Module as piece
 use Rattle.asm65.specs.declared.assembler.Assembler.{Assembler}
 use Rattle.asm65.specs.declared.naming.stating.Mention.{Mention}
 use Rattle.asm65.specs.declared.naming.stating.Mention.TheVariants.{ForcedImport, Exported, Imported}

@@ -1,11 +1,11 @@
 //! Names that become known to the assembler.
 
 ghost use Rattle.std.specs.Prelude.{◌≡◌, None, OnOk, length};
-ghost use Rattle.language65.specs.Symbols.{defined};
+ghost use Rattle.semantics65.specs.Symbols.{defined};
 ghost use Rattle.symbols65.specs.Tables.{KeepsFinal, definition_seen, key_of};
 ghost use Rattle.symbols65.specs.Views.{table_of, with_definition, with_names, with_scope};
 ghost use Rattle.std.specs.Option.{option_map};
-ghost use Rattle.language65.specs.Layout.{opened_twice};
+ghost use Rattle.semantics65.specs.Layout.{opened_twice};
 ghost use Rattle.symbols65.specs.Resolving.{IsTable};
 ghost use Rattle.asm65.specs.Inner.Taking.{KeepsPut};
 

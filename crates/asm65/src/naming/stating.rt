@@ -1,23 +1,23 @@
 //! Statements that define, open, import and mention names.
 
 ghost use Rattle.std.specs.Prelude.{◌≡◌, IfOk, OnOk, map, None, ◌∷◌, [], Some, ◌++◌, false, true};
-ghost use Rattle.language65.specs.declared.laid.Context.{Context};
-ghost use Rattle.language65.specs.Symbols.{Symbols, Key as DefinedKey, defined, named};
+ghost use Rattle.semantics65.specs.declared.laid.Context.{Context};
+ghost use Rattle.semantics65.specs.Symbols.{Symbols, Key as DefinedKey, defined, named};
 ghost use Rattle.asm65.specs.Inner.Holding.{IsPiece, KeepsTables};
 ghost use Rattle.asm65.specs.Inner.Taking.{mentioned, is_for_zero_page, label_at, Mentions, Turns};
 ghost use Rattle.symbols65.specs.Tables.{definition_seen, key_of};
-ghost use Rattle.language65.specs.Views.{place_at};
-ghost use Rattle.module65.specs.Module.{equated, valued, demanded, imported};
+ghost use Rattle.semantics65.specs.Views.{place_at};
+ghost use Rattle.semantics65.specs.Module.{equated, valued, demanded, imported};
 ghost use Rattle.symbols65.specs.Resolving.{IsTable};
 ghost use Rattle.symbols65.specs.Views.{table_of, with_definition, with_names, with_scope};
 ghost use Rattle.std.specs.Option.{option_map};
 ghost use Rattle.syntax65.specs.declared.place.Place.{Place};
-ghost use Rattle.language65.specs.Layout.{opened_twice};
+ghost use Rattle.semantics65.specs.Layout.{opened_twice};
 
 use crate::assembler::{Assembler, Piece};
 use crate::putting::Site;
 use base65::Sequence;
-use language65::Context;
+use semantics65::Context;
 use std::alloc::{AllocError, Global};
 use symbols65::{Definition, Key, stable_form};
 use syntax65::{AddressSize, Expr};

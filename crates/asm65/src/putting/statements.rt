@@ -1,22 +1,23 @@
 //! What statements that define no name put into sections.
 
 ghost use Rattle.std.specs.Prelude.{◌≡◌, IfOk, true, ◌∷◌, [], OnOk, map};
-ghost use Rattle.language65.specs.Contents.{operand_tree, file_bytes, opcode_part, room_part, Known};
-ghost use Rattle.language65.specs.Norms.{width_of};
+ghost use Rattle.semantics65.specs.Contents.{operand_tree, file_bytes, opcode_part, room_part, Known};
+ghost use Rattle.semantics65.specs.Norms.{width_of};
 ghost use Rattle.symbols65.specs.Views.{table_of};
 ghost use Rattle.asm65.specs.Inner.Holding.{IsSo, Enters};
 ghost use Rattle.syntax65.specs.declared.place.Place.{Place};
-ghost use Rattle.language65.specs.declared.laid.Settled.TheVariants.{InMode};
-ghost use Rattle.language65.specs.Views.{place_at};
+ghost use Rattle.semantics65.specs.declared.laid.Settled.TheVariants.{InMode};
+ghost use Rattle.semantics65.specs.Views.{place_at};
 ghost use Rattle.syntax65.specs.Opcodes.{opcode_of};
-ghost use Rattle.module65.specs.Module.{asserted, given, instruction_pieces, valued, item_piece, operand_pieces};
-ghost use Rattle.language65.specs.Items.{numbered};
+ghost use Rattle.semantics65.specs.Module.{asserted, given, instruction_pieces, valued, item_piece, operand_pieces};
+ghost use Rattle.ast65.specs.Items.{numbered};
 
 use super::Site;
 use super::values::{bytes_of, file_bytes, items_of, literal_of};
 use crate::assembler::{Assembler, Piece};
 use base65::Sequence;
-use language65::{Context, Item, Items, ItemsKind, Operand, Settled};
+use ast65::{Item, Items, ItemsKind, Operand};
+use semantics65::{Context, Settled};
 use object65::{Action, Width};
 use std::alloc::{AllocError, Global};
 use symbols65::{Symbols, stable_form};

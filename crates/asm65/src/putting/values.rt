@@ -1,22 +1,23 @@
 //! Values and other parts of statements, which are put at once where they are settled without a fault, or wait.
 
 ghost use Rattle.std.specs.Prelude.{◌≡◌, drop, IfOk, IfSome, map, OnOk, take, ◌∷◌, []};
-ghost use Rattle.language65.specs.Contents.{file_bytes, operand_form, put, stored, Known};
-ghost use Rattle.language65.specs.Items.{numbered};
-ghost use Rattle.language65.specs.Views.{place_at, part_at};
+ghost use Rattle.semantics65.specs.Contents.{file_bytes, operand_form, put, stored, Known};
+ghost use Rattle.ast65.specs.Items.{numbered};
+ghost use Rattle.semantics65.specs.Views.{place_at, part_at};
 ghost use Rattle.asm65.specs.Inner.Holding.{AreStored, IsFaultless, IsPut, operand_stored, literal_of, KeepsTables, Waits, IsTried, Enters};
 ghost use Rattle.base65.specs.Outcome.{Gives};
-ghost use Rattle.language65.specs.Faults.{is_memory};
+ghost use Rattle.ast65.specs.Faults.{is_memory};
 ghost use Rattle.object65.specs.Objects.{is_file_name};
-ghost use Rattle.module65.specs.Module.{datum, operand, valued};
+ghost use Rattle.semantics65.specs.Module.{datum, operand, valued};
 
 use super::Site;
 use crate::assembler::{Assembler, Fixup, Piece};
 use base65::Sequence;
-use language65::{AsmFault, At, Context, Item, Part, Settled};
+use ast65::{AsmFault, Item};
+use semantics65::{At, Context, Part, Settled};
 use object65::format::FILE_NAME_LIMIT;
 use object65::{Node, Norm, Width, fits, put};
-use sections65::Sections;
+use emit65::Sections;
 use std::alloc::{AllocError, Global};
 use symbols65::{operand_form, stable_form};
 use syntax65::{Expr, ExprKind};

@@ -3,9 +3,9 @@
 ghost use Rattle.std.specs.Prelude.{◌≡◌, OnOk, false, slice_get};
 ghost use Rattle.std.specs.Option.{option_map};
 ghost use Rattle.base65.specs.Outcome.{Gives};
-ghost use Rattle.language65.specs.declared.fault.AsmFault.TheVariants.{OutOfMemory};
-ghost use Rattle.language65.specs.Faults.{is_memory};
-ghost use Rattle.language65.specs.Norms.{address_of};
+ghost use Rattle.ast65.specs.declared.fault.AsmFault.TheVariants.{OutOfMemory};
+ghost use Rattle.ast65.specs.Faults.{is_memory};
+ghost use Rattle.semantics65.specs.Norms.{address_of};
 ghost use Rattle.symbols65.specs.declared.resolving.attempt.Stop.TheVariants.{Fault};
 ghost use Rattle.symbols65.specs.declared.resolving.attempt.State.TheVariants.{Found};
 ghost use Rattle.symbols65.specs.Resolving.{attempt_definition, known_form, lacks_memory, meaning_form, meaning_in, tried, tried_at, tried_last};
@@ -13,7 +13,8 @@ ghost use Rattle.symbols65.specs.Views.{known_by, table_of};
 
 use super::meaning::{Meaning, folded, meaning_of};
 use crate::table::Symbols;
-use language65::{AsmFault, Context};
+use ast65::AsmFault;
+use semantics65::Context;
 use object65::{Node, Norm};
 use std::alloc::{AllocError, Global};
 use syntax65::{Expr, ExprKind};

@@ -5,14 +5,15 @@ ghost use Rattle.symbols65.specs.declared.resolving.attempt.Source.TheVariants.{
 ghost use Rattle.symbols65.specs.Resolving.{AreHung, HangsOn, Reaches, bare, hung_on, needed_in, may_be_looked_for, tried, IsTable};
 ghost use Rattle.symbols65.specs.Views.{known_by, AreNoted, is_found, without, Table, table_of, nothing_defined};
 ghost use Rattle.base65.specs.Outcome.{Finds, Gives};
-ghost use Rattle.language65.specs.Faults.{is_memory};
+ghost use Rattle.ast65.specs.Faults.{is_memory};
 ghost use Rattle.symbols65.specs.declared.resolving.attempt.State.TheVariants.{Unknown, Waiting, Found};
-ghost use Rattle.language65.specs.Norms.{Extends, norm_of};
+ghost use Rattle.semantics65.specs.Norms.{Extends, norm_of};
 
 use super::attempt::{Source, State, Stop, pass_on_memory, try_last, try_norm};
 use super::finals::are_final;
 use crate::table::Symbols;
-use language65::{AsmFault, Context};
+use ast65::AsmFault;
+use semantics65::Context;
 use object65::Norm;
 use std::alloc::{AllocError, Global};
 use syntax65::Expr;

@@ -8,7 +8,7 @@ ghost use Rattle.object65.specs.Form.{Form};
 ghost use Rattle.object65.specs.Folding.{lacks_memory};
 ghost use Rattle.object65.specs.declared.folding.FormFault.{FormFault};
 ghost use Rattle.syntax65.specs.Trees.{name as name_tree};
-ghost use Rattle.language65.specs.Norms.{IsFinal};
+ghost use Rattle.semantics65.specs.Norms.{IsFinal};
 ghost use Rattle.symbols65.specs.Views.{table_of};
 
 use super::attempt::{Source, Stop, address, defined, pass_on_memory};
@@ -16,7 +16,7 @@ use super::meaning::{last_in, plain_part, scopes_in};
 use super::scopes::scope_of;
 use crate::table::{Key, Symbols};
 use base65::{Op1, Op2, apply1, apply2};
-use language65::Context;
+use semantics65::Context;
 use object65::{FormFault, Node, Norm};
 use std::alloc::{AllocError, Global};
 use syntax65::{Expr, ExprKind, Name};

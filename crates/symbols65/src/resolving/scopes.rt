@@ -1,12 +1,12 @@
 //! Scopes, what is found in them, and names as they are shown.
 
 ghost use Rattle.std.specs.Prelude.{◌≡◌, ◌++◌, IfOk, OnOk, Some, take};
-ghost use Rattle.language65.specs.Symbols.{joined, shown, enclosing, first_found, inside, scope_from, scope_in, scopes_from, defined, named};
+ghost use Rattle.semantics65.specs.Symbols.{joined, shown, enclosing, first_found, inside, scope_from, scope_in, scopes_from, defined, named};
 ghost use Rattle.symbols65.specs.Views.{table_of};
 
 use crate::table::{Key, Symbols};
 use base65::Sequence;
-use language65::GLOBAL_SCOPE;
+use semantics65::GLOBAL_SCOPE;
 use std::alloc::{AllocError, Global};
 
 /// What stands between two parts of a name.

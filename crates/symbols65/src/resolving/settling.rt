@@ -2,9 +2,9 @@
 
 ghost use Rattle.std.specs.Prelude.{◌≡◌, Ok};
 ghost use Rattle.base65.specs.Outcome.{Finds, Gives};
-ghost use Rattle.language65.specs.Faults.{is_memory};
-ghost use Rattle.language65.specs.Symbols.{meaning_of};
-ghost use Rattle.language65.specs.Norms.{defined_form, norm_of};
+ghost use Rattle.ast65.specs.Faults.{is_memory};
+ghost use Rattle.semantics65.specs.Symbols.{meaning_of};
+ghost use Rattle.semantics65.specs.Norms.{defined_form, norm_of};
 ghost use Rattle.symbols65.specs.Resolving.{IsTable, meaning_in, Settles};
 ghost use Rattle.symbols65.specs.Views.{table_of};
 
@@ -12,7 +12,8 @@ use super::attempt::{Source, Stop, address, meant, try_norm};
 use super::cache::NormCache;
 use super::meaning::Meaning;
 use crate::table::Symbols;
-use language65::{AsmFault, Context};
+use ast65::AsmFault;
+use semantics65::Context;
 use object65::Norm;
 use std::alloc::Global;
 use syntax65::Expr;

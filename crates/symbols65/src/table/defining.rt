@@ -2,7 +2,7 @@
 
 ghost use Rattle.std.specs.Prelude.{◌≡◌, ◌++◌, ◌∷◌, [], IfOk, None, OnErr, OnOk, Some, length, position};
 ghost use Rattle.indexmap.specs.IndexMap.{keys};
-ghost use Rattle.language65.specs.Symbols.{defined};
+ghost use Rattle.semantics65.specs.Symbols.{defined};
 ghost use Rattle.symbols65.specs.Tables.{IsCounted, KeepsFinal, definition_in, definition_seen, entry_of, first_number, key_of, same_entry, word_of};
 ghost use Rattle.symbols65.specs.Views.{table_of, with_definition, words_of};
 

@@ -6,7 +6,7 @@ ghost use Rattle.symbols65.specs.Tables.{AreCounted, AreDistinct, AreFinal, AreF
 
 use base65::Seed;
 use indexmap::{IndexMap, IndexSet};
-use language65::Context;
+use semantics65::Context;
 use object65::Norm;
 use std::alloc::Global;
 use syntax65::{AddressSize, Expr};

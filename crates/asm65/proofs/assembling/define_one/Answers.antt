@@ -1,12 +1,12 @@
 use Rattle.std.proofs.Common.{◌∙◌, ℕ, ◌+◌, ◌<◌, List, subst}
 use Rattle.syntax65.specs.Trees.{Tree, number}
-use Rattle.language65.specs.declared.language.Statement.TheVariants.{Constant}
-use Rattle.module65.specs.Machine.{State, Takes}
-use Rattle.module65.specs.Reading.{Answers}
+use Rattle.ast65.specs.declared.language.Statement.TheVariants.{Constant}
+use Rattle.semantics65.specs.Machine.{State, Takes}
+use Rattle.semantics65.specs.Reading.{Answers}
 use Rattle.asm65.specs.Assembly.{define_of}
-use Rattle.layout65.specs.Measuring.{opening_limit}
+use Rattle.symbols65.specs.Measuring.{opening_limit}
 use Rattle.asm65.specs.Inner.Holding.{Holds}
-use Rattle.language65.specs.Views.{place_in}
+use Rattle.semantics65.specs.Views.{place_in}
 use Rattle.asm65.proofs.Defines.{defines_by}
 use Rattle.asm65.proofs.assembling.define_one.Goals as goal
 

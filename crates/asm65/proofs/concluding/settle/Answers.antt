@@ -1,16 +1,16 @@
 use Rattle.std.proofs.Common.{◌≡◌, ◌∙◌, ap, sym, refl, map, false, string_bytes, Global, List, ℕ}
 use Rattle.std.specs.Prelude.{Result, Err}
 use Rattle.syntax65.specs.declared.place.Place.{Place}
-use Rattle.language65.specs.declared.fault.AsmFault.{AsmFault}
-use Rattle.language65.specs.Faults.{is_outside}
-use Rattle.module65.specs.Machine as machine
-use Rattle.module65.specs.Module.{Made}
-use Rattle.module65.specs.Reading.{PlacedFault}
+use Rattle.ast65.specs.declared.fault.AsmFault.{AsmFault}
+use Rattle.ast65.specs.Faults.{is_outside}
+use Rattle.semantics65.specs.Machine as machine
+use Rattle.semantics65.specs.Module.{Made}
+use Rattle.semantics65.specs.Reading.{PlacedFault}
 use Rattle.symbols65.specs.Views.{table_of}
 use Rattle.asm65.specs.Assembly.{is_outside_refusal}
 use Rattle.asm65.specs.Inner.Holding.{IsFixup}
 use Rattle.asm65.specs.Inner.Resolving.{IsFaulty, made_in}
-use Rattle.language65.specs.Views.{place_in}
+use Rattle.semantics65.specs.Views.{place_in}
 use Rattle.asm65.specs.declared.resolving.Made.{Made as CodeMade}
 use Rattle.asm65.proofs.Insides.{resolved_inside}
 use Rattle.asm65.proofs.Conclusions.{found_inside, no_more, unless, waiting_comes}

@@ -2,7 +2,7 @@ use Rattle.std.proofs.Common.{◌≡◌, [], List, map, rules, string_bytes, sub
 use Rattle.std.proofs.lemmas.Result.{err_from_is_err_and}
 use Rattle.std.proofs.lemmas.Grind.{common_steps}
 use Rattle.std.specs.Vec.Iter.{into_iter_items}
-use Rattle.module65.specs.Machine as machine
+use Rattle.semantics65.specs.Machine as machine
 use Rattle.symbols65.specs.Views.{table_of}
 use Rattle.asm65.specs.declared.assembler.Fixup.{Fixup}
 use Rattle.asm65.specs.Inner.Holding.{AreFixups}

@@ -1,6 +1,6 @@
 use Rattle.std.proofs.Common.{List, map, string_bytes, Global}
 use Rattle.std.specs.Vec.Iter.{into_iter_items}
-use Rattle.module65.specs.Machine as machine
+use Rattle.semantics65.specs.Machine as machine
 use Rattle.symbols65.specs.Resolving.{IsTable}
 use Rattle.symbols65.specs.Views.{table_of}
 use Rattle.asm65.specs.Inner.Holding.{AreFixups}

@@ -1,5 +1,5 @@
 use Rattle.std.proofs.Common.{subst}
-use Rattle.language65.specs.Views.{place_in}
+use Rattle.semantics65.specs.Views.{place_in}
 use Rattle.asm65.specs.Inner.Running.{IsRefusedUnread}
 use Rattle.asm65.proofs.files.read_part.Goals as goal
 

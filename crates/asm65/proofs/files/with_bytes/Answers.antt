@@ -2,7 +2,7 @@ use Rattle.std.proofs.Common.{◌≡◌, subst, take, option_map}
 use Rattle.std.proofs.lemmas.Result.{err_from_is_err_and}
 use Rattle.base65.specs.Store.{IsBlamed}
 use Rattle.expand65.specs.Expansion.{beside, file_named}
-use Rattle.language65.specs.Views.{place_in}
+use Rattle.semantics65.specs.Views.{place_in}
 use Rattle.asm65.proofs.WholeFiles.{part_read}
 use Rattle.asm65.proofs.Runs.{told_then}
 use Rattle.asm65.proofs.Takings.{failed_unread, refused_unread}

@@ -4,8 +4,8 @@ use Rattle.std.proofs.lemmas.Result.{err_from_is_err_and}
 use Rattle.base65.specs.Store.{PassesBy}
 use Rattle.expand65.specs.Standing.{measure_of, place_of}
 use Rattle.expand65.specs.declared.expander.Statement.{Statement}
-use Rattle.language65.specs.Faults.{is_failure}
-use Rattle.language65.specs.declared.fault.AsmFault.{AsmFault}
+use Rattle.ast65.specs.Faults.{is_failure}
+use Rattle.ast65.specs.declared.fault.AsmFault.{AsmFault}
 use Rattle.asm65.specs.Inner.Running.{IsRunning, TakesLine}
 use Rattle.asm65.specs.declared.running.Run.{Run}
 use Rattle.asm65.proofs.Ahead.{line_taken, no_line_taken}

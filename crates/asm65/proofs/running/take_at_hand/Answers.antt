@@ -7,7 +7,7 @@ use Rattle.syntax65.specs.Tokens.{Lexeme, lexeme_of, lexemes}
 use Rattle.expand65.specs.declared.passing.Peeked.{Peeked}
 use Rattle.expand65.specs.Failing.{IsAhead, IsGivenAs}
 use Rattle.expand65.specs.Standing.{place_of}
-use Rattle.language65.specs.Views.{place_in}
+use Rattle.semantics65.specs.Views.{place_in}
 use Rattle.asm65.specs.Inner.Running.{TakesLine}
 use Rattle.asm65.proofs.Ahead.{line_is, roomy_ahead}
 use Rattle.asm65.proofs.Runs.{Answer}

@@ -1,4 +1,4 @@
-use Rattle.language65.specs.Views.{place_in}
+use Rattle.semantics65.specs.Views.{place_in}
 use Rattle.asm65.proofs.Runs.{front_leaves}
 use Rattle.asm65.proofs.running.take_front.Goals as goal
 

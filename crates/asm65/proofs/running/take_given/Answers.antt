@@ -1,6 +1,6 @@
 use Rattle.std.proofs.Common.{ap, refl, ◌∙◌}
 use Rattle.syntax65.specs.Tokens.{lexemes}
-use Rattle.language65.specs.Views.{place_in}
+use Rattle.semantics65.specs.Views.{place_in}
 use Rattle.expand65.specs.Playing.{tokens_in}
 use Rattle.asm65.proofs.Runs.{given_label, given_plain, label_given_stops, plain_given_stops}
 use Rattle.asm65.proofs.running.take_given.Goals as goal

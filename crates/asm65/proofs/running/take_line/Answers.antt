@@ -1,9 +1,9 @@
 use Rattle.std.proofs.Common.{List, ap, subst, ◌∙◌}
 use Rattle.syntax65.specs.Tokens.{Lexeme, lexemes}
-use Rattle.language65.specs.Numbering.{AreNamed}
-use Rattle.language65.specs.Views.{place_in}
-use Rattle.module65.specs.Machine.{Takes}
-use Rattle.module65.specs.Reading.{IsRest}
+use Rattle.semantics65.specs.Numbering.{AreNamed}
+use Rattle.semantics65.specs.Views.{place_in}
+use Rattle.semantics65.specs.Machine.{Takes}
+use Rattle.semantics65.specs.Reading.{IsRest}
 use Rattle.asm65.specs.Inner.Running.{StopsQuietly, TakesBy, Told}
 use Rattle.asm65.specs.Assembly.{Without}
 use Rattle.asm65.proofs.running.take_line.Goals as goal

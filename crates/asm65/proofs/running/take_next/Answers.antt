@@ -1,9 +1,9 @@
 use Rattle.std.proofs.Common.{◌≡◌, ◌∙◌, ap, subst}
 use Rattle.syntax65.specs.declared.place.Place.{Place}
 use Rattle.expand65.specs.Standing.{place_of, stated}
-use Rattle.language65.specs.Numbering.{AreNamed}
+use Rattle.semantics65.specs.Numbering.{AreNamed}
 use Rattle.asm65.specs.Inner.Running.{TakesBy, tokens_of}
-use Rattle.language65.specs.Views.{place_in}
+use Rattle.semantics65.specs.Views.{place_in}
 use Rattle.asm65.proofs.Runs.{GivenBy, GivenStops}
 use Rattle.asm65.proofs.running.take_next.Goals as goal
 

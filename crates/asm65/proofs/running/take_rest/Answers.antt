@@ -1,17 +1,17 @@
 use Rattle.std.proofs.Common.{◌≡◌, ◌∙◌, [], length, ap, refl, sym, subst, Err, Ok}
 use Rattle.std.proofs.lemmas.Result.{err_from_is_err_and}
 use Rattle.syntax65.specs.Tokens.{lexemes}
-use Rattle.language65.specs.Faults.{is_outside}
-use Rattle.language65.specs.Numbering.{AreNamed}
-use Rattle.language65.specs.declared.language.Statement.{Statement}
-use Rattle.language65.specs.declared.language.Statement.TheVariants.{Instruction}
-use Rattle.layout65.proofs.Measures.{unless_then}
-use Rattle.statements65.specs.Parsing.{IsOperand}
+use Rattle.ast65.specs.Faults.{is_outside}
+use Rattle.semantics65.specs.Numbering.{AreNamed}
+use Rattle.ast65.specs.declared.language.Statement.{Statement}
+use Rattle.ast65.specs.declared.language.Statement.TheVariants.{Instruction}
+use Rattle.symbols65.proofs.Measures.{unless_then}
+use Rattle.ast65.specs.Parsing.{IsOperand}
 use Rattle.asm65.specs.Inner.Running.{read_bytes, TakesBy}
-use Rattle.language65.specs.Views.{place_in}
-use Rattle.module65.specs.Machine.{Takes}
-use Rattle.module65.specs.Reading.{IsRest}
-use Rattle.module65.proofs.Taken.{some_tokens}
+use Rattle.semantics65.specs.Views.{place_in}
+use Rattle.semantics65.specs.Machine.{Takes}
+use Rattle.semantics65.specs.Reading.{IsRest}
+use Rattle.semantics65.proofs.Taken.{some_tokens}
 use Rattle.asm65.specs.Assembly.{Without}
 use Rattle.asm65.proofs.Runs.{Answer, RestBy, never_stops, rest_leaves, rest_stops, rest_unread, rest_wrong, some_there, sound_leaves, takes_from, told_all}
 use Rattle.asm65.proofs.running.take_rest.Goals as goal

@@ -1,4 +1,4 @@
-use Rattle.language65.specs.Views.{place_in}
+use Rattle.semantics65.specs.Views.{place_in}
 use Rattle.asm65.proofs.Runs.{sound_leaves}
 use Rattle.asm65.proofs.running.take_sound.Goals as goal
 

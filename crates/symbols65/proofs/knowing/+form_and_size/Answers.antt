@@ -2,7 +2,7 @@ use Rattle.std.proofs.Common.{rules, ◌≡◌, ℕ, ap, sym, ◌∙◌}
 use Rattle.std.specs.Result.{result_ok}
 use Rattle.syntax65.specs.Trees.{unary, binary}
 use Rattle.syntax65.specs.Kinds.{tree_of}
-use Rattle.language65.specs.Norms.{literal_in, norm_of, larger, size_by, size_of}
+use Rattle.semantics65.specs.Norms.{literal_in, norm_of, larger, size_by, size_of}
 use Rattle.symbols65.specs.Resolving.{binary_form, literal_of, prefix_form}
 use Rattle.symbols65.specs.Views.{table_of}
 use Rattle.symbols65.proofs.Sizing.{binary_known, literal_known, prefix_known}

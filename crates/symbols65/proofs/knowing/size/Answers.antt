@@ -1,6 +1,6 @@
 use Rattle.std.proofs.Common.{◌≡◌, ap, sym, ◌∙◌, rules, FitsSigned, to_z, of_z, w64}
 use Rattle.std.proofs.lemmas.Int.{to_z-of_z}
-use Rattle.language65.specs.Norms.{size_of_value}
+use Rattle.semantics65.specs.Norms.{size_of_value}
 use Rattle.symbols65.specs.Views.{table_of}
 use Rattle.symbols65.proofs.Sizing.{number_size}
 use Rattle.symbols65.proofs.knowing.size.Goals as goal

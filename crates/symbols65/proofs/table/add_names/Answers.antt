@@ -1,6 +1,6 @@
 use Rattle.std.proofs.Common.{sym, ap, ◌∙◌, map, add-one, arith, drop, suc}
-use Rattle.language65.specs.Symbols.{with_new}
-use Rattle.language65.proofs.Lists.{drop_item}
+use Rattle.semantics65.specs.Symbols.{with_new}
+use Rattle.ast65.proofs.Lists.{drop_item}
 use Rattle.symbols65.proofs.Words.{insert_name, with_one}
 use Rattle.symbols65.proofs.table.add_names.Goals as goal
 

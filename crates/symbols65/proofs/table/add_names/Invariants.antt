@@ -1,5 +1,5 @@
 use Rattle.std.proofs.Common.{◌≡◌, drop, map}
-use Rattle.language65.specs.Symbols.{with_new}
+use Rattle.semantics65.specs.Symbols.{with_new}
 use Rattle.symbols65.proofs.table.add_names.Given as goal
 
 abbrev pub invariant-loop-name : goal.invariant-loop-name

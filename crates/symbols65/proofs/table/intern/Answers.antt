@@ -1,6 +1,6 @@
 use Rattle.std.proofs.Common.{Some, map, position, sym, ap, subst, ◌∙◌}
 use Rattle.std.specs.Str.{bytes_eq}
-use Rattle.language65.proofs.Lists.{position_mapped}
+use Rattle.ast65.proofs.Lists.{position_mapped}
 use Rattle.symbols65.specs.Tables.{Begins}
 use Rattle.symbols65.proofs.Words.{insert_name, number_mapped, one_begins, one_found, with_one}
 use Rattle.symbols65.proofs.table.intern.Goals as goal

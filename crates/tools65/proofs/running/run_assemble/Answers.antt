@@ -1,6 +1,6 @@
 use Rattle.std.proofs.Common.{◌≡◌, refl, map, rules}
 use Rattle.cli65.specs.Line.{Assembling, assemble, assembling}
-use Rattle.module65.specs.Reading.{Job}
+use Rattle.semantics65.specs.Reading.{Job}
 use Rattle.asm65.specs.Assembly.{define_of}
 use Rattle.tools65.specs.Assembling.{define_in}
 use Rattle.tools65.specs.Command.{Assembles}

@@ -1,10 +1,10 @@
 use Rattle.std.proofs.Common.{subst}
 use Rattle.base65.specs.Outcome.{Gives}
-use Rattle.language65.specs.Faults.{is_memory}
-use Rattle.language65.specs.Layout.{Cursor, unless_fault}
-use Rattle.language65.specs.Symbols.{Symbols}
+use Rattle.ast65.specs.Faults.{is_memory}
+use Rattle.semantics65.specs.Layout.{Cursor, unless_fault}
+use Rattle.semantics65.specs.Symbols.{Symbols}
 use Rattle.symbols65.specs.Views.{table_of}
-use Rattle.layout65.specs.Measuring.{unread_fault, cursor_of}
+use Rattle.symbols65.specs.Measuring.{unread_fault, cursor_of}
 use Rattle.asm65.proofs.Insides.{unread_inside}
 use Rattle.asm65.proofs.Takings.{held_on}
 use Rattle.asm65.proofs.assembler.Assembler.check_unread.Goals as goal

@@ -2,8 +2,8 @@ use Rattle.std.proofs.Common.{◌≡◌, ℕ, List, ap, false, map, string_bytes
 use Rattle.std.specs.Prelude.{IfOk, None, Ok, Err, Result}
 use Rattle.base65.specs.Outcome.{Unless}
 use Rattle.object65.specs.declared.object.Object.{Object}
-use Rattle.language65.specs.declared.contents.Segment.{Segment}
-use Rattle.module65.specs.Machine.{State, concluded}
+use Rattle.semantics65.specs.declared.contents.Segment.{Segment}
+use Rattle.semantics65.specs.Machine.{State, concluded}
 use Rattle.asm65.specs.declared.texts.AsmRefusal.{AsmRefusal}
 use Rattle.asm65.specs.Assembly.{is_outside_refusal}
 use Rattle.asm65.specs.Inner.Holding.{Holds}

@@ -1,6 +1,6 @@
 use Rattle.std.proofs.Common.{◌≡◌, ◌+◌, ◌∙◌, ℕ, [], ◌∷◌, length, sym, ap, subst, length-append}
-use Rattle.language65.specs.Norms.{Extends}
-use Rattle.language65.specs.Symbols.{Definition, Symbols}
+use Rattle.semantics65.specs.Norms.{Extends}
+use Rattle.semantics65.specs.Symbols.{Definition, Symbols}
 use Rattle.symbols65.specs.Tables.{definition_seen, key_of}
 use Rattle.symbols65.specs.Views.{table_of, with_definition}
 use Rattle.asm65.proofs.Namings.{more_defined, where_ok}

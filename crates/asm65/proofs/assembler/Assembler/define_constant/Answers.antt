@@ -3,15 +3,15 @@ use Rattle.std.specs.Prelude.{is_some, slice_get, true}
 use Rattle.syntax65.specs.Trees.{Tree}
 use Rattle.syntax65.specs.declared.place.Place.{Place}
 use Rattle.object65.specs.Form.{Form}
-use Rattle.language65.specs.Contents.{telling}
-use Rattle.language65.specs.Norms.{IsFinal}
-use Rattle.language65.specs.declared.laid.Context.{Context}
-use Rattle.language65.specs.Symbols.{Definition, Symbols, named}
-use Rattle.language65.specs.Views.{place_in}
-use Rattle.language65.proofs.Lists.{map_length}
-use Rattle.module65.specs.Machine.{State, at_once, awaiting, entered, later}
-use Rattle.module65.specs.Module.{equated, valued}
-use Rattle.module65.proofs.Resolving.{final_settles}
+use Rattle.semantics65.specs.Contents.{telling}
+use Rattle.semantics65.specs.Norms.{IsFinal}
+use Rattle.semantics65.specs.declared.laid.Context.{Context}
+use Rattle.semantics65.specs.Symbols.{Definition, Symbols, named}
+use Rattle.semantics65.specs.Views.{place_in}
+use Rattle.ast65.proofs.Lists.{map_length}
+use Rattle.semantics65.specs.Machine.{State, at_once, awaiting, entered, later}
+use Rattle.semantics65.specs.Module.{equated, valued}
+use Rattle.semantics65.proofs.Resolving.{final_settles}
 use Rattle.std.specs.Result.{result_ok}
 use Rattle.symbols65.specs.Tables.{definition_in}
 use Rattle.symbols65.specs.Views.{table_of, with_definition, words_of}

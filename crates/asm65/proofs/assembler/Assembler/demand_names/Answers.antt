@@ -1,7 +1,7 @@
 use Rattle.std.proofs.Common.{◌++◌, List, map}
 use Rattle.std.specs.Prelude.{false}
-use Rattle.language65.specs.Views.{place_in}
-use Rattle.module65.specs.Module.{Piece, demanded, imported}
+use Rattle.semantics65.specs.Views.{place_in}
+use Rattle.semantics65.specs.Module.{Piece, demanded, imported}
 use Rattle.symbols65.specs.Views.{with_names}
 use Rattle.asm65.proofs.Enterings.{enters_both}
 use Rattle.asm65.proofs.Namings.{mentions_enter, more_imported, on_both, turns_after}

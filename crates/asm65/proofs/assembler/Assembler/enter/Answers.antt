@@ -1,9 +1,9 @@
 use Rattle.std.proofs.Common.{◌∙◌, map, sym, ap}
 use Rattle.std.specs.Prelude.{Some, None, true}
-use Rattle.language65.specs.declared.language.Statement.{Statement}
-use Rattle.language65.specs.declared.language.Statement.TheVariants as statement
-use Rattle.language65.specs.Views.{place_in}
-use Rattle.module65.specs.Module.{exported}
+use Rattle.ast65.specs.declared.language.Statement.{Statement}
+use Rattle.ast65.specs.declared.language.Statement.TheVariants as statement
+use Rattle.semantics65.specs.Views.{place_in}
+use Rattle.semantics65.specs.Module.{exported}
 use Rattle.asm65.proofs.Namings.{mentions_enter, adds_cheap, adds_constant, adds_forced, adds_globals, adds_imports, adds_label, adds_pieces, adds_proc, adds_scope, adds_unnamed, nothing_behind, taken_as}
 use Rattle.asm65.proofs.assembler.Assembler.enter.Goals as goal
 

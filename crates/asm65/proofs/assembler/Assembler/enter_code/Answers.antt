@@ -1,7 +1,7 @@
 use Rattle.std.proofs.Common.{Some, None}
-use Rattle.language65.specs.Contents.{opcode_part}
+use Rattle.semantics65.specs.Contents.{opcode_part}
 use Rattle.asm65.proofs.Enterings.{given_enters}
-use Rattle.layout65.proofs.Measures.{ok_then}
+use Rattle.symbols65.proofs.Measures.{ok_then}
 use Rattle.asm65.proofs.assembler.Assembler.enter_code.Goals as goal
 
 pub returns-in-Some : goal.returns-in-Some

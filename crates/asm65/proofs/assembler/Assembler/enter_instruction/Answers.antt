@@ -1,13 +1,13 @@
 use Rattle.std.proofs.Common.{Option, ◌∷◌, [], subst}
 use Rattle.syntax65.specs.Opcodes.{opcode_of}
 use Rattle.syntax65.specs.Trees.{Tree}
-use Rattle.language65.specs.Contents.{opcode_part, operand_tree}
-use Rattle.language65.specs.Norms.{width_of}
-use Rattle.language65.specs.Views.{place_in}
-use Rattle.module65.specs.Module.{given, operand_pieces}
+use Rattle.semantics65.specs.Contents.{opcode_part, operand_tree}
+use Rattle.semantics65.specs.Norms.{width_of}
+use Rattle.semantics65.specs.Views.{place_in}
+use Rattle.semantics65.specs.Module.{given, operand_pieces}
 use Rattle.asm65.specs.Inner.Holding.{Enters}
 use Rattle.asm65.proofs.Enterings.{enters_both}
-use Rattle.layout65.proofs.Measures.{ok_then}
+use Rattle.symbols65.proofs.Measures.{ok_then}
 use Rattle.asm65.proofs.assembler.Assembler.enter_instruction.Goals as goal
 
 pub returns : goal.returns

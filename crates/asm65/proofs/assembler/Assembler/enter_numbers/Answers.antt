@@ -1,11 +1,11 @@
 use Rattle.std.proofs.Common.{List, ℕ, map, subst}
 use Rattle.std.specs.Prelude.{IfSome, OnOk, Option}
-use Rattle.language65.specs.Contents.{put, Known}
-use Rattle.language65.specs.Views.{place_in}
-use Rattle.language65.specs.declared.language.Item.{Item}
-use Rattle.layout65.proofs.Measures.{ok_then}
-use Rattle.module65.specs.Module.{item_piece}
-use Rattle.sections65.specs.Fed.{Feeds}
+use Rattle.semantics65.specs.Contents.{put, Known}
+use Rattle.semantics65.specs.Views.{place_in}
+use Rattle.ast65.specs.declared.language.Item.{Item}
+use Rattle.symbols65.proofs.Measures.{ok_then}
+use Rattle.semantics65.specs.Module.{item_piece}
+use Rattle.emit65.specs.Fed.{Feeds}
 use Rattle.asm65.specs.Inner.Holding.{Enters, AreStored}
 use Rattle.asm65.proofs.Enterings.{numbers_enter}
 use Rattle.asm65.proofs.assembler.Assembler.enter_numbers.Goals as goal

@@ -1,9 +1,9 @@
 use Rattle.std.proofs.Common.{refl}
-use Rattle.language65.specs.Views.{place_in}
-use Rattle.module65.specs.Module.{operand, valued}
+use Rattle.semantics65.specs.Views.{place_in}
+use Rattle.semantics65.specs.Module.{operand, valued}
 use Rattle.asm65.specs.declared.assembler.Piece.TheVariants.{Operand}
 use Rattle.asm65.proofs.Enterings.{tried_waits}
-use Rattle.layout65.proofs.Measures.{ok_then}
+use Rattle.symbols65.proofs.Measures.{ok_then}
 use Rattle.asm65.proofs.assembler.Assembler.enter_operand.Goals as goal
 
 pub returns : goal.returns

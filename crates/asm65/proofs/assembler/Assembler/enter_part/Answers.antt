@@ -1,7 +1,7 @@
 use Rattle.std.proofs.Common.{sym}
-use Rattle.language65.specs.Contents.{Known, file_bytes}
+use Rattle.semantics65.specs.Contents.{Known, file_bytes}
 use Rattle.asm65.proofs.Enterings.{given_enters}
-use Rattle.layout65.proofs.Measures.{ok_then}
+use Rattle.symbols65.proofs.Measures.{ok_then}
 use Rattle.asm65.proofs.assembler.Assembler.enter_part.Goals as goal
 
 pub returns : goal.returns

@@ -1,8 +1,8 @@
-use Rattle.language65.specs.Contents.{room_part}
-use Rattle.language65.specs.declared.laid.Settled.TheVariants.{FilledWith}
+use Rattle.semantics65.specs.Contents.{room_part}
+use Rattle.semantics65.specs.declared.laid.Settled.TheVariants.{FilledWith}
 use Rattle.asm65.proofs.Enterings.{given_enters}
 use Rattle.asm65.proofs.Puttings.{other_room}
-use Rattle.layout65.proofs.Measures.{ok_then}
+use Rattle.symbols65.proofs.Measures.{ok_then}
 use Rattle.asm65.proofs.assembler.Assembler.enter_room.Goals as goal
 
 pub returns-in-FilledWith : goal.returns-in-FilledWith

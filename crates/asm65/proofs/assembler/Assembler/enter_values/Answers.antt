@@ -1,9 +1,9 @@
 use Rattle.std.proofs.Common.{◌∙◌, List, ap, map, sym, subst}
 use Rattle.std.specs.Prelude.{OnOk}
-use Rattle.language65.specs.Items.{items_of, numbered}
-use Rattle.language65.specs.Views.{place_in}
-use Rattle.language65.specs.declared.language.Item.{Item}
-use Rattle.module65.specs.Module.{item_piece}
+use Rattle.ast65.specs.Items.{items_of, numbered}
+use Rattle.semantics65.specs.Views.{place_in}
+use Rattle.ast65.specs.declared.language.Item.{Item}
+use Rattle.semantics65.specs.Module.{item_piece}
 use Rattle.asm65.specs.Inner.Holding.{Enters}
 use Rattle.asm65.proofs.assembler.Assembler.enter_values.Goals as goal
 

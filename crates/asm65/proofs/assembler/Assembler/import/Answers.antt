@@ -1,6 +1,6 @@
 use Rattle.std.proofs.Common.{◌≡◌, ◌∙◌, length, sym, ap, subst}
-use Rattle.language65.specs.Norms.{Extends}
-use Rattle.language65.specs.Symbols.{Symbols}
+use Rattle.semantics65.specs.Norms.{Extends}
+use Rattle.semantics65.specs.Symbols.{Symbols}
 use Rattle.symbols65.specs.Views.{table_of, with_names}
 use Rattle.asm65.proofs.Namings.{more_imported}
 use Rattle.asm65.proofs.assembler.Assembler.import.Goals as goal

@@ -1,9 +1,9 @@
 use Rattle.std.proofs.Common.{List, ℕ, map, take, sym, subst, arith}
 use Rattle.syntax65.specs.declared.place.Place.{Place}
-use Rattle.language65.specs.declared.laid.Context.{Context}
-use Rattle.language65.specs.Views.{place_in}
-use Rattle.module65.specs.Machine.{State}
-use Rattle.module65.specs.Module as piece
+use Rattle.semantics65.specs.declared.laid.Context.{Context}
+use Rattle.semantics65.specs.Views.{place_in}
+use Rattle.semantics65.specs.Machine.{State}
+use Rattle.semantics65.specs.Module as piece
 use Rattle.symbols65.specs.Views.{table_of}
 use Rattle.asm65.specs.declared.assembler.Assembler.{Assembler}
 use Rattle.asm65.specs.Inner.Holding.{Holds, IsPiece}

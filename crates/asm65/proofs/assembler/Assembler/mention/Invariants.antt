@@ -1,5 +1,5 @@
 use Rattle.std.proofs.Common.{map, take}
-use Rattle.language65.specs.Views.{place_in}
+use Rattle.semantics65.specs.Views.{place_in}
 use Rattle.asm65.specs.Inner.Holding.{KeepsTables}
 use Rattle.asm65.specs.Inner.Taking.{Mentions, mentioned}
 use Rattle.asm65.proofs.assembler.Assembler.mention.Given as goal

@@ -1,7 +1,7 @@
 use Rattle.std.proofs.Common.{[]}
 use Rattle.std.specs.Prelude.{false}
 use Rattle.std.specs.Option.{option_map}
-use Rattle.language65.specs.Symbols.{Scope}
+use Rattle.semantics65.specs.Symbols.{Scope}
 use Rattle.symbols65.specs.Views.{with_scope}
 use Rattle.asm65.proofs.Enterings.{enters_none}
 use Rattle.asm65.proofs.Namings.{more_opened, on_both, turns_after}

@@ -1,6 +1,6 @@
 use Rattle.std.proofs.Common.{◌≡◌, ◌∙◌, Some, refl, ap}
 use Rattle.std.specs.Prelude.{true}
-use Rattle.language65.specs.Symbols.{Definition, Scope, Symbols, named}
+use Rattle.semantics65.specs.Symbols.{Definition, Scope, Symbols, named}
 use Rattle.symbols65.specs.Views.{table_of, with_definition, with_scope}
 use Rattle.asm65.specs.declared.assembler.Assembler.{Assembler}
 use Rattle.asm65.specs.Inner.Taking.{label_at, with_symbols}

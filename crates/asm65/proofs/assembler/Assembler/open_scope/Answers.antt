@@ -1,6 +1,6 @@
 use Rattle.std.proofs.Common.{◌≡◌, ◌∙◌, length, option_map, sym, ap, subst}
-use Rattle.language65.specs.Norms.{Extends}
-use Rattle.language65.specs.Symbols.{Scope, Symbols}
+use Rattle.semantics65.specs.Norms.{Extends}
+use Rattle.semantics65.specs.Symbols.{Scope, Symbols}
 use Rattle.symbols65.specs.Views.{table_of, with_scope}
 use Rattle.asm65.proofs.Namings.{more_opened}
 use Rattle.asm65.proofs.assembler.Assembler.open_scope.Goals as goal

@@ -1,19 +1,19 @@
 use Rattle.std.proofs.Common.{◌≡◌, ◌∙◌, ℕ, sym, ap, subst}
 use Rattle.std.specs.Prelude.{Err, Result}
 use Rattle.std.proofs.lemmas.Result.{err_from_is_err_and}
-use Rattle.language65.specs.declared.fault.AsmFault.{AsmFault}
+use Rattle.ast65.specs.declared.fault.AsmFault.{AsmFault}
 use Rattle.syntax65.specs.declared.place.Place.{Place}
-use Rattle.language65.specs.declared.laid.Context.{Context}
-use Rattle.language65.specs.declared.language.Statement.{Statement}
-use Rattle.language65.specs.Layout as layout
-use Rattle.language65.specs.Layout.{Cursor}
-use Rattle.language65.specs.Symbols.{Symbols}
-use Rattle.language65.specs.Views.{place_in}
-use Rattle.layout65.specs.Measuring.{advanced, AreInside, HasNumbers, IsCounted, cursor_of}
-use Rattle.layout65.specs.declared.measuring.Measured.{Measured}
-use Rattle.layout65.specs.declared.cursor.Cursor as code
-use Rattle.layout65.specs.declared.measuring.Measured as found
-use Rattle.layout65.proofs.Behind.{has_numbers, without_fault}
+use Rattle.semantics65.specs.declared.laid.Context.{Context}
+use Rattle.ast65.specs.declared.language.Statement.{Statement}
+use Rattle.semantics65.specs.Layout as layout
+use Rattle.semantics65.specs.Layout.{Cursor}
+use Rattle.semantics65.specs.Symbols.{Symbols}
+use Rattle.semantics65.specs.Views.{place_in}
+use Rattle.symbols65.specs.Measuring.{advanced, AreInside, HasNumbers, IsCounted, cursor_of}
+use Rattle.symbols65.specs.declared.measuring.Measured.{Measured}
+use Rattle.symbols65.specs.declared.cursor.Cursor as code
+use Rattle.symbols65.specs.declared.measuring.Measured as found
+use Rattle.symbols65.proofs.Behind.{has_numbers, without_fault}
 use Rattle.symbols65.specs.Views.{table_of}
 use Rattle.asm65.specs.declared.assembler.Assembler.{Assembler}
 use Rattle.asm65.specs.Inner.Holding.{AreBefore, Holds}

@@ -2,19 +2,19 @@ use Rattle.std.proofs.Common.{◌≡◌, ◌∙◌, ℕ, refl, sym, ap, subst}
 use Rattle.std.specs.Prelude.{Err, Result}
 use Rattle.std.proofs.lemmas.List.{append-nil}
 use Rattle.std.proofs.lemmas.Result.{err_from_is_err_and}
-use Rattle.language65.specs.Contents.{asking}
-use Rattle.language65.specs.declared.fault.AsmFault.{AsmFault}
-use Rattle.language65.specs.declared.laid.Context.{Context}
-use Rattle.language65.specs.declared.language.Statement.{Statement}
-use Rattle.language65.specs.declared.language.Statement.TheVariants.{Instruction}
-use Rattle.language65.specs.Layout as layout
-use Rattle.language65.specs.Layout.{Cursor}
-use Rattle.language65.specs.Symbols.{Symbols}
-use Rattle.layout65.specs.Measuring.{advanced, AreInside, cursor_of}
-use Rattle.layout65.specs.declared.measuring.Measured.{Measured}
-use Rattle.layout65.specs.declared.measuring.Measured as found
-use Rattle.layout65.proofs.Behind.{is_measured}
-use Rattle.module65.specs.Machine.{entered}
+use Rattle.semantics65.specs.Contents.{asking}
+use Rattle.ast65.specs.declared.fault.AsmFault.{AsmFault}
+use Rattle.semantics65.specs.declared.laid.Context.{Context}
+use Rattle.ast65.specs.declared.language.Statement.{Statement}
+use Rattle.ast65.specs.declared.language.Statement.TheVariants.{Instruction}
+use Rattle.semantics65.specs.Layout as layout
+use Rattle.semantics65.specs.Layout.{Cursor}
+use Rattle.semantics65.specs.Symbols.{Symbols}
+use Rattle.symbols65.specs.Measuring.{advanced, AreInside, cursor_of}
+use Rattle.symbols65.specs.declared.measuring.Measured.{Measured}
+use Rattle.symbols65.specs.declared.measuring.Measured as found
+use Rattle.symbols65.proofs.Behind.{is_measured}
+use Rattle.semantics65.specs.Machine.{entered}
 use Rattle.symbols65.specs.Views.{table_of}
 use Rattle.asm65.specs.declared.assembler.Assembler.{Assembler}
 use Rattle.asm65.specs.Inner.Holding.{Holds}

@@ -1,10 +1,10 @@
-use Rattle.language65.specs.Contents.{stored}
-use Rattle.language65.specs.Views.{place_in}
-use Rattle.module65.specs.Module.{datum, valued}
+use Rattle.semantics65.specs.Contents.{stored}
+use Rattle.semantics65.specs.Views.{place_in}
+use Rattle.semantics65.specs.Module.{datum, valued}
 use Rattle.asm65.specs.declared.assembler.Assembler.{Assembler}
 use Rattle.asm65.specs.Inner.Holding.{IsPut, IsTried}
 use Rattle.asm65.proofs.Enterings.{datum_tried}
-use Rattle.layout65.proofs.Measures.{ok_with}
+use Rattle.symbols65.proofs.Measures.{ok_with}
 use Rattle.asm65.proofs.assembler.Assembler.put_datum.Goals as goal
 
 pub returns-in-Some : goal.returns-in-Some

@@ -1,9 +1,9 @@
-use Rattle.language65.specs.Views.{place_in}
-use Rattle.module65.specs.Module.{operand, valued}
+use Rattle.semantics65.specs.Views.{place_in}
+use Rattle.semantics65.specs.Module.{operand, valued}
 use Rattle.asm65.specs.declared.assembler.Assembler.{Assembler}
 use Rattle.asm65.specs.Inner.Holding.{IsPut, IsTried, operand_stored}
 use Rattle.asm65.proofs.Enterings.{operand_tried}
-use Rattle.layout65.proofs.Measures.{ok_with}
+use Rattle.symbols65.proofs.Measures.{ok_with}
 use Rattle.asm65.proofs.assembler.Assembler.put_operand.Goals as goal
 
 pub returns-in-Some : goal.returns-in-Some

@@ -1,11 +1,11 @@
 use Rattle.std.proofs.Common.{◌≡◌, ◌∙◌, ℕ, List, ap, false}
 use Rattle.std.specs.Prelude.{Some, Err}
-use Rattle.module65.specs.Machine.{State, concluded}
-use Rattle.module65.specs.Module.{Outcome}
-use Rattle.module65.specs.Reading.{PlacedFault}
+use Rattle.semantics65.specs.Machine.{State, concluded}
+use Rattle.semantics65.specs.Module.{Outcome}
+use Rattle.semantics65.specs.Reading.{PlacedFault}
 use Rattle.asm65.specs.Assembly.{is_outside_refusal}
 use Rattle.asm65.specs.Inner.Running.{SaysAs}
-use Rattle.language65.specs.Views.{place_in}
+use Rattle.semantics65.specs.Views.{place_in}
 use Rattle.asm65.proofs.assembler.Assembler.refuse.Goals as goal
 
 pub returns-clause-refused : goal.returns-clause-refused

@@ -1,6 +1,6 @@
-use Rattle.language65.specs.Faults.{is_outside}
-use Rattle.language65.specs.Views.{place_in}
-use Rattle.layout65.proofs.Measures.{unless_then}
+use Rattle.ast65.specs.Faults.{is_outside}
+use Rattle.semantics65.specs.Views.{place_in}
+use Rattle.symbols65.proofs.Measures.{unless_then}
 use Rattle.asm65.proofs.Takings.{takes_entered, takes_refused}
 use Rattle.asm65.proofs.assembler.Assembler.take.Goals as goal
 

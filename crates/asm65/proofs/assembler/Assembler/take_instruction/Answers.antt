@@ -1,8 +1,8 @@
-use Rattle.language65.specs.Faults.{is_outside}
-use Rattle.language65.specs.declared.language.Statement.{Statement}
-use Rattle.language65.specs.declared.language.Statement.TheVariants.{Instruction}
-use Rattle.language65.specs.Views.{place_in}
-use Rattle.layout65.proofs.Measures.{unless_then}
+use Rattle.ast65.specs.Faults.{is_outside}
+use Rattle.ast65.specs.declared.language.Statement.{Statement}
+use Rattle.ast65.specs.declared.language.Statement.TheVariants.{Instruction}
+use Rattle.semantics65.specs.Views.{place_in}
+use Rattle.symbols65.proofs.Measures.{unless_then}
 use Rattle.asm65.proofs.Namings.{adds_pieces, nothing_behind}
 use Rattle.asm65.proofs.Takings.{takes_entered, takes_refused}
 use Rattle.asm65.proofs.assembler.Assembler.take_instruction.Goals as goal

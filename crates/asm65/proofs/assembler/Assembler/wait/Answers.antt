@@ -1,8 +1,8 @@
 use Rattle.std.proofs.Common.{refl}
-use Rattle.language65.specs.Views.{place_in}
+use Rattle.semantics65.specs.Views.{place_in}
 use Rattle.asm65.specs.declared.assembler.Assembler.{Assembler}
 use Rattle.asm65.specs.declared.assembler.Fixup.{Fixup}
-use Rattle.layout65.proofs.Measures.{ok_then}
+use Rattle.symbols65.proofs.Measures.{ok_then}
 use Rattle.asm65.proofs.Waitings.{waits_behind}
 use Rattle.asm65.proofs.assembler.Assembler.wait.Goals as goal
 

@@ -3,8 +3,8 @@ use Rattle.std.specs.Prelude.{true}
 use Rattle.std.proofs.lemmas.Int.{to_z-of_z}
 use Rattle.object65.specs.Form.{Form}
 use Rattle.object65.specs.Objects.{fits_width, value_bytes}
-use Rattle.language65.specs.Contents.{stored}
-use Rattle.language65.specs.Views.{place_in}
+use Rattle.semantics65.specs.Contents.{stored}
+use Rattle.semantics65.specs.Views.{place_in}
 use Rattle.asm65.specs.Inner.Holding.{IsPut}
 use Rattle.asm65.proofs.Puttings.{literal_is, literal_put, other_put}
 use Rattle.asm65.proofs.putting.values.put_form.Goals as goal

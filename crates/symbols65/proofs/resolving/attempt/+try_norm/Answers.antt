@@ -2,7 +2,7 @@ use Rattle.std.proofs.Common.{ap, ◌∙◌, subst, sym, Result}
 use Rattle.std.proofs.lemmas.Result.{err_from_is_err_and}
 use Rattle.object65.specs.Form.{Form}
 use Rattle.base65.specs.Outcome.{◌>>=◌, Gives}
-use Rattle.language65.specs.Faults.{is_memory}
+use Rattle.ast65.specs.Faults.{is_memory}
 use Rattle.symbols65.specs.declared.resolving.attempt.Stop.{Stop}
 use Rattle.symbols65.specs.Resolving.{lacks_memory, meaning_form, operand_form, stopped}
 use Rattle.symbols65.specs.Views.{known_by, table_of}

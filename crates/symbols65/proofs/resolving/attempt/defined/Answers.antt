@@ -2,7 +2,7 @@ use Rattle.std.proofs.Common.{Result, sym, ap, subst, ◌∙◌}
 use Rattle.base65.specs.Outcome.{Gives}
 use Rattle.syntax65.specs.Trees.{Tree}
 use Rattle.object65.specs.Form.{Form}
-use Rattle.language65.specs.declared.laid.Context.{Context}
+use Rattle.semantics65.specs.declared.laid.Context.{Context}
 use Rattle.symbols65.specs.declared.resolving.attempt.Stop.{Stop}
 use Rattle.symbols65.specs.Resolving.{attempt_definition, attempt_value, known_form, lacks_memory}
 use Rattle.symbols65.specs.Views.{kept, known_by}

@@ -2,7 +2,7 @@ use Rattle.std.proofs.Common.{rules, ◌≡◌, ◌-◌, ◌≤◌, ap, sym, sub
 use Rattle.std.specs.Prelude.{IfSome}
 use Rattle.syntax65.specs.Trees.{Tree, backward, cheap}
 use Rattle.syntax65.specs.Kinds.{tree_of}
-use Rattle.language65.specs.Symbols.{cheap_in, defined, unnamed_at}
+use Rattle.semantics65.specs.Symbols.{cheap_in, defined, unnamed_at}
 use Rattle.symbols65.specs.Resolving.{MeansAlways}
 use Rattle.symbols65.specs.Views.{table_of}
 use Rattle.symbols65.proofs.Finals.{by_place, label_before, own_label}

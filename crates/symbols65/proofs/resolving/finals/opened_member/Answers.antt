@@ -1,6 +1,6 @@
 use Rattle.std.proofs.Common.{◌≤◌, length, take, sym, ap, ◌∙◌, arith}
 use Rattle.syntax65.specs.Trees.{name as named_tree}
-use Rattle.language65.specs.Symbols.{last_of, scope_from, scopes_of, defined, named}
+use Rattle.semantics65.specs.Symbols.{last_of, scope_from, scopes_of, defined, named}
 use Rattle.symbols65.specs.Resolving.{MeansAlways}
 use Rattle.symbols65.specs.Views.{table_of}
 use Rattle.symbols65.proofs.Finals.{by_place, own_member}

@@ -1,6 +1,6 @@
 use Rattle.std.proofs.Common.{◌≡◌, Option, Some, length}
 use Rattle.object65.specs.Form.{Form}
-use Rattle.language65.specs.Norms.{IsFinal}
+use Rattle.semantics65.specs.Norms.{IsFinal}
 use Rattle.symbols65.specs.Resolving.{IsFinalWithin}
 use Rattle.symbols65.specs.Views.{table_of}
 use Rattle.symbols65.proofs.Finals.{more_ok, within_final}

@@ -1,6 +1,6 @@
 use Rattle.std.proofs.Common.{rules, arith, ◌≡◌, ◌+◌, ◌-◌, ◌^◌, ◌≤◌, None, ap}
-use Rattle.language65.specs.declared.fault.AsmFault.TheVariants.{NoSuchLabel}
-use Rattle.language65.specs.Symbols.{or_fault}
+use Rattle.ast65.specs.declared.fault.AsmFault.TheVariants.{NoSuchLabel}
+use Rattle.semantics65.specs.Symbols.{or_fault}
 use Rattle.symbols65.specs.Views.{words_of}
 use Rattle.symbols65.proofs.Words.{never_counted}
 use Rattle.symbols65.proofs.resolving.meaning.label_behind.Goals as goal

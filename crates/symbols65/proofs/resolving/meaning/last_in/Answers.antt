@@ -1,5 +1,5 @@
 use Rattle.std.proofs.Common.{ap, ◌∙◌, sym}
-use Rattle.language65.specs.Symbols.{last_of}
+use Rattle.semantics65.specs.Symbols.{last_of}
 use Rattle.symbols65.proofs.Scopes.{last_behind}
 use Rattle.symbols65.proofs.resolving.meaning.last_in.Goals as goal
 

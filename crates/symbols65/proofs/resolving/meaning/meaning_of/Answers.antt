@@ -2,9 +2,9 @@ use Rattle.std.proofs.Common.{ap, ◌∙◌, sym, subst, Result}
 use Rattle.std.specs.Prelude.{option_map}
 use Rattle.base65.specs.Outcome.{Gives}
 use Rattle.syntax65.specs.Kinds.{tree_of}
-use Rattle.language65.specs.declared.fault.AsmFault.{AsmFault}
-use Rattle.language65.specs.Faults.{is_memory}
-use Rattle.language65.specs.Symbols.{Meaning, meaning_of}
+use Rattle.ast65.specs.declared.fault.AsmFault.{AsmFault}
+use Rattle.ast65.specs.Faults.{is_memory}
+use Rattle.semantics65.specs.Symbols.{Meaning, meaning_of}
 use Rattle.symbols65.specs.Resolving.{meaning_in}
 use Rattle.symbols65.specs.Views.{table_of}
 use Rattle.symbols65.proofs.Scopes.{name_is, name_meaning}

@@ -1,6 +1,6 @@
 use Rattle.std.proofs.Common.{Some, Err, take, ap, ◌∙◌, sym}
-use Rattle.language65.specs.declared.fault.AsmFault.TheVariants.{NoSuchScope, Undefined}
-use Rattle.language65.specs.Symbols.{last_of, member_meaning, scope_from, scopes_of, shown}
+use Rattle.ast65.specs.declared.fault.AsmFault.TheVariants.{NoSuchScope, Undefined}
+use Rattle.semantics65.specs.Symbols.{last_of, member_meaning, scope_from, scopes_of, shown}
 use Rattle.symbols65.specs.Resolving.{or_absent}
 use Rattle.symbols65.specs.Views.{table_of}
 use Rattle.symbols65.proofs.resolving.meaning.scoped_meaning.Goals as goal

@@ -1,5 +1,5 @@
 use Rattle.std.proofs.Common.{ap, ◌∙◌, sym}
-use Rattle.language65.specs.Symbols.{scopes_of}
+use Rattle.semantics65.specs.Symbols.{scopes_of}
 use Rattle.symbols65.proofs.Scopes.{scopes_before}
 use Rattle.symbols65.proofs.resolving.meaning.scopes_in.Goals as goal
 

@@ -1,6 +1,6 @@
 use Rattle.std.proofs.Common.{ap, ◌∙◌, sym, ◌++◌}
 use Rattle.std.proofs.lemmas.List.{append_assoc}
-use Rattle.language65.specs.Symbols.{joined}
+use Rattle.semantics65.specs.Symbols.{joined}
 use Rattle.symbols65.proofs.Scopes.{joined_behind, joined_first}
 use Rattle.symbols65.proofs.resolving.scopes.add_joined.Goals as goal
 

@@ -1,5 +1,5 @@
 use Rattle.std.proofs.Common.{◌≡◌, ◌++◌, drop}
-use Rattle.language65.specs.Symbols.{joined}
+use Rattle.semantics65.specs.Symbols.{joined}
 use Rattle.symbols65.proofs.Scopes.{joined_behind}
 use Rattle.symbols65.proofs.resolving.scopes.add_joined.Given as goal
 

@@ -1,5 +1,5 @@
 use Rattle.std.proofs.Common.{◌≡◌}
-use Rattle.language65.specs.Symbols.{first_found, outward_from, scopes_from, defined, named}
+use Rattle.semantics65.specs.Symbols.{first_found, outward_from, scopes_from, defined, named}
 use Rattle.symbols65.specs.Views.{table_of}
 use Rattle.symbols65.proofs.resolving.scopes.defined_outward.Given as goal
 

@@ -1,5 +1,5 @@
 use Rattle.std.proofs.Common.{◌≡◌, drop, take, Some}
-use Rattle.language65.specs.Symbols.{inside}
+use Rattle.semantics65.specs.Symbols.{inside}
 use Rattle.symbols65.specs.Views.{table_of}
 use Rattle.symbols65.proofs.resolving.scopes.inner_scope.Given as goal
 

@@ -1,5 +1,5 @@
 use Rattle.std.proofs.Common.{ap, ◌∙◌, sym, take, false}
-use Rattle.language65.specs.Symbols.{first_found, inside, scope_from, scope_in, scopes_from}
+use Rattle.semantics65.specs.Symbols.{first_found, inside, scope_from, scope_in, scopes_from}
 use Rattle.symbols65.specs.Views.{table_of}
 use Rattle.symbols65.proofs.Scopes.{inside_none}
 use Rattle.symbols65.proofs.resolving.scopes.scope_of.Goals as goal

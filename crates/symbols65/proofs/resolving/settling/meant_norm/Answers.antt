@@ -1,6 +1,6 @@
 use Rattle.std.proofs.Common.{subst, Result, Err, ap, ◌∙◌}
 use Rattle.object65.specs.Form.{Form}
-use Rattle.language65.specs.Norms.{norm_of}
+use Rattle.semantics65.specs.Norms.{norm_of}
 use Rattle.symbols65.specs.declared.resolving.attempt.Stop.{Stop}
 use Rattle.symbols65.specs.Resolving.{meaning_in, Settles}
 use Rattle.symbols65.specs.Views.{table_of}

@@ -1,6 +1,6 @@
 use Rattle.std.proofs.Common.{◌≡◌, ◌∙◌, ℕ, length, sym, ap, subst}
-use Rattle.language65.specs.Symbols.{Key, Symbols, defined}
-use Rattle.language65.proofs.Lists.{map_length, on_ok}
+use Rattle.semantics65.specs.Symbols.{Key, Symbols, defined}
+use Rattle.ast65.proofs.Lists.{map_length, on_ok}
 use Rattle.symbols65.specs.Tables.{KeepsFinal, definition_in, definition_seen, key_of, place_of_entry}
 use Rattle.symbols65.specs.Views.{table_of, with_definition, words_of}
 use Rattle.symbols65.proofs.Growing.{entry_is}

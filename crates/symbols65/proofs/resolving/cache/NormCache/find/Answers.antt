@@ -2,10 +2,10 @@ use Rattle.std.proofs.Common.{rules, ◌≡◌, sym, ap, ◌∙◌, ℕ, List, l
 use Rattle.std.proofs.lemmas.List.{nil_from_length}
 use Rattle.syntax65.specs.Trees.{Tree}
 use Rattle.object65.specs.Form.{Form}
-use Rattle.language65.specs.declared.laid.Context.{Context}
-use Rattle.language65.specs.Symbols.{Symbols}
+use Rattle.semantics65.specs.declared.laid.Context.{Context}
+use Rattle.semantics65.specs.Symbols.{Symbols}
 use Rattle.symbols65.specs.Views.{table_of, without}
-use Rattle.language65.specs.Faults.{is_memory}
+use Rattle.ast65.specs.Faults.{is_memory}
 use Rattle.symbols65.specs.declared.resolving.attempt.State.{State}
 use Rattle.symbols65.specs.declared.resolving.attempt.Stop.TheVariants.{Needs}
 use Rattle.symbols65.specs.declared.resolving.attempt.Stop.{Stop}

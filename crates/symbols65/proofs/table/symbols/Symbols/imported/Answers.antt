@@ -1,6 +1,6 @@
 use Rattle.std.proofs.Common.{sym, ◌∙◌}
 use Rattle.std.specs.Str.{bytes_eq}
-use Rattle.language65.proofs.Lists.{position_mapped}
+use Rattle.ast65.proofs.Lists.{position_mapped}
 use Rattle.symbols65.proofs.table.symbols.Symbols.imported.Goals as goal
 
 pub returns : goal.returns

@@ -1,6 +1,6 @@
 use Rattle.std.proofs.Common.{◌∙◌, length, option_map, ap}
-use Rattle.language65.specs.Layout.{opened_twice}
-use Rattle.language65.proofs.Lists.{on_ok}
+use Rattle.semantics65.specs.Layout.{opened_twice}
+use Rattle.ast65.proofs.Lists.{on_ok}
 use Rattle.symbols65.specs.Views.{table_of, with_scope, words_of}
 use Rattle.symbols65.proofs.Growing.{opened_once, opening_distinct, opening_numbered, opening_scope}
 use Rattle.symbols65.proofs.table.symbols.Symbols.open_scope.Goals as goal

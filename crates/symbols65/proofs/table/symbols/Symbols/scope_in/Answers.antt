@@ -1,5 +1,5 @@
 use Rattle.std.proofs.Common.{◌≡◌, suc, ◌+◌, Some, option_map, sym, ap, ◌∙◌, arith}
-use Rattle.language65.specs.Symbols.{numbered}
+use Rattle.semantics65.specs.Symbols.{numbered}
 use Rattle.symbols65.specs.declared.table.symbols.Opening.TheVariants as opening
 use Rattle.symbols65.specs.Views.{words_of}
 use Rattle.symbols65.proofs.Words.{finds_opened, place_of_opening}

@@ -1,0 +1,7 @@
+pub mod Each
+pub mod Lists
+pub mod Lone
+pub mod OneStatements
+pub mod Parts
+pub mod Shown
+pub mod Sounding

@@ -1,0 +1,10 @@
+use Rattle.std.proofs.Common.{refl}
+use Rattle.syntax65.specs.Tokens.{lexemes}
+use Rattle.ast65.proofs.Each.{three_parts}
+use Rattle.ast65.proofs.reading.operands.one_or_two.Goals as goal
+
+pub returns-in-Some-behind : goal.returns-in-Some-behind
+returns-in-Some-behind c = record {
+  value = three_parts (lexemes c.args.tokens.now) (lexemes c.first_part.result.0.now) (lexemes c.first_part-2.result.0.now) c.first_part.result.1 c.first_part-2.result.1 c.in-Some.behind c.in-Some-behind.field-0 c.first_part.ensures.parts c.in-Some.is c.first_part-2.ensures.parts c.in-Some-behind.is;
+  inside = refl;
+}

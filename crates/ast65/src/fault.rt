@@ -1,0 +1,203 @@
+//! Why a source has no object.
+
+ghost use Rattle.std.specs.Prelude.{◌≡◌, Some};
+ghost use Rattle.ast65.specs.declared.fault.AsmFault.TheVariants.{Expansion, OutOfMemory};
+
+use base65::{Sequence, StoreFault};
+use std::alloc::{AllocError, AllocFailed};
+use std::error::Error;
+use std::fmt;
+use syntax65::{ExpandFault, ExprFault};
+
+/// Why a source has no object. Where a name is concerned, it is the name as it is written.
+#[derive(Debug, Drop)]
+pub enum AsmFault {
+    OutOfMemory,
+    /// The source's statements can't be given.
+    Expansion(ExpandFault),
+    NotUnderstood,
+    /// The instruction has no such addressing form.
+    NoSuchForm,
+    DefinedTwice(Sequence<u8>),
+    Undefined(Sequence<u8>),
+    Circular,
+    OutOfRange,
+    /// A zero divisor, or a shift count outside 0 to 63.
+    NoValue,
+    /// An expression has too many nodes.
+    TooLarge,
+    SectionTooLarge,
+    NoSuchScope(Sequence<u8>),
+    ScopeTwice(Sequence<u8>),
+    /// There is no such unnamed label.
+    NoSuchLabel,
+    ImportedAndDefined(Sequence<u8>),
+    /// An export isn't defined.
+    NotDefined(Sequence<u8>),
+    BadAlignment,
+    PopWithoutPush,
+    /// An operand of a directive isn't constant or is out of range.
+    BadOperand,
+    /// A file has no such part.
+    BadPart,
+    /// An assertion failed; its text.
+    Assertion(Sequence<u8>),
+    /// A segment's address size differs from the one it has.
+    SizeChanged,
+    /// A scope isn't open or isn't closed.
+    BadScope,
+    FileNotFound,
+    FileError,
+    /// A value, an export or an assertion is written of a file whose name no object can hold.
+    FileNameTooLong,
+}
+
+impl AsmFault {
+    ghost use Rattle.ast65.specs.Faults.{words_of, name_in, is_memory};
+
+    /// The words of a message, before the name or the text that it ends in.
+    pub fn words(&self) -> &'static str
+        ensures { result.now ≡ words_of self.now }
+    {
+        match self {
+            AsmFault::OutOfMemory => "out of memory",
+            AsmFault::Expansion(_) => "",
+            AsmFault::NotUnderstood => "statement not understood",
+            AsmFault::NoSuchForm => "no such addressing form",
+            AsmFault::DefinedTwice(_) => "defined twice: ",
+            AsmFault::Undefined(_) => "undefined name: ",
+            AsmFault::Circular => "circular definition",
+            AsmFault::OutOfRange => "out of range",
+            AsmFault::NoValue => "zero divisor or bad shift count",
+            AsmFault::TooLarge => "expression too large",
+            AsmFault::SectionTooLarge => "section too large",
+            AsmFault::NoSuchScope(_) => "no such scope: ",
+            AsmFault::ScopeTwice(_) => "scope defined twice: ",
+            AsmFault::NoSuchLabel => "no such unnamed label",
+            AsmFault::ImportedAndDefined(_) => "imported and defined: ",
+            AsmFault::NotDefined(_) => "export not defined: ",
+            AsmFault::BadAlignment => "bad alignment",
+            AsmFault::PopWithoutPush => "popseg without pushseg",
+            AsmFault::BadOperand => "operand not constant or out of range",
+            AsmFault::BadPart => "incbin out of range",
+            AsmFault::Assertion(_) => "",
+            AsmFault::SizeChanged => "segment size changed",
+            AsmFault::BadScope => "scope not open or not closed",
+            AsmFault::FileNotFound => "file not found",
+            AsmFault::FileError => "file error",
+            AsmFault::FileNameTooLong => "file name too long",
+        }
+    }
+
+    /// The name that the message ends in, an assertion's text, or the words of expansion's fault; empty where there is
+    /// none.
+    pub fn name(&self) -> &[u8]
+        ensures { result.now ≡ name_in self.now }
+    {
+        match self {
+            AsmFault::Expansion(fault) => fault.words(),
+            AsmFault::DefinedTwice(name) => name.as_slice(),
+            AsmFault::Undefined(name) => name.as_slice(),
+            AsmFault::NoSuchScope(name) => name.as_slice(),
+            AsmFault::ScopeTwice(name) => name.as_slice(),
+            AsmFault::ImportedAndDefined(name) => name.as_slice(),
+            AsmFault::NotDefined(name) => name.as_slice(),
+            AsmFault::Assertion(text) => text.as_slice(),
+            _ => b"",
+        }
+    }
+
+    /// Whether memory ran out.
+    pub fn is_memory(&self) -> bool
+        ensures { result ≡ is_memory self.now }
+    {
+        matches!(
+            self,
+            AsmFault::OutOfMemory | AsmFault::Expansion(ExpandFault::OutOfMemory)
+        )
+    }
+}
+
+impl fmt::Display for AsmFault {
+    ghost use Rattle.ast65.specs.Faults.{displayed};
+
+    ghost output = { λ e. Some (displayed e) };
+
+    fn fmt<W: fmt::Write>(&self, f: &mut fmt::Formatter<W>) -> fmt::Result {
+        let words = self.words();
+        let name = Shown(self.name());
+        write!(f, "{words}{name}")
+    }
+}
+
+impl Error for AsmFault {}
+
+/// A name as it is printed: each byte is the character of its code.
+#[derive(Clone, Copy)]
+struct Shown<'a>(&'a [u8]);
+
+impl fmt::Display for Shown<'_> {
+    ghost use Rattle.std.specs.Prelude.{encode_utf8_all};
+
+    ghost output = { λ x. Some (encode_utf8_all x.0.now) };
+
+    fn fmt<W: fmt::Write>(&self, f: &mut fmt::Formatter<W>) -> fmt::Result {
+        for byte in self.0 {
+            f.write_char(char::from(*byte))?;
+        }
+        Ok(())
+    }
+}
+
+impl From<AllocError> for AsmFault {
+    ghost from_gives = { λ _ e. e ≡ OutOfMemory };
+
+    fn from(_e: AllocError) -> AsmFault {
+        AsmFault::OutOfMemory
+    }
+}
+
+impl<T: Drop> From<AllocFailed<T>> for AsmFault {
+    ghost from_gives = { λ _ e. e ≡ OutOfMemory };
+
+    fn from(_e: AllocFailed<T>) -> AsmFault {
+        AsmFault::OutOfMemory
+    }
+}
+
+impl From<ExpandFault> for AsmFault {
+    ghost from_gives = { λ fault e. e ≡ Expansion fault };
+
+    fn from(fault: ExpandFault) -> AsmFault {
+        AsmFault::Expansion(fault)
+    }
+}
+
+impl From<ExprFault> for AsmFault {
+    ghost use Rattle.ast65.specs.Faults.{of_expr};
+
+    ghost from_gives = { λ f e. e ≡ of_expr f };
+
+    fn from(fault: ExprFault) -> AsmFault {
+        match fault {
+            ExprFault::OutOfMemory => AsmFault::OutOfMemory,
+            ExprFault::OperandExpected | ExprFault::ParenthesisExpected | ExprFault::TooDeep => {
+                AsmFault::NotUnderstood
+            }
+        }
+    }
+}
+
+impl From<StoreFault> for AsmFault {
+    ghost use Rattle.ast65.specs.Faults.{of_store};
+
+    ghost from_gives = { λ f e. e ≡ of_store f };
+
+    fn from(fault: StoreFault) -> AsmFault {
+        match fault {
+            StoreFault::OutOfMemory => AsmFault::OutOfMemory,
+            StoreFault::FileNotFound => AsmFault::FileNotFound,
+            StoreFault::FileError => AsmFault::FileError,
+        }
+    }
+}

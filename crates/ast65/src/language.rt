@@ -1,0 +1,234 @@
+//! The statements of the language, as they are behind expansion.
+
+ghost use Rattle.std.specs.Prelude.{◌≡◌, None, Some, IfOk, option_map};
+ghost use Rattle.ast65.specs.Items.{items_of};
+
+use base65::Sequence;
+use object65::{Action, Width};
+use std::alloc::{AllocError, Global};
+use std::marker::Model;
+use syntax65::{AddressSize, Expr, Mnemonic};
+
+/// An element of a list of data.
+#[derive(Drop)]
+pub enum Item {
+    Value(Expr),
+    Text(Sequence<u8>),
+}
+
+/// The elements of a list of data, which contracts see as a list of items.
+#[derive(Drop)]
+pub struct Items {
+    kind: ItemsKind,
+}
+
+/// How the elements of a list are kept.
+#[derive(Drop)]
+pub enum ItemsKind {
+    /// Numbers alone.
+    Numbers(Sequence<u32>),
+    Mixed(Sequence<Item>),
+}
+
+impl Model for Items {
+    ghost use Rattle.std.specs.Prelude.{List};
+    ghost use Rattle.std.specs.Coded.{coded_list};
+    ghost use Rattle.ast65.specs.contracts.language.Item.{the_row};
+    ghost use Rattle.ast65.specs.declared.language.Item.{Item};
+    ghost use Rattle.ast65.specs.Items.{items_of};
+
+    ghost Value = { List Item };
+
+    ghost coded = { coded_list the_row.coded };
+
+    ghost view = { λ i. items_of i.kind };
+}
+
+impl Items {
+    /// The elements of this kind.
+    pub fn new(kind: ItemsKind) -> Self
+        ensures { result ≡ items_of kind }
+    {
+        Items { kind }
+    }
+
+    /// How the elements are kept.
+    pub fn kind(&self) -> &ItemsKind
+        ensures { items_of result.now ≡ self.now }
+    {
+        &self.kind
+    }
+
+    /// The elements as they are kept.
+    pub fn into_kind(self) -> ItemsKind
+        ensures { items_of result ≡ self }
+    {
+        self.kind
+    }
+}
+
+/// A register that is added to an address.
+#[derive(Clone, Copy)]
+pub enum Index {
+    X,
+    Y,
+}
+
+/// What stands behind a mnemonic.
+#[derive(Drop)]
+pub enum Operand {
+    Absent,
+    /// `a`
+    Accumulator,
+    /// `#e`
+    Immediate(Expr),
+    /// `e`, `e,x` or `e,y`, perhaps with the address size that a prefix forces.
+    Address {
+        prefix: Option<AddressSize>,
+        value: Expr,
+        index: Option<Index>,
+    },
+    /// `(e)`
+    Indirect(Expr),
+    /// `(e,x)`
+    IndirectX(Expr),
+    /// `(e),y`
+    IndirectY(Expr),
+}
+
+/// An expression that may be left out, which contracts see without its box.
+#[derive(Drop)]
+pub struct OptionalExpr {
+    expr: Option<Box<Expr>>,
+}
+
+impl Model for OptionalExpr {
+    ghost use Rattle.std.specs.Prelude.{Option, box_value, option_map};
+    ghost use Rattle.std.specs.Coded.{coded_option};
+    ghost use Rattle.syntax65.specs.Trees.{Tree, tree_code};
+
+    ghost Value = { Option Tree };
+
+    ghost coded = { coded_option tree_code };
+
+    ghost view = { λ e. option_map (λ b. b.value) e.expr };
+}
+
+impl OptionalExpr {
+    /// No expression.
+    pub fn none() -> Self
+        ensures { result ≡ None }
+    {
+        OptionalExpr { expr: None }
+    }
+
+    /// This expression.
+    pub fn some(alloc: Global, expr: Expr) -> Result<Self, AllocError>
+        ensures { IfOk result (λ e. e ≡ Some expr) }
+    {
+        Ok(OptionalExpr {
+            expr: Some(Box::new(alloc, expr)?),
+        })
+    }
+
+    /// The expression, if there is one.
+    pub fn get(&self) -> Option<&Expr>
+        ensures { option_map (λ e. e.now) result ≡ self.now }
+    {
+        match &self.expr {
+            Some(expr) => Some(expr),
+            None => None,
+        }
+    }
+}
+
+/// What is taken of a file: from a byte on, so many. By default all from the first byte on.
+#[derive(Clone, Copy)]
+pub struct PartRange<'a> {
+    pub start: &'a OptionalExpr,
+    pub len: &'a OptionalExpr,
+}
+
+/// A statement.
+#[derive(Drop)]
+pub enum Statement {
+    /// `name:`
+    Label(Sequence<u8>),
+    /// `@name:`, the name with its `@`.
+    CheapLabel(Sequence<u8>),
+    /// `:`
+    UnnamedLabel,
+    /// `name = e`
+    Constant {
+        name: Sequence<u8>,
+        value: Expr,
+    },
+    Instruction {
+        mnemonic: Mnemonic,
+        operand: Operand,
+    },
+    /// `.byte` and the like.
+    Values {
+        width: Width,
+        items: Items,
+    },
+    /// `.res n[,v]`
+    Reserve {
+        count: Expr,
+        value: OptionalExpr,
+    },
+    /// `.align n[,v]`
+    Align {
+        multiple: Expr,
+        value: OptionalExpr,
+    },
+    /// `.incbin` with the name of its file, as it is read.
+    NamedPart {
+        name: Sequence<u8>,
+        start: OptionalExpr,
+        len: OptionalExpr,
+    },
+    /// `.incbin` with the bytes of its file, if there is one.
+    FilePart {
+        bytes: Option<Sequence<u8>>,
+        start: OptionalExpr,
+        len: OptionalExpr,
+    },
+    /// `.segment "N"`, perhaps with an address size; `.code` and the like.
+    Segment {
+        name: Sequence<u8>,
+        size: Option<AddressSize>,
+    },
+    PushSegment,
+    PopSegment,
+    /// `.scope`, with a name or none.
+    OpenScope(Option<Sequence<u8>>),
+    CloseScope,
+    /// `.proc n`
+    OpenProc(Sequence<u8>),
+    CloseProc,
+    /// `.import`, `.importzp`
+    Import {
+        size: AddressSize,
+        names: Sequence<Sequence<u8>>,
+    },
+    /// `.export`, `.exportzp`
+    Export(Sequence<Sequence<u8>>),
+    /// `.global`, `.globalzp`
+    Global {
+        size: AddressSize,
+        names: Sequence<Sequence<u8>>,
+    },
+    ForceImport(Sequence<Sequence<u8>>),
+    Assert {
+        value: Expr,
+        action: Action,
+        text: Sequence<u8>,
+    },
+    /// `.out`
+    Out(Sequence<u8>),
+    /// `.warning`
+    Warning(Sequence<u8>),
+    /// `.setcpu "6502"` and `.p02`, which do nothing.
+    Nothing,
+}

@@ -1,0 +1,11 @@
+//! Statements as data, the faults of a source, and the reader of statements: from the tokens of a line to its label and
+//! its statement.
+#![tactic(auto)]
+
+mod fault;
+mod language;
+mod reading;
+
+pub use fault::AsmFault;
+pub use language::{Index, Item, Items, ItemsKind, Operand, OptionalExpr, PartRange, Statement};
+pub use reading::{instruction_front, label, operand, statement};

@@ -1,0 +1,323 @@
+//! What stands behind a directive: lists, amounts and messages.
+
+ghost use Rattle.std.specs.Prelude.{◌≡◌, ◌<◌, ◌∷◌, [], false, length, map, option_map, take, IfOk, IfSome, None, Ok};
+ghost use Rattle.syntax65.specs.Tokens.{lexemes};
+ghost use Rattle.ast65.specs.Items.{numbered};
+ghost use Rattle.ast65.specs.declared.reading.words.Elements.{Elements};
+ghost use Rattle.ast65.specs.Parsing.{parts_behind, parts_of, string_of, EachIs, IsItem, IsValue, Parses, ended, IsList, IsName, IsNames, amount_statement, IsAmount, IsFilePart, IsRange, action_of, action_word, asserted, own_words, words_of, IsAssertion, alone, lone_statement, processor_of, told};
+ghost use Rattle.ast65.specs.declared.language.Statement.TheVariants.{Segment};
+
+use super::operands::{expression, first_part, number_in, one_or_two};
+use super::tokens::{is_comma, name_of, needed, string_of, word_of};
+use super::words::{Amount, Elements, Lone, Message, Names};
+use base65::Sequence;
+use crate::fault::AsmFault;
+use crate::language::{Item, Items, ItemsKind, OptionalExpr, Statement};
+use object65::{Action, Width};
+use std::alloc::{AllocError, Global};
+use syntax65::Token;
+
+/// An element of a list.
+fn item(alloc: Global, elements: Elements, tokens: &[Token<'_>]) -> Result<Item, AsmFault>
+    ensures { Parses result (IsItem elements (lexemes tokens.now)) }
+{
+    match elements {
+        Elements::Values => Ok(Item::Value(expression(alloc, tokens)?)),
+        Elements::ValuesAndTexts => match string_of(tokens) {
+            Some(text) => Ok(Item::Text(Sequence::copy_of(alloc, text)?)),
+            None => Ok(Item::Value(expression(alloc, tokens)?)),
+        },
+    }
+}
+
+/// No elements, with room for those of so many tokens: a comma stands between each two.
+fn no_elements<T: Drop>(alloc: Global, count: usize) -> Result<Sequence<T>, AllocError>
+    ensures { IfOk result (λ elements. elements ≡ []) }
+{
+    Ok(Sequence::from_vec(Vec::with_capacity(alloc, count / 2 + 1)?))
+}
+
+/// The number before the first comma, where it stands there by itself, and the tokens behind that comma, if there is one.
+#[inline(always)]
+fn first_number<'a, 'b>(tokens: &'b [Token<'a>]) -> Option<(u32, Option<&'b [Token<'a>]>)>
+    ensures parts { IfSome result (λ x. parts_of (lexemes tokens.now) ≡ lexemes (take 1 tokens.now)
+        ∷ parts_behind (option_map (λ rest. lexemes rest.now) x.1)) }
+    ensures item { IfSome result (λ x. (elements : Elements) →
+        IsItem elements (lexemes (take 1 tokens.now)) (Ok (numbered x.0))) }
+    ensures shorter { IfSome result (λ x. IfSome x.1 (λ rest. length rest.now < length tokens.now)) }
+{
+    let (first, behind) = tokens.split_first()?;
+    let number = number_in(first)?;
+    match behind.split_first() {
+        None => Some((number, None)),
+        Some((comma, rest)) => {
+            if is_comma(comma) {
+                Some((number, Some(rest)))
+            } else {
+                None
+            }
+        }
+    }
+}
+
+/// The numbers of a list that has nothing else, with a comma between each two.
+fn numbers(alloc: Global, tokens: &[Token<'_>]) -> Result<Option<Sequence<u32>>, AllocError>
+    ensures { IfOk result (λ numbers. IfSome numbers (λ ns. (elements : Elements) →
+        EachIs (IsItem elements) (parts_of (lexemes tokens.now)) (Ok (map numbered ns)))) }
+{
+    let mut numbers = no_elements(alloc, tokens.len())?;
+    let mut rest = Some(tokens);
+    'parts: while let Some(left) = rest {
+        let Some((number, behind)) = first_number(left) else {
+            return Ok(None);
+        };
+        numbers.push(number)?;
+        rest = behind;
+    }
+    Ok(Some(numbers))
+}
+
+/// The elements of a list, whatever they are.
+fn mixed(
+    alloc: Global,
+    elements: Elements,
+    tokens: &[Token<'_>],
+) -> Result<Sequence<Item>, AsmFault>
+    ensures { Parses result (EachIs (IsItem elements) (parts_of (lexemes tokens.now))) }
+{
+    let mut items = no_elements(alloc, tokens.len())?;
+    let mut rest = Some(tokens);
+    'parts: while let Some(left) = rest {
+        let (part, behind) = first_part(left);
+        items.push(item(alloc, elements, part)?)?;
+        rest = behind;
+    }
+    Ok(items)
+}
+
+/// The elements of a list, with a comma between each two.
+pub fn items(alloc: Global, elements: Elements, tokens: &[Token<'_>]) -> Result<Items, AsmFault>
+    ensures { Parses result (EachIs (IsItem elements) (parts_of (lexemes tokens.now))) }
+{
+    if let Some(numbers) = numbers(alloc, tokens)? {
+        return Ok(Items::new(ItemsKind::Numbers(numbers)));
+    }
+    let items = mixed(alloc, elements, tokens)?;
+    Ok(Items::new(ItemsKind::Mixed(items)))
+}
+
+/// `.byte` and the like.
+pub fn list(
+    alloc: Global,
+    elements: Elements,
+    width: Width,
+    tokens: &[Token<'_>],
+) -> Result<Statement, AsmFault>
+    ensures { Parses result (IsList elements width (lexemes tokens.now)) }
+{
+    let items = items(alloc, elements, tokens)?;
+    Ok(Statement::Values { width, items })
+}
+
+/// `.asciiz`: a string and a 0.
+pub fn ended_text(alloc: Global, tokens: &[Token<'_>]) -> Result<Statement, AsmFault>
+    ensures { Parses result (λ r. r ≡ ended (lexemes tokens.now)) }
+{
+    let text = needed(string_of(tokens))?;
+    let mut bytes = Sequence::new(alloc);
+    bytes.extend_from_slice(text)?;
+    bytes.push(0)?;
+    let mut items = Sequence::new(alloc);
+    items.push(Item::Text(bytes))?;
+    Ok(Statement::Values {
+        width: Width::Byte,
+        items: Items::new(ItemsKind::Mixed(items)),
+    })
+}
+
+/// Names, with a comma between each two.
+fn names(alloc: Global, tokens: &[Token<'_>]) -> Result<Sequence<Sequence<u8>>, AsmFault>
+    ensures { Parses result (EachIs IsName (parts_of (lexemes tokens.now))) }
+{
+    let mut names = Sequence::new(alloc);
+    let mut rest = Some(tokens);
+    'parts: while let Some(left) = rest {
+        let (part, behind) = first_part(left);
+        names.push(name_of(alloc, part)?)?;
+        rest = behind;
+    }
+    Ok(names)
+}
+
+/// `.import` and the like.
+pub fn name_list(alloc: Global, which: Names, tokens: &[Token<'_>]) -> Result<Statement, AsmFault>
+    ensures { Parses result (IsNames which (lexemes tokens.now)) }
+{
+    let names = names(alloc, tokens)?;
+    Ok(match which {
+        Names::Import(size) => Statement::Import { size, names },
+        Names::Export => Statement::Export(names),
+        Names::Global(size) => Statement::Global { size, names },
+        Names::ForceImport => Statement::ForceImport(names),
+    })
+}
+
+/// A start and a length, each where it is there.
+type PartRange = (OptionalExpr, OptionalExpr);
+
+/// What stands behind a file's name.
+fn range(alloc: Global, behind: Option<&[Token<'_>]>) -> Result<PartRange, AsmFault>
+    ensures { Parses result (IsRange (parts_behind (option_map (λ rest. lexemes rest.now) behind.entry))) }
+{
+    let Some(behind) = behind else {
+        return Ok((OptionalExpr::none(), OptionalExpr::none()));
+    };
+    let (start, len) = one_or_two(alloc, behind)?;
+    Ok((OptionalExpr::some(alloc, start)?, len))
+}
+
+/// `.incbin`
+pub fn file_part(alloc: Global, tokens: &[Token<'_>]) -> Result<Statement, AsmFault>
+    ensures { Parses result (IsFilePart (parts_of (lexemes tokens.now))) }
+{
+    let (name, behind) = first_part(tokens);
+    let name = needed(string_of(name))?;
+    let (start, len) = range(alloc, behind)?;
+    let name = Sequence::copy_of(alloc, name)?;
+    Ok(Statement::NamedPart { name, start, len })
+}
+
+/// `n[,v]`
+pub fn amount(alloc: Global, which: Amount, tokens: &[Token<'_>]) -> Result<Statement, AsmFault>
+    ensures { Parses result (IsAmount (amount_statement which) (parts_of (lexemes tokens.now))) }
+{
+    let (amount, value) = one_or_two(alloc, tokens)?;
+    Ok(match which {
+        Amount::Reserve => Statement::Reserve {
+            count: amount,
+            value,
+        },
+        Amount::Align => Statement::Align {
+            multiple: amount,
+            value,
+        },
+    })
+}
+
+/// How many bytes the text of an assertion has at most.
+const MAX_TEXT: usize = 255;
+
+fn action_word(word: &[u8]) -> Result<Action, AsmFault>
+    ensures { result ≡ action_word word.now }
+{
+    if word == b"warning".as_slice() {
+        Ok(Action::Warning)
+    } else if word == b"error".as_slice() {
+        Ok(Action::Error)
+    } else {
+        Err(AsmFault::NotUnderstood)
+    }
+}
+
+/// An assertion's own text.
+fn own_text(alloc: Global, tokens: &[Token<'_>]) -> Result<Sequence<u8>, AsmFault>
+    ensures { Parses result (λ r. r ≡ own_words (lexemes tokens.now)) }
+{
+    let text = needed(string_of(tokens))?;
+    if text.len() > MAX_TEXT {
+        return Err(AsmFault::NotUnderstood);
+    }
+    Ok(Sequence::copy_of(alloc, text)?)
+}
+
+/// An assertion's text, if it has one of its own.
+fn text_of(alloc: Global, rest: Option<&[Token<'_>]>) -> Result<Sequence<u8>, AsmFault>
+    ensures { Parses result (λ r. r ≡ words_of (parts_behind (option_map (λ rest. lexemes rest.now) rest.entry))) }
+{
+    let Some(rest) = rest else {
+        return Ok(Sequence::copy_of(alloc, b"assertion failed")?);
+    };
+    let (part, behind) = first_part(rest);
+    match behind {
+        Some(_) => Err(AsmFault::NotUnderstood),
+        None => own_text(alloc, part),
+    }
+}
+
+/// `.assert`
+pub fn assertion(alloc: Global, tokens: &[Token<'_>]) -> Result<Statement, AsmFault>
+    ensures { Parses result (IsAssertion (parts_of (lexemes tokens.now))) }
+{
+    let (value, behind) = first_part(tokens);
+    let Some(behind) = behind else {
+        return Err(AsmFault::NotUnderstood);
+    };
+    let (action, rest) = first_part(behind);
+    let value = expression(alloc, value)?;
+    let action = action_word(needed(word_of(action))?)?;
+    let text = text_of(alloc, rest)?;
+    Ok(Statement::Assert {
+        value,
+        action,
+        text,
+    })
+}
+
+fn standard_segment(alloc: Global, name: &[u8]) -> Result<Statement, AsmFault>
+    ensures { Parses result (λ r. r ≡ Ok (Segment name.now None)) }
+{
+    Ok(Statement::Segment {
+        name: Sequence::copy_of(alloc, name)?,
+        size: None,
+    })
+}
+
+fn lone_statement(alloc: Global, which: Lone) -> Result<Statement, AsmFault>
+    ensures { Parses result (λ r. r ≡ Ok (lone_statement which)) }
+{
+    match which {
+        Lone::PushSegment => Ok(Statement::PushSegment),
+        Lone::PopSegment => Ok(Statement::PopSegment),
+        Lone::EndScope => Ok(Statement::CloseScope),
+        Lone::EndProc => Ok(Statement::CloseProc),
+        Lone::Processor => Ok(Statement::Nothing),
+        Lone::Code => standard_segment(alloc, b"CODE"),
+        Lone::Rodata => standard_segment(alloc, b"RODATA"),
+        Lone::Data => standard_segment(alloc, b"DATA"),
+        Lone::Bss => standard_segment(alloc, b"BSS"),
+        Lone::ZeroPage => standard_segment(alloc, b"ZEROPAGE"),
+    }
+}
+
+/// A statement without operands.
+pub fn lone(alloc: Global, which: Lone, tokens: &[Token<'_>]) -> Result<Statement, AsmFault>
+    ensures { Parses result (λ r. r ≡ alone (lone_statement which) (lexemes tokens.now)) }
+{
+    if tokens.is_empty() {
+        lone_statement(alloc, which)
+    } else {
+        Err(AsmFault::NotUnderstood)
+    }
+}
+
+/// `.out` and `.warning`
+pub fn message(alloc: Global, which: Message, tokens: &[Token<'_>]) -> Result<Statement, AsmFault>
+    ensures { Parses result (λ r. r ≡ told which (lexemes tokens.now)) }
+{
+    let text = Sequence::copy_of(alloc, needed(string_of(tokens))?)?;
+    Ok(match which {
+        Message::Out => Statement::Out(text),
+        Message::Warning => Statement::Warning(text),
+    })
+}
+
+/// `.setcpu`
+pub fn processor(tokens: &[Token<'_>]) -> Result<Statement, AsmFault>
+    ensures { Parses result (λ r. r ≡ processor_of (lexemes tokens.now)) }
+{
+    if needed(string_of(tokens))? == b"6502".as_slice() {
+        Ok(Statement::Nothing)
+    } else {
+        Err(AsmFault::NotUnderstood)
+    }
+}

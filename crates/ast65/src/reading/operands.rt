@@ -1,0 +1,237 @@
+//! Expressions and operands.
+
+ghost use Rattle.std.specs.Prelude.{◌≡◌, ◌<◌, ◌≤◌, ◌∷◌, [], false, length, not, option_map, IfOk, IfSome, IsTrue, None, Ok, Some};
+ghost use Rattle.std.specs.List.{prefix_len};
+ghost use Rattle.syntax65.specs.Expressions.{IsParsed, binary_at, opening_in};
+ghost use Rattle.syntax65.specs.Faults.{is_expr_outside};
+ghost use Rattle.base65.specs.Relations.{Answers};
+ghost use Rattle.syntax65.specs.Tokens.{lexeme_of, lexemes};
+ghost use Rattle.syntax65.specs.Trees.{number};
+ghost use Rattle.syntax65.specs.declared.expressions.words.Opening.TheVariants.{Number};
+ghost use Rattle.ast65.specs.Parsing.{is_comma, parts_behind, parts_of, quoted_in, IsExpression, IsFront, IsOneOrTwo, Parses, closing_of, index_of, indirect_by, IsAddress, IsImmediate, IsIndirect, IsOperand, IsOperandFrom, IsPlainOperand, ParsesAs};
+
+use super::tokens::{is_close, is_comma, is_spelled, spells, word_of};
+use crate::fault::AsmFault;
+use crate::language::{Index, Operand, OptionalExpr};
+use std::alloc::Global;
+use syntax65::{AddressSize, Expr, ExprFault, ExprKind, Mark, Token, TokenKind, read_expr};
+
+/// The value of a number.
+pub fn number_in(token: &Token<'_>) -> Option<u32>
+    ensures number { IfSome result (λ v. opening_in (Some (lexeme_of token.now)) ≡ Number v) }
+    ensures text { IfSome result (λ _. quoted_in (lexeme_of token.now) ≡ None) }
+    ensures comma { IfSome result (λ _. is_comma (lexeme_of token.now) ≡ false) }
+{
+    match token.kind {
+        TokenKind::Number(value) => Some(value),
+        _ => None,
+    }
+}
+
+/// Whether no expression goes on with these tokens: none is there, or a `,` or a `)` comes first.
+fn end_expression(tokens: &[Token<'_>]) -> bool
+    ensures { IsTrue result → binary_at (lexemes tokens.now) 0 ≡ None }
+{
+    match tokens.split_first() {
+        Some((first, _)) => is_comma(first) || is_close(first),
+        None => true,
+    }
+}
+
+/// The value of a number at the front that is an expression by itself.
+#[inline(always)]
+fn lone_number(tokens: &[Token<'_>]) -> Option<u32>
+    ensures read { IfSome result (λ v. IsParsed (lexemes tokens.now) (Ok (number v, 1))) }
+    ensures some { IfSome result (λ _. 0 < length tokens.now) }
+{
+    let Some((first, behind)) = tokens.split_first() else {
+        return None;
+    };
+    if end_expression(behind) {
+        number_in(first)
+    } else {
+        None
+    }
+}
+
+/// The expression at the front, and how many tokens it has. Most are one number, in which no operators are looked for.
+fn parsed(alloc: Global, tokens: &[Token<'_>]) -> Result<(Expr, usize), ExprFault>
+    ensures read { Answers is_expr_outside (λ r. r) result (IsParsed (lexemes tokens.now)) }
+    ensures bound { IfOk result (λ r. r.1 ≤ length tokens.now) }
+{
+    match lone_number(tokens) {
+        Some(value) => Ok((Expr::new(ExprKind::Number(value)), 1)),
+        None => read_expr(alloc, tokens),
+    }
+}
+
+/// An expression of all the tokens.
+pub fn expression(alloc: Global, tokens: &[Token<'_>]) -> Result<Expr, AsmFault>
+    ensures { Parses result (IsExpression (lexemes tokens.now)) }
+{
+    let (value, count) = parsed(alloc, tokens)?;
+    if count == tokens.len() {
+        Ok(value)
+    } else {
+        Err(AsmFault::NotUnderstood)
+    }
+}
+
+/// How many tokens stand before the first comma.
+fn part_len(tokens: &[Token<'_>]) -> usize
+    ensures { result ≡ prefix_len (λ t. not (is_comma (lexeme_of t))) tokens.now }
+{
+    tokens.iter().take_while(|token| !is_comma(token)).count()
+}
+
+/// The tokens before the first comma, and those behind it, if there is one.
+pub fn first_part<'a, 'b>(tokens: &'b [Token<'a>]) -> (&'b [Token<'a>], Option<&'b [Token<'a>]>)
+    ensures parts { parts_of (lexemes tokens.now) ≡ lexemes result.0.now ∷ parts_behind (option_map (λ rest. lexemes rest.now) result.1) }
+    ensures shorter { IfSome result.1 (λ rest. length rest.now < length tokens.now) }
+{
+    let len = part_len(tokens);
+    if len < tokens.len() {
+        (&tokens[..len], Some(&tokens[len + 1..]))
+    } else {
+        (tokens, None)
+    }
+}
+
+/// An expression at the front, and the tokens behind it.
+pub fn front<'a, 'b>(
+    alloc: Global,
+    tokens: &'b [Token<'a>],
+) -> Result<(Expr, &'b [Token<'a>]), AsmFault>
+    ensures { ParsesAs (λ x. (x.0, lexemes x.1.now)) result (IsFront (lexemes tokens.now)) }
+{
+    let (value, count) = parsed(alloc, tokens)?;
+    Ok((value, &tokens[count..]))
+}
+
+/// Two expressions, the second where one may be left out.
+fn two(
+    alloc: Global,
+    first: &[Token<'_>],
+    second: &[Token<'_>],
+) -> Result<(Expr, OptionalExpr), AsmFault>
+    ensures { Parses result (IsOneOrTwo (lexemes first.now ∷ lexemes second.now ∷ [])) }
+{
+    let first = expression(alloc, first)?;
+    let second = expression(alloc, second)?;
+    Ok((first, OptionalExpr::some(alloc, second)?))
+}
+
+/// One expression or two, with a comma between them.
+pub fn one_or_two(alloc: Global, tokens: &[Token<'_>]) -> Result<(Expr, OptionalExpr), AsmFault>
+    ensures { Parses result (IsOneOrTwo (parts_of (lexemes tokens.now))) }
+{
+    let (first, behind) = first_part(tokens);
+    let Some(behind) = behind else {
+        return Ok((expression(alloc, first)?, OptionalExpr::none()));
+    };
+    let (second, behind) = first_part(behind);
+    match behind {
+        None => two(alloc, first, second),
+        Some(_) => Err(AsmFault::NotUnderstood),
+    }
+}
+
+/// The register behind a comma, or nothing.
+fn index_of(tokens: &[Token<'_>]) -> Result<Option<Index>, AsmFault>
+    ensures { result ≡ index_of (lexemes tokens.now) }
+{
+    match tokens {
+        [] => Ok(None),
+        [comma, register] if is_comma(comma) && spells(register, b"x") => Ok(Some(Index::X)),
+        [comma, register] if is_comma(comma) && spells(register, b"y") => Ok(Some(Index::Y)),
+        _ => Err(AsmFault::NotUnderstood),
+    }
+}
+
+/// `e`, `e,x` or `e,y`.
+fn address(
+    alloc: Global,
+    prefix: Option<AddressSize>,
+    tokens: &[Token<'_>],
+) -> Result<Operand, AsmFault>
+    ensures { Parses result (IsAddress prefix (lexemes tokens.now)) }
+{
+    let (value, behind) = front(alloc, tokens)?;
+    let index = index_of(behind)?;
+    Ok(Operand::Address {
+        prefix,
+        value,
+        index,
+    })
+}
+
+/// What stands behind `(` and an expression: `)`, `,x)` or `),y`.
+fn closing_of(tokens: &[Token<'_>]) -> Result<Option<Index>, AsmFault>
+    ensures { result ≡ closing_of (lexemes tokens.now) }
+{
+    match tokens {
+        [first] => {
+            if is_close(first) {
+                Ok(None)
+            } else {
+                Err(AsmFault::NotUnderstood)
+            }
+        }
+        [first, second, third] => {
+            if is_comma(first) && spells(second, b"x") && is_close(third) {
+                Ok(Some(Index::X))
+            } else if is_close(first) && is_comma(second) && spells(third, b"y") {
+                Ok(Some(Index::Y))
+            } else {
+                Err(AsmFault::NotUnderstood)
+            }
+        }
+        _ => Err(AsmFault::NotUnderstood),
+    }
+}
+
+fn indirect_by(index: Option<Index>, value: Expr) -> Operand
+    ensures { result ≡ indirect_by index value }
+{
+    match index {
+        None => Operand::Indirect(value),
+        Some(Index::X) => Operand::IndirectX(value),
+        Some(Index::Y) => Operand::IndirectY(value),
+    }
+}
+
+/// What stands behind a `(`.
+fn indirect(alloc: Global, tokens: &[Token<'_>]) -> Result<Operand, AsmFault>
+    ensures { Parses result (IsIndirect (lexemes tokens.now)) }
+{
+    let (value, behind) = front(alloc, tokens)?;
+    let index = closing_of(behind)?;
+    Ok(indirect_by(index, value))
+}
+
+/// `a`, or an address without a prefix.
+fn plain_operand(alloc: Global, tokens: &[Token<'_>]) -> Result<Operand, AsmFault>
+    ensures { Parses result (IsPlainOperand (lexemes tokens.now)) }
+{
+    if is_spelled(word_of(tokens), b"a") {
+        Ok(Operand::Accumulator)
+    } else {
+        address(alloc, None, tokens)
+    }
+}
+
+/// What stands behind a mnemonic.
+#[inline(always)]
+pub fn operand(alloc: Global, tokens: &[Token<'_>]) -> Result<Operand, AsmFault>
+    ensures { Parses result (IsOperand (lexemes tokens.now)) }
+{
+    let Some((first, behind)) = tokens.split_first() else {
+        return Ok(Operand::Absent);
+    };
+    match first.kind {
+        TokenKind::Symbol(Mark::Hash) => Ok(Operand::Immediate(expression(alloc, behind)?)),
+        TokenKind::Symbol(Mark::OpenParenthesis) => indirect(alloc, behind),
+        TokenKind::SizePrefix(size) => address(alloc, Some(size), behind),
+        _ => plain_operand(alloc, tokens),
+    }
+}

@@ -1,0 +1,183 @@
+//! Labels and statements, those of directives by their words.
+
+ghost use Rattle.std.specs.Prelude.{◌≡◌, false, Ok, option_map, IfSome, Result, Some};
+ghost use Rattle.syntax65.specs.Tokens.{lexeme_of, lexemes};
+ghost use Rattle.ast65.specs.Parsing.{front_label, label_before, label_of, named_label, Parses, directive_of, IsDirective, IsDirectiveStatement, IsConstant, IsInstruction, IsNamed, IsStatement, ParsesAs};
+ghost use Rattle.syntax65.specs.Mnemonics.{mnemonic_of};
+ghost use Rattle.ast65.specs.declared.fault.AsmFault.{AsmFault};
+ghost use Rattle.ast65.specs.declared.language.Statement.{Statement};
+
+use super::directives::{
+    amount, assertion, ended_text, file_part, list, lone, message, name_list, processor,
+};
+use super::operands::{expression, operand};
+use super::tokens::{defines, is_colon, name_of, scope, segment};
+use super::words::{Directive, directive_of};
+use base65::Sequence;
+use crate::fault::AsmFault;
+use crate::language::Statement;
+use std::alloc::Global;
+use syntax65::{Mnemonic, Token, TokenKind, is_reserved, mnemonic};
+
+/// The label that a token before a `:` is, if it is one.
+fn named_label(alloc: Global, token: &Token<'_>) -> Result<Option<Statement>, AsmFault>
+    ensures { Parses result (λ r. r ≡ Ok (named_label (lexeme_of token.now).0 (lexeme_of token.now).1)) }
+{
+    match token.kind {
+        TokenKind::Identifier => {
+            if is_reserved(token.text) {
+                Ok(None)
+            } else {
+                Ok(Some(Statement::Label(Sequence::copy_of(alloc, token.text)?)))
+            }
+        }
+        TokenKind::CheapName => Ok(Some(Statement::CheapLabel(Sequence::copy_of(
+            alloc, token.text,
+        )?))),
+        _ => Ok(None),
+    }
+}
+
+/// A label of a token and a `:`, and the tokens behind it.
+fn label_before<'a, 'b>(
+    alloc: Global,
+    token: &Token<'a>,
+    behind: &'b [Token<'a>],
+) -> Result<Option<(Statement, &'b [Token<'a>])>, AsmFault>
+    ensures { ParsesAs (λ label. option_map (λ x. (x.0, lexemes x.1.now)) label) result (λ r. r ≡ Ok (label_before (lexeme_of token.now) (lexemes behind.now))) }
+{
+    let Some((colon, rest)) = behind.split_first() else {
+        return Ok(None);
+    };
+    if !is_colon(colon) {
+        return Ok(None);
+    }
+    match named_label(alloc, token)? {
+        Some(label) => Ok(Some((label, rest))),
+        None => Ok(None),
+    }
+}
+
+/// The label at the front, if there is one, and the tokens behind it.
+pub fn label<'a, 'b>(
+    alloc: Global,
+    tokens: &'b [Token<'a>],
+) -> Result<(Option<Statement>, &'b [Token<'a>]), AsmFault>
+    ensures { ParsesAs (λ x. (x.0, lexemes x.1.now)) result (λ r. r ≡ Ok (label_of (lexemes tokens.now))) }
+{
+    let Some((first, behind)) = tokens.split_first() else {
+        return Ok((None, tokens));
+    };
+    if is_colon(first) {
+        return Ok((Some(Statement::UnnamedLabel), behind));
+    }
+    match label_before(alloc, first, behind)? {
+        Some((label, behind)) => Ok((Some(label), behind)),
+        None => Ok((None, tokens)),
+    }
+}
+
+/// The statement of a directive and the tokens behind it.
+fn directive_statement(
+    alloc: Global,
+    word: &[u8],
+    tokens: &[Token<'_>],
+) -> Result<Statement, AsmFault>
+    ensures { Parses result (IsDirectiveStatement (directive_of word.now) (lexemes tokens.now)) }
+{
+    let Some(directive) = directive_of(word) else {
+        return Err(AsmFault::NotUnderstood);
+    };
+    match directive {
+        Directive::List(elements, width) => list(alloc, elements, width, tokens),
+        Directive::EndedText => ended_text(alloc, tokens),
+        Directive::Amount(which) => amount(alloc, which, tokens),
+        Directive::FilePart => file_part(alloc, tokens),
+        Directive::Segment => segment(alloc, tokens),
+        Directive::Lone(which) => lone(alloc, which, tokens),
+        Directive::Scope => scope(alloc, tokens),
+        Directive::Proc => Ok(Statement::OpenProc(name_of(alloc, tokens)?)),
+        Directive::Names(which) => name_list(alloc, which, tokens),
+        Directive::Assert => assertion(alloc, tokens),
+        Directive::Message(which) => message(alloc, which, tokens),
+        Directive::SetProcessor => processor(tokens),
+    }
+}
+
+/// `name = e`, by the name and what stands behind the mark.
+fn constant(alloc: Global, name: &[u8], tokens: &[Token<'_>]) -> Result<Statement, AsmFault>
+    ensures { Parses result (IsConstant name.now (lexemes tokens.now)) }
+{
+    if is_reserved(name) {
+        return Err(AsmFault::NotUnderstood);
+    }
+    let value = expression(alloc, tokens)?;
+    let name = Sequence::copy_of(alloc, name)?;
+    Ok(Statement::Constant { name, value })
+}
+
+/// An instruction, by its name and its operand.
+fn instruction(alloc: Global, name: &[u8], tokens: &[Token<'_>]) -> Result<Statement, AsmFault>
+    ensures { Parses result (IsInstruction (mnemonic_of name.now) (lexemes tokens.now)) }
+{
+    let Some(mnemonic) = mnemonic(name) else {
+        return Err(AsmFault::NotUnderstood);
+    };
+    let operand = operand(alloc, tokens)?;
+    Ok(Statement::Instruction { mnemonic, operand })
+}
+
+/// The mnemonic at the front of an instruction, and what stands behind it; nothing where another statement
+/// stands.
+#[inline(always)]
+pub fn instruction_front<'a, 'b>(tokens: &'a [Token<'b>]) -> Option<(Mnemonic, &'a [Token<'b>])>
+    ensures { IfSome result (λ x. (r : Result Statement AsmFault) →
+        IsInstruction (Some x.0) (lexemes x.1.now) r → IsStatement (lexemes tokens.now) r) }
+{
+    let (first, behind) = tokens.split_first()?;
+    if !matches!(first.kind, TokenKind::Identifier) {
+        return None;
+    }
+    if let Some((next, _)) = behind.split_first() {
+        if defines(next) {
+            return None;
+        }
+    }
+    let mnemonic = mnemonic(first.text)?;
+    Some((mnemonic, behind))
+}
+
+/// A statement that begins with an identifier.
+fn named(alloc: Global, name: &[u8], tokens: &[Token<'_>]) -> Result<Statement, AsmFault>
+    ensures { Parses result (IsNamed name.now (lexemes tokens.now)) }
+{
+    match tokens.split_first() {
+        Some((first, behind)) => {
+            if defines(first) {
+                constant(alloc, name, behind)
+            } else {
+                instruction(alloc, name, tokens)
+            }
+        }
+        None => instruction(alloc, name, tokens),
+    }
+}
+
+/// The statement of some tokens, behind their label.
+///
+/// # Errors
+///
+/// Tokens that are no statement aren't understood.
+#[inline(never)]
+pub fn statement(alloc: Global, tokens: &[Token<'_>]) -> Result<Statement, AsmFault>
+    ensures { Parses result (IsStatement (lexemes tokens.now)) }
+{
+    let Some((first, behind)) = tokens.split_first() else {
+        return Err(AsmFault::NotUnderstood);
+    };
+    match first.kind {
+        TokenKind::Identifier => named(alloc, first.text, behind),
+        TokenKind::Directive => directive_statement(alloc, first.text, behind),
+        _ => Err(AsmFault::NotUnderstood),
+    }
+}

@@ -1,0 +1,208 @@
+//! Tokens at places of a line, and what they are.
+
+ghost use Rattle.std.specs.Prelude.{◌≡◌, false, option_map};
+ghost use Rattle.syntax65.specs.Tokens.{lexeme_of, lexemes};
+ghost use Rattle.std.specs.List.{list_all};
+ghost use Rattle.ast65.specs.Parsing.{defines, inner, is_close, is_colon, is_comma, name_of, quoted_in, spelled, spells, string_of, understood, word_in, word_of, Parses, is_identifier, is_letter, is_letter_or_digit, scope_of, segment_named, segment_of, size_behind, size_word, ParsesAs};
+
+use base65::Sequence;
+use crate::fault::AsmFault;
+use crate::language::Statement;
+use std::alloc::Global;
+use syntax65::{AddressSize, MAX_NAME, Mark, Token, TokenKind, is_reserved};
+
+pub fn is_comma(token: &Token<'_>) -> bool
+    ensures { result ≡ is_comma (lexeme_of token.now) }
+{
+    matches!(token.kind, TokenKind::Symbol(Mark::Comma))
+}
+
+pub fn is_colon(token: &Token<'_>) -> bool
+    ensures { result ≡ is_colon (lexeme_of token.now) }
+{
+    matches!(token.kind, TokenKind::Symbol(Mark::Colon))
+}
+
+/// Whether a token is a `)`.
+pub fn is_close(token: &Token<'_>) -> bool
+    ensures { result ≡ is_close (lexeme_of token.now) }
+{
+    matches!(token.kind, TokenKind::Symbol(Mark::CloseParenthesis))
+}
+
+/// Whether a token is `=` or `:=`.
+pub fn defines(token: &Token<'_>) -> bool
+    ensures { result ≡ defines (lexeme_of token.now) }
+{
+    matches!(token.kind, TokenKind::Symbol(Mark::Equal | Mark::Define))
+}
+
+/// The bytes between the quotes of a string.
+fn inner(quoted: &[u8]) -> &[u8]
+    ensures { result.now ≡ inner quoted.now }
+{
+    if quoted.len() < 2 {
+        b""
+    } else {
+        &quoted[1..quoted.len() - 1]
+    }
+}
+
+/// The bytes of a string.
+pub fn quoted_in<'a>(token: &Token<'a>) -> Option<&'a [u8]>
+    ensures { option_map (λ s. s.now) result ≡ quoted_in (lexeme_of token.now) }
+{
+    match token.kind {
+        TokenKind::Text => Some(inner(token.text)),
+        _ => None,
+    }
+}
+
+/// The bytes of an identifier.
+pub fn word_in<'a>(token: &Token<'a>) -> Option<&'a [u8]>
+    ensures { option_map (λ s. s.now) result ≡ word_in (lexeme_of token.now) }
+{
+    match token.kind {
+        TokenKind::Identifier => Some(token.text),
+        _ => None,
+    }
+}
+
+/// The bytes of one string.
+pub fn string_of<'a>(tokens: &[Token<'a>]) -> Option<&'a [u8]>
+    ensures { option_map (λ s. s.now) result ≡ string_of (lexemes tokens.now) }
+{
+    match tokens {
+        [token] => quoted_in(token),
+        _ => None,
+    }
+}
+
+/// The bytes of one identifier.
+pub fn word_of<'a>(tokens: &[Token<'a>]) -> Option<&'a [u8]>
+    ensures { option_map (λ s. s.now) result ≡ word_of (lexemes tokens.now) }
+{
+    match tokens {
+        [token] => word_in(token),
+        _ => None,
+    }
+}
+
+/// Whether an identifier, if there is one, is this name in either case.
+pub fn is_spelled(word: Option<&[u8]>, name: &[u8]) -> bool
+    ensures { result ≡ spelled (option_map (λ s. s.now) word.entry) name.now }
+{
+    match word {
+        Some(word) => word.eq_ignore_ascii_case(name),
+        None => false,
+    }
+}
+
+/// Whether a token is this identifier, in either case.
+pub fn spells(token: &Token<'_>, name: &[u8]) -> bool
+    ensures { result ≡ spells (lexeme_of token.now) name.now }
+{
+    is_spelled(word_in(token), name)
+}
+
+/// What was looked for, which has to be there.
+pub fn needed(found: Option<&[u8]>) -> Result<&[u8], AsmFault>
+    ensures { ParsesAs (λ s. s.now) result
+        (λ r. r ≡ understood (option_map (λ s. s.now) found.entry)) }
+{
+    match found {
+        Some(text) => Ok(text),
+        None => Err(AsmFault::NotUnderstood),
+    }
+}
+
+/// A plain name.
+pub fn name_of(alloc: Global, tokens: &[Token<'_>]) -> Result<Sequence<u8>, AsmFault>
+    ensures { Parses result (λ r. r ≡ name_of (lexemes tokens.now)) }
+{
+    let name = needed(word_of(tokens))?;
+    if is_reserved(name) {
+        return Err(AsmFault::NotUnderstood);
+    }
+    Ok(Sequence::copy_of(alloc, name)?)
+}
+
+fn size_word(word: &[u8]) -> Result<AddressSize, AsmFault>
+    ensures { result ≡ size_word word.now }
+{
+    if word == b"zeropage".as_slice() {
+        Ok(AddressSize::ZeroPage)
+    } else if word == b"absolute".as_slice() {
+        Ok(AddressSize::Absolute)
+    } else {
+        Err(AsmFault::NotUnderstood)
+    }
+}
+
+/// Nothing, or `: zeropage` or `: absolute`.
+fn size_behind(tokens: &[Token<'_>]) -> Result<Option<AddressSize>, AsmFault>
+    ensures { Parses result (λ r. r ≡ size_behind (lexemes tokens.now)) }
+{
+    let Some((colon, behind)) = tokens.split_first() else {
+        return Ok(None);
+    };
+    if !is_colon(colon) {
+        return Err(AsmFault::NotUnderstood);
+    }
+    let word = needed(word_of(behind))?;
+    Ok(Some(size_word(word)?))
+}
+
+fn is_letter(byte: u8) -> bool
+    ensures { result ≡ is_letter byte }
+{
+    byte.is_ascii_alphabetic() || byte == b'_'
+}
+
+fn is_letter_or_digit(byte: u8) -> bool
+    ensures { result ≡ is_letter_or_digit byte }
+{
+    is_letter(byte) || byte.is_ascii_digit()
+}
+
+fn are_letters_or_digits(bytes: &[u8]) -> bool
+    ensures { result ≡ list_all is_letter_or_digit bytes.now }
+{
+    bytes.iter().all(|byte| is_letter_or_digit(*byte))
+}
+
+/// Whether the bytes are those of an identifier.
+fn is_identifier(bytes: &[u8]) -> bool
+    ensures { result ≡ is_identifier bytes.now }
+{
+    let [first, behind @ ..] = bytes else {
+        return false;
+    };
+    is_letter(*first) && are_letters_or_digits(behind) && bytes.len() <= MAX_NAME
+}
+
+/// `.segment`
+pub fn segment(alloc: Global, tokens: &[Token<'_>]) -> Result<Statement, AsmFault>
+    ensures { Parses result (λ r. r ≡ segment_of (lexemes tokens.now)) }
+{
+    let Some((first, behind)) = tokens.split_first() else {
+        return Err(AsmFault::NotUnderstood);
+    };
+    let name = needed(quoted_in(first))?;
+    let size = size_behind(behind)?;
+    if !is_identifier(name) {
+        return Err(AsmFault::NotUnderstood);
+    }
+    let name = Sequence::copy_of(alloc, name)?;
+    Ok(Statement::Segment { name, size })
+}
+
+/// `.scope`
+pub fn scope(alloc: Global, tokens: &[Token<'_>]) -> Result<Statement, AsmFault>
+    ensures { Parses result (λ r. r ≡ scope_of (lexemes tokens.now)) }
+{
+    if tokens.is_empty() {
+        return Ok(Statement::OpenScope(None));
+    }
+    Ok(Statement::OpenScope(Some(name_of(alloc, tokens)?)))
+}

@@ -1,0 +1,122 @@
+-- Names of imports, sections and exports: good ones, and none twice.
+use Rattle.std.proofs.lemmas.Grind.{common_steps}
+use Rattle.std.proofs.Common.{◌≡◌, ◌∙◌, ℕ, zero, suc, ◌<◌, Bool, true, false, not, ◌&&◌, ◌||◌, nat_eq, List, [], ◌∷◌, ◌++◌, length, map, refl, sym, ap, arith}
+use Rattle.std.specs.Prelude.{slice_get, if◌then◌else◌}
+use Rattle.std.specs.Cmp.{nat_eq_equiv}
+use Rattle.std.specs.Cmp.Lexicographic.{pointwise, lists_equiv}
+use Rattle.std.specs.List.{AllByRecursion, IsDistinct, list_any}
+use Rattle.std.proofs.lemmas.Bool.Decides.{nat_tests}
+use Rattle.std.proofs.lemmas.List.Folds.{list_any-append}
+use Rattle.std.proofs.lemmas.Map.Keys.{IsDistinct-head, IsDistinct-tail}
+use Rattle.syntax65.specs.declared.place.Place.{Place}
+use Rattle.object65.specs.declared.object.Origin.{Origin}
+use Rattle.object65.specs.declared.object.Export.{Export}
+use Rattle.object65.specs.Objects.{are_distinct, are_names, is_among, is_name}
+use Rattle.semantics65.specs.Contents.{Declaration, Exported, ForcedImport, Asserted}
+use Rattle.semantics65.specs.declared.contents.Segment.{Segment}
+use Rattle.semantics65.specs.Numbering.{exports_among, name_of, numbered, segment_name, IsSoundDeclaration}
+use Rattle.emit65.proofs.Renumbering.{left, right, and, turned}
+
+abbrev same_name : List ℕ → List ℕ → Bool
+same_name n m = pointwise nat_eq n m
+
+-- ---- Names that pass, none twice.
+
+flipped : (n m : List ℕ) → same_name n m ≡ same_name m n
+flipped n m = (lists_equiv nat_eq_equiv).symm n m
+
+among_push : (ns : List (List ℕ)) (n m : List ℕ) → is_among ns m ≡ false → same_name n m ≡ false → is_among (ns ++ n ∷ []) m ≡ false
+among_push ns n m h g = grind (arith, common_steps, flipped, list_any-append)
+
+module _ (passes : List ℕ → Bool) where
+  head_good : (n : List ℕ) (ns : List (List ℕ)) → are_distinct passes (n ∷ ns) ≡ true → passes n ≡ true
+  head_good n ns h = left (passes n) (not (is_among ns n)) (left (passes n && not (is_among ns n)) (are_distinct passes ns) h)
+
+  head_apart : (n : List ℕ) (ns : List (List ℕ)) → are_distinct passes (n ∷ ns) ≡ true → is_among ns n ≡ false
+  head_apart n ns h = turned (is_among ns n) (right (passes n) (not (is_among ns n)) (left (passes n && not (is_among ns n)) (are_distinct passes ns) h))
+
+  rest_good : (n : List ℕ) (ns : List (List ℕ)) → are_distinct passes (n ∷ ns) ≡ true → are_distinct passes ns ≡ true
+  rest_good n ns h = right (passes n && not (is_among ns n)) (are_distinct passes ns) h
+
+  -- good names with one in front
+  with_head : (n : List ℕ) (ns : List (List ℕ)) → passes n ≡ true → is_among ns n ≡ false → are_distinct passes ns ≡ true → are_distinct passes (n ∷ ns) ≡ true
+  with_head n ns good apart rest = and (passes n && not (is_among ns n)) (are_distinct passes ns) (and (passes n) (not (is_among ns n)) good (ap not apart)) rest
+
+  -- one name more
+  pub names_push : (ns : List (List ℕ)) (n : List ℕ) → are_distinct passes ns ≡ true → passes n ≡ true → is_among ns n ≡ false → are_distinct passes (ns ++ n ∷ []) ≡ true
+  names_push [] n h good apart = with_head n [] good refl refl
+  names_push (m ∷ ns) n h good apart = grind (arith, common_steps, (names_push ns n (rest_good m ns h) good), rest_good, with_head, head_good, among_push, head_apart)
+
+-- ---- Names at keys.
+
+name_good : (names : List (List ℕ)) (k : ℕ) → are_names names ≡ true → k < length names → is_name (name_of names k) ≡ true
+name_good [] k h lt = absurd (omega arith)
+name_good (n ∷ ns) zero h lt = head_good is_name n ns h
+name_good (n ∷ ns) (suc k) h lt = name_good ns k (rest_good is_name n ns h) (omega arith)
+
+none_is : (names : List (List ℕ)) (n : List ℕ) (k : ℕ) → is_among names n ≡ false → k < length names → same_name n (name_of names k) ≡ false
+none_is [] n k h lt = absurd (omega arith)
+none_is (m ∷ ns) n zero h lt = first (same_name n m) (is_among ns n) h
+  where
+    first : (a b : Bool) → (a || b) ≡ false → a ≡ false
+    first true b e = cc
+    first false b e = refl
+none_is (m ∷ ns) n (suc k) h lt = none_is ns n k (other (same_name n m) (is_among ns n) h) (omega arith)
+  where
+    other : (a b : Bool) → (a || b) ≡ false → b ≡ false
+    other true b e = cc
+    other false b e = e
+
+names_apart : (names : List (List ℕ)) (j k : ℕ) → are_names names ≡ true → j < length names → k < length names → nat_eq j k ≡ false → same_name (name_of names j) (name_of names k) ≡ false
+names_apart [] j k h lt gt other = absurd (omega arith)
+names_apart (n ∷ ns) zero zero h lt gt other = absurd cc
+names_apart (n ∷ ns) zero (suc k) h lt gt other = none_is ns n k (head_apart is_name n ns h) (omega arith)
+names_apart (n ∷ ns) (suc j) zero h lt gt other = flipped (name_of ns j) n ∙ none_is ns n j (head_apart is_name n ns h) (omega arith)
+names_apart (n ∷ ns) (suc j) (suc k) h lt gt other = names_apart ns j k (rest_good is_name n ns h) (omega arith) (omega arith) (grind (arith, nat_tests))
+
+abbrev AreBelow : List (List ℕ) → List ℕ → Type 0
+AreBelow names keys = AllByRecursion (λ k. k < length names) keys
+
+key_apart : (names : List (List ℕ)) (k : ℕ) (keys : List ℕ) → are_names names ≡ true → k < length names → AreBelow names keys → AllByRecursion (λ j. nat_eq k j ≡ false) keys → is_among (map (name_of names) keys) (name_of names k) ≡ false
+key_apart names k [] h lt below apart = refl
+key_apart names k (j ∷ keys) h lt below apart =
+    let first : same_name (name_of names k) (name_of names j) ≡ false = names_apart names k j h lt below.0 apart.0 in
+    ap (λ b. b || is_among (map (name_of names) keys) (name_of names k)) first ∙ key_apart names k keys h lt below.1 apart.1
+
+-- the names at different keys
+pub names_at : (names : List (List ℕ)) (keys : List ℕ) → are_names names ≡ true → IsDistinct nat_eq keys → AreBelow names keys → are_names (map (name_of names) keys) ≡ true
+names_at names [] h distinct below = refl
+names_at names (k ∷ keys) h distinct below =
+    with_head is_name (name_of names k) (map (name_of names) keys) (name_good names k h below.0)
+    (key_apart names k keys h below.0 below.1 (IsDistinct-head nat_eq k keys distinct))
+    (names_at names keys h (IsDistinct-tail nat_eq k keys distinct) below.1)
+
+-- a segment's name is that at its place
+pub segment_named : (segments : List Segment) (g : ℕ) → segment_name (slice_get segments g) ≡ name_of (map (λ g. g.name) segments) g
+segment_named [] g = refl
+segment_named (s ∷ segments) zero = refl
+segment_named (s ∷ segments) (suc g) = segment_named segments g
+
+-- ---- Names of exports.
+
+any_named : (n : List ℕ) (es : List Export) → list_any (λ e. pointwise nat_eq n e.name) es ≡ is_among (map (λ e. e.name) es) n
+any_named n [] = refl
+any_named n (e ∷ es) = ap (λ b. same_name n e.name || b) (any_named n es)
+
+push_named : (es : List Export) (e : Export) → map (λ (x : Export). x.name) (es ++ e ∷ []) ≡ map (λ (x : Export). x.name) es ++ e.name ∷ []
+push_named [] e = refl
+push_named (x ∷ es) e = ap (λ ns. x.name ∷ ns) (push_named es e)
+
+pub exports_named : (at : Place → Origin) (s i : List ℕ) (asked : List ℕ) (count : ℕ) (found : List Export) (ss : List Declaration) → are_names (map (λ (e : Export). e.name) found) ≡ true → AllByRecursion (IsSoundDeclaration asked count) ss → are_names (map (λ (e : Export). e.name) (exports_among at s i found ss)) ≡ true
+exports_named at s i asked count found [] h sound = h
+exports_named at s i asked count found (ForcedImport n ∷ ss) h sound = exports_named at s i asked count found ss h sound.1
+exports_named at s i asked count found (Asserted act line words f ∷ ss) h sound = exports_named at s i asked count found ss h sound.1
+exports_named at s i asked count found (Exported n line f ∷ ss) h sound =
+    exports_named at s i asked count (if list_any (λ e. pointwise nat_eq n e.name) found then found else found ++ made ∷ []) ss (by (list_any (λ e. pointwise nat_eq n e.name) found) refl) sound.1
+  where
+    made : Export
+    made = record { name = n; origin = at line; form = numbered s i f }
+
+    by : (b : Bool) → list_any (λ e. pointwise nat_eq n e.name) found ≡ b → are_names (map (λ (e : Export). e.name) (if b then found else found ++ made ∷ [])) ≡ true
+    by true e = h
+    by false e = ap are_names (push_named found made) ∙ names_push is_name (map (λ (e : Export). e.name) found) n h sound.0.0 (sym (any_named n found) ∙ e)

@@ -1,0 +1,170 @@
+-- The object of sound contents is one of the grammar.
+use borrow.Author.Rules.{rules}
+use Rattle.std.proofs.Common.{◌≡◌, ◌∙◌, ℕ, ◌<◌, Bool, true, false, not, ◌&&◌, nat_eq, nat_lt, cond, List, [], ◌∷◌, ◌++◌, length, map, Some, None, refl, sym, ap, subst, arith}
+use Rattle.std.specs.Prelude.{filter_map, if◌then◌else◌}
+use Rattle.std.specs.List.{AllByRecursion, IsDistinct, flat_map, list_any, list_all, position_or_len}
+use Rattle.std.specs.Str.{bytes_eq}
+use Rattle.std.proofs.lemmas.Bool.Decides.{nat_tests}
+use Rattle.std.proofs.lemmas.Grind.{common_steps, flat_map-append}
+use Rattle.std.proofs.lemmas.List.Folds.{list_all-append}
+use Rattle.object65.specs.declared.object.Assert.{Assert}
+use Rattle.object65.specs.declared.object.Export.{Export}
+use Rattle.object65.specs.declared.object.Origin.{Origin}
+use Rattle.object65.specs.declared.object.Section.{Section}
+use Rattle.syntax65.specs.declared.place.Place.{Place}
+use Rattle.object65.specs.Folding.{is_literal}
+use Rattle.object65.specs.Objects.{are_names, has_good_parts, is_good_assert, is_good_form, is_good_object, is_good_section}
+use Rattle.semantics65.specs.Contents.{Content, Part, Known, Filled, Waiting, Declaration, Exported, ForcedImport, Asserted}
+use Rattle.semantics65.specs.declared.contents.Segment.{Segment}
+use Rattle.semantics65.specs.Numbering.{all_said, assert_of, content_imports, exports_among, files_of, import_keys, in_files, imports_in, key_of, name_of, numbered, object_with, optional_key, part_imports, said_imports, section_keys, section_of, segments_asked, AreSound, IsSoundContent, IsSoundPart, IsSoundDeclaration}
+use Rattle.emit65.proofs.GoodFiles.{files_good, origins_good}
+use Rattle.emit65.proofs.GoodNames.{exports_named, names_at, segment_named}
+use Rattle.emit65.proofs.GoodSections.{parts_in_good, section_good}
+use Rattle.ast65.proofs.Lists.{map_length}
+use Rattle.emit65.proofs.Renumbering.{HasAll, has, left, right, and, first_has, second_has, good_form, once_all, once_distinct, once_has, same_literal}
+
+-- ---- Keys of imports and sections.
+
+abbrev AllBelow : ℕ → List ℕ → Type 0
+AllBelow n ks = list_all (λ k. nat_lt k n) ks ≡ true
+
+below_each : (n : ℕ) (ks : List ℕ) → AllBelow n ks → AllByRecursion (λ k. k < n) ks
+below_each n [] h = tt
+below_each n (k ∷ ks) h =
+    let yes : nat_lt k n ≡ true = left (nat_lt k n) (list_all (λ k. nat_lt k n) ks) h in
+    ((grind (arith, nat_tests)), below_each n ks (right (nat_lt k n) (list_all (λ k. nat_lt k n) ks) h))
+
+below_both : (n : ℕ) (a b : List ℕ) → AllBelow n a → AllBelow n b → AllBelow n (a ++ b)
+below_both n a b h g = list_all-append (λ k. nat_lt k n) a b ∙ and (list_all (λ k. nat_lt k n) a) (list_all (λ k. nat_lt k n) b) h g
+
+place_below : (n : ℕ) (length : ℕ) → AllBelow length (optional_key (cond (nat_lt n length) (Some n) None))
+place_below n length = grind (arith, common_steps)
+
+module _ (asked : List ℕ) (names : List (List ℕ)) where
+  parts_below : (ps : List Part) → AllByRecursion (IsSoundPart asked (length names)) ps → AllBelow (length names) (flat_map part_imports ps)
+  parts_below [] sound = refl
+  parts_below (Known bytes ∷ ps) sound = parts_below ps sound.1
+  parts_below (Filled n ∷ ps) sound = parts_below ps sound.1
+  parts_below (Waiting width line f ∷ ps) sound = below_both (length names) (imports_in f) (flat_map part_imports ps) sound.0.0.form.imports (parts_below ps sound.1)
+
+  said_below : (ss : List Declaration) → AllByRecursion (IsSoundDeclaration asked (length names)) ss → AllBelow (length names) (flat_map (said_imports names) ss)
+  said_below [] sound = refl
+  said_below (Exported n line f ∷ ss) sound = below_both (length names) (imports_in f) (flat_map (said_imports names) ss) sound.0.1.form.imports (said_below ss sound.1)
+  said_below (ForcedImport n ∷ ss) sound = below_both (length names) (optional_key (key_of names n)) (flat_map (said_imports names) ss) (place_below (position_or_len (λ m. bytes_eq m n) names) (length names)) (said_below ss sound.1)
+  said_below (Asserted act line words f ∷ ss) sound = below_both (length names) (imports_in f) (flat_map (said_imports names) ss) sound.0.1.form.imports (said_below ss sound.1)
+
+  contents_below : (cs : List Content) → AllByRecursion (IsSoundContent asked (length names)) cs → AllBelow (length names) (flat_map (content_imports names) cs)
+  contents_below [] sound = refl
+  contents_below (c ∷ cs) sound = grind (arith, common_steps, (contents_below cs sound.1), below_both, parts_below, said_below)
+
+asked_below : (n : ℕ) (cs : List Content) → AllByRecursion (λ c. c.segment < n) cs → AllByRecursion (λ k. k < n) (segments_asked cs)
+asked_below n [] h = tt
+asked_below n (c ∷ cs) h = grind (arith, common_steps, (asked_below n cs h.1))
+
+-- ---- What is said.
+
+all_both : {A : Type 0} (P : A → Type 0) (xs ys : List A) → AllByRecursion P xs → AllByRecursion P ys → AllByRecursion P (xs ++ ys)
+all_both P [] ys h g = g
+all_both P (x ∷ xs) ys h g = (h.0, all_both P xs ys h.1 g)
+
+module _ (at : Place → Origin) (s i : List ℕ) (names : List (List ℕ)) where
+  said_sound : (count : ℕ) (cs : List Content) → AllByRecursion (IsSoundContent s count) cs → AllByRecursion (IsSoundDeclaration s count) (all_said cs)
+  said_sound count [] sound = tt
+  said_sound count (c ∷ cs) sound = all_both (IsSoundDeclaration s count) c.said (all_said cs) sound.0.said (said_sound count cs sound.1)
+
+  has_both : (a b : List ℕ) → HasAll i a → HasAll i b → HasAll i (a ++ b)
+  has_both a b h g = list_all-append (has i) a b ∙ and (list_all (has i) a) (list_all (has i) b) h g
+
+  has_parts : (xs ys : List Declaration) → HasAll i (flat_map (said_imports names) xs) → HasAll i (flat_map (said_imports names) ys) → HasAll i (flat_map (said_imports names) (xs ++ ys))
+  has_parts xs ys h g = subst (HasAll i) (sym (flat_map-append (said_imports names) xs ys)) (has_both (flat_map (said_imports names) xs) (flat_map (said_imports names) ys) h g)
+
+  said_has : (cs : List Content) → HasAll i (flat_map (content_imports names) cs) → HasAll i (flat_map (said_imports names) (all_said cs))
+  said_has [] h = refl
+  said_has (c ∷ cs) h = grind (arith, common_steps, (said_has cs (second_has i (content_imports names c) (flat_map (content_imports names) cs) h)), has_parts, second_has, first_has)
+
+  abbrev is_good_export : Export → Bool
+  is_good_export e = is_good_form (length s) (length i) e.form
+
+  exports_good : (count : ℕ) (found : List Export) (ss : List Declaration) → list_all is_good_export found ≡ true → AllByRecursion (IsSoundDeclaration s count) ss → HasAll i (flat_map (said_imports names) ss) → list_all is_good_export (exports_among at s i found ss) ≡ true
+  exports_good count found [] h sound g = h
+  exports_good count found (ForcedImport n ∷ ss) h sound g = exports_good count found ss h sound.1 (second_has i (optional_key (key_of names n)) (flat_map (said_imports names) ss) g)
+  exports_good count found (Asserted act line words f ∷ ss) h sound g = exports_good count found ss h sound.1 (second_has i (imports_in f) (flat_map (said_imports names) ss) g)
+  exports_good count found (Exported n line f ∷ ss) h sound g =
+      exports_good count (if list_any (λ e. bytes_eq n e.name) found then found else found ++ made ∷ []) ss (by (list_any (λ e. bytes_eq n e.name) found)) sound.1 (second_has i (imports_in f) (flat_map (said_imports names) ss) g)
+    where
+      made : Export
+      made = record { name = n; origin = at line; form = numbered s i f }
+
+      good : is_good_form (length s) (length i) (numbered s i f) ≡ true
+      good = good_form s i count f sound.0.1.form (first_has i (imports_in f) (flat_map (said_imports names) ss) g)
+
+      by : (b : Bool) → list_all is_good_export (if b then found else found ++ made ∷ []) ≡ true
+      by true = h
+      by false = list_all-append is_good_export found (made ∷ []) ∙ and (list_all is_good_export found) (list_all is_good_export (made ∷ [])) h (and (is_good_form (length s) (length i) (numbered s i f)) true good refl)
+
+  asserts_good : (count : ℕ) (ss : List Declaration) → AllByRecursion (IsSoundDeclaration s count) ss → HasAll i (flat_map (said_imports names) ss) → list_all (is_good_assert (length s) (length i)) (filter_map (assert_of at s i) ss) ≡ true
+  asserts_good count [] sound g = refl
+  asserts_good count (Exported n line f ∷ ss) sound g = asserts_good count ss sound.1 (second_has i (imports_in f) (flat_map (said_imports names) ss) g)
+  asserts_good count (ForcedImport n ∷ ss) sound g = asserts_good count ss sound.1 (second_has i (optional_key (key_of names n)) (flat_map (said_imports names) ss) g)
+  asserts_good count (Asserted act line words f ∷ ss) sound g =
+      and (nat_lt (length words) 256 && is_good_form (length s) (length i) (numbered s i f) && not (is_literal (numbered s i f))) (list_all (is_good_assert (length s) (length i)) (filter_map (assert_of at s i) ss))
+      (and (nat_lt (length words) 256 && is_good_form (length s) (length i) (numbered s i f)) (not (is_literal (numbered s i f)))
+      (and (nat_lt (length words) 256) (is_good_form (length s) (length i) (numbered s i f)) short good)
+      (ap not (same_literal s i f ∙ sound.0.2)))
+      (asserts_good count ss sound.1 (second_has i (imports_in f) (flat_map (said_imports names) ss) g))
+    where
+      short : nat_lt (length words) 256 ≡ true
+      short = (let few : length words < 256 = sound.0.0 in grind (arith, nat_tests))
+
+      good : is_good_form (length s) (length i) (numbered s i f) ≡ true
+      good = good_form s i count f sound.0.1.form (first_has i (imports_in f) (flat_map (said_imports names) ss) g)
+
+-- ---- The object.
+
+sections_good : (at : Place → Origin) (segments : List Segment) (s i : List ℕ) (cs : List Content) (keys : List ℕ) → ((g : ℕ) → is_good_section (length s) (length i) (section_of at segments s i cs g) ≡ true) → list_all (is_good_section (length s) (length i)) (map (section_of at segments s i cs) keys) ≡ true
+sections_good at segments s i cs [] h = refl
+sections_good at segments s i cs (k ∷ keys) h = and (is_good_section (length s) (length i) (section_of at segments s i cs k)) (list_all (is_good_section (length s) (length i)) (map (section_of at segments s i cs) keys)) (h k) (sections_good at segments s i cs keys h)
+
+sections_named : (at : Place → Origin) (segments : List Segment) (s i : List ℕ) (cs : List Content) (keys : List ℕ) → map (λ (x : Section). x.name) (map (section_of at segments s i cs) keys) ≡ map (name_of (map (λ g. g.name) segments)) keys
+sections_named at segments s i cs [] = refl
+sections_named at segments s i cs (k ∷ keys) = λ j. segment_named segments k j ∷ sections_named at segments s i cs keys j
+
+none_twice : IsDistinct nat_eq []
+unfolding IsDistinct
+none_twice = tt
+
+parts_are_good : (segments : List Segment) (names : List (List ℕ)) (cs : List Content) → AreSound segments names cs → has_good_parts (object_with segments names cs) ≡ true
+parts_are_good segments names cs sound =
+    let at : Place → Origin = in_files (files_of cs) in
+    let s : List ℕ = section_keys cs in
+    let i : List ℕ = import_keys names cs in
+    let count = length names in
+    let has_imports : HasAll i (flat_map (content_imports names) cs) = once_has [] (flat_map (content_imports names) cs) in
+    let below = once_all (λ k. k < count) [] (flat_map (content_imports names) cs) tt (below_each count (flat_map (content_imports names) cs) (contents_below s names cs sound.contents)) in
+    let imports : are_names (map (name_of names) i) ≡ true = names_at names i sound.imported (once_distinct [] (flat_map (content_imports names) cs) none_twice) below in
+    let standing : AllByRecursion (λ k. k < length (map (λ g. g.name) segments)) s =
+    subst (λ n. AllByRecursion (λ k. k < n) s) (sym (map_length (λ (g : Segment). g.name) segments)) (once_all (λ k. k < length segments) [] (segments_asked cs) tt (asked_below (length segments) cs sound.standing)) in
+    let section_names : are_names (map (λ (x : Section). x.name) (map (section_of at segments s i cs) s)) ≡ true =
+    ap are_names (sections_named at segments s i cs s) ∙ names_at (map (λ g. g.name) segments) s sound.named (once_distinct [] (segments_asked cs) none_twice) standing in
+    let said = said_sound at s i names count cs sound.contents in
+    let said_imports_had = said_has at s i names cs has_imports in
+    let es : List Export = exports_among at s i [] (all_said cs) in
+    let ts : List Assert = filter_map (assert_of at s i) (all_said cs) in
+    let export_names : are_names (map (λ (e : Export). e.name) es) ≡ true = exports_named at s i s count [] (all_said cs) refl said in
+    let a = are_names (map (name_of names) i) in
+    let b = are_names (map (λ (x : Section). x.name) (map (section_of at segments s i cs) s)) in
+    let c = are_names (map (λ (e : Export). e.name) es) in
+    let d : ℕ → ℕ → Bool = λ m n. list_all (is_good_section m n) (map (section_of at segments s i cs) s) in
+    let e : ℕ → ℕ → Bool = λ m n. list_all (λ (x : Export). is_good_form m n x.form) es in
+    let f : ℕ → ℕ → Bool = λ m n. list_all (is_good_assert m n) ts in
+    let whole : ℕ → ℕ → Bool = λ m n. a && b && c && d m n && e m n && f m n in
+    let m = length s in
+    let n = length i in
+    let all_sections : d m n ≡ true = sections_good at segments s i cs s (λ g. section_good at s i segments cs g (sound.room g) (parts_in_good at s i names count g cs sound.contents has_imports)) in
+    let all_exports : e m n ≡ true = exports_good at s i names count [] (all_said cs) refl said said_imports_had in
+    let all_asserts : f m n ≡ true = asserts_good at s i names count (all_said cs) said said_imports_had in
+    (λ j. whole (map_length (section_of at segments s i cs) s j) (map_length (name_of names) i j))
+    ∙ and (a && b && c && d m n && e m n) (f m n) (and (a && b && c && d m n) (e m n) (and (a && b && c) (d m n) (and (a && b) c (and a b imports section_names) export_names) all_sections) all_exports) all_asserts
+
+pub good_object : (segments : List Segment) (names : List (List ℕ)) (cs : List Content) → AreSound segments names cs → is_good_object (object_with segments names cs) ≡ true
+good_object segments names cs sound = search (rules, files_good, origins_good, and, parts_are_good)

@@ -1,0 +1,143 @@
+-- The fragments of a section, joined: none is empty, no two neighbours join, and they have the bytes of the parts.
+use Rattle.std.proofs.lemmas.Grind.{common_steps}
+use Rattle.std.proofs.Common.{◌≡◌, ◌∙◌, ℕ, zero, suc, ◌+◌, ◌≤◌, Bool, true, false, not, ◌||◌, nat_eq, nat_lt, cond, List, [], ◌∷◌, ◌++◌, length, Option, refl, sym, ap, arith, length-append}
+use Rattle.std.specs.Prelude.{sum_by}
+use Rattle.std.specs.List.{AllByRecursion, filter, flat_map, list_all}
+use Rattle.std.proofs.lemmas.Bool.Decides.{nat_tests}
+use Rattle.std.proofs.lemmas.List.Folds.{list_all-append}
+use Rattle.std.proofs.lemmas.List.Sums.{sum_by-cons}
+use Rattle.syntax65.specs.declared.place.Place.{Place}
+use Rattle.object65.specs.declared.object.Origin.{Origin}
+use Rattle.object65.specs.declared.object.Fragment.{Fragment}
+use Rattle.object65.specs.declared.object.Fragment.TheVariants.{Literal, Fill, Value}
+use Rattle.object65.specs.Folding.{is_literal}
+use Rattle.object65.specs.Objects.{are_apart, fragment_len, is_good_form, is_good_fragment, is_good_section, joins, section_limit}
+use Rattle.semantics65.specs.Contents.{Content, Part, Known, Filled, Waiting}
+use Rattle.semantics65.specs.declared.contents.Segment.{Segment}
+use Rattle.semantics65.specs.Numbering.{all_joined, content_imports, fragment_of, fragments_of, is_empty, joined, numbered, part_imports, parts_in, said_imports, section_of, segment_power, IsSoundContent, IsSoundPart, part_len}
+use Rattle.emit65.proofs.Renumbering.{HasAll, first_has, good_form, left, right, and, same_literal, second_has}
+
+-- ---- Neighbours that are joined.
+
+more_bytes : (a b : List ℕ) → nat_lt 0 (length a) ≡ true → nat_lt 0 (length (a ++ b)) ≡ true
+more_bytes a b h = let both : length (a ++ b) ≡ length a + length b = length-append a b in grind (arith, nat_tests)
+
+more_fill : (m n : ℕ) → nat_lt 0 m ≡ true → nat_lt 0 (m + n) ≡ true
+more_fill m n h = grind (arith, nat_tests)
+
+abbrev AllGood : (s i : ℕ) → List Fragment → Type 0
+AllGood s i fs = list_all (is_good_fragment s i) fs ≡ true
+
+pub joined_good : (s i : ℕ) (f : Fragment) (fs : List Fragment) → is_good_fragment s i f ≡ true → AllGood s i fs → AllGood s i (joined f fs)
+joined_good s i f [] h all = and (is_good_fragment s i f) true h refl
+joined_good s i (Literal a) (Literal b ∷ fs) h all = joined_good s i (Literal (a ++ b)) fs (more_bytes a b h) (right (is_good_fragment s i (Literal b)) (list_all (is_good_fragment s i) fs) all)
+joined_good s i (Fill m) (Fill n ∷ fs) h all = joined_good s i (Fill (m + n)) fs (more_fill m n h) (right (is_good_fragment s i (Fill n)) (list_all (is_good_fragment s i) fs) all)
+joined_good s i f (g ∷ fs) h all =
+    and (is_good_fragment s i f) (list_all (is_good_fragment s i) (joined g fs)) h
+    (joined_good s i g fs (left (is_good_fragment s i g) (list_all (is_good_fragment s i) fs) all) (right (is_good_fragment s i g) (list_all (is_good_fragment s i) fs) all))
+
+abbrev len_of : List Fragment → ℕ
+len_of fs = sum_by fragment_len fs
+
+pub joined_len : (f : Fragment) (fs : List Fragment) → len_of (joined f fs) ≡ fragment_len f + len_of fs
+joined_len f [] = sum_by-cons fragment_len f []
+joined_len (Literal a) (Literal b ∷ fs) =
+    let again : len_of (joined (Literal (a ++ b)) fs) ≡ length (a ++ b) + len_of fs = joined_len (Literal (a ++ b)) fs in
+    let more : len_of (Literal b ∷ fs) ≡ length b + len_of fs = sum_by-cons fragment_len (Literal b) fs in
+    let both : length (a ++ b) ≡ length a + length b = length-append a b in
+    omega (arith, again, more, both)
+joined_len (Fill m) (Fill n ∷ fs) =
+    let again : len_of (joined (Fill (m + n)) fs) ≡ (m + n) + len_of fs = joined_len (Fill (m + n)) fs in
+    let more : len_of (Fill n ∷ fs) ≡ n + len_of fs = sum_by-cons fragment_len (Fill n) fs in
+    omega (arith, again, more)
+joined_len f (g ∷ fs) = sum_by-cons fragment_len f (joined g fs) ∙ ap (λ n. fragment_len f + n) (joined_len g fs ∙ sym (sum_by-cons fragment_len g fs))
+
+literals_alike : (f : Fragment) (a b : List ℕ) → joins f (Literal a) ≡ joins f (Literal b)
+literals_alike x a b = grind (arith, common_steps)
+
+fills_alike : (f : Fragment) (m n : ℕ) → joins f (Fill m) ≡ joins f (Fill n)
+fills_alike x m n = grind (arith, common_steps)
+
+-- a fragment in front of joined ones, which doesn't join the first of them
+pub front_apart : (f g : Fragment) (fs : List Fragment) → joins f g ≡ false → are_apart (joined g fs) ≡ true → are_apart (f ∷ joined g fs) ≡ true
+front_apart f g [] h all = and (not (joins f g)) true (ap not h) refl
+front_apart f (Literal a) (Literal b ∷ fs) h all = front_apart f (Literal (a ++ b)) fs (literals_alike f (a ++ b) a ∙ h) all
+front_apart f (Fill m) (Fill n ∷ fs) h all = front_apart f (Fill (m + n)) fs (fills_alike f (m + n) m ∙ h) all
+front_apart f g (e ∷ fs) h all = and (not (joins f g)) (are_apart (g ∷ joined e fs)) (ap not h) all
+
+pub joined_apart : (f : Fragment) (fs : List Fragment) → are_apart (joined f fs) ≡ true
+joined_apart f [] = refl
+joined_apart (Literal a) (Literal b ∷ fs) = joined_apart (Literal (a ++ b)) fs
+joined_apart (Fill m) (Fill n ∷ fs) = joined_apart (Fill (m + n)) fs
+joined_apart (Literal a) (Fill n ∷ fs) = front_apart (Literal a) (Fill n) fs refl (joined_apart (Fill n) fs)
+joined_apart (Literal a) (Value w line form ∷ fs) = front_apart (Literal a) (Value w line form) fs refl (joined_apart (Value w line form) fs)
+joined_apart (Fill m) (Literal b ∷ fs) = front_apart (Fill m) (Literal b) fs refl (joined_apart (Literal b) fs)
+joined_apart (Fill m) (Value w line form ∷ fs) = front_apart (Fill m) (Value w line form) fs refl (joined_apart (Value w line form) fs)
+joined_apart (Value w line form) (g ∷ fs) = front_apart (Value w line form) g fs refl (joined_apart g fs)
+
+-- ---- The fragments of parts.
+
+module _ (at : Place → Origin) (s i : List ℕ) where
+  abbrev pub made : Part → Fragment
+  made p = fragment_of at s i p
+
+  -- a part of no byte is left out
+  abbrev pub is_good_part : Part → Bool
+  is_good_part p = is_empty (made p) || is_good_fragment (length s) (length i) (made p)
+
+  made_len : (p : Part) → fragment_len (made p) ≡ part_len p
+  made_len x = grind (arith, common_steps)
+
+  empty_len : (f : Fragment) → is_empty f ≡ true → fragment_len f ≡ 0
+  empty_len x h = grind (arith, common_steps)
+
+  pub fragments_len : (ps : List Part) → len_of (fragments_of at s i ps) ≡ sum_by part_len ps
+  fragments_len [] = refl
+  fragments_len (p ∷ ps) = grind (arith, common_steps, (fragments_len ps), empty_len, made_len, sum_by-cons)
+
+  pub fragments_good : (ps : List Part) → list_all is_good_part ps ≡ true → AllGood (length s) (length i) (fragments_of at s i ps)
+  fragments_good [] h = refl
+  fragments_good (p ∷ ps) h = grind (arith, common_steps, (fragments_good ps), and, left, right)
+
+  part_good : (count : ℕ) (p : Part) → IsSoundPart s count p → HasAll i (part_imports p) → is_good_part p ≡ true
+  part_good count (Known []) sound has_imports = refl
+  part_good count (Known (b ∷ bytes)) sound has_imports = grind (arith, nat_tests)
+  part_good count (Filled zero) sound has_imports = refl
+  part_good count (Filled (suc n)) sound has_imports = grind (arith, nat_tests)
+  part_good count (Waiting width line f) sound has_imports =
+      and (is_good_form (length s) (length i) (numbered s i f)) (not (is_literal (numbered s i f)))
+      (good_form s i count f sound.0.form has_imports) (ap not (same_literal s i f ∙ sound.1))
+
+  parts_good : (count : ℕ) (ps : List Part) → AllByRecursion (IsSoundPart s count) ps → HasAll i (flat_map part_imports ps) → list_all is_good_part ps ≡ true
+  parts_good count [] sound has_imports = refl
+  parts_good count (p ∷ ps) sound has_imports = grind (arith, common_steps, (parts_good count ps sound.1 (second_has i (part_imports p) (flat_map part_imports ps) has_imports)), and, part_good, first_has, second_has)
+
+  -- all parts in a segment
+  pub parts_in_good : (names : List (List ℕ)) (count g : ℕ) (cs : List Content) → AllByRecursion (IsSoundContent s count) cs → HasAll i (flat_map (content_imports names) cs) → list_all is_good_part (parts_in cs g) ≡ true
+  parts_in_good names count g [] sound has_imports = refl
+  parts_in_good names count g (c ∷ cs) sound has_imports =
+      by (nat_eq c.segment g) (parts_in_good names count g cs sound.1 (second_has i (content_imports names c) (flat_map (content_imports names) cs) has_imports))
+    where
+      here : list_all is_good_part c.parts ≡ true
+      here = parts_good count c.parts sound.0.parts (first_has i (flat_map part_imports c.parts) (flat_map (said_imports names) c.said) (first_has i (content_imports names c) (flat_map (content_imports names) cs) has_imports))
+
+      by : (b : Bool) → list_all is_good_part (parts_in cs g) ≡ true → list_all is_good_part (flat_map (λ c. c.parts) (cond b (c ∷ filter (λ c. nat_eq c.segment g) cs) (filter (λ c. nat_eq c.segment g) cs))) ≡ true
+      by true rest = list_all-append is_good_part c.parts (parts_in cs g) ∙ and (list_all is_good_part c.parts) (list_all is_good_part (parts_in cs g)) here rest
+      by false rest = rest
+
+  -- ---- Sections.
+
+  all_joined_good : (fs : List Fragment) → AllGood (length s) (length i) fs → AllGood (length s) (length i) (all_joined fs)
+  all_joined_good x h = grind (arith, common_steps, joined_good, left, right)
+
+  all_joined_len : (fs : List Fragment) → len_of (all_joined fs) ≡ len_of fs
+  all_joined_len x = grind (arith, common_steps, joined_len, sum_by-cons)
+
+  all_joined_apart : (fs : List Fragment) → are_apart (all_joined fs) ≡ true
+  all_joined_apart x = grind (arith, common_steps, joined_apart)
+
+  power_small : (o : Option Segment) → segment_power o ≤ 15
+  power_small x = grind (arith, common_steps)
+
+  pub section_good : (segments : List Segment) (cs : List Content) (g : ℕ) → sum_by part_len (parts_in cs g) ≤ section_limit → list_all is_good_part (parts_in cs g) ≡ true → is_good_section (length s) (length i) (section_of at segments s i cs g) ≡ true
+  section_good segments cs g room good = grind (arith, common_steps, power_small, nat_tests, all_joined_len, fragments_len, and, all_joined_good, fragments_good, all_joined_apart)

@@ -1,0 +1,57 @@
+-- Keys in the order in which they first come.
+use Rattle.std.proofs.lemmas.Grind.{common_steps}
+use Rattle.std.proofs.Common.{◌≡◌, ◌∙◌, ℕ, ◌+◌, ◌<◌, zero, suc, List, [], ◌∷◌, ◌++◌, drop, length, get_or, map, position, nat_eq, refl, sym, ap, arith, add-one}
+use Rattle.std.specs.List.{list_any, flat_map}
+use Rattle.std.specs.Str.{bytes_eq}
+use Rattle.std.specs.Prelude.{if◌then◌else◌}
+use Rattle.std.specs.Global.{Vec}
+use Rattle.std.proofs.lemmas.Cmp.{nat_list_eq_equiv}
+use Rattle.indexmap.specs.IndexSet.{IndexSet}
+use Rattle.ast65.proofs.Lists.{position_mapped}
+use Rattle.syntax65.specs.declared.place.Place.{Place}
+use Rattle.semantics65.specs.declared.contents.Declaration as said
+use Rattle.semantics65.specs.declared.contents.Declaration.TheVariants as told
+use Rattle.semantics65.specs.Numbering.{content_imports, imports_in, key_of, once, optional_key, said_imports}
+use Rattle.semantics65.specs.Views.{said_at}
+use Rattle.emit65.specs.declared.entries.Entry.{Entry}
+use Rattle.emit65.specs.declared.entries.Entry.TheVariants.{Bytes, Room, Value, Told, Open}
+use Rattle.emit65.specs.Fed.{content_of, names_of, place_by}
+
+pub once_append : (ks found ls : List ℕ) → once (once found ks) ls ≡ once found (ks ++ ls)
+once_append [] found ls = refl
+once_append (k ∷ ks) found ls = once_append ks (if list_any (nat_eq k) found then found else found ++ k ∷ []) ls
+
+drop_at : {A : Type 0} (xs : List A) (i : ℕ) (x : A) → i < length xs → x ≡ get_or xs i x → drop i xs ≡ x ∷ drop (suc i) xs
+drop_at [] i x lt e = absurd (omega arith)
+drop_at (y ∷ ys) zero x lt e = ap (λ z. z ∷ ys) (sym e)
+drop_at (y ∷ ys) (suc i) x lt e = drop_at ys i x (omega arith) e
+
+pub drop_item : {A : Type 0} (xs : List A) (i : ℕ) (x : A) → i < length xs → x ≡ get_or xs i x → drop i xs ≡ x ∷ drop (i + 1) xs
+drop_item xs i x lt e = rw add-one (drop_at xs i x lt e)
+
+-- one item more of a list of which the rest is still to be added
+pub once_step : {A : Type 0} (f : A → List ℕ) (xs : List A) (i : ℕ) (x : A) (old all : List ℕ) → i < length xs → x ≡ get_or xs i x → once old (flat_map f (drop i xs)) ≡ all → once (once old (f x)) (flat_map f (drop (i + 1) xs)) ≡ all
+once_step f xs i x old all lt at inv = grind (arith, common_steps, once_append, drop_item)
+
+-- ---- Keys by name.
+
+-- it is found by the name's bytes
+pub key_found : {S : Type 0} (imports : IndexSet (Vec ℕ) S) (name : List ℕ) → key_of (names_of imports) name ≡ position (λ k. bytes_eq name k.items) imports.keys
+key_found imports name = position_mapped (λ m. bytes_eq m name) (λ k. k.items) imports.keys ∙ (λ i. position (λ k. nat_list_eq_equiv.symm k.items name i) imports.keys)
+
+-- ---- Imports of what is said, wherever it stands.
+
+pub said_anywhere : (names : List (List ℕ)) (p q : Place) (ss : List said.Declaration) → flat_map (said_imports names) (map (said_at p) ss) ≡ flat_map (said_imports names) (map (said_at q) ss)
+said_anywhere names p q [] = refl
+said_anywhere names p q (told.Exported n f ∷ ss) = ap (λ ks. imports_in f ++ ks) (said_anywhere names p q ss)
+said_anywhere names p q (told.ForcedImport n ∷ ss) = ap (λ ks. optional_key (key_of names n) ++ ks) (said_anywhere names p q ss)
+said_anywhere names p q (told.Asserted act words f ∷ ss) = ap (λ ks. imports_in f ++ ks) (said_anywhere names p q ss)
+
+-- the imports of entries, whatever the files are
+pub imports_anyhow : (names files more : List (List ℕ)) (es : List Entry) → flat_map (content_imports names) (map (content_of files) es) ≡ flat_map (content_imports names) (map (content_of more) es)
+imports_anyhow names files more [] = refl
+imports_anyhow names files more (Bytes g bytes ∷ es) = imports_anyhow names files more es
+imports_anyhow names files more (Room g n ∷ es) = imports_anyhow names files more es
+imports_anyhow names files more (Value width g o f ∷ es) = ap (λ ks. ((imports_in f ++ []) ++ []) ++ ks) (imports_anyhow names files more es)
+imports_anyhow names files more (Told o ss ∷ es) = λ n. said_anywhere names (place_by files o) (place_by more o) ss n ++ imports_anyhow names files more es n
+imports_anyhow names files more (Open ∷ es) = imports_anyhow names files more es

@@ -1,0 +1,178 @@
+-- Names of files by their places in a table in which none stands twice.
+use Rattle.std.proofs.Common.{◌≡◌, ◌∙◌, ℕ, ◌<◌, Bool, true, false, cond, get_or, List, [], ◌∷◌, ◌++◌, length, map, position, Some, None, refl, sym, ap, arith, append-nil, ◌+◌, not, ◌||◌, Option, nat_eq, nat_lt, subst}
+use Rattle.std.specs.Prelude.{slice_get, if◌then◌else◌}
+use Rattle.std.specs.List.{position_or_len, AllByRecursion, IsDistinct, list_any}
+use Rattle.std.specs.Str.{bytes_eq}
+use Rattle.std.proofs.lemmas.Bool.Decides.{nat_tests}
+use Rattle.std.proofs.lemmas.List.Sums.{passes_at_first, position_or_len_is}
+use Rattle.std.proofs.lemmas.Option.{slice_get-get_or, unwrap_or-slice_get}
+use Rattle.ast65.proofs.Lists.{same_bytes, bytes_swap, position_mapped}
+use Rattle.emit65.specs.Fed.{Begins}
+use borrow.Author.Rules.{rules}
+use Rattle.std.proofs.lemmas.Grind.{common_steps}
+use Rattle.std.proofs.lemmas.List.{map-append}
+use Rattle.std.proofs.lemmas.List.Folds.{list_any_at}
+use Rattle.std.proofs.lemmas.Map.Keys.{apart_from_distinct}
+use Rattle.std.proofs.lemmas.Slice.Eq.{bytes_eq-Decides}
+use Rattle.syntax65.specs.declared.place.Place.{Place}
+use Rattle.object65.specs.declared.object.Origin.{Origin}
+use Rattle.semantics65.specs.Numbering.{in_files, name_of, names_once, number_of, once, optional_key}
+use Rattle.emit65.specs.Inner.Ordering.{origin_by}
+use Rattle.emit65.proofs.Fitting.{all_more}
+use Rattle.emit65.proofs.Renumbering.{HasAll, has, left, number_is, place_below}
+
+-- ---- A table of files, in which each name stands once.
+
+-- the name at the place at which it is found
+pub named_there : (names : List (List ℕ)) (n : List ℕ) (i : ℕ) → position (bytes_eq n) names ≡ Some i → slice_get names i ≡ Some n
+named_there names n i e = by (nat_lt at (length names)) refl e
+  where
+    at : ℕ
+    at = position_or_len (bytes_eq n) names
+
+    by : (b : Bool) → nat_lt at (length names) ≡ b → cond b (Some at) None ≡ Some i → slice_get names i ≡ Some n
+    by true q e =
+        let lt : at < length names = grind (arith, nat_tests) in
+        let here : at ≡ i = cc in
+        ap (slice_get names) (sym here) ∙ slice_get-get_or names at [] lt
+        ∙ ap Some (sym (same_bytes n (get_or names at []) (passes_at_first (bytes_eq n) names [] lt)))
+    by false q e = absurd cc
+
+map_more : {A : Type 0} (f : A → List ℕ) (xs : List A) (x : A) → map f (xs ++ x ∷ []) ≡ map f xs ++ f x ∷ []
+map_more f [] x = refl
+map_more f (y ∷ xs) x = ap (λ l. f y ∷ l) (map_more f xs x)
+
+-- a name is put in behind the others, or stands there already
+pub begins_inserted : {A : Type 0} (f : A → List ℕ) (known new : List A) (x : A) (b : Bool) → new ≡ (if b then known else known ++ x ∷ []) → Begins (map f known) (map f new)
+begins_inserted f known new x true e = ([], ap (map f) e ∙ sym (append-nil (map f known)))
+begins_inserted f known new x false e = (f x ∷ [], ap (map f) e ∙ map_more f known x)
+
+-- ---- Names of files by their places in a table in which none stands twice.
+
+pub any_below : {A : Type 0} (p : A → Bool) (xs : List A) → list_any p xs ≡ true → position_or_len p xs < length xs
+any_below p [] h = absurd cc
+any_below p (x ∷ xs) h = grind (arith, common_steps, (any_below p xs))
+
+pub position_at : {A : Type 0} (p : A → Bool) (xs : List A) → position_or_len p xs < length xs → position p xs ≡ Some (position_or_len p xs)
+position_at p xs lt = grind (arith, common_steps)
+
+pub itself : (n : List ℕ) → bytes_eq n n ≡ true
+itself n = grind (arith, bytes_eq-Decides n n)
+
+module _ (files : List (List ℕ)) (apart : IsDistinct bytes_eq files) where
+  abbrev pub AreBelow : List ℕ → Type 0
+  AreBelow ks = AllByRecursion (λ k. k < length files) ks
+
+  name_at : (k : ℕ) → name_of files k ≡ get_or files k []
+  name_at k = unwrap_or-slice_get files k []
+
+  -- two places have one name where they are one
+  one_name : (k j : ℕ) → k < length files → j < length files → bytes_eq (name_of files k) (name_of files j) ≡ nat_eq k j
+  one_name k j below_k below_j = by (nat_eq k j) refl
+    where
+      differ : (c : Bool) → nat_lt k j ≡ c → nat_eq k j ≡ false → bytes_eq (get_or files k []) (get_or files j []) ≡ false
+      differ true e other = let lt : k < j = grind (arith, nat_tests) in apart_from_distinct bytes_eq files k j [] apart lt below_j
+      differ false e other =
+          let lt : j < k = grind (arith, nat_tests) in
+          bytes_swap (get_or files k []) (get_or files j []) ∙ apart_from_distinct bytes_eq files j k [] apart lt below_k
+
+      by : (b : Bool) → nat_eq k j ≡ b → bytes_eq (name_of files k) (name_of files j) ≡ b
+      by true e =
+          let same : k ≡ j = grind (arith, nat_tests) in
+          ap (λ n. bytes_eq (name_of files k) (name_of files n)) (sym same) ∙ itself (name_of files k)
+      by false e = (λ n. bytes_eq (name_at k n) (name_at j n)) ∙ differ (nat_lt k j) refl e
+
+  -- a name is found at its place
+  pub found_there : (k : ℕ) → k < length files → position (bytes_eq (name_of files k)) files ≡ Some k
+  found_there k lt =
+      let first : position_or_len (bytes_eq (name_of files k)) files ≡ k =
+      position_or_len_is (bytes_eq (name_of files k)) files k [] (omega (arith, lt))
+      (λ j before. ap (bytes_eq (name_of files k)) (sym (name_at j)) ∙ one_name k j lt (omega (arith, lt, before)) ∙ (let other : nat_eq k j ≡ false = grind (arith, nat_tests) in other))
+      (λ within. ap (bytes_eq (name_of files k)) (sym (name_at k)) ∙ itself (name_of files k)) in
+      let yes : nat_lt k (length files) ≡ true = grind (arith, nat_tests) in
+      ap (λ m. cond (nat_lt m (length files)) (Some m) None) first ∙ ap (λ b. cond b (Some k) None) yes
+
+  pub listed_there : (k : ℕ) → k < length files → list_any (bytes_eq (name_of files k)) files ≡ true
+  listed_there k lt = list_any_at (bytes_eq (name_of files k)) files k [] lt (ap (bytes_eq (name_of files k)) (sym (name_at k)) ∙ itself (name_of files k))
+
+  first_same : (k : ℕ) (order : List ℕ) → k < length files → AreBelow order → position_or_len (λ j. bytes_eq (name_of files k) (name_of files j)) order ≡ position_or_len (nat_eq k) order
+  first_same k [] lt below = refl
+  first_same k (j ∷ order) lt below = λ n. cond (not (one_name k j lt below.0 n)) (1 + first_same k order lt below.1 n) 0
+
+  -- and among the names of others by its number there
+  found_by : (k : ℕ) (order : List ℕ) → k < length files → AreBelow order → has order k ≡ true → position (bytes_eq (name_of files k)) (map (name_of files) order) ≡ Some (number_of order k)
+  found_by k order lt below h =
+      position_mapped (bytes_eq (name_of files k)) (name_of files) order
+      ∙ ap (λ m. cond (nat_lt m (length order)) (Some m) None) (first_same k order lt below)
+      ∙ position_at (nat_eq k) order (place_below order k h)
+      ∙ ap Some (sym (number_is order k h))
+
+  any_same : (k : ℕ) (found : List ℕ) → k < length files → AreBelow found → list_any (bytes_eq (name_of files k)) (map (name_of files) found) ≡ list_any (nat_eq k) found
+  any_same k [] lt below = refl
+  any_same k (j ∷ found) lt below = λ n. one_name k j lt below.0 n || any_same k found lt below.1 n
+
+  -- names are taken once where their places are
+  pub once_named : (found ks : List ℕ) → AreBelow found → AreBelow ks → names_once (map (name_of files) found) (map (name_of files) ks) ≡ map (name_of files) (once found ks)
+  once_named found [] f g = refl
+  once_named found (k ∷ ks) f g =
+      ap (λ b. names_once (if b then map (name_of files) found else map (name_of files) found ++ name_of files k ∷ []) (map (name_of files) ks)) (any_same k found g.0 f)
+      ∙ by (list_any (nat_eq k) found) (once_named found ks f g.1)
+      (once_named (found ++ k ∷ []) ks (all_more (λ k. k < length files) found (k ∷ []) f (g.0, tt)) g.1)
+    where
+      push : map (name_of files) found ++ name_of files k ∷ [] ≡ map (name_of files) (found ++ k ∷ [])
+      push = sym (map-append (name_of files) found (k ∷ []))
+
+      by : (b : Bool) →
+          names_once (map (name_of files) found) (map (name_of files) ks) ≡ map (name_of files) (once found ks) →
+          names_once (map (name_of files) (found ++ k ∷ [])) (map (name_of files) ks) ≡ map (name_of files) (once (found ++ k ∷ []) ks) →
+          names_once (if b then map (name_of files) found else map (name_of files) found ++ name_of files k ∷ []) (map (name_of files) ks) ≡ map (name_of files) (once (if b then found else found ++ k ∷ []) ks)
+      by true old new = old
+      by false old new = ap (λ ns. names_once ns (map (name_of files) ks)) push ∙ new
+
+  -- ---- Places whose file is listed.
+
+  abbrev pub is_listed : Place → Bool
+  is_listed place = list_any (bytes_eq place.file) files
+
+  abbrev key_at : Place → ℕ
+  key_at place = position_or_len (bytes_eq place.file) files
+
+  listed_below : (place : Place) → is_listed place ≡ true → key_at place < length files
+  listed_below place h = any_below (bytes_eq place.file) files h
+
+  pub listed_at : (place : Place) → is_listed place ≡ true → (in_files files place).file ≡ Some (key_at place)
+  listed_at place h = position_at (bytes_eq place.file) files (listed_below place h)
+
+  listed_name : (place : Place) → is_listed place ≡ true → name_of files (key_at place) ≡ place.file
+  listed_name place h = search (rules, listed_below, name_at, same_bytes, passes_at_first)
+
+  -- an origin by the order is that by the names in that order
+  pub placed_by : (order : List ℕ) (place : Place) → AreBelow order → is_listed place ≡ true → HasAll order (optional_key (in_files files place).file) → origin_by order (in_files files place) ≡ in_files (map (name_of files) order) place
+  placed_by order place below h written =
+      ap (λ f. origin_by order (made f)) (listed_at place h) ∙ ap made (sym there)
+    where
+      made : Option ℕ → Origin
+      made f = record { file = f; line = place.line }
+
+      has_it : has order (key_at place) ≡ true
+      has_it = left (has order (key_at place)) true (subst (λ (f : Option ℕ). HasAll order (optional_key f)) (listed_at place h) written)
+
+      there : position (bytes_eq place.file) (map (name_of files) order) ≡ Some (number_of order (key_at place))
+      there =
+          ap (λ n. position (bytes_eq n) (map (name_of files) order)) (sym (listed_name place h))
+          ∙ found_by (key_at place) order (listed_below place h) below has_it
+
+  -- ---- Places of names in the table.
+
+  pub record IsNaming (ks : List ℕ) (ns : List (List ℕ)) : Type 0 where
+    pub names : map (name_of files) ks ≡ ns
+    pub below : AreBelow ks
+
+  pub naming_none : IsNaming [] []
+  naming_none = record { names = refl; below = tt }
+
+  pub naming_more : (ks js : List ℕ) (ns ms : List (List ℕ)) → IsNaming ks ns → IsNaming js ms → IsNaming (ks ++ js) (ns ++ ms)
+  naming_more ks js ns ms a b = grind (arith, common_steps)
+
+  pub naming_one : (place : Place) → is_listed place ≡ true → IsNaming (optional_key (in_files files place).file) (place.file ∷ [])
+  naming_one place h = grind (arith, common_steps, listed_at, listed_name, listed_below)

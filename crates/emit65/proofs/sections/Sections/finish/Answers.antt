@@ -1,0 +1,26 @@
+use Rattle.std.proofs.Common.{◌∙◌, [], ap}
+use Rattle.std.proofs.lemmas.Result.{IfOk-weaker}
+use Rattle.object65.specs.Objects.{is_good_object}
+use Rattle.emit65.specs.Fed.{names_of, names_in}
+use Rattle.emit65.specs.Inner.Ordering.{in_order}
+use Rattle.emit65.proofs.Ordered.{finished}
+use Rattle.emit65.proofs.GoodObjects.{good_object}
+use Rattle.emit65.proofs.sections.Sections.finish.Goals as goal
+
+pub returns-clause-object : goal.returns-clause-object
+returns-clause-object c =
+    let files = names_in c.args.self.files in
+    let entries = c.in_ok-entries.ensures in
+    IfOk-weaker c.in_order.result _ _
+    (λ o made cs stands. made ∙ ap (in_order files) c.in_ok-object.ensures.object ∙ finished c.args.segments.now (names_of c.args.imports.now) c.args.self c.in_ok-entries.entries.items cs c.in_order.ensures.distinct stands (entries.alike files []) (entries.standing files))
+    c.in_order.ensures.object
+
+pub returns-clause-good : goal.returns-clause-good
+returns-clause-good c =
+    let files = names_in c.args.self.files in
+    let entries = c.in_ok-entries.ensures in
+    IfOk-weaker c.in_order.result _ _
+    (λ o made cs stands sound.
+    ap is_good_object (made ∙ ap (in_order files) c.in_ok-object.ensures.object ∙ finished c.args.segments.now (names_of c.args.imports.now) c.args.self c.in_ok-entries.entries.items cs c.in_order.ensures.distinct stands (entries.alike files []) (entries.standing files))
+    ∙ good_object c.args.segments.now (names_of c.args.imports.now) cs sound)
+    c.in_order.ensures.object

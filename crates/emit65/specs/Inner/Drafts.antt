@@ -1,0 +1,143 @@
+-- Tables and sections in the making, from which the object of a module's contents is built.
+use Rattle.std.specs.Prelude.{◌≡◌, ℕ, ◌+◌, nat_eq, List, [], ◌∷◌, ◌++◌, map, filter_map, Option, Some, None, slice_get, if◌then◌else◌}
+use Rattle.std.specs.List.{AllByRecursion, flat_map}
+use Rattle.syntax65.specs.declared.place.Place.{Place}
+use Rattle.object65.specs.declared.object.Assert.{Assert}
+use Rattle.object65.specs.declared.object.Export.{Export}
+use Rattle.object65.specs.declared.object.Fragment.{Fragment}
+use Rattle.object65.specs.declared.object.Fragment.TheVariants.{Literal, Fill}
+use Rattle.object65.specs.declared.object.Fragment.TheVariants as fragment
+use Rattle.object65.specs.declared.object.Object.{Object}
+use Rattle.object65.specs.declared.object.Origin.{Origin}
+use Rattle.object65.specs.declared.object.Section.{Section}
+use Rattle.object65.specs.Objects.{FitsBits, FragmentFits, OriginFits}
+use Rattle.semantics65.specs.declared.contents.Declaration.{Declaration}
+use Rattle.semantics65.specs.declared.contents.Segment.{Segment}
+use Rattle.semantics65.specs.Numbering.{assert_of, exports_among, is_empty, name_of, numbered, segment_name, segment_power}
+use Rattle.semantics65.specs.Views.{place_in, said_at}
+use Rattle.emit65.specs.declared.entries.Entry.{Entry}
+use Rattle.emit65.specs.declared.entries.Entry.TheVariants.{Bytes, Room, Value, Told}
+use Rattle.emit65.specs.Fed.{origin_by}
+use Rattle.emit65.specs.declared.numbering.drafts.Draft.{Draft}
+use Rattle.emit65.specs.declared.numbering.exports.Declared.{Declared}
+
+-- the names are those of the exports
+abbrev pub AreNamed : Declared → Type 0
+AreNamed t = map (λ k. k.now) t.names.keys ≡ map (λ e. e.name) t.exports
+
+-- ---- Sections in the making.
+
+abbrev pub new_draft : ℕ → Draft
+new_draft g = record { segment = g; done = []; last = None }
+
+abbrev pub optional_fragment : Option Fragment → List Fragment
+optional_fragment None = []
+optional_fragment (Some f) = f ∷ []
+
+abbrev pub all_of_draft : Draft → List Fragment
+all_of_draft d = d.done ++ optional_fragment d.last
+
+-- behind an open fragment another one begins
+abbrev pub begun : Draft → Fragment → Draft
+begun d f = record d { done = all_of_draft d; last = Some f }
+
+-- or is joined to it
+abbrev pub grown : Draft → Option Fragment → Fragment → Draft
+grown d (Some (Literal a)) (Literal b) = record d { last = Some (Literal (a ++ b)) }
+grown d (Some (Fill m)) (Fill n) = record d { last = Some (Fill (m + n)) }
+grown d last f = begun d f
+
+abbrev pub with_fragment : Draft → Fragment → Draft
+with_fragment d f = if is_empty f then d else grown d d.last f
+
+-- ---- Entries, one by one, whose origins are kept as they stand.
+
+-- all stands at this origin
+abbrev pub here : Origin → Place → Origin
+here origin place = origin
+
+-- so a place doesn't count
+abbrev pub anywhere : Place
+anywhere = place_in [] 0
+
+-- the segment into which an entry puts something
+abbrev pub segment_of : Entry → Option ℕ
+segment_of (Bytes g bytes) = Some g
+segment_of (Room g n) = Some g
+segment_of (Value width g o f) = Some g
+segment_of _ = None
+
+-- a draft of this segment behind an entry
+abbrev pub with_put : (sections imports : List ℕ) → Entry → Draft → Draft
+with_put sections imports (Bytes g bytes) d = with_fragment d (Literal bytes)
+with_put sections imports (Room g n) d = with_fragment d (Fill n)
+with_put sections imports (Value width g o f) d = with_fragment d (fragment.Value width (origin_by o) (numbered sections imports f))
+with_put sections imports _ d = d
+
+-- a change of the draft of one segment alone
+abbrev pub in_segment : Option ℕ → (Draft → Draft) → Draft → Draft
+in_segment None change d = d
+in_segment (Some g) change d = if nat_eq g d.segment then change d else d
+
+-- a draft behind an entry, which may stand in its segment
+abbrev pub with_entry : (sections imports : List ℕ) → Entry → Draft → Draft
+with_entry sections imports e d = in_segment (segment_of e) (with_put sections imports e) d
+
+abbrev pub with_entries : (sections imports : List ℕ) → List Entry → List Draft → List Draft
+with_entries sections imports [] ds = ds
+with_entries sections imports (e ∷ es) ds = with_entries sections imports es (map (with_entry sections imports e) ds)
+
+-- exports behind those found
+abbrev pub exports_at : (sections imports : List ℕ) → Origin → List Export → List Declaration → List Export
+exports_at sections imports origin found ss = exports_among (here origin) sections imports found (map (said_at anywhere) ss)
+
+abbrev pub exports_from : (sections imports : List ℕ) → List Export → List Entry → List Export
+exports_from sections imports found [] = found
+exports_from sections imports found (Told o ss ∷ es) = exports_from sections imports (exports_at sections imports (origin_by o) found ss) es
+exports_from sections imports found (e ∷ es) = exports_from sections imports found es
+
+abbrev pub asserts_at : (sections imports : List ℕ) → Origin → List Declaration → List Assert
+asserts_at sections imports origin ss = filter_map (assert_of (here origin) sections imports) (map (said_at anywhere) ss)
+
+abbrev pub entry_asserts : (sections imports : List ℕ) → Entry → List Assert
+entry_asserts sections imports (Told o ss) = asserts_at sections imports (origin_by o) ss
+entry_asserts sections imports _ = []
+
+abbrev pub section_from : List Segment → Draft → Section
+section_from segments d = record {
+  name = segment_name (slice_get segments d.segment);
+  align = segment_power (slice_get segments d.segment);
+  fragments = all_of_draft d;
+}
+
+-- ---- The numbers are those of their types.
+
+pub record DraftFits (d : Draft) : Type 0 where
+  pub done : AllByRecursion FragmentFits d.done
+  pub last : AllByRecursion FragmentFits (optional_fragment d.last)
+
+abbrev pub SectionFits : Section → Type 0
+SectionFits s = AllByRecursion FragmentFits s.fragments
+
+abbrev pub ExportFits : Export → Type 0
+ExportFits e = OriginFits e.origin × FitsBits e.form
+
+abbrev pub AssertFits : Assert → Type 0
+AssertFits a = OriginFits a.origin × FitsBits a.form
+
+pub record DeclaredFits (t : Declared) : Type 0 where
+  pub exports : AllByRecursion ExportFits t.exports
+  pub asserts : AllByRecursion AssertFits t.asserts
+
+-- ---- The object before its files have their order.
+
+-- its origins name files by their places in the table of all
+abbrev pub object_before : List Segment → List (List ℕ) → (sections imports : List ℕ) → List Entry → Object
+object_before segments names sections imports es = record {
+  version = 2;
+  files = [];
+  imports = map (name_of names) imports;
+  sections = map (section_from segments) (with_entries sections imports es (map new_draft sections));
+  exports = exports_from sections imports [] es;
+  asserts = flat_map (entry_asserts sections imports) es;
+}

@@ -1,0 +1,59 @@
+//! The names of files in which something stands or waits.
+
+ghost use Rattle.std.specs.Prelude.{◌≡◌, IfOk, IfSome, Some, length, slice_get};
+ghost use Rattle.emit65.specs.Fed.{Begins, names_in};
+
+use base65::Seed;
+use indexmap::IndexSet;
+use std::alloc::{AllocError, Global};
+
+/// The names of files in the order in which they are first asked for, each once.
+#[derive(Drop)]
+pub struct Files {
+    pub table: IndexSet<String, Seed>,
+    /// The place of the one that was asked for last.
+    last: Option<usize>,
+}
+
+impl Files {
+    /// No file.
+    pub fn new(alloc: Global, seed: Seed) -> Self
+        ensures { length (names_in result) ≡ 0 }
+    {
+        Files {
+            table: IndexSet::with_hasher(alloc, seed),
+            last: None,
+        }
+    }
+
+    /// The place of the file that was asked for last, where it has this name.
+    fn same_place(&self, name: &str) -> Option<usize>
+        ensures { IfSome result (λ i. slice_get (names_in self.now) i ≡ Some name.now) }
+    {
+        let place = self.last?;
+        let file = self.table.get_index(place)?;
+        if file.as_str() == name {
+            Some(place)
+        } else {
+            None
+        }
+    }
+
+    /// The place of a file by its name, which is put in if it is new. It is mostly the one before, and then it isn't
+    /// looked up.
+    pub fn place_of(&mut self, alloc: Global, name: &str) -> Result<usize, AllocError>
+        ensures more { Begins (names_in self.old) (names_in self.new) }
+        ensures place { IfOk result (λ i. slice_get (names_in self.new) i ≡ Some name.now) }
+    {
+        if let Some(place) = self.same_place(name) {
+            return Ok(place);
+        }
+        if let Some(place) = self.table.get_index_of(name) {
+            self.last = Some(place);
+            return Ok(place);
+        }
+        let (place, _) = self.table.insert_full(String::from_str(alloc, name)?)?;
+        self.last = Some(place);
+        Ok(place)
+    }
+}

@@ -1,0 +1,148 @@
+//! The keys of imports, by name and in the order of their numbers, and the numbers of sections.
+
+ghost use Rattle.std.specs.Prelude.{◌≡◌, IfOk, [], map, nat_eq, OnOk};
+ghost use Rattle.emit65.specs.Inner.Drafts.{anywhere};
+ghost use Rattle.semantics65.specs.Numbering.{key_of, number_of, numbered, content_imports, import_keys, imports_in, once, optional_key, said_imports};
+ghost use Rattle.object65.specs.Objects.{FitsBits};
+ghost use Rattle.indexmap.specs.IndexSet.{IsUnique};
+ghost use Rattle.emit65.specs.Fed.{content_of, names_of};
+ghost use Rattle.semantics65.specs.Views.{said_at};
+
+use crate::entries::Entry;
+use base65::Seed;
+use indexmap::IndexSet;
+use semantics65::Declaration;
+use object65::{Node, Norm};
+use std::alloc::{AllocError, Global};
+
+/// The names of imports, each once. The key of one is its place.
+pub type Imports = IndexSet<Vec<u8>, Seed>;
+
+/// The keys of sections and imports, whose places are their numbers.
+#[derive(Drop)]
+pub struct Numbers {
+    pub sections: IndexSet<u32>,
+    pub imports: IndexSet<u32>,
+}
+
+/// A place in 32 bits. No memory holds a table that needs more.
+pub fn narrow(place: usize) -> Result<u32, AllocError>
+    ensures { IfOk result (λ n. n ≡ place) }
+{
+    match u32::try_from(place) {
+        Ok(number) => Ok(number),
+        Err(_) => Err(AllocError),
+    }
+}
+
+/// The number of a key, or 0 where it has none.
+pub fn number_of(keys: &IndexSet<u32>, key: u32) -> Result<u32, AllocError>
+    ensures { IfOk result (λ n. n ≡ number_of keys.now.keys key) }
+{
+    match keys.get_index_of(&key) {
+        Some(place) => narrow(place),
+        None => Ok(0),
+    }
+}
+
+/// The form with the numbers of its sections and imports.
+pub fn numbered(alloc: Global, numbers: &Numbers, form: &Norm) -> Result<Norm, AllocError>
+    ensures form { IfOk result (λ f. f ≡ numbered numbers.now.sections.keys numbers.now.imports.keys form.now) }
+    ensures bits { IfOk result FitsBits }
+{
+    let node = match form.node() {
+        Node::Lit(value) => Node::Lit(*value),
+        Node::Sec(segment, offset) => Node::Sec(number_of(&numbers.sections, *segment)?, *offset),
+        Node::Imp(key) => Node::Imp(number_of(&numbers.imports, *key)?),
+        Node::Prefix(op, part) => {
+            let part = numbered(alloc, numbers, part)?;
+            Node::Prefix(*op, Box::new(alloc, part)?)
+        }
+        Node::Binary(op, left, right) => {
+            let left = numbered(alloc, numbers, left)?;
+            let right = numbered(alloc, numbers, right)?;
+            Node::Binary(*op, Box::new(alloc, left)?, Box::new(alloc, right)?)
+        }
+    };
+    Ok(Norm::new(node))
+}
+
+/// Adds the imports that a form holds.
+#[tactic(auto, using(crate::proofs::Keys::once_append))]
+fn add_form(keys: &mut IndexSet<u32>, form: &Norm) -> Result<(), AllocError>
+    ensures { OnOk result (keys.new.keys ≡ once keys.old.keys (imports_in form.now)) }
+{
+    match form.node() {
+        Node::Lit(_) | Node::Sec(_, _) => Ok(()),
+        Node::Imp(key) => {
+            keys.insert(*key)?;
+            Ok(())
+        }
+        Node::Prefix(_, part) => add_form(keys, part),
+        Node::Binary(_, left, right) => {
+            add_form(keys, left)?;
+            add_form(keys, right)
+        }
+    }
+}
+
+/// Adds the import of a name, if there is one.
+fn add_name(keys: &mut IndexSet<u32>, imports: &Imports, name: &[u8]) -> Result<(), AllocError>
+    ensures { OnOk result (keys.new.keys ≡ once keys.old.keys
+        (optional_key (key_of (names_of imports.now) name.now))) }
+{
+    if let Some(place) = imports.get_index_of(name) {
+        keys.insert(narrow(place)?)?;
+    }
+    Ok(())
+}
+
+/// Adds the imports of what a statement says.
+fn add_saying(
+    keys: &mut IndexSet<u32>,
+    imports: &Imports,
+    said: &Declaration,
+) -> Result<(), AllocError>
+    ensures { OnOk result (keys.new.keys ≡ once keys.old.keys
+        (said_imports (names_of imports.now) (said_at anywhere said.now))) }
+{
+    match said {
+        Declaration::Exported { form, .. } | Declaration::Asserted { form, .. } => {
+            add_form(keys, form)
+        }
+        Declaration::ForcedImport(name) => add_name(keys, imports, name.as_slice()),
+    }
+}
+
+/// Adds the imports of an entry.
+fn add_entry(keys: &mut IndexSet<u32>, imports: &Imports, entry: &Entry) -> Result<(), AllocError>
+    ensures { OnOk result (keys.new.keys
+        ≡ once keys.old.keys (content_imports (names_of imports.now) (content_of [] entry.now))) }
+{
+    match entry {
+        Entry::Value { form, .. } => add_form(keys, form),
+        Entry::Told { pos: _, said } => {
+            for saying in said.as_slice() {
+                add_saying(keys, imports, saying)?;
+            }
+            Ok(())
+        }
+        Entry::Bytes { .. } | Entry::Room { .. } | Entry::Open => Ok(()),
+    }
+}
+
+/// The imports that the object has.
+pub fn import_keys(
+    alloc: Global,
+    imports: &Imports,
+    entries: &[Entry],
+) -> Result<IndexSet<u32>, AllocError>
+    ensures { IfOk result (λ s. s.keys ≡
+        import_keys (names_of imports.now) (map (content_of []) entries.now)) }
+{
+    let mut keys = IndexSet::new(alloc);
+    for entry in entries {
+        add_entry(&mut keys, imports, entry)?;
+    }
+    Ok(keys)
+}

@@ -1,0 +1,198 @@
+//! Sections that are fed.
+
+ghost use Rattle.std.specs.Prelude.{◌≡◌, ◌<◌, length, IfOk, map, [], List, replicate, true, OnOk};
+ghost use Rattle.semantics65.specs.Contents.{put, telling, Content, Filled, Known, Waiting, asking};
+ghost use Rattle.semantics65.specs.Views.{part_at, place_in, said_at};
+ghost use Rattle.emit65.specs.Fed.{place_by, Begins, IsEntry, names_in, names_of, Awaits, Feeds, Receives, Stands};
+ghost use Rattle.object65.specs.Objects.{is_good_object, ObjectFits};
+ghost use Rattle.semantics65.specs.Numbering.{object_with, AreSound};
+
+use crate::entries::{Entries, Entry, SourcePos};
+use crate::files::Files;
+use crate::numbering::{Imports, in_order, narrow, object_of};
+use base65::{Seed, Sequence};
+use indexmap::IndexSet;
+use semantics65::{At, Declaration, Part, Segment};
+use object65::{Norm, Object, Width};
+use std::alloc::{AllocError, Global};
+
+impl Files {
+    /// Where something stands, by its file's place.
+    fn pos_of(&mut self, alloc: Global, at: At<'_>) -> Result<SourcePos, AllocError>
+        ensures more { Begins (names_in self.old) (names_in self.new) }
+        ensures listed { IfOk result (λ o. o.file < length (names_in self.new)) }
+        ensures place { IfOk result (λ o. place_by (names_in self.new) o
+            ≡ place_in at.entry.file.now at.entry.line) }
+    {
+        let place = self.place_of(alloc, at.file)?;
+        Ok(SourcePos {
+            file: narrow(place)?,
+            line: at.line,
+        })
+    }
+
+    /// A part of the section of a segment, of a statement that stands at this place. A value alone needs it.
+    fn put(
+        &mut self,
+        alloc: Global,
+        segment: u32,
+        at: At<'_>,
+        part: Part,
+    ) -> Result<Entry, AllocError>
+        ensures more { Begins (names_in self.old) (names_in self.new) }
+        ensures entry { IfOk result (λ e. IsEntry (names_in self.new) e (put segment
+            (part_at (place_in at.entry.file.now at.entry.line) part))) }
+    {
+        match part {
+            Part::Known(bytes) => Ok(Entry::Bytes { segment, bytes }),
+            Part::Filled(count) => Ok(Entry::Room { segment, count }),
+            Part::Waiting { width, form } => {
+                let pos = self.pos_of(alloc, at)?;
+                Ok(Entry::Value {
+                    width,
+                    segment,
+                    pos,
+                    form,
+                })
+            }
+        }
+    }
+}
+
+/// Sections in the making: what statements put into them and say to other modules and to the linker, in the order of
+/// the source. Neighbouring bytes of a section lie in one buffer.
+#[derive(Drop)]
+pub struct Sections {
+    /// The segments of which a section was asked for.
+    asked: IndexSet<u32>,
+    /// One of these, which was asked for last.
+    latest: Option<u32>,
+    /// The files in which values and what is said stand.
+    files: Files,
+    entries: Entries,
+}
+
+impl Sections {
+    /// No section, and nothing said.
+    pub fn new(alloc: Global, seed: Seed) -> Self
+        ensures { Stands [] [] result }
+    {
+        Sections {
+            asked: IndexSet::new(alloc),
+            latest: None,
+            files: Files::new(alloc, seed),
+            entries: Entries::new(alloc),
+        }
+    }
+
+    /// Asks for a section of a segment. Sections have the order in which they are first asked for.
+    pub fn ask(&mut self, segment: u32) -> Result<(), AllocError>
+        ensures { OnOk result (Feeds self.old self.new (asking segment)) }
+    {
+        if let Some(latest) = self.latest {
+            if latest == segment {
+                return Ok(());
+            }
+        }
+        self.asked.insert(segment)?;
+        self.latest = Some(segment);
+        Ok(())
+    }
+
+    /// Puts bytes into the section of a segment.
+    pub fn append(&mut self, segment: u32, bytes: &[u8]) -> Result<(), AllocError>
+        ensures { OnOk result (Feeds self.old self.new (put segment (Known bytes.now))) }
+    {
+        self.entries.add_bytes(segment, bytes)?;
+        Ok(())
+    }
+
+    /// Puts so many bytes of one value into the section of a segment.
+    pub fn fill(&mut self, segment: u32, count: u32, byte: u8) -> Result<(), AllocError>
+        ensures { OnOk result (Feeds self.old self.new (put segment (Known (replicate count byte)))) }
+    {
+        let mut bytes = Vec::new(self.entries.alloc);
+        bytes.resize(count as usize, byte)?;
+        self.entries.add_bytes(segment, bytes.as_slice())?;
+        Ok(())
+    }
+
+    /// Puts room of so many bytes into the section of a segment, which the linker fills.
+    pub fn room(&mut self, segment: u32, count: u32) -> Result<(), AllocError>
+        ensures { OnOk result (Feeds self.old self.new (put segment (Filled count))) }
+    {
+        self.entries.add_room(segment, count)?;
+        Ok(())
+    }
+
+    /// Puts a value that the linker computes into the section of a segment. Its statement stands at this place.
+    pub fn value(
+        &mut self,
+        segment: u32,
+        width: Width,
+        at: At<'_>,
+        form: Norm,
+    ) -> Result<(), AllocError>
+        ensures { OnOk result (Feeds self.old self.new
+            (put segment (Waiting width (place_in at.entry.file.now at.entry.line) form))) }
+    {
+        let part = Part::Waiting { width, form };
+        let entry = self.files.put(self.entries.alloc, segment, at, part)?;
+        self.entries.push(entry)?;
+        Ok(())
+    }
+
+    /// Defers what comes here: a part of a section, or what a statement says. What is deferred is settled in the same
+    /// order.
+    pub fn defer(&mut self) -> Result<(), AllocError>
+        ensures { OnOk result (Awaits self.old self.new) }
+    {
+        self.entries.defer()?;
+        Ok(())
+    }
+
+    /// Settles the first that is still deferred, as a part of the section of a segment. Its statement stands at this
+    /// place.
+    pub fn settle(&mut self, segment: u32, at: At<'_>, part: Part) -> Result<(), AllocError>
+        ensures { OnOk result (Receives self.old self.new
+            (put segment (part_at (place_in at.entry.file.now at.entry.line) part))) }
+    {
+        let entry = self.files.put(self.entries.alloc, segment, at, part)?;
+        self.entries.settle(entry);
+        Ok(())
+    }
+
+    /// Settles the first that is still deferred, as what a statement says that stands at this place.
+    pub fn settle_said(&mut self, at: At<'_>, said: Sequence<Declaration>) -> Result<(), AllocError>
+        ensures { OnOk result (Receives self.old self.new
+            (telling (map (said_at (place_in at.entry.file.now at.entry.line)) said))) }
+    {
+        let pos = self.files.pos_of(self.entries.alloc, at)?;
+        self.entries.settle(Entry::Told { pos, said });
+        Ok(())
+    }
+
+    /// The object of a module: of its segments, the names of its imports in the order of their keys, and what was fed.
+    pub fn finish(
+        self,
+        alloc: Global,
+        segments: &[Segment],
+        imports: &Imports,
+    ) -> Result<Object, AllocError>
+        ensures object { IfOk result (λ o. (cs : List Content) → Stands cs [] self →
+            o ≡ object_with segments.now (names_of imports.now) cs) }
+        ensures numbers { IfOk result ObjectFits }
+        ensures good { IfOk result (λ o. (cs : List Content) → Stands cs [] self →
+            AreSound segments.now (names_of imports.now) cs → is_good_object o ≡ true) }
+    {
+        let Sections {
+            asked,
+            latest: _,
+            files,
+            entries,
+        } = self;
+        let entries = entries.into_list()?;
+        let object = object_of(alloc, segments, imports, asked, entries)?;
+        in_order(alloc, &files, object)
+    }
+}

@@ -1,4 +1,0 @@
-pub mod Behind
-pub mod Measures
-pub mod Parts
-pub mod Segments

@@ -1,6 +1,0 @@
-use Rattle.std.proofs.Common.{◌≡◌, map, take}
-use Rattle.sections65.specs.Inner.Drafts.{new_draft}
-use Rattle.sections65.proofs.numbering.drafts.new_drafts.Given as goal
-
-abbrev pub invariant-loop-key : goal.invariant-loop-key
-invariant-loop-key l = l.drafts.items ≡ map new_draft (take l.key-index l.keys)

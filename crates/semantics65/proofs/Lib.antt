@@ -1,0 +1,16 @@
+pub mod Contents
+pub mod Entries
+pub mod NamedItems
+pub mod NamedLines
+pub mod NamedSteps
+pub mod OneLayouts
+pub mod Passes
+pub mod Resolving
+pub mod Segments
+pub mod SoundContents
+pub mod SoundForms
+pub mod SoundLayouts
+pub mod SoundParts
+pub mod SoundSayings
+pub mod SoundSources
+pub mod Taken

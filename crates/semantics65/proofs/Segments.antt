@@ -1,0 +1,101 @@
+-- Segments whose sections grow.
+use Rattle.std.proofs.Common.{◌≡◌, ◌∙◌, ℕ, zero, suc, ◌+◌, ◌<◌, Bool, true, false, nat_eq, cond, List, [], ◌∷◌, ◌++◌, length, map, Option, Some, None, refl, sym, ap, arith}
+use Rattle.std.specs.Prelude.{◌||◌}
+use Rattle.std.specs.List.{AllByRecursion, position_from}
+use Rattle.std.specs.Str.{bytes_eq}
+use Rattle.std.proofs.lemmas.Bool.Decides.{nat_tests}
+use Rattle.std.proofs.lemmas.Iterator.Adapters.{position_from-zero}
+use Rattle.std.proofs.lemmas.List.{length-append}
+use Rattle.syntax65.specs.declared.lexing.tokens.AddressSize.{AddressSize}
+use Rattle.object65.specs.Objects.{is_among}
+use Rattle.semantics65.specs.declared.contents.Segment.{Segment}
+use Rattle.semantics65.specs.Layout.{first_size, grown_at, named_segments, new_segment, or_last, place_of, segment_at}
+use Rattle.ast65.proofs.Lists.{bytes_swap}
+
+pub grown_length : (gs : List Segment) (i count multiple : ℕ) → length (grown_at gs i count multiple) ≡ length gs
+grown_length [] i count multiple = refl
+grown_length (g ∷ gs) zero count multiple = refl
+grown_length (g ∷ gs) (suc i) count multiple = ap suc (grown_length gs i count multiple)
+
+pub grown_end : (gs : List Segment) (i count multiple : ℕ) → i < length gs → (segment_at (grown_at gs i count multiple) i).end ≡ (segment_at gs i).end + count
+grown_end [] i count multiple lt = absurd (omega arith)
+grown_end (g ∷ gs) zero count multiple lt = refl
+grown_end (g ∷ gs) (suc i) count multiple lt = grown_end gs i count multiple (omega arith)
+
+pub grown_names : (gs : List Segment) (i count multiple : ℕ) → map (λ (g : Segment). g.name) (grown_at gs i count multiple) ≡ map (λ (g : Segment). g.name) gs
+grown_names [] i count multiple = refl
+grown_names (g ∷ gs) zero count multiple = refl
+grown_names (g ∷ gs) (suc i) count multiple = ap (λ ns. g.name ∷ ns) (grown_names gs i count multiple)
+
+pub all_more : {A : Type 0} (P : A → Type 0) (xs : List A) (x : A) → AllByRecursion P xs → P x → AllByRecursion P (xs ++ x ∷ [])
+all_more P [] x h p = (p, tt)
+all_more P (y ∷ xs) x h p = (h.0, all_more P xs x h.1 p)
+
+pub all_same : {A : Type 0} (P Q : A → Type 0) → ((x : A) → P x → Q x) → (xs : List A) → AllByRecursion P xs → AllByRecursion Q xs
+all_same P Q f [] h = tt
+all_same P Q f (x ∷ xs) h = (f x h.0, all_same P Q f xs h.1)
+
+place_below : (p : Segment → Bool) (gs : List Segment) (i j : ℕ) → position_from p i gs ≡ Some j → j < i + length gs
+place_below p [] i j e = absurd cc
+place_below p (g ∷ gs) i j e = by (p g) e (place_below p gs (i + 1) j)
+  where
+    by : (b : Bool) → cond b (Some i) (position_from p (i + 1) gs) ≡ Some j → (position_from p (i + 1) gs ≡ Some j → j < i + 1 + length gs) → j < i + suc (length gs)
+    by true h f = let k : i ≡ j = cc in omega (arith, k)
+    by false h f = let lt = f h in omega (arith, lt)
+
+pub found_below : (gs : List Segment) (n : List ℕ) (j : ℕ) → place_of gs n ≡ Some j → j < length gs
+found_below gs n j e = let lt = place_below (λ (g : Segment). bytes_eq g.name n) gs 0 j (sym (position_from-zero (λ (g : Segment). bytes_eq g.name n) gs) ∙ e) in omega (arith, lt)
+
+-- ---- A segment that grows.
+
+pub grown_other : (gs : List Segment) (i h count multiple : ℕ) → nat_eq i h ≡ false → segment_at (grown_at gs i count multiple) h ≡ segment_at gs h
+grown_other [] i h count multiple apart = refl
+grown_other (g ∷ gs) zero zero count multiple apart = absurd cc
+grown_other (g ∷ gs) zero (suc h) count multiple apart = refl
+grown_other (g ∷ gs) (suc i) zero count multiple apart = refl
+grown_other (g ∷ gs) (suc i) (suc h) count multiple apart = grown_other gs i h count multiple (grind (arith, nat_tests))
+
+-- the segment in which a statement stands has so many bytes more, and the others stay as they were
+pub record Grows (gs hs : List Segment) (current count : ℕ) : Type 0 where
+  pub names : map (λ (g : Segment). g.name) hs ≡ map (λ (g : Segment). g.name) gs
+  pub size : length hs ≡ length gs
+  pub here : (segment_at hs current).end ≡ (segment_at gs current).end + count
+  pub others : (g : ℕ) → nat_eq current g ≡ false → (segment_at hs g).end ≡ (segment_at gs g).end
+
+pub grows : (gs : List Segment) (current count multiple : ℕ) → current < length gs → Grows gs (grown_at gs current count multiple) current count
+grows gs current count multiple lt = record {
+  names = grown_names gs current count multiple;
+  size = grown_length gs current count multiple;
+  here = grown_end gs current count multiple lt;
+  others = λ g e. ap (λ (h : Segment). h.end) (grown_other gs current g count multiple e);
+}
+
+pub grows_none : (gs : List Segment) (current : ℕ) → Grows gs gs current 0
+grows_none gs current = record { names = refl; size = refl; here = omega arith; others = λ g e. refl }
+
+-- ---- One more segment.
+
+-- a name without a place is none of theirs
+pub not_among : (n : List ℕ) (gs : List Segment) → place_of gs n ≡ None → is_among (map (λ (g : Segment). g.name) gs) n ≡ false
+not_among n gs e = from 0 gs (sym (position_from-zero (λ (g : Segment). bytes_eq g.name n) gs) ∙ e)
+  where
+    from : (i : ℕ) (hs : List Segment) → position_from (λ (g : Segment). bytes_eq g.name n) i hs ≡ None → is_among (map (λ (g : Segment). g.name) hs) n ≡ false
+    from i [] h = refl
+    from i (g ∷ hs) h = by (bytes_eq g.name n) refl h (from (i + 1) hs)
+      where
+        by : (b : Bool) → bytes_eq g.name n ≡ b → cond b (Some i) (position_from (λ (k : Segment). bytes_eq k.name n) (i + 1) hs) ≡ None → (position_from (λ (k : Segment). bytes_eq k.name n) (i + 1) hs ≡ None → is_among (map (λ (k : Segment). k.name) hs) n ≡ false) → is_among (map (λ (k : Segment). k.name) (g ∷ hs)) n ≡ false
+        by true same k more = absurd cc
+        by false apart k more = ap (λ b. b || is_among (map (λ (m : Segment). m.name) hs) n) (bytes_swap n g.name ∙ apart) ∙ more k
+
+pub end_behind : (gs : List Segment) (n : List ℕ) (own : AddressSize) (g : ℕ) → (segment_at (gs ++ new_segment n own ∷ []) g).end ≡ (segment_at gs g).end
+end_behind [] n own zero = refl
+end_behind [] n own (suc g) = refl
+end_behind (x ∷ gs) n own zero = refl
+end_behind (x ∷ gs) n own (suc g) = end_behind gs n own g
+
+pub one_longer : (gs : List Segment) (g : Segment) → length (gs ++ g ∷ []) ≡ length gs + 1
+one_longer gs g = length-append gs (g ∷ [])
+
+pub named_there : (gs : List Segment) (n : List ℕ) (own : Option AddressSize) (place : Option ℕ) → place_of gs n ≡ place → or_last gs place < length (named_segments gs n own place)
+named_there gs n own None e = let longer : length (gs ++ new_segment n (first_size n own) ∷ []) ≡ length gs + 1 = one_longer gs (new_segment n (first_size n own)) in omega (arith, longer)
+named_there gs n own (Some i) e = found_below gs n i e

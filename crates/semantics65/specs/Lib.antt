@@ -1,0 +1,10 @@
+pub mod Contents
+pub mod Laws
+pub mod Layout
+pub mod Machine
+pub mod Module
+pub mod Norms
+pub mod Numbering
+pub mod Reading
+pub mod Symbols
+pub mod Views

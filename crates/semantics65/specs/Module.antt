@@ -1,0 +1,200 @@
+-- The object of a module, all at once and piece by piece.
+use Rattle.std.specs.Prelude.{◌≡◌, ℕ, zero, pos, Option, Some, None, Bool, true, false, List, [], ◌∷◌, ◌++◌, codes, decimal, Result, Ok, Err, if◌then◌else◌, map}
+use Rattle.std.specs.List.{flat_map}
+use Rattle.base65.specs.Outcome.{◌>>=◌, each}
+use Rattle.base65.specs.Store.{Files}
+use Rattle.object65.specs.Form.{Form, lit}
+use Rattle.object65.specs.declared.object.Action.{Action}
+use Rattle.object65.specs.declared.object.Action.TheVariants as action
+use Rattle.object65.specs.declared.object.Object.{Object}
+use Rattle.semantics65.specs.Contents.{Content, content_of, Part, Known, Declaration, ForcedImport, put, telling, decided, export_said, file_bytes, import_fault, opcode_part, operand_form, operand_tree, room_part, stored}
+use Rattle.ast65.specs.declared.fault.AsmFault.{AsmFault}
+use Rattle.syntax65.specs.declared.place.Place.{Place}
+use Rattle.semantics65.specs.Symbols.{Laid, Symbols, symbols_of, defined, named}
+use Rattle.ast65.specs.declared.language.Statement.{Statement}
+use Rattle.ast65.specs.declared.language.Statement.TheVariants as statement
+use Rattle.semantics65.specs.Layout.{Layout}
+use Rattle.semantics65.specs.Norms.{norm_of, width_of}
+use Rattle.semantics65.specs.Numbering.{object_with}
+use Rattle.semantics65.specs.Reading.{AreLaid, PlacedFault, at_place, Job, Reached}
+use Rattle.syntax65.specs.Opcodes.{opcode_of}
+use Rattle.syntax65.specs.Trees.{Tree}
+use Rattle.syntax65.specs.declared.instructions.names.Mnemonic.{Mnemonic}
+use Rattle.object65.specs.declared.object.Width.{Width}
+use Rattle.ast65.specs.declared.fault.AsmFault.TheVariants.{NotDefined}
+use Rattle.ast65.specs.declared.language.Item.{Item}
+use Rattle.ast65.specs.declared.language.Operand.{Operand}
+use Rattle.ast65.specs.declared.language.Statement.TheVariants.{Constant, Instruction, Values, Reserve, Align, FilePart, Import, Export, Global, ForceImport, Assert}
+use Rattle.ast65.specs.declared.language.Item.TheVariants.{Value, Text}
+use Rattle.semantics65.specs.declared.laid.Settled.{Settled}
+use Rattle.semantics65.specs.declared.laid.Settled.TheVariants.{InMode}
+use Rattle.semantics65.specs.declared.laid.Context.{Context}
+
+-- ---- Contents.
+
+-- the contents of statements by the symbol table of all, or the first fault among them
+abbrev pub contents_from : Symbols → List Laid → Result (List Content) PlacedFault
+contents_from y ls = each (λ l. at_place l.place (content_of y l)) ls
+
+-- the object of laid statements
+abbrev pub object_of : Layout → Result Object PlacedFault
+object_of y =
+    let z : Symbols = symbols_of y.laid in
+    contents_from z y.laid >>= (λ cs. Ok (object_with y.cursor.segments z.imports cs))
+
+abbrev pub has_content : Result Content AsmFault → Bool
+has_content (Ok c) = true
+has_content (Err e) = false
+
+-- the statements before the first one without contents
+abbrev pub sound_from : Symbols → List Laid → List Laid
+sound_from y [] = []
+sound_from y (l ∷ ls) = if has_content (content_of y l) then l ∷ sound_from y ls else []
+
+-- ---- What is said.
+
+-- `file:line: Warning: text`
+abbrev pub warning_at : Place → List ℕ → List ℕ
+warning_at place words =
+    place.file ++ codes ":" ++ decimal place.line ++ codes ": Warning: " ++ words ++ codes "\n"
+
+abbrev pub out_of : Statement → List ℕ
+out_of (statement.Out words) = words ++ codes "\n"
+out_of _ = []
+
+abbrev pub warning_of : Place → Statement → List ℕ
+warning_of place (statement.Warning words) = warning_at place words
+warning_of place _ = []
+
+-- an assertion that is decided by the assembler and isn't so
+abbrev pub failed : Place → Action → List ℕ → Result Form AsmFault → List ℕ
+failed place action.Warning words (Ok (lit (pos zero))) = warning_at place words
+failed place act words r = []
+
+abbrev pub asserted_by : Symbols → Laid → List ℕ
+asserted_by y l = go l.stated
+  where
+    go : Statement → List ℕ
+    go (statement.Assert e act words) = failed l.place act words (norm_of y l.context e)
+    go _ = []
+
+-- the warnings of assertions by the symbol table of all, up to the first statement without contents
+abbrev pub assertion_warnings : Symbols → List Laid → List ℕ
+assertion_warnings y ls = flat_map (asserted_by y) (sound_from y ls)
+
+-- what statements print while they are read
+abbrev pub printed : List Laid → List ℕ
+printed ls = flat_map (λ l. out_of l.stated) ls
+
+abbrev pub warned : List Laid → List ℕ
+warned ls = flat_map (λ l. warning_of l.place l.stated) ls
+
+-- the warnings of a module whose lines have no fault: those of assertions stand behind the others
+abbrev pub all_warned : List Laid → List ℕ
+all_warned ls = warned ls ++ assertion_warnings (symbols_of ls) ls
+
+-- ---- What a module comes to.
+
+-- the object or the first fault, and what is said up to there
+pub record Outcome : Type 0 where
+  pub result : Result Object PlacedFault
+  pub out : List ℕ
+  pub err : List ℕ
+
+-- a fault of a line stands before all others, and before the warnings of assertions
+abbrev pub outcome_of : Layout → Option PlacedFault → Outcome
+outcome_of y None = record { result = object_of y; out = printed y.laid; err = all_warned y.laid }
+outcome_of y (Some e) = record { result = Err e; out = printed y.laid; err = warned y.laid }
+
+-- what a source comes to
+abbrev pub IsOutcome : Files → Job → Outcome → Type 0
+IsOutcome m job a = (r : Reached Layout) × AreLaid m job r × (a ≡ outcome_of r.behind r.fault)
+
+-- ---- Pieces.
+
+-- what the value of an expression is for
+pub data Purpose : Type 0 where
+  -- an element of a list, an operand of an instruction
+  datum : Width → Purpose
+  operand : Width → Purpose
+  -- a constant, which puts nothing anywhere but has the fault of its expression
+  equated : Purpose
+  asserted : Action → List ℕ → Purpose
+
+pub data Piece : Type 0 where
+  -- what needs no value
+  given : Part → Piece
+  valued : Purpose → Tree → Piece
+  -- a name that the module doesn't define, and one that is written regardless
+  imported : List ℕ → Piece
+  demanded : List ℕ → Piece
+  -- a name that is exported where it is defined, or has to be defined
+  exported : (must : Bool) → List ℕ → Piece
+
+abbrev pub item_piece : Width → Item → Piece
+item_piece width (Value e) = valued (datum width) e
+item_piece width (Text bytes) = given (Known bytes)
+
+abbrev pub operand_pieces : Option Width → Option Tree → List Piece
+operand_pieces (Some width) (Some e) = valued (operand width) e ∷ []
+operand_pieces width e = []
+
+abbrev pub instruction_pieces : Mnemonic → Operand → Settled → List Piece
+instruction_pieces m o (InMode mode) =
+    given (opcode_part (opcode_of m mode)) ∷ operand_pieces (width_of mode) (operand_tree o)
+instruction_pieces m o _ = []
+
+-- the pieces of a statement of so many bytes, of which this is settled
+abbrev pub pieces_of : ℕ → Settled → Statement → List Piece
+pieces_of count s (Instruction m o) = instruction_pieces m o s
+pieces_of count s (Values width items) = map (item_piece width) items
+pieces_of count s (Reserve n v) = given (room_part count s) ∷ []
+pieces_of count s (Align n v) = given (room_part count s) ∷ []
+pieces_of count s (FilePart bytes start len) = given (Known (file_bytes count bytes s)) ∷ []
+pieces_of count s (Constant n e) = valued equated e ∷ []
+pieces_of count s (Import own names) = map imported names
+pieces_of count s (Export names) = map (exported true) names
+pieces_of count s (Global own names) = map (exported false) names
+pieces_of count s (ForceImport names) = map imported names ++ map demanded names
+pieces_of count s (Assert e act words) = valued (asserted act words) e ∷ []
+pieces_of count s _ = []
+
+-- ---- What a piece comes to.
+
+-- a content, and the warning of an assertion that isn't so
+pub record Made : Type 0 where
+  pub content : Content
+  pub warning : List ℕ
+
+abbrev pub quietly : Content → Made
+quietly c = record { content = c; warning = [] }
+
+abbrev pub as_part : ℕ → Part → Result Made AsmFault
+as_part g p = Ok (quietly (put g p))
+
+abbrev pub as_said : List Declaration → Result Made AsmFault
+as_said ss = Ok (quietly (telling ss))
+
+-- what an export says that isn't defined
+abbrev pub absent_of : (must : Bool) → List ℕ → Result (List Declaration) AsmFault
+absent_of true n = Err (NotDefined n)
+absent_of false n = Ok []
+
+-- what a form comes to, of an expression that stands here
+abbrev pub used : Place → Context → Purpose → Form → Result Made AsmFault
+used place s (datum width) f = stored width place f >>= as_part s.segment
+used place s (operand width) f =
+    operand_form width s f >>= stored width place >>= as_part s.segment
+used place s equated f = as_said []
+used place s (asserted act words) f =
+    decided act place words f
+    >>= (λ ss. Ok (record { content = telling ss; warning = failed place act words (Ok f) }))
+
+-- what a piece of a statement that stands here comes to by a symbol table, or its fault
+abbrev pub made_of : Symbols → Place → Context → Piece → Result Made AsmFault
+made_of y place s (given p) = as_part s.segment p
+made_of y place s (valued why e) = norm_of y s e >>= used place s why
+made_of y place s (imported n) = import_fault y n >>= as_said
+made_of y place s (demanded n) = as_said (ForcedImport n ∷ [])
+made_of y place s (exported must n) =
+    export_said y place n (absent_of must n) (defined y (named 0 n)) >>= as_said

@@ -1,0 +1,293 @@
+-- The object of contents: its sections, names and files by number, and whether it is sound.
+use Rattle.std.specs.Prelude.{ℕ, zero, ◌+◌, nat_eq, Bool, true, false, not, List, [], ◌∷◌, ◌++◌, map, filter_map, Option, Some, None, unwrap_or, slice_get, if◌then◌else◌, ◌≡◌, ◌≤◌, ◌<◌, nat_lt, length, sum_by, take, ⊤}
+use Rattle.std.specs.List.{position, list_any, flat_map, filter, list_all, AllByRecursion}
+use Rattle.std.specs.Str.{bytes_eq}
+use Rattle.object65.specs.Form.{Form, lit, sec, imp, prefix, binary}
+use Rattle.object65.specs.declared.object.Assert.{Assert}
+use Rattle.object65.specs.declared.object.Export.{Export}
+use Rattle.object65.specs.declared.object.Fragment.{Fragment}
+use Rattle.object65.specs.declared.object.Fragment.TheVariants.{Literal, Fill, Value}
+use Rattle.object65.specs.declared.object.Object.{Object}
+use Rattle.object65.specs.declared.object.Origin.{Origin}
+use Rattle.object65.specs.declared.object.Section.{Section}
+use Rattle.syntax65.specs.declared.place.Place.{Place}
+use Rattle.semantics65.specs.Contents.{Content, Part, Known, Filled, Waiting, Declaration, Exported, ForcedImport, Asserted}
+use Rattle.semantics65.specs.declared.contents.Segment.{Segment}
+use Rattle.semantics65.specs.Layout.{powers, Layout}
+use Rattle.syntax65.specs.Tokens.{Lexeme}
+use Rattle.syntax65.specs.declared.lexing.tokens.TokenKind.{TokenKind}
+use Rattle.syntax65.specs.declared.lexing.tokens.TokenKind.TheVariants as token
+use Rattle.object65.specs.Folding.{is_literal}
+use Rattle.object65.specs.Laws.{IsFolded}
+use Rattle.object65.specs.Objects.{are_names, is_file_name, is_name, section_limit, width_len}
+use Rattle.ast65.specs.declared.language.Statement.{Statement}
+use Rattle.ast65.specs.declared.language.Statement.TheVariants as statement
+use Rattle.semantics65.specs.Symbols.{Laid, Symbols, symbols_of}
+use Rattle.semantics65.specs.Norms.{length_of, settled_of}
+
+-- ---- Numbers.
+
+-- keys behind those found, each once, in the order in which they first come
+abbrev pub once : List ℕ → List ℕ → List ℕ
+once found [] = found
+once found (k ∷ ks) = once (if list_any (nat_eq k) found then found else found ++ k ∷ []) ks
+
+abbrev pub number_of : List ℕ → ℕ → ℕ
+number_of keys k = unwrap_or (position (nat_eq k) keys) 0
+
+-- the form with the numbers of sections and imports
+abbrev pub numbered : (sections imports : List ℕ) → Form → Form
+numbered sections imports (lit v) = lit v
+numbered sections imports (sec g a) = sec (number_of sections g) a
+numbered sections imports (imp k) = imp (number_of imports k)
+numbered sections imports (prefix op f) = prefix op (numbered sections imports f)
+numbered sections imports (binary op f g) = binary op (numbered sections imports f) (numbered sections imports g)
+
+-- ---- Sections, in the order of the first statement that asks for one.
+
+abbrev pub segments_asked : List Content → List ℕ
+segments_asked cs = map (λ c. c.segment) (filter (λ c. c.asks) cs)
+
+abbrev pub section_keys : List Content → List ℕ
+section_keys cs = once [] (segments_asked cs)
+
+-- ---- Imports, in the order in which written forms first hold them.
+
+abbrev pub imports_in : Form → List ℕ
+imports_in (lit v) = []
+imports_in (sec g a) = []
+imports_in (imp k) = k ∷ []
+imports_in (prefix op f) = imports_in f
+imports_in (binary op f g) = imports_in f ++ imports_in g
+
+abbrev pub part_imports : Part → List ℕ
+part_imports (Known bytes) = []
+part_imports (Filled n) = []
+part_imports (Waiting width place f) = imports_in f
+
+abbrev pub optional_key : Option ℕ → List ℕ
+optional_key None = []
+optional_key (Some k) = k ∷ []
+
+-- the key of the first import of a name
+abbrev pub key_of : List (List ℕ) → List ℕ → Option ℕ
+key_of names n = position (λ m. bytes_eq m n) names
+
+-- names are those of all imports, in the order of their keys
+abbrev pub said_imports : List (List ℕ) → Declaration → List ℕ
+said_imports names (Exported n place f) = imports_in f
+said_imports names (ForcedImport n) = optional_key (key_of names n)
+said_imports names (Asserted act place words f) = imports_in f
+
+abbrev pub content_imports : List (List ℕ) → Content → List ℕ
+content_imports names c = flat_map part_imports c.parts ++ flat_map (said_imports names) c.said
+
+abbrev pub import_keys : List (List ℕ) → List Content → List ℕ
+import_keys names cs = once [] (flat_map (content_imports names) cs)
+
+abbrev pub name_of : List (List ℕ) → ℕ → List ℕ
+name_of names k = unwrap_or (slice_get names k) []
+
+-- ---- Fragments.
+
+-- a part, where places have these origins
+abbrev pub fragment_of : (at : Place → Origin) (sections imports : List ℕ) → Part → Fragment
+fragment_of at sections imports (Known bytes) = Literal bytes
+fragment_of at sections imports (Filled n) = Fill n
+fragment_of at sections imports (Waiting width place f) = Value width (at place) (numbered sections imports f)
+
+-- of no byte
+abbrev pub is_empty : Fragment → Bool
+is_empty (Literal []) = true
+is_empty (Fill zero) = true
+is_empty _ = false
+
+-- a fragment and those behind it, of which neighbours of one kind are one
+abbrev pub joined : Fragment → List Fragment → List Fragment
+joined f [] = f ∷ []
+joined (Literal a) (Literal b ∷ fs) = joined (Literal (a ++ b)) fs
+joined (Fill m) (Fill n ∷ fs) = joined (Fill (m + n)) fs
+joined f (g ∷ fs) = f ∷ joined g fs
+
+abbrev pub all_joined : List Fragment → List Fragment
+all_joined [] = []
+all_joined (f ∷ fs) = joined f fs
+
+-- the fragments of parts, without the empty ones
+abbrev pub fragments_of : (at : Place → Origin) (sections imports : List ℕ) → List Part → List Fragment
+fragments_of at sections imports ps = filter (λ f. not (is_empty f)) (map (fragment_of at sections imports) ps)
+
+-- what statements put into a segment
+abbrev pub parts_in : List Content → ℕ → List Part
+parts_in cs g = flat_map (λ c. c.parts) (filter (λ c. nat_eq c.segment g) cs)
+
+-- ---- Sections.
+
+abbrev pub segment_name : Option Segment → List ℕ
+segment_name None = []
+segment_name (Some s) = s.name
+
+-- the power of two to a multiple of which a segment is aligned
+abbrev pub segment_power : Option Segment → ℕ
+segment_power None = 0
+segment_power (Some s) = number_of powers s.align
+
+abbrev pub section_of : (at : Place → Origin) → List Segment → (sections imports : List ℕ) → List Content → ℕ → Section
+section_of at segments sections imports cs g = record {
+  name = segment_name (slice_get segments g);
+  align = segment_power (slice_get segments g);
+  fragments = all_joined (fragments_of at sections imports (parts_in cs g));
+}
+
+-- ---- Exports, each once, and assertions.
+
+abbrev pub exports_among : (at : Place → Origin) (sections imports : List ℕ) → List Export → List Declaration → List Export
+exports_among at sections imports found [] = found
+exports_among at sections imports found (Exported n place f ∷ ss) =
+    exports_among at sections imports (if list_any (λ e. bytes_eq n e.name) found then found else found ++ record { name = n; origin = at place; form = numbered sections imports f } ∷ []) ss
+exports_among at sections imports found (s ∷ ss) = exports_among at sections imports found ss
+
+abbrev pub assert_of : (at : Place → Origin) (sections imports : List ℕ) → Declaration → Option Assert
+assert_of at sections imports (Asserted act place words f) = Some (record { action = act; origin = at place; text = words; form = numbered sections imports f })
+assert_of at sections imports _ = None
+
+abbrev pub all_said : List Content → List Declaration
+all_said cs = flat_map (λ c. c.said) cs
+
+-- ---- Files, in the order in which what is written first names them.
+
+-- names behind those found, each once, in the order in which they first come
+abbrev pub names_once : List (List ℕ) → List (List ℕ) → List (List ℕ)
+names_once found [] = found
+names_once found (n ∷ ns) = names_once (if list_any (bytes_eq n) found then found else found ++ n ∷ []) ns
+
+abbrev pub part_files : Part → List (List ℕ)
+part_files (Known bytes) = []
+part_files (Filled n) = []
+part_files (Waiting width place f) = place.file ∷ []
+
+-- the files of exports, of which the first of each name is written, behind those of these names
+abbrev pub export_files : List (List ℕ) → List Declaration → List (List ℕ)
+export_files found [] = []
+export_files found (Exported n place f ∷ ss) = if list_any (bytes_eq n) found then export_files found ss else place.file ∷ export_files (found ++ n ∷ []) ss
+export_files found (s ∷ ss) = export_files found ss
+
+abbrev pub assert_files : Declaration → List (List ℕ)
+assert_files (Asserted act place words f) = place.file ∷ []
+assert_files _ = []
+
+-- those of the values of each section in its turn, then of exports, then of assertions
+abbrev pub files_named : List Content → List (List ℕ)
+files_named cs = flat_map (λ g. flat_map part_files (parts_in cs g)) (section_keys cs)
+    ++ export_files [] (all_said cs) ++ flat_map assert_files (all_said cs)
+
+abbrev pub files_of : List Content → List (List ℕ)
+files_of cs = names_once [] (files_named cs)
+
+-- where a place lies, by its file's place among these
+abbrev pub in_files : List (List ℕ) → Place → Origin
+in_files files place = record { file = position (bytes_eq place.file) files; line = place.line }
+
+-- ---- The object.
+
+-- of this version, with these files, where places have these origins
+abbrev pub object_by : ℕ → List (List ℕ) → (at : Place → Origin) → List Segment → List (List ℕ) → List Content → Object
+object_by version files at segments names cs =
+    let sections : List ℕ = section_keys cs in
+    let imports : List ℕ = import_keys names cs in
+    record {
+      version = version;
+      files = files;
+      imports = map (name_of names) imports;
+      sections = map (section_of at segments sections imports cs) sections;
+      exports = exports_among at sections imports [] (all_said cs);
+      asserts = filter_map (assert_of at sections imports) (all_said cs);
+    }
+
+abbrev pub object_with : List Segment → List (List ℕ) → List Content → Object
+object_with segments names cs = object_by 2 (files_of cs) (in_files (files_of cs)) segments names cs
+
+-- ---- Tokens and statements.
+
+-- an identifier is a name that objects can hold
+abbrev pub IsNamed : TokenKind → List ℕ → Type 0
+IsNamed token.Identifier t = is_name t ≡ true
+IsNamed _ t = ⊤
+
+abbrev pub AreNamed : List Lexeme → Type 0
+AreNamed ts = AllByRecursion (λ t. IsNamed t.0 t.1) ts
+
+-- what a statement hands to the object are names, and texts that are short enough
+abbrev pub IsSound : Statement → Type 0
+IsSound (statement.Segment n own) = is_name n ≡ true
+IsSound (statement.Import own names) = list_all is_name names ≡ true
+IsSound (statement.Export names) = list_all is_name names ≡ true
+IsSound (statement.Global own names) = list_all is_name names ≡ true
+IsSound (statement.ForceImport names) = list_all is_name names ≡ true
+IsSound (statement.Assert e action words) = length words < 256
+IsSound _ = ⊤
+
+-- ---- Layouts.
+
+abbrev pub statements_in : List Laid → ℕ → List Laid
+statements_in ls g = filter (λ l. nat_eq l.context.segment g) ls
+
+-- a statement places as many bytes as is said behind those before it, and what is settled of it is what is said there
+pub record IsMeasured (y : Symbols) (l : Laid) : Type 0 where
+  pub length : l.length ≡ length_of y l.context l.size l.stated
+  pub settled : l.settled ≡ settled_of y l.context l.size l.stated
+
+pub record IsSoundLayout (y : Layout) : Type 0 where
+  pub named : are_names (map (λ g. g.name) y.cursor.segments) ≡ true
+  pub sound : AllByRecursion (λ l. IsSound l.stated) y.laid
+  pub standing : AllByRecursion (λ l. l.context.segment < length y.cursor.segments) y.laid
+  pub measured : (i : ℕ) (l : Laid) → slice_get y.laid i ≡ Some l → IsMeasured (symbols_of (take i y.laid)) l
+  pub room : (g : ℕ) → sum_by (λ l. l.length) (statements_in y.laid g) ≤ section_limit
+
+-- ---- Contents.
+
+-- the segments whose sections a form holds
+abbrev pub sections_in : Form → List ℕ
+sections_in (lit v) = []
+sections_in (sec g a) = g ∷ []
+sections_in (imp k) = []
+sections_in (prefix op f) = sections_in f
+sections_in (binary op f g) = sections_in f ++ sections_in g
+
+-- a form that can be written, where these segments have sections and there are so many imports
+pub record IsSoundForm (asked : List ℕ) (count : ℕ) (f : Form) : Type 0 where
+  pub folded : IsFolded f
+  pub sections : list_all (λ g. list_any (nat_eq g) asked) (sections_in f) ≡ true
+  pub imports : list_all (λ k. nat_lt k count) (imports_in f) ≡ true
+
+-- what is written with its place: an object can hold the name of the file and the form
+pub record IsSoundAt (asked : List ℕ) (count : ℕ) (place : Place) (f : Form) : Type 0 where
+  pub file : is_file_name place.file ≡ true
+  pub form : IsSoundForm asked count f
+
+abbrev pub IsSoundPart : List ℕ → ℕ → Part → Type 0
+IsSoundPart asked count (Known bytes) = ⊤
+IsSoundPart asked count (Filled n) = ⊤
+IsSoundPart asked count (Waiting width place f) = IsSoundAt asked count place f × (is_literal f ≡ false)
+
+abbrev pub IsSoundDeclaration : List ℕ → ℕ → Declaration → Type 0
+IsSoundDeclaration asked count (Exported n place f) = (is_name n ≡ true) × IsSoundAt asked count place f
+IsSoundDeclaration asked count (ForcedImport n) = ⊤
+IsSoundDeclaration asked count (Asserted act place words f) = (length words < 256) × IsSoundAt asked count place f × (is_literal f ≡ false)
+
+pub record IsSoundContent (asked : List ℕ) (count : ℕ) (c : Content) : Type 0 where
+  pub parts : AllByRecursion (IsSoundPart asked count) c.parts
+  pub said : AllByRecursion (IsSoundDeclaration asked count) c.said
+
+abbrev pub part_len : Part → ℕ
+part_len (Known bytes) = length bytes
+part_len (Filled n) = n
+part_len (Waiting width place f) = width_len width
+
+-- what the object of contents with these segments and imports rests on
+pub record AreSound (segments : List Segment) (names : List (List ℕ)) (cs : List Content) : Type 0 where
+  pub named : are_names (map (λ g. g.name) segments) ≡ true
+  pub imported : are_names names ≡ true
+  pub standing : AllByRecursion (λ c. c.segment < length segments) cs
+  pub room : (g : ℕ) → sum_by part_len (parts_in cs g) ≤ section_limit
+  pub contents : AllByRecursion (IsSoundContent (section_keys cs) (length names)) cs

@@ -1,0 +1,293 @@
+-- The symbol table that laid statements make, and what names mean in it.
+use Rattle.std.specs.Prelude.{ℕ, Bool, true, false, ◌||◌, List, [], ◌∷◌, ◌++◌, Option, Some, None, ◌==◌, ◌&&◌, if◌then◌else◌, zero, suc, slice_get, ◌+◌, ◌-◌, nat_le, take, Result, Ok, Err, codes}
+use Rattle.syntax65.specs.declared.place.Place.{Place}
+use Rattle.syntax65.specs.declared.lexing.tokens.AddressSize.{AddressSize}
+use Rattle.syntax65.specs.Trees.{Tree, here, unary, binary, name, cheap, forward, backward}
+use Rattle.semantics65.specs.declared.laid.Settled.{Settled}
+use Rattle.semantics65.specs.declared.laid.Context.{Context}
+use Rattle.ast65.specs.declared.language.Statement.{Statement}
+use Rattle.ast65.specs.declared.language.Statement.TheVariants.{Label, CheapLabel, UnnamedLabel, Constant, Instruction, Values, Reserve, Align, FilePart, OpenProc, Assert, OpenScope, Import, Global, ForceImport}
+use Rattle.std.specs.List.{flat_map, list_any, position}
+use Rattle.std.specs.Str.{bytes_eq}
+use Rattle.syntax65.specs.declared.lexing.tokens.AddressSize.TheVariants as size
+use Rattle.ast65.specs.declared.fault.AsmFault.{AsmFault}
+use Rattle.ast65.specs.declared.fault.AsmFault.TheVariants.{Undefined, NoSuchScope, NoSuchLabel}
+
+-- ---- What statements lie by: places, scopes, regions, segments, offsets.
+
+-- a statement with what it lies by
+pub record Laid : Type 0 where
+  pub stated : Statement
+  pub place : Place
+  pub context : Context
+  -- how many bytes it places in its section
+  pub length : ℕ
+  -- the address size of what it defines: that of a constant's expression at its line, or of the segment
+  pub size : AddressSize
+  pub settled : Settled
+
+-- a name before a colon and that of a proc open a new region of cheap labels
+abbrev pub opens_region : Statement → Bool
+opens_region (Label n) = true
+opens_region (OpenProc n) = true
+opens_region _ = false
+
+abbrev pub is_unnamed : Statement → Bool
+is_unnamed UnnamedLabel = true
+is_unnamed _ = false
+
+-- ---- Which segments have a section.
+
+-- the expression has a `*`
+abbrev pub has_here : Tree → Bool
+has_here here = true
+has_here (unary op e) = has_here e
+has_here (binary op e f) = has_here e || has_here f
+has_here _ = false
+
+-- a statement that asks for a section of the segment in which it stands
+abbrev pub asks_section : Statement → Bool
+asks_section (Label n) = true
+asks_section (CheapLabel n) = true
+asks_section UnnamedLabel = true
+asks_section (OpenProc n) = true
+asks_section (Instruction m o) = true
+asks_section (Values width items) = true
+asks_section (Reserve n v) = true
+asks_section (Align n v) = true
+asks_section (FilePart bytes start len) = true
+asks_section (Constant n e) = has_here e
+asks_section (Assert e action words) = has_here e
+asks_section _ = false
+
+-- ---- The symbol table of statements: what they define, the scopes that they open, the names that they import.
+
+-- by what a definition is found
+pub data Key : Type 0 where
+  -- a name, directly in a scope
+  named : (scope : ℕ) → List ℕ → Key
+  -- a cheap label, in a region
+  cheap_in : (region : ℕ) → List ℕ → Key
+  -- the unnamed label before which so many stand
+  unnamed_at : ℕ → Key
+
+pub record Definition : Type 0 where
+  pub key : Key
+  -- the expression of a constant; what has none is the address of where it stands
+  pub value : Option Tree
+  pub context : Context
+  pub size : AddressSize
+
+pub record Scope : Type 0 where
+  -- the scope in which it was opened
+  pub within : ℕ
+  pub name : Option (List ℕ)
+  -- it was opened by `.proc`, else by `.scope`
+  pub is_proc : Bool
+
+pub record Symbols : Type 0 where
+  -- each definition, in the order of the source
+  pub definitions : List Definition
+  -- each scope but the global one, in the order in which they were opened: the one of number i + 1 is at i
+  pub scopes : List Scope
+  -- the names of the imports, in the order in which they were first named
+  pub imports : List (List ℕ)
+  -- those that were imported for the zero page, in the order in which they were
+  pub zero_page : List (List ℕ)
+
+-- ---- What a statement adds.
+
+abbrev pub key_defined : Context → Statement → Option Key
+key_defined s (Label n) = Some (named s.scope n)
+key_defined s (Constant n e) = Some (named s.scope n)
+key_defined s (OpenProc n) = Some (named s.scope n)
+key_defined s (CheapLabel n) = Some (cheap_in s.region n)
+key_defined s UnnamedLabel = Some (unnamed_at s.unnamed)
+key_defined s _ = None
+
+abbrev pub value_defined : Statement → Option Tree
+value_defined (Constant n e) = Some e
+value_defined _ = None
+
+abbrev pub definition_with : Option Key → Option Tree → Context → AddressSize → List Definition
+definition_with None value s own = []
+definition_with (Some k) value s own = record { key = k; value = value; context = s; size = own } ∷ []
+
+abbrev pub definitions_of : Laid → List Definition
+definitions_of l = definition_with (key_defined l.context l.stated) (value_defined l.stated) l.context l.size
+
+abbrev pub scope_opened : ℕ → Statement → List Scope
+scope_opened within (OpenScope n) = record { within = within; name = n; is_proc = false } ∷ []
+scope_opened within (OpenProc n) = record { within = within; name = Some n; is_proc = true } ∷ []
+scope_opened within _ = []
+
+abbrev pub imports_of : Statement → List (List ℕ)
+imports_of (Import own names) = names
+imports_of (Global own names) = names
+imports_of (ForceImport names) = names
+imports_of _ = []
+
+-- the names that were imported for the zero page
+abbrev pub zero_page_names : Statement → List (List ℕ)
+zero_page_names (Import size.ZeroPage names) = names
+zero_page_names (Global size.ZeroPage names) = names
+zero_page_names _ = []
+
+-- names, each once, in the order in which they were first named
+abbrev pub with_new : List (List ℕ) → List (List ℕ) → List (List ℕ)
+with_new known [] = known
+with_new known (n ∷ names) = with_new (if list_any (λ k. bytes_eq n k) known then known else known ++ n ∷ []) names
+
+-- ---- The symbol table.
+abbrev pub symbols_of : List Laid → Symbols
+symbols_of ls = record {
+  definitions = flat_map definitions_of ls;
+  scopes = flat_map (λ l. scope_opened l.context.scope l.stated) ls;
+  imports = with_new [] (flat_map (λ l. imports_of l.stated) ls);
+  zero_page = with_new [] (flat_map (λ l. zero_page_names l.stated) ls);
+}
+
+-- ---- What is found there.
+
+abbrev pub same_key : Key → Key → Bool
+same_key (named s n) (named t m) = s == t && bytes_eq n m
+same_key (cheap_in r n) (cheap_in q m) = r == q && bytes_eq n m
+same_key (unnamed_at j) (unnamed_at k) = j == k
+same_key _ _ = false
+
+-- the place of the first definition of a key
+abbrev pub defined : Symbols → Key → Option ℕ
+defined y k = position (λ d. same_key d.key k) y.definitions
+
+-- the place of an import
+abbrev pub imported : Symbols → List ℕ → Option ℕ
+imported y n = position (λ k. bytes_eq n k) y.imports
+
+-- ---- What names mean by a symbol table.
+
+-- what a name means
+pub data Meaning : Type 0 where
+  -- the definition at this place
+  defined_at : ℕ → Meaning
+  -- the import at this place
+  imported_as : ℕ → Meaning
+
+abbrev pub or_else : {A : Type 0} → Option A → Option A → Option A
+or_else (Some x) other = Some x
+or_else None other = other
+
+abbrev pub is_named : List ℕ → Option (List ℕ) → Bool
+is_named n None = false
+is_named n (Some m) = bytes_eq m n
+
+-- ---- Scopes.
+
+abbrev pub within : Option Scope → ℕ
+within None = zero
+within (Some c) = c.within
+
+-- the scope in which a scope was opened; the global one stands in no other
+abbrev pub enclosing : List Scope → ℕ → ℕ
+enclosing cs zero = zero
+enclosing cs (suc i) = within (slice_get cs i)
+
+-- a scope and those around it, so many at most
+abbrev pub outward_from : List Scope → ℕ → ℕ → List ℕ
+outward_from cs n zero = zero ∷ []
+outward_from cs zero (suc i) = suc i ∷ []
+outward_from cs (suc n) (suc i) = suc i ∷ outward_from cs n (enclosing cs (suc i))
+
+-- A scope and those around it, innermost first. A scope stands in scopes that were opened before it, so there are no more
+-- of them than its own number.
+abbrev pub scopes_from : List Scope → ℕ → List ℕ
+scopes_from cs s = outward_from cs s s
+
+-- what is found in the first of some scopes that has it
+abbrev pub first_found : {A : Type 0} → (ℕ → Option A) → List ℕ → Option A
+first_found find [] = None
+first_found find (s ∷ ss) = or_else (find s) (first_found find ss)
+
+abbrev pub numbered : Option ℕ → Option ℕ
+numbered None = None
+numbered (Some i) = Some (suc i)
+
+-- the scope of a name that was opened directly in a scope
+abbrev pub scope_in : List Scope → ℕ → List ℕ → Option ℕ
+scope_in cs scope n = numbered (position (λ c. c.within == scope && is_named n c.name) cs)
+
+-- the scope that the names lead to, one inside the other
+abbrev pub inside : List Scope → List (List ℕ) → Option ℕ → Option ℕ
+inside cs names None = None
+inside cs [] (Some scope) = Some scope
+inside cs (n ∷ names) (Some scope) = inside cs names (scope_in cs scope n)
+
+-- ---- Names.
+
+-- names joined by `::`, as they are shown
+abbrev pub joined : List (List ℕ) → List ℕ
+joined [] = []
+joined (n ∷ []) = n
+joined (n ∷ m ∷ names) = n ++ codes "::" ++ joined (m ∷ names)
+
+abbrev pub shown : Bool → List (List ℕ) → List ℕ
+shown false parts = joined parts
+shown true parts = codes "::" ++ joined parts
+
+abbrev pub or_fault : AsmFault → Option ℕ → Option ℕ → Result Meaning AsmFault
+or_fault e (Some i) other = Ok (defined_at i)
+or_fault e None (Some k) = Ok (imported_as k)
+or_fault e None None = Err e
+
+-- a plain name: that of the innermost scope, from the use outward, which defines it; else an import
+abbrev pub plain_meaning : Symbols → ℕ → List ℕ → Result Meaning AsmFault
+plain_meaning y scope n = or_fault (Undefined n) (first_found (λ s. defined y (named s n)) (scopes_from y.scopes scope)) (imported y n)
+
+-- a name behind `::`: that of the scope itself; imports stand in the global scope
+abbrev pub member_meaning : Symbols → List ℕ → AsmFault → AsmFault → Option ℕ → Result Meaning AsmFault
+member_meaning y n absent lost None = Err lost
+member_meaning y n absent lost (Some zero) = or_fault absent (defined y (named zero n)) (imported y n)
+member_meaning y n absent lost (Some (suc i)) = or_fault absent (defined y (named (suc i) n)) None
+
+-- The scope of a name with `::`, of these scopes, which were opened before the use. The first is searched from the
+-- innermost scope outward, or in the global scope behind a leading `::`.
+abbrev pub scope_from : List Scope → ℕ → Bool → List (List ℕ) → Option ℕ
+scope_from cs scope true scopes = inside cs scopes (Some zero)
+scope_from cs scope false [] = None
+scope_from cs scope false (n ∷ scopes) = inside cs scopes (first_found (λ s. scope_in cs s n) (scopes_from cs scope))
+
+-- all parts but the last, and the last
+abbrev pub scopes_of : List (List ℕ) → List (List ℕ)
+scopes_of [] = []
+scopes_of (n ∷ []) = []
+scopes_of (n ∷ m ∷ parts) = n ∷ scopes_of (m ∷ parts)
+
+abbrev pub last_of : List (List ℕ) → List ℕ
+last_of [] = []
+last_of (n ∷ []) = n
+last_of (n ∷ m ∷ parts) = last_of (m ∷ parts)
+
+abbrev pub scoped_meaning : Symbols → Context → Bool → List (List ℕ) → Result Meaning AsmFault
+scoped_meaning y s global parts =
+    member_meaning y (last_of parts) (Undefined (shown global parts)) (NoSuchScope (shown global parts)) (scope_from (take s.opened y.scopes) s.scope global (scopes_of parts))
+
+-- ---- Labels.
+
+-- a cheap label of the same region
+abbrev pub cheap_meaning : Symbols → ℕ → List ℕ → Result Meaning AsmFault
+cheap_meaning y region n = or_fault (Undefined n) (defined y (cheap_in region n)) None
+
+-- the unnamed label before which so many stand
+abbrev pub unnamed_meaning : Symbols → ℕ → Result Meaning AsmFault
+unnamed_meaning y k = or_fault NoSuchLabel (defined y (unnamed_at k)) None
+
+abbrev pub backward_meaning : Symbols → ℕ → ℕ → Result Meaning AsmFault
+backward_meaning y k n = if nat_le n k then unnamed_meaning y (k - n) else Err NoSuchLabel
+
+-- ---- What an operand means where it stands.
+abbrev pub meaning_of : Symbols → Context → Tree → Result Meaning AsmFault
+meaning_of y s (name false (n ∷ [])) = plain_meaning y s.scope n
+meaning_of y s (name global parts) = scoped_meaning y s global parts
+meaning_of y s (cheap n) = cheap_meaning y s.region n
+meaning_of y s (forward n) = unnamed_meaning y (s.unnamed + n - 1)
+meaning_of y s (backward n) = backward_meaning y s.unnamed n
+meaning_of y s _ = Err NoSuchLabel

@@ -1,5 +1,0 @@
-pub mod Each
-pub mod Lone
-pub mod OneStatements
-pub mod Parts
-pub mod Sounding

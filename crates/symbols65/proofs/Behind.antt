@@ -1,0 +1,83 @@
+-- What stands behind a statement.
+use Rattle.std.proofs.lemmas.Grind.{common_steps}
+use Rattle.std.proofs.Common.{◌≡◌, ℕ, zero, suc, ◌+◌, ◌<◌, ◌≤◌, List, [], ◌∷◌, ◌++◌, length, Some, None, sym, ap, arith}
+use Rattle.std.specs.Prelude.{Ok, Err, slice_get, if◌then◌else◌}
+use Rattle.std.proofs.lemmas.List.{length-append}
+use Rattle.semantics65.specs.declared.contents.Segment.{Segment}
+use Rattle.ast65.specs.declared.fault.AsmFault.{AsmFault}
+use Rattle.semantics65.specs.Symbols.{is_unnamed, opens_region, enclosing, within, Scope, Symbols, scope_opened}
+use Rattle.ast65.specs.declared.language.Statement.{Statement}
+use Rattle.ast65.specs.declared.language.Statement.TheVariants as statement
+use Rattle.semantics65.specs.Layout.{Cursor, opens_scope, scope_behind, segments_behind, cursor_behind, line_fault}
+use Rattle.symbols65.specs.declared.cursor.Cursor as code
+use Rattle.symbols65.specs.Measuring.{advanced, measure_of, measured, AreInside, HasNumbers, opened_by, opening_limit, IsCounted, cursor_of}
+use Rattle.symbols65.specs.declared.measuring.Measured.{Measured}
+use Rattle.symbols65.proofs.Measures.{no_fault}
+use Rattle.semantics65.proofs.Segments.{all_more, all_same, grown_length}
+
+-- ---- What is open.
+
+within_below : (count i : ℕ) (cs : List Scope) → AreInside count cs → within (slice_get cs i) ≤ count
+within_below count i [] h = omega arith
+within_below count zero (c ∷ cs) h = h.0
+within_below count (suc i) (c ∷ cs) h = within_below count i cs h.1
+
+-- the scope around one is among those that were opened
+pub enclosing_below : (count scope : ℕ) (cs : List Scope) → AreInside count cs → enclosing cs scope ≤ count
+enclosing_below count zero cs h = omega arith
+enclosing_below count (suc i) cs h = within_below count i cs h
+
+-- a statement's scope is opened within one of so many
+pub inside_behind : (count scope : ℕ) (cs : List Scope) (x : Statement) → scope ≤ count → AreInside count cs → AreInside (count + opened_by x) (cs ++ scope_opened scope x)
+inside_behind count scope cs x le h = grind (arith, common_steps, all_same, all_more)
+
+-- ---- What is counted.
+
+scopes_behind : (x : Statement) (n count : ℕ) → n ≤ count → (if opens_scope x then n + 1 else n) ≤ count + opened_by x
+scopes_behind x n count le = grind (arith, common_steps)
+
+regions_behind : (x : Statement) (n count : ℕ) → n ≤ count → (if opens_region x then n + 1 else n) ≤ count + opened_by x
+regions_behind x n count le = grind (arith, common_steps)
+
+unnamed_behind : (x : Statement) (n count : ℕ) → n ≤ count → (if is_unnamed x then n + 1 else n) ≤ count + opened_by x
+unnamed_behind x n count le = grind (arith, common_steps)
+
+segments_counted : (x : Statement) (gs : List Segment) (current len multiple count : ℕ) → length gs ≤ count + 1 → length (segments_behind gs current len multiple x) ≤ count + opened_by x + 1
+segments_counted x gs current len multiple count le = grind (arith, common_steps, length-append, grown_length)
+
+open_behind : (x : Statement) (y : Symbols) (w : Cursor) (count : ℕ) → w.scope ≤ count → w.opened ≤ count → AreInside count y.scopes → scope_behind y w x ≤ count + opened_by x
+open_behind (statement.OpenScope n) y w count le less h = omega (arith, less)
+open_behind (statement.OpenProc n) y w count le less h = omega (arith, less)
+open_behind statement.CloseScope y w count le less h = let around = enclosing_below count w.scope y.scopes h in omega (arith, around)
+open_behind statement.CloseProc y w count le less h = let around = enclosing_below count w.scope y.scopes h in omega (arith, around)
+open_behind _ y w count le less h = omega (arith, le)
+
+-- a statement opens so much at most
+pub counted_behind : (y : Symbols) (v w : code.Cursor) (x : Statement) (len multiple count : ℕ) → IsCounted count v → AreInside count y.scopes → cursor_of w ≡ advanced y (cursor_of v) x len multiple → IsCounted (count + opened_by x) w
+counted_behind y v w x len multiple count counted inside e = record {
+  scope = rw (ap (λ (s : Cursor). s.scope) e) (open_behind x y (cursor_of v) count counted.scope counted.scopes inside);
+  scopes = rw (ap (λ (s : Cursor). s.opened) e) (scopes_behind x v.opened count counted.scopes);
+  regions = rw (ap (λ (s : Cursor). s.region) e) (regions_behind x v.region count counted.regions);
+  unnamed = rw (ap (λ (s : Cursor). s.unnamed) e) (unnamed_behind x v.unnamed count counted.unnamed);
+  segments = rw (ap (λ (s : Cursor). s.segments) e) (segments_counted x v.segments.items v.current len multiple count counted.segments);
+}
+
+-- below the limit, there are numbers for one more
+pub has_numbers : (count : ℕ) (y : Symbols) (w : code.Cursor) → IsCounted count w → AreInside count y.scopes → count < opening_limit → HasNumbers y w
+has_numbers count y w counted inside less = grind (arith, common_steps, enclosing_below)
+
+-- ---- What is measured.
+
+module _ (y : Symbols) (w : Cursor) (x : Statement) where
+  pub without_fault : (m : Measured) → measured y w x ≡ Ok m → line_fault y w x ≡ None
+  without_fault m e = (no_fault (line_fault y w x) (measure_of y w x) m e).0
+
+  pub is_measured : (m : Measured) → measured y w x ≡ Ok m → measure_of y w x ≡ m
+  is_measured m e = (no_fault (line_fault y w x) (measure_of y w x) m e).1
+
+  pub with_fault : (e : AsmFault) → measured y w x ≡ Err e → line_fault y w x ≡ Some e
+  with_fault e p = grind (arith, common_steps)
+
+  -- where the next statement stands
+  pub behind_measured : (m : Measured) → measured y w x ≡ Ok m → advanced y w x m.length m.multiple ≡ cursor_behind y w x
+  behind_measured m e = ap (λ (k : Measured). advanced y w x k.length k.multiple) (sym (is_measured m e))

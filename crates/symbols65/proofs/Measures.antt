@@ -1,0 +1,201 @@
+-- Faults one after the other.
+use Rattle.std.proofs.Common.{arith, ◌≡◌, ℕ, zero, suc, ◌+◌, ◌*◌, ◌<◌, ◌≤◌, nat_lt, drop, get_or, add-one, Bool, true, false, List, [], ◌∷◌, length, map, Option, Some, None, refl, sym, ap, ◌∙◌}
+use Rattle.std.proofs.lemmas.Grind.{common_steps}
+use Rattle.std.specs.Prelude.{IfOk, OnOk, Result, Ok, Err, ◌&&◌, sum_by, ℤ, pos, negsuc, not, ◌-◌, MatchOption, SomeIff}
+use Rattle.base65.specs.Outcome.{Unless, ◌>>=◌, Gives}
+use Rattle.std.proofs.lemmas.List.{drop_all}
+use Rattle.std.proofs.lemmas.List.Sums.{sum_by-cons}
+use Rattle.object65.specs.declared.object.Width.{Width}
+use Rattle.semantics65.specs.Norms.{counted, fill_settled, gap, item_len, optional_value, constant_in}
+use Rattle.syntax65.specs.Trees.{Tree}
+use Rattle.ast65.specs.declared.fault.AsmFault.{AsmFault}
+use Rattle.ast65.specs.Faults.{is_memory}
+use Rattle.ast65.specs.declared.fault.AsmFault.TheVariants.{BadOperand, NotUnderstood, SectionTooLarge}
+use Rattle.ast65.specs.declared.language.Item.{Item}
+use Rattle.semantics65.specs.declared.laid.Settled.{Settled}
+use Rattle.semantics65.specs.Symbols.{Scope, Symbols, key_defined}
+use Rattle.ast65.specs.declared.language.Statement.{Statement}
+use Rattle.ast65.specs.declared.language.Statement.TheVariants as statement
+use Rattle.object65.specs.Objects.{width_len, section_limit}
+use Rattle.ast65.specs.Items.{numbered}
+use Rattle.std.proofs.Math.Nat.{suc-mul, zero-mul}
+use Rattle.ast65.proofs.Lists.{drop_item}
+use Rattle.syntax65.specs.declared.lexing.tokens.AddressSize.TheVariants.{Absolute}
+use Rattle.syntax65.specs.declared.lexing.tokens.AddressSize.{AddressSize}
+use Rattle.semantics65.specs.declared.contents.Segment.{Segment}
+use Rattle.semantics65.specs.Layout.{Cursor, own_size, segment_at, context_of, first_fault, defined_twice, is_open, line_fault, opened_twice, scope_name, stands_outside, trees_of, is_byte_value, is_count, is_there, multiple_fault, item_trees, lost_scopes, or_then, when, unless_fault}
+use Rattle.symbols65.specs.declared.measuring.Measured as code
+use Rattle.symbols65.specs.declared.measuring.Measured.{Measured}
+use Rattle.symbols65.specs.Measuring.{fitted, measure_of, measured, naming_fault, placed, placing_faults}
+
+-- ---- Small steps that many proofs take.
+
+pub unless_then : {P Q : Type 0} (b : Bool) → (P → Q) → Unless b P → Unless b Q
+unless_then true f h = tt
+unless_then false f h = f h
+
+pub ok_then : {A E P Q : Type 0} (r : Result A E) → (P → Q) → OnOk r P → OnOk r Q
+ok_then x f h = grind (arith, common_steps)
+
+pub ok_with : {A E : Type 0} (P Q : A → Type 0) (r : Result A E) → ((x : A) → P x → Q x) → IfOk r P → IfOk r Q
+ok_with x y z f h = grind (arith, common_steps)
+
+-- ---- Faults one after the other.
+
+-- the second fault is looked for where there is no first
+pub two_faults : {A : Type 0} (f g : Option AsmFault) (x : A) → unless_fault (or_then f g) x ≡ (unless_fault {A = Unit {0}} f tt >>= λ u. unless_fault g x)
+two_faults y g x = grind (arith, common_steps)
+
+-- a refusal for the first of two faults
+pub refused_first : {A : Type 0} (e : AsmFault) (f g : Option AsmFault) (x : A) → Unless (is_memory e) (unless_fault {A = Unit {0}} f tt ≡ Err e) → Unless (is_memory e) (unless_fault (or_then f g) x ≡ Err e)
+refused_first e f g x h = unless_then (is_memory e) (λ p. two_faults f g x ∙ ap (λ r. r >>= λ u. unless_fault g x) p) h
+
+-- a refusal of what is the same
+pub refused_same : {A : Type 0} (e : AsmFault) (r s : Result A AsmFault) → s ≡ r → Unless (is_memory e) (r ≡ Err e) → Unless (is_memory e) (s ≡ Err e)
+refused_same e r s q h = unless_then (is_memory e) (λ p. q ∙ p) h
+
+-- what is left where the first of two faults isn't there
+pub left_behind : {A : Type 0} (f g : Option AsmFault) (x y : A) → unless_fault f x ≡ Ok y → or_then f g ≡ g
+left_behind z g x y h = grind (arith, common_steps)
+
+-- ---- Lists of values.
+
+first_item : (cs : List Scope) (scope : ℕ) (item : Item) (items : List Item) → lost_scopes cs scope (item_trees (item ∷ items)) ≡ or_then (lost_scopes cs scope (item_trees (item ∷ []))) (lost_scopes cs scope (item_trees items))
+first_item cs scope x items = grind (arith, common_steps)
+
+-- what the items from a place on are refused for
+pub items_lost : (cs : List Scope) (scope : ℕ) (items : List Item) (i : ℕ) (item : Item) → i < length items → item ≡ get_or items i item → lost_scopes cs scope (item_trees (drop i items)) ≡ or_then (lost_scopes cs scope (item_trees (item ∷ []))) (lost_scopes cs scope (item_trees (drop (i + 1) items)))
+items_lost cs scope items i item lt e = rw add-one (ap (λ is. lost_scopes cs scope (item_trees is)) (drop_item items i item lt e) ∙ first_item cs scope item (drop (suc i) items))
+
+-- ---- What a section has room for.
+
+pub same_test : (offset room len : ℕ) → offset + room ≡ section_limit → nat_lt section_limit (offset + len) ≡ nat_lt room len
+same_test offset room len e = grind (arith, common_steps)
+
+-- ---- Segments and blocks.
+
+pub no_segment : (gs : List Segment) (i : ℕ) → length gs ≤ i → (segment_at gs i).size ≡ Absolute
+no_segment [] i h = refl
+no_segment (f ∷ gs) zero h = absurd (omega arith)
+no_segment (f ∷ gs) (suc i) h = no_segment gs i (omega arith)
+
+-- ---- Lengths of lists.
+
+-- how many bytes the items from a place on take
+pub items_left : (width : Width) (items : List Item) (i : ℕ) (item : Item) → i < length items → item ≡ get_or items i item → sum_by (item_len width) (drop i items) ≡ item_len width item + sum_by (item_len width) (drop (i + 1) items)
+items_left width items i item lt e = rw add-one (ap (sum_by (item_len width)) (drop_item items i item lt e) ∙ sum_by-cons (item_len width) item (drop (suc i) items))
+
+pub none_left : (width : Width) (items : List Item) (i : ℕ) → length items ≤ i → sum_by (item_len width) (drop i items) ≡ 0
+none_left width items i le = ap (sum_by (item_len width)) (drop_all i items le)
+
+-- numbers take as many bytes as one of them, each
+pub numbers_len : (width : Width) (ns : List ℕ) → sum_by (item_len width) (map numbered ns) ≡ length ns * width_len width
+numbers_len width [] = sym (zero-mul (width_len width))
+numbers_len width (n ∷ ns) =
+    let e = numbers_len width ns in
+    let f = suc-mul (length ns) (width_len width) in
+    let g : sum_by (item_len width) (map numbered (n ∷ ns)) ≡ width_len width + sum_by (item_len width) (map numbered ns) = sum_by-cons (item_len width) (numbered n) (map numbered ns) in
+    g ∙ omega (arith, e, f)
+
+-- what is left behind so many bytes, if there is room for them
+pub what_is_left : (o : Option ℕ) (room len n : ℕ) → len ≡ n → SomeIff o (len ≤ room) (room - len) → MatchOption o (room < n) (λ left. left + n ≡ room)
+what_is_left x room len n e h = grind (arith, common_steps)
+
+-- and they have no names
+pub numbers_keep : (cs : List Scope) (scope : ℕ) (ns : List ℕ) → lost_scopes cs scope (item_trees (map numbered ns)) ≡ None
+numbers_keep cs scope [] = refl
+numbers_keep cs scope (n ∷ ns) = numbers_keep cs scope ns
+
+-- ---- Instructions.
+
+pub last_of_two : (f : Option AsmFault) → or_then f None ≡ f
+last_of_two x = grind (arith, common_steps)
+
+-- ---- Room.
+
+-- what `.res` places, by how much, and whether its other value is a byte
+abbrev pub reserved : Cursor → Bool → Settled → Option ℤ → Result Measured AsmFault
+reserved w b st k =
+    unless_fault (first_fault (
+    None
+    ∷ when (not (is_count k && b)) BadOperand
+    ∷ None ∷ None ∷ None ∷ None ∷ None ∷ None
+    ∷ when (nat_lt section_limit ((context_of w).offset + counted k)) SectionTooLarge
+    ∷ []))
+    (record { length = counted k; size = own_size w; multiple = 1; settled = st })
+
+pub reserved_as : (y : Symbols) (w : Cursor) (n : Tree) (v : Option Tree) (k : Option ℤ) → constant_in y (context_of w) n ≡ k → placed y w (statement.Reserve n v) ≡ reserved w (is_byte_value (optional_value y (context_of w) v (pos 0))) (fill_settled y (context_of w) v) k
+reserved_as y w n v k e = ap (reserved w (is_byte_value (optional_value y (context_of w) v (pos 0))) (fill_settled y (context_of w) v)) e
+
+-- a byte that is refused, where the number is one
+pub bad_fill : (w : Cursor) (b : Bool) (st : Settled) (k : Option ℤ) (m : ℕ) (e : AsmFault) → unless_fault (when (not (is_count k)) BadOperand) (counted k) ≡ Ok m → Unless (is_memory e) (unless_fault {A = Unit {0}} (when (not b) BadOperand) tt ≡ Err e) → Unless (is_memory e) (reserved w b st k ≡ Err e)
+bad_fill w b st x m e t h = grind (arith, common_steps)
+
+-- ---- Alignment.
+
+pub no_fault : {A : Type 0} (f : Option AsmFault) (x y : A) → unless_fault f x ≡ Ok y → (f ≡ None) × (x ≡ y)
+no_fault z x y h = grind (arith, common_steps)
+
+-- what `.align` places, by the value of its multiple, and whether its other value is a byte
+abbrev pub aligned : Cursor → Bool → Settled → Option ℤ → Result Measured AsmFault
+aligned w b st k =
+    unless_fault (first_fault (
+    None
+    ∷ when (not (is_there k && b)) BadOperand
+    ∷ multiple_fault k
+    ∷ None ∷ None ∷ None ∷ None ∷ None
+    ∷ when (nat_lt section_limit ((context_of w).offset + gap (context_of w).offset k)) SectionTooLarge
+    ∷ []))
+    (record { length = gap (context_of w).offset k; size = own_size w; multiple = counted k; settled = st })
+
+pub aligned_as : (y : Symbols) (w : Cursor) (n : Tree) (v : Option Tree) (k : Option ℤ) → constant_in y (context_of w) n ≡ k → placed y w (statement.Align n v) ≡ aligned w (is_byte_value (optional_value y (context_of w) v (pos 0))) (fill_settled y (context_of w) v) k
+aligned_as y w n v k e = ap (aligned w (is_byte_value (optional_value y (context_of w) v (pos 0))) (fill_settled y (context_of w) v)) e
+
+-- a multiple that is refused, where the values aren't
+refused_third : {A : Type 0} (a b : Bool) (f r : Option AsmFault) (x : A) (m : ℕ) (e : AsmFault) → unless_fault {A = Unit {0}} (when (not a) BadOperand) tt ≡ Ok tt → unless_fault {A = Unit {0}} (when (not b) BadOperand) tt ≡ Ok tt → Unless (is_memory e) (unless_fault f m ≡ Err e) → Unless (is_memory e) (unless_fault (first_fault (None ∷ when (not (a && b)) BadOperand ∷ f ∷ None ∷ None ∷ None ∷ None ∷ None ∷ r ∷ [])) x ≡ Err e)
+refused_third false b f r x m e t h g = absurd cc
+refused_third true false f r x m e t h g = absurd cc
+refused_third true true None r x m e t h g = unless_then (is_memory e) (λ p. absurd cc) g
+refused_third true true (Some d) r x m e t h g = unless_then (is_memory e) (λ p. let same : d ≡ e = cc in ap (λ k. Err k) same) g
+
+pub bad_multiple : (w : Cursor) (b : Bool) (st : Settled) (k : Option ℤ) (e : AsmFault) → unless_fault {A = Unit {0}} (when (not (is_there k)) BadOperand) tt ≡ Ok tt → unless_fault {A = Unit {0}} (when (not b) BadOperand) tt ≡ Ok tt → Unless (is_memory e) (unless_fault (multiple_fault k) (counted k) ≡ Err e) → Unless (is_memory e) (aligned w b st k ≡ Err e)
+bad_multiple w b st k e t h g = refused_third (is_there k) b (multiple_fault k) _ _ (counted k) e t h g
+
+-- a byte that is refused, where the multiple is constant
+pub bad_byte : (w : Cursor) (b : Bool) (st : Settled) (k : Option ℤ) (e : AsmFault) → unless_fault {A = Unit {0}} (when (not (is_there k)) BadOperand) tt ≡ Ok tt → Unless (is_memory e) (unless_fault {A = Unit {0}} (when (not b) BadOperand) tt ≡ Err e) → Unless (is_memory e) (aligned w b st k ≡ Err e)
+bad_byte w b st x e t h = grind (arith, common_steps)
+
+all_well : {A : Type 0} (f r : Option AsmFault) (x : A) → f ≡ None → r ≡ None → unless_fault (first_fault (None ∷ None ∷ f ∷ None ∷ None ∷ None ∷ None ∷ None ∷ r ∷ [])) x ≡ Ok x
+all_well y z x p q = grind (arith, common_steps)
+
+abbrev pub as_ok : ℕ → AddressSize → ℕ → Settled → Result Measured AsmFault
+as_ok len own multiple st = Ok (record { length = len; size = own; multiple = multiple; settled = st })
+
+pub aligned_well : (w : Cursor) (b : Bool) (st : Settled) (k : Option ℤ) (m g len : ℕ) → unless_fault {A = Unit {0}} (when (not b) BadOperand) tt ≡ Ok tt → unless_fault (multiple_fault k) (counted k) ≡ Ok m → g ≡ gap (context_of w).offset (Some (pos m)) → fitted w g ≡ Ok len → aligned w b st k ≡ as_ok len (own_size w) m st
+aligned_well w false st k m g len h hm hg hf = absurd cc
+aligned_well w true st None m g len h hm hg hf = absurd cc
+aligned_well w true st (Some (negsuc j)) m g len h hm hg hf = absurd cc
+aligned_well w true st (Some (pos j)) m g len h hm hg hf = grind (arith, common_steps, no_fault, all_well)
+
+-- ---- All faults.
+
+four_first : (a b c d : Option AsmFault) (rest : List (Option AsmFault)) → first_fault (a ∷ b ∷ c ∷ d ∷ rest) ≡ or_then (or_then a (or_then b (or_then c d))) (first_fault rest)
+four_first x b c d rest = grind (arith, common_steps)
+
+module _ (y : Symbols) (w : Cursor) (x : Statement) where
+  pub faults_are : line_fault y w x ≡ or_then (naming_fault y (context_of w) x) (first_fault (placing_faults y w x))
+  faults_are = four_first (when (stands_outside x && is_open w.scope) NotUnderstood) (lost_scopes y.scopes w.scope (trees_of x)) (opened_twice y.scopes w.scope (scope_name x)) (defined_twice y (key_defined (context_of w) x)) (placing_faults y w x)
+
+  -- a statement that is refused for its names
+  pub measured_refused : (e : AsmFault) → Unless (is_memory e) (unless_fault {A = Unit {0}} (naming_fault y (context_of w) x) tt ≡ Err e) → Unless (is_memory e) (measured y w x ≡ Err e)
+  measured_refused e h = refused_same e _ _ (ap (λ f. unless_fault f (measure_of y w x)) faults_are) (refused_first e (naming_fault y (context_of w) x) (first_fault (placing_faults y w x)) (measure_of y w x) h)
+
+  -- and one that isn't
+  pub measured_named : unless_fault {A = Unit {0}} (naming_fault y (context_of w) x) tt ≡ Ok tt → measured y w x ≡ placed y w x
+  measured_named h = ap (λ f. unless_fault f (measure_of y w x)) (faults_are ∙ left_behind (naming_fault y (context_of w) x) (first_fault (placing_faults y w x)) tt tt h)
+
+-- ---- Room for what is placed.
+
+-- what is placed has room
+pub room_of : (y : Symbols) (w : Cursor) (x : Statement) (r : Result code.Measured AsmFault) → Gives is_memory (λ m. m) r (placed y w x) → IfOk r (λ m. (context_of w).offset + m.length ≤ section_limit)
+room_of y w x z h = grind (arith, common_steps)

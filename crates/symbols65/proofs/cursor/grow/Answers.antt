@@ -1,0 +1,13 @@
+use Rattle.std.proofs.Common.{rules}
+use Rattle.symbols65.proofs.Segments.{grown_is, segment_or}
+use Rattle.symbols65.proofs.cursor.grow.Goals as goal
+
+pub overflow_add-segment : goal.overflow_add-segment
+overflow_add-segment c =
+    let same = segment_or c.args.segments.now c.args.place c.index-segments-place.result c.requires.place in
+    rw same (search rules)
+
+pub returns : goal.returns
+returns c =
+    let same = segment_or c.args.segments.now c.args.place c.index-segments-place.result c.requires.place in
+    rw (c.max-segment.ensures, same) (grown_is c.args.segments.now c.args.place c.args.count c.args.multiple)

@@ -1,0 +1,346 @@
+//! Where the next statement stands.
+
+ghost use Rattle.std.specs.Prelude.{◌≡◌, ℕ, ◌+◌, ◌<◌, ◌≤◌, length, OnOk, IfOk, None, ◌++◌, ◌∷◌, [], if◌then◌else◌};
+ghost use Rattle.object65.specs.Objects.{section_limit};
+ghost use Rattle.semantics65.specs.Symbols.{is_unnamed, opens_region, Symbols as Table};
+ghost use Rattle.semantics65.specs.Layout.{current_behind, first_size, grown_at, kept_behind, last_kept, named_segments, new_segment, opens_scope, or_last, place_of, rest_kept, scope_behind, segment_at, segments_behind, context_of, start};
+ghost use Rattle.syntax65.specs.declared.instructions.names.Mnemonic.{Mnemonic};
+ghost use Rattle.ast65.specs.declared.language.Operand.{Operand};
+ghost use Rattle.ast65.specs.declared.language.Statement.TheVariants.{Instruction};
+ghost use Rattle.symbols65.specs.Views.{table_of};
+ghost use Rattle.symbols65.specs.Measuring.{advanced, AreInside, HasNumbers, opened_by, AreWithin, IsCounted, IsSoundCursor, cursor_of};
+
+use crate::measuring::Measured;
+use base65::Sequence;
+use indexmap::IndexSet;
+use ast65::Statement;
+use semantics65::{Context, GLOBAL_SCOPE, Segment};
+use object65::format::SECTION_LIMIT;
+use std::alloc::{AllocError, Global};
+use crate::table::Symbols;
+use syntax65::AddressSize;
+
+/// What stands behind statements.
+#[derive(Drop)]
+pub struct Cursor {
+    /// The innermost open scope.
+    pub scope: u32,
+    /// How many scopes were opened.
+    pub opened: u32,
+    /// How many regions of cheap labels were opened.
+    pub region: u32,
+    /// How many unnamed labels stand before.
+    pub unnamed: u32,
+    /// The segments in the order in which they were first named.
+    pub segments: Vec<Segment>,
+    /// The place of the segment in which the next statement stands.
+    pub current: u32,
+    /// The places of segments that were kept, the last one last.
+    pub kept: Vec<u32>,
+    /// The names of the segments, in their order.
+    pub names: IndexSet<Vec<u8>>,
+}
+
+impl Cursor {
+    /// Where the first statement stands: in CODE.
+    pub fn start(alloc: Global) -> Result<Self, AllocError>
+        ensures begun { IfOk result (λ w. cursor_of w ≡ start) }
+        ensures sound { IfOk result IsSoundCursor }
+        ensures ends { IfOk result (λ w. AreWithin w.segments.items) }
+        ensures counted { IfOk result (IsCounted 0) }
+    {
+        let mut segments = Vec::new(alloc);
+        segments.push(segment_of(alloc, b"CODE", None)?)?;
+        let mut names = IndexSet::new(alloc);
+        names.insert(Vec::from_slice(alloc, b"CODE")?)?;
+        Ok(Cursor {
+            scope: GLOBAL_SCOPE,
+            opened: 0,
+            region: 0,
+            unnamed: 0,
+            segments,
+            current: 0,
+            kept: Vec::new(alloc),
+            names,
+        })
+    }
+
+    /// The segment in which the next statement stands.
+    pub fn segment(&self) -> &Segment
+        requires { self.now.current < length self.now.segments.items }
+        ensures { result.now ≡ segment_at self.now.segments.items self.now.current }
+    {
+        &self.segments[self.current as usize]
+    }
+
+    /// The place of the segment of a name.
+    pub fn place_of(&self, name: &[u8]) -> Option<usize>
+        requires { IsSoundCursor self.now }
+        ensures { result ≡ place_of self.now.segments.items name.now }
+    {
+        self.names.get_index_of(name)
+    }
+
+    /// Where the next statement stands.
+    pub fn context(&self) -> Context
+        requires { self.now.current < length self.now.segments.items }
+        ensures { result ≡ context_of (cursor_of self.now) }
+    {
+        Context {
+            scope: self.scope,
+            opened: self.opened,
+            region: self.region,
+            unnamed: self.unnamed,
+            segment: self.current,
+            offset: self.segment().end,
+        }
+    }
+
+    /// How many bytes the section has room for.
+    pub fn room(&self) -> u32
+        requires current { self.now.current < length self.now.segments.items }
+        requires end { (context_of (cursor_of self.now)).offset ≤ section_limit }
+        ensures { (context_of (cursor_of self.now)).offset + result ≡ section_limit }
+    {
+        SECTION_LIMIT - self.segment().end
+    }
+
+    /// Moves the end of the section in which statements stand.
+    fn grow(&mut self, count: u32, multiple: u32)
+        requires sound { IsSoundCursor self.old }
+        requires ends { AreWithin self.old.segments.items }
+        requires room { (context_of (cursor_of self.old)).offset + count ≤ section_limit }
+        ensures moved { cursor_of self.new ≡ record (cursor_of self.old) {
+          segments = grown_at self.old.segments.items self.old.current count multiple;
+        } }
+        ensures sound { IsSoundCursor self.new }
+        ensures ends { AreWithin self.new.segments.items }
+    {
+        grow(&mut self.segments, self.current as usize, count, multiple);
+    }
+
+    /// Begins a segment, in which the next statement stands.
+    fn begin(
+        &mut self,
+        alloc: Global,
+        name: &[u8],
+        size: Option<AddressSize>,
+    ) -> Result<(), AllocError>
+        requires sound { IsSoundCursor self.old }
+        requires ends { AreWithin self.old.segments.items }
+        requires few { length self.old.segments.items < 4294967295 }
+        requires new { place_of self.old.segments.items name.now ≡ None }
+        ensures moved { OnOk result (cursor_of self.new ≡ record (cursor_of self.old) {
+          segments = self.old.segments.items ++ new_segment name.now (first_size name.now size) ∷ [];
+          current = length self.old.segments.items;
+        }) }
+        ensures sound { OnOk result (IsSoundCursor self.new) }
+        ensures ends { OnOk result (AreWithin self.new.segments.items) }
+    {
+        let place = self.segments.len();
+        self.segments.push(segment_of(alloc, name, size)?)?;
+        self.names.insert(Vec::from_slice(alloc, name)?)?;
+        self.current = place as u32;
+        Ok(())
+    }
+
+    /// Goes on in the segment of a name, which begins if there is none.
+    #[inline(never)]
+    fn select(
+        &mut self,
+        alloc: Global,
+        name: &[u8],
+        size: Option<AddressSize>,
+    ) -> Result<(), AllocError>
+        requires sound { IsSoundCursor self.old }
+        requires ends { AreWithin self.old.segments.items }
+        requires few { length self.old.segments.items < 4294967295 }
+        ensures moved { OnOk result (cursor_of self.new ≡ record (cursor_of self.old) {
+          segments = named_segments self.old.segments.items name.now size
+              (place_of self.old.segments.items name.now);
+          current = or_last self.old.segments.items
+              (place_of self.old.segments.items name.now);
+        }) }
+        ensures sound { OnOk result (IsSoundCursor self.new) }
+        ensures ends { OnOk result (AreWithin self.new.segments.items) }
+    {
+        match self.place_of(name) {
+            None => self.begin(alloc, name, size),
+            Some(place) => {
+                self.current = place as u32;
+                Ok(())
+            }
+        }
+    }
+
+    /// Keeps the place of the segment in which statements stand.
+    #[inline(never)]
+    fn keep(&mut self) -> Result<(), AllocError>
+        requires sound { IsSoundCursor self.old }
+        ensures moved { OnOk result (cursor_of self.new ≡ record (cursor_of self.old) {
+          kept = self.old.current ∷ (cursor_of self.old).kept;
+        }) }
+        ensures sound { OnOk result (IsSoundCursor self.new) }
+        ensures segments { self.new.segments ≡ self.old.segments }
+    {
+        self.kept.push(self.current)?;
+        Ok(())
+    }
+
+    /// Goes back to the segment that was kept last.
+    fn go_back(&mut self)
+        requires sound { IsSoundCursor self.old }
+        requires ends { AreWithin self.old.segments.items }
+        ensures moved { cursor_of self.new ≡ record (cursor_of self.old) {
+          current = last_kept self.old.current (cursor_of self.old).kept;
+          kept = rest_kept (cursor_of self.old).kept;
+        } }
+        ensures sound { IsSoundCursor self.new }
+        ensures segments { self.new.segments ≡ self.old.segments }
+    {
+        if let Some(place) = self.kept.pop() {
+            self.current = place;
+        }
+    }
+
+    /// Goes on behind a statement of so many bytes in its segments.
+    fn move_on(
+        &mut self,
+        alloc: Global,
+        statement: &Statement,
+        count: u32,
+        multiple: u32,
+    ) -> Result<(), AllocError>
+        requires sound { IsSoundCursor self.old }
+        requires ends { AreWithin self.old.segments.items }
+        requires few { length self.old.segments.items < 4294967295 }
+        requires room { (context_of (cursor_of self.old)).offset + count ≤ section_limit }
+        ensures moved { OnOk result (cursor_of self.new ≡ record (cursor_of self.old) {
+          segments = segments_behind self.old.segments.items self.old.current count multiple
+              statement.now;
+          current = current_behind (cursor_of self.old) statement.now;
+          kept = kept_behind (cursor_of self.old) statement.now;
+        }) }
+        ensures sound { OnOk result (IsSoundCursor self.new) }
+        ensures ends { OnOk result (AreWithin self.new.segments.items) }
+    {
+        match statement {
+            Statement::Segment { name, size } => self.select(alloc, name.as_slice(), *size),
+            Statement::PushSegment => {
+                self.grow(count, multiple);
+                self.keep()
+            }
+            Statement::PopSegment => {
+                self.grow(count, multiple);
+                self.go_back();
+                Ok(())
+            }
+            _ => {
+                self.grow(count, multiple);
+                Ok(())
+            }
+        }
+    }
+
+    /// Goes on behind an instruction of so many bytes.
+    pub fn advance_by(&mut self, count: u32)
+        requires sound { IsSoundCursor self.old }
+        requires ends { AreWithin self.old.segments.items }
+        requires room { (context_of (cursor_of self.old)).offset + count ≤ section_limit }
+        ensures moved { (y : Table) (m : Mnemonic) (operand : Operand) → cursor_of self.new
+            ≡ advanced y (cursor_of self.old) (Instruction m operand) count 1 }
+        ensures sound { IsSoundCursor self.new }
+        ensures ends { AreWithin self.new.segments.items }
+        ensures counted { (y : Table) (m : Mnemonic) (operand : Operand) (n : ℕ) →
+            IsCounted n self.old → AreInside n y.scopes →
+            IsCounted (n + opened_by (Instruction m operand)) self.new }
+    {
+        self.grow(count, 1);
+    }
+
+    /// Goes on behind a statement of so many bytes, which aligns its section to a multiple.
+    pub fn advance(
+        &mut self,
+        alloc: Global,
+        symbols: &Symbols,
+        statement: &Statement,
+        measure: Measured,
+    ) -> Result<(), AllocError>
+        requires sound { IsSoundCursor self.old }
+        requires ends { AreWithin self.old.segments.items }
+        requires room { (context_of (cursor_of self.old)).offset + measure.length ≤ section_limit }
+        requires numbers { HasNumbers (table_of symbols.now) self.old }
+        ensures moved { OnOk result (cursor_of self.new ≡ advanced (table_of symbols.now)
+            (cursor_of self.old) statement.now measure.length measure.multiple) }
+        ensures sound { OnOk result (IsSoundCursor self.new) }
+        ensures ends { OnOk result (AreWithin self.new.segments.items) }
+        ensures counted { (count : ℕ) → IsCounted count self.old
+            → AreInside count (table_of symbols.now).scopes
+            → OnOk result (IsCounted (count + opened_by statement.now) self.new) }
+    {
+        self.count_openings(symbols, statement);
+        self.move_on(alloc, statement, measure.length, measure.multiple)
+    }
+
+    /// Goes on behind a statement in the scopes, the regions and the unnamed labels.
+    fn count_openings(&mut self, symbols: &Symbols, statement: &Statement)
+        requires { HasNumbers (table_of symbols.now) self.old }
+        ensures { self.new ≡ record self.old {
+          scope = scope_behind (table_of symbols.now) (cursor_of self.old)
+              statement.now;
+          opened = (if opens_scope statement.now then self.old.opened + 1
+              else self.old.opened);
+          region = (if opens_region statement.now then self.old.region + 1
+              else self.old.region);
+          unnamed = (if is_unnamed statement.now then self.old.unnamed + 1
+              else self.old.unnamed);
+        } }
+    {
+        match statement {
+            Statement::OpenScope(_) => {
+                self.opened += 1;
+                self.scope = self.opened;
+            }
+            Statement::OpenProc(_) => {
+                self.opened += 1;
+                self.scope = self.opened;
+                self.region += 1;
+            }
+            Statement::CloseScope | Statement::CloseProc => {
+                self.scope = symbols.enclosing(self.scope as usize) as u32;
+            }
+            Statement::Label(_) => self.region += 1,
+            Statement::UnnamedLabel => self.unnamed += 1,
+            _ => {}
+        }
+    }
+}
+
+/// Moves the end of a segment's section.
+fn grow(segments: &mut [Segment], place: usize, count: u32, multiple: u32)
+    requires place { place < length segments.old }
+    requires end { (segment_at segments.old place).end + count ≤ section_limit }
+    ensures { segments.new ≡ grown_at segments.old place count multiple }
+{
+    let segment = &mut segments[place];
+    segment.end += count;
+    segment.align = segment.align.max(multiple);
+}
+
+/// A new segment. Its size is absolute where none is given, but for ZEROPAGE.
+fn segment_of(alloc: Global, name: &[u8], size: Option<AddressSize>) -> Result<Segment, AllocError>
+    ensures { IfOk result (λ g. g ≡ new_segment name.now (first_size name.now size)) }
+{
+    let size = match size {
+        Some(size) => size,
+        None if name == b"ZEROPAGE".as_slice() => AddressSize::ZeroPage,
+        None => AddressSize::Absolute,
+    };
+    let name = Sequence::from_vec(Vec::from_slice(alloc, name)?);
+    Ok(Segment {
+        name,
+        size,
+        end: 0,
+        align: 1,
+    })
+}

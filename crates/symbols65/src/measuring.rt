@@ -1,0 +1,140 @@
+//! What a statement comes to at its line, or its first fault there.
+
+mod bytes;
+mod kinds;
+mod rooms;
+mod trees;
+
+ghost use Rattle.std.specs.Prelude.{◌≡◌, ◌+◌, ◌≤◌, false, nat_lt, IfOk, OnOk};
+ghost use Rattle.base65.specs.Outcome.{Gives};
+ghost use Rattle.object65.specs.Objects.{section_limit};
+ghost use Rattle.ast65.specs.Faults.{is_memory};
+ghost use Rattle.semantics65.specs.declared.laid.Settled.TheVariants.{Unsettled};
+ghost use Rattle.ast65.specs.declared.language.Statement.TheVariants.{Instruction};
+ghost use Rattle.semantics65.specs.Layout.{own_size, context_of};
+ghost use Rattle.symbols65.specs.Resolving.{IsTable};
+ghost use Rattle.symbols65.specs.Views.{table_of};
+ghost use Rattle.symbols65.specs.Measuring.{Checks, fitted, measured, naming_fault, IsSoundCursor, cursor_of};
+
+pub use self::bytes::check_unread;
+use self::bytes::instruction;
+pub use self::kinds::asks_section;
+use self::kinds::{check_defined, check_opened, check_outside, place};
+use self::trees::{check_operand, check_trees};
+use crate::cursor::Cursor;
+use ast65::{AsmFault, Operand, Statement};
+use semantics65::{Context, Settled};
+use std::alloc::Global;
+use crate::resolving::NormCache;
+use crate::table::Symbols;
+use syntax65::{AddressSize, Mnemonic};
+
+/// What stands before a statement: the symbol table of those before it, and where it stands itself.
+#[derive(Clone, Copy)]
+pub struct Before<'a> {
+    pub symbols: &'a Symbols,
+    pub cursor: &'a Cursor,
+}
+
+/// What a statement places and defines.
+#[derive(Clone, Copy)]
+pub struct Measured {
+    /// How many bytes it places.
+    pub length: u32,
+    /// The address size of what it defines.
+    pub size: AddressSize,
+    /// The multiple to which it aligns its section.
+    pub multiple: u32,
+    pub settled: Settled,
+}
+
+/// Refuses a statement for the names and scopes in it.
+fn check_naming(
+    alloc: Global,
+    symbols: &Symbols,
+    context: Context,
+    statement: &Statement,
+) -> Result<(), AsmFault>
+    ensures { Checks result (naming_fault (table_of symbols.now) context statement.now) }
+{
+    let scope = context.scope as usize;
+    check_outside(scope, statement)?;
+    check_trees(alloc, symbols, scope, statement)?;
+    check_opened(alloc, symbols, scope, statement)?;
+    check_defined(alloc, symbols, context, statement)
+}
+
+/// So many bytes, if the section has room for them.
+#[tactic(auto, using(crate::proofs::Measures::same_test))]
+fn fit(cursor: &Cursor, length: usize) -> Result<u32, AsmFault>
+    requires { IsSoundCursor cursor.now }
+    ensures { result ≡ fitted (cursor_of cursor.now) length }
+{
+    let room = cursor.room();
+    if length > room as usize {
+        return Err(AsmFault::SectionTooLarge);
+    }
+    Ok(length as u32)
+}
+
+/// What a statement without bytes places.
+fn nothing(cursor: &Cursor) -> Measured
+    requires { IsSoundCursor cursor.now }
+    ensures room { nat_lt section_limit
+        ((context_of (cursor_of cursor.now)).offset + 0) ≡ false }
+    ensures length { result.length ≡ 0 }
+    ensures size { result.size ≡ own_size (cursor_of cursor.now) }
+    ensures multiple { result.multiple ≡ 1 }
+    ensures settled { result.settled ≡ Unsettled }
+{
+    Measured {
+        length: 0,
+        size: cursor.segment().size,
+        multiple: 1,
+        settled: Settled::Unsettled,
+    }
+}
+
+/// What a statement places behind others and what it defines, or its first fault there.
+pub fn measure(
+    alloc: Global,
+    before: Before<'_>,
+    known: &mut NormCache,
+    statement: &Statement,
+) -> Result<Measured, AsmFault>
+    requires table { IsTable (table_of before.symbols.now) known.old.states.items }
+    requires cursor { IsSoundCursor before.cursor.now }
+    ensures measured { Gives is_memory (λ m. m) result (measured
+        (table_of before.entry.symbols.now) (cursor_of before.entry.cursor.now)
+        statement.now) }
+    ensures room { IfOk result (λ m.
+        (context_of (cursor_of before.entry.cursor.now)).offset + m.length ≤ section_limit) }
+    ensures table { OnOk result
+        (IsTable (table_of before.entry.symbols.now) known.new.states.items) }
+{
+    check_naming(alloc, before.symbols, before.cursor.context(), statement)?;
+    place(alloc, before, known, statement)
+}
+
+/// The same of an instruction, which most statements are.
+pub fn measure_instruction(
+    alloc: Global,
+    before: Before<'_>,
+    known: &mut NormCache,
+    mnemonic: Mnemonic,
+    operand: &Operand,
+) -> Result<Measured, AsmFault>
+    requires table { IsTable (table_of before.symbols.now) known.old.states.items }
+    requires cursor { IsSoundCursor before.cursor.now }
+    ensures measured { Gives is_memory (λ m. m) result (measured
+        (table_of before.entry.symbols.now) (cursor_of before.entry.cursor.now)
+        (Instruction mnemonic operand.now)) }
+    ensures room { IfOk result (λ m.
+        (context_of (cursor_of before.entry.cursor.now)).offset + m.length ≤ section_limit) }
+    ensures table { OnOk result
+        (IsTable (table_of before.entry.symbols.now) known.new.states.items) }
+{
+    let scope = before.cursor.context().scope as usize;
+    check_operand(alloc, before.symbols, scope, operand)?;
+    instruction(alloc, before, known, mnemonic, operand)
+}

@@ -1,0 +1,208 @@
+//! What is measured of each kind of statement, and its names.
+
+ghost use Rattle.std.specs.Prelude.{◌≡◌, ◌&&◌, ℕ, List, OnOk, true};
+ghost use Rattle.ast65.specs.declared.fault.AsmFault.TheVariants.{DefinedTwice, NotUnderstood, ScopeTwice};
+ghost use Rattle.semantics65.specs.Layout.{defined_twice, is_open, opened_twice, scope_name, stands_outside, when, where_there};
+ghost use Rattle.semantics65.specs.Symbols.{scope_in, defined, key_defined, asks_section, has_here};
+ghost use Rattle.symbols65.specs.Tables.{key_of};
+ghost use Rattle.symbols65.specs.Views.{table_of};
+ghost use Rattle.ast65.specs.declared.language.Statement.TheVariants.{Constant};
+ghost use Rattle.symbols65.specs.Resolving.{IsTable};
+ghost use Rattle.symbols65.specs.Measuring.{Checks, Places, IsSoundCursor};
+
+use super::bytes::{file_part, instruction, values};
+use super::rooms::{align, check_segment, is_scope, reserve};
+use crate::measuring::{Before, Measured, nothing};
+use base65::Sequence;
+use ast65::{AsmFault, PartRange, Statement};
+use semantics65::Context;
+use std::alloc::Global;
+use crate::knowing;
+use crate::resolving::NormCache;
+use crate::table::{Key, Symbols};
+use syntax65::{Expr, ExprKind};
+
+/// Refuses a statement with names of the global scope where another one is open.
+pub fn check_outside(scope: usize, statement: &Statement) -> Result<(), AsmFault>
+    ensures { Checks result (when (stands_outside statement.now && is_open scope) NotUnderstood) }
+{
+    match statement {
+        Statement::Import { .. }
+        | Statement::Export(_)
+        | Statement::Global { .. }
+        | Statement::ForceImport(_)
+            if scope != 0 => { Err(AsmFault::NotUnderstood) }
+        _ => Ok(()),
+    }
+}
+
+/// Refuses a scope of a name that the scope around it has already.
+#[inline(never)]
+fn check_new_scope(
+    alloc: Global,
+    symbols: &Symbols,
+    scope: usize,
+    name: &[u8],
+) -> Result<(), AsmFault>
+    ensures { Checks result (where_there (scope_in (table_of symbols.now).scopes scope name.now)
+        (ScopeTwice name.now)) }
+{
+    match symbols.scope_in(scope, name) {
+        None => Ok(()),
+        Some(_) => {
+            let name = Vec::from_slice(alloc, name)?;
+            Err(AsmFault::ScopeTwice(Sequence::from_vec(name)))
+        }
+    }
+}
+
+/// Refuses a statement that opens a scope of a name that the scope around it has already.
+pub fn check_opened(
+    alloc: Global,
+    symbols: &Symbols,
+    scope: usize,
+    statement: &Statement,
+) -> Result<(), AsmFault>
+    ensures { Checks result (opened_twice (table_of symbols.now).scopes scope
+        (scope_name statement.now)) }
+{
+    match statement {
+        Statement::OpenScope(Some(name)) | Statement::OpenProc(name) => {
+            check_new_scope(alloc, symbols, scope, name.as_slice())
+        }
+        _ => Ok(()),
+    }
+}
+
+/// Refuses a name whose key has a definition already.
+#[inline(never)]
+fn check_key(alloc: Global, symbols: &Symbols, key: Key<'_>, name: &[u8]) -> Result<(), AsmFault>
+    ensures { Checks result (where_there (defined (table_of symbols.now) (key_of key.entry))
+        (DefinedTwice name.now)) }
+{
+    match symbols.defined(key) {
+        None => Ok(()),
+        Some(_) => {
+            let name = Vec::from_slice(alloc, name)?;
+            Err(AsmFault::DefinedTwice(Sequence::from_vec(name)))
+        }
+    }
+}
+
+/// Refuses a statement that defines what is defined already.
+pub fn check_defined(
+    alloc: Global,
+    symbols: &Symbols,
+    context: Context,
+    statement: &Statement,
+) -> Result<(), AsmFault>
+    ensures { Checks result (defined_twice (table_of symbols.now)
+        (key_defined context statement.now)) }
+{
+    let scope = context.scope as usize;
+    let region = context.region as usize;
+    match statement {
+        Statement::Label(name)
+        | Statement::OpenProc(name)
+        | Statement::Constant { name, value: _ } => {
+            let name = name.as_slice();
+            check_key(alloc, symbols, Key::Named { scope, name }, name)
+        }
+        Statement::CheapLabel(name) => {
+            let name = name.as_slice();
+            check_key(alloc, symbols, Key::Cheap { region, name }, name)
+        }
+        _ => Ok(()),
+    }
+}
+
+/// Whether an expression has a `*`.
+fn has_here(value: &Expr) -> bool
+    ensures { result ≡ has_here value.now }
+{
+    match value.kind() {
+        ExprKind::Here => true,
+        ExprKind::Prefix(_, part) => has_here(part),
+        ExprKind::Binary(_, operands) => has_here(&operands.left) || has_here(&operands.right),
+        _ => false,
+    }
+}
+
+/// Whether a statement asks for a section of the segment in which it stands.
+pub fn asks_section(statement: &Statement) -> bool
+    ensures { result ≡ asks_section statement.now }
+{
+    match statement {
+        Statement::Label(_)
+        | Statement::CheapLabel(_)
+        | Statement::UnnamedLabel
+        | Statement::OpenProc(_)
+        | Statement::Instruction { .. }
+        | Statement::Values { .. }
+        | Statement::Reserve { .. }
+        | Statement::Align { .. }
+        | Statement::FilePart { .. } => true,
+        Statement::Constant { value, .. } | Statement::Assert { value, .. } => has_here(value),
+        _ => false,
+    }
+}
+
+/// What a constant places and defines.
+#[inline(never)]
+fn constant(
+    alloc: Global,
+    before: Before<'_>,
+    known: &mut NormCache,
+    value: &Expr,
+) -> Result<Measured, AsmFault>
+    requires table { IsTable (table_of before.symbols.now) known.old.states.items }
+    requires cursor { IsSoundCursor before.cursor.now }
+    ensures placed { (name : List ℕ) → Places before.entry result (Constant name value.now) }
+    ensures table { OnOk result
+        (IsTable (table_of before.entry.symbols.now) known.new.states.items) }
+{
+    let measure = nothing(before.cursor);
+    let context = before.cursor.context();
+    let size = knowing::size(alloc, before.symbols, known, context, measure.size, value)?;
+    Ok(Measured { size, ..measure })
+}
+
+/// What a statement whose names are understood places, or its first fault.
+pub fn place(
+    alloc: Global,
+    before: Before<'_>,
+    known: &mut NormCache,
+    statement: &Statement,
+) -> Result<Measured, AsmFault>
+    requires table { IsTable (table_of before.symbols.now) known.old.states.items }
+    requires cursor { IsSoundCursor before.cursor.now }
+    ensures placed { Places before.entry result statement.now }
+    ensures table { OnOk result
+        (IsTable (table_of before.entry.symbols.now) known.new.states.items) }
+{
+    let scope = before.cursor.scope as usize;
+    match statement {
+        Statement::Instruction { mnemonic, operand } => {
+            instruction(alloc, before, known, *mnemonic, operand)
+        }
+        Statement::Values { width, items } => values(before.cursor, *width, items),
+        Statement::Reserve { count, value } => reserve(alloc, before, known, count, value),
+        Statement::Align { multiple, value } => align(alloc, before, known, multiple, value),
+        Statement::FilePart { bytes, start, len } => {
+            file_part(alloc, before, known, bytes, PartRange { start, len })
+        }
+        Statement::Constant { name: _, value } => constant(alloc, before, known, value),
+        Statement::Segment { name, size } => {
+            check_segment(before.cursor, name.as_slice(), *size)?;
+            Ok(nothing(before.cursor))
+        }
+        Statement::PopSegment if before.cursor.kept.is_empty() => Err(AsmFault::PopWithoutPush),
+        Statement::CloseScope if scope == 0 || !is_scope(before.symbols, scope) => {
+            Err(AsmFault::BadScope)
+        }
+        Statement::CloseProc if scope == 0 || is_scope(before.symbols, scope) => {
+            Err(AsmFault::BadScope)
+        }
+        _ => Ok(nothing(before.cursor)),
+    }
+}

@@ -1,0 +1,218 @@
+//! Segments and blocks, and statements that place room.
+
+ghost use Rattle.std.specs.Prelude.{◌≡◌, not, slice_get, ◌<◌, ◌≤◌, IfOk, OnOk, pos, Some};
+ghost use Rattle.semantics65.specs.Layout.{place_of, segment_at, context_of as cursor_context, changed_size, is_scope, opened_as, same_size, when, unless_fault, is_byte_value, is_count, multiple_fault};
+ghost use Rattle.ast65.specs.declared.fault.AsmFault.TheVariants.{BadOperand};
+ghost use Rattle.symbols65.specs.Views.{table_of};
+ghost use Rattle.symbols65.specs.Measuring.{IsSoundCursor, cursor_of, Places};
+ghost use Rattle.base65.specs.Outcome.{Gives};
+ghost use Rattle.ast65.specs.Faults.{is_memory};
+ghost use Rattle.ast65.specs.declared.language.Statement.TheVariants.{Align, Reserve};
+ghost use Rattle.semantics65.specs.Norms.{counted, fill_settled, gap, optional_value};
+ghost use Rattle.symbols65.specs.Resolving.{IsTable};
+
+use crate::cursor::Cursor;
+use crate::measuring::{Before, Measured, fit, nothing};
+use ast65::{AsmFault, OptionalExpr};
+use semantics65::{Context, Segment, Settled};
+use std::alloc::Global;
+use crate::knowing;
+use crate::resolving::NormCache;
+use crate::table::Symbols;
+use syntax65::{AddressSize, Expr};
+
+/// Whether the scope at a place was opened by `.scope`.
+fn is_scope_at(symbols: &Symbols, place: usize) -> bool
+    ensures { result ≡ is_scope (slice_get (table_of symbols.now).scopes place) }
+{
+    match symbols.scopes.get_index(place) {
+        Some((_, is_proc)) => !*is_proc,
+        None => false,
+    }
+}
+
+/// Whether a scope was opened by `.scope`.
+pub fn is_scope(symbols: &Symbols, scope: usize) -> bool
+    ensures { result ≡ is_scope (opened_as (table_of symbols.now).scopes scope) }
+{
+    match scope.checked_sub(1) {
+        None => false,
+        Some(place) => is_scope_at(symbols, place),
+    }
+}
+
+fn same_size(one: AddressSize, other: AddressSize) -> bool
+    ensures { result ≡ same_size one other }
+{
+    match (one, other) {
+        (AddressSize::ZeroPage, AddressSize::ZeroPage) => true,
+        (AddressSize::Absolute, AddressSize::Absolute) => true,
+        _ => false,
+    }
+}
+
+fn size_at(segments: &[Segment], place: usize) -> AddressSize
+    ensures { result ≡ (segment_at segments.now place).size }
+{
+    match segments.get(place) {
+        Some(segment) => segment.size,
+        None => AddressSize::Absolute,
+    }
+}
+
+/// Refuses another size for a segment that has one.
+pub fn check_segment(
+    cursor: &Cursor,
+    name: &[u8],
+    size: Option<AddressSize>,
+) -> Result<(), AsmFault>
+    requires { IsSoundCursor cursor.now }
+    ensures { result ≡ unless_fault (changed_size cursor.now.segments.items size
+        (place_of cursor.now.segments.items name.now)) tt }
+{
+    let Some(size) = size else {
+        return Ok(());
+    };
+    let Some(place) = cursor.place_of(name) else {
+        return Ok(());
+    };
+    if same_size(size, size_at(&cursor.segments, place)) {
+        Ok(())
+    } else {
+        Err(AsmFault::SizeChanged)
+    }
+}
+
+/// What fills room.
+fn fill(
+    alloc: Global,
+    symbols: &Symbols,
+    known: &mut NormCache,
+    context: Context,
+    value: &OptionalExpr,
+) -> Result<Settled, AsmFault>
+    requires { IsTable (table_of symbols.now) known.old.states.items }
+    ensures byte { Gives is_memory (λ _. tt {0}) result (unless_fault
+        (when (not (is_byte_value (optional_value (table_of symbols.now) context
+        value.now (pos 0)))) BadOperand) tt) }
+    ensures settled { IfOk result (λ s. s
+        ≡ fill_settled (table_of symbols.now) context value.now) }
+    ensures table { OnOk result (IsTable (table_of symbols.now) known.new.states.items) }
+{
+    let Some(value) = value.get() else {
+        return Ok(Settled::Unsettled);
+    };
+    match knowing::constant(alloc, symbols, known, context, value)? {
+        Some(value) if 0 <= value && value < 256 => Ok(Settled::FilledWith(value as u8)),
+        _ => Err(AsmFault::BadOperand),
+    }
+}
+
+/// A value as a number of bytes.
+fn count_of(value: Option<i64>) -> Result<usize, AsmFault>
+    ensures { Gives is_memory (λ n. n) result (unless_fault
+        (when (not (is_count value)) BadOperand) (counted value)) }
+{
+    match value {
+        Some(value) if 0 <= value => Ok(value as usize),
+        _ => Err(AsmFault::BadOperand),
+    }
+}
+
+/// What `.res` places.
+#[inline(never)]
+pub fn reserve(
+    alloc: Global,
+    before: Before<'_>,
+    known: &mut NormCache,
+    count: &Expr,
+    value: &OptionalExpr,
+) -> Result<Measured, AsmFault>
+    requires table { IsTable (table_of before.symbols.now) known.old.states.items }
+    requires cursor { IsSoundCursor before.cursor.now }
+    ensures placed { Places before.entry result (Reserve count.now value.now) }
+    ensures table { OnOk result
+        (IsTable (table_of before.entry.symbols.now) known.new.states.items) }
+{
+    let context = before.cursor.context();
+    let count = count_of(knowing::constant(alloc, before.symbols, known, context, count)?)?;
+    let settled = fill(alloc, before.symbols, known, context, value)?;
+    let length = fit(before.cursor, count)?;
+    Ok(Measured {
+        length,
+        settled,
+        ..nothing(before.cursor)
+    })
+}
+
+/// A value as a multiple to which sections are aligned.
+fn multiple_of(value: Option<i64>) -> Result<u32, AsmFault>
+    ensures multiple { Gives is_memory (λ n. n) result (unless_fault
+        (multiple_fault value) (counted value)) }
+    ensures bounds { IfOk result (λ n. n ≤ 32768) }
+    ensures positive { IfOk result (λ n. 0 < n) }
+{
+    match value {
+        Some(
+            value @ (1
+            | 2
+            | 4
+            | 8
+            | 16
+            | 32
+            | 64
+            | 128
+            | 256
+            | 512
+            | 1024
+            | 2048
+            | 4096
+            | 8192
+            | 16384
+            | 32768),
+        ) => Ok(value as u32),
+        _ => Err(AsmFault::BadAlignment),
+    }
+}
+
+/// How far the end of the section moves up to a multiple.
+fn gap(cursor: &Cursor, multiple: u32) -> u32
+    requires cursor { IsSoundCursor cursor.now }
+    requires bounds { multiple ≤ 32768 }
+    requires positive { 0 < multiple }
+    ensures { result ≡ gap (cursor_context (cursor_of cursor.now)).offset (Some (pos multiple)) }
+{
+    let offset = cursor.context().offset;
+    offset.next_multiple_of(multiple) - offset
+}
+
+/// What `.align` places.
+#[inline(never)]
+pub fn align(
+    alloc: Global,
+    before: Before<'_>,
+    known: &mut NormCache,
+    multiple: &Expr,
+    value: &OptionalExpr,
+) -> Result<Measured, AsmFault>
+    requires table { IsTable (table_of before.symbols.now) known.old.states.items }
+    requires cursor { IsSoundCursor before.cursor.now }
+    ensures placed { Places before.entry result (Align multiple.now value.now) }
+    ensures table { OnOk result
+        (IsTable (table_of before.entry.symbols.now) known.new.states.items) }
+{
+    let context = before.cursor.context();
+    let multiple = knowing::constant(alloc, before.symbols, known, context, multiple)?;
+    let Some(_) = multiple else {
+        return Err(AsmFault::BadOperand);
+    };
+    let settled = fill(alloc, before.symbols, known, context, value)?;
+    let multiple = multiple_of(multiple)?;
+    let length = fit(before.cursor, gap(before.cursor, multiple) as usize)?;
+    Ok(Measured {
+        length,
+        multiple,
+        settled,
+        ..nothing(before.cursor)
+    })
+}

@@ -16,7 +16,7 @@ use Rattle.asm65.specs.declared.assembler.Piece.{Piece}
 use Rattle.asm65.specs.declared.assembler.Piece.TheVariants.{Datum, Operand, Constant, Assertion, Import, Demand, Export}
 use Rattle.asm65.specs.declared.assembler.Fixup.{Fixup}
 use Rattle.asm65.specs.Inner.Holding.{IsConstant, IsPiece, IsFixup, AreAwaited, AreFixups, Holds}
-use Rattle.asm65.specs.Inner.Resolving.{coming, AreFaulty, AreSettled, IsFaulty, IsSettled, ReceivesAll, SettlesAll}
+use Rattle.asm65.specs.Inner.Running.{coming, AreFaulty, AreSettled, IsFaulty, IsSettled, ReceivesAll, SettlesAll}
 use Rattle.std.specs.Prelude.{IfOk, Result, Ok, Err, IfErr, None}
 use Rattle.std.proofs.lemmas.List.{append-nil}
 use Rattle.semantics65.specs.Contents.{Content}

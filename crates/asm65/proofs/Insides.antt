@@ -33,7 +33,7 @@ use Rattle.symbols65.specs.declared.measuring.Measured.{Measured}
 use Rattle.symbols65.specs.Measuring.{measure_of, measured, unread_fault}
 use Rattle.asm65.specs.declared.assembler.Piece.{Piece}
 use Rattle.asm65.specs.declared.assembler.Piece.TheVariants.{Datum, Operand, Constant, Assertion, Import, Demand, Export}
-use Rattle.asm65.specs.Inner.Resolving.{coming, lost}
+use Rattle.asm65.specs.Inner.Running.{coming, lost}
 
 abbrev pub IsInside : {A : Type 0} → Result A AsmFault → Type 0
 IsInside r = IfErr r (λ e. is_failure e ≡ false)

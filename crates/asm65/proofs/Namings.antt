@@ -8,7 +8,7 @@ use Rattle.emit65.specs.Fed.{names_in}
 use Rattle.symbols65.specs.Views.{table_of, with_definition, with_names, with_scope}
 use Rattle.symbols65.specs.Measuring.{cursor_of, AreWithin, IsCounted, IsSoundCursor, AreInside}
 use Rattle.asm65.specs.declared.assembler.Assembler.{Assembler}
-use Rattle.asm65.specs.Inner.Holding.{Holds, AreBefore, Enters, known_where, KeepsTables}
+use Rattle.asm65.specs.Inner.Holding.{Holds, AreBefore, Enters, known_where, KeepsTables, KeepsPut, Mentions, Turns, all_awaiting, with_symbols, is_for_zero_page, label_at, laid_as}
 use Rattle.std.specs.Prelude.{slice_get, Some, Bool, OnOk, Result, Ok, Err, true, false, Option}
 use Rattle.std.proofs.lemmas.List.{take_all}
 use Rattle.ast65.proofs.Lists.{map_length}
@@ -20,7 +20,6 @@ use Rattle.symbols65.specs.declared.cursor.Cursor.{Cursor}
 use Rattle.semantics65.specs.Module as piece
 use Rattle.symbols65.specs.Resolving.{IsTable}
 use Rattle.symbols65.specs.Tables.{Begins}
-use Rattle.asm65.specs.Inner.Taking.{KeepsPut, Mentions, Turns, all_awaiting, with_symbols, is_for_zero_page, label_at, laid_as}
 use Rattle.asm65.proofs.Waitings.{waiting_stays}
 use Rattle.std.specs.declared.alloc.AllocError.{AllocError}
 use Rattle.syntax65.specs.declared.lexing.tokens.AddressSize.{AddressSize}

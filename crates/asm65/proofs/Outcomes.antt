@@ -20,8 +20,7 @@ use Rattle.ast65.specs.Faults.{is_failure, is_memory, is_outside}
 use Rattle.semantics65.specs.Layout.{Layout, Cursor, nothing_laid}
 use Rattle.semantics65.specs.Numbering.{object_with, AreSound}
 use Rattle.semantics65.specs.Symbols.{Symbols, symbols_of}
-use Rattle.semantics65.specs.Laws.{AreFoundAlike, StandsFor}
-use Rattle.semantics65.specs.Machine.{Runs, State, Takes, begun, concluded, finished, running}
+use Rattle.semantics65.specs.Machine.{AreFoundAlike, StandsFor, Runs, State, Takes, begun, concluded, finished, running}
 use Rattle.semantics65.specs.Module.{IsOutcome, Outcome, contents_from}
 use Rattle.semantics65.specs.Reading.{PlacedFault, AreDefined, Job, no_line, stopped}
 use Rattle.semantics65.proofs.Taken.{constants_refused, open_refused}

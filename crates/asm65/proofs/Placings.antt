@@ -15,8 +15,7 @@ use Rattle.symbols65.proofs.Measures.{unless_then}
 use Rattle.semantics65.specs.Machine.{State}
 use Rattle.symbols65.specs.Views.{table_of}
 use Rattle.asm65.specs.declared.assembler.Assembler.{Assembler}
-use Rattle.asm65.specs.Inner.Holding.{Holds}
-use Rattle.asm65.specs.Inner.Taking.{IsPlaced, IsRefused}
+use Rattle.asm65.specs.Inner.Holding.{Holds, IsPlaced, IsRefused}
 use Rattle.asm65.proofs.Takings.{unless_either}
 
 module _ (count : ℕ) (t : State) (old : Assembler) (h : Holds count t old) (x : Statement) where

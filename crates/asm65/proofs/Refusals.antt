@@ -2,7 +2,7 @@
 use Rattle.std.proofs.Common.{◌≡◌, ◌∙◌, ℕ, Bool, true, false, refl, sym, ap}
 use Rattle.std.specs.Prelude.{Ok, Err, IfOk, IfErr, IsErrAnd, ◌||◌}
 use Rattle.base65.specs.Store.{Asks, Passes, PassesBy}
-use Rattle.syntax65.specs.ExpandFaults.{is_outside as is_expand_outside}
+use Rattle.syntax65.specs.Faults.{is_outside as is_expand_outside}
 use Rattle.syntax65.specs.declared.fault.ExpandFault.{ExpandFault}
 use Rattle.syntax65.specs.declared.fault.ExpandFault.TheVariants.{FileError, OutOfMemory}
 use Rattle.expand65.specs.declared.expander.Expander.{Expander}

@@ -9,7 +9,7 @@ use Rattle.syntax65.specs.declared.fault.ExpandFault.{ExpandFault}
 use Rattle.syntax65.specs.declared.place.Place.{Place}
 use Rattle.syntax65.specs.declared.fault.ExpandFault.TheVariants as fault_of
 use Rattle.expand65.specs.Expansion.{Reaches, statement, nothing, fault, opened_in}
-use Rattle.syntax65.specs.ExpandFaults as expansion
+use Rattle.syntax65.specs.Faults as expansion
 use Rattle.expand65.specs.Standing.{Answered, FollowsFrom, Opens, StandsFor, measure_of, place_of, state_in, stated}
 use Rattle.expand65.specs.State as expand
 use Rattle.expand65.specs.Failing.{Gives, Passes, none as no_more, one_more as gives_more, Goes as Walks, IsOnItsWay, StopsOnItsWay, no_step}

@@ -27,8 +27,7 @@ use Rattle.symbols65.specs.Views.{table_of}
 use Rattle.symbols65.proofs.Words.{position_none}
 use Rattle.asm65.specs.declared.assembler.Assembler.{Assembler}
 use Rattle.asm65.specs.declared.texts.Texts.{Texts}
-use Rattle.asm65.specs.Inner.Holding.{AreBefore, Holds, IsBefore}
-use Rattle.asm65.specs.Inner.Taking.{IsNew, IsPlaced, Turns, asked_of, laid_as, stepped, with_symbols}
+use Rattle.asm65.specs.Inner.Holding.{AreBefore, Holds, IsBefore, IsNew, IsPlaced, Turns, asked_of, laid_as, stepped, with_symbols}
 use Rattle.asm65.proofs.Namings.{IsBeside, puts_beside}
 use Rattle.base65.specs.Store.{Files, IsBlamed}
 use Rattle.syntax65.specs.Trees.{Tree}

@@ -1,5 +1,3 @@
 -- What only the contracts within the crate cite: definitions in the terms of its code.
 pub mod Holding
-pub mod Resolving
 pub mod Running
-pub mod Taking

@@ -13,7 +13,7 @@ ghost use Rattle.base65.specs.Store.{Asks, IsBlamed, Passes, PassesBy};
 ghost use Rattle.object65.specs.Objects.{ObjectFits, is_good_object};
 ghost use Rattle.expand65.specs.Expansion.{opened_in};
 ghost use Rattle.expand65.specs.Standing.{Opens, measure_of, place_of};
-ghost use Rattle.syntax65.specs.ExpandFaults.{is_outside as is_expand_outside};
+ghost use Rattle.syntax65.specs.Faults.{is_outside as is_expand_outside};
 ghost use Rattle.asm65.specs.Failing.{StopsSo, StopsFrom};
 
 use crate::assembler::Assembler;

@@ -13,8 +13,7 @@ ghost use Rattle.symbols65.specs.Resolving.{IsTable};
 ghost use Rattle.symbols65.specs.Views.{table_of};
 ghost use Rattle.asm65.specs.Assembly.{Concludes, has_failed, in_places, is_from_outside};
 ghost use Rattle.asm65.specs.Inner.Holding.{AreFixups, Holds, IsFixup};
-ghost use Rattle.asm65.specs.Inner.Resolving.{Settles, SettlesAll, content_of, warning_in};
-ghost use Rattle.asm65.specs.Inner.Running.{SaysAs};
+ghost use Rattle.asm65.specs.Inner.Running.{Settles, SettlesAll, content_of, warning_in, SaysAs};
 ghost use Rattle.semantics65.specs.Views.{place_at};
 
 use crate::assembler::{Assembler, Fixup};

@@ -11,7 +11,7 @@ ghost use Rattle.semantics65.specs.Views.{place_at, said_at};
 ghost use Rattle.semantics65.specs.Module.{asserted, datum, quietly, used};
 ghost use Rattle.symbols65.specs.Resolving.{IsTable};
 ghost use Rattle.symbols65.specs.Views.{table_of};
-ghost use Rattle.asm65.specs.Inner.Resolving.{coming, made_in, noted};
+ghost use Rattle.asm65.specs.Inner.Running.{coming, made_in, noted};
 
 use crate::assembler::{Fixup, Piece};
 use crate::putting::values::{is_file_name, literal_of, stored};

@@ -14,8 +14,7 @@ ghost use Rattle.semantics65.specs.Module.{instruction_pieces, pieces_of};
 ghost use Rattle.semantics65.specs.Reading.{Answers};
 ghost use Rattle.symbols65.specs.Resolving.{IsTable};
 ghost use Rattle.symbols65.specs.Views.{table_of};
-ghost use Rattle.asm65.specs.Inner.Holding.{Enters, Holds, KeepsTables};
-ghost use Rattle.asm65.specs.Inner.Taking.{Asks, IsHeld, IsNew, IsPlaced, IsRefused, Turns, laid_as, stepped};
+ghost use Rattle.asm65.specs.Inner.Holding.{Enters, Holds, KeepsTables, Asks, IsHeld, IsNew, IsPlaced, IsRefused, Turns, laid_as, stepped};
 
 use crate::assembler::Assembler;
 use crate::naming::Mention;

@@ -1,6 +1,6 @@
 -- The faults of assembling: in words, and whether the cause lies outside the source.
 use Rattle.std.specs.Prelude.{ℕ, List, [], ◌++◌, Bool, true, false, codes, ◌||◌, encode_utf8_all}
-use Rattle.syntax65.specs.ExpandFaults.{expand_words}
+use Rattle.syntax65.specs.Faults.{expand_words}
 use Rattle.syntax65.specs.declared.fault.ExpandFault.TheVariants as expand
 use Rattle.syntax65.specs.declared.expressions.words.ExprFault.{ExprFault}
 use Rattle.syntax65.specs.declared.expressions.words.ExprFault.TheVariants as expr

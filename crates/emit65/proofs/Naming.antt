@@ -17,7 +17,7 @@ use Rattle.std.proofs.lemmas.Slice.Eq.{bytes_eq-Decides}
 use Rattle.syntax65.specs.declared.place.Place.{Place}
 use Rattle.object65.specs.declared.object.Origin.{Origin}
 use Rattle.semantics65.specs.Numbering.{in_files, name_of, names_once, number_of, once, optional_key}
-use Rattle.emit65.specs.Inner.Ordering.{origin_by}
+use Rattle.emit65.specs.Inner.Drafts.{origin_by}
 use Rattle.emit65.proofs.Fitting.{all_more}
 use Rattle.emit65.proofs.Renumbering.{HasAll, has, left, number_is, place_below}
 

@@ -22,8 +22,7 @@ use Rattle.emit65.specs.declared.entries.Entry.{Entry}
 use Rattle.emit65.specs.declared.entries.Entry.TheVariants.{Bytes, Room, Value, Told, Open}
 use Rattle.emit65.specs.declared.entries.SourcePos.{SourcePos}
 use Rattle.emit65.specs.Fed.{content_of, object_over, origin_by, place_by, stands_in, AreAlike, filled, StandIn, Stands, contents_in, names_in}
-use Rattle.emit65.specs.Inner.Drafts.{asserts_at, entry_asserts, exports_at, exports_from, object_before}
-use Rattle.emit65.specs.Inner.Ordering.{in_order}
+use Rattle.emit65.specs.Inner.Drafts.{asserts_at, entry_asserts, exports_at, exports_from, object_before, in_order}
 use Rattle.emit65.proofs.Drafting.{fragment_put, fragments_put, section_put, sections_are}
 use Rattle.emit65.proofs.Exporting.{among_append}
 use Rattle.emit65.proofs.Keys.{imports_anyhow}

@@ -12,7 +12,7 @@ use Rattle.object65.specs.declared.object.Fragment.TheVariants.{Literal, Fill, V
 use Rattle.object65.specs.declared.object.Object.{Object}
 use Rattle.object65.specs.declared.object.Section.{Section}
 use Rattle.semantics65.specs.Numbering.{number_of, once, optional_key, all_joined, all_said, assert_files, assert_of, export_files, exports_among, fragments_of, import_keys, in_files, joined, name_of, names_once, numbered, part_files, parts_in, section_of, segment_name, segment_power}
-use Rattle.emit65.specs.Inner.Ordering.{assert_by, assert_key, export_by, export_key, fragment_by, fragment_keys, order_of, parts_by, section_by, section_files, in_order, origin_by}
+use Rattle.emit65.specs.Inner.Drafts.{assert_by, assert_key, export_by, export_key, fragment_by, fragment_keys, order_of, parts_by, section_by, section_files, in_order, origin_by}
 use Rattle.emit65.proofs.Renumbering.{HasAll, first_has, has, left, number_at, number_below, once_has, second_has, once_all, right}
 use Rattle.std.proofs.lemmas.Grind.{common_steps, flat_map-append}
 use Rattle.std.proofs.lemmas.List.{map-append}

@@ -6,10 +6,9 @@ use Rattle.std.proofs.Math.Seq.{drop-append_seam, take-append_seam}
 use Rattle.base65.specs.Store.{Files}
 use Rattle.syntax65.specs.Tokens.{Lexeme}
 use Rattle.expand65.specs.Fronts.{front_directive, is_mislabelled, label_len, line_directive}
-use Rattle.expand65.specs.Inside.{left_of, NamesFiles}
-use Rattle.expand65.specs.Left.{labelled}
+use Rattle.expand65.specs.Standing.{left_of, NamesFiles, state_of, FollowsFrom, fronted, measure_of, place_of, state_in, stated}
+use Rattle.expand65.specs.Lines.{labelled, Takes}
 use Rattle.expand65.specs.Playing.{tokens_in}
-use Rattle.expand65.specs.Lines.{Takes}
 use Rattle.expand65.specs.declared.fronts.Directive.{Directive}
 use Rattle.expand65.specs.declared.line.Line.{Line}
 use Rattle.expand65.specs.declared.line.Word.{Word}
@@ -17,7 +16,6 @@ use Rattle.expand65.specs.declared.reader.Reader.{Reader}
 use Rattle.expand65.specs.Failing.{CallsNone, Gives, IsGivenAs, given_behind, given_parts, none, one_more, Goes, no_step, one_more as goes_once}
 use Rattle.expand65.specs.Expansion.{Next, Reaches, further, given, statement, IsActed, IsLabelled, IsSplit, IsStep}
 use Rattle.expand65.specs.State.{Meaning, State, Stated, Stepped, label, plain, goes, gives, with_items}
-use Rattle.expand65.specs.Standing.{state_of, FollowsFrom, fronted, measure_of, place_of, state_in, stated}
 use Rattle.expand65.specs.declared.expander.Expander.{Expander}
 use Rattle.expand65.specs.declared.expander.Front.{Front}
 use Rattle.expand65.specs.declared.expander.Front.TheVariants.{Nothing, Rest}

@@ -5,11 +5,10 @@ use Rattle.base65.specs.Outcome.{Unless}
 use Rattle.base65.specs.Store.{Files}
 use Rattle.syntax65.specs.Tokens.{Lexeme}
 use Rattle.expand65.specs.Blocks.{TakesInBlock, Verdict, on, closed, refused, Block, a_fault, a_mark, a_refusal, the_last, one_more}
-use Rattle.syntax65.specs.ExpandFaults.{is_outside}
-use Rattle.expand65.specs.Inside.{left_of, IsPassedOver}
+use Rattle.syntax65.specs.Faults.{is_outside}
+use Rattle.expand65.specs.Standing.{left_of, IsPassedOver}
 use Rattle.expand65.specs.Playing.{Plainly, no_line as none_passed, a_line, IsPlain}
-use Rattle.expand65.specs.Left.{Left, Stop}
-use Rattle.expand65.specs.Lines.{Takes}
+use Rattle.expand65.specs.Lines.{Left, Stop, Takes}
 use Rattle.syntax65.specs.declared.fault.ExpandFault.{ExpandFault}
 use Rattle.syntax65.specs.declared.fault.ExpandFault.TheVariants.{NotClosed}
 use Rattle.syntax65.specs.declared.place.Place.{Place}

@@ -3,14 +3,13 @@ use Rattle.std.proofs.lemmas.Grind.{common_steps}
 use Rattle.std.proofs.Common.{◌≡◌, ℕ, Bool, true, false, List, [], ◌∷◌, length, drop, Option, Some, None, Result, Ok, Err, ap, refl, sym, ◌∙◌, arith, ◌++◌, map, subst, Vec, Global}
 use Rattle.std.proofs.lemmas.List.{drop-map, map-append}
 use Rattle.syntax65.specs.Expressions.{IsParsed}
-use Rattle.syntax65.specs.Faults.{is_expr_outside}
+use Rattle.syntax65.specs.Faults.{is_expr_outside, fault_of_parsing, is_outside}
 use Rattle.base65.specs.Outcome.{Unless, ◌>>=◌}
 use Rattle.syntax65.specs.Tokens.{Lexeme, lexeme_of, lexemes}
 use Rattle.syntax65.specs.Trees.{Tree}
 use Rattle.syntax65.specs.declared.expressions.words.ExprFault.{ExprFault}
 use Rattle.syntax65.specs.declared.expressions.words.ExprFault.TheVariants.{OutOfMemory, OperandExpected, ParenthesisExpected, TooDeep}
 use Rattle.syntax65.specs.declared.lexing.tokens.Token.{Token}
-use Rattle.syntax65.specs.ExpandFaults.{fault_of_parsing, is_outside}
 use Rattle.expand65.specs.Fronts.{name_in, understood, ◌>=>◌}
 use Rattle.expand65.specs.Macros.{header_of, params_of, IsDefined, repeat_header, variable_of, IsRepeated, repeat_mark, IsKept, kept, macro_of}
 use Rattle.syntax65.specs.declared.fault.ExpandFault.{ExpandFault}
@@ -24,12 +23,10 @@ use Rattle.indexmap.specs.IndexMap.{IndexMap, insert_entry}
 use Rattle.indexmap.proofs.CallerLemmas.{insert_entry-new}
 use Rattle.base65.specs.Store.{Files}
 use Rattle.expand65.specs.Blocks.{Block, collects, gathers}
-use Rattle.expand65.specs.Lines.{pushed}
+use Rattle.expand65.specs.Lines.{pushed, repeating, Definition, turns, Left, Stop}
 use Rattle.expand65.specs.Failing.{FailsDefining, FailsKeeping}
-use Rattle.expand65.specs.Inside.{FailsInBlock, left_of, turns_left}
+use Rattle.expand65.specs.Standing.{FailsInBlock, left_of, turns_left, macros_of, state_of}
 use Rattle.expand65.specs.Playing.{tokens_in, definition_of}
-use Rattle.expand65.specs.Left.{repeating, Definition, turns, Left, Stop}
-use Rattle.expand65.specs.Standing.{macros_of, state_of}
 use Rattle.expand65.specs.State.{State, Stepped, goes, stops}
 use Rattle.syntax65.specs.declared.place.Place.{Place}
 use Rattle.expand65.specs.declared.playing.Body.{Body}

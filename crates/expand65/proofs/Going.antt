@@ -5,15 +5,13 @@ use Rattle.base65.specs.Outcome.{Unless}
 use Rattle.base65.specs.Store.{Files}
 use Rattle.syntax65.specs.Tokens.{Lexeme}
 use Rattle.expand65.specs.Macros.{macro_at, ordinary, file_of}
-use Rattle.syntax65.specs.ExpandFaults.{is_outside}
+use Rattle.syntax65.specs.Faults.{is_outside}
 use Rattle.expand65.specs.Fronts.{front_directive, is_mislabelled, label_len, string_of}
 use Rattle.expand65.specs.Expansion.{first_file, include_line, included, tried, IsActed, IsDirected, IsLabelled, IsStep, IsStepBehind, IsStepFrom, Next, statement, nothing, fault, Reaches, further, given, ended, stopped}
-use Rattle.expand65.specs.Inside.{left_of}
+use Rattle.expand65.specs.Standing.{left_of, Turns, macros_of, state_of, turned, Comes, fronted, is_end, led, place_of, state_in, stated}
 use Rattle.expand65.specs.Playing.{tokens_in}
 use Rattle.expand65.specs.State.{Meaning, State, plain, Stepped, gives, stops, ends, IsIf}
-use Rattle.expand65.specs.Standing.{Turns, macros_of, state_of, turned, Comes, fronted, is_end, led, place_of, state_in, stated}
-use Rattle.expand65.specs.Left.{Item, written, played, labelled, branch, mark}
-use Rattle.expand65.specs.Lines.{Taken, Takes}
+use Rattle.expand65.specs.Lines.{Item, written, played, labelled, branch, mark, Taken, Takes}
 use Rattle.expand65.specs.declared.fronts.Directive.{Directive}
 use Rattle.syntax65.specs.declared.fault.ExpandFault.{ExpandFault}
 use Rattle.expand65.specs.declared.line.Line.{Line}

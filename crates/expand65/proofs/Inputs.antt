@@ -6,9 +6,8 @@ use Rattle.std.proofs.lemmas.Bool.Decides.{nat_tests}
 use Rattle.std.proofs.lemmas.List.{append-nil}
 use Rattle.base65.specs.Store.{Files}
 use Rattle.syntax65.specs.Tokens.{Lexeme}
-use Rattle.expand65.specs.Lines.{pushed, closed, end_of, exit_of, if_more, IsOpened, Takes, TakesFrom, lines_of, rest_of}
-use Rattle.expand65.specs.Left.{numbered, turns, Item, written, played, labelled, branch, mark, Mark, left, marks, innermost, outside_macro, come_back, moved, in_turn, Replacing}
-use Rattle.expand65.specs.Inside.{left_in, mark_of, own, outside, left_of, is_call, ComesNext, TakesLine, moved_by}
+use Rattle.expand65.specs.Lines.{pushed, closed, end_of, exit_of, if_more, IsOpened, Takes, TakesFrom, lines_of, rest_of, numbered, turns, Item, written, played, labelled, branch, mark, Mark, left, marks, innermost, outside_macro, come_back, moved, in_turn, Replacing}
+use Rattle.expand65.specs.Standing.{left_in, mark_of, own, outside, left_of, is_call, ComesNext, TakesLine, moved_by}
 use Rattle.expand65.specs.Playing.{tokens_in, left_to_play, replacing_of, TakesWritten}
 use Rattle.syntax65.specs.declared.fault.ExpandFault.TheVariants.{Nested, NotClosed}
 use Rattle.expand65.specs.declared.input.Source.{Source}
@@ -17,7 +16,7 @@ use Rattle.expand65.specs.declared.reader.Input.{Input}
 use Rattle.expand65.specs.declared.reader.Reader.{Reader}
 use Rattle.syntax65.specs.declared.place.Place.{Place}
 use Rattle.base65.specs.Outcome.{Unless}
-use Rattle.syntax65.specs.ExpandFaults.{is_outside}
+use Rattle.syntax65.specs.Faults.{is_outside}
 use Rattle.syntax65.specs.declared.fault.ExpandFault.{ExpandFault}
 use Rattle.expand65.specs.declared.input.NextLine.{NextLine}
 use Rattle.expand65.specs.declared.input.NextLine.TheVariants.{AtEnd, Numbered, Replayed}

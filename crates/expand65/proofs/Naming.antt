@@ -2,8 +2,8 @@
 use Rattle.std.proofs.lemmas.Grind.{common_steps}
 use Rattle.std.proofs.Common.{arith, ◌≡◌, List, [], ◌∷◌, ◌++◌, Option, None, reverse, sym, subst, true}
 use Rattle.syntax65.specs.declared.place.Place.{Place}
-use Rattle.expand65.specs.Inside.{is_call, moved_by, AreNamed, IsNamed, NamesFiles, open_in}
-use Rattle.expand65.specs.Left.{come_back}
+use Rattle.expand65.specs.Standing.{is_call, moved_by, AreNamed, IsNamed, NamesFiles, open_in}
+use Rattle.expand65.specs.Lines.{come_back}
 use Rattle.expand65.specs.declared.file.OpenFile.{OpenFile}
 use Rattle.expand65.specs.declared.input.NextLine.{NextLine}
 use Rattle.expand65.specs.declared.input.Source.{Source}

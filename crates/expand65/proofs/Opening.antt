@@ -3,17 +3,15 @@ use Rattle.std.proofs.lemmas.Grind.{common_steps}
 use Rattle.std.proofs.Common.{◌≡◌, ℕ, ◌+◌, ◌<◌, ◌≤◌, Bool, true, false, List, [], ◌∷◌, ◌++◌, length, map, take, drop, refl, sym, ap, ◌∙◌, arith, Option, Some, None, IfSome, Result, Ok, Err, get_or, length-append}
 use Rattle.std.proofs.lemmas.List.{drop-map, drop-drop, length-drop, take_all}
 use Rattle.std.specs.List.{prefix_len}
-use Rattle.syntax65.specs.Faults.{is_lex_outside}
+use Rattle.syntax65.specs.Faults.{is_lex_outside, fault_of_lexing, is_outside}
 use Rattle.base65.specs.Outcome.{Unless, Refuses}
 use Rattle.base65.specs.Store.{Files}
 use Rattle.syntax65.specs.Tokens.{Lexeme, IsRead}
 use Rattle.syntax65.specs.declared.lexing.tokens.LexFault.{LexFault}
 use Rattle.syntax65.specs.declared.lexing.tokens.LexFault.TheVariants as lex
-use Rattle.syntax65.specs.ExpandFaults.{fault_of_lexing, is_outside}
-use Rattle.expand65.specs.Left.{numbered, Item, written, played, Replacing, replaced}
-use Rattle.expand65.specs.Inside.{ComesNext, TakesLine}
+use Rattle.expand65.specs.Lines.{numbered, Item, written, played, Replacing, replaced, lines_of, ReadsLine, BeginsLong, content, is_inside, left_in_file, rest_of, without_return, bytes_of, IsOpened, fitted, lexed}
+use Rattle.expand65.specs.Standing.{ComesNext, TakesLine}
 use Rattle.expand65.specs.Playing.{tokens_in, left_to_play, replacing_of, IsFirstLine, TakesWritten}
-use Rattle.expand65.specs.Lines.{lines_of, ReadsLine, BeginsLong, content, is_inside, left_in_file, rest_of, without_return, bytes_of, IsOpened, fitted, lexed}
 use Rattle.syntax65.specs.declared.fault.ExpandFault.{ExpandFault}
 use Rattle.syntax65.specs.declared.fault.ExpandFault.TheVariants.{Syntax}
 use Rattle.expand65.specs.declared.file.OpenFile.{OpenFile}

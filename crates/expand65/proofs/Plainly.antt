@@ -4,7 +4,7 @@ use Rattle.std.proofs.Common.{arith, ◌≡◌, ℕ, zero, suc, Bool, true, fals
 use Rattle.std.specs.Prelude.{if◌then◌else◌, ◌&&◌}
 use Rattle.syntax65.specs.Tokens.{Lexeme}
 use Rattle.expand65.specs.Blocks.{Verdict, on, collecting, gathering, passing, refused, skipping, mislabelled}
-use Rattle.expand65.specs.Inside.{AnswerOf, Judges, StateOf, is_kept, judge_of, state_of}
+use Rattle.expand65.specs.Standing.{AnswerOf, Judges, StateOf, is_kept, judge_of, block_state}
 use Rattle.expand65.specs.declared.blocks.BlockKind.{BlockKind}
 use Rattle.expand65.specs.declared.blocks.BlockKind.TheVariants.{Macro, Repeat, Skipped, Passed}
 use Rattle.expand65.specs.declared.blocks.BlockStep.{BlockStep}
@@ -35,7 +35,7 @@ plain_on : {A B : Type 0} (ts : List Lexeme) (step : Option Directive → Verdic
 plain_on {A} {B} ts step a p e = grind (arith, common_steps, right, none)
 
 -- a plain line changes nothing but the lines that are kept
-pub plain_judged : (k : BlockKind) (d : ℕ) (body : List (List Lexeme)) (ts : List Lexeme) → IsPlain ts → judge_of k (state_of k d body) ts ≡ on (state_of k d (body ++ ts ∷ []))
+pub plain_judged : (k : BlockKind) (d : ℕ) (body : List (List Lexeme)) (ts : List Lexeme) → IsPlain ts → judge_of k (block_state k d body) ts ≡ on (block_state k d (body ++ ts ∷ []))
 plain_judged Macro d body ts p = plain_on ts (collecting body ts) (body ++ ts ∷ []) p refl
 plain_judged Repeat zero body ts p = plain_on ts (gathering zero body ts) (zero, body ++ ts ∷ []) p refl
 plain_judged Repeat (suc d) body ts p = plain_on ts (gathering (suc d) body ts) (suc d, body ++ ts ∷ []) p refl
@@ -44,14 +44,14 @@ plain_judged Skipped (suc d) body ts p = plain_on ts (skipping (suc d) ts) (suc 
 plain_judged Passed zero body ts p = plain_on ts (passing zero) zero p refl
 plain_judged Passed (suc d) body ts p = plain_on ts (passing (suc d)) (suc d) p refl
 
-pub plain_unkept : (k : BlockKind) (d : ℕ) (body : List (List Lexeme)) (ts : List Lexeme) → is_kept k ≡ false → IsPlain ts → judge_of k (state_of k d body) ts ≡ on (state_of k d body)
+pub plain_unkept : (k : BlockKind) (d : ℕ) (body : List (List Lexeme)) (ts : List Lexeme) → is_kept k ≡ false → IsPlain ts → judge_of k (block_state k d body) ts ≡ on (block_state k d body)
 plain_unkept Macro d body ts e p = absurd cc
 plain_unkept Repeat d body ts e p = absurd cc
 plain_unkept Skipped d body ts e p = plain_judged Skipped d body ts p
 plain_unkept Passed d body ts e p = plain_judged Passed d body ts p
 
 -- what isn't kept doesn't matter
-pub unkept : (k : BlockKind) (d : ℕ) (xs ys : List (List Lexeme)) → is_kept k ≡ false → state_of k d xs ≡ state_of k d ys
+pub unkept : (k : BlockKind) (d : ℕ) (xs ys : List (List Lexeme)) → is_kept k ≡ false → block_state k d xs ≡ block_state k d ys
 unkept Macro d xs ys e = absurd cc
 unkept Repeat d xs ys e = absurd cc
 unkept Skipped d xs ys e = refl
@@ -65,24 +65,24 @@ judging Repeat d body ts o = gathering d body ts o
 judging Skipped d body ts o = skipping d ts o
 judging Passed d body ts o = passing d o
 
-judged_by : (k : BlockKind) (d : ℕ) (body : List (List Lexeme)) (ts : List Lexeme) (o : Option Directive) → is_mislabelled ts ≡ false → line_directive ts ≡ o → judge_of k (state_of k d body) ts ≡ judging k d body ts o
+judged_by : (k : BlockKind) (d : ℕ) (body : List (List Lexeme)) (ts : List Lexeme) (o : Option Directive) → is_mislabelled ts ≡ false → line_directive ts ≡ o → judge_of k (block_state k d body) ts ≡ judging k d body ts o
 judged_by Macro d body ts o right e = rw (right, e) refl
 judged_by Repeat d body ts o right e = rw (right, e) refl
 judged_by Skipped d body ts o right e = rw (right, e) refl
 judged_by Passed d body ts o right e = rw (right, e) refl
 
-pub judged : (k self : BlockKind) (d : ℕ) (body : List (List Lexeme)) (ts : List Lexeme) (o : Option Directive) (r : Result BlockStep ExpandFault) → self ≡ k → is_mislabelled ts ≡ false → line_directive ts ≡ o → Judges k body ts r (judging k d body ts o) → Judges self body ts r (judge_of self (state_of self d body) ts)
+pub judged : (k self : BlockKind) (d : ℕ) (body : List (List Lexeme)) (ts : List Lexeme) (o : Option Directive) (r : Result BlockStep ExpandFault) → self ≡ k → is_mislabelled ts ≡ false → line_directive ts ≡ o → Judges k body ts r (judging k d body ts o) → Judges self body ts r (judge_of self (block_state self d body) ts)
 judged k self d body ts o r is right e h =
-    let P : BlockKind → Type 0 = λ j. Judges j body ts r (judge_of j (state_of j d body) ts) in
+    let P : BlockKind → Type 0 = λ j. Judges j body ts r (judge_of j (block_state j d body) ts) in
     subst P (sym is) (subst (Judges k body ts r) (sym (judged_by k d body ts o right e)) h)
 
-pub judged_wrong : (k : BlockKind) (d : ℕ) (body : List (List Lexeme)) (ts : List Lexeme) → is_mislabelled ts ≡ true → judge_of k (state_of k d body) ts ≡ refused NotUnderstood
+pub judged_wrong : (k : BlockKind) (d : ℕ) (body : List (List Lexeme)) (ts : List Lexeme) → is_mislabelled ts ≡ true → judge_of k (block_state k d body) ts ≡ refused NotUnderstood
 judged_wrong Macro d body ts e = rw e refl
 judged_wrong Repeat d body ts e = rw e refl
 judged_wrong Skipped d body ts e = rw e refl
 judged_wrong Passed d body ts e = rw e refl
 
-on_plainly : (k : BlockKind) (d : ℕ) (body : List (List Lexeme)) (ts : List Lexeme) → judging k d body ts None ≡ on (state_of k d (body ++ ts ∷ []))
+on_plainly : (k : BlockKind) (d : ℕ) (body : List (List Lexeme)) (ts : List Lexeme) → judging k d body ts None ≡ on (block_state k d (body ++ ts ∷ []))
 on_plainly Macro d body ts = refl
 on_plainly Repeat zero body ts = refl
 on_plainly Repeat (suc d) body ts = refl
@@ -91,5 +91,5 @@ on_plainly Skipped (suc d) body ts = refl
 on_plainly Passed zero body ts = refl
 on_plainly Passed (suc d) body ts = refl
 
-pub judged_none : (k : BlockKind) (d : ℕ) (body : List (List Lexeme)) (ts : List Lexeme) → is_mislabelled ts ≡ false → line_directive ts ≡ None → judge_of k (state_of k d body) ts ≡ on (state_of k d (body ++ ts ∷ []))
+pub judged_none : (k : BlockKind) (d : ℕ) (body : List (List Lexeme)) (ts : List Lexeme) → is_mislabelled ts ≡ false → line_directive ts ≡ None → judge_of k (block_state k d body) ts ≡ on (block_state k d (body ++ ts ∷ []))
 judged_none k d body ts right e = judged_by k d body ts None right e ∙ on_plainly k d body ts

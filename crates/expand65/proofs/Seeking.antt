@@ -11,7 +11,7 @@ use Rattle.std.proofs.lemmas.List.Folds.{list_any-append}
 use Rattle.std.proofs.lemmas.Str.{IsUtf8-from_is_utf8}
 use Rattle.base65.specs.Outcome.{Unless}
 use Rattle.base65.specs.Store.{Files, IsBlamed, ReadsAt}
-use Rattle.syntax65.specs.ExpandFaults.{is_outside}
+use Rattle.syntax65.specs.Faults.{is_outside}
 use Rattle.expand65.specs.Failing.{IsAmong}
 use Rattle.expand65.specs.Expansion.{file_named, first_file, folder_of, found_or, is_slash}
 use Rattle.expand65.specs.Lines.{bytes_of}

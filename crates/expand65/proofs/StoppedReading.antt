@@ -4,12 +4,11 @@ use Rattle.std.proofs.Common.{arith, ◌≡◌, ◌∙◌, ℕ, Bool, true, List
 use Rattle.base65.specs.Store.{Files, IsBlamed}
 use Rattle.syntax65.specs.Tokens.{Lexeme}
 use Rattle.syntax65.specs.declared.fault.ExpandFault.{ExpandFault}
-use Rattle.syntax65.specs.ExpandFaults.{is_failure}
+use Rattle.syntax65.specs.Faults.{is_failure}
 use Rattle.syntax65.specs.declared.place.Place.{Place}
 use Rattle.expand65.specs.Blocks.{TakesInBlock, Verdict, on}
-use Rattle.expand65.specs.Inside.{ComesNext, IsFile, is_call, left_in, left_of, mark_of, moved_by, outside, IsPassedOver, FailsAtLine, FailsInBlock, HasStopped, IsAsked, at_line, before, behind_line, within}
-use Rattle.expand65.specs.Left.{Item, Left, Mark, mark, numbered, played, Replacing}
-use Rattle.expand65.specs.Lines.{lines_of, rest_of}
+use Rattle.expand65.specs.Standing.{ComesNext, IsFile, is_call, left_in, left_of, mark_of, moved_by, outside, IsPassedOver, FailsAtLine, FailsInBlock, HasStopped, IsAsked, at_line, before, behind_line, within}
+use Rattle.expand65.specs.Lines.{Item, Left, Mark, mark, numbered, played, Replacing, lines_of, rest_of}
 use Rattle.expand65.specs.Playing.{Plainly, no_line, a_line, IsPlain}
 use Rattle.expand65.specs.declared.input.NextLine.{NextLine}
 use Rattle.expand65.specs.declared.input.NextLine.TheVariants.{AtEnd, Numbered, Replayed}

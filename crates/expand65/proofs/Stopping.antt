@@ -7,12 +7,11 @@ use Rattle.base65.specs.Store.{Files}
 use Rattle.syntax65.specs.Tokens.{Lexeme}
 use Rattle.expand65.specs.Blocks.{Block, passes}
 use Rattle.expand65.specs.State.{IsElse, conditions_in, popped, Stepped, goes, stops, with_conditions, with_items, State, with_left, Meaning}
-use Rattle.syntax65.specs.ExpandFaults.{is_outside, is_failure}
+use Rattle.syntax65.specs.Faults.{is_outside, is_failure}
 use Rattle.expand65.specs.Fronts.{understood, front_directive}
-use Rattle.expand65.specs.Inside.{is_call, left_in, left_of, mark_of, outside, own, FailsInBlock, StopsAt}
-use Rattle.expand65.specs.Left.{localised, Item, Mark, mark, innermost}
+use Rattle.expand65.specs.Standing.{is_call, left_in, left_of, mark_of, outside, own, FailsInBlock, StopsAt, state_of, turned, fronted, led, state_in}
+use Rattle.expand65.specs.Lines.{localised, Item, Mark, mark, innermost, Takes}
 use Rattle.expand65.specs.Macros.{local_line, local_named, new_names}
-use Rattle.expand65.specs.Standing.{state_of, turned, fronted, led, state_in}
 use Rattle.expand65.specs.Expansion.{last_condition, IsStep}
 use Rattle.syntax65.specs.declared.fault.ExpandFault.{ExpandFault}
 use Rattle.syntax65.specs.declared.fault.ExpandFault.TheVariants.{NotOpened, NotUnderstood, FileError}
@@ -23,7 +22,6 @@ use Rattle.expand65.specs.declared.reader.Reader.{Reader}
 use Rattle.expand65.specs.declared.rewriter.Rewriter.{Rewriter}
 use Rattle.expand65.proofs.Inputs.{innermost_is, own_split}
 use Rattle.expand65.specs.Playing.{tokens_in}
-use Rattle.expand65.specs.Lines.{Takes}
 use Rattle.expand65.specs.declared.fronts.Directive.{Directive}
 use Rattle.expand65.specs.declared.fronts.Test.TheVariants.{True}
 use Rattle.expand65.specs.declared.line.Line.{Line}

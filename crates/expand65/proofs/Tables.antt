@@ -12,7 +12,7 @@ use Rattle.indexmap.specs.IndexMap.{insert_entry}
 use Rattle.base65.specs.Store.{Files}
 use Rattle.syntax65.specs.Tokens.{Lexeme}
 use Rattle.expand65.specs.Playing.{tokens_in, left_to_play, replacing_of}
-use Rattle.expand65.specs.Left.{all_local, with_local, with_locals, Replacing, own_token, localised, Item, played, mark, Mark}
+use Rattle.expand65.specs.Lines.{all_local, with_local, with_locals, Replacing, own_token, localised, Item, played, mark, Mark}
 use Rattle.expand65.specs.declared.line.Line.{Line}
 use Rattle.expand65.specs.declared.playing.Body.{Body}
 use Rattle.expand65.specs.declared.playing.Replay.{Replay}

@@ -5,9 +5,9 @@ use Rattle.std.proofs.lemmas.List.{length-map}
 use Rattle.syntax65.specs.declared.fault.ExpandFault.{ExpandFault}
 use Rattle.expand65.specs.declared.input.NextLine.TheVariants.{Replayed}
 use Rattle.syntax65.specs.Tokens.{Lexeme}
-use Rattle.expand65.specs.Inside.{ComesNext, TakesLine, turns_left}
+use Rattle.expand65.specs.Standing.{ComesNext, TakesLine, turns_left}
 use Rattle.expand65.specs.Playing.{tokens_in, left_to_play, replacing_of}
-use Rattle.expand65.specs.Left.{in_turn, Replacing, turns, Item, played}
+use Rattle.expand65.specs.Lines.{in_turn, Replacing, turns, Item, played}
 use Rattle.expand65.specs.declared.line.Line.{Line}
 use Rattle.expand65.specs.declared.playing.Replay.{Replay}
 

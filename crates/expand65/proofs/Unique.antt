@@ -8,8 +8,7 @@ use Rattle.expand65.specs.State.{IsCondition, IsDecided, IsIf, IsElse, Meaning, 
 use Rattle.expand65.specs.Expansion.{Next, statement, nothing, fault, Reaches, further, given, ended, stopped, IsElseLine, IsDirected, IsActed, IsSplit, IsLabelled, IsStepBehind, IsStepFrom, IsStep, last_condition}
 use Rattle.expand65.specs.Fronts.{front_directive, is_mislabelled, label_len, line_directive}
 use Rattle.expand65.specs.Macros.{IsKept, IsDefined, header_of, IsRepeat, IsRepeated}
-use Rattle.expand65.specs.Left.{Item, written, played, labelled, branch, mark, Left, left, Stop, moved, Definition}
-use Rattle.expand65.specs.Lines.{IsOpened, Taken, Takes, TakesFrom, taken_as}
+use Rattle.expand65.specs.Lines.{Item, written, played, labelled, branch, mark, Left, left, Stop, moved, Definition, IsOpened, Taken, Takes, TakesFrom, taken_as}
 use Rattle.expand65.specs.declared.fronts.Directive.{Directive}
 use Rattle.expand65.specs.declared.fronts.Directive.TheVariants as directive
 use Rattle.expand65.specs.declared.fronts.Test.{Test}

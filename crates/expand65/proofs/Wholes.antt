@@ -4,7 +4,7 @@ use Rattle.std.specs.Prelude.{◌==◌}
 use Rattle.std.proofs.lemmas.Bool.Decides.{nat_tests}
 use Rattle.std.proofs.lemmas.List.{length-map}
 use Rattle.syntax65.specs.Expressions.{IsParsed}
-use Rattle.syntax65.specs.Faults.{is_expr_outside}
+use Rattle.syntax65.specs.Faults.{is_expr_outside, fault_of_parsing, is_outside}
 use Rattle.base65.specs.Outcome.{Unless}
 use Rattle.syntax65.specs.Tokens.{Lexeme, lexeme_of, lexemes}
 use Rattle.syntax65.specs.Trees.{Tree}
@@ -12,7 +12,6 @@ use Rattle.syntax65.specs.declared.expressions.words.ExprFault.{ExprFault}
 use Rattle.syntax65.specs.declared.expressions.words.ExprFault.TheVariants.{OutOfMemory, OperandExpected, ParenthesisExpected, TooDeep}
 use Rattle.syntax65.specs.declared.lexing.tokens.Token.{Token}
 use Rattle.expand65.specs.State.{whole}
-use Rattle.syntax65.specs.ExpandFaults.{fault_of_parsing, is_outside}
 use Rattle.expand65.specs.Fronts.{unknown}
 use Rattle.syntax65.specs.declared.fault.ExpandFault.{ExpandFault}
 

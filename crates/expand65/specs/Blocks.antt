@@ -1,8 +1,7 @@
 -- Blocks: lines are taken one after another up to the one that closes the block.
 use Rattle.std.specs.Prelude.{◌≡◌, List, Some, None, Result, Ok, Err, ℕ, zero, suc, [], ◌∷◌, ◌++◌, drop, Bool, true, false, Option, if◌then◌else◌}
 use Rattle.syntax65.specs.Tokens.{Lexeme}
-use Rattle.expand65.specs.Left.{Left, Stop}
-use Rattle.expand65.specs.Lines.{Taken, Takes}
+use Rattle.expand65.specs.Lines.{Left, Stop, Taken, Takes}
 use Rattle.syntax65.specs.declared.fault.ExpandFault.TheVariants.{NotClosed, MacroInside, NotUnderstood}
 use Rattle.expand65.specs.Fronts.{is_mislabelled, is_nothing, line_directive}
 use Rattle.expand65.specs.declared.fronts.Directive.{Directive}

@@ -6,9 +6,8 @@ use Rattle.std.specs.Str.{is_utf8}
 use Rattle.base65.specs.Store.{Files}
 use Rattle.syntax65.specs.Tokens.{Lexeme}
 use Rattle.expand65.specs.Fronts.{string_of, front_directive, is_mislabelled, label_len, line_directive}
-use Rattle.expand65.specs.Lines.{lines_of, file_limit, Taken, Takes, line_limit}
+use Rattle.expand65.specs.Lines.{lines_of, file_limit, Taken, Takes, line_limit, Mark, numbered, Item, labelled, branch, mark, left, innermost, come_back, Left, Stop}
 use Rattle.expand65.specs.Macros.{entered, IsMacro, exit_macro, local_line, ordinary, IsRepeat}
-use Rattle.expand65.specs.Left.{Mark, numbered, Item, labelled, branch, mark, left, innermost, come_back, Left, Stop}
 use Rattle.expand65.specs.State.{State, Stepped, stops, Meaning, label, goes, gives, ends, with_left, with_items, Stated, IsIf, IsElse, conditions_in, ended_if, popped}
 use Rattle.syntax65.specs.declared.fault.ExpandFault.{ExpandFault}
 use Rattle.syntax65.specs.declared.fault.ExpandFault.TheVariants.{FileNotFound, FileTooLong, NotUnderstood}

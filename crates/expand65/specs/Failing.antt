@@ -2,12 +2,11 @@
 use Rattle.std.specs.Prelude.{◌≡◌, ℕ, true, List, Option, Some, None, Result, IfErr, ◌⊎◌, Bool, false, [], ◌∷◌, drop, Ok, ◌<◌, ◌≤◌}
 use Rattle.base65.specs.Store.{Files, IsBlamed}
 use Rattle.expand65.specs.State.{Meaning, State, goes, with_items, with_left, Stated, label, plain, IsCondition}
-use Rattle.expand65.specs.Standing.{StandsFor, place_of, FollowsFrom, measure_of, state_in, stated, macros_of}
+use Rattle.expand65.specs.Standing.{StandsFor, place_of, FollowsFrom, measure_of, state_in, stated, macros_of, last_read, FailsAtLine, FailsInBlock, NamesFiles}
 use Rattle.expand65.specs.Expansion.{IsStep, last_condition, tried}
 use Rattle.expand65.specs.declared.expander.Expander.{Expander}
-use Rattle.expand65.specs.Left.{Mark, innermost, Item, Left, branch, labelled, Definition}
-use Rattle.expand65.specs.Inside.{last_read, FailsAtLine, FailsInBlock, NamesFiles}
-use Rattle.syntax65.specs.ExpandFaults.{is_failure}
+use Rattle.expand65.specs.Lines.{Mark, innermost, Item, Left, branch, labelled, Definition, Takes}
+use Rattle.syntax65.specs.Faults.{is_failure}
 use Rattle.syntax65.specs.declared.fault.ExpandFault.{ExpandFault}
 use Rattle.syntax65.specs.declared.place.Place.{Place}
 use Rattle.syntax65.specs.Expressions.{IsParsed}
@@ -16,7 +15,6 @@ use Rattle.syntax65.specs.Trees.{Tree}
 use Rattle.syntax65.specs.declared.expressions.words.ExprFault.{ExprFault}
 use Rattle.expand65.specs.Blocks.{collects, gathers, passes, skips}
 use Rattle.expand65.specs.Fronts.{front_directive, label_len, string_of}
-use Rattle.expand65.specs.Lines.{Takes}
 use Rattle.expand65.specs.declared.fronts.Directive.{Directive}
 use Rattle.expand65.specs.declared.fronts.Directive.TheVariants.{Macro, Repeat, If, ElseIf, Else, Include}
 use Rattle.expand65.specs.declared.fronts.Test.{Test}

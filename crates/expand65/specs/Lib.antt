@@ -2,8 +2,6 @@ pub mod Blocks
 pub mod Expansion
 pub mod Failing
 pub mod Fronts
-pub mod Inside
-pub mod Left
 pub mod Lines
 pub mod Macros
 pub mod Playing

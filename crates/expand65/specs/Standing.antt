@@ -1,19 +1,35 @@
--- What a rewriter and an expander stand for, and what their calls lead to.
-use Rattle.std.specs.Prelude.{◌≡◌, ℕ, ◌+◌, ◌*◌, Bool, true, false, List, [], ◌∷◌, length, map, Option, Some, None, Result, Ok, Err, IfOk, IfSome, OnOk, ◌≤◌}
+-- What an expander stands for, and how the code holds it.
+use Rattle.std.specs.Prelude.{◌≡◌, ℕ, ◌-◌, Bool, true, false, List, [], ◌∷◌, ◌++◌, ◌<◌, length, map, Result, Ok, Err, ⊤, suc, None, reverse, ◌==◌, Some, Option, IfErr, if◌then◌else◌, ◌+◌, ◌*◌, IfOk, IfSome, OnOk, ◌≤◌}
+use Rattle.base65.specs.Outcome.{Unless}
+use Rattle.base65.specs.Store.{Files, IsBlamed}
+use Rattle.syntax65.specs.Tokens.{Lexeme}
+use Rattle.syntax65.specs.Faults.{is_outside, is_failure}
+use Rattle.expand65.specs.Playing.{tokens_in, left_to_play, replacing_of, Plainly, definition_of}
+use Rattle.expand65.specs.Lines.{left_in_file, IsOpened, Takes, turns, Item, written, played, mark, Mark, Left, left, moved, Stop, come_back, Replacing, labelled, branch, Definition}
+use Rattle.syntax65.specs.declared.fault.ExpandFault.{ExpandFault}
+use Rattle.expand65.specs.declared.input.Source.{Source}
+use Rattle.expand65.specs.declared.input.Source.TheVariants as source
+use Rattle.expand65.specs.declared.input.NextLine.{NextLine}
+use Rattle.expand65.specs.declared.input.NextLine.TheVariants.{AtEnd, Numbered, Replayed}
+use Rattle.expand65.specs.declared.line.Line.{Line}
+use Rattle.syntax65.specs.declared.place.Place.{Place}
+use Rattle.expand65.specs.declared.playing.Replay.{Replay}
+use Rattle.expand65.specs.declared.reader.Input.{Input}
+use Rattle.expand65.specs.declared.reader.Reader.{Reader}
+use Rattle.expand65.specs.Blocks.{Branch, Gathered, Verdict, at_elseif, at_else, at_endif, closed, collects, gathers, on, passes, refused, skips}
+use Rattle.expand65.specs.declared.blocks.BlockEnd.{BlockEnd}
+use Rattle.expand65.specs.declared.blocks.BlockEnd.TheVariants.{ElseIf, Else, End}
+use Rattle.expand65.specs.declared.blocks.BlockKind.{BlockKind}
+use Rattle.expand65.specs.declared.blocks.BlockKind.TheVariants.{Macro, Repeat, Skipped, Passed}
+use Rattle.expand65.specs.declared.blocks.BlockStep.{BlockStep}
+use Rattle.expand65.specs.declared.blocks.BlockStep.TheVariants.{On, Closed}
+use Rattle.syntax65.specs.declared.fault.ExpandFault.TheVariants.{NotUnderstood, OutOfMemory}
 use Rattle.std.specs.declared.rc.Rc.{Rc}
 use Rattle.std.specs.Global.{Global}
-use Rattle.base65.specs.Outcome.{Unless}
-use Rattle.base65.specs.Store.{Files}
-use Rattle.syntax65.specs.Tokens.{Lexeme}
-use Rattle.syntax65.specs.ExpandFaults.{is_outside}
-use Rattle.expand65.specs.Inside.{left_of, NamesFiles, StopsAt}
-use Rattle.expand65.specs.Playing.{tokens_in, definition_of}
 use Rattle.expand65.specs.Macros.{macro_at}
-use Rattle.expand65.specs.Left.{labelled, branch, Definition, Item}
 use Rattle.expand65.specs.State.{State, with_items, label, plain, Stepped, goes, gives, stops, Meaning, Stated}
 use Rattle.expand65.specs.declared.fronts.Directive.{Directive}
 use Rattle.expand65.specs.declared.fronts.Directive.TheVariants as directive
-use Rattle.syntax65.specs.declared.fault.ExpandFault.{ExpandFault}
 use Rattle.expand65.specs.declared.playing.Body.{Body}
 use Rattle.expand65.specs.declared.rewriter.Rewriter.{Rewriter}
 use Rattle.expand65.specs.declared.rewriter.Turn.{Turn}
@@ -21,10 +37,201 @@ use Rattle.expand65.specs.declared.rewriter.Turn.TheVariants.{Goes, Gives, Parts
 use Rattle.expand65.specs.Expansion.{statement, nothing, fault, Reaches}
 use Rattle.expand65.specs.declared.expander.Expander.{Expander}
 use Rattle.expand65.specs.declared.expander.Front.{Front}
-use Rattle.expand65.specs.declared.expander.Front.TheVariants.{Nothing, Rest, Branch, End}
+use Rattle.expand65.specs.declared.expander.Front.TheVariants as front
+use Rattle.expand65.specs.declared.expander.Front.TheVariants.{Nothing, Rest}
 use Rattle.expand65.specs.declared.expander.Statement.{Statement}
 use Rattle.expand65.specs.declared.expander.Statement.TheVariants.{Label, Plain}
-use Rattle.syntax65.specs.declared.place.Place.{Place}
+
+-- ---- The lines that open files, expansions and repeats still have.
+
+-- the lines that are left of a turn, and those of the turns behind it
+abbrev pub turns_left : Replay → ℕ → ℕ → List Item
+turns_left r next count = left_to_play r ++ turns (replacing_of r) (map tokens_in r.body.value.lines) next (count - next)
+
+-- the lines that a source of lines still has
+abbrev pub left_in : Files → Source → List Item
+left_in m (source.File f) = left_in_file m f
+left_in m (source.Call r) = left_to_play r
+left_in m (source.Repeat r next count) = turns_left r next count
+
+abbrev pub is_call : Source → Bool
+is_call (source.Call r) = true
+is_call _ = false
+
+abbrev pub IsFile : Source → Type 0
+IsFile (source.File f) = ⊤
+IsFile _ = ⊥
+
+-- a line is at hand
+abbrev pub IsReady : Source → Type 0
+IsReady (source.File f) = f.at < length f.buffer.items
+IsReady (source.Call r) = r.at < length r.body.value.lines
+IsReady (source.Repeat r next count) = r.at < length r.body.value.lines
+
+-- whether a line comes next, of a file with its number, or of a body
+abbrev pub ComesNext : List Item → NextLine → Type 0
+ComesNext is AtEnd = is ≡ []
+ComesNext is (Numbered n) = (bytes : List ℕ) × ((others : List Item) × (is ≡ written n bytes ∷ others))
+ComesNext is Replayed = (e : Replacing) × ((ts : List Lexeme) × ((others : List Item) × (is ≡ played e ts ∷ others)))
+
+-- the place once it is taken
+abbrev pub moved_by : NextLine → Place → Place
+moved_by (Numbered n) p = moved p n
+moved_by _ p = p
+
+-- the first of the lines is taken
+abbrev pub TakesLine : List Item → Result Line ExpandFault → List Item → Type 0
+TakesLine before (Ok line) after = (i : Item) × (before ≡ i ∷ after) × IsOpened i (Ok (tokens_in line))
+TakesLine before (Err f) after = Unless (is_outside f) ((i : Item) × ((others : List Item) × (before ≡ i ∷ others) × IsOpened i (Err f)))
+
+-- ---- Inputs one inside the other.
+
+abbrev pub mark_of : Input → Mark
+mark_of i = record { is_macro = is_call i.source; conditions = i.conditions; back = i.back }
+
+-- an input's lines with its end mark
+abbrev pub own : Files → Input → List Item
+own m i = left_in m i.source ++ mark (mark_of i) ∷ []
+
+-- those of the inputs outside, the innermost of which comes last
+abbrev pub outside : Files → List Input → List Item
+outside m [] = []
+outside m (i ∷ is) = outside m is ++ own m i
+
+abbrev pub left_of : Files → Reader → Left
+left_of m r = left (own m r.top ++ outside m r.outer.items) r.room r.place
+
+-- what a call answered, seen by view, is such an answer, with the place of a fault, unless it was refused from outside
+abbrev pub Answers : {A B : Type 0} → (A → B) → Place → Result A ExpandFault → (Result B Stop → Type 0) → Type 0
+Answers view p (Ok a) IsAnswer = IsAnswer (Ok (view a))
+Answers view p (Err f) IsAnswer = Unless (is_outside f) (IsAnswer (Err (f, p)))
+
+-- ---- The four kinds of blocks.
+
+-- what is known of the lines of a block before its end, by how many others are open in it, and the lines so far
+abbrev pub StateOf : BlockKind → Type 0
+StateOf Macro = List (List Lexeme)
+StateOf Repeat = Gathered
+StateOf Skipped = ℕ
+StateOf Passed = ℕ
+
+abbrev pub block_state : (k : BlockKind) → ℕ → List (List Lexeme) → StateOf k
+block_state Macro d body = body
+block_state Repeat d body = (d, body)
+block_state Skipped d body = d
+block_state Passed d body = d
+
+-- what a block comes to, by its lines and what closes it
+abbrev pub AnswerOf : BlockKind → Type 0
+AnswerOf Macro = List (List Lexeme)
+AnswerOf Repeat = List (List Lexeme)
+AnswerOf Skipped = Branch
+AnswerOf Passed = Unit {0}
+
+abbrev pub branch_of : BlockEnd → Branch
+branch_of (ElseIf line) = at_elseif (tokens_in line)
+branch_of Else = at_else
+branch_of End = at_endif
+
+abbrev pub answer_of : (k : BlockKind) → List (List Lexeme) → BlockEnd → AnswerOf k
+answer_of Macro body end = body
+answer_of Repeat body end = body
+answer_of Skipped body end = branch_of end
+answer_of Passed body end = tt
+
+-- what a line does
+abbrev pub judge_of : (k : BlockKind) → StateOf k → List Lexeme → Verdict (StateOf k) (AnswerOf k)
+judge_of Macro = collects
+judge_of Repeat = gathers
+judge_of Skipped = skips
+judge_of Passed = passes
+
+-- ---- As the code answers it.
+
+abbrev pub is_kept : BlockKind → Bool
+is_kept Macro = true
+is_kept Repeat = true
+is_kept _ = false
+
+-- the block goes on with so many others open in it, or is closed
+abbrev pub Judges : (k : BlockKind) → List (List Lexeme) → List Lexeme → Result BlockStep ExpandFault → Verdict (StateOf k) (AnswerOf k) → Type 0
+Judges k body ts (Ok (On d)) v = v ≡ on (block_state k d (body ++ ts ∷ []))
+Judges k body ts (Ok (Closed end)) v = v ≡ closed (answer_of k body end)
+Judges k body ts (Err f) v = Unless (is_outside f) (v ≡ refused f)
+
+-- a block is closed where nothing stands behind the directive, or it isn't understood
+abbrev pub closed_by : BlockEnd → Bool → Result BlockStep ExpandFault
+closed_by end true = Ok (Closed end)
+closed_by end false = Err NotUnderstood
+
+-- one more is open, unless there are too many to be counted
+abbrev pub IsDeeper : ℕ → Result BlockStep ExpandFault → Type 0
+IsDeeper d (Ok (On n)) = n ≡ suc d
+IsDeeper d (Ok (Closed end)) = ⊥
+IsDeeper d (Err f) = f ≡ OutOfMemory
+
+-- lines are passed over that aren't kept
+abbrev pub IsPassedOver : Bool → Left → Left → Type 0
+IsPassedOver true l m = m ≡ l
+IsPassedOver false l m = Plainly l m
+
+-- ---- Under which names open files are read.
+
+-- a file is read under the name that the places of its lines have
+abbrev pub IsNamed : Source → Place → Type 0
+IsNamed (source.File f) p = f.name ≡ p.file
+IsNamed _ p = ⊤
+
+-- So are inputs one inside the other, from the innermost on, where reading is at a place; the source goes back to none.
+abbrev pub AreNamed : List Input → Place → Type 0
+AreNamed [] p = ⊤
+AreNamed (i ∷ []) p = IsNamed i.source p × (i.back ≡ None)
+AreNamed (i ∷ j ∷ is) p = IsNamed i.source p × AreNamed (j ∷ is) (come_back p i.back)
+
+-- what is open in a reader, from the innermost on
+abbrev pub open_in : Reader → List Input
+open_in r = r.top ∷ reverse r.outer.items
+
+unfoldable pub NamesFiles : Reader → Type 0
+NamesFiles r = AreNamed (open_in r) r.place
+
+-- the innermost end mark and the inputs outside stay, and files are read under the names of their places
+pub record Stays (old new : Reader) : Type 0 where
+  pub mark : mark_of new.top ≡ mark_of old.top
+  pub outer : new.outer ≡ old.outer
+  pub named : NamesFiles old → NamesFiles new
+
+-- ---- Where lines were being read when the store failed.
+
+-- a line of a file or its end comes next: only there the store is asked
+abbrev pub IsAsked : List Item → Type 0
+IsAsked (written n bytes ∷ is) = ⊤
+IsAsked (mark k ∷ is) = k.is_macro ≡ false
+IsAsked _ = ⊥
+
+-- The store fails while the next line is read: before its first byte is there, at the place of the line before, or
+-- within it, at its own. Its file was asked for.
+pub data FailsAtLine (blamed : Option (List ℕ)) (l : Left) : Place → Type 0 where
+  before : IsAsked l.items → IsBlamed blamed l.place.file → FailsAtLine blamed l l.place
+  within : (n : ℕ) (bytes : List ℕ) (is : List Item) → l.items ≡ written n bytes ∷ is → IsBlamed blamed l.place.file → FailsAtLine blamed l (moved l.place n)
+
+-- It fails at a line of a block, behind lines that don't end the block.
+pub data FailsInBlock (blamed : Option (List ℕ)) {A B : Type 0} (judge : A → List Lexeme → Verdict A B) : A → Left → Place → Type 0 where
+  at_line : (a : A) (l : Left) (p : Place) → FailsAtLine blamed l p → FailsInBlock blamed judge a l p
+  behind_line : (a c : A) (l m : Left) (ts : List Lexeme) (p : Place) → Takes l (Ok (Some ts, m)) → judge a ts ≡ on c → FailsInBlock blamed judge c m p → FailsInBlock blamed judge a l p
+
+-- a reader stands at such a place, in the input in which it began
+pub record HasStopped (IsThere : Place → Type 0) (old new : Reader) : Type 0 where
+  pub there : IsThere new.place
+  pub mark : mark_of new.top ≡ mark_of old.top
+
+-- where a reader stands that was refused since the store failed
+abbrev pub StopsAt : {A : Type 0} → (Place → Type 0) → Reader → Reader → Result A ExpandFault → Type 0
+StopsAt IsThere old new result = IfErr result (λ e. is_failure e ≡ true → HasStopped IsThere old new)
+
+-- The place of the line that was read last: where no line of an included file was read, that of the line that includes it.
+abbrev pub last_read : Place → Option Place → Place
+last_read p back = if p.line == 0 then come_back p back else p
 
 -- ---- The state that a rewriter stands for, and what its calls lead to.
 
@@ -104,11 +311,11 @@ stands_alone _ = false
 abbrev pub in_front : Front → List Item → List Item
 in_front Nothing is = is
 in_front (Rest line) is = labelled (tokens_in line) ∷ is
-in_front (Branch line) is = branch (tokens_in line) ∷ is
-in_front End is = []
+in_front (front.Branch line) is = branch (tokens_in line) ∷ is
+in_front front.End is = []
 
 abbrev pub is_end : Front → Bool
-is_end End = true
+is_end front.End = true
 is_end _ = false
 
 -- a state with this in front of its lines
@@ -164,8 +371,8 @@ led s (Some x) = gives (stated x) s
 abbrev pub weight_in : Front → ℕ
 weight_in Nothing = 1
 weight_in (Rest line) = 3
-weight_in (Branch line) = 3
-weight_in End = 0
+weight_in (front.Branch line) = 3
+weight_in front.End = 0
 
 abbrev pub measure_of : Expander → ℕ
 measure_of e = size_of e.rewriter + weight_in e.front

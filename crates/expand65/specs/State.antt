@@ -2,7 +2,7 @@
 use Rattle.std.specs.Prelude.{ℕ, ℤ, Bool, List, Option, ◌≡◌, pos, negsuc, zero, suc, ◌+◌, nat_lt, ◌==◌, true, false, not, [], ◌∷◌, length, Some, None, Result, Ok, Err, if◌then◌else◌}
 use Rattle.syntax65.specs.Trees.{Tree, name}
 use Rattle.syntax65.specs.Tokens.{Lexeme}
-use Rattle.expand65.specs.Left.{Item, Left, left, Stop, Definition, branch, Mark}
+use Rattle.expand65.specs.Lines.{Item, Left, left, Stop, Definition, branch, Mark}
 use Rattle.syntax65.specs.Expressions.{IsParsed}
 use Rattle.base65.specs.Outcome.{◌>>=◌}
 use Rattle.syntax65.specs.declared.expressions.words.ExprFault.{ExprFault}

@@ -3,12 +3,12 @@
 ghost use Rattle.std.specs.Prelude.{◌≡◌, ◌∷◌, ◌++◌, ◌<◌, ◌≤◌, [], List, ℕ, drop, false, map, IfErr, IfSome, OnOk, Some};
 ghost use Rattle.base65.specs.Store.{Files};
 ghost use Rattle.syntax65.specs.Tokens.{Lexeme, lexemes};
-ghost use Rattle.syntax65.specs.ExpandFaults.{is_failure};
+ghost use Rattle.syntax65.specs.Faults.{is_failure};
 ghost use Rattle.expand65.specs.Blocks.{Block, collecting, gathering, passing, skipping};
 ghost use Rattle.expand65.specs.Fronts.{is_nothing};
-ghost use Rattle.expand65.specs.Inside.{Stays, Answers, left_of, IsDeeper, IsPassedOver, Judges, closed_by, answer_of, is_kept, judge_of, state_of, FailsInBlock, NamesFiles, StopsAt};
+ghost use Rattle.expand65.specs.Standing.{Stays, Answers, left_of, IsDeeper, IsPassedOver, Judges, closed_by, answer_of, is_kept, judge_of, block_state, FailsInBlock, NamesFiles, StopsAt};
 ghost use Rattle.expand65.specs.Playing.{tokens_in};
-ghost use Rattle.expand65.specs.Left.{LeavesStore};
+ghost use Rattle.expand65.specs.Lines.{LeavesStore};
 
 use crate::fronts::{Directive, behind_first, is_mislabelled, line_directive};
 use crate::line::Line;
@@ -183,7 +183,7 @@ impl BlockKind {
     ) -> Result<BlockStep, ExpandFault>
         ensures step { (body : List (List Lexeme)) →
             Judges self body (lexemes tokens.now) result
-            (judge_of self (state_of self depth body) (lexemes tokens.now)) }
+            (judge_of self (block_state self depth body) (lexemes tokens.now)) }
         ensures inside { IfErr result (λ e. is_failure e ≡ false) }
     {
         if is_mislabelled(tokens) {
@@ -204,7 +204,7 @@ impl BlockKind {
     fn step(self, alloc: Global, line: &Line, depth: u32) -> Result<BlockStep, ExpandFault>
         ensures step { (body : List (List Lexeme)) →
             Judges self body (tokens_in line.now) result
-            (judge_of self (state_of self depth body) (tokens_in line.now)) }
+            (judge_of self (block_state self depth body) (tokens_in line.now)) }
         ensures inside { IfErr result (λ e. is_failure e ≡ false) }
     {
         if line.is_plain() {
@@ -216,8 +216,8 @@ impl BlockKind {
 
     /// Puts a line behind the others, where they are kept.
     fn keep(self, lines: &mut Sequence<Line>, line: Line) -> Result<(), AllocError>
-        ensures { OnOk result ((depth : ℕ) → state_of self depth (map tokens_in lines.new) ≡
-            state_of self depth (map tokens_in lines.old ++ tokens_in line ∷ [])) }
+        ensures { OnOk result ((depth : ℕ) → block_state self depth (map tokens_in lines.new) ≡
+            block_state self depth (map tokens_in lines.old ++ tokens_in line ∷ [])) }
     {
         if self.is_kept() {
             lines.push(line)?;
@@ -248,12 +248,12 @@ impl Reader {
         ensures read { IfSome (S.files store.old) (λ m.
             Answers (λ b. (answer_of kind (map tokens_in b.lines) b.end, left_of m self.new))
             self.new.place result
-            (Block (judge_of kind) (state_of kind 0 []) (left_of m self.old))) }
+            (Block (judge_of kind) (block_state kind 0 []) (left_of m self.old))) }
         ensures room { OnOk result (self.new.room < self.old.room) }
         ensures stays { Stays self.old self.new }
         ensures leaves { LeavesStore S.files S.failures store.old store.new result }
         ensures stopped { NamesFiles self.old → IfSome (S.files store.old) (λ m. StopsAt
-            (FailsInBlock (S.blamed store.new) (judge_of kind) (state_of kind 0 [])
+            (FailsInBlock (S.blamed store.new) (judge_of kind) (block_state kind 0 [])
             (left_of m self.old)) self.old self.new result) }
     {
         let mut lines = Sequence::new(alloc);

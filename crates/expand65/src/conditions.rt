@@ -7,7 +7,7 @@ ghost use Rattle.syntax65.specs.Tokens.{lexemes};
 ghost use Rattle.syntax65.specs.Trees.{Tree};
 ghost use Rattle.syntax65.specs.declared.expressions.words.ExprFault.{ExprFault};
 ghost use Rattle.expand65.specs.State.{IsCondition, popped, whole};
-ghost use Rattle.syntax65.specs.ExpandFaults.{is_failure, is_outside};
+ghost use Rattle.syntax65.specs.Faults.{is_failure, is_outside};
 ghost use Rattle.expand65.specs.Macros.{outermost};
 ghost use Rattle.expand65.specs.Standing.{PopsTo};
 

@@ -1,18 +1,15 @@
 //! The statements of a source, one after another.
 
 ghost use Rattle.std.specs.Prelude.{◌≡◌, ◌≤◌, IfSome, is_some, length, ◌<◌, ◌+◌, ◌*◌, true, false, take, drop, Err, IfOk, IsErrOf, List, OnErr, OnOk, ℕ};
-ghost use Rattle.syntax65.specs.Tokens.{lexeme_of, lexemes, Lexeme};
+ghost use Rattle.syntax65.specs.Tokens.{lexeme_of, lexemes, Lexeme, HoldsNothing, held};
 ghost use Rattle.expand65.specs.Failing.{IsGivenAs, Gives, IsAhead, given_parts, StopsOnItsWay, StopsReading};
 ghost use Rattle.expand65.specs.Macros.{macro_at};
-ghost use Rattle.expand65.specs.Standing.{macros_of, Comes, FollowsFrom, Opens, StandsFor, is_end, led, measure_of, place_of, state_in, Turns, size_of, state_of, turned, weight_of};
+ghost use Rattle.expand65.specs.Standing.{macros_of, Comes, FollowsFrom, Opens, StandsFor, is_end, led, measure_of, place_of, state_in, Turns, size_of, state_of, turned, weight_of, NamesFiles, left_of, mark_of};
 ghost use Rattle.base65.specs.Store.{Asks, Files, IsBlamed, Passes};
-ghost use Rattle.syntax65.specs.Held.{HoldsNothing, held};
-ghost use Rattle.syntax65.specs.ExpandFaults.{is_outside};
+ghost use Rattle.syntax65.specs.Faults.{is_outside};
 ghost use Rattle.expand65.specs.Expansion.{first_left, opened_in, IsStep};
 ghost use Rattle.expand65.specs.State.{State};
-ghost use Rattle.expand65.specs.Inside.{NamesFiles, left_of, mark_of};
-ghost use Rattle.expand65.specs.Left.{LeavesStore, moved};
-ghost use Rattle.expand65.specs.Lines.{bytes_of};
+ghost use Rattle.expand65.specs.Lines.{LeavesStore, moved, bytes_of};
 
 use crate::conditions::Conditions;
 use crate::file::OpenFile;

@@ -3,9 +3,8 @@
 ghost use Rattle.std.specs.Prelude.{◌≡◌, ◌<◌, ◌≤◌, ◌+◌, ◌-◌, [], min, length, drop, true, false, IsTrue, IfErr, IfOk, IfSome, List, OnOk, ℕ};
 ghost use Rattle.std.specs.List.{prefix_len};
 ghost use Rattle.base65.specs.Store.{Files};
-ghost use Rattle.syntax65.specs.ExpandFaults.{is_failure, is_outside};
-ghost use Rattle.expand65.specs.Left.{LeavesOf, numbered};
-ghost use Rattle.expand65.specs.Lines.{lines_of, IsPiece, ReadsLine, TakesPiece, bytes_of, is_inside, left_in_file, rest_of, without_return};
+ghost use Rattle.syntax65.specs.Faults.{is_failure, is_outside};
+ghost use Rattle.expand65.specs.Lines.{LeavesOf, numbered, lines_of, IsPiece, ReadsLine, TakesPiece, bytes_of, is_inside, left_in_file, rest_of, without_return};
 
 use base65::{Sequence, Store, StoreFault, Text};
 use memchr::memchr;

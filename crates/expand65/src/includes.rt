@@ -5,11 +5,11 @@ ghost use Rattle.std.specs.FinMap as fmap;
 ghost use Rattle.std.specs.Str.{is_utf8};
 ghost use Rattle.base65.specs.Outcome.{Gives};
 ghost use Rattle.base65.specs.Store.{Asks, IsBlamed};
-ghost use Rattle.syntax65.specs.ExpandFaults.{is_outside};
+ghost use Rattle.syntax65.specs.Faults.{is_outside};
 ghost use Rattle.expand65.specs.Failing.{IsAmong};
 ghost use Rattle.expand65.specs.Expansion.{as_text, begins_with_slash, beside, file_named, first_file, folder_of, found_or, is_slash, tried, within};
 ghost use Rattle.expand65.specs.Macros.{Tries, file_of, is_there};
-ghost use Rattle.expand65.specs.Left.{LeavesStore};
+ghost use Rattle.expand65.specs.Lines.{LeavesStore};
 
 use base65::{Store, StoreFault, Text};
 use std::alloc::{AllocError, Global};

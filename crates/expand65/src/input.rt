@@ -3,12 +3,11 @@
 ghost use Rattle.std.specs.Prelude.{◌≡◌, ◌↔◌, ◌<◌, ◌+◌, drop, length, true, false, [], ◌∷◌, Ok, IsTrue, IfErr, IfOk, IfSome, OnOk, Result};
 ghost use Rattle.std.specs.List.{prefix_len};
 ghost use Rattle.base65.specs.Store.{Files, IsBlamed};
-ghost use Rattle.syntax65.specs.ExpandFaults.{is_failure, is_outside};
-ghost use Rattle.expand65.specs.Inside.{ComesNext, IsFile, IsReady, TakesLine, is_call, left_in, turns_left, IsNamed};
+ghost use Rattle.syntax65.specs.Faults.{is_failure, is_outside};
+ghost use Rattle.expand65.specs.Standing.{ComesNext, IsFile, IsReady, TakesLine, is_call, left_in, turns_left, IsNamed};
 ghost use Rattle.expand65.specs.Playing.{tokens_in, left_to_play, replacing_of};
 ghost use Rattle.syntax65.specs.declared.place.Place.{Place};
-ghost use Rattle.expand65.specs.Lines.{is_inside, left_in_file};
-ghost use Rattle.expand65.specs.Left.{LeavesStore, LeavesOf, number_token};
+ghost use Rattle.expand65.specs.Lines.{is_inside, left_in_file, LeavesStore, LeavesOf, number_token};
 
 use crate::file::{OpenFile, line_len};
 use crate::line::Line;

@@ -4,7 +4,7 @@ ghost use Rattle.std.specs.Prelude.{◌≡◌, ◌≤◌, ◌++◌, [], false, l
 ghost use Rattle.base65.specs.Relations.{Answers};
 ghost use Rattle.syntax65.specs.Tokens.{IsRead, Lexeme, lexeme_of, lexemes};
 ghost use Rattle.syntax65.specs.declared.lexing.tokens.LexFault.{LexFault};
-ghost use Rattle.syntax65.specs.ExpandFaults.{is_failure, is_outside};
+ghost use Rattle.syntax65.specs.Faults.{is_failure, is_outside};
 ghost use Rattle.expand65.specs.Fronts.{front_directive, label_len};
 ghost use Rattle.expand65.specs.Playing.{behind_word, cut, text_of, tokens_in, IsParted, IsColonAt, IsPlain};
 ghost use Rattle.expand65.specs.Lines.{lexed};

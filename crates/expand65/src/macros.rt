@@ -6,10 +6,10 @@ ghost use Rattle.expand65.specs.Macros.{arguments_of, braces_behind, closes_last
 ghost use Rattle.expand65.specs.Fronts.{names_of, understood};
 ghost use Rattle.expand65.specs.Playing.{tokens_in, definition_of};
 ghost use Rattle.base65.specs.Outcome.{Gives};
-ghost use Rattle.syntax65.specs.ExpandFaults.{is_failure, is_outside};
+ghost use Rattle.syntax65.specs.Faults.{is_failure, is_outside};
 ghost use Rattle.expand65.specs.Failing.{FailsDefining};
 ghost use Rattle.expand65.specs.Standing.{Keeps, TurnsTo, LeadsTo, StopsBy, MacroFound, macros_of};
-ghost use Rattle.expand65.specs.Left.{LeavesStore};
+ghost use Rattle.expand65.specs.Lines.{LeavesStore};
 
 use crate::blocks::BlockKind;
 use crate::fronts::{behind_first, closes_brace, is_comma, name_in, opens_brace};

@@ -1,15 +1,13 @@
 //! Lines of a file that are passed over or read where they stand.
 
 ghost use Rattle.std.specs.Prelude.{◌≡◌, ◌<◌, ◌≤◌, ◌-◌, List, IfSome, IsTrue, false, Ok, Some};
-ghost use Rattle.syntax65.specs.Tokens.{IsFront, Lexeme, lexeme_of};
+ghost use Rattle.syntax65.specs.Tokens.{IsFront, Lexeme, lexeme_of, HoldsNothing, held};
 ghost use Rattle.base65.specs.Store.{Files};
 ghost use Rattle.std.specs.Option.{option_map};
-ghost use Rattle.expand65.specs.Inside.{Stays, is_call, left_in, left_of, IsNamed};
+ghost use Rattle.expand65.specs.Standing.{Stays, is_call, left_in, left_of, IsNamed};
 ghost use Rattle.syntax65.specs.declared.place.Place.{Place};
-ghost use Rattle.expand65.specs.Left.{moved};
+ghost use Rattle.expand65.specs.Lines.{moved, left_in_file, without_return, Takes};
 ghost use Rattle.expand65.specs.Playing.{IsPlainLine, PassesPlain, Plainly, is_colon_there, IsPlain, IsAtHand, IsFirstLine, IsFirstOf, IsNext, TakesWritten};
-ghost use Rattle.expand65.specs.Lines.{left_in_file, without_return, Takes};
-ghost use Rattle.syntax65.specs.Held.{HoldsNothing, held};
 
 use crate::file::{OpenFile, line_len};
 use crate::fronts::{directive_in, is_colon};

@@ -2,15 +2,14 @@
 
 ghost use Rattle.std.specs.Prelude.{◌≡◌, ◌++◌, ◌∷◌, [], List, true, map, IfOk, OnOk, position, false, IfErr, unwrap_or, Some};
 ghost use Rattle.base65.specs.Store.{Files};
-ghost use Rattle.expand65.specs.Inside.{is_call, left_in};
+ghost use Rattle.expand65.specs.Standing.{is_call, left_in};
 ghost use Rattle.expand65.specs.Playing.{tokens_in, replacing_of, tokens_for};
-ghost use Rattle.expand65.specs.Left.{Item, Mark, localised, mark, own_token, with_locals, argument_at, for_name, for_word, replaced, stand_in};
+ghost use Rattle.expand65.specs.Lines.{Item, Mark, localised, mark, own_token, with_locals, argument_at, for_name, for_word, replaced, stand_in, fitted};
 ghost use Rattle.std.specs.Map.{lookup};
 ghost use Rattle.std.specs.Str.{bytes_eq};
 ghost use Rattle.base65.specs.Outcome.{Gives};
 ghost use Rattle.syntax65.specs.Tokens.{lexeme_of, lexemes};
-ghost use Rattle.syntax65.specs.ExpandFaults.{is_failure, is_outside};
-ghost use Rattle.expand65.specs.Lines.{fitted};
+ghost use Rattle.syntax65.specs.Faults.{is_failure, is_outside};
 
 use crate::input::Source;
 use crate::line::Line;

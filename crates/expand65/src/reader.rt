@@ -2,11 +2,10 @@
 
 ghost use Rattle.std.specs.Prelude.{◌≡◌, ◌<◌, ◌≤◌, ◌+◌, length, IfErr, IfNone, IfOk, IfSome, IsTrue, OnOk, [], false, option_map};
 ghost use Rattle.base65.specs.Store.{Files};
-ghost use Rattle.syntax65.specs.ExpandFaults.{is_failure, is_outside};
-ghost use Rattle.expand65.specs.Inside.{Stays, FailsAtLine, StopsAt, last_read, AreNamed, IsNamed, NamesFiles, open_in, Answers, left_in, left_of, mark_of, moved_by, outside};
+ghost use Rattle.syntax65.specs.Faults.{is_failure, is_outside};
+ghost use Rattle.expand65.specs.Standing.{Stays, FailsAtLine, StopsAt, last_read, AreNamed, IsNamed, NamesFiles, open_in, Answers, left_in, left_of, mark_of, moved_by, outside};
 ghost use Rattle.expand65.specs.Playing.{tokens_in};
-ghost use Rattle.expand65.specs.Lines.{closed, end_of, exit_of, if_more, pushed, Takes};
-ghost use Rattle.expand65.specs.Left.{LeavesStore, outside_macro, come_back};
+ghost use Rattle.expand65.specs.Lines.{closed, end_of, exit_of, if_more, pushed, Takes, LeavesStore, outside_macro, come_back};
 ghost use Rattle.expand65.specs.Blocks.{TakesInBlock};
 
 use crate::input::{NextLine, Source};

@@ -4,7 +4,7 @@ ghost use Rattle.std.specs.Prelude.{◌≡◌, false, map, IfErr, ℕ, Ok, Resul
 ghost use Rattle.std.specs.List.{list_any};
 ghost use Rattle.base65.specs.Outcome.{Gives};
 ghost use Rattle.syntax65.specs.Tokens.{lexemes};
-ghost use Rattle.syntax65.specs.ExpandFaults.{is_failure, is_outside};
+ghost use Rattle.syntax65.specs.Faults.{is_failure, is_outside};
 ghost use Rattle.expand65.specs.Fronts.{understood};
 ghost use Rattle.expand65.specs.Macros.{exit_macro, is_made, local_line, new_names, IsRepeat, IsRepeated, repeat_header, turns_of, variable_of};
 ghost use Rattle.expand65.specs.Standing.{Keeps, TurnsTo, LeadsTo, StopsBy};
@@ -13,7 +13,7 @@ ghost use Rattle.base65.specs.Relations.{Answers};
 ghost use Rattle.syntax65.specs.Trees.{Tree};
 ghost use Rattle.syntax65.specs.declared.expressions.words.ExprFault.{ExprFault};
 ghost use Rattle.expand65.specs.Failing.{FailsAtRepeat, FailsRepeating};
-ghost use Rattle.expand65.specs.Left.{LeavesStore};
+ghost use Rattle.expand65.specs.Lines.{LeavesStore};
 
 use crate::blocks::BlockKind;
 use crate::input::Source;

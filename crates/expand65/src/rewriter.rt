@@ -5,15 +5,13 @@ ghost use Rattle.base65.specs.Store.{Files};
 ghost use Rattle.syntax65.specs.Tokens.{lexemes};
 ghost use Rattle.expand65.specs.State.{IsElse, IsIf, ended_if, Meaning};
 ghost use Rattle.expand65.specs.Failing.{FailsActing, FailsAlone, FailsAtElse, FailsAtIf, FailsBy, FailsIncluding, FailsTaking, FailsUnlabelled};
-ghost use Rattle.syntax65.specs.ExpandFaults.{is_failure};
-ghost use Rattle.expand65.specs.Inside.{NamesFiles, left_in, left_of};
+ghost use Rattle.syntax65.specs.Faults.{is_failure};
+ghost use Rattle.expand65.specs.Standing.{NamesFiles, left_in, left_of, Keeps, TurnsTo, LeadsTo, StopsBy, Turns, size_of, stands_alone, state_of, weight_of};
 ghost use Rattle.expand65.specs.Fronts.{front_directive, is_mislabelled, string_of};
 ghost use Rattle.expand65.specs.Expansion.{include_line, included, IsActed, IsDirected, IsLabelled, IsStep, at_mark, last_condition};
 ghost use Rattle.expand65.specs.Playing.{tokens_in};
-ghost use Rattle.expand65.specs.Lines.{bytes_of};
-ghost use Rattle.expand65.specs.Standing.{Keeps, TurnsTo, LeadsTo, StopsBy, Turns, size_of, stands_alone, state_of, weight_of};
+ghost use Rattle.expand65.specs.Lines.{bytes_of, LeavesStore};
 ghost use Rattle.expand65.specs.Macros.{file_of};
-ghost use Rattle.expand65.specs.Left.{LeavesStore};
 
 use crate::blocks::{BlockEnd, BlockKind};
 use crate::conditions::{Conditions, condition};

@@ -13,12 +13,11 @@ use Rattle.syntax65.specs.declared.place.Place.{Place}
 use Rattle.semantics65.specs.Contents.{Content, Part, Declaration, asking, put, telling}
 use Rattle.semantics65.specs.declared.contents.Segment.{Segment}
 use Rattle.semantics65.specs.Numbering.{all_joined, all_said, assert_files, assert_of, content_imports, export_files, exports_among, fragments_of, in_files, name_of, names_once, object_with, once, part_files, part_imports, parts_in, said_imports, segment_name, segment_power, segments_asked}
-use Rattle.semantics65.specs.Laws.{AreAlike}
+use Rattle.semantics65.specs.Machine.{AreAlike, Finished, Slot, Fixup, awaited, before_it, filled, holds, resolved, awaited_in}
 use Rattle.base65.specs.Outcome.{◌>>=◌}
 use Rattle.ast65.specs.declared.fault.AsmFault.{AsmFault}
 use Rattle.semantics65.specs.Symbols.{Symbols}
 use Rattle.semantics65.specs.Reading.{PlacedFault}
-use Rattle.semantics65.specs.Machine.{Finished, Slot, Fixup, awaited, before_it, filled, holds, resolved, awaited_in}
 use Rattle.semantics65.specs.Module.{Made, made_of}
 
 -- ---- Contents by their entries: what decides their object.

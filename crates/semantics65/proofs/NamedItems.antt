@@ -10,8 +10,7 @@ use Rattle.syntax65.specs.declared.fault.ExpandFault.{ExpandFault}
 use Rattle.syntax65.specs.declared.fault.ExpandFault.TheVariants.{LineTooLong}
 use Rattle.syntax65.specs.declared.place.Place.{Place}
 use Rattle.expand65.specs.Blocks.{Block, a_fault, a_mark, a_refusal, the_last, one_more, Verdict, on, closed, refused}
-use Rattle.expand65.specs.Left.{numbered, localised, outside_macro, turns, Item, written, played, labelled, branch, mark, Left, left, Mark, Stop, come_back, in_turn, repeating, Replacing, replaced}
-use Rattle.expand65.specs.Lines.{token_limit, IsOpened, Taken, Takes, TakesFrom, lexed, reached, taken_as}
+use Rattle.expand65.specs.Lines.{numbered, localised, outside_macro, turns, Item, written, played, labelled, branch, mark, Left, left, Mark, Stop, come_back, in_turn, repeating, Replacing, replaced, token_limit, IsOpened, Taken, Takes, TakesFrom, lexed, reached, taken_as}
 use Rattle.semantics65.proofs.NamedLines.{AreAllFit, Each, IsReplacingFit, replaced_fit, with_locals_fit, AreFit, IsBase, read_fit}
 use Rattle.semantics65.proofs.SoundForms.{all_append}
 

@@ -18,9 +18,8 @@ use Rattle.syntax65.specs.declared.lexing.tokens.LexFault.{LexFault}
 use Rattle.syntax65.specs.declared.lexing.tokens.TokenKind.{TokenKind}
 use Rattle.object65.proofs.Goods.{and, left, right}
 use Rattle.object65.specs.Objects.{is_name, is_printed}
-use Rattle.expand65.specs.Lines.{line_limit}
+use Rattle.expand65.specs.Lines.{line_limit, own_token, all_local, with_local, with_locals, Replacing, argument_at, either, is_count_word, replaced, stand_in}
 use Rattle.expand65.specs.Macros.{is_made, new_names, unmade, arguments_of, braces_behind, is_braced, parts_within, put_in_first, unbraced}
-use Rattle.expand65.specs.Left.{own_token, all_local, with_local, with_locals, Replacing, argument_at, either, is_count_word, replaced, stand_in}
 use Rattle.semantics65.specs.Numbering.{AreNamed, IsNamed}
 use Rattle.ast65.proofs.Sounding.{tokens_named}
 use Rattle.std.specs.Map.{lookup}

@@ -19,8 +19,7 @@ use Rattle.expand65.specs.Blocks.{Block, Branch, at_elseif, at_else, at_endif, G
 use Rattle.expand65.specs.State.{IsDecided, IsElse, ended_if, found, passed, Meaning, State, Stated, label, plain, Stepped, goes, gives, ends, stops, with_conditions, with_items, with_left}
 use Rattle.expand65.specs.Expansion.{Next, Reaches, further, given, ended, stopped, statement, nothing, fault as at_fault, first_state, source_mark, first_file, include_line, include_mark, included, included_by, tried, IsActed, IsDirected, IsElseLine, IsLabelled, IsSplit, IsStep, IsStepBehind, IsStepFrom, at_mark, error_by, if_alone, last_condition, not_opened}
 use Rattle.expand65.specs.Fronts.{front_directive, is_mislabelled, is_nothing, label_len, line_directive, string_of}
-use Rattle.expand65.specs.Left.{numbered, outside_macro, turns, Item, written, played, labelled, branch, mark, Left, left, Mark, Stop, come_back, innermost, marks, repeating, Definition}
-use Rattle.expand65.specs.Lines.{line_limit, lines_of, nesting_limit, Taken, Takes}
+use Rattle.expand65.specs.Lines.{numbered, outside_macro, turns, Item, written, played, labelled, branch, mark, Left, left, Mark, Stop, come_back, innermost, marks, repeating, Definition, line_limit, lines_of, nesting_limit, Taken, Takes}
 use Rattle.semantics65.proofs.NamedItems.{AreItemsFit, AreLines, IsBlockFit, IsItemFit, IsOutside, IsVerdictFit, block_fit, lines_in, localised_fit, localised_rests, numbered_lines, outside_fit, none_taken, played_lines, rests, rests_append, taken_fit, turns_lines}
 use Rattle.semantics65.proofs.NamedLines.{AreAllFit, Each, IsReplacingFit, arguments_fit, lookup_each, new_names_fit, AreFit, IsBase, fit_drop, fit_take}
 use Rattle.semantics65.proofs.Segments.{all_more}

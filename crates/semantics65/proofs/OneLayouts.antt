@@ -17,11 +17,11 @@ use Rattle.ast65.specs.declared.language.Statement.TheVariants.{Constant}
 use Rattle.ast65.specs.Parsing.{IsStatement, label_of}
 use Rattle.semantics65.specs.Reading.{AreDefined, AreTaken, taken, faulty, refused, ended, Between, Define, Follows, IsBegun, IsGiven, IsLabel, IsLabelled, IsRest, IsSource, Job, Reached, Taking, no_line, open_fault, with_bytes, stopped, AreLaid, IsLaid, laying, with_statement}
 use Rattle.expand65.proofs.Unique.{one_next}
-use Rattle.expand65.specs.Left.{Stop}
+use Rattle.expand65.specs.Lines.{Stop}
 use Rattle.ast65.specs.declared.fault.AsmFault.TheVariants.{Expansion}
 use Rattle.semantics65.specs.Layout.{Layout, nothing_laid}
 use Rattle.ast65.proofs.OneStatements.{One, followed_one, made_one, same_one, statement_one}
-use Rattle.semantics65.specs.Laws.{OneAnswer, OneLayout}
+use Rattle.semantics65.specs.Machine.{OneAnswer, OneLayout}
 use Rattle.semantics65.specs.Module.{outcome_of}
 
 -- ---- Statements that are taken over one kind of states are taken over another that stands for it.

@@ -15,10 +15,9 @@ use Rattle.semantics65.specs.Symbols.{Laid, asks_section, Symbols, symbols_of}
 use Rattle.semantics65.specs.declared.laid.Context.{Context}
 use Rattle.semantics65.specs.Layout.{Layout, Cursor, laid, layout_behind, nothing_laid, cursor_behind, line_fault, unless_fault}
 use Rattle.semantics65.specs.Numbering.{object_with}
-use Rattle.semantics65.specs.Laws.{AreFoundAlike, LaidRuns, OnePass, RunsLaid, StandsFor}
+use Rattle.semantics65.specs.Machine.{AreFoundAlike, LaidRuns, OnePass, RunsLaid, StandsFor, Finished, Puts, at_once, later, PutsAll, Slot, awaited, holds, State, Steps, Takes, UnlessFault, Fixup, asked, awaited_in, awaiting, before_it, begun, concluded, entered, finished, known, running, symbols_behind}
 use Rattle.semantics65.specs.Reading.{IsLaid, laying, PlacedFault}
 use Rattle.semantics65.specs.Norms.{Extends}
-use Rattle.semantics65.specs.Machine.{Finished, Puts, at_once, later, PutsAll, Slot, awaited, holds, State, Steps, Takes, UnlessFault, Fixup, asked, awaited_in, awaiting, before_it, begun, concluded, entered, finished, known, running, symbols_behind}
 use Rattle.semantics65.specs.Module.{Outcome, assertion_warnings, contents_from, out_of, outcome_of, printed, warned, warning_of, Made, Piece, made_of, pieces_of}
 use Rattle.semantics65.proofs.Contents.{all_append, all_made, made_of_pieces, piece_made, pieces_made}
 use Rattle.semantics65.proofs.Entries.{Entry, alike_by, all_entries, asked_by, entries_of, object_alike, after, after_after, after_nothing, as_entries, come, come_append, nothing, placed, slots_filled}

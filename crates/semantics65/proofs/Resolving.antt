@@ -8,12 +8,11 @@ use Rattle.std.proofs.lemmas.Grind.{common_steps, flat_map-append}
 use Rattle.std.proofs.lemmas.List.{append-nil}
 use Rattle.semantics65.specs.Symbols.{Laid, Symbols, Definition, Scope, definitions_of, imports_of, scope_opened, symbols_of, with_new, zero_page_names, defined, named}
 use Rattle.semantics65.specs.Norms.{Extends, norm_of}
-use Rattle.semantics65.specs.Machine.{symbols_behind, IsSettled, Finished, Slot, Fixup, awaited, before_it, filled, holds, resolved, awaited_in}
+use Rattle.semantics65.specs.Machine.{symbols_behind, IsSettled, Finished, Slot, Fixup, awaited, before_it, filled, holds, resolved, awaited_in, FinalSettles}
 use Rattle.base65.specs.Outcome.{◌>>=◌}
 use Rattle.semantics65.specs.Contents.{Part, Content, Declaration, put, telling, decided, export_said, import_fault, operand_form, stored}
 use Rattle.syntax65.specs.declared.place.Place.{Place}
 use Rattle.semantics65.specs.declared.laid.Context.{Context}
-use Rattle.semantics65.specs.Laws.{FinalSettles}
 use Rattle.semantics65.specs.Module.{demanded, given, used, Made, Piece, Purpose, absent_of, as_part, as_said, asserted, datum, equated, exported, imported, made_of, operand, valued, failed}
 use Rattle.object65.specs.Form.{Form}
 use Rattle.ast65.specs.declared.fault.AsmFault.{AsmFault}

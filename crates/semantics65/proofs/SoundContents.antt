@@ -19,7 +19,7 @@ use Rattle.syntax65.specs.declared.place.Place.{Place}
 use Rattle.semantics65.specs.Symbols.{Laid, asks_section, Symbols, imported, imports_of, symbols_of, with_new}
 use Rattle.ast65.specs.declared.language.Statement.{Statement}
 use Rattle.ast65.specs.declared.language.Statement.TheVariants as statement
-use Rattle.semantics65.specs.Laws.{SoundContents}
+use Rattle.semantics65.specs.Machine.{SoundContents}
 use Rattle.semantics65.specs.Module.{contents_from}
 use Rattle.semantics65.specs.Numbering.{once, parts_in, section_keys, segments_asked, IsMeasured, IsSound, IsSoundContent, part_len, statements_in}
 use Rattle.semantics65.proofs.SoundForms.{Asks, definitions_pass, well_then}

@@ -2,7 +2,7 @@
 use borrow.Author.Rules.{rules}
 use Rattle.std.proofs.lemmas.Grind.{common_steps}
 use Rattle.expand65.specs.State as expand
-use Rattle.syntax65.specs.ExpandFaults as expansion
+use Rattle.syntax65.specs.Faults as expansion
 use Rattle.syntax65.specs.declared.lexing.tokens.TokenKind.TheVariants as token
 use Rattle.std.proofs.Common.{arith, ◌≡◌, List, [], ◌∷◌, refl, sym, subst, Some, None, Bool, true, false, ap, ℕ, Option}
 use Rattle.std.specs.Prelude.{Result, Ok, Err, length, if◌then◌else◌}

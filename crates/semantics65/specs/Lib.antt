@@ -1,5 +1,4 @@
 pub mod Contents
-pub mod Laws
 pub mod Layout
 pub mod Machine
 pub mod Module

@@ -1,6 +1,6 @@
 //! What holds of the definitions, each as the contract of a function that does nothing.
 
-ghost use Rattle.semantics65.specs.Laws.{FinalSettles, LaidRuns, OneAnswer, OneLayout, OnePass, RunsLaid, SoundContents, SoundLayoutLaw};
+ghost use Rattle.semantics65.specs.Machine.{FinalSettles, LaidRuns, OneAnswer, OneLayout, OnePass, RunsLaid, SoundContents, SoundLayoutLaw};
 
 /// A source is laid in one way at most.
 pub fn one_layout()

@@ -4,7 +4,7 @@ use Rattle.std.proofs.Common.{◌≡◌, ◌⊎◌, ℕ, zero, suc, ◌<◌, ◌
 use Rattle.std.specs.Prelude.{Ok, Err}
 use Rattle.syntax65.specs.Forms.{number_of, IsForm, Stands, IsLongest, IsToken, name_in, HasValue, FaultAt}
 use Rattle.syntax65.specs.Tokens.{Lexeme, after_blanks, IsEnd, Ends, Reads, IsRead}
-use Rattle.syntax65.specs.Laws.{OneReading}
+use Rattle.syntax65.specs.Expressions.{OneReading}
 use Rattle.syntax65.specs.declared.lexing.places.Class.{Class}
 use Rattle.syntax65.specs.declared.lexing.tokens.TokenKind.{TokenKind}
 use Rattle.syntax65.specs.declared.lexing.tokens.TokenKind.TheVariants.{Number}

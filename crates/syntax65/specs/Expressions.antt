@@ -1,4 +1,5 @@
 -- The phrases of the expression grammar, by places in a list of tokens.
+-- A line has one reading, an expression one tree.
 use Rattle.std.specs.Prelude.{ℕ, ◌-◌, ◌==◌, ◌&&◌, ◌||◌, Bool, List, length, codes, slice_index, nat_lt, Option, Some, None, is_some, if◌then◌else◌, ◌≡◌, ◌≢◌, ◌+◌, ◌<◌, ◌≤◌, true, false, [], ◌∷◌, slice_get, Result, Ok, Err, ⊤}
 use Rattle.std.specs.Str.{str_eq_ignore_ascii_case}
 use Rattle.syntax65.specs.Mnemonics.{mnemonic_of}
@@ -11,12 +12,13 @@ use Rattle.base65.specs.declared.values.Op2.{Op2}
 use Rattle.base65.specs.declared.values.Op2.TheVariants.{Multiply, Divide, Modulo, BitAnd, BitXor, ShiftLeft, ShiftRight, Add, Subtract, BitOr, Equal, NotEqual, Less, Greater, LessOrEqual, GreaterOrEqual, And, Xor, Or}
 use Rattle.syntax65.specs.declared.expressions.words.Opening.{Opening}
 use Rattle.syntax65.specs.declared.expressions.words.Opening.TheVariants.{Number, Here, Cheap, Forward, Backward, Name, Scope, Prefix, Parenthesis, Negation, Nothing}
-use Rattle.syntax65.specs.Tokens.{Lexeme}
+use Rattle.syntax65.specs.Tokens.{Lexeme, IsRead}
 use Rattle.syntax65.specs.Trees.{Tree, number, here, name, cheap, forward, backward, unary, binary}
 use Rattle.base65.specs.declared.values.Op1.{Op1}
 use Rattle.base65.specs.declared.values.Op1.TheVariants.{Not}
 use Rattle.syntax65.specs.declared.expressions.words.ExprFault.{ExprFault}
 use Rattle.syntax65.specs.declared.expressions.words.ExprFault.TheVariants.{OutOfMemory, OperandExpected, ParenthesisExpected, TooDeep}
+use Rattle.syntax65.specs.declared.lexing.tokens.LexFault.{LexFault}
 
 -- ---- What a token means within an expression.
 
@@ -258,3 +260,13 @@ IsMissing ts i _ = ⊥
 abbrev pub ReadsNames : List Lexeme → ℕ → Result (List (List ℕ) × ℕ) ExprFault → Type 0
 ReadsNames ts i (Ok x) = Parts ts i x.1 x.0
 ReadsNames ts i (Err f) = IsMissing ts i f
+
+-- ---- A line has one reading, an expression one tree.
+
+-- a line is read in one way at most: as one list of tokens, or as one fault
+abbrev pub OneReading : Type 0
+OneReading = (line : List ℕ) (r s : Result (List Lexeme) LexFault) → IsRead line r → IsRead line s → r ≡ s
+
+-- tokens are parsed in one way at most: as one expression with its number of tokens, or as one fault
+abbrev pub OneParse : Type 0
+OneParse = (ts : List Lexeme) (r s : Result (Tree × ℕ) ExprFault) → IsParsed ts r → IsParsed ts s → r ≡ s

@@ -1,29 +1,91 @@
--- The words of faults of tokens and expressions.
-use Rattle.std.specs.Prelude.{ℕ, List, codes, Bool, true, false}
+-- The faults of tokens, of expressions and of expansion: their words, and which of them come from outside.
+use Rattle.std.specs.Prelude.{ℕ, List, codes, Bool, true, false, []}
 use Rattle.syntax65.specs.declared.lexing.tokens.LexFault.{LexFault}
-use Rattle.syntax65.specs.declared.lexing.tokens.LexFault.TheVariants.{OutOfMemory, BadCharacter, BadNumber, StringNotClosed, LineTooLong, NameTooLong}
 use Rattle.syntax65.specs.declared.expressions.words.ExprFault.{ExprFault}
-use Rattle.syntax65.specs.declared.expressions.words.ExprFault.TheVariants.{OutOfMemory as NoMemory, OperandExpected, ParenthesisExpected, TooDeep}
+use Rattle.syntax65.specs.declared.expressions.words.ExprFault.TheVariants as expr
+use Rattle.syntax65.specs.declared.lexing.tokens.LexFault.TheVariants as lex
+use Rattle.base65.specs.declared.store.StoreFault.{StoreFault}
+use Rattle.base65.specs.declared.store.StoreFault.TheVariants as store
+use Rattle.syntax65.specs.declared.fault.ExpandFault.{ExpandFault}
+use Rattle.syntax65.specs.declared.fault.ExpandFault.TheVariants.{FailedBefore, OutOfMemory, Syntax, FileNotFound, FileError, NotConstant, Nested, TooManyLines, NotClosed, NotOpened, TooManyArguments, MacroTwice, MacroInside, CountOutOfRange, FileTooLong, Error, NotUnderstood, LineTooLong}
+
+-- ---- The words of faults of tokens and expressions.
 
 abbrev pub lex_fault_words : LexFault → List ℕ
-lex_fault_words OutOfMemory = codes "out of memory"
-lex_fault_words BadCharacter = codes "bad character"
-lex_fault_words BadNumber = codes "bad number"
-lex_fault_words StringNotClosed = codes "string not closed"
-lex_fault_words LineTooLong = codes "line too long"
-lex_fault_words NameTooLong = codes "name too long"
+lex_fault_words lex.OutOfMemory = codes "out of memory"
+lex_fault_words lex.BadCharacter = codes "bad character"
+lex_fault_words lex.BadNumber = codes "bad number"
+lex_fault_words lex.StringNotClosed = codes "string not closed"
+lex_fault_words lex.LineTooLong = codes "line too long"
+lex_fault_words lex.NameTooLong = codes "name too long"
 
 -- whether the fault comes from outside: from memory
 abbrev pub is_lex_outside : LexFault → Bool
-is_lex_outside OutOfMemory = true
+is_lex_outside lex.OutOfMemory = true
 is_lex_outside _ = false
 
 abbrev pub expr_fault_words : ExprFault → List ℕ
-expr_fault_words NoMemory = codes "out of memory"
-expr_fault_words OperandExpected = codes "operand expected"
-expr_fault_words ParenthesisExpected = codes "parenthesis expected"
-expr_fault_words TooDeep = codes "nested too deep"
+expr_fault_words expr.OutOfMemory = codes "out of memory"
+expr_fault_words expr.OperandExpected = codes "operand expected"
+expr_fault_words expr.ParenthesisExpected = codes "parenthesis expected"
+expr_fault_words expr.TooDeep = codes "nested too deep"
 
 abbrev pub is_expr_outside : ExprFault → Bool
-is_expr_outside NoMemory = true
+is_expr_outside expr.OutOfMemory = true
 is_expr_outside _ = false
+
+-- ---- The faults of expansion: their words, and which of them come from outside.
+
+-- the words of a fault that has no text of its own
+abbrev pub own_words : ExpandFault → List ℕ
+own_words FailedBefore = codes "failed before"
+own_words OutOfMemory = codes "out of memory"
+own_words FileNotFound = codes "file not found"
+own_words FileError = codes "file error"
+own_words NotConstant = codes "not constant"
+own_words Nested = codes "nested over 256"
+own_words TooManyLines = codes "too many lines"
+own_words NotClosed = codes "block not closed"
+own_words NotOpened = codes "block end without begin"
+own_words TooManyArguments = codes "too many arguments"
+own_words MacroTwice = codes "macro defined twice"
+own_words MacroInside = codes "macro inside macro"
+own_words CountOutOfRange = codes "repeat count out of range"
+own_words FileTooLong = codes "file too long"
+own_words NotUnderstood = codes "directive not understood"
+own_words LineTooLong = codes "replaced line too long"
+own_words (Syntax fault) = []
+own_words (Error text) = []
+
+-- the words of a message
+abbrev pub expand_words : ExpandFault → List ℕ
+expand_words (Syntax fault) = lex_fault_words fault
+expand_words (Error text) = text
+expand_words fault = own_words fault
+
+-- memory ran out or the store failed
+abbrev pub is_outside : ExpandFault → Bool
+is_outside OutOfMemory = true
+is_outside FileError = true
+is_outside _ = false
+
+-- the store failed
+abbrev pub is_failure : ExpandFault → Bool
+is_failure FileError = true
+is_failure _ = false
+
+-- a fault of a line's tokens
+abbrev pub fault_of_lexing : LexFault → ExpandFault
+fault_of_lexing lex.OutOfMemory = OutOfMemory
+fault_of_lexing fault = Syntax fault
+
+-- an expression that can't be read isn't understood
+abbrev pub fault_of_parsing : ExprFault → ExpandFault
+fault_of_parsing expr.OutOfMemory = OutOfMemory
+fault_of_parsing fault = NotUnderstood
+
+-- a fault of the store
+abbrev pub fault_of_store : StoreFault → ExpandFault
+fault_of_store store.OutOfMemory = OutOfMemory
+fault_of_store store.FileNotFound = FileNotFound
+fault_of_store store.FileError = FileError

@@ -1,4 +1,5 @@
 -- The tokens of a line, or its fault.
+-- The tokens that are held of a line.
 use Rattle.std.specs.Prelude.{◌≡◌, ℕ, ◌≤◌, ◌<◌, Bool, true, false, List, [], ◌∷◌, length, take, drop, map, Option, Some, None, Result, Ok, Err, ⊤, ◌++◌, slice_get, option_map}
 use Rattle.std.specs.List.{prefix_len}
 use Rattle.syntax65.specs.Forms.{class_of, is_blank, IsToken, FaultAt}
@@ -11,6 +12,8 @@ use Rattle.base65.specs.Relations.{Answers}
 use Rattle.syntax65.specs.Faults.{is_lex_outside}
 use Rattle.syntax65.specs.declared.lexing.lines.Lexer.{Lexer}
 use Rattle.syntax65.specs.declared.lexing.lines.LineFront.{LineFront}
+use Rattle.std.specs.Global.{Vec}
+use Rattle.syntax65.specs.declared.lexing.lines.LineTokens.{LineTokens}
 
 -- ---- The tokens of a line, or its fault.
 
@@ -87,3 +90,16 @@ IsFront ts f = (option_map lexeme_of f.first ≡ slice_get ts 0) × (option_map 
 abbrev pub IsScanned : List ℕ → Result LineFront LexFault → Type 0
 IsScanned line (Ok f) = (ts : List Lexeme) × IsRead line (Ok ts) × IsFront ts f
 IsScanned line (Err fault) = IsRead line (Err fault)
+
+-- ---- The tokens that are held of a line.
+
+abbrev held_by : Option (Vec Token) → ℕ → List Token → List Token
+held_by None count few = take count few
+held_by (Some many) count few = many.items
+
+abbrev pub held : LineTokens → List Lexeme
+held t = lexemes (held_by t.many t.few.count t.few.room)
+
+-- none yet, and a few have room
+abbrev pub HoldsNothing : LineTokens → Type 0
+HoldsNothing t = (t.few.count ≡ 0) × (t.many ≡ None) × (length t.few.room ≡ 8)

@@ -2,7 +2,7 @@
 
 ghost use Rattle.std.specs.Prelude.{◌≡◌};
 ghost use Rattle.syntax65.specs.declared.fault.ExpandFault.TheVariants.{FileError, FileNotFound, OutOfMemory};
-ghost use Rattle.syntax65.specs.ExpandFaults.{fault_of_lexing, fault_of_parsing, fault_of_store};
+ghost use Rattle.syntax65.specs.Faults.{fault_of_lexing, fault_of_parsing, fault_of_store};
 
 use crate::{ExprFault, LexFault};
 use base65::{Sequence, StoreFault};
@@ -45,7 +45,7 @@ pub enum ExpandFault {
 }
 
 impl ExpandFault {
-    ghost use Rattle.syntax65.specs.ExpandFaults.{own_words, expand_words};
+    ghost use Rattle.syntax65.specs.Faults.{own_words, expand_words};
 
     /// The words of a fault that has no text of its own.
     fn own_words(&self) -> &[u8]

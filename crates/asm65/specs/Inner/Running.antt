@@ -1,6 +1,6 @@
--- How statements are taken, and their files.
-use Rattle.std.specs.Prelude.{◌≡◌, ℕ, ◌+◌, ◌*◌, ◌≤◌, ◌<◌, List, [], ◌∷◌, Option, Some, None, IfErr, IfSome, Bool, true, false, Result, Ok, Err, ⊤, take}
-use Rattle.base65.specs.Outcome.{Unless}
+-- The lines of a source, and what waits behind them.
+use Rattle.std.specs.Prelude.{◌≡◌, ℕ, ◌+◌, ◌*◌, ◌≤◌, ◌<◌, List, [], ◌∷◌, Option, Some, None, IfErr, IfSome, Bool, true, false, Result, Ok, Err, ⊤, take, ◌++◌, map}
+use Rattle.base65.specs.Outcome.{Unless, ◌>>=◌}
 use Rattle.base65.specs.Store.{Files, PassesBy}
 use Rattle.syntax65.specs.Tokens.{Lexeme}
 use Rattle.syntax65.specs.Trees.{number}
@@ -12,7 +12,8 @@ use Rattle.ast65.specs.declared.fault.AsmFault.{AsmFault}
 use Rattle.ast65.specs.declared.fault.AsmFault.TheVariants.{FileError, FileNotFound}
 use Rattle.ast65.specs.Faults.{is_failure, is_outside}
 use Rattle.ast65.specs.declared.language.Statement.{Statement}
-use Rattle.ast65.specs.declared.language.Statement.TheVariants.{Constant, FilePart, NamedPart}
+use Rattle.ast65.specs.declared.language.Statement.TheVariants as statement
+use Rattle.ast65.specs.declared.language.Statement.TheVariants.{FilePart, NamedPart}
 use Rattle.semantics65.specs.Numbering.{AreNamed, IsSound}
 use Rattle.semantics65.specs.Machine.{Runs, State, Takes, begun}
 use Rattle.semantics65.specs.Reading.{Define, IsGiven, Job, stopped, bytes_for, with_bytes}
@@ -20,8 +21,26 @@ use Rattle.asm65.specs.declared.assembler.Assembler.{Assembler}
 use Rattle.asm65.specs.declared.running.Run.{Run}
 use Rattle.symbols65.specs.Measuring.{opening_limit}
 use Rattle.asm65.specs.Inner.Holding.{Holds}
-use Rattle.asm65.specs.Assembly.{Without}
+use Rattle.asm65.specs.Assembly.{Without, is_outside_refusal, placed_of}
 use Rattle.std.specs.Option.{option_map}
+use Rattle.semantics65.specs.Contents.{Content, put, telling, written}
+use Rattle.semantics65.specs.declared.contents.Declaration.{Declaration}
+use Rattle.semantics65.specs.declared.laid.Context.{Context}
+use Rattle.semantics65.specs.Norms.{defined_form}
+use Rattle.semantics65.specs.Symbols.{Symbols}
+use Rattle.semantics65.specs.Views.{part_at, said_at}
+use Rattle.semantics65.specs.Machine as machine
+use Rattle.semantics65.specs.Module.{warning_at, Made, absent_of, as_said, made_of, used}
+use Rattle.semantics65.specs.Module as piece
+use Rattle.emit65.specs.Fed.{Receives, Stands}
+use Rattle.emit65.specs.declared.sections.Sections.{Sections}
+use Rattle.asm65.specs.declared.concluding.Ending.{Ending}
+use Rattle.asm65.specs.declared.texts.AsmRefusal.{AsmRefusal}
+use Rattle.asm65.specs.declared.resolving.Filling.{Filling}
+use Rattle.asm65.specs.declared.resolving.Filling.TheVariants as filling
+use Rattle.asm65.specs.declared.resolving.Made as code
+use Rattle.asm65.specs.declared.assembler.Piece.{Piece}
+use Rattle.asm65.specs.declared.assembler.Piece.TheVariants.{Datum, Operand, Constant, Assertion, Import, Demand, Export}
 
 -- ---- What a call that takes statements leaves.
 
@@ -107,7 +126,7 @@ abbrev pub DefinesBy :
     Place → Define → Assembler → Assembler → Result (Unit {0}) AsmFault → Type 0
 DefinesBy place d old new r =
     (count : ℕ) (t : State) → count + 1 ≤ opening_limit → Holds count t old →
-    Leaves ⊤ (Takes t place (Constant d.0 (number d.1))) count t new r
+    Leaves ⊤ (Takes t place (statement.Constant d.0 (number d.1))) count t new r
 
 -- ---- A source.
 
@@ -187,3 +206,81 @@ read_bytes m place x = x
 pub record IsRefusedUnread (blamed : Option (List ℕ)) (t : State) (place : Place) (x : Statement) (e : AsmFault) : Type 0 where
   pub inside : Unless (is_outside e) ((m : Files) → Takes t place (with_bytes m place x) (Err e))
   pub failed : is_failure e ≡ true → Without blamed (λ m t. Takes t place (with_bytes m place x)) t (Err FileNotFound)
+
+-- ---- What a piece comes to.
+
+-- of a statement that stands here
+abbrev pub content_of : Place → Filling → Content
+content_of place (filling.Part segment part) = put segment (part_at place part)
+content_of place (filling.Told said) = telling (map (said_at place) said)
+
+-- the warning of an assertion with this text, where one failed
+abbrev pub warning_in : Place → Option (List ℕ) → List ℕ
+warning_in place None = []
+warning_in place (Some words) = warning_at place words
+
+abbrev pub made_in : Place → code.Made → Made
+made_in place m = record { content = content_of place m.filling; warning = warning_in place m.warning }
+
+-- what a saying comes to that is written with its place
+abbrev pub noted : Place → Declaration → Result Made AsmFault
+noted place s = written place (said_at place s ∷ []) >>= as_said
+
+-- what an export comes to that isn't defined
+abbrev pub lost : (must : Bool) → List ℕ → Result Made AsmFault
+lost must n = absent_of must n >>= as_said
+
+-- of a constant only the fault of its expression is found
+abbrev pub coming : Symbols → Place → Context → Piece → Result Made AsmFault
+coming y place s (Datum width e) = made_of y place s (piece.valued (piece.datum width) e)
+coming y place s (Operand width e) =
+    made_of y place s (piece.valued (piece.operand width) e)
+coming y place s (Constant at) = defined_form y at >>= used place s piece.equated
+coming y place s (Assertion act words e) =
+    made_of y place s (piece.valued (piece.asserted act words) e)
+coming y place s (Import n) = made_of y place s (piece.imported n)
+coming y place s (Demand n) = made_of y place s (piece.demanded n)
+coming y place s (Export must n) = made_of y place s (piece.exported must n)
+
+-- ---- What waits.
+
+-- contents are received one behind the other
+abbrev pub ReceivesAll : Sections → Sections → List Content → Type 0
+ReceivesAll old new ws =
+    (cs rest : List Content) → Stands cs (ws ++ rest) old → Stands cs rest new
+
+-- a piece that waits has come to its content, and its warning is said
+pub record IsSettled (y : Symbols) (v : machine.Fixup) (old new : Ending) : Type 0 where
+  pub made : Made
+  pub found : made_of y v.place v.context v.piece ≡ Ok made
+  pub sections : Receives old.sections new.sections made.content
+  pub err : new.err ≡ old.err ++ made.warning
+
+-- it has a fault instead, and nothing is said
+pub record IsFaulty (y : Symbols) (v : machine.Fixup) (e : AsmRefusal) (old new : Ending) :
+    Type 0 where
+  pub found : made_of y v.place v.context v.piece ≡ Err (placed_of e).fault
+  pub place : (placed_of e).place ≡ v.place
+  pub err : new.err ≡ old.err
+
+abbrev pub Settles : Symbols → machine.Fixup → Ending → Ending → Result Unit AsmRefusal → Type 0
+Settles y v old new (Ok u) = IsSettled y v old new
+Settles y v old new (Err e) = Unless (is_outside_refusal e) (IsFaulty y v e old new)
+
+-- all that waits has come to its contents
+pub record AreSettled (y : Symbols) (vs : List machine.Fixup) (old new : Ending) : Type 0 where
+  pub contents : List Content
+  pub found : (machine.resolved y vs).found ≡ Ok contents
+  pub sections : ReceivesAll old.sections new.sections contents
+  pub err : new.err ≡ old.err ++ (machine.resolved y vs).warned
+
+-- there is a first fault, behind the warnings of what stands before it
+pub record AreFaulty (y : Symbols) (vs : List machine.Fixup) (e : AsmRefusal)
+    (old new : Ending) : Type 0 where
+  pub found : (machine.resolved y vs).found ≡ Err (placed_of e)
+  pub err : new.err ≡ old.err ++ (machine.resolved y vs).warned
+
+abbrev pub SettlesAll :
+    Symbols → List machine.Fixup → Ending → Ending → Result Unit AsmRefusal → Type 0
+SettlesAll y vs old new (Ok u) = AreSettled y vs old new
+SettlesAll y vs old new (Err e) = Unless (is_outside_refusal e) (AreFaulty y vs e old new)

@@ -7,7 +7,7 @@ ghost use Rattle.symbols65.specs.Views.{table_of, with_definition, with_names, w
 ghost use Rattle.std.specs.Option.{option_map};
 ghost use Rattle.semantics65.specs.Layout.{opened_twice};
 ghost use Rattle.symbols65.specs.Resolving.{IsTable};
-ghost use Rattle.asm65.specs.Inner.Taking.{KeepsPut};
+ghost use Rattle.asm65.specs.Inner.Holding.{KeepsPut};
 
 use crate::assembler::Assembler;
 use base65::Sequence;

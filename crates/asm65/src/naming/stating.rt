@@ -3,8 +3,7 @@
 ghost use Rattle.std.specs.Prelude.{◌≡◌, IfOk, OnOk, map, None, ◌∷◌, [], Some, ◌++◌, false, true};
 ghost use Rattle.semantics65.specs.declared.laid.Context.{Context};
 ghost use Rattle.semantics65.specs.Symbols.{Symbols, Key as DefinedKey, defined, named};
-ghost use Rattle.asm65.specs.Inner.Holding.{IsPiece, KeepsTables};
-ghost use Rattle.asm65.specs.Inner.Taking.{mentioned, is_for_zero_page, label_at, Mentions, Turns};
+ghost use Rattle.asm65.specs.Inner.Holding.{IsPiece, KeepsTables, mentioned, is_for_zero_page, label_at, Mentions, Turns};
 ghost use Rattle.symbols65.specs.Tables.{definition_seen, key_of};
 ghost use Rattle.semantics65.specs.Views.{place_at};
 ghost use Rattle.semantics65.specs.Module.{equated, valued, demanded, imported};

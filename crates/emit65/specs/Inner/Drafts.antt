@@ -1,25 +1,28 @@
--- Tables and sections in the making, from which the object of a module's contents is built.
-use Rattle.std.specs.Prelude.{◌≡◌, ℕ, ◌+◌, nat_eq, List, [], ◌∷◌, ◌++◌, map, filter_map, Option, Some, None, slice_get, if◌then◌else◌}
-use Rattle.std.specs.List.{AllByRecursion, flat_map}
+-- Sections while they are numbered: drafts, and the order of files.
+use Rattle.std.specs.Prelude.{◌≡◌, ℕ, ◌+◌, nat_eq, List, [], ◌∷◌, ◌++◌, map, filter_map, Option, Some, None, slice_get, if◌then◌else◌, true, option_map, IfSome}
+use Rattle.std.specs.List.{AllByRecursion, flat_map, list_any}
 use Rattle.syntax65.specs.declared.place.Place.{Place}
 use Rattle.object65.specs.declared.object.Assert.{Assert}
 use Rattle.object65.specs.declared.object.Export.{Export}
 use Rattle.object65.specs.declared.object.Fragment.{Fragment}
-use Rattle.object65.specs.declared.object.Fragment.TheVariants.{Literal, Fill}
 use Rattle.object65.specs.declared.object.Fragment.TheVariants as fragment
+use Rattle.object65.specs.declared.object.Fragment.TheVariants.{Literal, Fill}
 use Rattle.object65.specs.declared.object.Object.{Object}
 use Rattle.object65.specs.declared.object.Origin.{Origin}
 use Rattle.object65.specs.declared.object.Section.{Section}
 use Rattle.object65.specs.Objects.{FitsBits, FragmentFits, OriginFits}
 use Rattle.semantics65.specs.declared.contents.Declaration.{Declaration}
 use Rattle.semantics65.specs.declared.contents.Segment.{Segment}
-use Rattle.semantics65.specs.Numbering.{assert_of, exports_among, is_empty, name_of, numbered, segment_name, segment_power}
+use Rattle.semantics65.specs.Numbering.{assert_of, exports_among, is_empty, name_of, numbered, segment_name, segment_power, number_of, once, optional_key}
 use Rattle.semantics65.specs.Views.{place_in, said_at}
 use Rattle.emit65.specs.declared.entries.Entry.{Entry}
 use Rattle.emit65.specs.declared.entries.Entry.TheVariants.{Bytes, Room, Value, Told}
-use Rattle.emit65.specs.Fed.{origin_by}
+use Rattle.emit65.specs.Fed as fed
 use Rattle.emit65.specs.declared.numbering.drafts.Draft.{Draft}
 use Rattle.emit65.specs.declared.numbering.exports.Declared.{Declared}
+use Rattle.emit65.specs.declared.numbering.ordering.Order.{Order}
+
+-- ---- Tables and sections in the making, from which the object of a module's contents is built.
 
 -- the names are those of the exports
 abbrev pub AreNamed : Declared → Type 0
@@ -71,7 +74,7 @@ segment_of _ = None
 abbrev pub with_put : (sections imports : List ℕ) → Entry → Draft → Draft
 with_put sections imports (Bytes g bytes) d = with_fragment d (Literal bytes)
 with_put sections imports (Room g n) d = with_fragment d (Fill n)
-with_put sections imports (Value width g o f) d = with_fragment d (fragment.Value width (origin_by o) (numbered sections imports f))
+with_put sections imports (Value width g o f) d = with_fragment d (fragment.Value width (fed.origin_by o) (numbered sections imports f))
 with_put sections imports _ d = d
 
 -- a change of the draft of one segment alone
@@ -93,14 +96,14 @@ exports_at sections imports origin found ss = exports_among (here origin) sectio
 
 abbrev pub exports_from : (sections imports : List ℕ) → List Export → List Entry → List Export
 exports_from sections imports found [] = found
-exports_from sections imports found (Told o ss ∷ es) = exports_from sections imports (exports_at sections imports (origin_by o) found ss) es
+exports_from sections imports found (Told o ss ∷ es) = exports_from sections imports (exports_at sections imports (fed.origin_by o) found ss) es
 exports_from sections imports found (e ∷ es) = exports_from sections imports found es
 
 abbrev pub asserts_at : (sections imports : List ℕ) → Origin → List Declaration → List Assert
 asserts_at sections imports origin ss = filter_map (assert_of (here origin) sections imports) (map (said_at anywhere) ss)
 
 abbrev pub entry_asserts : (sections imports : List ℕ) → Entry → List Assert
-entry_asserts sections imports (Told o ss) = asserts_at sections imports (origin_by o) ss
+entry_asserts sections imports (Told o ss) = asserts_at sections imports (fed.origin_by o) ss
 entry_asserts sections imports _ = []
 
 abbrev pub section_from : List Segment → Draft → Section
@@ -141,3 +144,69 @@ object_before segments names sections imports es = record {
   exports = exports_from sections imports [] es;
   asserts = flat_map (entry_asserts sections imports) es;
 }
+
+-- ---- The files that parts name, by their places in a table.
+
+abbrev pub fragment_keys : Fragment → List ℕ
+fragment_keys (fragment.Literal bytes) = []
+fragment_keys (fragment.Fill n) = []
+fragment_keys (fragment.Value width origin f) = optional_key origin.file
+
+abbrev pub section_files : Section → List ℕ
+section_files s = flat_map fragment_keys s.fragments
+
+abbrev pub export_key : Export → List ℕ
+export_key e = optional_key e.origin.file
+
+abbrev pub assert_key : Assert → List ℕ
+assert_key a = optional_key a.origin.file
+
+-- each once, in the order of the object
+abbrev pub order_of : List Section → List Export → List Assert → List ℕ
+order_of sections exports asserts = once [] (flat_map section_files sections ++ flat_map export_key exports ++ flat_map assert_key asserts)
+
+-- the file that was named last is one of those that are named
+abbrev pub HasLast : Order → Type 0
+HasLast o = IfSome o.last (λ k. list_any (nat_eq k) o.files.keys ≡ true)
+
+-- ---- Origins by that order.
+
+abbrev pub origin_by : List ℕ → Origin → Origin
+origin_by order o = record { file = option_map (number_of order) o.file; line = o.line }
+
+abbrev pub fragment_by : List ℕ → Fragment → Fragment
+fragment_by order (fragment.Literal bytes) = fragment.Literal bytes
+fragment_by order (fragment.Fill n) = fragment.Fill n
+fragment_by order (fragment.Value width origin f) = fragment.Value width (origin_by order origin) f
+
+abbrev pub section_by : List ℕ → Section → Section
+section_by order s = record { name = s.name; align = s.align; fragments = map (fragment_by order) s.fragments }
+
+abbrev pub export_by : List ℕ → Export → Export
+export_by order e = record { name = e.name; origin = origin_by order e.origin; form = e.form }
+
+abbrev pub assert_by : List ℕ → Assert → Assert
+assert_by order a = record { action = a.action; origin = origin_by order a.origin; text = a.text; form = a.form }
+
+abbrev pub parts_by : List ℕ → Object → Object
+parts_by order o = record {
+  version = o.version;
+  files = o.files;
+  imports = o.imports;
+  sections = map (section_by order) o.sections;
+  exports = map (export_by order) o.exports;
+  asserts = map (assert_by order) o.asserts;
+}
+
+-- the object with its files in its own order, where these are the names in the table
+abbrev pub in_order : List (List ℕ) → Object → Object
+in_order names o =
+    let order : List ℕ = order_of o.sections o.exports o.asserts in
+    record {
+      version = o.version;
+      files = map (name_of names) order;
+      imports = o.imports;
+      sections = map (section_by order) o.sections;
+      exports = map (export_by order) o.exports;
+      asserts = map (assert_by order) o.asserts;
+    }

@@ -5,8 +5,7 @@ ghost use Rattle.std.specs.List.{AllByRecursion, flat_map, IsDistinct};
 ghost use Rattle.std.specs.Str.{bytes_eq, is_utf8};
 ghost use Rattle.object65.specs.Objects.{FragmentFits, ObjectFits, OriginFits};
 ghost use Rattle.semantics65.specs.Numbering.{name_of, number_of, once, optional_key};
-ghost use Rattle.emit65.specs.Inner.Drafts.{AssertFits, ExportFits, SectionFits};
-ghost use Rattle.emit65.specs.Inner.Ordering.{assert_by, assert_key, export_by, export_key, fragment_by, fragment_keys, HasLast, in_order, order_of, origin_by, section_by, section_files};
+ghost use Rattle.emit65.specs.Inner.Drafts.{AssertFits, ExportFits, SectionFits, assert_by, assert_key, export_by, export_key, fragment_by, fragment_keys, HasLast, in_order, order_of, origin_by, section_by, section_files};
 ghost use Rattle.emit65.specs.Fed.{names_in};
 
 use super::keys::{narrow, number_of};

@@ -3,8 +3,7 @@
 ghost use Rattle.std.specs.Prelude.{◌≡◌, ◌≤◌, ◌↔◌, ◌++◌, ◌∷◌, [], IsTrue, ◌<◌, IfOk, IfSome, length, List};
 ghost use Rattle.syntax65.specs.Faults.{is_lex_outside};
 ghost use Rattle.base65.specs.Relations.{Answers};
-ghost use Rattle.syntax65.specs.Tokens.{ReadsOn, after_blanks, lexeme_of, lexemes, IsEnd, IsRead, IsCutOff, IsNext, IsStart, Lexeme, IsFront, IsScanned};
-ghost use Rattle.syntax65.specs.Held.{HoldsNothing, held};
+ghost use Rattle.syntax65.specs.Tokens.{ReadsOn, after_blanks, lexeme_of, lexemes, IsEnd, IsRead, IsCutOff, IsNext, IsStart, Lexeme, IsFront, IsScanned, HoldsNothing, held};
 
 use super::places::{blank_len, token_at};
 use super::tokens::{LexFault, Token, TokenKind};

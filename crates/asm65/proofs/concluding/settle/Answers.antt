@@ -9,7 +9,7 @@ use Rattle.semantics65.specs.Reading.{PlacedFault}
 use Rattle.symbols65.specs.Views.{table_of}
 use Rattle.asm65.specs.Assembly.{is_outside_refusal}
 use Rattle.asm65.specs.Inner.Holding.{IsFixup}
-use Rattle.asm65.specs.Inner.Resolving.{IsFaulty, made_in}
+use Rattle.asm65.specs.Inner.Running.{IsFaulty, made_in}
 use Rattle.semantics65.specs.Views.{place_in}
 use Rattle.asm65.specs.declared.resolving.Made.{Made as CodeMade}
 use Rattle.asm65.proofs.Insides.{resolved_inside}

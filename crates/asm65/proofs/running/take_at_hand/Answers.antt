@@ -2,8 +2,7 @@ use Rattle.std.proofs.Common.{◌≡◌, ◌∙◌, ℕ, List, Option, ap, sym, 
 use Rattle.std.specs.Prelude.{IfSome}
 use Rattle.std.proofs.lemmas.List.{drop-map, take-map}
 use Rattle.std.proofs.lemmas.Result.{err_from_is_err_and}
-use Rattle.syntax65.specs.Held.{held}
-use Rattle.syntax65.specs.Tokens.{Lexeme, lexeme_of, lexemes}
+use Rattle.syntax65.specs.Tokens.{held, Lexeme, lexeme_of, lexemes}
 use Rattle.expand65.specs.declared.passing.Peeked.{Peeked}
 use Rattle.expand65.specs.Failing.{IsAhead, IsGivenAs}
 use Rattle.expand65.specs.Standing.{place_of}

@@ -2,7 +2,7 @@ use Rattle.std.proofs.Common.{◌≡◌, ◌∙◌, ℕ, List, true, false, Resu
 use Rattle.std.proofs.lemmas.Result.{err_from_is_err_and}
 use Rattle.std.specs.FinMap as fmap
 use Rattle.base65.specs.Outcome.{Unless}
-use Rattle.syntax65.specs.ExpandFaults.{is_outside}
+use Rattle.syntax65.specs.Faults.{is_outside}
 use Rattle.expand65.specs.Expansion.{file_named, found_or}
 use Rattle.expand65.specs.Macros.{file_of, is_there}
 use Rattle.syntax65.specs.declared.fault.ExpandFault.{ExpandFault}

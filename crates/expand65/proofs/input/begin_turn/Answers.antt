@@ -1,6 +1,6 @@
 use Rattle.std.proofs.Common.{◌+◌, ◌∷◌, [], ◌++◌, map, ap, ◌∙◌, arith, refl, inl, inr, length}
 use Rattle.expand65.specs.Playing.{tokens_in, replacing_of}
-use Rattle.expand65.specs.Left.{Replacing}
+use Rattle.expand65.specs.Lines.{Replacing}
 use Rattle.expand65.specs.declared.playing.Replay.{Replay}
 use Rattle.expand65.proofs.Turning.{turns_over, next_turn, turn_begins}
 use Rattle.expand65.proofs.input.begin_turn.Goals as goal

@@ -7,7 +7,7 @@ use Rattle.semantics65.specs.Machine.{State, concluded}
 use Rattle.asm65.specs.declared.texts.AsmRefusal.{AsmRefusal}
 use Rattle.asm65.specs.Assembly.{is_outside_refusal}
 use Rattle.asm65.specs.Inner.Holding.{Holds}
-use Rattle.asm65.specs.Inner.Resolving.{AreFaulty, AreSettled}
+use Rattle.asm65.specs.Inner.Running.{AreFaulty, AreSettled}
 use Rattle.asm65.proofs.Conclusions.{certain, IsGoodWhere, IsMade, all_settled, either_concluded, either_good, ending_of, fault_concluded, imports_of}
 use Rattle.asm65.proofs.assembler.Assembler.conclude.Goals as goal
 

@@ -16,8 +16,7 @@ use Rattle.std.specs.Result.{result_ok}
 use Rattle.symbols65.specs.Tables.{definition_in}
 use Rattle.symbols65.specs.Views.{table_of, with_definition, words_of}
 use Rattle.asm65.specs.declared.assembler.Assembler.{Assembler}
-use Rattle.asm65.specs.Inner.Holding.{Holds, IsConstant}
-use Rattle.asm65.specs.Inner.Taking.{with_symbols}
+use Rattle.asm65.specs.Inner.Holding.{Holds, IsConstant, with_symbols}
 use Rattle.asm65.proofs.Namings.{holds_grown, last_there, more_defined}
 use Rattle.asm65.proofs.Enterings.{says_nothing}
 use Rattle.asm65.proofs.Waitings.{holds_entered}

@@ -1,7 +1,7 @@
 use Rattle.std.proofs.Common.{◌∙◌, ap, map}
 use Rattle.semantics65.specs.Views.{place_in}
 use Rattle.symbols65.specs.Views.{table_of, with_names}
-use Rattle.asm65.specs.Inner.Taking.{is_for_zero_page, mentioned}
+use Rattle.asm65.specs.Inner.Holding.{is_for_zero_page, mentioned}
 use Rattle.asm65.proofs.Namings.{mentions_enter, more_imported, on_both, turns_after}
 use Rattle.asm65.proofs.assembler.Assembler.import_names.Goals as goal
 

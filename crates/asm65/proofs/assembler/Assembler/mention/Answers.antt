@@ -6,8 +6,7 @@ use Rattle.semantics65.specs.Machine.{State}
 use Rattle.semantics65.specs.Module as piece
 use Rattle.symbols65.specs.Views.{table_of}
 use Rattle.asm65.specs.declared.assembler.Assembler.{Assembler}
-use Rattle.asm65.specs.Inner.Holding.{Holds, IsPiece}
-use Rattle.asm65.specs.Inner.Taking.{all_awaiting, mentioned}
+use Rattle.asm65.specs.Inner.Holding.{Holds, IsPiece, all_awaiting, mentioned}
 use Rattle.asm65.proofs.Namings.{all_taken, keeps_both, one_more_awaiting, taken_more}
 use Rattle.asm65.proofs.assembler.Assembler.mention.Goals as goal
 

@@ -1,7 +1,6 @@
 use Rattle.std.proofs.Common.{map, take}
 use Rattle.semantics65.specs.Views.{place_in}
-use Rattle.asm65.specs.Inner.Holding.{KeepsTables}
-use Rattle.asm65.specs.Inner.Taking.{Mentions, mentioned}
+use Rattle.asm65.specs.Inner.Holding.{KeepsTables, Mentions, mentioned}
 use Rattle.asm65.proofs.assembler.Assembler.mention.Given as goal
 
 abbrev pub invariant-loop-name : goal.invariant-loop-name

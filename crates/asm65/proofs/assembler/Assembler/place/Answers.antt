@@ -16,8 +16,7 @@ use Rattle.symbols65.specs.declared.measuring.Measured as found
 use Rattle.symbols65.proofs.Behind.{has_numbers, without_fault}
 use Rattle.symbols65.specs.Views.{table_of}
 use Rattle.asm65.specs.declared.assembler.Assembler.{Assembler}
-use Rattle.asm65.specs.Inner.Holding.{AreBefore, Holds}
-use Rattle.asm65.specs.Inner.Taking.{IsNew, asked_of}
+use Rattle.asm65.specs.Inner.Holding.{AreBefore, Holds, IsNew, asked_of}
 use Rattle.asm65.proofs.Insides.{measured_inside}
 use Rattle.asm65.proofs.Placings.{moved_behind, placed_is, refused_is}
 use Rattle.asm65.proofs.Takings.{holds_known, holds_stepped, is_new}

@@ -17,8 +17,7 @@ use Rattle.symbols65.proofs.Behind.{is_measured}
 use Rattle.semantics65.specs.Machine.{entered}
 use Rattle.symbols65.specs.Views.{table_of}
 use Rattle.asm65.specs.declared.assembler.Assembler.{Assembler}
-use Rattle.asm65.specs.Inner.Holding.{Holds}
-use Rattle.asm65.specs.Inner.Taking.{asked_of}
+use Rattle.asm65.specs.Inner.Holding.{Holds, asked_of}
 use Rattle.asm65.proofs.Insides.{measured_inside}
 use Rattle.asm65.proofs.Placings.{moved_behind, placed_is, refused_is}
 use Rattle.asm65.proofs.Takings.{holds_known, holds_stepped}

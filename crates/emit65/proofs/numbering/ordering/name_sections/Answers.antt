@@ -1,7 +1,7 @@
 use Rattle.std.proofs.Common.{◌∙◌, ap, drop, ◌+◌}
 use Rattle.std.specs.List.{flat_map}
 use Rattle.semantics65.specs.Numbering.{once}
-use Rattle.emit65.specs.Inner.Ordering.{fragment_keys, section_files}
+use Rattle.emit65.specs.Inner.Drafts.{fragment_keys, section_files}
 use Rattle.emit65.proofs.Keys.{once_step}
 use Rattle.emit65.proofs.numbering.ordering.name_sections.Goals as goal
 

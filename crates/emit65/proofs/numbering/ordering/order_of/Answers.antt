@@ -1,7 +1,7 @@
 use Rattle.std.proofs.Common.{◌∙◌, ◌++◌, []}
 use Rattle.std.specs.List.{flat_map}
 use Rattle.semantics65.specs.Numbering.{once}
-use Rattle.emit65.specs.Inner.Ordering.{assert_key, export_key, section_files}
+use Rattle.emit65.specs.Inner.Drafts.{assert_key, export_key, section_files}
 use Rattle.emit65.proofs.Keys.{once_append}
 use Rattle.emit65.proofs.numbering.ordering.order_of.Goals as goal
 

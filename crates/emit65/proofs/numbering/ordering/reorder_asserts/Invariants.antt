@@ -1,8 +1,7 @@
 use Rattle.std.proofs.Common.{◌≡◌, ◌++◌, map}
 use Rattle.std.specs.List.{AllByRecursion}
 use Rattle.std.specs.Vec.Iter.{into_iter_items}
-use Rattle.emit65.specs.Inner.Drafts.{AssertFits}
-use Rattle.emit65.specs.Inner.Ordering.{assert_by}
+use Rattle.emit65.specs.Inner.Drafts.{AssertFits, assert_by}
 use Rattle.emit65.proofs.numbering.ordering.reorder_asserts.Given as goal
 
 abbrev pub invariant-loop-assert : goal.invariant-loop-assert

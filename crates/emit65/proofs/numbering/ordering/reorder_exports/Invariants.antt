@@ -1,8 +1,7 @@
 use Rattle.std.proofs.Common.{◌≡◌, ◌++◌, map}
 use Rattle.std.specs.List.{AllByRecursion}
 use Rattle.std.specs.Vec.Iter.{into_iter_items}
-use Rattle.emit65.specs.Inner.Drafts.{ExportFits}
-use Rattle.emit65.specs.Inner.Ordering.{export_by}
+use Rattle.emit65.specs.Inner.Drafts.{ExportFits, export_by}
 use Rattle.emit65.proofs.numbering.ordering.reorder_exports.Given as goal
 
 abbrev pub invariant-loop-export : goal.invariant-loop-export

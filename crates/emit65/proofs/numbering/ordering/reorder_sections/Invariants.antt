@@ -1,8 +1,7 @@
 use Rattle.std.proofs.Common.{◌≡◌, ◌++◌, map}
 use Rattle.std.specs.List.{AllByRecursion}
 use Rattle.std.specs.Vec.Iter.{into_iter_items}
-use Rattle.emit65.specs.Inner.Drafts.{SectionFits}
-use Rattle.emit65.specs.Inner.Ordering.{section_by}
+use Rattle.emit65.specs.Inner.Drafts.{SectionFits, section_by}
 use Rattle.emit65.proofs.numbering.ordering.reorder_sections.Given as goal
 
 abbrev pub invariant-loop-section : goal.invariant-loop-section

@@ -2,7 +2,7 @@ use Rattle.std.proofs.Common.{◌∙◌, [], ap}
 use Rattle.std.proofs.lemmas.Result.{IfOk-weaker}
 use Rattle.object65.specs.Objects.{is_good_object}
 use Rattle.emit65.specs.Fed.{names_of, names_in}
-use Rattle.emit65.specs.Inner.Ordering.{in_order}
+use Rattle.emit65.specs.Inner.Drafts.{in_order}
 use Rattle.emit65.proofs.Ordered.{finished}
 use Rattle.emit65.proofs.GoodObjects.{good_object}
 use Rattle.emit65.proofs.sections.Sections.finish.Goals as goal

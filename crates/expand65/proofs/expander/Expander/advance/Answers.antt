@@ -1,13 +1,12 @@
 use Rattle.std.proofs.Common.{◌∙◌, Err, ap, arith, refl, sym, rules}
 use Rattle.std.proofs.lemmas.Result.{err_from_is_err_and}
 use Rattle.base65.specs.Outcome.{Unless}
-use Rattle.syntax65.specs.ExpandFaults.{is_outside}
-use Rattle.expand65.specs.Standing.{state_of, turned, led, place_of, state_in}
+use Rattle.syntax65.specs.Faults.{is_outside}
+use Rattle.expand65.specs.Standing.{state_of, turned, led, place_of, state_in, mark_of}
 use Rattle.expand65.specs.State.{stops}
 use Rattle.expand65.specs.Expansion.{IsStep}
 use Rattle.expand65.specs.Failing.{StopsReading}
 use Rattle.expand65.specs.declared.rewriter.Turn.{Turn}
-use Rattle.expand65.specs.Inside.{mark_of}
 use Rattle.expand65.proofs.Lines.{moved_to}
 use Rattle.expand65.proofs.Going.{came_to_end, came_to_fault, gave, goes_on, none_led}
 use Rattle.expand65.proofs.Stopping.{gone_on, none_gone, stops_later}

@@ -1,7 +1,6 @@
 use Rattle.std.proofs.Common.{◌≡◌, ◌≤◌}
 use Rattle.std.specs.Prelude.{IfSome}
-use Rattle.expand65.specs.Inside.{NamesFiles}
-use Rattle.expand65.specs.Standing.{measure_of}
+use Rattle.expand65.specs.Standing.{NamesFiles, measure_of}
 use Rattle.expand65.proofs.Going.{Leads}
 use Rattle.expand65.proofs.Stopping.{HasGone}
 use Rattle.expand65.proofs.expander.Expander.advance.Given as goal

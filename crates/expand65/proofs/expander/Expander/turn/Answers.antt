@@ -1,11 +1,10 @@
 use Rattle.std.proofs.Common.{◌∙◌, List, IfSome, ap, subst, sym}
 use Rattle.syntax65.specs.Tokens.{Lexeme, lexemes}
-use Rattle.expand65.specs.Inside.{StopsAt}
+use Rattle.expand65.specs.Standing.{StopsAt, Turns, state_of, state_in}
 use Rattle.expand65.specs.Failing.{FailsAtIf}
 use Rattle.expand65.specs.State.{IsIf}
 use Rattle.expand65.specs.Fronts.{front_directive}
 use Rattle.expand65.specs.Playing.{tokens_in}
-use Rattle.expand65.specs.Standing.{Turns, state_of, state_in}
 use Rattle.expand65.specs.Expansion.{IsActed, IsStep}
 use Rattle.expand65.specs.declared.fronts.Test.TheVariants.{True}
 use Rattle.expand65.proofs.Going.{turns_so, where_known, step_branch, step_rest}

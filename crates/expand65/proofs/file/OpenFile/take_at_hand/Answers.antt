@@ -3,7 +3,7 @@ use Rattle.std.proofs.lemmas.Result.{err_from_is_err_and}
 use Rattle.base65.specs.Outcome.{Unless}
 use Rattle.syntax65.specs.Tokens.{Lexeme, IsRead}
 use Rattle.syntax65.specs.declared.lexing.tokens.LexFault.{LexFault}
-use Rattle.syntax65.specs.ExpandFaults.{is_outside}
+use Rattle.syntax65.specs.Faults.{is_outside}
 use Rattle.expand65.specs.Playing.{tokens_in}
 use Rattle.expand65.specs.Lines.{without_return, lexed}
 use Rattle.expand65.specs.declared.file.OpenFile.{OpenFile}

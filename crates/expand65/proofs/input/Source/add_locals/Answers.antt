@@ -1,7 +1,7 @@
 use Rattle.std.proofs.Common.{◌≡◌, ◌++◌, ◌∷◌, OnOk, map, subst, sym}
 use Rattle.std.proofs.lemmas.Result.{on_ok_weaker}
-use Rattle.expand65.specs.Inside.{left_in}
-use Rattle.expand65.specs.Left.{localised, mark}
+use Rattle.expand65.specs.Standing.{left_in}
+use Rattle.expand65.specs.Lines.{localised, mark}
 use Rattle.expand65.specs.Playing.{left_to_play}
 use Rattle.expand65.specs.declared.input.Source.{Source}
 use Rattle.expand65.proofs.Tables.{left_localised}

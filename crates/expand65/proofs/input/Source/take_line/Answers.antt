@@ -1,5 +1,5 @@
 use Rattle.std.proofs.Common.{subst, sym}
-use Rattle.expand65.specs.Inside.{TakesLine, left_in, turns_left}
+use Rattle.expand65.specs.Standing.{TakesLine, left_in, turns_left}
 use Rattle.expand65.specs.declared.input.Source.{Source}
 use Rattle.expand65.proofs.Going.{where_so}
 use Rattle.expand65.proofs.Turning.{takes_in_turn}

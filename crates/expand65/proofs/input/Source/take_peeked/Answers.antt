@@ -1,5 +1,5 @@
 use Rattle.std.proofs.Common.{sym, subst}
-use Rattle.expand65.specs.Inside.{left_in}
+use Rattle.expand65.specs.Standing.{left_in}
 use Rattle.expand65.specs.Playing.{IsAtHand, TakesWritten}
 use Rattle.expand65.specs.Lines.{left_in_file}
 use Rattle.expand65.specs.declared.input.Source.{Source}

@@ -1,5 +1,5 @@
 use Rattle.std.proofs.Common.{◌≡◌, map, take}
-use Rattle.expand65.specs.Left.{with_locals}
+use Rattle.expand65.specs.Lines.{with_locals}
 use Rattle.expand65.specs.Playing.{replacing_of}
 use Rattle.expand65.proofs.playing.Replay.add_locals.Given as goal
 

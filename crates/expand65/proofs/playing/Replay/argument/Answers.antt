@@ -1,7 +1,7 @@
 use Rattle.std.proofs.Common.{map, ap, sym, ◌∙◌}
 use Rattle.std.specs.Str.{bytes_eq}
 use Rattle.expand65.specs.Playing.{tokens_in}
-use Rattle.expand65.specs.Left.{argument_at}
+use Rattle.expand65.specs.Lines.{argument_at}
 use Rattle.expand65.proofs.Tables.{position_mapped}
 use Rattle.expand65.proofs.playing.Replay.argument.Goals as goal
 

@@ -1,7 +1,7 @@
 use Rattle.std.proofs.Common.{◌≡◌, ◌≤◌, ◌++◌, drop, length}
 use Rattle.syntax65.specs.Tokens.{lexemes}
 use Rattle.expand65.specs.Playing.{tokens_in, replacing_of}
-use Rattle.expand65.specs.Left.{replaced}
+use Rattle.expand65.specs.Lines.{replaced}
 use Rattle.expand65.proofs.playing.Replay.replaced.Given as goal
 
 abbrev pub invariant-loop-token : goal.invariant-loop-token

@@ -1,6 +1,6 @@
 use Rattle.std.proofs.Common.{◌≡◌, ◌≤◌, [], map}
 use Rattle.std.specs.Prelude.{IfSome}
-use Rattle.expand65.specs.Inside.{mark_of, judge_of, state_of, NamesFiles}
+use Rattle.expand65.specs.Standing.{mark_of, judge_of, block_state, NamesFiles}
 use Rattle.expand65.specs.Playing.{tokens_in}
 use Rattle.expand65.proofs.Blocking.{Leads}
 use Rattle.expand65.proofs.StoppedReading.{Fails}
@@ -14,8 +14,8 @@ invariant-lines g l = record {
   files : g.S.Store.files l.store ≡ g.S.Store.files l.fn.store;
   count : g.S.Store.failures l.store ≡ g.S.Store.failures l.fn.store;
   named : NamesFiles l.fn.self → NamesFiles l.self;
-  reads : IfSome (g.S.Store.files l.fn.store) (Fails (judge_of l.kind) (state_of l.kind l.depth (map tokens_in l.lines)) l.self (state_of l.kind 0 []) l.fn.self);
-  so_far : IfSome (g.S.Store.files l.fn.store) (Leads (judge_of l.kind) (state_of l.kind l.depth (map tokens_in l.lines)) l.self (state_of l.kind 0 []) l.fn.self);
+  reads : IfSome (g.S.Store.files l.fn.store) (Fails (judge_of l.kind) (block_state l.kind l.depth (map tokens_in l.lines)) l.self (block_state l.kind 0 []) l.fn.self);
+  so_far : IfSome (g.S.Store.files l.fn.store) (Leads (judge_of l.kind) (block_state l.kind l.depth (map tokens_in l.lines)) l.self (block_state l.kind 0 []) l.fn.self);
 }
 
 abbrev pub decreases-lines : goal.decreases-lines

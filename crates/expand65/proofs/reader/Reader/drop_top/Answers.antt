@@ -1,5 +1,5 @@
 use Rattle.std.proofs.Common.{◌≡◌, ◌∙◌, ◌++◌, ◌∷◌, [], ap, sym, refl, rules}
-use Rattle.expand65.specs.Left.{come_back}
+use Rattle.expand65.specs.Lines.{come_back}
 use Rattle.expand65.specs.declared.reader.Input.{Input}
 use Rattle.expand65.proofs.Naming.{drops, stays}
 use Rattle.expand65.proofs.Inputs.{dropped}

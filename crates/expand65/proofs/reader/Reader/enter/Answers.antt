@@ -1,5 +1,5 @@
 use Rattle.std.proofs.Common.{◌∙◌, ◌<◌, ◌≤◌, ◌++◌, ◌∷◌, [], ap, refl, arith, length, reverse, subst, sym}
-use Rattle.expand65.specs.Inside.{AreNamed}
+use Rattle.expand65.specs.Standing.{AreNamed}
 use Rattle.expand65.proofs.Naming.{enters}
 use Rattle.expand65.specs.declared.reader.Reader.{Reader}
 use Rattle.expand65.proofs.Inputs.{entered_one, entered_none}

@@ -1,6 +1,6 @@
 use Rattle.std.proofs.Common.{◌∙◌, ap}
-use Rattle.expand65.specs.Inside.{outside}
-use Rattle.expand65.specs.Left.{come_back}
+use Rattle.expand65.specs.Standing.{outside}
+use Rattle.expand65.specs.Lines.{come_back}
 use Rattle.expand65.proofs.Inputs.{closes, not_closed, same_items}
 use Rattle.expand65.proofs.Naming.{goes_back, named_in}
 use Rattle.expand65.proofs.reader.Reader.leave.Goals as goal

@@ -1,7 +1,6 @@
 use Rattle.std.proofs.Common.{◌≡◌, ◌∙◌, Bool, ap, refl, sym, subst, arith}
-use Rattle.expand65.specs.Lines.{if_more}
-use Rattle.expand65.specs.Inside.{left_of, outside, AreNamed, open_in}
-use Rattle.expand65.specs.Left.{outside_macro, come_back}
+use Rattle.expand65.specs.Lines.{if_more, outside_macro, come_back}
+use Rattle.expand65.specs.Standing.{left_of, outside, AreNamed, open_in}
 use Rattle.expand65.proofs.Inputs.{goes_out, is_out, none_out, same_items}
 use Rattle.syntax65.specs.declared.place.Place.{Place}
 use Rattle.expand65.proofs.Naming.{goes_back, named_in}

@@ -1,7 +1,7 @@
 use Rattle.std.proofs.Common.{◌≡◌, ◌≤◌, length}
 use Rattle.base65.specs.Store.{Files}
-use Rattle.expand65.specs.Inside.{left_of, AreNamed, NamesFiles, open_in}
-use Rattle.expand65.specs.Left.{outside_macro, come_back}
+use Rattle.expand65.specs.Standing.{left_of, AreNamed, NamesFiles, open_in}
+use Rattle.expand65.specs.Lines.{outside_macro, come_back}
 use Rattle.expand65.proofs.reader.Reader.leave_macro.Given as goal
 
 abbrev pub invariant-inputs : goal.invariant-inputs

@@ -1,7 +1,7 @@
 use Rattle.std.proofs.Common.{◌≡◌, ◌∙◌, ap, refl, suc, arith, ◌-◌, true, Ok, Err, rules}
 use Rattle.std.proofs.lemmas.Result.{err_from_is_err_and}
-use Rattle.expand65.specs.Inside.{TakesLine, left_in, left_of, FailsAtLine}
-use Rattle.expand65.specs.Left.{Mark}
+use Rattle.expand65.specs.Standing.{TakesLine, left_in, left_of, FailsAtLine}
+use Rattle.expand65.specs.Lines.{Mark}
 use Rattle.expand65.specs.declared.input.NextLine.TheVariants.{AtEnd}
 use Rattle.expand65.specs.declared.reader.Reader.{Reader}
 use Rattle.expand65.proofs.Lines.{moved_to}

@@ -1,5 +1,5 @@
 use Rattle.std.proofs.Common.{refl, ◌∙◌, arith}
-use Rattle.expand65.specs.Inside.{left_of}
+use Rattle.expand65.specs.Standing.{left_of}
 use Rattle.expand65.specs.Playing.{no_line, a_line}
 use Rattle.expand65.proofs.reader.Reader.pass_plain_lines.Goals as goal
 

@@ -1,6 +1,6 @@
 use Rattle.std.proofs.Common.{◌≡◌, ◌≤◌}
 use Rattle.base65.specs.Store.{Files}
-use Rattle.expand65.specs.Inside.{left_of, mark_of, NamesFiles}
+use Rattle.expand65.specs.Standing.{left_of, mark_of, NamesFiles}
 use Rattle.expand65.specs.Playing.{Plainly}
 use Rattle.expand65.proofs.reader.Reader.pass_plain_lines.Given as goal
 

@@ -1,5 +1,5 @@
 use Rattle.std.proofs.Common.{◌≡◌, ap, arith, refl, suc, rules}
-use Rattle.expand65.specs.Left.{Mark}
+use Rattle.expand65.specs.Lines.{Mark}
 use Rattle.expand65.specs.declared.reader.Reader.{Reader}
 use Rattle.expand65.proofs.Naming.{reads_on}
 use Rattle.expand65.proofs.Inputs.{written_taken}

@@ -1,8 +1,8 @@
 use Rattle.std.proofs.Common.{◌≡◌, ◌∙◌, ◌++◌, ◌∷◌, ℕ, Bor, List, map, refl, subst, sym, rules}
 use Rattle.std.proofs.lemmas.Result.{err_from_is_err_and}
 use Rattle.syntax65.specs.Tokens.{lexemes}
-use Rattle.expand65.specs.Inside.{left_in}
-use Rattle.expand65.specs.Left.{localised, mark}
+use Rattle.expand65.specs.Standing.{left_in}
+use Rattle.expand65.specs.Lines.{localised, mark}
 use Rattle.expand65.proofs.Stopping.{bad_names, names_added, no_macro}
 use Rattle.expand65.specs.declared.reader.Reader.{Reader}
 use Rattle.expand65.proofs.Naming.{call_named, reads_on}

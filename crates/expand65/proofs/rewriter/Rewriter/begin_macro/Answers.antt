@@ -3,12 +3,11 @@ use Rattle.std.specs.Prelude.{is_some}
 use Rattle.std.proofs.lemmas.Result.{err_from_is_err_and}
 use Rattle.base65.specs.Outcome.{Unless}
 use Rattle.expand65.specs.Blocks.{Block, collects}
-use Rattle.syntax65.specs.ExpandFaults.{is_outside}
+use Rattle.syntax65.specs.Faults.{is_outside}
 use Rattle.syntax65.specs.Tokens.{lexemes}
-use Rattle.expand65.specs.Inside.{FailsInBlock, left_of}
+use Rattle.expand65.specs.Standing.{FailsInBlock, left_of, macros_of, state_of}
 use Rattle.expand65.specs.Playing.{tokens_in}
 use Rattle.expand65.specs.Macros.{IsMacro, header_of, macro_of}
-use Rattle.expand65.specs.Standing.{macros_of, state_of}
 use Rattle.expand65.specs.State.{goes, stops}
 use Rattle.syntax65.specs.declared.fault.ExpandFault.TheVariants.{MacroTwice}
 use Rattle.expand65.specs.declared.playing.Body.{Body}

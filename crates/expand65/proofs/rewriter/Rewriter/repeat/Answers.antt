@@ -1,13 +1,12 @@
 use Rattle.std.proofs.Common.{◌≡◌, ℕ, [], false, None, Ok, Err, map, refl, subst, rules}
 use Rattle.std.proofs.lemmas.Result.{err_from_is_err_and}
 use Rattle.base65.specs.Outcome.{Unless}
-use Rattle.syntax65.specs.ExpandFaults.{is_outside}
+use Rattle.syntax65.specs.Faults.{is_outside}
 use Rattle.expand65.specs.Blocks.{Block, gathers}
 use Rattle.expand65.specs.Lines.{pushed}
-use Rattle.expand65.specs.Inside.{left_of, turns_left}
+use Rattle.expand65.specs.Standing.{left_of, turns_left, macros_of, state_of}
 use Rattle.expand65.specs.Playing.{tokens_in}
 use Rattle.expand65.specs.Macros.{IsRepeated}
-use Rattle.expand65.specs.Standing.{macros_of, state_of}
 use Rattle.expand65.specs.State.{goes, stops}
 use Rattle.expand65.specs.declared.playing.Body.{Body}
 use Rattle.expand65.specs.declared.playing.Replay.{Replay}

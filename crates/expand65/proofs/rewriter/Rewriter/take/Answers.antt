@@ -3,12 +3,11 @@ use Rattle.std.specs.Option.{option_map}
 use Rattle.std.specs.Prelude.{IfNone}
 use Rattle.std.proofs.lemmas.Result.{err_from_is_err_and}
 use Rattle.base65.specs.Outcome.{Unless}
-use Rattle.syntax65.specs.ExpandFaults.{is_outside}
-use Rattle.expand65.specs.Inside.{left_in, left_of, StopsAt}
+use Rattle.syntax65.specs.Faults.{is_outside}
+use Rattle.expand65.specs.Standing.{left_in, left_of, StopsAt, Turns, state_of}
 use Rattle.expand65.specs.Fronts.{is_mislabelled}
 use Rattle.expand65.specs.Playing.{tokens_in}
 use Rattle.expand65.specs.Failing.{FailsUnlabelled}
-use Rattle.expand65.specs.Standing.{Turns, state_of}
 use Rattle.expand65.specs.Expansion.{IsLabelled, IsStep, at_mark}
 use Rattle.expand65.specs.State.{stops}
 use Rattle.expand65.specs.Lines.{Takes}

@@ -7,12 +7,10 @@ use Rattle.expand65.specs.Expansion.{IsStep, last_condition, tried}
 use Rattle.expand65.specs.declared.expander.Expander.{Expander}
 use Rattle.expand65.specs.Lines.{Mark, innermost, Item, Left, branch, labelled, Definition, Takes}
 use Rattle.syntax65.specs.Faults.{is_failure}
-use Rattle.syntax65.specs.declared.fault.ExpandFault.{ExpandFault}
-use Rattle.syntax65.specs.declared.place.Place.{Place}
+use Rattle.syntax65.specs.Types.{ExpandFault, Place, ExprFault}
 use Rattle.syntax65.specs.Expressions.{IsParsed}
 use Rattle.syntax65.specs.Tokens.{Lexeme}
 use Rattle.syntax65.specs.Trees.{Tree}
-use Rattle.syntax65.specs.declared.expressions.words.ExprFault.{ExprFault}
 use Rattle.expand65.specs.Blocks.{collects, gathers, passes, skips}
 use Rattle.expand65.specs.Fronts.{front_directive, label_len, string_of}
 use Rattle.expand65.specs.declared.fronts.Directive.{Directive}

@@ -6,10 +6,9 @@ use Rattle.expand65.specs.declared.fronts.Directive.{Directive}
 use Rattle.expand65.specs.declared.fronts.Directive.TheVariants.{Macro, EndMacro, ExitMacro, Local, Repeat, EndRepeat, If, ElseIf, Else, EndIf, Include, Error, End}
 use Rattle.syntax65.specs.Tokens.{Lexeme}
 use Rattle.syntax65.specs.Expressions.{is_reserved}
-use Rattle.syntax65.specs.declared.lexing.tokens.Mark.TheVariants.{Colon, Comma, OpenBrace, CloseBrace, OpenParenthesis}
+use Rattle.syntax65.specs.declared.lexing.tokens.Mark.TheVariants.{Colon}
+use Rattle.syntax65.specs.Types.{Comma, OpenBrace, CloseBrace, OpenParenthesis, ExpandFault, NotUnderstood}
 use Rattle.syntax65.specs.declared.lexing.tokens.TokenKind.TheVariants as token
-use Rattle.syntax65.specs.declared.fault.ExpandFault.{ExpandFault}
-use Rattle.syntax65.specs.declared.fault.ExpandFault.TheVariants.{NotUnderstood}
 
 -- ---- The words of the directives of expansion.
 

@@ -9,13 +9,10 @@ use Rattle.syntax65.specs.declared.lexing.tokens.TokenKind.TheVariants as token
 use Rattle.expand65.specs.Blocks.{Block, collects, gathers}
 use Rattle.expand65.specs.Lines.{nesting_limit, file_limit, bytes_of, Definition, Replacing, number_token, repeating, Item, played, mark, Mark, Left, left, Stop, innermost, localised, marks, outside_macro, turns}
 use Rattle.expand65.specs.State.{State, plain, Stepped, goes, gives, stops, with_left, with_items, Meaning}
-use Rattle.syntax65.specs.declared.fault.ExpandFault.TheVariants.{Nested, TooManyArguments, MacroTwice, NotOpened, NotUnderstood, NotConstant, CountOutOfRange, FileTooLong}
-use Rattle.syntax65.specs.declared.place.Place.{Place}
+use Rattle.syntax65.specs.Types.{Nested, TooManyArguments, MacroTwice, NotOpened, NotUnderstood, NotConstant, CountOutOfRange, FileTooLong, Place, ExprFault, ExpandFault}
 use Rattle.syntax65.specs.Expressions.{IsParsed}
 use Rattle.base65.specs.Outcome.{◌>>=◌, Unless}
 use Rattle.syntax65.specs.Trees.{Tree}
-use Rattle.syntax65.specs.declared.expressions.words.ExprFault.{ExprFault}
-use Rattle.syntax65.specs.declared.fault.ExpandFault.{ExpandFault}
 use Rattle.base65.specs.Store.{Files}
 use Rattle.syntax65.specs.Faults.{is_outside}
 

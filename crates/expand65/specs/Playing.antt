@@ -6,8 +6,7 @@ use Rattle.expand65.specs.declared.line.Line.{Line}
 use Rattle.base65.specs.Outcome.{Unless}
 use Rattle.syntax65.specs.Faults.{is_outside}
 use Rattle.expand65.specs.Fronts.{is_mislabelled, label_len, front_directive, is_colon}
-use Rattle.syntax65.specs.declared.fault.ExpandFault.{ExpandFault}
-use Rattle.syntax65.specs.declared.fault.ExpandFault.TheVariants.{NotUnderstood}
+use Rattle.syntax65.specs.Types.{ExpandFault, NotUnderstood}
 use Rattle.std.specs.Option.{option_map}
 use Rattle.expand65.specs.Lines.{Replacing, Definition, Item, played, written, Left, is_inside, without_return, Takes}
 use Rattle.expand65.specs.declared.playing.Body.{Body}

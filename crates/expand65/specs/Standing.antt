@@ -6,13 +6,12 @@ use Rattle.syntax65.specs.Tokens.{Lexeme}
 use Rattle.syntax65.specs.Faults.{is_outside, is_failure}
 use Rattle.expand65.specs.Playing.{tokens_in, left_to_play, replacing_of, Plainly, definition_of}
 use Rattle.expand65.specs.Lines.{left_in_file, IsOpened, Takes, turns, Item, written, played, mark, Mark, Left, left, moved, Stop, come_back, Replacing, labelled, branch, Definition}
-use Rattle.syntax65.specs.declared.fault.ExpandFault.{ExpandFault}
+use Rattle.syntax65.specs.Types.{ExpandFault, Place, NotUnderstood, OutOfMemory}
 use Rattle.expand65.specs.declared.input.Source.{Source}
 use Rattle.expand65.specs.declared.input.Source.TheVariants as source
 use Rattle.expand65.specs.declared.input.NextLine.{NextLine}
 use Rattle.expand65.specs.declared.input.NextLine.TheVariants.{AtEnd, Numbered, Replayed}
 use Rattle.expand65.specs.declared.line.Line.{Line}
-use Rattle.syntax65.specs.declared.place.Place.{Place}
 use Rattle.expand65.specs.declared.playing.Replay.{Replay}
 use Rattle.expand65.specs.declared.reader.Input.{Input}
 use Rattle.expand65.specs.declared.reader.Reader.{Reader}
@@ -23,7 +22,6 @@ use Rattle.expand65.specs.declared.blocks.BlockKind.{BlockKind}
 use Rattle.expand65.specs.declared.blocks.BlockKind.TheVariants.{Macro, Repeat, Skipped, Passed}
 use Rattle.expand65.specs.declared.blocks.BlockStep.{BlockStep}
 use Rattle.expand65.specs.declared.blocks.BlockStep.TheVariants.{On, Closed}
-use Rattle.syntax65.specs.declared.fault.ExpandFault.TheVariants.{NotUnderstood, OutOfMemory}
 use Rattle.std.specs.declared.rc.Rc.{Rc}
 use Rattle.std.specs.Global.{Global}
 use Rattle.expand65.specs.Macros.{macro_at}

@@ -1,31 +1,16 @@
 -- What statements put into an object.
 use Rattle.std.specs.Prelude.{ℕ, Bool, List, zero, ◌+◌, pos, true, false, [], ◌∷◌, map, replicate, take, drop, Option, Some, None, Result, Ok, Err, if◌then◌else◌}
-use Rattle.syntax65.specs.declared.place.Place.{Place}
+use Rattle.semantics65.specs.Types.{Place, Action, Width, Mnemonic, Branch, AsmFault, OutOfRange, ImportedAndDefined, NotDefined, Assertion, FileNameTooLong, Item, Operand, Statement, Constant, Instruction, Values, Reserve, Align, FilePart, Import, Export, Global, ForceImport, Assert, Immediate, Address, Indirect, IndirectX, IndirectY, Value, Text, Settled, InMode, FilledWith, FromByte, Context}
 use Rattle.object65.specs.Form.{Form, lit, sec}
-use Rattle.object65.specs.declared.object.Action.{Action}
-use Rattle.object65.specs.declared.object.Width.{Width}
 use Rattle.std.specs.List.{flat_map}
 use Rattle.base65.specs.Outcome.{◌>>=◌, each}
 use Rattle.syntax65.specs.Opcodes.{opcode_of}
 use Rattle.syntax65.specs.Trees.{Tree}
-use Rattle.syntax65.specs.declared.instructions.names.Mnemonic.{Mnemonic}
 use Rattle.object65.specs.Folding.{fold2}
 use Rattle.object65.specs.Objects.{fits_width, is_file_name, value_bytes}
 use Rattle.object65.specs.declared.object.Action.TheVariants as action
-use Rattle.object65.specs.declared.object.Width.TheVariants.{Branch}
 use Rattle.base65.specs.declared.values.Op2.TheVariants.{Subtract}
-use Rattle.ast65.specs.declared.fault.AsmFault.{AsmFault}
-use Rattle.ast65.specs.declared.fault.AsmFault.TheVariants.{OutOfRange, ImportedAndDefined, NotDefined, Assertion, FileNameTooLong}
-use Rattle.ast65.specs.declared.language.Item.{Item}
-use Rattle.ast65.specs.declared.language.Operand.{Operand}
-use Rattle.ast65.specs.declared.language.Statement.{Statement}
-use Rattle.ast65.specs.declared.language.Statement.TheVariants.{Constant, Instruction, Values, Reserve, Align, FilePart, Import, Export, Global, ForceImport, Assert}
-use Rattle.ast65.specs.declared.language.Operand.TheVariants.{Immediate, Address, Indirect, IndirectX, IndirectY}
-use Rattle.ast65.specs.declared.language.Item.TheVariants.{Value, Text}
 use Rattle.semantics65.specs.Symbols.{Laid, asks_section, Symbols, named, defined}
-use Rattle.semantics65.specs.declared.laid.Settled.{Settled}
-use Rattle.semantics65.specs.declared.laid.Settled.TheVariants.{InMode, FilledWith, FromByte}
-use Rattle.semantics65.specs.declared.laid.Context.{Context}
 use Rattle.semantics65.specs.Norms.{defined_form, folded, norm_of, width_of}
 
 -- ---- What a module's statements put into its object: parts of sections, and what is said to other modules and to the linker.

@@ -2,23 +2,13 @@
 use Rattle.std.specs.Prelude.{ℕ, zero, suc, ◌+◌, max, Bool, true, false, List, [], ◌∷◌, ◌++◌, length, Option, Some, None, codes, if◌then◌else◌, ◌-◌, ◌==◌, ℤ, pos, nat_le, nat_lt, not, ◌&&◌, Result, Ok, Err, slice_get}
 use Rattle.std.specs.List.{position, list_any}
 use Rattle.std.specs.Str.{bytes_eq}
-use Rattle.syntax65.specs.declared.lexing.tokens.AddressSize.{AddressSize}
+use Rattle.semantics65.specs.Types.{AddressSize, Segment, Statement, Place, Context, AsmFault, NotUnderstood, NoSuchForm, DefinedTwice, SectionTooLarge, NoSuchScope, ScopeTwice, BadAlignment, PopWithoutPush, BadOperand, BadPart, SizeChanged, BadScope, FileNotFound, Item, Operand, Absent, Accumulator, Immediate, Address, Indirect, IndirectX, IndirectY, Value, Text}
 use Rattle.syntax65.specs.declared.lexing.tokens.AddressSize.TheVariants as size
-use Rattle.semantics65.specs.declared.contents.Segment.{Segment}
-use Rattle.ast65.specs.declared.language.Statement.{Statement}
 use Rattle.ast65.specs.declared.language.Statement.TheVariants as statement
-use Rattle.syntax65.specs.declared.place.Place.{Place}
 use Rattle.semantics65.specs.Symbols.{Laid, opens_region, is_unnamed, Symbols, symbols_of, Scope, Key, named, cheap_in, unnamed_at, defined, key_defined, enclosing, scope_in, scope_from, scopes_of, shown}
-use Rattle.semantics65.specs.declared.laid.Context.{Context}
 use Rattle.semantics65.specs.Norms.{constant_in, counted, length_of, settled_of, size_of, is_byte, mode_of, optional_value}
 use Rattle.syntax65.specs.Trees.{Tree, name, unary, binary}
 use Rattle.object65.specs.Objects.{section_limit}
-use Rattle.ast65.specs.declared.fault.AsmFault.{AsmFault}
-use Rattle.ast65.specs.declared.fault.AsmFault.TheVariants.{NotUnderstood, NoSuchForm, DefinedTwice, SectionTooLarge, NoSuchScope, ScopeTwice, BadAlignment, PopWithoutPush, BadOperand, BadPart, SizeChanged, BadScope, FileNotFound}
-use Rattle.ast65.specs.declared.language.Item.{Item}
-use Rattle.ast65.specs.declared.language.Operand.{Operand}
-use Rattle.ast65.specs.declared.language.Operand.TheVariants.{Absent, Accumulator, Immediate, Address, Indirect, IndirectX, IndirectY}
-use Rattle.ast65.specs.declared.language.Item.TheVariants.{Value, Text}
 
 -- ---- How statements are laid one behind the other.
 

@@ -6,4 +6,5 @@ pub mod Norms
 pub mod Numbering
 pub mod Reading
 pub mod Symbols
+pub mod Types
 pub mod Views

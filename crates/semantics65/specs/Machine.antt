@@ -2,13 +2,9 @@
 use Rattle.std.specs.Prelude.{◌≡◌, ℕ, suc, List, [], ◌∷◌, ◌++◌, Option, Some, None, Result, Ok, Err, if◌then◌else◌}
 use Rattle.base65.specs.Outcome.{◌>>=◌}
 use Rattle.base65.specs.Store.{Files}
-use Rattle.object65.specs.declared.object.Object.{Object}
+use Rattle.semantics65.specs.Types.{Object, AsmFault, Statement, Place, Context}
 use Rattle.semantics65.specs.Contents.{Content, asking}
-use Rattle.ast65.specs.declared.fault.AsmFault.{AsmFault}
-use Rattle.ast65.specs.declared.language.Statement.{Statement}
-use Rattle.syntax65.specs.declared.place.Place.{Place}
 use Rattle.semantics65.specs.Symbols.{Laid, asks_section, Symbols, definitions_of, imports_of, scope_opened, symbols_of, with_new, zero_page_names}
-use Rattle.semantics65.specs.declared.laid.Context.{Context}
 use Rattle.semantics65.specs.Layout.{Cursor, laid, cursor_behind, start, line_fault, Layout}
 use Rattle.semantics65.specs.Numbering.{object_with, all_said, content_imports, parts_in, segments_asked, AreSound, IsSoundLayout}
 use Rattle.semantics65.specs.Reading.{PlacedFault, known_at, Between, IsSource, Job, Reached, AreLaid}

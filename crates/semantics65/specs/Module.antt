@@ -4,14 +4,10 @@ use Rattle.std.specs.List.{flat_map}
 use Rattle.base65.specs.Outcome.{◌>>=◌, each}
 use Rattle.base65.specs.Store.{Files}
 use Rattle.object65.specs.Form.{Form, lit}
-use Rattle.object65.specs.declared.object.Action.{Action}
+use Rattle.semantics65.specs.Types.{Action, Object, AsmFault, Place, Statement, Mnemonic, Width, NotDefined, Item, Operand, Constant, Instruction, Values, Reserve, Align, FilePart, Import, Export, Global, ForceImport, Assert, Value, Text, Settled, InMode, Context}
 use Rattle.object65.specs.declared.object.Action.TheVariants as action
-use Rattle.object65.specs.declared.object.Object.{Object}
 use Rattle.semantics65.specs.Contents.{Content, content_of, Part, Known, Declaration, ForcedImport, put, telling, decided, export_said, file_bytes, import_fault, opcode_part, operand_form, operand_tree, room_part, stored}
-use Rattle.ast65.specs.declared.fault.AsmFault.{AsmFault}
-use Rattle.syntax65.specs.declared.place.Place.{Place}
 use Rattle.semantics65.specs.Symbols.{Laid, Symbols, symbols_of, defined, named}
-use Rattle.ast65.specs.declared.language.Statement.{Statement}
 use Rattle.ast65.specs.declared.language.Statement.TheVariants as statement
 use Rattle.semantics65.specs.Layout.{Layout}
 use Rattle.semantics65.specs.Norms.{norm_of, width_of}
@@ -19,16 +15,6 @@ use Rattle.semantics65.specs.Numbering.{object_with}
 use Rattle.semantics65.specs.Reading.{AreLaid, PlacedFault, at_place, Job, Reached}
 use Rattle.syntax65.specs.Opcodes.{opcode_of}
 use Rattle.syntax65.specs.Trees.{Tree}
-use Rattle.syntax65.specs.declared.instructions.names.Mnemonic.{Mnemonic}
-use Rattle.object65.specs.declared.object.Width.{Width}
-use Rattle.ast65.specs.declared.fault.AsmFault.TheVariants.{NotDefined}
-use Rattle.ast65.specs.declared.language.Item.{Item}
-use Rattle.ast65.specs.declared.language.Operand.{Operand}
-use Rattle.ast65.specs.declared.language.Statement.TheVariants.{Constant, Instruction, Values, Reserve, Align, FilePart, Import, Export, Global, ForceImport, Assert}
-use Rattle.ast65.specs.declared.language.Item.TheVariants.{Value, Text}
-use Rattle.semantics65.specs.declared.laid.Settled.{Settled}
-use Rattle.semantics65.specs.declared.laid.Settled.TheVariants.{InMode}
-use Rattle.semantics65.specs.declared.laid.Context.{Context}
 
 -- ---- Contents.
 

@@ -6,9 +6,7 @@ use Rattle.object65.specs.Form.{Form, lit, sec, imp}
 use Rattle.object65.specs.Folding.{fold1, fold2}
 use Rattle.object65.specs.declared.folding.FormFault.{FormFault}
 use Rattle.object65.specs.declared.folding.FormFault.TheVariants as form
-use Rattle.ast65.specs.declared.fault.AsmFault.{AsmFault}
-use Rattle.ast65.specs.declared.fault.AsmFault.TheVariants.{OutOfMemory, Circular, NoValue, TooLarge, NoSuchLabel}
-use Rattle.semantics65.specs.declared.laid.Context.{Context}
+use Rattle.semantics65.specs.Types.{AsmFault, OutOfMemory, Circular, NoValue, TooLarge, NoSuchLabel, Context, Mnemonic, AddressSize, Op1, Width, Byte, Word, Branch, Item, Operand, Statement, Instruction, Values, Reserve, Align, FilePart, Value, Text, Settled, Unsettled, InMode, FilledWith, FromByte}
 use Rattle.semantics65.specs.Symbols.{Symbols, Definition, Scope, Meaning, defined_at, imported_as, meaning_of}
 use Rattle.std.specs.Int.{next_multiple_of}
 use Rattle.std.specs.List.{list_any}
@@ -16,24 +14,12 @@ use Rattle.std.specs.Str.{bytes_eq}
 use Rattle.syntax65.specs.Opcodes.{opcode_of}
 use Rattle.syntax65.specs.declared.instructions.codes.Mode.{Mode}
 use Rattle.syntax65.specs.declared.instructions.codes.Mode.TheVariants.{Implied, Accumulator, Immediate, ZeroPage, ZeroPageX, ZeroPageY, Absolute, AbsoluteX, AbsoluteY, Indirect, IndirectX, IndirectY, Relative}
-use Rattle.syntax65.specs.declared.instructions.names.Mnemonic.{Mnemonic}
-use Rattle.syntax65.specs.declared.lexing.tokens.AddressSize.{AddressSize}
 use Rattle.syntax65.specs.declared.lexing.tokens.AddressSize.TheVariants as size
-use Rattle.base65.specs.declared.values.Op1.{Op1}
 use Rattle.base65.specs.declared.values.Op1.TheVariants.{LowByte, HighByte, BankByte}
-use Rattle.object65.specs.declared.object.Width.{Width}
-use Rattle.object65.specs.declared.object.Width.TheVariants.{Byte, Word, Branch}
 use Rattle.object65.specs.Objects.{width_len}
 use Rattle.ast65.specs.declared.language.Index.{Index}
 use Rattle.ast65.specs.declared.language.Index.TheVariants as index
-use Rattle.ast65.specs.declared.language.Item.{Item}
-use Rattle.ast65.specs.declared.language.Operand.{Operand}
-use Rattle.ast65.specs.declared.language.Statement.{Statement}
-use Rattle.ast65.specs.declared.language.Statement.TheVariants.{Instruction, Values, Reserve, Align, FilePart}
 use Rattle.ast65.specs.declared.language.Operand.TheVariants as operands
-use Rattle.ast65.specs.declared.language.Item.TheVariants.{Value, Text}
-use Rattle.semantics65.specs.declared.laid.Settled.{Settled}
-use Rattle.semantics65.specs.declared.laid.Settled.TheVariants.{Unsettled, InMode, FilledWith, FromByte}
 
 -- ---- Normal forms of expressions by a symbol table, and what is constant there.
 

@@ -5,14 +5,9 @@ use Rattle.std.specs.Str.{bytes_eq}
 use Rattle.object65.specs.Form.{Form, lit, sec, imp, prefix, binary}
 use Rattle.object65.specs.declared.object.Assert.{Assert}
 use Rattle.object65.specs.declared.object.Export.{Export}
-use Rattle.object65.specs.declared.object.Fragment.{Fragment}
-use Rattle.object65.specs.declared.object.Fragment.TheVariants.{Literal, Fill, Value}
-use Rattle.object65.specs.declared.object.Object.{Object}
-use Rattle.object65.specs.declared.object.Origin.{Origin}
-use Rattle.object65.specs.declared.object.Section.{Section}
-use Rattle.syntax65.specs.declared.place.Place.{Place}
+use Rattle.semantics65.specs.Types.{Fragment, Literal, Fill, Object, Origin, Section, Place, Segment, Statement}
+use Rattle.object65.specs.declared.object.Fragment.TheVariants.{Value}
 use Rattle.semantics65.specs.Contents.{Content, Part, Known, Filled, Waiting, Declaration, Exported, ForcedImport, Asserted}
-use Rattle.semantics65.specs.declared.contents.Segment.{Segment}
 use Rattle.semantics65.specs.Layout.{powers, Layout}
 use Rattle.syntax65.specs.Tokens.{Lexeme}
 use Rattle.syntax65.specs.declared.lexing.tokens.TokenKind.{TokenKind}
@@ -20,7 +15,6 @@ use Rattle.syntax65.specs.declared.lexing.tokens.TokenKind.TheVariants as token
 use Rattle.object65.specs.Folding.{is_literal}
 use Rattle.object65.specs.Laws.{IsFolded}
 use Rattle.object65.specs.Objects.{are_names, is_file_name, is_name, section_limit, width_len}
-use Rattle.ast65.specs.declared.language.Statement.{Statement}
 use Rattle.ast65.specs.declared.language.Statement.TheVariants as statement
 use Rattle.semantics65.specs.Symbols.{Laid, Symbols, symbols_of}
 use Rattle.semantics65.specs.Norms.{length_of, settled_of}

@@ -1,7 +1,6 @@
 -- How the statements of a source are taken, one behind the other, and laid.
 use Rattle.std.specs.Prelude.{Result, Ok, Err, ◌≡◌, ℕ, List, [], ◌∷◌, Option, Some, None, if◌then◌else◌, Bool, true, false}
-use Rattle.syntax65.specs.declared.place.Place.{Place}
-use Rattle.ast65.specs.declared.fault.AsmFault.{AsmFault}
+use Rattle.semantics65.specs.Types.{Place, AsmFault, BadScope, Expansion, Statement, Constant, FilePart, NamedPart}
 use Rattle.base65.specs.Outcome.{First, Unless}
 use Rattle.base65.specs.Store.{Files}
 use Rattle.syntax65.specs.Tokens.{Lexeme}
@@ -9,10 +8,7 @@ use Rattle.syntax65.specs.Trees.{number, name}
 use Rattle.syntax65.specs.declared.fault.ExpandFault.{ExpandFault}
 use Rattle.expand65.specs.Expansion.{Reaches, statement, nothing, fault, opened_in, beside, file_named}
 use Rattle.expand65.specs.State as expand
-use Rattle.ast65.specs.declared.fault.AsmFault.TheVariants.{BadScope, Expansion}
 use Rattle.ast65.specs.Faults.{is_outside}
-use Rattle.ast65.specs.declared.language.Statement.{Statement}
-use Rattle.ast65.specs.declared.language.Statement.TheVariants.{Constant, FilePart, NamedPart}
 use Rattle.semantics65.specs.Layout.{is_open, Cursor, context_of, Layout, layout_behind, nothing_laid, line_fault, unless_fault}
 use Rattle.ast65.specs.Parsing.{IsStatement, label_of}
 use Rattle.expand65.specs.declared.expander.Expander.{Expander}

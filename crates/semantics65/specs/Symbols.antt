@@ -1,17 +1,10 @@
 -- The symbol table that laid statements make, and what names mean in it.
 use Rattle.std.specs.Prelude.{ℕ, Bool, true, false, ◌||◌, List, [], ◌∷◌, ◌++◌, Option, Some, None, ◌==◌, ◌&&◌, if◌then◌else◌, zero, suc, slice_get, ◌+◌, ◌-◌, nat_le, take, Result, Ok, Err, codes}
-use Rattle.syntax65.specs.declared.place.Place.{Place}
-use Rattle.syntax65.specs.declared.lexing.tokens.AddressSize.{AddressSize}
+use Rattle.semantics65.specs.Types.{Place, AddressSize, Settled, Context, Statement, Label, CheapLabel, UnnamedLabel, Constant, Instruction, Values, Reserve, Align, FilePart, OpenProc, Assert, OpenScope, Import, Global, ForceImport, AsmFault, Undefined, NoSuchScope, NoSuchLabel}
 use Rattle.syntax65.specs.Trees.{Tree, here, unary, binary, name, cheap, forward, backward}
-use Rattle.semantics65.specs.declared.laid.Settled.{Settled}
-use Rattle.semantics65.specs.declared.laid.Context.{Context}
-use Rattle.ast65.specs.declared.language.Statement.{Statement}
-use Rattle.ast65.specs.declared.language.Statement.TheVariants.{Label, CheapLabel, UnnamedLabel, Constant, Instruction, Values, Reserve, Align, FilePart, OpenProc, Assert, OpenScope, Import, Global, ForceImport}
 use Rattle.std.specs.List.{flat_map, list_any, position}
 use Rattle.std.specs.Str.{bytes_eq}
 use Rattle.syntax65.specs.declared.lexing.tokens.AddressSize.TheVariants as size
-use Rattle.ast65.specs.declared.fault.AsmFault.{AsmFault}
-use Rattle.ast65.specs.declared.fault.AsmFault.TheVariants.{Undefined, NoSuchScope, NoSuchLabel}
 
 -- ---- What statements lie by: places, scopes, regions, segments, offsets.
 

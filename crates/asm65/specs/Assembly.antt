@@ -3,10 +3,13 @@ use Rattle.std.specs.Prelude.{◌≡◌, ℕ, List, Option, None, Result, Err, B
 use Rattle.base65.specs.Store.{Files, IsBlamed}
 use Rattle.expand65.specs.Expansion.{file_named}
 use Rattle.expand65.specs.State as expand
-use Rattle.semantics65.specs.Types.{Place, AsmFault, FileNotFound, Object}
+use Rattle.syntax65.specs.declared.place.Place.{Place}
+use Rattle.ast65.specs.declared.fault.AsmFault.{AsmFault}
+use Rattle.ast65.specs.declared.fault.AsmFault.TheVariants.{FileNotFound}
 use Rattle.semantics65.specs.Machine.{State, Takes}
 use Rattle.semantics65.specs.Reading.{IsGiven, PlacedFault, Define, Job}
 use Rattle.base65.specs.Outcome.{Finds}
+use Rattle.object65.specs.declared.object.Object.{Object}
 use Rattle.ast65.specs.Faults.{is_failure, is_memory, is_outside}
 use Rattle.semantics65.specs.Module.{IsOutcome, Outcome}
 use Rattle.asm65.specs.declared.assembling.AsmJob.{AsmJob}

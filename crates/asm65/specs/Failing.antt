@@ -6,7 +6,9 @@ use Rattle.expand65.specs.Standing.{Opens, place_of}
 use Rattle.expand65.specs.State as expand
 use Rattle.expand65.specs.Failing.{IsOnItsWay}
 use Rattle.syntax65.specs.declared.fault.ExpandFault.TheVariants as expansion
-use Rattle.semantics65.specs.Types.{Place, AsmFault, Expansion, FileError}
+use Rattle.syntax65.specs.declared.place.Place.{Place}
+use Rattle.ast65.specs.declared.fault.AsmFault.{AsmFault}
+use Rattle.ast65.specs.declared.fault.AsmFault.TheVariants.{Expansion, FileError}
 use Rattle.ast65.specs.Faults.{is_failure}
 use Rattle.semantics65.specs.Reading.{known_at, PlacedFault, AreDefined, IsGiven, Job, no_line}
 use Rattle.semantics65.specs.Machine.{State, Takes, begun}

@@ -3,8 +3,12 @@ use Rattle.std.specs.Prelude.{◌≡◌, ℕ, ◌+◌, nat_lt, Bool, true, false
 use Rattle.std.specs.List.{flat_map, list_all, list_any}
 use Rattle.std.specs.Global.{Vec}
 use Rattle.indexmap.specs.IndexSet.{IndexSet}
-use Rattle.semantics65.specs.Types.{Place, Fragment, Object, Origin, Segment}
+use Rattle.syntax65.specs.declared.place.Place.{Place}
+use Rattle.object65.specs.declared.object.Fragment.{Fragment}
+use Rattle.object65.specs.declared.object.Object.{Object}
+use Rattle.object65.specs.declared.object.Origin.{Origin}
 use Rattle.semantics65.specs.Contents.{Content, Filled, Known, Waiting, asking, put, telling}
+use Rattle.semantics65.specs.declared.contents.Segment.{Segment}
 use Rattle.semantics65.specs.Numbering.{all_joined, all_said, assert_files, assert_of, content_imports, export_files, exports_among, fragments_of, import_keys, in_files, name_of, names_once, part_files, parts_in, section_of, section_keys}
 use Rattle.semantics65.specs.Views.{place_in, said_at}
 use Rattle.emit65.specs.declared.entries.Entry.{Entry}

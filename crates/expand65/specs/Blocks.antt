@@ -2,10 +2,8 @@
 use Rattle.std.specs.Prelude.{◌≡◌, List, Some, None, Result, Ok, Err, ℕ, zero, suc, [], ◌∷◌, ◌++◌, drop, Bool, true, false, Option, if◌then◌else◌}
 use Rattle.syntax65.specs.Tokens.{Lexeme}
 use Rattle.expand65.specs.Lines.{Left, Stop, Taken, Takes}
-use Rattle.syntax65.specs.Types.{NotClosed, MacroInside, NotUnderstood, ExpandFault}
+use Rattle.expand65.specs.Types.{NotClosed, MacroInside, NotUnderstood, Directive, Macro, EndMacro, Repeat, EndRepeat, If, ElseIf, Else, EndIf, ExpandFault}
 use Rattle.expand65.specs.Fronts.{is_mislabelled, is_nothing, line_directive}
-use Rattle.expand65.specs.declared.fronts.Directive.{Directive}
-use Rattle.expand65.specs.declared.fronts.Directive.TheVariants.{Macro, EndMacro, Repeat, EndRepeat, If, ElseIf, Else, EndIf}
 
 -- ---- The next line of a block.
 

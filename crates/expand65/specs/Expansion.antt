@@ -9,10 +9,7 @@ use Rattle.expand65.specs.Fronts.{string_of, front_directive, is_mislabelled, la
 use Rattle.expand65.specs.Lines.{lines_of, file_limit, Taken, Takes, line_limit, Mark, numbered, Item, labelled, branch, mark, left, innermost, come_back, Left, Stop}
 use Rattle.expand65.specs.Macros.{entered, IsMacro, exit_macro, local_line, ordinary, IsRepeat}
 use Rattle.expand65.specs.State.{State, Stepped, stops, Meaning, label, goes, gives, ends, with_left, with_items, Stated, IsIf, IsElse, conditions_in, ended_if, popped}
-use Rattle.syntax65.specs.Types.{ExpandFault, FileNotFound, FileTooLong, NotUnderstood}
-use Rattle.expand65.specs.declared.fronts.Directive.{Directive}
-use Rattle.expand65.specs.declared.fronts.Directive.TheVariants.{Macro, EndMacro, ExitMacro, Local, Repeat, EndRepeat, If, ElseIf, Else, EndIf, Include, Error, End}
-use Rattle.expand65.specs.declared.fronts.Test.TheVariants.{True}
+use Rattle.expand65.specs.Types.{ExpandFault, FileNotFound, FileTooLong, NotUnderstood, Directive, Macro, EndMacro, ExitMacro, Local, Repeat, EndRepeat, If, ElseIf, Else, EndIf, Include, Error, End, True}
 use Rattle.syntax65.specs.declared.fault.ExpandFault.TheVariants as faults
 use Rattle.base65.specs.Outcome.{◌>>=◌}
 

@@ -4,25 +4,16 @@ use Rattle.base65.specs.Store.{Files, IsBlamed}
 use Rattle.expand65.specs.State.{Meaning, State, goes, with_items, with_left, Stated, label, plain, IsCondition}
 use Rattle.expand65.specs.Standing.{StandsFor, place_of, FollowsFrom, measure_of, state_in, stated, macros_of, last_read, FailsAtLine, FailsInBlock, NamesFiles}
 use Rattle.expand65.specs.Expansion.{IsStep, last_condition, tried}
-use Rattle.expand65.specs.declared.expander.Expander.{Expander}
+use Rattle.expand65.specs.Types.{Expander, ExpandFault, Place, ExprFault, Directive, Macro, Repeat, If, ElseIf, Else, Include, Test, True, Peeked, Nothing, Statement, Rewriter}
 use Rattle.expand65.specs.Lines.{Mark, innermost, Item, Left, branch, labelled, Definition, Takes}
 use Rattle.syntax65.specs.Faults.{is_failure}
-use Rattle.syntax65.specs.Types.{ExpandFault, Place, ExprFault}
 use Rattle.syntax65.specs.Expressions.{IsParsed}
 use Rattle.syntax65.specs.Tokens.{Lexeme}
 use Rattle.syntax65.specs.Trees.{Tree}
 use Rattle.expand65.specs.Blocks.{collects, gathers, passes, skips}
 use Rattle.expand65.specs.Fronts.{front_directive, label_len, string_of}
-use Rattle.expand65.specs.declared.fronts.Directive.{Directive}
-use Rattle.expand65.specs.declared.fronts.Directive.TheVariants.{Macro, Repeat, If, ElseIf, Else, Include}
-use Rattle.expand65.specs.declared.fronts.Test.{Test}
-use Rattle.expand65.specs.declared.fronts.Test.TheVariants.{True}
 use Rattle.expand65.specs.Macros.{header_of, macro_of, repeat_of, macro_at}
 use Rattle.expand65.specs.Playing.{IsNext}
-use Rattle.expand65.specs.declared.passing.Peeked.{Peeked}
-use Rattle.expand65.specs.declared.expander.Front.TheVariants.{Nothing}
-use Rattle.expand65.specs.declared.expander.Statement.{Statement}
-use Rattle.expand65.specs.declared.rewriter.Rewriter.{Rewriter}
 
 -- ---- A step of expansion in which the store fails, and its place.
 

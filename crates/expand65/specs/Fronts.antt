@@ -1,13 +1,10 @@
 -- The first words of a line: labels and directives of expansion.
 use Rattle.std.specs.Prelude.{ℕ, List, [], ◌∷◌, codes, Option, Some, None, if◌then◌else◌, Bool, true, false, not, nat_lt, ◌-◌, ◌&&◌, length, take, drop, Result, Ok, Err}
 use Rattle.std.specs.Str.{str_eq_ignore_ascii_case}
-use Rattle.expand65.specs.declared.fronts.Test.TheVariants.{True, Defined, NotDefined, Blank, NotBlank}
-use Rattle.expand65.specs.declared.fronts.Directive.{Directive}
-use Rattle.expand65.specs.declared.fronts.Directive.TheVariants.{Macro, EndMacro, ExitMacro, Local, Repeat, EndRepeat, If, ElseIf, Else, EndIf, Include, Error, End}
+use Rattle.expand65.specs.Types.{True, Defined, NotDefined, Blank, NotBlank, Directive, Macro, EndMacro, ExitMacro, Local, Repeat, EndRepeat, If, ElseIf, Else, EndIf, Include, Error, End, ExpandFault, NotUnderstood}
 use Rattle.syntax65.specs.Tokens.{Lexeme}
 use Rattle.syntax65.specs.Expressions.{is_reserved}
-use Rattle.syntax65.specs.declared.lexing.tokens.Mark.TheVariants.{Colon}
-use Rattle.syntax65.specs.Types.{Comma, OpenBrace, CloseBrace, OpenParenthesis, ExpandFault, NotUnderstood}
+use Rattle.syntax65.specs.declared.lexing.tokens.Mark.TheVariants.{Colon, Comma, OpenBrace, CloseBrace, OpenParenthesis}
 use Rattle.syntax65.specs.declared.lexing.tokens.TokenKind.TheVariants as token
 
 -- ---- The words of the directives of expansion.

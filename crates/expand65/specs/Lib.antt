@@ -7,3 +7,4 @@ pub mod Macros
 pub mod Playing
 pub mod Standing
 pub mod State
+pub mod Types

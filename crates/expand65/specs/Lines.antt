@@ -6,12 +6,12 @@ use Rattle.base65.specs.Store.{Files, IsBlamed, Passes}
 use Rattle.syntax65.specs.Faults.{is_failure, is_outside, fault_of_lexing}
 use Rattle.syntax65.specs.Tokens.{Lexeme, IsRead}
 use Rattle.syntax65.specs.declared.lexing.tokens.TokenKind.TheVariants as token
-use Rattle.syntax65.specs.Types.{ExpandFault, FileError, Syntax, Nested, NotClosed, TooManyLines, LineTooLong, Place, LexFault}
+use Rattle.expand65.specs.Types.{ExpandFault, FileError, Syntax, Nested, NotClosed, TooManyLines, LineTooLong, Place, OpenFile}
 use Rattle.std.specs.FinMap as fmap
 use Rattle.base65.specs.Outcome.{Unless}
 use Rattle.syntax65.specs.declared.lexing.tokens.LexFault.TheVariants as lex
-use Rattle.expand65.specs.declared.file.OpenFile.{OpenFile}
 use Rattle.expand65.specs.declared.reader.MacroEnd.{MacroEnd}
+use Rattle.syntax65.specs.declared.lexing.tokens.LexFault.{LexFault}
 
 -- ---- What stands in place of names in the lines of a body.
 

@@ -9,7 +9,7 @@ use Rattle.syntax65.specs.declared.lexing.tokens.TokenKind.TheVariants as token
 use Rattle.expand65.specs.Blocks.{Block, collects, gathers}
 use Rattle.expand65.specs.Lines.{nesting_limit, file_limit, bytes_of, Definition, Replacing, number_token, repeating, Item, played, mark, Mark, Left, left, Stop, innermost, localised, marks, outside_macro, turns}
 use Rattle.expand65.specs.State.{State, plain, Stepped, goes, gives, stops, with_left, with_items, Meaning}
-use Rattle.syntax65.specs.Types.{Nested, TooManyArguments, MacroTwice, NotOpened, NotUnderstood, NotConstant, CountOutOfRange, FileTooLong, Place, ExprFault, ExpandFault}
+use Rattle.expand65.specs.Types.{Nested, TooManyArguments, MacroTwice, NotOpened, NotUnderstood, NotConstant, CountOutOfRange, FileTooLong, Place, ExprFault, ExpandFault}
 use Rattle.syntax65.specs.Expressions.{IsParsed}
 use Rattle.base65.specs.Outcome.{◌>>=◌, Unless}
 use Rattle.syntax65.specs.Trees.{Tree}

@@ -2,23 +2,16 @@
 use Rattle.std.specs.Prelude.{◌≡◌, ℕ, List, [], ◌∷◌, ◌++◌, take, drop, suc, true, false, Option, Some, None, Result, Ok, Err, map, Bool, slice_get, ◌<◌, length, ◌+◌}
 use Rattle.syntax65.specs.Tokens.{Lexeme, IsRead}
 use Rattle.expand65.specs.declared.line.Word.{Word}
-use Rattle.expand65.specs.declared.line.Line.{Line}
+use Rattle.expand65.specs.Types.{Line, ExpandFault, NotUnderstood, Body, Replay, OpenFile, Source, Peeked, Reader}
 use Rattle.base65.specs.Outcome.{Unless}
 use Rattle.syntax65.specs.Faults.{is_outside}
 use Rattle.expand65.specs.Fronts.{is_mislabelled, label_len, front_directive, is_colon}
-use Rattle.syntax65.specs.Types.{ExpandFault, NotUnderstood}
 use Rattle.std.specs.Option.{option_map}
 use Rattle.expand65.specs.Lines.{Replacing, Definition, Item, played, written, Left, is_inside, without_return, Takes}
-use Rattle.expand65.specs.declared.playing.Body.{Body}
-use Rattle.expand65.specs.declared.playing.Replay.{Replay}
 use Rattle.expand65.specs.declared.playing.StandIn.{StandIn}
 use Rattle.expand65.specs.declared.playing.StandIn.TheVariants.{Itself, Nothing, Tokens}
 use Rattle.std.specs.List.{prefix_len}
-use Rattle.expand65.specs.declared.file.OpenFile.{OpenFile}
-use Rattle.expand65.specs.declared.input.Source.{Source}
 use Rattle.expand65.specs.declared.input.Source.TheVariants as source
-use Rattle.expand65.specs.declared.passing.Peeked.{Peeked}
-use Rattle.expand65.specs.declared.reader.Reader.{Reader}
 
 -- ---- Lines as they are kept.
 

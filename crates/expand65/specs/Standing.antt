@@ -6,15 +6,11 @@ use Rattle.syntax65.specs.Tokens.{Lexeme}
 use Rattle.syntax65.specs.Faults.{is_outside, is_failure}
 use Rattle.expand65.specs.Playing.{tokens_in, left_to_play, replacing_of, Plainly, definition_of}
 use Rattle.expand65.specs.Lines.{left_in_file, IsOpened, Takes, turns, Item, written, played, mark, Mark, Left, left, moved, Stop, come_back, Replacing, labelled, branch, Definition}
-use Rattle.syntax65.specs.Types.{ExpandFault, Place, NotUnderstood, OutOfMemory}
-use Rattle.expand65.specs.declared.input.Source.{Source}
+use Rattle.expand65.specs.Types.{ExpandFault, Source, Line, Place, Replay, Reader, NotUnderstood, OutOfMemory, Directive, Body, Rewriter, Expander, Nothing, Rest, Statement}
 use Rattle.expand65.specs.declared.input.Source.TheVariants as source
 use Rattle.expand65.specs.declared.input.NextLine.{NextLine}
 use Rattle.expand65.specs.declared.input.NextLine.TheVariants.{AtEnd, Numbered, Replayed}
-use Rattle.expand65.specs.declared.line.Line.{Line}
-use Rattle.expand65.specs.declared.playing.Replay.{Replay}
 use Rattle.expand65.specs.declared.reader.Input.{Input}
-use Rattle.expand65.specs.declared.reader.Reader.{Reader}
 use Rattle.expand65.specs.Blocks.{Branch, Gathered, Verdict, at_elseif, at_else, at_endif, closed, collects, gathers, on, passes, refused, skips}
 use Rattle.expand65.specs.declared.blocks.BlockEnd.{BlockEnd}
 use Rattle.expand65.specs.declared.blocks.BlockEnd.TheVariants.{ElseIf, Else, End}
@@ -26,18 +22,12 @@ use Rattle.std.specs.declared.rc.Rc.{Rc}
 use Rattle.std.specs.Global.{Global}
 use Rattle.expand65.specs.Macros.{macro_at}
 use Rattle.expand65.specs.State.{State, with_items, label, plain, Stepped, goes, gives, stops, Meaning, Stated}
-use Rattle.expand65.specs.declared.fronts.Directive.{Directive}
 use Rattle.expand65.specs.declared.fronts.Directive.TheVariants as directive
-use Rattle.expand65.specs.declared.playing.Body.{Body}
-use Rattle.expand65.specs.declared.rewriter.Rewriter.{Rewriter}
 use Rattle.expand65.specs.declared.rewriter.Turn.{Turn}
 use Rattle.expand65.specs.declared.rewriter.Turn.TheVariants.{Goes, Gives, Parts, Decides, Ends}
 use Rattle.expand65.specs.Expansion.{statement, nothing, fault, Reaches}
-use Rattle.expand65.specs.declared.expander.Expander.{Expander}
 use Rattle.expand65.specs.declared.expander.Front.{Front}
 use Rattle.expand65.specs.declared.expander.Front.TheVariants as front
-use Rattle.expand65.specs.declared.expander.Front.TheVariants.{Nothing, Rest}
-use Rattle.expand65.specs.declared.expander.Statement.{Statement}
 use Rattle.expand65.specs.declared.expander.Statement.TheVariants.{Label, Plain}
 
 -- ---- The lines that open files, expansions and repeats still have.

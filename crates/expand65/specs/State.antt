@@ -5,11 +5,9 @@ use Rattle.syntax65.specs.Tokens.{Lexeme}
 use Rattle.expand65.specs.Lines.{Item, Left, left, Stop, Definition, branch, Mark}
 use Rattle.syntax65.specs.Expressions.{IsParsed}
 use Rattle.base65.specs.Outcome.{◌>>=◌}
-use Rattle.syntax65.specs.Types.{ExprFault, ExpandFault, NotConstant, NotOpened}
+use Rattle.expand65.specs.Types.{ExprFault, Test, True, Defined, NotDefined, Blank, NotBlank, ExpandFault, NotConstant, NotOpened}
 use Rattle.expand65.specs.Blocks.{Block, Branch, at_elseif, at_else, at_endif, skips, passes}
 use Rattle.expand65.specs.Fronts.{opens_parenthesis, unknown}
-use Rattle.expand65.specs.declared.fronts.Test.{Test}
-use Rattle.expand65.specs.declared.fronts.Test.TheVariants.{True, Defined, NotDefined, Blank, NotBlank}
 
 -- ---- What expressions and names mean at a line.
 

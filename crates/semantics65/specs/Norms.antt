@@ -6,7 +6,7 @@ use Rattle.object65.specs.Form.{Form, lit, sec, imp}
 use Rattle.object65.specs.Folding.{fold1, fold2}
 use Rattle.object65.specs.declared.folding.FormFault.{FormFault}
 use Rattle.object65.specs.declared.folding.FormFault.TheVariants as form
-use Rattle.semantics65.specs.Types.{AsmFault, OutOfMemory, Circular, NoValue, TooLarge, NoSuchLabel, Context, Mnemonic, AddressSize, Op1, Width, Byte, Word, Branch, Item, Operand, Statement, Instruction, Values, Reserve, Align, FilePart, Value, Text, Settled, Unsettled, InMode, FilledWith, FromByte}
+use Rattle.semantics65.specs.Types.{AsmFault, OutOfMemory, Circular, NoValue, TooLarge, NoSuchLabel, Context, Mnemonic, AddressSize, Width, Byte, Word, Branch, Item, Operand, Statement, Instruction, Values, Reserve, Align, FilePart, Value, Text, Settled, Unsettled, InMode, FilledWith, FromByte}
 use Rattle.semantics65.specs.Symbols.{Symbols, Definition, Scope, Meaning, defined_at, imported_as, meaning_of}
 use Rattle.std.specs.Int.{next_multiple_of}
 use Rattle.std.specs.List.{list_any}
@@ -15,6 +15,7 @@ use Rattle.syntax65.specs.Opcodes.{opcode_of}
 use Rattle.syntax65.specs.declared.instructions.codes.Mode.{Mode}
 use Rattle.syntax65.specs.declared.instructions.codes.Mode.TheVariants.{Implied, Accumulator, Immediate, ZeroPage, ZeroPageX, ZeroPageY, Absolute, AbsoluteX, AbsoluteY, Indirect, IndirectX, IndirectY, Relative}
 use Rattle.syntax65.specs.declared.lexing.tokens.AddressSize.TheVariants as size
+use Rattle.base65.specs.declared.values.Op1.{Op1}
 use Rattle.base65.specs.declared.values.Op1.TheVariants.{LowByte, HighByte, BankByte}
 use Rattle.object65.specs.Objects.{width_len}
 use Rattle.ast65.specs.declared.language.Index.{Index}

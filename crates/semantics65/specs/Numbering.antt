@@ -5,8 +5,11 @@ use Rattle.std.specs.Str.{bytes_eq}
 use Rattle.object65.specs.Form.{Form, lit, sec, imp, prefix, binary}
 use Rattle.object65.specs.declared.object.Assert.{Assert}
 use Rattle.object65.specs.declared.object.Export.{Export}
-use Rattle.semantics65.specs.Types.{Fragment, Literal, Fill, Object, Origin, Section, Place, Segment, Statement}
-use Rattle.object65.specs.declared.object.Fragment.TheVariants.{Value}
+use Rattle.object65.specs.declared.object.Fragment.{Fragment}
+use Rattle.object65.specs.declared.object.Fragment.TheVariants.{Literal, Fill, Value}
+use Rattle.semantics65.specs.Types.{Object, Place, Segment, Statement}
+use Rattle.object65.specs.declared.object.Origin.{Origin}
+use Rattle.object65.specs.declared.object.Section.{Section}
 use Rattle.semantics65.specs.Contents.{Content, Part, Known, Filled, Waiting, Declaration, Exported, ForcedImport, Asserted}
 use Rattle.semantics65.specs.Layout.{powers, Layout}
 use Rattle.syntax65.specs.Tokens.{Lexeme}

@@ -1,25 +1,19 @@
 -- The types of sources and objects that definitions name.
-pub use Rattle.base65.specs.declared.values.Op1.{Op1}
 pub use Rattle.syntax65.specs.declared.instructions.names.Mnemonic.{Mnemonic}
 pub use Rattle.syntax65.specs.declared.lexing.tokens.AddressSize.{AddressSize}
 pub use Rattle.syntax65.specs.declared.place.Place.{Place}
 pub use Rattle.object65.specs.declared.object.Action.{Action}
-pub use Rattle.object65.specs.declared.object.Fragment.{Fragment}
-pub use Rattle.object65.specs.declared.object.Fragment.TheVariants.{Literal, Fill}
 pub use Rattle.object65.specs.declared.object.Object.{Object}
-pub use Rattle.object65.specs.declared.object.Origin.{Origin}
-pub use Rattle.object65.specs.declared.object.Section.{Section}
 pub use Rattle.object65.specs.declared.object.Width.{Width}
 pub use Rattle.object65.specs.declared.object.Width.TheVariants.{Branch, Byte, Word}
 pub use Rattle.ast65.specs.declared.fault.AsmFault.{AsmFault}
-pub use Rattle.ast65.specs.declared.fault.AsmFault.TheVariants.{OutOfRange, ImportedAndDefined, NotDefined, Assertion, FileNameTooLong, NotUnderstood, NoSuchForm, DefinedTwice, SectionTooLarge, NoSuchScope, ScopeTwice, BadAlignment, PopWithoutPush, BadOperand, BadPart, SizeChanged, BadScope, FileNotFound, OutOfMemory, Circular, NoValue, TooLarge, NoSuchLabel, Expansion, Undefined, FileError}
+pub use Rattle.ast65.specs.declared.fault.AsmFault.TheVariants.{OutOfRange, ImportedAndDefined, NotDefined, Assertion, FileNameTooLong, NotUnderstood, NoSuchForm, DefinedTwice, SectionTooLarge, NoSuchScope, ScopeTwice, BadAlignment, PopWithoutPush, BadOperand, BadPart, SizeChanged, BadScope, FileNotFound, OutOfMemory, Circular, NoValue, TooLarge, NoSuchLabel, Expansion, Undefined}
 pub use Rattle.ast65.specs.declared.language.Item.{Item}
 pub use Rattle.ast65.specs.declared.language.Item.TheVariants.{Value, Text}
 pub use Rattle.ast65.specs.declared.language.Operand.{Operand}
 pub use Rattle.ast65.specs.declared.language.Operand.TheVariants.{Immediate, Address, Indirect, IndirectX, IndirectY, Absent, Accumulator}
 pub use Rattle.ast65.specs.declared.language.Statement.{Statement}
 pub use Rattle.ast65.specs.declared.language.Statement.TheVariants.{Constant, Instruction, Values, Reserve, Align, FilePart, Import, Export, Global, ForceImport, Assert, NamedPart, Label, CheapLabel, UnnamedLabel, OpenProc, OpenScope}
-pub use Rattle.semantics65.specs.declared.contents.Declaration.{Declaration}
 pub use Rattle.semantics65.specs.declared.contents.Segment.{Segment}
 pub use Rattle.semantics65.specs.declared.laid.Context.{Context}
 pub use Rattle.semantics65.specs.declared.laid.Settled.{Settled}

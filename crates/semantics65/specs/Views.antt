@@ -1,8 +1,9 @@
 -- What the code puts into an object, as the definitions have it: at the place of the statement.
 use Rattle.std.specs.Prelude.{ℕ, List}
-use Rattle.semantics65.specs.Types.{Place, Declaration}
+use Rattle.semantics65.specs.Types.{Place}
 use Rattle.semantics65.specs.declared.contents.Part.{Part}
 use Rattle.semantics65.specs.declared.contents.Part.TheVariants as part
+use Rattle.semantics65.specs.declared.contents.Declaration.{Declaration}
 use Rattle.semantics65.specs.declared.contents.Declaration.TheVariants as said
 use Rattle.semantics65.specs.declared.laid.At.{At}
 use Rattle.semantics65.specs.Contents as parts

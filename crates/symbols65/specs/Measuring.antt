@@ -4,13 +4,18 @@ use Rattle.semantics65.specs.Layout as layout
 use Rattle.symbols65.specs.declared.cursor.Cursor.{Cursor}
 use Rattle.std.specs.List.{AllByRecursion}
 use Rattle.object65.specs.Objects.{section_limit}
-use Rattle.semantics65.specs.Types.{Segment, Statement, Label, OpenProc, OpenScope, UnnamedLabel, FilePart, AsmFault, BadOperand, BadPart, NotUnderstood, SectionTooLarge, Context}
+use Rattle.semantics65.specs.declared.contents.Segment.{Segment}
 use Rattle.semantics65.specs.Layout.{context_of, current_behind, kept_behind, opens_scope, scope_behind, segments_behind, multiple_of, own_size, size_stated, alignment_fault, block_fault, defined_twice, file_limit, first_fault, form_fault, is_open, is_part, left_from, line_fault, lost_scopes, missing_file, opened_twice, operand_fault, optional_tree, or_then, part_fault, pop_fault, scope_name, size_fault, stands_outside, trees_of, when, unless_fault}
+use Rattle.ast65.specs.declared.language.Statement.{Statement}
 use Rattle.ast65.specs.declared.language.Statement.TheVariants as statement
+use Rattle.ast65.specs.declared.language.Statement.TheVariants.{Label, OpenProc, OpenScope, UnnamedLabel, FilePart}
 use Rattle.semantics65.specs.Symbols.{enclosing, Scope, Symbols, opens_region, is_unnamed, key_defined}
 use Rattle.base65.specs.Outcome.{Gives, Unless}
 use Rattle.syntax65.specs.Trees.{Tree}
+use Rattle.ast65.specs.declared.fault.AsmFault.{AsmFault}
+use Rattle.ast65.specs.declared.fault.AsmFault.TheVariants.{BadOperand, BadPart, NotUnderstood, SectionTooLarge}
 use Rattle.ast65.specs.Faults.{is_memory}
+use Rattle.semantics65.specs.declared.laid.Context.{Context}
 use Rattle.semantics65.specs.Norms.{counted, length_of, settled_of}
 use Rattle.symbols65.specs.declared.measuring.Before.{Before}
 use Rattle.symbols65.specs.declared.measuring.Measured.{Measured}

@@ -2,12 +2,15 @@
 use Rattle.std.specs.Prelude.{ℤ, Option, Some, None, Ok, ⊤, ◌≡◌, ℕ, suc, Result, Err, ◌≤◌, List, slice_get, ◌⊎◌, ◌+◌, pos, [], ◌∷◌, length, sum_by, Bool, false, true, ◌<◌}
 use Rattle.std.specs.Result.{result_ok}
 use Rattle.syntax65.specs.Trees.{Tree, number, here, unary, binary}
-use Rattle.semantics65.specs.Types.{Op1, AsmFault, Context, Circular, NoSuchLabel}
+use Rattle.base65.specs.declared.values.Op1.{Op1}
 use Rattle.base65.specs.declared.values.Op2.{Op2}
 use Rattle.object65.specs.Form.{Form, lit, imp}
 use Rattle.object65.specs.Folding.{fold1, fold2}
 use Rattle.semantics65.specs.Norms.{literal_in, norm, Extends, form_of_definition, address_of, folded}
+use Rattle.ast65.specs.declared.fault.AsmFault.{AsmFault}
+use Rattle.semantics65.specs.declared.laid.Context.{Context}
 use Rattle.semantics65.specs.Symbols.{Symbols, Definition, Meaning, defined_at, imported_as, meaning_of}
+use Rattle.ast65.specs.declared.fault.AsmFault.TheVariants.{Circular, NoSuchLabel}
 use Rattle.symbols65.specs.declared.resolving.attempt.State.{State}
 use Rattle.symbols65.specs.declared.resolving.attempt.State.TheVariants.{Unknown, Hangs, Waiting, Found}
 use Rattle.symbols65.specs.declared.resolving.attempt.Stop.{Stop}

@@ -3,8 +3,9 @@
 use Rattle.std.specs.Prelude.{ℕ, ◌-◌, ◌==◌, ◌&&◌, ◌||◌, Bool, List, length, codes, slice_index, nat_lt, Option, Some, None, is_some, if◌then◌else◌, ◌≡◌, ◌≢◌, ◌+◌, ◌<◌, ◌≤◌, true, false, [], ◌∷◌, slice_get, Result, Ok, Err, ⊤}
 use Rattle.std.specs.Str.{str_eq_ignore_ascii_case}
 use Rattle.syntax65.specs.Mnemonics.{mnemonic_of}
-use Rattle.syntax65.specs.Types.{Mark, TokenKind, ExprFault, LexFault}
+use Rattle.syntax65.specs.declared.lexing.tokens.Mark.{Mark}
 use Rattle.syntax65.specs.declared.lexing.tokens.Mark.TheVariants as mark
+use Rattle.syntax65.specs.declared.lexing.tokens.TokenKind.{TokenKind}
 use Rattle.syntax65.specs.declared.lexing.tokens.TokenKind.TheVariants as token
 use Rattle.base65.specs.declared.values.Op1.TheVariants as one
 use Rattle.base65.specs.declared.values.Op2.{Op2}
@@ -15,7 +16,9 @@ use Rattle.syntax65.specs.Tokens.{Lexeme, IsRead}
 use Rattle.syntax65.specs.Trees.{Tree, number, here, name, cheap, forward, backward, unary, binary}
 use Rattle.base65.specs.declared.values.Op1.{Op1}
 use Rattle.base65.specs.declared.values.Op1.TheVariants.{Not}
+use Rattle.syntax65.specs.declared.expressions.words.ExprFault.{ExprFault}
 use Rattle.syntax65.specs.declared.expressions.words.ExprFault.TheVariants.{OutOfMemory, OperandExpected, ParenthesisExpected, TooDeep}
+use Rattle.syntax65.specs.declared.lexing.tokens.LexFault.{LexFault}
 
 -- ---- What a token means within an expression.
 

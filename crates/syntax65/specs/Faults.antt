@@ -1,9 +1,13 @@
 -- The faults of tokens, of expressions and of expansion: their words, and which of them come from outside.
 use Rattle.std.specs.Prelude.{ℕ, List, codes, Bool, true, false, []}
-use Rattle.syntax65.specs.Types.{LexFault, ExprFault, StoreFault, ExpandFault, FailedBefore, OutOfMemory, Syntax, FileNotFound, FileError, NotConstant, Nested, TooManyLines, NotClosed, NotOpened, TooManyArguments, MacroTwice, MacroInside, CountOutOfRange, FileTooLong, Error, NotUnderstood, LineTooLong}
+use Rattle.syntax65.specs.declared.lexing.tokens.LexFault.{LexFault}
+use Rattle.syntax65.specs.declared.expressions.words.ExprFault.{ExprFault}
 use Rattle.syntax65.specs.declared.expressions.words.ExprFault.TheVariants as expr
 use Rattle.syntax65.specs.declared.lexing.tokens.LexFault.TheVariants as lex
+use Rattle.base65.specs.declared.store.StoreFault.{StoreFault}
 use Rattle.base65.specs.declared.store.StoreFault.TheVariants as store
+use Rattle.syntax65.specs.declared.fault.ExpandFault.{ExpandFault}
+use Rattle.syntax65.specs.declared.fault.ExpandFault.TheVariants.{FailedBefore, OutOfMemory, Syntax, FileNotFound, FileError, NotConstant, Nested, TooManyLines, NotClosed, NotOpened, TooManyArguments, MacroTwice, MacroInside, CountOutOfRange, FileTooLong, Error, NotUnderstood, LineTooLong}
 
 -- ---- The words of faults of tokens and expressions.
 

@@ -3,8 +3,10 @@
 use Rattle.std.specs.Prelude.{◌≡◌, ℕ, ◌≤◌, ◌<◌, Bool, true, false, List, [], ◌∷◌, length, take, drop, map, Option, Some, None, Result, Ok, Err, ⊤, ◌++◌, slice_get, option_map}
 use Rattle.std.specs.List.{prefix_len}
 use Rattle.syntax65.specs.Forms.{class_of, is_blank, IsToken, FaultAt}
-use Rattle.syntax65.specs.Types.{Semicolon, TokenKind, LexFault}
+use Rattle.syntax65.specs.declared.lexing.places.Class.TheVariants.{Semicolon}
+use Rattle.syntax65.specs.declared.lexing.tokens.TokenKind.{TokenKind}
 use Rattle.syntax65.specs.declared.lexing.tokens.Token.{Token}
+use Rattle.syntax65.specs.declared.lexing.tokens.LexFault.{LexFault}
 use Rattle.syntax65.specs.declared.lexing.tokens.LexFault.TheVariants.{LineTooLong}
 use Rattle.base65.specs.Relations.{Answers}
 use Rattle.syntax65.specs.Faults.{is_lex_outside}

@@ -2,8 +2,9 @@
 use Rattle.std.specs.Prelude.{◌≡◌, ℕ, ◌<◌, ⊤, false, List, [], ◌∷◌, length, slice_get, Some, ℤ, Bool, true, pos, Option, None, Result, Ok, Err, ◌++◌, if◌then◌else◌}
 use Rattle.std.specs.List.{AllByRecursion, flat_map, list_all}
 use Rattle.syntax65.specs.Trees.{Tree, name}
-use Rattle.semantics65.specs.Types.{Place, Context, Width, AsmFault, AddressSize, Statement}
+use Rattle.syntax65.specs.declared.place.Place.{Place}
 use Rattle.semantics65.specs.Contents.{Content, Part, operand_form, put, stored, asking}
+use Rattle.semantics65.specs.declared.laid.Context.{Context}
 use Rattle.semantics65.specs.Symbols.{Definition, Key, Symbols, unnamed_at, meaning_of, Laid, asks_section, defined, key_defined}
 use Rattle.semantics65.specs.Machine as machine
 use Rattle.semantics65.specs.Machine.{PutsAll, State, awaited_in, filled, awaiting, entered}
@@ -22,8 +23,12 @@ use Rattle.semantics65.specs.Reading.{is_definition}
 use Rattle.base65.specs.Outcome.{◌>>=◌, Unless}
 use Rattle.object65.specs.Form.{Form, lit}
 use Rattle.object65.specs.Objects.{fits_width, value_bytes}
+use Rattle.object65.specs.declared.object.Width.{Width}
+use Rattle.ast65.specs.declared.fault.AsmFault.{AsmFault}
 use Rattle.emit65.specs.declared.sections.Sections.{Sections}
+use Rattle.syntax65.specs.declared.lexing.tokens.AddressSize.{AddressSize}
 use Rattle.syntax65.specs.declared.lexing.tokens.AddressSize.TheVariants as size
+use Rattle.ast65.specs.declared.language.Statement.{Statement}
 use Rattle.semantics65.specs.Layout.{context_of, cursor_behind, line_fault, opened_twice, scope_name}
 use Rattle.ast65.specs.Faults.{is_outside}
 use Rattle.semantics65.specs.Module.{out_of, warning_of}

@@ -7,9 +7,13 @@ use Rattle.syntax65.specs.Trees.{number}
 use Rattle.expand65.specs.Failing.{Gives}
 use Rattle.expand65.specs.State as expand
 use Rattle.expand65.specs.Standing.{measure_of, place_of}
-use Rattle.semantics65.specs.Types.{Place, AsmFault, FileError, FileNotFound, Statement, FilePart, NamedPart, Declaration, Context}
+use Rattle.syntax65.specs.declared.place.Place.{Place}
+use Rattle.ast65.specs.declared.fault.AsmFault.{AsmFault}
+use Rattle.ast65.specs.declared.fault.AsmFault.TheVariants.{FileError, FileNotFound}
 use Rattle.ast65.specs.Faults.{is_failure, is_outside}
+use Rattle.ast65.specs.declared.language.Statement.{Statement}
 use Rattle.ast65.specs.declared.language.Statement.TheVariants as statement
+use Rattle.ast65.specs.declared.language.Statement.TheVariants.{FilePart, NamedPart}
 use Rattle.semantics65.specs.Numbering.{AreNamed, IsSound}
 use Rattle.semantics65.specs.Machine.{Runs, State, Takes, begun}
 use Rattle.semantics65.specs.Reading.{Define, IsGiven, Job, stopped, bytes_for, with_bytes}
@@ -20,6 +24,8 @@ use Rattle.asm65.specs.Inner.Holding.{Holds}
 use Rattle.asm65.specs.Assembly.{Without, is_outside_refusal, placed_of}
 use Rattle.std.specs.Option.{option_map}
 use Rattle.semantics65.specs.Contents.{Content, put, telling, written}
+use Rattle.semantics65.specs.declared.contents.Declaration.{Declaration}
+use Rattle.semantics65.specs.declared.laid.Context.{Context}
 use Rattle.semantics65.specs.Norms.{defined_form}
 use Rattle.semantics65.specs.Symbols.{Symbols}
 use Rattle.semantics65.specs.Views.{part_at, said_at}

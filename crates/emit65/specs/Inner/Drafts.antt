@@ -1,11 +1,18 @@
 -- Sections while they are numbered: drafts, and the order of files.
 use Rattle.std.specs.Prelude.{◌≡◌, ℕ, ◌+◌, nat_eq, List, [], ◌∷◌, ◌++◌, map, filter_map, Option, Some, None, slice_get, if◌then◌else◌, true, option_map, IfSome}
 use Rattle.std.specs.List.{AllByRecursion, flat_map, list_any}
-use Rattle.semantics65.specs.Types.{Place, Fragment, Literal, Fill, Object, Origin, Section, Declaration, Segment}
+use Rattle.syntax65.specs.declared.place.Place.{Place}
 use Rattle.object65.specs.declared.object.Assert.{Assert}
 use Rattle.object65.specs.declared.object.Export.{Export}
+use Rattle.object65.specs.declared.object.Fragment.{Fragment}
 use Rattle.object65.specs.declared.object.Fragment.TheVariants as fragment
+use Rattle.object65.specs.declared.object.Fragment.TheVariants.{Literal, Fill}
+use Rattle.object65.specs.declared.object.Object.{Object}
+use Rattle.object65.specs.declared.object.Origin.{Origin}
+use Rattle.object65.specs.declared.object.Section.{Section}
 use Rattle.object65.specs.Objects.{FitsBits, FragmentFits, OriginFits}
+use Rattle.semantics65.specs.declared.contents.Declaration.{Declaration}
+use Rattle.semantics65.specs.declared.contents.Segment.{Segment}
 use Rattle.semantics65.specs.Numbering.{assert_of, exports_among, is_empty, name_of, numbered, segment_name, segment_power, number_of, once, optional_key}
 use Rattle.semantics65.specs.Views.{place_in, said_at}
 use Rattle.emit65.specs.declared.entries.Entry.{Entry}

@@ -3,7 +3,12 @@ use Rattle.std.specs.Prelude.{◌≡◌, ◌≢◌, ◌⊎◌, ◌+◌, ℕ, Boo
 use Rattle.std.specs.List.{prefix_len}
 use Rattle.base65.specs.Digit.{digits}
 use Rattle.syntax65.specs.Forms.{class_of, is_word, number_of, StartsNumber, Begins, Stands, IsToken, FaultAt}
-use Rattle.syntax65.specs.Types.{At, Dot, Colon, Other, AddressSize, Mark, TokenKind, CheapName, Directive, SizePrefix, Symbol, LexFault}
+use Rattle.syntax65.specs.declared.lexing.places.Class.TheVariants.{At, Dot, Colon, Other}
+use Rattle.syntax65.specs.declared.lexing.tokens.AddressSize.{AddressSize}
+use Rattle.syntax65.specs.declared.lexing.tokens.Mark.{Mark}
+use Rattle.syntax65.specs.declared.lexing.tokens.TokenKind.{TokenKind}
+use Rattle.syntax65.specs.declared.lexing.tokens.TokenKind.TheVariants.{CheapName, Directive, SizePrefix, Symbol}
+use Rattle.syntax65.specs.declared.lexing.tokens.LexFault.{LexFault}
 
 -- a token of this kind and length stands here, or none does for this reason
 abbrev pub IsAt : Bool → List ℕ → Result (TokenKind × ℕ) LexFault → Type 0

@@ -1,6 +1,6 @@
 -- Lines of files that are given as they stand.
 use Rattle.std.proofs.lemmas.Grind.{common_steps}
-use Rattle.std.proofs.Common.{◌≡◌, ◌-◌, ◌<◌, ◌++◌, arith, ℕ, zero, suc, length, take, drop, ap, List, [], ◌∷◌, Option, Some, None, Ok, Bool, true, false, refl, sym, subst}
+use Rattle.std.proofs.Common.{◌≡◌, ◌-◌, ◌<◌, ◌++◌, arith, ℕ, zero, suc, length, take, drop, ap, ◌∙◌, List, [], ◌∷◌, Option, Some, None, Ok, Bool, true, false, refl, sym, subst}
 use Rattle.std.specs.Prelude.{◌&&◌, nat_lt}
 use Rattle.std.proofs.Math.Seq.{drop-append_seam, take-append_seam}
 use Rattle.base65.specs.Store.{Files}
@@ -14,8 +14,9 @@ use Rattle.expand65.specs.declared.line.Line.{Line}
 use Rattle.expand65.specs.declared.line.Word.{Word}
 use Rattle.expand65.specs.declared.reader.Reader.{Reader}
 use Rattle.expand65.specs.Failing.{CallsNone, Gives, IsGivenAs, given_behind, given_parts, none, one_more, Goes, no_step, one_more as goes_once}
-use Rattle.expand65.specs.Expansion.{Next, Reaches, further, given, statement, IsActed, IsLabelled, IsSplit, IsStep}
-use Rattle.expand65.specs.State.{Meaning, State, Stated, Stepped, label, plain, goes, gives, with_items}
+use Rattle.expand65.specs.Macros.{ordinary}
+use Rattle.expand65.specs.Expansion.{Leads, Next, Reaches, acted, begun, split, further, given, statement, IsStep}
+use Rattle.expand65.specs.State.{Meaning, State, leads, Stated, Stepped, label, plain, goes, gives, with_items}
 use Rattle.expand65.specs.declared.expander.Expander.{Expander}
 use Rattle.expand65.specs.declared.expander.Front.{Front}
 use Rattle.expand65.specs.declared.expander.Front.TheVariants.{Nothing, Rest}
@@ -61,17 +62,17 @@ module _ (m : Files) (k : Meaning) (old : Rewriter) (reader : Reader) (ts : List
   abbrev t : State
   t = state_of m (with_reader old reader)
 
-  step_acted : (x : Stepped) → label_len ts ≡ 0 → front_directive ts ≡ None → IsActed m k t ts None x → IsStep m k (state_of m old) x
-  step_acted x e d acted =
-      let P : Option Directive → Type 0 = λ o. IsActed m k t ts o x in
-      step_taken m k old (Ok (Some ts, left_of m reader)) x taken (unlabelled m k t ts x e (subst P (sym d) acted))
+  step_acted : (x : Stepped) → label_len ts ≡ 0 → front_directive ts ≡ None → x ≡ ordinary t ts → IsStep m k (state_of m old) x
+  step_acted x e d is =
+      let step : begun k t ts (is_mislabelled ts) ≡ leads (ordinary t ts) = unlabelled k t ts e ∙ ap (acted k t ts) d in
+      step_taken m k old (Ok (Some ts, left_of m reader)) x taken (subst (λ z. Leads m z x) (sym step) is)
 
   step_labelled : (n : ℕ) → label_len ts ≡ suc n → front_directive (drop (suc n) ts) ≡ None → IsStep m k (state_of m old) (gives (label (take (suc n) ts)) (with_items t (labelled (drop (suc n) ts) ∷ t.left.items)))
   step_labelled n e d =
       let x = gives (label (take (suc n) ts)) (with_items t (labelled (drop (suc n) ts) ∷ t.left.items)) in
       let right : is_mislabelled ts ≡ false = rw e (rw d (not_both (nat_lt 0 (suc n)))) in
-      let P : Bool → Type 0 = λ b. IsLabelled m k t ts b x in
-      let Q : ℕ → Type 0 = λ j. IsSplit m k t ts (line_directive ts) j x in
+      let P : Bool → Type 0 = λ b. Leads m (begun k t ts b) x in
+      let Q : ℕ → Type 0 = λ j. Leads m (split k t ts (line_directive ts) j) x in
       step_taken m k old (Ok (Some ts, left_of m reader)) x taken (subst P (sym right) (subst Q (sym e) refl))
 
 step_nothing : (m : Files) (k : Meaning) (s : State) → IsStep m k (fronted (Rest (line_of [])) s) (goes (fronted Nothing s))
@@ -108,8 +109,8 @@ rest_given old reader (t ∷ ts) right d calls =
     let kept = line_kept (t ∷ ts) in
     more mid new new (Plain (line_of (t ∷ ts))) (plain (t ∷ ts)) [] (ap plain kept) right refl (λ h. h) (λ m k.
     let s = state_of m new.rewriter in
-    let P : Option Directive → Type 0 = λ o. IsActed m k s (t ∷ ts) o (gives (plain (t ∷ ts)) s) in
-    let Q : List Lexeme → Type 0 = λ l. IsActed m k s l (front_directive l) (gives (plain (t ∷ ts)) s) in
+    let P : Option Directive → Type 0 = λ o. Leads m (acted k s (t ∷ ts) o) (gives (plain (t ∷ ts)) s) in
+    let Q : List Lexeme → Type 0 = λ l. Leads m (acted k s l (front_directive l)) (gives (plain (t ∷ ts)) s) in
     given (state_in m mid) s (plain (t ∷ ts)) (step_rest m k mid (line_of (t ∷ ts)) (gives (plain (t ∷ ts)) s) refl (subst Q (sym kept) (subst P (sym d) (no_call m new.rewriter t ts calls))))) (omega arith) refl (none_more new)
 
 module _ (old : Expander) (reader : Reader) (right : old.failed ≡ false) (bare : old.front ≡ Nothing) (named : NamesFiles old.rewriter.reader → NamesFiles reader) (some : 0 < old.rewriter.reader.room) (fewer : reader.room ≡ old.rewriter.reader.room - 1) (outer : reader.outer ≡ old.rewriter.reader.outer) where

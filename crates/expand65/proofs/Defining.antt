@@ -11,7 +11,8 @@ use Rattle.syntax65.specs.declared.expressions.words.ExprFault.{ExprFault}
 use Rattle.syntax65.specs.declared.expressions.words.ExprFault.TheVariants.{OutOfMemory, OperandExpected, ParenthesisExpected, TooDeep}
 use Rattle.syntax65.specs.declared.lexing.tokens.Token.{Token}
 use Rattle.expand65.specs.Fronts.{name_in, understood, ◌>=>◌}
-use Rattle.expand65.specs.Macros.{header_of, params_of, IsDefined, repeat_header, variable_of, IsRepeated, repeat_mark, IsKept, kept, macro_of}
+use Rattle.expand65.specs.Expansion.{Leads}
+use Rattle.expand65.specs.Macros.{header_of, params_of, defined, macro_line, mark_from, repeat_header, variable_of, repeated, macro_of}
 use Rattle.syntax65.specs.declared.fault.ExpandFault.{ExpandFault}
 use Rattle.syntax65.specs.declared.fault.ExpandFault.TheVariants.{MacroTwice}
 use Rattle.std.specs.Map.{lookup}
@@ -23,11 +24,10 @@ use Rattle.indexmap.specs.IndexMap.{IndexMap, insert_entry}
 use Rattle.indexmap.proofs.CallerLemmas.{insert_entry-new}
 use Rattle.base65.specs.Store.{Files}
 use Rattle.expand65.specs.Blocks.{Block, collects, gathers}
-use Rattle.expand65.specs.Lines.{pushed, repeating, Definition, turns, Left, Stop}
-use Rattle.expand65.specs.Failing.{FailsDefining, FailsKeeping}
-use Rattle.expand65.specs.Standing.{FailsInBlock, left_of, turns_left, macros_of, state_of}
+use Rattle.expand65.specs.Lines.{pushed, repeating, Definition, turns}
+use Rattle.expand65.specs.Standing.{left_of, turns_left, macros_of, state_of}
 use Rattle.expand65.specs.Playing.{tokens_in, definition_of}
-use Rattle.expand65.specs.State.{State, Stepped, goes, stops}
+use Rattle.expand65.specs.State.{State, goes, stops, unless_refused}
 use Rattle.syntax65.specs.declared.place.Place.{Place}
 use Rattle.expand65.specs.declared.playing.Body.{Body}
 use Rattle.expand65.specs.declared.playing.Replay.{Replay}
@@ -90,31 +90,15 @@ more_macros t k v es h e =
     none_of None h = refl
     none_of (Some b) h = absurd (cc)
 
-pub twice : (s : State) (name : List ℕ) (params : List (List ℕ)) → is_some (macro_of s.macros name) ≡ true → IsKept s name params (macro_of s.macros name) (stops (MacroTwice, s.left.place))
-twice s name params h = grind (arith, common_steps)
+pub twice : (m : Files) (s : State) (name : List ℕ) (params : List (List ℕ)) → is_some (macro_of s.macros name) ≡ true → Leads m (defined s name params (macro_of s.macros name)) (stops (MacroTwice, s.left.place))
+twice m s name params h = grind (arith, common_steps)
 
 pub is_none : {A : Type 0} (o : Option A) → is_some o ≡ false → o ≡ None
 is_none x h = grind (arith, common_steps)
 
-pub once : (s : State) (name : List ℕ) (params : List (List ℕ)) (q : Result (List (List Lexeme) × Left) Stop) (x : Stepped) → macro_of s.macros name ≡ None → Block collects [] s.left q → x ≡ kept s name params q → IsKept s name params (macro_of s.macros name) x
-once s name params q x h b e = let P : Option Definition → Type 0 = λ o. IsKept s name params o x in subst P (sym h) (q, b, e)
-
-pub once_refused : (s : State) (name : List ℕ) (params : List (List ℕ)) (f : ExpandFault) (p : Place) → macro_of s.macros name ≡ None → Unless (is_outside f) (Block collects [] s.left (Err (f, p))) → Unless (is_outside f) (IsKept s name params (macro_of s.macros name) (stops (f, p)))
-once_refused s name params f p h b = grind (arith, common_steps)
-
--- what is kept under a header that is understood is defined
-pub defined : (s : State) (o : Option (List ℕ × List (List ℕ))) (name : List ℕ) (params : List (List ℕ)) (r : Stepped) → understood o ≡ Ok (name, params) → IsKept s name params (macro_of s.macros name) r → IsDefined s o r
-defined s None name params r e h = absurd cc
-defined s (Some o) name params r e h =
-    let same : (name, params) ≡ o = cc in
-    subst (λ o. IsDefined s (Some o) r) same h
-
--- so the store fails in its body's lines
-pub fails_defining : (b : Option (List ℕ)) (s : State) (o : Option (List ℕ × List (List ℕ))) (name : List ℕ) (params : List (List ℕ)) → understood o ≡ Ok (name, params) → macro_of s.macros name ≡ None → (p : Place) → FailsInBlock b collects [] s.left p → FailsDefining b s o p
-fails_defining b s None name params e none p h = absurd cc
-fails_defining b s (Some o) name params e none p h =
-    let same : (name, params) ≡ o = cc in
-    subst (λ o. FailsDefining b s (Some o) p) same (subst (λ k. FailsKeeping b s k p) (sym none) h)
+-- what `.macro` with a header that is understood defines
+pub macro_is : (s : State) (ts : List Lexeme) (name : List ℕ) (params : List (List ℕ)) (o : Option Definition) → understood (header_of ts) ≡ Ok (name, params) → macro_of s.macros name ≡ o → defined s name params o ≡ macro_line s ts
+macro_is s ts name params o e none = sym (ap (λ (q : Result (List ℕ × List (List ℕ)) ExpandFault). unless_refused s q (λ h. defined s h.0 h.1 (macro_of s.macros h.0))) e ∙ ap (defined s name params) none)
 
 -- ---- An input put in front of the lines.
 
@@ -124,19 +108,22 @@ fails_defining b s (Some o) name params e none p h =
 abbrev pub rewritten : Files → Rewriter → Reader → List (List ℕ × Definition) → State
 rewritten m r rd ms = record { left = left_of m rd; macros = ms; conditions = r.conditions; expansions = r.expansions; folders = r.folders }
 
-pub kept_one : (m : Files) (old : Rewriter) (rd : Reader) (name : Vec ℕ Global) (body : Rc Body Global) (b : Body) (es : List (Vec ℕ Global × Rc Body Global)) → macro_of (macros_of old) name.items ≡ None → es ≡ insert_entry same_name old.macros.entries name body → body.value ≡ b → Block collects [] (left_of m old.reader) (Ok (map tokens_in b.lines, left_of m rd)) → IsKept (state_of m old) name.items (map (λ k. k.items) b.params.keys) (macro_of (macros_of old) name.items) (goes (rewritten m old rd (map entry_of es)))
+pub kept_one : (m : Files) (old : Rewriter) (rd : Reader) (name : Vec ℕ Global) (body : Rc Body Global) (b : Body) (es : List (Vec ℕ Global × Rc Body Global)) → macro_of (macros_of old) name.items ≡ None → es ≡ insert_entry same_name old.macros.entries name body → body.value ≡ b → Block collects [] (left_of m old.reader) (Ok (map tokens_in b.lines, left_of m rd)) → Leads m (defined (state_of m old) name.items (map (λ k. k.items) b.params.keys) None) (goes (rewritten m old rd (map entry_of es)))
 kept_one m old rd name body b es h e v block =
     let ms : map entry_of es ≡ macros_of old ++ (name.items, definition_of b) ∷ [] = more_macros old.macros name body es h e ∙ ap (λ (x : Body). macros_of old ++ (name.items, definition_of x) ∷ []) v in
-    once (state_of m old) name.items (map (λ k. k.items) b.params.keys) (Ok (map tokens_in b.lines, left_of m rd)) (goes (rewritten m old rd (map entry_of es))) h block (ap (λ x. goes (rewritten m old rd x)) ms)
+    (Ok (map tokens_in b.lines, left_of m rd), block, ap (λ x. goes (rewritten m old rd x)) ms)
+
+pub block_refused : (m : Files) (s : State) (name : List ℕ) (params : List (List ℕ)) (f : ExpandFault) (p : Place) → Unless (is_outside f) (Block collects [] s.left (Err (f, p))) → Unless (is_outside f) (Leads m (defined s name params None) (stops (f, p)))
+block_refused m s name params f p h = grind (arith, common_steps)
 
 -- ---- A repeat begins.
 
 pub turns_ready : (r : Replay) (b : Body) (n : ℕ) → r.body.value ≡ b → r.at ≡ length b.lines → r.arguments ≡ [] → r.count ≡ None → r.locals.entries ≡ [] → r.number ≡ 0 → turns_left r 0 n ≡ turns (repeating (map (λ k. k.items) b.params.keys)) (map tokens_in b.lines) 0 n
 turns_ready r b n v a g c l k = grind (arith, common_steps)
 
-pub repeated_one : (m : Files) (old : Rewriter) (rd new : Reader) (replay : Replay) (b : Body) (n : ℕ) → Block gathers (0, []) (left_of m old.reader) (Ok (map tokens_in b.lines, left_of m rd)) → turns_left replay 0 n ≡ turns (repeating (map (λ k. k.items) b.params.keys)) (map tokens_in b.lines) 0 n → Ok (left_of m new) ≡ pushed (turns_left replay 0 n) (repeat_mark (state_of m old)) (left_of m rd) → IsRepeated (state_of m old) (Ok (n, map (λ k. k.items) b.params.keys)) (goes (rewritten m old new (macros_of old)))
+pub repeated_one : (m : Files) (old : Rewriter) (rd new : Reader) (replay : Replay) (b : Body) (n : ℕ) → Block gathers (0, []) (left_of m old.reader) (Ok (map tokens_in b.lines, left_of m rd)) → turns_left replay 0 n ≡ turns (repeating (map (λ k. k.items) b.params.keys)) (map tokens_in b.lines) 0 n → Ok (left_of m new) ≡ pushed (turns_left replay 0 n) (mark_from (state_of m old) false None) (left_of m rd) → Leads m (repeated (state_of m old) n (map (λ k. k.items) b.params.keys)) (goes (rewritten m old new (macros_of old)))
 repeated_one m old rd new replay b n block ts e = grind (arith, common_steps)
 
-pub repeated_none : (m : Files) (old : Rewriter) (rd : Reader) (replay : Replay) (b : Body) (n : ℕ) (outside : Bool) (f : ExpandFault) (p : Place) → Block gathers (0, []) (left_of m old.reader) (Ok (map tokens_in b.lines, left_of m rd)) → turns_left replay 0 n ≡ turns (repeating (map (λ k. k.items) b.params.keys)) (map tokens_in b.lines) 0 n → Unless outside (Err (f, p) ≡ pushed (turns_left replay 0 n) (repeat_mark (state_of m old)) (left_of m rd)) → Unless outside (IsRepeated (state_of m old) (Ok (n, map (λ k. k.items) b.params.keys)) (stops (f, p)))
+pub repeated_none : (m : Files) (old : Rewriter) (rd : Reader) (replay : Replay) (b : Body) (n : ℕ) (outside : Bool) (f : ExpandFault) (p : Place) → Block gathers (0, []) (left_of m old.reader) (Ok (map tokens_in b.lines, left_of m rd)) → turns_left replay 0 n ≡ turns (repeating (map (λ k. k.items) b.params.keys)) (map tokens_in b.lines) 0 n → Unless outside (Err (f, p) ≡ pushed (turns_left replay 0 n) (mark_from (state_of m old) false None) (left_of m rd)) → Unless outside (Leads m (repeated (state_of m old) n (map (λ k. k.items) b.params.keys)) (stops (f, p)))
 repeated_none m old rd replay b n true f p block ts e = tt
 repeated_none m old rd replay b n false f p block ts e = grind (arith, common_steps)

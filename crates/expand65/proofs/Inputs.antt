@@ -6,7 +6,7 @@ use Rattle.std.proofs.lemmas.Bool.Decides.{nat_tests}
 use Rattle.std.proofs.lemmas.List.{append-nil}
 use Rattle.base65.specs.Store.{Files}
 use Rattle.syntax65.specs.Tokens.{Lexeme}
-use Rattle.expand65.specs.Lines.{pushed, closed, end_of, exit_of, if_more, IsOpened, Takes, TakesFrom, lines_of, rest_of, numbered, turns, Item, written, played, labelled, branch, mark, Mark, left, marks, innermost, outside_macro, come_back, moved, in_turn, Replacing}
+use Rattle.expand65.specs.Lines.{pushed, closed, IsOpened, Takes, TakesFrom, lines_of, rest_of, numbered, turns, Item, written, played, labelled, branch, mark, Mark, left, marks, innermost, outside_macro, come_back, moved, in_turn, Replacing}
 use Rattle.expand65.specs.Standing.{left_in, mark_of, own, outside, left_of, is_call, ComesNext, TakesLine, moved_by}
 use Rattle.expand65.specs.Playing.{tokens_in, left_to_play, replacing_of, TakesWritten}
 use Rattle.syntax65.specs.declared.fault.ExpandFault.TheVariants.{Nested, NotClosed}
@@ -123,12 +123,12 @@ dropped m old new g top e t = ap (λ x. own m x ++ outside m new) t ∙ sym (ap 
 pub not_closed : (m : Files) (r : Reader) (n : ℕ) → left_in m r.top.source ≡ [] → r.top.conditions ≢ n → Err (NotClosed, r.place) ≡ closed n r.place (left_of m r).items
 not_closed m r n e h = grind (arith, common_steps)
 
-pub closes : (m : Files) (old new : Reader) (n : ℕ) (more : Bool) → left_in m old.top.source ≡ [] → old.top.conditions ≡ n → if_more more (left_of m new).items ≡ outside m old.outer.items → new.place ≡ come_back old.place old.top.back → Ok (if_more more (left_of m new).items, new.place) ≡ closed n old.place (left_of m old).items
+pub closes : (m : Files) (old new : Reader) (n : ℕ) (more : Bool) → left_in m old.top.source ≡ [] → old.top.conditions ≡ n → (if more then (left_of m new).items else []) ≡ outside m old.outer.items → new.place ≡ come_back old.place old.top.back → Ok ((if more then (left_of m new).items else []), new.place) ≡ closed n old.place (left_of m old).items
 closes m old new n more e h i p = grind (arith, common_steps)
 
 -- the place that a reader goes back to doesn't change what is left
-pub same_items : (m : Files) (a b : Reader) (more : Bool) (is : List Item) → b.top ≡ a.top → b.outer ≡ a.outer → if_more more (left_of m a).items ≡ is → if_more more (left_of m b).items ≡ is
-same_items m a b more is t o h = ap (λ x. if_more more (own m x ++ outside m b.outer.items)) t ∙ ap (λ x. if_more more (own m a.top ++ outside m x.items)) o ∙ h
+pub same_items : (m : Files) (a b : Reader) (more : Bool) (is : List Item) → b.top ≡ a.top → b.outer ≡ a.outer → (if more then (left_of m a).items else []) ≡ is → (if more then (left_of m b).items else []) ≡ is
+same_items m a b more is t o h = ap (λ x. if more then own m x ++ outside m b.outer.items else []) t ∙ ap (λ x. if more then own m a.top ++ outside m x.items else []) o ∙ h
 
 -- ---- Out of the innermost expansion.
 
@@ -141,23 +141,23 @@ outside_lines (branch ts ∷ is) js p h = absurd h
 outside_lines (mark x ∷ is) js p h = absurd h
 
 abbrev Out : Type 0
-Out = Option (Mark × List Item × Place)
+Out = Option (ℕ × List Item × Place)
 
-one_out : (m : Files) (r : Reader) (p : Place) (b : Bool) → is_call r.top.source ≡ b → outside_macro (left_of m r).items p ≡ (if b then Some (mark_of r.top, outside m r.outer.items, come_back p r.top.back) else outside_macro (outside m r.outer.items) (come_back p r.top.back))
+one_out : (m : Files) (r : Reader) (p : Place) (b : Bool) → is_call r.top.source ≡ b → outside_macro (left_of m r).items p ≡ (if b then Some (r.top.conditions, outside m r.outer.items, come_back p r.top.back) else outside_macro (outside m r.outer.items) (come_back p r.top.back))
 one_out m r p b e = grind (arith, common_steps, own_split, outside_lines, lines_left)
 
 -- an input that is no expansion is left, and others are outside
-pub goes_out : (m : Files) (old new : Reader) (p q : Place) (x : Out) → is_call old.top.source ≡ false → if_more true (left_of m new).items ≡ outside m old.outer.items → q ≡ come_back p old.top.back → outside_macro (left_of m old).items p ≡ x → outside_macro (left_of m new).items q ≡ x
+pub goes_out : (m : Files) (old new : Reader) (p q : Place) (x : Out) → is_call old.top.source ≡ false → (if true then (left_of m new).items else []) ≡ outside m old.outer.items → q ≡ come_back p old.top.back → outside_macro (left_of m old).items p ≡ x → outside_macro (left_of m new).items q ≡ x
 goes_out m old new p q x c i e h = ap (λ l. outside_macro l q) i ∙ ap (outside_macro (outside m old.outer.items)) e ∙ sym (one_out m old p false c) ∙ h
 
 -- none is outside
-pub none_out : (m : Files) (old : Reader) (p : Place) (x : Out) → is_call old.top.source ≡ false → [] ≡ outside m old.outer.items → outside_macro (left_of m old).items p ≡ x → exit_of x ≡ None
-none_out m old p x c i h = ap exit_of (sym h ∙ one_out m old p false c ∙ ap (λ l. outside_macro l (come_back p old.top.back)) (sym i))
+pub none_out : (m : Files) (old : Reader) (p : Place) (x : Out) → is_call old.top.source ≡ false → [] ≡ outside m old.outer.items → outside_macro (left_of m old).items p ≡ x → x ≡ None
+none_out m old p x c i h = sym h ∙ one_out m old p false c ∙ ap (λ l. outside_macro l (come_back p old.top.back)) (sym i)
 
 -- an expansion is left
-pub is_out : (m : Files) (old new : Reader) (p : Place) (x : Out) (more : Bool) → is_call old.top.source ≡ true → if_more more (left_of m new).items ≡ outside m old.outer.items → new.place ≡ come_back p old.top.back → outside_macro (left_of m old).items p ≡ x → exit_of x ≡ end_of (Some (record { conditions = old.top.conditions; more = more })) (left_of m new).items new.place
+pub is_out : (m : Files) (old new : Reader) (p : Place) (x : Out) (more : Bool) → is_call old.top.source ≡ true → (if more then (left_of m new).items else []) ≡ outside m old.outer.items → new.place ≡ come_back p old.top.back → outside_macro (left_of m old).items p ≡ x → x ≡ Some (old.top.conditions, (if more then (left_of m new).items else []), new.place)
 is_out m old new p x more c i e h =
-    ap exit_of (sym h ∙ one_out m old p true c) ∙ ap (λ l. Some (old.top.conditions, l, come_back p old.top.back)) (sym i) ∙ ap (λ q. Some (old.top.conditions, if_more more (left_of m new).items, q)) (sym e)
+    sym h ∙ one_out m old p true c ∙ ap (λ l. Some (old.top.conditions, l, come_back p old.top.back)) (sym i) ∙ ap (λ q. Some (old.top.conditions, (if more then (left_of m new).items else []), q)) (sym e)
 
 -- ---- The next line of the innermost input, as a line that is taken of all that is left.
 

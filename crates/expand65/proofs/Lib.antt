@@ -16,3 +16,4 @@ pub mod Tables
 pub mod Turning
 pub mod Unique
 pub mod Wholes
+pub mod Words

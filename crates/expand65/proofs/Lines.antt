@@ -4,7 +4,8 @@ use Rattle.std.proofs.Common.{◌≡◌, ℕ, ◌+◌, ◌-◌, ◌<◌, ◌≤�
 use Rattle.std.proofs.lemmas.Bool.Decides.{nat_tests}
 use Rattle.std.proofs.lemmas.List.{drop_all, drop-drop, drop-take, take-append-drop, length-take, take-take, take_at, append-nil}
 use Rattle.base65.specs.Store.{Files}
-use Rattle.expand65.specs.Lines.{IsPiece, bytes_of, content, is_inside, BeginsLong, without_return, TakesPiece, rest_of, is_line_end, is_return, begins_with_end, put_before, lines_of}
+use Rattle.expand65.specs.Lines.{IsPiece, bytes_of, content, is_inside, BeginsLong, without_return, TakesPiece, rest_of, is_line_end, is_return, put_before, lines_of}
+use Rattle.expand65.specs.Fronts.{begins}
 use Rattle.std.specs.Prelude.{unwrap_or}
 use Rattle.std.specs.List.{prefix_len}
 use Rattle.std.proofs.lemmas.List.Sums.{prefix_len_is}
@@ -40,18 +41,28 @@ next_piece bs limit at want n piece h p = rw p.front (by (nat_le at limit) refl)
         subst P none (ap (λ k. drop k (take limit bs)) same)
 
 -- where nothing more comes
-pub no_piece : (bs : List ℕ) (limit at want n : ℕ) (piece : List ℕ) → want ≡ min 4096 (limit - at) → IsPiece (drop at bs) want n piece → n ≡ 0 → drop (at + n) (take limit bs) ≡ []
-no_piece bs limit at want n piece h p e = grind (arith, common_steps)
+pub no_piece : (bs : List ℕ) (limit at want n : ℕ) (piece : List ℕ) → (at < limit → 0 < want) → IsPiece (drop at bs) want n piece → n ≡ 0 → drop (at + n) (take limit bs) ≡ []
+no_piece bs limit at want n piece h p e = drop_all (at + n) (take limit bs) (by (nat_lt at limit) refl)
+  where
+    by : (b : Bool) → nat_lt at limit ≡ b → length (take limit bs) ≤ at + n
+    by true lt =
+        let less : at < limit = grind (arith, nat_tests, lt) in
+        let rest : drop at bs ≡ [] = p.ends e (h less) in
+        let count : length bs - at ≡ 0 = sym (length-drop at bs) ∙ ap length rest in
+        omega (arith, count, length-take limit bs)
+    by false ge =
+        let more : limit ≤ at = grind (arith, nat_tests, ge) in
+        omega (arith, more, length-take limit bs)
 
 -- ---- As a store tells its files.
 
-pub told_kept : (o : Option Files) (name old : List ℕ) (at next want n : ℕ) (piece : List ℕ) → length old ≤ at → want ≡ min 4096 (16777216 - next) → IfSome o (λ m. IsPiece (drop next (bytes_of m name)) want n piece) → IfSome o (λ m. drop 0 piece ++ drop (next + n) (content m name) ≡ drop at old ++ drop next (content m name))
+pub told_kept : (o : Option Files) (name old : List ℕ) (at next want n : ℕ) (piece : List ℕ) → length old ≤ at → want ≤ min 4096 (16777216 - next) → IfSome o (λ m. IsPiece (drop next (bytes_of m name)) want n piece) → IfSome o (λ m. drop 0 piece ++ drop (next + n) (content m name) ≡ drop at old ++ drop next (content m name))
 told_kept None name old at next want n piece h w r = tt
 told_kept (Some m) name old at next want n piece h w r =
     let none : drop at old ≡ [] = drop_all at old h in
     next_piece (bytes_of m name) 16777216 next want n piece (omega (arith, w)) r ∙ ap (λ l. l ++ drop next (content m name)) (sym none)
 
-pub told_none : (o : Option Files) (name : List ℕ) (next want n : ℕ) (piece : List ℕ) → want ≡ min 4096 (16777216 - next) → length piece ≡ n → IfSome o (λ m. IsPiece (drop next (bytes_of m name)) want n piece) → IfSome o (λ m. piece ≡ [] → drop 0 piece ++ drop (next + n) (content m name) ≡ [])
+pub told_none : (o : Option Files) (name : List ℕ) (next want n : ℕ) (piece : List ℕ) → (next < 16777216 → 0 < want) → length piece ≡ n → IfSome o (λ m. IsPiece (drop next (bytes_of m name)) want n piece) → IfSome o (λ m. piece ≡ [] → drop 0 piece ++ drop (next + n) (content m name) ≡ [])
 told_none None name next want n piece w l r = tt
 told_none (Some m) name next want n piece w l r = λ e. rw e (no_piece (bytes_of m name) 16777216 next want n piece w r (sym l ∙ ap length e))
 
@@ -76,7 +87,7 @@ within bs x h = grind (arith, common_steps)
 lines_end : (b : ℕ) (bs : List ℕ) → is_line_end b ≡ true → lines_of (b ∷ bs) ≡ [] ∷ lines_of bs
 lines_end b bs e = rw e refl
 
-lines_return : (b : ℕ) (bs : List ℕ) → is_line_end b ≡ false → is_return b ≡ true → begins_with_end bs ≡ true → lines_of (b ∷ bs) ≡ lines_of bs
+lines_return : (b : ℕ) (bs : List ℕ) → is_line_end b ≡ false → is_return b ≡ true → begins is_line_end bs ≡ true → lines_of (b ∷ bs) ≡ lines_of bs
 lines_return b bs e r h = rw (e, r, h) refl
 
 lines_more : (b : ℕ) (bs : List ℕ) → is_line_end b ≡ false → is_return b ≡ false → lines_of (b ∷ bs) ≡ put_before b (lines_of bs)

@@ -1,17 +1,18 @@
 -- Lines without a label and a directive, and what they do to blocks.
 use Rattle.std.proofs.lemmas.Grind.{common_steps}
 use Rattle.std.proofs.Common.{arith, ◌≡◌, ℕ, zero, suc, Bool, true, false, not, List, [], ◌∷◌, ◌++◌, Option, None, refl, subst, sym, ◌∙◌, Result}
-use Rattle.std.specs.Prelude.{if◌then◌else◌, ◌&&◌}
+use Rattle.std.specs.Prelude.{if◌then◌else◌, ◌&&◌, slice_get}
 use Rattle.syntax65.specs.Tokens.{Lexeme}
-use Rattle.expand65.specs.Blocks.{Verdict, on, collecting, gathering, passing, refused, skipping, mislabelled}
-use Rattle.expand65.specs.Standing.{AnswerOf, Judges, StateOf, is_kept, judge_of, block_state}
+use Rattle.expand65.specs.Blocks.{Verdict, on, collecting, gathering, passing, refused, skipping}
+use Rattle.expand65.specs.Blocks.{AnswerOf, StateOf, judge_of, block_state}
+use Rattle.expand65.specs.Standing.{Judges, is_kept}
 use Rattle.expand65.specs.declared.blocks.BlockKind.{BlockKind}
 use Rattle.expand65.specs.declared.blocks.BlockKind.TheVariants.{Macro, Repeat, Skipped, Passed}
 use Rattle.expand65.specs.declared.blocks.BlockStep.{BlockStep}
 use Rattle.syntax65.specs.declared.fault.ExpandFault.{ExpandFault}
 use Rattle.syntax65.specs.declared.fault.ExpandFault.TheVariants.{NotUnderstood}
 use Rattle.expand65.specs.Fronts.{is_mislabelled, label_len, line_directive}
-use Rattle.expand65.specs.Playing.{cut, IsColonAt, IsPlain}
+use Rattle.expand65.specs.Playing.{cut, IsColonIn, IsPlain}
 use Rattle.expand65.specs.declared.fronts.Directive.{Directive}
 use Rattle.expand65.specs.declared.line.Word.{Word}
 
@@ -19,7 +20,7 @@ no_name : (b : Bool) → ◌≡◌ {A = ℕ} (if b && false then 2 else 0) 0
 no_name true = refl
 no_name false = refl
 
-pub no_label : (ws : List Word) (bs : List ℕ) (a b : Bool) → IsColonAt ws 0 a → IsColonAt ws 1 b → a ≡ false → not b ≡ true → label_len (cut ws bs) ≡ 0
+pub no_label : (ws : List Word) (bs : List ℕ) (a b : Bool) → IsColonIn (slice_get ws 0) a → IsColonIn (slice_get ws 1) b → a ≡ false → not b ≡ true → label_len (cut ws bs) ≡ 0
 no_label [] bs a b e f h k = refl
 no_label (w ∷ []) bs a b e f h k = grind (arith, common_steps, no_name)
 no_label (w ∷ v ∷ ws) bs a true e f h k = absurd (cc)
@@ -31,7 +32,7 @@ right ts e = rw e refl
 none : (ts : List Lexeme) → IsPlain ts → line_directive ts ≡ None
 none ts (e, f) = rw e f
 
-plain_on : {A B : Type 0} (ts : List Lexeme) (step : Option Directive → Verdict A B) (a : A) → IsPlain ts → step None ≡ on a → (if is_mislabelled ts then mislabelled else step (line_directive ts)) ≡ on a
+plain_on : {A B : Type 0} (ts : List Lexeme) (step : Option Directive → Verdict A B) (a : A) → IsPlain ts → step None ≡ on a → (if is_mislabelled ts then refused NotUnderstood else step (line_directive ts)) ≡ on a
 plain_on {A} {B} ts step a p e = grind (arith, common_steps, right, none)
 
 -- a plain line changes nothing but the lines that are kept

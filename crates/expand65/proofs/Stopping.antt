@@ -1,18 +1,19 @@
 -- Where expansion was when the store failed.
 use Rattle.std.proofs.lemmas.Grind.{common_steps}
-use Rattle.std.proofs.Common.{arith, ◌≡◌, ℕ, List, ◌∷◌, ◌++◌, Bool, true, false, Option, Some, None, IfSome, Ok, Err, ap, refl, sym, subst, ◌∙◌, drop, Result}
+use Rattle.std.proofs.Common.{arith, ◌≡◌, ℕ, List, ◌∷◌, ◌++◌, Bool, true, false, Option, Some, None, IfSome, Ok, Err, ap, refl, sym, subst, ◌∙◌, inl, inr, Result}
 use Rattle.std.specs.Prelude.{if◌then◌else◌}
 use Rattle.base65.specs.Outcome.{Unless}
 use Rattle.base65.specs.Store.{Files}
 use Rattle.syntax65.specs.Tokens.{Lexeme}
+use Rattle.std.specs.Option.{option_map_or}
 use Rattle.expand65.specs.Blocks.{Block, passes}
-use Rattle.expand65.specs.State.{IsElse, conditions_in, popped, Stepped, goes, stops, with_conditions, with_items, State, with_left, Meaning}
+use Rattle.expand65.specs.State.{else_line, if_line, popped, Step, takes, Stepped, goes, stops, with_conditions, with_items, State, with_left, Meaning}
 use Rattle.syntax65.specs.Faults.{is_outside, is_failure}
-use Rattle.expand65.specs.Fronts.{understood, front_directive}
-use Rattle.expand65.specs.Standing.{is_call, left_in, left_of, mark_of, outside, own, FailsInBlock, StopsAt, state_of, turned, fronted, led, state_in}
+use Rattle.expand65.specs.Fronts.{understood, front_directive, is_mislabelled}
+use Rattle.expand65.specs.Standing.{is_call, left_in, left_of, mark_of, outside, own, FailsAtLine, FailsInBlock, StopsAt, state_of, turned, fronted, led, state_in}
 use Rattle.expand65.specs.Lines.{localised, Item, Mark, mark, innermost, Takes}
 use Rattle.expand65.specs.Macros.{local_line, local_named, new_names}
-use Rattle.expand65.specs.Expansion.{last_condition, IsStep}
+use Rattle.expand65.specs.Expansion.{Leads, acted, begun, last_condition, step_behind, IsStep}
 use Rattle.syntax65.specs.declared.fault.ExpandFault.{ExpandFault}
 use Rattle.syntax65.specs.declared.fault.ExpandFault.TheVariants.{NotOpened, NotUnderstood, FileError}
 use Rattle.expand65.specs.declared.input.Source.{Source}
@@ -22,15 +23,14 @@ use Rattle.expand65.specs.declared.reader.Reader.{Reader}
 use Rattle.expand65.specs.declared.rewriter.Rewriter.{Rewriter}
 use Rattle.expand65.proofs.Inputs.{innermost_is, own_split}
 use Rattle.expand65.specs.Playing.{tokens_in}
-use Rattle.expand65.specs.declared.fronts.Directive.{Directive}
 use Rattle.expand65.specs.declared.fronts.Test.TheVariants.{True}
 use Rattle.expand65.specs.declared.line.Line.{Line}
-use Rattle.expand65.specs.Failing.{FailsActing, FailsAt, FailsAtElse, FailsAtIf, FailsBy, FailsFrom, FailsTaking, FailsUnlabelled, Goes, Reading, StopsReading, no_step, one_more}
+use Rattle.expand65.specs.Failing.{Fails, FailsAt, Goes, Reading, StopsReading, no_step, one_more}
 use Rattle.expand65.specs.declared.expander.Expander.{Expander}
 use Rattle.expand65.specs.declared.expander.Front.{Front}
 use Rattle.expand65.specs.declared.expander.Front.TheVariants.{Nothing, Rest, Branch}
 use Rattle.expand65.specs.declared.rewriter.Turn.{Turn}
-use Rattle.expand65.proofs.Going.{BeginsPlain, begins_at_line}
+use Rattle.expand65.proofs.Going.{first_taken}
 
 -- ---- The last open condition, and the innermost end mark, of a rewriter.
 
@@ -43,15 +43,18 @@ mark_by b i = record { is_macro = b; conditions = i.conditions; back = i.back }
 
 -- the innermost input says how many conditions stay open
 pub last_is : (m : Files) (r : Rewriter) → last_condition (state_of m r) ≡ popped r.conditions r.reader.top.conditions
-last_is m r = ap (λ k. popped r.conditions (conditions_in k)) (innermost_is m r.reader)
+last_is m r = ap (λ (k : Option Mark). popped r.conditions (option_map_or (λ x. x.conditions) k 0)) (innermost_is m r.reader)
 
 -- ---- An `.elseif` or `.else` behind a condition that was true.
 
 abbrev ElseIn : Files → Rewriter → Stepped → Type 0
-ElseIn m old r = IsElse (state_of m old) (last_condition (state_of m old)) r
+ElseIn m old r = Leads m (else_line (state_of m old) (last_condition (state_of m old))) r
 
-else_by : (m : Files) (old : Rewriter) (o : Option (Bool × List Bool)) (r : Stepped) → popped old.conditions old.reader.top.conditions ≡ o → IsElse (state_of m old) o r → ElseIn m old r
-else_by m old o r e h = let P : Option (Bool × List Bool) → Type 0 = λ x. IsElse (state_of m old) x r in subst P (sym (last_is m old ∙ e)) h
+else_is : (m : Files) (old : Rewriter) (o : Option (Bool × List Bool)) → popped old.conditions old.reader.top.conditions ≡ o → else_line (state_of m old) o ≡ else_line (state_of m old) (last_condition (state_of m old))
+else_is m old o e = ap (else_line (state_of m old)) (sym (last_is m old ∙ e))
+
+else_by : (m : Files) (old : Rewriter) (o : Option (Bool × List Bool)) (r : Stepped) → popped old.conditions old.reader.top.conditions ≡ o → Leads m (else_line (state_of m old) o) r → ElseIn m old r
+else_by m old o r e h = subst (λ z. Leads m z r) (else_is m old o e) h
 
 pub else_passed : (o : Option Files) (old : Rewriter) (rd : Reader) (cs : List Bool) → popped old.conditions old.reader.top.conditions ≡ Some (false, cs) → IfSome o (λ m. Block passes 0 (left_of m old.reader) (Ok (tt, left_of m rd))) → IfSome o (λ m. ElseIn m old (goes (with_conditions (state_of m old) cs (left_of m rd))))
 else_passed x old rd cs e h = grind (arith, common_steps, else_by)
@@ -63,7 +66,7 @@ pub else_none : (o : Option Files) (old : Rewriter) → popped old.conditions ol
 else_none x old e = grind (arith, common_steps, else_by)
 
 pub else_twice : (o : Option Files) (old : Rewriter) (bs : List Bool) → popped old.conditions old.reader.top.conditions ≡ Some (true, bs) → IfSome o (λ m. ElseIn m old (stops (NotOpened, old.reader.place)))
-else_twice x old bs e = grind (arith, common_steps)
+else_twice x old bs e = grind (arith, common_steps, else_by)
 
 -- ---- `.local`.
 
@@ -102,33 +105,41 @@ stood x y z reader f h = grind (arith, common_steps)
 pub only_error : (f : ExpandFault) → is_failure f ≡ true → f ≡ FileError
 only_error x h = grind (arith, common_steps)
 
+-- the same step, by another word
+pub stops_by : {A : Type 0} (o : Option Files) (blamed : Option (List ℕ)) (x y : Files → Step) (old new : Reader) (r : Result A ExpandFault) → ((m : Files) → x m ≡ y m) → IfSome o (λ m. StopsAt (Fails blamed (x m)) old new r) → IfSome o (λ m. StopsAt (Fails blamed (y m)) old new r)
+stops_by None blamed x y old new r e h = tt
+stops_by (Some m) blamed x y old new r e h = subst (λ z. StopsAt (Fails blamed z) old new r) (e m) h
+
+-- at a line that is taken, or behind it
+fails_taken : (blamed : Option (List ℕ)) (m : Files) (k : Meaning) (r : Rewriter) (p : Place) → Fails blamed (takes (left_of m r.reader) (step_behind k (state_of m r))) p → FailsAt blamed k (state_of m r) p
+unfolding FailsAt
+fails_taken blamed m k r p h = subst (λ z. Fails blamed z p) (sym (first_taken m k r)) h
+
+pub stops_taking : {A : Type 0} (o : Option Files) (blamed : Option (List ℕ)) (k : Meaning) (old : Rewriter) (new : Reader) (r : Result A ExpandFault) → IfSome o (λ m. StopsAt (FailsAtLine blamed (left_of m old.reader)) old.reader new r) → IfSome o (λ m. StopsAt (FailsAt blamed k (state_of m old)) old.reader new r)
+stops_taking o blamed k old new r h = stops_so o (λ m. FailsAtLine blamed (left_of m old.reader)) (λ m. FailsAt blamed k (state_of m old)) old.reader new r (λ m p f. fails_taken blamed m k old p (inl f)) h
+
 -- behind a line
-pub stops_behind : {A : Type 0} (o : Option Files) (blamed : Option (List ℕ)) (k : Meaning) (old mid : Rewriter) (new : Reader) (ts : List Lexeme) (r : Result A ExpandFault) → IfSome o (λ m. Takes (left_of m old.reader) (Ok (Some ts, left_of m mid.reader))) → ((m : Files) → state_of m mid ≡ with_left (state_of m old) (left_of m mid.reader)) → mark_of mid.reader.top ≡ mark_of old.reader.top → IfSome o (λ m. StopsAt (FailsUnlabelled blamed k (state_of m mid) ts) mid.reader new r) → IfSome o (λ m. StopsAt (FailsTaking blamed k (state_of m old)) old.reader new r)
-stops_behind x blamed k old mid new ts r t e same h = grind (arith, common_steps)
+pub stops_behind : {A : Type 0} (o : Option Files) (blamed : Option (List ℕ)) (k : Meaning) (old mid : Rewriter) (new : Reader) (ts : List Lexeme) (r : Result A ExpandFault) → IfSome o (λ m. Takes (left_of m old.reader) (Ok (Some ts, left_of m mid.reader))) → ((m : Files) → state_of m mid ≡ with_left (state_of m old) (left_of m mid.reader)) → mark_of mid.reader.top ≡ mark_of old.reader.top → IfSome o (λ m. StopsAt (Fails blamed (begun k (state_of m mid) ts (is_mislabelled ts))) mid.reader new r) → IfSome o (λ m. StopsAt (FailsAt blamed k (state_of m old)) old.reader new r)
+stops_behind None blamed k old mid new ts r t e same h = tt
+stops_behind (Some m) blamed k old mid new ts (Ok x) t e same h = tt
+stops_behind (Some m) blamed k old mid new ts (Err f) t e same h = λ failed.
+    let so = h failed in
+    let behind = subst (λ s. Fails blamed (begun k s ts (is_mislabelled ts)) new.place) (e m) so.there in
+    record { there = fails_taken blamed m k old new.place (inr (Ok (Some ts, left_of m mid.reader), t, behind)); mark = so.mark ∙ same }
 
 -- ---- Of one line.
 
 -- the branches behind one that was taken are passed over
-pub stops_at_else : {A : Type 0} (o : Option Files) (blamed : Option (List ℕ)) (old : Rewriter) (new : Reader) (cs : List Bool) (r : Result A ExpandFault) → popped old.conditions old.reader.top.conditions ≡ Some (false, cs) → IfSome o (λ m. StopsAt (FailsInBlock blamed passes 0 (left_of m old.reader)) old.reader new r) → IfSome o (λ m. StopsAt (FailsAtElse blamed (state_of m old) (last_condition (state_of m old))) old.reader new r)
-stops_at_else o blamed old new cs r e h = grind (arith, common_steps, stops_so, last_is)
-
-pub stops_acting : {A : Type 0} (o : Option Files) (blamed : Option (List ℕ)) (k : Meaning) (old : Rewriter) (new : Reader) (ts us : List Lexeme) (d : Directive) (r : Result A ExpandFault) → front_directive ts ≡ Some d → us ≡ drop 1 ts → IfSome o (λ m. StopsAt (FailsBy blamed k (state_of m old) d us) old.reader new r) → IfSome o (λ m. StopsAt (FailsActing blamed k (state_of m old) ts (front_directive ts)) old.reader new r)
-stops_acting o blamed k old new ts us d r e u h = grind (arith, common_steps)
+pub stops_at_else : {A : Type 0} (o : Option Files) (blamed : Option (List ℕ)) (old : Rewriter) (new : Reader) (cs : List Bool) (r : Result A ExpandFault) → popped old.conditions old.reader.top.conditions ≡ Some (false, cs) → IfSome o (λ m. StopsAt (FailsInBlock blamed passes 0 (left_of m old.reader)) old.reader new r) → IfSome o (λ m. StopsAt (Fails blamed (else_line (state_of m old) (last_condition (state_of m old)))) old.reader new r)
+stops_at_else o blamed old new cs r e h = stops_by o blamed (λ m. else_line (state_of m old) (Some (false, cs))) (λ m. else_line (state_of m old) (last_condition (state_of m old))) old.reader new r (λ m. else_is m old (Some (false, cs)) e) h
 
 -- ---- Of one step, by what stands in front of the lines.
 
-fails_from : (blamed : Option (List ℕ)) (k : Meaning) (s : State) (is : List Item) (p : Place) → BeginsPlain is → FailsTaking blamed k s p → FailsFrom blamed k s is p
-fails_from blamed k s x p b h = grind (arith, common_steps)
-
-fails_plain : (blamed : Option (List ℕ)) (m : Files) (k : Meaning) (r : Rewriter) (p : Place) → FailsTaking blamed k (state_of m r) p → FailsAt blamed k (fronted Nothing (state_of m r)) p
-unfolding FailsAt
-fails_plain blamed m k r p h = fails_from blamed k (state_of m r) (left_of m r.reader).items p (begins_at_line m r) h
-
-fails_rest : (blamed : Option (List ℕ)) (m : Files) (k : Meaning) (r : Rewriter) (line : Line) (p : Place) → FailsActing blamed k (state_of m r) (tokens_in line) (front_directive (tokens_in line)) p → FailsAt blamed k (fronted (Rest line) (state_of m r)) p
+fails_rest : (blamed : Option (List ℕ)) (m : Files) (k : Meaning) (r : Rewriter) (line : Line) (p : Place) → Fails blamed (acted k (state_of m r) (tokens_in line) (front_directive (tokens_in line))) p → FailsAt blamed k (fronted (Rest line) (state_of m r)) p
 unfolding FailsAt
 fails_rest blamed m k r line p h = h
 
-fails_branch : (blamed : Option (List ℕ)) (m : Files) (k : Meaning) (r : Rewriter) (line : Line) (p : Place) → FailsAtIf blamed k (state_of m r) True (tokens_in line) p → FailsAt blamed k (fronted (Branch line) (state_of m r)) p
+fails_branch : (blamed : Option (List ℕ)) (m : Files) (k : Meaning) (r : Rewriter) (line : Line) (p : Place) → Fails blamed (if_line k (state_of m r) True (tokens_in line)) p → FailsAt blamed k (fronted (Branch line) (state_of m r)) p
 unfolding FailsAt
 fails_branch blamed m k r line p h = h
 
@@ -146,14 +157,14 @@ stops_in (Some m) blamed k old new (Err e) front P is same f h = λ failed.
       within = same m ∙ innermost_is m old.rewriter.reader ∙ ap Some (sym so.mark);
     })
 
-pub stops_plain : {A : Type 0} (o : Option Files) (blamed : Option (List ℕ)) (k : Meaning) (old : Expander) (new : Reader) (r : Result A ExpandFault) → old.front ≡ Nothing → IfSome o (λ m. StopsAt (FailsTaking blamed k (state_of m old.rewriter)) old.rewriter.reader new r) → IfSome o (λ m. StopsReading m blamed k (state_in m old) r (mark_of new.top) new.place)
-stops_plain o blamed k old new r is h = stops_in o blamed k old new r Nothing (λ m. FailsTaking blamed k (state_of m old.rewriter)) is (λ m. refl) (λ m p. fails_plain blamed m k old.rewriter p) h
+pub stops_plain : {A : Type 0} (o : Option Files) (blamed : Option (List ℕ)) (k : Meaning) (old : Expander) (new : Reader) (r : Result A ExpandFault) → old.front ≡ Nothing → IfSome o (λ m. StopsAt (FailsAt blamed k (state_of m old.rewriter)) old.rewriter.reader new r) → IfSome o (λ m. StopsReading m blamed k (state_in m old) r (mark_of new.top) new.place)
+stops_plain o blamed k old new r is h = stops_in o blamed k old new r Nothing (λ m. FailsAt blamed k (state_of m old.rewriter)) is (λ m. refl) (λ m p f. f) h
 
-pub stops_rest : {A : Type 0} (o : Option Files) (blamed : Option (List ℕ)) (k : Meaning) (old : Expander) (new : Reader) (line : Line) (r : Result A ExpandFault) → old.front ≡ Rest line → IfSome o (λ m. StopsAt (FailsActing blamed k (state_of m old.rewriter) (tokens_in line) (front_directive (tokens_in line))) old.rewriter.reader new r) → IfSome o (λ m. StopsReading m blamed k (state_in m old) r (mark_of new.top) new.place)
-stops_rest o blamed k old new line r is h = stops_in o blamed k old new r (Rest line) (λ m. FailsActing blamed k (state_of m old.rewriter) (tokens_in line) (front_directive (tokens_in line))) is (λ m. refl) (λ m p. fails_rest blamed m k old.rewriter line p) h
+pub stops_rest : {A : Type 0} (o : Option Files) (blamed : Option (List ℕ)) (k : Meaning) (old : Expander) (new : Reader) (line : Line) (r : Result A ExpandFault) → old.front ≡ Rest line → IfSome o (λ m. StopsAt (Fails blamed (acted k (state_of m old.rewriter) (tokens_in line) (front_directive (tokens_in line)))) old.rewriter.reader new r) → IfSome o (λ m. StopsReading m blamed k (state_in m old) r (mark_of new.top) new.place)
+stops_rest o blamed k old new line r is h = stops_in o blamed k old new r (Rest line) (λ m. Fails blamed (acted k (state_of m old.rewriter) (tokens_in line) (front_directive (tokens_in line)))) is (λ m. refl) (λ m p. fails_rest blamed m k old.rewriter line p) h
 
-pub stops_branch : {A : Type 0} (o : Option Files) (blamed : Option (List ℕ)) (k : Meaning) (old : Expander) (new : Reader) (line : Line) (r : Result A ExpandFault) → old.front ≡ Branch line → IfSome o (λ m. StopsAt (FailsAtIf blamed k (state_of m old.rewriter) True (tokens_in line)) old.rewriter.reader new r) → IfSome o (λ m. StopsReading m blamed k (state_in m old) r (mark_of new.top) new.place)
-stops_branch o blamed k old new line r is h = stops_in o blamed k old new r (Branch line) (λ m. FailsAtIf blamed k (state_of m old.rewriter) True (tokens_in line)) is (λ m. refl) (λ m p. fails_branch blamed m k old.rewriter line p) h
+pub stops_branch : {A : Type 0} (o : Option Files) (blamed : Option (List ℕ)) (k : Meaning) (old : Expander) (new : Reader) (line : Line) (r : Result A ExpandFault) → old.front ≡ Branch line → IfSome o (λ m. StopsAt (Fails blamed (if_line k (state_of m old.rewriter) True (tokens_in line))) old.rewriter.reader new r) → IfSome o (λ m. StopsReading m blamed k (state_in m old) r (mark_of new.top) new.place)
+stops_branch o blamed k old new line r is h = stops_in o blamed k old new r (Branch line) (λ m. Fails blamed (if_line k (state_of m old.rewriter) True (tokens_in line))) is (λ m. refl) (λ m p. fails_branch blamed m k old.rewriter line p) h
 
 -- ---- Of steps one after another.
 

@@ -1,18 +1,13 @@
 -- From a state one thing at most comes next.
 use Rattle.std.proofs.lemmas.Grind.{common_steps}
-use Rattle.std.proofs.Common.{arith, ◌≡◌, ℕ, zero, suc, Bool, true, false, List, [], ◌∷◌, drop, sym, ap, ◌∙◌, subst, Option, Some, None, Result, Ok, Err}
+use Rattle.std.proofs.Common.{arith, ◌≡◌, ℕ, zero, suc, Bool, List, [], ◌∷◌, sym, ap, ◌∙◌, subst, None, Some, Result, Ok, Err}
 use Rattle.base65.specs.Store.{Files}
 use Rattle.syntax65.specs.Tokens.{Lexeme}
-use Rattle.expand65.specs.Blocks.{Verdict, on, closed, refused, Block, a_fault, a_mark, a_refusal, the_last, one_more}
-use Rattle.expand65.specs.State.{IsCondition, IsDecided, IsIf, IsElse, Meaning, State, Stepped, goes, gives, ends, stops, with_left, with_items}
-use Rattle.expand65.specs.Expansion.{Next, statement, nothing, fault, Reaches, further, given, ended, stopped, IsElseLine, IsDirected, IsActed, IsSplit, IsLabelled, IsStepBehind, IsStepFrom, IsStep, last_condition}
-use Rattle.expand65.specs.Fronts.{front_directive, is_mislabelled, label_len, line_directive}
-use Rattle.expand65.specs.Macros.{IsKept, IsDefined, header_of, IsRepeat, IsRepeated}
-use Rattle.expand65.specs.Lines.{Item, written, played, labelled, branch, mark, Left, left, Stop, moved, Definition, IsOpened, Taken, Takes, TakesFrom, taken_as}
-use Rattle.expand65.specs.declared.fronts.Directive.{Directive}
-use Rattle.expand65.specs.declared.fronts.Directive.TheVariants as directive
+use Rattle.expand65.specs.Blocks.{Verdict, on, closed, refused, Block, a_fault, a_mark, a_refusal, the_last, one_more, block_state, judge_of}
+use Rattle.expand65.specs.State.{IsCondition, Meaning, State, Step, leads, parses, decides, takes, takes_block, opens, Stepped, goes, gives, ends, stops, unless_stopped}
+use Rattle.expand65.specs.Expansion.{Leads, Next, statement, nothing, fault, Reaches, further, given, ended, stopped, first_file, step_from, IsStep}
+use Rattle.expand65.specs.Lines.{Item, written, played, labelled, branch, mark, Left, left, Stop, moved, IsOpened, Taken, Takes, TakesFrom, taken_as}
 use Rattle.expand65.specs.declared.fronts.Test.{Test}
-use Rattle.expand65.specs.declared.fronts.Test.TheVariants.{True}
 use Rattle.syntax65.specs.declared.fault.ExpandFault.{ExpandFault}
 use Rattle.syntax65.specs.declared.fault.ExpandFault.TheVariants.{NotClosed}
 use Rattle.syntax65.specs.declared.place.Place.{Place}
@@ -70,80 +65,19 @@ one_block {B = B} judge a l q r (one_more _ c _ m ts _ t e h) k = let P : Verdic
 one_condition : (k : Meaning) (test : Test) (ts : List Lexeme) (a b : Result Bool ExpandFault) → IsCondition k test ts a → IsCondition k test ts b → a ≡ b
 one_condition k x ts a b y z = grind (arith, common_steps, one_parse, both)
 
-one_decided : (s : State) (c : Result Bool ExpandFault) (a b : Stepped) → IsDecided s c a → IsDecided s c b → a ≡ b
-one_decided s x a b h j = grind (arith, common_steps, both, one_block)
-
-one_if : (k : Meaning) (s : State) (test : Test) (ts : List Lexeme) (a b : Stepped) → IsIf k s test ts a → IsIf k s test ts b → a ≡ b
-one_if k s test ts a b x y = grind (arith, common_steps, one_decided, one_condition)
-
-one_else : (s : State) (o : Option (Bool × List Bool)) (a b : Stepped) → IsElse s o a → IsElse s o b → a ≡ b
-one_else s x a b h j = grind (arith, common_steps, both, one_block)
-
-one_else_line : (s : State) (ts : List Lexeme) (a b : Stepped) → IsElseLine s ts a → IsElseLine s ts b → a ≡ b
-one_else_line s x a b h j = grind (arith, common_steps, one_else, both)
-
--- ---- Macros and repeats.
-
-one_kept : (s : State) (name : List ℕ) (params : List (List ℕ)) (o : Option Definition) (a b : Stepped) → IsKept s name params o a → IsKept s name params o b → a ≡ b
-one_kept s name params x a b h j = grind (arith, common_steps, both, one_block)
-
-one_defined : (s : State) (o : Option (List ℕ × List (List ℕ))) (a b : Stepped) → IsDefined s o a → IsDefined s o b → a ≡ b
-one_defined s x a b h j = grind (arith, common_steps, both, one_kept)
-
-one_repeated : (s : State) (c : Result (ℕ × List (List ℕ)) ExpandFault) (a b : Stepped) → IsRepeated s c a → IsRepeated s c b → a ≡ b
-one_repeated s x a b h j = grind (arith, common_steps, both, one_block)
-
-one_repeat : (k : Meaning) (s : State) (ts : List Lexeme) (a b : Stepped) → IsRepeat k s ts a → IsRepeat k s ts b → a ≡ b
-one_repeat k s ts a b x y = grind (arith, common_steps, one_repeated, one_parse)
-
 -- ---- Steps.
 
-one_directed : (m : Files) (k : Meaning) (s : State) (d : Directive) (ts : List Lexeme) (a b : Stepped) → IsDirected m k s d ts a → IsDirected m k s d ts b → a ≡ b
-one_directed m k s directive.Macro ts a b h j = one_defined s (header_of ts) a b h j
-one_directed m k s directive.EndMacro ts a b h j = both h j
-one_directed m k s directive.ExitMacro ts a b h j = both h j
-one_directed m k s directive.Local ts a b h j = both h j
-one_directed m k s directive.Repeat ts a b h j = one_repeat k s ts a b h j
-one_directed m k s directive.EndRepeat ts a b h j = both h j
-one_directed m k s (directive.If test) ts a b h j = one_if k s test ts a b h j
-one_directed m k s directive.ElseIf ts a b h j = one_else s (last_condition s) a b h j
-one_directed m k s directive.Else ts a b h j = one_else_line s ts a b h j
-one_directed m k s directive.EndIf ts a b h j = both h j
-one_directed m k s directive.Include ts a b h j = both h j
-one_directed m k s directive.Error ts a b h j = both h j
-one_directed m k s directive.End ts a b h j = both h j
-
-one_acted : (m : Files) (k : Meaning) (s : State) (ts : List Lexeme) (d : Option Directive) (a b : Stepped) → IsActed m k s ts d a → IsActed m k s ts d b → a ≡ b
-one_acted m k s ts (Some d) a b h j = one_directed m k s d (drop 1 ts) a b h j
-one_acted m k s ts None a b h j = both h j
-
-one_split : (m : Files) (k : Meaning) (s : State) (ts : List Lexeme) (d : Option Directive) (n : ℕ) (a b : Stepped) → IsSplit m k s ts d n a → IsSplit m k s ts d n b → a ≡ b
-one_split m k s ts d zero a b h j = one_acted m k s ts d a b h j
-one_split m k s ts d (suc n) a b h j = both h j
-
-one_labelled : (m : Files) (k : Meaning) (s : State) (ts : List Lexeme) (w : Bool) (a b : Stepped) → IsLabelled m k s ts w a → IsLabelled m k s ts w b → a ≡ b
-one_labelled m k s ts true a b h j = both h j
-one_labelled m k s ts false a b h j = one_split m k s ts (line_directive ts) (label_len ts) a b h j
-
-one_behind : (m : Files) (k : Meaning) (s : State) (t : Taken) (a b : Stepped) → IsStepBehind m k s t a → IsStepBehind m k s t b → a ≡ b
-one_behind m k s (Err e) a b h j = both h j
-one_behind m k s (Ok (Some ts, l)) a b h j = one_labelled m k (with_left s l) ts (is_mislabelled ts) a b h j
-one_behind m k s (Ok (None, l)) a b h j = both h j
-
-one_after : (m : Files) (k : Meaning) (s : State) (a b : Stepped) → ((t : Taken) × Takes s.left t × IsStepBehind m k s t a) → ((t : Taken) × Takes s.left t × IsStepBehind m k s t b) → a ≡ b
-one_after m k s a b x y = grind (arith, common_steps, one_behind, one_taken)
-
-one_from : (m : Files) (k : Meaning) (s : State) (is : List Item) (a b : Stepped) → IsStepFrom m k s is a → IsStepFrom m k s is b → a ≡ b
-one_from m k s [] a b h j = one_after m k s a b h j
-one_from m k s (labelled ts ∷ is) a b h j = one_acted m k (with_items s is) ts (front_directive ts) a b h j
-one_from m k s (branch ts ∷ is) a b h j = one_if k (with_items s is) True ts a b h j
-one_from m k s (written n bytes ∷ is) a b h j = one_after m k s a b h j
-one_from m k s (played e ts ∷ is) a b h j = one_after m k s a b h j
-one_from m k s (mark x ∷ is) a b h j = one_after m k s a b h j
+one_led : (m : Files) (step : Step) (a b : Stepped) → Leads m step a → Leads m step b → a ≡ b
+one_led m (leads x) a b h j = both h j
+one_led m (parses ts next) a b (q, p, h) (r, o, j) = one_led m (next q) a b h (subst (λ z. Leads m (next z) b) (one_parse ts r q o p) j)
+one_led m (decides k test ts next) a b (c, p, h) (d, o, j) = one_led m (next c) a b h (subst (λ z. Leads m (next z) b) (one_condition k test ts d c o p) j)
+one_led m (takes l next) a b (t, p, h) (u, o, j) = one_led m (next t) a b h (subst (λ z. Leads m (next z) b) (one_taken l.items l.room l.place u t o p) j)
+one_led m (takes_block k l next) a b (q, p, h) (r, o, j) = h ∙ ap (λ z. unless_stopped z (λ x. next x.0 x.1)) (one_block (judge_of k) (block_state k 0 []) l q r p o) ∙ sym j
+one_led m (opens l names next) a b h j = one_led m (next (first_file m names)) a b h j
 
 pub one_step : (m : Files) (k : Meaning) (s : State) (a b : Stepped) → IsStep m k s a → IsStep m k s b → a ≡ b
 unfolding IsStep
-one_step m k s a b h j = one_from m k s s.left.items a b h j
+one_step m k s a b h j = one_led m (step_from k s s.left.items) a b h j
 
 -- ---- What comes next.
 

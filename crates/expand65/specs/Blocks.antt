@@ -1,9 +1,11 @@
 -- Blocks: lines are taken one after another up to the one that closes the block.
-use Rattle.std.specs.Prelude.{◌≡◌, List, Some, None, Result, Ok, Err, ℕ, zero, suc, [], ◌∷◌, ◌++◌, drop, Bool, true, false, Option, if◌then◌else◌}
+use Rattle.std.specs.Prelude.{◌≡◌, List, Some, None, Result, Ok, Err, ℕ, zero, suc, [], ◌∷◌, ◌++◌, drop, length, ◌==◌, Bool, true, false, Option, if◌then◌else◌}
 use Rattle.syntax65.specs.Tokens.{Lexeme}
 use Rattle.expand65.specs.Lines.{Left, Stop, Taken, Takes}
 use Rattle.expand65.specs.Types.{NotClosed, MacroInside, NotUnderstood, Directive, Macro, EndMacro, Repeat, EndRepeat, If, ElseIf, Else, EndIf, ExpandFault}
-use Rattle.expand65.specs.Fronts.{is_mislabelled, is_nothing, line_directive}
+use Rattle.expand65.specs.Fronts.{is_mislabelled, line_directive}
+use Rattle.expand65.specs.declared.blocks.BlockKind.{BlockKind}
+use Rattle.expand65.specs.declared.blocks.BlockKind.TheVariants as kind
 
 -- ---- The next line of a block.
 
@@ -37,20 +39,16 @@ abbrev pub closed_if : {A B : Type 0} → Bool → B → Verdict A B
 closed_if false b = refused NotUnderstood
 closed_if true b = closed b
 
--- a line with a label before a directive that it may not stand before
-abbrev pub mislabelled : {A B : Type 0} → Verdict A B
-mislabelled = refused NotUnderstood
-
 -- ---- The body of a macro: the lines before its `.endmacro`.
 
 abbrev pub collecting : List (List Lexeme) → List Lexeme → Option Directive → Verdict (List (List Lexeme)) (List (List Lexeme))
-collecting body ts (Some EndMacro) = closed_if (is_nothing (drop 1 ts)) body
+collecting body ts (Some EndMacro) = closed_if (length (drop 1 ts) == 0) body
 collecting body ts (Some Macro) = refused MacroInside
 collecting body ts _ = on (body ++ ts ∷ [])
 
 -- the lines so far
 abbrev pub collects : List (List Lexeme) → List Lexeme → Verdict (List (List Lexeme)) (List (List Lexeme))
-collects body ts = if is_mislabelled ts then mislabelled else collecting body ts (line_directive ts)
+collects body ts = if is_mislabelled ts then refused NotUnderstood else collecting body ts (line_directive ts)
 
 -- ---- The body of a repeat: the lines before its `.endrepeat`.
 
@@ -59,13 +57,13 @@ abbrev pub Gathered : Type 0
 Gathered = ℕ × List (List Lexeme)
 
 abbrev pub gathering : ℕ → List (List Lexeme) → List Lexeme → Option Directive → Verdict Gathered (List (List Lexeme))
-gathering zero body ts (Some EndRepeat) = closed_if (is_nothing (drop 1 ts)) body
+gathering zero body ts (Some EndRepeat) = closed_if (length (drop 1 ts) == 0) body
 gathering (suc d) body ts (Some EndRepeat) = on (d, body ++ ts ∷ [])
 gathering d body ts (Some Repeat) = on (suc d, body ++ ts ∷ [])
 gathering d body ts _ = on (d, body ++ ts ∷ [])
 
 abbrev pub gathers : Gathered → List Lexeme → Verdict Gathered (List (List Lexeme))
-gathers g ts = if is_mislabelled ts then mislabelled else gathering g.0 g.1 ts (line_directive ts)
+gathers g ts = if is_mislabelled ts then refused NotUnderstood else gathering g.0 g.1 ts (line_directive ts)
 
 -- ---- The lines that go with a false condition: those before the next `.elseif`, `.else` or `.endif` of its level.
 
@@ -78,14 +76,14 @@ pub data Branch : Type 0 where
 abbrev pub skipping : ℕ → List Lexeme → Option Directive → Verdict ℕ Branch
 skipping d ts (Some (If test)) = on (suc d)
 skipping zero ts (Some ElseIf) = closed (at_elseif (drop 1 ts))
-skipping zero ts (Some Else) = closed_if (is_nothing (drop 1 ts)) at_else
-skipping zero ts (Some EndIf) = closed_if (is_nothing (drop 1 ts)) at_endif
+skipping zero ts (Some Else) = closed_if (length (drop 1 ts) == 0) at_else
+skipping zero ts (Some EndIf) = closed_if (length (drop 1 ts) == 0) at_endif
 skipping (suc d) ts (Some EndIf) = on d
 skipping d ts _ = on d
 
 -- how many conditions are open within them
 abbrev pub skips : ℕ → List Lexeme → Verdict ℕ Branch
-skips d ts = if is_mislabelled ts then mislabelled else skipping d ts (line_directive ts)
+skips d ts = if is_mislabelled ts then refused NotUnderstood else skipping d ts (line_directive ts)
 
 -- ---- The lines that go with an `.elseif` or `.else` behind a true condition: those through its `.endif`.
 
@@ -97,4 +95,33 @@ passing d _ = on d
 
 -- how many conditions are open within them
 abbrev pub passes : ℕ → List Lexeme → Verdict ℕ (Unit {0})
-passes d ts = if is_mislabelled ts then mislabelled else passing d (line_directive ts)
+passes d ts = if is_mislabelled ts then refused NotUnderstood else passing d (line_directive ts)
+
+-- ---- The four kinds of blocks.
+
+-- what is known of the lines of a block before its end, by how many others are open in it, and the lines so far
+abbrev pub StateOf : BlockKind → Type 0
+StateOf kind.Macro = List (List Lexeme)
+StateOf kind.Repeat = Gathered
+StateOf kind.Skipped = ℕ
+StateOf kind.Passed = ℕ
+
+abbrev pub block_state : (k : BlockKind) → ℕ → List (List Lexeme) → StateOf k
+block_state kind.Macro d body = body
+block_state kind.Repeat d body = (d, body)
+block_state kind.Skipped d body = d
+block_state kind.Passed d body = d
+
+-- what a block comes to, by its lines and what closes it
+abbrev pub AnswerOf : BlockKind → Type 0
+AnswerOf kind.Macro = List (List Lexeme)
+AnswerOf kind.Repeat = List (List Lexeme)
+AnswerOf kind.Skipped = Branch
+AnswerOf kind.Passed = Unit {0}
+
+-- what a line does
+abbrev pub judge_of : (k : BlockKind) → StateOf k → List Lexeme → Verdict (StateOf k) (AnswerOf k)
+judge_of kind.Macro = collects
+judge_of kind.Repeat = gathers
+judge_of kind.Skipped = skips
+judge_of kind.Passed = passes

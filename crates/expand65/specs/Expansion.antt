@@ -1,15 +1,19 @@
 -- From a source to its statements, a step at a time.
 use Rattle.std.specs.Prelude.{ℕ, ◌==◌, nat_le, Bool, false, List, [], ◌∷◌, ◌++◌, length, map, Option, Some, None, Result, Ok, Err, if◌then◌else◌, ◌≡◌, zero, suc, true, take, drop}
+use Rattle.std.specs.Option.{option_map_or}
 use Rattle.std.specs.FinMap as fmap
 use Rattle.std.specs.List.{list_any}
 use Rattle.std.specs.Str.{is_utf8}
 use Rattle.base65.specs.Store.{Files}
 use Rattle.syntax65.specs.Tokens.{Lexeme}
-use Rattle.expand65.specs.Fronts.{string_of, front_directive, is_mislabelled, label_len, line_directive}
+use Rattle.syntax65.specs.Expressions.{IsParsed}
+use Rattle.syntax65.specs.Trees.{Tree}
+use Rattle.expand65.specs.Blocks.{AnswerOf, Block, block_state, judge_of}
+use Rattle.expand65.specs.Fronts.{begins, string_of, front_directive, is_mislabelled, label_len, line_directive, understood}
 use Rattle.expand65.specs.Lines.{lines_of, file_limit, Taken, Takes, line_limit, Mark, numbered, Item, labelled, branch, mark, left, innermost, come_back, Left, Stop}
-use Rattle.expand65.specs.Macros.{entered, IsMacro, exit_macro, local_line, ordinary, IsRepeat}
-use Rattle.expand65.specs.State.{State, Stepped, stops, Meaning, label, goes, gives, ends, with_left, with_items, Stated, IsIf, IsElse, conditions_in, ended_if, popped}
-use Rattle.expand65.specs.Types.{ExpandFault, FileNotFound, FileTooLong, NotUnderstood, Directive, Macro, EndMacro, ExitMacro, Local, Repeat, EndRepeat, If, ElseIf, Else, EndIf, Include, Error, End, True}
+use Rattle.expand65.specs.Macros.{entered, exit_macro, local_line, macro_line, mark_from, ordinary, repeat_line}
+use Rattle.expand65.specs.State.{State, Step, leads, parses, decides, takes, takes_block, opens, Stepped, stops, Meaning, label, goes, gives, ends, with_left, with_items, Stated, IsCondition, else_line, ended_if, if_alone, if_line, popped, unless_refused, unless_stopped}
+use Rattle.expand65.specs.Types.{ExprFault, ExpandFault, FileNotFound, FileTooLong, Directive, Macro, EndMacro, ExitMacro, Local, Repeat, EndRepeat, If, ElseIf, Else, EndIf, Include, Error, End, True}
 use Rattle.syntax65.specs.declared.fault.ExpandFault.TheVariants as faults
 use Rattle.base65.specs.Outcome.{◌>>=◌}
 
@@ -34,21 +38,17 @@ abbrev pub folder_of : List ℕ → List ℕ
 folder_of [] = []
 folder_of (b ∷ bs) = if list_any is_slash (b ∷ bs) then b ∷ folder_of bs else []
 
-abbrev pub begins_with_slash : List ℕ → Bool
-begins_with_slash [] = false
-begins_with_slash (b ∷ bs) = is_slash b
-
 -- a name in a folder
 abbrev pub within : List ℕ → List ℕ → List ℕ
 within name folder = folder ++ 47 ∷ name
 
 -- the names that are tried in turn, in a file and with these folders
 abbrev pub tried : List ℕ → List (List ℕ) → List ℕ → List (List ℕ)
-tried file folders name = if begins_with_slash name then name ∷ [] else (folder_of file ++ name) ∷ map (within name) folders
+tried file folders name = if begins is_slash name then name ∷ [] else (folder_of file ++ name) ∷ map (within name) folders
 
 -- the one name that is tried where only a file's own folder is
 abbrev pub beside : List ℕ → List ℕ → List ℕ
-beside file name = if begins_with_slash name then name else folder_of file ++ name
+beside file name = if begins is_slash name then name else folder_of file ++ name
 
 -- a name that is a text
 abbrev pub as_text : List ℕ → Option (List ℕ)
@@ -66,27 +66,15 @@ first_file m (name ∷ names) = found_or name (file_named m name) (first_file m 
 
 -- ---- `.include`.
 
-abbrev pub include_mark : State → Mark
-include_mark s = record { is_macro = false; conditions = length s.conditions; back = Some s.left.place }
+-- a file that was found, by its name and its bytes
+abbrev pub included : State → List ℕ × List ℕ → Stepped
+included s (name, bytes) = entered s (numbered 0 (lines_of bytes)) (mark_from s false (Some s.left.place)) (record { file = name; line = 0 })
 
-abbrev pub included : State → Result (List ℕ × List ℕ) ExpandFault → Stepped
-included s (Err f) = stops (f, s.left.place)
-included s (Ok (name, bytes)) = entered s (numbered 0 (lines_of bytes)) (include_mark s) (record { file = name; line = 0 })
-
-abbrev pub included_by : Files → State → Option (List ℕ) → Stepped
-included_by m s None = stops (NotUnderstood, s.left.place)
-included_by m s (Some name) = included s (first_file m (tried s.left.place.file s.folders name))
-
--- `.include` and what stands behind it
-abbrev pub include_line : Files → State → List Lexeme → Stepped
-include_line m s ts = included_by m s (string_of ts)
+-- a file that is looked for
+abbrev pub include_file : State → List ℕ → Step
+include_file s name = opens s.left (tried s.left.place.file s.folders name) (λ q. unless_refused s q (λ file. leads (included s file)))
 
 -- ---- One step of expansion, by the first line that is left.
-
--- what follows where nothing stands behind a directive
-abbrev pub if_alone : State → List Lexeme → Stepped → Stepped
-if_alone s [] r = r
-if_alone s _ r = stops (faults.NotUnderstood, s.left.place)
 
 -- a block is closed, or left, that isn't open
 abbrev pub not_opened : State → Stepped
@@ -94,48 +82,38 @@ not_opened s = stops (faults.NotOpened, s.left.place)
 
 -- the last open condition, where the innermost file, expansion or repeat opened it
 abbrev pub last_condition : State → Option (Bool × List Bool)
-last_condition s = popped s.conditions (conditions_in (innermost s.left.items))
-
--- `.error` and what stands behind it
-abbrev pub error_by : State → Option (List ℕ) → Stepped
-error_by s None = stops (faults.NotUnderstood, s.left.place)
-error_by s (Some text) = stops (faults.Error text, s.left.place)
-
--- `.else` and what stands behind it
-abbrev pub IsElseLine : State → List Lexeme → Stepped → Type 0
-IsElseLine s [] r = IsElse s (last_condition s) r
-IsElseLine s _ r = r ≡ stops (faults.NotUnderstood, s.left.place)
+last_condition s = popped s.conditions (option_map_or (λ k. k.conditions) (innermost s.left.items) 0)
 
 -- a directive and what stands behind it
-abbrev pub IsDirected : Files → Meaning → State → Directive → List Lexeme → Stepped → Type 0
-IsDirected m k s Macro ts r = IsMacro s ts r
-IsDirected m k s EndMacro ts r = r ≡ if_alone s ts (not_opened s)
-IsDirected m k s ExitMacro ts r = r ≡ if_alone s ts (exit_macro s)
-IsDirected m k s Local ts r = r ≡ local_line s ts
-IsDirected m k s Repeat ts r = IsRepeat k s ts r
-IsDirected m k s EndRepeat ts r = r ≡ if_alone s ts (not_opened s)
-IsDirected m k s (If test) ts r = IsIf k s test ts r
-IsDirected m k s ElseIf ts r = IsElse s (last_condition s) r
-IsDirected m k s Else ts r = IsElseLine s ts r
-IsDirected m k s EndIf ts r = r ≡ if_alone s ts (ended_if s (last_condition s))
-IsDirected m k s Include ts r = r ≡ include_line m s ts
-IsDirected m k s Error ts r = r ≡ error_by s (string_of ts)
-IsDirected m k s End ts r = r ≡ if_alone s ts (goes (with_items s []))
+abbrev pub directed : Meaning → State → Directive → List Lexeme → Step
+directed k s Macro ts = macro_line s ts
+directed k s EndMacro ts = if_alone s ts (leads (not_opened s))
+directed k s ExitMacro ts = if_alone s ts (leads (exit_macro s))
+directed k s Local ts = leads (local_line s ts)
+directed k s Repeat ts = repeat_line k s ts
+directed k s EndRepeat ts = if_alone s ts (leads (not_opened s))
+directed k s (If test) ts = if_line k s test ts
+directed k s ElseIf ts = else_line s (last_condition s)
+directed k s Else ts = if_alone s ts (else_line s (last_condition s))
+directed k s EndIf ts = if_alone s ts (leads (ended_if s (last_condition s)))
+directed k s Include ts = unless_refused s (understood (string_of ts)) (include_file s)
+directed k s Error ts = unless_refused s (understood (string_of ts)) (λ text. leads (stops (faults.Error text, s.left.place)))
+directed k s End ts = if_alone s ts (leads (goes (with_items s [])))
 
 -- a line without a label, which begins with a directive of expansion or with none
-abbrev pub IsActed : Files → Meaning → State → List Lexeme → Option Directive → Stepped → Type 0
-IsActed m k s ts (Some directive) r = IsDirected m k s directive (drop 1 ts) r
-IsActed m k s ts None r = r ≡ ordinary s ts
+abbrev pub acted : Meaning → State → List Lexeme → Option Directive → Step
+acted k s ts (Some directive) = directed k s directive (drop 1 ts)
+acted k s ts None = leads (ordinary s ts)
 
 -- a line whose label has so many tokens
-abbrev pub IsSplit : Files → Meaning → State → List Lexeme → Option Directive → ℕ → Stepped → Type 0
-IsSplit m k s ts directive zero r = IsActed m k s ts directive r
-IsSplit m k s ts directive (suc n) r = r ≡ gives (label (take (suc n) ts)) (with_items s (labelled (drop (suc n) ts) ∷ s.left.items))
+abbrev pub split : Meaning → State → List Lexeme → Option Directive → ℕ → Step
+split k s ts directive zero = acted k s ts directive
+split k s ts directive (suc n) = leads (gives (label (take (suc n) ts)) (with_items s (labelled (drop (suc n) ts) ∷ s.left.items)))
 
 -- a label comes first, and the rest of its line stands
-abbrev pub IsLabelled : Files → Meaning → State → List Lexeme → Bool → Stepped → Type 0
-IsLabelled m k s ts true r = r ≡ stops (faults.NotUnderstood, s.left.place)
-IsLabelled m k s ts false r = IsSplit m k s ts (line_directive ts) (label_len ts) r
+abbrev pub begun : Meaning → State → List Lexeme → Bool → Step
+begun k s ts true = leads (stops (faults.NotUnderstood, s.left.place))
+begun k s ts false = split k s ts (line_directive ts) (label_len ts)
 
 -- an end mark is taken off where as many conditions are open as it says; behind the last one nothing is left
 abbrev pub at_mark : State → List Item → Stepped
@@ -143,20 +121,29 @@ at_mark s [] = ends s
 at_mark s (mark k ∷ is) = if k.conditions == length s.conditions then goes (with_left s (left is s.left.room (come_back s.left.place k.back))) else stops (faults.NotClosed, s.left.place)
 at_mark s (_ ∷ is) = ends s
 
-abbrev pub IsStepBehind : Files → Meaning → State → Taken → Stepped → Type 0
-IsStepBehind m k s (Err e) r = r ≡ stops e
-IsStepBehind m k s (Ok (Some ts, l)) r = IsLabelled m k (with_left s l) ts (is_mislabelled ts) r
-IsStepBehind m k s (Ok (None, l)) r = r ≡ at_mark (with_left s l) l.items
+abbrev pub step_behind : Meaning → State → Taken → Step
+step_behind k s (Err e) = leads (stops e)
+step_behind k s (Ok (Some ts, l)) = begun k (with_left s l) ts (is_mislabelled ts)
+step_behind k s (Ok (None, l)) = leads (at_mark (with_left s l) l.items)
 
 -- what stands behind a label is acted on, and a branch is decided; otherwise a line is taken
-abbrev pub IsStepFrom : Files → Meaning → State → List Item → Stepped → Type 0
-IsStepFrom m k s (labelled ts ∷ is) r = IsActed m k (with_items s is) ts (front_directive ts) r
-IsStepFrom m k s (branch ts ∷ is) r = IsIf k (with_items s is) True ts r
-IsStepFrom m k s _ r = (t : Taken) × Takes s.left t × IsStepBehind m k s t r
+abbrev pub step_from : Meaning → State → List Item → Step
+step_from k s (labelled ts ∷ is) = acted k (with_items s is) ts (front_directive ts)
+step_from k s (branch ts ∷ is) = if_line k (with_items s is) True ts
+step_from k s _ = takes s.left (step_behind k s)
+
+-- where a step leads to once all that it reads is read
+abbrev pub Leads : Files → Step → Stepped → Type 0
+Leads m (leads x) r = r ≡ x
+Leads m (parses ts next) r = (q : Result (Tree × ℕ) ExprFault) × IsParsed ts q × Leads m (next q) r
+Leads m (decides k test ts next) r = (c : Result Bool ExpandFault) × IsCondition k test ts c × Leads m (next c) r
+Leads m (takes l next) r = (t : Taken) × Takes l t × Leads m (next t) r
+Leads m (takes_block k l next) r = (q : Result (AnswerOf k × Left) Stop) × Block (judge_of k) (block_state k 0 []) l q × (r ≡ unless_stopped q (λ b. next b.0 b.1))
+Leads m (opens l names next) r = Leads m (next (first_file m names)) r
 
 -- what the step from a state leads to
 unfoldable pub IsStep : Files → Meaning → State → Stepped → Type 0
-IsStep m k s r = IsStepFrom m k s s.left.items r
+IsStep m k s r = Leads m (step_from k s s.left.items) r
 
 -- ---- Expansion: from a state to the next statement, and from a source to its first state.
 
@@ -173,12 +160,9 @@ pub data Reaches (m : Files) (k : Meaning) : State → Next → Type 0 where
   ended : (s t : State) → IsStep m k s (ends t) → Reaches m k s (nothing t)
   stopped : (s : State) (e : Stop) → IsStep m k s (stops e) → Reaches m k s (fault e)
 
-abbrev pub source_mark : Mark
-source_mark = record { is_macro = false; conditions = 0; back = None }
-
 -- all the lines of a source
 abbrev pub first_left : List ℕ → List ℕ → Left
-first_left file bytes = left (numbered 0 (lines_of bytes) ++ mark source_mark ∷ []) line_limit (record { file = file; line = 0 })
+first_left file bytes = left (numbered 0 (lines_of bytes) ++ mark (record { is_macro = false; conditions = 0; back = None }) ∷ []) line_limit (record { file = file; line = 0 })
 
 -- the state before the first line of a source
 abbrev pub first_state : List ℕ → List (List ℕ) → List ℕ → State

@@ -1,18 +1,19 @@
 -- Where expansion is when the store fails, and the statements of lines at hand.
 use Rattle.std.specs.Prelude.{◌≡◌, ℕ, true, List, Option, Some, None, Result, IfErr, ◌⊎◌, Bool, false, [], ◌∷◌, drop, Ok, ◌<◌, ◌≤◌}
+use Rattle.std.specs.Option.{option_and_then}
 use Rattle.base65.specs.Store.{Files, IsBlamed}
-use Rattle.expand65.specs.State.{Meaning, State, goes, with_items, with_left, Stated, label, plain, IsCondition}
+use Rattle.expand65.specs.State.{Meaning, State, Step, leads, parses, decides, takes, takes_block, opens, goes, Stated, label, plain, IsCondition}
 use Rattle.expand65.specs.Standing.{StandsFor, place_of, FollowsFrom, measure_of, state_in, stated, macros_of, last_read, FailsAtLine, FailsInBlock, NamesFiles}
-use Rattle.expand65.specs.Expansion.{IsStep, last_condition, tried}
-use Rattle.expand65.specs.Types.{Expander, ExpandFault, Place, ExprFault, Directive, Macro, Repeat, If, ElseIf, Else, Include, Test, True, Peeked, Nothing, Statement, Rewriter}
-use Rattle.expand65.specs.Lines.{Mark, innermost, Item, Left, branch, labelled, Definition, Takes}
+use Rattle.expand65.specs.Expansion.{IsStep, step_from}
+use Rattle.expand65.specs.Types.{Expander, ExpandFault, Place, ExprFault, Peeked, Nothing, Statement, Rewriter}
+use Rattle.expand65.specs.Lines.{Mark, innermost, Taken, Takes}
 use Rattle.syntax65.specs.Faults.{is_failure}
 use Rattle.syntax65.specs.Expressions.{IsParsed}
 use Rattle.syntax65.specs.Tokens.{Lexeme}
 use Rattle.syntax65.specs.Trees.{Tree}
-use Rattle.expand65.specs.Blocks.{collects, gathers, passes, skips}
-use Rattle.expand65.specs.Fronts.{front_directive, label_len, string_of}
-use Rattle.expand65.specs.Macros.{header_of, macro_of, repeat_of, macro_at}
+use Rattle.expand65.specs.Blocks.{block_state, judge_of}
+use Rattle.expand65.specs.Fronts.{front_directive, label_len}
+use Rattle.expand65.specs.Macros.{macro_at}
 use Rattle.expand65.specs.Playing.{IsNext}
 
 -- ---- A step of expansion in which the store fails, and its place.
@@ -22,81 +23,19 @@ abbrev pub IsAmong : Option (List ℕ) → List (List ℕ) → Type 0
 IsAmong b [] = ⊥
 IsAmong b (name ∷ names) = IsBlamed b name ⊎ IsAmong b names
 
--- ---- Behind a directive: at a line of the block that it opens, where the block is read, or at the directive's own line,
--- where a file is looked for.
-
--- a macro is defined that isn't there yet
-abbrev pub FailsKeeping : Option (List ℕ) → State → Option Definition → Place → Type 0
-FailsKeeping b s None p = FailsInBlock b collects [] s.left p
-FailsKeeping b s (Some m) p = ⊥
-
-abbrev pub FailsDefining : Option (List ℕ) → State → Option (List ℕ × List (List ℕ)) → Place → Type 0
-FailsDefining b s None p = ⊥
-FailsDefining b s (Some (name, params)) p = FailsKeeping b s (macro_of s.macros name) p
-
-abbrev pub FailsRepeating : Option (List ℕ) → State → Result (ℕ × List (List ℕ)) ExpandFault → Place → Type 0
-FailsRepeating b s (Ok h) p = FailsInBlock b gathers (0, []) s.left p
-FailsRepeating b s _ p = ⊥
-
-abbrev pub FailsAtRepeat : Option (List ℕ) → Meaning → State → List Lexeme → Place → Type 0
-FailsAtRepeat b k s ts p = (q : Result (Tree × ℕ) ExprFault) × IsParsed ts q × FailsRepeating b s (repeat_of k ts q) p
-
--- the lines behind a condition that is false are passed over
-abbrev pub FailsDeciding : Option (List ℕ) → State → Result Bool ExpandFault → Place → Type 0
-FailsDeciding b s (Ok false) p = FailsInBlock b skips 0 s.left p
-FailsDeciding b s _ p = ⊥
-
-abbrev pub FailsAtIf : Option (List ℕ) → Meaning → State → Test → List Lexeme → Place → Type 0
-FailsAtIf b k s test ts p = (c : Result Bool ExpandFault) × IsCondition k test ts c × FailsDeciding b s c p
-
--- those of the other branches behind one that was taken
-abbrev pub FailsAtElse : Option (List ℕ) → State → Option (Bool × List Bool) → Place → Type 0
-FailsAtElse b s (Some (false, bs)) p = FailsInBlock b passes 0 s.left p
-FailsAtElse b s _ p = ⊥
-
-abbrev pub FailsIncluding : Option (List ℕ) → State → Option (List ℕ) → Place → Type 0
-FailsIncluding b s None p = ⊥
-FailsIncluding b s (Some name) p = (p ≡ s.left.place) × IsAmong b (tried s.left.place.file s.folders name)
-
--- of the directives that nothing stands behind
-abbrev pub FailsAlone : Option (List ℕ) → State → Directive → List Lexeme → Place → Type 0
-FailsAlone b s Else [] p = FailsAtElse b s (last_condition s) p
-FailsAlone b s _ ts p = ⊥
-
-abbrev pub FailsBy : Option (List ℕ) → Meaning → State → Directive → List Lexeme → Place → Type 0
-FailsBy b k s Macro ts p = FailsDefining b s (header_of ts) p
-FailsBy b k s Repeat ts p = FailsAtRepeat b k s ts p
-FailsBy b k s (If test) ts p = FailsAtIf b k s test ts p
-FailsBy b k s ElseIf ts p = FailsAtElse b s (last_condition s) p
-FailsBy b k s Include ts p = FailsIncluding b s (string_of ts) p
-FailsBy b k s directive ts p = FailsAlone b s directive ts p
-
--- ---- In a step.
-
--- a line without a label
-abbrev pub FailsActing : Option (List ℕ) → Meaning → State → List Lexeme → Option Directive → Place → Type 0
-FailsActing b k s ts (Some directive) p = FailsBy b k s directive (drop 1 ts) p
-FailsActing b k s ts None p = ⊥
-
-abbrev pub FailsUnlabelled : Option (List ℕ) → Meaning → State → List Lexeme → Place → Type 0
-FailsUnlabelled b k s ts p = (label_len ts ≡ 0) × FailsActing b k s ts (front_directive ts) p
-
--- behind a line that is taken
-abbrev pub FailsBehind : Option (List ℕ) → Meaning → State → Place → Type 0
-FailsBehind b k s p = (ts : List Lexeme) × ((l : Left) × Takes s.left (Ok (Some ts, l)) × FailsUnlabelled b k (with_left s l) ts p)
-
-abbrev pub FailsTaking : Option (List ℕ) → Meaning → State → Place → Type 0
-FailsTaking b k s p = FailsAtLine b s.left p ⊎ FailsBehind b k s p
-
--- what stands behind a label is acted on, and a branch is decided; otherwise a line is taken
-abbrev pub FailsFrom : Option (List ℕ) → Meaning → State → List Item → Place → Type 0
-FailsFrom b k s (labelled ts ∷ is) p = FailsActing b k (with_items s is) ts (front_directive ts) p
-FailsFrom b k s (branch ts ∷ is) p = FailsAtIf b k (with_items s is) True ts p
-FailsFrom b k s _ p = FailsTaking b k s p
+-- It fails where a line is taken, at a line of a block, or where a file is looked for; or in what the step reads behind
+-- that.
+abbrev pub Fails : Option (List ℕ) → Step → Place → Type 0
+Fails b (leads x) p = ⊥
+Fails b (parses ts next) p = (q : Result (Tree × ℕ) ExprFault) × IsParsed ts q × Fails b (next q) p
+Fails b (decides k test ts next) p = (c : Result Bool ExpandFault) × IsCondition k test ts c × Fails b (next c) p
+Fails b (takes l next) p = FailsAtLine b l p ⊎ ((t : Taken) × Takes l t × Fails b (next t) p)
+Fails b (takes_block k l next) p = FailsInBlock b (judge_of k) (block_state k 0 []) l p
+Fails b (opens l names next) p = (p ≡ l.place) × IsAmong b names
 
 -- the store fails in the step from a state, at this place
 unfoldable pub FailsAt : Option (List ℕ) → Meaning → State → Place → Type 0
-FailsAt b k s p = FailsFrom b k s s.left.items p
+FailsAt b k s p = Fails b (step_from k s s.left.items) p
 
 -- ---- Where expansion was when the store failed.
 
@@ -105,11 +44,6 @@ pub data Goes (m : Files) (k : Meaning) : State → State → Type 0 where
   no_step : (s : State) → Goes m k s s
   one_more : (s t u : State) → Goes m k s t → IsStep m k t (goes u) → Goes m k s u
 
--- the place that the innermost file, expansion or repeat goes back to
-abbrev pub back_of : Option Mark → Option Place
-back_of None = None
-back_of (Some k) = k.back
-
 -- From a state expansion was on its way to the next statement, and in a step of it the store failed; this is the place
 -- of the line that was read last.
 pub record IsOnItsWay (m : Files) (blamed : Option (List ℕ)) (k : Meaning) (s : State) (place : Place) : Type 0 where
@@ -117,7 +51,7 @@ pub record IsOnItsWay (m : Files) (blamed : Option (List ℕ)) (k : Meaning) (s 
   pub reading : Place
   pub goes : Goes m k s state
   pub fails : FailsAt blamed k state reading
-  pub at : place ≡ last_read reading (back_of (innermost state.left.items))
+  pub at : place ≡ last_read reading (option_and_then (λ k. k.back) (innermost state.left.items))
 
 -- the place of an expander that was refused since the store failed, from the state that it stood for
 abbrev pub StopsOnItsWay : {A : Type 0} → Files → Option (List ℕ) → Meaning → Expander → Result A ExpandFault → Expander → Type 0

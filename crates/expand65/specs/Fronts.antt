@@ -1,5 +1,6 @@
 -- The first words of a line: labels and directives of expansion.
 use Rattle.std.specs.Prelude.{ℕ, List, [], ◌∷◌, codes, Option, Some, None, if◌then◌else◌, Bool, true, false, not, nat_lt, ◌-◌, ◌&&◌, length, take, drop, Result, Ok, Err}
+use Rattle.std.specs.Option.{option_or}
 use Rattle.std.specs.Str.{str_eq_ignore_ascii_case}
 use Rattle.expand65.specs.Types.{True, Defined, NotDefined, Blank, NotBlank, Directive, Macro, EndMacro, ExitMacro, Local, Repeat, EndRepeat, If, ElseIf, Else, EndIf, Include, Error, End, ExpandFault, NotUnderstood}
 use Rattle.syntax65.specs.Tokens.{Lexeme}
@@ -47,13 +48,9 @@ abbrev pub among : List (List ℕ × Directive) → List ℕ → Option Directiv
 among [] word = None
 among ((name, directive) ∷ others) word = if str_eq_ignore_ascii_case word name then Some directive else among others word
 
-abbrev pub or_else : Option Directive → Option Directive → Option Directive
-or_else None other = other
-or_else (Some directive) other = Some directive
-
 -- the directive that a word is, if it is one
 abbrev pub directive_of : List ℕ → Option Directive
-directive_of word = or_else (among condition_words word) (or_else (among macro_words word) (among block_words word))
+directive_of word = option_or (among condition_words word) (option_or (among macro_words word) (among block_words word))
 
 -- ---- What isn't understood, or isn't there.
 
@@ -105,10 +102,10 @@ quoted_in _ = None
 
 -- ---- Lists of tokens.
 
--- nothing stands here
-abbrev pub is_nothing : List Lexeme → Bool
-is_nothing [] = true
-is_nothing (t ∷ ts) = false
+-- whether a list begins with such a thing
+abbrev pub begins : {A : Type 0} → (A → Bool) → List A → Bool
+begins is_such [] = false
+begins is_such (x ∷ xs) = is_such x
 
 -- the bytes of one string
 abbrev pub string_of : List Lexeme → Option (List ℕ)
@@ -134,14 +131,10 @@ is_label_name (token.Identifier, text) = not (is_reserved text)
 is_label_name (token.CheapName, text) = true
 is_label_name _ = false
 
-abbrev pub begins_with_colon : List Lexeme → Bool
-begins_with_colon [] = false
-begins_with_colon (t ∷ ts) = is_colon t
-
 -- how many tokens the label at the front has: `:`, or a name and `:`; or there is none
 abbrev pub label_len : List Lexeme → ℕ
 label_len [] = 0
-label_len (t ∷ ts) = if is_colon t then 1 else if is_label_name t && begins_with_colon ts then 2 else 0
+label_len (t ∷ ts) = if is_colon t then 1 else if is_label_name t && begins is_colon ts then 2 else 0
 
 -- ---- Directives.
 

@@ -1,16 +1,17 @@
 -- Lines of a source, and what is left of them.
 use Rattle.std.specs.Prelude.{ℕ, Bool, List, [], ◌∷◌, ◌++◌, codes, decimal, position, slice_get, unwrap_or, Option, Some, None, Result, IfErr, true, ◌≡◌, if◌then◌else◌, zero, suc, ◌+◌, map, false, nat_eq, ◌&&◌, ◌<◌, ◌≤◌, ◌-◌, not, length, take, drop, option_map, Ok, Err, ◌==◌, nat_le}
 use Rattle.std.specs.Map.{lookup}
+use Rattle.std.specs.Option.{option_or}
 use Rattle.std.specs.Str.{bytes_eq, str_eq_ignore_ascii_case}
 use Rattle.base65.specs.Store.{Files, IsBlamed, Passes}
 use Rattle.syntax65.specs.Faults.{is_failure, is_outside, fault_of_lexing}
 use Rattle.syntax65.specs.Tokens.{Lexeme, IsRead}
 use Rattle.syntax65.specs.declared.lexing.tokens.TokenKind.TheVariants as token
+use Rattle.expand65.specs.Fronts.{begins}
 use Rattle.expand65.specs.Types.{ExpandFault, FileError, Syntax, Nested, NotClosed, TooManyLines, LineTooLong, Place, OpenFile}
 use Rattle.std.specs.FinMap as fmap
 use Rattle.base65.specs.Outcome.{Unless}
 use Rattle.syntax65.specs.declared.lexing.tokens.LexFault.TheVariants as lex
-use Rattle.expand65.specs.declared.reader.MacroEnd.{MacroEnd}
 use Rattle.syntax65.specs.declared.lexing.tokens.LexFault.{LexFault}
 
 -- ---- What stands in place of names in the lines of a body.
@@ -41,14 +42,9 @@ abbrev pub argument_at : List (List Lexeme) → Option ℕ → Option (List Lexe
 argument_at arguments None = None
 argument_at arguments (Some i) = Some (unwrap_or (slice_get arguments i) [])
 
--- the first of two that is there
-abbrev pub either : Option (List Lexeme) → Option (List Lexeme) → Option (List Lexeme)
-either (Some ts) other = Some ts
-either None other = other
-
 -- what stands for a name: what is given for a parameter, or else a name of the expansion's own
 abbrev pub for_name : Replacing → List ℕ → Option (List Lexeme)
-for_name r name = either (argument_at r.arguments (position (bytes_eq name) r.params)) (lookup (bytes_eq name) r.locals)
+for_name r name = option_or (argument_at r.arguments (position (bytes_eq name) r.params)) (lookup (bytes_eq name) r.locals)
 
 abbrev pub is_count_word : List ℕ → Bool
 is_count_word text = str_eq_ignore_ascii_case text (codes ".paramcount")
@@ -158,10 +154,10 @@ innermost [] = None
 innermost (mark k ∷ is) = Some k
 innermost (_ ∷ is) = innermost is
 
--- what is left behind the innermost expansion, with its mark and the place behind it
-abbrev pub outside_macro : List Item → Place → Option (Mark × List Item × Place)
+-- how many conditions stay open behind the innermost expansion, what is left behind it, and the place there
+abbrev pub outside_macro : List Item → Place → Option (ℕ × List Item × Place)
 outside_macro [] p = None
-outside_macro (mark k ∷ is) p = if k.is_macro then Some (k, is, come_back p k.back) else outside_macro is (come_back p k.back)
+outside_macro (mark k ∷ is) p = if k.is_macro then Some (k.conditions, is, come_back p k.back) else outside_macro is (come_back p k.back)
 outside_macro (_ ∷ is) p = outside_macro is p
 
 -- ---- Lines.
@@ -206,10 +202,6 @@ is_line_end b = nat_eq b 10
 abbrev pub is_return : ℕ → Bool
 is_return b = nat_eq b 13
 
-abbrev pub begins_with_end : List ℕ → Bool
-begins_with_end [] = false
-begins_with_end (b ∷ bs) = is_line_end b
-
 -- a byte more at the front of the first line, which it begins where there is none
 abbrev pub put_before : ℕ → List (List ℕ) → List (List ℕ)
 put_before b [] = (b ∷ []) ∷ []
@@ -221,7 +213,7 @@ abbrev pub lines_of : List ℕ → List (List ℕ)
 lines_of [] = []
 lines_of (b ∷ bs) =
     if is_line_end b then [] ∷ lines_of bs
-    else if is_return b && begins_with_end bs then lines_of bs
+    else if is_return b && begins is_line_end bs then lines_of bs
     else put_before b (lines_of bs)
 
 -- how many bytes a file has at most
@@ -302,21 +294,6 @@ pushed is k l = if nat_le (marks l.items) nesting_limit then Ok (left (is ++ mar
 abbrev pub closed : ℕ → Place → List Item → Result (List Item × Place) Stop
 closed n p (mark k ∷ is) = if k.conditions == n then Ok (is, come_back p k.back) else Err (NotClosed, p)
 closed n p is = Ok (is, p)
-
--- what is left, if anything is
-abbrev pub if_more : Bool → List Item → List Item
-if_more true is = is
-if_more false is = []
-
--- how many conditions stay open behind the innermost expansion, what is left behind it, and the place there
-abbrev pub exit_of : Option (Mark × List Item × Place) → Option (ℕ × List Item × Place)
-exit_of None = None
-exit_of (Some (k, is, p)) = Some (k.conditions, is, p)
-
--- the same of an expansion's end, with what is left then and the place
-abbrev pub end_of : Option MacroEnd → List Item → Place → Option (ℕ × List Item × Place)
-end_of None is p = None
-end_of (Some e) is p = Some (e.conditions, if_more e.more is, p)
 
 -- ---- The first of the lines that are left, read as tokens.
 

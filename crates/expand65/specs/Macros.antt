@@ -6,10 +6,11 @@ use Rattle.std.specs.List.{list_any}
 use Rattle.std.specs.Map.{lookup}
 use Rattle.std.specs.Str.{bytes_eq}
 use Rattle.syntax65.specs.declared.lexing.tokens.TokenKind.TheVariants as token
-use Rattle.expand65.specs.Blocks.{Block, collects, gathers}
-use Rattle.expand65.specs.Lines.{nesting_limit, file_limit, bytes_of, Definition, Replacing, number_token, repeating, Item, played, mark, Mark, Left, left, Stop, innermost, localised, marks, outside_macro, turns}
-use Rattle.expand65.specs.State.{State, plain, Stepped, goes, gives, stops, with_left, with_items, Meaning}
-use Rattle.expand65.specs.Types.{Nested, TooManyArguments, MacroTwice, NotOpened, NotUnderstood, NotConstant, CountOutOfRange, FileTooLong, Place, ExprFault, ExpandFault}
+use Rattle.expand65.specs.declared.blocks.BlockKind.TheVariants as kind
+use Rattle.std.specs.Option.{option_map_or}
+use Rattle.expand65.specs.Lines.{file_limit, bytes_of, Definition, Replacing, number_token, repeating, Item, played, Mark, Left, left, innermost, localised, outside_macro, pushed, turns}
+use Rattle.expand65.specs.State.{State, plain, Step, leads, parses, takes_block, Stepped, goes, gives, stops, unless_refused, unless_stopped, with_conditions, with_left, with_items, Meaning}
+use Rattle.expand65.specs.Types.{TooManyArguments, MacroTwice, NotOpened, NotUnderstood, NotConstant, CountOutOfRange, FileTooLong, Place, ExprFault, ExpandFault}
 use Rattle.syntax65.specs.Expressions.{IsParsed}
 use Rattle.base65.specs.Outcome.{◌>>=◌, Unless}
 use Rattle.syntax65.specs.Trees.{Tree}
@@ -59,12 +60,13 @@ arguments_of ts = map unbraced (parts_within 0 ts)
 
 -- ---- What stands in front of the lines that are left.
 
--- Lines and their end mark in front of what is left; so many files, expansions and repeats may be open.
+-- the end mark of what begins here
+abbrev pub mark_from : State → Bool → Option Place → Mark
+mark_from s is_macro back = record { is_macro = is_macro; conditions = length s.conditions; back = back }
+
+-- lines and their end mark in front of what is left, the first of which comes at a place
 abbrev pub entered : State → List Item → Mark → Place → Stepped
-entered s is k p =
-    if nat_le (marks s.left.items) nesting_limit
-    then goes (with_left s (left (is ++ mark k ∷ s.left.items) s.left.room p))
-    else stops (Nested, s.left.place)
+entered s is k p = unless_stopped (pushed is k s.left) (λ l. goes (with_left s (left l.items l.room p)))
 
 -- ---- Definitions.
 
@@ -90,30 +92,26 @@ header_of (t ∷ ts) = name_in t >=> (λ name. params_of ts >=> (λ params. Some
 abbrev pub macro_of : List (List ℕ × Definition) → List ℕ → Option Definition
 macro_of ms name = lookup (bytes_eq name) ms
 
-abbrev pub kept : State → List ℕ → List (List ℕ) → Result (List (List Lexeme) × Left) Stop → Stepped
-kept s name params (Err e) = stops e
-kept s name params (Ok (body, l)) = goes (record { left = l; macros = s.macros ++ (name, record { params = params; body = body }) ∷ []; conditions = s.conditions; expansions = s.expansions; folders = s.folders })
-
-abbrev pub IsKept : State → List ℕ → List (List ℕ) → Option Definition → Stepped → Type 0
-IsKept s name params (Some m) r = r ≡ stops (MacroTwice, s.left.place)
-IsKept s name params None r = (q : Result (List (List Lexeme) × Left) Stop) × Block collects [] s.left q × (r ≡ kept s name params q)
-
-abbrev pub IsDefined : State → Option (List ℕ × List (List ℕ)) → Stepped → Type 0
-IsDefined s None r = r ≡ stops (NotUnderstood, s.left.place)
-IsDefined s (Some (name, params)) r = IsKept s name params (macro_of s.macros name) r
+-- a macro that isn't there yet, with the lines of its body
+abbrev pub defined : State → List ℕ → List (List ℕ) → Option Definition → Step
+defined s name params (Some m) = leads (stops (MacroTwice, s.left.place))
+defined s name params None = takes_block kind.Macro s.left (λ body l. goes (record {
+  left = l;
+  macros = s.macros ++ (name, record { params = params; body = body }) ∷ [];
+  conditions = s.conditions;
+  expansions = s.expansions;
+  folders = s.folders;
+}))
 
 -- `.macro` and what stands behind it
-abbrev pub IsMacro : State → List Lexeme → Stepped → Type 0
-IsMacro s ts r = IsDefined s (header_of ts) r
+abbrev pub macro_line : State → List Lexeme → Step
+macro_line s ts = unless_refused s (understood (header_of ts)) (λ h. defined s h.0 h.1 (macro_of s.macros h.0))
 
 -- ---- Calls.
 
 -- what an expansion puts into the macro's lines at first
 abbrev pub given_to : Definition → List (List Lexeme) → ℕ → Replacing
 given_to m arguments number = record { params = m.params; arguments = arguments; count = Some (number_token (length arguments) ∷ []); locals = []; number = number }
-
-abbrev pub expansion_mark : State → Mark
-expansion_mark s = record { is_macro = true; conditions = length s.conditions; back = None }
 
 -- one more macro was called
 abbrev pub counted : State → State
@@ -122,7 +120,7 @@ counted s = record { left = s.left; macros = s.macros; conditions = s.conditions
 abbrev pub called : State → Definition → List (List Lexeme) → Stepped
 called s m arguments =
     if nat_le (length arguments) (length m.params)
-    then entered (counted s) (map (played (given_to m arguments (s.expansions + 1))) m.body) (expansion_mark s) s.left.place
+    then entered (counted s) (map (played (given_to m arguments (s.expansions + 1))) m.body) (mark_from s true None) s.left.place
     else stops (TooManyArguments, s.left.place)
 
 -- the macro that a token names
@@ -153,17 +151,13 @@ unmade names = if list_any is_made names then None else Some names
 abbrev pub new_names : List Lexeme → Option (List (List ℕ))
 new_names ts = names_of ts >=> unmade
 
-abbrev pub in_macro : Option Mark → Bool
-in_macro None = false
-in_macro (Some k) = k.is_macro
-
 abbrev pub local_named : State → Option (List (List ℕ)) → Stepped
 local_named s None = stops (NotUnderstood, s.left.place)
 local_named s (Some names) = goes (with_items s (localised names s.left.items))
 
 -- `.local` stands in the body of a macro itself
 abbrev pub local_line : State → List Lexeme → Stepped
-local_line s ts = if in_macro (innermost s.left.items) then local_named s (new_names ts) else stops (NotUnderstood, s.left.place)
+local_line s ts = if option_map_or (λ k. k.is_macro) (innermost s.left.items) false then local_named s (new_names ts) else stops (NotUnderstood, s.left.place)
 
 -- ---- Leaving an expansion.
 
@@ -171,9 +165,9 @@ local_line s ts = if in_macro (innermost s.left.items) then local_named s (new_n
 abbrev pub outermost : ℕ → List Bool → List Bool
 outermost n conditions = drop (length conditions - n) conditions
 
-abbrev pub exited : State → Option (Mark × List Item × Place) → Stepped
+abbrev pub exited : State → Option (ℕ × List Item × Place) → Stepped
 exited s None = stops (NotOpened, s.left.place)
-exited s (Some (k, is, p)) = goes (record { left = left is s.left.room p; macros = s.macros; conditions = outermost k.conditions s.conditions; expansions = s.expansions; folders = s.folders })
+exited s (Some (n, is, p)) = goes (with_conditions s (outermost n s.conditions) (left is s.left.room p))
 
 abbrev pub exit_macro : State → Stepped
 exit_macro s = exited s (outside_macro s.left.items s.left.place)
@@ -204,20 +198,13 @@ turns_of (Some (negsuc n)) = Err CountOutOfRange
 abbrev pub repeat_of : Meaning → List Lexeme → Result (Tree × ℕ) ExprFault → Result (ℕ × List (List ℕ)) ExpandFault
 repeat_of k ts q = repeat_header ts q >>= (λ h. turns_of (k.value h.0) >>= (λ n. Ok (n, h.1)))
 
-abbrev pub repeat_mark : State → Mark
-repeat_mark s = record { is_macro = false; conditions = length s.conditions; back = None }
-
-abbrev pub repeated : State → ℕ → List (List ℕ) → Result (List (List Lexeme) × Left) Stop → Stepped
-repeated s n variable (Err e) = stops e
-repeated s n variable (Ok (body, l)) = entered (with_left s l) (turns (repeating variable) body 0 n) (repeat_mark s) l.place
-
-abbrev pub IsRepeated : State → Result (ℕ × List (List ℕ)) ExpandFault → Stepped → Type 0
-IsRepeated s (Err f) r = r ≡ stops (f, s.left.place)
-IsRepeated s (Ok (n, variable)) r = (q : Result (List (List Lexeme) × Left) Stop) × Block gathers (0, []) s.left q × (r ≡ repeated s n variable q)
+-- so many turns of the lines that follow
+abbrev pub repeated : State → ℕ → List (List ℕ) → Step
+repeated s n variable = takes_block kind.Repeat s.left (λ body l. entered (with_left s l) (turns (repeating variable) body 0 n) (mark_from s false None) l.place)
 
 -- `.repeat` and what stands behind it
-abbrev pub IsRepeat : Meaning → State → List Lexeme → Stepped → Type 0
-IsRepeat k s ts r = (q : Result (Tree × ℕ) ExprFault) × IsParsed ts q × IsRepeated s (repeat_of k ts q) r
+abbrev pub repeat_line : Meaning → State → List Lexeme → Step
+repeat_line k s ts = parses ts (λ q. unless_refused s (repeat_of k ts q) (λ h. repeated s h.0 h.1))
 
 -- ---- What stands at a place of a list of tokens, and how far the first argument goes.
 
@@ -225,13 +212,9 @@ IsRepeat k s ts r = (q : Result (Tree × ℕ) ExprFault) × IsParsed ts q × IsR
 abbrev pub name_at : List Lexeme → ℕ → Option (List ℕ)
 name_at ts at = slice_get ts at >=> name_in
 
-abbrev pub is_comma_in : Option Lexeme → Bool
-is_comma_in None = false
-is_comma_in (Some t) = is_comma t
-
 -- whether a comma stands at a place
 abbrev pub is_comma_at : List Lexeme → ℕ → Bool
-is_comma_at ts at = is_comma_in (slice_get ts at)
+is_comma_at ts at = option_map_or is_comma (slice_get ts at) false
 
 -- how many tokens stand before the first comma that isn't within braces, so many braces being open
 abbrev pub part_len : ℕ → List Lexeme → ℕ

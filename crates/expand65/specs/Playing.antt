@@ -22,18 +22,10 @@ text_of w bytes = (w.kind, take w.len (drop w.blanks bytes))
 abbrev pub behind_word : Word → List ℕ → List ℕ
 behind_word w bytes = drop w.len (drop w.blanks bytes)
 
-abbrev pub behind_words : List Word → List ℕ → List ℕ
-behind_words [] bytes = bytes
-behind_words (w ∷ ws) bytes = behind_words ws (behind_word w bytes)
-
 -- words cut off the bytes one after another
 abbrev pub cut : List Word → List ℕ → List Lexeme
 cut [] bytes = []
 cut (w ∷ ws) bytes = text_of w bytes ∷ cut ws (behind_word w bytes)
-
--- these words are so many tokens in the bytes, whatever is put behind them
-abbrev pub AreKept : List Word → List ℕ → List Lexeme → Type 0
-AreKept words bytes ts = (ws : List Word) (bs : List ℕ) → cut (words ++ ws) (bytes ++ bs) ≡ ts ++ cut ws bs
 
 -- the tokens of a line
 abbrev pub tokens_in : Line → List Lexeme
@@ -86,19 +78,10 @@ abbrev pub IsColonIn : Option Word → Bool → Type 0
 IsColonIn None b = b ≡ false
 IsColonIn (Some w) b = (text : List ℕ) → b ≡ is_colon (w.kind, text)
 
--- whether a word is there at a place, and is a colon
-abbrev pub IsColonAt : List Word → ℕ → Bool → Type 0
-IsColonAt ws i b = IsColonIn (slice_get ws i) b
-
 abbrev pub IsPlain : List Lexeme → Type 0
 IsPlain ts = (label_len ts ≡ 0) × (front_directive ts ≡ None)
 
 -- ---- Plain lines, passed over one after another.
-
--- whether a token is there that is a colon
-abbrev pub is_colon_there : Option Lexeme → Bool
-is_colon_there None = false
-is_colon_there (Some t) = is_colon t
 
 -- the bytes of a line that is read as tokens, without a label and a directive of expansion
 abbrev pub IsPlainLine : List ℕ → Type 0

@@ -11,7 +11,7 @@ use Rattle.expand65.specs.declared.input.Source.TheVariants as source
 use Rattle.expand65.specs.declared.input.NextLine.{NextLine}
 use Rattle.expand65.specs.declared.input.NextLine.TheVariants.{AtEnd, Numbered, Replayed}
 use Rattle.expand65.specs.declared.reader.Input.{Input}
-use Rattle.expand65.specs.Blocks.{Branch, Gathered, Verdict, at_elseif, at_else, at_endif, closed, collects, gathers, on, passes, refused, skips}
+use Rattle.expand65.specs.Blocks.{AnswerOf, Branch, StateOf, Verdict, at_elseif, at_else, at_endif, block_state, closed, on, refused}
 use Rattle.expand65.specs.declared.blocks.BlockEnd.{BlockEnd}
 use Rattle.expand65.specs.declared.blocks.BlockEnd.TheVariants.{ElseIf, Else, End}
 use Rattle.expand65.specs.declared.blocks.BlockKind.{BlockKind}
@@ -96,26 +96,6 @@ Answers view p (Err f) IsAnswer = Unless (is_outside f) (IsAnswer (Err (f, p)))
 
 -- ---- The four kinds of blocks.
 
--- what is known of the lines of a block before its end, by how many others are open in it, and the lines so far
-abbrev pub StateOf : BlockKind → Type 0
-StateOf Macro = List (List Lexeme)
-StateOf Repeat = Gathered
-StateOf Skipped = ℕ
-StateOf Passed = ℕ
-
-abbrev pub block_state : (k : BlockKind) → ℕ → List (List Lexeme) → StateOf k
-block_state Macro d body = body
-block_state Repeat d body = (d, body)
-block_state Skipped d body = d
-block_state Passed d body = d
-
--- what a block comes to, by its lines and what closes it
-abbrev pub AnswerOf : BlockKind → Type 0
-AnswerOf Macro = List (List Lexeme)
-AnswerOf Repeat = List (List Lexeme)
-AnswerOf Skipped = Branch
-AnswerOf Passed = Unit {0}
-
 abbrev pub branch_of : BlockEnd → Branch
 branch_of (ElseIf line) = at_elseif (tokens_in line)
 branch_of Else = at_else
@@ -126,13 +106,6 @@ answer_of Macro body end = body
 answer_of Repeat body end = body
 answer_of Skipped body end = branch_of end
 answer_of Passed body end = tt
-
--- what a line does
-abbrev pub judge_of : (k : BlockKind) → StateOf k → List Lexeme → Verdict (StateOf k) (AnswerOf k)
-judge_of Macro = collects
-judge_of Repeat = gathers
-judge_of Skipped = skips
-judge_of Passed = passes
 
 -- ---- As the code answers it.
 
@@ -146,17 +119,6 @@ abbrev pub Judges : (k : BlockKind) → List (List Lexeme) → List Lexeme → R
 Judges k body ts (Ok (On d)) v = v ≡ on (block_state k d (body ++ ts ∷ []))
 Judges k body ts (Ok (Closed end)) v = v ≡ closed (answer_of k body end)
 Judges k body ts (Err f) v = Unless (is_outside f) (v ≡ refused f)
-
--- a block is closed where nothing stands behind the directive, or it isn't understood
-abbrev pub closed_by : BlockEnd → Bool → Result BlockStep ExpandFault
-closed_by end true = Ok (Closed end)
-closed_by end false = Err NotUnderstood
-
--- one more is open, unless there are too many to be counted
-abbrev pub IsDeeper : ℕ → Result BlockStep ExpandFault → Type 0
-IsDeeper d (Ok (On n)) = n ≡ suc d
-IsDeeper d (Ok (Closed end)) = ⊥
-IsDeeper d (Err f) = f ≡ OutOfMemory
 
 -- lines are passed over that aren't kept
 abbrev pub IsPassedOver : Bool → Left → Left → Type 0
@@ -223,11 +185,6 @@ last_read p back = if p.line == 0 then come_back p back else p
 
 -- ---- The state that a rewriter stands for, and what its calls lead to.
 
--- what a pop answers and leaves
-abbrev pub PopsTo : Option Bool → List Bool → Option (Bool × List Bool) → Type 0
-PopsTo None bs r = r ≡ None
-PopsTo (Some b) bs r = r ≡ Some (b, bs)
-
 -- its macros by their names
 abbrev pub macros_of : Rewriter → List (List ℕ × Definition)
 macros_of r = map (λ e. (e.0.items, definition_of e.1.value)) r.macros.entries
@@ -235,11 +192,6 @@ macros_of r = map (λ e. (e.0.items, definition_of e.1.value)) r.macros.entries
 -- the state in which nothing stands in front of the inputs' lines
 abbrev pub state_of : Files → Rewriter → State
 state_of m r = record { left = left_of m r.reader; macros = macros_of r; conditions = r.conditions; expansions = r.expansions; folders = r.folders }
-
--- the macro that a token names, or none
-abbrev pub MacroFound : Option (Rc Body Global) → Rewriter → Lexeme → Type 0
-MacroFound None r t = macro_at (macros_of r) t ≡ None
-MacroFound (Some body) r t = macro_at (macros_of r) t ≡ Some (definition_of body.value)
 
 -- where a turn leads to, the state behind it being that of the inputs' lines
 abbrev pub turned : State → Turn → Stepped

@@ -2,12 +2,14 @@
 use Rattle.std.specs.Prelude.{ℕ, ℤ, Bool, List, Option, ◌≡◌, pos, negsuc, zero, suc, ◌+◌, nat_lt, ◌==◌, true, false, not, [], ◌∷◌, length, Some, None, Result, Ok, Err, if◌then◌else◌}
 use Rattle.syntax65.specs.Trees.{Tree, name}
 use Rattle.syntax65.specs.Tokens.{Lexeme}
-use Rattle.expand65.specs.Lines.{Item, Left, left, Stop, Definition, branch, Mark}
+use Rattle.expand65.specs.Lines.{Item, Left, left, Stop, Definition, branch, Taken}
 use Rattle.syntax65.specs.Expressions.{IsParsed}
 use Rattle.base65.specs.Outcome.{◌>>=◌}
-use Rattle.expand65.specs.Types.{ExprFault, Test, True, Defined, NotDefined, Blank, NotBlank, ExpandFault, NotConstant, NotOpened}
-use Rattle.expand65.specs.Blocks.{Block, Branch, at_elseif, at_else, at_endif, skips, passes}
-use Rattle.expand65.specs.Fronts.{opens_parenthesis, unknown}
+use Rattle.expand65.specs.Types.{ExprFault, Test, True, Defined, NotDefined, Blank, NotBlank, ExpandFault, NotConstant, NotOpened, NotUnderstood}
+use Rattle.expand65.specs.Blocks.{AnswerOf, Branch, at_elseif, at_else, at_endif}
+use Rattle.expand65.specs.declared.blocks.BlockKind.{BlockKind}
+use Rattle.expand65.specs.declared.blocks.BlockKind.TheVariants.{Skipped, Passed}
+use Rattle.expand65.specs.Fronts.{begins, opens_parenthesis, unknown}
 
 -- ---- What expressions and names mean at a line.
 
@@ -53,6 +55,33 @@ pub data Stepped : Type 0 where
   ends : State → Stepped
   stops : Stop → Stepped
 
+-- ---- Steps, by what they read.
+
+-- A step: what it leads to, or what it reads before that and how it goes on then. It reads an expression, a condition, a
+-- line, the lines of a block up to the one that closes it, or the first file that is there of some names.
+pub data Step : Type 0 where
+  leads : Stepped → Step
+  parses : List Lexeme → (Result (Tree × ℕ) ExprFault → Step) → Step
+  decides : Meaning → Test → List Lexeme → (Result Bool ExpandFault → Step) → Step
+  takes : Left → (Taken → Step) → Step
+  takes_block : (k : BlockKind) → Left → (AnswerOf k → Left → Stepped) → Step
+  opens : Left → List (List ℕ) → (Result (List ℕ × List ℕ) ExpandFault → Step) → Step
+
+-- what follows from this, unless it is refused at the place
+abbrev pub unless_refused : {A : Type 0} → State → Result A ExpandFault → (A → Step) → Step
+unless_refused s (Err f) next = leads (stops (f, s.left.place))
+unless_refused s (Ok x) next = next x
+
+-- what follows where nothing stands behind a directive
+abbrev pub if_alone : State → List Lexeme → Step → Step
+if_alone s [] next = next
+if_alone s _ next = leads (stops (NotUnderstood, s.left.place))
+
+-- what follows from what was read, unless that stopped
+abbrev pub unless_stopped : {A : Type 0} → Result A Stop → (A → Stepped) → Stepped
+unless_stopped (Err e) next = stops e
+unless_stopped (Ok x) next = next x
+
 -- ---- What a condition asks for.
 
 -- an expression of all the tokens
@@ -76,12 +105,8 @@ defined_tree k (name is_global parts) = Ok (k.defined is_global parts)
 defined_tree k _ = unknown
 
 -- a name isn't put in parentheses
-abbrev pub begins_enclosed : List Lexeme → Bool
-begins_enclosed [] = false
-begins_enclosed (t ∷ ts) = opens_parenthesis t
-
 abbrev pub defined_in : Meaning → List Lexeme → Result (Tree × ℕ) ExprFault → Result Bool ExpandFault
-defined_in k ts q = if begins_enclosed ts then unknown else whole (length ts) q >>= defined_tree k
+defined_in k ts q = if begins opens_parenthesis ts then unknown else whole (length ts) q >>= defined_tree k
 
 -- what a condition of these tokens comes to
 abbrev pub IsCondition : Meaning → Test → List Lexeme → Result Bool ExpandFault → Type 0
@@ -94,25 +119,19 @@ IsCondition k NotBlank ts r = r ≡ Ok (not (length ts == 0))
 -- ---- An `.if` of any kind, and an `.elseif` that follows a false condition.
 
 -- what a false condition goes on with
-abbrev pub found : State → Result (Branch × Left) Stop → Stepped
-found s (Err e) = stops e
-found s (Ok (at_endif, l)) = goes (with_left s l)
-found s (Ok (at_else, l)) = goes (with_conditions s (true ∷ s.conditions) l)
-found s (Ok (at_elseif ts, l)) = goes (with_left s (left (branch ts ∷ l.items) l.room l.place))
+abbrev pub found : State → Branch → Left → Stepped
+found s at_endif l = goes (with_left s l)
+found s at_else l = goes (with_conditions s (true ∷ s.conditions) l)
+found s (at_elseif ts) l = goes (with_left s (left (branch ts ∷ l.items) l.room l.place))
 
-abbrev pub IsDecided : State → Result Bool ExpandFault → Stepped → Type 0
-IsDecided s (Err f) r = r ≡ stops (f, s.left.place)
-IsDecided s (Ok true) r = r ≡ goes (with_conditions s (false ∷ s.conditions) s.left)
-IsDecided s (Ok false) r = (q : Result (Branch × Left) Stop) × Block skips 0 s.left q × (r ≡ found s q)
+abbrev pub decided : State → Bool → Step
+decided s true = leads (goes (with_conditions s (false ∷ s.conditions) s.left))
+decided s false = takes_block Skipped s.left (found s)
 
-abbrev pub IsIf : Meaning → State → Test → List Lexeme → Stepped → Type 0
-IsIf k s test ts r = (c : Result Bool ExpandFault) × IsCondition k test ts c × IsDecided s c r
+abbrev pub if_line : Meaning → State → Test → List Lexeme → Step
+if_line k s test ts = decides k test ts (λ c. unless_refused s c (decided s))
 
 -- ---- Any other `.elseif`, `.else` and `.endif`.
-
-abbrev pub conditions_in : Option Mark → ℕ
-conditions_in None = 0
-conditions_in (Some k) = k.conditions
 
 -- the last open condition and those outside it, where more are open than at the innermost end mark
 abbrev pub popped : List Bool → ℕ → Option (Bool × List Bool)
@@ -123,11 +142,6 @@ abbrev pub ended_if : State → Option (Bool × List Bool) → Stepped
 ended_if s None = stops (NotOpened, s.left.place)
 ended_if s (Some (b, bs)) = goes (with_conditions s bs s.left)
 
-abbrev pub passed : State → List Bool → Result (Unit {0} × Left) Stop → Stepped
-passed s bs (Err e) = stops e
-passed s bs (Ok (u, l)) = goes (with_conditions s bs l)
-
-abbrev pub IsElse : State → Option (Bool × List Bool) → Stepped → Type 0
-IsElse s None r = r ≡ stops (NotOpened, s.left.place)
-IsElse s (Some (true, bs)) r = r ≡ stops (NotOpened, s.left.place)
-IsElse s (Some (false, bs)) r = (q : Result (Unit {0} × Left) Stop) × Block passes 0 s.left q × (r ≡ passed s bs q)
+abbrev pub else_line : State → Option (Bool × List Bool) → Step
+else_line s (Some (false, bs)) = takes_block Passed s.left (λ u l. goes (with_conditions s bs l))
+else_line s _ = leads (stops (NotOpened, s.left.place))

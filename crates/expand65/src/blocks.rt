@@ -1,12 +1,11 @@
 //! Blocks of lines that are taken as a whole.
 
-ghost use Rattle.std.specs.Prelude.{◌≡◌, ◌∷◌, ◌++◌, ◌<◌, ◌≤◌, [], List, ℕ, drop, false, map, IfErr, IfSome, OnOk, Some};
+ghost use Rattle.std.specs.Prelude.{◌≡◌, ◌==◌, if◌then◌else◌, length, Ok, Err, ◌∷◌, ◌++◌, ◌<◌, ◌≤◌, [], List, ℕ, drop, false, map, suc, IfErr, IfOk, IfSome, OnOk, Some};
 ghost use Rattle.base65.specs.Store.{Files};
 ghost use Rattle.syntax65.specs.Tokens.{Lexeme, lexemes};
 ghost use Rattle.syntax65.specs.Faults.{is_failure};
-ghost use Rattle.expand65.specs.Blocks.{Block, collecting, gathering, passing, skipping};
-ghost use Rattle.expand65.specs.Fronts.{is_nothing};
-ghost use Rattle.expand65.specs.Standing.{Stays, Answers, left_of, IsDeeper, IsPassedOver, Judges, closed_by, answer_of, is_kept, judge_of, block_state, FailsInBlock, NamesFiles, StopsAt};
+ghost use Rattle.expand65.specs.Blocks.{Block, block_state, collecting, gathering, judge_of, passing, skipping};
+ghost use Rattle.expand65.specs.Standing.{Stays, Answers, left_of, IsPassedOver, Judges, answer_of, is_kept, FailsInBlock, NamesFiles, StopsAt};
 ghost use Rattle.expand65.specs.Playing.{tokens_in};
 ghost use Rattle.expand65.specs.Lines.{LeavesStore};
 
@@ -57,7 +56,8 @@ pub enum BlockStep {
 
 /// A block is closed by a directive that nothing stands behind.
 fn closed_alone(tokens: &[Token<'_>], end: BlockEnd) -> Result<BlockStep, ExpandFault>
-    ensures { result ≡ closed_by end (is_nothing (drop 1 (lexemes tokens.now))) }
+    ensures { result ≡ (if length (drop 1 (lexemes tokens.now)) == 0
+        then Ok (BlockStep.Closed end) else Err ExpandFault.NotUnderstood) }
 {
     match tokens {
         [] | [_] => Ok(BlockStep::Closed(end)),
@@ -65,8 +65,10 @@ fn closed_alone(tokens: &[Token<'_>], end: BlockEnd) -> Result<BlockStep, Expand
     }
 }
 
+/// One more is open, unless there are too many to be counted.
 fn deeper(depth: u32) -> Result<BlockStep, ExpandFault>
-    ensures { IsDeeper depth result }
+    ensures step { IfOk result (λ s. s ≡ BlockStep.On (suc depth)) }
+    ensures outside { IfErr result (λ f. f ≡ ExpandFault.OutOfMemory) }
 {
     match depth.checked_add(1) {
         Some(depth) => Ok(BlockStep::On(depth)),

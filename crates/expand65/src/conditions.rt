@@ -1,6 +1,6 @@
 //! Conditions, and expressions in directives.
 
-ghost use Rattle.std.specs.Prelude.{◌≡◌, ◌∷◌, [], false, length, IfErr, IfNone, List, OnOk, ℕ, Result};
+ghost use Rattle.std.specs.Prelude.{◌≡◌, ◌∷◌, option_map, [], false, length, IfErr, IfNone, List, OnOk, ℕ, Result};
 ghost use Rattle.syntax65.specs.Expressions.{IsParsed};
 ghost use Rattle.base65.specs.Relations.{Answers};
 ghost use Rattle.syntax65.specs.Tokens.{lexemes};
@@ -9,7 +9,6 @@ ghost use Rattle.syntax65.specs.declared.expressions.words.ExprFault.{ExprFault}
 ghost use Rattle.expand65.specs.State.{IsCondition, popped, whole};
 ghost use Rattle.syntax65.specs.Faults.{is_failure, is_outside};
 ghost use Rattle.expand65.specs.Macros.{outermost};
-ghost use Rattle.expand65.specs.Standing.{PopsTo};
 
 use crate::fronts::{Test, opens_parenthesis};
 use crate::knows::Knows;
@@ -118,7 +117,7 @@ impl Conditions {
 
     /// Takes the innermost away where more than so many are open.
     pub fn pop_above(&mut self, bound: usize) -> Option<bool>
-        ensures pops { PopsTo result self.new (popped self.old bound) }
+        ensures pops { popped self.old bound ≡ option_map (λ b. (b, self.new)) result }
         ensures same { IfNone result (self.new ≡ self.old) }
     {
         if self.flags.len() <= bound {

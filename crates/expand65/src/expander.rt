@@ -1,10 +1,9 @@
 //! The statements of a source, one after another.
 
-ghost use Rattle.std.specs.Prelude.{◌≡◌, ◌≤◌, IfSome, is_some, length, ◌<◌, ◌+◌, ◌*◌, true, false, take, drop, Err, IfOk, IsErrOf, List, OnErr, OnOk, ℕ};
-ghost use Rattle.syntax65.specs.Tokens.{lexeme_of, lexemes, Lexeme, HoldsNothing, held};
+ghost use Rattle.std.specs.Prelude.{◌≡◌, ◌≤◌, IfSome, length, ◌<◌, ◌+◌, ◌*◌, true, false, take, drop, Err, IfOk, IsErrOf, List, OnErr, OnOk, ℕ};
+ghost use Rattle.syntax65.specs.Tokens.{lexemes, Lexeme, HoldsNothing, held};
 ghost use Rattle.expand65.specs.Failing.{IsGivenAs, Gives, IsAhead, given_parts, StopsOnItsWay, StopsReading};
-ghost use Rattle.expand65.specs.Macros.{macro_at};
-ghost use Rattle.expand65.specs.Standing.{macros_of, Comes, FollowsFrom, Opens, StandsFor, is_end, led, measure_of, place_of, state_in, Turns, size_of, state_of, turned, weight_of, NamesFiles, left_of, mark_of};
+ghost use Rattle.expand65.specs.Standing.{Comes, FollowsFrom, Opens, StandsFor, is_end, led, measure_of, place_of, state_in, Turns, size_of, state_of, turned, weight_of, NamesFiles, left_of, mark_of};
 ghost use Rattle.base65.specs.Store.{Asks, Files, IsBlamed, Passes};
 ghost use Rattle.syntax65.specs.Faults.{is_outside};
 ghost use Rattle.expand65.specs.Expansion.{first_left, opened_in, IsStep};
@@ -25,20 +24,7 @@ use base65::{Sequence, Store, Text};
 use indexmap::IndexMap;
 use std::alloc::{AllocError, Global};
 use std::mem;
-use syntax65::{ExpandFault, LineTokens, Place, Token, TokenKind};
-
-impl Rewriter {
-    /// Whether a token names a macro.
-    #[inline(always)]
-    fn is_macro(&self, token: &Token<'_>) -> bool
-        ensures { result ≡ is_some (macro_at (macros_of self.now) (lexeme_of token.now)) }
-    {
-        // Most sources define no macro, and then no line's first name is looked up.
-        !self.macros.is_empty()
-            && matches!(token.kind, TokenKind::Identifier)
-            && self.has_macro(token.text)
-    }
-}
+use syntax65::{ExpandFault, LineTokens, Place, Token};
 
 /// How many lines are read, skipped, collected and replayed at most, all together.
 const MAX_LINES: u32 = 1_048_576;

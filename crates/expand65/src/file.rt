@@ -15,6 +15,9 @@ use syntax65::{ExpandFault, LexFault, MAX_FILE, MAX_LINE};
 /// How many bytes of a file are at hand at most.
 const BUFFER: usize = 4096;
 
+/// A piece that is taken for this long at least.
+const SHORTEST: usize = 32;
+
 /// A file that is read line by line: the bytes at hand of which some were taken, and how many bytes of the file were
 /// read.
 #[derive(Drop)]
@@ -56,11 +59,17 @@ fn read_piece<S: Store>(
     Ok(n)
 }
 
-/// How many bytes to read from a place on.
-fn wanted(at: u64) -> usize
-    ensures { result ≡ min 4096 (16777216 - at) }
+/// How many bytes to read from a place on, behind a piece of so many. A short piece mostly ends a file: behind it room is
+/// made for twice as many, and not for all that may be read.
+fn wanted(at: u64, last: usize) -> usize
+    ensures few { result ≤ min 4096 (16777216 - at) }
+    ensures some { at < 16777216 → 0 < result }
 {
-    BUFFER.min(MAX_FILE.saturating_sub(at) as usize)
+    let most = BUFFER.min(MAX_FILE.saturating_sub(at) as usize);
+    if at == 0 {
+        return most;
+    }
+    most.min(last.max(SHORTEST).saturating_mul(2))
 }
 
 impl OpenFile {
@@ -93,7 +102,7 @@ impl OpenFile {
         ensures name { self.new.name ≡ self.old.name }
         ensures leaves { LeavesOf S.files S.failures S.blamed self.old.name store.old store.new result }
     {
-        let want = wanted(self.next);
+        let want = wanted(self.next, self.buffer.len());
         let n = read_piece(store, self.name.as_str(), self.next, want, &mut self.buffer)?;
         self.at = 0;
         self.next += n as u64;

@@ -7,7 +7,8 @@ ghost use Rattle.base65.specs.Outcome.{Gives};
 ghost use Rattle.base65.specs.Store.{Asks, IsBlamed};
 ghost use Rattle.syntax65.specs.Faults.{is_outside};
 ghost use Rattle.expand65.specs.Failing.{IsAmong};
-ghost use Rattle.expand65.specs.Expansion.{as_text, begins_with_slash, beside, file_named, first_file, folder_of, found_or, is_slash, tried, within};
+ghost use Rattle.expand65.specs.Fronts.{begins};
+ghost use Rattle.expand65.specs.Expansion.{as_text, beside, file_named, first_file, folder_of, found_or, is_slash, tried, within};
 ghost use Rattle.expand65.specs.Macros.{Tries, file_of, is_there};
 ghost use Rattle.expand65.specs.Lines.{LeavesStore};
 
@@ -36,7 +37,7 @@ fn folder_len(before: usize, place: usize, byte: u8) -> usize
 }
 
 fn begins_with_slash(name: &[u8]) -> bool
-    ensures { result ≡ begins_with_slash name.now }
+    ensures { result ≡ begins is_slash name.now }
 {
     name.first() == Some(&b'/')
 }

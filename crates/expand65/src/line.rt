@@ -6,7 +6,7 @@ ghost use Rattle.syntax65.specs.Tokens.{IsRead, Lexeme, lexeme_of, lexemes};
 ghost use Rattle.syntax65.specs.declared.lexing.tokens.LexFault.{LexFault};
 ghost use Rattle.syntax65.specs.Faults.{is_failure, is_outside};
 ghost use Rattle.expand65.specs.Fronts.{front_directive, label_len};
-ghost use Rattle.expand65.specs.Playing.{behind_word, cut, text_of, tokens_in, IsParted, IsColonAt, IsPlain};
+ghost use Rattle.expand65.specs.Playing.{behind_word, cut, text_of, tokens_in, IsParted, IsColonIn, IsPlain};
 ghost use Rattle.expand65.specs.Lines.{lexed};
 
 use crate::fronts::{Directive, directive_in, is_mislabelled, label_len};
@@ -148,7 +148,7 @@ impl Line {
 
     /// Whether a word is there at a place, and is a colon.
     fn is_colon_at(&self, at: usize) -> bool
-        ensures { IsColonAt self.now.words at result }
+        ensures { IsColonIn (slice_get self.now.words at) result }
     {
         match self.words.as_slice().get(at) {
             Some(word) => matches!(word.kind, TokenKind::Symbol(Mark::Colon)),

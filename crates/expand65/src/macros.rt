@@ -2,13 +2,14 @@
 
 ghost use Rattle.std.specs.Prelude.{◌≡◌, ◌<◌, ◌≤◌, ◌+◌, ◌^◌, IfOk, IsSome, IsTrue, length, map, option_map, false, is_some, IfErr, Ok, Some};
 ghost use Rattle.syntax65.specs.Tokens.{lexeme_of, lexemes};
-ghost use Rattle.expand65.specs.Macros.{arguments_of, braces_behind, closes_last, is_braced, parts_within, unbraced, IsMacro, called, distinct_of, header_of, macro_of, ordinary, params_of, is_comma_at, name_at, part_len};
+ghost use Rattle.expand65.specs.Macros.{arguments_of, braces_behind, closes_last, is_braced, parts_within, unbraced, macro_line, called, distinct_of, header_of, macro_at, macro_of, ordinary, params_of, is_comma_at, name_at, part_len};
 ghost use Rattle.expand65.specs.Fronts.{names_of, understood};
 ghost use Rattle.expand65.specs.Playing.{tokens_in, definition_of};
 ghost use Rattle.base65.specs.Outcome.{Gives};
 ghost use Rattle.syntax65.specs.Faults.{is_failure, is_outside};
-ghost use Rattle.expand65.specs.Failing.{FailsDefining};
-ghost use Rattle.expand65.specs.Standing.{Keeps, TurnsTo, LeadsTo, StopsBy, MacroFound, macros_of};
+ghost use Rattle.expand65.specs.Failing.{Fails};
+ghost use Rattle.expand65.specs.Expansion.{Leads};
+ghost use Rattle.expand65.specs.Standing.{Keeps, TurnsTo, LeadsTo, StopsBy, macros_of};
 ghost use Rattle.expand65.specs.Lines.{LeavesStore};
 
 use crate::blocks::BlockKind;
@@ -219,11 +220,11 @@ impl Rewriter {
         tokens: &[Token<'_>],
     ) -> Result<Turn, ExpandFault>
         ensures turns { TurnsTo (S.files store.old) self.old self.new result (λ m s.
-            IsMacro s (lexemes tokens.now)) }
+            Leads m (macro_line s (lexemes tokens.now))) }
         ensures keeps { Keeps self.old self.new result }
         ensures leaves { LeavesStore S.files S.failures store.old store.new result }
         ensures stopped { StopsBy (S.files store.old) self.old self.new result (λ s.
-            FailsDefining (S.blamed store.new) s (header_of (lexemes tokens.now))) }
+            Fails (S.blamed store.new) (macro_line s (lexemes tokens.now))) }
     {
         let Header { name, params } = header_of(self.alloc, tokens)?;
         if self.has_macro(name.as_slice()) {
@@ -237,15 +238,27 @@ impl Rewriter {
     }
 
     /// Whether a macro has a name.
-    pub fn has_macro(&self, name: &[u8]) -> bool
+    fn has_macro(&self, name: &[u8]) -> bool
         ensures { result ≡ is_some (macro_of (macros_of self.now) name.now) }
     {
         self.macros.get(name).is_some()
     }
 
+    /// Whether a token names a macro.
+    #[inline(always)]
+    pub fn is_macro(&self, token: &Token<'_>) -> bool
+        ensures { result ≡ is_some (macro_at (macros_of self.now) (lexeme_of token.now)) }
+    {
+        // Most sources define no macro, and then no line's first name is looked up.
+        !self.macros.is_empty()
+            && matches!(token.kind, TokenKind::Identifier)
+            && self.has_macro(token.text)
+    }
+
     /// The macro that a token names.
     fn macro_at(&self, token: &Token<'_>) -> Result<Option<Rc<Body>>, AllocError>
-        ensures { IfOk result (λ found. MacroFound found self.now (lexeme_of token.now)) }
+        ensures { IfOk result (λ found. macro_at (macros_of self.now) (lexeme_of token.now) ≡
+            option_map (λ b. definition_of b.value) found) }
     {
         // Most sources define no macro, and then no line's first name is looked up.
         if self.macros.is_empty() {

@@ -3,11 +3,12 @@
 ghost use Rattle.std.specs.Prelude.{◌≡◌, ◌<◌, ◌≤◌, ◌-◌, List, IfSome, IsTrue, false, Ok, Some};
 ghost use Rattle.syntax65.specs.Tokens.{IsFront, Lexeme, lexeme_of, HoldsNothing, held};
 ghost use Rattle.base65.specs.Store.{Files};
-ghost use Rattle.std.specs.Option.{option_map};
+ghost use Rattle.std.specs.Option.{option_map, option_map_or};
+ghost use Rattle.expand65.specs.Fronts.{is_colon};
 ghost use Rattle.expand65.specs.Standing.{Stays, is_call, left_in, left_of, IsNamed};
 ghost use Rattle.syntax65.specs.declared.place.Place.{Place};
 ghost use Rattle.expand65.specs.Lines.{moved, left_in_file, without_return, Takes};
-ghost use Rattle.expand65.specs.Playing.{IsPlainLine, PassesPlain, Plainly, is_colon_there, IsPlain, IsAtHand, IsFirstLine, IsFirstOf, IsNext, TakesWritten};
+ghost use Rattle.expand65.specs.Playing.{IsPlainLine, PassesPlain, Plainly, IsPlain, IsAtHand, IsFirstLine, IsFirstOf, IsNext, TakesWritten};
 
 use crate::file::{OpenFile, line_len};
 use crate::fronts::{directive_in, is_colon};
@@ -18,7 +19,7 @@ use syntax65::{LineFront, LineTokens, Token, line_front};
 
 /// Whether a token is there that is a colon.
 fn is_colon_there(token: Option<Token<'_>>) -> bool
-    ensures { result ≡ is_colon_there (option_map lexeme_of token.entry) }
+    ensures { result ≡ option_map_or is_colon (option_map lexeme_of token.entry) false }
 {
     matches!(token, Some(token) if is_colon(&token))
 }

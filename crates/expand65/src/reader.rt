@@ -1,11 +1,11 @@
 //! The open files, expansions and repeats, one inside the other.
 
-ghost use Rattle.std.specs.Prelude.{◌≡◌, ◌<◌, ◌≤◌, ◌+◌, length, IfErr, IfNone, IfOk, IfSome, IsTrue, OnOk, [], false, option_map};
+ghost use Rattle.std.specs.Prelude.{◌≡◌, ◌<◌, ◌≤◌, ◌+◌, if◌then◌else◌, length, IfErr, IfNone, IfOk, IfSome, IsTrue, OnOk, [], false, option_map};
 ghost use Rattle.base65.specs.Store.{Files};
 ghost use Rattle.syntax65.specs.Faults.{is_failure, is_outside};
 ghost use Rattle.expand65.specs.Standing.{Stays, FailsAtLine, StopsAt, last_read, AreNamed, IsNamed, NamesFiles, open_in, Answers, left_in, left_of, mark_of, moved_by, outside};
 ghost use Rattle.expand65.specs.Playing.{tokens_in};
-ghost use Rattle.expand65.specs.Lines.{closed, end_of, exit_of, if_more, pushed, Takes, LeavesStore, outside_macro, come_back};
+ghost use Rattle.expand65.specs.Lines.{closed, pushed, Takes, LeavesStore, outside_macro, come_back};
 ghost use Rattle.expand65.specs.Blocks.{TakesInBlock};
 
 use crate::input::{NextLine, Source};
@@ -129,7 +129,7 @@ impl Reader {
     /// is left.
     fn drop_top(&mut self, back: &mut Option<Place>) -> bool
         ensures left { (m : Files) →
-            if_more result (left_of m self.new).items ≡ outside m self.old.outer.items }
+            (if result then (left_of m self.new).items else []) ≡ outside m self.old.outer.items }
         ensures back { (p : Place) → come_back p back.new ≡ come_back (come_back p back.old) self.old.top.back }
         ensures place { self.new.place ≡ self.old.place }
         ensures named { (p : Place) → AreNamed (open_in self.old) (come_back p back.old) →
@@ -155,7 +155,7 @@ impl Reader {
     pub fn leave(&mut self, conditions: usize) -> Result<bool, ExpandFault>
         ensures left { (m : Files) →
             left_in m self.old.top.source ≡ [] → Answers
-            (λ more. (if_more more (left_of m self.new).items, self.new.place)) self.new.place
+            (λ more. ((if more then (left_of m self.new).items else []), self.new.place)) self.new.place
             result (λ r. r ≡ closed conditions self.old.place (left_of m self.old).items) }
         ensures named { NamesFiles self.old → OnOk result (NamesFiles self.new) }
         ensures room { self.new.room ≡ self.old.room }
@@ -176,8 +176,8 @@ impl Reader {
     /// LeavesStore the innermost expansion with all that is open in it.
     pub fn leave_macro(&mut self) -> Option<MacroEnd>
         ensures left { (m : Files) →
-            exit_of (outside_macro (left_of m self.old).items self.old.place) ≡ end_of result
-            (left_of m self.new).items self.new.place }
+            outside_macro (left_of m self.old).items self.old.place ≡ option_map (λ e.
+            (e.conditions, (if e.more then (left_of m self.new).items else []), self.new.place)) result }
         ensures none { IfNone result (self.new.place ≡ self.old.place) }
         ensures named { NamesFiles self.old → IfSome result (λ _. NamesFiles self.new) }
         ensures room { self.new.room ≡ self.old.room }

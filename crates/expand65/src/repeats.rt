@@ -6,13 +6,14 @@ ghost use Rattle.base65.specs.Outcome.{Gives};
 ghost use Rattle.syntax65.specs.Tokens.{lexemes};
 ghost use Rattle.syntax65.specs.Faults.{is_failure, is_outside};
 ghost use Rattle.expand65.specs.Fronts.{understood};
-ghost use Rattle.expand65.specs.Macros.{exit_macro, is_made, local_line, new_names, IsRepeat, IsRepeated, repeat_header, turns_of, variable_of};
+ghost use Rattle.expand65.specs.Macros.{exit_macro, is_made, local_line, new_names, repeat_line, repeated, repeat_header, turns_of, variable_of};
 ghost use Rattle.expand65.specs.Standing.{Keeps, TurnsTo, LeadsTo, StopsBy};
 ghost use Rattle.syntax65.specs.Expressions.{IsParsed};
 ghost use Rattle.base65.specs.Relations.{Answers};
 ghost use Rattle.syntax65.specs.Trees.{Tree};
 ghost use Rattle.syntax65.specs.declared.expressions.words.ExprFault.{ExprFault};
-ghost use Rattle.expand65.specs.Failing.{FailsAtRepeat, FailsRepeating};
+ghost use Rattle.expand65.specs.Failing.{Fails};
+ghost use Rattle.expand65.specs.Expansion.{Leads};
 ghost use Rattle.expand65.specs.Lines.{LeavesStore};
 
 use crate::blocks::BlockKind;
@@ -160,11 +161,11 @@ impl Rewriter {
         tokens: &[Token<'_>],
     ) -> Result<Turn, ExpandFault>
         ensures turns { TurnsTo (S.files store.old) self.old self.new result (λ m s.
-            IsRepeat (K.meaning knows.now) s (lexemes tokens.now)) }
+            Leads m (repeat_line (K.meaning knows.now) s (lexemes tokens.now))) }
         ensures keeps { Keeps self.old self.new result }
         ensures leaves { LeavesStore S.files S.failures store.old store.new result }
         ensures stopped { StopsBy (S.files store.old) self.old self.new result (λ s.
-            FailsAtRepeat (S.blamed store.new) (K.meaning knows.now) s (lexemes tokens.now)) }
+            Fails (S.blamed store.new) (repeat_line (K.meaning knows.now) s (lexemes tokens.now))) }
     {
         let header = header_of(self.alloc, tokens)?;
         let count = turns_of(knows.value(self.alloc, &header.count)?)?;
@@ -179,11 +180,11 @@ impl Rewriter {
         variable: IndexSet<Vec<u8>>,
     ) -> Result<Turn, ExpandFault>
         ensures turns { TurnsTo (S.files store.old) self.old self.new result (λ m s.
-            IsRepeated s (Ok (count, map (λ k. k.items) variable.keys))) }
+            Leads m (repeated s count (map (λ k. k.items) variable.keys))) }
         ensures keeps { Keeps self.old self.new result }
         ensures leaves { LeavesStore S.files S.failures store.old store.new result }
         ensures stopped { StopsBy (S.files store.old) self.old self.new result (λ s.
-            FailsRepeating (S.blamed store.new) s (Ok (count, map (λ k. k.items) variable.keys))) }
+            Fails (S.blamed store.new) (repeated s count (map (λ k. k.items) variable.keys))) }
     {
         let block = self.reader.block(self.alloc, store, BlockKind::Repeat)?;
         let lines = block.lines;

@@ -3,12 +3,12 @@
 ghost use Rattle.std.specs.Prelude.{◌≡◌, ◌≤◌, ◌<◌, ◌+◌, [], true, false, length, IfErr, IfOk, IfSome, Ok, OnOk};
 ghost use Rattle.base65.specs.Store.{Files};
 ghost use Rattle.syntax65.specs.Tokens.{lexemes};
-ghost use Rattle.expand65.specs.State.{IsElse, IsIf, ended_if, Meaning};
-ghost use Rattle.expand65.specs.Failing.{FailsActing, FailsAlone, FailsAtElse, FailsAtIf, FailsBy, FailsIncluding, FailsTaking, FailsUnlabelled};
+ghost use Rattle.expand65.specs.State.{else_line, ended_if, if_line, unless_refused, Meaning};
+ghost use Rattle.expand65.specs.Failing.{Fails, FailsAt};
 ghost use Rattle.syntax65.specs.Faults.{is_failure};
 ghost use Rattle.expand65.specs.Standing.{NamesFiles, left_in, left_of, Keeps, TurnsTo, LeadsTo, StopsBy, Turns, size_of, stands_alone, state_of, weight_of};
-ghost use Rattle.expand65.specs.Fronts.{front_directive, is_mislabelled, string_of};
-ghost use Rattle.expand65.specs.Expansion.{include_line, included, IsActed, IsDirected, IsLabelled, IsStep, at_mark, last_condition};
+ghost use Rattle.expand65.specs.Fronts.{front_directive, is_mislabelled, string_of, understood};
+ghost use Rattle.expand65.specs.Expansion.{Leads, acted, at_mark, begun, directed, include_file, included, IsStep, last_condition};
 ghost use Rattle.expand65.specs.Playing.{tokens_in};
 ghost use Rattle.expand65.specs.Lines.{bytes_of, LeavesStore};
 ghost use Rattle.expand65.specs.Macros.{file_of};
@@ -66,11 +66,11 @@ impl Rewriter {
         tokens: &[Token<'_>],
     ) -> Result<Turn, ExpandFault>
         ensures turns { TurnsTo (S.files store.old) self.old self.new result (λ m s.
-            IsIf (K.meaning knows.now) s test (lexemes tokens.now)) }
+            Leads m (if_line (K.meaning knows.now) s test (lexemes tokens.now))) }
         ensures keeps { Keeps self.old self.new result }
         ensures leaves { LeavesStore S.files S.failures store.old store.new result }
         ensures stopped { StopsBy (S.files store.old) self.old self.new result (λ s.
-            FailsAtIf (S.blamed store.new) (K.meaning knows.now) s test (lexemes tokens.now)) }
+            Fails (S.blamed store.new) (if_line (K.meaning knows.now) s test (lexemes tokens.now))) }
     {
         if condition(self.alloc, knows, test, tokens)? {
             self.conditions.push(false)?;
@@ -103,11 +103,11 @@ impl Rewriter {
     /// An `.elseif` or `.else` behind a condition that was true.
     pub fn pass_else<S: Store>(&mut self, store: &mut S) -> Result<Turn, ExpandFault>
         ensures turns { TurnsTo (S.files store.old) self.old self.new result (λ m s.
-            IsElse s (last_condition s)) }
+            Leads m (else_line s (last_condition s))) }
         ensures keeps { Keeps self.old self.new result }
         ensures leaves { LeavesStore S.files S.failures store.old store.new result }
         ensures stopped { StopsBy (S.files store.old) self.old self.new result (λ s.
-            FailsAtElse (S.blamed store.new) s (last_condition s)) }
+            Fails (S.blamed store.new) (else_line s (last_condition s))) }
     {
         match self.conditions.pop_above(self.reader.top.conditions) {
             None => Err(ExpandFault::NotOpened),
@@ -125,12 +125,13 @@ impl Rewriter {
         store: &mut S,
         tokens: &[Token<'_>],
     ) -> Result<Turn, ExpandFault>
-        ensures turns { TurnsTo (S.files store.old) self.old self.new result (λ m s r.
-            r ≡ include_line m s (lexemes tokens.now)) }
+        ensures turns { TurnsTo (S.files store.old) self.old self.new result (λ m s.
+            Leads m (unless_refused s (understood (string_of (lexemes tokens.now))) (include_file s))) }
         ensures keeps { Keeps self.old self.new result }
         ensures leaves { LeavesStore S.files S.failures store.old store.new result }
         ensures stopped { StopsBy (S.files store.old) self.old self.new result (λ s.
-            FailsIncluding (S.blamed store.new) s (string_of (lexemes tokens.now))) }
+            Fails (S.blamed store.new)
+            (unless_refused s (understood (string_of (lexemes tokens.now))) (include_file s))) }
     {
         let Some(name) = string_of(tokens) else {
             return Err(ExpandFault::NotUnderstood);
@@ -144,7 +145,7 @@ impl Rewriter {
     fn enter_file(&mut self, file: Text) -> Result<Turn, ExpandFault>
         ensures turns { (m : Files) →
             length (bytes_of m file) ≤ 16777216 → Turns result (state_of m self.new)
-            (λ r. r ≡ included (state_of m self.old) (Ok (file_of m file))) }
+            (λ r. r ≡ included (state_of m self.old) (file_of m file)) }
         ensures keeps { Keeps self.old self.new result }
         ensures inside { IfErr result (λ e. is_failure e ≡ false) }
     {
@@ -172,11 +173,11 @@ impl Rewriter {
         requires { stands_alone directive ≡ true }
         ensures turns { IfSome (S.files store.old) (λ m.
             (k : Meaning) → Turns result (state_of m self.new)
-            (IsDirected m k (state_of m self.old) directive (lexemes tokens.now))) }
+            (Leads m (directed k (state_of m self.old) directive (lexemes tokens.now)))) }
         ensures keeps { Keeps self.old self.new result }
         ensures leaves { LeavesStore S.files S.failures store.old store.new result }
-        ensures stopped { StopsBy (S.files store.old) self.old self.new result (λ s.
-            FailsAlone (S.blamed store.new) s directive (lexemes tokens.now)) }
+        ensures stopped { (k : Meaning) → StopsBy (S.files store.old) self.old self.new result
+            (λ s. Fails (S.blamed store.new) (directed k s directive (lexemes tokens.now))) }
     {
         if !tokens.is_empty() {
             return Err(ExpandFault::NotUnderstood);
@@ -200,11 +201,11 @@ impl Rewriter {
         tokens: &[Token<'_>],
     ) -> Result<Turn, ExpandFault>
         ensures turns { TurnsTo (S.files store.old) self.old self.new result (λ m s.
-            IsDirected m (K.meaning knows.now) s directive (lexemes tokens.now)) }
+            Leads m (directed (K.meaning knows.now) s directive (lexemes tokens.now))) }
         ensures keeps { Keeps self.old self.new result }
         ensures leaves { LeavesStore S.files S.failures store.old store.new result }
         ensures stopped { StopsBy (S.files store.old) self.old self.new result (λ s.
-            FailsBy (S.blamed store.new) (K.meaning knows.now) s directive (lexemes tokens.now)) }
+            Fails (S.blamed store.new) (directed (K.meaning knows.now) s directive (lexemes tokens.now))) }
     {
         match directive {
             Directive::Macro => self.begin_macro(store, tokens),
@@ -235,11 +236,12 @@ impl Rewriter {
         line: Line,
     ) -> Result<Turn, ExpandFault>
         ensures turns { TurnsTo (S.files store.old) self.old self.new result (λ m s.
-            IsActed m (K.meaning knows.now) s (tokens_in line) (front_directive (tokens_in line))) }
+            Leads m (acted (K.meaning knows.now) s (tokens_in line) (front_directive (tokens_in line)))) }
         ensures keeps { Keeps self.old self.new result }
         ensures leaves { LeavesStore S.files S.failures store.old store.new result }
         ensures stopped { StopsBy (S.files store.old) self.old self.new result (λ s.
-            FailsActing (S.blamed store.new) (K.meaning knows.now) s (tokens_in line) (front_directive (tokens_in line))) }
+            Fails (S.blamed store.new)
+            (acted (K.meaning knows.now) s (tokens_in line) (front_directive (tokens_in line)))) }
     {
         match line.directive() {
             Some(directive) => {
@@ -259,12 +261,13 @@ impl Rewriter {
         line: Line,
     ) -> Result<Turn, ExpandFault>
         ensures turns { TurnsTo (S.files store.old) self.old self.new result (λ m s.
-            IsLabelled m (K.meaning knows.now) s (tokens_in line) (is_mislabelled (tokens_in line))) }
+            Leads m (begun (K.meaning knows.now) s (tokens_in line) (is_mislabelled (tokens_in line)))) }
         ensures named { NamesFiles self.old.reader → OnOk result (NamesFiles self.new.reader) }
         ensures size { IfOk result (λ t. size_of self.new + weight_of t ≤ size_of self.old + 3) }
         ensures leaves { LeavesStore S.files S.failures store.old store.new result }
         ensures stopped { StopsBy (S.files store.old) self.old self.new result (λ s.
-            FailsUnlabelled (S.blamed store.new) (K.meaning knows.now) s (tokens_in line)) }
+            Fails (S.blamed store.new)
+            (begun (K.meaning knows.now) s (tokens_in line) (is_mislabelled (tokens_in line)))) }
     {
         match line.parted(self.alloc)? {
             Some((label, rest)) => Ok(Turn::Parts(label, rest)),
@@ -301,7 +304,7 @@ impl Rewriter {
         ensures size { IfOk result (λ t. size_of self.new + weight_of t < size_of self.old + 1) }
         ensures leaves { LeavesStore S.files S.failures store.old store.new result }
         ensures stopped { StopsBy (S.files store.old) self.old self.new result (λ s.
-            FailsTaking (S.blamed store.new) (K.meaning knows.now) s) }
+            FailsAt (S.blamed store.new) (K.meaning knows.now) s) }
     {
         match self.reader.next_line(self.alloc, store)? {
             None => self.end_input(),

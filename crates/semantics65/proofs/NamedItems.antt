@@ -94,10 +94,10 @@ localised_rests names (branch ts ∷ is) = localised_rests names is
 
 -- ---- What is left behind an expansion.
 
-abbrev pub IsOutside : List Item → Mark × List Item × Place → Type 0
-IsOutside is (k, js, p) = AreItemsFit js × (rests js ≤ rests is)
+abbrev pub IsOutside : List Item → ℕ × List Item × Place → Type 0
+IsOutside is (n, js, p) = AreItemsFit js × (rests js ≤ rests is)
 
-further_out : (is js : List Item) (o : Option (Mark × List Item × Place)) → rests js ≤ rests is → Each (IsOutside js) o → Each (IsOutside is) o
+further_out : (is js : List Item) (o : Option (ℕ × List Item × Place)) → rests js ≤ rests is → Each (IsOutside js) o → Each (IsOutside is) o
 further_out is js x1 less h = grind (arith, common_steps)
 
 pub outside_fit : (is : List Item) (p : Place) → AreItemsFit is → Each (IsOutside is) (outside_macro is p)

@@ -18,11 +18,12 @@ use Rattle.syntax65.specs.declared.lexing.tokens.LexFault.{LexFault}
 use Rattle.syntax65.specs.declared.lexing.tokens.TokenKind.{TokenKind}
 use Rattle.object65.proofs.Goods.{and, left, right}
 use Rattle.object65.specs.Objects.{is_name, is_printed}
-use Rattle.expand65.specs.Lines.{line_limit, own_token, all_local, with_local, with_locals, Replacing, argument_at, either, is_count_word, replaced, stand_in}
+use Rattle.expand65.specs.Lines.{line_limit, own_token, all_local, with_local, with_locals, Replacing, argument_at, is_count_word, replaced, stand_in}
 use Rattle.expand65.specs.Macros.{is_made, new_names, unmade, arguments_of, braces_behind, is_braced, parts_within, put_in_first, unbraced}
 use Rattle.semantics65.specs.Numbering.{AreNamed, IsNamed}
 use Rattle.semantics65.proofs.Sounding.{tokens_named}
 use Rattle.std.specs.Map.{lookup}
+use Rattle.std.specs.Option.{option_or}
 use Rattle.syntax65.specs.Expressions.{is_reserved}
 use Rattle.expand65.specs.Fronts.{is_comma, name_in, names_from, ◌>=>◌}
 use Rattle.semantics65.proofs.SoundForms.{all_append}
@@ -159,7 +160,7 @@ pub lookup_each : {K X : Type 0} (P : X → Type 0) (test : K → Bool) (es : Li
 lookup_each P test [] h = tt
 lookup_each P test (e ∷ es) h = grind (arith, common_steps, (lookup_each P test es h.1))
 
-either_each : (a b : Option (List Lexeme)) → Each AreFit a → Each AreFit b → Each AreFit (either a b)
+either_each : (a b : Option (List Lexeme)) → Each AreFit a → Each AreFit b → Each AreFit (option_or a b)
 either_each x1 b h k = grind (arith, common_steps)
 
 word_fit : (r : Replacing) (b : Bool) → IsReplacingFit r → Each AreFit (if b then r.count else None)

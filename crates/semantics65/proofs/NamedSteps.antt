@@ -14,12 +14,16 @@ use Rattle.expand65.specs.declared.fronts.Directive.TheVariants.{Macro, EndMacro
 use Rattle.syntax65.specs.declared.fault.ExpandFault.{ExpandFault}
 use Rattle.syntax65.specs.declared.fault.ExpandFault.TheVariants as fault
 use Rattle.syntax65.specs.declared.place.Place.{Place}
-use Rattle.expand65.specs.Macros.{arguments_of, IsDefined, IsKept, called, called_or_given, counted, entered, exit_macro, exited, expansion_mark, given_to, header_of, in_macro, kept, local_line, local_named, macro_at, macro_of, new_names, ordinary, IsRepeated, repeat_mark, repeat_of, repeated}
-use Rattle.expand65.specs.Blocks.{Block, Branch, at_elseif, at_else, at_endif, Gathered, Verdict, on, closed, refused, closed_if, collecting, collects, gathering, gathers, mislabelled, passes, skips}
-use Rattle.expand65.specs.State.{IsDecided, IsElse, ended_if, found, passed, Meaning, State, Stated, label, plain, Stepped, goes, gives, ends, stops, with_conditions, with_items, with_left}
-use Rattle.expand65.specs.Expansion.{Next, Reaches, further, given, ended, stopped, statement, nothing, fault as at_fault, first_state, source_mark, first_file, include_line, include_mark, included, included_by, tried, IsActed, IsDirected, IsElseLine, IsLabelled, IsSplit, IsStep, IsStepBehind, IsStepFrom, at_mark, error_by, if_alone, last_condition, not_opened}
-use Rattle.expand65.specs.Fronts.{front_directive, is_mislabelled, is_nothing, label_len, line_directive, string_of}
-use Rattle.expand65.specs.Lines.{numbered, outside_macro, turns, Item, written, played, labelled, branch, mark, Left, left, Mark, Stop, come_back, innermost, marks, repeating, Definition, line_limit, lines_of, nesting_limit, Taken, Takes}
+use Rattle.syntax65.specs.Trees.{Tree}
+use Rattle.syntax65.specs.declared.expressions.words.ExprFault.{ExprFault}
+use Rattle.expand65.specs.declared.fronts.Test.{Test}
+use Rattle.expand65.specs.declared.fronts.Test.TheVariants.{True}
+use Rattle.expand65.specs.Macros.{arguments_of, called, called_or_given, counted, defined, entered, exit_macro, exited, given_to, header_of, local_line, local_named, macro_at, macro_of, mark_from, new_names, ordinary, repeated, repeat_of}
+use Rattle.expand65.specs.Blocks.{AnswerOf, Block, Branch, at_elseif, at_else, at_endif, block_state, Gathered, judge_of, Verdict, on, closed, refused, closed_if, collecting, collects, gathering, gathers, passes, skips}
+use Rattle.expand65.specs.State.{decided, else_line, ended_if, found, if_alone, if_line, Meaning, State, Stated, label, plain, Step, leads, parses, decides, takes, takes_block, opens, Stepped, goes, gives, ends, stops, unless_refused, unless_stopped, with_conditions, with_items, with_left}
+use Rattle.expand65.specs.Expansion.{Leads, Next, Reaches, further, given, ended, stopped, statement, nothing, fault as at_fault, acted, at_mark, begun, directed, first_file, first_state, include_file, included, last_condition, not_opened, split, step_behind, step_from, IsStep}
+use Rattle.expand65.specs.Fronts.{front_directive, is_mislabelled, label_len, line_directive, string_of, understood}
+use Rattle.expand65.specs.Lines.{numbered, outside_macro, pushed, turns, Item, written, played, labelled, branch, mark, Left, left, Mark, Stop, come_back, innermost, marks, repeating, Definition, line_limit, lines_of, nesting_limit, Taken, Takes}
 use Rattle.semantics65.proofs.NamedItems.{AreItemsFit, AreLines, IsBlockFit, IsItemFit, IsOutside, IsVerdictFit, block_fit, lines_in, localised_fit, localised_rests, numbered_lines, outside_fit, none_taken, played_lines, rests, rests_append, taken_fit, turns_lines}
 use Rattle.semantics65.proofs.NamedLines.{AreAllFit, Each, IsReplacingFit, arguments_fit, lookup_each, new_names_fit, AreFit, IsBase, fit_drop, fit_take}
 use Rattle.semantics65.proofs.Segments.{all_more}
@@ -49,9 +53,34 @@ IsSteppedFit (stops e) = ⊤
 same_stepped : (r x : Stepped) → r ≡ x → IsSteppedFit x → IsSteppedFit r
 same_stepped r x e h = subst IsSteppedFit (sym e) h
 
+-- a step that leads to nothing else, whatever it reads
+abbrev IsStepFit : Step → Type 0
+IsStepFit (leads x) = IsSteppedFit x
+IsStepFit (parses ts next) = (q : Result (Tree × ℕ) ExprFault) → IsStepFit (next q)
+IsStepFit (decides k test ts next) = (c : Result Bool ExpandFault) → IsStepFit (next c)
+IsStepFit (takes l next) = (t : Taken) → Takes l t → IsStepFit (next t)
+IsStepFit (takes_block k l next) = (q : Result (AnswerOf k × Left) Stop) → Block (judge_of k) (block_state k 0 []) l q → IsSteppedFit (unless_stopped q (λ b. next b.0 b.1))
+IsStepFit (opens l names next) = (q : Result (List ℕ × List ℕ) ExpandFault) → IsStepFit (next q)
+
+led_fit : (m : Files) (step : Step) (r : Stepped) → IsStepFit step → Leads m step r → IsSteppedFit r
+led_fit m (leads x) r fit h = same_stepped r x h fit
+led_fit m (parses ts next) r fit (q, p, h) = led_fit m (next q) r (fit q) h
+led_fit m (decides k test ts next) r fit (c, p, h) = led_fit m (next c) r (fit c) h
+led_fit m (takes l next) r fit (t, p, h) = led_fit m (next t) r (fit t p) h
+led_fit m (takes_block k l next) r fit (q, p, h) = same_stepped r (unless_stopped q (λ b. next b.0 b.1)) h (fit q p)
+led_fit m (opens l names next) r fit h = led_fit m (next (first_file m names)) r (fit (first_file m names)) h
+
+refused_fit : {A : Type 0} (s : State) (q : Result A ExpandFault) (next : A → Step) → ((x : A) → IsStepFit (next x)) → IsStepFit (unless_refused s q next)
+refused_fit s (Err f) next h = tt
+refused_fit s (Ok x) next h = h x
+
+alone_fit : (s : State) (ts : List Lexeme) (next : Step) → IsStepFit next → IsStepFit (if_alone s ts next)
+alone_fit s [] next h = h
+alone_fit s (t ∷ ts) next h = tt
+
 -- one line less
-acted : (s : State) → IsStateFit 1 s → IsStateFit 0 s
-acted s fit = let calls = fit.calls in record { items = fit.items; macros = fit.macros; calls = omega (arith, calls) }
+one_less : (s : State) → IsStateFit 1 s → IsStateFit 0 s
+one_less s fit = let calls = fit.calls in record { items = fit.items; macros = fit.macros; calls = omega (arith, calls) }
 
 -- no more lines are left than before
 with_left_fit : (s : State) (l : Left) → IsStateFit 0 s → AreItemsFit l.items → lines_in l ≤ lines_in s.left → IsStateFit 0 (with_left s l)
@@ -83,7 +112,7 @@ abbrev IsGatheredFit : Gathered → Type 0
 IsGatheredFit g = AreAllFit g.1
 
 gathering_fit : (d : ℕ) (body : List (List Lexeme)) (ts : List Lexeme) (o : Option Directive) → AreAllFit body → AreFit ts → IsVerdictFit IsGatheredFit AreAllFit (gathering d body ts o)
-gathering_fit zero body ts (Some EndRepeat) h fit = closed_if_fit IsGatheredFit AreAllFit (is_nothing (drop 1 ts)) body h
+gathering_fit zero body ts (Some EndRepeat) h fit = closed_if_fit IsGatheredFit AreAllFit (length (drop 1 ts) == 0) body h
 gathering_fit (suc d) body ts (Some EndRepeat) h fit = more_lines body ts h fit
 gathering_fit zero body ts (Some Repeat) h fit = more_lines body ts h fit
 gathering_fit (suc d) body ts (Some Repeat) h fit = more_lines body ts h fit
@@ -105,16 +134,16 @@ skipped_fit judge a s r fit block = block_fit Anything Anything judge (λ c ts h
 
 -- ---- Macros.
 
-kept_fit : (s : State) (name : List ℕ) (params : List (List ℕ)) (q : Result (List (List Lexeme) × Left) Stop) → IsStateFit 0 s → IsBlockFit AreAllFit (lines_in s.left) q → IsSteppedFit (kept s name params q)
+-- a macro more, behind the lines of its body
+abbrev kept : State → List ℕ → List (List ℕ) → List (List Lexeme) × Left → Stepped
+kept s name params (body, l) = goes (record { left = l; macros = s.macros ++ (name, record { params = params; body = body }) ∷ []; conditions = s.conditions; expansions = s.expansions; folders = s.folders })
+
+kept_fit : (s : State) (name : List ℕ) (params : List (List ℕ)) (q : Result (List (List Lexeme) × Left) Stop) → IsStateFit 0 s → IsBlockFit AreAllFit (lines_in s.left) q → IsSteppedFit (unless_stopped q (kept s name params))
 kept_fit s name params x1 fit block = grind (arith, common_steps)
 
-defined_fit : (s : State) (o : Option (List ℕ × List (List ℕ))) (r : Stepped) → IsStateFit 0 s → IsDefined s o r → IsSteppedFit r
-defined_fit s None r fit h = same_stepped r (stops (fault.NotUnderstood, s.left.place)) h tt
-defined_fit s (Some (name, params)) r fit h = by (macro_of s.macros name) h
-  where
-    by : (o : Option Definition) → IsKept s name params o r → IsSteppedFit r
-    by (Some m) h = same_stepped r (stops (fault.MacroTwice, s.left.place)) h tt
-    by None h = same_stepped r (kept s name params h.0) h.2 (kept_fit s name params h.0 fit (block_fit AreAllFit AreAllFit collects collects_fit [] s.left h.0 tt fit.items h.1))
+defined_fit : (s : State) (name : List ℕ) (params : List (List ℕ)) (o : Option Definition) → IsStateFit 0 s → IsStepFit (defined s name params o)
+defined_fit s name params (Some m) fit = tt
+defined_fit s name params None fit = λ q block. kept_fit s name params q fit (block_fit AreAllFit AreAllFit collects collects_fit [] s.left q tt fit.items block)
 
 macro_fit : (ms : List (List ℕ × Definition)) (k : TokenKind) (t : List ℕ) → AreMacrosFit ms → Each (λ m. AreAllFit m.body) (macro_at ms (k, t))
 macro_fit ms x1 t h = grind (arith, common_steps, lookup_each)
@@ -131,14 +160,14 @@ called_fit s m arguments fit body all = by (nat_le (length arguments) (length m.
     next : IsStateFit 0 (counted s)
     next = let calls = fit.calls in record { items = fit.items; macros = fit.macros; calls = omega (arith, calls) }
 
-    by : (b : Bool) → IsSteppedFit (if b then entered (counted s) (map (played (given_to m arguments (s.expansions + 1))) m.body) (expansion_mark s) s.left.place else stops (fault.TooManyArguments, s.left.place))
-    by true = entered_fit (counted s) (map (played (given_to m arguments (s.expansions + 1))) m.body) (expansion_mark s) s.left.place next (played_lines (given_to m arguments (s.expansions + 1)) m.body replacing body)
+    by : (b : Bool) → IsSteppedFit (if b then entered (counted s) (map (played (given_to m arguments (s.expansions + 1))) m.body) (mark_from s true None) s.left.place else stops (fault.TooManyArguments, s.left.place))
+    by true = entered_fit (counted s) (map (played (given_to m arguments (s.expansions + 1))) m.body) (mark_from s true None) s.left.place next (played_lines (given_to m arguments (s.expansions + 1)) m.body replacing body)
     by false = tt
 
 ordinary_fit : (s : State) (ts : List Lexeme) → IsStateFit 1 s → AreFit ts → IsSteppedFit (ordinary s ts)
-ordinary_fit s x1 fit h = grind (arith, common_steps, acted, macro_fit, called_fit, arguments_fit)
+ordinary_fit s x1 fit h = grind (arith, common_steps, one_less, macro_fit, called_fit, arguments_fit)
 
-exited_fit : (s : State) (o : Option (Mark × List Item × Place)) → IsStateFit 0 s → Each (IsOutside s.left.items) o → IsSteppedFit (exited s o)
+exited_fit : (s : State) (o : Option (ℕ × List Item × Place)) → IsStateFit 0 s → Each (IsOutside s.left.items) o → IsSteppedFit (exited s o)
 exited_fit s x1 fit h = grind (arith, common_steps)
 
 local_fit : (s : State) (ts : List Lexeme) → IsStateFit 0 s → AreFit ts → IsSteppedFit (local_line s ts)
@@ -146,89 +175,94 @@ local_fit s ts fit h = grind (arith, common_steps, localised_rests, localised_fi
 
 -- ---- Repeats and included files.
 
-repeated_fit : (s : State) (n : ℕ) (variable : List (List ℕ)) (q : Result (List (List Lexeme) × Left) Stop) → IsStateFit 0 s → IsBlockFit AreAllFit (lines_in s.left) q → IsSteppedFit (repeated s n variable q)
-repeated_fit s n variable (Err e) fit block = tt
-repeated_fit s n variable (Ok (body, l)) fit block = entered_fit (with_left s l) (turns (repeating variable) body 0 n) (repeat_mark s) l.place (with_left_fit s l fit block.1 block.2) (turns_lines variable body 0 n block.0)
+turns_fit : (s : State) (n : ℕ) (variable : List (List ℕ)) (q : Result (List (List Lexeme) × Left) Stop) → IsStateFit 0 s → IsBlockFit AreAllFit (lines_in s.left) q → IsSteppedFit (unless_stopped q (λ b. entered (with_left s b.1) (turns (repeating variable) b.0 0 n) (mark_from s false None) b.1.place))
+turns_fit s n variable (Err e) fit block = tt
+turns_fit s n variable (Ok (body, l)) fit block = entered_fit (with_left s l) (turns (repeating variable) body 0 n) (mark_from s false None) l.place (with_left_fit s l fit block.1 block.2) (turns_lines variable body 0 n block.0)
 
-repeat_fit : (s : State) (q : Result (ℕ × List (List ℕ)) ExpandFault) (r : Stepped) → IsStateFit 0 s → IsRepeated s q r → IsSteppedFit r
-repeat_fit s (Err f) r fit h = same_stepped r (stops (f, s.left.place)) h tt
-repeat_fit s (Ok (n, variable)) r fit h = same_stepped r (repeated s n variable h.0) h.2 (repeated_fit s n variable h.0 fit (block_fit IsGatheredFit AreAllFit gathers gathers_fit (0, []) s.left h.0 tt fit.items h.1))
+repeated_fit : (s : State) (n : ℕ) (variable : List (List ℕ)) → IsStateFit 0 s → IsStepFit (repeated s n variable)
+repeated_fit s n variable fit = λ q block. turns_fit s n variable q fit (block_fit IsGatheredFit AreAllFit gathers gathers_fit (0, []) s.left q tt fit.items block)
 
-include_fit : (m : Files) (s : State) (o : Option (List ℕ)) → IsStateFit 0 s → IsSteppedFit (included_by m s o)
-include_fit m s x1 fit = grind (arith, common_steps, entered_fit, numbered_lines)
+included_fit : (s : State) (file : List ℕ × List ℕ) → IsStateFit 0 s → IsSteppedFit (included s file)
+included_fit s x1 fit = grind (arith, common_steps, entered_fit, numbered_lines)
+
+include_fit : (s : State) (name : List ℕ) → IsStateFit 0 s → IsStepFit (include_file s name)
+include_fit s name fit = λ q. refused_fit s q (λ file. leads (included s file)) (λ file. included_fit s file fit)
 
 -- ---- Conditions.
 
-found_fit : (s : State) (q : Result (Branch × Left) Stop) → IsStateFit 0 s → IsBlockFit Anything (lines_in s.left) q → IsSteppedFit (found s q)
+found_fit : (s : State) (q : Result (Branch × Left) Stop) → IsStateFit 0 s → IsBlockFit Anything (lines_in s.left) q → IsSteppedFit (unless_stopped q (λ b. found s b.0 b.1))
 found_fit s x1 fit block = grind (arith, common_steps)
 
-decided_fit : (s : State) (c : Result Bool ExpandFault) (r : Stepped) → IsStateFit 0 s → IsDecided s c r → IsSteppedFit r
-decided_fit s x1 r fit h = grind (arith, common_steps, same_stepped, with_conditions_fit, found_fit, skipped_fit)
+decided_fit : (s : State) (b : Bool) → IsStateFit 0 s → IsStepFit (decided s b)
+decided_fit s true fit = with_conditions_fit s (false ∷ s.conditions) s.left fit fit.items (omega arith)
+decided_fit s false fit = λ q block. found_fit s q fit (skipped_fit skips 0 s q fit block)
 
-passed_fit : (s : State) (bs : List Bool) (q : Result (Unit {0} × Left) Stop) → IsStateFit 0 s → IsBlockFit Anything (lines_in s.left) q → IsSteppedFit (passed s bs q)
+if_fit : (k : Meaning) (s : State) (test : Test) (ts : List Lexeme) → IsStateFit 0 s → IsStepFit (if_line k s test ts)
+if_fit k s test ts fit = λ c. refused_fit s c (decided s) (λ b. decided_fit s b fit)
+
+passed_fit : (s : State) (bs : List Bool) (q : Result (Unit {0} × Left) Stop) → IsStateFit 0 s → IsBlockFit Anything (lines_in s.left) q → IsSteppedFit (unless_stopped q (λ b. goes (with_conditions s bs b.1)))
 passed_fit s bs x1 fit block = grind (arith, common_steps)
 
-else_fit : (s : State) (o : Option (Bool × List Bool)) (r : Stepped) → IsStateFit 0 s → IsElse s o r → IsSteppedFit r
-else_fit s x1 r fit h = grind (arith, common_steps, same_stepped, passed_fit, skipped_fit)
+else_fit : (s : State) (o : Option (Bool × List Bool)) → IsStateFit 0 s → IsStepFit (else_line s o)
+else_fit s None fit = tt
+else_fit s (Some (true, bs)) fit = tt
+else_fit s (Some (false, bs)) fit = λ q block. passed_fit s bs q fit (skipped_fit passes 0 s q fit block)
 
 ended_fit : (s : State) (o : Option (Bool × List Bool)) → IsStateFit 0 s → IsSteppedFit (ended_if s o)
 ended_fit s x1 fit = grind (arith, common_steps)
 
 -- ---- Directives.
 
-alone_fit : (s : State) (ts : List Lexeme) (r : Stepped) → IsSteppedFit r → IsSteppedFit (if_alone s ts r)
-alone_fit s x1 r h = grind (arith, common_steps)
-
-error_fit : (s : State) (o : Option (List ℕ)) → IsSteppedFit (error_by s o)
-error_fit s x1 = grind (arith, common_steps)
-
-else_line_fit : (s : State) (ts : List Lexeme) (r : Stepped) → IsStateFit 0 s → IsElseLine s ts r → IsSteppedFit r
-else_line_fit s x1 r fit h = grind (arith, common_steps, else_fit, same_stepped)
-
 emptied : (s : State) → IsStateFit 0 s → IsStateFit 0 (with_items s [])
 emptied s fit = let calls = fit.calls in record { items = tt; macros = fit.macros; calls = omega (arith, calls) }
 
-directed_fit : (m : Files) (k : Meaning) (s : State) (d : Directive) (ts : List Lexeme) (r : Stepped) → IsStateFit 0 s → AreFit ts → IsDirected m k s d ts r → IsSteppedFit r
-directed_fit m k s Macro ts r fit h is = defined_fit s (header_of ts) r fit is
-directed_fit m k s EndMacro ts r fit h is = same_stepped r (if_alone s ts (not_opened s)) is (alone_fit s ts (not_opened s) tt)
-directed_fit m k s ExitMacro ts r fit h is = same_stepped r (if_alone s ts (exit_macro s)) is (alone_fit s ts (exit_macro s) (exited_fit s (outside_macro s.left.items s.left.place) fit (outside_fit s.left.items s.left.place fit.items)))
-directed_fit m k s Local ts r fit h is = same_stepped r (local_line s ts) is (local_fit s ts fit h)
-directed_fit m k s Repeat ts r fit h is = repeat_fit s (repeat_of k ts is.0) r fit is.2
-directed_fit m k s EndRepeat ts r fit h is = same_stepped r (if_alone s ts (not_opened s)) is (alone_fit s ts (not_opened s) tt)
-directed_fit m k s (If test) ts r fit h is = decided_fit s is.0 r fit is.2
-directed_fit m k s ElseIf ts r fit h is = else_fit s (last_condition s) r fit is
-directed_fit m k s Else ts r fit h is = else_line_fit s ts r fit is
-directed_fit m k s EndIf ts r fit h is = same_stepped r (if_alone s ts (ended_if s (last_condition s))) is (alone_fit s ts (ended_if s (last_condition s)) (ended_fit s (last_condition s) fit))
-directed_fit m k s Include ts r fit h is = same_stepped r (include_line m s ts) is (include_fit m s (string_of ts) fit)
-directed_fit m k s Error ts r fit h is = same_stepped r (error_by s (string_of ts)) is (error_fit s (string_of ts))
-directed_fit m k s End ts r fit h is = same_stepped r (if_alone s ts (goes (with_items s []))) is (alone_fit s ts (goes (with_items s [])) (emptied s fit))
+directed_fit : (k : Meaning) (s : State) (d : Directive) (ts : List Lexeme) → IsStateFit 0 s → AreFit ts → IsStepFit (directed k s d ts)
+directed_fit k s Macro ts fit h = refused_fit s (understood (header_of ts)) (λ x. defined s x.0 x.1 (macro_of s.macros x.0)) (λ x. defined_fit s x.0 x.1 (macro_of s.macros x.0) fit)
+directed_fit k s EndMacro ts fit h = alone_fit s ts (leads (not_opened s)) tt
+directed_fit k s ExitMacro ts fit h = alone_fit s ts (leads (exit_macro s)) (exited_fit s (outside_macro s.left.items s.left.place) fit (outside_fit s.left.items s.left.place fit.items))
+directed_fit k s Local ts fit h = local_fit s ts fit h
+directed_fit k s Repeat ts fit h = λ q. refused_fit s (repeat_of k ts q) (λ x. repeated s x.0 x.1) (λ x. repeated_fit s x.0 x.1 fit)
+directed_fit k s EndRepeat ts fit h = alone_fit s ts (leads (not_opened s)) tt
+directed_fit k s (If test) ts fit h = if_fit k s test ts fit
+directed_fit k s ElseIf ts fit h = else_fit s (last_condition s) fit
+directed_fit k s Else ts fit h = alone_fit s ts (else_line s (last_condition s)) (else_fit s (last_condition s) fit)
+directed_fit k s EndIf ts fit h = alone_fit s ts (leads (ended_if s (last_condition s))) (ended_fit s (last_condition s) fit)
+directed_fit k s Include ts fit h = refused_fit s (understood (string_of ts)) (include_file s) (λ name. include_fit s name fit)
+directed_fit k s Error ts fit h = refused_fit s (understood (string_of ts)) (λ text. leads (stops (fault.Error text, s.left.place))) (λ text. tt)
+directed_fit k s End ts fit h = alone_fit s ts (leads (goes (with_items s []))) (emptied s fit)
 
-acted_fit : (m : Files) (k : Meaning) (s : State) (ts : List Lexeme) (d : Option Directive) (r : Stepped) → IsStateFit 1 s → AreFit ts → IsActed m k s ts d r → IsSteppedFit r
-acted_fit m k s ts x1 r fit h is = grind (arith, common_steps, directed_fit, acted, fit_drop, same_stepped, ordinary_fit)
+acted_fit : (k : Meaning) (s : State) (ts : List Lexeme) (d : Option Directive) → IsStateFit 1 s → AreFit ts → IsStepFit (acted k s ts d)
+acted_fit k s ts (Some d) fit h = directed_fit k s d (drop 1 ts) (one_less s fit) (fit_drop 1 ts h)
+acted_fit k s ts None fit h = ordinary_fit s ts fit h
 
 -- ---- Steps.
 
-split_fit : (m : Files) (k : Meaning) (s : State) (ts : List Lexeme) (d : Option Directive) (n : ℕ) (r : Stepped) → IsStateFit 1 s → AreFit ts → IsSplit m k s ts d n r → IsSteppedFit r
-split_fit m k s ts d zero r fit h is = acted_fit m k s ts d r fit h is
-split_fit m k s ts d (suc n) r fit h is = grind (arith, common_steps, same_stepped, fit_take, fit_drop)
+split_fit : (k : Meaning) (s : State) (ts : List Lexeme) (d : Option Directive) (n : ℕ) → IsStateFit 1 s → AreFit ts → IsStepFit (split k s ts d n)
+split_fit k s ts d zero fit h = acted_fit k s ts d fit h
+split_fit k s ts d (suc n) fit h = grind (arith, common_steps, fit_take, fit_drop)
 
-labelled_fit : (m : Files) (k : Meaning) (s : State) (ts : List Lexeme) (b : Bool) (r : Stepped) → IsStateFit 1 s → AreFit ts → IsLabelled m k s ts b r → IsSteppedFit r
-labelled_fit m k s ts true r fit h is = same_stepped r (stops (fault.NotUnderstood, s.left.place)) is tt
-labelled_fit m k s ts false r fit h is = split_fit m k s ts (line_directive ts) (label_len ts) r fit h is
+begun_fit : (k : Meaning) (s : State) (ts : List Lexeme) (b : Bool) → IsStateFit 1 s → AreFit ts → IsStepFit (begun k s ts b)
+begun_fit k s ts true fit h = tt
+begun_fit k s ts false fit h = split_fit k s ts (line_directive ts) (label_len ts) fit h
 
 mark_fit : (s : State) (is : List Item) → IsStateFit 0 s → AreItemsFit is → rests is ≤ rests s.left.items → IsSteppedFit (at_mark s is)
 mark_fit s x1 fit h less = grind (arith, common_steps)
 
-behind_fit : (m : Files) (k : Meaning) (s : State) (t : Taken) (r : Stepped) → IsStateFit 0 s → Takes s.left t → IsStepBehind m k s t r → IsSteppedFit r
-behind_fit m k s x1 r fit takes is = grind (arith, common_steps, same_stepped, taken_fit, labelled_fit, none_taken, with_left_fit, mark_fit)
+behind_fit : (k : Meaning) (s : State) (t : Taken) → IsStateFit 0 s → Takes s.left t → IsStepFit (step_behind k s t)
+behind_fit k s x1 fit takes = grind (arith, common_steps, taken_fit, begun_fit, none_taken, with_left_fit, mark_fit)
 
 -- the first line, and what else is left
-step_from : (m : Files) (k : Meaning) (s : State) (is : List Item) (r : Stepped) → IsStateFit 0 s → AreItemsFit is → s.expansions + (s.left.room + rests is) ≤ line_limit → IsStepFrom m k s is r → IsSteppedFit r
-step_from m k s x1 r fit h calls step = grind (arith, common_steps, acted_fit, decided_fit, behind_fit)
+step_from_fit : (k : Meaning) (s : State) (is : List Item) → IsStateFit 0 s → AreItemsFit is → s.expansions + (s.left.room + rests is) ≤ line_limit → IsStepFit (step_from k s is)
+step_from_fit k s [] fit h calls = λ t taken. behind_fit k s t fit taken
+step_from_fit k s (labelled ts ∷ is) fit h calls = acted_fit k (with_items s is) ts (front_directive ts) (record { items = h.1; macros = fit.macros; calls = omega (arith, calls) }) h.0
+step_from_fit k s (branch ts ∷ is) fit h calls = if_fit k (with_items s is) True ts (record { items = h.1; macros = fit.macros; calls = omega (arith, calls) })
+step_from_fit k s (written n bytes ∷ is) fit h calls = λ t taken. behind_fit k s t fit taken
+step_from_fit k s (played e ts ∷ is) fit h calls = λ t taken. behind_fit k s t fit taken
+step_from_fit k s (mark x ∷ is) fit h calls = λ t taken. behind_fit k s t fit taken
 
 step_fit : (m : Files) (k : Meaning) (s : State) (r : Stepped) → IsStateFit 0 s → IsStep m k s r → IsSteppedFit r
 unfolding IsStep
-step_fit m k s r fit step = let calls = fit.calls in step_from m k s s.left.items r fit fit.items (omega (arith, calls)) step
+step_fit m k s r fit step = let calls = fit.calls in led_fit m (step_from k s s.left.items) r (step_from_fit k s s.left.items fit fit.items (omega (arith, calls))) step
 
 -- ---- What comes next.
 

@@ -9,7 +9,8 @@ use Rattle.syntax65.specs.declared.lexing.tokens.LexFault.TheVariants as lex
 use Rattle.syntax65.proofs.Lines.{refuse}
 use Rattle.std.proofs.Math.Seq.{drop-append_seam, take-append_seam}
 use Rattle.syntax65.specs.declared.lexing.tokens.Token.{Token}
-use Rattle.expand65.specs.Playing.{AreKept, behind_word, cut}
+use Rattle.expand65.specs.Playing.{behind_word, cut}
+use Rattle.expand65.proofs.Words.{AreKept}
 use Rattle.expand65.specs.declared.line.Word.{Word}
 use Rattle.expand65.proofs.Opening.{not_read}
 use Rattle.expand65.proofs.line.read_words.Goals as goal

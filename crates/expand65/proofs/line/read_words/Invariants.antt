@@ -1,7 +1,7 @@
 use Rattle.std.proofs.Common.{◌≡◌, ℕ, ◌≤◌, ◌++◌, List, Option, length, true}
 use Rattle.syntax65.specs.Tokens.{Lexeme, Reads}
 use Rattle.syntax65.specs.declared.lexing.tokens.LexFault.{LexFault}
-use Rattle.expand65.specs.Playing.{AreKept}
+use Rattle.expand65.proofs.Words.{AreKept}
 use Rattle.expand65.proofs.line.read_words.Given as goal
 
 abbrev pub invariant-tokens : goal.invariant-tokens

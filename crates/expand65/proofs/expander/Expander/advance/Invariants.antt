@@ -1,7 +1,7 @@
 use Rattle.std.proofs.Common.{◌≡◌, ◌≤◌}
 use Rattle.std.specs.Prelude.{IfSome}
 use Rattle.expand65.specs.Standing.{NamesFiles, measure_of}
-use Rattle.expand65.proofs.Going.{Leads}
+use Rattle.expand65.proofs.Going.{ReachesAll}
 use Rattle.expand65.proofs.Stopping.{HasGone}
 use Rattle.expand65.proofs.expander.Expander.advance.Given as goal
 
@@ -12,7 +12,7 @@ invariant-steps g l = record {
   size : measure_of l.self ≤ measure_of l.fn.self;
   named : NamesFiles l.fn.self.rewriter.reader → NamesFiles l.self.rewriter.reader;
   gone : IfSome (g.S.Store.files l.fn.store) (HasGone (g.K.Knows.meaning l.knows) l.fn.self l.self);
-  so_far : IfSome (g.S.Store.files l.fn.store) (Leads (g.K.Knows.meaning l.knows) l.fn.self l.self);
+  so_far : IfSome (g.S.Store.files l.fn.store) (ReachesAll (g.K.Knows.meaning l.knows) l.fn.self l.self);
 }
 
 abbrev pub decreases-steps : goal.decreases-steps

@@ -1,11 +1,11 @@
 use Rattle.std.proofs.Common.{◌∙◌, List, IfSome, ap, subst, sym}
 use Rattle.syntax65.specs.Tokens.{Lexeme, lexemes}
 use Rattle.expand65.specs.Standing.{StopsAt, Turns, state_of, state_in}
-use Rattle.expand65.specs.Failing.{FailsAtIf}
-use Rattle.expand65.specs.State.{IsIf}
+use Rattle.expand65.specs.Failing.{Fails}
+use Rattle.expand65.specs.State.{if_line}
 use Rattle.expand65.specs.Fronts.{front_directive}
 use Rattle.expand65.specs.Playing.{tokens_in}
-use Rattle.expand65.specs.Expansion.{IsActed, IsStep}
+use Rattle.expand65.specs.Expansion.{Leads, acted, IsStep}
 use Rattle.expand65.specs.declared.fronts.Test.TheVariants.{True}
 use Rattle.expand65.proofs.Going.{turns_so, where_known, step_branch, step_rest}
 use Rattle.expand65.proofs.Stopping.{stops_branch, stops_plain, stops_rest}
@@ -18,7 +18,7 @@ returns-in-Rest-clause-turns g c =
     let line = c.in-Rest.line in
     let ts = tokens_in line in
     let new = c.act.new.self in
-    where_known (g.S.Store.files c.args.store.now) (λ m. Turns c.act.result (state_of m new) (IsActed m k (state_of m old.rewriter) ts (front_directive ts))) (λ m. Turns c.act.result (state_of m new) (IsStep m k (state_in m old))) (λ m h. turns_so c.act.result (state_of m new) (IsActed m k (state_of m old.rewriter) ts (front_directive ts)) (IsStep m k (state_in m old)) (λ x s. step_rest m k old line x (sym c.replace.ensures.value ∙ c.in-Rest.is) s) h) c.act.ensures.turns
+    where_known (g.S.Store.files c.args.store.now) (λ m. Turns c.act.result (state_of m new) (Leads m (acted k (state_of m old.rewriter) ts (front_directive ts)))) (λ m. Turns c.act.result (state_of m new) (IsStep m k (state_in m old))) (λ m h. turns_so c.act.result (state_of m new) (Leads m (acted k (state_of m old.rewriter) ts (front_directive ts))) (IsStep m k (state_in m old)) (λ x s. step_rest m k old line x (sym c.replace.ensures.value ∙ c.in-Rest.is) s) h) c.act.ensures.turns
 
 pub returns-in_ok-tokens-in-Branch-clause-turns : goal.returns-in_ok-tokens-in-Branch-clause-turns
 returns-in_ok-tokens-in-Branch-clause-turns g c =
@@ -29,9 +29,9 @@ returns-in_ok-tokens-in-Branch-clause-turns g c =
     let ts = tokens_in line in
     let r = c.begin_if.result in
     let new = c.begin_if.new.self in
-    let P : List Lexeme → Type 0 = λ us. IfSome o (λ m. Turns r (state_of m new) (IsIf k (state_of m old.rewriter) True us)) in
+    let P : List Lexeme → Type 0 = λ us. IfSome o (λ m. Turns r (state_of m new) (Leads m (if_line k (state_of m old.rewriter) True us))) in
     let turns = subst P (ap lexemes c.as_slice.ensures.value ∙ c.in_ok-tokens-in-Branch.ensures) c.begin_if.ensures.turns in
-    where_known o (λ m. Turns r (state_of m new) (IsIf k (state_of m old.rewriter) True ts)) (λ m. Turns r (state_of m new) (IsStep m k (state_in m old))) (λ m h. turns_so r (state_of m new) (IsIf k (state_of m old.rewriter) True ts) (IsStep m k (state_in m old)) (λ x s. step_branch m k old line x (sym c.replace.ensures.value ∙ c.in-Branch.is) s) h) turns
+    where_known o (λ m. Turns r (state_of m new) (Leads m (if_line k (state_of m old.rewriter) True ts))) (λ m. Turns r (state_of m new) (IsStep m k (state_in m old))) (λ m h. turns_so r (state_of m new) (Leads m (if_line k (state_of m old.rewriter) True ts)) (IsStep m k (state_in m old)) (λ x s. step_branch m k old line x (sym c.replace.ensures.value ∙ c.in-Branch.is) s) h) turns
 
 pub returns-in-Nothing-clause-stopped : goal.returns-in-Nothing-clause-stopped
 returns-in-Nothing-clause-stopped g c = λ names.
@@ -48,6 +48,6 @@ returns-in_ok-tokens-in-Branch-clause-stopped g c = λ names.
     let k = g.K.Knows.meaning c.args.knows.now in
     let blamed = g.S.Store.blamed c.begin_if.new.store in
     let new = c.begin_if.new.self.reader in
-    let P : List Lexeme → Type 0 = λ us. IfSome o (λ m. StopsAt (FailsAtIf blamed k (state_of m old.rewriter) True us) old.rewriter.reader new c.begin_if.result) in
+    let P : List Lexeme → Type 0 = λ us. IfSome o (λ m. StopsAt (Fails blamed (if_line k (state_of m old.rewriter) True us)) old.rewriter.reader new c.begin_if.result) in
     let stopped = subst P (ap lexemes c.as_slice.ensures.value ∙ c.in_ok-tokens-in-Branch.ensures) (c.begin_if.ensures.stopped names) in
     stops_branch o blamed k old new c.in-Branch.line c.begin_if.result (sym c.replace.ensures.value ∙ c.in-Branch.is) stopped)

@@ -3,7 +3,8 @@ use Rattle.std.proofs.lemmas.Result.{err_from_is_err_and}
 use Rattle.base65.specs.Outcome.{Unless}
 use Rattle.expand65.specs.Blocks.{TakesInBlock}
 use Rattle.syntax65.specs.Faults.{is_failure, is_outside}
-use Rattle.expand65.specs.Standing.{left_of, FailsAtLine, HasStopped, Judges, StateOf, answer_of, is_kept, judge_of, block_state}
+use Rattle.expand65.specs.Blocks.{StateOf, judge_of, block_state}
+use Rattle.expand65.specs.Standing.{left_of, FailsAtLine, HasStopped, Judges, answer_of, is_kept}
 use Rattle.expand65.specs.Playing.{tokens_in}
 use Rattle.expand65.specs.declared.blocks.BlockStep.{BlockStep}
 use Rattle.expand65.proofs.Blocking.{Leads, line_missing, line_refused, line_closes, line_goes_on, lines_passed}

@@ -1,6 +1,7 @@
 use Rattle.std.proofs.Common.{◌≡◌, ◌≤◌, [], map}
 use Rattle.std.specs.Prelude.{IfSome}
-use Rattle.expand65.specs.Standing.{mark_of, judge_of, block_state, NamesFiles}
+use Rattle.expand65.specs.Blocks.{judge_of, block_state}
+use Rattle.expand65.specs.Standing.{mark_of, NamesFiles}
 use Rattle.expand65.specs.Playing.{tokens_in}
 use Rattle.expand65.proofs.Blocking.{Leads}
 use Rattle.expand65.proofs.StoppedReading.{Fails}

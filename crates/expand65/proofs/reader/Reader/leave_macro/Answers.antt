@@ -1,5 +1,6 @@
-use Rattle.std.proofs.Common.{◌≡◌, ◌∙◌, Bool, ap, refl, sym, subst, arith}
-use Rattle.expand65.specs.Lines.{if_more, outside_macro, come_back}
+use Rattle.std.proofs.Common.{◌≡◌, ◌∙◌, [], Bool, ap, refl, sym, subst, arith}
+use Rattle.std.specs.Prelude.{if◌then◌else◌}
+use Rattle.expand65.specs.Lines.{outside_macro, come_back}
 use Rattle.expand65.specs.Standing.{left_of, outside, AreNamed, open_in}
 use Rattle.expand65.proofs.Inputs.{goes_out, is_out, none_out, same_items}
 use Rattle.syntax65.specs.declared.place.Place.{Place}
@@ -10,7 +11,7 @@ pub returns-then-not-more-clause-left : goal.returns-then-not-more-clause-left
 returns-then-not-more-clause-left c =
     let old = c.inputs.self in
     let new = c.drop_top-more.new.self in
-    λ m. let P : Bool → Type 0 = λ b. if_more b (left_of m new).items ≡ outside m old.outer.items in
+    λ m. let P : Bool → Type 0 = λ b. (if b then (left_of m new).items else []) ≡ outside m old.outer.items in
     none_out m old (come_back old.place c.inputs.back) (outside_macro (left_of m c.args.self.now).items c.args.self.now.place) (sym c.is_call-is_call.ensures ∙ c.if-is_call.false) (subst P c.if-not-more.true (c.drop_top-more.ensures.left m)) (c.inputs.invariant.so_far m)
 
 pub inputs-init : goal.inputs-init
@@ -28,7 +29,7 @@ inputs-preserved c =
     let new = c.drop_top-more.new.self in
     let back = c.drop_top-more.new.back in
     record {
-      so_far = λ m. let P : Bool → Type 0 = λ b. if_more b (left_of m new).items ≡ outside m old.outer.items in
+      so_far = λ m. let P : Bool → Type 0 = λ b. (if b then (left_of m new).items else []) ≡ outside m old.outer.items in
           goes_out m old new (come_back old.place c.inputs.back) (come_back new.place back) (outside_macro (left_of m c.args.self.now).items c.args.self.now.place) (sym c.is_call-is_call.ensures ∙ c.if-is_call.false) (subst P c.if-not-more.false (c.drop_top-more.ensures.left m)) (ap (λ p. come_back p back) c.drop_top-more.ensures.place ∙ c.drop_top-more.ensures.back old.place) (c.inputs.invariant.so_far m);
       named = λ h. subst (λ (q : Place). AreNamed (open_in new) (come_back q back)) (sym c.drop_top-more.ensures.place) (c.drop_top-more.ensures.named old.place (c.inputs.invariant.named h));
       place = c.drop_top-more.ensures.place ∙ c.inputs.invariant.place;

@@ -1,21 +1,22 @@
-use Rattle.std.proofs.Common.{◌≡◌, ◌∙◌, ℕ, Bor, List, Err, Ok, Option, ap, refl, subst, sym}
+use Rattle.std.proofs.Common.{◌≡◌, ◌∙◌, ℕ, Bor, List, Err, Ok, ap, refl, subst, sym}
 use Rattle.std.specs.Option.{option_map}
-use Rattle.base65.specs.Store.{Files}
-use Rattle.syntax65.specs.Tokens.{lexemes}
-use Rattle.expand65.specs.Fronts.{string_of}
 use Rattle.std.proofs.lemmas.Result.{err_from_is_err_and}
-use Rattle.expand65.specs.Failing.{FailsIncluding, IsAmong}
+use Rattle.syntax65.specs.Tokens.{lexemes}
+use Rattle.expand65.specs.Fronts.{string_of, understood}
+use Rattle.expand65.specs.Failing.{Fails, IsAmong}
+use Rattle.expand65.specs.State.{unless_refused}
 use Rattle.expand65.specs.declared.rewriter.Turn.{Turn}
-use Rattle.expand65.specs.Expansion.{first_file, include_line, included, tried}
+use Rattle.expand65.specs.Expansion.{Leads, first_file, include_file, included, tried}
 use Rattle.expand65.specs.Standing.{Turns, state_of}
 use Rattle.expand65.specs.Macros.{file_of}
-use Rattle.expand65.proofs.Going.{include_found, turns_so, where_known}
+use Rattle.expand65.proofs.Going.{include_found, include_is, turns_by, turns_so, where_known}
 use Rattle.expand65.proofs.Seeking.{found_fits}
-use Rattle.expand65.proofs.Stopping.{only_error, stood}
+use Rattle.expand65.proofs.Stopping.{only_error, stood, stops_by}
 use Rattle.expand65.proofs.rewriter.Rewriter.include.Goals as goal
 
 pub returns-clause-turns : goal.returns-clause-turns
 returns-clause-turns g c =
+    let o = g.S.Store.files c.args.store.now in
     let old = c.args.self.now in
     let ts = lexemes c.args.tokens.now in
     let name = c.in-Some.name.now in
@@ -25,17 +26,17 @@ returns-clause-turns g c =
     let r = c.enter_file.result in
     let new = c.enter_file.new.self in
     let text = sym c.string_of.ensures ∙ ap (option_map (λ (s : Bor (List ℕ)). s.now)) c.in-Some.is in
-    where_known (g.S.Store.files c.args.store.now) (λ m. first_file m (tried beside folders name) ≡ Ok (file_of m file)) (λ m. Turns r (state_of m new) (λ x. x ≡ include_line m (state_of m old) ts)) (λ m h. turns_so r (state_of m new) (λ x. x ≡ included (state_of m old) (Ok (file_of m file))) (λ x. x ≡ include_line m (state_of m old) ts) (λ x e. e ∙ include_found m (state_of m old) ts name beside file folders text c.as_str-beside.ensures c.as_slice.ensures h) (c.enter_file.ensures.turns m (found_fits m (tried beside folders name) file h))) c.in_ok-file.ensures.found
+    turns_by o r new (λ m. include_file (state_of m old) name) (λ m. unless_refused (state_of m old) (understood (string_of ts)) (include_file (state_of m old))) (λ m. include_is (state_of m old) ts name text) (where_known o (λ m. first_file m (tried beside folders name) ≡ Ok (file_of m file)) (λ m. Turns r (state_of m new) (Leads m (include_file (state_of m old) name))) (λ m h. turns_so r (state_of m new) (λ x. x ≡ included (state_of m old) (file_of m file)) (Leads m (include_file (state_of m old) name)) (λ x e. include_found m (state_of m old) name beside file folders x c.as_str-beside.ensures c.as_slice.ensures h e) (c.enter_file.ensures.turns m (found_fits m (tried beside folders name) file h))) c.in_ok-file.ensures.found)
 
 pub returns-in_err-file-clause-stopped : goal.returns-in_err-file-clause-stopped
 returns-in_err-file-clause-stopped g c = λ names.
     (let p = err_from_is_err_and c.from_residual.result c.from_residual.ensures.1 in
+    let o = g.S.Store.files c.args.store.now in
     let old = c.args.self.now in
     let ts = lexemes c.args.tokens.now in
     let name = c.in-Some.name.now in
     let f = c.in_err-file.field-0.0 in
     let blamed = g.S.Store.blamed c.find_file.new.store in
     let text = sym c.string_of.ensures ∙ ap (option_map (λ (s : Bor (List ℕ)). s.now)) c.in-Some.is in
-    let Q : Files → Option (List ℕ) → Type 0 = λ m t. FailsIncluding blamed (state_of m old) t old.reader.place in
     let P : List ℕ → List (List ℕ) → Type 0 = λ beside folders. IsAmong blamed (tried beside folders name) in
-    rw (p.1, p.2) (stood Turn (g.S.Store.files c.args.store.now) (λ m. FailsIncluding blamed (state_of m old) (string_of ts)) old.reader f (λ m failed. subst (Q m) (sym text) (refl, subst (P old.reader.place.file) c.as_slice.ensures (subst (λ b. P b c.as_slice.result.now) c.as_str-beside.ensures (c.in_err-file.ensures.blamed (ap Err (only_error f failed))))))))
+    rw (p.1, p.2) (stops_by {A = Turn} o blamed (λ m. include_file (state_of m old) name) (λ m. unless_refused (state_of m old) (understood (string_of ts)) (include_file (state_of m old))) old.reader old.reader (Err f) (λ m. include_is (state_of m old) ts name text) (stood Turn o (λ m. Fails blamed (include_file (state_of m old) name)) old.reader f (λ m failed. (refl, subst (P old.reader.place.file) c.as_slice.ensures (subst (λ b. P b c.as_slice.result.now) c.as_str-beside.ensures (c.in_err-file.ensures.blamed (ap Err (only_error f failed)))))))))

@@ -6,7 +6,8 @@ use Rattle.expand65.specs.Blocks.{Block, gathers}
 use Rattle.expand65.specs.Lines.{pushed}
 use Rattle.expand65.specs.Standing.{left_of, turns_left, macros_of, state_of}
 use Rattle.expand65.specs.Playing.{tokens_in}
-use Rattle.expand65.specs.Macros.{IsRepeated}
+use Rattle.expand65.specs.Expansion.{Leads}
+use Rattle.expand65.specs.Macros.{repeated}
 use Rattle.expand65.specs.State.{goes, stops}
 use Rattle.expand65.specs.declared.playing.Body.{Body}
 use Rattle.expand65.specs.declared.playing.Replay.{Replay}
@@ -26,7 +27,7 @@ returns-clause-turns g c =
     let n = c.args.count in
     let params = map (λ k. k.items) c.args.variable.keys in
     let ready = turns_ready replay body n c.in_ok-body.ensures.ok c.len-at.ensures c.new-arguments.ensures refl c.with_hasher-locals.ensures.empty refl in
-    where_known (g.S.Store.files c.args.store.now) (λ m. Block gathers (0, []) (left_of m old.reader) (Ok (map tokens_in lines, left_of m rd))) (λ m. IsRepeated (state_of m old) (Ok (n, params)) (goes (rewritten m old new (macros_of old)))) (λ m h. let P : ℕ → Type 0 = λ i. Ok (left_of m new) ≡ pushed (turns_left replay 0 n) (record { is_macro = false; conditions = i; back = None }) (left_of m rd) in repeated_one m old rd new replay body n h ready (subst P c.len.ensures (c.in_ok-enter.ensures.entered m))) c.in_ok-block.ensures.read
+    where_known (g.S.Store.files c.args.store.now) (λ m. Block gathers (0, []) (left_of m old.reader) (Ok (map tokens_in lines, left_of m rd))) (λ m. Leads m (repeated (state_of m old) n params) (goes (rewritten m old new (macros_of old)))) (λ m h. let P : ℕ → Type 0 = λ i. Ok (left_of m new) ≡ pushed (turns_left replay 0 n) (record { is_macro = false; conditions = i; back = None }) (left_of m rd) in repeated_one m old rd new replay body n h ready (subst P c.len.ensures (c.in_ok-enter.ensures.entered m))) c.in_ok-block.ensures.read
 
 pub returns-in_err-enter-clause-turns : goal.returns-in_err-enter-clause-turns
 returns-in_err-enter-clause-turns g c =
@@ -41,7 +42,7 @@ returns-in_err-enter-clause-turns g c =
     let n = c.args.count in
     let params = map (λ k. k.items) c.args.variable.keys in
     let ready = turns_ready replay body n c.in_ok-body.ensures.ok c.len-at.ensures c.new-arguments.ensures refl c.with_hasher-locals.ensures.empty refl in
-    rw (p.1, p.2) (where_known (g.S.Store.files c.args.store.now) (λ m. Block gathers (0, []) (left_of m old.reader) (Ok (map tokens_in lines, left_of m rd))) (λ m. Unless (is_outside f) (IsRepeated (state_of m old) (Ok (n, params)) (stops (f, place)))) (λ m h. let P : ℕ → Type 0 = λ i. Unless (is_outside f) (Err (f, place) ≡ pushed (turns_left replay 0 n) (record { is_macro = false; conditions = i; back = None }) (left_of m rd)) in repeated_none m old rd replay body n (is_outside f) f place h ready (subst P c.len.ensures (c.in_err-enter.ensures.entered m))) c.in_ok-block.ensures.read)
+    rw (p.1, p.2) (where_known (g.S.Store.files c.args.store.now) (λ m. Block gathers (0, []) (left_of m old.reader) (Ok (map tokens_in lines, left_of m rd))) (λ m. Unless (is_outside f) (Leads m (repeated (state_of m old) n params) (stops (f, place)))) (λ m h. let P : ℕ → Type 0 = λ i. Unless (is_outside f) (Err (f, place) ≡ pushed (turns_left replay 0 n) (record { is_macro = false; conditions = i; back = None }) (left_of m rd)) in repeated_none m old rd replay body n (is_outside f) f place h ready (subst P c.len.ensures (c.in_err-enter.ensures.entered m))) c.in_ok-block.ensures.read)
 
 pub returns-clause-keeps : goal.returns-clause-keeps
 returns-clause-keeps g c =

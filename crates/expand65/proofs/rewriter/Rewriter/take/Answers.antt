@@ -7,16 +7,22 @@ use Rattle.syntax65.specs.Faults.{is_outside}
 use Rattle.expand65.specs.Standing.{left_in, left_of, StopsAt, Turns, state_of}
 use Rattle.expand65.specs.Fronts.{is_mislabelled}
 use Rattle.expand65.specs.Playing.{tokens_in}
-use Rattle.expand65.specs.Failing.{FailsUnlabelled}
-use Rattle.expand65.specs.Expansion.{IsLabelled, IsStep, at_mark}
+use Rattle.expand65.specs.Failing.{Fails}
+use Rattle.expand65.specs.Expansion.{Leads, begun, IsStep, at_mark}
 use Rattle.expand65.specs.State.{stops}
 use Rattle.expand65.specs.Lines.{Takes}
 use Rattle.expand65.specs.declared.line.Line.{Line}
 use Rattle.expand65.specs.declared.rewriter.Rewriter.{Rewriter}
+use Rattle.expand65.specs.declared.rewriter.Turn.{Turn}
 use Rattle.expand65.proofs.Going.{refused_step, step_taken, turns_so, where_both, where_known}
 use Rattle.expand65.proofs.Lines.{moved_to}
-use Rattle.expand65.proofs.Stopping.{stops_behind}
+use Rattle.expand65.proofs.Stopping.{stops_behind, stops_taking}
 use Rattle.expand65.proofs.rewriter.Rewriter.take.Goals as goal
+
+pub returns-in_err-next_line-clause-stopped : goal.returns-in_err-next_line-clause-stopped
+returns-in_err-next_line-clause-stopped g c = λ names.
+    (let p = err_from_is_err_and c.from_residual.result c.from_residual.ensures.1 in
+    rw (p.1, p.2) (stops_taking {A = Turn} (g.S.Store.files c.args.store.now) (g.S.Store.blamed c.next_line.new.store) (g.K.Knows.meaning c.args.knows.now) c.args.self.now c.next_line.new.self (Err c.in_err-next_line.field-0.0) (c.in_err-next_line.ensures.stopped names)))
 
 pub returns-in_err-next_line-clause-turns : goal.returns-in_err-next_line-clause-turns
 returns-in_err-next_line-clause-turns g c =
@@ -54,8 +60,8 @@ returns-in-Some-clause-turns g c =
     let end = c.begin.new.self in
     let P : Option Line → Type 0 = λ l. IfSome o (λ m. Takes (left_of m old.reader) (Ok (option_map tokens_in l, left_of m new))) in
     let taken = subst P c.in-Some.is c.in_ok-next_line.ensures.read in
-    let begun = moved_to (λ m. Turns r (state_of m end) (IsLabelled m k (state_of m mid) ts (is_mislabelled ts))) o (g.S.Store.files c.next_line.new.store) c.in_ok-next_line.ensures.leaves.files c.begin.ensures.turns in
-    where_both o (λ m. Takes (left_of m old.reader) (Ok (Some ts, left_of m new))) (λ m. Turns r (state_of m end) (IsLabelled m k (state_of m mid) ts (is_mislabelled ts))) (λ m. Turns r (state_of m end) (IsStep m k (state_of m old))) (λ m h e. turns_so r (state_of m end) (IsLabelled m k (state_of m mid) ts (is_mislabelled ts)) (IsStep m k (state_of m old)) (λ x y. step_taken m k old (Ok (Some ts, left_of m new)) x h y) e) taken begun
+    let from = moved_to (λ m. Turns r (state_of m end) (Leads m (begun k (state_of m mid) ts (is_mislabelled ts)))) o (g.S.Store.files c.next_line.new.store) c.in_ok-next_line.ensures.leaves.files c.begin.ensures.turns in
+    where_both o (λ m. Takes (left_of m old.reader) (Ok (Some ts, left_of m new))) (λ m. Turns r (state_of m end) (Leads m (begun k (state_of m mid) ts (is_mislabelled ts)))) (λ m. Turns r (state_of m end) (IsStep m k (state_of m old))) (λ m h e. turns_so r (state_of m end) (Leads m (begun k (state_of m mid) ts (is_mislabelled ts))) (IsStep m k (state_of m old)) (λ x y. step_taken m k old (Ok (Some ts, left_of m new)) x h y) e) taken from
 
 pub returns-in-Some-clause-stopped : goal.returns-in-Some-clause-stopped
 returns-in-Some-clause-stopped g c = λ names.
@@ -70,5 +76,5 @@ returns-in-Some-clause-stopped g c = λ names.
     let P : Option Line → Type 0 = λ l. IfSome o (λ m. Takes (left_of m old.reader) (Ok (option_map tokens_in l, left_of m new))) in
     let blamed = g.S.Store.blamed c.begin.new.store in
     let taken = subst P c.in-Some.is c.in_ok-next_line.ensures.read in
-    let stopped = moved_to (λ m. StopsAt (FailsUnlabelled blamed k (state_of m mid) ts) new end.reader r) o (g.S.Store.files c.next_line.new.store) c.in_ok-next_line.ensures.leaves.files (c.begin.ensures.stopped (c.in_ok-next_line.ensures.stays.named names)) in
+    let stopped = moved_to (λ m. StopsAt (Fails blamed (begun k (state_of m mid) ts (is_mislabelled ts))) new end.reader r) o (g.S.Store.files c.next_line.new.store) c.in_ok-next_line.ensures.leaves.files (c.begin.ensures.stopped (c.in_ok-next_line.ensures.stays.named names)) in
     stops_behind o blamed k old mid end.reader ts r taken (λ m. refl) c.in_ok-next_line.ensures.stays.mark stopped)

@@ -1,0 +1,10 @@
+use Rattle.expand65.proofs.rewriter.Rewriter.act_by.Goals as goal
+
+pub returns-in-Else-clause-stopped : goal.returns-in-Else-clause-stopped
+returns-in-Else-clause-stopped g c = c.act_alone.ensures.stopped (g.K.Knows.meaning c.args.knows.now)
+
+pub returns-in-EndMacro-clause-stopped : goal.returns-in-EndMacro-clause-stopped
+returns-in-EndMacro-clause-stopped g c = c.act_alone-in-EndMacro.ensures.stopped (g.K.Knows.meaning c.args.knows.now)
+
+pub returns-in-ExitMacro-clause-stopped : goal.returns-in-ExitMacro-clause-stopped
+returns-in-ExitMacro-clause-stopped g c = c.act_alone-in-ExitMacro.ensures.stopped (g.K.Knows.meaning c.args.knows.now)

@@ -249,7 +249,7 @@ mark_fit : (s : State) (is : List Item) → IsStateFit 0 s → AreItemsFit is �
 mark_fit s x1 fit h less = grind (arith, common_steps)
 
 behind_fit : (k : Meaning) (s : State) (t : Taken) → IsStateFit 0 s → Takes s.left t → IsStepFit (step_behind k s t)
-behind_fit k s x1 fit takes = grind (arith, common_steps, taken_fit, begun_fit, none_taken, with_left_fit, mark_fit)
+behind_fit k s x1 fit taken = grind (arith, common_steps, taken_fit, begun_fit, none_taken, with_left_fit, mark_fit)
 
 -- the first line, and what else is left
 step_from_fit : (k : Meaning) (s : State) (is : List Item) → IsStateFit 0 s → AreItemsFit is → s.expansions + (s.left.room + rests is) ≤ line_limit → IsStepFit (step_from k s is)

@@ -1,6 +1,6 @@
 -- Macros that are defined, and repeats.
 use Rattle.std.proofs.lemmas.Grind.{common_steps}
-use Rattle.std.proofs.Common.{◌≡◌, ℕ, Bool, true, false, List, [], ◌∷◌, length, drop, Option, Some, None, Result, Ok, Err, ap, refl, sym, ◌∙◌, arith, ◌++◌, map, subst, Vec, Global}
+use Rattle.std.proofs.Common.{◌≡◌, ℕ, Bool, true, false, List, [], ◌∷◌, length, drop, Option, Some, None, Result, Ok, Err, ap, refl, sym, ◌∙◌, arith, ◌++◌, map, Vec, Global}
 use Rattle.std.proofs.lemmas.List.{drop-map, map-append}
 use Rattle.syntax65.specs.Expressions.{IsParsed}
 use Rattle.syntax65.specs.Faults.{is_expr_outside, fault_of_parsing, is_outside}

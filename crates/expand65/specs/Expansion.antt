@@ -10,7 +10,7 @@ use Rattle.syntax65.specs.Expressions.{IsParsed}
 use Rattle.syntax65.specs.Trees.{Tree}
 use Rattle.expand65.specs.Blocks.{AnswerOf, Block, block_state, judge_of}
 use Rattle.expand65.specs.Fronts.{begins, string_of, front_directive, is_mislabelled, label_len, line_directive, understood}
-use Rattle.expand65.specs.Lines.{lines_of, file_limit, Taken, Takes, line_limit, Mark, numbered, Item, labelled, branch, mark, left, innermost, come_back, Left, Stop}
+use Rattle.expand65.specs.Lines.{lines_of, file_limit, Taken, Takes, line_limit, numbered, Item, labelled, branch, mark, left, innermost, come_back, Left, Stop}
 use Rattle.expand65.specs.Macros.{entered, exit_macro, local_line, macro_line, mark_from, ordinary, repeat_line}
 use Rattle.expand65.specs.State.{State, Step, leads, parses, decides, takes, takes_block, opens, Stepped, stops, Meaning, label, goes, gives, ends, with_left, with_items, Stated, IsCondition, else_line, ended_if, if_alone, if_line, popped, unless_refused, unless_stopped}
 use Rattle.expand65.specs.Types.{ExprFault, ExpandFault, FileNotFound, FileTooLong, Directive, Macro, EndMacro, ExitMacro, Local, Repeat, EndRepeat, If, ElseIf, Else, EndIf, Include, Error, End, True}
@@ -68,11 +68,13 @@ first_file m (name ∷ names) = found_or name (file_named m name) (first_file m 
 
 -- a file that was found, by its name and its bytes
 abbrev pub included : State → List ℕ × List ℕ → Stepped
-included s (name, bytes) = entered s (numbered 0 (lines_of bytes)) (mark_from s false (Some s.left.place)) (record { file = name; line = 0 })
+included s (name, bytes) =
+    entered s (numbered 0 (lines_of bytes)) (mark_from s false (Some s.left.place)) (record { file = name; line = 0 })
 
 -- a file that is looked for
 abbrev pub include_file : State → List ℕ → Step
-include_file s name = opens s.left (tried s.left.place.file s.folders name) (λ q. unless_refused s q (λ file. leads (included s file)))
+include_file s name =
+    opens s.left (tried s.left.place.file s.folders name) (λ q. unless_refused s q (λ file. leads (included s file)))
 
 -- ---- One step of expansion, by the first line that is left.
 
@@ -138,7 +140,8 @@ Leads m (leads x) r = r ≡ x
 Leads m (parses ts next) r = (q : Result (Tree × ℕ) ExprFault) × IsParsed ts q × Leads m (next q) r
 Leads m (decides k test ts next) r = (c : Result Bool ExpandFault) × IsCondition k test ts c × Leads m (next c) r
 Leads m (takes l next) r = (t : Taken) × Takes l t × Leads m (next t) r
-Leads m (takes_block k l next) r = (q : Result (AnswerOf k × Left) Stop) × Block (judge_of k) (block_state k 0 []) l q × (r ≡ unless_stopped q (λ b. next b.0 b.1))
+Leads m (takes_block k l next) r =
+    (q : Result (AnswerOf k × Left) Stop) × Block (judge_of k) (block_state k 0 []) l q × (r ≡ unless_stopped q (λ b. next b.0 b.1))
 Leads m (opens l names next) r = Leads m (next (first_file m names)) r
 
 -- what the step from a state leads to
@@ -162,7 +165,9 @@ pub data Reaches (m : Files) (k : Meaning) : State → Next → Type 0 where
 
 -- all the lines of a source
 abbrev pub first_left : List ℕ → List ℕ → Left
-first_left file bytes = left (numbered 0 (lines_of bytes) ++ mark (record { is_macro = false; conditions = 0; back = None }) ∷ []) line_limit (record { file = file; line = 0 })
+first_left file bytes =
+    left (numbered 0 (lines_of bytes) ++ mark (record { is_macro = false; conditions = 0; back = None }) ∷ []) line_limit
+    (record { file = file; line = 0 })
 
 -- the state before the first line of a source
 abbrev pub first_state : List ℕ → List (List ℕ) → List ℕ → State

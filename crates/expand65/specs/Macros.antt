@@ -8,10 +8,9 @@ use Rattle.std.specs.Str.{bytes_eq}
 use Rattle.syntax65.specs.declared.lexing.tokens.TokenKind.TheVariants as token
 use Rattle.expand65.specs.declared.blocks.BlockKind.TheVariants as kind
 use Rattle.std.specs.Option.{option_map_or}
-use Rattle.expand65.specs.Lines.{file_limit, bytes_of, Definition, Replacing, number_token, repeating, Item, played, Mark, Left, left, innermost, localised, outside_macro, pushed, turns}
+use Rattle.expand65.specs.Lines.{file_limit, bytes_of, Definition, Replacing, number_token, repeating, Item, played, Mark, left, innermost, localised, outside_macro, pushed, turns}
 use Rattle.expand65.specs.State.{State, plain, Step, leads, parses, takes_block, Stepped, goes, gives, stops, unless_refused, unless_stopped, with_conditions, with_left, with_items, Meaning}
 use Rattle.expand65.specs.Types.{TooManyArguments, MacroTwice, NotOpened, NotUnderstood, NotConstant, CountOutOfRange, FileTooLong, Place, ExprFault, ExpandFault}
-use Rattle.syntax65.specs.Expressions.{IsParsed}
 use Rattle.base65.specs.Outcome.{◌>>=◌, Unless}
 use Rattle.syntax65.specs.Trees.{Tree}
 use Rattle.base65.specs.Store.{Files}
@@ -157,7 +156,10 @@ local_named s (Some names) = goes (with_items s (localised names s.left.items))
 
 -- `.local` stands in the body of a macro itself
 abbrev pub local_line : State → List Lexeme → Stepped
-local_line s ts = if option_map_or (λ k. k.is_macro) (innermost s.left.items) false then local_named s (new_names ts) else stops (NotUnderstood, s.left.place)
+local_line s ts =
+    if option_map_or (λ k. k.is_macro) (innermost s.left.items) false
+    then local_named s (new_names ts)
+    else stops (NotUnderstood, s.left.place)
 
 -- ---- Leaving an expansion.
 
@@ -200,7 +202,8 @@ repeat_of k ts q = repeat_header ts q >>= (λ h. turns_of (k.value h.0) >>= (λ 
 
 -- so many turns of the lines that follow
 abbrev pub repeated : State → ℕ → List (List ℕ) → Step
-repeated s n variable = takes_block kind.Repeat s.left (λ body l. entered (with_left s l) (turns (repeating variable) body 0 n) (mark_from s false None) l.place)
+repeated s n variable = takes_block kind.Repeat s.left (λ body l.
+    entered (with_left s l) (turns (repeating variable) body 0 n) (mark_from s false None) l.place)
 
 -- `.repeat` and what stands behind it
 abbrev pub repeat_line : Meaning → State → List Lexeme → Step

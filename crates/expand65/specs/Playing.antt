@@ -1,5 +1,5 @@
 -- Lines as they are kept, played again, passed over, or read where they stand.
-use Rattle.std.specs.Prelude.{◌≡◌, ℕ, List, [], ◌∷◌, ◌++◌, take, drop, suc, true, false, Option, Some, None, Result, Ok, Err, map, Bool, slice_get, ◌<◌, length, ◌+◌}
+use Rattle.std.specs.Prelude.{◌≡◌, ℕ, List, [], ◌∷◌, take, drop, suc, true, false, Option, Some, None, Result, Ok, Err, map, Bool, ◌<◌, length, ◌+◌}
 use Rattle.syntax65.specs.Tokens.{Lexeme, IsRead}
 use Rattle.expand65.specs.declared.line.Word.{Word}
 use Rattle.expand65.specs.Types.{Line, ExpandFault, NotUnderstood, Body, Replay, OpenFile, Source, Peeked, Reader}

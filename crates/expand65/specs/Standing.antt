@@ -1,12 +1,12 @@
 -- What an expander stands for, and how the code holds it.
-use Rattle.std.specs.Prelude.{◌≡◌, ℕ, ◌-◌, Bool, true, false, List, [], ◌∷◌, ◌++◌, ◌<◌, length, map, Result, Ok, Err, ⊤, suc, None, reverse, ◌==◌, Some, Option, IfErr, if◌then◌else◌, ◌+◌, ◌*◌, IfOk, IfSome, OnOk, ◌≤◌}
+use Rattle.std.specs.Prelude.{◌≡◌, ℕ, ◌-◌, Bool, true, false, List, [], ◌∷◌, ◌++◌, ◌<◌, length, map, Result, Ok, Err, ⊤, None, reverse, ◌==◌, Some, Option, IfErr, if◌then◌else◌, ◌+◌, ◌*◌, IfOk, IfSome, OnOk, ◌≤◌}
 use Rattle.base65.specs.Outcome.{Unless}
 use Rattle.base65.specs.Store.{Files, IsBlamed}
 use Rattle.syntax65.specs.Tokens.{Lexeme}
 use Rattle.syntax65.specs.Faults.{is_outside, is_failure}
 use Rattle.expand65.specs.Playing.{tokens_in, left_to_play, replacing_of, Plainly, definition_of}
 use Rattle.expand65.specs.Lines.{left_in_file, IsOpened, Takes, turns, Item, written, played, mark, Mark, Left, left, moved, Stop, come_back, Replacing, labelled, branch, Definition}
-use Rattle.expand65.specs.Types.{ExpandFault, Source, Line, Place, Replay, Reader, NotUnderstood, OutOfMemory, Directive, Body, Rewriter, Expander, Nothing, Rest, Statement}
+use Rattle.expand65.specs.Types.{ExpandFault, Source, Line, Place, Replay, Reader, Directive, Rewriter, Expander, Nothing, Rest, Statement}
 use Rattle.expand65.specs.declared.input.Source.TheVariants as source
 use Rattle.expand65.specs.declared.input.NextLine.{NextLine}
 use Rattle.expand65.specs.declared.input.NextLine.TheVariants.{AtEnd, Numbered, Replayed}
@@ -18,9 +18,6 @@ use Rattle.expand65.specs.declared.blocks.BlockKind.{BlockKind}
 use Rattle.expand65.specs.declared.blocks.BlockKind.TheVariants.{Macro, Repeat, Skipped, Passed}
 use Rattle.expand65.specs.declared.blocks.BlockStep.{BlockStep}
 use Rattle.expand65.specs.declared.blocks.BlockStep.TheVariants.{On, Closed}
-use Rattle.std.specs.declared.rc.Rc.{Rc}
-use Rattle.std.specs.Global.{Global}
-use Rattle.expand65.specs.Macros.{macro_at}
 use Rattle.expand65.specs.State.{State, with_items, label, plain, Stepped, goes, gives, stops, Meaning, Stated}
 use Rattle.expand65.specs.declared.fronts.Directive.TheVariants as directive
 use Rattle.expand65.specs.declared.rewriter.Turn.{Turn}

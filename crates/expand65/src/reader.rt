@@ -155,8 +155,8 @@ impl Reader {
     pub fn leave(&mut self, conditions: usize) -> Result<bool, ExpandFault>
         ensures left { (m : Files) →
             left_in m self.old.top.source ≡ [] → Answers
-            (λ more. ((if more then (left_of m self.new).items else []), self.new.place)) self.new.place
-            result (λ r. r ≡ closed conditions self.old.place (left_of m self.old).items) }
+            (λ more. ((if more then (left_of m self.new).items else []), self.new.place))
+            self.new.place result (λ r. r ≡ closed conditions self.old.place (left_of m self.old).items) }
         ensures named { NamesFiles self.old → OnOk result (NamesFiles self.new) }
         ensures room { self.new.room ≡ self.old.room }
         ensures outer { IfOk result (λ more. IsTrue more →
@@ -176,8 +176,12 @@ impl Reader {
     /// LeavesStore the innermost expansion with all that is open in it.
     pub fn leave_macro(&mut self) -> Option<MacroEnd>
         ensures left { (m : Files) →
-            outside_macro (left_of m self.old).items self.old.place ≡ option_map (λ e.
-            (e.conditions, (if e.more then (left_of m self.new).items else []), self.new.place)) result }
+            outside_macro (left_of m self.old).items self.old.place ≡ option_map
+            (λ e. (
+              e.conditions,
+              (if e.more then (left_of m self.new).items else []),
+              self.new.place,
+            )) result }
         ensures none { IfNone result (self.new.place ≡ self.old.place) }
         ensures named { NamesFiles self.old → IfSome result (λ _. NamesFiles self.new) }
         ensures room { self.new.room ≡ self.old.room }

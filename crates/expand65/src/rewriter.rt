@@ -70,7 +70,8 @@ impl Rewriter {
         ensures keeps { Keeps self.old self.new result }
         ensures leaves { LeavesStore S.files S.failures store.old store.new result }
         ensures stopped { StopsBy (S.files store.old) self.old self.new result (λ s.
-            Fails (S.blamed store.new) (if_line (K.meaning knows.now) s test (lexemes tokens.now))) }
+            Fails (S.blamed store.new)
+            (if_line (K.meaning knows.now) s test (lexemes tokens.now))) }
     {
         if condition(self.alloc, knows, test, tokens)? {
             self.conditions.push(false)?;
@@ -126,7 +127,8 @@ impl Rewriter {
         tokens: &[Token<'_>],
     ) -> Result<Turn, ExpandFault>
         ensures turns { TurnsTo (S.files store.old) self.old self.new result (λ m s.
-            Leads m (unless_refused s (understood (string_of (lexemes tokens.now))) (include_file s))) }
+            Leads m
+            (unless_refused s (understood (string_of (lexemes tokens.now))) (include_file s))) }
         ensures keeps { Keeps self.old self.new result }
         ensures leaves { LeavesStore S.files S.failures store.old store.new result }
         ensures stopped { StopsBy (S.files store.old) self.old self.new result (λ s.
@@ -205,7 +207,8 @@ impl Rewriter {
         ensures keeps { Keeps self.old self.new result }
         ensures leaves { LeavesStore S.files S.failures store.old store.new result }
         ensures stopped { StopsBy (S.files store.old) self.old self.new result (λ s.
-            Fails (S.blamed store.new) (directed (K.meaning knows.now) s directive (lexemes tokens.now))) }
+            Fails (S.blamed store.new)
+            (directed (K.meaning knows.now) s directive (lexemes tokens.now))) }
     {
         match directive {
             Directive::Macro => self.begin_macro(store, tokens),
@@ -236,7 +239,8 @@ impl Rewriter {
         line: Line,
     ) -> Result<Turn, ExpandFault>
         ensures turns { TurnsTo (S.files store.old) self.old self.new result (λ m s.
-            Leads m (acted (K.meaning knows.now) s (tokens_in line) (front_directive (tokens_in line)))) }
+            Leads m
+            (acted (K.meaning knows.now) s (tokens_in line) (front_directive (tokens_in line)))) }
         ensures keeps { Keeps self.old self.new result }
         ensures leaves { LeavesStore S.files S.failures store.old store.new result }
         ensures stopped { StopsBy (S.files store.old) self.old self.new result (λ s.
@@ -261,7 +265,8 @@ impl Rewriter {
         line: Line,
     ) -> Result<Turn, ExpandFault>
         ensures turns { TurnsTo (S.files store.old) self.old self.new result (λ m s.
-            Leads m (begun (K.meaning knows.now) s (tokens_in line) (is_mislabelled (tokens_in line)))) }
+            Leads m
+            (begun (K.meaning knows.now) s (tokens_in line) (is_mislabelled (tokens_in line)))) }
         ensures named { NamesFiles self.old.reader → OnOk result (NamesFiles self.new.reader) }
         ensures size { IfOk result (λ t. size_of self.new + weight_of t ≤ size_of self.old + 3) }
         ensures leaves { LeavesStore S.files S.failures store.old store.new result }

@@ -23,7 +23,7 @@ use Rattle.expand65.specs.Blocks.{AnswerOf, Block, Branch, at_elseif, at_else, a
 use Rattle.expand65.specs.State.{decided, else_line, ended_if, found, if_alone, if_line, Meaning, State, Stated, label, plain, Step, leads, parses, decides, takes, takes_block, opens, Stepped, goes, gives, ends, stops, unless_refused, unless_stopped, with_conditions, with_items, with_left}
 use Rattle.expand65.specs.Expansion.{Leads, Next, Reaches, further, given, ended, stopped, statement, nothing, fault as at_fault, acted, at_mark, begun, directed, first_file, first_state, include_file, included, last_condition, not_opened, split, step_behind, step_from, IsStep}
 use Rattle.expand65.specs.Fronts.{front_directive, is_mislabelled, label_len, line_directive, string_of, understood}
-use Rattle.expand65.specs.Lines.{numbered, outside_macro, pushed, turns, Item, written, played, labelled, branch, mark, Left, left, Mark, Stop, come_back, innermost, marks, repeating, Definition, line_limit, lines_of, nesting_limit, Taken, Takes}
+use Rattle.expand65.specs.Lines.{numbered, outside_macro, turns, Item, written, played, labelled, branch, mark, Left, left, Mark, Stop, come_back, innermost, marks, repeating, Definition, line_limit, lines_of, nesting_limit, Taken, Takes}
 use Rattle.semantics65.proofs.NamedItems.{AreItemsFit, AreLines, IsBlockFit, IsItemFit, IsOutside, IsVerdictFit, block_fit, lines_in, localised_fit, localised_rests, numbered_lines, outside_fit, none_taken, played_lines, rests, rests_append, taken_fit, turns_lines}
 use Rattle.semantics65.proofs.NamedLines.{AreAllFit, Each, IsReplacingFit, arguments_fit, lookup_each, new_names_fit, AreFit, IsBase, fit_drop, fit_take}
 use Rattle.semantics65.proofs.Segments.{all_more}

@@ -1,6 +1,7 @@
 -- The phrases of the expression grammar, by places in a list of tokens.
 -- A line has one reading, an expression one tree.
-use Rattle.std.specs.Prelude.{ℕ, ◌-◌, ◌==◌, ◌&&◌, ◌||◌, Bool, List, length, codes, slice_index, nat_lt, Option, Some, None, is_some, if◌then◌else◌, ◌≡◌, ◌≢◌, ◌+◌, ◌<◌, ◌≤◌, true, false, [], ◌∷◌, slice_get, Result, Ok, Err, ⊤}
+use Rattle.std.specs.Prelude.{ℕ, ◌-◌, ◌==◌, ◌&&◌, ◌||◌, Bool, List, length, codes, slice_index, nat_lt, Option, Some, None, is_some, if◌then◌else◌, ◌≡◌, ◌≢◌, ◌+◌, ◌<◌, ◌≤◌, true, false, [], ◌∷◌, slice_get, option_and_then, Result, Ok, Err, ⊤}
+use Rattle.std.specs.Option.{option_map_or}
 use Rattle.std.specs.Str.{str_eq_ignore_ascii_case}
 use Rattle.syntax65.specs.Mnemonics.{mnemonic_of}
 use Rattle.syntax65.specs.declared.lexing.tokens.Mark.{Mark}
@@ -17,7 +18,7 @@ use Rattle.syntax65.specs.Trees.{Tree, number, here, name, cheap, forward, backw
 use Rattle.base65.specs.declared.values.Op1.{Op1}
 use Rattle.base65.specs.declared.values.Op1.TheVariants.{Not}
 use Rattle.syntax65.specs.declared.expressions.words.ExprFault.{ExprFault}
-use Rattle.syntax65.specs.declared.expressions.words.ExprFault.TheVariants.{OutOfMemory, OperandExpected, ParenthesisExpected, TooDeep}
+use Rattle.syntax65.specs.declared.expressions.words.ExprFault.TheVariants.{OperandExpected, ParenthesisExpected, TooDeep}
 use Rattle.syntax65.specs.declared.lexing.tokens.LexFault.{LexFault}
 
 -- ---- What a token means within an expression.
@@ -128,40 +129,24 @@ level_of Or = 5
 
 -- ---- The phrases of the expression grammar, by places in a list of tokens.
 
-abbrev pub opening_in : Option Lexeme → Opening
-opening_in None = Nothing
-opening_in (Some t) = opening_of t.0 t.1
-
-abbrev pub binary_in : Option Lexeme → Option Op2
-binary_in None = None
-binary_in (Some t) = binary_of t.0 t.1
-
-abbrev pub text_in : Option Lexeme → List ℕ
-text_in None = []
-text_in (Some t) = t.1
-
 -- how the token at a place can begin an operand
 abbrev pub opening_at : List Lexeme → ℕ → Opening
-opening_at ts i = opening_in (slice_get ts i)
+opening_at ts i = option_map_or (λ t. opening_of t.0 t.1) (slice_get ts i) Nothing
 
 -- the operator for two operands at a place
 abbrev pub binary_at : List Lexeme → ℕ → Option Op2
-binary_at ts i = binary_in (slice_get ts i)
+binary_at ts i = option_and_then (λ t. binary_of t.0 t.1) (slice_get ts i)
 
 abbrev pub text_at : List Lexeme → ℕ → List ℕ
-text_at ts i = text_in (slice_get ts i)
+text_at ts i = option_map_or (λ t. t.1) (slice_get ts i) []
 
 abbrev pub is_close : TokenKind → Bool
 is_close (token.Symbol mark.CloseParenthesis) = true
 is_close _ = false
 
-abbrev pub close_in : Option Lexeme → Bool
-close_in None = false
-close_in (Some t) = is_close t.0
-
 -- whether a `)` stands at a place
 abbrev pub closes_at : List Lexeme → ℕ → Bool
-closes_at ts i = close_in (slice_get ts i)
+closes_at ts i = option_map_or (λ t. is_close t.0) (slice_get ts i) false
 
 -- the operand of one token
 abbrev pub leaf_of : Opening → List ℕ → Option Tree
@@ -235,31 +220,19 @@ pub record IsPhrase (ts : List Lexeme) (room n i j : ℕ) (t : Tree) : Type 0 wh
   pub phrase : Phrase ts room n i j t
   pub ends : NoOperator ts n j
 
--- want of memory is always a reason
-abbrev pub IsStop : List Lexeme → ℕ → ℕ → ℕ → ExprFault → Type 0
-IsStop ts room n i OutOfMemory = ⊤
-IsStop ts room n i f = (k : ℕ) × Stops ts room n i k f
-
--- a reader's answer for level n from i on: a phrase that no operator follows, or a stop
-abbrev pub ReadsLevel : List Lexeme → ℕ → ℕ → ℕ → Result (Tree × ℕ) ExprFault → Type 0
-ReadsLevel ts room n i (Ok x) = IsPhrase ts room n i x.1 x.0
-ReadsLevel ts room n i (Err f) = IsStop ts room n i f
+-- what the tokens from i on are read as: a phrase of level n that no operator follows, or the first fault
+abbrev pub IsLevel : List Lexeme → (room n i : ℕ) → Result (Tree × ℕ) ExprFault → Type 0
+IsLevel ts room n i (Ok x) = IsPhrase ts room n i x.1 x.0
+IsLevel ts room n i (Err f) = (k : ℕ) × Stops ts room n i k f
 
 -- what the tokens at the front are read as: an expression and how many tokens it has, or their first fault
 abbrev pub IsParsed : List Lexeme → Result (Tree × ℕ) ExprFault → Type 0
-IsParsed ts (Ok x) = IsPhrase ts 64 6 0 x.1 x.0
-IsParsed ts (Err f) = (k : ℕ) × Stops ts 64 6 0 k f
+IsParsed ts r = IsLevel ts 64 6 0 r
 
--- why names with `::` between them can't be read at i
-abbrev pub IsMissing : List Lexeme → ℕ → ExprFault → Type 0
-IsMissing ts i OutOfMemory = ⊤
-IsMissing ts i OperandExpected = (k : ℕ) × LacksPart ts i k
-IsMissing ts i _ = ⊥
-
--- a reader's answer for the names from i on
-abbrev pub ReadsNames : List Lexeme → ℕ → Result (List (List ℕ) × ℕ) ExprFault → Type 0
-ReadsNames ts i (Ok x) = Parts ts i x.1 x.0
-ReadsNames ts i (Err f) = IsMissing ts i f
+-- names with `::` between them from i on, or that one is missing
+abbrev pub AreNames : List Lexeme → ℕ → Result (List (List ℕ) × ℕ) ExprFault → Type 0
+AreNames ts i (Ok x) = Parts ts i x.1 x.0
+AreNames ts i (Err f) = (f ≡ OperandExpected) × ((k : ℕ) × LacksPart ts i k)
 
 -- ---- A line has one reading, an expression one tree.
 

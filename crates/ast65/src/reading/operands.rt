@@ -2,7 +2,7 @@
 
 ghost use Rattle.std.specs.Prelude.{◌≡◌, ◌<◌, ◌≤◌, ◌∷◌, [], false, length, not, option_map, IfOk, IfSome, IsTrue, None, Ok, Some};
 ghost use Rattle.std.specs.List.{prefix_len};
-ghost use Rattle.syntax65.specs.Expressions.{IsParsed, binary_at, opening_in};
+ghost use Rattle.syntax65.specs.Expressions.{IsParsed, binary_at, opening_of};
 ghost use Rattle.syntax65.specs.Faults.{is_expr_outside};
 ghost use Rattle.base65.specs.Relations.{Answers};
 ghost use Rattle.syntax65.specs.Tokens.{lexeme_of, lexemes};
@@ -19,7 +19,7 @@ use syntax65::{AddressSize, Expr, ExprFault, ExprKind, Mark, Token, TokenKind, r
 
 /// The value of a number.
 pub fn number_in(token: &Token<'_>) -> Option<u32>
-    ensures number { IfSome result (λ v. opening_in (Some (lexeme_of token.now)) ≡ Number v) }
+    ensures number { IfSome result (λ v. opening_of token.now.kind token.now.text.now ≡ Number v) }
     ensures text { IfSome result (λ _. quoted_in (lexeme_of token.now) ≡ None) }
     ensures comma { IfSome result (λ _. is_comma (lexeme_of token.now) ≡ false) }
 {

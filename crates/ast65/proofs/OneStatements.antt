@@ -7,7 +7,6 @@ use Rattle.base65.specs.Outcome.{◌>>=◌, First}
 use Rattle.syntax65.specs.Tokens.{Lexeme}
 use Rattle.syntax65.specs.Trees.{Tree}
 use Rattle.syntax65.specs.declared.instructions.names.Mnemonic.{Mnemonic}
-use Rattle.syntax65.specs.declared.lexing.tokens.TokenKind.{TokenKind}
 use Rattle.syntax65.specs.declared.lexing.tokens.TokenKind.TheVariants as token
 use Rattle.syntax65.specs.declared.lexing.tokens.Mark.TheVariants as mark
 use Rattle.syntax65.proofs.Parses.{one_parse}
@@ -23,6 +22,7 @@ use Rattle.ast65.specs.declared.language.Statement.TheVariants as statement
 use Rattle.ast65.specs.declared.language.Operand.TheVariants as operand
 use Rattle.ast65.specs.declared.language.Item.TheVariants as item
 use Rattle.ast65.specs.Parsing as p
+use Rattle.ast65.specs.Parsing.{IsPlainOperand}
 
 abbrev Answer : Type 0
 Answer = Result Statement AsmFault
@@ -93,17 +93,15 @@ ended_one : (end : List Lexeme → Result (Option Index) AsmFault) (make : Tree 
 ended_one end make ts = then_one (p.IsFront ts) (λ x. end x.1 >>= (λ i. Ok (make x.0 i))) (front_one ts)
 
 plain_operand_one : (ts : List Lexeme) → One (p.IsPlainOperand ts)
+unfolding IsPlainOperand
 plain_operand_one ts = test_one (p.spelled (p.word_of ts) (codes "a")) (λ r. r ≡ Ok operand.Accumulator) (p.IsEnded p.index_of (operand.Address None) ts) (same_one (Ok operand.Accumulator)) (ended_one p.index_of (operand.Address None) ts)
-
-operand_from_one : (k : TokenKind) (all ts : List Lexeme) → One (p.IsOperandFrom k all ts)
-operand_from_one (token.Symbol mark.Hash) all ts = then_one (p.IsExpression ts) (λ x. Ok (operand.Immediate x)) (expression_one ts)
-operand_from_one (token.Symbol mark.OpenParenthesis) all ts = ended_one p.closing_of p.indirect_by ts
-operand_from_one (token.SizePrefix own) all ts = ended_one p.index_of (operand.Address (Some own)) ts
-operand_from_one _ all ts = plain_operand_one all
 
 operand_one : (ts : List Lexeme) → One (p.IsOperand ts)
 operand_one [] = same_one (Ok operand.Absent)
-operand_one (t ∷ ts) = operand_from_one t.0 (t ∷ ts) ts
+operand_one ((token.Symbol mark.Hash, t) ∷ ts) = then_one (p.IsExpression ts) (λ x. Ok (operand.Immediate x)) (expression_one ts)
+operand_one ((token.Symbol mark.OpenParenthesis, t) ∷ ts) = ended_one p.closing_of p.indirect_by ts
+operand_one ((token.SizePrefix own, t) ∷ ts) = ended_one p.index_of (operand.Address (Some own)) ts
+operand_one ((k, t) ∷ ts) = plain_operand_one ((k, t) ∷ ts)
 
 -- ---- Directives.
 

@@ -205,19 +205,16 @@ abbrev pub IsEnded : (List Lexeme → Result (Option Index) AsmFault) → (Tree 
 IsEnded end make ts r = Then (IsFront ts) (λ x. end x.1 >>= (λ i. Ok (make x.0 i))) r
 
 -- `a`, or an address without a prefix
-abbrev pub IsPlainOperand : List Lexeme → Result Operand AsmFault → Type 0
+unfoldable pub IsPlainOperand : List Lexeme → Result Operand AsmFault → Type 0
 IsPlainOperand ts r = MatchBool (spelled (word_of ts) (codes "a")) (r ≡ Ok Accumulator) (IsEnded index_of (Address None) ts r)
 
--- by the first token's kind, all tokens and those behind the first
-abbrev pub IsOperandFrom : TokenKind → List Lexeme → List Lexeme → Result Operand AsmFault → Type 0
-IsOperandFrom (token.Symbol mark.Hash) all ts r = Then (IsExpression ts) (λ x. Ok (Immediate x)) r
-IsOperandFrom (token.Symbol mark.OpenParenthesis) all ts r = IsEnded closing_of indirect_by ts r
-IsOperandFrom (token.SizePrefix own) all ts r = IsEnded index_of (Address (Some own)) ts r
-IsOperandFrom _ all ts r = IsPlainOperand all r
-
+-- nothing, `#e`, `(e)`, `(e,x)`, `(e),y`, or `a`, `e`, `e,x`, `e,y`, the last three perhaps with a prefix
 abbrev pub IsOperand : List Lexeme → Result Operand AsmFault → Type 0
 IsOperand [] r = r ≡ Ok Absent
-IsOperand (t ∷ ts) r = IsOperandFrom t.0 (t ∷ ts) ts r
+IsOperand ((token.Symbol mark.Hash, t) ∷ ts) r = Then (IsExpression ts) (λ x. Ok (Immediate x)) r
+IsOperand ((token.Symbol mark.OpenParenthesis, t) ∷ ts) r = IsEnded closing_of indirect_by ts r
+IsOperand ((token.SizePrefix own, t) ∷ ts) r = IsEnded index_of (Address (Some own)) ts r
+IsOperand ts r = IsPlainOperand ts r
 
 -- ---- Statements of directives.
 

@@ -8,7 +8,7 @@ ghost use Rattle.base65.specs.Relations.{Answers};
 ghost use Rattle.syntax65.specs.Tokens.{lexeme_of, lexemes};
 ghost use Rattle.syntax65.specs.Trees.{number};
 ghost use Rattle.syntax65.specs.declared.expressions.words.Opening.TheVariants.{Number};
-ghost use Rattle.ast65.specs.Parsing.{is_comma, parts_behind, parts_of, quoted_in, IsExpression, IsFront, IsOneOrTwo, Parses, closing_of, index_of, indirect_by, IsEnded, IsOperand, IsOperandFrom, IsPlainOperand, ParsesAs};
+ghost use Rattle.ast65.specs.Parsing.{is_comma, parts_behind, parts_of, quoted_in, IsExpression, IsFront, IsOneOrTwo, Parses, closing_of, index_of, indirect_by, IsEnded, IsOperand, IsPlainOperand, ParsesAs};
 ghost use Rattle.ast65.specs.declared.language.Operand.TheVariants.{Address};
 
 use super::tokens::{is_close, is_comma, is_spelled, spells, word_of};
@@ -211,6 +211,7 @@ fn indirect(alloc: Global, tokens: &[Token<'_>]) -> Result<Operand, AsmFault>
 }
 
 /// `a`, or an address without a prefix.
+#[tactic(auto, unfolding(crate::specs::Parsing::IsPlainOperand))]
 fn plain_operand(alloc: Global, tokens: &[Token<'_>]) -> Result<Operand, AsmFault>
     ensures { Parses result (IsPlainOperand (lexemes tokens.now)) }
 {

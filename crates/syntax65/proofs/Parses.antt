@@ -4,7 +4,7 @@ use Rattle.std.proofs.Common.{◌≡◌, ◌≢◌, ℕ, zero, suc, ◌+◌, ◌
 use Rattle.std.specs.Prelude.{slice_get, option_and_then, Ok, Err}
 use Rattle.std.specs.Option.{option_map_or}
 use Rattle.syntax65.specs.Tokens.{Lexeme}
-use Rattle.syntax65.specs.Expressions.{OneParse, level_of, opening_at, binary_at, binary_of, text_at, leaf_of, is_close, closes_at, Parts, Phrase, a_leaf, a_name, a_global, prefixed, enclosed, of_level, joined, negated, NoOperator, Stops, no_operand, no_name, no_global, too_deep, in_prefixed, in_enclosed, not_closed, in_first, in_next, negation_too_deep, in_negated, IsParsed}
+use Rattle.syntax65.specs.Expressions.{level_of, opening_at, binary_at, binary_of, text_at, leaf_of, is_close, closes_at, Parts, Phrase, a_leaf, a_name, a_global, prefixed, enclosed, of_level, joined, negated, NoOperator, Stops, no_operand, no_name, no_global, too_deep, in_prefixed, in_enclosed, not_closed, in_first, in_next, negation_too_deep, in_negated, IsParsed}
 use Rattle.syntax65.specs.Trees.{Tree, name, unary, binary}
 use Rattle.base65.specs.declared.values.Op1.TheVariants.{Not}
 use Rattle.syntax65.specs.declared.expressions.words.Opening.{Opening}
@@ -144,5 +144,5 @@ lost ts _ _ _ _ _ (in_negated room i k f h s) =
 run_of : (ts : List Lexeme) (r : Answer) → IsParsed ts r → Run ts (whole_at 64 0) r
 run_of ts x h = grind (arith, common_steps, whole, lost)
 
-pub one_parse : OneParse
+pub one_parse : (ts : List Lexeme) (r s : Answer) → IsParsed ts r → IsParsed ts s → r ≡ s
 one_parse ts r s h g = one_answer ts (whole_at 64 0) r s (run_of ts r h) (run_of ts s g)

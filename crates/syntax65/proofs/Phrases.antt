@@ -4,7 +4,7 @@ use Rattle.std.proofs.Common.{◌≡◌, ◌≢◌, ℕ, zero, suc, ◌+◌, ◌
 use Rattle.std.specs.Prelude.{Result, Err}
 use Rattle.syntax65.specs.Tokens.{Lexeme}
 use Rattle.syntax65.specs.Trees.{Tree, name, unary, binary}
-use Rattle.syntax65.specs.Expressions.{level_of, opening_at, binary_at, text_at, leaf_of, leaf_at, closes_at, Parts, last_part, next_part, Phrase, a_leaf, a_name, a_global, prefixed, enclosed, of_level, joined, negated, NoOperator, BeginsOperand, OpensLevel, Stops, no_operand, no_name, no_global, too_deep, in_prefixed, in_enclosed, not_closed, in_first, in_next, negation_too_deep, in_negated, AreNames, IsLevel, IsPhrase}
+use Rattle.syntax65.specs.Expressions.{level_of, opening_at, binary_at, text_at, leaf_of, closes_at, Parts, last_part, next_part, Phrase, a_leaf, a_name, a_global, prefixed, enclosed, of_level, joined, negated, NoOperator, BeginsOperand, OpensLevel, Stops, no_operand, no_name, no_global, too_deep, in_prefixed, in_enclosed, not_closed, in_first, in_next, negation_too_deep, in_negated, AreNames, IsLevel, IsPhrase}
 use Rattle.syntax65.specs.Faults.{is_expr_outside}
 use Rattle.base65.specs.Outcome.{Unless}
 use Rattle.base65.specs.Relations.{Answers}
@@ -37,7 +37,7 @@ next_name ts at i parts new text so_far h scope same made j rest more =
 
 -- phrases
 
-pub leaf_phrase : (ts : List Lexeme) (room i : ℕ) (t : Tree) → leaf_at ts i ≡ Some t → IsPhrase ts room 0 i (i + 1) t
+pub leaf_phrase : (ts : List Lexeme) (room i : ℕ) (t : Tree) → leaf_of (opening_at ts i) (text_at ts i) ≡ Some t → IsPhrase ts room 0 i (i + 1) t
 leaf_phrase ts room i t h = record { phrase = a_leaf room i t h; ends = level_zero ts (i + 1) }
 
 pub name_phrase : (ts : List Lexeme) (room i j : ℕ) (parts : List (List ℕ)) → Parts ts i j parts → IsPhrase ts room 0 i j (name false parts)
@@ -213,5 +213,5 @@ whole_part ts room n i j t p none = record { phrase = raised ts room p.own n i j
 pub whole_result : (ts : List Lexeme) (room i : ℕ) (r : Result (Tree × ℕ) ExprFault) → opening_at ts i ≢ Negation → Answers is_expr_outside (λ x. x) r (IsLevel ts room 5 i) → Answers is_expr_outside (λ x. x) r (IsLevel ts room 6 i)
 whole_result ts room i x h p = grind (arith, common_steps, whole_phrase, whole_stop)
 
-pub leaf_made : (ts : List Lexeme) (i : ℕ) (o : Opening) (text : List ℕ) (made : Option Tree) → o ≡ opening_at ts i → text ≡ text_at ts i → made ≡ leaf_of o text → leaf_at ts i ≡ made
+pub leaf_made : (ts : List Lexeme) (i : ℕ) (o : Opening) (text : List ℕ) (made : Option Tree) → o ≡ opening_at ts i → text ≡ text_at ts i → made ≡ leaf_of o text → leaf_of (opening_at ts i) (text_at ts i) ≡ made
 leaf_made ts i o text made a b e = sym (e ∙ ap (λ p. leaf_of p text) a ∙ ap (leaf_of (opening_at ts i)) b)

@@ -1,5 +1,4 @@
 -- The phrases of the expression grammar, by places in a list of tokens.
--- A line has one reading, an expression one tree.
 use Rattle.std.specs.Prelude.{ℕ, ◌-◌, ◌==◌, ◌&&◌, ◌||◌, Bool, List, length, codes, slice_index, nat_lt, Option, Some, None, is_some, if◌then◌else◌, ◌≡◌, ◌≢◌, ◌+◌, ◌<◌, ◌≤◌, true, false, [], ◌∷◌, slice_get, option_and_then, Result, Ok, Err, ⊤}
 use Rattle.std.specs.Option.{option_map_or}
 use Rattle.std.specs.Str.{str_eq_ignore_ascii_case}
@@ -13,13 +12,12 @@ use Rattle.base65.specs.declared.values.Op2.{Op2}
 use Rattle.base65.specs.declared.values.Op2.TheVariants.{Multiply, Divide, Modulo, BitAnd, BitXor, ShiftLeft, ShiftRight, Add, Subtract, BitOr, Equal, NotEqual, Less, Greater, LessOrEqual, GreaterOrEqual, And, Xor, Or}
 use Rattle.syntax65.specs.declared.expressions.words.Opening.{Opening}
 use Rattle.syntax65.specs.declared.expressions.words.Opening.TheVariants.{Number, Here, Cheap, Forward, Backward, Name, Scope, Prefix, Parenthesis, Negation, Nothing}
-use Rattle.syntax65.specs.Tokens.{Lexeme, IsRead}
+use Rattle.syntax65.specs.Tokens.{Lexeme}
 use Rattle.syntax65.specs.Trees.{Tree, number, here, name, cheap, forward, backward, unary, binary}
 use Rattle.base65.specs.declared.values.Op1.{Op1}
 use Rattle.base65.specs.declared.values.Op1.TheVariants.{Not}
 use Rattle.syntax65.specs.declared.expressions.words.ExprFault.{ExprFault}
 use Rattle.syntax65.specs.declared.expressions.words.ExprFault.TheVariants.{OperandExpected, ParenthesisExpected, TooDeep}
-use Rattle.syntax65.specs.declared.lexing.tokens.LexFault.{LexFault}
 
 -- ---- What a token means within an expression.
 
@@ -157,9 +155,6 @@ leaf_of (Forward n) text = Some (forward n)
 leaf_of (Backward n) text = Some (backward n)
 leaf_of _ text = None
 
-abbrev pub leaf_at : List Lexeme → ℕ → Option Tree
-leaf_at ts i = leaf_of (opening_at ts i) (text_at ts i)
-
 -- names with `::` between them, as far as these go on
 pub data Parts (ts : List Lexeme) : (i j : ℕ) → List (List ℕ) → Type 0 where
   last_part : (i : ℕ) → opening_at ts i ≡ Name → opening_at ts (i + 1) ≢ Scope → Parts ts i (i + 1) (text_at ts i ∷ [])
@@ -173,7 +168,7 @@ pub data LacksPart (ts : List Lexeme) : (i k : ℕ) → Type 0 where
 -- The tokens from i up to j are a phrase of level n, with room for so many levels inside. Level 0 has the
 -- prefix operators, 1 to 5 the operators for two operands, and 6 the negation.
 pub data Phrase (ts : List Lexeme) : (room n i j : ℕ) → Tree → Type 0 where
-  a_leaf : (room i : ℕ) (t : Tree) → leaf_at ts i ≡ Some t → Phrase ts room 0 i (i + 1) t
+  a_leaf : (room i : ℕ) (t : Tree) → leaf_of (opening_at ts i) (text_at ts i) ≡ Some t → Phrase ts room 0 i (i + 1) t
   a_name : (room i j : ℕ) (parts : List (List ℕ)) → Parts ts i j parts → Phrase ts room 0 i j (name false parts)
   a_global : (room i j : ℕ) (parts : List (List ℕ)) → opening_at ts i ≡ Scope → Parts ts (i + 1) j parts → Phrase ts room 0 i j (name true parts)
   prefixed : (room i j : ℕ) (op : Op1) (t : Tree) → opening_at ts i ≡ Prefix op → Phrase ts room 0 (i + 1) j t → Phrase ts (room + 1) 0 i j (unary op t)
@@ -185,11 +180,6 @@ pub data Phrase (ts : List Lexeme) : (room n i j : ℕ) → Tree → Type 0 wher
 -- no operator of level n or of a tighter one stands at j
 abbrev pub NoOperator : List Lexeme → ℕ → ℕ → Type 0
 NoOperator ts n j = (op : Op2) → binary_at ts j ≡ Some op → n < level_of op
-
--- this operator, of this level, which is at most n, stands at j, or none does
-abbrev pub IsOperatorUpTo : List Lexeme → ℕ → ℕ → Option (Op2 × ℕ) → Type 0
-IsOperatorUpTo ts n j None = NoOperator ts n j
-IsOperatorUpTo ts n j (Some x) = (binary_at ts j ≡ Some x.0) × ((level_of x.0 ≡ x.1) × (x.1 ≤ n))
 
 abbrev pub BeginsOperand : Opening → Type 0
 BeginsOperand Negation = ⊥
@@ -233,13 +223,3 @@ IsParsed ts r = IsLevel ts 64 6 0 r
 abbrev pub AreNames : List Lexeme → ℕ → Result (List (List ℕ) × ℕ) ExprFault → Type 0
 AreNames ts i (Ok x) = Parts ts i x.1 x.0
 AreNames ts i (Err f) = (f ≡ OperandExpected) × ((k : ℕ) × LacksPart ts i k)
-
--- ---- A line has one reading, an expression one tree.
-
--- a line is read in one way at most: as one list of tokens, or as one fault
-abbrev pub OneReading : Type 0
-OneReading = (line : List ℕ) (r s : Result (List Lexeme) LexFault) → IsRead line r → IsRead line s → r ≡ s
-
--- tokens are parsed in one way at most: as one expression with its number of tokens, or as one fault
-abbrev pub OneParse : Type 0
-OneParse = (ts : List Lexeme) (r s : Result (Tree × ℕ) ExprFault) → IsParsed ts r → IsParsed ts s → r ≡ s

@@ -12,7 +12,7 @@ use Rattle.ast65.specs.Faults.{is_failure, is_outside}
 use Rattle.syntax65.specs.Tokens.{Lexeme, lexeme_of, lexemes}
 use Rattle.syntax65.specs.Trees.{Tree, number}
 use Rattle.syntax65.specs.declared.lexing.tokens.Token.{Token}
-use Rattle.ast65.specs.Parsing.{closing_of, index_of, is_close, is_comma, spells, parts_of, string_of, unknown, whole, words_of, IsEnded, IsExpression, IsFront, IsItem, IsOneOrTwo, Parses, ParsesAs, Then}
+use Rattle.ast65.specs.Parsing.{closing_of, index_of, is_close, is_comma, spells, parts_of, string_of, unknown, whole, words_of, IsEnded, IsExpression, IsFront, IsItem, IsOneOrTwo, ParsesAs, Then}
 use Rattle.ast65.specs.declared.reading.words.Elements.{Elements}
 use Rattle.ast65.specs.declared.reading.words.Elements.TheVariants.{Values, ValuesAndTexts}
 use Rattle.ast65.specs.declared.language.Index.{Index}

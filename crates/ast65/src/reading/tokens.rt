@@ -7,9 +7,9 @@ ghost use Rattle.ast65.specs.Parsing.{defines, inner, is_close, is_colon, is_com
 ghost use Rattle.ast65.specs.declared.reading.words.Directive.TheVariants as directive;
 ghost use Rattle.syntax65.specs.Forms.{is_word};
 
-use base65::Sequence;
 use crate::fault::AsmFault;
 use crate::language::Statement;
+use base65::Sequence;
 use std::alloc::Global;
 use syntax65::{AddressSize, MAX_NAME, Mark, Token, TokenKind, is_reserved};
 

@@ -21,14 +21,18 @@ MODES = [
     ("relative", "Relative", "The target of a branch: a byte."),
 ]
 VARIANT = {word: variant for word, variant, _ in MODES}
-# forms of operand that several instructions have, no other form beside them
+# forms of operand that instructions have, no other form beside them: a list of them, one alone, or one before those of another row
+COUNT = ("zeropage", "zeropage_x", "absolute", "absolute_x")
+STORE = (*COUNT, "absolute_y", "indirect_x", "indirect_y")
 ROWS = {
-    "arithmetic": ("arithmetic, and loads of `a`", ("immediate", "zeropage", "zeropage_x", "absolute", "absolute_x", "absolute_y", "indirect_x", "indirect_y")),
-    "shift": ("shifts", ("accumulator", "zeropage", "zeropage_x", "absolute", "absolute_x")),
-    "count": ("counting up and down in memory", ("zeropage", "zeropage_x", "absolute", "absolute_x")),
+    "count": ("counting up and down in memory", COUNT),
+    "shift": ("shifts", ("accumulator", *COUNT)),
+    "store": ("stores of `a`", STORE),
+    "arithmetic": ("arithmetic, and loads of `a`", ("immediate", *STORE)),
     "implied": ("without an operand", ("implied",)),
     "branch": ("branches", ("relative",)),
 }
+BEHIND = {"shift": "count", "arithmetic": "store"}
 
 
 def read_table():
@@ -91,14 +95,15 @@ def lookup_rt(names):
     return f'''//! The mnemonic that bytes spell.
 
 ghost use Rattle.std.specs.Prelude.{{◌≡◌}};
-ghost use Rattle.syntax65.specs.Mnemonics.{{IsNamed, IsSpelled, mnemonic_of}};
+ghost use Rattle.syntax65.specs.Forms.{{IsFound}};
+ghost use Rattle.syntax65.specs.Mnemonics.{{Spells, mnemonic_of, name_of}};
 
 use super::names::Mnemonic;
 
 /// The mnemonic that these bytes spell, in either case.
 pub fn mnemonic(bytes: &[u8]) -> Option<Mnemonic>
     ensures value {{ result ≡ mnemonic_of bytes.now }}
-    ensures spelled {{ IsSpelled bytes.now result }}
+    ensures spelled {{ IsFound (Spells bytes.now) result }}
 {{
     match bytes {{
         [first, second, third] => of_letters([
@@ -112,7 +117,7 @@ pub fn mnemonic(bytes: &[u8]) -> Option<Mnemonic>
 
 /// The mnemonic of three small letters.
 fn of_letters(letters: [u8; 3]) -> Option<Mnemonic>
-    ensures {{ IsNamed letters result }}
+    ensures {{ IsFound (λ m. letters ≡ name_of m) result }}
 {{
     Some(match letters {{
 {arms}        _ => return None,
@@ -125,7 +130,7 @@ def names_antt(names):
     variants = ", ".join(n.capitalize() for n in names)
     rows = "".join(f'name_of {n.capitalize()} = codes "{n}"\n' for n in names)
     return f'''-- The names of the mnemonics.
-use Rattle.std.specs.Prelude.{{◌≡◌, ℕ, List, codes, map, Option, Some, None, find}}
+use Rattle.std.specs.Prelude.{{◌≡◌, ℕ, List, codes, map, Option, find}}
 use Rattle.std.specs.Str.{{str_eq_ignore_ascii_case}}
 use Rattle.std.specs.Char.{{to_ascii_lowercase}}
 use Rattle.syntax65.specs.declared.instructions.names.Mnemonic.{{Mnemonic}}
@@ -138,16 +143,6 @@ abbrev pub name_of : Mnemonic → List ℕ
 -- the bytes are the name, in either case
 abbrev pub Spells : List ℕ → Mnemonic → Type 0
 Spells bytes m = map to_ascii_lowercase bytes ≡ name_of m
-
--- this mnemonic is spelled, or none is
-abbrev pub IsSpelled : List ℕ → Option Mnemonic → Type 0
-IsSpelled bytes None = (m : Mnemonic) → Spells bytes m → ⊥
-IsSpelled bytes (Some m) = Spells bytes m
-
--- this mnemonic has the name, or none has it
-abbrev pub IsNamed : List ℕ → Option Mnemonic → Type 0
-IsNamed name None = (m : Mnemonic) → name ≡ name_of m → ⊥
-IsNamed name (Some m) = name ≡ name_of m
 
 -- the mnemonic that the bytes spell
 unfoldable pub mnemonic_of : List ℕ → Option Mnemonic
@@ -169,16 +164,24 @@ def codes_antt(table, names):
     rows, others = rows_of(table, names)
     kinds = ""
     for row, (doc, words) in ROWS.items():
-        name, kind = ("codes", "List ℕ") if len(words) > 1 else ("code", "ℕ")
-        codes = [f"get_or codes {i} 0" for i in range(len(words))] if len(words) > 1 else ["code"]
-        kinds += f"-- {doc}\nabbrev pub {row} : {kind} → Mode → Option ℕ\n"
-        kinds += "".join(f"{row} {name} {VARIANT[w]} = Some ({c})\n" for w, c in zip(words, codes))
-        kinds += f"{row} {name} _ = None\n\n"
+        first, behind = VARIANT[words[0]], BEHIND.get(row)
+        if behind:
+            kind, clauses = "ℕ → List ℕ", [f"code codes {first} = Some code", f"code codes mode = {behind} codes mode"]
+        elif len(words) == 1:
+            kind, clauses = "ℕ", [f"code {first} = Some code", "code _ = None"]
+        else:
+            own = [(i, w) for i, w in enumerate(words) if row == "count" or w not in COUNT]
+            kind, clauses = "List ℕ", [f"codes {VARIANT[w]} = Some (get_or codes {i} 0)" for i, w in own]
+            clauses.append("codes _ = None" if row == "count" else "codes mode = count codes mode")
+        kinds += f"-- {doc}\nabbrev pub {row} : {kind} → Mode → Option ℕ\n" + "".join(f"{row} {it}\n" for it in clauses) + "\n"
     alone = "".join(f"other_opcode {n.capitalize()} {VARIANT[w]} = Some 0x{table[n, w]}\n" for n, w in others)
     listed = ""
     for n, row in rows:
-        codes = " ∷ ".join("0x" + table[n, w] for w in ROWS[row][1])
-        listed += f"opcode_of {n.capitalize()} mode = {row} {codes if len(ROWS[row][1]) == 1 else f'({codes} ∷ [])'} mode\n"
+        first, *behind = (f"0x{table[n, w]}" for w in ROWS[row][1])
+        if behind and row not in BEHIND:
+            behind, first = [first, *behind], ""
+        codes = f"({' ∷ '.join(behind)} ∷ [])" if behind else ""
+        listed += f"opcode_of {n.capitalize()} mode = {' '.join(filter(None, [row, first, codes]))} mode\n"
     return f'''-- The table of opcodes.
 use Rattle.std.specs.Prelude.{{ℕ, List, [], ◌∷◌, get_or, Option, Some, None}}
 use Rattle.syntax65.specs.declared.instructions.names.Mnemonic.{{Mnemonic}}
@@ -201,21 +204,32 @@ def codes_rt(table, names):
     rows, others = rows_of(table, names)
     listed = ""
     for n, row in rows:
-        codes = ", ".join(f"0x{table[n, w]}" for w in ROWS[row][1])
-        listed += f"        Mnemonic::{n.capitalize()} => {row}(mode, {codes if len(ROWS[row][1]) == 1 else f'[{codes}]'}),\n"
+        first, *behind = (f"0x{table[n, w]}" for w in ROWS[row][1])
+        if behind and row not in BEHIND:
+            behind, first = [first, *behind], ""
+        codes = f"[{', '.join(behind)}]" if behind else ""
+        listed += f"        Mnemonic::{n.capitalize()} => {row}({', '.join(filter(None, ['mode', first, codes]))}),\n"
     kinds = ""
     for row, (doc, words) in ROWS.items():
-        count = len(words)
-        codes = [f"codes[{i}]" for i in range(count)] if count > 1 else ["code"]
-        arms = "".join(f"        Mode::{VARIANT[w]} => Some({c}),\n" for w, c in zip(words, codes))
+        first, behind = VARIANT[words[0]], BEHIND.get(row)
+        arms = [f"Mode::{first} => Some(code)"]
+        if behind:
+            kind, given = f"code: u8, codes: [u8; {len(words) - 1}]", "code codes"
+            arms.append(f"_ => {behind}(mode, codes)")
+        elif len(words) == 1:
+            kind, given = "code: u8", "code"
+            arms.append("_ => None")
+        else:
+            kind, given = f"codes: [u8; {len(words)}]", "codes"
+            arms = [f"Mode::{VARIANT[w]} => Some(codes[{i}])" for i, w in enumerate(words)] + ["_ => None"]
+        arms = "".join(f"        {it},\n" for it in arms)
         kinds += f'''
 /// {doc[0].upper()}{doc[1:]}.
-fn {row}(mode: Mode, {f'codes: [u8; {count}]' if count > 1 else 'code: u8'}) -> Option<u8>
-    ensures {{ result ≡ {row} {'codes' if count > 1 else 'code'} mode }}
+fn {row}(mode: Mode, {kind}) -> Option<u8>
+    ensures {{ result ≡ {row} {given} mode }}
 {{
     match mode {{
-{arms}        _ => None,
-    }}
+{arms}    }}
 }}
 '''
     alone = "".join(f"        (Mnemonic::{n.capitalize()}, Mode::{VARIANT[w]}) => 0x{table[n, w]},\n" for n, w in others)

@@ -1,6 +1,6 @@
 -- A number by itself.
 use Rattle.std.proofs.Common.{◌≡◌, ℕ, List, [], ◌∷◌, Option, Some, None, Ok, IfSome, ap, refl, sym, subst, take}
-use Rattle.syntax65.specs.Expressions.{IsParsed, NoOperator, Phrase, a_leaf, binary_at, leaf_of, of_level, opening_at, opening_in, text_at}
+use Rattle.syntax65.specs.Expressions.{IsParsed, NoOperator, Phrase, a_leaf, binary_at, leaf_of, of_level, opening_at, opening_of, text_at}
 use Rattle.syntax65.specs.Tokens.{Lexeme, lexeme_of, lexemes}
 use Rattle.syntax65.specs.Trees.{Tree, number}
 use Rattle.syntax65.specs.declared.expressions.words.Opening.TheVariants.{Number}
@@ -26,14 +26,14 @@ phrase ts t h =
 pub alone : (ts : List Lexeme) (v : ℕ) → opening_at ts 0 ≡ Number v → binary_at ts 1 ≡ None → IsParsed ts (Ok (number v, 1))
 alone ts v o e = record { phrase = phrase ts (number v) (ap (λ x. leaf_of x (text_at ts 0)) o); ends = no_operator ts e }
 
-pub alone_if : (o : Option ℕ) (all behind : List Token) (first : Token) → all ≡ first ∷ behind → IfSome o (λ v. opening_in (Some (lexeme_of first)) ≡ Number v) → binary_at (lexemes behind) 0 ≡ None → IfSome o (λ v. IsParsed (lexemes all) (Ok (number v, 1)))
+pub alone_if : (o : Option ℕ) (all behind : List Token) (first : Token) → all ≡ first ∷ behind → IfSome o (λ v. opening_of first.kind first.text.now ≡ Number v) → binary_at (lexemes behind) 0 ≡ None → IfSome o (λ v. IsParsed (lexemes all) (Ok (number v, 1)))
 alone_if None all behind first e n b = tt
 alone_if (Some v) all behind first e n b =
     let P : List Token → Type 0 = λ ts. IsParsed (lexemes ts) (Ok (number v, 1)) in
     subst P (sym e) (alone (lexemes (first ∷ behind)) v n b)
 
 -- so it is an element of a list
-pub number_item : (all behind : List Token) (first : Token) (v : ℕ) → all ≡ first ∷ behind → opening_in (Some (lexeme_of first)) ≡ Number v → quoted_in (lexeme_of first) ≡ None → (e : Elements) → IsItem e (lexemes (take 1 all)) (Ok (numbered v))
+pub number_item : (all behind : List Token) (first : Token) (v : ℕ) → all ≡ first ∷ behind → opening_of first.kind first.text.now ≡ Number v → quoted_in (lexeme_of first) ≡ None → (e : Elements) → IsItem e (lexemes (take 1 all)) (Ok (numbered v))
 number_item all behind first v is n q e =
     let P : List Token → Type 0 = λ ts. IsItem e (lexemes (take 1 ts)) (Ok (numbered v)) in
     subst P (sym is) (is_item e (lexemes (first ∷ [])) v (is_whole (first ∷ []) (number v) 1 (alone (lexemes (first ∷ [])) v n refl) refl) q)

@@ -1,7 +1,7 @@
 -- Parts between commas.
 use Rattle.std.proofs.Common.{◌≡◌, ◌≢◌, ℕ, zero, suc, ◌+◌, ◌-◌, ◌<◌, ◌≤◌, Bool, true, false, nat_eq, not, List, [], ◌∷◌, None, if◌then◌else◌, ◌&&◌, codes, Option, Some, length, take, drop, Result, Ok, Err, IfErr, refl, ap, sym, ◌∙◌, arith, add-one, one-add, length-drop, subst}
 use Rattle.std.proofs.lemmas.Bool.Decides.{nat_tests}
-use Rattle.std.specs.List.{prefix_len}
+use Rattle.std.specs.List.{prefix_len, onto_first}
 use Rattle.std.proofs.lemmas.List.{take_all}
 use Rattle.syntax65.specs.Expressions.{IsParsed}
 use Rattle.std.specs.Result.{IsErrAnd}
@@ -12,12 +12,13 @@ use Rattle.ast65.specs.Faults.{is_failure, is_outside}
 use Rattle.syntax65.specs.Tokens.{Lexeme, lexeme_of, lexemes}
 use Rattle.syntax65.specs.Trees.{Tree, number}
 use Rattle.syntax65.specs.declared.lexing.tokens.Token.{Token}
-use Rattle.ast65.specs.Parsing.{before_parts, closing_of, index_of, is_close, is_comma, spells, parts_of, string_of, unknown, whole, words_of, IsExpression, IsFront, IsItem, IsOneOrTwo, ParsesAs, Then}
+use Rattle.ast65.specs.Parsing.{closing_of, index_of, is_close, is_comma, spells, parts_of, string_of, unknown, whole, words_of, IsEnded, IsExpression, IsFront, IsItem, IsOneOrTwo, ParsesAs, Then}
 use Rattle.ast65.specs.declared.reading.words.Elements.{Elements}
 use Rattle.ast65.specs.declared.reading.words.Elements.TheVariants.{Values, ValuesAndTexts}
 use Rattle.ast65.specs.declared.language.Index.{Index}
 use Rattle.ast65.specs.declared.language.Index.TheVariants as index
 use Rattle.ast65.specs.declared.language.Item.TheVariants.{Value}
+use Rattle.ast65.specs.declared.language.Operand.{Operand}
 
 pub lexemes_len : (ts : List Token) → length (lexemes ts) ≡ length ts
 lexemes_len [] = refl
@@ -114,7 +115,7 @@ len_more t ts e = rw e (one-add (len ts))
 parts_comma : (t : Token) (ts : List Token) → is_comma (lexeme_of t) ≡ true → parts_of (lexemes (t ∷ ts)) ≡ [] ∷ parts_of (lexemes ts)
 parts_comma t ts e = rw e refl
 
-parts_more : (t : Token) (ts : List Token) → is_comma (lexeme_of t) ≡ false → parts_of (lexemes (t ∷ ts)) ≡ before_parts (lexeme_of t) (parts_of (lexemes ts))
+parts_more : (t : Token) (ts : List Token) → is_comma (lexeme_of t) ≡ false → parts_of (lexemes (t ∷ ts)) ≡ onto_first (lexeme_of t) (parts_of (lexemes ts))
 parts_more t ts e = rw e refl
 
 last : (ts : List Token) → length ts ≤ len ts → parts_of (lexemes ts) ≡ lexemes ts ∷ []
@@ -123,7 +124,7 @@ last (t ∷ ts) h = go (is_comma (lexeme_of t)) refl (last ts)
   where
     go : (c : Bool) → is_comma (lexeme_of t) ≡ c → (length ts ≤ len ts → parts_of (lexemes ts) ≡ lexemes ts ∷ []) → parts_of (lexemes (t ∷ ts)) ≡ lexemes (t ∷ ts) ∷ []
     go true e next = let x = len_comma t ts e in absurd (omega arith)
-    go false e next = let x = len_more t ts e in parts_more t ts e ∙ ap (before_parts (lexeme_of t)) (next (omega arith))
+    go false e next = let x = len_more t ts e in parts_more t ts e ∙ ap (onto_first (lexeme_of t)) (next (omega arith))
 
 front : List Token → List Token
 front ts = take (len ts) ts
@@ -138,7 +139,7 @@ first (t ∷ ts) h = go (is_comma (lexeme_of t)) refl (first ts)
   where
     go : (c : Bool) → is_comma (lexeme_of t) ≡ c → (len ts < length ts → parts_of (lexemes ts) ≡ lexemes (front ts) ∷ parts_of (lexemes (rest ts))) → parts_of (lexemes (t ∷ ts)) ≡ lexemes (front (t ∷ ts)) ∷ parts_of (lexemes (rest (t ∷ ts)))
     go true e next = let x = len_comma t ts e in parts_comma t ts e ∙ rw x refl
-    go false e next = let x = len_more t ts e in parts_more t ts e ∙ ap (before_parts (lexeme_of t)) (next (omega arith)) ∙ rw x refl
+    go false e next = let x = len_more t ts e in parts_more t ts e ∙ ap (onto_first (lexeme_of t)) (next (omega arith)) ∙ rw x refl
 
 pub last_part : (ts : List Token) (n : ℕ) → n ≡ prefix_len (λ t. not (is_comma (lexeme_of t))) ts → length ts ≤ n → parts_of (lexemes ts) ≡ lexemes ts ∷ []
 unfolding len
@@ -160,11 +161,17 @@ second_fault Is next view (Err f) x e h i n = rw h (go (is_outside e))
     go true = tt
     go false = (Ok x, i, sym n)
 
-pub bind_err : {A B : Type 0} (q : Result A AsmFault) (k : A → Result B AsmFault) (e : AsmFault) → Err e ≡ q → (q >>= k) ≡ Err e
-bind_err q k e h = rw (← h) refl
+-- an operand whose expression isn't understood, or whose end isn't, or that is understood
+pub front_fault : {X : Type 0} (end : List Lexeme → Result (Option Index) AsmFault) (make : Tree → Option Index → Operand) (ts : List Lexeme) (view : X → Operand) (result : Result X AsmFault) (e : AsmFault) → IsErrAnd result (λ f. f ≡ e) → is_failure e ≡ false → Unless (is_outside e) (IsFront ts (Err e)) → ParsesAs view result (IsEnded end make ts)
+front_fault end make ts view result e h inside value = parses_fault _ view result e h inside (then_fault (IsFront ts) _ view result e h value)
 
-pub bind_ok : {A B : Type 0} (q : Result A AsmFault) (k : A → Result B AsmFault) (x : A) → Ok x ≡ q → (q >>= k) ≡ k x
-bind_ok q k x h = rw (← h) refl
+pub end_fault : {X : Type 0} (end : List Lexeme → Result (Option Index) AsmFault) (make : Tree → Option Index → Operand) (ts : List Lexeme) (view : X → Operand) (result : Result X AsmFault) (x : Tree × List Lexeme) (e : AsmFault) → IsErrAnd result (λ f. f ≡ e) → IsFront ts (Ok x) → IsInside (end x.1) → Err e ≡ end x.1 → ParsesAs view result (IsEnded end make ts)
+end_fault end make ts view result x e h front inside is =
+    parses_fault _ view result e h (subst IsInside (sym is) inside)
+    (second_fault (IsFront ts) (λ y. end y.1 >>= (λ i. Ok (make y.0 i))) view result x e h front (rw (← is) refl))
+
+pub is_ended : (end : List Lexeme → Result (Option Index) AsmFault) (make : Tree → Option Index → Operand) (ts : List Lexeme) (x : Tree × List Lexeme) (i : Option Index) → IsFront ts (Ok x) → Ok i ≡ end x.1 → IsEnded end make ts (Ok (make x.0 i))
+is_ended end make ts x i front is = (Ok x, front, rw (← is) refl)
 
 pub first_fault : {A B X : Type 0} (Is : Result A AsmFault → Type 0) (Next : A → Result B AsmFault → Type 0) (view : X → B) (result : Result X AsmFault) (e : AsmFault) → IsErrAnd result (λ f. f ≡ e) → Unless (is_outside e) (Is (Err e)) → Answers is_outside view result (λ r. (q : Result A AsmFault) × Is q × First q Next r)
 first_fault Is Next view (Ok x) e h i = absurd h
@@ -189,9 +196,9 @@ some_part [] h = absurd cc
 some_part (t ∷ ts) h = go (is_comma t) (parts_of ts) refl refl
   where
     go : (c : Bool) (ps : List (List Lexeme)) → is_comma t ≡ c → parts_of ts ≡ ps → ⊥
-    go true ps e f = let P : Bool → Type 0 = λ b. (if b then [] ∷ parts_of ts else before_parts t (parts_of ts)) ≡ [] in let x = subst P e h in absurd cc
-    go false [] e f = let P : Bool → Type 0 = λ b. (if b then [] ∷ parts_of ts else before_parts t (parts_of ts)) ≡ [] in let x = subst P e h in let Q : List (List Lexeme) → Type 0 = λ ps. before_parts t ps ≡ [] in let y = subst Q f x in absurd cc
-    go false (p ∷ ps) e f = let P : Bool → Type 0 = λ b. (if b then [] ∷ parts_of ts else before_parts t (parts_of ts)) ≡ [] in let x = subst P e h in let Q : List (List Lexeme) → Type 0 = λ ps. before_parts t ps ≡ [] in let y = subst Q f x in absurd cc
+    go true ps e f = let P : Bool → Type 0 = λ b. (if b then [] ∷ parts_of ts else onto_first t (parts_of ts)) ≡ [] in let x = subst P e h in absurd cc
+    go false [] e f = let P : Bool → Type 0 = λ b. (if b then [] ∷ parts_of ts else onto_first t (parts_of ts)) ≡ [] in let x = subst P e h in let Q : List (List Lexeme) → Type 0 = λ ps. onto_first t ps ≡ [] in let y = subst Q f x in absurd cc
+    go false (p ∷ ps) e f = let P : Bool → Type 0 = λ b. (if b then [] ∷ parts_of ts else onto_first t (parts_of ts)) ≡ [] in let x = subst P e h in let Q : List (List Lexeme) → Type 0 = λ ps. onto_first t ps ≡ [] in let y = subst Q f x in absurd cc
 
 pub too_many : (n v ts : List Lexeme) → IsOneOrTwo (n ∷ v ∷ parts_of ts) unknown
 too_many n v ts = go (parts_of ts) (some_part ts)

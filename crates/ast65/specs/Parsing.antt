@@ -1,9 +1,11 @@
 -- What a line's tokens say: a label, and a statement behind it.
-use Rattle.std.specs.Prelude.{◌≡◌, ℕ, ◌-◌, nat_le, Bool, true, false, ◌==◌, ◌&&◌, ◌||◌, List, [], ◌∷◌, ◌++◌, length, take, drop, codes, Option, Some, None, Result, Ok, Err, IfErr, if◌then◌else◌}
-use Rattle.std.specs.Char.{is_ascii_alphabetic, is_ascii_digit}
-use Rattle.std.specs.List.{list_all}
+use Rattle.std.specs.Prelude.{◌≡◌, ℕ, ◌-◌, nat_le, Bool, true, false, ◌==◌, ◌&&◌, ◌||◌, List, [], ◌∷◌, ◌++◌, length, take, drop, codes, Option, Some, None, Result, Ok, Err, IfErr, if◌then◌else◌, ok_or, option_map, MatchBool, MatchOption}
+use Rattle.std.specs.Char.{is_ascii_alphabetic}
+use Rattle.std.specs.List.{list_all, slice_split}
+use Rattle.std.specs.Option.{option_map_or}
 use Rattle.std.specs.Str.{bytes_eq, str_eq_ignore_ascii_case}
 use Rattle.syntax65.specs.Expressions.{IsParsed, is_reserved}
+use Rattle.syntax65.specs.Forms.{is_word}
 use Rattle.syntax65.specs.Mnemonics.{mnemonic_of}
 use Rattle.base65.specs.Outcome.{◌>>=◌, First}
 use Rattle.base65.specs.Relations.{Answers}
@@ -18,7 +20,6 @@ use Rattle.syntax65.specs.declared.lexing.tokens.TokenKind.{TokenKind}
 use Rattle.syntax65.specs.declared.lexing.tokens.TokenKind.TheVariants as token
 use Rattle.object65.specs.declared.object.Action.{Action}
 use Rattle.object65.specs.declared.object.Action.TheVariants as action
-use Rattle.object65.specs.declared.object.Width.{Width}
 use Rattle.object65.specs.declared.object.Width.TheVariants.{Byte, Word, HighFirst, Dword}
 use Rattle.ast65.specs.declared.fault.AsmFault.{AsmFault}
 use Rattle.ast65.specs.Faults.{is_failure, is_outside}
@@ -124,27 +125,20 @@ abbrev pub word_of : List Lexeme → Option (List ℕ)
 word_of ts = one word_in ts
 
 abbrev pub spelled : Option (List ℕ) → List ℕ → Bool
-spelled None name = false
-spelled (Some t) name = str_eq_ignore_ascii_case t name
+spelled t name = option_map_or (λ s. str_eq_ignore_ascii_case s name) t false
 
 -- whether a token is this identifier, in either case
 abbrev pub spells : Lexeme → List ℕ → Bool
 spells t name = spelled (word_in t) name
 
 abbrev pub understood : {A : Type 0} → Option A → Result A AsmFault
-understood None = unknown
-understood (Some x) = Ok x
+understood o = ok_or o NotUnderstood
 
 -- ---- Lists.
 
-abbrev pub before_parts : Lexeme → List (List Lexeme) → List (List Lexeme)
-before_parts t [] = (t ∷ []) ∷ []
-before_parts t (part ∷ parts) = (t ∷ part) ∷ parts
-
 -- what stands between commas
 abbrev pub parts_of : List Lexeme → List (List Lexeme)
-parts_of [] = [] ∷ []
-parts_of (t ∷ ts) = if is_comma t then [] ∷ parts_of ts else before_parts t (parts_of ts)
+parts_of ts = slice_split is_comma ts
 
 -- what stands behind a comma, if there is one
 abbrev pub parts_behind : Option (List Lexeme) → List (List Lexeme)
@@ -154,7 +148,7 @@ parts_behind (Some ts) = parts_of ts
 -- each part in turn
 abbrev pub EachIs : {A B : Type 0} → (A → Result B AsmFault → Type 0) → List A → Result (List B) AsmFault → Type 0
 EachIs Is [] r = r ≡ Ok []
-EachIs Is (x ∷ xs) r = (q : Result _ AsmFault) × Is x q × First q (λ y s. (rest : Result (List _) AsmFault) × EachIs Is xs rest × (s ≡ (rest >>= (λ ys. Ok (y ∷ ys))))) r
+EachIs Is (x ∷ xs) r = (q : Result _ AsmFault) × Is x q × First q (λ y. Then (EachIs Is xs) (λ ys. Ok (y ∷ ys))) r
 
 -- one expression or two
 abbrev pub IsOneOrTwo : List (List Lexeme) → Result (Tree × Option Tree) AsmFault → Type 0
@@ -169,14 +163,7 @@ IsValue ts r = Then (IsExpression ts) (λ x. Ok (Value x)) r
 -- an element of a list: a value, or in some lists a string
 abbrev pub IsItem : Elements → List Lexeme → Result Item AsmFault → Type 0
 IsItem elements.Values ts r = IsValue ts r
-IsItem elements.ValuesAndTexts ts r = by_string (string_of ts)
-  where
-    by_string : Option (List ℕ) → Type 0
-    by_string None = IsValue ts r
-    by_string (Some s) = r ≡ Ok (Text s)
-
-abbrev pub IsList : Elements → Width → List Lexeme → Result Statement AsmFault → Type 0
-IsList elements width ts r = Then (EachIs (IsItem elements) (parts_of ts)) (λ xs. Ok (Values width xs)) r
+IsItem elements.ValuesAndTexts ts r = MatchOption (string_of ts) (IsValue ts r) (λ s. r ≡ Ok (Text s))
 
 abbrev pub plain_name : List ℕ → Result (List ℕ) AsmFault
 plain_name t = if is_reserved t then unknown else Ok t
@@ -199,10 +186,6 @@ index_of (c ∷ t ∷ []) =
     else unknown
 index_of _ = unknown
 
--- `e`, `e,x` or `e,y`
-abbrev pub IsAddress : Option AddressSize → List Lexeme → Result Operand AsmFault → Type 0
-IsAddress prefix ts r = Then (IsFront ts) (λ x. index_of x.1 >>= (λ i. Ok (Address prefix x.0 i))) r
-
 -- what stands behind `(` and an expression: `)`, `,x)` or `),y`
 abbrev pub closing_of : List Lexeme → Result (Option Index) AsmFault
 closing_of (a ∷ []) = if is_close a then Ok None else unknown
@@ -212,42 +195,30 @@ closing_of (a ∷ b ∷ c ∷ []) =
     else unknown
 closing_of _ = unknown
 
-abbrev pub indirect_by : Option Index → Tree → Operand
-indirect_by None e = Indirect e
-indirect_by (Some index.X) e = IndirectX e
-indirect_by (Some index.Y) e = IndirectY e
+abbrev pub indirect_by : Tree → Option Index → Operand
+indirect_by e None = Indirect e
+indirect_by e (Some index.X) = IndirectX e
+indirect_by e (Some index.Y) = IndirectY e
 
-abbrev pub IsIndirect : List Lexeme → Result Operand AsmFault → Type 0
-IsIndirect ts r = Then (IsFront ts) (λ x. closing_of x.1 >>= (λ i. Ok (indirect_by i x.0))) r
+-- an expression and what ends an operand behind it
+abbrev pub IsEnded : (List Lexeme → Result (Option Index) AsmFault) → (Tree → Option Index → Operand) → List Lexeme → Result Operand AsmFault → Type 0
+IsEnded end make ts r = Then (IsFront ts) (λ x. end x.1 >>= (λ i. Ok (make x.0 i))) r
 
-abbrev pub IsImmediate : List Lexeme → Result Operand AsmFault → Type 0
-IsImmediate ts r = Then (IsExpression ts) (λ x. Ok (Immediate x)) r
+-- `a`, or an address without a prefix
+unfoldable pub IsPlainOperand : List Lexeme → Result Operand AsmFault → Type 0
+IsPlainOperand ts r = MatchBool (spelled (word_of ts) (codes "a")) (r ≡ Ok Accumulator) (IsEnded index_of (Address None) ts r)
 
-abbrev pub IsPlainOperand : List Lexeme → Result Operand AsmFault → Type 0
-IsPlainOperand ts r = by_word (spelled (word_of ts) (codes "a"))
-  where
-    by_word : Bool → Type 0
-    by_word true = r ≡ Ok Accumulator
-    by_word false = IsAddress None ts r
-
--- by the first token's kind, all tokens and those behind the first
-abbrev pub IsOperandFrom : TokenKind → List Lexeme → List Lexeme → Result Operand AsmFault → Type 0
-IsOperandFrom (token.Symbol mark.Hash) all ts r = IsImmediate ts r
-IsOperandFrom (token.Symbol mark.OpenParenthesis) all ts r = IsIndirect ts r
-IsOperandFrom (token.SizePrefix own) all ts r = IsAddress (Some own) ts r
-IsOperandFrom _ all ts r = IsPlainOperand all r
-
+-- nothing, `#e`, `(e)`, `(e,x)`, `(e),y`, or `a`, `e`, `e,x`, `e,y`, the last three perhaps with a prefix
 abbrev pub IsOperand : List Lexeme → Result Operand AsmFault → Type 0
 IsOperand [] r = r ≡ Ok Absent
-IsOperand (t ∷ ts) r = IsOperandFrom t.0 (t ∷ ts) ts r
+IsOperand ((token.Symbol mark.Hash, t) ∷ ts) r = Then (IsExpression ts) (λ x. Ok (Immediate x)) r
+IsOperand ((token.Symbol mark.OpenParenthesis, t) ∷ ts) r = IsEnded closing_of indirect_by ts r
+IsOperand ((token.SizePrefix own, t) ∷ ts) r = IsEnded index_of (Address (Some own)) ts r
+IsOperand ts r = IsPlainOperand ts r
 
 -- ---- Statements of directives.
 
 -- a statement without operands
-abbrev pub alone : Statement → List Lexeme → Result Statement AsmFault
-alone x [] = Ok x
-alone x _ = unknown
-
 abbrev pub lone_statement : Lone → Statement
 lone_statement lone.PushSegment = PushSegment
 lone_statement lone.PopSegment = PopSegment
@@ -261,42 +232,21 @@ lone_statement lone.Bss = Segment (codes "BSS") None
 lone_statement lone.ZeroPage = Segment (codes "ZEROPAGE") None
 
 -- `n[,v]`
-abbrev pub IsAmount : (Tree → Option Tree → Statement) → List (List Lexeme) → Result Statement AsmFault → Type 0
-IsAmount make parts r = Then (IsOneOrTwo parts) (λ x. Ok (make x.0 x.1)) r
-
 abbrev pub amount_statement : Amount → Tree → Option Tree → Statement
 amount_statement amount.Reserve n v = Reserve n v
 amount_statement amount.Align n v = Align n v
 
+-- a list of names
 abbrev pub names_statement : Names → List (List ℕ) → Statement
 names_statement (names.Import own) ns = Import own ns
 names_statement names.Export ns = Export ns
 names_statement (names.Global own) ns = Global own ns
 names_statement names.ForceImport ns = ForceImport ns
 
--- a list of names
-abbrev pub IsNames : Names → List Lexeme → Result Statement AsmFault → Type 0
-IsNames which ts r = Then (EachIs IsName (parts_of ts)) (λ ns. Ok (names_statement which ns)) r
-
+-- one string
 abbrev pub message_statement : Message → List ℕ → Statement
 message_statement message.Out s = Out s
 message_statement message.Warning s = Warning s
-
--- one string
-abbrev pub told : Message → List Lexeme → Result Statement AsmFault
-told which ts = understood (string_of ts) >>= (λ s. Ok (message_statement which s))
-
--- one string and a 0
-abbrev pub ended : List Lexeme → Result Statement AsmFault
-ended ts = understood (string_of ts) >>= (λ s. Ok (Values Byte (Text (s ++ 0 ∷ []) ∷ [])))
-
--- a scope's name, if it has one
-abbrev pub scope_of : List Lexeme → Result Statement AsmFault
-scope_of [] = Ok (OpenScope None)
-scope_of ts = name_of ts >>= (λ n. Ok (OpenScope (Some n)))
-
-abbrev pub proc_of : List Lexeme → Result Statement AsmFault
-proc_of ts = name_of ts >>= (λ n. Ok (OpenProc n))
 
 abbrev pub size_word : List ℕ → Result AddressSize AsmFault
 size_word t = if bytes_eq t (codes "zeropage") then Ok size.ZeroPage else if bytes_eq t (codes "absolute") then Ok size.Absolute else unknown
@@ -309,50 +259,35 @@ size_behind (c ∷ ts) = if is_colon c then understood (word_of ts) >>= size_wor
 abbrev pub is_letter : ℕ → Bool
 is_letter b = is_ascii_alphabetic b || b == 95
 
-abbrev pub is_letter_or_digit : ℕ → Bool
-is_letter_or_digit b = is_letter b || is_ascii_digit b
-
 -- an identifier's bytes
 abbrev pub is_identifier : List ℕ → Bool
 is_identifier [] = false
-is_identifier (b ∷ bs) = is_letter b && list_all is_letter_or_digit bs && nat_le (length (b ∷ bs)) 200
-
-abbrev pub segment_named : List ℕ → Option AddressSize → Result Statement AsmFault
-segment_named n own = if is_identifier n then Ok (Segment n own) else unknown
-
--- `"N"`, or that with an address size
-abbrev pub segment_of : List Lexeme → Result Statement AsmFault
-segment_of [] = unknown
-segment_of (t ∷ ts) = understood (quoted_in t) >>= (λ n. size_behind ts >>= (λ own. segment_named n own))
+is_identifier (b ∷ bs) = is_letter b && list_all is_word bs && nat_le (length (b ∷ bs)) 200
 
 abbrev pub action_word : List ℕ → Result Action AsmFault
 action_word t = if bytes_eq t (codes "warning") then Ok action.Warning else if bytes_eq t (codes "error") then Ok action.Error else unknown
 
-abbrev pub action_of : List Lexeme → Result Action AsmFault
-action_of ts = understood (word_of ts) >>= action_word
-
-abbrev pub short : List ℕ → Result (List ℕ) AsmFault
-short s = if nat_le (length s) 255 then Ok s else unknown
-
--- an assertion's own text
-abbrev pub own_words : List Lexeme → Result (List ℕ) AsmFault
-own_words ts = understood (string_of ts) >>= short
-
+-- an assertion's text, which it may have of its own
 abbrev pub words_of : List (List Lexeme) → Result (List ℕ) AsmFault
 words_of [] = Ok (codes "assertion failed")
-words_of (part ∷ []) = own_words part
+words_of (part ∷ []) = understood (string_of part) >>= (λ s. if nat_le (length s) 255 then Ok s else unknown)
 words_of _ = unknown
-
-abbrev pub asserted : Tree → List Lexeme → List (List Lexeme) → Result Statement AsmFault
-asserted x a rest = action_of a >>= (λ act. words_of rest >>= (λ words. Ok (Assert x act words)))
 
 -- `e, action` or `e, action, "text"`
 abbrev pub IsAssertion : List (List Lexeme) → Result Statement AsmFault → Type 0
-IsAssertion (e ∷ a ∷ rest) r = Then (IsExpression e) (λ x. asserted x a rest) r
+IsAssertion (e ∷ a ∷ rest) r =
+    Then (IsExpression e) (λ x. understood (word_of a) >>= action_word >>= (λ act. words_of rest >>= (λ text. Ok (Assert x act text)))) r
 IsAssertion _ r = r ≡ unknown
 
-abbrev pub processor_of : List Lexeme → Result Statement AsmFault
-processor_of ts = understood (string_of ts) >>= (λ s. if bytes_eq s (codes "6502") then Ok Nothing else unknown)
+-- a start and a length, each where it is there
+abbrev pub IsRange : List (List Lexeme) → Result (Option Tree × Option Tree) AsmFault → Type 0
+IsRange [] r = r ≡ Ok (None, None)
+IsRange parts r = Then (IsOneOrTwo parts) (λ x. Ok (Some x.0, x.1)) r
+
+-- a file's name as a string, and perhaps a start and a length
+abbrev pub IsFilePart : List (List Lexeme) → Result Statement AsmFault → Type 0
+IsFilePart [] r = r ≡ unknown
+IsFilePart (name ∷ range) r = First (understood (string_of name)) (λ n. Then (IsRange range) (λ x. Ok (NamedPart n x.0 x.1))) r
 
 -- ---- Directives.
 
@@ -403,42 +338,25 @@ among ((name, w) ∷ ws) d = if str_eq_ignore_ascii_case d name then Some w else
 abbrev pub directive_of : List ℕ → Option Directive
 directive_of d = among words d
 
--- ---- Parts of files.
-
--- a start and a length, each where it is there
-abbrev pub IsRange : List (List Lexeme) → Result (Option Tree × Option Tree) AsmFault → Type 0
-IsRange [] r = r ≡ Ok (None, None)
-IsRange parts r = Then (IsOneOrTwo parts) (λ x. Ok (Some x.0, x.1)) r
-
-abbrev pub IsPartOf : Option (List ℕ) → List (List Lexeme) → Result Statement AsmFault → Type 0
-IsPartOf None range r = r ≡ unknown
-IsPartOf (Some name) range r = Then (IsRange range) (λ x. Ok (NamedPart name x.0 x.1)) r
-
--- a file's name as a string, and perhaps a start and a length
-abbrev pub IsFilePart : List (List Lexeme) → Result Statement AsmFault → Type 0
-IsFilePart [] r = r ≡ unknown
-IsFilePart (name ∷ range) r = IsPartOf (string_of name) range r
-
--- ---- Statements by their directives.
-
 -- the statement of a directive and the tokens behind it
 abbrev pub IsDirective : Directive → List Lexeme → Result Statement AsmFault → Type 0
-IsDirective (directive.List elements width) ts r = IsList elements width ts r
-IsDirective directive.EndedText ts r = r ≡ ended ts
-IsDirective (directive.Amount which) ts r = IsAmount (amount_statement which) (parts_of ts) r
+IsDirective (directive.List elements width) ts r = Then (EachIs (IsItem elements) (parts_of ts)) (λ xs. Ok (Values width xs)) r
+IsDirective directive.EndedText ts r = r ≡ (understood (string_of ts) >>= (λ s. Ok (Values Byte (Text (s ++ 0 ∷ []) ∷ []))))
+IsDirective (directive.Amount which) ts r = Then (IsOneOrTwo (parts_of ts)) (λ x. Ok (amount_statement which x.0 x.1)) r
 IsDirective directive.FilePart ts r = IsFilePart (parts_of ts) r
-IsDirective directive.Segment ts r = r ≡ segment_of ts
-IsDirective (directive.Lone which) ts r = r ≡ alone (lone_statement which) ts
-IsDirective directive.Scope ts r = r ≡ scope_of ts
-IsDirective directive.Proc ts r = r ≡ proc_of ts
-IsDirective (directive.Names which) ts r = IsNames which ts r
+IsDirective directive.Segment [] r = r ≡ unknown
+IsDirective directive.Segment (t ∷ ts) r =
+    r ≡ (understood (quoted_in t) >>= (λ n. size_behind ts >>= (λ own. if is_identifier n then Ok (Segment n own) else unknown)))
+IsDirective (directive.Lone which) [] r = r ≡ Ok (lone_statement which)
+IsDirective (directive.Lone which) ts r = r ≡ unknown
+IsDirective directive.Scope [] r = r ≡ Ok (OpenScope None)
+IsDirective directive.Scope ts r = r ≡ (name_of ts >>= (λ n. Ok (OpenScope (Some n))))
+IsDirective directive.Proc ts r = r ≡ (name_of ts >>= (λ n. Ok (OpenProc n)))
+IsDirective (directive.Names which) ts r = Then (EachIs IsName (parts_of ts)) (λ ns. Ok (names_statement which ns)) r
 IsDirective directive.Assert ts r = IsAssertion (parts_of ts) r
-IsDirective (directive.Message which) ts r = r ≡ told which ts
-IsDirective directive.SetProcessor ts r = r ≡ processor_of ts
-
-abbrev pub IsDirectiveStatement : Option Directive → List Lexeme → Result Statement AsmFault → Type 0
-IsDirectiveStatement None ts r = r ≡ unknown
-IsDirectiveStatement (Some d) ts r = IsDirective d ts r
+IsDirective (directive.Message which) ts r = r ≡ (understood (string_of ts) >>= (λ s. Ok (message_statement which s)))
+IsDirective directive.SetProcessor ts r =
+    r ≡ (understood (string_of ts) >>= (λ s. if bytes_eq s (codes "6502") then Ok Nothing else unknown))
 
 -- ---- Lines.
 
@@ -448,58 +366,31 @@ named_label token.Identifier n = if is_reserved n then None else Some (Label n)
 named_label token.CheapName n = Some (CheapLabel n)
 named_label _ n = None
 
-abbrev pub with_rest : List Lexeme → Option Statement → Option (Statement × List Lexeme)
-with_rest ts None = None
-with_rest ts (Some s) = Some (s, ts)
-
 abbrev pub label_before : Lexeme → List Lexeme → Option (Statement × List Lexeme)
 label_before t [] = None
-label_before t (c ∷ ts) = if is_colon c then with_rest ts (named_label t.0 t.1) else None
+label_before t (c ∷ ts) = if is_colon c then option_map (λ s. (s, ts)) (named_label t.0 t.1) else None
 
--- `name:`, `@name:` or `:` at the front, and what stands behind it
-abbrev pub front_label : List Lexeme → Option (Statement × List Lexeme)
-front_label [] = None
-front_label (t ∷ ts) = if is_colon t then Some (UnnamedLabel, ts) else label_before t ts
-
-abbrev pub or_all : List Lexeme → Option (Statement × List Lexeme) → Option Statement × List Lexeme
-or_all ts None = (None, ts)
-or_all ts (Some x) = (Some x.0, x.1)
-
--- the label at the front, if there is one, and the tokens behind it
+-- the label at the front, if there is one, `name:`, `@name:` or `:`, and the tokens behind it
 abbrev pub label_of : List Lexeme → Option Statement × List Lexeme
-label_of ts = or_all ts (front_label ts)
-
-abbrev pub IsPlainConstant : List ℕ → List Lexeme → Result Statement AsmFault → Type 0
-IsPlainConstant n ts r = Then (IsExpression ts) (λ x. Ok (Constant n x)) r
+label_of [] = (None, [])
+label_of (t ∷ ts) =
+    if is_colon t then (Some UnnamedLabel, ts)
+    else option_map_or (λ x. (Some x.0, x.1)) (label_before t ts) (None, t ∷ ts)
 
 -- what stands behind a name and `=` or `:=`
 abbrev pub IsConstant : List ℕ → List Lexeme → Result Statement AsmFault → Type 0
-IsConstant n ts r = by_word (is_reserved n)
-  where
-    by_word : Bool → Type 0
-    by_word true = r ≡ unknown
-    by_word false = IsPlainConstant n ts r
+IsConstant n ts r = First (plain_name n) (λ own. Then (IsExpression ts) (λ x. Ok (Constant own x))) r
 
 abbrev pub IsInstruction : Option Mnemonic → List Lexeme → Result Statement AsmFault → Type 0
-IsInstruction None ts r = r ≡ unknown
-IsInstruction (Some m) ts r = Then (IsOperand ts) (λ x. Ok (Instruction m x)) r
+IsInstruction o ts r = First (understood o) (λ m. Then (IsOperand ts) (λ x. Ok (Instruction m x))) r
 
 -- a statement that begins with an identifier
 abbrev pub IsNamed : List ℕ → List Lexeme → Result Statement AsmFault → Type 0
 IsNamed n [] r = IsInstruction (mnemonic_of n) [] r
-IsNamed n (t ∷ ts) r = by_mark (defines t)
-  where
-    by_mark : Bool → Type 0
-    by_mark true = IsConstant n ts r
-    by_mark false = IsInstruction (mnemonic_of n) (t ∷ ts) r
-
--- a statement by its first token's kind and text and what stands behind it
-abbrev pub IsStatementFrom : TokenKind → List ℕ → List Lexeme → Result Statement AsmFault → Type 0
-IsStatementFrom token.Identifier n ts r = IsNamed n ts r
-IsStatementFrom token.Directive d ts r = IsDirectiveStatement (directive_of d) ts r
-IsStatementFrom _ t ts r = r ≡ unknown
+IsNamed n (t ∷ ts) r = MatchBool (defines t) (IsConstant n ts r) (IsInstruction (mnemonic_of n) (t ∷ ts) r)
 
 -- a statement of some tokens
 abbrev pub IsStatement : List Lexeme → Result Statement AsmFault → Type 0
-IsStatement [] r = r ≡ unknown
-IsStatement (t ∷ ts) r = IsStatementFrom t.0 t.1 ts r
+IsStatement ((token.Identifier, n) ∷ ts) r = IsNamed n ts r
+IsStatement ((token.Directive, d) ∷ ts) r = First (understood (directive_of d)) (λ x. IsDirective x ts) r
+IsStatement _ r = r ≡ unknown

@@ -4,6 +4,7 @@ use Rattle.std.proofs.lemmas.Grind.{common_steps}
 use Rattle.std.proofs.Common.{arith, ◌≡◌, ℕ, Bool, true, false, List, [], ◌∷◌, Option, Some, None, refl, sym, subst}
 use Rattle.std.specs.Prelude.{Result, Ok, Err, if◌then◌else◌}
 use Rattle.std.specs.FinMap as fmap
+use Rattle.std.specs.Option.{option_map_or}
 use Rattle.base65.specs.Outcome.{◌>>=◌, First}
 use Rattle.base65.specs.Store.{Files}
 use Rattle.syntax65.specs.Tokens.{Lexeme}
@@ -20,7 +21,7 @@ use Rattle.ast65.specs.declared.language.Statement.{Statement}
 use Rattle.ast65.specs.declared.language.Statement.TheVariants.{Label, CheapLabel, UnnamedLabel, Constant, NamedPart}
 use Rattle.semantics65.specs.Layout.{Layout, nothing_laid}
 use Rattle.semantics65.specs.Numbering.{AreNamed, IsSound}
-use Rattle.ast65.specs.Parsing.{IsStatement, is_colon, label_before, label_of, named_label, or_all, with_rest}
+use Rattle.ast65.specs.Parsing.{IsStatement, is_colon, label_before, label_of, named_label}
 use Rattle.semantics65.proofs.Sounding.{statement_sound}
 use Rattle.semantics65.specs.Machine.{SoundLayoutLaw}
 use Rattle.semantics65.specs.Reading.{IsLaid, laying, AreDefined, AreTaken, taken, faulty, refused, ended, Define, Follows, IsBegun, IsGiven, IsLabel, IsLabelled, IsRest, Job, Reached, no_line, stopped, with_bytes}
@@ -41,7 +42,7 @@ no_label ts named = record { label = λ x e. absurd cc; rest = named }
 one_label : (x : Statement) (ts : List Lexeme) → IsSound x → AreNamed ts → IsLabelSound (Some x, ts)
 one_label x ts sound named = record { label = λ y e. (let same : x ≡ y = cc in subst IsSound same sound); rest = named }
 
-before_sound : (t : Lexeme) (ts : List Lexeme) → AreNamed (t ∷ ts) → IsLabelSound (or_all (t ∷ ts) (label_before t ts))
+before_sound : (t : Lexeme) (ts : List Lexeme) → AreNamed (t ∷ ts) → IsLabelSound (option_map_or (λ x. (Some x.0, x.1)) (label_before t ts) (None, t ∷ ts))
 before_sound t x1 named = grind (arith, common_steps)
 
 pub label_sound : (ts : List Lexeme) → AreNamed ts → IsLabelSound (label_of ts)

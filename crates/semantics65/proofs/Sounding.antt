@@ -1,8 +1,8 @@
 -- What lines say is sound: names of identifiers, and texts that are short enough.
 use Rattle.std.proofs.Common.{◌≡◌, ℕ, ◌≤◌, Bool, true, false, List, [], ◌∷◌, refl, sym, ap, subst, arith, ◌<◌, ◌∙◌}
-use Rattle.std.specs.Prelude.{Ok, nat_lt, nat_le, length, take, drop, ◌==◌, ◌&&◌, if◌then◌else◌, None, Option, Result, Err, ◌++◌, codes, Some}
+use Rattle.std.specs.Prelude.{MatchBool, Ok, nat_lt, nat_le, length, take, drop, ◌==◌, ◌&&◌, if◌then◌else◌, None, Option, Result, Err, ◌++◌, codes, Some}
 use Rattle.std.specs.Char.{is_ascii_alphabetic, is_ascii_digit}
-use Rattle.std.specs.List.{list_all, AllByRecursion}
+use Rattle.std.specs.List.{list_all, onto_first, AllByRecursion}
 use Rattle.std.proofs.lemmas.Bool.Decides.{nat_tests}
 use Rattle.syntax65.specs.Forms.{class_of, is_word, is_word_class, IsForm, IsToken}
 use Rattle.syntax65.specs.declared.lexing.places.Class.{Class}
@@ -13,7 +13,7 @@ use Rattle.syntax65.specs.declared.lexing.tokens.TokenKind.{TokenKind}
 use Rattle.syntax65.specs.declared.lexing.tokens.TokenKind.TheVariants.{Identifier}
 use Rattle.object65.proofs.Goods.{and, left, right}
 use Rattle.object65.specs.Objects.{is_name, is_printed}
-use Rattle.ast65.specs.Parsing.{is_identifier, is_letter, is_letter_or_digit}
+use Rattle.ast65.specs.Parsing.{is_identifier, is_letter}
 use Rattle.semantics65.specs.Numbering.{AreNamed, IsNamed, IsSound}
 use Rattle.std.specs.Str.{bytes_eq}
 use Rattle.base65.specs.Outcome.{◌>>=◌, First}
@@ -103,21 +103,14 @@ short_name (b ∷ bs) form short =
 letter_printed : (b : ℕ) → is_letter b ≡ true → is_printed b ≡ true
 letter_printed b h = Prim.grind (arith, nat_tests)
 
-sign_printed : (b : ℕ) → is_letter_or_digit b ≡ true → is_printed b ≡ true
-sign_printed b h = Prim.grind (arith, nat_tests)
-
-signs_printed : (bs : List ℕ) → list_all is_letter_or_digit bs ≡ true → list_all is_printed bs ≡ true
-signs_printed [] h = refl
-signs_printed (b ∷ bs) h = and (is_printed b) (list_all is_printed bs) (sign_printed b (left (is_letter_or_digit b) (list_all is_letter_or_digit bs) h)) (signs_printed bs (right (is_letter_or_digit b) (list_all is_letter_or_digit bs) h))
-
 pub identifier_named : (n : List ℕ) → is_identifier n ≡ true → is_name n ≡ true
 identifier_named [] h = cc
 identifier_named (b ∷ bs) h =
-    let front : (is_letter b && list_all is_letter_or_digit bs) ≡ true = left (is_letter b && list_all is_letter_or_digit bs) (nat_le (length (b ∷ bs)) 200) h in
-    let short : nat_le (length (b ∷ bs)) 200 ≡ true = right (is_letter b && list_all is_letter_or_digit bs) (nat_le (length (b ∷ bs)) 200) h in
+    let front : (is_letter b && list_all is_word bs) ≡ true = left (is_letter b && list_all is_word bs) (nat_le (length (b ∷ bs)) 200) h in
+    let short : nat_le (length (b ∷ bs)) 200 ≡ true = right (is_letter b && list_all is_word bs) (nat_le (length (b ∷ bs)) 200) h in
     let few : nat_lt (length (b ∷ bs)) 256 ≡ true = grind (arith, nat_tests) in
     let some : nat_lt 0 (length (b ∷ bs)) ≡ true = grind (arith, nat_tests) in
-    let all : list_all is_printed (b ∷ bs) ≡ true = and (is_printed b) (list_all is_printed bs) (letter_printed b (left (is_letter b) (list_all is_letter_or_digit bs) front)) (signs_printed bs (right (is_letter b) (list_all is_letter_or_digit bs) front)) in
+    let all : list_all is_printed (b ∷ bs) ≡ true = and (is_printed b) (list_all is_printed bs) (letter_printed b (left (is_letter b) (list_all is_word bs) front)) (words_printed bs (right (is_letter b) (list_all is_word bs) front)) in
     and (nat_lt 0 (length (b ∷ bs)) && nat_lt (length (b ∷ bs)) 256) (list_all is_printed (b ∷ bs)) (and (nat_lt 0 (length (b ∷ bs))) (nat_lt (length (b ∷ bs)) 256) some few) all
 
 -- ---- Tokens.
@@ -152,14 +145,10 @@ after (Err e) next x each h = cc
 made : (x y : Statement) → IsSound y → good x ≡ good y → IsSound x
 made x y sound h = let e : y ≡ x = cc in subst IsSound e sound
 
--- a constant by whether its name is reserved, and a word by whether a definition follows
-abbrev ConstantBy : List ℕ → List Lexeme → Answer → Bool → Type 0
-ConstantBy n ts r true = r ≡ p.unknown
-ConstantBy n ts r false = p.IsPlainConstant n ts r
-
-abbrev NamedBy : List ℕ → Lexeme → List Lexeme → Answer → Bool → Type 0
-NamedBy n t ts r true = p.IsConstant n ts r
-NamedBy n t ts r false = p.IsInstruction (mnemonic_of n) (t ∷ ts) r
+-- what was found first leads to what follows
+after_first : {A : Type 0} (q : Result A AsmFault) (Next : A → Answer → Type 0) (x : Statement) → ((a : A) → Next a (good x) → IsSound x) → First q Next (good x) → IsSound x
+after_first (Ok a) Next x each h = each a h
+after_first (Err e) Next x each h = cc
 
 -- ---- Names.
 
@@ -182,7 +171,7 @@ name_named ts n (Some t) named word h =
 
 -- ---- Parts of lists.
 
-before_named : (t : Lexeme) (parts : List (List Lexeme)) → IsNamed t.0 t.1 → AllByRecursion AreNamed parts → AllByRecursion AreNamed (p.before_parts t parts)
+before_named : (t : Lexeme) (parts : List (List Lexeme)) → IsNamed t.0 t.1 → AllByRecursion AreNamed parts → AllByRecursion AreNamed (onto_first t parts)
 before_named t [] named all = ((named, tt), tt)
 before_named t (part ∷ parts) named all = ((named, all.0), all.1)
 
@@ -223,24 +212,15 @@ lone_sound lone.Data = refl
 lone_sound lone.Bss = refl
 lone_sound lone.ZeroPage = refl
 
-alone_sound : (y x : Statement) (ts : List Lexeme) → IsSound y → good x ≡ p.alone y ts → IsSound x
-alone_sound y x [] sound h = made x y sound h
-alone_sound y x (t ∷ ts) sound h = cc
-
 amount_sound : (which : Amount) (n : Tree) (v : Option Tree) → IsSound (p.amount_statement which n v)
 amount_sound amount.Reserve n v = tt
 amount_sound amount.Align n v = tt
 
-amounts_sound : (which : Amount) (parts : List (List Lexeme)) (x : Statement) → p.IsAmount (p.amount_statement which) parts (Ok x) → IsSound x
-amounts_sound which parts x h = after h.0 (λ (y : Tree × Option Tree). good (p.amount_statement which y.0 y.1)) x (λ y. made x (p.amount_statement which y.0 y.1) (amount_sound which y.0 y.1)) h.2
-
-part_of_sound : (name : Option (List ℕ)) (range : List (List Lexeme)) (x : Statement) → p.IsPartOf name range (Ok x) → IsSound x
-part_of_sound None range x h = cc
-part_of_sound (Some name) range x h = after h.0 (λ (v : Option Tree × Option Tree). good (statement.NamedPart name v.0 v.1)) x (λ v. made x (statement.NamedPart name v.0 v.1) tt) h.2
-
 file_part_sound : (parts : List (List Lexeme)) (x : Statement) → p.IsFilePart parts (Ok x) → IsSound x
 file_part_sound [] x h = cc
-file_part_sound (name ∷ range) x h = part_of_sound (p.string_of name) range x h
+file_part_sound (name ∷ range) x h =
+    after_first (p.understood (p.string_of name)) (λ n. p.Then (p.IsRange range) (λ v. good (statement.NamedPart n v.0 v.1))) x
+    (λ n k. after k.0 (λ (v : Option Tree × Option Tree). good (statement.NamedPart n v.0 v.1)) x (λ v. made x (statement.NamedPart n v.0 v.1) tt) k.2) h
 
 named_sound : (which : Names) (ns : List (List ℕ)) → list_all is_name ns ≡ true → IsSound (p.names_statement which ns)
 named_sound (names.Import own) ns h = h
@@ -256,37 +236,21 @@ message_sound : (which : Message) (s : List ℕ) → IsSound (p.message_statemen
 message_sound message.Out s = tt
 message_sound message.Warning s = tt
 
-told_sound : (which : Message) (ts : List Lexeme) (x : Statement) → good x ≡ p.told which ts → IsSound x
-told_sound which ts x h = after (p.understood (p.string_of ts)) (λ s. good (p.message_statement which s)) x (λ s. made x (p.message_statement which s) (message_sound which s)) h
-
 abbrev ended_text : List ℕ → Statement
 ended_text s = statement.Values Byte (item.Text (s ++ 0 ∷ []) ∷ [])
 
-ended_sound : (ts : List Lexeme) (x : Statement) → good x ≡ p.ended ts → IsSound x
-ended_sound ts x h = after (p.understood (p.string_of ts)) (λ s. good (ended_text s)) x (λ s. made x (ended_text s) tt) h
+identifier_sound : (n : List ℕ) (own : Option AddressSize) (x : Statement) (is : Bool) → p.is_identifier n ≡ is → good x ≡ (if is then good (statement.Segment n own) else p.unknown) → IsSound x
+identifier_sound n own x true is h = made x (statement.Segment n own) (identifier_named n is) h
+identifier_sound n own x false is h = cc
 
-scope_sound : (ts : List Lexeme) (x : Statement) → good x ≡ p.scope_of ts → IsSound x
-scope_sound [] x h = made x (statement.OpenScope None) tt h
-scope_sound (t ∷ ts) x h = after (p.name_of (t ∷ ts)) (λ n. good (statement.OpenScope (Some n))) x (λ n. made x (statement.OpenScope (Some n)) tt) h
+abbrev told : List ℕ → Result (List ℕ) AsmFault
+told words = Ok words
 
-proc_sound : (ts : List Lexeme) (x : Statement) → good x ≡ p.proc_of ts → IsSound x
-proc_sound ts x h = after (p.name_of ts) (λ n. good (statement.OpenProc n)) x (λ n. made x (statement.OpenProc n) tt) h
+short_words : (s words : List ℕ) (is : Bool) → nat_le (length s) 255 ≡ is → told words ≡ (if is then told s else p.unknown) → length words < 256
+short_words s words true is h = let same : s ≡ words = cc in let few : length s < 256 = grind (arith, nat_tests) in subst (λ (w : List ℕ). length w < 256) same few
+short_words s words false is h = cc
 
-identifier_sound : (n : List ℕ) (own : Option AddressSize) (x : Statement) (is : Bool) → p.is_identifier n ≡ is → good x ≡ p.segment_named n own → IsSound x
-identifier_sound n own x true is h = let e : p.segment_named n own ≡ good (statement.Segment n own) = rw is refl in made x (statement.Segment n own) (identifier_named n is) (h ∙ e)
-identifier_sound n own x false is h = let e : p.segment_named n own ≡ p.unknown = rw is refl in let none : good x ≡ p.unknown = h ∙ e in cc
-
-segment_sound : (ts : List Lexeme) (x : Statement) → good x ≡ p.segment_of ts → IsSound x
-segment_sound [] x h = cc
-segment_sound (t ∷ ts) x h =
-    after (p.understood (p.quoted_in t)) (λ n. p.size_behind ts >>= (λ own. p.segment_named n own)) x
-    (λ n. after (p.size_behind ts) (λ own. p.segment_named n own) x (λ own. identifier_sound n own x (p.is_identifier n) refl)) h
-
-short_words : (s words : List ℕ) (is : Bool) → nat_le (length s) 255 ≡ is → Ok words ≡ p.short s → length words < 256
-short_words s words true is h = let e : p.short s ≡ Ok s = rw is refl in let same : s ≡ words = cc in let few : length s < 256 = grind (arith, nat_tests) in subst (λ (w : List ℕ). length w < 256) same few
-short_words s words false is h = let e : p.short s ≡ p.unknown = rw is refl in cc
-
-own_short : (s : Option (List ℕ)) (words : List ℕ) → Ok words ≡ (p.understood s >>= p.short) → length words < 256
+own_short : (s : Option (List ℕ)) (words : List ℕ) → Ok words ≡ (p.understood s >>= (λ t. if nat_le (length t) 255 then Ok t else p.unknown)) → length words < 256
 own_short (Some s) words h = short_words s words (nat_le (length s) 255) refl h
 own_short None words h = cc
 
@@ -299,68 +263,61 @@ text_sound : (e : Tree) (act : Action) (rest : List (List Lexeme)) (x : Statemen
 text_sound e act rest x (Ok words) is h = made x (statement.Assert e act words) (words_short rest words (sym is)) h
 text_sound e act rest x (Err f) is h = cc
 
-asserted_sound : (e : Tree) (a : List Lexeme) (rest : List (List Lexeme)) (x : Statement) → good x ≡ p.asserted e a rest → IsSound x
-asserted_sound e a rest x h = after (p.action_of a) (λ act. p.words_of rest >>= (λ words. good (statement.Assert e act words))) x (λ act. text_sound e act rest x (p.words_of rest) refl) h
-
 assertion_sound : (parts : List (List Lexeme)) (x : Statement) → p.IsAssertion parts (Ok x) → IsSound x
 assertion_sound [] x h = cc
 assertion_sound (e ∷ []) x h = cc
-assertion_sound (e ∷ a ∷ rest) x h = after h.0 (λ t. p.asserted t a rest) x (λ t. asserted_sound t a rest x) h.2
+assertion_sound (e ∷ a ∷ rest) x h =
+    let Said : Tree → Action → Answer = λ t act. p.words_of rest >>= (λ words. good (statement.Assert t act words)) in
+    after h.0 (λ t. p.understood (p.word_of a) >>= p.action_word >>= Said t) x
+    (λ t. after (p.understood (p.word_of a) >>= p.action_word) (Said t) x (λ act. text_sound t act rest x (p.words_of rest) refl)) h.2
 
 same_processor : (s : List ℕ) (x : Statement) (is : Bool) → bytes_eq s (codes "6502") ≡ is → good x ≡ (if is then Ok statement.Nothing else p.unknown) → IsSound x
 same_processor s x true is h = made x statement.Nothing tt h
 same_processor s x false is h = cc
 
-processor_sound : (ts : List Lexeme) (x : Statement) → good x ≡ p.processor_of ts → IsSound x
-processor_sound ts x h = after (p.understood (p.string_of ts)) (λ s. if bytes_eq s (codes "6502") then good statement.Nothing else p.unknown) x (λ s. same_processor s x (bytes_eq s (codes "6502")) refl) h
-
 directive_sound : (d : Directive) (ts : List Lexeme) (x : Statement) → AreNamed ts → p.IsDirective d ts (Ok x) → IsSound x
 directive_sound (directive.List elements width) ts x named h = after h.0 (λ xs. good (statement.Values width xs)) x (λ xs. made x (statement.Values width xs) tt) h.2
-directive_sound directive.EndedText ts x named h = ended_sound ts x h
-directive_sound (directive.Amount which) ts x named h = amounts_sound which (p.parts_of ts) x h
+directive_sound directive.EndedText ts x named h = after (p.understood (p.string_of ts)) (λ s. good (ended_text s)) x (λ s. made x (ended_text s) tt) h
+directive_sound (directive.Amount which) ts x named h = after h.0 (λ (y : Tree × Option Tree). good (p.amount_statement which y.0 y.1)) x (λ y. made x (p.amount_statement which y.0 y.1) (amount_sound which y.0 y.1)) h.2
 directive_sound directive.FilePart ts x named h = file_part_sound (p.parts_of ts) x h
-directive_sound directive.Segment ts x named h = segment_sound ts x h
-directive_sound (directive.Lone which) ts x named h = alone_sound (p.lone_statement which) x ts (lone_sound which) h
-directive_sound directive.Scope ts x named h = scope_sound ts x h
-directive_sound directive.Proc ts x named h = proc_sound ts x h
+directive_sound directive.Segment [] x named h = cc
+directive_sound directive.Segment (t ∷ ts) x named h =
+    let Named : List ℕ → Option AddressSize → Answer = λ n own. if p.is_identifier n then good (statement.Segment n own) else p.unknown in
+    after (p.understood (p.quoted_in t)) (λ n. p.size_behind ts >>= Named n) x
+    (λ n. after (p.size_behind ts) (Named n) x (λ own. identifier_sound n own x (p.is_identifier n) refl)) h
+directive_sound (directive.Lone which) [] x named h = made x (p.lone_statement which) (lone_sound which) h
+directive_sound (directive.Lone which) (t ∷ ts) x named h = cc
+directive_sound directive.Scope [] x named h = made x (statement.OpenScope None) tt h
+directive_sound directive.Scope (t ∷ ts) x named h = after (p.name_of (t ∷ ts)) (λ n. good (statement.OpenScope (Some n))) x (λ n. made x (statement.OpenScope (Some n)) tt) h
+directive_sound directive.Proc ts x named h = after (p.name_of ts) (λ n. good (statement.OpenProc n)) x (λ n. made x (statement.OpenProc n) tt) h
 directive_sound (directive.Names which) ts x named h = names_sound which ts x named h.0 h.1 h.2
 directive_sound directive.Assert ts x named h = assertion_sound (p.parts_of ts) x h
-directive_sound (directive.Message which) ts x named h = told_sound which ts x h
-directive_sound directive.SetProcessor ts x named h = processor_sound ts x h
+directive_sound (directive.Message which) ts x named h = after (p.understood (p.string_of ts)) (λ s. good (p.message_statement which s)) x (λ s. made x (p.message_statement which s) (message_sound which s)) h
+directive_sound directive.SetProcessor ts x named h = after (p.understood (p.string_of ts)) (λ s. if bytes_eq s (codes "6502") then good statement.Nothing else p.unknown) x (λ s. same_processor s x (bytes_eq s (codes "6502")) refl) h
 
 -- ---- Statements.
 
--- what a definition by a test says where the test is known
-constant_when : (n : List ℕ) (ts : List Lexeme) (r : Answer) (reserved : Bool) → is_reserved n ≡ reserved → p.IsConstant n ts r → ConstantBy n ts r reserved
-constant_when n ts r reserved is h = subst (ConstantBy n ts r) is h
-
-named_when : (n : List ℕ) (t : Lexeme) (ts : List Lexeme) (r : Answer) (defines : Bool) → p.defines t ≡ defines → p.IsNamed n (t ∷ ts) r → NamedBy n t ts r defines
-named_when n t ts r defines is h = subst (NamedBy n t ts r) is h
-
-asked_sound : (d : Option Directive) (ts : List Lexeme) (x : Statement) → AreNamed ts → p.IsDirectiveStatement d ts (Ok x) → IsSound x
-asked_sound None ts x named h = cc
-asked_sound (Some d) ts x named h = directive_sound d ts x named h
-
-constant_sound : (n : List ℕ) (ts : List Lexeme) (x : Statement) (reserved : Bool) → is_reserved n ≡ reserved → p.IsConstant n ts (Ok x) → IsSound x
-constant_sound n ts x true is h = let none : good x ≡ p.unknown = constant_when n ts (Ok x) true is h in cc
-constant_sound n ts x false is h = let one : p.IsPlainConstant n ts (Ok x) = constant_when n ts (Ok x) false is h in after one.0 (λ e. good (statement.Constant n e)) x (λ e. made x (statement.Constant n e) tt) one.2
+constant_sound : (n : List ℕ) (ts : List Lexeme) (x : Statement) → p.IsConstant n ts (Ok x) → IsSound x
+constant_sound n ts x h =
+    after_first (p.plain_name n) (λ own. p.Then (p.IsExpression ts) (λ e. good (statement.Constant own e))) x
+    (λ own k. after k.0 (λ e. good (statement.Constant own e)) x (λ e. made x (statement.Constant own e) tt) k.2) h
 
 instruction_sound : (m : Option Mnemonic) (ts : List Lexeme) (x : Statement) → p.IsInstruction m ts (Ok x) → IsSound x
 instruction_sound None ts x h = cc
 instruction_sound (Some m) ts x h = after h.0 (λ o. good (statement.Instruction m o)) x (λ o. made x (statement.Instruction m o) tt) h.2
 
-word_sound : (n : List ℕ) (t : Lexeme) (ts : List Lexeme) (x : Statement) (defines : Bool) → p.defines t ≡ defines → p.IsNamed n (t ∷ ts) (Ok x) → IsSound x
-word_sound n t ts x true is h = constant_sound n ts x (is_reserved n) refl (named_when n t ts (Ok x) true is h)
-word_sound n t ts x false is h = instruction_sound (mnemonic_of n) (t ∷ ts) x (named_when n t ts (Ok x) false is h)
+word_sound : (n : List ℕ) (t : Lexeme) (ts : List Lexeme) (x : Statement) (defines : Bool) → MatchBool defines (p.IsConstant n ts (Ok x)) (p.IsInstruction (mnemonic_of n) (t ∷ ts) (Ok x)) → IsSound x
+word_sound n t ts x true h = constant_sound n ts x h
+word_sound n t ts x false h = instruction_sound (mnemonic_of n) (t ∷ ts) x h
 
 words_sound : (n : List ℕ) (ts : List Lexeme) (x : Statement) → p.IsNamed n ts (Ok x) → IsSound x
 words_sound n [] x h = instruction_sound (mnemonic_of n) [] x h
-words_sound n (t ∷ ts) x h = word_sound n t ts x (p.defines t) refl h
+words_sound n (t ∷ ts) x h = word_sound n t ts x (p.defines t) h
 
 pub statement_sound : (ts : List Lexeme) (x : Statement) → AreNamed ts → p.IsStatement ts (Ok x) → IsSound x
 statement_sound [] x named h = cc
 statement_sound ((token.Identifier, n) ∷ ts) x named h = words_sound n ts x h
-statement_sound ((token.Directive, d) ∷ ts) x named h = asked_sound (p.directive_of d) ts x named.1 h
+statement_sound ((token.Directive, d) ∷ ts) x named h = after_first (p.understood (p.directive_of d)) (λ a. p.IsDirective a ts) x (λ a. directive_sound a ts x named.1) h
 statement_sound ((_, t) ∷ ts) x named h = cc
 
 -- ---- Lines.

@@ -25,7 +25,7 @@ use Rattle.syntax65.specs.Expressions.{is_reserved}
 use Rattle.syntax65.specs.declared.lexing.tokens.Token.{Token}
 use Rattle.syntax65.specs.declared.lexing.tokens.TokenKind.{TokenKind}
 use Rattle.ast65.specs.declared.language.Statement.{Statement}
-use Rattle.ast65.specs.Parsing.{is_colon, label_before, label_of, named_label, or_all, with_rest}
+use Rattle.ast65.specs.Parsing.{is_colon, label_before, label_of, named_label}
 use Rattle.semantics65.specs.Module.{out_of, warning_of}
 
 -- ---- The statements of a source one behind the other: how they begin, one step further, and each end.

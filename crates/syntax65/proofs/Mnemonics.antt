@@ -9,7 +9,8 @@ use Rattle.std.specs.Char.{to_ascii_lowercase}
 use Rattle.std.specs.Str.{str_eq_ignore_ascii_case}
 use Rattle.std.proofs.lemmas.List.{length-map}
 use Rattle.std.specs.Cmp.Lexicographic.{pointwise, same_text, other_text}
-use Rattle.syntax65.specs.Mnemonics.{IsNamed, Spells, IsSpelled, name_of, mnemonic_of}
+use Rattle.syntax65.specs.Mnemonics.{Spells, name_of, mnemonic_of}
+use Rattle.syntax65.specs.Forms.{IsFound}
 
 -- ---- The list of all mnemonics leaves none out.
 
@@ -110,33 +111,33 @@ none_passes p [] i d e lt = absurd (omega arith)
 none_passes p (x ∷ xs) zero d e lt = (none_step p x xs (p x) refl e).0
 none_passes p (x ∷ xs) (suc i) d e lt = none_passes p xs i d (none_step p x xs (p x) refl e).1 (omega arith)
 
-both : (r : Option Mnemonic) (bytes : List ℕ) → r ≡ find (is_spelled bytes) ALL → IsSpelled bytes r
+both : (r : Option Mnemonic) (bytes : List ℕ) → r ≡ find (is_spelled bytes) ALL → IsFound (Spells bytes) r
 both None bytes e = grind (arith, common_steps, place_of, none_passes, test_from_spells)
 both (Some m) bytes e = spells_from_test bytes m (subst (λ (r : Option Mnemonic). MatchOption r (Unit {0}) (λ n. is_spelled bytes n ≡ true)) (sym e) (found_passes (is_spelled bytes) ALL))
 
 -- a mnemonic is found exactly where the bytes spell it
-pub spelled_both_ways : (bytes : List ℕ) → IsSpelled bytes (mnemonic_of bytes)
+pub spelled_both_ways : (bytes : List ℕ) → IsFound (Spells bytes) (mnemonic_of bytes)
 unfolding mnemonic_of
 spelled_both_ways bytes = both (mnemonic_of bytes) bytes refl
 
-one_spelled : (r q : Option Mnemonic) (bytes : List ℕ) → IsSpelled bytes r → IsSpelled bytes q → r ≡ q
+one_spelled : (r q : Option Mnemonic) (bytes : List ℕ) → IsFound (Spells bytes) r → IsFound (Spells bytes) q → r ≡ q
 one_spelled x y bytes h k = grind (arith, common_steps)
 
 -- what the bytes spell is found
-pub is_found : (r : Option Mnemonic) (bytes : List ℕ) → IsSpelled bytes r → r ≡ mnemonic_of bytes
+pub is_found : (r : Option Mnemonic) (bytes : List ℕ) → IsFound (Spells bytes) r → r ≡ mnemonic_of bytes
 is_found r bytes h = one_spelled r (mnemonic_of bytes) bytes h (spelled_both_ways bytes)
 
-spelled_by_name : (r : Option Mnemonic) (bytes : List ℕ) → IsNamed (map to_ascii_lowercase bytes) r → IsSpelled bytes r
+spelled_by_name : (r : Option Mnemonic) (bytes : List ℕ) → IsFound (λ m. map to_ascii_lowercase bytes ≡ name_of m) r → IsFound (Spells bytes) r
 spelled_by_name x bytes h = grind (arith, common_steps)
 
 -- the mnemonic of three letters is found
-pub of_three : (r : Option Mnemonic) (bytes : List ℕ) (a b c : ℕ) → length bytes ≡ 3 → a ≡ to_ascii_lowercase (get_or bytes 0 0) → b ≡ to_ascii_lowercase (get_or bytes 1 0) → c ≡ to_ascii_lowercase (get_or bytes 2 0) → IsNamed (a ∷ b ∷ c ∷ []) r → r ≡ mnemonic_of bytes
+pub of_three : (r : Option Mnemonic) (bytes : List ℕ) (a b c : ℕ) → length bytes ≡ 3 → a ≡ to_ascii_lowercase (get_or bytes 0 0) → b ≡ to_ascii_lowercase (get_or bytes 1 0) → c ≡ to_ascii_lowercase (get_or bytes 2 0) → IsFound (λ m. a ∷ b ∷ c ∷ [] ≡ name_of m) r → r ≡ mnemonic_of bytes
 of_three r [] a b c len ea eb ec h = absurd (omega (arith, len))
 of_three r (x ∷ []) a b c len ea eb ec h = absurd (omega (arith, len))
 of_three r (x ∷ y ∷ []) a b c len ea eb ec h = absurd (omega (arith, len))
 of_three r (x ∷ y ∷ z ∷ []) a b c len ea eb ec h =
     let same : a ∷ b ∷ c ∷ [] ≡ map to_ascii_lowercase (x ∷ y ∷ z ∷ []) = cc in
-    is_found r _ (spelled_by_name r (x ∷ y ∷ z ∷ []) (subst (λ l. IsNamed l r) same h))
+    is_found r _ (spelled_by_name r (x ∷ y ∷ z ∷ []) (subst (λ l. IsFound (λ m. l ≡ name_of m) r) same h))
 of_three r (x ∷ y ∷ z ∷ w ∷ l) a b c len ea eb ec h = absurd (omega (arith, len))
 
 three_letters : (m : Mnemonic) → length (name_of m) ≡ 3

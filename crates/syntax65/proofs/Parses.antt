@@ -1,9 +1,10 @@
 -- Tokens are parsed in one way: each phrase and each stop is a reading from left to right.
 use Rattle.std.proofs.lemmas.Grind.{common_steps}
 use Rattle.std.proofs.Common.{◌≡◌, ◌≢◌, ℕ, zero, suc, ◌+◌, ◌<◌, ◌≤◌, true, false, List, Option, Some, None, refl, sym, ap, subst, ◌∙◌, arith}
-use Rattle.std.specs.Prelude.{slice_get, Ok, Err}
+use Rattle.std.specs.Prelude.{slice_get, option_and_then, Ok, Err}
+use Rattle.std.specs.Option.{option_map_or}
 use Rattle.syntax65.specs.Tokens.{Lexeme}
-use Rattle.syntax65.specs.Expressions.{OneParse, level_of, opening_at, binary_at, binary_in, text_at, leaf_of, close_in, closes_at, Parts, Phrase, a_leaf, a_name, a_global, prefixed, enclosed, of_level, joined, negated, NoOperator, Stops, no_operand, no_name, no_global, too_deep, in_prefixed, in_enclosed, not_closed, in_first, in_next, negation_too_deep, in_negated, IsParsed}
+use Rattle.syntax65.specs.Expressions.{level_of, opening_at, binary_at, binary_of, text_at, leaf_of, is_close, closes_at, Parts, Phrase, a_leaf, a_name, a_global, prefixed, enclosed, of_level, joined, negated, NoOperator, Stops, no_operand, no_name, no_global, too_deep, in_prefixed, in_enclosed, not_closed, in_first, in_next, negation_too_deep, in_negated, IsParsed}
 use Rattle.syntax65.specs.Trees.{Tree, name, unary, binary}
 use Rattle.base65.specs.declared.values.Op1.TheVariants.{Not}
 use Rattle.syntax65.specs.declared.expressions.words.Opening.{Opening}
@@ -13,7 +14,7 @@ use Rattle.syntax65.specs.declared.expressions.words.ExprFault.TheVariants.{Oper
 use Rattle.syntax65.proofs.Phrases.{low_level}
 use Rattle.syntax65.proofs.Runs.{Answer, whole_at, level_at, rest_at, Run, r_leaf, r_name, r_global, r_none, r_deep, r_prefix, r_enclosed, r_first, r_lost, r_end, r_next, r_next_lost, r_plain, r_negated, r_negation_deep, closed, one_answer}
 
-close_token : (o : Option Lexeme) → close_in o ≡ true → binary_in o ≡ None
+close_token : (o : Option Lexeme) → option_map_or (λ t. is_close t.0) o false ≡ true → option_and_then (λ t. binary_of t.0 t.1) o ≡ None
 close_token x h = grind (arith, common_steps)
 
 close_quiet : (ts : List Lexeme) (n j : ℕ) → closes_at ts j ≡ true → NoOperator ts n j
@@ -143,5 +144,5 @@ lost ts _ _ _ _ _ (in_negated room i k f h s) =
 run_of : (ts : List Lexeme) (r : Answer) → IsParsed ts r → Run ts (whole_at 64 0) r
 run_of ts x h = grind (arith, common_steps, whole, lost)
 
-pub one_parse : OneParse
+pub one_parse : (ts : List Lexeme) (r s : Answer) → IsParsed ts r → IsParsed ts s → r ≡ s
 one_parse ts r s h g = one_answer ts (whole_at 64 0) r s (run_of ts r h) (run_of ts s g)

@@ -1,11 +1,12 @@
 -- One step of a reader, as one rule of the grammar.
 use Rattle.std.proofs.lemmas.Grind.{common_steps}
 use Rattle.std.proofs.Common.{◌≡◌, ◌≢◌, ℕ, zero, suc, ◌+◌, ◌-◌, ◌<◌, ◌≤◌, true, false, List, [], ◌∷◌, ◌++◌, Option, Some, None, sym, ap, subst, ◌∙◌, arith, append_assoc}
-use Rattle.std.specs.Prelude.{Result}
+use Rattle.std.specs.Prelude.{Result, Err}
 use Rattle.syntax65.specs.Tokens.{Lexeme}
 use Rattle.syntax65.specs.Trees.{Tree, name, unary, binary}
-use Rattle.syntax65.specs.Expressions.{level_of, opening_at, binary_at, text_at, leaf_of, leaf_at, closes_at, Parts, last_part, next_part, Phrase, a_leaf, a_name, a_global, prefixed, enclosed, of_level, joined, negated, NoOperator, BeginsOperand, OpensLevel, Stops, no_operand, no_name, no_global, too_deep, in_prefixed, in_enclosed, not_closed, in_first, in_next, negation_too_deep, in_negated, IsPhrase, IsStop, IsMissing, IsParsed, ReadsLevel}
+use Rattle.syntax65.specs.Expressions.{level_of, opening_at, binary_at, text_at, leaf_of, closes_at, Parts, last_part, next_part, Phrase, a_leaf, a_name, a_global, prefixed, enclosed, of_level, joined, negated, NoOperator, BeginsOperand, OpensLevel, Stops, no_operand, no_name, no_global, too_deep, in_prefixed, in_enclosed, not_closed, in_first, in_next, negation_too_deep, in_negated, AreNames, IsLevel, IsPhrase}
 use Rattle.syntax65.specs.Faults.{is_expr_outside}
+use Rattle.base65.specs.Outcome.{Unless}
 use Rattle.base65.specs.Relations.{Answers}
 use Rattle.base65.specs.declared.values.Op1.{Op1}
 use Rattle.base65.specs.declared.values.Op1.TheVariants.{Not}
@@ -36,7 +37,7 @@ next_name ts at i parts new text so_far h scope same made j rest more =
 
 -- phrases
 
-pub leaf_phrase : (ts : List Lexeme) (room i : ℕ) (t : Tree) → leaf_at ts i ≡ Some t → IsPhrase ts room 0 i (i + 1) t
+pub leaf_phrase : (ts : List Lexeme) (room i : ℕ) (t : Tree) → leaf_of (opening_at ts i) (text_at ts i) ≡ Some t → IsPhrase ts room 0 i (i + 1) t
 leaf_phrase ts room i t h = record { phrase = a_leaf room i t h; ends = level_zero ts (i + 1) }
 
 pub name_phrase : (ts : List Lexeme) (room i j : ℕ) (parts : List (List ℕ)) → Parts ts i j parts → IsPhrase ts room 0 i j (name false parts)
@@ -81,21 +82,28 @@ whole_phrase ts room i j t p = record { phrase = of_level room 5 i j t p.phrase;
 
 -- stops
 
+-- why there is no phrase, unless memory ran out
+abbrev pub IsStop : List Lexeme → (room n i : ℕ) → ExprFault → Type 0
+IsStop ts room n i f = Unless (is_expr_outside f) (IsLevel ts room n i (Err f))
+
+abbrev pub IsMissing : List Lexeme → ℕ → ExprFault → Type 0
+IsMissing ts i f = Unless (is_expr_outside f) (AreNames ts i (Err f))
+
 -- a stop inside is a stop of the whole
 lift_stop : (ts : List Lexeme) (room n i room' n' i' : ℕ) (f : ExprFault) → ((k : ℕ) (g : ExprFault) → Stops ts room n i k g → Stops ts room' n' i' k g) → IsStop ts room n i f → IsStop ts room' n' i' f
 lift_stop ts room n i room' n' i' x up h = grind (arith, common_steps)
 
 pub name_stop : (ts : List Lexeme) (room i : ℕ) (f : ExprFault) → opening_at ts i ≡ Name → IsMissing ts i f → IsStop ts room 0 i f
 name_stop ts room i OutOfMemory h s = tt
-name_stop ts room i OperandExpected h s = (s.0, no_name room i s.0 h s.1)
-name_stop ts room i ParenthesisExpected h s = absurd s
-name_stop ts room i TooDeep h s = absurd s
+name_stop ts room i OperandExpected h s = (s.1.0, no_name room i s.1.0 h s.1.1)
+name_stop ts room i ParenthesisExpected h s = absurd (cc s.0)
+name_stop ts room i TooDeep h s = absurd (cc s.0)
 
 pub global_stop : (ts : List Lexeme) (room i : ℕ) (f : ExprFault) → opening_at ts i ≡ Scope → IsMissing ts (i + 1) f → IsStop ts room 0 i f
 global_stop ts room i OutOfMemory h s = tt
-global_stop ts room i OperandExpected h s = (s.0, no_global room i s.0 h s.1)
-global_stop ts room i ParenthesisExpected h s = absurd s
-global_stop ts room i TooDeep h s = absurd s
+global_stop ts room i OperandExpected h s = (s.1.0, no_global room i s.1.0 h s.1.1)
+global_stop ts room i ParenthesisExpected h s = absurd (cc s.0)
+global_stop ts room i TooDeep h s = absurd (cc s.0)
 
 pub prefixed_stop : (ts : List Lexeme) (room i : ℕ) (op : Op1) (f : ExprFault) → 0 < room → opening_at ts i ≡ Prefix op → IsStop ts (room - 1) 0 (i + 1) f → IsStop ts room 0 i f
 prefixed_stop ts room i op f pos h s =
@@ -202,12 +210,8 @@ joined_part ts room n m i j k op t u t' u' p at level le right same_left same_ri
 pub whole_part : (ts : List Lexeme) (room n i j : ℕ) (t : Tree) → IsPart ts room n i j t → NoOperator ts n j → IsPhrase ts room n i j t
 whole_part ts room n i j t p none = record { phrase = raised ts room p.own n i j t p.most p.phrase; ends = none }
 
-pub whole_result : (ts : List Lexeme) (room i : ℕ) (r : Result (Tree × ℕ) ExprFault) → opening_at ts i ≢ Negation → ReadsLevel ts room 5 i r → ReadsLevel ts room 6 i r
+pub whole_result : (ts : List Lexeme) (room i : ℕ) (r : Result (Tree × ℕ) ExprFault) → opening_at ts i ≢ Negation → Answers is_expr_outside (λ x. x) r (IsLevel ts room 5 i) → Answers is_expr_outside (λ x. x) r (IsLevel ts room 6 i)
 whole_result ts room i x h p = grind (arith, common_steps, whole_phrase, whole_stop)
 
-pub leaf_made : (ts : List Lexeme) (i : ℕ) (o : Opening) (text : List ℕ) (made : Option Tree) → o ≡ opening_at ts i → text ≡ text_at ts i → made ≡ leaf_of o text → leaf_at ts i ≡ made
+pub leaf_made : (ts : List Lexeme) (i : ℕ) (o : Opening) (text : List ℕ) (made : Option Tree) → o ≡ opening_at ts i → text ≡ text_at ts i → made ≡ leaf_of o text → leaf_of (opening_at ts i) (text_at ts i) ≡ made
 leaf_made ts i o text made a b e = sym (e ∙ ap (λ p. leaf_of p text) a ∙ ap (leaf_of (opening_at ts i)) b)
-
--- a reader's answer, as what the tokens are read as
-pub parsed : (ts : List Lexeme) (r : Result (Tree × ℕ) ExprFault) → ReadsLevel ts 64 6 0 r → Answers is_expr_outside (λ x. x) r (IsParsed ts)
-parsed ts x h = grind (arith, common_steps)

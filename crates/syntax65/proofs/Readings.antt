@@ -1,10 +1,9 @@
 -- A line is read in one way at most.
 use Rattle.std.proofs.lemmas.Grind.{common_steps}
 use Rattle.std.proofs.Common.{◌≡◌, ◌⊎◌, ℕ, zero, suc, ◌<◌, ◌≤◌, Bool, true, false, List, [], ◌∷◌, length, take, drop, Option, Some, None, refl, sym, ap, subst, ◌∙◌, arith}
-use Rattle.std.specs.Prelude.{Ok, Err}
+use Rattle.std.specs.Prelude.{Result, Ok, Err}
 use Rattle.syntax65.specs.Forms.{number_of, IsForm, Stands, IsLongest, IsToken, name_in, HasValue, FaultAt}
 use Rattle.syntax65.specs.Tokens.{Lexeme, after_blanks, IsEnd, Ends, Reads, IsRead}
-use Rattle.syntax65.specs.Expressions.{OneReading}
 use Rattle.syntax65.specs.declared.lexing.places.Class.{Class}
 use Rattle.syntax65.specs.declared.lexing.tokens.TokenKind.{TokenKind}
 use Rattle.syntax65.specs.declared.lexing.tokens.TokenKind.TheVariants.{Number}
@@ -113,5 +112,5 @@ ok_err line ts fault h x = grind (arith, common_steps, one_list)
 err_err : (line : List ℕ) (e f : LexFault) → ((e ≡ LineTooLong) × (4096 < length line)) ⊎ Failed line e → ((f ≡ LineTooLong) × (4096 < length line)) ⊎ Failed line f → e ≡ f
 err_err line e f x y = grind (arith, common_steps, one_list)
 
-pub one_reading : OneReading
+pub one_reading : (line : List ℕ) (r s : Result (List Lexeme) LexFault) → IsRead line r → IsRead line s → r ≡ s
 one_reading line x y h g = grind (arith, common_steps, one_list, ok_err, failed, err_err)

@@ -5,7 +5,7 @@ use Rattle.std.specs.Prelude.{Result, Ok, Err, ⊤, ◌==◌, if◌then◌else�
 use Rattle.base65.specs.Outcome.{◌>>=◌}
 use Rattle.syntax65.specs.Tokens.{Lexeme}
 use Rattle.syntax65.specs.Trees.{Tree, name, unary, binary}
-use Rattle.syntax65.specs.Expressions.{level_of, opening_at, binary_at, text_at, leaf_of, closes_at, Parts, last_part, next_part, LacksPart, no_part, behind_part, NoOperator, BeginsOperand, OpensLevel}
+use Rattle.syntax65.specs.Expressions.{AreNames, level_of, opening_at, binary_at, text_at, leaf_of, closes_at, Parts, last_part, next_part, LacksPart, no_part, behind_part, NoOperator, BeginsOperand, OpensLevel}
 use Rattle.base65.specs.declared.values.Op1.{Op1}
 use Rattle.base65.specs.declared.values.Op1.TheVariants.{Not}
 use Rattle.base65.specs.declared.values.Op2.{Op2}
@@ -22,11 +22,6 @@ pub data Mode : Type 0 where
   level_at : (room n i : ℕ) → Mode
   rest_at : (room n : ℕ) (t : Tree) (j : ℕ) → Mode
 
--- names with `::` between them, or that one is missing
-abbrev pub IsNames : List Lexeme → ℕ → Result (List (List ℕ) × ℕ) ExprFault → Type 0
-IsNames ts i (Ok x) = Parts ts i x.1 x.0
-IsNames ts i (Err f) = (f ≡ OperandExpected) × ((k : ℕ) × LacksPart ts i k)
-
 abbrev pub named : Bool → List (List ℕ) × ℕ → Answer
 named global x = Ok (name global x.0, x.1)
 
@@ -38,8 +33,8 @@ closed ts x = if closes_at ts x.1 then Ok (x.0, x.1 + 1) else Err ParenthesisExp
 
 pub data Run (ts : List Lexeme) : Mode → Answer → Type 0 where
   r_leaf : (room i : ℕ) (t : Tree) → leaf_of (opening_at ts i) (text_at ts i) ≡ Some t → Run ts (level_at room 0 i) (Ok (t, i + 1))
-  r_name : (room i : ℕ) (q : Result (List (List ℕ) × ℕ) ExprFault) (r : Answer) → opening_at ts i ≡ Name → IsNames ts i q → r ≡ (q >>= named false) → Run ts (level_at room 0 i) r
-  r_global : (room i : ℕ) (q : Result (List (List ℕ) × ℕ) ExprFault) (r : Answer) → opening_at ts i ≡ Scope → IsNames ts (i + 1) q → r ≡ (q >>= named true) → Run ts (level_at room 0 i) r
+  r_name : (room i : ℕ) (q : Result (List (List ℕ) × ℕ) ExprFault) (r : Answer) → opening_at ts i ≡ Name → AreNames ts i q → r ≡ (q >>= named false) → Run ts (level_at room 0 i) r
+  r_global : (room i : ℕ) (q : Result (List (List ℕ) × ℕ) ExprFault) (r : Answer) → opening_at ts i ≡ Scope → AreNames ts (i + 1) q → r ≡ (q >>= named true) → Run ts (level_at room 0 i) r
   r_none : (room i : ℕ) → (BeginsOperand (opening_at ts i) → ⊥) → Run ts (level_at room 0 i) (Err OperandExpected)
   r_deep : (i : ℕ) → OpensLevel (opening_at ts i) → Run ts (level_at 0 0 i) (Err TooDeep)
   r_prefix : (room i : ℕ) (op : Op1) (q r : Answer) → opening_at ts i ≡ Prefix op → Run ts (level_at room 0 (i + 1)) q → r ≡ (q >>= operated op) → Run ts (level_at (suc room) 0 i) r
@@ -63,8 +58,8 @@ ByParenthesis ts (suc room) i r = (q : Answer) × Run ts (whole_at room (i + 1))
 
 -- what a reading of an operand has to be, by how it begins
 abbrev ByOpening : List Lexeme → ℕ → ℕ → Opening → Answer → Type 0
-ByOpening ts room i Name r = (q : Result (List (List ℕ) × ℕ) ExprFault) × IsNames ts i q × (r ≡ (q >>= named false))
-ByOpening ts room i Scope r = (q : Result (List (List ℕ) × ℕ) ExprFault) × IsNames ts (i + 1) q × (r ≡ (q >>= named true))
+ByOpening ts room i Name r = (q : Result (List (List ℕ) × ℕ) ExprFault) × AreNames ts i q × (r ≡ (q >>= named false))
+ByOpening ts room i Scope r = (q : Result (List (List ℕ) × ℕ) ExprFault) × AreNames ts (i + 1) q × (r ≡ (q >>= named true))
 ByOpening ts room i (Prefix op) r = ByPrefix ts room i op r
 ByOpening ts room i Parenthesis r = ByParenthesis ts room i r
 ByOpening ts room i Negation r = r ≡ Err OperandExpected
@@ -157,7 +152,7 @@ parts_lack ts _ _ _ _ _ (next_part i j p h scope n) (behind_part i' k h' scope' 
 same_names : (x y : List (List ℕ) × ℕ) → (x.0 ≡ y.0) × (x.1 ≡ y.1) → x ≡ y
 same_names x y p = λ i. (p.0 i, p.1 i)
 
-names_one : (ts : List Lexeme) (i : ℕ) (q p : Result (List (List ℕ) × ℕ) ExprFault) → IsNames ts i q → IsNames ts i p → q ≡ p
+names_one : (ts : List Lexeme) (i : ℕ) (q p : Result (List (List ℕ) × ℕ) ExprFault) → AreNames ts i q → AreNames ts i p → q ≡ p
 names_one ts i x y h g = grind (arith, common_steps, same_names, parts_one, parts_lack)
 
 -- One answer

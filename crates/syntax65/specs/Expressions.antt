@@ -1,6 +1,6 @@
 -- The phrases of the expression grammar, by places in a list of tokens.
--- A line has one reading, an expression one tree.
-use Rattle.std.specs.Prelude.{ℕ, ◌-◌, ◌==◌, ◌&&◌, ◌||◌, Bool, List, length, codes, slice_index, nat_lt, Option, Some, None, is_some, if◌then◌else◌, ◌≡◌, ◌≢◌, ◌+◌, ◌<◌, ◌≤◌, true, false, [], ◌∷◌, slice_get, Result, Ok, Err, ⊤}
+use Rattle.std.specs.Prelude.{ℕ, ◌-◌, ◌==◌, ◌&&◌, ◌||◌, Bool, List, length, codes, slice_index, nat_lt, Option, Some, None, is_some, if◌then◌else◌, ◌≡◌, ◌≢◌, ◌+◌, ◌<◌, true, false, [], ◌∷◌, slice_get, option_and_then, Result, Ok, Err, ⊤}
+use Rattle.std.specs.Option.{option_map_or}
 use Rattle.std.specs.Str.{str_eq_ignore_ascii_case}
 use Rattle.syntax65.specs.Mnemonics.{mnemonic_of}
 use Rattle.syntax65.specs.declared.lexing.tokens.Mark.{Mark}
@@ -12,13 +12,12 @@ use Rattle.base65.specs.declared.values.Op2.{Op2}
 use Rattle.base65.specs.declared.values.Op2.TheVariants.{Multiply, Divide, Modulo, BitAnd, BitXor, ShiftLeft, ShiftRight, Add, Subtract, BitOr, Equal, NotEqual, Less, Greater, LessOrEqual, GreaterOrEqual, And, Xor, Or}
 use Rattle.syntax65.specs.declared.expressions.words.Opening.{Opening}
 use Rattle.syntax65.specs.declared.expressions.words.Opening.TheVariants.{Number, Here, Cheap, Forward, Backward, Name, Scope, Prefix, Parenthesis, Negation, Nothing}
-use Rattle.syntax65.specs.Tokens.{Lexeme, IsRead}
+use Rattle.syntax65.specs.Tokens.{Lexeme}
 use Rattle.syntax65.specs.Trees.{Tree, number, here, name, cheap, forward, backward, unary, binary}
 use Rattle.base65.specs.declared.values.Op1.{Op1}
 use Rattle.base65.specs.declared.values.Op1.TheVariants.{Not}
 use Rattle.syntax65.specs.declared.expressions.words.ExprFault.{ExprFault}
-use Rattle.syntax65.specs.declared.expressions.words.ExprFault.TheVariants.{OutOfMemory, OperandExpected, ParenthesisExpected, TooDeep}
-use Rattle.syntax65.specs.declared.lexing.tokens.LexFault.{LexFault}
+use Rattle.syntax65.specs.declared.expressions.words.ExprFault.TheVariants.{OperandExpected, ParenthesisExpected, TooDeep}
 
 -- ---- What a token means within an expression.
 
@@ -128,40 +127,24 @@ level_of Or = 5
 
 -- ---- The phrases of the expression grammar, by places in a list of tokens.
 
-abbrev pub opening_in : Option Lexeme → Opening
-opening_in None = Nothing
-opening_in (Some t) = opening_of t.0 t.1
-
-abbrev pub binary_in : Option Lexeme → Option Op2
-binary_in None = None
-binary_in (Some t) = binary_of t.0 t.1
-
-abbrev pub text_in : Option Lexeme → List ℕ
-text_in None = []
-text_in (Some t) = t.1
-
 -- how the token at a place can begin an operand
 abbrev pub opening_at : List Lexeme → ℕ → Opening
-opening_at ts i = opening_in (slice_get ts i)
+opening_at ts i = option_map_or (λ t. opening_of t.0 t.1) (slice_get ts i) Nothing
 
 -- the operator for two operands at a place
 abbrev pub binary_at : List Lexeme → ℕ → Option Op2
-binary_at ts i = binary_in (slice_get ts i)
+binary_at ts i = option_and_then (λ t. binary_of t.0 t.1) (slice_get ts i)
 
 abbrev pub text_at : List Lexeme → ℕ → List ℕ
-text_at ts i = text_in (slice_get ts i)
+text_at ts i = option_map_or (λ t. t.1) (slice_get ts i) []
 
 abbrev pub is_close : TokenKind → Bool
 is_close (token.Symbol mark.CloseParenthesis) = true
 is_close _ = false
 
-abbrev pub close_in : Option Lexeme → Bool
-close_in None = false
-close_in (Some t) = is_close t.0
-
 -- whether a `)` stands at a place
 abbrev pub closes_at : List Lexeme → ℕ → Bool
-closes_at ts i = close_in (slice_get ts i)
+closes_at ts i = option_map_or (λ t. is_close t.0) (slice_get ts i) false
 
 -- the operand of one token
 abbrev pub leaf_of : Opening → List ℕ → Option Tree
@@ -171,9 +154,6 @@ leaf_of Cheap text = Some (cheap text)
 leaf_of (Forward n) text = Some (forward n)
 leaf_of (Backward n) text = Some (backward n)
 leaf_of _ text = None
-
-abbrev pub leaf_at : List Lexeme → ℕ → Option Tree
-leaf_at ts i = leaf_of (opening_at ts i) (text_at ts i)
 
 -- names with `::` between them, as far as these go on
 pub data Parts (ts : List Lexeme) : (i j : ℕ) → List (List ℕ) → Type 0 where
@@ -188,7 +168,7 @@ pub data LacksPart (ts : List Lexeme) : (i k : ℕ) → Type 0 where
 -- The tokens from i up to j are a phrase of level n, with room for so many levels inside. Level 0 has the
 -- prefix operators, 1 to 5 the operators for two operands, and 6 the negation.
 pub data Phrase (ts : List Lexeme) : (room n i j : ℕ) → Tree → Type 0 where
-  a_leaf : (room i : ℕ) (t : Tree) → leaf_at ts i ≡ Some t → Phrase ts room 0 i (i + 1) t
+  a_leaf : (room i : ℕ) (t : Tree) → leaf_of (opening_at ts i) (text_at ts i) ≡ Some t → Phrase ts room 0 i (i + 1) t
   a_name : (room i j : ℕ) (parts : List (List ℕ)) → Parts ts i j parts → Phrase ts room 0 i j (name false parts)
   a_global : (room i j : ℕ) (parts : List (List ℕ)) → opening_at ts i ≡ Scope → Parts ts (i + 1) j parts → Phrase ts room 0 i j (name true parts)
   prefixed : (room i j : ℕ) (op : Op1) (t : Tree) → opening_at ts i ≡ Prefix op → Phrase ts room 0 (i + 1) j t → Phrase ts (room + 1) 0 i j (unary op t)
@@ -200,11 +180,6 @@ pub data Phrase (ts : List Lexeme) : (room n i j : ℕ) → Tree → Type 0 wher
 -- no operator of level n or of a tighter one stands at j
 abbrev pub NoOperator : List Lexeme → ℕ → ℕ → Type 0
 NoOperator ts n j = (op : Op2) → binary_at ts j ≡ Some op → n < level_of op
-
--- this operator, of this level, which is at most n, stands at j, or none does
-abbrev pub IsOperatorUpTo : List Lexeme → ℕ → ℕ → Option (Op2 × ℕ) → Type 0
-IsOperatorUpTo ts n j None = NoOperator ts n j
-IsOperatorUpTo ts n j (Some x) = (binary_at ts j ≡ Some x.0) × ((level_of x.0 ≡ x.1) × (x.1 ≤ n))
 
 abbrev pub BeginsOperand : Opening → Type 0
 BeginsOperand Negation = ⊥
@@ -235,38 +210,16 @@ pub record IsPhrase (ts : List Lexeme) (room n i j : ℕ) (t : Tree) : Type 0 wh
   pub phrase : Phrase ts room n i j t
   pub ends : NoOperator ts n j
 
--- want of memory is always a reason
-abbrev pub IsStop : List Lexeme → ℕ → ℕ → ℕ → ExprFault → Type 0
-IsStop ts room n i OutOfMemory = ⊤
-IsStop ts room n i f = (k : ℕ) × Stops ts room n i k f
-
--- a reader's answer for level n from i on: a phrase that no operator follows, or a stop
-abbrev pub ReadsLevel : List Lexeme → ℕ → ℕ → ℕ → Result (Tree × ℕ) ExprFault → Type 0
-ReadsLevel ts room n i (Ok x) = IsPhrase ts room n i x.1 x.0
-ReadsLevel ts room n i (Err f) = IsStop ts room n i f
+-- what the tokens from i on are read as: a phrase of level n that no operator follows, or the first fault
+abbrev pub IsLevel : List Lexeme → (room n i : ℕ) → Result (Tree × ℕ) ExprFault → Type 0
+IsLevel ts room n i (Ok x) = IsPhrase ts room n i x.1 x.0
+IsLevel ts room n i (Err f) = (k : ℕ) × Stops ts room n i k f
 
 -- what the tokens at the front are read as: an expression and how many tokens it has, or their first fault
 abbrev pub IsParsed : List Lexeme → Result (Tree × ℕ) ExprFault → Type 0
-IsParsed ts (Ok x) = IsPhrase ts 64 6 0 x.1 x.0
-IsParsed ts (Err f) = (k : ℕ) × Stops ts 64 6 0 k f
+IsParsed ts r = IsLevel ts 64 6 0 r
 
--- why names with `::` between them can't be read at i
-abbrev pub IsMissing : List Lexeme → ℕ → ExprFault → Type 0
-IsMissing ts i OutOfMemory = ⊤
-IsMissing ts i OperandExpected = (k : ℕ) × LacksPart ts i k
-IsMissing ts i _ = ⊥
-
--- a reader's answer for the names from i on
-abbrev pub ReadsNames : List Lexeme → ℕ → Result (List (List ℕ) × ℕ) ExprFault → Type 0
-ReadsNames ts i (Ok x) = Parts ts i x.1 x.0
-ReadsNames ts i (Err f) = IsMissing ts i f
-
--- ---- A line has one reading, an expression one tree.
-
--- a line is read in one way at most: as one list of tokens, or as one fault
-abbrev pub OneReading : Type 0
-OneReading = (line : List ℕ) (r s : Result (List Lexeme) LexFault) → IsRead line r → IsRead line s → r ≡ s
-
--- tokens are parsed in one way at most: as one expression with its number of tokens, or as one fault
-abbrev pub OneParse : Type 0
-OneParse = (ts : List Lexeme) (r s : Result (Tree × ℕ) ExprFault) → IsParsed ts r → IsParsed ts s → r ≡ s
+-- names with `::` between them from i on, or that one is missing
+abbrev pub AreNames : List Lexeme → ℕ → Result (List (List ℕ) × ℕ) ExprFault → Type 0
+AreNames ts i (Ok x) = Parts ts i x.1 x.0
+AreNames ts i (Err f) = (f ≡ OperandExpected) × ((k : ℕ) × LacksPart ts i k)

@@ -1,5 +1,5 @@
 -- The faults of tokens, of expressions and of expansion: their words, and which of them come from outside.
-use Rattle.std.specs.Prelude.{ℕ, List, codes, Bool, true, false, []}
+use Rattle.std.specs.Prelude.{ℕ, List, codes, Bool, true, false}
 use Rattle.syntax65.specs.declared.lexing.tokens.LexFault.{LexFault}
 use Rattle.syntax65.specs.declared.expressions.words.ExprFault.{ExprFault}
 use Rattle.syntax65.specs.declared.expressions.words.ExprFault.TheVariants as expr
@@ -36,32 +36,26 @@ is_expr_outside _ = false
 
 -- ---- The faults of expansion: their words, and which of them come from outside.
 
--- the words of a fault that has no text of its own
-abbrev pub own_words : ExpandFault → List ℕ
-own_words FailedBefore = codes "failed before"
-own_words OutOfMemory = codes "out of memory"
-own_words FileNotFound = codes "file not found"
-own_words FileError = codes "file error"
-own_words NotConstant = codes "not constant"
-own_words Nested = codes "nested over 256"
-own_words TooManyLines = codes "too many lines"
-own_words NotClosed = codes "block not closed"
-own_words NotOpened = codes "block end without begin"
-own_words TooManyArguments = codes "too many arguments"
-own_words MacroTwice = codes "macro defined twice"
-own_words MacroInside = codes "macro inside macro"
-own_words CountOutOfRange = codes "repeat count out of range"
-own_words FileTooLong = codes "file too long"
-own_words NotUnderstood = codes "directive not understood"
-own_words LineTooLong = codes "replaced line too long"
-own_words (Syntax fault) = []
-own_words (Error text) = []
-
 -- the words of a message
 abbrev pub expand_words : ExpandFault → List ℕ
 expand_words (Syntax fault) = lex_fault_words fault
 expand_words (Error text) = text
-expand_words fault = own_words fault
+expand_words FailedBefore = codes "failed before"
+expand_words OutOfMemory = codes "out of memory"
+expand_words FileNotFound = codes "file not found"
+expand_words FileError = codes "file error"
+expand_words NotConstant = codes "not constant"
+expand_words Nested = codes "nested over 256"
+expand_words TooManyLines = codes "too many lines"
+expand_words NotClosed = codes "block not closed"
+expand_words NotOpened = codes "block end without begin"
+expand_words TooManyArguments = codes "too many arguments"
+expand_words MacroTwice = codes "macro defined twice"
+expand_words MacroInside = codes "macro inside macro"
+expand_words CountOutOfRange = codes "repeat count out of range"
+expand_words FileTooLong = codes "file too long"
+expand_words NotUnderstood = codes "directive not understood"
+expand_words LineTooLong = codes "replaced line too long"
 
 -- memory ran out or the store failed
 abbrev pub is_outside : ExpandFault → Bool

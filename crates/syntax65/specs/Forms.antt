@@ -131,15 +131,10 @@ spelling Comma = codes ","
 spelling OpenBrace = codes "{"
 spelling CloseBrace = codes "}"
 
--- the bytes are this mark's, or no mark's
-abbrev pub IsMark : List ℕ → Option Mark → Type 0
-IsMark bytes None = (m : Mark) → spelling m ≢ bytes
-IsMark bytes (Some m) = spelling m ≡ bytes
-
--- the byte is this size's letter, or no size's
-abbrev pub IsSize : ℕ → Option AddressSize → Type 0
-IsSize b None = (s : AddressSize) → IsSizeLetter s b → ⊥
-IsSize b (Some s) = IsSizeLetter s b
+-- what was found is so, or nothing is so
+abbrev pub IsFound : {A : Type 0} → (A → Type 0) → Option A → Type 0
+IsFound Is None = (x : _) → Is x → ⊥
+IsFound Is (Some x) = Is x
 
 -- a text of this form; what the number is that it spells, and how long a name is, isn't looked at
 abbrev pub IsForm : TokenKind → List ℕ → Type 0

@@ -1,5 +1,5 @@
 -- The names of the mnemonics.
-use Rattle.std.specs.Prelude.{◌≡◌, ℕ, List, codes, map, Option, Some, None, find}
+use Rattle.std.specs.Prelude.{◌≡◌, ℕ, List, codes, map, Option, find}
 use Rattle.std.specs.Str.{str_eq_ignore_ascii_case}
 use Rattle.std.specs.Char.{to_ascii_lowercase}
 use Rattle.syntax65.specs.declared.instructions.names.Mnemonic.{Mnemonic}
@@ -68,16 +68,6 @@ name_of Tya = codes "tya"
 -- the bytes are the name, in either case
 abbrev pub Spells : List ℕ → Mnemonic → Type 0
 Spells bytes m = map to_ascii_lowercase bytes ≡ name_of m
-
--- this mnemonic is spelled, or none is
-abbrev pub IsSpelled : List ℕ → Option Mnemonic → Type 0
-IsSpelled bytes None = (m : Mnemonic) → Spells bytes m → ⊥
-IsSpelled bytes (Some m) = Spells bytes m
-
--- this mnemonic has the name, or none has it
-abbrev pub IsNamed : List ℕ → Option Mnemonic → Type 0
-IsNamed name None = (m : Mnemonic) → name ≡ name_of m → ⊥
-IsNamed name (Some m) = name ≡ name_of m
 
 -- the mnemonic that the bytes spell
 unfoldable pub mnemonic_of : List ℕ → Option Mnemonic

@@ -2,6 +2,7 @@
 -- The tokens that are held of a line.
 use Rattle.std.specs.Prelude.{◌≡◌, ℕ, ◌≤◌, ◌<◌, Bool, true, false, List, [], ◌∷◌, length, take, drop, map, Option, Some, None, Result, Ok, Err, ⊤, ◌++◌, slice_get, option_map}
 use Rattle.std.specs.List.{prefix_len}
+use Rattle.std.specs.Option.{option_map_or}
 use Rattle.syntax65.specs.Forms.{class_of, is_blank, IsToken, FaultAt}
 use Rattle.syntax65.specs.declared.lexing.places.Class.TheVariants.{Semicolon}
 use Rattle.syntax65.specs.declared.lexing.tokens.TokenKind.{TokenKind}
@@ -12,7 +13,6 @@ use Rattle.base65.specs.Relations.{Answers}
 use Rattle.syntax65.specs.Faults.{is_lex_outside}
 use Rattle.syntax65.specs.declared.lexing.lines.Lexer.{Lexer}
 use Rattle.syntax65.specs.declared.lexing.lines.LineFront.{LineFront}
-use Rattle.std.specs.Global.{Vec}
 use Rattle.syntax65.specs.declared.lexing.lines.LineTokens.{LineTokens}
 
 -- ---- The tokens of a line, or its fault.
@@ -57,11 +57,6 @@ lexemes ts = map lexeme_of ts
 
 -- ---- A line that is read token by token.
 
--- a line before its first token, unless it is too long
-abbrev pub IsStart : List ℕ → Result Lexer LexFault → Type 0
-IsStart line (Ok l) = (length line ≤ 4096) × (l.rest.now ≡ line) × (l.first ≡ true)
-IsStart line (Err fault) = (fault ≡ LineTooLong) × (4096 < length line)
-
 -- the first token of what is left of a line, its end, or why no token stands there; and what is left behind it
 abbrev pub IsNext : Bool → List ℕ → Result (Option Token) LexFault → Bool → List ℕ → Type 0
 IsNext first rest (Ok None) after left = Reads first rest [] None
@@ -86,19 +81,10 @@ ReadsOn l before r view =
 abbrev pub IsFront : List Lexeme → LineFront → Type 0
 IsFront ts f = (option_map lexeme_of f.first ≡ slice_get ts 0) × (option_map lexeme_of f.second ≡ slice_get ts 1)
 
--- the first two tokens of a line, or its first fault
-abbrev pub IsScanned : List ℕ → Result LineFront LexFault → Type 0
-IsScanned line (Ok f) = (ts : List Lexeme) × IsRead line (Ok ts) × IsFront ts f
-IsScanned line (Err fault) = IsRead line (Err fault)
-
 -- ---- The tokens that are held of a line.
 
-abbrev held_by : Option (Vec Token) → ℕ → List Token → List Token
-held_by None count few = take count few
-held_by (Some many) count few = many.items
-
 abbrev pub held : LineTokens → List Lexeme
-held t = lexemes (held_by t.many t.few.count t.few.room)
+held t = lexemes (option_map_or (λ many. many.items) t.many (take t.few.count t.few.room))
 
 -- none yet, and a few have room
 abbrev pub HoldsNothing : LineTokens → Type 0

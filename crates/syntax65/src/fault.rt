@@ -45,13 +45,15 @@ pub enum ExpandFault {
 }
 
 impl ExpandFault {
-    ghost use Rattle.syntax65.specs.Faults.{own_words, expand_words};
+    ghost use Rattle.syntax65.specs.Faults.{expand_words};
 
-    /// The words of a fault that has no text of its own.
-    fn own_words(&self) -> &[u8]
-        ensures { result.now ≡ own_words self.now }
+    /// The words of a message. Those of an `.error` are the bytes of its text.
+    pub fn words(&self) -> &[u8]
+        ensures { result.now ≡ expand_words self.now }
     {
         match self {
+            ExpandFault::Syntax(fault) => fault.words().as_bytes(),
+            ExpandFault::Error(text) => text.as_slice(),
             ExpandFault::FailedBefore => b"failed before",
             ExpandFault::OutOfMemory => b"out of memory",
             ExpandFault::FileNotFound => b"file not found",
@@ -68,18 +70,6 @@ impl ExpandFault {
             ExpandFault::FileTooLong => b"file too long",
             ExpandFault::NotUnderstood => b"directive not understood",
             ExpandFault::LineTooLong => b"replaced line too long",
-            ExpandFault::Syntax(_) | ExpandFault::Error(_) => b"",
-        }
-    }
-
-    /// The words of a message. Those of an `.error` are the bytes of its text.
-    pub fn words(&self) -> &[u8]
-        ensures { result.now ≡ expand_words self.now }
-    {
-        match self {
-            ExpandFault::Syntax(fault) => fault.words().as_bytes(),
-            ExpandFault::Error(text) => text.as_slice(),
-            _ => self.own_words(),
         }
     }
 }

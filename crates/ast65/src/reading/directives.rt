@@ -4,15 +4,16 @@ ghost use Rattle.std.specs.Prelude.{◌≡◌, ◌<◌, ◌∷◌, [], false, le
 ghost use Rattle.syntax65.specs.Tokens.{lexemes};
 ghost use Rattle.ast65.specs.Items.{numbered};
 ghost use Rattle.ast65.specs.declared.reading.words.Elements.{Elements};
-ghost use Rattle.ast65.specs.Parsing.{parts_behind, parts_of, string_of, EachIs, IsItem, IsValue, Parses, ended, IsList, IsName, IsNames, amount_statement, IsAmount, IsFilePart, IsRange, action_of, action_word, asserted, own_words, words_of, IsAssertion, alone, lone_statement, processor_of, told};
+ghost use Rattle.ast65.specs.Parsing.{parts_behind, parts_of, string_of, EachIs, IsDirective, IsItem, IsName, IsRange, Parses, action_word, lone_statement, words_of};
+ghost use Rattle.ast65.specs.declared.reading.words.Directive.TheVariants as directive;
 ghost use Rattle.ast65.specs.declared.language.Statement.TheVariants.{Segment};
 
 use super::operands::{expression, first_part, number_in, one_or_two};
 use super::tokens::{is_comma, name_of, needed, string_of, word_of};
 use super::words::{Amount, Elements, Lone, Message, Names};
-use base65::Sequence;
 use crate::fault::AsmFault;
 use crate::language::{Item, Items, ItemsKind, OptionalExpr, Statement};
+use base65::Sequence;
 use object65::{Action, Width};
 use std::alloc::{AllocError, Global};
 use syntax65::Token;
@@ -113,7 +114,7 @@ pub fn list(
     width: Width,
     tokens: &[Token<'_>],
 ) -> Result<Statement, AsmFault>
-    ensures { Parses result (IsList elements width (lexemes tokens.now)) }
+    ensures { Parses result (IsDirective (directive.List elements width) (lexemes tokens.now)) }
 {
     let items = items(alloc, elements, tokens)?;
     Ok(Statement::Values { width, items })
@@ -121,7 +122,7 @@ pub fn list(
 
 /// `.asciiz`: a string and a 0.
 pub fn ended_text(alloc: Global, tokens: &[Token<'_>]) -> Result<Statement, AsmFault>
-    ensures { Parses result (λ r. r ≡ ended (lexemes tokens.now)) }
+    ensures { Parses result (IsDirective directive.EndedText (lexemes tokens.now)) }
 {
     let text = needed(string_of(tokens))?;
     let mut bytes = Sequence::new(alloc);
@@ -151,7 +152,7 @@ fn names(alloc: Global, tokens: &[Token<'_>]) -> Result<Sequence<Sequence<u8>>, 
 
 /// `.import` and the like.
 pub fn name_list(alloc: Global, which: Names, tokens: &[Token<'_>]) -> Result<Statement, AsmFault>
-    ensures { Parses result (IsNames which (lexemes tokens.now)) }
+    ensures { Parses result (IsDirective (directive.Names which) (lexemes tokens.now)) }
 {
     let names = names(alloc, tokens)?;
     Ok(match which {
@@ -178,7 +179,7 @@ fn range(alloc: Global, behind: Option<&[Token<'_>]>) -> Result<PartRange, AsmFa
 
 /// `.incbin`
 pub fn file_part(alloc: Global, tokens: &[Token<'_>]) -> Result<Statement, AsmFault>
-    ensures { Parses result (IsFilePart (parts_of (lexemes tokens.now))) }
+    ensures { Parses result (IsDirective directive.FilePart (lexemes tokens.now)) }
 {
     let (name, behind) = first_part(tokens);
     let name = needed(string_of(name))?;
@@ -189,7 +190,7 @@ pub fn file_part(alloc: Global, tokens: &[Token<'_>]) -> Result<Statement, AsmFa
 
 /// `n[,v]`
 pub fn amount(alloc: Global, which: Amount, tokens: &[Token<'_>]) -> Result<Statement, AsmFault>
-    ensures { Parses result (IsAmount (amount_statement which) (parts_of (lexemes tokens.now))) }
+    ensures { Parses result (IsDirective (directive.Amount which) (lexemes tokens.now)) }
 {
     let (amount, value) = one_or_two(alloc, tokens)?;
     Ok(match which {
@@ -221,7 +222,7 @@ fn action_word(word: &[u8]) -> Result<Action, AsmFault>
 
 /// An assertion's own text.
 fn own_text(alloc: Global, tokens: &[Token<'_>]) -> Result<Sequence<u8>, AsmFault>
-    ensures { Parses result (λ r. r ≡ own_words (lexemes tokens.now)) }
+    ensures { Parses result (λ r. r ≡ words_of (lexemes tokens.now ∷ [])) }
 {
     let text = needed(string_of(tokens))?;
     if text.len() > MAX_TEXT {
@@ -246,7 +247,7 @@ fn text_of(alloc: Global, rest: Option<&[Token<'_>]>) -> Result<Sequence<u8>, As
 
 /// `.assert`
 pub fn assertion(alloc: Global, tokens: &[Token<'_>]) -> Result<Statement, AsmFault>
-    ensures { Parses result (IsAssertion (parts_of (lexemes tokens.now))) }
+    ensures { Parses result (IsDirective directive.Assert (lexemes tokens.now)) }
 {
     let (value, behind) = first_part(tokens);
     let Some(behind) = behind else {
@@ -291,7 +292,7 @@ fn lone_statement(alloc: Global, which: Lone) -> Result<Statement, AsmFault>
 
 /// A statement without operands.
 pub fn lone(alloc: Global, which: Lone, tokens: &[Token<'_>]) -> Result<Statement, AsmFault>
-    ensures { Parses result (λ r. r ≡ alone (lone_statement which) (lexemes tokens.now)) }
+    ensures { Parses result (IsDirective (directive.Lone which) (lexemes tokens.now)) }
 {
     if tokens.is_empty() {
         lone_statement(alloc, which)
@@ -302,7 +303,7 @@ pub fn lone(alloc: Global, which: Lone, tokens: &[Token<'_>]) -> Result<Statemen
 
 /// `.out` and `.warning`
 pub fn message(alloc: Global, which: Message, tokens: &[Token<'_>]) -> Result<Statement, AsmFault>
-    ensures { Parses result (λ r. r ≡ told which (lexemes tokens.now)) }
+    ensures { Parses result (IsDirective (directive.Message which) (lexemes tokens.now)) }
 {
     let text = Sequence::copy_of(alloc, needed(string_of(tokens))?)?;
     Ok(match which {
@@ -313,7 +314,7 @@ pub fn message(alloc: Global, which: Message, tokens: &[Token<'_>]) -> Result<St
 
 /// `.setcpu`
 pub fn processor(tokens: &[Token<'_>]) -> Result<Statement, AsmFault>
-    ensures { Parses result (λ r. r ≡ processor_of (lexemes tokens.now)) }
+    ensures { Parses result (IsDirective directive.SetProcessor (lexemes tokens.now)) }
 {
     if needed(string_of(tokens))? == b"6502".as_slice() {
         Ok(Statement::Nothing)

@@ -2,13 +2,14 @@
 
 ghost use Rattle.std.specs.Prelude.{◌≡◌, ◌<◌, ◌≤◌, ◌∷◌, [], false, length, not, option_map, IfOk, IfSome, IsTrue, None, Ok, Some};
 ghost use Rattle.std.specs.List.{prefix_len};
-ghost use Rattle.syntax65.specs.Expressions.{IsParsed, binary_at, opening_in};
+ghost use Rattle.syntax65.specs.Expressions.{IsParsed, binary_at, opening_of};
 ghost use Rattle.syntax65.specs.Faults.{is_expr_outside};
 ghost use Rattle.base65.specs.Relations.{Answers};
 ghost use Rattle.syntax65.specs.Tokens.{lexeme_of, lexemes};
 ghost use Rattle.syntax65.specs.Trees.{number};
 ghost use Rattle.syntax65.specs.declared.expressions.words.Opening.TheVariants.{Number};
-ghost use Rattle.ast65.specs.Parsing.{is_comma, parts_behind, parts_of, quoted_in, IsExpression, IsFront, IsOneOrTwo, Parses, closing_of, index_of, indirect_by, IsAddress, IsImmediate, IsIndirect, IsOperand, IsOperandFrom, IsPlainOperand, ParsesAs};
+ghost use Rattle.ast65.specs.Parsing.{is_comma, parts_behind, parts_of, quoted_in, IsExpression, IsFront, IsOneOrTwo, Parses, closing_of, index_of, indirect_by, IsEnded, IsOperand, IsPlainOperand, ParsesAs};
+ghost use Rattle.ast65.specs.declared.language.Operand.TheVariants.{Address};
 
 use super::tokens::{is_close, is_comma, is_spelled, spells, word_of};
 use crate::fault::AsmFault;
@@ -18,7 +19,7 @@ use syntax65::{AddressSize, Expr, ExprFault, ExprKind, Mark, Token, TokenKind, r
 
 /// The value of a number.
 pub fn number_in(token: &Token<'_>) -> Option<u32>
-    ensures number { IfSome result (λ v. opening_in (Some (lexeme_of token.now)) ≡ Number v) }
+    ensures number { IfSome result (λ v. opening_of token.now.kind token.now.text.now ≡ Number v) }
     ensures text { IfSome result (λ _. quoted_in (lexeme_of token.now) ≡ None) }
     ensures comma { IfSome result (λ _. is_comma (lexeme_of token.now) ≡ false) }
 {
@@ -154,7 +155,7 @@ fn address(
     prefix: Option<AddressSize>,
     tokens: &[Token<'_>],
 ) -> Result<Operand, AsmFault>
-    ensures { Parses result (IsAddress prefix (lexemes tokens.now)) }
+    ensures { Parses result (IsEnded index_of (Address prefix) (lexemes tokens.now)) }
 {
     let (value, behind) = front(alloc, tokens)?;
     let index = index_of(behind)?;
@@ -190,8 +191,8 @@ fn closing_of(tokens: &[Token<'_>]) -> Result<Option<Index>, AsmFault>
     }
 }
 
-fn indirect_by(index: Option<Index>, value: Expr) -> Operand
-    ensures { result ≡ indirect_by index value }
+fn indirect_by(value: Expr, index: Option<Index>) -> Operand
+    ensures { result ≡ indirect_by value index }
 {
     match index {
         None => Operand::Indirect(value),
@@ -202,14 +203,15 @@ fn indirect_by(index: Option<Index>, value: Expr) -> Operand
 
 /// What stands behind a `(`.
 fn indirect(alloc: Global, tokens: &[Token<'_>]) -> Result<Operand, AsmFault>
-    ensures { Parses result (IsIndirect (lexemes tokens.now)) }
+    ensures { Parses result (IsEnded closing_of indirect_by (lexemes tokens.now)) }
 {
     let (value, behind) = front(alloc, tokens)?;
     let index = closing_of(behind)?;
-    Ok(indirect_by(index, value))
+    Ok(indirect_by(value, index))
 }
 
 /// `a`, or an address without a prefix.
+#[tactic(auto, unfolding(crate::specs::Parsing::IsPlainOperand))]
 fn plain_operand(alloc: Global, tokens: &[Token<'_>]) -> Result<Operand, AsmFault>
     ensures { Parses result (IsPlainOperand (lexemes tokens.now)) }
 {

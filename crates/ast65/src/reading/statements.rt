@@ -1,9 +1,10 @@
 //! Labels and statements, those of directives by their words.
 
-ghost use Rattle.std.specs.Prelude.{◌≡◌, false, Ok, option_map, IfSome, Result, Some};
+ghost use Rattle.std.specs.Prelude.{◌≡◌, ◌∷◌, false, Ok, option_map, IfSome, Result, Some};
 ghost use Rattle.syntax65.specs.Tokens.{lexeme_of, lexemes};
-ghost use Rattle.ast65.specs.Parsing.{front_label, label_before, label_of, named_label, Parses, directive_of, IsDirective, IsDirectiveStatement, IsConstant, IsInstruction, IsNamed, IsStatement, ParsesAs};
+ghost use Rattle.ast65.specs.Parsing.{label_before, label_of, named_label, Parses, IsConstant, IsInstruction, IsNamed, IsStatement, ParsesAs};
 ghost use Rattle.syntax65.specs.Mnemonics.{mnemonic_of};
+ghost use Rattle.syntax65.specs.declared.lexing.tokens.TokenKind.TheVariants as token;
 ghost use Rattle.ast65.specs.declared.fault.AsmFault.{AsmFault};
 ghost use Rattle.ast65.specs.declared.language.Statement.{Statement};
 
@@ -13,9 +14,9 @@ use super::directives::{
 use super::operands::{expression, operand};
 use super::tokens::{defines, is_colon, name_of, scope, segment};
 use super::words::{Directive, directive_of};
-use base65::Sequence;
 use crate::fault::AsmFault;
 use crate::language::Statement;
+use base65::Sequence;
 use std::alloc::Global;
 use syntax65::{Mnemonic, Token, TokenKind, is_reserved, mnemonic};
 
@@ -83,7 +84,7 @@ fn directive_statement(
     word: &[u8],
     tokens: &[Token<'_>],
 ) -> Result<Statement, AsmFault>
-    ensures { Parses result (IsDirectiveStatement (directive_of word.now) (lexemes tokens.now)) }
+    ensures { Parses result (IsStatement ((token.Directive, word.now) ∷ lexemes tokens.now)) }
 {
     let Some(directive) = directive_of(word) else {
         return Err(AsmFault::NotUnderstood);

@@ -3,11 +3,13 @@
 ghost use Rattle.std.specs.Prelude.{◌≡◌, false, option_map};
 ghost use Rattle.syntax65.specs.Tokens.{lexeme_of, lexemes};
 ghost use Rattle.std.specs.List.{list_all};
-ghost use Rattle.ast65.specs.Parsing.{defines, inner, is_close, is_colon, is_comma, name_of, quoted_in, spelled, spells, string_of, understood, word_in, word_of, Parses, is_identifier, is_letter, is_letter_or_digit, scope_of, segment_named, segment_of, size_behind, size_word, ParsesAs};
+ghost use Rattle.ast65.specs.Parsing.{defines, inner, is_close, is_colon, is_comma, name_of, quoted_in, spelled, spells, string_of, understood, word_in, word_of, IsDirective, Parses, ParsesAs, is_identifier, is_letter, size_behind, size_word};
+ghost use Rattle.ast65.specs.declared.reading.words.Directive.TheVariants as directive;
+ghost use Rattle.syntax65.specs.Forms.{is_word};
 
-use base65::Sequence;
 use crate::fault::AsmFault;
 use crate::language::Statement;
+use base65::Sequence;
 use std::alloc::Global;
 use syntax65::{AddressSize, MAX_NAME, Mark, Token, TokenKind, is_reserved};
 
@@ -160,13 +162,13 @@ fn is_letter(byte: u8) -> bool
 }
 
 fn is_letter_or_digit(byte: u8) -> bool
-    ensures { result ≡ is_letter_or_digit byte }
+    ensures { result ≡ is_word byte }
 {
     is_letter(byte) || byte.is_ascii_digit()
 }
 
 fn are_letters_or_digits(bytes: &[u8]) -> bool
-    ensures { result ≡ list_all is_letter_or_digit bytes.now }
+    ensures { result ≡ list_all is_word bytes.now }
 {
     bytes.iter().all(|byte| is_letter_or_digit(*byte))
 }
@@ -183,7 +185,7 @@ fn is_identifier(bytes: &[u8]) -> bool
 
 /// `.segment`
 pub fn segment(alloc: Global, tokens: &[Token<'_>]) -> Result<Statement, AsmFault>
-    ensures { Parses result (λ r. r ≡ segment_of (lexemes tokens.now)) }
+    ensures { Parses result (IsDirective directive.Segment (lexemes tokens.now)) }
 {
     let Some((first, behind)) = tokens.split_first() else {
         return Err(AsmFault::NotUnderstood);
@@ -199,7 +201,7 @@ pub fn segment(alloc: Global, tokens: &[Token<'_>]) -> Result<Statement, AsmFaul
 
 /// `.scope`
 pub fn scope(alloc: Global, tokens: &[Token<'_>]) -> Result<Statement, AsmFault>
-    ensures { Parses result (λ r. r ≡ scope_of (lexemes tokens.now)) }
+    ensures { Parses result (IsDirective directive.Scope (lexemes tokens.now)) }
 {
     if tokens.is_empty() {
         return Ok(Statement::OpenScope(None));

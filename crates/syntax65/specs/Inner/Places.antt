@@ -4,10 +4,9 @@ use Rattle.std.specs.List.{prefix_len}
 use Rattle.base65.specs.Digit.{digits}
 use Rattle.syntax65.specs.Forms.{class_of, is_word, number_of, StartsNumber, Begins, Stands, IsToken, FaultAt}
 use Rattle.syntax65.specs.declared.lexing.places.Class.TheVariants.{At, Dot, Colon, Other}
-use Rattle.syntax65.specs.declared.lexing.tokens.AddressSize.{AddressSize}
 use Rattle.syntax65.specs.declared.lexing.tokens.Mark.{Mark}
 use Rattle.syntax65.specs.declared.lexing.tokens.TokenKind.{TokenKind}
-use Rattle.syntax65.specs.declared.lexing.tokens.TokenKind.TheVariants.{CheapName, Directive, SizePrefix, Symbol}
+use Rattle.syntax65.specs.declared.lexing.tokens.TokenKind.TheVariants.{CheapName, Directive, Symbol}
 use Rattle.syntax65.specs.declared.lexing.tokens.LexFault.{LexFault}
 
 -- a token of this kind and length stands here, or none does for this reason
@@ -33,11 +32,6 @@ NoSign (b ∷ bs) = (b ≢ 43) × (b ≢ 45)
 -- only a mark can stand here
 abbrev pub BeginsMark : List ℕ → Type 0
 BeginsMark here = Begins Other here ⊎ (Begins Colon here × NoSign (drop 1 here))
-
--- this size prefix stands here, or none does
-abbrev pub IsPrefixAt : Bool → List ℕ → Option AddressSize → Type 0
-IsPrefixAt first here None = (s : AddressSize) → Stands first (SizePrefix s) 2 here → ⊥
-IsPrefixAt first here (Some s) = Stands first (SizePrefix s) 2 here
 
 -- this mark of two bytes stands here, or none does
 abbrev pub IsLongMarkAt : List ℕ → Option Mark → Type 0

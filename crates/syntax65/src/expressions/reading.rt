@@ -1,7 +1,7 @@
 //! Reading expressions, and names with `::` between them.
 
 ghost use Rattle.std.specs.Prelude.{◌<◌, ◌≤◌, length, IfOk, ◌≡◌};
-ghost use Rattle.syntax65.specs.Expressions.{ReadsNames, IsParsed, ReadsLevel, opening_at, leaf_of};
+ghost use Rattle.syntax65.specs.Expressions.{AreNames, IsLevel, IsParsed, opening_at, leaf_of};
 ghost use Rattle.syntax65.specs.Tokens.{lexemes};
 ghost use Rattle.syntax65.specs.Faults.{is_expr_outside};
 ghost use Rattle.base65.specs.Relations.{Answers};
@@ -21,7 +21,7 @@ pub fn read_parts(
     at: usize,
 ) -> Result<(Sequence<Sequence<u8>>, usize), ExprFault>
     requires { at ≤ length tokens.now }
-    ensures parts { ReadsNames (lexemes tokens.now) at result }
+    ensures parts { Answers is_expr_outside (λ r. r) result (AreNames (lexemes tokens.now) at) }
     ensures further { IfOk result (λ r. at < r.1) }
     ensures inside { IfOk result (λ r. r.1 ≤ length tokens.now) }
 {
@@ -64,7 +64,7 @@ fn read_whole(
     at: usize,
     room: u8,
 ) -> Result<(Expr, usize), ExprFault>
-    ensures phrase { ReadsLevel (lexemes tokens.now) room 6 at result }
+    ensures phrase { Answers is_expr_outside (λ r. r) result (IsLevel (lexemes tokens.now) room 6 at) }
     ensures further { IfOk result (λ r. at < r.1) }
     ensures inside { IfOk result (λ r. r.1 ≤ length tokens.now) }
 {
@@ -84,7 +84,7 @@ fn read_negated(
 ) -> Result<(Expr, usize), ExprFault>
     requires inside { at < length tokens.now }
     requires negation { opening_at (lexemes tokens.now) at ≡ opening.Negation }
-    ensures phrase { ReadsLevel (lexemes tokens.now) room 6 at result }
+    ensures phrase { Answers is_expr_outside (λ r. r) result (IsLevel (lexemes tokens.now) room 6 at) }
     ensures further { IfOk result (λ r. at < r.1) }
     ensures inside { IfOk result (λ r. r.1 ≤ length tokens.now) }
 {
@@ -108,7 +108,7 @@ fn read_level(
     room: u8,
 ) -> Result<(Expr, usize), ExprFault>
     requires { level ≤ 5 }
-    ensures phrase { ReadsLevel (lexemes tokens.now) room level at result }
+    ensures phrase { Answers is_expr_outside (λ r. r) result (IsLevel (lexemes tokens.now) room level at) }
     ensures further { IfOk result (λ r. at < r.1) }
     ensures inside { IfOk result (λ r. r.1 ≤ length tokens.now) }
 {
@@ -131,7 +131,7 @@ fn read_operand(
     at: usize,
     room: u8,
 ) -> Result<(Expr, usize), ExprFault>
-    ensures phrase { ReadsLevel (lexemes tokens.now) room 0 at result }
+    ensures phrase { Answers is_expr_outside (λ r. r) result (IsLevel (lexemes tokens.now) room 0 at) }
     ensures further { IfOk result (λ r. at < r.1) }
     ensures inside { IfOk result (λ r. r.1 ≤ length tokens.now) }
 {
@@ -171,7 +171,7 @@ fn read_name(
 ) -> Result<(Expr, usize), ExprFault>
     requires inside { at < length tokens.now }
     requires name { opening_at (lexemes tokens.now) at ≡ opening.Name }
-    ensures phrase { ReadsLevel (lexemes tokens.now) room 0 at result }
+    ensures phrase { Answers is_expr_outside (λ r. r) result (IsLevel (lexemes tokens.now) room 0 at) }
     ensures further { IfOk result (λ r. at < r.1) }
     ensures inside { IfOk result (λ r. r.1 ≤ length tokens.now) }
 {
@@ -195,7 +195,7 @@ fn read_global(
 ) -> Result<(Expr, usize), ExprFault>
     requires inside { at < length tokens.now }
     requires scope { opening_at (lexemes tokens.now) at ≡ opening.Scope }
-    ensures phrase { ReadsLevel (lexemes tokens.now) room 0 at result }
+    ensures phrase { Answers is_expr_outside (λ r. r) result (IsLevel (lexemes tokens.now) room 0 at) }
     ensures further { IfOk result (λ r. at < r.1) }
     ensures inside { IfOk result (λ r. r.1 ≤ length tokens.now) }
 {
@@ -217,7 +217,7 @@ fn read_prefixed(
 ) -> Result<(Expr, usize), ExprFault>
     requires inside { at < length tokens.now }
     requires prefix { opening_at (lexemes tokens.now) at ≡ opening.Prefix op }
-    ensures phrase { ReadsLevel (lexemes tokens.now) room 0 at result }
+    ensures phrase { Answers is_expr_outside (λ r. r) result (IsLevel (lexemes tokens.now) room 0 at) }
     ensures further { IfOk result (λ r. at < r.1) }
     ensures inside { IfOk result (λ r. r.1 ≤ length tokens.now) }
 {
@@ -240,7 +240,7 @@ fn read_enclosed(
 ) -> Result<(Expr, usize), ExprFault>
     requires inside { at < length tokens.now }
     requires open { opening_at (lexemes tokens.now) at ≡ opening.Parenthesis }
-    ensures phrase { ReadsLevel (lexemes tokens.now) room 0 at result }
+    ensures phrase { Answers is_expr_outside (λ r. r) result (IsLevel (lexemes tokens.now) room 0 at) }
     ensures further { IfOk result (λ r. at < r.1) }
     ensures inside { IfOk result (λ r. r.1 ≤ length tokens.now) }
 {

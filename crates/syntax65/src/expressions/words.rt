@@ -1,9 +1,9 @@
 //! What stands at a place of a list of tokens within an expression, and why there is none.
 
-ghost use Rattle.std.specs.Prelude.{◌≡◌, ◌≢◌, ◌<◌, ◌↔◌, length, slice_get, IfSome, IsSome, IsTrue};
+ghost use Rattle.std.specs.Prelude.{◌≡◌, ◌≢◌, ◌<◌, ◌≤◌, ◌↔◌, length, slice_get, IfSome, IsSome, IsTrue, MatchOption, Some};
 ghost use Rattle.syntax65.specs.declared.expressions.words.ExprFault.TheVariants.{OutOfMemory};
 ghost use Rattle.std.specs.Option.{option_map};
-ghost use Rattle.syntax65.specs.Expressions.{opening_at, binary_at, text_at, closes_at, IsOperatorUpTo, is_register, is_reserved, unnamed, opening_of_mark, opening_of_word, opening_of, binary_of_mark, binary_of_word, binary_of, level_of};
+ghost use Rattle.syntax65.specs.Expressions.{opening_at, binary_at, text_at, closes_at, NoOperator, is_register, is_reserved, unnamed, opening_of_mark, opening_of_word, opening_of, binary_of_mark, binary_of_word, binary_of, level_of};
 ghost use Rattle.syntax65.specs.Tokens.{lexeme_of, lexemes};
 
 use crate::spelling::is_word;
@@ -136,7 +136,8 @@ pub fn text_at<'a>(tokens: &[Token<'a>], at: usize) -> &'a [u8]
 
 /// The operator at a place, and its level, where that is at most `level`.
 pub fn operator_at(tokens: &[Token<'_>], level: u8, at: usize) -> Option<(Op2, u8)>
-    ensures value { IsOperatorUpTo (lexemes tokens.now) level at result }
+    ensures value { MatchOption result (NoOperator (lexemes tokens.now) level at)
+        (λ x. (binary_at (lexemes tokens.now) at ≡ Some x.0) × ((level_of x.0 ≡ x.1) × (x.1 ≤ level))) }
     ensures some { IfSome result (λ x. 0 < x.1) }
     ensures inside { IsSome result → at < length tokens.now }
 {

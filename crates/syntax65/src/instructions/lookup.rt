@@ -1,14 +1,15 @@
 //! The mnemonic that bytes spell.
 
 ghost use Rattle.std.specs.Prelude.{◌≡◌};
-ghost use Rattle.syntax65.specs.Mnemonics.{IsNamed, IsSpelled, mnemonic_of};
+ghost use Rattle.syntax65.specs.Forms.{IsFound};
+ghost use Rattle.syntax65.specs.Mnemonics.{Spells, mnemonic_of, name_of};
 
 use super::names::Mnemonic;
 
 /// The mnemonic that these bytes spell, in either case.
 pub fn mnemonic(bytes: &[u8]) -> Option<Mnemonic>
     ensures value { result ≡ mnemonic_of bytes.now }
-    ensures spelled { IsSpelled bytes.now result }
+    ensures spelled { IsFound (Spells bytes.now) result }
 {
     match bytes {
         [first, second, third] => of_letters([
@@ -22,7 +23,7 @@ pub fn mnemonic(bytes: &[u8]) -> Option<Mnemonic>
 
 /// The mnemonic of three small letters.
 fn of_letters(letters: [u8; 3]) -> Option<Mnemonic>
-    ensures { IsNamed letters result }
+    ensures { IsFound (λ m. letters ≡ name_of m) result }
 {
     Some(match letters {
         [b'a', b'd', b'c'] => Mnemonic::Adc,

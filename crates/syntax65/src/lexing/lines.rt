@@ -1,9 +1,10 @@
 //! Lines as tokens: the whole of a line, a line a token at a time, and its first words.
 
-ghost use Rattle.std.specs.Prelude.{◌≡◌, ◌≤◌, ◌↔◌, ◌++◌, ◌∷◌, [], IsTrue, ◌<◌, IfOk, IfSome, length, List};
+ghost use Rattle.std.specs.Prelude.{◌≡◌, ◌≤◌, ◌↔◌, ◌++◌, ◌∷◌, [], IsTrue, ◌<◌, IfOk, IfSome, MatchResult, length, List, true, Ok, Err};
+ghost use Rattle.syntax65.specs.declared.lexing.tokens.LexFault.TheVariants.{LineTooLong};
 ghost use Rattle.syntax65.specs.Faults.{is_lex_outside};
 ghost use Rattle.base65.specs.Relations.{Answers};
-ghost use Rattle.syntax65.specs.Tokens.{ReadsOn, after_blanks, lexeme_of, lexemes, IsEnd, IsRead, IsCutOff, IsNext, IsStart, Lexeme, IsFront, IsScanned, HoldsNothing, held};
+ghost use Rattle.syntax65.specs.Tokens.{ReadsOn, after_blanks, lexeme_of, lexemes, IsEnd, IsRead, IsCutOff, IsNext, Lexeme, IsFront, HoldsNothing, held};
 
 use super::places::{blank_len, token_at};
 use super::tokens::{LexFault, Token, TokenKind};
@@ -167,7 +168,9 @@ impl<'a> Lexer<'a> {
     ///
     /// `LineTooLong`.
     pub fn new(line: &'a [u8]) -> Result<Self, LexFault>
-        ensures { IsStart line.now result }
+        ensures { MatchResult result
+            (λ lexer. (length line.now ≤ 4096) × (lexer.rest.now ≡ line.now) × (lexer.first ≡ true))
+            (λ fault. (fault ≡ LineTooLong) × (4096 < length line.now)) }
     {
         if line.len() > MAX_LINE {
             return Err(LexFault::LineTooLong);
@@ -227,7 +230,9 @@ impl<'a> LineFront<'a> {
 ///
 /// `LineTooLong`, or else the fault of the first place where no token stands.
 pub fn line_front(line: &[u8]) -> Result<LineFront<'_>, LexFault>
-    ensures { IsScanned line.now result }
+    ensures { MatchResult result
+        (λ front. (ts : List Lexeme) × IsRead line.now (Ok ts) × IsFront ts front)
+        (λ fault. IsRead line.now (Err fault)) }
 {
     let mut lexer = Lexer::new(line)?;
     let mut front = LineFront {

@@ -2,9 +2,10 @@
 
 ghost use Rattle.std.specs.Prelude.{◌≡◌, ◌==◌, ◌≤◌, length, ◌∷◌, [], ◌<◌, ◌+◌, IfSome, ◌↔◌, Bool, None, IsTrue};
 ghost use Rattle.base65.specs.Digit.{IsRadix, digits};
-ghost use Rattle.syntax65.specs.Forms.{class_of, is_word, is_blank, is_no_quote, IsMark, Begins, IsSize, NotColonOrEqual, number_of, plain_number_of};
+ghost use Rattle.syntax65.specs.Forms.{class_of, is_word, is_blank, is_no_quote, spelling, Begins, IsFound, IsSizeLetter, NotColonOrEqual, Stands, number_of, plain_number_of};
+ghost use Rattle.syntax65.specs.declared.lexing.tokens.TokenKind.TheVariants.{SizePrefix};
 ghost use Rattle.std.specs.List.{prefix_len};
-ghost use Rattle.syntax65.specs.Inner.Places.{AreDigitsAhead, IsPlainNumber, IsAt, IsPrefixAt, IsLongMarkAt, BeginsNumber, BeginsSigned, BeginsMark};
+ghost use Rattle.syntax65.specs.Inner.Places.{AreDigitsAhead, IsPlainNumber, IsAt, IsLongMarkAt, BeginsNumber, BeginsSigned, BeginsMark};
 ghost use Rattle.syntax65.specs.Tokens.{IsEnd};
 ghost use Rattle.syntax65.specs.declared.lexing.places.Class.TheVariants.{Letter, Apostrophe, Quote, Colon, Blank};
 
@@ -124,7 +125,7 @@ pub fn text_len(bytes: &[u8]) -> usize
 
 /// The mark of these two bytes.
 pub fn mark_of_two(first: u8, second: u8) -> Option<Mark>
-    ensures { IsMark (first ∷ second ∷ []) result }
+    ensures { IsFound (λ mark. spelling mark ≡ first ∷ second ∷ []) result }
 {
     match (first, second) {
         (b':', b':') => Some(Mark::Scope),
@@ -143,7 +144,7 @@ pub fn mark_of_two(first: u8, second: u8) -> Option<Mark>
 /// The mark of this byte.
 #[inline(always)]
 pub fn mark_of_one(byte: u8) -> Option<Mark>
-    ensures { IsMark (byte ∷ []) result }
+    ensures { IsFound (λ mark. spelling mark ≡ byte ∷ []) result }
 {
     Some(match byte {
         b':' => Mark::Colon,
@@ -268,7 +269,7 @@ fn word_at(first: bool, here: &[u8]) -> Result<(TokenKind, usize), LexFault>
 
 #[inline(always)]
 fn prefix_at(first: bool, here: &[u8]) -> Option<AddressSize>
-    ensures { IsPrefixAt first here.now result }
+    ensures { IsFound (λ size. Stands first (SizePrefix size) 2 here.now) result }
 {
     if first || here.len() < 2 {
         return None;
@@ -290,7 +291,7 @@ fn is_not_colon_or_equal(behind: &[u8]) -> bool
 }
 
 fn size_of(letter: u8) -> Option<AddressSize>
-    ensures { IsSize letter result }
+    ensures { IsFound (λ size. IsSizeLetter size letter) result }
 {
     match letter {
         b'z' | b'Z' => Some(AddressSize::ZeroPage),
@@ -302,7 +303,7 @@ fn size_of(letter: u8) -> Option<AddressSize>
 #[inline(always)]
 fn identifier_at(first: bool, here: &[u8]) -> Result<(TokenKind, usize), LexFault>
     requires letter { Begins Letter here.now }
-    requires no_prefix { IsPrefixAt first here.now None }
+    requires no_prefix { IsFound (λ size. Stands first (SizePrefix size) 2 here.now) None }
     ensures { IsAt first here.now result }
 {
     let len = 1 + word_len(&here[1..]);

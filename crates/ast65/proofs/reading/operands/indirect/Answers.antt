@@ -1,20 +1,18 @@
-use Rattle.std.proofs.Common.{Ok, subst, sym}
 use Rattle.syntax65.specs.Tokens.{lexemes}
-use Rattle.ast65.proofs.Parts.{bind_err, bind_ok, second_fault, then_fault, parses_fault, closing_inside, IsInside}
+use Rattle.ast65.specs.Parsing.{closing_of, indirect_by}
+use Rattle.ast65.proofs.Parts.{end_fault, front_fault, is_ended, closing_inside}
 use Rattle.ast65.proofs.reading.operands.indirect.Goals as goal
 
 pub returns-in_err-value : goal.returns-in_err-value
-returns-in_err-value c =
-    parses_fault _ _ c.from_residual.result c.in_err-value.field-0.0 c.from_residual.ensures.1 c.in_err-value.ensures.inside
-    (then_fault _ _ _ c.from_residual.result c.in_err-value.field-0.0 c.from_residual.ensures.1 c.in_err-value.ensures.value)
+returns-in_err-value c = front_fault closing_of indirect_by (lexemes c.args.tokens.now) _ c.from_residual.result c.in_err-value.field-0.0 c.from_residual.ensures.1 c.in_err-value.ensures.inside c.in_err-value.ensures.value
 
 pub returns-in_err-index : goal.returns-in_err-index
 returns-in_err-index c =
-    parses_fault _ _ c.from_residual-in_err-index.result c.in_err-index.field-0.0 c.from_residual-in_err-index.ensures.1 (subst IsInside (sym c.in_err-index.ensures) (closing_inside (lexemes c.in_ok-value.behind.now)))
-    (second_fault _ _ _ c.from_residual-in_err-index.result (c.in_ok-value.value, lexemes c.in_ok-value.behind.now) c.in_err-index.field-0.0 c.from_residual-in_err-index.ensures.1 c.in_ok-value.ensures.value (bind_err _ _ _ c.in_err-index.ensures))
+    end_fault closing_of indirect_by (lexemes c.args.tokens.now) _ c.from_residual-in_err-index.result (c.in_ok-value.value, lexemes c.in_ok-value.behind.now) c.in_err-index.field-0.0
+    c.from_residual-in_err-index.ensures.1 c.in_ok-value.ensures.value (closing_inside (lexemes c.in_ok-value.behind.now)) c.in_err-index.ensures
 
 pub returns : goal.returns
 returns c = record {
-  value = rw c.indirect_by.ensures (Ok (c.in_ok-value.value, lexemes c.in_ok-value.behind.now), c.in_ok-value.ensures.value, sym (bind_ok _ _ c.in_ok-index.index c.in_ok-index.ensures));
+  value = rw c.indirect_by.ensures (is_ended closing_of indirect_by (lexemes c.args.tokens.now) (c.in_ok-value.value, lexemes c.in_ok-value.behind.now) c.in_ok-index.index c.in_ok-value.ensures.value c.in_ok-index.ensures);
   inside = tt;
 }

@@ -6,7 +6,7 @@ use Rattle.syntax65.proofs.expressions.reading.read_parts.Goals as goal
 
 pub returns-then-not-is_name-clause-parts : goal.returns-then-not-is_name-clause-parts
 returns-then-not-is_name-clause-parts c =
-    (c.parts.end, c.parts.invariant.lost c.parts.end (no_part c.parts.end (λ e. let f : IsTrue false = c.if-not-is_name.ensures.value.1 e in cc)))
+    (refl, (c.parts.end, c.parts.invariant.lost c.parts.end (no_part c.parts.end (λ e. let f : IsTrue false = c.if-not-is_name.ensures.value.1 e in cc))))
 
 pub returns-then-not-is_scope-clause-parts : goal.returns-then-not-is_scope-clause-parts
 returns-then-not-is_scope-clause-parts c =

@@ -22,7 +22,7 @@ use Rattle.ast65.specs.declared.language.Statement.TheVariants as statement
 use Rattle.semantics65.specs.Layout.{laid, line_fault}
 use Rattle.semantics65.specs.Numbering.{AreNamed, IsSound}
 use Rattle.ast65.specs.Parsing.{IsStatement, label_of}
-use Rattle.ast65.proofs.Sounding.{statement_sound}
+use Rattle.semantics65.proofs.Sounding.{statement_sound}
 use Rattle.semantics65.specs.Machine.{Puts, at_once, later, PutsAll, State, Steps, Takes, UnlessFault, asked, entered, known}
 use Rattle.semantics65.specs.Module.{out_of, warning_of, Piece, pieces_of}
 use Rattle.semantics65.specs.Reading.{Answers, IsGiven, IsLabel, IsLabelled, IsRest, with_bytes}

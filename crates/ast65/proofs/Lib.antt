@@ -4,4 +4,3 @@ pub mod Lone
 pub mod OneStatements
 pub mod Parts
 pub mod Shown
-pub mod Sounding

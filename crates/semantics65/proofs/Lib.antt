@@ -1,4 +1,4 @@
-pub mod Contents
+pub mod ContentPieces
 pub mod Entries
 pub mod NamedItems
 pub mod NamedLines
@@ -13,4 +13,5 @@ pub mod SoundLayouts
 pub mod SoundParts
 pub mod SoundSayings
 pub mod SoundSources
+pub mod Sounding
 pub mod Taken

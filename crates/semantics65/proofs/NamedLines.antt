@@ -21,7 +21,7 @@ use Rattle.object65.specs.Objects.{is_name, is_printed}
 use Rattle.expand65.specs.Lines.{line_limit, own_token, all_local, with_local, with_locals, Replacing, argument_at, either, is_count_word, replaced, stand_in}
 use Rattle.expand65.specs.Macros.{is_made, new_names, unmade, arguments_of, braces_behind, is_braced, parts_within, put_in_first, unbraced}
 use Rattle.semantics65.specs.Numbering.{AreNamed, IsNamed}
-use Rattle.ast65.proofs.Sounding.{tokens_named}
+use Rattle.semantics65.proofs.Sounding.{tokens_named}
 use Rattle.std.specs.Map.{lookup}
 use Rattle.syntax65.specs.Expressions.{is_reserved}
 use Rattle.expand65.specs.Fronts.{is_comma, name_in, names_from, ◌>=>◌}

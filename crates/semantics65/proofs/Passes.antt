@@ -19,7 +19,7 @@ use Rattle.semantics65.specs.Machine.{AreFoundAlike, LaidRuns, OnePass, RunsLaid
 use Rattle.semantics65.specs.Reading.{IsLaid, laying, PlacedFault}
 use Rattle.semantics65.specs.Norms.{Extends}
 use Rattle.semantics65.specs.Module.{Outcome, assertion_warnings, contents_from, out_of, outcome_of, printed, warned, warning_of, Made, Piece, made_of, pieces_of}
-use Rattle.semantics65.proofs.Contents.{all_append, all_made, made_of_pieces, piece_made, pieces_made}
+use Rattle.semantics65.proofs.ContentPieces.{all_append, all_made, made_of_pieces, piece_made, pieces_made}
 use Rattle.semantics65.proofs.Entries.{Entry, alike_by, all_entries, asked_by, entries_of, object_alike, after, after_after, after_nothing, as_entries, come, come_append, nothing, placed, slots_filled}
 use Rattle.semantics65.proofs.Resolving.{awaited_append, extends_behind, extends_same, extends_then, flat_push, symbols_push}
 use Rattle.semantics65.proofs.OneLayouts.{Matches, Simulates, StandIn, source_matches}

@@ -21,7 +21,7 @@ use Rattle.ast65.specs.declared.language.Statement.TheVariants.{Label, CheapLabe
 use Rattle.semantics65.specs.Layout.{Layout, nothing_laid}
 use Rattle.semantics65.specs.Numbering.{AreNamed, IsSound}
 use Rattle.ast65.specs.Parsing.{IsStatement, is_colon, label_before, label_of, named_label, or_all, with_rest}
-use Rattle.ast65.proofs.Sounding.{statement_sound}
+use Rattle.semantics65.proofs.Sounding.{statement_sound}
 use Rattle.semantics65.specs.Machine.{SoundLayoutLaw}
 use Rattle.semantics65.specs.Reading.{IsLaid, laying, AreDefined, AreTaken, taken, faulty, refused, ended, Define, Follows, IsBegun, IsGiven, IsLabel, IsLabelled, IsRest, Job, Reached, no_line, stopped, with_bytes}
 use Rattle.semantics65.proofs.NamedSteps.{IsStateFit, first_fit, next_fit, tokens_of}

@@ -10,8 +10,8 @@ use Rattle.object65.specs.declared.object.Object.{Object}
 use Rattle.object65.specs.declared.object.Origin.{Origin}
 use Rattle.semantics65.specs.Contents.{Content, Part, Known, Filled, Declaration, put}
 use Rattle.semantics65.specs.declared.contents.Segment.{Segment}
-use Rattle.semantics65.specs.Numbering.{all_joined, all_said, assert_files, assert_of, content_imports, export_files, exports_among, fragments_of, import_keys, in_files, joined, name_of, names_once, once, part_files, part_imports, parts_in, segment_name, segment_power}
-use Rattle.emit65.specs.Fed.{AreAlike, files_by, object_over}
+use Rattle.semantics65.specs.Numbering.{all_joined, all_said, assert_files, assert_of, content_imports, export_files, exports_among, fragments_of, import_keys, in_files, joined, name_of, names_once, once, part_files, part_imports, parts_in, section_of, segment_name, segment_power}
+use Rattle.emit65.specs.Fed.{AreAlike}
 
 -- ---- An equivalence.
 
@@ -165,6 +165,28 @@ pub no_room_alike : (g : ℕ) → AreAlike (put g (Filled 0) ∷ []) []
 no_room_alike g = empty_part g (Filled 0) refl refl (λ at s i. refl)
 
 -- ---- One object.
+
+-- the files that contents name, with sections of these segments
+abbrev pub files_named_by : List ℕ → List Content → List (List ℕ)
+files_named_by sections cs = flat_map (λ g. flat_map part_files (parts_in cs g)) sections
+    ++ export_files [] (all_said cs) ++ flat_map assert_files (all_said cs)
+
+abbrev pub files_by : List ℕ → List Content → List (List ℕ)
+files_by sections cs = names_once [] (files_named_by sections cs)
+
+-- the object of contents with sections of these segments
+abbrev pub object_over : List Segment → List (List ℕ) → List ℕ → List Content → Object
+object_over segments names sections cs =
+    let files : List (List ℕ) = files_by sections cs in
+    let imports : List ℕ = import_keys names cs in
+    record {
+      version = 2;
+      files = files;
+      imports = map (name_of names) imports;
+      sections = map (section_of (in_files files) segments sections imports cs) sections;
+      exports = exports_among (in_files files) sections imports [] (all_said cs);
+      asserts = filter_map (assert_of (in_files files) sections imports) (all_said cs);
+    }
 
 pub same_object : (segments : List Segment) (names : List (List ℕ)) (s : List ℕ) (cs ds : List Content) → AreAlike cs ds → object_over segments names s cs ≡ object_over segments names s ds
 same_object segments names s cs ds h = λ n. made (numbers n) (files n) (λ g. fragments (in_files (files n)) (numbers n) g n) (h.said n)

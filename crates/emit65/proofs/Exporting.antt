@@ -14,7 +14,7 @@ use Rattle.semantics65.specs.declared.contents.Declaration as told
 use Rattle.semantics65.specs.Numbering.{exports_among, numbered}
 use Rattle.semantics65.specs.Views.{said_at}
 use Rattle.emit65.specs.declared.entries.Entry.{Entry}
-use Rattle.emit65.specs.Inner.Drafts.{anywhere, exports_at, exports_from, here}
+use Rattle.emit65.specs.Inner.Drafts.{anywhere, exports_at, exports_from}
 
 pub any_map : {A B : Type 0} (p : B → Bool) (f : A → B) (xs : List A) → list_any p (map f xs) ≡ list_any (λ x. p (f x)) xs
 any_map p f [] = refl
@@ -54,4 +54,4 @@ from_cons s i found x es = grind (arith, common_steps)
 
 -- what was said before and the rest
 pub at_append : (s i : List ℕ) (o : Origin) (found : List Export) (x : told.Declaration) (ss : List told.Declaration) → exports_at s i o (exports_at s i o found (x ∷ [])) ss ≡ exports_at s i o found (x ∷ ss)
-at_append s i o found x ss = among_cons (here o) s i found (said_at anywhere x) (map (said_at anywhere) ss)
+at_append s i o found x ss = among_cons (λ place. o) s i found (said_at anywhere x) (map (said_at anywhere) ss)

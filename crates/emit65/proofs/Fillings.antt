@@ -1,6 +1,6 @@
 -- Entries of which some are open, and the files in which they stand.
 use Rattle.std.proofs.lemmas.Grind.{common_steps}
-use Rattle.std.proofs.Common.{◌≡◌, ◌∙◌, ℕ, zero, suc, ◌+◌, ◌<◌, true, false, List, [], ◌∷◌, ◌++◌, length, take, get_or, slice_set, Some, refl, sym, ap, arith, ◌≤◌, map}
+use Rattle.std.proofs.Common.{◌≡◌, ◌∙◌, ℕ, zero, suc, ◌+◌, ◌<◌, true, false, List, [], ◌∷◌, ◌++◌, length, take, drop, get_or, slice_set, Some, refl, sym, ap, arith, ◌≤◌, map}
 use Rattle.std.specs.Prelude.{slice_get, ◌||◌, nat_lt}
 use Rattle.std.specs.List.{list_any, list_all}
 use Rattle.std.proofs.lemmas.List.Folds.{list_all-append}
@@ -8,7 +8,7 @@ use Rattle.semantics65.specs.Contents.{Content, Filled, Known, Waiting, put, tel
 use Rattle.emit65.specs.declared.entries.Entry.{Entry}
 use Rattle.emit65.specs.declared.entries.Entry.TheVariants.{Bytes, Room, Value, Told, Open}
 use Rattle.semantics65.specs.Views.{said_at, place_in}
-use Rattle.emit65.specs.Fed.{content_of, filled, first_of, is_open, open_count, place_by, rest_of, stands_in, Begins, StandIn}
+use Rattle.emit65.specs.Fed.{content_of, filled, is_open, open_count, place_by, stands_in, Begins, StandIn}
 use Rattle.std.proofs.lemmas.Bool.Decides.{nat_tests}
 use Rattle.semantics65.specs.Numbering.{name_of}
 use Rattle.emit65.specs.declared.entries.SourcePos.{SourcePos}
@@ -39,7 +39,7 @@ filled_more files ws [] (Room g n) h = refl
 filled_more files ws [] (Value width g o f) h = refl
 filled_more files ws [] (Told o ss) h = refl
 filled_more files ws [] Open h = absurd cc
-filled_more files ws (Open ∷ es) e h = ap (λ cs. first_of ws ∷ cs) (filled_more files (rest_of ws) es e h)
+filled_more files ws (Open ∷ es) e h = ap (λ cs. get_or ws 0 (telling []) ∷ cs) (filled_more files (drop 1 ws) es e h)
 filled_more files ws (Bytes g bytes ∷ es) e h = ap (λ cs. put g (Known bytes) ∷ cs) (filled_more files ws es e h)
 filled_more files ws (Room g n ∷ es) e h = ap (λ cs. put g (Filled n) ∷ cs) (filled_more files ws es e h)
 filled_more files ws (Value width g o f ∷ es) e h = ap (λ cs. put g (Waiting width (place_by files o) f) ∷ cs) (filled_more files ws es e h)
@@ -156,7 +156,7 @@ place_grown files later o h = ap (λ n. place_in n o.line) (name_grown files lat
 
 pub filled_grown : (files later : List (List ℕ)) (ws : List Content) (es : List Entry) → StandIn (length files) es → filled (files ++ later) ws es ≡ filled files ws es
 filled_grown files later ws [] h = refl
-filled_grown files later ws (Open ∷ es) h = ap (λ cs. first_of ws ∷ cs) (filled_grown files later (rest_of ws) es h)
+filled_grown files later ws (Open ∷ es) h = ap (λ cs. get_or ws 0 (telling []) ∷ cs) (filled_grown files later (drop 1 ws) es h)
 filled_grown files later ws (Bytes g bytes ∷ es) h = ap (λ cs. put g (Known bytes) ∷ cs) (filled_grown files later ws es h)
 filled_grown files later ws (Room g count ∷ es) h = ap (λ cs. put g (Filled count) ∷ cs) (filled_grown files later ws es h)
 filled_grown files later ws (Value width g o f ∷ es) h =

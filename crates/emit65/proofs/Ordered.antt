@@ -21,7 +21,7 @@ use Rattle.semantics65.specs.Views.{said_at}
 use Rattle.emit65.specs.declared.entries.Entry.{Entry}
 use Rattle.emit65.specs.declared.entries.Entry.TheVariants.{Bytes, Room, Value, Told, Open}
 use Rattle.emit65.specs.declared.entries.SourcePos.{SourcePos}
-use Rattle.emit65.specs.Fed.{content_of, object_over, origin_by, place_by, stands_in, AreAlike, filled, StandIn, Stands, contents_in, names_in}
+use Rattle.emit65.specs.Fed.{content_of, origin_by, place_by, stands_in, AreAlike, filled, StandIn, Stands, contents_in, names_in}
 use Rattle.emit65.specs.Inner.Drafts.{asserts_at, entry_asserts, exports_at, exports_from, object_before, in_order}
 use Rattle.emit65.proofs.Drafting.{fragment_put, fragments_put, section_put, sections_are}
 use Rattle.emit65.proofs.Exporting.{among_append}
@@ -30,7 +30,7 @@ use Rattle.emit65.proofs.Naming.{found_there, is_listed, listed_there}
 use Rattle.emit65.proofs.Reordering.{is_listed_part, is_listed_said, object_at, ordered}
 use Rattle.emit65.proofs.Renumbering.{and, left, right}
 use Rattle.emit65.specs.declared.sections.Sections.{Sections}
-use Rattle.emit65.proofs.Alikes.{alike_trans, same_object}
+use Rattle.emit65.proofs.Alikes.{alike_trans, object_over, same_object}
 use Rattle.emit65.proofs.Fillings.{nothing_waits}
 
 -- ---- The object of entries, in the order of its files, is that of their contents.

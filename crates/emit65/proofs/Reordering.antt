@@ -12,7 +12,7 @@ use Rattle.object65.specs.declared.object.Fragment.TheVariants.{Literal, Fill, V
 use Rattle.object65.specs.declared.object.Object.{Object}
 use Rattle.object65.specs.declared.object.Section.{Section}
 use Rattle.semantics65.specs.Numbering.{number_of, once, optional_key, all_joined, all_said, assert_files, assert_of, export_files, exports_among, fragments_of, import_keys, in_files, joined, name_of, names_once, numbered, part_files, parts_in, section_of, segment_name, segment_power}
-use Rattle.emit65.specs.Inner.Drafts.{assert_by, assert_key, export_by, export_key, fragment_by, fragment_keys, order_of, parts_by, section_by, section_files, in_order, origin_by}
+use Rattle.emit65.specs.Inner.Drafts.{assert_by, assert_key, export_by, export_key, fragment_by, fragment_keys, order_of, section_by, section_files, in_order, origin_by}
 use Rattle.emit65.proofs.Renumbering.{HasAll, first_has, has, left, number_at, number_below, once_has, second_has, once_all, right}
 use Rattle.std.proofs.lemmas.Grind.{common_steps, flat_map-append}
 use Rattle.std.proofs.lemmas.List.{map-append}
@@ -20,7 +20,7 @@ use Rattle.syntax65.specs.declared.place.Place.{Place}
 use Rattle.object65.specs.declared.object.Origin.{Origin}
 use Rattle.semantics65.specs.Contents.{Content, Part, Known, Filled, Waiting, Declaration, Exported, ForcedImport, Asserted}
 use Rattle.semantics65.specs.declared.contents.Segment.{Segment}
-use Rattle.emit65.specs.Fed.{files_by, files_named_by, object_over}
+use Rattle.emit65.proofs.Alikes.{files_by, files_named_by, object_over}
 use Rattle.emit65.proofs.Exporting.{any_map}
 use Rattle.emit65.proofs.Naming.{AreBelow, IsNaming, is_listed, naming_more, naming_none, naming_one, once_named, placed_by}
 
@@ -73,6 +73,13 @@ module _ (order : List ℕ) (same : IsInPlace order) where
       let one = file_same t.origin.file (first_has order (assert_key t) (flat_map assert_key ts) h) in
       let rest = asserts_same ts (second_has order (assert_key t) (flat_map assert_key ts) h) in
       λ n. record { action = t.action; origin = record { file = one n; line = t.origin.line }; text = t.text; form = t.form } ∷ rest n
+
+abbrev pub parts_by : List ℕ → Object → Object
+parts_by order o = record o {
+  sections = map (section_by order) o.sections;
+  exports = map (export_by order) o.exports;
+  asserts = map (assert_by order) o.asserts;
+}
 
 -- the parts of an object whose files stand so in its own order
 pub parts_same : (o : Object) → IsInPlace (order_of o.sections o.exports o.asserts) → o ≡ parts_by (order_of o.sections o.exports o.asserts) o

@@ -1,15 +1,13 @@
 -- What sections are fed with, and what stands in them.
-use Rattle.std.specs.Prelude.{◌≡◌, ℕ, ◌+◌, nat_lt, Bool, true, false, List, [], ◌∷◌, ◌++◌, map, filter_map, Some, ◌≤◌, ◌<◌, nat_eq, length, take, string_bytes, IfSome}
+use Rattle.std.specs.Prelude.{◌≡◌, ℕ, ◌+◌, nat_lt, Bool, true, false, if◌then◌else◌, List, [], ◌∷◌, ◌++◌, map, Some, ◌≤◌, ◌<◌, nat_eq, length, take, drop, get_or, string_bytes, IfSome}
 use Rattle.std.specs.List.{flat_map, list_all, list_any}
 use Rattle.std.specs.Global.{Vec}
 use Rattle.indexmap.specs.IndexSet.{IndexSet}
 use Rattle.syntax65.specs.declared.place.Place.{Place}
 use Rattle.object65.specs.declared.object.Fragment.{Fragment}
-use Rattle.object65.specs.declared.object.Object.{Object}
 use Rattle.object65.specs.declared.object.Origin.{Origin}
 use Rattle.semantics65.specs.Contents.{Content, Filled, Known, Waiting, asking, put, telling}
-use Rattle.semantics65.specs.declared.contents.Segment.{Segment}
-use Rattle.semantics65.specs.Numbering.{all_joined, all_said, assert_files, assert_of, content_imports, export_files, exports_among, fragments_of, import_keys, in_files, name_of, names_once, part_files, parts_in, section_of, section_keys}
+use Rattle.semantics65.specs.Numbering.{all_joined, all_said, content_imports, fragments_of, name_of, part_files, parts_in, section_keys}
 use Rattle.semantics65.specs.Views.{place_in, said_at}
 use Rattle.emit65.specs.declared.entries.Entry.{Entry}
 use Rattle.emit65.specs.declared.entries.Entry.TheVariants.{Bytes, Room, Value, Told, Open}
@@ -28,11 +26,8 @@ names_of s = map (λ k. k.items) s.keys
 
 -- a statement's content, a call at a time
 abbrev pub in_pieces : Content → List Content
-in_pieces c = asked c.asks ++ map (put c.segment) c.parts ++ telling c.said ∷ []
-  where
-    asked : Bool → List Content
-    asked true = asking c.segment ∷ []
-    asked false = []
+in_pieces c =
+    (if c.asks then asking c.segment ∷ [] else []) ++ map (put c.segment) c.parts ++ telling c.said ∷ []
 
 -- ---- Contents that differ for no object.
 
@@ -46,28 +41,6 @@ pub record AreAlike (cs ds : List Content) : Type 0 where
       ≡ all_joined (before ++ (fragments_of at sections imports (parts_in ds g) ++ behind))
   pub files : (g : ℕ) → flat_map part_files (parts_in cs g) ≡ flat_map part_files (parts_in ds g)
   pub said : all_said cs ≡ all_said ds
-
--- the files that contents name, with sections of these segments
-abbrev pub files_named_by : List ℕ → List Content → List (List ℕ)
-files_named_by sections cs = flat_map (λ g. flat_map part_files (parts_in cs g)) sections
-    ++ export_files [] (all_said cs) ++ flat_map assert_files (all_said cs)
-
-abbrev pub files_by : List ℕ → List Content → List (List ℕ)
-files_by sections cs = names_once [] (files_named_by sections cs)
-
--- the object of contents with sections of these segments
-abbrev pub object_over : List Segment → List (List ℕ) → List ℕ → List Content → Object
-object_over segments names sections cs =
-    let files : List (List ℕ) = files_by sections cs in
-    let imports : List ℕ = import_keys names cs in
-    record {
-      version = 2;
-      files = files;
-      imports = map (name_of names) imports;
-      sections = map (section_of (in_files files) segments sections imports cs) sections;
-      exports = exports_among (in_files files) sections imports [] (all_said cs);
-      asserts = filter_map (assert_of (in_files files) sections imports) (all_said cs);
-    }
 
 -- ---- Entries, of which some are open.
 
@@ -93,22 +66,11 @@ stands_in count (Value width g o f) = nat_lt o.file count
 stands_in count (Told o ss) = nat_lt o.file count
 stands_in count _ = true
 
-abbrev pub first_of : List Content → Content
-first_of [] = telling []
-first_of (w ∷ ws) = w
-
-abbrev pub rest_of : List Content → List Content
-rest_of [] = []
-rest_of (w ∷ ws) = ws
-
 -- the contents of entries with these files, of which the open ones will be these in their turn
 abbrev pub filled : List (List ℕ) → List Content → List Entry → List Content
 filled files ws [] = []
-filled files ws (Open ∷ es) = first_of ws ∷ filled files (rest_of ws) es
-filled files ws (Bytes g bytes ∷ es) = put g (Known bytes) ∷ filled files ws es
-filled files ws (Room g n ∷ es) = put g (Filled n) ∷ filled files ws es
-filled files ws (Value width g o f ∷ es) = put g (Waiting width (place_by files o) f) ∷ filled files ws es
-filled files ws (Told o ss ∷ es) = telling (map (said_at (place_by files o)) ss) ∷ filled files ws es
+filled files ws (Open ∷ es) = get_or ws 0 (telling []) ∷ filled files (drop 1 ws) es
+filled files ws (e ∷ es) = content_of files e ∷ filled files ws es
 
 abbrev pub is_open : Entry → Bool
 is_open Open = true
@@ -117,10 +79,7 @@ is_open _ = false
 abbrev pub open_count : List Entry → ℕ
 open_count [] = 0
 open_count (Open ∷ es) = 1 + open_count es
-open_count (Bytes g bytes ∷ es) = open_count es
-open_count (Room g n ∷ es) = open_count es
-open_count (Value width g o f ∷ es) = open_count es
-open_count (Told o ss ∷ es) = open_count es
+open_count (e ∷ es) = open_count es
 
 -- ---- Files.
 
@@ -183,9 +142,6 @@ pub record DefersIn (files : List (List ℕ)) (old new : Entries) : Type 0 where
   pub waits : open_count new.done.items ≡ open_count old.done.items + 1
   pub settled : IsSettled old → IsSettled new
   pub standing : StandIn (length files) old.done.items → StandIn (length files) new.done.items
-
-abbrev pub Defers : Entries → Entries → Type 0
-Defers old new = (files : List (List ℕ)) → DefersIn files old new
 
 -- Entries of which the first open one has its content, if one is open, where these are the files.
 pub record SettlesIn (files : List (List ℕ)) (old new : Entries) (c : Content) : Type 0 where

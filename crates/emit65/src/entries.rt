@@ -4,7 +4,7 @@ ghost use Rattle.std.specs.Prelude.{◌≡◌, ◌+◌, ◌<◌, ℕ, List, [], 
 ghost use Rattle.std.specs.List.{list_any};
 ghost use Rattle.semantics65.specs.Contents.{Content, Filled, Known, put};
 ghost use Rattle.emit65.specs.declared.entries.Entry.TheVariants.{Open};
-ghost use Rattle.emit65.specs.Fed.{AreAlike, content_of, filled, is_open, open_count, origin_by, stands_in, Defers, IsAdded, IsSettled, SettlesIn, StandIn, Takes, TakesIn, contents_in};
+ghost use Rattle.emit65.specs.Fed.{AreAlike, content_of, filled, is_open, open_count, origin_by, stands_in, DefersIn, IsAdded, IsSettled, SettlesIn, StandIn, Takes, TakesIn, contents_in};
 
 use base65::Sequence;
 use semantics65::Declaration;
@@ -205,7 +205,7 @@ impl Entries {
 
     /// Adds an entry that waits.
     pub fn defer(&mut self) -> Result<(), AllocError>
-        ensures { OnOk result (Defers self.old self.new) }
+        ensures { OnOk result ((files : List (List ℕ)) → DefersIn files self.old self.new) }
     {
         self.close()?;
         self.add(Entry::Open)?;

@@ -1,6 +1,6 @@
 -- Sections while they are numbered: drafts, and the order of files.
 use Rattle.std.specs.Prelude.{◌≡◌, ℕ, ◌+◌, nat_eq, List, [], ◌∷◌, ◌++◌, map, filter_map, Option, Some, None, slice_get, if◌then◌else◌, true, option_map, IfSome}
-use Rattle.std.specs.List.{AllByRecursion, flat_map, list_any}
+use Rattle.std.specs.List.{AllByRecursion, cons_option, flat_map, list_any}
 use Rattle.syntax65.specs.declared.place.Place.{Place}
 use Rattle.object65.specs.declared.object.Assert.{Assert}
 use Rattle.object65.specs.declared.object.Export.{Export}
@@ -33,12 +33,8 @@ AreNamed t = map (λ k. k.now) t.names.keys ≡ map (λ e. e.name) t.exports
 abbrev pub new_draft : ℕ → Draft
 new_draft g = record { segment = g; done = []; last = None }
 
-abbrev pub optional_fragment : Option Fragment → List Fragment
-optional_fragment None = []
-optional_fragment (Some f) = f ∷ []
-
 abbrev pub all_of_draft : Draft → List Fragment
-all_of_draft d = d.done ++ optional_fragment d.last
+all_of_draft d = d.done ++ cons_option d.last []
 
 -- behind an open fragment another one begins
 abbrev pub begun : Draft → Fragment → Draft
@@ -54,10 +50,6 @@ abbrev pub with_fragment : Draft → Fragment → Draft
 with_fragment d f = if is_empty f then d else grown d d.last f
 
 -- ---- Entries, one by one, whose origins are kept as they stand.
-
--- all stands at this origin
-abbrev pub here : Origin → Place → Origin
-here origin place = origin
 
 -- so a place doesn't count
 abbrev pub anywhere : Place
@@ -92,7 +84,7 @@ with_entries sections imports (e ∷ es) ds = with_entries sections imports es (
 
 -- exports behind those found
 abbrev pub exports_at : (sections imports : List ℕ) → Origin → List Export → List Declaration → List Export
-exports_at sections imports origin found ss = exports_among (here origin) sections imports found (map (said_at anywhere) ss)
+exports_at sections imports origin found ss = exports_among (λ place. origin) sections imports found (map (said_at anywhere) ss)
 
 abbrev pub exports_from : (sections imports : List ℕ) → List Export → List Entry → List Export
 exports_from sections imports found [] = found
@@ -100,7 +92,7 @@ exports_from sections imports found (Told o ss ∷ es) = exports_from sections i
 exports_from sections imports found (e ∷ es) = exports_from sections imports found es
 
 abbrev pub asserts_at : (sections imports : List ℕ) → Origin → List Declaration → List Assert
-asserts_at sections imports origin ss = filter_map (assert_of (here origin) sections imports) (map (said_at anywhere) ss)
+asserts_at sections imports origin ss = filter_map (assert_of (λ place. origin) sections imports) (map (said_at anywhere) ss)
 
 abbrev pub entry_asserts : (sections imports : List ℕ) → Entry → List Assert
 entry_asserts sections imports (Told o ss) = asserts_at sections imports (fed.origin_by o) ss
@@ -117,7 +109,7 @@ section_from segments d = record {
 
 pub record DraftFits (d : Draft) : Type 0 where
   pub done : AllByRecursion FragmentFits d.done
-  pub last : AllByRecursion FragmentFits (optional_fragment d.last)
+  pub last : AllByRecursion FragmentFits (cons_option d.last [])
 
 abbrev pub SectionFits : Section → Type 0
 SectionFits s = AllByRecursion FragmentFits s.fragments
@@ -188,24 +180,12 @@ export_by order e = record { name = e.name; origin = origin_by order e.origin; f
 abbrev pub assert_by : List ℕ → Assert → Assert
 assert_by order a = record { action = a.action; origin = origin_by order a.origin; text = a.text; form = a.form }
 
-abbrev pub parts_by : List ℕ → Object → Object
-parts_by order o = record {
-  version = o.version;
-  files = o.files;
-  imports = o.imports;
-  sections = map (section_by order) o.sections;
-  exports = map (export_by order) o.exports;
-  asserts = map (assert_by order) o.asserts;
-}
-
 -- the object with its files in its own order, where these are the names in the table
 abbrev pub in_order : List (List ℕ) → Object → Object
 in_order names o =
     let order : List ℕ = order_of o.sections o.exports o.asserts in
-    record {
-      version = o.version;
+    record o {
       files = map (name_of names) order;
-      imports = o.imports;
       sections = map (section_by order) o.sections;
       exports = map (export_by order) o.exports;
       asserts = map (assert_by order) o.asserts;

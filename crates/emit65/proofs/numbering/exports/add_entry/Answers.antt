@@ -3,7 +3,7 @@ use Rattle.std.proofs.lemmas.List.Elements.{filter_map-append}
 use Rattle.semantics65.specs.Numbering.{assert_of}
 use Rattle.semantics65.specs.Views.{said_at}
 use Rattle.emit65.specs.Fed.{origin_by}
-use Rattle.emit65.specs.Inner.Drafts.{anywhere, asserts_at, entry_asserts, exports_at, exports_from, here}
+use Rattle.emit65.specs.Inner.Drafts.{anywhere, asserts_at, entry_asserts, exports_at, exports_from}
 use Rattle.emit65.proofs.Exporting.{at_append}
 use Rattle.emit65.proofs.Keys.{drop_item}
 use Rattle.emit65.proofs.numbering.exports.add_entry.Goals as goal
@@ -43,7 +43,7 @@ loop-saying-preserved c =
       asserts =
           ap (λ made. made ++ asserts_at s i o rest) (c.in_ok-add_saying.ensures.asserts ∙ ap (λ p. before.asserts ++ asserts_at s i p one) c.origin.ensures)
           ∙ append_assoc before.asserts (asserts_at s i o one) (asserts_at s i o rest)
-          ∙ ap (λ made. before.asserts ++ made) (sym (filter_map-append (assert_of (here o) s i) (map (said_at anywhere) one) (map (said_at anywhere) rest)))
+          ∙ ap (λ made. before.asserts ++ made) (sym (filter_map-append (assert_of (λ place. o) s i) (map (said_at anywhere) one) (map (said_at anywhere) rest)))
           ∙ ap (λ ss. before.asserts ++ asserts_at s i o ss) taken
           ∙ c.loop-saying.invariant.asserts;
     }

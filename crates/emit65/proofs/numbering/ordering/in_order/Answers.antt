@@ -1,8 +1,8 @@
 use Rattle.std.proofs.Common.{◌≡◌, ◌∙◌, map, subst}
 use Rattle.std.specs.Prelude.{string_bytes}
 use Rattle.semantics65.specs.Numbering.{name_of}
-use Rattle.emit65.specs.Inner.Drafts.{order_of, parts_by}
-use Rattle.emit65.proofs.Reordering.{IsInPlace, distinct_mapped, parts_same}
+use Rattle.emit65.specs.Inner.Drafts.{order_of}
+use Rattle.emit65.proofs.Reordering.{IsInPlace, distinct_mapped, parts_by, parts_same}
 use Rattle.emit65.proofs.numbering.ordering.in_order.Goals as goal
 
 pub returns-then-is_same-clause-object : goal.returns-then-is_same-clause-object

@@ -25,7 +25,7 @@ use ast65::{AsmFault, Statement};
 use semantics65::At;
 use object65::Object;
 use std::alloc::Global;
-use syntax65::{Expr, ExprKind};
+use syntax65::{Identifier, Expr, ExprKind};
 
 /// A constant of the command line.
 #[derive(Clone, Copy)]
@@ -68,7 +68,7 @@ fn define_one(
         assembler.old assembler.new result }
     ensures inside { IfErr result (λ e. is_failure e ≡ false) }
 {
-    let name = Sequence::from_vec(Vec::from_slice(alloc, define.name)?);
+    let name = Identifier::copy_of(alloc, define.name)?;
     let value = Expr::new(ExprKind::Number(define.value));
     assembler.take(alloc, at, Statement::Constant { name, value })
 }

@@ -3,13 +3,13 @@
 ghost use Rattle.std.specs.Prelude.{◌≡◌, false, option_map};
 ghost use Rattle.syntax65.specs.Tokens.{lexeme_of, lexemes};
 ghost use Rattle.std.specs.List.{list_all};
-ghost use Rattle.ast65.specs.Parsing.{defines, inner, is_close, is_colon, is_comma, name_of, quoted_in, spelled, spells, string_of, understood, word_in, word_of, Parses, is_identifier, is_letter, is_letter_or_digit, scope_of, segment_named, segment_of, size_behind, size_word, ParsesAs};
+ghost use Rattle.ast65.specs.Parsing.{defines, inner, is_close, is_colon, is_comma, name_of, proc_of, quoted_in, spelled, spells, string_of, understood, word_in, word_of, Parses, is_identifier, is_letter, is_letter_or_digit, scope_of, segment_named, segment_of, size_behind, size_word, ParsesAs};
 
 use base65::Sequence;
 use crate::fault::AsmFault;
 use crate::language::Statement;
 use std::alloc::Global;
-use syntax65::{AddressSize, MAX_NAME, Mark, Token, TokenKind, is_reserved};
+use syntax65::{AddressSize, Identifier, MAX_NAME, Mark, Token, TokenKind, is_reserved};
 
 pub fn is_comma(token: &Token<'_>) -> bool
     ensures { result ≡ is_comma (lexeme_of token.now) }
@@ -116,15 +116,15 @@ pub fn needed(found: Option<&[u8]>) -> Result<&[u8], AsmFault>
     }
 }
 
-/// A plain name.
-pub fn name_of(alloc: Global, tokens: &[Token<'_>]) -> Result<Sequence<u8>, AsmFault>
-    ensures { Parses result (λ r. r ≡ name_of (lexemes tokens.now)) }
+/// The bytes of a plain name.
+pub fn name_of<'a>(tokens: &[Token<'a>]) -> Result<&'a [u8], AsmFault>
+    ensures { ParsesAs (λ s. s.now) result (λ r. r ≡ name_of (lexemes tokens.now)) }
 {
     let name = needed(word_of(tokens))?;
     if is_reserved(name) {
         return Err(AsmFault::NotUnderstood);
     }
-    Ok(Sequence::copy_of(alloc, name)?)
+    Ok(name)
 }
 
 fn size_word(word: &[u8]) -> Result<AddressSize, AsmFault>
@@ -204,5 +204,14 @@ pub fn scope(alloc: Global, tokens: &[Token<'_>]) -> Result<Statement, AsmFault>
     if tokens.is_empty() {
         return Ok(Statement::OpenScope(None));
     }
-    Ok(Statement::OpenScope(Some(name_of(alloc, tokens)?)))
+    let name = Identifier::copy_of(alloc, name_of(tokens)?)?;
+    Ok(Statement::OpenScope(Some(name)))
+}
+
+/// `.proc`
+pub fn proc(alloc: Global, tokens: &[Token<'_>]) -> Result<Statement, AsmFault>
+    ensures { Parses result (λ r. r ≡ proc_of (lexemes tokens.now)) }
+{
+    let name = Identifier::copy_of(alloc, name_of(tokens)?)?;
+    Ok(Statement::OpenProc(name))
 }

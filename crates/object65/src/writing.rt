@@ -166,7 +166,11 @@ fn put_literal(out: &mut Vec<u8>, bytes: &[u8]) -> Result<(), AllocError>
 }
 
 /// Adds a fragment.
-fn put_fragment(body: &mut Vec<u8>, out: &mut Vec<u8>, fragment: &Fragment) -> Result<(), AllocError>
+fn put_fragment(
+    body: &mut Vec<u8>,
+    out: &mut Vec<u8>,
+    fragment: &Fragment,
+) -> Result<(), AllocError>
     requires { is_small_fragment fragment.now ≡ true }
     ensures { OnOk result (out.new.items ≡ out.old.items ++ flat_map entry_bytes (fragment_entries fragment.now)) }
 {
@@ -181,7 +185,11 @@ fn put_fragment(body: &mut Vec<u8>, out: &mut Vec<u8>, fragment: &Fragment) -> R
     }
 }
 
-fn put_fragments(body: &mut Vec<u8>, out: &mut Vec<u8>, fragments: &[Fragment]) -> Result<(), AllocError>
+fn put_fragments(
+    body: &mut Vec<u8>,
+    out: &mut Vec<u8>,
+    fragments: &[Fragment],
+) -> Result<(), AllocError>
     requires { list_all is_small_fragment fragments.now ≡ true }
     ensures { OnOk result (out.new.items ≡ out.old.items ++ flat_map entry_bytes (flat_map fragment_entries fragments.now)) }
 {
@@ -191,7 +199,11 @@ fn put_fragments(body: &mut Vec<u8>, out: &mut Vec<u8>, fragments: &[Fragment]) 
     Ok(())
 }
 
-fn put_contents(body: &mut Vec<u8>, out: &mut Vec<u8>, sections: &[Section]) -> Result<(), AllocError>
+fn put_contents(
+    body: &mut Vec<u8>,
+    out: &mut Vec<u8>,
+    sections: &[Section],
+) -> Result<(), AllocError>
     requires { list_all is_small_section sections.now ≡ true }
     ensures { OnOk result (out.new.items ≡ out.old.items ++ flat_map entry_bytes (flat_map (λ s. flat_map fragment_entries s.fragments) sections.now)) }
 {
@@ -256,7 +268,11 @@ fn put_section(body: &mut Vec<u8>, out: &mut Vec<u8>, section: &Section) -> Resu
     put_record(out, SECTION, body)
 }
 
-fn put_sections(body: &mut Vec<u8>, out: &mut Vec<u8>, sections: &[Section]) -> Result<(), AllocError>
+fn put_sections(
+    body: &mut Vec<u8>,
+    out: &mut Vec<u8>,
+    sections: &[Section],
+) -> Result<(), AllocError>
     requires { list_all is_small_section sections.now ≡ true }
     ensures { OnOk result (out.new.items ≡ out.old.items ++ flat_map entry_bytes (map section_entry sections.now)) }
 {

@@ -24,11 +24,7 @@ pub use symbols::{Definition, Entry, Key, Opening, Symbols};
 use words::{Spelled, Word};
 
 /// The number of a name, which is put in where it is new.
-fn intern(
-    alloc: Global,
-    words: &mut IndexSet<Word, Seed>,
-    name: &[u8],
-) -> Result<usize, AllocError>
+fn intern(alloc: Global, words: &mut IndexSet<Word, Seed>, name: &[u8]) -> Result<usize, AllocError>
     ensures more { Begins (map (λ k. k.items) words.old.keys) (map (λ k. k.items) words.new.keys) }
     ensures number { IfOk result (λ w. position (bytes_eq name.now) (map (λ k. k.items) words.new.keys) ≡ Some w) }
 {

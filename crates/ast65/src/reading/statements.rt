@@ -13,9 +13,9 @@ use super::directives::{
 use super::operands::{expression, operand};
 use super::tokens::{defines, is_colon, proc, scope, segment};
 use super::words::{Directive, directive_of};
-use base65::Sequence;
 use crate::fault::AsmFault;
 use crate::language::Statement;
+use base65::Sequence;
 use std::alloc::Global;
 use syntax65::{Identifier, Mnemonic, Token, TokenKind, is_reserved, mnemonic};
 

@@ -5,9 +5,9 @@ ghost use Rattle.syntax65.specs.Tokens.{lexeme_of, lexemes};
 ghost use Rattle.std.specs.List.{list_all};
 ghost use Rattle.ast65.specs.Parsing.{defines, inner, is_close, is_colon, is_comma, name_of, proc_of, quoted_in, spelled, spells, string_of, understood, word_in, word_of, Parses, is_identifier, is_letter, is_letter_or_digit, scope_of, segment_named, segment_of, size_behind, size_word, ParsesAs};
 
-use base65::Sequence;
 use crate::fault::AsmFault;
 use crate::language::Statement;
+use base65::Sequence;
 use std::alloc::Global;
 use syntax65::{AddressSize, Identifier, MAX_NAME, Mark, Token, TokenKind, is_reserved};
 

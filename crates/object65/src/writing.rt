@@ -51,7 +51,8 @@ fn put_i64(out: &mut Vec<u8>, n: i64) -> Result<(), AllocError>
 /// Adds a record.
 fn put_record(out: &mut Vec<u8>, kind: u8, body: &[u8]) -> Result<(), AllocError>
     requires { length body.now ≤ body_limit }
-    ensures { OnOk result (out.new.items ≡ out.old.items ++ entry_bytes (record { kind = kind; body = body.now })) }
+    ensures { OnOk result (out.new.items ≡ out.old.items ++
+        entry_bytes (record { kind = kind; body = body.now })) }
 {
     out.push(kind)?;
     put_u16(out, body.len() as u16)?;
@@ -131,7 +132,8 @@ fn put_value(
     form: &Norm,
 ) -> Result<(), AllocError>
     requires { is_small_form form.now ≡ true }
-    ensures { OnOk result (out.new.items ≡ out.old.items ++ entry_bytes (value_entry width origin form.now)) }
+    ensures { OnOk result (out.new.items ≡ out.old.items ++
+        entry_bytes (value_entry width origin form.now)) }
 {
     body.clear();
     body.push(width as u8)?;
@@ -151,7 +153,8 @@ fn put_fill(out: &mut Vec<u8>, count: u32) -> Result<(), AllocError>
 
 /// Adds a literal in records that are full but for the last.
 fn put_literal(out: &mut Vec<u8>, bytes: &[u8]) -> Result<(), AllocError>
-    ensures { OnOk result (out.new.items ≡ out.old.items ++ flat_map entry_bytes (literal_entries bytes.now)) }
+    ensures { OnOk result (out.new.items ≡ out.old.items ++
+        flat_map entry_bytes (literal_entries bytes.now)) }
 {
     let mut rest = bytes;
     while rest.len() > LARGEST_BODY {
@@ -172,7 +175,8 @@ fn put_fragment(
     fragment: &Fragment,
 ) -> Result<(), AllocError>
     requires { is_small_fragment fragment.now ≡ true }
-    ensures { OnOk result (out.new.items ≡ out.old.items ++ flat_map entry_bytes (fragment_entries fragment.now)) }
+    ensures { OnOk result (out.new.items ≡ out.old.items ++
+        flat_map entry_bytes (fragment_entries fragment.now)) }
 {
     match fragment {
         Fragment::Literal(bytes) => put_literal(out, bytes.as_slice()),
@@ -191,7 +195,8 @@ fn put_fragments(
     fragments: &[Fragment],
 ) -> Result<(), AllocError>
     requires { list_all is_small_fragment fragments.now ≡ true }
-    ensures { OnOk result (out.new.items ≡ out.old.items ++ flat_map entry_bytes (flat_map fragment_entries fragments.now)) }
+    ensures { OnOk result (out.new.items ≡ out.old.items ++
+        flat_map entry_bytes (flat_map fragment_entries fragments.now)) }
 {
     for fragment in fragments {
         put_fragment(body, out, fragment)?;
@@ -205,7 +210,8 @@ fn put_contents(
     sections: &[Section],
 ) -> Result<(), AllocError>
     requires { list_all is_small_section sections.now ≡ true }
-    ensures { OnOk result (out.new.items ≡ out.old.items ++ flat_map entry_bytes (flat_map (λ s. flat_map fragment_entries s.fragments) sections.now)) }
+    ensures { OnOk result (out.new.items ≡ out.old.items ++
+        flat_map entry_bytes (flat_map (λ s. flat_map fragment_entries s.fragments) sections.now)) }
 {
     for section in sections {
         put_fragments(body, out, section.fragments.as_slice())?;
@@ -215,7 +221,8 @@ fn put_contents(
 
 fn put_files(out: &mut Vec<u8>, files: &[Sequence<u8>]) -> Result<(), AllocError>
     requires { list_all is_file_name files.now ≡ true }
-    ensures { OnOk result (out.new.items ≡ out.old.items ++ flat_map entry_bytes (map file_entry files.now)) }
+    ensures { OnOk result (out.new.items ≡ out.old.items ++
+        flat_map entry_bytes (map file_entry files.now)) }
 {
     for name in files {
         put_record(out, FILE, name.as_slice())?;
@@ -225,7 +232,8 @@ fn put_files(out: &mut Vec<u8>, files: &[Sequence<u8>]) -> Result<(), AllocError
 
 fn put_imports(out: &mut Vec<u8>, imports: &[Sequence<u8>]) -> Result<(), AllocError>
     requires { list_all is_small_text imports.now ≡ true }
-    ensures { OnOk result (out.new.items ≡ out.old.items ++ flat_map entry_bytes (map import_entry imports.now)) }
+    ensures { OnOk result (out.new.items ≡ out.old.items ++
+        flat_map entry_bytes (map import_entry imports.now)) }
 {
     for name in imports {
         put_record(out, IMPORT, name.as_slice())?;
@@ -259,7 +267,8 @@ fn size_of(fragments: &[Fragment]) -> u32
 /// Adds a SECTION.
 fn put_section(body: &mut Vec<u8>, out: &mut Vec<u8>, section: &Section) -> Result<(), AllocError>
     requires { is_small_section section.now ≡ true }
-    ensures { OnOk result (out.new.items ≡ out.old.items ++ entry_bytes (section_entry section.now)) }
+    ensures { OnOk result (out.new.items ≡ out.old.items ++
+        entry_bytes (section_entry section.now)) }
 {
     body.clear();
     put_u32(body, size_of(section.fragments.as_slice()))?;
@@ -274,7 +283,8 @@ fn put_sections(
     sections: &[Section],
 ) -> Result<(), AllocError>
     requires { list_all is_small_section sections.now ≡ true }
-    ensures { OnOk result (out.new.items ≡ out.old.items ++ flat_map entry_bytes (map section_entry sections.now)) }
+    ensures { OnOk result (out.new.items ≡ out.old.items ++
+        flat_map entry_bytes (map section_entry sections.now)) }
 {
     for section in sections {
         put_section(body, out, section)?;
@@ -297,7 +307,8 @@ fn put_export(body: &mut Vec<u8>, out: &mut Vec<u8>, export: &Export) -> Result<
 
 fn put_exports(body: &mut Vec<u8>, out: &mut Vec<u8>, exports: &[Export]) -> Result<(), AllocError>
     requires { list_all is_small_export exports.now ≡ true }
-    ensures { OnOk result (out.new.items ≡ out.old.items ++ flat_map entry_bytes (map export_entry exports.now)) }
+    ensures { OnOk result (out.new.items ≡ out.old.items ++
+        flat_map entry_bytes (map export_entry exports.now)) }
 {
     for export in exports {
         put_export(body, out, export)?;
@@ -321,7 +332,8 @@ fn put_assert(body: &mut Vec<u8>, out: &mut Vec<u8>, assert: &Assert) -> Result<
 
 fn put_asserts(body: &mut Vec<u8>, out: &mut Vec<u8>, asserts: &[Assert]) -> Result<(), AllocError>
     requires { list_all is_small_assert asserts.now ≡ true }
-    ensures { OnOk result (out.new.items ≡ out.old.items ++ flat_map entry_bytes (map assert_entry asserts.now)) }
+    ensures { OnOk result (out.new.items ≡ out.old.items ++
+        flat_map entry_bytes (map assert_entry asserts.now)) }
 {
     for assert in asserts {
         put_assert(body, out, assert)?;

@@ -7,12 +7,20 @@ import os
 import sys
 
 sys.path.insert(0, f"{os.path.dirname(os.path.dirname(os.path.abspath(__file__)))}/gate")
+import kit  # noqa: E402
 import telling  # noqa: E402
 
 # Two rows of crates: a and b side by side, c on both, then the program.
 ORDER = ["a", "b", "c"]
 BELOW = {"a": [], "b": [], "c": ["a", "b"]}
 TIMES = {"a": 600, "b": 300, "c": 600, "program": 60}
+
+
+def proved_crates():
+    """The crates of crates.txt but those of tests."""
+    with open(f"{kit.ROOT}/crates.txt", encoding="utf-8") as it:
+        names = [line.split(":")[0] for line in it if not line.startswith("#")]
+    return {name for name in names if not name.startswith("test")}
 
 
 def told(processors, lanes=2):
@@ -47,7 +55,7 @@ def main():
         "b for 1:00 (7 of 9 functions checked)",
         "what is slower than was thought": "2 of 3 crates are proved, some 22 minutes left" in slow[19],
         "the same again": (lambda it: it.line(5, lambda _: "") and it.line(5, lambda _: "") is None)(told(4)),
-        "stored times": len(telling.stored_times()) > 20,
+        "stored times": set(telling.stored_times()) == proved_crates(),
     }
     for name, is_so in checks.items():
         if not is_so:

@@ -19,13 +19,13 @@ ghost use Rattle.asm65.specs.Failing.{StopsSo, StopsFrom};
 use crate::assembler::Assembler;
 use crate::running::{Run, take_all};
 use crate::texts::{AsmRefusal, Texts, is_failure, is_outside};
+use ast65::{AsmFault, Statement};
 use base65::{Sequence, Store, Text};
 use expand65::{ExpandFault, Expander, Options, Place};
-use ast65::{AsmFault, Statement};
-use semantics65::At;
 use object65::Object;
+use semantics65::At;
 use std::alloc::Global;
-use syntax65::{Expr, ExprKind};
+use syntax65::{Expr, ExprKind, Identifier};
 
 /// A constant of the command line.
 #[derive(Clone, Copy)]
@@ -68,7 +68,7 @@ fn define_one(
         assembler.old assembler.new result }
     ensures inside { IfErr result (λ e. is_failure e ≡ false) }
 {
-    let name = Sequence::from_vec(Vec::from_slice(alloc, define.name)?);
+    let name = Identifier::copy_of(alloc, define.name)?;
     let value = Expr::new(ExprKind::Number(define.value));
     assembler.take(alloc, at, Statement::Constant { name, value })
 }

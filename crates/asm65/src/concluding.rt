@@ -20,11 +20,11 @@ use crate::assembler::{Assembler, Fixup};
 use crate::assembling::Assembly;
 use crate::resolving::{Filling, Made, resolve};
 use crate::texts::{AsmRefusal, Texts, warn};
-use base65::Sequence;
 use ast65::AsmFault;
-use semantics65::At;
-use object65::Object;
+use base65::Sequence;
 use emit65::Sections;
+use object65::Object;
+use semantics65::At;
 use std::alloc::{AllocError, Global};
 use symbols65::{NormCache, Symbols};
 

@@ -15,13 +15,13 @@ ghost use Rattle.semantics65.specs.Layout.{unless_fault};
 ghost use Rattle.symbols65.specs.Measuring.{unread_fault};
 
 use crate::assembler::Assembler;
+use ast65::{AsmFault, PartRange, Statement};
 use base65::{Sequence, Store, StoreFault, read_front};
 use expand65::name_beside;
-use ast65::{AsmFault, PartRange, Statement};
 use semantics65::At;
-use symbols65::{Before, check_unread};
 use std::alloc::Global;
 use std::mem::replace;
+use symbols65::{Before, check_unread};
 use syntax65::MAX_FILE;
 
 /// The bytes of a file that is looked for beside another one, if it is there. Of one with too many

@@ -15,10 +15,10 @@ ghost use Rattle.asm65.specs.Inner.Running.{coming, made_in, noted};
 
 use crate::assembler::{Fixup, Piece};
 use crate::putting::values::{is_file_name, literal_of, stored};
-use base65::Sequence;
 use ast65::AsmFault;
-use semantics65::{At, Context, Declaration, GLOBAL_SCOPE, Part};
+use base65::Sequence;
 use object65::{Action, Norm, Width};
+use semantics65::{At, Context, Declaration, GLOBAL_SCOPE, Part};
 use std::alloc::{AllocError, Global};
 use symbols65::{Key, NormCache, Symbols, defined_norm, norm, operand_form};
 

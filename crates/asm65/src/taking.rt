@@ -19,11 +19,11 @@ ghost use Rattle.asm65.specs.Inner.Holding.{Enters, Holds, KeepsTables, Asks, Is
 use crate::assembler::Assembler;
 use crate::naming::Mention;
 use crate::putting::Site;
-use base65::Sequence;
 use ast65::{AsmFault, Operand, Statement};
+use base65::Sequence;
 use semantics65::{At, Context, Settled};
-use symbols65::{Before, Measured, asks_section, measure, measure_instruction, Key};
 use std::alloc::{AllocError, Global};
+use symbols65::{Before, Key, Measured, asks_section, measure, measure_instruction};
 use syntax65::{AddressSize, Mnemonic};
 
 /// How many bytes a name or a text has fewer than.

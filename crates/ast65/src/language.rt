@@ -7,7 +7,7 @@ use base65::Sequence;
 use object65::{Action, Width};
 use std::alloc::{AllocError, Global};
 use std::marker::Model;
-use syntax65::{AddressSize, Expr, Mnemonic};
+use syntax65::{AddressSize, Expr, Identifier, Mnemonic};
 
 /// An element of a list of data.
 #[derive(Drop)]
@@ -153,14 +153,14 @@ pub struct PartRange<'a> {
 #[derive(Drop)]
 pub enum Statement {
     /// `name:`
-    Label(Sequence<u8>),
+    Label(Identifier),
     /// `@name:`, the name with its `@`.
-    CheapLabel(Sequence<u8>),
+    CheapLabel(Identifier),
     /// `:`
     UnnamedLabel,
     /// `name = e`
     Constant {
-        name: Sequence<u8>,
+        name: Identifier,
         value: Expr,
     },
     Instruction {
@@ -202,10 +202,10 @@ pub enum Statement {
     PushSegment,
     PopSegment,
     /// `.scope`, with a name or none.
-    OpenScope(Option<Sequence<u8>>),
+    OpenScope(Option<Identifier>),
     CloseScope,
     /// `.proc n`
-    OpenProc(Sequence<u8>),
+    OpenProc(Identifier),
     CloseProc,
     /// `.import`, `.importzp`
     Import {

@@ -43,7 +43,8 @@ pub struct Parts {
 
 /// Puts the literal in the making behind the other fragments.
 fn close_literal(alloc: Global, draft: &mut Draft) -> Result<(), ObjectFault>
-    ensures closed { OnOk result (draft.new ≡ record draft.old { fragments = closed draft.old; literal = [] }) }
+    ensures closed { OnOk result (draft.new ≡
+        record draft.old { fragments = closed draft.old; literal = [] }) }
     ensures memory { Gives is_memory (λ u. u) result (Ok tt) }
 {
     if draft.literal.len() > 0 {
@@ -55,7 +56,8 @@ fn close_literal(alloc: Global, draft: &mut Draft) -> Result<(), ObjectFault>
 
 /// Puts a fragment that is no literal behind the others.
 fn push_fragment(alloc: Global, draft: &mut Draft, fragment: Fragment) -> Result<(), ObjectFault>
-    ensures pushed { Gives is_memory (λ _. draft.new) result (Ok (record draft.old { fragments = closed draft.old ++ fragment ∷ []; literal = [] })) }
+    ensures pushed { Gives is_memory (λ _. draft.new) result
+        (Ok (record draft.old { fragments = closed draft.old ++ fragment ∷ []; literal = [] })) }
 {
     close_literal(alloc, draft)?;
     draft.fragments.push(fragment)?;
@@ -77,7 +79,8 @@ fn grow(alloc: Global, draft: &mut Draft, fragment: Fragment) -> Result<(), Obje
 /// Adds an item.
 pub fn add_item(parts: &mut Parts, item: Item) -> Result<(), ObjectFault>
     requires { HasRoom parts.old.drafts.items item }
-    ensures { Gives is_memory (λ _. state_of parts.new) result (Ok (unmarked (with_item (state_of parts.old) item))) }
+    ensures { Gives is_memory (λ _. state_of parts.new) result
+        (Ok (unmarked (with_item (state_of parts.old) item))) }
 {
     match item {
         Item::File(name) => parts.files.push(name)?,
@@ -201,7 +204,8 @@ impl Builder {
     /// Takes the next record. After a refusal each call answers that it failed before.
     #[tactic(auto, unfolding(crate::specs::Scanning::after, crate::specs::Scanning::scanned))]
     pub fn take(&mut self, next: &Record) -> Result<(), ObjectFault>
-        ensures taken { Gives is_memory (λ _. self.new) result (after self.old (entry_of next.now)) }
+        ensures taken { Gives is_memory (λ _. self.new) result
+            (after self.old (entry_of next.now)) }
         ensures failed { OnErr result (self.new.failed ≡ true) }
         ensures again { self.old.failed ≡ true → result ≡ Err ObjectFault.FailedBefore }
     {
@@ -229,7 +233,8 @@ impl Builder {
         ensures again { self.failed ≡ true → result ≡ Err ObjectFault.FailedBefore }
         // What it gives can be written, and so its sections are within their limit.
         ensures good { IfOk result (λ o. is_good_object o ≡ true) }
-        ensures sized { IfOk result (λ o. AllByRecursion (λ s. section_len s ≤ section_limit) o.sections) }
+        ensures sized { IfOk result (λ o.
+            AllByRecursion (λ s. section_len s ≤ section_limit) o.sections) }
     {
         if self.failed {
             return Err(ObjectFault::FailedBefore);

@@ -89,8 +89,10 @@ fn fill(body: &mut ArrayVec<u8, 4096>, bytes: &[u8])
 #[tactic(auto, unfolding(crate::specs::Reading::record_in))]
 pub fn decode(space: &mut Record, version: u8, bytes: &[u8], at: u64) -> Result<u64, ObjectFault>
     requires { at + length bytes.now < 2 ^ 64 }
-    ensures read { Gives is_memory (λ n. (entry_of space.new, n)) result (record_in version at bytes.now) }
-    ensures bound { IfOk result (λ n. (n ≡ at + 3 + length space.new.body.items) × (3 + length space.new.body.items ≤ length bytes.now) × (n ≤ file_limit)) }
+    ensures read { Gives is_memory (λ n. (entry_of space.new, n)) result
+        (record_in version at bytes.now) }
+    ensures bound { IfOk result (λ n. (n ≡ at + 3 + length space.new.body.items) ×
+        (3 + length space.new.body.items ≤ length bytes.now) × (n ≤ file_limit)) }
     ensures plain { IfErr result (λ e. is_outside e ≡ false) }
 {
     let (kind, len) = decode_front(version, bytes)?;

@@ -52,7 +52,8 @@ fn check_file(origin: Origin, files: usize) -> Result<(), ObjectFault>
 /// Refuses a part that names what isn't there in the object of which this is kept.
 #[tactic(auto, unfolding(crate::specs::Scanning::known_parts))]
 pub fn check_parts(kept: &Kept, origin: Origin, form: &Norm) -> Result<(), ObjectFault>
-    ensures { result ≡ known_parts (length kept.now.files.keys) (length kept.now.rooms.items) (length kept.now.imports.keys) origin form.now }
+    ensures { result ≡ known_parts (length kept.now.files.keys) (length kept.now.rooms.items)
+        (length kept.now.imports.keys) origin form.now }
 {
     check_file(origin, kept.files.len())?;
     let is_there = are_there(form, kept.rooms.len(), kept.imports.len());
@@ -168,7 +169,9 @@ pub fn room_with_value(
     room: Room,
     body: &[u8],
 ) -> Result<(Room, Fragment), ObjectFault>
-    ensures { Gives is_memory (λ x. x) result (room_value kept.now.version (length kept.now.files.keys) (length kept.now.rooms.items) (length kept.now.imports.keys) body.now room) }
+    ensures { Gives is_memory (λ x. x) result
+        (room_value kept.now.version (length kept.now.files.keys) (length kept.now.rooms.items)
+        (length kept.now.imports.keys) body.now room) }
 {
     let (width, origin, form) = read_value(kept.alloc, kept.version, body)?;
     let len = width_size(width);

@@ -140,7 +140,8 @@ fn read_operation(
     bytes: &[u8],
     depth: usize,
 ) -> Result<(Norm, &[u8]), ObjectFault>
-    ensures { Gives is_memory (λ x. (x.0, x.1.now)) result (operation_at (λ xs. form_at depth xs) (op1_at code) (op2_at code) bytes.now) }
+    ensures { Gives is_memory (λ x. (x.0, x.1.now)) result
+        (operation_at (λ xs. form_at depth xs) (op1_at code) (op2_at code) bytes.now) }
 {
     if let Some(op) = prefix_of(code) {
         let (part, rest) = read_form(alloc, bytes, depth)?;
@@ -166,7 +167,8 @@ fn read_behind(
     bytes: &[u8],
     depth: usize,
 ) -> Result<(Norm, &[u8]), ObjectFault>
-    ensures { Gives is_memory (λ x. (x.0, x.1.now)) result (form_of_code (λ xs. form_at depth xs) code bytes.now) }
+    ensures { Gives is_memory (λ x. (x.0, x.1.now)) result
+        (form_of_code (λ xs. form_at depth xs) code bytes.now) }
 {
     match code {
         0x00 => {

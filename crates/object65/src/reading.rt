@@ -26,8 +26,10 @@ pub fn read_room<S: Store>(
 ) -> Result<usize, StoreFault>
     ensures bound { IfOk result (λ n. n ≤ length buf.new) }
     ensures room { IfOk result (λ n. n ≤ limit - at) }
-    ensures read { IfSome (S.files store.old) (λ m. IsRoomRead (map.get m name.now) at limit buf.new result) }
-    ensures kept { Leaves S.files S.failures S.blamed StoreFault.FileError name.now store.old store.new result }
+    ensures read { IfSome (S.files store.old)
+        (λ m. IsRoomRead (map.get m name.now) at limit buf.new result) }
+    ensures kept { Leaves S.files S.failures S.blamed StoreFault.FileError name.now store.old
+        store.new result }
     ensures asked { Asks is_outside_store (S.failures store.old) result }
 {
     let room = limit.saturating_sub(at);
@@ -42,8 +44,10 @@ pub fn read_head<S: Store>(
     at: u64,
     limit: u64,
 ) -> Result<(u8, u64), ObjectFault>
-    ensures read { IfSome (S.files store.old) (λ m. Gives is_outside (λ x. x) result (in_file (map.get m name.now) (head_at at limit))) }
-    ensures kept { Leaves S.files S.failures S.blamed FileError name.now store.old store.new result }
+    ensures read { IfSome (S.files store.old)
+        (λ m. Gives is_outside (λ x. x) result (in_file (map.get m name.now) (head_at at limit))) }
+    ensures kept { Leaves S.files S.failures S.blamed FileError name.now store.old store.new
+        result }
     ensures asked { Asks is_outside (S.failures store.old) result }
     ensures version { IfOk result (λ x. is_version x.0 ≡ true) }
     ensures bound { IfOk result (λ x. (x.1 ≡ at + 5) × (x.1 ≤ limit)) }
@@ -60,8 +64,10 @@ pub fn check_end<S: Store>(
     at: u64,
     limit: u64,
 ) -> Result<(), ObjectFault>
-    ensures read { IfSome (S.files store.old) (λ m. Gives is_outside (λ u. u) result (in_file (map.get m name.now) (end_at at limit))) }
-    ensures kept { Leaves S.files S.failures S.blamed FileError name.now store.old store.new result }
+    ensures read { IfSome (S.files store.old)
+        (λ m. Gives is_outside (λ u. u) result (in_file (map.get m name.now) (end_at at limit))) }
+    ensures kept { Leaves S.files S.failures S.blamed FileError name.now store.old store.new
+        result }
     ensures asked { Asks is_outside (S.failures store.old) result }
 {
     let mut next = [0u8; 1];
@@ -81,8 +87,12 @@ fn read_records<S: Store>(
     limit: u64,
 ) -> Result<(Builder, u64), ObjectFault>
     requires { is_version head.0 ≡ true }
-    ensures read { IfSome (S.files store.old) (λ m. Gives is_outside (λ x. x) result (in_file (map.get m name.now) (λ bytes. records_at (length bytes) (start head.0) head.1 limit bytes))) }
-    ensures kept { Leaves S.files S.failures S.blamed FileError name.now store.old store.new result }
+    ensures read { IfSome (S.files store.old)
+        (λ m. Gives is_outside (λ x. x) result
+        (in_file (map.get m name.now) (λ bytes.
+        records_at (length bytes) (start head.0) head.1 limit bytes))) }
+    ensures kept { Leaves S.files S.failures S.blamed FileError name.now store.old store.new
+        result }
 {
     let (version, first) = head;
     let mut builder = Builder::new(alloc, version);
@@ -106,12 +116,16 @@ pub fn read_object<S: Store>(
     at: u64,
     limit: u64,
 ) -> Result<Object, ObjectFault>
-    ensures read { IfSome (S.files store.old) (λ m. Gives is_outside (λ o. o) result (in_file (map.get m name.now) (object_at at limit))) }
-    ensures kept { Leaves S.files S.failures S.blamed FileError name.now store.old store.new result }
+    ensures read { IfSome (S.files store.old)
+        (λ m. Gives is_outside (λ o. o) result
+        (in_file (map.get m name.now) (object_at at limit))) }
+    ensures kept { Leaves S.files S.failures S.blamed FileError name.now store.old store.new
+        result }
     ensures asked { Asks is_outside (S.failures store.old) result }
     // What is read can be written, and so its sections are within their limit, also where the store doesn't tell.
     ensures good { IfOk result (λ o. is_good_object o ≡ true) }
-    ensures sized { IfOk result (λ o. AllByRecursion (λ s. section_len s ≤ section_limit) o.sections) }
+    ensures sized { IfOk result (λ o. AllByRecursion
+        (λ s. section_len s ≤ section_limit) o.sections) }
 {
     let head = read_head(store, name, at, limit)?;
     let (builder, end) = read_records(alloc, store, name, head, limit)?;

@@ -107,8 +107,11 @@ impl RecordReader {
         at: u64,
         limit: u64,
     ) -> Result<(), ObjectFault>
-        ensures read { IfSome (S.files store.old) (λ m. Gives is_outside (λ _. self.new.ahead) result (in_file (map.get m name.now) (λ bytes. Ok (take 8192 (room bytes at limit))))) }
-        ensures kept { Leaves S.files S.failures S.blamed FileError name.now store.old store.new result }
+        ensures read { IfSome (S.files store.old)
+            (λ m. Gives is_outside (λ _. self.new.ahead) result
+            (in_file (map.get m name.now) (λ bytes. Ok (take 8192 (room bytes at limit))))) }
+        ensures kept { Leaves S.files S.failures S.blamed FileError name.now store.old store.new
+            result }
         ensures asked { Asks is_outside (S.failures store.old) result }
         ensures begin { OnOk result (self.new.begin ≡ at) }
         ensures none { OnErr result (self.new.ahead ≡ []) }
@@ -131,11 +134,16 @@ impl RecordReader {
         at: u64,
         limit: u64,
     ) -> Result<u64, ObjectFault>
-        ensures read { IfSome (S.files store.old) (λ m. IsAhead (map.get m name.now) self.old → Gives is_outside (λ n. (self.new.entry, n)) result (in_file (map.get m name.now) (record_at version at limit))) }
-        ensures ahead { IfSome (S.files store.old) (λ m. IsAhead (map.get m name.now) self.old → IsAhead (map.get m name.now) self.new) }
-        ensures kept { Leaves S.files S.failures S.blamed FileError name.now store.old store.new result }
+        ensures read { IfSome (S.files store.old) (λ m. IsAhead (map.get m name.now) self.old →
+            Gives is_outside (λ n. (self.new.entry, n)) result
+            (in_file (map.get m name.now) (record_at version at limit))) }
+        ensures ahead { IfSome (S.files store.old) (λ m. IsAhead (map.get m name.now) self.old →
+            IsAhead (map.get m name.now) self.new) }
+        ensures kept { Leaves S.files S.failures S.blamed FileError name.now store.old store.new
+            result }
         ensures asked { self.old.ahead ≡ [] → Asks is_outside (S.failures store.old) result }
-        ensures bound { IfOk result (λ n. (n ≡ at + 3 + length self.new.entry.body) × (n ≤ limit) × (n ≤ file_limit)) }
+        ensures bound { IfOk result (λ n. (n ≡ at + 3 + length self.new.entry.body) × (n ≤ limit) ×
+            (n ≤ file_limit)) }
     {
         let kept = from_place(front(&self.buffer, self.held), self.begin, at);
         let kept = front(kept, limit.saturating_sub(at) as usize);
@@ -161,10 +169,14 @@ pub fn read_record<S: Store>(
     at: u64,
     limit: u64,
 ) -> Result<(Record, u64), ObjectFault>
-    ensures read { IfSome (S.files store.old) (λ m. Gives is_outside (λ x. (entry_of x.0, x.1)) result (in_file (map.get m name.now) (record_at version at limit))) }
-    ensures kept { Leaves S.files S.failures S.blamed FileError name.now store.old store.new result }
+    ensures read { IfSome (S.files store.old)
+        (λ m. Gives is_outside (λ x. (entry_of x.0, x.1)) result
+        (in_file (map.get m name.now) (record_at version at limit))) }
+    ensures kept { Leaves S.files S.failures S.blamed FileError name.now store.old store.new
+        result }
     ensures asked { Asks is_outside (S.failures store.old) result }
-    ensures bound { IfOk result (λ x. (x.1 ≡ at + 3 + length x.0.body.items) × (x.1 ≤ limit) × (x.1 ≤ file_limit)) }
+    ensures bound { IfOk result (λ x. (x.1 ≡ at + 3 + length x.0.body.items) × (x.1 ≤ limit) ×
+        (x.1 ≤ file_limit)) }
 {
     let mut reader = RecordReader::new();
     let next = reader.read(store, name, version, at, limit)?;

@@ -240,10 +240,13 @@ impl Scan {
     /// Takes the next record, where a `Builder` takes it, and answers what it says. After a refusal each call
     /// answers that it failed before.
     pub fn take(&mut self, next: &Record) -> Result<Item, ObjectFault>
-        ensures scanned { Gives is_memory (λ item. (self.new, item)) result (scanned self.old (entry_of next.now)) }
+        ensures scanned { Gives is_memory (λ item. (self.new, item)) result
+            (scanned self.old (entry_of next.now)) }
         // For each object in the making that it stands for, the item is what the record adds to it.
-        ensures taken { (s : State) → self.old ≡ outline_of s → Gives is_memory (λ item. with_item s item) result (after s (entry_of next.now)) }
-        ensures kept { (s : State) → self.old ≡ outline_of s → IfOk result (λ item. self.new ≡ outline_of (with_item s item)) }
+        ensures taken { (s : State) → self.old ≡ outline_of s →
+            Gives is_memory (λ item. with_item s item) result (after s (entry_of next.now)) }
+        ensures kept { (s : State) → self.old ≡ outline_of s →
+            IfOk result (λ item. self.new ≡ outline_of (with_item s item)) }
         ensures within { IfOk result (λ item. IsWithin self.old item) }
         ensures failed { OnErr result (self.new.failed ≡ true) }
         ensures again { self.old.failed ≡ true → result ≡ Err ObjectFault.FailedBefore }
@@ -254,7 +257,8 @@ impl Scan {
     /// Takes the next record.
     #[tactic(auto, unfolding(crate::specs::Scanning::scanned))]
     fn advance(&mut self, next: &Record) -> Result<Item, ObjectFault>
-        ensures scanned { Gives is_memory (λ item. (self.new, item)) result (scanned self.old (entry_of next.now)) }
+        ensures scanned { Gives is_memory (λ item. (self.new, item)) result
+            (scanned self.old (entry_of next.now)) }
         ensures within { IfOk result (λ item. IsWithin self.old item) }
         ensures failed { OnErr result (self.new.failed ≡ true) }
         ensures again { self.old.failed ≡ true → result ≡ Err ObjectFault.FailedBefore }

@@ -73,7 +73,8 @@ pub fn check_file_name(names: &Names, name: &[u8]) -> Result<(), ObjectFault>
 /// Adds a new name.
 pub fn add_name(alloc: Global, names: &mut Names, name: &[u8]) -> Result<(), ObjectFault>
     requires { is_among (map (λ n. n.items) names.old.keys) name.now ≡ false }
-    ensures { Gives is_memory (λ _. map (λ n. n.items) names.new.keys) result (Ok (map (λ n. n.items) names.old.keys ++ name.now ∷ [])) }
+    ensures { Gives is_memory (λ _. map (λ n. n.items) names.new.keys) result
+        (Ok (map (λ n. n.items) names.old.keys ++ name.now ∷ [])) }
 {
     let key = Vec::from_slice(alloc, name)?;
     names.insert(key)?;
@@ -117,7 +118,8 @@ fn open_place(kept: &mut Kept) -> usize
 fn next_room(kept: &mut Kept) -> Result<(usize, Room), ObjectFault>
     requires { IsSound kept.old }
     ensures room { result ≡ open_room kept.old.rooms.items }
-    ensures filling { IfOk result (λ x. (kept.new.filling ≡ x.0) × (x.0 < length kept.new.rooms.items)) }
+    ensures filling { IfOk result (λ x. (kept.new.filling ≡ x.0) ×
+        (x.0 < length kept.new.rooms.items)) }
     ensures kept { outline_in kept.new ≡ outline_in kept.old }
     ensures sound { IsSound kept.new }
 {
@@ -133,7 +135,11 @@ fn put_room(kept: &mut Kept, at: usize, room: Room)
     requires sound { IsSound kept.old }
     requires filling { kept.old.filling ≡ at }
     requires within { at < length kept.old.rooms.items }
-    ensures put { outline_in kept.new ≡ record (outline_in kept.old) { rooms = slice_set kept.old.rooms.items at room; begun = true } }
+    ensures put { outline_in kept.new ≡
+        record (outline_in kept.old) {
+          rooms = slice_set kept.old.rooms.items at room;
+          begun = true;
+        } }
     ensures sound { IsSound kept.new }
 {
     kept.rooms[at] = room;
@@ -160,7 +166,8 @@ fn grow_room(
 #[tactic(auto, unfolding(crate::specs::Scanning::scan_part))]
 fn take_part(kept: &mut Kept, kind: u8, body: &[u8]) -> Result<Item, ObjectFault>
     requires { IsSound kept.old }
-    ensures { Takes kept.old kept.new result (scan_part (outline_in kept.old) (grow_room (outline_in kept.old) kind body.now)) }
+    ensures { Takes kept.old kept.new result
+        (scan_part (outline_in kept.old) (grow_room (outline_in kept.old) kind body.now)) }
 {
     let (at, room) = next_room(kept)?;
     let (grown, fragment) = grow_room(kept, kind, room, body)?;
@@ -198,7 +205,12 @@ fn read_section(alloc: Global, body: &[u8]) -> Result<(u32, u8, Sequence<u8>), O
 fn add_room(kept: &mut Kept, name: &[u8], size: u32) -> Result<(), ObjectFault>
     requires sound { IsSound kept.old }
     requires name { is_among (map (λ n. n.items) kept.old.sections.keys) name.now ≡ false }
-    ensures added { Gives is_memory (λ _. outline_in kept.new) result (Ok (record (outline_in kept.old) { sections = map (λ n. n.items) kept.old.sections.keys ++ name.now ∷ []; rooms = kept.old.rooms.items ++ empty_room size ∷ [] })) }
+    ensures added { Gives is_memory (λ _. outline_in kept.new) result
+        (Ok (record (outline_in kept.old) {
+          sections = map (λ n. n.items) kept.old.sections.keys ++
+              name.now ∷ [];
+          rooms = kept.old.rooms.items ++ empty_room size ∷ [];
+        })) }
     ensures sound { OnOk result (IsSound kept.new) }
 {
     add_name(kept.alloc, &mut kept.sections, name)?;
@@ -243,7 +255,8 @@ fn take_end(kept: &mut Kept, body: &[u8]) -> Result<Item, ObjectFault>
 #[tactic(auto, unfolding(crate::specs::Scanning::scan_entry))]
 pub fn take_record(kept: &mut Kept, next: &Record) -> Result<Item, ObjectFault>
     requires { IsSound kept.old }
-    ensures { Takes kept.old kept.new result (scan_entry (outline_in kept.old) (entry_of next.now)) }
+    ensures { Takes kept.old kept.new result
+        (scan_entry (outline_in kept.old) (entry_of next.now)) }
 {
     if !is_kind(kept.version, next.kind) {
         return Err(ObjectFault::OutOfOrder);

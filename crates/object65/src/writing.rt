@@ -51,7 +51,8 @@ fn put_i64(out: &mut Vec<u8>, n: i64) -> Result<(), AllocError>
 /// Adds a record.
 fn put_record(out: &mut Vec<u8>, kind: u8, body: &[u8]) -> Result<(), AllocError>
     requires { length body.now ≤ body_limit }
-    ensures { OnOk result (out.new.items ≡ out.old.items ++ entry_bytes (record { kind = kind; body = body.now })) }
+    ensures { OnOk result (out.new.items ≡ out.old.items ++
+        entry_bytes (record { kind = kind; body = body.now })) }
 {
     out.push(kind)?;
     put_u16(out, body.len() as u16)?;
@@ -124,20 +125,21 @@ fn put_origin(out: &mut Vec<u8>, origin: Origin) -> Result<(), AllocError>
 
 /// Adds a VALUE.
 fn put_value(
-    alloc: Global,
+    body: &mut Vec<u8>,
     out: &mut Vec<u8>,
     width: Width,
     origin: Origin,
     form: &Norm,
 ) -> Result<(), AllocError>
     requires { is_small_form form.now ≡ true }
-    ensures { OnOk result (out.new.items ≡ out.old.items ++ entry_bytes (value_entry width origin form.now)) }
+    ensures { OnOk result (out.new.items ≡ out.old.items ++
+        entry_bytes (value_entry width origin form.now)) }
 {
-    let mut body = Vec::new(alloc);
+    body.clear();
     body.push(width as u8)?;
-    put_origin(&mut body, origin)?;
-    put_form(&mut body, form)?;
-    put_record(out, VALUE, &body)
+    put_origin(body, origin)?;
+    put_form(body, form)?;
+    put_record(out, VALUE, body)
 }
 
 /// Adds a FILL.
@@ -151,7 +153,8 @@ fn put_fill(out: &mut Vec<u8>, count: u32) -> Result<(), AllocError>
 
 /// Adds a literal in records that are full but for the last.
 fn put_literal(out: &mut Vec<u8>, bytes: &[u8]) -> Result<(), AllocError>
-    ensures { OnOk result (out.new.items ≡ out.old.items ++ flat_map entry_bytes (literal_entries bytes.now)) }
+    ensures { OnOk result (out.new.items ≡ out.old.items ++
+        flat_map entry_bytes (literal_entries bytes.now)) }
 {
     let mut rest = bytes;
     while rest.len() > LARGEST_BODY {
@@ -166,9 +169,14 @@ fn put_literal(out: &mut Vec<u8>, bytes: &[u8]) -> Result<(), AllocError>
 }
 
 /// Adds a fragment.
-fn put_fragment(alloc: Global, out: &mut Vec<u8>, fragment: &Fragment) -> Result<(), AllocError>
+fn put_fragment(
+    body: &mut Vec<u8>,
+    out: &mut Vec<u8>,
+    fragment: &Fragment,
+) -> Result<(), AllocError>
     requires { is_small_fragment fragment.now ≡ true }
-    ensures { OnOk result (out.new.items ≡ out.old.items ++ flat_map entry_bytes (fragment_entries fragment.now)) }
+    ensures { OnOk result (out.new.items ≡ out.old.items ++
+        flat_map entry_bytes (fragment_entries fragment.now)) }
 {
     match fragment {
         Fragment::Literal(bytes) => put_literal(out, bytes.as_slice()),
@@ -177,33 +185,44 @@ fn put_fragment(alloc: Global, out: &mut Vec<u8>, fragment: &Fragment) -> Result
             width,
             origin,
             form,
-        } => put_value(alloc, out, *width, *origin, form),
+        } => put_value(body, out, *width, *origin, form),
     }
 }
 
-fn put_fragments(alloc: Global, out: &mut Vec<u8>, fragments: &[Fragment]) -> Result<(), AllocError>
+fn put_fragments(
+    body: &mut Vec<u8>,
+    out: &mut Vec<u8>,
+    fragments: &[Fragment],
+) -> Result<(), AllocError>
     requires { list_all is_small_fragment fragments.now ≡ true }
-    ensures { OnOk result (out.new.items ≡ out.old.items ++ flat_map entry_bytes (flat_map fragment_entries fragments.now)) }
+    ensures { OnOk result (out.new.items ≡ out.old.items ++
+        flat_map entry_bytes (flat_map fragment_entries fragments.now)) }
 {
     for fragment in fragments {
-        put_fragment(alloc, out, fragment)?;
+        put_fragment(body, out, fragment)?;
     }
     Ok(())
 }
 
-fn put_contents(alloc: Global, out: &mut Vec<u8>, sections: &[Section]) -> Result<(), AllocError>
+fn put_contents(
+    body: &mut Vec<u8>,
+    out: &mut Vec<u8>,
+    sections: &[Section],
+) -> Result<(), AllocError>
     requires { list_all is_small_section sections.now ≡ true }
-    ensures { OnOk result (out.new.items ≡ out.old.items ++ flat_map entry_bytes (flat_map (λ s. flat_map fragment_entries s.fragments) sections.now)) }
+    ensures { OnOk result (out.new.items ≡ out.old.items ++
+        flat_map entry_bytes (flat_map (λ s. flat_map fragment_entries s.fragments) sections.now)) }
 {
     for section in sections {
-        put_fragments(alloc, out, section.fragments.as_slice())?;
+        put_fragments(body, out, section.fragments.as_slice())?;
     }
     Ok(())
 }
 
 fn put_files(out: &mut Vec<u8>, files: &[Sequence<u8>]) -> Result<(), AllocError>
     requires { list_all is_file_name files.now ≡ true }
-    ensures { OnOk result (out.new.items ≡ out.old.items ++ flat_map entry_bytes (map file_entry files.now)) }
+    ensures { OnOk result (out.new.items ≡ out.old.items ++
+        flat_map entry_bytes (map file_entry files.now)) }
 {
     for name in files {
         put_record(out, FILE, name.as_slice())?;
@@ -213,7 +232,8 @@ fn put_files(out: &mut Vec<u8>, files: &[Sequence<u8>]) -> Result<(), AllocError
 
 fn put_imports(out: &mut Vec<u8>, imports: &[Sequence<u8>]) -> Result<(), AllocError>
     requires { list_all is_small_text imports.now ≡ true }
-    ensures { OnOk result (out.new.items ≡ out.old.items ++ flat_map entry_bytes (map import_entry imports.now)) }
+    ensures { OnOk result (out.new.items ≡ out.old.items ++
+        flat_map entry_bytes (map import_entry imports.now)) }
 {
     for name in imports {
         put_record(out, IMPORT, name.as_slice())?;
@@ -245,76 +265,84 @@ fn size_of(fragments: &[Fragment]) -> u32
 }
 
 /// Adds a SECTION.
-fn put_section(alloc: Global, out: &mut Vec<u8>, section: &Section) -> Result<(), AllocError>
+fn put_section(body: &mut Vec<u8>, out: &mut Vec<u8>, section: &Section) -> Result<(), AllocError>
     requires { is_small_section section.now ≡ true }
-    ensures { OnOk result (out.new.items ≡ out.old.items ++ entry_bytes (section_entry section.now)) }
+    ensures { OnOk result (out.new.items ≡ out.old.items ++
+        entry_bytes (section_entry section.now)) }
 {
-    let mut body = Vec::new(alloc);
-    put_u32(&mut body, size_of(section.fragments.as_slice()))?;
+    body.clear();
+    put_u32(body, size_of(section.fragments.as_slice()))?;
     body.push(section.align)?;
     body.extend_from_slice(section.name.as_slice())?;
-    put_record(out, SECTION, &body)
+    put_record(out, SECTION, body)
 }
 
-fn put_sections(alloc: Global, out: &mut Vec<u8>, sections: &[Section]) -> Result<(), AllocError>
+fn put_sections(
+    body: &mut Vec<u8>,
+    out: &mut Vec<u8>,
+    sections: &[Section],
+) -> Result<(), AllocError>
     requires { list_all is_small_section sections.now ≡ true }
-    ensures { OnOk result (out.new.items ≡ out.old.items ++ flat_map entry_bytes (map section_entry sections.now)) }
+    ensures { OnOk result (out.new.items ≡ out.old.items ++
+        flat_map entry_bytes (map section_entry sections.now)) }
 {
     for section in sections {
-        put_section(alloc, out, section)?;
+        put_section(body, out, section)?;
     }
     Ok(())
 }
 
 /// Adds an EXPORT.
-fn put_export(alloc: Global, out: &mut Vec<u8>, export: &Export) -> Result<(), AllocError>
+fn put_export(body: &mut Vec<u8>, out: &mut Vec<u8>, export: &Export) -> Result<(), AllocError>
     requires { is_small_export export.now ≡ true }
     ensures { OnOk result (out.new.items ≡ out.old.items ++ entry_bytes (export_entry export.now)) }
 {
-    let mut body = Vec::new(alloc);
+    body.clear();
     body.push(export.name.len() as u8)?;
     body.extend_from_slice(export.name.as_slice())?;
-    put_origin(&mut body, export.origin)?;
-    put_form(&mut body, &export.form)?;
-    put_record(out, EXPORT, &body)
+    put_origin(body, export.origin)?;
+    put_form(body, &export.form)?;
+    put_record(out, EXPORT, body)
 }
 
-fn put_exports(alloc: Global, out: &mut Vec<u8>, exports: &[Export]) -> Result<(), AllocError>
+fn put_exports(body: &mut Vec<u8>, out: &mut Vec<u8>, exports: &[Export]) -> Result<(), AllocError>
     requires { list_all is_small_export exports.now ≡ true }
-    ensures { OnOk result (out.new.items ≡ out.old.items ++ flat_map entry_bytes (map export_entry exports.now)) }
+    ensures { OnOk result (out.new.items ≡ out.old.items ++
+        flat_map entry_bytes (map export_entry exports.now)) }
 {
     for export in exports {
-        put_export(alloc, out, export)?;
+        put_export(body, out, export)?;
     }
     Ok(())
 }
 
 /// Adds an ASSERT.
-fn put_assert(alloc: Global, out: &mut Vec<u8>, assert: &Assert) -> Result<(), AllocError>
+fn put_assert(body: &mut Vec<u8>, out: &mut Vec<u8>, assert: &Assert) -> Result<(), AllocError>
     requires { is_small_assert assert.now ≡ true }
     ensures { OnOk result (out.new.items ≡ out.old.items ++ entry_bytes (assert_entry assert.now)) }
 {
-    let mut body = Vec::new(alloc);
+    body.clear();
     body.push(assert.action as u8)?;
-    put_origin(&mut body, assert.origin)?;
+    put_origin(body, assert.origin)?;
     body.push(assert.text.len() as u8)?;
     body.extend_from_slice(assert.text.as_slice())?;
-    put_form(&mut body, &assert.form)?;
-    put_record(out, ASSERT, &body)
+    put_form(body, &assert.form)?;
+    put_record(out, ASSERT, body)
 }
 
-fn put_asserts(alloc: Global, out: &mut Vec<u8>, asserts: &[Assert]) -> Result<(), AllocError>
+fn put_asserts(body: &mut Vec<u8>, out: &mut Vec<u8>, asserts: &[Assert]) -> Result<(), AllocError>
     requires { list_all is_small_assert asserts.now ≡ true }
-    ensures { OnOk result (out.new.items ≡ out.old.items ++ flat_map entry_bytes (map assert_entry asserts.now)) }
+    ensures { OnOk result (out.new.items ≡ out.old.items ++
+        flat_map entry_bytes (map assert_entry asserts.now)) }
 {
     for assert in asserts {
-        put_assert(alloc, out, assert)?;
+        put_assert(body, out, assert)?;
     }
     Ok(())
 }
 
 /// Adds the records of an object.
-fn put_object(alloc: Global, out: &mut Vec<u8>, object: &Object) -> Result<(), AllocError>
+fn put_object(body: &mut Vec<u8>, out: &mut Vec<u8>, object: &Object) -> Result<(), AllocError>
     requires files { list_all is_file_name object.now.files ≡ true }
     requires imports { list_all is_small_text object.now.imports ≡ true }
     requires sections { list_all is_small_section object.now.sections ≡ true }
@@ -326,10 +354,10 @@ fn put_object(alloc: Global, out: &mut Vec<u8>, object: &Object) -> Result<(), A
     out.push(object.version)?;
     put_files(out, object.files.as_slice())?;
     put_imports(out, object.imports.as_slice())?;
-    put_sections(alloc, out, object.sections.as_slice())?;
-    put_contents(alloc, out, object.sections.as_slice())?;
-    put_exports(alloc, out, object.exports.as_slice())?;
-    put_asserts(alloc, out, object.asserts.as_slice())?;
+    put_sections(body, out, object.sections.as_slice())?;
+    put_contents(body, out, object.sections.as_slice())?;
+    put_exports(body, out, object.exports.as_slice())?;
+    put_asserts(body, out, object.asserts.as_slice())?;
     put_record(out, END, &[])
 }
 
@@ -341,7 +369,11 @@ pub fn write_object(alloc: Global, object: &Object, out: &mut Vec<u8>) -> Result
     ensures memory { IfErr result (λ e. e ≡ ObjectFault.OutOfMemory) }
 {
     let mut bytes = Vec::new(alloc);
-    put_object(alloc, &mut bytes, object)?;
-    out.extend_from_slice(&bytes)?;
+    put_object(&mut Vec::new(alloc), &mut bytes, object)?;
+    if out.is_empty() {
+        *out = bytes;
+    } else {
+        out.extend_from_slice(&bytes)?;
+    }
     Ok(())
 }

@@ -3,6 +3,7 @@
 
 mod defining;
 mod symbols;
+mod words;
 
 ghost use Rattle.std.specs.Prelude.{◌≡◌, ◌++◌, ◌∷◌, [], IfOk, None, OnErr, OnOk, Some, length, map, position, ◌<◌, IfSome, slice_get};
 ghost use Rattle.std.specs.Option.{option_map};
@@ -17,22 +18,20 @@ ghost use Rattle.semantics65.specs.Norms.{is_zero_page_name};
 use base65::{Seed, Sequence};
 pub use defining::define;
 use indexmap::{IndexMap, IndexSet};
+use smallvec::SmallVec;
 use std::alloc::{AllocError, Global};
 pub use symbols::{Definition, Entry, Key, Opening, Symbols};
+use words::{Spelled, Word};
 
 /// The number of a name, which is put in where it is new.
-fn intern(
-    alloc: Global,
-    words: &mut IndexSet<Vec<u8>, Seed>,
-    name: &[u8],
-) -> Result<usize, AllocError>
+fn intern(alloc: Global, words: &mut IndexSet<Word, Seed>, name: &[u8]) -> Result<usize, AllocError>
     ensures more { Begins (map (λ k. k.items) words.old.keys) (map (λ k. k.items) words.new.keys) }
     ensures number { IfOk result (λ w. position (bytes_eq name.now) (map (λ k. k.items) words.new.keys) ≡ Some w) }
 {
-    match words.get_index_of(name) {
+    match words.get_index_of(Spelled(name)) {
         Some(word) => Ok(word),
         None => {
-            let (word, _) = words.insert_full(Vec::from_slice(alloc, name)?)?;
+            let (word, _) = words.insert_full(SmallVec::from_slice(alloc, name)?)?;
             Ok(word)
         }
     }
@@ -73,7 +72,7 @@ impl Symbols {
     fn word(&self, name: &[u8]) -> Option<usize>
         ensures { result ≡ position (bytes_eq name.now) (words_of self.now) }
     {
-        self.words.get_index_of(name)
+        self.words.get_index_of(Spelled(name))
     }
 
     fn entry(&self, key: Key<'_>) -> Option<Entry>

@@ -3,9 +3,9 @@
 mod stores;
 
 use asm65::{AsmJob, AsmRefusal, Define, assemble};
+use ast65::AsmFault;
 use base65::{MemStore, Text};
 use expand65::ExpandFault;
-use ast65::AsmFault;
 use object65::write_object;
 use std::alloc::{AllocError, Global};
 use std::test::Fail;

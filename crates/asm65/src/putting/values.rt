@@ -12,12 +12,12 @@ ghost use Rattle.semantics65.specs.Module.{datum, operand, valued};
 
 use super::Site;
 use crate::assembler::{Assembler, Fixup, Piece};
-use base65::Sequence;
 use ast65::{AsmFault, Item};
-use semantics65::{At, Context, Part, Settled};
+use base65::Sequence;
+use emit65::Sections;
 use object65::format::FILE_NAME_LIMIT;
 use object65::{Node, Norm, Width, fits, put};
-use emit65::Sections;
+use semantics65::{At, Context, Part, Settled};
 use std::alloc::{AllocError, Global};
 use symbols65::{operand_form, stable_form};
 use syntax65::{Expr, ExprKind};

@@ -144,7 +144,7 @@ fn names(alloc: Global, tokens: &[Token<'_>]) -> Result<Sequence<Sequence<u8>>, 
     let mut rest = Some(tokens);
     'parts: while let Some(left) = rest {
         let (part, behind) = first_part(left);
-        names.push(name_of(alloc, part)?)?;
+        names.push(Sequence::copy_of(alloc, name_of(part)?)?)?;
         rest = behind;
     }
     Ok(names)

@@ -12,13 +12,13 @@ use super::directives::{
     amount, assertion, ended_text, file_part, list, lone, message, name_list, processor,
 };
 use super::operands::{expression, operand};
-use super::tokens::{defines, is_colon, name_of, scope, segment};
+use super::tokens::{defines, is_colon, proc, scope, segment};
 use super::words::{Directive, directive_of};
 use crate::fault::AsmFault;
 use crate::language::Statement;
 use base65::Sequence;
 use std::alloc::Global;
-use syntax65::{Mnemonic, Token, TokenKind, is_reserved, mnemonic};
+use syntax65::{Identifier, Mnemonic, Token, TokenKind, is_reserved, mnemonic};
 
 /// The label that a token before a `:` is, if it is one.
 fn named_label(alloc: Global, token: &Token<'_>) -> Result<Option<Statement>, AsmFault>
@@ -29,10 +29,10 @@ fn named_label(alloc: Global, token: &Token<'_>) -> Result<Option<Statement>, As
             if is_reserved(token.text) {
                 Ok(None)
             } else {
-                Ok(Some(Statement::Label(Sequence::copy_of(alloc, token.text)?)))
+                Ok(Some(Statement::Label(Identifier::copy_of(alloc, token.text)?)))
             }
         }
-        TokenKind::CheapName => Ok(Some(Statement::CheapLabel(Sequence::copy_of(
+        TokenKind::CheapName => Ok(Some(Statement::CheapLabel(Identifier::copy_of(
             alloc, token.text,
         )?))),
         _ => Ok(None),
@@ -97,7 +97,7 @@ fn directive_statement(
         Directive::Segment => segment(alloc, tokens),
         Directive::Lone(which) => lone(alloc, which, tokens),
         Directive::Scope => scope(alloc, tokens),
-        Directive::Proc => Ok(Statement::OpenProc(name_of(alloc, tokens)?)),
+        Directive::Proc => proc(alloc, tokens),
         Directive::Names(which) => name_list(alloc, which, tokens),
         Directive::Assert => assertion(alloc, tokens),
         Directive::Message(which) => message(alloc, which, tokens),
@@ -113,7 +113,7 @@ fn constant(alloc: Global, name: &[u8], tokens: &[Token<'_>]) -> Result<Statemen
         return Err(AsmFault::NotUnderstood);
     }
     let value = expression(alloc, tokens)?;
-    let name = Sequence::copy_of(alloc, name)?;
+    let name = Identifier::copy_of(alloc, name)?;
     Ok(Statement::Constant { name, value })
 }
 

@@ -11,7 +11,7 @@ use crate::fault::AsmFault;
 use crate::language::Statement;
 use base65::Sequence;
 use std::alloc::Global;
-use syntax65::{AddressSize, MAX_NAME, Mark, Token, TokenKind, is_reserved};
+use syntax65::{AddressSize, Identifier, MAX_NAME, Mark, Token, TokenKind, is_reserved};
 
 pub fn is_comma(token: &Token<'_>) -> bool
     ensures { result ≡ is_comma (lexeme_of token.now) }
@@ -118,15 +118,15 @@ pub fn needed(found: Option<&[u8]>) -> Result<&[u8], AsmFault>
     }
 }
 
-/// A plain name.
-pub fn name_of(alloc: Global, tokens: &[Token<'_>]) -> Result<Sequence<u8>, AsmFault>
-    ensures { Parses result (λ r. r ≡ name_of (lexemes tokens.now)) }
+/// The bytes of a plain name.
+pub fn name_of<'a>(tokens: &[Token<'a>]) -> Result<&'a [u8], AsmFault>
+    ensures { ParsesAs (λ s. s.now) result (λ r. r ≡ name_of (lexemes tokens.now)) }
 {
     let name = needed(word_of(tokens))?;
     if is_reserved(name) {
         return Err(AsmFault::NotUnderstood);
     }
-    Ok(Sequence::copy_of(alloc, name)?)
+    Ok(name)
 }
 
 fn size_word(word: &[u8]) -> Result<AddressSize, AsmFault>
@@ -206,5 +206,14 @@ pub fn scope(alloc: Global, tokens: &[Token<'_>]) -> Result<Statement, AsmFault>
     if tokens.is_empty() {
         return Ok(Statement::OpenScope(None));
     }
-    Ok(Statement::OpenScope(Some(name_of(alloc, tokens)?)))
+    let name = Identifier::copy_of(alloc, name_of(tokens)?)?;
+    Ok(Statement::OpenScope(Some(name)))
+}
+
+/// `.proc`
+pub fn proc(alloc: Global, tokens: &[Token<'_>]) -> Result<Statement, AsmFault>
+    ensures { Parses result (IsDirective directive.Proc (lexemes tokens.now)) }
+{
+    let name = Identifier::copy_of(alloc, name_of(tokens)?)?;
+    Ok(Statement::OpenProc(name))
 }

@@ -4,10 +4,11 @@ ghost use Rattle.std.specs.Prelude.{map};
 ghost use Rattle.indexmap.specs.IndexMap.{keys};
 ghost use Rattle.symbols65.specs.Tables.{AreCounted, AreDistinct, AreFinal, AreFinal-prop, AreNumbered, word_of, word_opened};
 
+use super::words::Word;
 use base65::Seed;
 use indexmap::{IndexMap, IndexSet};
-use semantics65::Context;
 use object65::Norm;
+use semantics65::Context;
 use std::alloc::Global;
 use syntax65::{AddressSize, Expr};
 
@@ -52,7 +53,7 @@ pub enum Opening {
 #[derive(Drop)]
 pub struct Symbols {
     /// Each name once. It is looked up as it stands, so no search makes a copy of one.
-    pub words: IndexSet<Vec<u8>, Seed>,
+    pub words: IndexSet<Word, Seed>,
     /// Each definition, in the order of the source.
     pub definitions: IndexMap<Entry, Definition, Seed>,
     /// Each scope but the global one, in the order in which they were opened, and whether it was opened by `.proc`. The

@@ -7,9 +7,9 @@ pub put_record-requires : goal.put_record-requires
 put_record-requires c =
     let e = c.args.assert.now in
     let small = small_assert e c.requires in
-    let a = added_len c.new-body.result.items _ c.push.new.self.items c.in_ok-push.ensures.items in
+    let a = added_len c.clear.new.self.items _ c.push.new.self.items c.in_ok-push.ensures.items in
     let b = added_len c.push.new.self.items (origin_bytes e.origin) c.put_origin.new.out.items c.in_ok-put_origin.ensures in
     let k = added_len c.put_origin.new.out.items _ c.push-2.new.self.items c.in_ok-push-2.ensures.items in
     let n = added_len c.push-2.new.self.items _ c.extend_from_slice.new.self.items c.in_ok-extend_from_slice.ensures.items in
     let d = added_len c.extend_from_slice.new.self.items (form_bytes e.form) c.put_form.new.out.items c.in_ok-put_form.ensures in
-    omega (arith, ap length c.new-body.ensures.items, ap length c.deref.ensures.value, ap length c.as_slice.ensures, a, b, k, n, d, small.0, small.1, origin_len e.origin)
+    omega (arith, ap length c.clear.ensures.items, ap length c.deref.ensures.value, ap length c.as_slice.ensures, a, b, k, n, d, small.0, small.1, origin_len e.origin)

@@ -171,13 +171,7 @@ fn closing_of(tokens: &[Token<'_>]) -> Result<Option<Index>, AsmFault>
     ensures { result ≡ closing_of (lexemes tokens.now) }
 {
     match tokens {
-        [first] => {
-            if is_close(first) {
-                Ok(None)
-            } else {
-                Err(AsmFault::NotUnderstood)
-            }
-        }
+        [end] if is_close(end) => Ok(None),
         [first, second, third] => {
             if is_comma(first) && spells(second, b"x") && is_close(third) {
                 Ok(Some(Index::X))

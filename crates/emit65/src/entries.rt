@@ -7,8 +7,8 @@ ghost use Rattle.emit65.specs.declared.entries.Entry.TheVariants.{Open};
 ghost use Rattle.emit65.specs.Fed.{AreAlike, content_of, filled, is_open, open_count, origin_by, stands_in, DefersIn, IsAdded, IsSettled, SettlesIn, StandIn, Takes, TakesIn, contents_in};
 
 use base65::Sequence;
-use semantics65::Declaration;
 use object65::{Norm, Origin, Width};
+use semantics65::Declaration;
 use std::alloc::{AllocError, Global};
 use std::mem;
 

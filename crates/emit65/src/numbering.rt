@@ -19,9 +19,9 @@ use exports::declared_by;
 use indexmap::IndexSet;
 pub use keys::{Imports, narrow};
 use keys::{Numbers, import_keys};
-use semantics65::Segment;
 use object65::{Fragment, Object, Section};
 pub use ordering::in_order;
+use semantics65::Segment;
 use std::alloc::{AllocError, Global};
 
 /// The power of two to a multiple of which a segment is aligned.

@@ -12,8 +12,8 @@ use crate::files::Files;
 use crate::numbering::{Imports, in_order, narrow, object_of};
 use base65::{Seed, Sequence};
 use indexmap::IndexSet;
-use semantics65::{At, Declaration, Part, Segment};
 use object65::{Norm, Object, Width};
+use semantics65::{At, Declaration, Part, Segment};
 use std::alloc::{AllocError, Global};
 
 impl Files {

@@ -11,13 +11,13 @@ ghost use Rattle.symbols65.specs.Views.{table_of};
 ghost use Rattle.symbols65.specs.Measuring.{advanced, AreInside, HasNumbers, opened_by, AreWithin, IsCounted, IsSoundCursor, cursor_of};
 
 use crate::measuring::Measured;
+use crate::table::Symbols;
+use ast65::Statement;
 use base65::Sequence;
 use indexmap::IndexSet;
-use ast65::Statement;
-use semantics65::{Context, GLOBAL_SCOPE, Segment};
 use object65::format::SECTION_LIMIT;
+use semantics65::{Context, GLOBAL_SCOPE, Segment};
 use std::alloc::{AllocError, Global};
-use crate::table::Symbols;
 use syntax65::AddressSize;
 
 /// What stands behind statements.

@@ -14,10 +14,10 @@ use crate::resolving::{
     pass_on_memory, prefix_form, settled,
 };
 use crate::table::Symbols;
-use base65::Op1;
 use ast65::{AsmFault, Index, Operand};
-use semantics65::Context;
+use base65::Op1;
 use object65::{Node, Norm};
+use semantics65::Context;
 use std::alloc::{AllocError, Global};
 use syntax65::{AddressSize, Expr, ExprKind, Mnemonic, Mode, opcode};
 

@@ -22,11 +22,11 @@ pub use self::kinds::asks_section;
 use self::kinds::{check_defined, check_opened, check_outside, place};
 use self::trees::{check_operand, check_trees};
 use crate::cursor::Cursor;
+use crate::resolving::NormCache;
+use crate::table::Symbols;
 use ast65::{AsmFault, Operand, Statement};
 use semantics65::{Context, Settled};
 use std::alloc::Global;
-use crate::resolving::NormCache;
-use crate::table::Symbols;
 use syntax65::{AddressSize, Mnemonic};
 
 /// What stands before a statement: the symbol table of those before it, and where it stands itself.

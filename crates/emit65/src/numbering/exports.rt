@@ -8,8 +8,8 @@ use super::keys::{Numbers, numbered};
 use crate::entries::Entry;
 use base65::{Seed, Sequence};
 use indexmap::IndexSet;
-use semantics65::Declaration;
 use object65::{Assert, Export, Origin};
+use semantics65::Declaration;
 use std::alloc::{AllocError, Global};
 
 /// Exports, with the names by which a second one is found, and assertions.

@@ -11,8 +11,8 @@ ghost use Rattle.semantics65.specs.Views.{said_at};
 use crate::entries::Entry;
 use base65::Seed;
 use indexmap::IndexSet;
-use semantics65::Declaration;
 use object65::{Node, Norm};
+use semantics65::Declaration;
 use std::alloc::{AllocError, Global};
 
 /// The names of imports, each once. The key of one is its place.

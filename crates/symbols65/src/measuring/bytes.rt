@@ -15,15 +15,15 @@ ghost use Rattle.semantics65.specs.Symbols.{Symbols as Table};
 
 use super::trees::check_range;
 use crate::cursor::Cursor;
-use crate::measuring::{Before, Measured, fit, nothing};
-use base65::Sequence;
-use ast65::{AsmFault, Item, Items, ItemsKind, Operand, OptionalExpr, PartRange};
-use semantics65::{Context, Settled};
-use object65::Width;
-use std::alloc::Global;
 use crate::knowing;
+use crate::measuring::{Before, Measured, fit, nothing};
 use crate::resolving::NormCache;
 use crate::table::Symbols;
+use ast65::{AsmFault, Item, Items, ItemsKind, Operand, OptionalExpr, PartRange};
+use base65::Sequence;
+use object65::Width;
+use semantics65::{Context, Settled};
+use std::alloc::Global;
 use syntax65::{MAX_FILE, Mnemonic, Mode};
 
 /// The value of an expression that has to be constant, if there is one.

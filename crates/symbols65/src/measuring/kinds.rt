@@ -12,14 +12,14 @@ ghost use Rattle.symbols65.specs.Measuring.{Checks, Places, IsSoundCursor};
 
 use super::bytes::{file_part, instruction, values};
 use super::rooms::{align, check_segment, is_scope, reserve};
-use crate::measuring::{Before, Measured, nothing};
-use base65::Sequence;
-use ast65::{AsmFault, PartRange, Statement};
-use semantics65::Context;
-use std::alloc::Global;
 use crate::knowing;
+use crate::measuring::{Before, Measured, nothing};
 use crate::resolving::NormCache;
 use crate::table::{Key, Symbols};
+use ast65::{AsmFault, PartRange, Statement};
+use base65::Sequence;
+use semantics65::Context;
+use std::alloc::Global;
 use syntax65::{Expr, ExprKind};
 
 /// Refuses a statement with names of the global scope where another one is open.

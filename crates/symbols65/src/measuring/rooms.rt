@@ -12,13 +12,13 @@ ghost use Rattle.semantics65.specs.Norms.{counted, fill_settled, gap, optional_v
 ghost use Rattle.symbols65.specs.Resolving.{IsTable};
 
 use crate::cursor::Cursor;
+use crate::knowing;
 use crate::measuring::{Before, Measured, fit, nothing};
+use crate::resolving::NormCache;
+use crate::table::Symbols;
 use ast65::{AsmFault, OptionalExpr};
 use semantics65::{Context, Segment, Settled};
 use std::alloc::Global;
-use crate::knowing;
-use crate::resolving::NormCache;
-use crate::table::Symbols;
 use syntax65::{AddressSize, Expr};
 
 /// Whether the scope at a place was opened by `.scope`.

@@ -7,10 +7,10 @@ ghost use Rattle.semantics65.specs.Symbols.{Scope};
 ghost use Rattle.symbols65.specs.Views.{table_of};
 ghost use Rattle.symbols65.specs.Measuring.{Checks};
 
-use ast65::{AsmFault, Item, ItemsKind, Operand, OptionalExpr, PartRange, Statement};
-use std::alloc::Global;
 use crate::resolving::{plain_part, scope_of, scopes_in, shown};
 use crate::table::Symbols;
+use ast65::{AsmFault, Item, ItemsKind, Operand, OptionalExpr, PartRange, Statement};
+use std::alloc::Global;
 use syntax65::{Expr, ExprKind, Name};
 
 /// Refuses a name with `::` whose scope isn't there.

@@ -14,8 +14,8 @@ ghost use Rattle.symbols65.specs.Views.{known_by, table_of};
 use super::meaning::{Meaning, folded, meaning_of};
 use crate::table::Symbols;
 use ast65::AsmFault;
-use semantics65::Context;
 use object65::{Node, Norm};
+use semantics65::Context;
 use std::alloc::{AllocError, Global};
 use syntax65::{Expr, ExprKind};
 

@@ -14,8 +14,8 @@ use super::attempt::{Source, State, Stop, pass_on_memory, try_last, try_norm};
 use super::finals::are_final;
 use crate::table::Symbols;
 use ast65::AsmFault;
-use semantics65::Context;
 use object65::Norm;
+use semantics65::Context;
 use std::alloc::{AllocError, Global};
 use syntax65::Expr;
 

@@ -16,8 +16,8 @@ use super::meaning::{last_in, plain_part, scopes_in};
 use super::scopes::scope_of;
 use crate::table::{Key, Symbols};
 use base65::{Op1, Op2, apply1, apply2};
-use semantics65::Context;
 use object65::{FormFault, Node, Norm};
+use semantics65::Context;
 use std::alloc::{AllocError, Global};
 use syntax65::{Expr, ExprKind, Name};
 

@@ -18,10 +18,10 @@ ghost use Rattle.ast65.specs.declared.fault.AsmFault.TheVariants.{NoSuchLabel, U
 
 use super::scopes::{defined_outward, scope_of, shown};
 use crate::table::{Key, Symbols};
-use base65::{Op2, Sequence};
 use ast65::AsmFault;
-use semantics65::Context;
+use base65::{Op2, Sequence};
 use object65::{FormFault, Node, Norm, Width};
+use semantics65::Context;
 use std::alloc::Global;
 use syntax65::{Expr, ExprKind, Name};
 

@@ -13,8 +13,8 @@ use super::cache::NormCache;
 use super::meaning::Meaning;
 use crate::table::Symbols;
 use ast65::AsmFault;
-use semantics65::Context;
 use object65::Norm;
+use semantics65::Context;
 use std::alloc::Global;
 use syntax65::Expr;
 

@@ -6,8 +6,8 @@ ghost use Rattle.symbols65.specs.Tables.{AreCounted, AreDistinct, AreFinal, AreF
 
 use base65::Seed;
 use indexmap::{IndexMap, IndexSet};
-use semantics65::Context;
 use object65::Norm;
+use semantics65::Context;
 use std::alloc::Global;
 use syntax65::{AddressSize, Expr};
 

@@ -13,7 +13,7 @@ use Rattle.expand65.specs.Fronts.{understood, front_directive, is_mislabelled}
 use Rattle.expand65.specs.Standing.{is_call, left_in, left_of, mark_of, outside, own, FailsAtLine, FailsInBlock, StopsAt, state_of, turned, fronted, led, state_in}
 use Rattle.expand65.specs.Lines.{localised, Item, Mark, mark, innermost, Takes}
 use Rattle.expand65.specs.Macros.{local_line, local_named, new_names}
-use Rattle.expand65.specs.Expansion.{Leads, acted, begun, last_condition, step_behind, IsStep}
+use Rattle.expand65.specs.Expansion.{Leads, acted, unless_mislabelled, last_condition, step_behind, IsStep}
 use Rattle.syntax65.specs.declared.fault.ExpandFault.{ExpandFault}
 use Rattle.syntax65.specs.declared.fault.ExpandFault.TheVariants.{NotOpened, NotUnderstood, FileError}
 use Rattle.expand65.specs.declared.input.Source.{Source}
@@ -119,12 +119,12 @@ pub stops_taking : {A : Type 0} (o : Option Files) (blamed : Option (List ℕ)) 
 stops_taking o blamed k old new r h = stops_so o (λ m. FailsAtLine blamed (left_of m old.reader)) (λ m. FailsAt blamed k (state_of m old)) old.reader new r (λ m p f. fails_taken blamed m k old p (inl f)) h
 
 -- behind a line
-pub stops_behind : {A : Type 0} (o : Option Files) (blamed : Option (List ℕ)) (k : Meaning) (old mid : Rewriter) (new : Reader) (ts : List Lexeme) (r : Result A ExpandFault) → IfSome o (λ m. Takes (left_of m old.reader) (Ok (Some ts, left_of m mid.reader))) → ((m : Files) → state_of m mid ≡ with_left (state_of m old) (left_of m mid.reader)) → mark_of mid.reader.top ≡ mark_of old.reader.top → IfSome o (λ m. StopsAt (Fails blamed (begun k (state_of m mid) ts (is_mislabelled ts))) mid.reader new r) → IfSome o (λ m. StopsAt (FailsAt blamed k (state_of m old)) old.reader new r)
+pub stops_behind : {A : Type 0} (o : Option Files) (blamed : Option (List ℕ)) (k : Meaning) (old mid : Rewriter) (new : Reader) (ts : List Lexeme) (r : Result A ExpandFault) → IfSome o (λ m. Takes (left_of m old.reader) (Ok (Some ts, left_of m mid.reader))) → ((m : Files) → state_of m mid ≡ with_left (state_of m old) (left_of m mid.reader)) → mark_of mid.reader.top ≡ mark_of old.reader.top → IfSome o (λ m. StopsAt (Fails blamed (unless_mislabelled k (state_of m mid) ts (is_mislabelled ts))) mid.reader new r) → IfSome o (λ m. StopsAt (FailsAt blamed k (state_of m old)) old.reader new r)
 stops_behind None blamed k old mid new ts r t e same h = tt
 stops_behind (Some m) blamed k old mid new ts (Ok x) t e same h = tt
 stops_behind (Some m) blamed k old mid new ts (Err f) t e same h = λ failed.
     let so = h failed in
-    let behind = subst (λ s. Fails blamed (begun k s ts (is_mislabelled ts)) new.place) (e m) so.there in
+    let behind = subst (λ s. Fails blamed (unless_mislabelled k s ts (is_mislabelled ts)) new.place) (e m) so.there in
     record { there = fails_taken blamed m k old new.place (inr (Ok (Some ts, left_of m mid.reader), t, behind)); mark = so.mark ∙ same }
 
 -- ---- Of one line.

@@ -4,7 +4,7 @@ use Rattle.std.proofs.Common.{arith, ◌≡◌, ℕ, zero, suc, Bool, List, [], 
 use Rattle.base65.specs.Store.{Files}
 use Rattle.syntax65.specs.Tokens.{Lexeme}
 use Rattle.expand65.specs.Blocks.{Verdict, on, closed, refused, Block, a_fault, a_mark, a_refusal, the_last, one_more, block_state, judge_of}
-use Rattle.expand65.specs.State.{IsCondition, Meaning, State, Step, leads, parses, decides, takes, takes_block, opens, Stepped, goes, gives, ends, stops, unless_stopped}
+use Rattle.expand65.specs.State.{IsCondition, Meaning, State, Step, leads, parses, decides, takes, takes_block, searches, Stepped, goes, gives, ends, stops, unless_stopped}
 use Rattle.expand65.specs.Expansion.{Leads, Next, statement, nothing, fault, Reaches, further, given, ended, stopped, first_file, step_from, IsStep}
 use Rattle.expand65.specs.Lines.{Item, written, played, labelled, branch, mark, Left, left, Stop, moved, IsOpened, Taken, Takes, TakesFrom, taken_as}
 use Rattle.expand65.specs.declared.fronts.Test.{Test}
@@ -73,7 +73,7 @@ one_led m (parses ts next) a b (q, p, h) (r, o, j) = one_led m (next q) a b h (s
 one_led m (decides k test ts next) a b (c, p, h) (d, o, j) = one_led m (next c) a b h (subst (λ z. Leads m (next z) b) (one_condition k test ts d c o p) j)
 one_led m (takes l next) a b (t, p, h) (u, o, j) = one_led m (next t) a b h (subst (λ z. Leads m (next z) b) (one_taken l.items l.room l.place u t o p) j)
 one_led m (takes_block k l next) a b (q, p, h) (r, o, j) = h ∙ ap (λ z. unless_stopped z (λ x. next x.0 x.1)) (one_block (judge_of k) (block_state k 0 []) l q r p o) ∙ sym j
-one_led m (opens l names next) a b h j = one_led m (next (first_file m names)) a b h j
+one_led m (searches l names next) a b h j = one_led m (next (first_file m names)) a b h j
 
 pub one_step : (m : Files) (k : Meaning) (s : State) (a b : Stepped) → IsStep m k s a → IsStep m k s b → a ≡ b
 unfolding IsStep

@@ -1,4 +1,4 @@
--- What an expander stands for, and how the code holds it.
+-- What an expander stands for, how the code holds it, and where lines were being read when the store failed.
 use Rattle.std.specs.Prelude.{◌≡◌, ℕ, ◌-◌, Bool, true, false, List, [], ◌∷◌, ◌++◌, ◌<◌, length, map, Result, Ok, Err, ⊤, None, reverse, ◌==◌, Some, Option, IfErr, if◌then◌else◌, ◌+◌, ◌*◌, IfOk, IfSome, OnOk, ◌≤◌}
 use Rattle.base65.specs.Outcome.{Unless}
 use Rattle.base65.specs.Store.{Files, IsBlamed}

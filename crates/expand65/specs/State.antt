@@ -65,7 +65,7 @@ pub data Step : Type 0 where
   decides : Meaning → Test → List Lexeme → (Result Bool ExpandFault → Step) → Step
   takes : Left → (Taken → Step) → Step
   takes_block : (k : BlockKind) → Left → (AnswerOf k → Left → Stepped) → Step
-  opens : Left → List (List ℕ) → (Result (List ℕ × List ℕ) ExpandFault → Step) → Step
+  searches : Left → List (List ℕ) → (Result (List ℕ × List ℕ) ExpandFault → Step) → Step
 
 -- what follows from this, unless it is refused at the place
 abbrev pub unless_refused : {A : Type 0} → State → Result A ExpandFault → (A → Step) → Step

@@ -20,7 +20,7 @@ use Rattle.expand65.specs.declared.fronts.Test.{Test}
 use Rattle.expand65.specs.declared.fronts.Test.TheVariants.{True}
 use Rattle.expand65.specs.Macros.{arguments_of, called, called_or_given, counted, defined, entered, exit_macro, exited, given_to, header_of, local_line, local_named, macro_at, macro_of, mark_from, new_names, ordinary, repeated, repeat_of}
 use Rattle.expand65.specs.Blocks.{AnswerOf, Block, Branch, at_elseif, at_else, at_endif, block_state, Gathered, judge_of, Verdict, on, closed, refused, closed_if, collecting, collects, gathering, gathers, passes, skips}
-use Rattle.expand65.specs.State.{decided, else_line, ended_if, found, if_alone, if_line, Meaning, State, Stated, label, plain, Step, leads, parses, decides, takes, takes_block, opens, Stepped, goes, gives, ends, stops, unless_refused, unless_stopped, with_conditions, with_items, with_left}
+use Rattle.expand65.specs.State.{decided, else_line, ended_if, found, if_alone, if_line, Meaning, State, Stated, label, plain, Step, leads, parses, decides, takes, takes_block, searches, Stepped, goes, gives, ends, stops, unless_refused, unless_stopped, with_conditions, with_items, with_left}
 use Rattle.expand65.specs.Expansion.{Leads, Next, Reaches, further, given, ended, stopped, statement, nothing, fault as at_fault, acted, at_mark, begun, directed, first_file, first_state, include_file, included, last_condition, not_opened, split, step_behind, step_from, IsStep}
 use Rattle.expand65.specs.Fronts.{front_directive, is_mislabelled, label_len, line_directive, string_of, understood}
 use Rattle.expand65.specs.Lines.{numbered, outside_macro, turns, Item, written, played, labelled, branch, mark, Left, left, Mark, Stop, come_back, innermost, marks, repeating, Definition, line_limit, lines_of, nesting_limit, Taken, Takes}
@@ -60,7 +60,7 @@ IsStepFit (parses ts next) = (q : Result (Tree × ℕ) ExprFault) → IsStepFit 
 IsStepFit (decides k test ts next) = (c : Result Bool ExpandFault) → IsStepFit (next c)
 IsStepFit (takes l next) = (t : Taken) → Takes l t → IsStepFit (next t)
 IsStepFit (takes_block k l next) = (q : Result (AnswerOf k × Left) Stop) → Block (judge_of k) (block_state k 0 []) l q → IsSteppedFit (unless_stopped q (λ b. next b.0 b.1))
-IsStepFit (opens l names next) = (q : Result (List ℕ × List ℕ) ExpandFault) → IsStepFit (next q)
+IsStepFit (searches l names next) = (q : Result (List ℕ × List ℕ) ExpandFault) → IsStepFit (next q)
 
 led_fit : (m : Files) (step : Step) (r : Stepped) → IsStepFit step → Leads m step r → IsSteppedFit r
 led_fit m (leads x) r fit h = same_stepped r x h fit
@@ -68,7 +68,7 @@ led_fit m (parses ts next) r fit (q, p, h) = led_fit m (next q) r (fit q) h
 led_fit m (decides k test ts next) r fit (c, p, h) = led_fit m (next c) r (fit c) h
 led_fit m (takes l next) r fit (t, p, h) = led_fit m (next t) r (fit t p) h
 led_fit m (takes_block k l next) r fit (q, p, h) = same_stepped r (unless_stopped q (λ b. next b.0 b.1)) h (fit q p)
-led_fit m (opens l names next) r fit h = led_fit m (next (first_file m names)) r (fit (first_file m names)) h
+led_fit m (searches l names next) r fit h = led_fit m (next (first_file m names)) r (fit (first_file m names)) h
 
 refused_fit : {A : Type 0} (s : State) (q : Result A ExpandFault) (next : A → Step) → ((x : A) → IsStepFit (next x)) → IsStepFit (unless_refused s q next)
 refused_fit s (Err f) next h = tt

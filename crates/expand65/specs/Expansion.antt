@@ -8,7 +8,7 @@ use Rattle.base65.specs.Store.{Files}
 use Rattle.syntax65.specs.Tokens.{Lexeme}
 use Rattle.syntax65.specs.Expressions.{IsParsed}
 use Rattle.syntax65.specs.Trees.{Tree}
-use Rattle.expand65.specs.Blocks.{AnswerOf, Block, block_state, judge_of}
+use Rattle.expand65.specs.Blocks.{Block, Whole}
 use Rattle.expand65.specs.Fronts.{begins, string_of, front_directive, is_mislabelled, label_len, line_directive, understood}
 use Rattle.expand65.specs.Lines.{lines_of, file_limit, Taken, Takes, line_limit, numbered, Item, labelled, branch, mark, left, innermost, come_back, Left, Stop}
 use Rattle.expand65.specs.Macros.{entered, exit_macro, local_line, macro_line, mark_from, ordinary, repeat_line}
@@ -140,8 +140,7 @@ Leads m (leads x) r = r ≡ x
 Leads m (parses ts next) r = (q : Result (Tree × ℕ) ExprFault) × IsParsed ts q × Leads m (next q) r
 Leads m (decides k test ts next) r = (c : Result Bool ExpandFault) × IsCondition k test ts c × Leads m (next c) r
 Leads m (takes l next) r = (t : Taken) × Takes l t × Leads m (next t) r
-Leads m (takes_block k l next) r =
-    (q : Result (AnswerOf k × Left) Stop) × Block (judge_of k) (block_state k 0 []) l q × (r ≡ unless_stopped q (λ b. next b.0 b.1))
+Leads m (takes_block k l next) r = (q : Result (Whole × Left) Stop) × Block k 0 [] l q × (r ≡ unless_stopped q (λ b. next b.0 b.1))
 Leads m (searches l names next) r = Leads m (next (first_file m names)) r
 
 -- what the step from a state leads to

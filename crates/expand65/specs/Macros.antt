@@ -94,9 +94,9 @@ macro_of ms name = lookup (bytes_eq name) ms
 -- a macro is added, with the lines of its body, unless its name has one
 abbrev pub defined : State → List ℕ → List (List ℕ) → Option Definition → Step
 defined s name params (Some m) = leads (stops (MacroTwice, s.left.place))
-defined s name params None = takes_block kind.Macro s.left (λ body l. goes (record {
+defined s name params None = takes_block kind.Macro s.left (λ b l. goes (record {
   left = l;
-  macros = s.macros ++ (name, record { params = params; body = body }) ∷ [];
+  macros = s.macros ++ (name, record { params = params; body = b.0 }) ∷ [];
   conditions = s.conditions;
   expansions = s.expansions;
   folders = s.folders;
@@ -202,8 +202,8 @@ repeat_of k ts q = repeat_header ts q >>= (λ h. turns_of (k.value h.0) >>= (λ 
 
 -- so many turns of the lines that follow
 abbrev pub repeated : State → ℕ → List (List ℕ) → Step
-repeated s n variable = takes_block kind.Repeat s.left (λ body l.
-    entered (with_left s l) (turns (repeating variable) body 0 n) (mark_from s false None) l.place)
+repeated s n variable = takes_block kind.Repeat s.left (λ b l.
+    entered (with_left s l) (turns (repeating variable) b.0 0 n) (mark_from s false None) l.place)
 
 -- `.repeat` and what stands behind it
 abbrev pub repeat_line : Meaning → State → List Lexeme → Step

@@ -7,22 +7,26 @@ ghost use Rattle.std.specs.Hash.{items_Alike};
 
 use indexmap::Equivalent;
 use smallvec::SmallVec;
+use std::hash::Hash;
+
+/// How long a name is at most for which nothing is allocated.
+const SHORT: usize = 16;
 
 /// A name; for most nothing is allocated.
-pub type Word = SmallVec<u8, 16>;
+pub type Word = SmallVec<u8, SHORT>;
 
 /// A name that is looked up.
 #[derive(Clone, Copy, PartialEq, Eq, Hash)]
-pub struct Spelled<'a>(pub &'a [u8]);
+pub struct Spelled<'a, T>(pub &'a [T]);
 
-impl Equivalent<Word> for Spelled<'_> {
-    ghost equivalent = { λ q k. pointwise u8.eq q.0.now k.items };
+impl<T: Copy + Eq + Hash> Equivalent<SmallVec<T, SHORT>> for Spelled<'_, T> {
+    ghost equivalent = { λ q k. pointwise T.eq q.0.now k.items };
 
-    ghost respects_hash = { λ q k. (items_Alike (record { fed = u8.respects_eq })).fed q.0.now k.items };
+    ghost respects_hash = { λ q k. (items_Alike (record { fed = T.respects_eq })).fed q.0.now k.items };
 
-    ghost respects_eq = { λ q x y. (lists_equiv u8.Eq.laws).congr q.0.now x.items y.items };
+    ghost respects_eq = { λ q x y. (lists_equiv T.Eq.laws).congr q.0.now x.items y.items };
 
-    fn equivalent(&self, key: &Word) -> bool {
+    fn equivalent(&self, key: &SmallVec<T, SHORT>) -> bool {
         self.0 == key.as_slice()
     }
 }

@@ -13,8 +13,8 @@ returns-in_err-name_of c =
 
 pub parts-preserved : goal.parts-preserved
 parts-preserved c =
-    rw c.in_ok-push.ensures.ok
-    (one_more IsName (parts_of (lexemes c.args.tokens.now)) c.parts.names (lexemes c.first_part.result.0.now) (parts_left c.first_part.result.1) c.in_ok-name_of.field-0 c.in_ok-name_of.ensures.value
+    rw (c.in_ok-push.ensures.ok, c.in_ok-copy_of.ensures)
+    (one_more IsName (parts_of (lexemes c.args.tokens.now)) c.parts.names (lexemes c.first_part.result.0.now) (parts_left c.first_part.result.1) c.in_ok-name_of.field-0.now c.in_ok-name_of.ensures.value
     (taken IsName (parts_of (lexemes c.args.tokens.now)) c.parts.names c.parts.rest c.in-Some.left (lexemes c.first_part.result.0.now) (parts_left c.first_part.result.1) c.in-Some.is c.first_part.ensures.parts c.parts.invariant))
 
 pub returns : goal.returns

@@ -25,10 +25,10 @@ VARIANT = {word: variant for word, variant, _ in MODES}
 COUNT = ("zeropage", "zeropage_x", "absolute", "absolute_x")
 STORE = (*COUNT, "absolute_y", "indirect_x", "indirect_y")
 ROWS = {
-    "count": ("counting up and down in memory", COUNT),
-    "shift": ("shifts", ("accumulator", *COUNT)),
-    "store": ("stores of `a`", STORE),
-    "arithmetic": ("arithmetic, and loads of `a`", ("immediate", *STORE)),
+    "count": ("counting: `e` and `e,x` in the zero page, and as words", COUNT),
+    "shift": ("shifts: `a`, and the forms of counting", ("accumulator", *COUNT)),
+    "store": ("stores of `a`: the forms of counting, then `e,y`, `(e,x)` and `(e),y`", STORE),
+    "arithmetic": ("arithmetic and loads of `a`: a byte, and the forms of its stores", ("immediate", *STORE)),
     "implied": ("without an operand", ("implied",)),
     "branch": ("branches", ("relative",)),
 }

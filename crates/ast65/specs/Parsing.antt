@@ -200,7 +200,7 @@ indirect_by e None = Indirect e
 indirect_by e (Some index.X) = IndirectX e
 indirect_by e (Some index.Y) = IndirectY e
 
--- an expression and what ends an operand behind it
+-- the operand of an expression and of what stands behind it, which has to end the operand
 abbrev pub IsEnded : (List Lexeme → Result (Option Index) AsmFault) → (Tree → Option Index → Operand) → List Lexeme → Result Operand AsmFault → Type 0
 IsEnded end make ts r = Then (IsFront ts) (λ x. end x.1 >>= (λ i. Ok (make x.0 i))) r
 
@@ -231,19 +231,19 @@ lone_statement lone.Data = Segment (codes "DATA") None
 lone_statement lone.Bss = Segment (codes "BSS") None
 lone_statement lone.ZeroPage = Segment (codes "ZEROPAGE") None
 
--- `n[,v]`
+-- of `n[,v]`
 abbrev pub amount_statement : Amount → Tree → Option Tree → Statement
 amount_statement amount.Reserve n v = Reserve n v
 amount_statement amount.Align n v = Align n v
 
--- a list of names
+-- of a list of names
 abbrev pub names_statement : Names → List (List ℕ) → Statement
 names_statement (names.Import own) ns = Import own ns
 names_statement names.Export ns = Export ns
 names_statement (names.Global own) ns = Global own ns
 names_statement names.ForceImport ns = ForceImport ns
 
--- one string
+-- of one string
 abbrev pub message_statement : Message → List ℕ → Statement
 message_statement message.Out s = Out s
 message_statement message.Warning s = Warning s
@@ -338,7 +338,9 @@ among ((name, w) ∷ ws) d = if str_eq_ignore_ascii_case d name then Some w else
 abbrev pub directive_of : List ℕ → Option Directive
 directive_of d = among words d
 
--- the statement of a directive and the tokens behind it
+-- The statement of a directive and the tokens behind it: a list of elements; one string, which a 0 ends; `n[,v]`; a file and
+-- what is taken of it; `"N"`, perhaps with an address size; nothing; a name, which a scope may be without; names; a condition to
+-- check; one string; the processor.
 abbrev pub IsDirective : Directive → List Lexeme → Result Statement AsmFault → Type 0
 IsDirective (directive.List elements width) ts r = Then (EachIs (IsItem elements) (parts_of ts)) (λ xs. Ok (Values width xs)) r
 IsDirective directive.EndedText ts r = r ≡ (understood (string_of ts) >>= (λ s. Ok (Values Byte (Text (s ++ 0 ∷ []) ∷ []))))

@@ -15,7 +15,7 @@ use Rattle.expand65.specs.declared.line.Word.{Word}
 use Rattle.expand65.specs.declared.reader.Reader.{Reader}
 use Rattle.expand65.specs.Failing.{CallsNone, Gives, IsGivenAs, given_behind, given_parts, none, one_more, Goes, no_step, one_more as goes_once}
 use Rattle.expand65.specs.Macros.{ordinary}
-use Rattle.expand65.specs.Expansion.{Leads, Next, Reaches, acted, begun, split, further, given, statement, IsStep}
+use Rattle.expand65.specs.Expansion.{Leads, Next, Reaches, acted, unless_mislabelled, split, further, given, statement, IsStep}
 use Rattle.expand65.specs.State.{Meaning, State, leads, Stated, Stepped, label, plain, goes, gives, with_items}
 use Rattle.expand65.specs.declared.expander.Expander.{Expander}
 use Rattle.expand65.specs.declared.expander.Front.{Front}
@@ -64,14 +64,14 @@ module _ (m : Files) (k : Meaning) (old : Rewriter) (reader : Reader) (ts : List
 
   step_acted : (x : Stepped) → label_len ts ≡ 0 → front_directive ts ≡ None → x ≡ ordinary t ts → IsStep m k (state_of m old) x
   step_acted x e d is =
-      let step : begun k t ts (is_mislabelled ts) ≡ leads (ordinary t ts) = unlabelled k t ts e ∙ ap (acted k t ts) d in
+      let step : unless_mislabelled k t ts (is_mislabelled ts) ≡ leads (ordinary t ts) = unlabelled k t ts e ∙ ap (acted k t ts) d in
       step_taken m k old (Ok (Some ts, left_of m reader)) x taken (subst (λ z. Leads m z x) (sym step) is)
 
   step_labelled : (n : ℕ) → label_len ts ≡ suc n → front_directive (drop (suc n) ts) ≡ None → IsStep m k (state_of m old) (gives (label (take (suc n) ts)) (with_items t (labelled (drop (suc n) ts) ∷ t.left.items)))
   step_labelled n e d =
       let x = gives (label (take (suc n) ts)) (with_items t (labelled (drop (suc n) ts) ∷ t.left.items)) in
       let right : is_mislabelled ts ≡ false = rw e (rw d (not_both (nat_lt 0 (suc n)))) in
-      let P : Bool → Type 0 = λ b. Leads m (begun k t ts b) x in
+      let P : Bool → Type 0 = λ b. Leads m (unless_mislabelled k t ts b) x in
       let Q : ℕ → Type 0 = λ j. Leads m (split k t ts (line_directive ts) j) x in
       step_taken m k old (Ok (Some ts, left_of m reader)) x taken (subst P (sym right) (subst Q (sym e) refl))
 

@@ -23,7 +23,8 @@ use Rattle.std.specs.declared.rc.Rc.{Rc}
 use Rattle.indexmap.specs.IndexMap.{IndexMap, insert_entry}
 use Rattle.indexmap.proofs.CallerLemmas.{insert_entry-new}
 use Rattle.base65.specs.Store.{Files}
-use Rattle.expand65.specs.Blocks.{Block, collects, gathers}
+use Rattle.expand65.specs.Blocks.{Block, Branch}
+use Rattle.expand65.specs.declared.blocks.BlockKind.TheVariants.{Macro, Repeat}
 use Rattle.expand65.specs.Lines.{pushed, repeating, Definition, turns}
 use Rattle.expand65.specs.Standing.{left_of, turns_left, macros_of, state_of}
 use Rattle.expand65.specs.Playing.{tokens_in, definition_of}
@@ -108,12 +109,12 @@ macro_is s ts name params o e none = sym (ap (λ (q : Result (List ℕ × List (
 abbrev pub rewritten : Files → Rewriter → Reader → List (List ℕ × Definition) → State
 rewritten m r rd ms = record { left = left_of m rd; macros = ms; conditions = r.conditions; expansions = r.expansions; folders = r.folders }
 
-pub kept_one : (m : Files) (old : Rewriter) (rd : Reader) (name : Vec ℕ Global) (body : Rc Body Global) (b : Body) (es : List (Vec ℕ Global × Rc Body Global)) → macro_of (macros_of old) name.items ≡ None → es ≡ insert_entry same_name old.macros.entries name body → body.value ≡ b → Block collects [] (left_of m old.reader) (Ok (map tokens_in b.lines, left_of m rd)) → Leads m (defined (state_of m old) name.items (map (λ k. k.items) b.params.keys) None) (goes (rewritten m old rd (map entry_of es)))
-kept_one m old rd name body b es h e v block =
+pub kept_one : (m : Files) (old : Rewriter) (rd : Reader) (name : Vec ℕ Global) (body : Rc Body Global) (b : Body) (end : Branch) (es : List (Vec ℕ Global × Rc Body Global)) → macro_of (macros_of old) name.items ≡ None → es ≡ insert_entry same_name old.macros.entries name body → body.value ≡ b → Block Macro 0 [] (left_of m old.reader) (Ok ((map tokens_in b.lines, end), left_of m rd)) → Leads m (defined (state_of m old) name.items (map (λ k. k.items) b.params.keys) None) (goes (rewritten m old rd (map entry_of es)))
+kept_one m old rd name body b end es h e v block =
     let ms : map entry_of es ≡ macros_of old ++ (name.items, definition_of b) ∷ [] = more_macros old.macros name body es h e ∙ ap (λ (x : Body). macros_of old ++ (name.items, definition_of x) ∷ []) v in
-    (Ok (map tokens_in b.lines, left_of m rd), block, ap (λ x. goes (rewritten m old rd x)) ms)
+    (Ok ((map tokens_in b.lines, end), left_of m rd), block, ap (λ x. goes (rewritten m old rd x)) ms)
 
-pub block_refused : (m : Files) (s : State) (name : List ℕ) (params : List (List ℕ)) (f : ExpandFault) (p : Place) → Unless (is_outside f) (Block collects [] s.left (Err (f, p))) → Unless (is_outside f) (Leads m (defined s name params None) (stops (f, p)))
+pub block_refused : (m : Files) (s : State) (name : List ℕ) (params : List (List ℕ)) (f : ExpandFault) (p : Place) → Unless (is_outside f) (Block Macro 0 [] s.left (Err (f, p))) → Unless (is_outside f) (Leads m (defined s name params None) (stops (f, p)))
 block_refused m s name params f p h = grind (arith, common_steps)
 
 -- ---- A repeat begins.
@@ -121,9 +122,9 @@ block_refused m s name params f p h = grind (arith, common_steps)
 pub turns_ready : (r : Replay) (b : Body) (n : ℕ) → r.body.value ≡ b → r.at ≡ length b.lines → r.arguments ≡ [] → r.count ≡ None → r.locals.entries ≡ [] → r.number ≡ 0 → turns_left r 0 n ≡ turns (repeating (map (λ k. k.items) b.params.keys)) (map tokens_in b.lines) 0 n
 turns_ready r b n v a g c l k = grind (arith, common_steps)
 
-pub repeated_one : (m : Files) (old : Rewriter) (rd new : Reader) (replay : Replay) (b : Body) (n : ℕ) → Block gathers (0, []) (left_of m old.reader) (Ok (map tokens_in b.lines, left_of m rd)) → turns_left replay 0 n ≡ turns (repeating (map (λ k. k.items) b.params.keys)) (map tokens_in b.lines) 0 n → Ok (left_of m new) ≡ pushed (turns_left replay 0 n) (mark_from (state_of m old) false None) (left_of m rd) → Leads m (repeated (state_of m old) n (map (λ k. k.items) b.params.keys)) (goes (rewritten m old new (macros_of old)))
-repeated_one m old rd new replay b n block ts e = grind (arith, common_steps)
+pub repeated_one : (m : Files) (old : Rewriter) (rd new : Reader) (replay : Replay) (b : Body) (end : Branch) (n : ℕ) → Block Repeat 0 [] (left_of m old.reader) (Ok ((map tokens_in b.lines, end), left_of m rd)) → turns_left replay 0 n ≡ turns (repeating (map (λ k. k.items) b.params.keys)) (map tokens_in b.lines) 0 n → Ok (left_of m new) ≡ pushed (turns_left replay 0 n) (mark_from (state_of m old) false None) (left_of m rd) → Leads m (repeated (state_of m old) n (map (λ k. k.items) b.params.keys)) (goes (rewritten m old new (macros_of old)))
+repeated_one m old rd new replay b end n block ts e = grind (arith, common_steps)
 
-pub repeated_none : (m : Files) (old : Rewriter) (rd : Reader) (replay : Replay) (b : Body) (n : ℕ) (outside : Bool) (f : ExpandFault) (p : Place) → Block gathers (0, []) (left_of m old.reader) (Ok (map tokens_in b.lines, left_of m rd)) → turns_left replay 0 n ≡ turns (repeating (map (λ k. k.items) b.params.keys)) (map tokens_in b.lines) 0 n → Unless outside (Err (f, p) ≡ pushed (turns_left replay 0 n) (mark_from (state_of m old) false None) (left_of m rd)) → Unless outside (Leads m (repeated (state_of m old) n (map (λ k. k.items) b.params.keys)) (stops (f, p)))
-repeated_none m old rd replay b n true f p block ts e = tt
-repeated_none m old rd replay b n false f p block ts e = grind (arith, common_steps)
+pub repeated_none : (m : Files) (old : Rewriter) (rd : Reader) (replay : Replay) (b : Body) (end : Branch) (n : ℕ) (outside : Bool) (f : ExpandFault) (p : Place) → Block Repeat 0 [] (left_of m old.reader) (Ok ((map tokens_in b.lines, end), left_of m rd)) → turns_left replay 0 n ≡ turns (repeating (map (λ k. k.items) b.params.keys)) (map tokens_in b.lines) 0 n → Unless outside (Err (f, p) ≡ pushed (turns_left replay 0 n) (mark_from (state_of m old) false None) (left_of m rd)) → Unless outside (Leads m (repeated (state_of m old) n (map (λ k. k.items) b.params.keys)) (stops (f, p)))
+repeated_none m old rd replay b end n true f p block ts e = tt
+repeated_none m old rd replay b end n false f p block ts e = grind (arith, common_steps)

@@ -7,7 +7,7 @@ use Rattle.syntax65.specs.Tokens.{Lexeme}
 use Rattle.expand65.specs.Macros.{macro_at, ordinary, file_of}
 use Rattle.syntax65.specs.Faults.{is_outside}
 use Rattle.expand65.specs.Fronts.{front_directive, is_mislabelled, label_len, string_of, understood}
-use Rattle.expand65.specs.Expansion.{Leads, acted, begun, directed, first_file, include_file, included, step_behind, step_from, tried, IsStep, Next, statement, nothing, fault, Reaches, further, given, ended, stopped}
+use Rattle.expand65.specs.Expansion.{Leads, acted, unless_mislabelled, directed, first_file, include_file, included, step_behind, step_from, tried, IsStep, Next, statement, nothing, fault, Reaches, further, given, ended, stopped}
 use Rattle.expand65.specs.Standing.{left_of, Turns, macros_of, state_of, turned, Comes, fronted, is_end, led, place_of, state_in, stated}
 use Rattle.expand65.specs.Playing.{tokens_in}
 use Rattle.expand65.specs.State.{Meaning, State, plain, Step, takes, Stepped, gives, stops, ends, if_line, unless_refused}
@@ -52,7 +52,7 @@ no_call m r t ts h = grind (arith, common_steps)
 
 -- ---- A line that may begin with a label.
 
-pub unlabelled : (k : Meaning) (s : State) (ts : List Lexeme) → label_len ts ≡ 0 → begun k s ts (is_mislabelled ts) ≡ acted k s ts (front_directive ts)
+pub unlabelled : (k : Meaning) (s : State) (ts : List Lexeme) → label_len ts ≡ 0 → unless_mislabelled k s ts (is_mislabelled ts) ≡ acted k s ts (front_directive ts)
 unlabelled k s ts e = grind (arith, common_steps)
 
 -- ---- The first line that is left of the inputs.

@@ -1,11 +1,10 @@
 -- Lines without a label and a directive, and what they do to blocks.
 use Rattle.std.proofs.lemmas.Grind.{common_steps}
-use Rattle.std.proofs.Common.{arith, ◌≡◌, ℕ, zero, suc, Bool, true, false, not, List, [], ◌∷◌, ◌++◌, Option, None, refl, subst, sym, ◌∙◌, Result}
+use Rattle.std.proofs.Common.{arith, ◌≡◌, ◌∙◌, ℕ, zero, suc, Bool, true, false, not, List, [], ◌∷◌, Option, None, Result, ap, refl, subst, sym}
 use Rattle.std.specs.Prelude.{if◌then◌else◌, ◌&&◌, slice_get}
 use Rattle.syntax65.specs.Tokens.{Lexeme}
-use Rattle.expand65.specs.Blocks.{Verdict, on, collecting, gathering, passing, refused, skipping}
-use Rattle.expand65.specs.Blocks.{AnswerOf, StateOf, judge_of, block_state}
-use Rattle.expand65.specs.Standing.{Judges, is_kept}
+use Rattle.expand65.specs.Blocks.{on, is_kept, judge, judged, refused, with_line}
+use Rattle.expand65.specs.Standing.{Judges}
 use Rattle.expand65.specs.declared.blocks.BlockKind.{BlockKind}
 use Rattle.expand65.specs.declared.blocks.BlockKind.TheVariants.{Macro, Repeat, Skipped, Passed}
 use Rattle.expand65.specs.declared.blocks.BlockStep.{BlockStep}
@@ -32,65 +31,31 @@ right ts e = rw e refl
 none : (ts : List Lexeme) → IsPlain ts → line_directive ts ≡ None
 none ts (e, f) = rw e f
 
-plain_on : {A B : Type 0} (ts : List Lexeme) (step : Option Directive → Verdict A B) (a : A) → IsPlain ts → step None ≡ on a → (if is_mislabelled ts then refused NotUnderstood else step (line_directive ts)) ≡ on a
-plain_on {A} {B} ts step a p e = grind (arith, common_steps, right, none)
+-- what a line does by its directive
+judged_is : (k : BlockKind) (d : ℕ) (ts : List Lexeme) (o : Option Directive) → is_mislabelled ts ≡ false → line_directive ts ≡ o → judge k d ts ≡ judged k d ts o
+judged_is k d ts o right e = rw (right, e) refl
+
+by_none : (k : BlockKind) (d : ℕ) (ts : List Lexeme) → judged k d ts None ≡ on d
+by_none Macro d ts = refl
+by_none Repeat zero ts = refl
+by_none Repeat (suc d) ts = refl
+by_none Skipped zero ts = refl
+by_none Skipped (suc d) ts = refl
+by_none Passed zero ts = refl
+by_none Passed (suc d) ts = refl
+
+pub judged_none : (k : BlockKind) (d : ℕ) (ts : List Lexeme) → is_mislabelled ts ≡ false → line_directive ts ≡ None → judge k d ts ≡ on d
+judged_none k d ts right e = judged_is k d ts None right e ∙ by_none k d ts
+
+pub judged_wrong : (k : BlockKind) (d : ℕ) (ts : List Lexeme) → is_mislabelled ts ≡ true → judge k d ts ≡ refused NotUnderstood
+judged_wrong k d ts e = rw e refl
+
+pub judged_by : (k self : BlockKind) (d : ℕ) (ts : List Lexeme) (o : Option Directive) (r : Result BlockStep ExpandFault) → self ≡ k → is_mislabelled ts ≡ false → line_directive ts ≡ o → Judges r (judged k d ts o) → Judges r (judge self d ts)
+judged_by k self d ts o r is right e h = subst (Judges r) (sym (judged_is self d ts o right e ∙ ap (λ j. judged j d ts o) is)) h
 
 -- a plain line changes nothing but the lines that are kept
-pub plain_judged : (k : BlockKind) (d : ℕ) (body : List (List Lexeme)) (ts : List Lexeme) → IsPlain ts → judge_of k (block_state k d body) ts ≡ on (block_state k d (body ++ ts ∷ []))
-plain_judged Macro d body ts p = plain_on ts (collecting body ts) (body ++ ts ∷ []) p refl
-plain_judged Repeat zero body ts p = plain_on ts (gathering zero body ts) (zero, body ++ ts ∷ []) p refl
-plain_judged Repeat (suc d) body ts p = plain_on ts (gathering (suc d) body ts) (suc d, body ++ ts ∷ []) p refl
-plain_judged Skipped zero body ts p = plain_on ts (skipping zero ts) zero p refl
-plain_judged Skipped (suc d) body ts p = plain_on ts (skipping (suc d) ts) (suc d) p refl
-plain_judged Passed zero body ts p = plain_on ts (passing zero) zero p refl
-plain_judged Passed (suc d) body ts p = plain_on ts (passing (suc d)) (suc d) p refl
+pub plain_judged : (k : BlockKind) (d : ℕ) (ts : List Lexeme) → IsPlain ts → judge k d ts ≡ on d
+plain_judged k d ts p = judged_none k d ts (right ts p.0) (none ts p)
 
-pub plain_unkept : (k : BlockKind) (d : ℕ) (body : List (List Lexeme)) (ts : List Lexeme) → is_kept k ≡ false → IsPlain ts → judge_of k (block_state k d body) ts ≡ on (block_state k d body)
-plain_unkept Macro d body ts e p = absurd cc
-plain_unkept Repeat d body ts e p = absurd cc
-plain_unkept Skipped d body ts e p = plain_judged Skipped d body ts p
-plain_unkept Passed d body ts e p = plain_judged Passed d body ts p
-
--- what isn't kept doesn't matter
-pub unkept : (k : BlockKind) (d : ℕ) (xs ys : List (List Lexeme)) → is_kept k ≡ false → block_state k d xs ≡ block_state k d ys
-unkept Macro d xs ys e = absurd cc
-unkept Repeat d xs ys e = absurd cc
-unkept Skipped d xs ys e = refl
-unkept Passed d xs ys e = refl
-
--- ---- What tokens do, by the directive that they have.
-
-abbrev judging : (k : BlockKind) → ℕ → List (List Lexeme) → List Lexeme → Option Directive → Verdict (StateOf k) (AnswerOf k)
-judging Macro d body ts o = collecting body ts o
-judging Repeat d body ts o = gathering d body ts o
-judging Skipped d body ts o = skipping d ts o
-judging Passed d body ts o = passing d o
-
-judged_by : (k : BlockKind) (d : ℕ) (body : List (List Lexeme)) (ts : List Lexeme) (o : Option Directive) → is_mislabelled ts ≡ false → line_directive ts ≡ o → judge_of k (block_state k d body) ts ≡ judging k d body ts o
-judged_by Macro d body ts o right e = rw (right, e) refl
-judged_by Repeat d body ts o right e = rw (right, e) refl
-judged_by Skipped d body ts o right e = rw (right, e) refl
-judged_by Passed d body ts o right e = rw (right, e) refl
-
-pub judged : (k self : BlockKind) (d : ℕ) (body : List (List Lexeme)) (ts : List Lexeme) (o : Option Directive) (r : Result BlockStep ExpandFault) → self ≡ k → is_mislabelled ts ≡ false → line_directive ts ≡ o → Judges k body ts r (judging k d body ts o) → Judges self body ts r (judge_of self (block_state self d body) ts)
-judged k self d body ts o r is right e h =
-    let P : BlockKind → Type 0 = λ j. Judges j body ts r (judge_of j (block_state j d body) ts) in
-    subst P (sym is) (subst (Judges k body ts r) (sym (judged_by k d body ts o right e)) h)
-
-pub judged_wrong : (k : BlockKind) (d : ℕ) (body : List (List Lexeme)) (ts : List Lexeme) → is_mislabelled ts ≡ true → judge_of k (block_state k d body) ts ≡ refused NotUnderstood
-judged_wrong Macro d body ts e = rw e refl
-judged_wrong Repeat d body ts e = rw e refl
-judged_wrong Skipped d body ts e = rw e refl
-judged_wrong Passed d body ts e = rw e refl
-
-on_plainly : (k : BlockKind) (d : ℕ) (body : List (List Lexeme)) (ts : List Lexeme) → judging k d body ts None ≡ on (block_state k d (body ++ ts ∷ []))
-on_plainly Macro d body ts = refl
-on_plainly Repeat zero body ts = refl
-on_plainly Repeat (suc d) body ts = refl
-on_plainly Skipped zero body ts = refl
-on_plainly Skipped (suc d) body ts = refl
-on_plainly Passed zero body ts = refl
-on_plainly Passed (suc d) body ts = refl
-
-pub judged_none : (k : BlockKind) (d : ℕ) (body : List (List Lexeme)) (ts : List Lexeme) → is_mislabelled ts ≡ false → line_directive ts ≡ None → judge_of k (block_state k d body) ts ≡ on (block_state k d (body ++ ts ∷ []))
-judged_none k d body ts right e = judged_by k d body ts None right e ∙ on_plainly k d body ts
+pub unkept : (k : BlockKind) (body : List (List Lexeme)) (ts : List Lexeme) → is_kept k ≡ false → with_line k body ts ≡ body
+unkept k body ts e = rw e refl

@@ -6,10 +6,11 @@ use Rattle.syntax65.specs.Tokens.{Lexeme}
 use Rattle.syntax65.specs.declared.fault.ExpandFault.{ExpandFault}
 use Rattle.syntax65.specs.Faults.{is_failure}
 use Rattle.syntax65.specs.declared.place.Place.{Place}
-use Rattle.expand65.specs.Blocks.{TakesInBlock, Verdict, on}
+use Rattle.expand65.specs.Blocks.{TakesInBlock, is_kept, judge, on}
+use Rattle.expand65.specs.declared.blocks.BlockKind.{BlockKind}
 use Rattle.expand65.specs.Standing.{ComesNext, IsFile, is_call, left_in, left_of, mark_of, moved_by, outside, IsPassedOver, FailsAtLine, FailsInBlock, HasStopped, IsAsked, at_line, before, behind_line, within}
 use Rattle.expand65.specs.Lines.{Item, Left, Mark, mark, numbered, played, Replacing, lines_of, rest_of}
-use Rattle.expand65.specs.Playing.{Plainly, no_line, a_line, IsPlain}
+use Rattle.expand65.specs.Playing.{Plainly, no_line, a_line}
 use Rattle.expand65.specs.declared.input.NextLine.{NextLine}
 use Rattle.expand65.specs.declared.input.NextLine.TheVariants.{AtEnd, Numbered, Replayed}
 use Rattle.expand65.specs.declared.input.Source.{Source}
@@ -17,6 +18,7 @@ use Rattle.expand65.specs.declared.input.Source.TheVariants as source
 use Rattle.expand65.specs.declared.reader.Reader.{Reader}
 use Rattle.expand65.proofs.Blocking.{some_line}
 use Rattle.expand65.proofs.Inputs.{parted}
+use Rattle.expand65.proofs.Plainly.{plain_judged}
 
 -- ---- The next line.
 
@@ -60,27 +62,30 @@ stopped_so x y old new f k h = grind (arith, common_steps)
 -- ---- Blocks.
 
 -- where the store fails in the rest of a block, it fails in the block
-abbrev pub Fails : {A B : Type 0} → (A → List Lexeme → Verdict A B) → A → Reader → A → Reader → Files → Type 0
-Fails judge a reader a0 first m = (blamed : Option (List ℕ)) (p : Place) → FailsInBlock blamed judge a (left_of m reader) p → FailsInBlock blamed judge a0 (left_of m first) p
+abbrev pub Fails : BlockKind → ℕ → Reader → Reader → Files → Type 0
+Fails k d reader first m = (blamed : Option (List ℕ)) (p : Place) → FailsInBlock blamed k d (left_of m reader) p → FailsInBlock blamed k 0 (left_of m first) p
 
-pub line_read : {A B : Type 0} (judge : A → List Lexeme → Verdict A B) (o : Option Files) (first reader new : Reader) (a0 a c : A) (ts : List Lexeme) → IfSome o (Fails judge a reader a0 first) → IfSome o (λ m. TakesInBlock (left_of m reader) (Ok (ts, left_of m new))) → judge a ts ≡ on c → IfSome o (Fails judge c new a0 first)
-line_read judge None first reader new a0 a c ts h t j = tt
-line_read judge (Some m) first reader new a0 a c ts h t j = λ blamed p k. h blamed p (behind_line a c (left_of m reader) (left_of m new) ts p (some_line (left_of m reader) (left_of m new) ts t) j k)
+pub line_read : (k : BlockKind) (o : Option Files) (first reader new : Reader) (d c : ℕ) (ts : List Lexeme) → IfSome o (Fails k d reader first) → IfSome o (λ m. TakesInBlock (left_of m reader) (Ok (ts, left_of m new))) → judge k d ts ≡ on c → IfSome o (Fails k c new first)
+line_read k None first reader new d c ts h t j = tt
+line_read k (Some m) first reader new d c ts h t j = λ blamed p f. h blamed p (behind_line d c (left_of m reader) (left_of m new) ts p (some_line (left_of m reader) (left_of m new) ts t) j f)
 
 -- lines that change nothing
-over_plainly : {A B : Type 0} (blamed : Option (List ℕ)) (judge : A → List Lexeme → Verdict A B) (a : A) (l n : Left) (p : Place) → ((ts : List Lexeme) → IsPlain ts → judge a ts ≡ on a) → Plainly l n → FailsInBlock blamed judge a n p → FailsInBlock blamed judge a l p
-over_plainly blamed judge a _ _ p same (no_line l) h = h
-over_plainly blamed judge a _ _ p same (a_line l m n passed (ts, taken, plain)) h = over_plainly blamed judge a l m p same passed (behind_line a a m n ts p taken (same ts plain) h)
+over_plainly : (blamed : Option (List ℕ)) (k : BlockKind) (d : ℕ) (l n : Left) (p : Place) → Plainly l n → FailsInBlock blamed k d n p → FailsInBlock blamed k d l p
+over_plainly blamed k d _ _ p (no_line l) h = h
+over_plainly blamed k d _ _ p (a_line l m n passed (ts, taken, plain)) h = over_plainly blamed k d l m p passed (behind_line d d m n ts p taken (plain_judged k d ts plain) h)
 
-pub plainly_read : {A B : Type 0} (judge : A → List Lexeme → Verdict A B) (o : Option Files) (first reader new : Reader) (a0 a : A) (kept : Bool) → (kept ≡ false → (ts : List Lexeme) → IsPlain ts → judge a ts ≡ on a) → ((m : Files) → IsPassedOver kept (left_of m reader) (left_of m new)) → IfSome o (Fails judge a reader a0 first) → IfSome o (Fails judge a new a0 first)
-plainly_read judge None first reader new a0 a kept same passed h = tt
-plainly_read judge (Some m) first reader new a0 a true same passed h = λ blamed p k. h blamed p (subst (λ l. FailsInBlock blamed judge a l p) (passed m) k)
-plainly_read judge (Some m) first reader new a0 a false same passed h = λ blamed p k. h blamed p (over_plainly blamed judge a (left_of m reader) (left_of m new) p (same refl) (passed m) k)
+pub plainly_read : (k : BlockKind) (o : Option Files) (first reader new : Reader) (d : ℕ) → ((m : Files) → IsPassedOver (is_kept k) (left_of m reader) (left_of m new)) → IfSome o (Fails k d reader first) → IfSome o (Fails k d new first)
+plainly_read k None first reader new d passed h = tt
+plainly_read k (Some m) first reader new d passed h = by (is_kept k) (passed m)
+  where
+    by : (b : Bool) → IsPassedOver b (left_of m reader) (left_of m new) → Fails k d new first m
+    by true same = λ blamed p f. h blamed p (subst (λ l. FailsInBlock blamed k d l p) same f)
+    by false over = λ blamed p f. h blamed p (over_plainly blamed k d (left_of m reader) (left_of m new) p over f)
 
 -- a reader that stopped at a line of a block
-pub stops_on : {A B : Type 0} (blamed : Option (List ℕ)) (judge : A → List Lexeme → Verdict A B) (o : Option Files) (first reader new : Reader) (a0 a : A) (f : ExpandFault) → IfSome o (Fails judge a reader a0 first) → mark_of reader.top ≡ mark_of first.top → IfSome o (λ m. is_failure f ≡ true → HasStopped (FailsAtLine blamed (left_of m reader)) reader new) → IfSome o (λ m. is_failure f ≡ true → HasStopped (FailsInBlock blamed judge a0 (left_of m first)) first new)
-stops_on blamed judge None first reader new a0 a f h k s = tt
-stops_on blamed judge (Some m) first reader new a0 a f h k s = λ failed. (let so = s failed in record { there = h blamed new.place (at_line a (left_of m reader) new.place so.there); mark = so.mark ∙ k })
+pub stops_on : (blamed : Option (List ℕ)) (k : BlockKind) (o : Option Files) (first reader new : Reader) (d : ℕ) (f : ExpandFault) → IfSome o (Fails k d reader first) → mark_of reader.top ≡ mark_of first.top → IfSome o (λ m. is_failure f ≡ true → HasStopped (FailsAtLine blamed (left_of m reader)) reader new) → IfSome o (λ m. is_failure f ≡ true → HasStopped (FailsInBlock blamed k 0 (left_of m first)) first new)
+stops_on blamed k None first reader new d f h e s = tt
+stops_on blamed k (Some m) first reader new d f h e s = λ failed. (let so = s failed in record { there = h blamed new.place (at_line d (left_of m reader) new.place so.there); mark = so.mark ∙ e })
 
 -- a fault that isn't the store's
 pub not_stopped : (o : Option Files) (IsThere : Files → Place → Type 0) (first new : Reader) (f : ExpandFault) → is_failure f ≡ false → IfSome o (λ m. is_failure f ≡ true → HasStopped (IsThere m) first new)

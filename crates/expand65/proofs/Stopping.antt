@@ -1,19 +1,20 @@
 -- Where expansion was when the store failed.
 use Rattle.std.proofs.lemmas.Grind.{common_steps}
-use Rattle.std.proofs.Common.{arith, ◌≡◌, ℕ, List, ◌∷◌, ◌++◌, Bool, true, false, Option, Some, None, IfSome, Ok, Err, ap, refl, sym, subst, ◌∙◌, inl, inr, Result}
+use Rattle.std.proofs.Common.{arith, ◌≡◌, ℕ, List, [], ◌∷◌, ◌++◌, Bool, true, false, Option, Some, None, IfSome, Ok, Err, ap, refl, sym, subst, ◌∙◌, inl, inr, Result}
 use Rattle.std.specs.Prelude.{if◌then◌else◌}
 use Rattle.base65.specs.Outcome.{Unless}
 use Rattle.base65.specs.Store.{Files}
 use Rattle.syntax65.specs.Tokens.{Lexeme}
 use Rattle.std.specs.Option.{option_map_or}
-use Rattle.expand65.specs.Blocks.{Block, passes}
+use Rattle.expand65.specs.Blocks.{Block, Whole}
+use Rattle.expand65.specs.declared.blocks.BlockKind.TheVariants.{Passed}
 use Rattle.expand65.specs.State.{else_line, if_line, popped, Step, takes, Stepped, goes, stops, with_conditions, with_items, State, with_left, Meaning}
 use Rattle.syntax65.specs.Faults.{is_outside, is_failure}
 use Rattle.expand65.specs.Fronts.{understood, front_directive, is_mislabelled}
 use Rattle.expand65.specs.Standing.{is_call, left_in, left_of, mark_of, outside, own, FailsAtLine, FailsInBlock, StopsAt, state_of, turned, fronted, led, state_in}
 use Rattle.expand65.specs.Lines.{localised, Item, Mark, mark, innermost, Takes}
 use Rattle.expand65.specs.Macros.{local_line, local_named, new_names}
-use Rattle.expand65.specs.Expansion.{Leads, acted, begun, last_condition, step_behind, IsStep}
+use Rattle.expand65.specs.Expansion.{Leads, acted, unless_mislabelled, last_condition, step_behind, IsStep}
 use Rattle.syntax65.specs.declared.fault.ExpandFault.{ExpandFault}
 use Rattle.syntax65.specs.declared.fault.ExpandFault.TheVariants.{NotOpened, NotUnderstood, FileError}
 use Rattle.expand65.specs.declared.input.Source.{Source}
@@ -56,10 +57,10 @@ else_is m old o e = ap (else_line (state_of m old)) (sym (last_is m old ∙ e))
 else_by : (m : Files) (old : Rewriter) (o : Option (Bool × List Bool)) (r : Stepped) → popped old.conditions old.reader.top.conditions ≡ o → Leads m (else_line (state_of m old) o) r → ElseIn m old r
 else_by m old o r e h = subst (λ z. Leads m z r) (else_is m old o e) h
 
-pub else_passed : (o : Option Files) (old : Rewriter) (rd : Reader) (cs : List Bool) → popped old.conditions old.reader.top.conditions ≡ Some (false, cs) → IfSome o (λ m. Block passes 0 (left_of m old.reader) (Ok (tt, left_of m rd))) → IfSome o (λ m. ElseIn m old (goes (with_conditions (state_of m old) cs (left_of m rd))))
-else_passed x old rd cs e h = grind (arith, common_steps, else_by)
+pub else_passed : (o : Option Files) (old : Rewriter) (rd : Reader) (cs : List Bool) (b : Whole) → popped old.conditions old.reader.top.conditions ≡ Some (false, cs) → IfSome o (λ m. Block Passed 0 [] (left_of m old.reader) (Ok (b, left_of m rd))) → IfSome o (λ m. ElseIn m old (goes (with_conditions (state_of m old) cs (left_of m rd))))
+else_passed x old rd cs b e h = grind (arith, common_steps, else_by)
 
-pub else_refused : (o : Option Files) (old : Rewriter) (p : Place) (cs : List Bool) (f : ExpandFault) → popped old.conditions old.reader.top.conditions ≡ Some (false, cs) → IfSome o (λ m. Unless (is_outside f) (Block passes 0 (left_of m old.reader) (Err (f, p)))) → IfSome o (λ m. Unless (is_outside f) (ElseIn m old (stops (f, p))))
+pub else_refused : (o : Option Files) (old : Rewriter) (p : Place) (cs : List Bool) (f : ExpandFault) → popped old.conditions old.reader.top.conditions ≡ Some (false, cs) → IfSome o (λ m. Unless (is_outside f) (Block Passed 0 [] (left_of m old.reader) (Err (f, p)))) → IfSome o (λ m. Unless (is_outside f) (ElseIn m old (stops (f, p))))
 else_refused x old p cs f e h = grind (arith, common_steps, else_by)
 
 pub else_none : (o : Option Files) (old : Rewriter) → popped old.conditions old.reader.top.conditions ≡ None → IfSome o (λ m. ElseIn m old (stops (NotOpened, old.reader.place)))
@@ -119,18 +120,18 @@ pub stops_taking : {A : Type 0} (o : Option Files) (blamed : Option (List ℕ)) 
 stops_taking o blamed k old new r h = stops_so o (λ m. FailsAtLine blamed (left_of m old.reader)) (λ m. FailsAt blamed k (state_of m old)) old.reader new r (λ m p f. fails_taken blamed m k old p (inl f)) h
 
 -- behind a line
-pub stops_behind : {A : Type 0} (o : Option Files) (blamed : Option (List ℕ)) (k : Meaning) (old mid : Rewriter) (new : Reader) (ts : List Lexeme) (r : Result A ExpandFault) → IfSome o (λ m. Takes (left_of m old.reader) (Ok (Some ts, left_of m mid.reader))) → ((m : Files) → state_of m mid ≡ with_left (state_of m old) (left_of m mid.reader)) → mark_of mid.reader.top ≡ mark_of old.reader.top → IfSome o (λ m. StopsAt (Fails blamed (begun k (state_of m mid) ts (is_mislabelled ts))) mid.reader new r) → IfSome o (λ m. StopsAt (FailsAt blamed k (state_of m old)) old.reader new r)
+pub stops_behind : {A : Type 0} (o : Option Files) (blamed : Option (List ℕ)) (k : Meaning) (old mid : Rewriter) (new : Reader) (ts : List Lexeme) (r : Result A ExpandFault) → IfSome o (λ m. Takes (left_of m old.reader) (Ok (Some ts, left_of m mid.reader))) → ((m : Files) → state_of m mid ≡ with_left (state_of m old) (left_of m mid.reader)) → mark_of mid.reader.top ≡ mark_of old.reader.top → IfSome o (λ m. StopsAt (Fails blamed (unless_mislabelled k (state_of m mid) ts (is_mislabelled ts))) mid.reader new r) → IfSome o (λ m. StopsAt (FailsAt blamed k (state_of m old)) old.reader new r)
 stops_behind None blamed k old mid new ts r t e same h = tt
 stops_behind (Some m) blamed k old mid new ts (Ok x) t e same h = tt
 stops_behind (Some m) blamed k old mid new ts (Err f) t e same h = λ failed.
     let so = h failed in
-    let behind = subst (λ s. Fails blamed (begun k s ts (is_mislabelled ts)) new.place) (e m) so.there in
+    let behind = subst (λ s. Fails blamed (unless_mislabelled k s ts (is_mislabelled ts)) new.place) (e m) so.there in
     record { there = fails_taken blamed m k old new.place (inr (Ok (Some ts, left_of m mid.reader), t, behind)); mark = so.mark ∙ same }
 
 -- ---- Of one line.
 
 -- the branches behind one that was taken are passed over
-pub stops_at_else : {A : Type 0} (o : Option Files) (blamed : Option (List ℕ)) (old : Rewriter) (new : Reader) (cs : List Bool) (r : Result A ExpandFault) → popped old.conditions old.reader.top.conditions ≡ Some (false, cs) → IfSome o (λ m. StopsAt (FailsInBlock blamed passes 0 (left_of m old.reader)) old.reader new r) → IfSome o (λ m. StopsAt (Fails blamed (else_line (state_of m old) (last_condition (state_of m old)))) old.reader new r)
+pub stops_at_else : {A : Type 0} (o : Option Files) (blamed : Option (List ℕ)) (old : Rewriter) (new : Reader) (cs : List Bool) (r : Result A ExpandFault) → popped old.conditions old.reader.top.conditions ≡ Some (false, cs) → IfSome o (λ m. StopsAt (FailsInBlock blamed Passed 0 (left_of m old.reader)) old.reader new r) → IfSome o (λ m. StopsAt (Fails blamed (else_line (state_of m old) (last_condition (state_of m old)))) old.reader new r)
 stops_at_else o blamed old new cs r e h = stops_by o blamed (λ m. else_line (state_of m old) (Some (false, cs))) (λ m. else_line (state_of m old) (last_condition (state_of m old))) old.reader new r (λ m. else_is m old (Some (false, cs)) e) h
 
 -- ---- Of one step, by what stands in front of the lines.

@@ -1,10 +1,11 @@
 -- From a state one thing at most comes next.
 use Rattle.std.proofs.lemmas.Grind.{common_steps}
-use Rattle.std.proofs.Common.{arith, ◌≡◌, ℕ, zero, suc, Bool, List, [], ◌∷◌, sym, ap, ◌∙◌, subst, None, Some, Result, Ok, Err}
+use Rattle.std.proofs.Common.{arith, ◌≡◌, ℕ, zero, suc, Bool, List, [], ◌∷◌, refl, sym, ap, ◌∙◌, subst, None, Some, Result, Ok, Err}
 use Rattle.base65.specs.Store.{Files}
 use Rattle.syntax65.specs.Tokens.{Lexeme}
-use Rattle.expand65.specs.Blocks.{Verdict, on, closed, refused, Block, a_fault, a_mark, a_refusal, the_last, one_more, block_state, judge_of}
-use Rattle.expand65.specs.State.{IsCondition, Meaning, State, Step, leads, parses, decides, takes, takes_block, opens, Stepped, goes, gives, ends, stops, unless_stopped}
+use Rattle.expand65.specs.Blocks.{Verdict, on, closed, refused, judge, with_line, Whole, Block, a_fault, a_mark, a_refusal, the_last, one_more}
+use Rattle.expand65.specs.declared.blocks.BlockKind.{BlockKind}
+use Rattle.expand65.specs.State.{IsCondition, Meaning, State, Step, leads, parses, decides, takes, takes_block, searches, Stepped, goes, gives, ends, stops, unless_stopped}
 use Rattle.expand65.specs.Expansion.{Leads, Next, statement, nothing, fault, Reaches, further, given, ended, stopped, first_file, step_from, IsStep}
 use Rattle.expand65.specs.Lines.{Item, written, played, labelled, branch, mark, Left, left, Stop, moved, IsOpened, Taken, Takes, TakesFrom, taken_as}
 use Rattle.expand65.specs.declared.fronts.Test.{Test}
@@ -37,28 +38,34 @@ one_taken (branch ts ∷ is) (suc r) p a b (q, o, e) k = absurd o
 
 -- ---- Blocks.
 
-abbrev AfterLine : {A B : Type 0} → (A → List Lexeme → Verdict A B) → Verdict A B → Left → Result (B × Left) Stop → Type 0
-AfterLine judge (on c) m r = Block judge c m r
-AfterLine judge (closed b) m r = r ≡ Ok (b, m)
-AfterLine judge (refused f) m r = r ≡ Err (f, m.place)
+abbrev AfterLine : BlockKind → Verdict → List (List Lexeme) → List Lexeme → Left → Result (Whole × Left) Stop → Type 0
+AfterLine k (on c) body ts m r = Block k c (with_line k body ts) m r
+AfterLine k (closed b) body ts m r = r ≡ Ok ((body, b), m)
+AfterLine k (refused f) body ts m r = r ≡ Err (f, m.place)
 
-abbrev After : {A B : Type 0} → (A → List Lexeme → Verdict A B) → A → Taken → Result (B × Left) Stop → Type 0
-After judge a (Err e) r = r ≡ Err e
-After judge a (Ok (None, m)) r = r ≡ Err (NotClosed, m.place)
-After judge a (Ok (Some ts, m)) r = AfterLine judge (judge a ts) m r
+abbrev After : BlockKind → ℕ → List (List Lexeme) → Taken → Result (Whole × Left) Stop → Type 0
+After k d body (Err e) r = r ≡ Err e
+After k d body (Ok (None, m)) r = r ≡ Err (NotClosed, m.place)
+After k d body (Ok (Some ts, m)) r = AfterLine k (judge k d ts) body ts m r
 
-opened_block : {A B : Type 0} (judge : A → List Lexeme → Verdict A B) (a : A) (l : Left) (r : Result (B × Left) Stop) → Block judge a l r → (t : Taken) × Takes l t × After judge a t r
-opened_block judge a l r x = grind (arith, common_steps)
+opened_block : (k : BlockKind) (d : ℕ) (body : List (List Lexeme)) (l : Left) (r : Result (Whole × Left) Stop) → Block k d body l r → (t : Taken) × Takes l t × After k d body t r
+opened_block k _ _ _ _ (a_fault d body l e t) = (Err e, t, refl)
+opened_block k _ _ _ _ (a_mark d body l m t) = (Ok (None, m), t, refl)
+opened_block k _ _ _ _ (a_refusal d body l m ts f t e) = (Ok (Some ts, m), t, subst (λ v. AfterLine k v body ts m (Err (f, m.place))) (sym e) refl)
+opened_block k _ _ _ _ (the_last d body l m ts b t e) = (Ok (Some ts, m), t, subst (λ v. AfterLine k v body ts m (Ok ((body, b), m))) (sym e) refl)
+opened_block k _ _ _ _ (one_more d c body l m ts r t e h) = (Ok (Some ts, m), t, subst (λ v. AfterLine k v body ts m r) (sym e) h)
 
-after_taken : {A B : Type 0} (judge : A → List Lexeme → Verdict A B) (a : A) (l : Left) (t : Taken) (r : Result (B × Left) Stop) → Takes l t → Block judge a l r → After judge a t r
-after_taken judge a l t r h k = grind (arith, common_steps, opened_block, one_taken)
+after_taken : (k : BlockKind) (d : ℕ) (body : List (List Lexeme)) (l : Left) (t : Taken) (r : Result (Whole × Left) Stop) → Takes l t → Block k d body l r → After k d body t r
+after_taken k d body l t r h b =
+    let o = opened_block k d body l r b in
+    subst (λ x. After k d body x r) (one_taken l.items l.room l.place o.0 t o.1 h) o.2
 
-one_block : {A B : Type 0} (judge : A → List Lexeme → Verdict A B) (a : A) (l : Left) (q r : Result (B × Left) Stop) → Block judge a l q → Block judge a l r → q ≡ r
-one_block judge a l q r (a_fault _ _ e t) k = sym (after_taken judge a l (Err e) r t k)
-one_block judge a l q r (a_mark _ _ m t) k = sym (after_taken judge a l (Ok (None, m)) r t k)
-one_block {B = B} judge a l q r (a_refusal _ _ m ts f t e) k = let P : Verdict _ B → Type 0 = λ v. AfterLine judge v m r in sym (subst P e (after_taken judge a l (Ok (Some ts, m)) r t k))
-one_block {B = B} judge a l q r (the_last _ _ m ts b t e) k = let P : Verdict _ B → Type 0 = λ v. AfterLine judge v m r in sym (subst P e (after_taken judge a l (Ok (Some ts, m)) r t k))
-one_block {B = B} judge a l q r (one_more _ c _ m ts _ t e h) k = let P : Verdict _ B → Type 0 = λ v. AfterLine judge v m r in one_block judge c m q r h (subst P e (after_taken judge a l (Ok (Some ts, m)) r t k))
+one_block : (k : BlockKind) (d : ℕ) (body : List (List Lexeme)) (l : Left) (q r : Result (Whole × Left) Stop) → Block k d body l q → Block k d body l r → q ≡ r
+one_block k d body l q r (a_fault _ _ _ e t) b = sym (after_taken k d body l (Err e) r t b)
+one_block k d body l q r (a_mark _ _ _ m t) b = sym (after_taken k d body l (Ok (None, m)) r t b)
+one_block k d body l q r (a_refusal _ _ _ m ts f t e) b = sym (subst (λ v. AfterLine k v body ts m r) e (after_taken k d body l (Ok (Some ts, m)) r t b))
+one_block k d body l q r (the_last _ _ _ m ts x t e) b = sym (subst (λ v. AfterLine k v body ts m r) e (after_taken k d body l (Ok (Some ts, m)) r t b))
+one_block k d body l q r (one_more _ c _ _ m ts _ t e h) b = one_block k c (with_line k body ts) m q r h (subst (λ v. AfterLine k v body ts m r) e (after_taken k d body l (Ok (Some ts, m)) r t b))
 
 -- ---- Conditions.
 
@@ -72,8 +79,8 @@ one_led m (leads x) a b h j = both h j
 one_led m (parses ts next) a b (q, p, h) (r, o, j) = one_led m (next q) a b h (subst (λ z. Leads m (next z) b) (one_parse ts r q o p) j)
 one_led m (decides k test ts next) a b (c, p, h) (d, o, j) = one_led m (next c) a b h (subst (λ z. Leads m (next z) b) (one_condition k test ts d c o p) j)
 one_led m (takes l next) a b (t, p, h) (u, o, j) = one_led m (next t) a b h (subst (λ z. Leads m (next z) b) (one_taken l.items l.room l.place u t o p) j)
-one_led m (takes_block k l next) a b (q, p, h) (r, o, j) = h ∙ ap (λ z. unless_stopped z (λ x. next x.0 x.1)) (one_block (judge_of k) (block_state k 0 []) l q r p o) ∙ sym j
-one_led m (opens l names next) a b h j = one_led m (next (first_file m names)) a b h j
+one_led m (takes_block k l next) a b (q, p, h) (r, o, j) = h ∙ ap (λ z. unless_stopped z (λ x. next x.0 x.1)) (one_block k 0 [] l q r p o) ∙ sym j
+one_led m (searches l names next) a b h j = one_led m (next (first_file m names)) a b h j
 
 pub one_step : (m : Files) (k : Meaning) (s : State) (a b : Stepped) → IsStep m k s a → IsStep m k s b → a ≡ b
 unfolding IsStep

@@ -8,11 +8,11 @@ use Rattle.base65.specs.Store.{Files}
 use Rattle.syntax65.specs.Tokens.{Lexeme}
 use Rattle.syntax65.specs.Expressions.{IsParsed}
 use Rattle.syntax65.specs.Trees.{Tree}
-use Rattle.expand65.specs.Blocks.{AnswerOf, Block, block_state, judge_of}
+use Rattle.expand65.specs.Blocks.{Block, Whole}
 use Rattle.expand65.specs.Fronts.{begins, string_of, front_directive, is_mislabelled, label_len, line_directive, understood}
 use Rattle.expand65.specs.Lines.{lines_of, file_limit, Taken, Takes, line_limit, numbered, Item, labelled, branch, mark, left, innermost, come_back, Left, Stop}
 use Rattle.expand65.specs.Macros.{entered, exit_macro, local_line, macro_line, mark_from, ordinary, repeat_line}
-use Rattle.expand65.specs.State.{State, Step, leads, parses, decides, takes, takes_block, opens, Stepped, stops, Meaning, label, goes, gives, ends, with_left, with_items, Stated, IsCondition, else_line, ended_if, if_alone, if_line, popped, unless_refused, unless_stopped}
+use Rattle.expand65.specs.State.{State, Step, leads, parses, decides, takes, takes_block, searches, Stepped, stops, Meaning, label, goes, gives, ends, with_left, with_items, Stated, IsCondition, else_line, ended_if, if_alone, if_line, popped, unless_refused, unless_stopped}
 use Rattle.expand65.specs.Types.{ExprFault, ExpandFault, FileNotFound, FileTooLong, Directive, Macro, EndMacro, ExitMacro, Local, Repeat, EndRepeat, If, ElseIf, Else, EndIf, Include, Error, End, True}
 use Rattle.syntax65.specs.declared.fault.ExpandFault.TheVariants as faults
 use Rattle.base65.specs.Outcome.{◌>>=◌}
@@ -74,7 +74,7 @@ included s (name, bytes) =
 -- a file that is looked for
 abbrev pub include_file : State → List ℕ → Step
 include_file s name =
-    opens s.left (tried s.left.place.file s.folders name) (λ q. unless_refused s q (λ file. leads (included s file)))
+    searches s.left (tried s.left.place.file s.folders name) (λ q. unless_refused s q (λ file. leads (included s file)))
 
 -- ---- One step of expansion, by the first line that is left.
 
@@ -113,9 +113,9 @@ split k s ts directive zero = acted k s ts directive
 split k s ts directive (suc n) = leads (gives (label (take (suc n) ts)) (with_items s (labelled (drop (suc n) ts) ∷ s.left.items)))
 
 -- a label comes first, and the rest of its line stands
-abbrev pub begun : Meaning → State → List Lexeme → Bool → Step
-begun k s ts true = leads (stops (faults.NotUnderstood, s.left.place))
-begun k s ts false = split k s ts (line_directive ts) (label_len ts)
+abbrev pub unless_mislabelled : Meaning → State → List Lexeme → Bool → Step
+unless_mislabelled k s ts true = leads (stops (faults.NotUnderstood, s.left.place))
+unless_mislabelled k s ts false = split k s ts (line_directive ts) (label_len ts)
 
 -- an end mark is taken off where as many conditions are open as it says; behind the last one nothing is left
 abbrev pub at_mark : State → List Item → Stepped
@@ -125,7 +125,7 @@ at_mark s (_ ∷ is) = ends s
 
 abbrev pub step_behind : Meaning → State → Taken → Step
 step_behind k s (Err e) = leads (stops e)
-step_behind k s (Ok (Some ts, l)) = begun k (with_left s l) ts (is_mislabelled ts)
+step_behind k s (Ok (Some ts, l)) = unless_mislabelled k (with_left s l) ts (is_mislabelled ts)
 step_behind k s (Ok (None, l)) = leads (at_mark (with_left s l) l.items)
 
 -- what stands behind a label is acted on, and a branch is decided; otherwise a line is taken
@@ -140,9 +140,8 @@ Leads m (leads x) r = r ≡ x
 Leads m (parses ts next) r = (q : Result (Tree × ℕ) ExprFault) × IsParsed ts q × Leads m (next q) r
 Leads m (decides k test ts next) r = (c : Result Bool ExpandFault) × IsCondition k test ts c × Leads m (next c) r
 Leads m (takes l next) r = (t : Taken) × Takes l t × Leads m (next t) r
-Leads m (takes_block k l next) r =
-    (q : Result (AnswerOf k × Left) Stop) × Block (judge_of k) (block_state k 0 []) l q × (r ≡ unless_stopped q (λ b. next b.0 b.1))
-Leads m (opens l names next) r = Leads m (next (first_file m names)) r
+Leads m (takes_block k l next) r = (q : Result (Whole × Left) Stop) × Block k 0 [] l q × (r ≡ unless_stopped q (λ b. next b.0 b.1))
+Leads m (searches l names next) r = Leads m (next (first_file m names)) r
 
 -- what the step from a state leads to
 unfoldable pub IsStep : Files → Meaning → State → Stepped → Type 0

@@ -2,7 +2,7 @@
 use Rattle.std.specs.Prelude.{◌≡◌, ℕ, true, List, Option, Some, None, Result, IfErr, ◌⊎◌, Bool, false, [], ◌∷◌, drop, Ok, ◌<◌, ◌≤◌}
 use Rattle.std.specs.Option.{option_and_then}
 use Rattle.base65.specs.Store.{Files, IsBlamed}
-use Rattle.expand65.specs.State.{Meaning, State, Step, leads, parses, decides, takes, takes_block, opens, goes, Stated, label, plain, IsCondition}
+use Rattle.expand65.specs.State.{Meaning, State, Step, leads, parses, decides, takes, takes_block, searches, goes, Stated, label, plain, IsCondition}
 use Rattle.expand65.specs.Standing.{StandsFor, place_of, FollowsFrom, measure_of, state_in, stated, macros_of, last_read, FailsAtLine, FailsInBlock, NamesFiles}
 use Rattle.expand65.specs.Expansion.{IsStep, step_from}
 use Rattle.expand65.specs.Types.{Expander, ExpandFault, Place, ExprFault, Peeked, Nothing, Statement, Rewriter}
@@ -11,7 +11,6 @@ use Rattle.syntax65.specs.Faults.{is_failure}
 use Rattle.syntax65.specs.Expressions.{IsParsed}
 use Rattle.syntax65.specs.Tokens.{Lexeme}
 use Rattle.syntax65.specs.Trees.{Tree}
-use Rattle.expand65.specs.Blocks.{block_state, judge_of}
 use Rattle.expand65.specs.Fronts.{front_directive, label_len}
 use Rattle.expand65.specs.Macros.{macro_at}
 use Rattle.expand65.specs.Playing.{IsNext}
@@ -30,8 +29,8 @@ Fails b (leads x) p = ⊥
 Fails b (parses ts next) p = (q : Result (Tree × ℕ) ExprFault) × IsParsed ts q × Fails b (next q) p
 Fails b (decides k test ts next) p = (c : Result Bool ExpandFault) × IsCondition k test ts c × Fails b (next c) p
 Fails b (takes l next) p = FailsAtLine b l p ⊎ ((t : Taken) × Takes l t × Fails b (next t) p)
-Fails b (takes_block k l next) p = FailsInBlock b (judge_of k) (block_state k 0 []) l p
-Fails b (opens l names next) p = (p ≡ l.place) × IsAmong b names
+Fails b (takes_block k l next) p = FailsInBlock b k 0 l p
+Fails b (searches l names next) p = (p ≡ l.place) × IsAmong b names
 
 -- the store fails in the step from a state, at this place
 unfoldable pub FailsAt : Option (List ℕ) → Meaning → State → Place → Type 0

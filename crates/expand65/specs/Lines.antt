@@ -1,4 +1,5 @@
--- Lines of a source, and what is left of them.
+-- Lines of a source and what is left of them: of files, and of bodies with what stands for names; and what a call leaves of a
+-- store.
 use Rattle.std.specs.Prelude.{ℕ, Bool, List, [], ◌∷◌, ◌++◌, codes, decimal, position, slice_get, unwrap_or, Option, Some, None, Result, IfErr, true, ◌≡◌, if◌then◌else◌, zero, suc, ◌+◌, map, false, nat_eq, ◌&&◌, ◌<◌, ◌≤◌, ◌-◌, not, length, take, drop, option_map, Ok, Err, ◌==◌, nat_le}
 use Rattle.std.specs.Map.{lookup}
 use Rattle.std.specs.Option.{option_or}

@@ -63,7 +63,7 @@ arguments_of ts = map unbraced (parts_within 0 ts)
 abbrev pub mark_from : State → Bool → Option Place → Mark
 mark_from s is_macro back = record { is_macro = is_macro; conditions = length s.conditions; back = back }
 
--- lines and their end mark in front of what is left, the first of which comes at a place
+-- lines and their end mark in front of what is left, where this leaves room; the place is then this one
 abbrev pub entered : State → List Item → Mark → Place → Stepped
 entered s is k p = unless_stopped (pushed is k s.left) (λ l. goes (with_left s (left l.items l.room p)))
 
@@ -91,12 +91,12 @@ header_of (t ∷ ts) = name_in t >=> (λ name. params_of ts >=> (λ params. Some
 abbrev pub macro_of : List (List ℕ × Definition) → List ℕ → Option Definition
 macro_of ms name = lookup (bytes_eq name) ms
 
--- a macro that isn't there yet, with the lines of its body
+-- a macro is added, with the lines of its body, unless its name has one
 abbrev pub defined : State → List ℕ → List (List ℕ) → Option Definition → Step
 defined s name params (Some m) = leads (stops (MacroTwice, s.left.place))
-defined s name params None = takes_block kind.Macro s.left (λ body l. goes (record {
+defined s name params None = takes_block kind.Macro s.left (λ b l. goes (record {
   left = l;
-  macros = s.macros ++ (name, record { params = params; body = body }) ∷ [];
+  macros = s.macros ++ (name, record { params = params; body = b.0 }) ∷ [];
   conditions = s.conditions;
   expansions = s.expansions;
   folders = s.folders;
@@ -202,8 +202,8 @@ repeat_of k ts q = repeat_header ts q >>= (λ h. turns_of (k.value h.0) >>= (λ 
 
 -- so many turns of the lines that follow
 abbrev pub repeated : State → ℕ → List (List ℕ) → Step
-repeated s n variable = takes_block kind.Repeat s.left (λ body l.
-    entered (with_left s l) (turns (repeating variable) body 0 n) (mark_from s false None) l.place)
+repeated s n variable = takes_block kind.Repeat s.left (λ b l.
+    entered (with_left s l) (turns (repeating variable) b.0 0 n) (mark_from s false None) l.place)
 
 -- `.repeat` and what stands behind it
 abbrev pub repeat_line : Meaning → State → List Lexeme → Step

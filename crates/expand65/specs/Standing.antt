@@ -1,4 +1,4 @@
--- What an expander stands for, and how the code holds it.
+-- What an expander stands for, how the code holds it, and where lines were being read when the store failed.
 use Rattle.std.specs.Prelude.{◌≡◌, ℕ, ◌-◌, Bool, true, false, List, [], ◌∷◌, ◌++◌, ◌<◌, length, map, Result, Ok, Err, ⊤, None, reverse, ◌==◌, Some, Option, IfErr, if◌then◌else◌, ◌+◌, ◌*◌, IfOk, IfSome, OnOk, ◌≤◌}
 use Rattle.base65.specs.Outcome.{Unless}
 use Rattle.base65.specs.Store.{Files, IsBlamed}
@@ -11,11 +11,10 @@ use Rattle.expand65.specs.declared.input.Source.TheVariants as source
 use Rattle.expand65.specs.declared.input.NextLine.{NextLine}
 use Rattle.expand65.specs.declared.input.NextLine.TheVariants.{AtEnd, Numbered, Replayed}
 use Rattle.expand65.specs.declared.reader.Input.{Input}
-use Rattle.expand65.specs.Blocks.{AnswerOf, Branch, StateOf, Verdict, at_elseif, at_else, at_endif, block_state, closed, on, refused}
+use Rattle.expand65.specs.Blocks.{Branch, Verdict, at_elseif, at_else, at_end, closed, judge, on, refused}
 use Rattle.expand65.specs.declared.blocks.BlockEnd.{BlockEnd}
 use Rattle.expand65.specs.declared.blocks.BlockEnd.TheVariants.{ElseIf, Else, End}
 use Rattle.expand65.specs.declared.blocks.BlockKind.{BlockKind}
-use Rattle.expand65.specs.declared.blocks.BlockKind.TheVariants.{Macro, Repeat, Skipped, Passed}
 use Rattle.expand65.specs.declared.blocks.BlockStep.{BlockStep}
 use Rattle.expand65.specs.declared.blocks.BlockStep.TheVariants.{On, Closed}
 use Rattle.expand65.specs.State.{State, with_items, label, plain, Stepped, goes, gives, stops, Meaning, Stated}
@@ -91,31 +90,19 @@ abbrev pub Answers : {A B : Type 0} → (A → B) → Place → Result A ExpandF
 Answers view p (Ok a) IsAnswer = IsAnswer (Ok (view a))
 Answers view p (Err f) IsAnswer = Unless (is_outside f) (IsAnswer (Err (f, p)))
 
--- ---- The four kinds of blocks.
+-- ---- What lines do to blocks, as the code answers it.
 
+-- what closes a block
 abbrev pub branch_of : BlockEnd → Branch
 branch_of (ElseIf line) = at_elseif (tokens_in line)
 branch_of Else = at_else
-branch_of End = at_endif
-
-abbrev pub answer_of : (k : BlockKind) → List (List Lexeme) → BlockEnd → AnswerOf k
-answer_of Macro body end = body
-answer_of Repeat body end = body
-answer_of Skipped body end = branch_of end
-answer_of Passed body end = tt
-
--- ---- As the code answers it.
-
-abbrev pub is_kept : BlockKind → Bool
-is_kept Macro = true
-is_kept Repeat = true
-is_kept _ = false
+branch_of End = at_end
 
 -- the block goes on with so many others open in it, or is closed
-abbrev pub Judges : (k : BlockKind) → List (List Lexeme) → List Lexeme → Result BlockStep ExpandFault → Verdict (StateOf k) (AnswerOf k) → Type 0
-Judges k body ts (Ok (On d)) v = v ≡ on (block_state k d (body ++ ts ∷ []))
-Judges k body ts (Ok (Closed end)) v = v ≡ closed (answer_of k body end)
-Judges k body ts (Err f) v = Unless (is_outside f) (v ≡ refused f)
+abbrev pub Judges : Result BlockStep ExpandFault → Verdict → Type 0
+Judges (Ok (On d)) v = v ≡ on d
+Judges (Ok (Closed end)) v = v ≡ closed (branch_of end)
+Judges (Err f) v = Unless (is_outside f) (v ≡ refused f)
 
 -- lines are passed over that aren't kept
 abbrev pub IsPassedOver : Bool → Left → Left → Type 0
@@ -163,9 +150,9 @@ pub data FailsAtLine (blamed : Option (List ℕ)) (l : Left) : Place → Type 0 
   within : (n : ℕ) (bytes : List ℕ) (is : List Item) → l.items ≡ written n bytes ∷ is → IsBlamed blamed l.place.file → FailsAtLine blamed l (moved l.place n)
 
 -- It fails at a line of a block, behind lines that don't end the block.
-pub data FailsInBlock (blamed : Option (List ℕ)) {A B : Type 0} (judge : A → List Lexeme → Verdict A B) : A → Left → Place → Type 0 where
-  at_line : (a : A) (l : Left) (p : Place) → FailsAtLine blamed l p → FailsInBlock blamed judge a l p
-  behind_line : (a c : A) (l m : Left) (ts : List Lexeme) (p : Place) → Takes l (Ok (Some ts, m)) → judge a ts ≡ on c → FailsInBlock blamed judge c m p → FailsInBlock blamed judge a l p
+pub data FailsInBlock (blamed : Option (List ℕ)) (k : BlockKind) : ℕ → Left → Place → Type 0 where
+  at_line : (d : ℕ) (l : Left) (p : Place) → FailsAtLine blamed l p → FailsInBlock blamed k d l p
+  behind_line : (d c : ℕ) (l m : Left) (ts : List Lexeme) (p : Place) → Takes l (Ok (Some ts, m)) → judge k d ts ≡ on c → FailsInBlock blamed k c m p → FailsInBlock blamed k d l p
 
 -- a reader stands at such a place, in the input in which it began
 pub record HasStopped (IsThere : Place → Type 0) (old new : Reader) : Type 0 where

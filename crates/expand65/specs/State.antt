@@ -6,7 +6,7 @@ use Rattle.expand65.specs.Lines.{Item, Left, left, Stop, Definition, branch, Tak
 use Rattle.syntax65.specs.Expressions.{IsParsed}
 use Rattle.base65.specs.Outcome.{◌>>=◌}
 use Rattle.expand65.specs.Types.{ExprFault, Test, True, Defined, NotDefined, Blank, NotBlank, ExpandFault, NotConstant, NotOpened, NotUnderstood}
-use Rattle.expand65.specs.Blocks.{AnswerOf, Branch, at_elseif, at_else, at_endif}
+use Rattle.expand65.specs.Blocks.{Branch, at_elseif, at_else, at_end, Whole}
 use Rattle.expand65.specs.declared.blocks.BlockKind.{BlockKind}
 use Rattle.expand65.specs.declared.blocks.BlockKind.TheVariants.{Skipped, Passed}
 use Rattle.expand65.specs.Fronts.{begins, opens_parenthesis, unknown}
@@ -64,8 +64,8 @@ pub data Step : Type 0 where
   parses : List Lexeme → (Result (Tree × ℕ) ExprFault → Step) → Step
   decides : Meaning → Test → List Lexeme → (Result Bool ExpandFault → Step) → Step
   takes : Left → (Taken → Step) → Step
-  takes_block : (k : BlockKind) → Left → (AnswerOf k → Left → Stepped) → Step
-  opens : Left → List (List ℕ) → (Result (List ℕ × List ℕ) ExpandFault → Step) → Step
+  takes_block : BlockKind → Left → (Whole → Left → Stepped) → Step
+  searches : Left → List (List ℕ) → (Result (List ℕ × List ℕ) ExpandFault → Step) → Step
 
 -- what follows from this, unless it is refused at the place
 abbrev pub unless_refused : {A : Type 0} → State → Result A ExpandFault → (A → Step) → Step
@@ -120,13 +120,13 @@ IsCondition k NotBlank ts r = r ≡ Ok (not (length ts == 0))
 
 -- what a false condition goes on with
 abbrev pub found : State → Branch → Left → Stepped
-found s at_endif l = goes (with_left s l)
+found s at_end l = goes (with_left s l)
 found s at_else l = goes (with_conditions s (true ∷ s.conditions) l)
 found s (at_elseif ts) l = goes (with_left s (left (branch ts ∷ l.items) l.room l.place))
 
 abbrev pub decided : State → Bool → Step
 decided s true = leads (goes (with_conditions s (false ∷ s.conditions) s.left))
-decided s false = takes_block Skipped s.left (found s)
+decided s false = takes_block Skipped s.left (λ b l. found s b.1 l)
 
 abbrev pub if_line : Meaning → State → Test → List Lexeme → Step
 if_line k s test ts = decides k test ts (λ c. unless_refused s c (decided s))
@@ -143,5 +143,5 @@ ended_if s None = stops (NotOpened, s.left.place)
 ended_if s (Some (b, bs)) = goes (with_conditions s bs s.left)
 
 abbrev pub else_line : State → Option (Bool × List Bool) → Step
-else_line s (Some (false, bs)) = takes_block Passed s.left (λ u l. goes (with_conditions s bs l))
+else_line s (Some (false, bs)) = takes_block Passed s.left (λ b l. goes (with_conditions s bs l))
 else_line s _ = leads (stops (NotOpened, s.left.place))

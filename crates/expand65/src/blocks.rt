@@ -1,11 +1,11 @@
 //! Blocks of lines that are taken as a whole.
 
-ghost use Rattle.std.specs.Prelude.{◌≡◌, ◌==◌, if◌then◌else◌, length, Ok, Err, ◌∷◌, ◌++◌, ◌<◌, ◌≤◌, [], List, ℕ, drop, false, map, suc, IfErr, IfOk, IfSome, OnOk, Some};
+ghost use Rattle.std.specs.Prelude.{◌≡◌, ◌==◌, if◌then◌else◌, length, Ok, Err, ◌<◌, ◌≤◌, [], List, drop, false, map, suc, IfErr, IfOk, IfSome, OnOk, Some};
 ghost use Rattle.base65.specs.Store.{Files};
 ghost use Rattle.syntax65.specs.Tokens.{Lexeme, lexemes};
 ghost use Rattle.syntax65.specs.Faults.{is_failure};
-ghost use Rattle.expand65.specs.Blocks.{Block, block_state, collecting, gathering, judge_of, passing, skipping};
-ghost use Rattle.expand65.specs.Standing.{Stays, Answers, left_of, IsPassedOver, Judges, answer_of, is_kept, FailsInBlock, NamesFiles, StopsAt};
+ghost use Rattle.expand65.specs.Blocks.{Block, is_kept, judge, judged, with_line};
+ghost use Rattle.expand65.specs.Standing.{Stays, Answers, branch_of, left_of, IsPassedOver, Judges, FailsInBlock, NamesFiles, StopsAt};
 ghost use Rattle.expand65.specs.Playing.{tokens_in};
 ghost use Rattle.expand65.specs.Lines.{LeavesStore};
 
@@ -77,16 +77,19 @@ fn deeper(depth: u32) -> Result<BlockStep, ExpandFault>
 }
 
 /// What a directive does to the body of a macro, in which no other may be defined.
-fn macro_step(directive: Directive, tokens: &[Token<'_>]) -> Result<BlockStep, ExpandFault>
-    ensures step { (body : List (List Lexeme)) →
-        Judges BlockKind.Macro body (lexemes tokens.now) result
-        (collecting body (lexemes tokens.now) (Some directive)) }
+fn macro_step(
+    directive: Directive,
+    tokens: &[Token<'_>],
+    depth: u32,
+) -> Result<BlockStep, ExpandFault>
+    ensures step { Judges result
+        (judged BlockKind.Macro depth (lexemes tokens.now) (Some directive)) }
     ensures inside { IfErr result (λ e. is_failure e ≡ false) }
 {
     match directive {
         Directive::EndMacro => closed_alone(tokens, BlockEnd::End),
         Directive::Macro => Err(ExpandFault::MacroInside),
-        _ => Ok(BlockStep::On(0)),
+        _ => Ok(BlockStep::On(depth)),
     }
 }
 
@@ -96,9 +99,8 @@ fn repeat_step(
     tokens: &[Token<'_>],
     depth: u32,
 ) -> Result<BlockStep, ExpandFault>
-    ensures step { (body : List (List Lexeme)) →
-        Judges BlockKind.Repeat body (lexemes tokens.now) result
-        (gathering depth body (lexemes tokens.now) (Some directive)) }
+    ensures step { Judges result
+        (judged BlockKind.Repeat depth (lexemes tokens.now) (Some directive)) }
     ensures inside { IfErr result (λ e. is_failure e ≡ false) }
 {
     match directive {
@@ -111,8 +113,8 @@ fn repeat_step(
 
 /// What a directive does to lines through an `.endif` with so many conditions open in them.
 fn passed_step(directive: Directive, depth: u32) -> Result<BlockStep, ExpandFault>
-    ensures step { (body : List (List Lexeme)) (ts : List Lexeme) →
-        Judges BlockKind.Passed body ts result (passing depth (Some directive)) }
+    ensures step { (ts : List Lexeme) →
+        Judges result (judged BlockKind.Passed depth ts (Some directive)) }
     ensures inside { IfErr result (λ e. is_failure e ≡ false) }
 {
     match directive {
@@ -129,9 +131,8 @@ fn branch_step(
     directive: Directive,
     tokens: &[Token<'_>],
 ) -> Result<BlockStep, ExpandFault>
-    ensures step { (body : List (List Lexeme)) →
-        Judges BlockKind.Skipped body (lexemes tokens.now) result
-        (skipping 0 (lexemes tokens.now) (Some directive)) }
+    ensures step { Judges result
+        (judged BlockKind.Skipped 0 (lexemes tokens.now) (Some directive)) }
     ensures inside { IfErr result (λ e. is_failure e ≡ false) }
 {
     match directive {
@@ -153,9 +154,8 @@ fn skipped_step(
     tokens: &[Token<'_>],
     depth: u32,
 ) -> Result<BlockStep, ExpandFault>
-    ensures step { (body : List (List Lexeme)) →
-        Judges BlockKind.Skipped body (lexemes tokens.now) result
-        (skipping depth (lexemes tokens.now) (Some directive)) }
+    ensures step { Judges result
+        (judged BlockKind.Skipped depth (lexemes tokens.now) (Some directive)) }
     ensures inside { IfErr result (λ e. is_failure e ≡ false) }
 {
     if depth == 0 {
@@ -183,9 +183,7 @@ impl BlockKind {
         tokens: &[Token<'_>],
         depth: u32,
     ) -> Result<BlockStep, ExpandFault>
-        ensures step { (body : List (List Lexeme)) →
-            Judges self body (lexemes tokens.now) result
-            (judge_of self (block_state self depth body) (lexemes tokens.now)) }
+        ensures step { Judges result (judge self depth (lexemes tokens.now)) }
         ensures inside { IfErr result (λ e. is_failure e ≡ false) }
     {
         if is_mislabelled(tokens) {
@@ -195,7 +193,7 @@ impl BlockKind {
             return Ok(BlockStep::On(depth));
         };
         match self {
-            BlockKind::Macro => macro_step(directive, tokens),
+            BlockKind::Macro => macro_step(directive, tokens, depth),
             BlockKind::Repeat => repeat_step(directive, tokens, depth),
             BlockKind::Skipped => skipped_step(alloc, directive, tokens, depth),
             BlockKind::Passed => passed_step(directive, depth),
@@ -204,9 +202,7 @@ impl BlockKind {
 
     /// What a line does to the block with so many others open in it.
     fn step(self, alloc: Global, line: &Line, depth: u32) -> Result<BlockStep, ExpandFault>
-        ensures step { (body : List (List Lexeme)) →
-            Judges self body (tokens_in line.now) result
-            (judge_of self (block_state self depth body) (tokens_in line.now)) }
+        ensures step { Judges result (judge self depth (tokens_in line.now)) }
         ensures inside { IfErr result (λ e. is_failure e ≡ false) }
     {
         if line.is_plain() {
@@ -218,8 +214,8 @@ impl BlockKind {
 
     /// Puts a line behind the others, where they are kept.
     fn keep(self, lines: &mut Sequence<Line>, line: Line) -> Result<(), AllocError>
-        ensures { OnOk result ((depth : ℕ) → block_state self depth (map tokens_in lines.new) ≡
-            block_state self depth (map tokens_in lines.old ++ tokens_in line ∷ [])) }
+        ensures { OnOk result (map tokens_in lines.new ≡
+            with_line self (map tokens_in lines.old) (tokens_in line)) }
     {
         if self.is_kept() {
             lines.push(line)?;
@@ -248,15 +244,14 @@ impl Reader {
         kind: BlockKind,
     ) -> Result<WholeBlock, ExpandFault>
         ensures read { IfSome (S.files store.old) (λ m.
-            Answers (λ b. (answer_of kind (map tokens_in b.lines) b.end, left_of m self.new))
-            self.new.place result
-            (Block (judge_of kind) (block_state kind 0 []) (left_of m self.old))) }
+            Answers (λ b. ((map tokens_in b.lines, branch_of b.end), left_of m self.new))
+            self.new.place result (Block kind 0 [] (left_of m self.old))) }
         ensures room { OnOk result (self.new.room < self.old.room) }
         ensures stays { Stays self.old self.new }
         ensures leaves { LeavesStore S.files S.failures store.old store.new result }
         ensures stopped { NamesFiles self.old → IfSome (S.files store.old) (λ m. StopsAt
-            (FailsInBlock (S.blamed store.new) (judge_of kind) (block_state kind 0 [])
-            (left_of m self.old)) self.old self.new result) }
+            (FailsInBlock (S.blamed store.new) kind 0 (left_of m self.old))
+            self.old self.new result) }
     {
         let mut lines = Sequence::new(alloc);
         let mut depth = 0;

@@ -8,7 +8,7 @@ ghost use Rattle.expand65.specs.Failing.{Fails, FailsAt};
 ghost use Rattle.syntax65.specs.Faults.{is_failure};
 ghost use Rattle.expand65.specs.Standing.{NamesFiles, left_in, left_of, Keeps, TurnsTo, LeadsTo, StopsBy, Turns, size_of, stands_alone, state_of, weight_of};
 ghost use Rattle.expand65.specs.Fronts.{front_directive, is_mislabelled, string_of, understood};
-ghost use Rattle.expand65.specs.Expansion.{Leads, acted, at_mark, begun, directed, include_file, included, IsStep, last_condition};
+ghost use Rattle.expand65.specs.Expansion.{Leads, acted, at_mark, unless_mislabelled, directed, include_file, included, IsStep, last_condition};
 ghost use Rattle.expand65.specs.Playing.{tokens_in};
 ghost use Rattle.expand65.specs.Lines.{bytes_of, LeavesStore};
 ghost use Rattle.expand65.specs.Macros.{file_of};
@@ -266,13 +266,13 @@ impl Rewriter {
     ) -> Result<Turn, ExpandFault>
         ensures turns { TurnsTo (S.files store.old) self.old self.new result (λ m s.
             Leads m
-            (begun (K.meaning knows.now) s (tokens_in line) (is_mislabelled (tokens_in line)))) }
+            (unless_mislabelled (K.meaning knows.now) s (tokens_in line) (is_mislabelled (tokens_in line)))) }
         ensures named { NamesFiles self.old.reader → OnOk result (NamesFiles self.new.reader) }
         ensures size { IfOk result (λ t. size_of self.new + weight_of t ≤ size_of self.old + 3) }
         ensures leaves { LeavesStore S.files S.failures store.old store.new result }
         ensures stopped { StopsBy (S.files store.old) self.old self.new result (λ s.
             Fails (S.blamed store.new)
-            (begun (K.meaning knows.now) s (tokens_in line) (is_mislabelled (tokens_in line)))) }
+            (unless_mislabelled (K.meaning knows.now) s (tokens_in line) (is_mislabelled (tokens_in line)))) }
     {
         match line.parted(self.alloc)? {
             Some((label, rest)) => Ok(Turn::Parts(label, rest)),

@@ -9,8 +9,10 @@ use Rattle.syntax65.specs.declared.lexing.tokens.LexFault.{LexFault}
 use Rattle.syntax65.specs.declared.fault.ExpandFault.{ExpandFault}
 use Rattle.syntax65.specs.declared.fault.ExpandFault.TheVariants.{LineTooLong}
 use Rattle.syntax65.specs.declared.place.Place.{Place}
-use Rattle.expand65.specs.Blocks.{Block, a_fault, a_mark, a_refusal, the_last, one_more, Verdict, on, closed, refused}
+use Rattle.expand65.specs.Blocks.{Block, a_fault, a_mark, a_refusal, the_last, one_more, is_kept, with_line, Whole}
+use Rattle.expand65.specs.declared.blocks.BlockKind.{BlockKind}
 use Rattle.expand65.specs.Lines.{numbered, localised, outside_macro, turns, Item, written, played, labelled, branch, mark, Left, left, Mark, Stop, come_back, in_turn, repeating, Replacing, replaced, token_limit, IsOpened, Taken, Takes, TakesFrom, lexed, reached, taken_as}
+use Rattle.semantics65.proofs.Segments.{all_more}
 use Rattle.semantics65.proofs.NamedLines.{AreAllFit, Each, IsReplacingFit, replaced_fit, with_locals_fit, AreFit, IsBase, read_fit}
 use Rattle.semantics65.proofs.SoundForms.{all_append}
 
@@ -164,25 +166,27 @@ none_taken l m t = none_from l.items l.room l.place m t
 
 -- ---- Blocks.
 
-abbrev pub IsVerdictFit : {A B : Type 0} → (A → Type 0) → (B → Type 0) → Verdict A B → Type 0
-IsVerdictFit P Q (on a) = P a
-IsVerdictFit P Q (closed b) = Q b
-IsVerdictFit P Q (refused f) = ⊤
+-- the lines that are kept, and what is left behind a block
+abbrev pub IsBlockFit : ℕ → Result (Whole × Left) Stop → Type 0
+IsBlockFit lines (Ok (b, m)) = AreAllFit b.0 × AreItemsFit m.items × (lines_in m ≤ lines)
+IsBlockFit lines (Err e) = ⊤
 
--- what a block comes to, and what is left behind it
-abbrev pub IsBlockFit : {B : Type 0} → (B → Type 0) → ℕ → Result (B × Left) Stop → Type 0
-IsBlockFit Q lines (Ok (b, m)) = Q b × AreItemsFit m.items × (lines_in m ≤ lines)
-IsBlockFit Q lines (Err e) = ⊤
+block_more : (less lines : ℕ) (r : Result (Whole × Left) Stop) → less ≤ lines → IsBlockFit less r → IsBlockFit lines r
+block_more less lines x2 le h = grind (arith, common_steps)
 
-block_more : {B : Type 0} (Q : B → Type 0) (less lines : ℕ) (r : Result (B × Left) Stop) → less ≤ lines → IsBlockFit Q less r → IsBlockFit Q lines r
-block_more x1 less lines x2 le h = grind (arith, common_steps)
+with_fit : (k : BlockKind) (body : List (List Lexeme)) (ts : List Lexeme) → AreAllFit body → AreFit ts → AreAllFit (with_line k body ts)
+with_fit k body ts h fit = by (is_kept k)
+  where
+    by : (b : Bool) → AreAllFit (if b then body ++ ts ∷ [] else body)
+    by true = all_more AreFit body ts h fit
+    by false = h
 
-pub block_fit : {A B : Type 0} (P : A → Type 0) (Q : B → Type 0) (judge : A → List Lexeme → Verdict A B) → ((a : A) (ts : List Lexeme) → P a → AreFit ts → IsVerdictFit P Q (judge a ts)) → (a : A) (l : Left) (r : Result (B × Left) Stop) → P a → AreItemsFit l.items → Block judge a l r → IsBlockFit Q (lines_in l) r
-block_fit P Q judge keeps a l r p h (a_fault _ _ e t) = tt
-block_fit P Q judge keeps a l r p h (a_mark _ _ m t) = tt
-block_fit P Q judge keeps a l r p h (a_refusal _ _ m ts f t e) = tt
-block_fit P Q judge keeps a l r p h (the_last _ _ m ts b t e) = grind (arith, common_steps, taken_fit)
-block_fit P Q judge keeps a l r p h (one_more _ c _ m ts _ t e more) =
+pub block_fit : (k : BlockKind) (d : ℕ) (body : List (List Lexeme)) (l : Left) (r : Result (Whole × Left) Stop) → AreAllFit body → AreItemsFit l.items → Block k d body l r → IsBlockFit (lines_in l) r
+block_fit k d body l r p h (a_fault _ _ _ e t) = tt
+block_fit k d body l r p h (a_mark _ _ _ m t) = tt
+block_fit k d body l r p h (a_refusal _ _ _ m ts f t e) = tt
+block_fit k d body l r p h (the_last _ _ _ m ts b t e) = let line = taken_fit l ts m h t in let less = line.less in (p, line.items, omega (arith, less))
+block_fit k d body l r p h (one_more _ c _ _ m ts _ t e more) =
     let line = taken_fit l ts m h t in
     let less = line.less in
-    block_more Q (lines_in m) (lines_in l) r (omega (arith, less)) (block_fit P Q judge keeps c m r (subst (IsVerdictFit P Q) e (keeps a ts p line.tokens)) line.items more)
+    block_more (lines_in m) (lines_in l) r (omega (arith, less)) (block_fit k c (with_line k body ts) m r (with_fit k body ts p line.tokens) line.items more)

@@ -19,14 +19,14 @@ use Rattle.syntax65.specs.declared.expressions.words.ExprFault.{ExprFault}
 use Rattle.expand65.specs.declared.fronts.Test.{Test}
 use Rattle.expand65.specs.declared.fronts.Test.TheVariants.{True}
 use Rattle.expand65.specs.Macros.{arguments_of, called, called_or_given, counted, defined, entered, exit_macro, exited, given_to, header_of, local_line, local_named, macro_at, macro_of, mark_from, new_names, ordinary, repeated, repeat_of}
-use Rattle.expand65.specs.Blocks.{AnswerOf, Block, Branch, at_elseif, at_else, at_endif, block_state, Gathered, judge_of, Verdict, on, closed, refused, closed_if, collecting, collects, gathering, gathers, passes, skips}
-use Rattle.expand65.specs.State.{decided, else_line, ended_if, found, if_alone, if_line, Meaning, State, Stated, label, plain, Step, leads, parses, decides, takes, takes_block, opens, Stepped, goes, gives, ends, stops, unless_refused, unless_stopped, with_conditions, with_items, with_left}
-use Rattle.expand65.specs.Expansion.{Leads, Next, Reaches, further, given, ended, stopped, statement, nothing, fault as at_fault, acted, at_mark, begun, directed, first_file, first_state, include_file, included, last_condition, not_opened, split, step_behind, step_from, IsStep}
+use Rattle.expand65.specs.Blocks.{Block, at_elseif, at_else, at_end, Whole}
+use Rattle.expand65.specs.declared.blocks.BlockKind.TheVariants as kind
+use Rattle.expand65.specs.State.{decided, else_line, ended_if, found, if_alone, if_line, Meaning, State, Stated, label, plain, Step, leads, parses, decides, takes, takes_block, searches, Stepped, goes, gives, ends, stops, unless_refused, unless_stopped, with_conditions, with_items, with_left}
+use Rattle.expand65.specs.Expansion.{Leads, Next, Reaches, further, given, ended, stopped, statement, nothing, fault as at_fault, acted, at_mark, unless_mislabelled, directed, first_file, first_state, include_file, included, last_condition, not_opened, split, step_behind, step_from, IsStep}
 use Rattle.expand65.specs.Fronts.{front_directive, is_mislabelled, label_len, line_directive, string_of, understood}
 use Rattle.expand65.specs.Lines.{numbered, outside_macro, turns, Item, written, played, labelled, branch, mark, Left, left, Mark, Stop, come_back, innermost, marks, repeating, Definition, line_limit, lines_of, nesting_limit, Taken, Takes}
-use Rattle.semantics65.proofs.NamedItems.{AreItemsFit, AreLines, IsBlockFit, IsItemFit, IsOutside, IsVerdictFit, block_fit, lines_in, localised_fit, localised_rests, numbered_lines, outside_fit, none_taken, played_lines, rests, rests_append, taken_fit, turns_lines}
+use Rattle.semantics65.proofs.NamedItems.{AreItemsFit, AreLines, IsBlockFit, IsItemFit, IsOutside, block_fit, lines_in, localised_fit, localised_rests, numbered_lines, outside_fit, none_taken, played_lines, rests, rests_append, taken_fit, turns_lines}
 use Rattle.semantics65.proofs.NamedLines.{AreAllFit, Each, IsReplacingFit, arguments_fit, lookup_each, new_names_fit, AreFit, IsBase, fit_drop, fit_take}
-use Rattle.semantics65.proofs.Segments.{all_more}
 use Rattle.semantics65.proofs.SoundForms.{all_append}
 
 -- ---- States.
@@ -59,8 +59,8 @@ IsStepFit (leads x) = IsSteppedFit x
 IsStepFit (parses ts next) = (q : Result (Tree × ℕ) ExprFault) → IsStepFit (next q)
 IsStepFit (decides k test ts next) = (c : Result Bool ExpandFault) → IsStepFit (next c)
 IsStepFit (takes l next) = (t : Taken) → Takes l t → IsStepFit (next t)
-IsStepFit (takes_block k l next) = (q : Result (AnswerOf k × Left) Stop) → Block (judge_of k) (block_state k 0 []) l q → IsSteppedFit (unless_stopped q (λ b. next b.0 b.1))
-IsStepFit (opens l names next) = (q : Result (List ℕ × List ℕ) ExpandFault) → IsStepFit (next q)
+IsStepFit (takes_block k l next) = (q : Result (Whole × Left) Stop) → Block k 0 [] l q → IsSteppedFit (unless_stopped q (λ b. next b.0 b.1))
+IsStepFit (searches l names next) = (q : Result (List ℕ × List ℕ) ExpandFault) → IsStepFit (next q)
 
 led_fit : (m : Files) (step : Step) (r : Stepped) → IsStepFit step → Leads m step r → IsSteppedFit r
 led_fit m (leads x) r fit h = same_stepped r x h fit
@@ -68,7 +68,7 @@ led_fit m (parses ts next) r fit (q, p, h) = led_fit m (next q) r (fit q) h
 led_fit m (decides k test ts next) r fit (c, p, h) = led_fit m (next c) r (fit c) h
 led_fit m (takes l next) r fit (t, p, h) = led_fit m (next t) r (fit t p) h
 led_fit m (takes_block k l next) r fit (q, p, h) = same_stepped r (unless_stopped q (λ b. next b.0 b.1)) h (fit q p)
-led_fit m (opens l names next) r fit h = led_fit m (next (first_file m names)) r (fit (first_file m names)) h
+led_fit m (searches l names next) r fit h = led_fit m (next (first_file m names)) r (fit (first_file m names)) h
 
 refused_fit : {A : Type 0} (s : State) (q : Result A ExpandFault) (next : A → Step) → ((x : A) → IsStepFit (next x)) → IsStepFit (unless_refused s q next)
 refused_fit s (Err f) next h = tt
@@ -93,57 +93,18 @@ with_conditions_fit s cs l fit items less = let calls = fit.calls in record { it
 entered_fit : (s : State) (is : List Item) (k : Mark) (p : Place) → IsStateFit 0 s → AreLines is → IsSteppedFit (entered s is k p)
 entered_fit s is k p fit lines = grind (arith, common_steps, rests_append, with_left_fit, all_append)
 
--- ---- Blocks.
-
-closed_if_fit : {A B : Type 0} (P : A → Type 0) (Q : B → Type 0) (alone : Bool) (b : B) → Q b → IsVerdictFit P Q (closed_if alone b)
-closed_if_fit P Q true b h = h
-closed_if_fit P Q false b h = tt
-
-more_lines : (body : List (List Lexeme)) (ts : List Lexeme) → AreAllFit body → AreFit ts → AreAllFit (body ++ ts ∷ [])
-more_lines body ts h fit = all_more AreFit body ts h fit
-
-collecting_fit : (body : List (List Lexeme)) (ts : List Lexeme) (d : Option Directive) → AreAllFit body → AreFit ts → IsVerdictFit AreAllFit AreAllFit (collecting body ts d)
-collecting_fit body ts x1 h fit = grind (arith, common_steps)
-
-collects_fit : (body : List (List Lexeme)) (ts : List Lexeme) → AreAllFit body → AreFit ts → IsVerdictFit AreAllFit AreAllFit (collects body ts)
-collects_fit body ts h fit = grind (arith, common_steps, collecting_fit)
-
-abbrev IsGatheredFit : Gathered → Type 0
-IsGatheredFit g = AreAllFit g.1
-
-gathering_fit : (d : ℕ) (body : List (List Lexeme)) (ts : List Lexeme) (o : Option Directive) → AreAllFit body → AreFit ts → IsVerdictFit IsGatheredFit AreAllFit (gathering d body ts o)
-gathering_fit zero body ts (Some EndRepeat) h fit = closed_if_fit IsGatheredFit AreAllFit (length (drop 1 ts) == 0) body h
-gathering_fit (suc d) body ts (Some EndRepeat) h fit = more_lines body ts h fit
-gathering_fit zero body ts (Some Repeat) h fit = more_lines body ts h fit
-gathering_fit (suc d) body ts (Some Repeat) h fit = more_lines body ts h fit
-gathering_fit zero body ts _ h fit = more_lines body ts h fit
-gathering_fit (suc d) body ts _ h fit = more_lines body ts h fit
-
-gathers_fit : (g : Gathered) (ts : List Lexeme) → IsGatheredFit g → AreFit ts → IsVerdictFit IsGatheredFit AreAllFit (gathers g ts)
-gathers_fit g ts h fit = grind (arith, common_steps, gathering_fit)
-
--- of lines that are skipped nothing is kept
-abbrev Anything : {A : Type 0} → A → Type 0
-Anything a = ⊤
-
-any_verdict : {A B : Type 0} (v : Verdict A B) → IsVerdictFit Anything Anything v
-any_verdict x1 = grind (arith, common_steps)
-
-skipped_fit : {A B : Type 0} (judge : A → List Lexeme → Verdict A B) (a : A) (s : State) (r : Result (B × Left) Stop) → IsStateFit 0 s → Block judge a s.left r → IsBlockFit Anything (lines_in s.left) r
-skipped_fit judge a s r fit block = block_fit Anything Anything judge (λ c ts h lexemes. any_verdict (judge c ts)) a s.left r tt fit.items block
-
 -- ---- Macros.
 
 -- a macro more, behind the lines of its body
-abbrev kept : State → List ℕ → List (List ℕ) → List (List Lexeme) × Left → Stepped
-kept s name params (body, l) = goes (record { left = l; macros = s.macros ++ (name, record { params = params; body = body }) ∷ []; conditions = s.conditions; expansions = s.expansions; folders = s.folders })
+abbrev kept : State → List ℕ → List (List ℕ) → Whole × Left → Stepped
+kept s name params (b, l) = goes (record { left = l; macros = s.macros ++ (name, record { params = params; body = b.0 }) ∷ []; conditions = s.conditions; expansions = s.expansions; folders = s.folders })
 
-kept_fit : (s : State) (name : List ℕ) (params : List (List ℕ)) (q : Result (List (List Lexeme) × Left) Stop) → IsStateFit 0 s → IsBlockFit AreAllFit (lines_in s.left) q → IsSteppedFit (unless_stopped q (kept s name params))
+kept_fit : (s : State) (name : List ℕ) (params : List (List ℕ)) (q : Result (Whole × Left) Stop) → IsStateFit 0 s → IsBlockFit (lines_in s.left) q → IsSteppedFit (unless_stopped q (kept s name params))
 kept_fit s name params x1 fit block = grind (arith, common_steps)
 
 defined_fit : (s : State) (name : List ℕ) (params : List (List ℕ)) (o : Option Definition) → IsStateFit 0 s → IsStepFit (defined s name params o)
 defined_fit s name params (Some m) fit = tt
-defined_fit s name params None fit = λ q block. kept_fit s name params q fit (block_fit AreAllFit AreAllFit collects collects_fit [] s.left q tt fit.items block)
+defined_fit s name params None fit = λ q block. kept_fit s name params q fit (block_fit kind.Macro 0 [] s.left q tt fit.items block)
 
 macro_fit : (ms : List (List ℕ × Definition)) (k : TokenKind) (t : List ℕ) → AreMacrosFit ms → Each (λ m. AreAllFit m.body) (macro_at ms (k, t))
 macro_fit ms x1 t h = grind (arith, common_steps, lookup_each)
@@ -175,12 +136,12 @@ local_fit s ts fit h = grind (arith, common_steps, localised_rests, localised_fi
 
 -- ---- Repeats and included files.
 
-turns_fit : (s : State) (n : ℕ) (variable : List (List ℕ)) (q : Result (List (List Lexeme) × Left) Stop) → IsStateFit 0 s → IsBlockFit AreAllFit (lines_in s.left) q → IsSteppedFit (unless_stopped q (λ b. entered (with_left s b.1) (turns (repeating variable) b.0 0 n) (mark_from s false None) b.1.place))
+turns_fit : (s : State) (n : ℕ) (variable : List (List ℕ)) (q : Result (Whole × Left) Stop) → IsStateFit 0 s → IsBlockFit (lines_in s.left) q → IsSteppedFit (unless_stopped q (λ b. entered (with_left s b.1) (turns (repeating variable) b.0.0 0 n) (mark_from s false None) b.1.place))
 turns_fit s n variable (Err e) fit block = tt
-turns_fit s n variable (Ok (body, l)) fit block = entered_fit (with_left s l) (turns (repeating variable) body 0 n) (mark_from s false None) l.place (with_left_fit s l fit block.1 block.2) (turns_lines variable body 0 n block.0)
+turns_fit s n variable (Ok (b, l)) fit block = entered_fit (with_left s l) (turns (repeating variable) b.0 0 n) (mark_from s false None) l.place (with_left_fit s l fit block.1 block.2) (turns_lines variable b.0 0 n block.0)
 
 repeated_fit : (s : State) (n : ℕ) (variable : List (List ℕ)) → IsStateFit 0 s → IsStepFit (repeated s n variable)
-repeated_fit s n variable fit = λ q block. turns_fit s n variable q fit (block_fit IsGatheredFit AreAllFit gathers gathers_fit (0, []) s.left q tt fit.items block)
+repeated_fit s n variable fit = λ q block. turns_fit s n variable q fit (block_fit kind.Repeat 0 [] s.left q tt fit.items block)
 
 included_fit : (s : State) (file : List ℕ × List ℕ) → IsStateFit 0 s → IsSteppedFit (included s file)
 included_fit s x1 fit = grind (arith, common_steps, entered_fit, numbered_lines)
@@ -190,23 +151,23 @@ include_fit s name fit = λ q. refused_fit s q (λ file. leads (included s file)
 
 -- ---- Conditions.
 
-found_fit : (s : State) (q : Result (Branch × Left) Stop) → IsStateFit 0 s → IsBlockFit Anything (lines_in s.left) q → IsSteppedFit (unless_stopped q (λ b. found s b.0 b.1))
+found_fit : (s : State) (q : Result (Whole × Left) Stop) → IsStateFit 0 s → IsBlockFit (lines_in s.left) q → IsSteppedFit (unless_stopped q (λ b. found s b.0.1 b.1))
 found_fit s x1 fit block = grind (arith, common_steps)
 
 decided_fit : (s : State) (b : Bool) → IsStateFit 0 s → IsStepFit (decided s b)
 decided_fit s true fit = with_conditions_fit s (false ∷ s.conditions) s.left fit fit.items (omega arith)
-decided_fit s false fit = λ q block. found_fit s q fit (skipped_fit skips 0 s q fit block)
+decided_fit s false fit = λ q block. found_fit s q fit (block_fit kind.Skipped 0 [] s.left q tt fit.items block)
 
 if_fit : (k : Meaning) (s : State) (test : Test) (ts : List Lexeme) → IsStateFit 0 s → IsStepFit (if_line k s test ts)
 if_fit k s test ts fit = λ c. refused_fit s c (decided s) (λ b. decided_fit s b fit)
 
-passed_fit : (s : State) (bs : List Bool) (q : Result (Unit {0} × Left) Stop) → IsStateFit 0 s → IsBlockFit Anything (lines_in s.left) q → IsSteppedFit (unless_stopped q (λ b. goes (with_conditions s bs b.1)))
+passed_fit : (s : State) (bs : List Bool) (q : Result (Whole × Left) Stop) → IsStateFit 0 s → IsBlockFit (lines_in s.left) q → IsSteppedFit (unless_stopped q (λ b. goes (with_conditions s bs b.1)))
 passed_fit s bs x1 fit block = grind (arith, common_steps)
 
 else_fit : (s : State) (o : Option (Bool × List Bool)) → IsStateFit 0 s → IsStepFit (else_line s o)
 else_fit s None fit = tt
 else_fit s (Some (true, bs)) fit = tt
-else_fit s (Some (false, bs)) fit = λ q block. passed_fit s bs q fit (skipped_fit passes 0 s q fit block)
+else_fit s (Some (false, bs)) fit = λ q block. passed_fit s bs q fit (block_fit kind.Passed 0 [] s.left q tt fit.items block)
 
 ended_fit : (s : State) (o : Option (Bool × List Bool)) → IsStateFit 0 s → IsSteppedFit (ended_if s o)
 ended_fit s x1 fit = grind (arith, common_steps)
@@ -241,7 +202,7 @@ split_fit : (k : Meaning) (s : State) (ts : List Lexeme) (d : Option Directive) 
 split_fit k s ts d zero fit h = acted_fit k s ts d fit h
 split_fit k s ts d (suc n) fit h = grind (arith, common_steps, fit_take, fit_drop)
 
-begun_fit : (k : Meaning) (s : State) (ts : List Lexeme) (b : Bool) → IsStateFit 1 s → AreFit ts → IsStepFit (begun k s ts b)
+begun_fit : (k : Meaning) (s : State) (ts : List Lexeme) (b : Bool) → IsStateFit 1 s → AreFit ts → IsStepFit (unless_mislabelled k s ts b)
 begun_fit k s ts true fit h = tt
 begun_fit k s ts false fit h = split_fit k s ts (line_directive ts) (label_len ts) fit h
 

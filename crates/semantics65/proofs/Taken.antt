@@ -14,7 +14,7 @@ use Rattle.expand65.specs.Expansion.{Reaches, statement, nothing, fault, opened_
 use Rattle.ast65.specs.declared.fault.AsmFault.{AsmFault}
 use Rattle.ast65.specs.declared.fault.AsmFault.TheVariants.{Expansion}
 use Rattle.ast65.specs.declared.language.Statement.TheVariants.{Constant, Label, UnnamedLabel}
-use Rattle.semantics65.specs.Reading.{DefinesOn, GoesOn, AreDefined, taken, faulty, refused, ended, Between, Define, IsBegun, IsGiven, IsSource, Job, Reached, Taking, no_line, open_fault, stopped}
+use Rattle.semantics65.specs.Reading.{GoesOn, AreDefined, taken, faulty, refused, ended, Between, Define, IsBegun, IsGiven, IsSource, Job, Reached, Taking, no_line, open_fault, stopped}
 use Rattle.base65.specs.Outcome.{Unless}
 use Rattle.expand65.specs.declared.expander.Expander.{Expander}
 use Rattle.syntax65.specs.declared.fault.ExpandFault.TheVariants.{OutOfMemory, FileError}
@@ -49,6 +49,11 @@ pub ends : {S : Type 0} (m : Files) (b : Between S) (IsAll : Reached S → Type 
 ends m b IsAll s t y inv reaches = inv (record { behind = y; fault = open_fault t.left.place (b.scope y) }) (ended s t y reaches)
 
 -- ---- Constants of the command line.
+
+-- what the constants that are left come to behind what stands there, all come to
+abbrev pub DefinesOn :
+    {S : Type 0} → Taking S → Place → (Result S AsmFault → Type 0) → List Define → S → Type 0
+DefinesOn Takes place IsAll ds y = (r : Result _ AsmFault) → AreDefined Takes y place ds r → IsAll r
 
 pub first_constant : {S : Type 0} (Takes : Taking S) (place : Place) (ds : List Define) (y : S) → DefinesOn Takes place (AreDefined Takes y place ds) ds y
 first_constant Takes place ds y = λ r h. h

@@ -354,15 +354,12 @@ pop_fault kept statement.PopSegment = when (not (is_kept kept)) PopWithoutPush
 pop_fault kept _ = None
 
 -- ---- The first fault of a statement that is understood, behind those of a symbol table.
-abbrev pub line_fault : Symbols → Cursor → Statement → Option AsmFault
-line_fault y w x =
+
+-- the faults of a statement whose names are understood, the first one first
+abbrev pub placing_faults : Symbols → Cursor → Statement → List (Option AsmFault)
+placing_faults y w x =
     let s : Context = context_of w in
-    first_fault (
-    when (stands_outside x && is_open s.scope) NotUnderstood
-    ∷ lost_scopes y.scopes s.scope (trees_of x)
-    ∷ opened_twice y.scopes s.scope (scope_name x)
-    ∷ defined_twice y (key_defined s x)
-    ∷ form_fault y s (own_size w) x
+    form_fault y s (own_size w) x
     ∷ operand_fault y s x
     ∷ alignment_fault y s x
     ∷ missing_file x
@@ -371,4 +368,14 @@ line_fault y w x =
     ∷ block_fault y.scopes s.scope x
     ∷ pop_fault w.kept x
     ∷ when (nat_lt section_limit (s.offset + length_of y s (own_size w) x)) SectionTooLarge
-    ∷ [])
+    ∷ []
+
+abbrev pub line_fault : Symbols → Cursor → Statement → Option AsmFault
+line_fault y w x =
+    let s : Context = context_of w in
+    first_fault (
+    when (stands_outside x && is_open s.scope) NotUnderstood
+    ∷ lost_scopes y.scopes s.scope (trees_of x)
+    ∷ opened_twice y.scopes s.scope (scope_name x)
+    ∷ defined_twice y (key_defined s x)
+    ∷ placing_faults y w x)

@@ -173,11 +173,6 @@ abbrev pub Continues :
     {S : Type 0} → Files → Between S → (Reached S → Type 0) → Expander → S → Type 0
 Continues m b IsAll e y = (s : expand.State) × StandsFor m e s × GoesOn m b IsAll s y
 
--- what the constants that are left come to behind what stands there, all come to
-abbrev pub DefinesOn :
-    {S : Type 0} → Taking S → Place → (Result S AsmFault → Type 0) → List Define → S → Type 0
-DefinesOn Takes place IsAll ds y = (r : Result _ AsmFault) → AreDefined Takes y place ds r → IsAll r
-
 -- ---- What names and expressions mean at a line.
 
 -- an import is no definition, nor is a name in a scope that isn't there

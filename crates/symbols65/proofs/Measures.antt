@@ -23,10 +23,10 @@ use Rattle.ast65.proofs.Lists.{drop_item}
 use Rattle.syntax65.specs.declared.lexing.tokens.AddressSize.TheVariants.{Absolute}
 use Rattle.syntax65.specs.declared.lexing.tokens.AddressSize.{AddressSize}
 use Rattle.semantics65.specs.declared.contents.Segment.{Segment}
-use Rattle.semantics65.specs.Layout.{Cursor, own_size, segment_at, context_of, first_fault, defined_twice, is_open, line_fault, opened_twice, scope_name, stands_outside, trees_of, is_byte_value, is_count, is_there, multiple_fault, item_trees, lost_scopes, or_then, when, unless_fault}
+use Rattle.semantics65.specs.Layout.{Cursor, own_size, segment_at, context_of, first_fault, defined_twice, is_open, line_fault, opened_twice, placing_faults, scope_name, stands_outside, trees_of, is_byte_value, is_count, is_there, multiple_fault, item_trees, lost_scopes, or_then, when, unless_fault}
 use Rattle.symbols65.specs.declared.measuring.Measured as code
 use Rattle.symbols65.specs.declared.measuring.Measured.{Measured}
-use Rattle.symbols65.specs.Measuring.{fitted, measure_of, measured, naming_fault, placed, placing_faults}
+use Rattle.symbols65.specs.Measuring.{fitted, measure_of, measured, naming_fault, placed}
 
 -- ---- Small steps that many proofs take.
 

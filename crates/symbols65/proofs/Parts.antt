@@ -2,6 +2,7 @@
 use Rattle.std.proofs.lemmas.Grind.{common_steps}
 use Rattle.std.proofs.Common.{arith, ◌≡◌, ◌∙◌, ℕ, Bool, true, not, List, length, Option, Some, None, ap, subst}
 use Rattle.std.specs.Prelude.{◌&&◌, ◌++◌, ℤ, pos, Result, Ok, Err}
+use Rattle.std.specs.Option.{unwrap_or}
 use Rattle.base65.specs.Outcome.{Unless}
 use Rattle.syntax65.specs.Trees.{Tree}
 use Rattle.ast65.specs.declared.fault.AsmFault.{AsmFault}
@@ -12,7 +13,7 @@ use Rattle.ast65.specs.declared.language.Statement.TheVariants.{FilePart}
 use Rattle.semantics65.specs.Layout.{Cursor, context_of, is_there, lost_scopes, operand_fault, optional_tree, when, unless_fault}
 use Rattle.semantics65.specs.Norms.{optional_value}
 use Rattle.semantics65.specs.Symbols.{Symbols}
-use Rattle.symbols65.specs.Measuring.{IsFound, or_default, placed, ranged, unread_fault}
+use Rattle.symbols65.specs.Measuring.{IsFound, placed, ranged, unread_fault}
 use Rattle.symbols65.proofs.Measures.{left_behind, unless_then}
 
 -- ---- Ranges.
@@ -36,10 +37,10 @@ module _ (y : Symbols) (w : Cursor) (start len : Option Tree) (s : Context) (at 
   bad_len bytes e h = grind (arith, common_steps)
 
   module _ (v n : Option ℤ) (first : IsFound (optional_value y s start) (Ok v)) (second : IsFound (optional_value y s len) (Ok n)) where
-    from : (d : ℤ) → optional_value y (context_of w) start d ≡ Some (or_default v d)
+    from : (d : ℤ) → optional_value y (context_of w) start d ≡ Some (unwrap_or v d)
     from = found_here start (Ok v) first
 
-    more : (d : ℤ) → optional_value y (context_of w) len d ≡ Some (or_default n d)
+    more : (d : ℤ) → optional_value y (context_of w) len d ≡ Some (unwrap_or n d)
     more = found_here len (Ok n) second
 
     both : there y w start len ≡ true

@@ -18,9 +18,10 @@ use Rattle.symbols65.specs.declared.resolving.attempt.Stop.TheVariants.{Needs, F
 use Rattle.symbols65.specs.declared.table.symbols.Definition.{Definition}
 use Rattle.symbols65.specs.declared.table.symbols.Entry.{Entry}
 use Rattle.symbols65.specs.declared.table.symbols.Symbols.{Symbols}
+use Rattle.std.specs.Option.{option_and_then}
 use Rattle.std.specs.Result.{result_ok}
 use Rattle.symbols65.specs.Resolving.{FoundBy, lacks_memory, meaning_form, tried, Settles}
-use Rattle.symbols65.specs.Views.{kept, known_by, table_of, words_of}
+use Rattle.symbols65.specs.Views.{known_by, table_of, words_of}
 use Rattle.symbols65.specs.Tables.{definition_in, table_without_imports}
 use Rattle.symbols65.proofs.Words.{get_mapped, get_stays}
 use Rattle.symbols65.proofs.Hanging.{extends_itself}
@@ -43,7 +44,7 @@ module _ (t : Symbols) where
   pub final_in : (z : l.Symbols) → Extends (table_of t) z → (j : ℕ) (f : Form) → known_by t Finals j ≡ Some (Found f) → form_of_definition (norm (suc j) z) (slice_get z.definitions j) ≡ Ok f
   final_in z more j f h = by (slice_get t.definitions.entries j) refl h
     where
-      by : (o : Option (Entry × Definition)) → slice_get t.definitions.entries j ≡ o → kept (option_map (λ e. e.1) o) ≡ Some (Found f) → form_of_definition (norm (suc j) z) (slice_get z.definitions j) ≡ Ok f
+      by : (o : Option (Entry × Definition)) → slice_get t.definitions.entries j ≡ o → option_and_then (λ (d : Definition). option_map Found d.form) (option_map (λ e. e.1) o) ≡ Some (Found f) → form_of_definition (norm (suc j) z) (slice_get z.definitions j) ≡ Ok f
       by None is e = absurd cc
       by (Some e) is q =
           let own = has_form _ f (t.forms_final j e is f (kept_is e.1.form f q) z (without_imports t z more)) in

@@ -1,5 +1,5 @@
 -- Folding forms that may be missing, and those of numbers alone.
-use Rattle.std.proofs.Common.{◌≡◌, length, Some, ap, arith, Result}
+use Rattle.std.proofs.Common.{◌≡◌, length, Some, ap, arith, Result, Ok}
 use Rattle.std.specs.Prelude.{ℤ, pos, if◌then◌else◌}
 use Rattle.syntax65.specs.Trees.{Tree, number, here, name, cheap, forward, backward, unary, binary}
 use Rattle.syntax65.specs.declared.lexing.tokens.AddressSize.{AddressSize}
@@ -7,8 +7,9 @@ use Rattle.syntax65.specs.declared.lexing.tokens.AddressSize.TheVariants as size
 use Rattle.semantics65.specs.declared.laid.Context.{Context}
 use Rattle.semantics65.specs.Symbols.{meaning_of, Symbols}
 use Rattle.semantics65.specs.Norms.{constant_in, literal_in, folded, larger, size_by, size_of, size_of_meaning, size_of_value, takes_byte}
-use Rattle.symbols65.specs.Resolving.{IsNumber, binary_form, literal_of, prefix_form}
+use Rattle.symbols65.specs.Resolving.{IsNumber, binary_form, prefix_form}
 use Rattle.std.proofs.lemmas.Grind.{common_steps}
+use Rattle.std.specs.Option.{option_and_then}
 use Rattle.std.specs.Result.{result_ok}
 use Rattle.base65.specs.Outcome.{◌>>=◌}
 use Rattle.base65.specs.declared.values.Op1.{Op1}
@@ -35,7 +36,7 @@ number_size y s own e v h = by e (ap literal_in (h (length y.definitions) y s))
 
 -- ---- Folding forms that may be missing gives the normal forms of expressions.
 
-pub literal_known : (r : Result Form AsmFault) → literal_of (result_ok r) ≡ literal_in r
+pub literal_known : (r : Result Form AsmFault) → option_and_then (λ f. literal_in (Ok f)) (result_ok r) ≡ literal_in r
 literal_known x = grind (arith, common_steps)
 
 pub prefix_known : (op : Op1) (r : Result Form AsmFault) → prefix_form op (result_ok r) ≡ result_ok (r >>= (λ f. folded (fold1 op f)))

@@ -16,7 +16,7 @@ use Rattle.symbols65.specs.declared.table.symbols.Entry.TheVariants as entry
 use Rattle.symbols65.specs.declared.table.symbols.Opening.{Opening}
 use Rattle.symbols65.specs.declared.table.symbols.Opening.TheVariants as opening
 use Rattle.symbols65.specs.declared.table.symbols.Definition.{Definition}
-use Rattle.symbols65.specs.Tables.{AreCounted, AreNumbered, IsCounted, definition_in, entry_of, first_number, key_in, place_of_entry, same_entry, same_opening, scope_by, scope_opened, word_at, word_of, word_opened, Begins}
+use Rattle.symbols65.specs.Tables.{AreCounted, AreNumbered, IsCounted, definition_in, entry_of, first_number, key_in, same_entry, same_opening, scope_by, scope_opened, word_at, word_of, word_opened, Begins}
 use Rattle.indexmap.specs.IndexSet.{insert_key}
 
 -- ---- Tests.
@@ -166,6 +166,10 @@ other_opened s t v x = grind (arith, common_steps)
 abbrev pub place_of_opening : List (Opening × Bool) → Option Opening → Option ℕ
 place_of_opening ss None = None
 place_of_opening ss (Some k) = position (same_opening k) (keys_of ss)
+
+abbrev pub place_of_entry : List (Entry × Definition) → Option Entry → Option ℕ
+place_of_entry es None = None
+place_of_entry es (Some k) = position (same_entry k) (keys_of es)
 
 module _ (ws : List (List ℕ)) where
   entry_test : (q : Key) (k : Entry) → first_number ws (word_of k) ≡ word_of k → tests (entry_of ws q) k ≡ same_key (key_in ws k) q

@@ -1,11 +1,12 @@
 -- What stands between statements as the code has it, what a statement comes to at its line, and what stands behind it.
-use Rattle.std.specs.Prelude.{reverse, ◌≡◌, ℕ, ◌+◌, ◌<◌, ◌≤◌, List, length, map, if◌then◌else◌, ℤ, pos, negsuc, ◌&&◌, nat_le, nat_lt, not, Bool, false, [], ◌∷◌, ◌++◌, Option, Some, None, Result, Ok, Err}
+use Rattle.std.specs.Prelude.{reverse, ◌≡◌, ℕ, ◌+◌, ◌<◌, ◌≤◌, List, length, map, if◌then◌else◌, ℤ, pos, negsuc, ◌&&◌, nat_le, nat_lt, not, Bool, false, ◌++◌, Option, Some, None, Result, Ok, Err}
 use Rattle.semantics65.specs.Layout as layout
 use Rattle.symbols65.specs.declared.cursor.Cursor.{Cursor}
 use Rattle.std.specs.List.{AllByRecursion}
+use Rattle.std.specs.Option.{unwrap_or}
 use Rattle.object65.specs.Objects.{section_limit}
 use Rattle.semantics65.specs.declared.contents.Segment.{Segment}
-use Rattle.semantics65.specs.Layout.{context_of, current_behind, kept_behind, opens_scope, scope_behind, segments_behind, multiple_of, own_size, size_stated, alignment_fault, block_fault, defined_twice, file_limit, first_fault, form_fault, is_open, is_part, left_from, line_fault, lost_scopes, missing_file, opened_twice, operand_fault, optional_tree, or_then, part_fault, pop_fault, scope_name, size_fault, stands_outside, trees_of, when, unless_fault}
+use Rattle.semantics65.specs.Layout.{context_of, current_behind, kept_behind, opens_scope, scope_behind, segments_behind, multiple_of, own_size, size_stated, defined_twice, file_limit, first_fault, is_open, is_part, left_from, line_fault, lost_scopes, opened_twice, operand_fault, optional_tree, or_then, placing_faults, scope_name, stands_outside, trees_of, when, unless_fault}
 use Rattle.ast65.specs.declared.language.Statement.{Statement}
 use Rattle.ast65.specs.declared.language.Statement.TheVariants as statement
 use Rattle.ast65.specs.declared.language.Statement.TheVariants.{Label, OpenProc, OpenScope, UnnamedLabel, FilePart}
@@ -121,21 +122,6 @@ naming_fault y s x =
     (or_then (lost_scopes y.scopes s.scope (trees_of x))
     (or_then (opened_twice y.scopes s.scope (scope_name x)) (defined_twice y (key_defined s x))))
 
--- all faults behind them
-abbrev pub placing_faults : Symbols → layout.Cursor → Statement → List (Option AsmFault)
-placing_faults y w x =
-    let s : Context = context_of w in
-    form_fault y s (own_size w) x
-    ∷ operand_fault y s x
-    ∷ alignment_fault y s x
-    ∷ missing_file x
-    ∷ part_fault y s x
-    ∷ size_fault w.segments x
-    ∷ block_fault y.scopes s.scope x
-    ∷ pop_fault w.kept x
-    ∷ when (nat_lt section_limit (s.offset + length_of y s (own_size w) x)) SectionTooLarge
-    ∷ []
-
 -- what a statement whose names are understood comes to, or its first fault of those
 abbrev pub placed : Symbols → layout.Cursor → Statement → Result Measured AsmFault
 placed y w x = unless_fault (first_fault (placing_faults y w x)) (measure_of y w x)
@@ -156,14 +142,9 @@ fitted w count =
 
 -- ---- Parts of files.
 
--- a constant, or the default where none is named
-abbrev pub or_default : Option ℤ → ℤ → ℤ
-or_default None default = default
-or_default (Some v) default = v
-
--- what is named was found to be constant, or isn't
+-- what is named was found to be constant, or isn't; what isn't named is the default
 abbrev pub IsFound : (ℤ → Option ℤ) → Result (Option ℤ) AsmFault → Type 0
-IsFound value (Ok v) = (default : ℤ) → value default ≡ Some (or_default v default)
+IsFound value (Ok v) = (default : ℤ) → value default ≡ Some (unwrap_or v default)
 IsFound value (Err e) =
     Unless (is_memory e) ((e ≡ BadOperand) × ((default : ℤ) → value default ≡ None))
 
@@ -181,7 +162,7 @@ is_within count (negsuc n) = false
 -- whether a file of so many bytes has a part, and the part's start and length
 abbrev pub ranged : ℕ → Option ℤ → Option ℤ → Result (ℕ × ℕ) AsmFault
 ranged count start len =
-    let from : Option ℤ = Some (or_default start (pos 0)) in
-    let more : Option ℤ = Some (or_default len (left_from count from)) in
+    let from : Option ℤ = Some (unwrap_or start (pos 0)) in
+    let more : Option ℤ = Some (unwrap_or len (left_from count from)) in
     unless_fault (when (not (nat_le count file_limit && is_part count from more)) BadPart)
     (counted from, counted more)

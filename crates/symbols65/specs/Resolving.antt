@@ -6,7 +6,7 @@ use Rattle.base65.specs.declared.values.Op1.{Op1}
 use Rattle.base65.specs.declared.values.Op2.{Op2}
 use Rattle.object65.specs.Form.{Form, lit, imp}
 use Rattle.object65.specs.Folding.{fold1, fold2}
-use Rattle.semantics65.specs.Norms.{literal_in, norm, Extends, form_of_definition, address_of, folded}
+use Rattle.semantics65.specs.Norms.{norm, Extends, form_of_definition, address_of, folded}
 use Rattle.ast65.specs.declared.fault.AsmFault.{AsmFault}
 use Rattle.semantics65.specs.declared.laid.Context.{Context}
 use Rattle.semantics65.specs.Symbols.{Symbols, Definition, Meaning, defined_at, imported_as, meaning_of}
@@ -21,11 +21,6 @@ use Rattle.symbols65.specs.declared.resolving.meaning.Meaning as code
 use Rattle.symbols65.specs.declared.resolving.meaning.Meaning.TheVariants.{Defined, Imported}
 
 -- ---- Forms that may be missing, as an expression without a value has none.
-
--- the value of a form that is there and is a number
-abbrev pub literal_of : Option Form → Option ℤ
-literal_of None = None
-literal_of (Some f) = literal_in (Ok f)
 
 -- what an operation folds its parts to, where these are there and it has a value
 abbrev pub prefix_form : Op1 → Option Form → Option Form
@@ -99,11 +94,6 @@ bare x = x
 abbrev pub meaning_in : code.Meaning → Meaning
 meaning_in (Defined i) = defined_at i
 meaning_in (Imported k) = imported_as k
-
--- a meaning that was looked for, with the fault that stands for none
-abbrev pub or_absent : AsmFault → Option code.Meaning → Result Meaning AsmFault
-or_absent e None = Err e
-or_absent e (Some m) = Ok (meaning_in m)
 
 -- the place of what is defined
 abbrev pub defined_place : Result Meaning AsmFault → Option ℕ

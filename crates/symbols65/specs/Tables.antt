@@ -1,7 +1,6 @@
 -- What the parts of a table in memory stand for.
 use Rattle.std.specs.Prelude.{◌≡◌, ◌<◌, ◌^◌, ℕ, suc, List, [], ◌++◌, map, get_or, slice_get, Bool, false, Option, Some, None, option_map, position, ◌==◌, ◌&&◌}
 use Rattle.std.specs.Coded.{Coded-set, coded_option}
-use Rattle.std.specs.Map.{keys_of}
 use Rattle.std.specs.Result.{result_ok}
 use Rattle.std.specs.Str.{bytes_eq}
 use Rattle.object65.specs.Form.{Form, form_code}
@@ -121,7 +120,3 @@ abbrev pub entry_of : List (List ℕ) → l.Key → Option Entry
 entry_of ws (named scope n) = option_map (entry.Named scope) (position (bytes_eq n) ws)
 entry_of ws (cheap_in region n) = option_map (entry.Cheap region) (position (bytes_eq n) ws)
 entry_of ws (unnamed_at count) = Some (entry.Unnamed count)
-
-abbrev pub place_of_entry : List (Entry × Definition) → Option Entry → Option ℕ
-place_of_entry es None = None
-place_of_entry es (Some k) = position (same_entry k) (keys_of es)

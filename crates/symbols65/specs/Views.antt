@@ -1,65 +1,50 @@
--- The language's symbol table for which one in memory stands, and what is known of forms by it.
-use Rattle.std.specs.Prelude.{◌≡◌, ℕ, List, [], ◌∷◌, ◌++◌, map, slice_get, slice_set, Bool, true, false, Option, Some, None, option_map, if◌then◌else◌, ◌==◌}
+-- The symbol table of the definitions for which one in memory stands, and what is known of forms by it.
+use Rattle.std.specs.Prelude.{◌≡◌, ℕ, List, [], ◌∷◌, ◌++◌, map, slice_get, slice_set, Bool, true, false, Option, Some, option_map, if◌then◌else◌, ◌==◌}
 use Rattle.std.specs.List.{list_any}
+use Rattle.std.specs.Option.{option_and_then, unwrap_or}
 use Rattle.semantics65.specs.Symbols as l
 use Rattle.semantics65.specs.Symbols.{Definition, Scope, unnamed_at, with_new}
-use Rattle.symbols65.specs.Tables.{definition_in, key_in, scope_opened}
+use Rattle.symbols65.specs.Tables.{key_in, table_without_imports}
 use Rattle.symbols65.specs.declared.resolving.attempt.State.{State}
 use Rattle.symbols65.specs.declared.resolving.attempt.State.TheVariants.{Found, Unknown}
 use Rattle.symbols65.specs.declared.resolving.attempt.Source.{Source}
 use Rattle.symbols65.specs.declared.resolving.attempt.Source.TheVariants as source
-use Rattle.symbols65.specs.declared.table.symbols.Definition as code
-use Rattle.symbols65.specs.declared.table.symbols.Entry.{Entry}
 use Rattle.symbols65.specs.declared.table.symbols.Symbols.{Symbols}
-
--- the language's, where the code's has the name
-abbrev pub Table : Type 0
-Table = l.Symbols
 
 -- each name once
 abbrev pub words_of : Symbols → List (List ℕ)
 words_of t = map (λ k. k.items) t.words.keys
 
 abbrev pub table_of : Symbols → l.Symbols
-table_of t = record {
-  definitions = map (definition_in (words_of t)) t.definitions.entries;
-  scopes = map (scope_opened (words_of t)) t.scopes.entries;
+table_of t = record (table_without_imports (words_of t) t.definitions.entries t.scopes.entries) {
   imports = map (λ k. k.items) t.imports.keys;
   zero_page = map (λ k. k.items) t.zero_page.keys;
 }
 
 -- the key of the definition at a place
 abbrev pub key_at : Symbols → ℕ → l.Key
-key_at t place = by (slice_get t.definitions.entries place)
-  where
-    by : Option (Entry × code.Definition) → l.Key
-    by (Some e) = key_in (words_of t) e.0
-    by None = unnamed_at 0
+key_at t place =
+    unwrap_or (option_map (λ e. key_in (words_of t) e.0) (slice_get t.definitions.entries place)) (unnamed_at 0)
 
 -- ---- What a statement adds.
 
 abbrev pub with_definition : l.Symbols → Definition → l.Symbols
-with_definition y d = record { definitions = y.definitions ++ d ∷ []; scopes = y.scopes; imports = y.imports; zero_page = y.zero_page }
+with_definition y d = record y { definitions = y.definitions ++ d ∷ [] }
 
 abbrev pub with_scope : l.Symbols → Scope → l.Symbols
-with_scope y c = record { definitions = y.definitions; scopes = y.scopes ++ c ∷ []; imports = y.imports; zero_page = y.zero_page }
+with_scope y c = record y { scopes = y.scopes ++ c ∷ [] }
 
 -- with names that are imported, perhaps for the zero page
 abbrev pub with_names : l.Symbols → Bool → List (List ℕ) → l.Symbols
-with_names y is_zero_page names = record { definitions = y.definitions; scopes = y.scopes; imports = with_new y.imports names; zero_page = with_new y.zero_page (if is_zero_page then names else []) }
-
-abbrev pub nothing_defined : l.Symbols
-nothing_defined = record { definitions = []; scopes = []; imports = []; zero_page = [] }
+with_names y is_zero_page names =
+    record y { imports = with_new y.imports names; zero_page = with_new y.zero_page (if is_zero_page then names else []) }
 
 -- ---- By what the forms of constants are known.
 
--- the final form that is kept with a definition
-abbrev pub kept : Option code.Definition → Option State
-kept None = None
-kept (Some d) = option_map Found d.form
-
+-- the final form that is kept with a definition, or what a table has
 abbrev pub known_by : Symbols → Source → ℕ → Option State
-known_by t source.Finals j = kept (option_map (λ e. e.1) (slice_get t.definitions.entries j))
+known_by t source.Finals j =
+    option_and_then (λ d. option_map Found d.form) (option_map (λ e. e.1) (slice_get t.definitions.entries j))
 known_by t (source.Table states) j = slice_get states.now j
 
 -- ---- Which places of a table of forms are found, and the table without those that wait.

@@ -3,8 +3,9 @@
 
 ghost use Rattle.std.specs.Prelude.{◌≡◌, Ok, OnOk, IfOk};
 ghost use Rattle.semantics65.specs.Norms.{literal_in, constant_in, norm_of, larger, size_by, size_of, size_of_meaning, size_of_value, address_mode, first_of, is_branch, mode_for, mode_of};
-ghost use Rattle.symbols65.specs.Resolving.{literal_of, IsReference, IsTable, meaning_in};
+ghost use Rattle.symbols65.specs.Resolving.{IsReference, IsTable, meaning_in};
 ghost use Rattle.symbols65.specs.Views.{table_of};
+ghost use Rattle.std.specs.Option.{option_and_then};
 ghost use Rattle.std.specs.Result.{result_ok};
 ghost use Rattle.semantics65.specs.Symbols.{meaning_of};
 
@@ -121,7 +122,7 @@ struct FormAndSize {
 /// What is found where the form of an expression and the size that it has without a value are known.
 fn sized_by_value(form: Option<Norm>, other: AddressSize) -> FormAndSize
     ensures form { result.form ≡ form }
-    ensures size { result.size ≡ size_by other (literal_of form) }
+    ensures size { result.size ≡ size_by other (option_and_then (λ f. literal_in (Ok f)) form) }
 {
     let value = match &form {
         Some(form) => literal(form),

@@ -5,7 +5,7 @@ use Rattle.syntax65.specs.declared.instructions.names.Mnemonic.TheVariants.{Adc,
 use Rattle.syntax65.specs.declared.instructions.codes.Mode.{Mode}
 use Rattle.syntax65.specs.declared.instructions.codes.Mode.TheVariants.{Implied, Accumulator, Immediate, ZeroPage, ZeroPageX, ZeroPageY, Absolute, AbsoluteX, AbsoluteY, Indirect, IndirectX, IndirectY, Relative}
 
--- counting up and down in memory
+-- counting: `e` and `e,x` in the zero page, and as words
 abbrev pub count : List ℕ → Mode → Option ℕ
 count codes ZeroPage = Some (get_or codes 0 0)
 count codes ZeroPageX = Some (get_or codes 1 0)
@@ -13,19 +13,19 @@ count codes Absolute = Some (get_or codes 2 0)
 count codes AbsoluteX = Some (get_or codes 3 0)
 count codes _ = None
 
--- shifts
+-- shifts: `a`, and the forms of counting
 abbrev pub shift : ℕ → List ℕ → Mode → Option ℕ
 shift code codes Accumulator = Some code
 shift code codes mode = count codes mode
 
--- stores of `a`
+-- stores of `a`: the forms of counting, then `e,y`, `(e,x)` and `(e),y`
 abbrev pub store : List ℕ → Mode → Option ℕ
 store codes AbsoluteY = Some (get_or codes 4 0)
 store codes IndirectX = Some (get_or codes 5 0)
 store codes IndirectY = Some (get_or codes 6 0)
 store codes mode = count codes mode
 
--- arithmetic, and loads of `a`
+-- arithmetic and loads of `a`: a byte, and the forms of its stores
 abbrev pub arithmetic : ℕ → List ℕ → Mode → Option ℕ
 arithmetic code codes Immediate = Some code
 arithmetic code codes mode = store codes mode

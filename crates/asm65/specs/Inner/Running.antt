@@ -1,4 +1,4 @@
--- The lines of a source, and what waits behind them.
+-- What calls leave, the states that are held, the lines of a source, and what waits behind them.
 use Rattle.std.specs.Prelude.{◌≡◌, ℕ, ◌+◌, ◌*◌, ◌≤◌, ◌<◌, List, [], ◌∷◌, Option, Some, None, IfErr, IfSome, Bool, true, false, Result, Ok, Err, ⊤, take, ◌++◌, map}
 use Rattle.base65.specs.Outcome.{Unless, ◌>>=◌}
 use Rattle.base65.specs.Store.{Files, PassesBy}

@@ -20,6 +20,10 @@ pub struct ReadAhead<F> {
     buffer: Vec<u8>,
     start: u64,
     filled: usize,
+    /// Where the file ended for the last read past the buffer, if that read less than was asked for.
+    end: Option<u64>,
+    /// Whether anything of the file was read.
+    is_begun: bool,
     ghost within: { filled ≤ length buffer.items },
 }
 
@@ -32,6 +36,8 @@ impl<F: Read + Seek + Drop> ReadAhead<F> {
             file,
             start: 0,
             filled: 0,
+            end: None,
+            is_begun: false,
         })
     }
 
@@ -44,6 +50,8 @@ impl<F: Read + Seek + Drop> ReadAhead<F> {
             file,
             start: 0,
             filled: 0,
+            end: None,
+            is_begun: false,
         }
     }
 
@@ -55,6 +63,7 @@ impl<F: Read + Seek + Drop> ReadAhead<F> {
     /// Reads what stands from a place on into the buffer.
     fn fill(&mut self, at: u64) -> io::Result<()> {
         self.filled = 0;
+        self.is_begun = true;
         if self.buffer.is_empty() {
             self.buffer.resize(BUFFER, 0)?;
         }
@@ -64,15 +73,31 @@ impl<F: Read + Seek + Drop> ReadAhead<F> {
         Ok(())
     }
 
+    /// Whether nothing is read ahead where so many bytes are read: many, those of a file's end, or, before any other, some
+    /// that don't begin the file, by which its length is asked for.
+    fn reads_past(&self, at: u64, len: usize) -> bool {
+        len >= LARGE || self.end == Some(at) || (at > 0 && !self.is_begun)
+    }
+
+    /// Reads past the buffer.
+    fn read_past(&mut self, at: u64, buf: &mut [u8]) -> io::Result<usize>
+        ensures { IfOk result (λ n. n ≤ length buf.new) }
+    {
+        self.is_begun = true;
+        self.file.seek(SeekFrom::Start(at))?;
+        let n = self.file.read(buf)?;
+        self.end = (n < buf.len()).then_some(at.saturating_add(n as u64));
+        Ok(n)
+    }
+
     /// Reads what the file has from a place on, and answers how many bytes it read: none only at its end or
     /// into an empty buffer.
     pub fn read_at(&mut self, at: u64, buf: &mut [u8]) -> io::Result<usize>
         ensures { IfOk result (λ n. n ≤ length buf.new) }
     {
         if at < self.start || at - self.start >= self.filled as u64 {
-            if buf.len() >= LARGE {
-                self.file.seek(SeekFrom::Start(at))?;
-                return self.file.read(buf);
+            if self.reads_past(at, buf.len()) {
+                return self.read_past(at, buf);
             }
             self.fill(at)?;
         }

@@ -3,11 +3,12 @@
 ghost use Rattle.std.specs.Prelude.{◌≡◌, IfOk, IfSome, map, slice_get, ◌+◌, ◌<◌, OnOk, Some, [], length, ℕ, slice_set, true};
 ghost use Rattle.symbols65.specs.declared.resolving.attempt.Source.TheVariants.{Finals};
 ghost use Rattle.symbols65.specs.Resolving.{AreHung, HangsOn, Reaches, bare, hung_on, needed_in, may_be_looked_for, tried, IsTable};
-ghost use Rattle.symbols65.specs.Views.{known_by, AreNoted, is_found, without, Table, table_of, nothing_defined};
+ghost use Rattle.symbols65.specs.Views.{known_by, AreNoted, is_found, without, table_of};
 ghost use Rattle.base65.specs.Outcome.{Finds, Gives};
 ghost use Rattle.ast65.specs.Faults.{is_memory};
 ghost use Rattle.symbols65.specs.declared.resolving.attempt.State.TheVariants.{Unknown, Waiting, Found};
 ghost use Rattle.semantics65.specs.Norms.{Extends, norm_of};
+ghost use Rattle.semantics65.specs.Symbols.{Symbols as Table, symbols_of};
 
 use super::attempt::{Source, State, Stop, pass_on_memory, try_last, try_norm};
 use super::finals::are_final;
@@ -136,7 +137,7 @@ pub struct NormCache {
 impl NormCache {
     /// The table for no definition.
     pub fn new(alloc: Global) -> Self
-        ensures { IsTable nothing_defined result.states.items }
+        ensures { IsTable (symbols_of []) result.states.items }
     {
         NormCache {
             states: Vec::new(alloc),

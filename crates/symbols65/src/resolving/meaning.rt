@@ -10,9 +10,9 @@ ghost use Rattle.semantics65.specs.Norms.{folded};
 ghost use Rattle.std.specs.Prelude.{◌≡◌, ◌+◌, ◌-◌, Result, Some};
 ghost use Rattle.syntax65.specs.Trees.{name as name_tree};
 ghost use Rattle.semantics65.specs.Symbols.{meaning_of, scoped_meaning, backward_meaning, last_of, member_meaning, or_fault, plain_meaning, scopes_of, unnamed_meaning, imported};
-ghost use Rattle.symbols65.specs.Resolving.{defined_place, meaning_in, or_absent, plain_part};
+ghost use Rattle.symbols65.specs.Resolving.{defined_place, meaning_in, plain_part};
 ghost use Rattle.symbols65.specs.Views.{table_of};
-ghost use Rattle.std.specs.Option.{option_map};
+ghost use Rattle.std.specs.Option.{ok_or, option_map};
 ghost use Rattle.ast65.specs.declared.fault.AsmFault.{AsmFault};
 ghost use Rattle.ast65.specs.declared.fault.AsmFault.TheVariants.{NoSuchLabel, Undefined};
 
@@ -85,7 +85,7 @@ pub enum Meaning {
 
 /// What is defined at a place, or imported by a name where nothing is.
 fn defined_or_imported(symbols: &Symbols, defined: Option<usize>, name: &[u8]) -> Option<Meaning>
-    ensures { (fault : AsmFault) → or_fault fault defined (imported (table_of symbols.now) name.now) ≡ or_absent fault result }
+    ensures { (fault : AsmFault) → or_fault fault defined (imported (table_of symbols.now) name.now) ≡ ok_or (option_map meaning_in result) fault }
 {
     if let Some(place) = defined {
         return Some(Meaning::Defined(place));
@@ -96,7 +96,7 @@ fn defined_or_imported(symbols: &Symbols, defined: Option<usize>, name: &[u8]) -
 
 /// What a name means in one scope.
 fn member(symbols: &Symbols, scope: usize, name: &[u8]) -> Option<Meaning>
-    ensures { (absent lost : AsmFault) → member_meaning (table_of symbols.now) name.now absent lost (Some scope) ≡ or_absent absent result }
+    ensures { (absent lost : AsmFault) → member_meaning (table_of symbols.now) name.now absent lost (Some scope) ≡ ok_or (option_map meaning_in result) absent }
 {
     let defined = symbols.defined(Key::Named { scope, name });
     if scope == 0 {
@@ -110,7 +110,7 @@ fn member(symbols: &Symbols, scope: usize, name: &[u8]) -> Option<Meaning>
 
 /// A meaning of a name that was looked for.
 fn named(alloc: Global, meaning: Option<Meaning>, name: &[u8]) -> Result<Meaning, AsmFault>
-    ensures { Gives is_memory meaning_in result (or_absent (Undefined name.now) meaning) }
+    ensures { Gives is_memory meaning_in result (ok_or (option_map meaning_in meaning) (Undefined name.now)) }
 {
     match meaning {
         Some(meaning) => Ok(meaning),
@@ -192,7 +192,7 @@ pub fn plain_part(name: &Name) -> Option<&[u8]>
 
 /// The unnamed label before which so many stand.
 fn unnamed_label(symbols: &Symbols, count: usize) -> Option<Meaning>
-    ensures { unnamed_meaning (table_of symbols.now) count ≡ or_absent NoSuchLabel result }
+    ensures { unnamed_meaning (table_of symbols.now) count ≡ ok_or (option_map meaning_in result) NoSuchLabel }
 {
     let place = symbols.defined(Key::Unnamed(count))?;
     Some(Meaning::Defined(place))
@@ -200,7 +200,7 @@ fn unnamed_label(symbols: &Symbols, count: usize) -> Option<Meaning>
 
 /// An unnamed label behind a use before which so many stand.
 fn label_behind(symbols: &Symbols, before: u32, steps: usize) -> Option<Meaning>
-    ensures { unnamed_meaning (table_of symbols.now) (before + steps - 1) ≡ or_absent NoSuchLabel result }
+    ensures { unnamed_meaning (table_of symbols.now) (before + steps - 1) ≡ ok_or (option_map meaning_in result) NoSuchLabel }
 {
     let count = match steps.checked_sub(1) {
         // No table has a label that no number of the machine counts.
@@ -212,7 +212,7 @@ fn label_behind(symbols: &Symbols, before: u32, steps: usize) -> Option<Meaning>
 
 /// An unnamed label before a use before which so many stand.
 fn label_before(symbols: &Symbols, before: u32, steps: usize) -> Option<Meaning>
-    ensures { backward_meaning (table_of symbols.now) before steps ≡ or_absent NoSuchLabel result }
+    ensures { backward_meaning (table_of symbols.now) before steps ≡ ok_or (option_map meaning_in result) NoSuchLabel }
 {
     let count = (before as usize).checked_sub(steps)?;
     unnamed_label(symbols, count)

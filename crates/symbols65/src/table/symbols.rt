@@ -71,12 +71,13 @@ pub struct Symbols {
 }
 
 impl Symbols {
-    ghost use Rattle.std.specs.Prelude.{◌≡◌};
-    ghost use Rattle.symbols65.specs.Views.{nothing_defined, table_of};
+    ghost use Rattle.std.specs.Prelude.{◌≡◌, []};
+    ghost use Rattle.semantics65.specs.Symbols.{symbols_of};
+    ghost use Rattle.symbols65.specs.Views.{table_of};
 
     /// The table of no statement.
     pub fn new(alloc: Global, seed: Seed) -> Self
-        ensures { table_of result ≡ nothing_defined }
+        ensures { table_of result ≡ symbols_of [] }
     {
         Symbols {
             words: IndexSet::with_hasher(alloc, seed),

@@ -92,7 +92,7 @@ pub fn opcode(mnemonic: Mnemonic, mode: Mode) -> Option<u8>
     }
 }
 
-/// Counting up and down in memory.
+/// Counting: `e` and `e,x` in the zero page, and as words.
 fn count(mode: Mode, codes: [u8; 4]) -> Option<u8>
     ensures { result ≡ count codes mode }
 {
@@ -105,7 +105,7 @@ fn count(mode: Mode, codes: [u8; 4]) -> Option<u8>
     }
 }
 
-/// Shifts.
+/// Shifts: `a`, and the forms of counting.
 fn shift(mode: Mode, code: u8, codes: [u8; 4]) -> Option<u8>
     ensures { result ≡ shift code codes mode }
 {
@@ -115,7 +115,7 @@ fn shift(mode: Mode, code: u8, codes: [u8; 4]) -> Option<u8>
     }
 }
 
-/// Stores of `a`.
+/// Stores of `a`: the forms of counting, then `e,y`, `(e,x)` and `(e),y`.
 fn store(mode: Mode, codes: [u8; 7]) -> Option<u8>
     ensures { result ≡ store codes mode }
 {
@@ -131,7 +131,7 @@ fn store(mode: Mode, codes: [u8; 7]) -> Option<u8>
     }
 }
 
-/// Arithmetic, and loads of `a`.
+/// Arithmetic and loads of `a`: a byte, and the forms of its stores.
 fn arithmetic(mode: Mode, code: u8, codes: [u8; 7]) -> Option<u8>
     ensures { result ≡ arithmetic code codes mode }
 {

@@ -1,9 +1,10 @@
-use Rattle.std.proofs.Common.{rules, ◌≡◌, ℕ, ap, sym, ◌∙◌}
+use Rattle.std.proofs.Common.{rules, ◌≡◌, ℕ, Ok, ap, sym, ◌∙◌}
+use Rattle.std.specs.Option.{option_and_then}
 use Rattle.std.specs.Result.{result_ok}
 use Rattle.syntax65.specs.Trees.{unary, binary}
 use Rattle.syntax65.specs.Kinds.{tree_of}
 use Rattle.semantics65.specs.Norms.{literal_in, norm_of, larger, size_by, size_of}
-use Rattle.symbols65.specs.Resolving.{binary_form, literal_of, prefix_form}
+use Rattle.symbols65.specs.Resolving.{binary_form, prefix_form}
 use Rattle.symbols65.specs.Views.{table_of}
 use Rattle.symbols65.proofs.Sizing.{binary_known, literal_known, prefix_known}
 use Rattle.symbols65.proofs.knowing.+form_and_size.Goals as goal
@@ -56,8 +57,8 @@ returns-in_ok-form-in-Binary-clause-size t c =
     let parts = c.larger-other.ensures
     ∙ ap (λ a. larger a c.in_ok-right-in-Binary.right.size) c.in_ok-left-in-Binary.ensures.size
     ∙ ap (larger (size_of y s c.args.own e)) c.in_ok-right-in-Binary.ensures.size in
-    let value = ap literal_of (both t c) ∙ literal_known (norm_of y s c.args.value.now) ∙ ap (λ v. literal_in (norm_of y s v)) (whole t c) in
+    let value = ap (option_and_then (λ f. literal_in (Ok f))) (both t c) ∙ literal_known (norm_of y s c.args.value.now) ∙ ap (λ v. literal_in (norm_of y s v)) (whole t c) in
     c.sized_by_value-in-Binary.ensures.size
-    ∙ ap (λ o. size_by o (literal_of c.in_ok-form-in-Binary.form)) parts
+    ∙ ap (λ o. size_by o (option_and_then (λ f. literal_in (Ok f)) c.in_ok-form-in-Binary.form)) parts
     ∙ ap (size_by (larger (size_of y s c.args.own e) (size_of y s c.args.own g))) value
     ∙ sym (ap (size_of y s c.args.own) (whole t c))

@@ -1,16 +1,15 @@
-use Rattle.std.proofs.Common.{◌≡◌, true, ◌∙◌, ◌++◌, ◌∷◌, [], map, sym, subst, rules, Ok, Err, arith, IfSome}
+use Rattle.std.proofs.Common.{◌≡◌, true, ◌∙◌, List, map, sym, subst, rules, Ok, Err, arith, IfSome}
 use Rattle.std.proofs.lemmas.Result.{err_from_is_err_and}
 use Rattle.base65.specs.Outcome.{Unless}
-use Rattle.expand65.specs.Blocks.{TakesInBlock}
+use Rattle.syntax65.specs.Tokens.{Lexeme}
+use Rattle.expand65.specs.Blocks.{TakesInBlock, judge}
 use Rattle.syntax65.specs.Faults.{is_failure, is_outside}
-use Rattle.expand65.specs.Blocks.{StateOf, judge_of, block_state}
-use Rattle.expand65.specs.Standing.{left_of, FailsAtLine, HasStopped, Judges, answer_of, is_kept}
+use Rattle.expand65.specs.Standing.{branch_of, left_of, FailsAtLine, HasStopped, Judges}
 use Rattle.expand65.specs.Playing.{tokens_in}
 use Rattle.expand65.specs.declared.blocks.BlockStep.{BlockStep}
 use Rattle.expand65.proofs.Blocking.{Leads, line_missing, line_refused, line_closes, line_goes_on, lines_passed}
 use Rattle.expand65.proofs.Lines.{moved_to}
-use Rattle.expand65.proofs.Plainly.{plain_unkept}
-use Rattle.expand65.proofs.StoppedReading.{Fails, line_read, plainly_read, stops_on}
+use Rattle.expand65.proofs.StoppedReading.{line_read, plainly_read, stops_on}
 use Rattle.expand65.proofs.reader.Reader.block.Goals as goal
 
 pub returns-in_err-line-clause-read : goal.returns-in_err-line-clause-read
@@ -20,11 +19,11 @@ returns-in_err-line-clause-read g c =
     let k = c.args.kind in
     let body = map tokens_in c.lines.lines in
     let mid = c.pass_unkept.new.self in
-    let so_far = lines_passed (judge_of k) o c.args.self.now c.lines.self mid (block_state k 0 []) (block_state k c.lines.depth body) (is_kept k) (λ e ts q. plain_unkept k c.lines.depth body ts e q) c.pass_unkept.ensures.passed c.lines.invariant.so_far in
+    let so_far = lines_passed k o c.args.self.now c.lines.self mid c.lines.depth body c.pass_unkept.ensures.passed c.lines.invariant.so_far in
     let f = c.in_err-line.field-0.0 in
     let new = c.block_line.new.self in
     let taken = moved_to (λ m. Unless (is_outside f) (TakesInBlock (left_of m mid) (Err (f, new.place)))) o (g.S.Store.files c.lines.store) c.lines.invariant.files c.in_err-line.ensures.read in
-    rw (p.1, p.2) (line_missing (judge_of k) o c.args.self.now mid (block_state k 0 []) (block_state k c.lines.depth body) f new.place so_far taken)
+    rw (p.1, p.2) (line_missing k o c.args.self.now mid c.lines.depth body f new.place so_far taken)
 
 pub returns-in_err-end-clause-read : goal.returns-in_err-end-clause-read
 returns-in_err-end-clause-read g c =
@@ -33,11 +32,11 @@ returns-in_err-end-clause-read g c =
     let k = c.args.kind in
     let body = map tokens_in c.lines.lines in
     let mid = c.pass_unkept.new.self in
-    let so_far = lines_passed (judge_of k) o c.args.self.now c.lines.self mid (block_state k 0 []) (block_state k c.lines.depth body) (is_kept k) (λ e ts q. plain_unkept k c.lines.depth body ts e q) c.pass_unkept.ensures.passed c.lines.invariant.so_far in
+    let so_far = lines_passed k o c.args.self.now c.lines.self mid c.lines.depth body c.pass_unkept.ensures.passed c.lines.invariant.so_far in
     let new = c.block_line.new.self in
     let line = c.in_ok-line.line in
     let taken = moved_to (λ m. TakesInBlock (left_of m mid) (Ok (tokens_in line, left_of m new))) o (g.S.Store.files c.lines.store) c.lines.invariant.files c.in_ok-line.ensures.read in
-    rw (p.1, p.2) (line_refused (judge_of k) o c.args.self.now mid new (block_state k 0 []) (block_state k c.lines.depth body) (tokens_in line) c.in_err-end.field-0.0 so_far taken (c.in_err-end.ensures.step body))
+    rw (p.1, p.2) (line_refused k o c.args.self.now mid new c.lines.depth body (tokens_in line) c.in_err-end.field-0.0 so_far taken c.in_err-end.ensures.step)
 
 pub returns-in-Closed-clause-read : goal.returns-in-Closed-clause-read
 returns-in-Closed-clause-read g c =
@@ -45,13 +44,13 @@ returns-in-Closed-clause-read g c =
     let k = c.args.kind in
     let body = map tokens_in c.lines.lines in
     let mid = c.pass_unkept.new.self in
-    let so_far = lines_passed (judge_of k) o c.args.self.now c.lines.self mid (block_state k 0 []) (block_state k c.lines.depth body) (is_kept k) (λ e ts q. plain_unkept k c.lines.depth body ts e q) c.pass_unkept.ensures.passed c.lines.invariant.so_far in
+    let so_far = lines_passed k o c.args.self.now c.lines.self mid c.lines.depth body c.pass_unkept.ensures.passed c.lines.invariant.so_far in
     let new = c.block_line.new.self in
     let line = c.in_ok-line.line in
     let taken = moved_to (λ m. TakesInBlock (left_of m mid) (Ok (tokens_in line, left_of m new))) o (g.S.Store.files c.lines.store) c.lines.invariant.files c.in_ok-line.ensures.read in
-    let P : BlockStep → Type 0 = λ s. Judges k body (tokens_in line) (Ok s) (judge_of k (block_state k c.lines.depth body) (tokens_in line)) in
-    let last = subst P c.in-Closed.is (c.in_ok-end.ensures.step body) in
-    line_closes (judge_of k) o c.args.self.now mid new (block_state k 0 []) (block_state k c.lines.depth body) (tokens_in line) (answer_of k body c.in-Closed.end) so_far taken last
+    let P : BlockStep → Type 0 = λ s. Judges (Ok s) (judge k c.lines.depth (tokens_in line)) in
+    let last = subst P c.in-Closed.is c.in_ok-end.ensures.step in
+    line_closes k o c.args.self.now mid new c.lines.depth body (tokens_in line) (branch_of c.in-Closed.end) so_far taken last
 
 pub lines-preserved : goal.lines-preserved
 lines-preserved g c =
@@ -59,19 +58,14 @@ lines-preserved g c =
     let k = c.args.kind in
     let body = map tokens_in c.lines.lines in
     let mid = c.pass_unkept.new.self in
-    let first = block_state k 0 [] in
-    let here = block_state k c.lines.depth body in
-    let so_far = lines_passed (judge_of k) o c.args.self.now c.lines.self mid first here (is_kept k) (λ e ts q. plain_unkept k c.lines.depth body ts e q) c.pass_unkept.ensures.passed c.lines.invariant.so_far in
-    let reads = plainly_read (judge_of k) o c.args.self.now c.lines.self mid first here (is_kept k) (λ e ts q. plain_unkept k c.lines.depth body ts e q) c.pass_unkept.ensures.passed c.lines.invariant.reads in
+    let so_far = lines_passed k o c.args.self.now c.lines.self mid c.lines.depth body c.pass_unkept.ensures.passed c.lines.invariant.so_far in
+    let reads = plainly_read k o c.args.self.now c.lines.self mid c.lines.depth c.pass_unkept.ensures.passed c.lines.invariant.reads in
     let new = c.block_line.new.self in
     let line = c.in_ok-line.line in
     let taken = moved_to (λ m. TakesInBlock (left_of m mid) (Ok (tokens_in line, left_of m new))) o (g.S.Store.files c.lines.store) c.lines.invariant.files c.in_ok-line.ensures.read in
-    let P : BlockStep → Type 0 = λ s. Judges k body (tokens_in line) (Ok s) (judge_of k here (tokens_in line)) in
-    let goes = subst P c.in-On.is (c.in_ok-end.ensures.step body) in
-    let next = block_state k c.in-On.deeper (body ++ tokens_in line ∷ []) in
-    let kept : block_state k c.in-On.deeper (map tokens_in c.keep.new.lines) ≡ next = c.in_ok-keep-in-On.ensures c.in-On.deeper in
-    let Q : StateOf k → Type 0 = λ a. IfSome o (Leads (judge_of k) a new first c.args.self.now) in
-    let R : StateOf k → Type 0 = λ a. IfSome o (Fails (judge_of k) a new first c.args.self.now) in
+    let P : BlockStep → Type 0 = λ s. Judges (Ok s) (judge k c.lines.depth (tokens_in line)) in
+    let goes = subst P c.in-On.is c.in_ok-end.ensures.step in
+    let Q : List (List Lexeme) → Type 0 = λ b. IfSome o (Leads k c.in-On.deeper b new c.args.self.now) in
     record {
       outer = c.in_ok-line.ensures.stays.outer ∙ c.pass_unkept.ensures.stays.outer ∙ c.lines.invariant.outer;
       mark = c.in_ok-line.ensures.stays.mark ∙ c.pass_unkept.ensures.stays.mark ∙ c.lines.invariant.mark;
@@ -79,8 +73,8 @@ lines-preserved g c =
       files = c.in_ok-line.ensures.leaves.files ∙ c.lines.invariant.files;
       count = search rules;
       named = λ h. c.in_ok-line.ensures.stays.named (c.pass_unkept.ensures.stays.named (c.lines.invariant.named h));
-      reads = subst R (sym kept) (line_read (judge_of k) o c.args.self.now mid new first here next (tokens_in line) reads taken goes);
-      so_far = subst Q (sym kept) (line_goes_on (judge_of k) o c.args.self.now mid new first here next (tokens_in line) so_far taken goes);
+      reads = line_read k o c.args.self.now mid new c.lines.depth c.in-On.deeper (tokens_in line) reads taken goes;
+      so_far = subst Q (sym c.in_ok-keep-in-On.ensures) (line_goes_on k o c.args.self.now mid new c.lines.depth c.in-On.deeper body (tokens_in line) so_far taken goes);
     }
 
 pub returns-in_err-line-clause-stopped : goal.returns-in_err-line-clause-stopped
@@ -88,9 +82,8 @@ returns-in_err-line-clause-stopped g c = λ names.
     (let p = err_from_is_err_and c.from_residual.result c.from_residual.ensures.1 in
     let o = g.S.Store.files c.args.store.now in
     let k = c.args.kind in
-    let body = map tokens_in c.lines.lines in
     let mid = c.pass_unkept.new.self in
     let f = c.in_err-line.field-0.0 in
-    let reads = plainly_read (judge_of k) o c.args.self.now c.lines.self mid (block_state k 0 []) (block_state k c.lines.depth body) (is_kept k) (λ e ts q. plain_unkept k c.lines.depth body ts e q) c.pass_unkept.ensures.passed c.lines.invariant.reads in
+    let reads = plainly_read k o c.args.self.now c.lines.self mid c.lines.depth c.pass_unkept.ensures.passed c.lines.invariant.reads in
     let stops = moved_to (λ m. is_failure f ≡ true → HasStopped (FailsAtLine (g.S.Store.blamed c.block_line.new.store) (left_of m mid)) mid c.block_line.new.self) o (g.S.Store.files c.lines.store) c.lines.invariant.files (c.in_err-line.ensures.stopped (c.pass_unkept.ensures.stays.named (c.lines.invariant.named names))) in
-    rw (p.1, p.2) (stops_on (g.S.Store.blamed c.block_line.new.store) (judge_of k) o c.args.self.now mid c.block_line.new.self (block_state k 0 []) (block_state k c.lines.depth body) f reads (c.pass_unkept.ensures.stays.mark ∙ c.lines.invariant.mark) stops))
+    rw (p.1, p.2) (stops_on (g.S.Store.blamed c.block_line.new.store) k o c.args.self.now mid c.block_line.new.self c.lines.depth f reads (c.pass_unkept.ensures.stays.mark ∙ c.lines.invariant.mark) stops))

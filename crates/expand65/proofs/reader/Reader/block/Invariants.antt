@@ -1,6 +1,5 @@
-use Rattle.std.proofs.Common.{◌≡◌, ◌≤◌, [], map}
+use Rattle.std.proofs.Common.{◌≡◌, ◌≤◌, map}
 use Rattle.std.specs.Prelude.{IfSome}
-use Rattle.expand65.specs.Blocks.{judge_of, block_state}
 use Rattle.expand65.specs.Standing.{mark_of, NamesFiles}
 use Rattle.expand65.specs.Playing.{tokens_in}
 use Rattle.expand65.proofs.Blocking.{Leads}
@@ -15,8 +14,8 @@ invariant-lines g l = record {
   files : g.S.Store.files l.store ≡ g.S.Store.files l.fn.store;
   count : g.S.Store.failures l.store ≡ g.S.Store.failures l.fn.store;
   named : NamesFiles l.fn.self → NamesFiles l.self;
-  reads : IfSome (g.S.Store.files l.fn.store) (Fails (judge_of l.kind) (block_state l.kind l.depth (map tokens_in l.lines)) l.self (block_state l.kind 0 []) l.fn.self);
-  so_far : IfSome (g.S.Store.files l.fn.store) (Leads (judge_of l.kind) (block_state l.kind l.depth (map tokens_in l.lines)) l.self (block_state l.kind 0 []) l.fn.self);
+  reads : IfSome (g.S.Store.files l.fn.store) (Fails l.kind l.depth l.self l.fn.self);
+  so_far : IfSome (g.S.Store.files l.fn.store) (Leads l.kind l.depth (map tokens_in l.lines) l.self l.fn.self);
 }
 
 abbrev pub decreases-lines : goal.decreases-lines

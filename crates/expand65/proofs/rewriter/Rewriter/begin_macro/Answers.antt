@@ -3,10 +3,11 @@ use Rattle.std.specs.Prelude.{is_some}
 use Rattle.std.proofs.lemmas.Result.{err_from_is_err_and}
 use Rattle.base65.specs.Outcome.{Unless}
 use Rattle.base65.specs.Store.{Files}
-use Rattle.expand65.specs.Blocks.{Block, collects}
+use Rattle.expand65.specs.Blocks.{Block}
+use Rattle.expand65.specs.declared.blocks.BlockKind.TheVariants.{Macro}
 use Rattle.syntax65.specs.Faults.{is_outside}
 use Rattle.syntax65.specs.Tokens.{lexemes}
-use Rattle.expand65.specs.Standing.{left_of, macros_of, state_of}
+use Rattle.expand65.specs.Standing.{branch_of, left_of, macros_of, state_of}
 use Rattle.expand65.specs.Playing.{tokens_in}
 use Rattle.expand65.specs.Expansion.{Leads}
 use Rattle.expand65.specs.Macros.{defined, macro_line, macro_of}
@@ -42,7 +43,7 @@ returns-in_err-block-clause-turns g c =
     let name = header.name.items in
     let params = map (λ k. k.items) header.params.keys in
     let none = is_none (macro_of (macros_of old) name) (ap (λ (n : List ℕ). is_some (macro_of (macros_of old) n)) (sym c.as_slice.ensures.value) ∙ sym c.has_macro.ensures ∙ c.if-has_macro.false) in
-    rw (p.1, p.2) (where_known o (λ m. Unless (is_outside f) (Block collects [] (left_of m old.reader) (Err (f, place)))) (λ m. Unless (is_outside f) (Leads m (macro_line (state_of m old) ts) (stops (f, place)))) (λ m h. subst (λ z. Unless (is_outside f) (Leads m z (stops (f, place)))) (macro_is (state_of m old) ts name params None c.in_ok-name.ensures.header none) (block_refused m (state_of m old) name params f place h)) c.in_err-block.ensures.read)
+    rw (p.1, p.2) (where_known o (λ m. Unless (is_outside f) (Block Macro 0 [] (left_of m old.reader) (Err (f, place)))) (λ m. Unless (is_outside f) (Leads m (macro_line (state_of m old) ts) (stops (f, place)))) (λ m h. subst (λ z. Unless (is_outside f) (Leads m z (stops (f, place)))) (macro_is (state_of m old) ts name params None c.in_ok-name.ensures.header none) (block_refused m (state_of m old) name params f place h)) c.in_err-block.ensures.read)
 
 pub returns-clause-turns : goal.returns-clause-turns
 returns-clause-turns g c =
@@ -51,13 +52,14 @@ returns-clause-turns g c =
     let ts = lexemes c.args.tokens.now in
     let new = c.block.new.self in
     let lines = c.in_ok-block.block.lines in
+    let end = branch_of c.in_ok-block.block.end in
     let header = c.in_ok-name.field-0 in
     let name = header.name.items in
     let params = map (λ k. k.items) header.params.keys in
     let body : Body = record { params = header.params; lines = lines } in
     let none = is_none (macro_of (macros_of old) name) (ap (λ (n : List ℕ). is_some (macro_of (macros_of old) n)) (sym c.as_slice.ensures.value) ∙ sym c.has_macro.ensures ∙ c.if-has_macro.false) in
     let state = λ (m : Files). goes (rewritten m old new (map entry_of c.insert.new.self.entries)) in
-    where_known o (λ m. Block collects [] (left_of m old.reader) (Ok (map tokens_in lines, left_of m new))) (λ m. Leads m (macro_line (state_of m old) ts) (state m)) (λ m h. subst (λ z. Leads m z (state m)) (macro_is (state_of m old) ts name params None c.in_ok-name.ensures.header none) (kept_one m old new header.name c.in_ok-body.body body c.insert.new.self.entries none c.in_ok-insert.ensures.entries c.in_ok-body.ensures.ok h)) c.in_ok-block.ensures.read
+    where_known o (λ m. Block Macro 0 [] (left_of m old.reader) (Ok ((map tokens_in lines, end), left_of m new))) (λ m. Leads m (macro_line (state_of m old) ts) (state m)) (λ m h. subst (λ z. Leads m z (state m)) (macro_is (state_of m old) ts name params None c.in_ok-name.ensures.header none) (kept_one m old new header.name c.in_ok-body.body body end c.insert.new.self.entries none c.in_ok-insert.ensures.entries c.in_ok-body.ensures.ok h)) c.in_ok-block.ensures.read
 
 pub returns-in_err-block-clause-stopped : goal.returns-in_err-block-clause-stopped
 returns-in_err-block-clause-stopped g c = λ names.

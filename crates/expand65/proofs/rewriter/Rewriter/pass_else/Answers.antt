@@ -13,7 +13,7 @@ returns-in_err-block-in-Some-false-clause-turns g c =
 pub returns-in_ok-block-in-Some-false-clause-turns : goal.returns-in_ok-block-in-Some-false-clause-turns
 returns-in_ok-block-in-Some-false-clause-turns g c =
     let popped = rw c.in-Some-false.field-0-test at c.in-Some-false.ensures.pops in
-    else_passed (g.S.Store.files c.args.store.now) c.args.self.now c.block.new.self c.pop_above.new.self popped c.in_ok-block-in-Some-false.ensures.read
+    else_passed (g.S.Store.files c.args.store.now) c.args.self.now c.block.new.self c.pop_above.new.self _ popped c.in_ok-block-in-Some-false.ensures.read
 
 pub returns-in-None-clause-turns : goal.returns-in-None-clause-turns
 returns-in-None-clause-turns g c = else_none (g.S.Store.files c.args.store.now) c.args.self.now c.in-None.ensures.pops

@@ -2,9 +2,10 @@ use Rattle.std.proofs.Common.{◌≡◌, ℕ, [], false, None, Ok, Err, map, ref
 use Rattle.std.proofs.lemmas.Result.{err_from_is_err_and}
 use Rattle.base65.specs.Outcome.{Unless}
 use Rattle.syntax65.specs.Faults.{is_outside}
-use Rattle.expand65.specs.Blocks.{Block, gathers}
+use Rattle.expand65.specs.Blocks.{Block}
+use Rattle.expand65.specs.declared.blocks.BlockKind.TheVariants.{Repeat}
 use Rattle.expand65.specs.Lines.{pushed}
-use Rattle.expand65.specs.Standing.{left_of, turns_left, macros_of, state_of}
+use Rattle.expand65.specs.Standing.{branch_of, left_of, turns_left, macros_of, state_of}
 use Rattle.expand65.specs.Playing.{tokens_in}
 use Rattle.expand65.specs.Expansion.{Leads}
 use Rattle.expand65.specs.Macros.{repeated}
@@ -22,12 +23,13 @@ returns-clause-turns g c =
     let rd = c.block.new.self in
     let new = c.enter.new.self in
     let lines = c.in_ok-block.block.lines in
+    let end = branch_of c.in_ok-block.block.end in
     let body : Body = record { params = c.args.variable; lines = lines } in
     let replay : Replay = record { body = c.in_ok-body.body; at = c.len-at.result; arguments = c.new-arguments.result; count = None; locals = c.with_hasher-locals.result; number = 0 } in
     let n = c.args.count in
     let params = map (λ k. k.items) c.args.variable.keys in
     let ready = turns_ready replay body n c.in_ok-body.ensures.ok c.len-at.ensures c.new-arguments.ensures refl c.with_hasher-locals.ensures.empty refl in
-    where_known (g.S.Store.files c.args.store.now) (λ m. Block gathers (0, []) (left_of m old.reader) (Ok (map tokens_in lines, left_of m rd))) (λ m. Leads m (repeated (state_of m old) n params) (goes (rewritten m old new (macros_of old)))) (λ m h. let P : ℕ → Type 0 = λ i. Ok (left_of m new) ≡ pushed (turns_left replay 0 n) (record { is_macro = false; conditions = i; back = None }) (left_of m rd) in repeated_one m old rd new replay body n h ready (subst P c.len.ensures (c.in_ok-enter.ensures.entered m))) c.in_ok-block.ensures.read
+    where_known (g.S.Store.files c.args.store.now) (λ m. Block Repeat 0 [] (left_of m old.reader) (Ok ((map tokens_in lines, end), left_of m rd))) (λ m. Leads m (repeated (state_of m old) n params) (goes (rewritten m old new (macros_of old)))) (λ m h. let P : ℕ → Type 0 = λ i. Ok (left_of m new) ≡ pushed (turns_left replay 0 n) (record { is_macro = false; conditions = i; back = None }) (left_of m rd) in repeated_one m old rd new replay body end n h ready (subst P c.len.ensures (c.in_ok-enter.ensures.entered m))) c.in_ok-block.ensures.read
 
 pub returns-in_err-enter-clause-turns : goal.returns-in_err-enter-clause-turns
 returns-in_err-enter-clause-turns g c =
@@ -37,12 +39,13 @@ returns-in_err-enter-clause-turns g c =
     let rd = c.block.new.self in
     let place = c.enter.new.self.place in
     let lines = c.in_ok-block.block.lines in
+    let end = branch_of c.in_ok-block.block.end in
     let body : Body = record { params = c.args.variable; lines = lines } in
     let replay : Replay = record { body = c.in_ok-body.body; at = c.len-at.result; arguments = c.new-arguments.result; count = None; locals = c.with_hasher-locals.result; number = 0 } in
     let n = c.args.count in
     let params = map (λ k. k.items) c.args.variable.keys in
     let ready = turns_ready replay body n c.in_ok-body.ensures.ok c.len-at.ensures c.new-arguments.ensures refl c.with_hasher-locals.ensures.empty refl in
-    rw (p.1, p.2) (where_known (g.S.Store.files c.args.store.now) (λ m. Block gathers (0, []) (left_of m old.reader) (Ok (map tokens_in lines, left_of m rd))) (λ m. Unless (is_outside f) (Leads m (repeated (state_of m old) n params) (stops (f, place)))) (λ m h. let P : ℕ → Type 0 = λ i. Unless (is_outside f) (Err (f, place) ≡ pushed (turns_left replay 0 n) (record { is_macro = false; conditions = i; back = None }) (left_of m rd)) in repeated_none m old rd replay body n (is_outside f) f place h ready (subst P c.len.ensures (c.in_err-enter.ensures.entered m))) c.in_ok-block.ensures.read)
+    rw (p.1, p.2) (where_known (g.S.Store.files c.args.store.now) (λ m. Block Repeat 0 [] (left_of m old.reader) (Ok ((map tokens_in lines, end), left_of m rd))) (λ m. Unless (is_outside f) (Leads m (repeated (state_of m old) n params) (stops (f, place)))) (λ m h. let P : ℕ → Type 0 = λ i. Unless (is_outside f) (Err (f, place) ≡ pushed (turns_left replay 0 n) (record { is_macro = false; conditions = i; back = None }) (left_of m rd)) in repeated_none m old rd replay body end n (is_outside f) f place h ready (subst P c.len.ensures (c.in_err-enter.ensures.entered m))) c.in_ok-block.ensures.read)
 
 pub returns-clause-keeps : goal.returns-clause-keeps
 returns-clause-keeps g c =

@@ -8,7 +8,7 @@ use Rattle.expand65.specs.Standing.{left_in, left_of, StopsAt, Turns, state_of}
 use Rattle.expand65.specs.Fronts.{is_mislabelled}
 use Rattle.expand65.specs.Playing.{tokens_in}
 use Rattle.expand65.specs.Failing.{Fails}
-use Rattle.expand65.specs.Expansion.{Leads, begun, IsStep, at_mark}
+use Rattle.expand65.specs.Expansion.{Leads, unless_mislabelled, IsStep, at_mark}
 use Rattle.expand65.specs.State.{stops}
 use Rattle.expand65.specs.Lines.{Takes}
 use Rattle.expand65.specs.declared.line.Line.{Line}
@@ -60,8 +60,8 @@ returns-in-Some-clause-turns g c =
     let end = c.begin.new.self in
     let P : Option Line → Type 0 = λ l. IfSome o (λ m. Takes (left_of m old.reader) (Ok (option_map tokens_in l, left_of m new))) in
     let taken = subst P c.in-Some.is c.in_ok-next_line.ensures.read in
-    let from = moved_to (λ m. Turns r (state_of m end) (Leads m (begun k (state_of m mid) ts (is_mislabelled ts)))) o (g.S.Store.files c.next_line.new.store) c.in_ok-next_line.ensures.leaves.files c.begin.ensures.turns in
-    where_both o (λ m. Takes (left_of m old.reader) (Ok (Some ts, left_of m new))) (λ m. Turns r (state_of m end) (Leads m (begun k (state_of m mid) ts (is_mislabelled ts)))) (λ m. Turns r (state_of m end) (IsStep m k (state_of m old))) (λ m h e. turns_so r (state_of m end) (Leads m (begun k (state_of m mid) ts (is_mislabelled ts))) (IsStep m k (state_of m old)) (λ x y. step_taken m k old (Ok (Some ts, left_of m new)) x h y) e) taken from
+    let from = moved_to (λ m. Turns r (state_of m end) (Leads m (unless_mislabelled k (state_of m mid) ts (is_mislabelled ts)))) o (g.S.Store.files c.next_line.new.store) c.in_ok-next_line.ensures.leaves.files c.begin.ensures.turns in
+    where_both o (λ m. Takes (left_of m old.reader) (Ok (Some ts, left_of m new))) (λ m. Turns r (state_of m end) (Leads m (unless_mislabelled k (state_of m mid) ts (is_mislabelled ts)))) (λ m. Turns r (state_of m end) (IsStep m k (state_of m old))) (λ m h e. turns_so r (state_of m end) (Leads m (unless_mislabelled k (state_of m mid) ts (is_mislabelled ts))) (IsStep m k (state_of m old)) (λ x y. step_taken m k old (Ok (Some ts, left_of m new)) x h y) e) taken from
 
 pub returns-in-Some-clause-stopped : goal.returns-in-Some-clause-stopped
 returns-in-Some-clause-stopped g c = λ names.
@@ -76,5 +76,5 @@ returns-in-Some-clause-stopped g c = λ names.
     let P : Option Line → Type 0 = λ l. IfSome o (λ m. Takes (left_of m old.reader) (Ok (option_map tokens_in l, left_of m new))) in
     let blamed = g.S.Store.blamed c.begin.new.store in
     let taken = subst P c.in-Some.is c.in_ok-next_line.ensures.read in
-    let stopped = moved_to (λ m. StopsAt (Fails blamed (begun k (state_of m mid) ts (is_mislabelled ts))) new end.reader r) o (g.S.Store.files c.next_line.new.store) c.in_ok-next_line.ensures.leaves.files (c.begin.ensures.stopped (c.in_ok-next_line.ensures.stays.named names)) in
+    let stopped = moved_to (λ m. StopsAt (Fails blamed (unless_mislabelled k (state_of m mid) ts (is_mislabelled ts))) new end.reader r) o (g.S.Store.files c.next_line.new.store) c.in_ok-next_line.ensures.leaves.files (c.begin.ensures.stopped (c.in_ok-next_line.ensures.stays.named names)) in
     stops_behind o blamed k old mid end.reader ts r taken (λ m. refl) c.in_ok-next_line.ensures.stays.mark stopped)

@@ -1,7 +1,8 @@
 use Rattle.std.proofs.Common.{◌≡◌, ℕ, length, slice_get, Some}
 use Rattle.symbols65.specs.declared.resolving.attempt.State.TheVariants.{Waiting}
 use Rattle.symbols65.specs.Resolving.{AreHung}
-use Rattle.symbols65.specs.Views.{AreNoted, Table}
+use Rattle.symbols65.specs.Views.{AreNoted}
+use Rattle.semantics65.specs.Symbols.{Symbols as Table}
 use Rattle.symbols65.proofs.resolving.cache.forget_noted.Given as goal
 
 abbrev pub invariant-places : goal.invariant-places

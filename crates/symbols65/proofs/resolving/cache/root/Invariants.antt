@@ -1,6 +1,6 @@
 use Rattle.std.proofs.Common.{◌≡◌, map}
 use Rattle.symbols65.specs.Resolving.{AreHung, Reaches, bare}
-use Rattle.symbols65.specs.Views.{Table}
+use Rattle.semantics65.specs.Symbols.{Symbols as Table}
 use Rattle.symbols65.proofs.resolving.cache.root.Given as goal
 
 abbrev pub invariant-loop : goal.invariant-loop

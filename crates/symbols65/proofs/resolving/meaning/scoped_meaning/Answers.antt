@@ -1,7 +1,8 @@
 use Rattle.std.proofs.Common.{Some, Err, take, ap, ◌∙◌, sym}
+use Rattle.std.specs.Option.{ok_or, option_map}
 use Rattle.ast65.specs.declared.fault.AsmFault.TheVariants.{NoSuchScope, Undefined}
 use Rattle.semantics65.specs.Symbols.{last_of, member_meaning, scope_from, scopes_of, shown}
-use Rattle.symbols65.specs.Resolving.{or_absent}
+use Rattle.symbols65.specs.Resolving.{meaning_in}
 use Rattle.symbols65.specs.Views.{table_of}
 use Rattle.symbols65.proofs.resolving.meaning.scoped_meaning.Goals as goal
 
@@ -16,7 +17,7 @@ returns-in-Some-member c =
     ∙ ap (member_meaning y (last_of name.parts) (Undefined text) (NoSuchScope text)) (sym c.scope_of.ensures ∙ c.in-Some.is)
     ∙ ap (λ n. member_meaning y n (Undefined text) (NoSuchScope text) (Some c.in-Some.inner)) (ap last_of (sym c.as_slice-parts.ensures) ∙ sym c.last_in.ensures)
     ∙ c.member.ensures (Undefined text) (NoSuchScope text)
-    ∙ ap (or_absent (Undefined text)) c.in-Some-member.is
+    ∙ ap (λ m. ok_or (option_map meaning_in m) (Undefined text)) c.in-Some-member.is
 
 pub returns-in_ok-name-in-None-member : goal.returns-in_ok-name-in-None-member
 returns-in_ok-name-in-None-member c =
@@ -29,5 +30,5 @@ returns-in_ok-name-in-None-member c =
     ∙ ap (member_meaning y (last_of name.parts) (Undefined text) (NoSuchScope text)) (sym c.scope_of.ensures ∙ c.in-Some.is)
     ∙ ap (λ n. member_meaning y n (Undefined text) (NoSuchScope text) (Some c.in-Some.inner)) (ap last_of (sym c.as_slice-parts.ensures) ∙ sym c.last_in.ensures)
     ∙ c.member.ensures (Undefined text) (NoSuchScope text)
-    ∙ ap (or_absent (Undefined text)) c.in-None-member.is
+    ∙ ap (λ m. ok_or (option_map meaning_in m) (Undefined text)) c.in-None-member.is
     ∙ ap (λ t. Err (Undefined t)) (sym (c.in_ok-name-in-None-member.ensures ∙ ap (shown name.is_global) c.as_slice-parts.ensures))

@@ -1,10 +1,10 @@
 use Rattle.std.proofs.Common.{◌≡◌, ◌∙◌, ℕ, length, sym, ap, subst}
 use Rattle.semantics65.specs.Symbols.{Key, Symbols, defined}
 use Rattle.ast65.proofs.Lists.{map_length, on_ok}
-use Rattle.symbols65.specs.Tables.{KeepsFinal, definition_in, definition_seen, key_of, place_of_entry}
+use Rattle.symbols65.specs.Tables.{KeepsFinal, definition_in, definition_seen, key_of}
 use Rattle.symbols65.specs.Views.{table_of, with_definition, words_of}
 use Rattle.symbols65.proofs.Growing.{entry_is}
-use Rattle.symbols65.proofs.Words.{finds}
+use Rattle.symbols65.proofs.Words.{finds, place_of_entry}
 use Rattle.symbols65.proofs.table.defining.define.Goals as goal
 
 pub put-requires-clause-number : goal.put-requires-clause-number

@@ -1,7 +1,7 @@
 use Rattle.std.proofs.Common.{sym, ap, ◌∙◌}
-use Rattle.symbols65.specs.Tables.{key_of, place_of_entry}
+use Rattle.symbols65.specs.Tables.{key_of}
 use Rattle.symbols65.specs.Views.{words_of}
-use Rattle.symbols65.proofs.Words.{finds}
+use Rattle.symbols65.proofs.Words.{finds, place_of_entry}
 use Rattle.symbols65.proofs.table.symbols.Symbols.defined.Goals as goal
 
 pub returns-in-Some : goal.returns-in-Some

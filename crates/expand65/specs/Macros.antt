@@ -63,7 +63,7 @@ arguments_of ts = map unbraced (parts_within 0 ts)
 abbrev pub mark_from : State → Bool → Option Place → Mark
 mark_from s is_macro back = record { is_macro = is_macro; conditions = length s.conditions; back = back }
 
--- Lines and their end mark in front of what is left, from this place on; so many files, expansions and repeats may be open.
+-- lines and their end mark in front of what is left, from this place on, where files, expansions and repeats leave room
 abbrev pub entered : State → List Item → Mark → Place → Stepped
 entered s is k p = unless_stopped (pushed is k s.left) (λ l. goes (with_left s (left l.items l.room p)))
 

@@ -7,13 +7,13 @@ ghost use Rattle.semantics65.specs.Machine.{begun};
 
 use crate::texts::Texts;
 use base65::{Seed, Sequence};
-use expand65::Knows;
-use semantics65::Context;
-use symbols65::{Cursor, NormCache, Symbols, definition_of};
-use object65::{Action, Width};
 use emit65::{Files, Sections};
+use expand65::Knows;
+use object65::{Action, Width};
+use semantics65::Context;
 use std::alloc::{AllocError, Global};
 use symbols65::knowing::constant_now;
+use symbols65::{Cursor, NormCache, Symbols, definition_of};
 use syntax65::{Expr, Name};
 
 /// What waits of a statement.
@@ -39,7 +39,7 @@ pub enum Piece {
     /// A name that the module may not define.
     Import(Sequence<u8>),
     /// A name that is imported though nothing may use it.
-    Demand(Sequence<u8>),
+    ForcedImport(Sequence<u8>),
     /// A name that is exported where it is defined, or has to be.
     Export {
         must: bool,

@@ -15,10 +15,10 @@ ghost use Rattle.asm65.specs.Inner.Running.{coming, made_in, noted};
 
 use crate::assembler::{Fixup, Piece};
 use crate::putting::values::{is_file_name, literal_of, stored};
-use base65::Sequence;
 use ast65::AsmFault;
-use semantics65::{At, Context, Declaration, GLOBAL_SCOPE, Part};
+use base65::Sequence;
 use object65::{Action, Norm, Width};
+use semantics65::{At, Context, Declaration, GLOBAL_SCOPE, Part};
 use std::alloc::{AllocError, Global};
 use symbols65::{Key, NormCache, Symbols, defined_norm, norm, operand_form};
 
@@ -171,7 +171,7 @@ pub fn resolve(
             Some(_) => Err(AsmFault::ImportedAndDefined(name)),
             None => Ok(nothing(alloc)),
         },
-        Piece::Demand(name) => Ok(told(alloc, Declaration::ForcedImport(name))?),
+        Piece::ForcedImport(name) => Ok(told(alloc, Declaration::ForcedImport(name))?),
         Piece::Export { must, name } => match defined(symbols, name.as_slice()) {
             Some(place) => {
                 let form = defined_norm(alloc, symbols, known, place)?;

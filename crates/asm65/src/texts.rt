@@ -6,10 +6,10 @@ ghost use Rattle.asm65.specs.Assembly.{has_failed, is_outside_refusal, placed_of
 ghost use Rattle.semantics65.specs.Views.{place_at, place_in};
 ghost use Rattle.semantics65.specs.Module.{out_of, warning_at, warning_of};
 
+use ast65::{AsmFault, Statement};
 use base65::{Sequence, Text};
 use expand65::ExpandFault;
 use itoa::Buffer;
-use ast65::{AsmFault, Statement};
 use semantics65::At;
 use std::alloc::{AllocError, Global};
 

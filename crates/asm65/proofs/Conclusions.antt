@@ -13,7 +13,7 @@ use Rattle.semantics65.specs.Machine.{before_it, resolved, Finished, State, conc
 use Rattle.semantics65.specs.Module as piece
 use Rattle.semantics65.specs.Module.{Made, made_of, used, Outcome}
 use Rattle.asm65.specs.declared.assembler.Piece.{Piece}
-use Rattle.asm65.specs.declared.assembler.Piece.TheVariants.{Datum, Operand, Constant, Assertion, Import, Demand, Export}
+use Rattle.asm65.specs.declared.assembler.Piece.TheVariants.{Datum, Operand, Constant, Assertion, Import, ForcedImport, Export}
 use Rattle.asm65.specs.declared.assembler.Fixup.{Fixup}
 use Rattle.asm65.specs.Inner.Holding.{IsConstant, IsPiece, IsFixup, AreAwaited, AreFixups, Holds}
 use Rattle.asm65.specs.Inner.Running.{coming, AreFaulty, AreSettled, IsFaulty, IsSettled, ReceivesAll, SettlesAll}
@@ -72,7 +72,7 @@ comes_to y place s (Operand width e) p h = ap (made_of y place s) (sym h)
 comes_to y place s (Constant at) p h = ap (λ r. r >>= used place s piece.equated) (constant_form y s at h.0 h.1) ∙ ap (made_of y place s) (sym h.2)
 comes_to y place s (Assertion act words e) p h = ap (made_of y place s) (sym h)
 comes_to y place s (Import n) p h = ap (made_of y place s) (sym h)
-comes_to y place s (Demand n) p h = ap (made_of y place s) (sym h)
+comes_to y place s (ForcedImport n) p h = ap (made_of y place s) (sym h)
 comes_to y place s (Export must n) p h = ap (made_of y place s) (sym h)
 
 pub waiting_comes : (y : Symbols) (files : List (List ℕ)) (w : Fixup) (v : machine.Fixup) (here : Place) → IsFixup y files w v → here ≡ v.place → coming y here w.context w.piece ≡ made_of y v.place v.context v.piece

@@ -6,16 +6,22 @@ use Rattle.syntax65.specs.declared.place.Place.{Place}
 use Rattle.ast65.specs.declared.fault.AsmFault.{AsmFault}
 use Rattle.ast65.specs.Faults.{is_outside}
 use Rattle.ast65.specs.declared.language.Statement.TheVariants.{Constant}
-use Rattle.semantics65.specs.Reading.{DefinesOn, Answers, AreDefined, Define}
+use Rattle.semantics65.specs.Reading.{Answers, AreDefined, Define}
 use Rattle.semantics65.specs.Machine.{State, Takes, begun}
-use Rattle.semantics65.proofs.Taken.{faulty_constant, first_constant, next_constant}
+use Rattle.semantics65.proofs.Taken.{DefinesOn, faulty_constant, first_constant, next_constant}
 use Rattle.asm65.specs.declared.assembler.Assembler.{Assembler}
 use Rattle.asm65.specs.declared.assembling.Define as code
 use Rattle.asm65.specs.Assembly.{define_of}
 use Rattle.symbols65.specs.Measuring.{opening_limit}
 use Rattle.asm65.specs.Inner.Holding.{Holds}
-use Rattle.asm65.specs.Inner.Running.{DefinesBy, IsReached, behind, at_first, Leaves}
+use Rattle.asm65.specs.Inner.Running.{IsReached, behind, at_first, Leaves}
 use Rattle.asm65.proofs.Runs.{Answer, fault_first, fault_then, says_same, takes_quiet}
+
+-- one opens nothing, and its name is no object's
+abbrev pub DefinesBy : Place → Define → Assembler → Assembler → Answer → Type 0
+DefinesBy place d old new r =
+    (count : ℕ) (t : State) → count + 1 ≤ opening_limit → Holds count t old →
+    Leaves ⊤ (Takes t place (Constant d.0 (number d.1))) count t new r
 
 pub defines_by : (place : Place) (d : Define) (old new : Assembler) (r : Answer) → ((count : ℕ) (t : State) → Holds count t old → count < opening_limit → Answers (Takes t place (Constant d.0 (number d.1))) (λ u. Holds (count + 0) u new) r) → IfErr r (λ e. is_outside e ≡ false → new.texts ≡ old.texts) → DefinesBy place d old new r
 defines_by place d old new (Ok v) taken same = λ count t room h.

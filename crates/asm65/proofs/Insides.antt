@@ -32,8 +32,8 @@ use Rattle.semantics65.specs.Module.{Made, Purpose, absent_of, as_part, as_said,
 use Rattle.symbols65.specs.declared.measuring.Measured.{Measured}
 use Rattle.symbols65.specs.Measuring.{measure_of, measured, unread_fault}
 use Rattle.asm65.specs.declared.assembler.Piece.{Piece}
-use Rattle.asm65.specs.declared.assembler.Piece.TheVariants.{Datum, Operand, Constant, Assertion, Import, Demand, Export}
-use Rattle.asm65.specs.Inner.Running.{coming, lost}
+use Rattle.asm65.specs.declared.assembler.Piece.TheVariants.{Datum, Operand, Constant, Assertion, Import, ForcedImport, Export}
+use Rattle.asm65.specs.Inner.Running.{coming}
 
 abbrev pub IsInside : {A : Type 0} → Result A AsmFault → Type 0
 IsInside r = IfErr r (λ e. is_failure e ≡ false)
@@ -194,7 +194,7 @@ inside_coming y place s (Operand w e) = inside_valued y place s (piece.operand w
 inside_coming y place s (Constant at) = inside_then (defined_form y at) (used place s piece.equated) (inside_defined y at) (inside_used place s piece.equated)
 inside_coming y place s (Assertion act words e) = inside_valued y place s (piece.asserted act words) e
 inside_coming y place s (Import n) = inside_said (import_fault y n) (inside_import y n)
-inside_coming y place s (Demand n) = tt
+inside_coming y place s (ForcedImport n) = tt
 inside_coming y place s (Export must n) = inside_said (export_said y place n (absent_of must n) (defined y (named 0 n))) (inside_export y place n must (defined y (named 0 n)))
 
 -- ---- What a call answers.

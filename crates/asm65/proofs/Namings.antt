@@ -8,7 +8,7 @@ use Rattle.emit65.specs.Fed.{names_in}
 use Rattle.symbols65.specs.Views.{table_of, with_definition, with_names, with_scope}
 use Rattle.symbols65.specs.Measuring.{cursor_of, AreWithin, IsCounted, IsSoundCursor, AreInside}
 use Rattle.asm65.specs.declared.assembler.Assembler.{Assembler}
-use Rattle.asm65.specs.Inner.Holding.{Holds, AreBefore, Enters, known_where, KeepsTables, KeepsPut, Mentions, Turns, all_awaiting, with_symbols, is_for_zero_page, label_at, laid_as}
+use Rattle.asm65.specs.Inner.Holding.{Holds, is_put, AreBefore, Enters, known_where, KeepsTables, KeepsPut, Mentions, Turns, all_awaiting, is_for_zero_page, label_at, laid_as}
 use Rattle.std.specs.Prelude.{slice_get, Some, Bool, OnOk, Result, Ok, Err, true, false, Option}
 use Rattle.std.proofs.lemmas.List.{take_all}
 use Rattle.ast65.proofs.Lists.{map_length}
@@ -26,7 +26,9 @@ use Rattle.syntax65.specs.declared.lexing.tokens.AddressSize.{AddressSize}
 use Rattle.syntax65.specs.declared.lexing.tokens.AddressSize.TheVariants as size
 use Rattle.syntax65.specs.Trees.{Tree}
 use Rattle.ast65.specs.declared.language.Statement.{Statement}
-use Rattle.ast65.specs.declared.language.Statement.TheVariants.{CheapLabel, Constant, ForceImport, Global, Import, Label, OpenProc, OpenScope, UnnamedLabel}
+use Rattle.ast65.specs.declared.language.Statement.TheVariants.{Align, Assert, CheapLabel, Constant, Export, FilePart, ForceImport, Global, Import, Instruction, Label, OpenProc, OpenScope, Reserve, UnnamedLabel, Values}
+use Rattle.semantics65.specs.Types.{Action, Item, Mnemonic, Operand, Width}
+use Rattle.asm65.proofs.Enterings.{enters_none}
 use Rattle.symbols65.specs.declared.measuring.Measured.{Measured}
 use Rattle.symbols65.proofs.Measures.{ok_then}
 use Rattle.semantics65.specs.Module.{demanded, equated, exported, imported, pieces_of, valued}
@@ -47,7 +49,7 @@ begins_itself : (names : List (List ℕ)) → Begins names names
 begins_itself names = ([], sym (append-nil names))
 
 -- a state with more names is held, where its table is
-pub holds_grown : (count : ℕ) (t : State) (old new : Assembler) (y : Symbols) → Holds count t old → KeepsPut old new → table_of new.symbols ≡ y → IsTable (table_of new.symbols) new.known.states.items → Extends t.symbols y → AreInside count y.scopes → AreBefore t.cursor.unnamed y.definitions → Holds count (with_symbols t y) new
+pub holds_grown : (count : ℕ) (t : State) (old new : Assembler) (y : Symbols) → Holds count t old → KeepsPut old new → table_of new.symbols ≡ y → IsTable (table_of new.symbols) new.known.states.items → Extends t.symbols y → AreInside count y.scopes → AreBefore t.cursor.unnamed y.definitions → Holds count (record t { symbols = y }) new
 holds_grown count t old new y h keeps symbols known more inside unnamed = record {
   symbols = symbols;
   known = subst (λ (z : Symbols). IsTable z new.known.states.items) symbols known;
@@ -149,13 +151,13 @@ turns_after place s ps becomes old mid new enters keeps table known more count t
 pub turns_same : (place : Place) (s : Context) (ps : List piece.Piece) (old new : Assembler) → Enters place s ps old new → Turns place s ps (λ y. y) old new
 turns_same place s ps old new enters count t h inside unnamed =
     let x = enters count t h in
-    (x.0, x.1, subst (λ (y : Symbols). Holds count (with_symbols x.0 y) new) (puts_beside place s t x.0 ps x.1).symbols x.2)
+    (x.0, x.1, subst (λ (y : Symbols). Holds count (record x.0 { symbols = y }) new) (puts_beside place s t x.0 ps x.1).symbols x.2)
 
 pub turns_as : (place : Place) (s : Context) (ps : List piece.Piece) (f g : Symbols → Symbols) (old new : Assembler) → ((y : Symbols) → f y ≡ g y) → Turns place s ps f old new → Turns place s ps g old new
 turns_as place s ps f g old new same turns count t h inside unnamed =
     let e = same t.symbols in
     let x = turns count t h (subst (λ (y : Symbols). AreInside count y.scopes) (sym e) inside) (subst (λ (y : Symbols). AreBefore t.cursor.unnamed y.definitions) (sym e) unnamed) in
-    (x.0, x.1, subst (λ (y : Symbols). Holds count (with_symbols x.0 y) new) e x.2)
+    (x.0, x.1, subst (λ (y : Symbols). Holds count (record x.0 { symbols = y }) new) e x.2)
 
 pub more_opened : (y : Symbols) (c : Scope) → Extends y (with_scope y c)
 more_opened y c = record {
@@ -247,3 +249,35 @@ module _ (place : Place) (s : Context) (m : Measured) (old new : Assembler) wher
   -- what a call adds, for the statement that it is
   pub taken_as : {P : Type 0} (r : Result (Unit {0}) AllocError) (x z : Statement) → x ≡ z → (P → Adds x) → OnOk r P → OnOk r (Adds z)
   taken_as r x z e f h = subst (λ (w : Statement). OnOk r (Adds w)) e (ok_then r f h)
+
+-- ---- Statements by what they are not.
+
+-- a statement of the other kinds puts nothing into a section
+pub puts_nothing : (x : Statement) → ((m : Mnemonic) (o : Operand) → x ≡ Instruction m o → ⊥) → ((w : Width) (items : List Item) → x ≡ Values w items → ⊥) → ((n : Tree) (v : Option Tree) → x ≡ Reserve n v → ⊥) → ((n : Tree) (v : Option Tree) → x ≡ Align n v → ⊥) → ((bytes : Option (List ℕ)) (start len : Option Tree) → x ≡ FilePart bytes start len → ⊥) → ((e : Tree) (act : Action) (words : List ℕ) → x ≡ Assert e act words → ⊥) → is_put x ≡ false
+puts_nothing (Instruction m o) i v r a f s = absurd (i m o refl)
+puts_nothing (Values w items) i v r a f s = absurd (v w items refl)
+puts_nothing (Reserve n e) i v r a f s = absurd (r n e refl)
+puts_nothing (Align n e) i v r a f s = absurd (a n e refl)
+puts_nothing (FilePart bytes start len) i v r a f s = absurd (f bytes start len refl)
+puts_nothing (Assert e act words) i v r a f s = absurd (s e act words refl)
+puts_nothing x i v r a f s = refl
+
+-- one that names nothing either adds nothing
+pub adds_nothing : (place : Place) (s : Context) (m : Measured) (a : Assembler) (x : Statement) → is_put x ≡ false → ((n : List ℕ) → x ≡ Label n → ⊥) → ((n : List ℕ) → x ≡ CheapLabel n → ⊥) → (x ≡ UnnamedLabel → ⊥) → ((n : List ℕ) (e : Tree) → x ≡ Constant n e → ⊥) → ((n : Option (List ℕ)) → x ≡ OpenScope n → ⊥) → ((n : List ℕ) → x ≡ OpenProc n → ⊥) → ((own : AddressSize) (names : List (List ℕ)) → x ≡ Import own names → ⊥) → ((own : AddressSize) (names : List (List ℕ)) → x ≡ Global own names → ⊥) → ((names : List (List ℕ)) → x ≡ ForceImport names → ⊥) → ((names : List (List ℕ)) → x ≡ Export names → ⊥) → Adds place s m a a x
+adds_nothing place s m a (Instruction n o) put l c u e b p i g f x = absurd cc
+adds_nothing place s m a (Values w items) put l c u e b p i g f x = absurd cc
+adds_nothing place s m a (Reserve n v) put l c u e b p i g f x = absurd cc
+adds_nothing place s m a (Align n v) put l c u e b p i g f x = absurd cc
+adds_nothing place s m a (FilePart bytes start len) put l c u e b p i g f x = absurd cc
+adds_nothing place s m a (Assert v act words) put l c u e b p i g f x = absurd cc
+adds_nothing place s m a (Label n) put l c u e b p i g f x = absurd (l n refl)
+adds_nothing place s m a (CheapLabel n) put l c u e b p i g f x = absurd (c n refl)
+adds_nothing place s m a UnnamedLabel put l c u e b p i g f x = absurd (u refl)
+adds_nothing place s m a (Constant n v) put l c u e b p i g f x = absurd (e n v refl)
+adds_nothing place s m a (OpenScope n) put l c u e b p i g f x = absurd (b n refl)
+adds_nothing place s m a (OpenProc n) put l c u e b p i g f x = absurd (p n refl)
+adds_nothing place s m a (Import own names) put l c u e b p i g f x = absurd (i own names refl)
+adds_nothing place s m a (Global own names) put l c u e b p i g f x = absurd (g own names refl)
+adds_nothing place s m a (ForceImport names) put l c u e b p i g f x = absurd (f names refl)
+adds_nothing place s m a (Export names) put l c u e b p i g f x = absurd (x names refl)
+adds_nothing place s m a other put l c u e b p i g f x = adds_pieces place s m a a other (λ y. nothing_behind y) (enters_none place s a)

@@ -34,10 +34,10 @@ use Rattle.asm65.specs.declared.assembler.Assembler.{Assembler}
 use Rattle.asm65.specs.declared.assembling.Assembly.{Assembly}
 use Rattle.asm65.specs.declared.texts.AsmRefusal.{AsmRefusal}
 use Rattle.asm65.specs.declared.running.Run.{Run}
-use Rattle.asm65.specs.Assembly.{Concludes, IsAssembled, answer_of, has_failed, is_from_memory, is_from_outside, is_outside_refusal, placed_of}
-use Rattle.asm65.specs.Failing.{StopsAll, Stops, StopsSo, StopsBehind, StopsFrom}
+use Rattle.asm65.specs.Assembly.{Concludes, answer_of, has_failed, is_from_memory, is_from_outside, is_outside_refusal, placed_of}
+use Rattle.asm65.specs.Failing.{StopsAll, Stops, StopsSo, StopsBehind, Begins}
 use Rattle.asm65.specs.Inner.Holding.{Holds}
-use Rattle.asm65.specs.Inner.Running.{HoldsWithin, IsHeldBy, IsReached, at_first, behind, IsReachedBy, IsRunning, Leaves, Ran, SaysAs, running_limit}
+use Rattle.asm65.specs.Inner.Running.{HoldsWithin, IsHeldBy, IsReached, at_first, behind, HoldsSome, IsRunning, Leaves, Ran, SaysAs, running_limit}
 use Rattle.asm65.proofs.Sources.{RanAll, some_all, some_both, some_then}
 
 -- ---- What statements lead to comes to objects of the grammar.
@@ -91,18 +91,18 @@ good_found : (a : Assembly) (t : State) (r : Found) → IsReached t → Finds is
 good_found a t (Ok o) reached h = good_concluded t o reached (sym (ap (λ (x : Outcome). x.result) h))
 good_found a t (Err e) reached h = tt
 
-pub good_answer : (a : Assembly) (b : Assembler) → IsReachedBy b → ((count : ℕ) (t : State) → Holds count t b → Concludes (concluded t None) a) → IfOk a.result (λ o. is_good_object o ≡ true)
+pub good_answer : (a : Assembly) (b : Assembler) → ((t : State) × IsReached t × HoldsSome t b) → ((count : ℕ) (t : State) → Holds count t b → Concludes (concluded t None) a) → IfOk a.result (λ o. is_good_object o ≡ true)
 good_answer a b reached h = good_found a reached.0 a.result reached.1 (h reached.2.0 reached.0 reached.2.1)
 
-outcome_found : (a : Assembly) (o : Outcome) (m : Files) (job : Job) (r : Found) → IsOutcome m job o → Finds is_outside_refusal (λ q. answer_of a q ≡ o) r → Finds is_outside_refusal (λ q. IsAssembled m job (answer_of a q)) r
+outcome_found : (a : Assembly) (o : Outcome) (m : Files) (job : Job) (r : Found) → IsOutcome m job o → Finds is_outside_refusal (λ q. answer_of a q ≡ o) r → Finds is_outside_refusal (λ q. IsOutcome m job (answer_of a q)) r
 outcome_found a o m job (Ok x) is h = subst (IsOutcome m job) (sym h) is
 outcome_found a o m job (Err e) is h = by (is_outside_refusal e) h
   where
-    by : (b : Bool) → Unless b (answer_of a (Err e) ≡ o) → Unless b (IsAssembled m job (answer_of a (Err e)))
+    by : (b : Bool) → Unless b (answer_of a (Err e) ≡ o) → Unless b (IsOutcome m job (answer_of a (Err e)))
     by true h = tt
     by false h = subst (IsOutcome m job) (sym h) is
 
-pub outcome_answer : (a : Assembly) (o : Outcome) (m : Files) (job : Job) → IsOutcome m job o → Concludes o a → Finds is_outside_refusal (λ q. IsAssembled m job (answer_of a q)) a.result
+pub outcome_answer : (a : Assembly) (o : Outcome) (m : Files) (job : Job) → IsOutcome m job o → Concludes o a → Finds is_outside_refusal (λ q. IsOutcome m job (answer_of a q)) a.result
 outcome_answer a o m job is h = outcome_found a o m job a.result is h
 
 pub outside_found : (P : Found → Type 0) (r : Found) → is_from_outside r ≡ true → Finds is_outside_refusal P r
@@ -117,22 +117,22 @@ abbrev pub RefusedBy : Assembler → Place → AsmFault → Assembly → Type 0
 RefusedBy b place e a = is_outside e ≡ false → (t : State) → SaysAs t b → Concludes (concluded t (Some (record { place = place; fault = e }))) a
 
 -- a fault of a source, at its place
-pub refused_answer : (a : Assembly) (b : Assembler) (m : Files) (job : Job) (place : Place) (e : AsmFault) → Unless (is_outside e) ((u : State) × Runs m job (stopped u place e) × SaysAs u b) → (is_outside e ≡ true → is_from_outside a.result ≡ true) → RefusedBy b place e a → Finds is_outside_refusal (λ q. IsAssembled m job (answer_of a q)) a.result
+pub refused_answer : (a : Assembly) (b : Assembler) (m : Files) (job : Job) (place : Place) (e : AsmFault) → Unless (is_outside e) ((u : State) × Runs m job (stopped u place e) × SaysAs u b) → (is_outside e ≡ true → is_from_outside a.result ≡ true) → RefusedBy b place e a → Finds is_outside_refusal (λ q. IsOutcome m job (answer_of a q)) a.result
 refused_answer a b m job place e ran outside refused = by (is_outside e) refl ran
   where
-    by : (c : Bool) → is_outside e ≡ c → Unless c ((u : State) × Runs m job (stopped u place e) × SaysAs u b) → Finds is_outside_refusal (λ q. IsAssembled m job (answer_of a q)) a.result
-    by true is h = outside_found (λ q. IsAssembled m job (answer_of a q)) a.result (outside is)
+    by : (c : Bool) → is_outside e ≡ c → Unless c ((u : State) × Runs m job (stopped u place e) × SaysAs u b) → Finds is_outside_refusal (λ q. IsOutcome m job (answer_of a q)) a.result
+    by true is h = outside_found (λ q. IsOutcome m job (answer_of a q)) a.result (outside is)
     by false is h = outcome_answer a (concluded h.0 (Some (record { place = place; fault = e }))) m job (one_pass m job (stopped h.0 place e) h.1) (refused is h.0 h.2)
 
 -- a source without a fault of a line
-pub concluded_answer : (a : Assembly) (m : Files) (job : Job) (run : Run) (v : Unit {0}) → Ran m job run (Ok v) → ((count : ℕ) (t : State) → Holds count t run.assembler → Concludes (concluded t None) a) → Finds is_outside_refusal (λ q. IsAssembled m job (answer_of a q)) a.result
+pub concluded_answer : (a : Assembly) (m : Files) (job : Job) (run : Run) (v : Unit {0}) → Ran m job run (Ok v) → ((count : ℕ) (t : State) → Holds count t run.assembler → Concludes (concluded t None) a) → Finds is_outside_refusal (λ q. IsOutcome m job (answer_of a q)) a.result
 concluded_answer a m job run v ran h =
     outcome_answer a (concluded ran.0 None) m job (one_pass m job (record { behind = ran.0; fault = None }) ran.1) (h ran.2.0 ran.0 ran.2.1)
 
 -- ---- What callers are told.
 
 abbrev pub AnswersAs : Files → Job → Assembly → Type 0
-AnswersAs m job a = Finds is_outside_refusal (λ r. IsAssembled m job (answer_of a r)) a.result
+AnswersAs m job a = Finds is_outside_refusal (λ r. IsOutcome m job (answer_of a r)) a.result
 
 abbrev pub AnswersAll : Files → Run → Assembly → Type 0
 AnswersAll m first a =
@@ -256,6 +256,9 @@ never_so m blamed job a none = by a.result none
 
 pub stops_never_so : (o : Option Files) (blamed : Option (List ℕ)) (job : Job) (a : Assembly) → IfErr a.result (λ e. has_failed e ≡ false) → IfSome o (λ m. StopsSo m blamed job a)
 stops_never_so o blamed job a none = some_all (λ m. StopsSo m blamed job a) o (λ m. never_so m blamed job a none)
+
+abbrev pub StopsFrom : Files → Option (List ℕ) → Run → Assembly → Type 0
+StopsFrom m blamed first a = (job : Job) → Begins m job first → StopsSo m blamed job a
 
 pub stops_never_from : (o : Option Files) (blamed : Option (List ℕ)) (first : Run) (a : Assembly) → IfErr a.result (λ e. has_failed e ≡ false) → IfSome o (λ m. StopsFrom m blamed first a)
 stops_never_from o blamed first a none = some_all (λ m. StopsFrom m blamed first a) o (λ m job begins. never_so m blamed job a none)

@@ -1,6 +1,7 @@
 -- What is put into sections at once.
 use Rattle.std.proofs.Common.{◌≡◌, ℕ, List, refl, sym, ap, subst}
 use Rattle.std.specs.Prelude.{ℤ, Bool, true, Some, None, Result, Ok, Err, if◌then◌else◌}
+use Rattle.semantics65.specs.Norms.{literal_in}
 use Rattle.object65.specs.Form.{Form, lit, sec, imp, prefix, binary}
 use Rattle.object65.specs.Objects.{fits_width, is_file_name, value_bytes}
 use Rattle.object65.specs.declared.object.Width.{Width}
@@ -12,7 +13,7 @@ use Rattle.emit65.specs.declared.sections.Sections.{Sections}
 use Rattle.emit65.specs.Fed.{Feeds}
 use Rattle.semantics65.specs.declared.laid.Settled as held
 use Rattle.semantics65.specs.declared.laid.Settled.TheVariants as settled
-use Rattle.asm65.specs.Inner.Holding.{IsPut, literal_of}
+use Rattle.asm65.specs.Inner.Holding.{IsPut}
 
 -- ---- What is stored of a form.
 
@@ -28,7 +29,7 @@ literal_put old new g width place v bytes fits same feeds =
     subst (λ (r : Result Part AsmFault). IsPut old new g r true) (sym (stored_is width place v fits))
     (subst (λ (known : List ℕ). Feeds old new (put g (Known known))) same feeds)
 
-pub literal_is : (f : Form) (v : ℤ) → literal_of f ≡ Some v → f ≡ lit v
+pub literal_is : (f : Form) (v : ℤ) → literal_in (Ok f) ≡ Some v → f ≡ lit v
 literal_is (lit w) v e = let same : w ≡ v = cc in ap lit same
 literal_is (sec k a) v e = absurd cc
 literal_is (imp k) v e = absurd cc
@@ -36,7 +37,7 @@ literal_is (prefix op f) v e = absurd cc
 literal_is (binary op f g) v e = absurd cc
 
 -- what isn't a literal is the linker's, and written with its place
-pub other_stored : (width : Width) (place : Place) (f : Form) → literal_of f ≡ None → stored width place f ≡ written place (Waiting width place f)
+pub other_stored : (width : Width) (place : Place) (f : Form) → literal_in (Ok f) ≡ None → stored width place f ≡ written place (Waiting width place f)
 other_stored width place (lit w) e = absurd cc
 other_stored width place (sec k a) e = refl
 other_stored width place (imp k) e = refl
@@ -44,7 +45,7 @@ other_stored width place (prefix op f) e = refl
 other_stored width place (binary op f g) e = refl
 
 -- so it is put where an object can hold the name of the file
-pub other_put : (old new : Sections) (g : ℕ) (width : Width) (place : Place) (f : Form) → literal_of f ≡ None → is_file_name place.file ≡ true → Feeds old new (put g (Waiting width place f)) → IsPut old new g (stored width place f) true
+pub other_put : (old new : Sections) (g : ℕ) (width : Width) (place : Place) (f : Form) → literal_in (Ok f) ≡ None → is_file_name place.file ≡ true → Feeds old new (put g (Waiting width place f)) → IsPut old new g (stored width place f) true
 other_put old new g width place f e fits feeds =
     subst (λ r. IsPut old new g r true) (sym (other_stored width place f e))
     (subst (λ b. IsPut old new g (if b then Ok (Waiting width place f) else Err FileNameTooLong) true) (sym fits) feeds)

@@ -34,7 +34,7 @@ use Rattle.asm65.specs.declared.texts.Texts.{Texts}
 use Rattle.symbols65.proofs.Measures.{unless_then}
 use Rattle.symbols65.specs.Measuring.{opened_by, opening_limit}
 use Rattle.asm65.specs.Inner.Holding.{Holds}
-use Rattle.asm65.specs.Inner.Running.{IsRefusedUnread, read_bytes, behind, IsRoomy, IsSoundIf, Leaves, SaysAs, StopsQuietly, TakesBy, Told, tokens_of}
+use Rattle.asm65.specs.Inner.Running.{IsRefusedUnread, read_bytes, behind, IsRoomy, Leaves, SaysAs, StopsQuietly, TakesBy, Told, tokens_of}
 use Rattle.asm65.specs.Assembly.{Without}
 use Rattle.asm65.proofs.WholeFiles.{read_sound, takes_whole}
 
@@ -165,7 +165,7 @@ some_there (suc n) h e = absurd cc
 -- ---- A label.
 
 abbrev FrontBy : Place → Option Statement → Assembler → Assembler → Answer → Type 0
-FrontBy place o old new r = TakesBy (IsSoundIf o) (λ t. IsLabelled Takes t place o) 1 old new r
+FrontBy place o old new r = TakesBy (IfSome o IsSound) (λ t. IsLabelled Takes t place o) 1 old new r
 
 pub front_leaves : (place : Place) (o : Option Statement) (x : Statement) (old new : Assembler) (r : Answer) → o ≡ Some x → TakesBy (IsSound x) (λ t. Takes t place x) 1 old new r → FrontBy place o old new r
 front_leaves place o x old new r e h = subst (λ p. FrontBy place p old new r) (sym e) h
@@ -216,7 +216,7 @@ quiet_labelled t u place (Some x) quiet h = takes_quiet t u place x (quiet place
 abbrev LabelAt : Files → State → Place → (Option Statement × List Lexeme) → Result State AsmFault → Type 0
 LabelAt m t place p r = (q : Result State AsmFault) × IsLabelled Takes t place p.0 q × First q (λ z. IsRest m Takes z place p.1) r
 
-sound_if : (o : Option Statement) → ((x : Statement) → o ≡ Some x → IsSound x) → IsSoundIf o
+sound_if : (o : Option Statement) → ((x : Statement) → o ≡ Some x → IsSound x) → IfSome o IsSound
 sound_if None f = tt
 sound_if (Some x) f = f x refl
 
@@ -266,7 +266,7 @@ label_refused f place ts rest o old new e r says front fails =
   where
     refused : (count : ℕ) (t : State) → count + 2 ≤ opening_limit → Holds count t old → Leaves (AreNamed ts) (LabelBy f place ts t) (count + 2) t new (Err e)
     refused count t room h =
-        fault_then (IsSoundIf o) (AreNamed ts) (IsLabelled Takes t place o) (LabelBy f place ts t) (count + 1) (count + 2) t t new e
+        fault_then (IfSome o IsSound) (AreNamed ts) (IsLabelled Takes t place o) (LabelBy f place ts t) (count + 1) (count + 2) t t new e
         (λ named. sound_if o (subst (λ (p : Option Statement × List Lexeme). (x : Statement) → p.0 ≡ Some x → IsSound x) (parted ts rest o says) (label_sound ts named).label))
         (λ p. told_all f (λ m. IsLabel m Takes t place ts (Err e)) (λ m. subst (λ q. LabelAt m t place q (Err e)) (sym (parted ts rest o says)) (Err e, p, refl)))
         (λ s. s) (front count t (omega (arith, room)) h)

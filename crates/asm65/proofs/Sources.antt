@@ -17,7 +17,7 @@ use Rattle.expand65.proofs.AtHand.{reaches_behind}
 use Rattle.expand65.proofs.Stopping.{goes_over}
 use Rattle.expand65.specs.declared.expander.Expander.{Expander}
 use Rattle.ast65.specs.declared.fault.AsmFault.{AsmFault}
-use Rattle.ast65.specs.declared.fault.AsmFault.TheVariants.{BadScope, Expansion}
+use Rattle.ast65.specs.declared.fault.AsmFault.TheVariants.{BadScope, Expansion, FileNotFound}
 use Rattle.ast65.specs.Faults.{is_failure, is_outside}
 use Rattle.semantics65.specs.Layout.{is_open, Cursor}
 use Rattle.semantics65.specs.Numbering.{AreNamed}
@@ -32,7 +32,7 @@ use Rattle.asm65.specs.declared.assembler.Assembler.{Assembler}
 use Rattle.asm65.specs.declared.running.Run.{Run}
 use Rattle.symbols65.specs.Measuring.{opening_limit}
 use Rattle.asm65.specs.Failing.{IsTakenTo, at_first, further, IsWhere, StopsAll, StopsBehind}
-use Rattle.asm65.specs.Assembly.{IsUnread, Without}
+use Rattle.asm65.specs.Assembly.{Without}
 use Rattle.asm65.specs.Inner.Holding.{Holds}
 use Rattle.asm65.specs.Inner.Running.{HoldsWithin, IsHeldBy, IsRunning, Ran, SaysAs, StopsQuietly, TakesAll, TakesBy, TakesLine, TakesOne, none, one_more, refused, running_limit, tokens_of}
 use Rattle.asm65.proofs.Runs.{Answer, GivenBy}
@@ -272,7 +272,7 @@ module _ (m : Files) (first old mid : Run) (same : mid.assembler ≡ old.assembl
             left = s.left;
             behind = u;
             taken = s.taken;
-            where_it_is = subst (λ f. IsWhere m blamed s.left u f (place_of new.expander)) (sym q.fault) (record { stated = stated x; left = a.0; reaches = a.1; at = at_new; unread = subst (λ p. IsUnread blamed u p (stated x)) (ap place_of (sym stays)) unread });
+            where_it_is = subst (λ f. IsWhere m blamed s.left u f (place_of new.expander)) (sym q.fault) (record { stated = stated x; left = a.0; reaches = a.1; at = at_new; unread = subst (λ p. Without blamed (λ m t. IsGiven m Takes t p (stated x)) u (Err FileNotFound)) (ap place_of (sym stays)) unread });
             says_out = q.out ∙ says.0;
             says_err = q.err ∙ says.1;
           }

@@ -12,9 +12,9 @@ use Rattle.semantics65.specs.Symbols.{Laid, asks_section, is_unnamed, Definition
 use Rattle.semantics65.specs.declared.laid.Context.{Context}
 use Rattle.ast65.specs.declared.language.Statement.{Statement}
 use Rattle.ast65.specs.declared.language.Statement.TheVariants as statement
-use Rattle.semantics65.specs.Layout.{Cursor, laid, context_of, cursor_behind, defined_twice, first_fault, is_open, line_fault, lost_scopes, opened_twice, or_then, scope_name, stands_outside, trees_of, when, where_there, operand_fault, unless_fault}
+use Rattle.semantics65.specs.Layout.{Cursor, laid, context_of, cursor_behind, defined_twice, first_fault, is_open, line_fault, lost_scopes, opened_twice, or_then, placing_faults, scope_name, stands_outside, trees_of, when, where_there, operand_fault, unless_fault}
 use Rattle.symbols65.specs.declared.cursor.Cursor as code
-use Rattle.symbols65.specs.Measuring.{AreInside, opened_by, measure_of, naming_fault, placing_faults, unread_fault, AreWithin, IsCounted, IsSoundCursor, cursor_of}
+use Rattle.symbols65.specs.Measuring.{AreInside, opened_by, measure_of, naming_fault, unread_fault, AreWithin, IsCounted, IsSoundCursor, cursor_of}
 use Rattle.symbols65.specs.declared.measuring.Measured.{Measured}
 use Rattle.symbols65.proofs.Behind.{inside_behind}
 use Rattle.symbols65.proofs.Measures.{faults_are, unless_then}
@@ -27,7 +27,7 @@ use Rattle.symbols65.specs.Views.{table_of}
 use Rattle.symbols65.proofs.Words.{position_none}
 use Rattle.asm65.specs.declared.assembler.Assembler.{Assembler}
 use Rattle.asm65.specs.declared.texts.Texts.{Texts}
-use Rattle.asm65.specs.Inner.Holding.{AreBefore, Holds, IsBefore, IsNew, IsPlaced, Turns, asked_of, laid_as, stepped, with_symbols}
+use Rattle.asm65.specs.Inner.Holding.{AreBefore, Holds, IsBefore, IsNew, IsPlaced, Turns, asked_of, laid_as, stepped}
 use Rattle.asm65.proofs.Namings.{IsBeside, puts_beside}
 use Rattle.base65.specs.Store.{Files, IsBlamed}
 use Rattle.syntax65.specs.Trees.{Tree}
@@ -221,7 +221,7 @@ takes_entered count t place x s m old mid new h placed held turns =
     let w : State = aside v u.cursor u.out u.err in
     let along = puts_beside place (context_of t.cursor) (stepped t place x) v ps done.1 in
     let puts : PutsAll place (context_of t.cursor) u ps w = puts_aside place (context_of t.cursor) u v (cursor_behind t.symbols t.cursor x) (u.out ++ out_of x) (u.err ++ warning_of place x) ps done.1 in
-    let same : with_symbols v (symbols_behind u.symbols r) ≡ known w r =
+    let same : record v { symbols = symbols_behind u.symbols r } ≡ known w r =
     all_same_state v (symbols_behind u.symbols r) (symbols_behind v.symbols r) v.cursor (cursor_behind v.symbols u.cursor x) v.out (u.out ++ out_of x) v.err (u.err ++ warning_of place x)
     (ap (λ (y : Symbols). symbols_behind y r) (sym along.symbols))
     (along.cursor ∙ ap (λ (y : Symbols). cursor_behind y t.cursor x) (sym beside.symbols ∙ sym along.symbols) ∙ ap (λ (z : Cursor). cursor_behind v.symbols z x) (sym beside.cursor))

@@ -23,7 +23,7 @@ use Rattle.symbols65.specs.Views.{table_of}
 use Rattle.asm65.specs.declared.assembler.Assembler.{Assembler}
 use Rattle.symbols65.specs.declared.cursor.Cursor.{Cursor}
 use Rattle.asm65.specs.declared.assembler.Piece.{Piece}
-use Rattle.asm65.specs.declared.assembler.Piece.TheVariants.{Datum, Operand, Constant, Assertion, Import, Demand, Export}
+use Rattle.asm65.specs.declared.assembler.Piece.TheVariants.{Datum, Operand, Constant, Assertion, Import, ForcedImport, Export}
 use Rattle.asm65.specs.declared.assembler.Fixup.{Fixup}
 use Rattle.asm65.specs.Inner.Holding.{AreAwaited, AreFixups, Enters, Holds, IsConstant, IsPiece, IsFixup, KeepsTables, Waits}
 use Rattle.symbols65.specs.Measuring.{AreWithin, IsCounted, IsSoundCursor, cursor_of}
@@ -57,7 +57,7 @@ piece_stays y z s (Operand w e) v more h = h
 piece_stays y z s (Constant place) v more h = (h.0, constant_stays y z s place h.0 more h.1, h.2)
 piece_stays y z s (Assertion act words e) v more h = h
 piece_stays y z s (Import n) v more h = h
-piece_stays y z s (Demand n) v more h = h
+piece_stays y z s (ForcedImport n) v more h = h
 piece_stays y z s (Export must n) v more h = h
 
 waits_still : (y z : Symbols) (files more : List (List ℕ)) (w : Fixup) (v : machine.Fixup) → Extends y z → Begins files more → IsFixup y files w v → IsFixup z more w v

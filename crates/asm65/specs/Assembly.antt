@@ -2,16 +2,13 @@
 use Rattle.std.specs.Prelude.{◌≡◌, ℕ, List, Option, None, Result, Err, Bool, false, [], map, Ok, unwrap_or}
 use Rattle.base65.specs.Store.{Files, IsBlamed}
 use Rattle.expand65.specs.Expansion.{file_named}
-use Rattle.expand65.specs.State as expand
-use Rattle.syntax65.specs.declared.place.Place.{Place}
 use Rattle.ast65.specs.declared.fault.AsmFault.{AsmFault}
-use Rattle.ast65.specs.declared.fault.AsmFault.TheVariants.{FileNotFound}
-use Rattle.semantics65.specs.Machine.{State, Takes}
-use Rattle.semantics65.specs.Reading.{IsGiven, PlacedFault, Define, Job}
+use Rattle.semantics65.specs.Machine.{State}
+use Rattle.semantics65.specs.Reading.{PlacedFault, Define, Job}
 use Rattle.base65.specs.Outcome.{Finds}
 use Rattle.object65.specs.declared.object.Object.{Object}
 use Rattle.ast65.specs.Faults.{is_failure, is_memory, is_outside}
-use Rattle.semantics65.specs.Module.{IsOutcome, Outcome}
+use Rattle.semantics65.specs.Module.{Outcome}
 use Rattle.asm65.specs.declared.assembling.AsmJob.{AsmJob}
 use Rattle.asm65.specs.declared.assembling.Assembly.{Assembly}
 use Rattle.asm65.specs.declared.assembling.Define as code
@@ -23,11 +20,6 @@ use Rattle.asm65.specs.declared.texts.AsmRefusal.{AsmRefusal}
 abbrev pub Without : Option (List ℕ) → (Files → State → Result State AsmFault → Type 0) → State → Result State AsmFault → Type 0
 Without blamed IsAnswer t r =
     (name : List ℕ) × IsBlamed blamed name × ((m : Files) → file_named m name ≡ None → IsAnswer m t r)
-
--- Were the file not there that was asked for last, that would be the fault of a statement that expansion gives: so it is
--- this statement's file, and nothing is wrong with it for which it is refused before its file is looked at.
-abbrev pub IsUnread : Option (List ℕ) → State → Place → expand.Stated → Type 0
-IsUnread blamed t place x = Without blamed (λ m t. IsGiven m Takes t place x) t (Err FileNotFound)
 
 -- ---- What assembling a source gives.
 
@@ -66,11 +58,6 @@ answer_of a r = record { result = in_places r; out = a.out; err = a.err }
 -- an assembly answers an outcome, unless memory ran out or the store failed
 abbrev pub Concludes : Outcome → Assembly → Type 0
 Concludes o a = Finds is_outside_refusal (λ r. answer_of a r ≡ o) a.result
-
--- what assembling gives, over files: the object of the source, or the first fault and its place; and
--- what is said
-abbrev pub IsAssembled : Files → Job → Outcome → Type 0
-IsAssembled m job o = IsOutcome m job o
 
 -- memory ran out, or the store failed
 abbrev pub is_from_outside : Result Object AsmRefusal → Bool

@@ -1,5 +1,5 @@
 -- The store fails while a source is read: what was taken of it, and where that is.
-use Rattle.std.specs.Prelude.{◌≡◌, ◌⊎◌, ℕ, true, List, [], IfErr, Option, Result, Ok}
+use Rattle.std.specs.Prelude.{◌≡◌, ◌⊎◌, ℕ, true, List, [], IfErr, Option, Result, Ok, Err}
 use Rattle.base65.specs.Store.{Files, IsBlamed}
 use Rattle.expand65.specs.Expansion.{Reaches, opened_in, statement}
 use Rattle.expand65.specs.Standing.{Opens, place_of}
@@ -8,11 +8,11 @@ use Rattle.expand65.specs.Failing.{IsOnItsWay}
 use Rattle.syntax65.specs.declared.fault.ExpandFault.TheVariants as expansion
 use Rattle.syntax65.specs.declared.place.Place.{Place}
 use Rattle.ast65.specs.declared.fault.AsmFault.{AsmFault}
-use Rattle.ast65.specs.declared.fault.AsmFault.TheVariants.{Expansion, FileError}
+use Rattle.ast65.specs.declared.fault.AsmFault.TheVariants.{Expansion, FileError, FileNotFound}
 use Rattle.ast65.specs.Faults.{is_failure}
 use Rattle.semantics65.specs.Reading.{known_at, PlacedFault, AreDefined, IsGiven, Job, no_line}
 use Rattle.semantics65.specs.Machine.{State, Takes, begun}
-use Rattle.asm65.specs.Assembly.{has_failed, placed_of, IsUnread}
+use Rattle.asm65.specs.Assembly.{has_failed, placed_of, Without}
 use Rattle.asm65.specs.Inner.Running.{IsHeldBy}
 use Rattle.asm65.specs.declared.assembling.Assembly.{Assembly}
 use Rattle.asm65.specs.declared.running.Run.{Run}
@@ -28,13 +28,14 @@ pub data IsTakenTo (m : Files) (job : Job) : expand.State → State → Type 0 w
       Reaches m (known_at t.symbols t.cursor) s (statement x left) →
       IsGiven m Takes t left.left.place x (Ok u) → IsTakenTo m job left u
 
--- expansion gives a statement next, at this place, whose file was asked for; for nothing is it refused before that
+-- Expansion gives a statement next, at this place. Were the file not there that was asked for last, that would be its
+-- fault: so it is this statement's file, and nothing is wrong with it for which it is refused before its file is looked at.
 pub record IsNextAt (m : Files) (blamed : Option (List ℕ)) (s : expand.State) (t : State) (place : Place) : Type 0 where
   pub stated : expand.Stated
   pub left : expand.State
   pub reaches : Reaches m (known_at t.symbols t.cursor) s (statement stated left)
   pub at : place ≡ left.left.place
-  pub unread : IsUnread blamed t place stated
+  pub unread : Without blamed (λ m t. IsGiven m Takes t place stated) t (Err FileNotFound)
 
 -- Where the store failed: at the next statement, where it takes bytes of a file that can't be read; else on the way to it.
 abbrev pub IsWhere : Files → Option (List ℕ) → expand.State → State → AsmFault → Place → Type 0
@@ -81,7 +82,3 @@ abbrev pub StopsAll : Files → Option (List ℕ) → Run → Run → Result (Un
 StopsAll m blamed first now r = IfErr r (λ e. is_failure e ≡ true → (job : Job) → Begins m job first →
     StopsBehind m blamed job (record { place = place_of now.expander; fault = e })
     now.assembler.texts.out now.assembler.texts.err)
-
--- what such a beginning comes to
-abbrev pub StopsFrom : Files → Option (List ℕ) → Run → Assembly → Type 0
-StopsFrom m blamed first a = (job : Job) → Begins m job first → StopsSo m blamed job a

@@ -39,7 +39,7 @@ pub enum Piece {
     /// A name that the module may not define.
     Import(Sequence<u8>),
     /// A name that is imported though nothing may use it.
-    Demand(Sequence<u8>),
+    ForcedImport(Sequence<u8>),
     /// A name that is exported where it is defined, or has to be.
     Export {
         must: bool,

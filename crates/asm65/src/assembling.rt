@@ -1,22 +1,27 @@
 //! From a source to its object: what is assembled, and what that gives.
 
-ghost use Rattle.std.specs.Prelude.{◌≡◌, false, IfErr, ⊤, ◌≤◌, true, IfOk, IfSome, IsErrOf, Ok, Some, []};
+ghost use Rattle.std.specs.Prelude.{◌≡◌, ℕ, ◌+◌, false, IfErr, ⊤, ◌≤◌, true, IfOk, IfSome, IsErrOf, Ok, Some, []};
 ghost use Rattle.ast65.specs.Faults.{is_failure, is_outside};
 ghost use Rattle.semantics65.specs.Machine.{Takes, begun, State, concluded};
 ghost use Rattle.semantics65.specs.Reading.{AreDefined, no_line, Job};
-ghost use Rattle.asm65.specs.Assembly.{define_of, job_of, Concludes, IsAssembled, answer_of, has_failed, is_from_memory, is_from_outside, is_outside_refusal, placed_of};
+ghost use Rattle.asm65.specs.Assembly.{define_of, job_of, Concludes, answer_of, has_failed, is_from_memory, is_from_outside, is_outside_refusal, placed_of};
 ghost use Rattle.asm65.specs.Inner.Holding.{Holds};
-ghost use Rattle.asm65.specs.Inner.Running.{DefinesBy, IsRoomy, Leaves, IsHeldBy, IsRunning, SaysAs};
+ghost use Rattle.asm65.specs.Inner.Running.{IsRoomy, Leaves, IsHeldBy, IsRunning, SaysAs};
+ghost use Rattle.semantics65.specs.Module.{IsOutcome};
 ghost use Rattle.semantics65.specs.Views.{place_at};
+ghost use Rattle.symbols65.specs.Measuring.{opening_limit};
+ghost use Rattle.syntax65.specs.Trees.{number};
+ghost use Rattle.ast65.specs.declared.language.Statement.TheVariants.{Constant};
 ghost use Rattle.base65.specs.Outcome.{Finds};
 ghost use Rattle.base65.specs.Store.{Asks, IsBlamed, Passes, PassesBy};
 ghost use Rattle.object65.specs.Objects.{ObjectFits, is_good_object};
 ghost use Rattle.expand65.specs.Expansion.{opened_in};
 ghost use Rattle.expand65.specs.Standing.{Opens, measure_of, place_of};
 ghost use Rattle.syntax65.specs.Faults.{is_outside as is_expand_outside};
-ghost use Rattle.asm65.specs.Failing.{StopsSo, StopsFrom};
+ghost use Rattle.asm65.specs.Failing.{Begins, StopsSo};
 
 use crate::assembler::Assembler;
+use crate::concluding::{conclude, refuse};
 use crate::running::{Run, take_all};
 use crate::texts::{AsmRefusal, Texts, is_failure, is_outside};
 use ast65::{AsmFault, Statement};
@@ -64,8 +69,10 @@ fn define_one(
     define: &Define<'_>,
 ) -> Result<(), AsmFault>
     requires { IsRoomy 1 assembler.old }
-    ensures taken { DefinesBy (place_at at.entry) (define_of define.now)
-        assembler.old assembler.new result }
+    ensures taken { (count : ℕ) (t : State) → count + 1 ≤ opening_limit →
+        Holds count t assembler.old → let d = define_of define.now in
+        Leaves ⊤ (Takes t (place_at at.entry) (Constant d.0 (number d.1)))
+        count t assembler.new result }
     ensures inside { IfErr result (λ e. is_failure e ≡ false) }
 {
     let name = Identifier::copy_of(alloc, define.name)?;
@@ -153,7 +160,7 @@ fn refused(alloc: Global, assembler: Assembler, at: At<'_>, fault: AsmFault) -> 
     if is_outside(&fault) {
         return refused_outside(alloc, fault);
     }
-    assembler.refuse(alloc, at, fault)
+    refuse(alloc, assembler, at, fault)
 }
 
 /// A fault behind some statements, at the place that was reached, behind what was said.
@@ -205,12 +212,13 @@ fn finished<S: Store>(alloc: Global, store: &mut S, run: Run) -> Assembly
     ensures assembled { IfSome (S.files store.old) (λ m. (job : Job) (t : State) →
         Opens m (Ok run.expander) (opened_in m job.source job.include) →
         AreDefined Takes begun (no_line job.source) job.defines (Ok t) → IsHeldBy t run →
-        Finds is_outside_refusal (λ r. IsAssembled m job (answer_of result r)) result.result) }
+        Finds is_outside_refusal (λ r. IsOutcome m job (answer_of result r)) result.result) }
     ensures files { S.files store.new ≡ S.files store.old }
     ensures count { PassesBy has_failed (S.failures store.old) (S.failures store.new) result.result }
     ensures good { IfOk result.result (λ o. is_good_object o ≡ true) }
     ensures numbers { IfOk result.result ObjectFits }
-    ensures stopped { IfSome (S.files store.old) (λ m. StopsFrom m (S.blamed store.new) run result) }
+    ensures stopped { IfSome (S.files store.old) (λ m. (job : Job) → Begins m job run →
+        StopsSo m (S.blamed store.new) job result) }
     ensures silent { is_from_memory result.result ≡ true → (result.out ≡ []) × (result.err ≡ []) }
 {
     let mut run = run;
@@ -220,7 +228,7 @@ fn finished<S: Store>(alloc: Global, store: &mut S, run: Run) -> Assembly
         assembler,
     } = run;
     match ran {
-        Ok(()) => assembler.conclude(alloc),
+        Ok(()) => conclude(alloc, assembler),
         Err(fault) => refused_behind(alloc, expander, assembler, fault),
     }
 }
@@ -234,7 +242,7 @@ fn assembled<S: Store>(
 ) -> Assembly
     requires { Holds 0 begun assembler }
     ensures assembled { IfSome (S.files store.old) (λ m. Finds is_outside_refusal
-        (λ r. IsAssembled m (job_of job.now) (answer_of result r)) result.result) }
+        (λ r. IsOutcome m (job_of job.now) (answer_of result r)) result.result) }
     ensures files { S.files store.new ≡ S.files store.old }
     ensures count { PassesBy has_failed (S.failures store.old) (S.failures store.new) result.result }
     ensures asked { Asks is_outside_refusal (S.failures store.old) result.result }
@@ -267,7 +275,7 @@ fn assembled<S: Store>(
 /// Assembles a source: its object, or the first fault and its place; and what is said up to there.
 pub fn assemble<S: Store>(alloc: Global, store: &mut S, job: &AsmJob<'_>) -> Assembly
     ensures assembled { IfSome (S.files store.old) (λ m. Finds is_outside_refusal
-        (λ r. IsAssembled m (job_of job.now) (answer_of result r)) result.result) }
+        (λ r. IsOutcome m (job_of job.now) (answer_of result r)) result.result) }
     ensures files { S.files store.new ≡ S.files store.old }
     ensures count { PassesBy has_failed (S.failures store.old) (S.failures store.new) result.result }
     ensures asked { Asks is_outside_refusal (S.failures store.old) result.result }

@@ -13,7 +13,7 @@ ghost use Rattle.symbols65.specs.Resolving.{IsTable};
 ghost use Rattle.symbols65.specs.Views.{table_of};
 ghost use Rattle.asm65.specs.Assembly.{Concludes, has_failed, in_places, is_from_outside};
 ghost use Rattle.asm65.specs.Inner.Holding.{AreFixups, Holds, IsFixup};
-ghost use Rattle.asm65.specs.Inner.Running.{Settles, SettlesAll, content_of, warning_in, SaysAs};
+ghost use Rattle.asm65.specs.Inner.Running.{Settles, SettlesAll, made_in, SaysAs};
 ghost use Rattle.semantics65.specs.Views.{place_at};
 
 use crate::assembler::{Assembler, Fixup};
@@ -61,9 +61,9 @@ fn file_at(files: &[String], place: usize) -> &str
 /// The first that waited, in a statement that stands here, has what it came to.
 fn take_made(ending: &mut Ending, at: At<'_>, made: Made) -> Result<(), AllocError>
     ensures sections { OnOk result (Receives ending.old.sections ending.new.sections
-        (content_of (place_at at.entry) made.filling)) }
+        (made_in (place_at at.entry) made).content) }
     ensures err { OnOk result (ending.new.err ≡
-        ending.old.err ++ warning_in (place_at at.entry) made.warning) }
+        ending.old.err ++ (made_in (place_at at.entry) made).warning) }
     ensures known { ending.new.known ≡ ending.old.known }
 {
     let Made { filling, warning } = made;
@@ -156,71 +156,69 @@ fn answered(alloc: Global, answer: Result<Object, AsmRefusal>, texts: Texts) -> 
     }
 }
 
-impl Assembler {
-    /// What is answered behind the last line: the object, or the first fault of what waits.
-    pub fn conclude(self, alloc: Global) -> Assembly
-        requires { IsTable (table_of self.symbols) self.known.states.items }
-        ensures concluded { (count : ℕ) (t : State) → Holds count t self →
-            Concludes (concluded t None) result }
-        ensures good { IfOk result.result (λ o. (count : ℕ) (t : State) → Holds count t self →
-            ((cs : List Content) → (finished t).found ≡ Ok cs →
-            AreSound t.cursor.segments t.symbols.imports cs) → is_good_object o ≡ true) }
-        ensures numbers { IfOk result.result ObjectFits }
-        ensures inside { IfErr result.result (λ e. has_failed e ≡ false) }
-        ensures silent { is_from_outside result.result ≡ true →
-            (result.out ≡ []) × (result.err ≡ []) }
-    {
-        let Assembler {
-            symbols,
-            known,
-            cursor,
-            sections,
-            fixups,
-            files,
-            texts,
-        } = self;
-        let Texts { out, err } = texts;
-        let mut ending = Ending {
-            known,
-            sections,
-            err,
-        };
-        let whole = Whole {
-            symbols: &symbols,
-            files: files.table.as_slice(),
-        };
-        let settled = settle_all(alloc, whole, &mut ending, fixups);
-        let Ending { sections, err, .. } = ending;
-        let texts = Texts { out, err };
-        match settled {
-            Ok(()) => {
-                let segments = cursor.segments.as_slice();
-                match sections.finish(alloc, segments, &symbols.imports) {
-                    Ok(object) => answered(alloc, Ok(object), texts),
-                    Err(_) => answered(alloc, Err(AsmRefusal::without_memory()), texts),
-                }
+/// What is answered behind the last line: the object, or the first fault of what waits.
+pub fn conclude(alloc: Global, assembler: Assembler) -> Assembly
+    requires { IsTable (table_of assembler.symbols) assembler.known.states.items }
+    ensures concluded { (count : ℕ) (t : State) → Holds count t assembler →
+        Concludes (concluded t None) result }
+    ensures good { IfOk result.result (λ o. (count : ℕ) (t : State) → Holds count t assembler →
+        ((cs : List Content) → (finished t).found ≡ Ok cs →
+        AreSound t.cursor.segments t.symbols.imports cs) → is_good_object o ≡ true) }
+    ensures numbers { IfOk result.result ObjectFits }
+    ensures inside { IfErr result.result (λ e. has_failed e ≡ false) }
+    ensures silent { is_from_outside result.result ≡ true →
+        (result.out ≡ []) × (result.err ≡ []) }
+{
+    let Assembler {
+        symbols,
+        known,
+        cursor,
+        sections,
+        fixups,
+        files,
+        texts,
+    } = assembler;
+    let Texts { out, err } = texts;
+    let mut ending = Ending {
+        known,
+        sections,
+        err,
+    };
+    let whole = Whole {
+        symbols: &symbols,
+        files: files.table.as_slice(),
+    };
+    let settled = settle_all(alloc, whole, &mut ending, fixups);
+    let Ending { sections, err, .. } = ending;
+    let texts = Texts { out, err };
+    match settled {
+        Ok(()) => {
+            let segments = cursor.segments.as_slice();
+            match sections.finish(alloc, segments, &symbols.imports) {
+                Ok(object) => answered(alloc, Ok(object), texts),
+                Err(_) => answered(alloc, Err(AsmRefusal::without_memory()), texts),
             }
-            Err(refusal) => answered(alloc, Err(refusal), texts),
         }
+        Err(refusal) => answered(alloc, Err(refusal), texts),
     }
+}
 
-    /// What is answered at a line's fault.
-    pub fn refuse(self, alloc: Global, at: At<'_>, fault: AsmFault) -> Assembly
-        ensures refused { is_outside fault ≡ false → (t : State) → SaysAs t self →
-            Concludes (concluded t (Some (record {
-              place = place_at at.entry;
-              fault = fault;
-            }))) result }
-        ensures none { IfOk result.result (λ o. ⊥) }
-        ensures inside { is_outside fault ≡ false →
-            IfErr result.result (λ e. has_failed e ≡ false) }
-        ensures silent { is_from_outside result.result ≡ true →
-            (result.out ≡ []) × (result.err ≡ []) }
-    {
-        answered(
-            alloc,
-            Err(AsmRefusal::of_fault(alloc, at, fault)),
-            self.texts,
-        )
-    }
+/// What is answered at a line's fault.
+pub fn refuse(alloc: Global, assembler: Assembler, at: At<'_>, fault: AsmFault) -> Assembly
+    ensures refused { is_outside fault ≡ false → (t : State) → SaysAs t assembler →
+        Concludes (concluded t (Some (record {
+          place = place_at at.entry;
+          fault = fault;
+        }))) result }
+    ensures none { IfOk result.result (λ o. ⊥) }
+    ensures inside { is_outside fault ≡ false →
+        IfErr result.result (λ e. has_failed e ≡ false) }
+    ensures silent { is_from_outside result.result ≡ true →
+        (result.out ≡ []) × (result.err ≡ []) }
+{
+    answered(
+        alloc,
+        Err(AsmRefusal::of_fault(alloc, at, fault)),
+        assembler.texts,
+    )
 }

@@ -51,25 +51,27 @@ fn bytes_beside<S: Store>(
     }
 }
 
-impl Assembler {
-    /// Refuses a part of a file for what is wrong with it whatever the file has.
-    #[inline(never)]
-    fn check_unread(&mut self, alloc: Global, range: PartRange<'_>) -> Result<(), AsmFault>
-        requires { IsHeld self.old }
-        ensures checked { (count : ℕ) (t : State) → Holds count t self.old →
-            Gives is_memory (λ u. u) result (unless_fault (unread_fault t.symbols t.cursor
-            range.entry.start.now range.entry.len.now) tt) }
-        ensures held { (count : ℕ) (t : State) → Holds count t self.old →
-            OnOk result (Holds count t self.new) }
-        ensures texts { self.new.texts ≡ self.old.texts }
-        ensures inside { IfErr result (λ e. is_failure e ≡ false) }
-    {
-        let before = Before {
-            symbols: &self.symbols,
-            cursor: &self.cursor,
-        };
-        check_unread(alloc, before, &mut self.known, range)
-    }
+/// Refuses a part of a file for what is wrong with it whatever the file has.
+#[inline(never)]
+fn check_range(
+    alloc: Global,
+    assembler: &mut Assembler,
+    range: PartRange<'_>,
+) -> Result<(), AsmFault>
+    requires { IsHeld assembler.old }
+    ensures checked { (count : ℕ) (t : State) → Holds count t assembler.old →
+        Gives is_memory (λ u. u) result (unless_fault (unread_fault t.symbols t.cursor
+        range.entry.start.now range.entry.len.now) tt) }
+    ensures held { (count : ℕ) (t : State) → Holds count t assembler.old →
+        OnOk result (Holds count t assembler.new) }
+    ensures texts { assembler.new.texts ≡ assembler.old.texts }
+    ensures inside { IfErr result (λ e. is_failure e ≡ false) }
+{
+    let before = Before {
+        symbols: &assembler.symbols,
+        cursor: &assembler.cursor,
+    };
+    check_unread(alloc, before, &mut assembler.known, range)
 }
 
 /// A statement with the bytes that it takes from a file. The file is read only where nothing is wrong with the
@@ -100,7 +102,7 @@ fn with_bytes<S: Store>(
                 start: &start,
                 len: &len,
             };
-            assembler.check_unread(alloc, range)?;
+            check_range(alloc, assembler, range)?;
             let bytes = bytes_beside(alloc, store, at.file, name.as_slice())?;
             Ok(Statement::FilePart { bytes, start, len })
         }

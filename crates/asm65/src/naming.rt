@@ -1,6 +1,362 @@
 //! Names that statements define, open, import and export.
 
-mod adding;
-mod stating;
+ghost use Rattle.std.specs.Prelude.{◌≡◌, None, OnOk, length, IfOk, map, ◌∷◌, [], Some, ◌++◌, false, true};
+ghost use Rattle.semantics65.specs.Symbols.{defined, Symbols, Key as DefinedKey, named};
+ghost use Rattle.symbols65.specs.Tables.{KeepsFinal, definition_seen, key_of};
+ghost use Rattle.symbols65.specs.Views.{table_of, with_definition, with_names, with_scope};
+ghost use Rattle.std.specs.Option.{option_map};
+ghost use Rattle.semantics65.specs.Layout.{opened_twice};
+ghost use Rattle.symbols65.specs.Resolving.{IsTable};
+ghost use Rattle.asm65.specs.Inner.Holding.{KeepsPut, IsNew, IsPiece, is_put, laid_as, KeepsTables, mentioned, is_for_zero_page, label_at, Mentions, Turns};
+ghost use Rattle.semantics65.specs.declared.laid.Context.{Context};
+ghost use Rattle.semantics65.specs.Machine.{symbols_behind};
+ghost use Rattle.semantics65.specs.Views.{place_at};
+ghost use Rattle.semantics65.specs.Module.{equated, valued, demanded, imported, pieces_of};
+ghost use Rattle.syntax65.specs.declared.place.Place.{Place};
 
-pub use stating::Mention;
+use crate::assembler::{Assembler, Piece};
+use crate::putting::Site;
+use crate::putting::values::wait;
+use ast65::Statement;
+use base65::Sequence;
+use semantics65::Context;
+use std::alloc::{AllocError, Global};
+use symbols65::{Definition, Key, Measured, define, stable_form};
+use syntax65::{AddressSize, Expr};
+
+/// How a statement mentions a name.
+#[derive(Clone, Copy)]
+pub enum Mention {
+    Imported,
+    /// It is imported though nothing may use it.
+    ForcedImport,
+    /// It is exported where it is defined, or has to be.
+    Exported { must: bool },
+}
+
+/// What waits of a name that is mentioned.
+fn piece_of(alloc: Global, mention: Mention, name: &[u8]) -> Result<Piece, AllocError>
+    ensures { IfOk result (λ p. (y : Symbols) (s : Context) → IsPiece y s p (mentioned mention name.now)) }
+{
+    let name = Sequence::from_vec(Vec::from_slice(alloc, name)?);
+    match mention {
+        Mention::Imported => Ok(Piece::Import(name)),
+        Mention::ForcedImport => Ok(Piece::ForcedImport(name)),
+        Mention::Exported { must } => Ok(Piece::Export { must, name }),
+    }
+}
+
+impl Assembler {
+    /// A new key is defined.
+    pub fn define(
+        &mut self,
+        alloc: Global,
+        key: Key<'_>,
+        definition: Definition,
+    ) -> Result<(), AllocError>
+        requires known { IsTable (table_of self.old.symbols) self.old.known.states.items }
+        requires new { defined (table_of self.old.symbols) (key_of key) ≡ None }
+        requires form { KeepsFinal (table_of self.old.symbols)
+            (length (table_of self.old.symbols).definitions)
+            (definition_seen (key_of key) definition) definition.form }
+        ensures table { OnOk result (table_of self.new.symbols ≡
+            with_definition (table_of self.old.symbols)
+            (definition_seen (key_of key.entry) definition)) }
+        ensures known { OnOk result
+            (IsTable (table_of self.new.symbols) self.new.known.states.items) }
+        ensures keeps { KeepsPut self.old self.new }
+    {
+        define(alloc, &mut self.symbols, key, definition)?;
+        self.known.grow()
+    }
+
+    /// A scope is opened within another, which has none of this name.
+    pub fn open_scope(
+        &mut self,
+        alloc: Global,
+        within: u32,
+        name: Option<&[u8]>,
+        is_proc: bool,
+    ) -> Result<(), AllocError>
+        requires known { IsTable (table_of self.old.symbols) self.old.known.states.items }
+        requires new { opened_twice (table_of self.old.symbols).scopes within
+            (option_map (λ n. n.now) name) ≡ None }
+        ensures table { OnOk result (table_of self.new.symbols ≡
+            with_scope (table_of self.old.symbols) (record {
+              within = within;
+              name = option_map (λ n. n.now) name.entry;
+              is_proc = is_proc;
+            })) }
+        ensures known { OnOk result
+            (IsTable (table_of self.new.symbols) self.new.known.states.items) }
+        ensures keeps { KeepsPut self.old self.new }
+    {
+        self.symbols
+            .open_scope(alloc, within as usize, name, is_proc)?;
+        self.known.forget();
+        Ok(())
+    }
+
+    /// Names are imported, perhaps for the zero page.
+    pub fn import(
+        &mut self,
+        alloc: Global,
+        names: &[Sequence<u8>],
+        is_zero_page: bool,
+    ) -> Result<(), AllocError>
+        requires known { IsTable (table_of self.old.symbols) self.old.known.states.items }
+        ensures table { OnOk result (table_of self.new.symbols ≡
+            with_names (table_of self.old.symbols) is_zero_page names.now) }
+        ensures known { OnOk result
+            (IsTable (table_of self.new.symbols) self.new.known.states.items) }
+        ensures keeps { KeepsPut self.old self.new }
+    {
+        self.symbols.import(alloc, names, is_zero_page)?;
+        self.known.forget();
+        Ok(())
+    }
+
+    /// Names that are mentioned wait, one behind the other.
+    #[inline(never)]
+    pub fn mention(
+        &mut self,
+        alloc: Global,
+        site: Site<'_>,
+        mention: Mention,
+        names: &[Sequence<u8>],
+    ) -> Result<(), AllocError>
+        ensures mentioned { OnOk result (Mentions
+            (place_at site.entry.at) site.entry.context
+            (map (mentioned mention) names.now) self.old self.new) }
+        ensures tables { KeepsTables self.old self.new }
+    {
+        for name in names {
+            let piece = piece_of(alloc, mention, name.as_slice())?;
+            wait(alloc, self, site, piece)?;
+        }
+        Ok(())
+    }
+
+    /// A constant is defined. Where its form isn't final it waits: its expression may have a fault.
+    #[inline(never)]
+    pub fn define_constant(
+        &mut self,
+        alloc: Global,
+        site: Site<'_>,
+        size: AddressSize,
+        name: &[u8],
+        value: Expr,
+    ) -> Result<(), AllocError>
+        requires known { IsTable (table_of self.old.symbols) self.old.known.states.items }
+        requires new { defined (table_of self.old.symbols) (named site.context.scope name.now) ≡ None }
+        ensures { OnOk result (Turns (place_at site.entry.at)
+            site.entry.context (valued equated value ∷ [])
+            (λ y. with_definition y (record {
+              key = named site.entry.context.scope name.now;
+              value = Some value;
+              context = site.entry.context;
+              size = size;
+            }))
+            self.old self.new) }
+    {
+        let context = site.context;
+        let form = stable_form(alloc, &self.symbols, context, &value)?;
+        let waits = form.is_none();
+        let place = self.symbols.definitions.len();
+        let scope = context.scope as usize;
+        let definition = Definition {
+            value: Some(value),
+            context,
+            size,
+            form,
+        };
+        self.define(alloc, Key::Named { scope, name }, definition)?;
+        if waits {
+            wait(alloc, self, site, Piece::Constant(place))?;
+        }
+        Ok(())
+    }
+}
+
+fn is_for_zero_page(size: AddressSize) -> bool
+    ensures { result ≡ is_for_zero_page size }
+{
+    matches!(size, AddressSize::ZeroPage)
+}
+
+/// What a label stands for: the address at which it stands.
+fn label(context: Context, size: AddressSize) -> Definition
+    ensures seen { (k : DefinedKey) → definition_seen k result ≡ label_at k context size }
+    ensures form { result.form ≡ None }
+{
+    Definition {
+        value: None,
+        context,
+        size,
+        form: None,
+    }
+}
+
+impl Assembler {
+    /// A label is defined where it stands.
+    #[inline(never)]
+    pub fn define_label(
+        &mut self,
+        alloc: Global,
+        key: Key<'_>,
+        context: Context,
+        size: AddressSize,
+    ) -> Result<(), AllocError>
+        requires known { IsTable (table_of self.old.symbols) self.old.known.states.items }
+        requires new { defined (table_of self.old.symbols) (key_of key) ≡ None }
+        ensures { OnOk result ((place : Place) → Turns place context []
+            (λ y. with_definition y (label_at (key_of key.entry) context size))
+            self.old self.new) }
+    {
+        self.define(alloc, key, label(context, size))
+    }
+
+    /// A scope is opened, perhaps of a name.
+    #[inline(never)]
+    pub fn open_block(
+        &mut self,
+        alloc: Global,
+        context: Context,
+        name: Option<&[u8]>,
+    ) -> Result<(), AllocError>
+        requires known { IsTable (table_of self.old.symbols) self.old.known.states.items }
+        requires new { opened_twice (table_of self.old.symbols).scopes context.scope
+            (option_map (λ n. n.now) name) ≡ None }
+        ensures { OnOk result ((place : Place) → Turns place context []
+            (λ y. with_scope y (record {
+              within = context.scope;
+              name = option_map (λ n. n.now) name.entry;
+              is_proc = false;
+            }))
+            self.old self.new) }
+    {
+        self.open_scope(alloc, context.scope, name, false)
+    }
+
+    /// A label is defined, and a scope of its name opened beside it.
+    #[inline(never)]
+    pub fn open_proc(
+        &mut self,
+        alloc: Global,
+        context: Context,
+        size: AddressSize,
+        name: &[u8],
+    ) -> Result<(), AllocError>
+        requires known { IsTable (table_of self.old.symbols) self.old.known.states.items }
+        requires new { defined (table_of self.old.symbols) (named context.scope name.now) ≡ None }
+        requires unopened { opened_twice (table_of self.old.symbols).scopes context.scope
+            (Some name.now) ≡ None }
+        ensures { OnOk result ((place : Place) → Turns place context []
+            (λ y. with_scope
+            (with_definition y (label_at (named context.scope name.now) context size))
+            (record { within = context.scope; name = Some name.now; is_proc = true }))
+            self.old self.new) }
+    {
+        let scope = context.scope as usize;
+        self.define(alloc, Key::Named { scope, name }, label(context, size))?;
+        self.open_scope(alloc, context.scope, Some(name), true)
+    }
+
+    /// Names are imported, of this address size.
+    #[inline(never)]
+    pub fn import_names(
+        &mut self,
+        alloc: Global,
+        site: Site<'_>,
+        mention: Mention,
+        size: AddressSize,
+        names: &[Sequence<u8>],
+    ) -> Result<(), AllocError>
+        requires { IsTable (table_of self.old.symbols) self.old.known.states.items }
+        ensures { OnOk result (Turns
+            (place_at site.entry.at) site.entry.context
+            (map (mentioned mention) names.now)
+            (λ y. with_names y (is_for_zero_page size) names.now) self.old self.new) }
+    {
+        self.mention(alloc, site, mention, names)?;
+        self.import(alloc, names, is_for_zero_page(size))
+    }
+
+    /// Names are imported, whether anything uses them or not.
+    #[inline(never)]
+    pub fn force_import_names(
+        &mut self,
+        alloc: Global,
+        site: Site<'_>,
+        names: &[Sequence<u8>],
+    ) -> Result<(), AllocError>
+        requires { IsTable (table_of self.old.symbols) self.old.known.states.items }
+        ensures { OnOk result (Turns
+            (place_at site.entry.at) site.entry.context
+            (map imported names.now ++ map demanded names.now)
+            (λ y. with_names y false names.now) self.old self.new) }
+    {
+        self.mention(alloc, site, Mention::Imported, names)?;
+        self.mention(alloc, site, Mention::ForcedImport, names)?;
+        self.import(alloc, names, false)
+    }
+
+    /// What a statement names becomes known, and what mentions names waits, where it puts nothing into a section.
+    #[inline(always)]
+    pub fn enter_names(
+        &mut self,
+        alloc: Global,
+        site: Site<'_>,
+        measured: Measured,
+        statement: Statement,
+    ) -> Result<(), AllocError>
+        requires known { IsTable (table_of self.old.symbols) self.old.known.states.items }
+        requires new { IsNew (table_of self.old.symbols) site.context statement }
+        requires named { is_put statement ≡ false }
+        ensures { OnOk result (let place = place_at site.entry.at in
+            let s = site.entry.context in let m = measured in
+            Turns place s (pieces_of m.length m.settled statement)
+            (λ y. symbols_behind y (laid_as place s m statement))
+            self.old self.new) }
+    {
+        let context = site.context;
+        let scope = context.scope as usize;
+        let size = measured.size;
+        match statement {
+            Statement::Label(name) => {
+                let name = name.as_slice();
+                self.define_label(alloc, Key::Named { scope, name }, context, size)
+            }
+            Statement::CheapLabel(name) => {
+                let region = context.region as usize;
+                let name = name.as_slice();
+                self.define_label(alloc, Key::Cheap { region, name }, context, size)
+            }
+            Statement::UnnamedLabel => {
+                self.define_label(alloc, Key::Unnamed(context.unnamed as usize), context, size)
+            }
+            Statement::Constant { name, value } => {
+                self.define_constant(alloc, site, size, name.as_slice(), value)
+            }
+            Statement::OpenScope(name) => match name {
+                Some(name) => self.open_block(alloc, context, Some(name.as_slice())),
+                None => self.open_block(alloc, context, None),
+            },
+            Statement::OpenProc(name) => self.open_proc(alloc, context, size, name.as_slice()),
+            Statement::Import { size, names } => {
+                self.import_names(alloc, site, Mention::Imported, size, names.as_slice())
+            }
+            Statement::Global { size, names } => {
+                let mention = Mention::Exported { must: false };
+                self.import_names(alloc, site, mention, size, names.as_slice())
+            }
+            Statement::ForceImport(names) => self.force_import_names(alloc, site, names.as_slice()),
+            Statement::Export(names) => {
+                let mention = Mention::Exported { must: true };
+                self.mention(alloc, site, mention, names.as_slice())
+            }
+            // A part of a file has its file's bytes before it is taken, and other statements enter nothing.
+            _ => Ok(()),
+        }
+    }
+}

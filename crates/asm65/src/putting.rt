@@ -1,6 +1,6 @@
 //! What statements put into sections and what waits.
 
-mod statements;
+pub mod statements;
 pub mod values;
 
 use semantics65::{At, Context};

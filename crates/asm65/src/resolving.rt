@@ -171,7 +171,7 @@ pub fn resolve(
             Some(_) => Err(AsmFault::ImportedAndDefined(name)),
             None => Ok(nothing(alloc)),
         },
-        Piece::Demand(name) => Ok(told(alloc, Declaration::ForcedImport(name))?),
+        Piece::ForcedImport(name) => Ok(told(alloc, Declaration::ForcedImport(name))?),
         Piece::Export { must, name } => match defined(symbols, name.as_slice()) {
             Some(place) => {
                 let form = defined_norm(alloc, symbols, known, place)?;

@@ -10,10 +10,9 @@ ghost use Rattle.ast65.specs.Faults.{is_failure};
 ghost use Rattle.semantics65.specs.Numbering.{AreNamed, IsSound};
 ghost use Rattle.semantics65.specs.Views.{place_at};
 ghost use Rattle.semantics65.specs.Machine.{Takes, State, begun};
-ghost use Rattle.semantics65.specs.Reading.{IsGiven, IsLabel, IsLabelled, IsRest, known_at, AreDefined, Job, no_line};
+ghost use Rattle.semantics65.specs.Reading.{IsLabel, IsLabelled, IsRest, known_at, AreDefined, Job, no_line};
 ghost use Rattle.expand65.specs.Playing.{tokens_in};
-ghost use Rattle.asm65.specs.Inner.Running.{IsRoomy, IsSoundIf, StopsQuietly, TakesAll, TakesBy, Told, tokens_of, IsHeldBy, IsReachedBy, IsRunning, LeavesStore, Ran, TakesLineIf};
-ghost use Rattle.asm65.specs.Assembly.{Without};
+ghost use Rattle.asm65.specs.Inner.Running.{IsRoomy, Reads, TakesAll, TakesBy, TakesOne, HoldsSome, IsHeldBy, IsReached, IsRunning, LeavesStore, Ran, TakesLineIf};
 ghost use Rattle.expand65.specs.Expansion.{opened_in};
 ghost use Rattle.semantics65.specs.Layout.{is_open};
 ghost use Rattle.asm65.specs.Failing.{StopsAll};
@@ -71,11 +70,8 @@ pub fn take_rest<S: Store>(
     tokens: &[Token<'_>],
 ) -> Result<(), AsmFault>
     requires { IsRoomy 1 assembler.old }
-    ensures taken { TakesBy (AreNamed (lexemes tokens.now)) (Told (S.files store.old)
-        (λ m t. IsRest m Takes t (place_at at.entry) (lexemes tokens.now)))
-        1 assembler.old assembler.new result }
-    ensures stopped { StopsQuietly (Without (S.blamed store.new)
-        (λ m t. IsRest m Takes t (place_at at.entry) (lexemes tokens.now)))
+    ensures read { Reads (S.files store.old) (S.blamed store.new) (AreNamed (lexemes tokens.now))
+        (λ m t. IsRest m Takes t (place_at at.entry) (lexemes tokens.now))
         1 assembler.old assembler.new result }
     ensures kept { LeavesStore S.files S.failures store.old store.new result }
 {
@@ -99,7 +95,7 @@ fn take_front(
     label: Option<Statement>,
 ) -> Result<(), AsmFault>
     requires { IsRoomy 1 assembler.old }
-    ensures taken { TakesBy (IsSoundIf label) (λ t. IsLabelled Takes t
+    ensures taken { TakesBy (IfSome label IsSound) (λ t. IsLabelled Takes t
         (place_at at.entry) label)
         1 assembler.old assembler.new result }
     ensures inside { IfErr result (λ e. is_failure e ≡ false) }
@@ -120,11 +116,8 @@ fn take_label<S: Store>(
     tokens: &[Token<'_>],
 ) -> Result<(), AsmFault>
     requires { IsRoomy 2 assembler.old }
-    ensures taken { TakesBy (AreNamed (lexemes tokens.now)) (Told (S.files store.old)
-        (λ m t. IsLabel m Takes t (place_at at.entry) (lexemes tokens.now)))
-        2 assembler.old assembler.new result }
-    ensures stopped { StopsQuietly (Without (S.blamed store.new)
-        (λ m t. IsLabel m Takes t (place_at at.entry) (lexemes tokens.now)))
+    ensures read { Reads (S.files store.old) (S.blamed store.new) (AreNamed (lexemes tokens.now))
+        (λ m t. IsLabel m Takes t (place_at at.entry) (lexemes tokens.now))
         2 assembler.old assembler.new result }
     ensures kept { LeavesStore S.files S.failures store.old store.new result }
 {
@@ -193,11 +186,8 @@ fn take_line<S: Store>(
     line: &Line,
 ) -> Result<(), AsmFault>
     requires { IsRoomy 1 assembler.old }
-    ensures taken { TakesBy (AreNamed (tokens_in line.now)) (Told (S.files store.old)
-        (λ m t. IsRest m Takes t (place_at at.entry) (tokens_in line.now)))
-        1 assembler.old assembler.new result }
-    ensures stopped { StopsQuietly (Without (S.blamed store.new)
-        (λ m t. IsRest m Takes t (place_at at.entry) (tokens_in line.now)))
+    ensures read { Reads (S.files store.old) (S.blamed store.new) (AreNamed (tokens_in line.now))
+        (λ m t. IsRest m Takes t (place_at at.entry) (tokens_in line.now))
         1 assembler.old assembler.new result }
     ensures kept { LeavesStore S.files S.failures store.old store.new result }
 {
@@ -224,12 +214,8 @@ pub fn take_given<S: Store>(
     given: &Given,
 ) -> Result<(), AsmFault>
     requires { IsRoomy 2 assembler.old }
-    ensures taken { TakesBy (AreNamed (tokens_of (stated given.now))) (Told (S.files store.old)
-        (λ m t. IsGiven m Takes t (place_at at.entry) (stated given.now)))
-        2 assembler.old assembler.new result }
-    ensures stopped { StopsQuietly (Without (S.blamed store.new)
-        (λ m t. IsGiven m Takes t (place_at at.entry) (stated given.now)))
-        2 assembler.old assembler.new result }
+    ensures read { TakesOne (S.files store.old) (S.blamed store.new) (place_at at.entry)
+        (stated given.now) assembler.old assembler.new result }
     ensures kept { LeavesStore S.files S.failures store.old store.new result }
 {
     match given {
@@ -279,13 +265,8 @@ fn take_next<S: Store>(
     statement: &Given,
 ) -> Result<(), AsmFault>
     requires { IsRoomy 2 run.old.assembler }
-    ensures taken { TakesBy (AreNamed (tokens_of (stated statement.now)))
-        (Told (S.files store.old)
-        (λ m t. IsGiven m Takes t (place_of run.old.expander) (stated statement.now)))
-        2 run.old.assembler run.new.assembler result }
-    ensures stopped { StopsQuietly (Without (S.blamed store.new)
-        (λ m t. IsGiven m Takes t (place_of run.old.expander) (stated statement.now)))
-        2 run.old.assembler run.new.assembler result }
+    ensures read { TakesOne (S.files store.old) (S.blamed store.new) (place_of run.old.expander)
+        (stated statement.now) run.old.assembler run.new.assembler result }
     ensures same { run.new.expander ≡ run.old.expander }
     ensures kept { LeavesStore S.files S.failures store.old store.new result }
 {
@@ -342,7 +323,7 @@ pub fn take_all<S: Store>(alloc: Global, store: &mut S, run: &mut Run) -> Result
         IsHeldBy t run.old → Ran m job run.new result) }
     ensures stopped { IfSome (S.files store.old) (λ m.
         StopsAll m (S.blamed store.new) run.old run.new result) }
-    ensures held { OnOk result (IsReachedBy run.new.assembler) }
+    ensures held { OnOk result ((t : State) × IsReached t × HoldsSome t run.new.assembler) }
     ensures kept { LeavesStore S.files S.failures store.old store.new result }
 {
     'statements: loop {

@@ -1,30 +1,36 @@
 //! One statement of the source is taken, of names and texts that objects can hold.
 
-ghost use Rattle.std.specs.Prelude.{◌≡◌, true, Err, ◌+◌, ◌<◌, ℕ, IfErr, IfOk, OnOk, false};
+ghost use Rattle.std.specs.Prelude.{◌≡◌, true, Err, ◌+◌, ◌<◌, ◌∷◌, [], ℕ, IfErr, IfOk, OnOk, false};
 ghost use Rattle.std.specs.List.{list_all};
 ghost use Rattle.object65.specs.Objects.{is_name, is_printed};
 ghost use Rattle.semantics65.specs.Numbering.{IsSound};
 ghost use Rattle.syntax65.specs.declared.place.Place.{Place};
 ghost use Rattle.ast65.specs.declared.language.Statement.TheVariants.{Instruction};
+ghost use Rattle.semantics65.specs.declared.laid.Settled.TheVariants.{InMode};
 ghost use Rattle.ast65.specs.Faults.{is_failure, is_outside};
 ghost use Rattle.semantics65.specs.Views.{place_at};
 ghost use Rattle.symbols65.specs.Measuring.{opened_by, opening_limit};
 ghost use Rattle.semantics65.specs.Machine.{State, Takes, symbols_behind};
-ghost use Rattle.semantics65.specs.Module.{instruction_pieces, pieces_of};
+ghost use Rattle.semantics65.specs.Module.{asserted, instruction_pieces, pieces_of, valued};
 ghost use Rattle.semantics65.specs.Reading.{Answers};
 ghost use Rattle.symbols65.specs.Resolving.{IsTable};
 ghost use Rattle.symbols65.specs.Views.{table_of};
 ghost use Rattle.asm65.specs.Inner.Holding.{Enters, Holds, KeepsTables, Asks, IsHeld, IsNew, IsPlaced, IsRefused, Turns, laid_as, stepped};
 
-use crate::assembler::Assembler;
-use crate::naming::Mention;
+use crate::assembler::{Assembler, Piece};
 use crate::putting::Site;
+use crate::putting::statements::{
+    enter_code, enter_operand_of, enter_part, enter_room, enter_values, is_so, operand_value,
+    width_of,
+};
+use crate::putting::values::wait;
 use ast65::{AsmFault, Operand, Statement};
 use base65::Sequence;
+use object65::Action;
 use semantics65::{At, Context, Settled};
 use std::alloc::{AllocError, Global};
-use symbols65::{Before, Key, Measured, asks_section, measure, measure_instruction};
-use syntax65::{AddressSize, Mnemonic};
+use symbols65::{Before, Measured, asks_section, measure, measure_instruction};
+use syntax65::{Expr, Mnemonic, Mode, opcode};
 
 /// How many bytes a name or a text has fewer than.
 const LEN_LIMIT: usize = 256;
@@ -101,6 +107,25 @@ impl Assembler {
         Ok(())
     }
 
+    /// Enters an instruction of a form.
+    #[inline(always)]
+    fn enter_instruction(
+        &mut self,
+        alloc: Global,
+        site: Site<'_>,
+        mnemonic: Mnemonic,
+        mode: Mode,
+        operand: Operand,
+    ) -> Result<(), AllocError>
+        ensures { OnOk result (Enters
+            (place_at site.entry.at) site.entry.context
+            (instruction_pieces mnemonic operand (InMode mode))
+            self.old self.new) }
+    {
+        enter_code(self, site.context, opcode(mnemonic, mode))?;
+        enter_operand_of(alloc, self, site, width_of(mode), operand_value(operand))
+    }
+
     /// An instruction is entered in the form that is settled.
     #[inline(always)]
     fn enter_settled(
@@ -122,6 +147,35 @@ impl Assembler {
         }
     }
 
+    /// Enters an assertion.
+    #[inline(never)]
+    fn enter_assertion(
+        &mut self,
+        alloc: Global,
+        site: Site<'_>,
+        action: Action,
+        text: Sequence<u8>,
+        value: Expr,
+    ) -> Result<(), AllocError>
+        ensures { OnOk result (Enters
+            (place_at site.entry.at) site.entry.context
+            (valued (asserted action text) value ∷ []) self.old self.new) }
+    {
+        if is_so(alloc, &self.symbols, site.context, &value)? {
+            return Ok(());
+        }
+        wait(
+            alloc,
+            self,
+            site,
+            Piece::Assertion {
+                action,
+                text,
+                value,
+            },
+        )
+    }
+
     /// The pieces of a statement are entered, and then its names are known.
     #[inline(never)]
     fn enter(
@@ -139,74 +193,26 @@ impl Assembler {
             (λ y. symbols_behind y (laid_as place s m statement))
             self.old self.new) }
     {
-        let Site { context, .. } = site;
-        let scope = context.scope as usize;
-        let size = measured.size;
+        let context = site.context;
+        let Measured {
+            length,
+            settled,
+            ..
+        } = measured;
         match statement {
             Statement::Instruction { mnemonic, operand } => {
-                self.enter_settled(alloc, site, measured.settled, mnemonic, operand)
+                self.enter_settled(alloc, site, settled, mnemonic, operand)
             }
-            Statement::Values { width, items } => self.enter_values(alloc, site, width, items),
-            Statement::Reserve { .. } => {
-                self.enter_room(context, measured.length, measured.settled)
-            }
-            Statement::Align { .. } => self.enter_room(context, measured.length, measured.settled),
-            Statement::FilePart { bytes, .. } => {
-                self.enter_part(context, measured.length, measured.settled, bytes)
-            }
+            Statement::Values { width, items } => enter_values(alloc, self, site, width, items),
+            Statement::Reserve { .. } => enter_room(self, context, length, settled),
+            Statement::Align { .. } => enter_room(self, context, length, settled),
+            Statement::FilePart { bytes, .. } => enter_part(self, context, length, settled, bytes),
             Statement::Assert {
                 value,
                 action,
                 text,
             } => self.enter_assertion(alloc, site, action, text, value),
-            Statement::Label(name) => {
-                let name = name.as_slice();
-                self.define_label(alloc, Key::Named { scope, name }, context, size)
-            }
-            Statement::CheapLabel(name) => {
-                let region = context.region as usize;
-                let name = name.as_slice();
-                self.define_label(alloc, Key::Cheap { region, name }, context, size)
-            }
-            Statement::UnnamedLabel => {
-                self.define_label(alloc, Key::Unnamed(context.unnamed as usize), context, size)
-            }
-            Statement::Constant { name, value } => {
-                self.define_constant(alloc, site, size, name.as_slice(), value)
-            }
-            Statement::OpenScope(Some(name)) => self.open_block(
-                alloc,
-                context,
-                Some(name.as_slice()),
-            ),
-            Statement::OpenScope(None) => self.open_block(alloc, context, None),
-            Statement::OpenProc(name) => self.open_proc(alloc, context, size, name.as_slice()),
-            Statement::Import { size, names } => {
-                self.import_names(alloc, site, Mention::Imported, size, names.as_slice())
-            }
-            Statement::Global { size, names } => {
-                let mention = Mention::Exported { must: false };
-                self.import_names(alloc, site, mention, size, names.as_slice())
-            }
-            Statement::ForceImport(names) => self.demand_names(alloc, site, names.as_slice()),
-            Statement::Export(names) => {
-                self.mention(
-                    alloc,
-                    site,
-                    Mention::Exported { must: true },
-                    names.as_slice(),
-                )
-            }
-            // A part has its file's bytes before it is taken.
-            Statement::NamedPart { .. } => Ok(()),
-            Statement::Segment { .. }
-            | Statement::PushSegment
-            | Statement::PopSegment
-            | Statement::CloseScope
-            | Statement::CloseProc
-            | Statement::Out(_)
-            | Statement::Warning(_)
-            | Statement::Nothing => Ok(()),
+            other => self.enter_names(alloc, site, measured, other),
         }
     }
 

@@ -7,7 +7,8 @@ use Rattle.base65.specs.Outcome.{Finds, Gives, Refuses}
 use Rattle.base65.specs.Store.{Asks, Files, HasFailed, PassesBy, last_count}
 use Rattle.object65.specs.declared.object.Object.{Object}
 use Rattle.asm65.specs.declared.texts.AsmRefusal.{AsmRefusal}
-use Rattle.asm65.specs.Assembly.{IsAssembled, has_failed, in_places, is_outside_refusal, placed_of}
+use Rattle.semantics65.specs.Module.{IsOutcome}
+use Rattle.asm65.specs.Assembly.{has_failed, in_places, is_outside_refusal, placed_of}
 use Rattle.asm65.specs.Failing.{Stops}
 use Rattle.semantics65.specs.Reading.{PlacedFault, Job}
 use Rattle.ast65.specs.Faults.{is_memory as is_asm_memory}
@@ -203,7 +204,7 @@ module _ (a : Assembling) (out err : List ℕ) where
   Comes r o = AssemblesWith a out err (in_places r) o
 
   abbrev Is : Files → Result Object AsmRefusal → Type 0
-  Is m r = IsAssembled m (job_in a) (record { result = in_places r; out = out; err = err })
+  Is m r = IsOutcome m (job_in a) (record { result = in_places r; out = out; err = err })
 
   abbrev StopsFor : Job → Files → Option (List ℕ) → AsmRefusal → Type 0
   StopsFor j m blamed e = Stops m blamed j (placed_of e) out err

@@ -30,7 +30,6 @@ use Rattle.semantics65.specs.Reading.{PlacedFault, Job}
 use Rattle.semantics65.proofs.SoundContents.{sound_contents}
 use Rattle.semantics65.proofs.SoundSources.{sound_layout}
 use Rattle.emit65.proofs.GoodObjects.{good_object}
-use Rattle.asm65.specs.Assembly.{IsAssembled}
 use Rattle.link65.specs.Names.{given_names, open_names}
 use Rattle.link65.specs.Programs.{Module, program_of}
 use Rattle.link65.specs.Standing.{module_of}
@@ -48,7 +47,7 @@ answered : (y : Layout) (f : Option PlacedFault) (o : Object) → (asm.outcome_o
 answered y None o h = h
 answered y (Some e) o h = absurd (ok_err o e (sym h))
 
-good_source : (m : Files) (job : Job) (a : asm.Outcome) (o : Object) → IsAssembled m job a → a.result ≡ Ok o → is_good_object o ≡ true
+good_source : (m : Files) (job : Job) (a : asm.Outcome) (o : Object) → asm.IsOutcome m job a → a.result ≡ Ok o → is_good_object o ≡ true
 good_source m job a o (r, laid, same) is =
     let y : Layout = r.behind in
     let found : asm.object_of y ≡ Ok o = answered y r.fault o (sym (ap (λ (z : asm.Outcome). z.result) same) ∙ is) in

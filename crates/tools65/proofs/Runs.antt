@@ -10,7 +10,8 @@ use Rattle.output65.specs.declared.outcome.Status.{Status}
 use Rattle.output65.specs.declared.outcome.Status.TheVariants.{Failure}
 use Rattle.object65.specs.declared.object.Object.{Object}
 use Rattle.asm65.specs.declared.texts.AsmRefusal.{AsmRefusal}
-use Rattle.asm65.specs.Assembly.{IsAssembled, has_failed, in_places, is_outside_refusal, placed_of}
+use Rattle.semantics65.specs.Module.{IsOutcome}
+use Rattle.asm65.specs.Assembly.{has_failed, in_places, is_outside_refusal, placed_of}
 use Rattle.ast65.specs.Faults.{is_memory as is_asm_memory}
 use Rattle.output65.specs.Outputs.{failing}
 use Rattle.semantics65.specs.Reading.{Define, Job}
@@ -101,17 +102,17 @@ ran_as : (does other : Files → Outcome → Type 0) → ((m : Files) (o : Outco
 ran_as does other is memory m new io status (o, inl h, p) = (o, inl (is m o h), p)
 ran_as does other is memory m new io status (o, inr h, p) = (o, inr h, p)
 
-pub with_texts : (a : Assembling) (out err : List ℕ) (m : Files) (o : Outcome) → ((r : Result Object AsmRefusal) × IsAssembled m (job_in a) (record { result = in_places r; out = out; err = err }) × AssemblesWith a out err (in_places r) o) → Assembles a m o
+pub with_texts : (a : Assembling) (out err : List ℕ) (m : Files) (o : Outcome) → ((r : Result Object AsmRefusal) × IsOutcome m (job_in a) (record { result = in_places r; out = out; err = err }) × AssemblesWith a out err (in_places r) o) → Assembles a m o
 with_texts a out err m o h = (record { result = in_places h.0; out = out; err = err }, h.1, h.2)
 
-assembled_as : (known new : Option Files) (fo fn : ℕ) (a : Assembling) (out err : List ℕ) (io : Streams) (status : Status) → IfSome known (λ m. NoneFailed fo fn → Ran (λ n o. (r : Result Object AsmRefusal) × IsAssembled n (job_in a) (record { result = in_places r; out = out; err = err }) × AssemblesWith a out err (in_places r) o) (memory_line a.source) m new io status) → IfSome known (λ m. NoneFailed fo fn → Ran (Assembles a) (memory_line a.source) m new io status)
+assembled_as : (known new : Option Files) (fo fn : ℕ) (a : Assembling) (out err : List ℕ) (io : Streams) (status : Status) → IfSome known (λ m. NoneFailed fo fn → Ran (λ n o. (r : Result Object AsmRefusal) × IsOutcome n (job_in a) (record { result = in_places r; out = out; err = err }) × AssemblesWith a out err (in_places r) o) (memory_line a.source) m new io status) → IfSome known (λ m. NoneFailed fo fn → Ran (Assembles a) (memory_line a.source) m new io status)
 assembled_as None new fo fn a out err io status h = tt
 assembled_as (Some m) new fo fn a out err io status h = λ none.
-    ran_as (λ n o. (r : Result Object AsmRefusal) × IsAssembled n (job_in a) (record { result = in_places r; out = out; err = err }) × AssemblesWith a out err (in_places r) o) (Assembles a) (with_texts a out err) (memory_line a.source) m new io status (h none)
+    ran_as (λ n o. (r : Result Object AsmRefusal) × IsOutcome n (job_in a) (record { result = in_places r; out = out; err = err }) × AssemblesWith a out err (in_places r) o) (Assembles a) (with_texts a out err) (memory_line a.source) m new io status (h none)
 
 -- the same job, whose folders and constants are those of a line
-pub as_job : (known : Option Files) (j : Job) (a : Assembling) (out err : List ℕ) (r : Result Object AsmRefusal) → j ≡ job_in a → IfSome known (λ m. Finds is_outside_refusal (λ x. IsAssembled m j (record { result = in_places x; out = out; err = err })) r) → IfSome known (λ m. Finds is_outside_refusal (λ x. IsAssembled m (job_in a) (record { result = in_places x; out = out; err = err })) r)
-as_job known j a out err r same h = subst (λ (k : Job). IfSome known (λ m. Finds is_outside_refusal (λ x. IsAssembled m k (record { result = in_places x; out = out; err = err })) r)) same h
+pub as_job : (known : Option Files) (j : Job) (a : Assembling) (out err : List ℕ) (r : Result Object AsmRefusal) → j ≡ job_in a → IfSome known (λ m. Finds is_outside_refusal (λ x. IsOutcome m j (record { result = in_places x; out = out; err = err })) r) → IfSome known (λ m. Finds is_outside_refusal (λ x. IsOutcome m (job_in a) (record { result = in_places x; out = out; err = err })) r)
+as_job known j a out err r same h = subst (λ (k : Job). IfSome known (λ m. Finds is_outside_refusal (λ x. IsOutcome m k (record { result = in_places x; out = out; err = err })) r)) same h
 
 pub same_job : (a : Assembling) (include : List (List ℕ)) (defines : List Define) → include ≡ a.include → defines ≡ map define_in a.defines → record { source = a.source; include = include; defines = defines } ≡ job_in a
 same_job a include defines h k = ap (λ (i : List (List ℕ)). job_with a i defines) h ∙ ap (λ (d : List Define). job_with a a.include d) k
@@ -120,10 +121,10 @@ same_job a include defines h k = ap (λ (i : List (List ℕ)). job_with a i defi
     job_with b i d = record { source = b.source; include = i; defines = d }
 
 -- what was assembled is carried out
-pub assembled_run : (known mid new : Option Files) (fo fm fn : ℕ) (a : Assembling) (out err : List ℕ) (r : Result Object AsmRefusal) (o : Outcome) (io : Streams) (status : Status) → mid ≡ known → fm ≤ fn → PassesBy has_failed fo fm r → AssemblesWith a out err (in_places r) o → IfSome known (λ m. Finds is_outside_refusal (λ x. IsAssembled m (job_in a) (record { result = in_places x; out = out; err = err })) r) → IfSome mid (λ m. NoneFailed fm fn → Performs o m new io status ⊎ StopsShort o (memory_line a.source) m new io status) → IfSome known (λ m. NoneFailed fo fn → Ran (Assembles a) (memory_line a.source) m new io status)
+pub assembled_run : (known mid new : Option Files) (fo fm fn : ℕ) (a : Assembling) (out err : List ℕ) (r : Result Object AsmRefusal) (o : Outcome) (io : Streams) (status : Status) → mid ≡ known → fm ≤ fn → PassesBy has_failed fo fm r → AssemblesWith a out err (in_places r) o → IfSome known (λ m. Finds is_outside_refusal (λ x. IsOutcome m (job_in a) (record { result = in_places x; out = out; err = err })) r) → IfSome mid (λ m. NoneFailed fm fn → Performs o m new io status ⊎ StopsShort o (memory_line a.source) m new io status) → IfSome known (λ m. NoneFailed fo fn → Ran (Assembles a) (memory_line a.source) m new io status)
 assembled_run known mid new fo fm fn a out err r o io status same later count comes finds performs =
     assembled_as known new fo fn a out err io status
-    (computed_run (λ e. is_asm_memory e.fault) has_failed (memory_line a.source) (λ m x. IsAssembled m (job_in a) (record { result = in_places x; out = out; err = err })) (λ r o. AssemblesWith a out err (in_places r) o) (asm_memory a out err) known mid new fo fm fn r o io status same later count comes finds performs)
+    (computed_run (λ e. is_asm_memory e.fault) has_failed (memory_line a.source) (λ m x. IsOutcome m (job_in a) (record { result = in_places x; out = out; err = err })) (λ r o. AssemblesWith a out err (in_places r) o) (asm_memory a out err) known mid new fo fm fn r o io status same later count comes finds performs)
 
 pub link_memory : (l : Linking) (e : Refusal) (o : Outcome) → is_memory e ≡ true → o ≡ outcome_of l (Err e) → o ≡ failing memory_message
 link_memory l e o h is = is ∙ by_memory

@@ -4,7 +4,6 @@ use Rattle.base65.specs.Store.{Files}
 use Rattle.object65.specs.declared.object.Object.{Object}
 use Rattle.object65.specs.Objects.{ObjectFits}
 use Rattle.object65.specs.Spelling.{object_bytes}
-use Rattle.asm65.specs.Assembly.{IsAssembled}
 use Rattle.ast65.specs.Faults.{is_memory}
 use Rattle.semantics65.specs.Module as asm
 use Rattle.semantics65.specs.Reading.{PlacedFault}
@@ -50,7 +49,7 @@ AssemblesTo a x o = AssemblesWith a x.out x.err x.result o
 
 -- what an assemble line does with these files
 abbrev pub Assembles : Assembling → Files → Outcome → Type 0
-Assembles a m o = (x : asm.Outcome) × IsAssembled m (job_in a) x × AssemblesTo a x o
+Assembles a m o = (x : asm.Outcome) × asm.IsOutcome m (job_in a) x × AssemblesTo a x o
 
 -- A run has the outcome that the files give, or only says that memory ran out; it carries that out, or memory ran
 -- out while it wrote the files.

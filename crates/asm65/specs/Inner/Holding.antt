@@ -1,5 +1,5 @@
 -- What the assembler holds between two statements, and what taking one leaves.
-use Rattle.std.specs.Prelude.{◌≡◌, ℕ, ◌<◌, ⊤, false, List, [], ◌∷◌, length, slice_get, Some, ℤ, Bool, true, pos, Option, None, Result, Ok, Err, ◌++◌, if◌then◌else◌}
+use Rattle.std.specs.Prelude.{◌≡◌, ℕ, ◌<◌, ⊤, false, List, [], ◌∷◌, length, slice_get, Some, ℤ, Bool, true, pos, None, Result, Ok, Err, ◌++◌, if◌then◌else◌}
 use Rattle.std.specs.List.{AllByRecursion, flat_map, list_all}
 use Rattle.syntax65.specs.Trees.{Tree, name}
 use Rattle.syntax65.specs.declared.place.Place.{Place}
@@ -14,7 +14,7 @@ use Rattle.symbols65.specs.Resolving.{IsTable}
 use Rattle.symbols65.specs.Views.{table_of}
 use Rattle.asm65.specs.declared.assembler.Assembler.{Assembler}
 use Rattle.asm65.specs.declared.assembler.Piece.{Piece}
-use Rattle.asm65.specs.declared.assembler.Piece.TheVariants.{Datum, Operand, Constant, Assertion, Import, Demand, Export}
+use Rattle.asm65.specs.declared.assembler.Piece.TheVariants.{Datum, Operand, Constant, Assertion, Import, ForcedImport, Export}
 use Rattle.asm65.specs.declared.assembler.Fixup.{Fixup}
 use Rattle.symbols65.specs.Measuring.{AreInside, AreWithin, IsCounted, IsSoundCursor, cursor_of, measure_of, opening_limit}
 use Rattle.expand65.specs.State.{Meaning}
@@ -29,12 +29,13 @@ use Rattle.emit65.specs.declared.sections.Sections.{Sections}
 use Rattle.syntax65.specs.declared.lexing.tokens.AddressSize.{AddressSize}
 use Rattle.syntax65.specs.declared.lexing.tokens.AddressSize.TheVariants as size
 use Rattle.ast65.specs.declared.language.Statement.{Statement}
+use Rattle.ast65.specs.declared.language.Statement.TheVariants.{Align, Assert, FilePart, Instruction, Reserve, Values}
 use Rattle.semantics65.specs.Layout.{context_of, cursor_behind, line_fault, opened_twice, scope_name}
 use Rattle.ast65.specs.Faults.{is_outside}
 use Rattle.semantics65.specs.Module.{out_of, warning_of}
 use Rattle.symbols65.specs.declared.measuring.Measured.{Measured}
-use Rattle.asm65.specs.declared.naming.stating.Mention.{Mention}
-use Rattle.asm65.specs.declared.naming.stating.Mention.TheVariants.{ForcedImport, Exported, Imported}
+use Rattle.asm65.specs.declared.naming.Mention.{Mention}
+use Rattle.asm65.specs.declared.naming.Mention.TheVariants as mention
 
 -- ---- What waits.
 
@@ -53,7 +54,7 @@ IsPiece y s (Constant place) p =
     (e : Tree) × IsConstant y s place e × (p ≡ piece.valued piece.equated e)
 IsPiece y s (Assertion act words e) p = p ≡ piece.valued (piece.asserted act words) e
 IsPiece y s (Import n) p = p ≡ piece.imported n
-IsPiece y s (Demand n) p = p ≡ piece.demanded n
+IsPiece y s (ForcedImport n) p = p ≡ piece.demanded n
 IsPiece y s (Export must n) p = p ≡ piece.exported must n
 
 -- by the names of files
@@ -137,20 +138,11 @@ Waits place s p old new =
 
 -- ---- Parts.
 
-abbrev pub literal_of : Form → Option ℤ
-literal_of (lit v) = Some v
-literal_of f = None
-
 -- a part is put into the section of a segment, if there is one; else the sections stay
 abbrev pub IsPut : Sections → Sections → ℕ → Result Part AsmFault → Bool → Type 0
 IsPut old new segment r false = new ≡ old
 IsPut old new segment (Ok p) true = Feeds old new (put segment p)
 IsPut old new segment (Err e) true = ⊥
-
--- what was found without a fault
-abbrev pub IsFaultless : Result Form AsmFault → Option Form → Type 0
-IsFaultless r (Some f) = r ≡ Ok f
-IsFaultless r None = ⊤
 
 -- what is stored of an operand's form
 abbrev pub operand_stored : Width → Context → Place → Form → Result Part AsmFault
@@ -187,6 +179,16 @@ laid_as place s m x = record {
   settled = m.settled;
 }
 
+-- a statement that puts something into a section, or is an assertion
+abbrev pub is_put : Statement → Bool
+is_put (Instruction m o) = true
+is_put (Values width items) = true
+is_put (Reserve n v) = true
+is_put (Align n v) = true
+is_put (FilePart bytes start len) = true
+is_put (Assert e act words) = true
+is_put _ = false
+
 -- what a statement here defines and opens is not there yet
 pub record IsNew (y : Symbols) (s : Context) (x : Statement) : Type 0 where
   pub opened : opened_twice y.scopes s.scope (scope_name x) ≡ None
@@ -200,16 +202,13 @@ pub record KeepsPut (old new : Assembler) : Type 0 where
   pub files : new.files ≡ old.files
   pub texts : new.texts ≡ old.texts
 
-abbrev pub with_symbols : State → Symbols → State
-with_symbols t y = record t { symbols = y }
-
 -- Pieces of a statement that stands here are entered, and then the symbol table is the one that it
 -- becomes.
 abbrev pub Turns : Place → Context → List piece.Piece → (Symbols → Symbols) → Assembler → Assembler → Type 0
 Turns place s ps becomes old new =
     (count : ℕ) (t : State) → Holds count t old → AreInside count (becomes t.symbols).scopes →
     AreBefore t.cursor.unnamed (becomes t.symbols).definitions →
-    (u : State) × PutsAll place s t ps u × Holds count (with_symbols u (becomes t.symbols)) new
+    (u : State) × PutsAll place s t ps u × Holds count (record u { symbols = becomes t.symbols }) new
 
 -- some state is held, behind statements that may be followed by one more
 abbrev pub IsHeld : Assembler → Type 0
@@ -256,9 +255,9 @@ is_for_zero_page size.ZeroPage = true
 is_for_zero_page size.Absolute = false
 
 abbrev pub mentioned : Mention → List ℕ → piece.Piece
-mentioned Imported n = piece.imported n
-mentioned ForcedImport n = piece.demanded n
-mentioned (Exported must) n = piece.exported must n
+mentioned mention.Imported n = piece.imported n
+mentioned mention.ForcedImport n = piece.demanded n
+mentioned (mention.Exported must) n = piece.exported must n
 
 -- pieces that wait, one behind the other
 abbrev pub all_awaiting : Place → Context → State → List piece.Piece → State

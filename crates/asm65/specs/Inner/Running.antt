@@ -1,9 +1,8 @@
 -- What calls leave, the states that are held, the lines of a source, and what waits behind them.
-use Rattle.std.specs.Prelude.{◌≡◌, ℕ, ◌+◌, ◌*◌, ◌≤◌, ◌<◌, List, [], ◌∷◌, Option, Some, None, IfErr, IfSome, Bool, true, false, Result, Ok, Err, ⊤, take, ◌++◌, map}
+use Rattle.std.specs.Prelude.{◌≡◌, ℕ, ◌+◌, ◌*◌, ◌≤◌, ◌<◌, List, [], ◌∷◌, Option, None, IfErr, IfSome, Bool, true, false, Result, Ok, Err, take, ◌++◌, map}
 use Rattle.base65.specs.Outcome.{Unless, ◌>>=◌}
 use Rattle.base65.specs.Store.{Files, PassesBy}
 use Rattle.syntax65.specs.Tokens.{Lexeme}
-use Rattle.syntax65.specs.Trees.{number}
 use Rattle.expand65.specs.Failing.{Gives}
 use Rattle.expand65.specs.State as expand
 use Rattle.expand65.specs.Standing.{measure_of, place_of}
@@ -12,17 +11,16 @@ use Rattle.ast65.specs.declared.fault.AsmFault.{AsmFault}
 use Rattle.ast65.specs.declared.fault.AsmFault.TheVariants.{FileError, FileNotFound}
 use Rattle.ast65.specs.Faults.{is_failure, is_outside}
 use Rattle.ast65.specs.declared.language.Statement.{Statement}
-use Rattle.ast65.specs.declared.language.Statement.TheVariants as statement
 use Rattle.ast65.specs.declared.language.Statement.TheVariants.{FilePart, NamedPart}
 use Rattle.semantics65.specs.Numbering.{AreNamed, IsSound}
 use Rattle.semantics65.specs.Machine.{Runs, State, Takes, begun}
-use Rattle.semantics65.specs.Reading.{Define, IsGiven, Job, stopped, bytes_for, with_bytes}
+use Rattle.semantics65.specs.Reading.{IsGiven, Job, stopped, bytes_for, with_bytes}
 use Rattle.asm65.specs.declared.assembler.Assembler.{Assembler}
 use Rattle.asm65.specs.declared.running.Run.{Run}
 use Rattle.symbols65.specs.Measuring.{opening_limit}
 use Rattle.asm65.specs.Inner.Holding.{Holds}
 use Rattle.asm65.specs.Assembly.{Without, is_outside_refusal, placed_of}
-use Rattle.std.specs.Option.{option_map}
+use Rattle.std.specs.Option.{option_map, unwrap_or}
 use Rattle.semantics65.specs.Contents.{Content, put, telling, written}
 use Rattle.semantics65.specs.declared.contents.Declaration.{Declaration}
 use Rattle.semantics65.specs.declared.laid.Context.{Context}
@@ -30,7 +28,7 @@ use Rattle.semantics65.specs.Norms.{defined_form}
 use Rattle.semantics65.specs.Symbols.{Symbols}
 use Rattle.semantics65.specs.Views.{part_at, said_at}
 use Rattle.semantics65.specs.Machine as machine
-use Rattle.semantics65.specs.Module.{warning_at, Made, absent_of, as_said, made_of, used}
+use Rattle.semantics65.specs.Module.{warning_at, Made, as_said, made_of, used}
 use Rattle.semantics65.specs.Module as piece
 use Rattle.emit65.specs.Fed.{Receives, Stands}
 use Rattle.emit65.specs.declared.sections.Sections.{Sections}
@@ -40,7 +38,7 @@ use Rattle.asm65.specs.declared.resolving.Filling.{Filling}
 use Rattle.asm65.specs.declared.resolving.Filling.TheVariants as filling
 use Rattle.asm65.specs.declared.resolving.Made as code
 use Rattle.asm65.specs.declared.assembler.Piece.{Piece}
-use Rattle.asm65.specs.declared.assembler.Piece.TheVariants.{Datum, Operand, Constant, Assertion, Import, Demand, Export}
+use Rattle.asm65.specs.declared.assembler.Piece.TheVariants.{Datum, Operand, Constant, Assertion, Import, ForcedImport, Export}
 
 -- ---- What a call that takes statements leaves.
 
@@ -70,17 +68,13 @@ pub data IsReached : State → Type 0 where
       (t u : State) (place : Place) (x : Statement) →
       IsReached t → IsSound x → Takes t place x (Ok u) → IsReached u
 
--- what the first has been led to leads to the second
-abbrev pub LeadsTo : State → State → Type 0
-LeadsTo t u = IsReached t → IsReached u
-
 -- Behind a state, an answer: what it says is held; or it is refused with nothing more said, as it
 -- says where names are so, unless it is refused from outside.
 abbrev pub Leaves :
     Type 0 → (Result State AsmFault → Type 0) → ℕ → State → Assembler →
     Result (Unit {0}) AsmFault → Type 0
 Leaves AreSo IsAnswer most t new (Ok x) =
-    (u : State) × IsAnswer (Ok u) × LeadsTo t u × HoldsWithin most u new
+    (u : State) × IsAnswer (Ok u) × (IsReached t → IsReached u) × HoldsWithin most u new
 Leaves AreSo IsAnswer most t new (Err e) =
     Unless (is_outside e) ((AreSo → IsAnswer (Err e)) × SaysAs t new)
 
@@ -114,19 +108,12 @@ abbrev pub StopsQuietly :
 StopsQuietly IsAnswer more old new r =
     IfErr r (λ e. is_failure e ≡ true → IsStopped IsAnswer more old new e)
 
--- what a label is, if there is one, objects can hold
-abbrev pub IsSoundIf : Option Statement → Type 0
-IsSoundIf None = ⊤
-IsSoundIf (Some x) = IsSound x
-
--- ---- Constants of the command line.
-
--- one opens nothing, and its name is no object's
-abbrev pub DefinesBy :
-    Place → Define → Assembler → Assembler → Result (Unit {0}) AsmFault → Type 0
-DefinesBy place d old new r =
-    (count : ℕ) (t : State) → count + 1 ≤ opening_limit → Holds count t old →
-    Leaves ⊤ (Takes t place (statement.Constant d.0 (number d.1))) count t new r
+-- so it takes what it reads of a store, where that tells its files, or stops where the store failed
+pub record Reads (o : Option Files) (blamed : Option (List ℕ)) (AreSo : Type 0)
+    (IsAnswer : Files → State → Result State AsmFault → Type 0) (more : ℕ) (old new : Assembler)
+    (r : Result (Unit {0}) AsmFault) : Type 0 where
+  pub taken : TakesBy AreSo (Told o IsAnswer) more old new r
+  pub stopped : StopsQuietly (Without blamed IsAnswer) more old new r
 
 -- ---- A source.
 
@@ -148,9 +135,6 @@ IsRunning run = (t : State) × IsReached t × IsHeldBy t run
 abbrev pub HoldsSome : State → Assembler → Type 0
 HoldsSome t a = (count : ℕ) × Holds count t a
 
-abbrev pub IsReachedBy : Assembler → Type 0
-IsReachedBy a = (t : State) × IsReached t × HoldsSome t a
-
 -- what the statements of a source come to, or their first fault, unless it is refused from outside
 abbrev pub Ran : Files → Job → Run → Result (Unit {0}) AsmFault → Type 0
 Ran m job new (Ok x) =
@@ -163,9 +147,10 @@ tokens_of (expand.label ts) = ts
 tokens_of (expand.plain ts) = ts
 
 -- A statement that expansion gives at a place is taken.
-pub record TakesOne (o : Option Files) (blamed : Option (List ℕ)) (place : Place) (x : expand.Stated) (old new : Assembler) (r : Result (Unit {0}) AsmFault) : Type 0 where
-  pub taken : TakesBy (AreNamed (tokens_of x)) (Told o (λ m t. IsGiven m Takes t place x)) 2 old new r
-  pub stopped : StopsQuietly (Without blamed (λ m t. IsGiven m Takes t place x)) 2 old new r
+abbrev pub TakesOne :
+    Option Files → Option (List ℕ) → Place → expand.Stated → Assembler → Assembler →
+    Result (Unit {0}) AsmFault → Type 0
+TakesOne o blamed place x = Reads o blamed (AreNamed (tokens_of x)) (λ m t. IsGiven m Takes t place x) 2
 
 -- such statements are taken one behind the other, up to the first that is refused
 pub data TakesAll (o : Option Files) (blamed : Option (List ℕ)) (place : Place) :
@@ -214,21 +199,16 @@ abbrev pub content_of : Place → Filling → Content
 content_of place (filling.Part segment part) = put segment (part_at place part)
 content_of place (filling.Told said) = telling (map (said_at place) said)
 
--- the warning of an assertion with this text, where one failed
-abbrev pub warning_in : Place → Option (List ℕ) → List ℕ
-warning_in place None = []
-warning_in place (Some words) = warning_at place words
-
+-- with the warning of an assertion that failed
 abbrev pub made_in : Place → code.Made → Made
-made_in place m = record { content = content_of place m.filling; warning = warning_in place m.warning }
+made_in place m = record {
+  content = content_of place m.filling;
+  warning = unwrap_or (option_map (warning_at place) m.warning) [];
+}
 
 -- what a saying comes to that is written with its place
 abbrev pub noted : Place → Declaration → Result Made AsmFault
 noted place s = written place (said_at place s ∷ []) >>= as_said
-
--- what an export comes to that isn't defined
-abbrev pub lost : (must : Bool) → List ℕ → Result Made AsmFault
-lost must n = absent_of must n >>= as_said
 
 -- of a constant only the fault of its expression is found
 abbrev pub coming : Symbols → Place → Context → Piece → Result Made AsmFault
@@ -239,7 +219,7 @@ coming y place s (Constant at) = defined_form y at >>= used place s piece.equate
 coming y place s (Assertion act words e) =
     made_of y place s (piece.valued (piece.asserted act words) e)
 coming y place s (Import n) = made_of y place s (piece.imported n)
-coming y place s (Demand n) = made_of y place s (piece.demanded n)
+coming y place s (ForcedImport n) = made_of y place s (piece.demanded n)
 coming y place s (Export must n) = made_of y place s (piece.exported must n)
 
 -- ---- What waits.

@@ -6,25 +6,23 @@ ghost use Rattle.semantics65.specs.Norms.{width_of};
 ghost use Rattle.symbols65.specs.Views.{table_of};
 ghost use Rattle.asm65.specs.Inner.Holding.{IsSo, Enters};
 ghost use Rattle.syntax65.specs.declared.place.Place.{Place};
-ghost use Rattle.semantics65.specs.declared.laid.Settled.TheVariants.{InMode};
 ghost use Rattle.semantics65.specs.Views.{place_at};
-ghost use Rattle.syntax65.specs.Opcodes.{opcode_of};
-ghost use Rattle.semantics65.specs.Module.{asserted, given, instruction_pieces, valued, item_piece, operand_pieces};
+ghost use Rattle.semantics65.specs.Module.{given, item_piece, operand_pieces};
 ghost use Rattle.ast65.specs.Items.{numbered};
 
 use super::Site;
-use super::values::{bytes_of, file_bytes, items_of, literal_of};
-use crate::assembler::{Assembler, Piece};
+use super::values::{bytes_of, enter_datum, enter_operand, file_bytes, items_of, literal_of};
+use crate::assembler::Assembler;
 use ast65::{Item, Items, ItemsKind, Operand};
 use base65::Sequence;
-use object65::{Action, Width};
+use object65::Width;
 use semantics65::{Context, Settled};
 use std::alloc::{AllocError, Global};
 use symbols65::{Symbols, stable_form};
-use syntax65::{Expr, Mnemonic, Mode, opcode};
+use syntax65::{Expr, Mode};
 
 /// How wide the operand of an instruction of a form is stored, if it has a value.
-fn width_of(mode: Mode) -> Option<Width>
+pub fn width_of(mode: Mode) -> Option<Width>
     ensures { result ≡ width_of mode }
 {
     match mode {
@@ -36,7 +34,7 @@ fn width_of(mode: Mode) -> Option<Width>
 }
 
 /// The expression of an operand, if it has one.
-fn operand_value(operand: Operand) -> Option<Expr>
+pub fn operand_value(operand: Operand) -> Option<Expr>
     ensures { result ≡ operand_tree operand }
 {
     match operand {
@@ -50,7 +48,7 @@ fn operand_value(operand: Operand) -> Option<Expr>
 }
 
 /// Whether a value is another one than 0, whatever statements follow.
-fn is_so(
+pub fn is_so(
     alloc: Global,
     symbols: &Symbols,
     context: Context,
@@ -67,178 +65,136 @@ fn is_so(
     }
 }
 
-impl Assembler {
-    /// Enters the code of an instruction.
-    #[inline(always)]
-    fn enter_code(&mut self, context: Context, code: Option<u8>) -> Result<(), AllocError>
-        ensures { OnOk result ((place : Place) → Enters place context
-            (given (opcode_part code) ∷ []) self.old self.new) }
-    {
-        match code {
-            Some(code) => self.sections.append(context.segment, &[code]),
-            None => self.sections.append(context.segment, &[]),
-        }
+/// Enters the code of an instruction.
+#[inline(always)]
+pub fn enter_code(
+    assembler: &mut Assembler,
+    context: Context,
+    code: Option<u8>,
+) -> Result<(), AllocError>
+    ensures { OnOk result ((place : Place) → Enters place context
+        (given (opcode_part code) ∷ []) assembler.old assembler.new) }
+{
+    match code {
+        Some(code) => assembler.sections.append(context.segment, &[code]),
+        None => assembler.sections.append(context.segment, &[]),
     }
+}
 
-    /// Enters the value of an operand, if there is one.
-    #[inline(always)]
-    fn enter_operand_of(
-        &mut self,
-        alloc: Global,
-        site: Site<'_>,
-        width: Option<Width>,
-        value: Option<Expr>,
-    ) -> Result<(), AllocError>
-        ensures { OnOk result (Enters
-            (place_at site.entry.at) site.entry.context
-            (operand_pieces width value) self.old self.new) }
-    {
-        match (width, value) {
-            (Some(width), Some(value)) => self.enter_operand(alloc, site, width, value),
-            _ => Ok(()),
-        }
+/// Enters the value of an operand, if there is one.
+#[inline(always)]
+pub fn enter_operand_of(
+    alloc: Global,
+    assembler: &mut Assembler,
+    site: Site<'_>,
+    width: Option<Width>,
+    value: Option<Expr>,
+) -> Result<(), AllocError>
+    ensures { OnOk result (Enters
+        (place_at site.entry.at) site.entry.context
+        (operand_pieces width value) assembler.old assembler.new) }
+{
+    match (width, value) {
+        (Some(width), Some(value)) => enter_operand(alloc, assembler, site, width, value),
+        _ => Ok(()),
     }
+}
 
-    /// Enters an instruction of a form.
-    #[inline(always)]
-    pub fn enter_instruction(
-        &mut self,
-        alloc: Global,
-        site: Site<'_>,
-        mnemonic: Mnemonic,
-        mode: Mode,
-        operand: Operand,
-    ) -> Result<(), AllocError>
-        ensures { OnOk result (Enters
-            (place_at site.entry.at) site.entry.context
-            (instruction_pieces mnemonic operand (InMode mode))
-            self.old self.new) }
-    {
-        self.enter_code(site.context, opcode(mnemonic, mode))?;
-        self.enter_operand_of(alloc, site, width_of(mode), operand_value(operand))
-    }
-
-    /// Enters a list of any elements.
-    fn enter_mixed(
-        &mut self,
-        alloc: Global,
-        site: Site<'_>,
-        width: Width,
-        items: Sequence<Item>,
-    ) -> Result<(), AllocError>
-        ensures { OnOk result (Enters
-            (place_at site.entry.at) site.entry.context
-            (map (item_piece width) items) self.old self.new) }
-    {
-        for item in items.into_vec() {
-            match item {
-                Item::Value(value) => self.enter_datum(alloc, site, width, value)?,
-                Item::Text(bytes) => {
-                    self.sections
-                        .append(site.context.segment, bytes.as_slice())?
-                }
+/// Enters a list of any elements.
+fn enter_mixed(
+    alloc: Global,
+    assembler: &mut Assembler,
+    site: Site<'_>,
+    width: Width,
+    items: Sequence<Item>,
+) -> Result<(), AllocError>
+    ensures { OnOk result (Enters
+        (place_at site.entry.at) site.entry.context
+        (map (item_piece width) items) assembler.old assembler.new) }
+{
+    for item in items.into_vec() {
+        match item {
+            Item::Value(value) => enter_datum(alloc, assembler, site, width, value)?,
+            Item::Text(bytes) => {
+                assembler
+                    .sections
+                    .append(site.context.segment, bytes.as_slice())?
             }
         }
-        Ok(())
     }
+    Ok(())
+}
 
-    /// Enters a list of numbers: in one go, if each is in range.
-    fn enter_numbers(
-        &mut self,
-        alloc: Global,
-        site: Site<'_>,
-        width: Width,
-        numbers: &[u32],
-    ) -> Result<(), AllocError>
-        ensures { OnOk result (Enters
-            (place_at site.entry.at) site.entry.context
-            (map (item_piece width) (map numbered numbers.now)) self.old self.new) }
-    {
-        match bytes_of(alloc, width, numbers)? {
-            Some(bytes) => self.sections.append(site.context.segment, bytes.as_slice()),
-            None => self.enter_mixed(alloc, site, width, items_of(alloc, numbers)?),
+/// Enters a list of numbers: in one go, if each is in range.
+fn enter_numbers(
+    alloc: Global,
+    assembler: &mut Assembler,
+    site: Site<'_>,
+    width: Width,
+    numbers: &[u32],
+) -> Result<(), AllocError>
+    ensures { OnOk result (Enters
+        (place_at site.entry.at) site.entry.context
+        (map (item_piece width) (map numbered numbers.now)) assembler.old assembler.new) }
+{
+    match bytes_of(alloc, width, numbers)? {
+        Some(bytes) => assembler
+            .sections
+            .append(site.context.segment, bytes.as_slice()),
+        None => enter_mixed(alloc, assembler, site, width, items_of(alloc, numbers)?),
+    }
+}
+
+/// Enters a list.
+#[inline(never)]
+pub fn enter_values(
+    alloc: Global,
+    assembler: &mut Assembler,
+    site: Site<'_>,
+    width: Width,
+    items: Items,
+) -> Result<(), AllocError>
+    ensures { OnOk result (Enters
+        (place_at site.entry.at) site.entry.context
+        (map (item_piece width) items) assembler.old assembler.new) }
+{
+    match items.into_kind() {
+        ItemsKind::Numbers(numbers) => {
+            enter_numbers(alloc, assembler, site, width, numbers.as_slice())
         }
+        ItemsKind::Mixed(items) => enter_mixed(alloc, assembler, site, width, items),
     }
+}
 
-    /// Enters a list.
-    #[inline(never)]
-    pub fn enter_values(
-        &mut self,
-        alloc: Global,
-        site: Site<'_>,
-        width: Width,
-        items: Items,
-    ) -> Result<(), AllocError>
-        ensures { OnOk result (Enters
-            (place_at site.entry.at) site.entry.context
-            (map (item_piece width) items) self.old self.new) }
-    {
-        match items.into_kind() {
-            ItemsKind::Numbers(numbers) => {
-                self.enter_numbers(alloc, site, width, numbers.as_slice())
-            }
-            ItemsKind::Mixed(items) => self.enter_mixed(alloc, site, width, items),
-        }
+/// Enters room of so many bytes, filled with the byte that is settled, if there is one.
+#[inline(never)]
+pub fn enter_room(
+    assembler: &mut Assembler,
+    context: Context,
+    count: u32,
+    settled: Settled,
+) -> Result<(), AllocError>
+    ensures { OnOk result ((place : Place) → Enters place context
+        (given (room_part count settled) ∷ []) assembler.old assembler.new) }
+{
+    match settled {
+        Settled::FilledWith(byte) => assembler.sections.fill(context.segment, count, byte),
+        _ => assembler.sections.room(context.segment, count),
     }
+}
 
-    /// Enters room of so many bytes, filled with the byte that is settled, if there is one.
-    #[inline(never)]
-    pub fn enter_room(
-        &mut self,
-        context: Context,
-        count: u32,
-        settled: Settled,
-    ) -> Result<(), AllocError>
-        ensures { OnOk result ((place : Place) → Enters place context
-            (given (room_part count settled) ∷ []) self.old self.new) }
-    {
-        match settled {
-            Settled::FilledWith(byte) => self.sections.fill(context.segment, count, byte),
-            _ => self.sections.room(context.segment, count),
-        }
-    }
-
-    /// Enters so many bytes of a file from the one on that is settled.
-    #[inline(never)]
-    pub fn enter_part(
-        &mut self,
-        context: Context,
-        count: u32,
-        settled: Settled,
-        bytes: Option<Sequence<u8>>,
-    ) -> Result<(), AllocError>
-        ensures { OnOk result ((place : Place) → Enters place context
-            (given (Known (file_bytes count bytes settled)) ∷ []) self.old self.new) }
-    {
-        let part = file_bytes(&bytes, settled, count);
-        self.sections.append(context.segment, part)
-    }
-
-    /// Enters an assertion.
-    #[inline(never)]
-    pub fn enter_assertion(
-        &mut self,
-        alloc: Global,
-        site: Site<'_>,
-        action: Action,
-        text: Sequence<u8>,
-        value: Expr,
-    ) -> Result<(), AllocError>
-        ensures { OnOk result (Enters
-            (place_at site.entry.at) site.entry.context
-            (valued (asserted action text) value ∷ []) self.old self.new) }
-    {
-        if is_so(alloc, &self.symbols, site.context, &value)? {
-            return Ok(());
-        }
-        self.wait(
-            alloc,
-            site,
-            Piece::Assertion {
-                action,
-                text,
-                value,
-            },
-        )
-    }
+/// Enters so many bytes of a file from the one on that is settled.
+#[inline(never)]
+pub fn enter_part(
+    assembler: &mut Assembler,
+    context: Context,
+    count: u32,
+    settled: Settled,
+    bytes: Option<Sequence<u8>>,
+) -> Result<(), AllocError>
+    ensures { OnOk result ((place : Place) → Enters place context
+        (given (Known (file_bytes count bytes settled)) ∷ []) assembler.old assembler.new) }
+{
+    let part = file_bytes(&bytes, settled, count);
+    assembler.sections.append(context.segment, part)
 }

@@ -1,10 +1,11 @@
 //! Values and other parts of statements, which are put at once where they are settled without a fault, or wait.
 
-ghost use Rattle.std.specs.Prelude.{◌≡◌, drop, IfOk, IfSome, map, OnOk, take, ◌∷◌, []};
+ghost use Rattle.std.specs.Prelude.{◌≡◌, drop, IfOk, IfSome, map, Ok, OnOk, take, ◌∷◌, []};
+ghost use Rattle.semantics65.specs.Norms.{literal_in};
 ghost use Rattle.semantics65.specs.Contents.{file_bytes, operand_form, put, stored, Known};
 ghost use Rattle.ast65.specs.Items.{numbered};
 ghost use Rattle.semantics65.specs.Views.{place_at, part_at};
-ghost use Rattle.asm65.specs.Inner.Holding.{AreStored, IsFaultless, IsPut, operand_stored, literal_of, KeepsTables, Waits, IsTried, Enters};
+ghost use Rattle.asm65.specs.Inner.Holding.{AreStored, IsPut, operand_stored, KeepsTables, Waits, IsTried, Enters};
 ghost use Rattle.base65.specs.Outcome.{Gives};
 ghost use Rattle.ast65.specs.Faults.{is_memory};
 ghost use Rattle.object65.specs.Objects.{is_file_name};
@@ -86,7 +87,7 @@ fn faultless_form(
     context: Context,
     form: Norm,
 ) -> Result<Option<Norm>, AllocError>
-    ensures { IfOk result (IsFaultless (operand_form width context form)) }
+    ensures { IfOk result (λ found. IfSome found (λ f. operand_form width context form ≡ Ok f)) }
 {
     match operand_form(alloc, width, context, form) {
         Ok(form) => Ok(Some(form)),
@@ -135,7 +136,7 @@ pub fn file_bytes(bytes: &Option<Sequence<u8>>, settled: Settled, count: u32) ->
 
 /// The value of a form that is a literal.
 pub fn literal_of(form: &Norm) -> Option<i64>
-    ensures { result ≡ literal_of form.now }
+    ensures { result ≡ literal_in (Ok form.now) }
 {
     match form.node() {
         Node::Lit(value) => Some(*value),
@@ -172,98 +173,101 @@ pub fn stored(alloc: Global, width: Width, at: At<'_>, form: Norm) -> Result<Par
     }
 }
 
-impl Assembler {
-    /// A piece of a statement waits.
-    #[inline(never)]
-    pub fn wait(&mut self, alloc: Global, site: Site<'_>, piece: Piece) -> Result<(), AllocError>
-        ensures waits { OnOk result (Waits
-            (place_at site.entry.at) site.entry.context
-            piece self.old self.new) }
-        ensures tables { KeepsTables self.old self.new }
-    {
-        let file = self.files.place_of(alloc, site.at.file)?;
-        let line = site.at.line;
-        let context = site.context;
-        self.fixups.push(Fixup {
-            file,
-            line,
-            context,
-            piece,
-        })?;
-        self.sections.defer()
-    }
+/// A piece of a statement waits.
+#[inline(never)]
+pub fn wait(
+    alloc: Global,
+    assembler: &mut Assembler,
+    site: Site<'_>,
+    piece: Piece,
+) -> Result<(), AllocError>
+    ensures waits { OnOk result (Waits
+        (place_at site.entry.at) site.entry.context
+        piece assembler.old assembler.new) }
+    ensures tables { KeepsTables assembler.old assembler.new }
+{
+    let file = assembler.files.place_of(alloc, site.at.file)?;
+    let line = site.at.line;
+    let context = site.context;
+    assembler.fixups.push(Fixup {
+        file,
+        line,
+        context,
+        piece,
+    })?;
+    assembler.sections.defer()
+}
 
-    /// Puts a value of a list, if it is settled without a fault.
-    fn put_datum(
-        &mut self,
-        alloc: Global,
-        site: Site<'_>,
-        width: Width,
-        value: &Expr,
-    ) -> Result<bool, AllocError>
-        ensures { IfOk result (IsTried
-            (place_at site.entry.at) site.entry.context
-            (valued (datum width) value.now) self.old self.new) }
-    {
-        let segment = site.context.segment;
-        match stable_form(alloc, &self.symbols, site.context, value)? {
-            Some(form) => put_form(&mut self.sections, segment, width, site.at, form),
-            None => Ok(false),
-        }
+/// Puts a value of a list, if it is settled without a fault.
+fn try_datum(
+    alloc: Global,
+    assembler: &mut Assembler,
+    site: Site<'_>,
+    width: Width,
+    value: &Expr,
+) -> Result<bool, AllocError>
+    ensures { IfOk result (IsTried
+        (place_at site.entry.at) site.entry.context
+        (valued (datum width) value.now) assembler.old assembler.new) }
+{
+    let segment = site.context.segment;
+    match stable_form(alloc, &assembler.symbols, site.context, value)? {
+        Some(form) => put_form(&mut assembler.sections, segment, width, site.at, form),
+        None => Ok(false),
     }
+}
 
-    /// Puts the value of an operand, if it is settled without a fault.
-    fn put_operand(
-        &mut self,
-        alloc: Global,
-        site: Site<'_>,
-        width: Width,
-        value: &Expr,
-    ) -> Result<bool, AllocError>
-        ensures { IfOk result (IsTried
-            (place_at site.entry.at) site.entry.context
-            (valued (operand width) value.now) self.old self.new) }
-    {
-        match stable_form(alloc, &self.symbols, site.context, value)? {
-            Some(form) => put_operand(alloc, &mut self.sections, site, width, form),
-            None => Ok(false),
-        }
+/// Puts the value of an operand, if it is settled without a fault.
+fn try_operand(
+    alloc: Global,
+    assembler: &mut Assembler,
+    site: Site<'_>,
+    width: Width,
+    value: &Expr,
+) -> Result<bool, AllocError>
+    ensures { IfOk result (IsTried
+        (place_at site.entry.at) site.entry.context
+        (valued (operand width) value.now) assembler.old assembler.new) }
+{
+    match stable_form(alloc, &assembler.symbols, site.context, value)? {
+        Some(form) => put_operand(alloc, &mut assembler.sections, site, width, form),
+        None => Ok(false),
     }
+}
 
-    /// Enters a value of a list.
-    pub fn enter_datum(
-        &mut self,
-        alloc: Global,
-        site: Site<'_>,
-        width: Width,
-        value: Expr,
-    ) -> Result<(), AllocError>
-        ensures { OnOk result (Enters
-            (place_at site.entry.at) site.entry.context
-            (valued (datum width) value ∷ []) self.old self.new) }
-    {
-        if self.put_datum(alloc, site, width, &value)? {
-            return Ok(());
-        }
-        self.wait(alloc, site, Piece::Datum { width, value })
+/// Enters a value of a list.
+pub fn enter_datum(
+    alloc: Global,
+    assembler: &mut Assembler,
+    site: Site<'_>,
+    width: Width,
+    value: Expr,
+) -> Result<(), AllocError>
+    ensures { OnOk result (Enters
+        (place_at site.entry.at) site.entry.context
+        (valued (datum width) value ∷ []) assembler.old assembler.new) }
+{
+    if try_datum(alloc, assembler, site, width, &value)? {
+        return Ok(());
     }
+    wait(alloc, assembler, site, Piece::Datum { width, value })
+}
 
-    /// Enters the value of an operand.
-    #[inline(never)]
-    pub fn enter_operand(
-        &mut self,
-        alloc: Global,
-        site: Site<'_>,
-        width: Width,
-        value: Expr,
-    ) -> Result<(), AllocError>
-        ensures { OnOk result (Enters
-            (place_at site.entry.at) site.entry.context
-            (valued (operand width) value ∷ []) self.old self.new) }
-    {
-        if self.put_operand(alloc, site, width, &value)? {
-            return Ok(());
-        }
-        self.wait(alloc, site, Piece::Operand { width, value })
+/// Enters the value of an operand.
+#[inline(never)]
+pub fn enter_operand(
+    alloc: Global,
+    assembler: &mut Assembler,
+    site: Site<'_>,
+    width: Width,
+    value: Expr,
+) -> Result<(), AllocError>
+    ensures { OnOk result (Enters
+        (place_at site.entry.at) site.entry.context
+        (valued (operand width) value ∷ []) assembler.old assembler.new) }
+{
+    if try_operand(alloc, assembler, site, width, &value)? {
+        return Ok(());
     }
+    wait(alloc, assembler, site, Piece::Operand { width, value })
 }

@@ -4,8 +4,7 @@ use Rattle.base65.specs.Store.{Files}
 use Rattle.object65.specs.Objects.{ObjectFits, is_good_object}
 use Rattle.asm65.specs.declared.running.Run.{Run}
 use Rattle.asm65.specs.Assembly.{job_of}
-use Rattle.asm65.specs.Failing.{StopsFrom}
-use Rattle.asm65.proofs.Outcomes.{AnswersAll, as_fault, define_answer, first_running, memory_silent, none_passed, not_answered, open_answer, passed_through, run_answer, run_stops, stops_first, stops_never_so}
+use Rattle.asm65.proofs.Outcomes.{AnswersAll, StopsFrom, as_fault, define_answer, first_running, memory_silent, none_passed, not_answered, open_answer, passed_through, run_answer, run_stops, stops_first, stops_never_so}
 use Rattle.asm65.proofs.Refusals.{refused_asked, refused_passed}
 use Rattle.asm65.proofs.assembling.assembled.Goals as goal
 

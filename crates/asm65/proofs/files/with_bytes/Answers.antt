@@ -8,17 +8,17 @@ use Rattle.asm65.proofs.Runs.{told_then}
 use Rattle.asm65.proofs.Takings.{failed_unread, refused_unread}
 use Rattle.asm65.proofs.files.with_bytes.Goals as goal
 
-pub returns-in_err-check_unread-in-NamedPart-clause-refused : goal.returns-in_err-check_unread-in-NamedPart-clause-refused
-returns-in_err-check_unread-in-NamedPart-clause-refused g c = λ count t h.
+pub returns-in_err-check_range-in-NamedPart-clause-refused : goal.returns-in_err-check_range-in-NamedPart-clause-refused
+returns-in_err-check_range-in-NamedPart-clause-refused g c = λ count t h.
     (let p = err_from_is_err_and c.from_residual.result c.from_residual.ensures.1 in
     let part = c.in-NamedPart in
-    rw (p.1, p.2) (refused_unread t (place_in c.args.at.file.now c.args.at.line) part.name part.start part.len c.args.statement part.is c.in_err-check_unread-in-NamedPart.field-0.0 (g.S.Store.blamed c.args.store.now) c.in_err-check_unread-in-NamedPart.ensures.inside (c.in_err-check_unread-in-NamedPart.ensures.checked count t h)))
+    rw (p.1, p.2) (refused_unread t (place_in c.args.at.file.now c.args.at.line) part.name part.start part.len c.args.statement part.is c.in_err-check_range-in-NamedPart.field-0.0 (g.S.Store.blamed c.args.store.now) c.in_err-check_range-in-NamedPart.ensures.inside (c.in_err-check_range-in-NamedPart.ensures.checked count t h)))
 
 pub returns-in_err-bytes-in-NamedPart-clause-refused : goal.returns-in_err-bytes-in-NamedPart-clause-refused
 returns-in_err-bytes-in-NamedPart-clause-refused g c = λ count t h.
     (let p = err_from_is_err_and c.from_residual-in_err-bytes-in-NamedPart.result c.from_residual-in_err-bytes-in-NamedPart.ensures.1 in
     let part = c.in-NamedPart in
-    rw (p.1, p.2) (failed_unread t (place_in c.args.at.file.now c.args.at.line) part.name part.start part.len c.args.statement part.is c.in_err-bytes-in-NamedPart.field-0.0 (g.S.Store.blamed c.bytes_beside.new.store) c.in_ok-check_unread-in-NamedPart.field-0 c.in_err-bytes-in-NamedPart.ensures.outside (λ so. subst (λ n. IsBlamed (g.S.Store.blamed c.bytes_beside.new.store) (beside c.args.at.file.now n)) c.as_slice.ensures (c.in_err-bytes-in-NamedPart.ensures.blamed so)) (c.in_ok-check_unread-in-NamedPart.ensures.checked count t h)))
+    rw (p.1, p.2) (failed_unread t (place_in c.args.at.file.now c.args.at.line) part.name part.start part.len c.args.statement part.is c.in_err-bytes-in-NamedPart.field-0.0 (g.S.Store.blamed c.bytes_beside.new.store) c.in_ok-check_range-in-NamedPart.field-0 c.in_err-bytes-in-NamedPart.ensures.outside (λ so. subst (λ n. IsBlamed (g.S.Store.blamed c.bytes_beside.new.store) (beside c.args.at.file.now n)) c.as_slice.ensures (c.in_err-bytes-in-NamedPart.ensures.blamed so)) (c.in_ok-check_range-in-NamedPart.ensures.checked count t h)))
 
 pub returns-in_ok-bytes-in-NamedPart-clause-bytes : goal.returns-in_ok-bytes-in-NamedPart-clause-bytes
 returns-in_ok-bytes-in-NamedPart-clause-bytes g c =

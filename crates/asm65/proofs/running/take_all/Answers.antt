@@ -58,7 +58,7 @@ returns-in_err-take_next-clause-ran g c =
     let given = subst P c.in-Some.is e.next in
     let L : Option Statement → Type 0 = λ x. IfSome x (λ y. measure_of mid.expander < measure_of old.expander) in
     let less = subst L c.in-Some.is e.size in
-    all_wrong (g.S.Store.files c.args.store.now) (g.S.Store.files c.take_at_hand.new.store) told c.args.run.now old mid e.same so_far (Some statement) given statement refl less c.take_next.new.run c.in_err-take_next.ensures.same (g.S.Store.files c.next.new.store) (e.files ∙ told) c.in_err-take_next.field-0.0 r (p.1 ∙ ap Err p.2) c.in_err-take_next.ensures.taken
+    all_wrong (g.S.Store.files c.args.store.now) (g.S.Store.files c.take_at_hand.new.store) told c.args.run.now old mid e.same so_far (Some statement) given statement refl less c.take_next.new.run c.in_err-take_next.ensures.same (g.S.Store.files c.next.new.store) (e.files ∙ told) c.in_err-take_next.field-0.0 r (p.1 ∙ ap Err p.2) c.in_err-take_next.ensures.read.taken
 
 pub returns-in_err-take_next-clause-stopped : goal.returns-in_err-take_next-clause-stopped
 returns-in_err-take_next-clause-stopped g c =
@@ -76,7 +76,7 @@ returns-in_err-take_next-clause-stopped g c =
     let given = subst P c.in-Some.is e.next in
     let L : Option Statement → Type 0 = λ x. IfSome x (λ y. measure_of mid.expander < measure_of old.expander) in
     let less = subst L c.in-Some.is e.size in
-    all_stopped (g.S.Store.files c.args.store.now) (g.S.Store.files c.take_at_hand.new.store) told c.args.run.now old mid e.same so_far (Some statement) given statement refl less c.take_next.new.run c.in_err-take_next.ensures.same (g.S.Store.files c.next.new.store) (e.files ∙ told) (g.S.Store.blamed c.take_next.new.store) c.in_err-take_next.field-0.0 r (p.1 ∙ ap Err p.2) c.in_err-take_next.ensures.stopped
+    all_stopped (g.S.Store.files c.args.store.now) (g.S.Store.files c.take_at_hand.new.store) told c.args.run.now old mid e.same so_far (Some statement) given statement refl less c.take_next.new.run c.in_err-take_next.ensures.same (g.S.Store.files c.next.new.store) (e.files ∙ told) (g.S.Store.blamed c.take_next.new.store) c.in_err-take_next.field-0.0 r (p.1 ∙ ap Err p.2) c.in_err-take_next.ensures.read.stopped
 
 pub statements-preserved : goal.statements-preserved
 statements-preserved g c =
@@ -97,8 +97,8 @@ statements-preserved g c =
     record {
       files = t.kept.files ∙ e.files ∙ told;
       count = search rules;
-      running = still_running old mid e.same less (g.S.Store.files c.next.new.store) statement new c.in_ok-take_next.field-0 t.taken t.same (subst IsRunning (sym here) c.statements.invariant.running);
-      so_far = all_further (g.S.Store.files c.args.store.now) (g.S.Store.files c.take_at_hand.new.store) told c.args.run.now old mid e.same so_far (Some statement) given statement refl less new t.same (g.S.Store.files c.next.new.store) (e.files ∙ told) c.in_ok-take_next.field-0 t.taken;
+      running = still_running old mid e.same less (g.S.Store.files c.next.new.store) statement new c.in_ok-take_next.field-0 t.read.taken t.same (subst IsRunning (sym here) c.statements.invariant.running);
+      so_far = all_further (g.S.Store.files c.args.store.now) (g.S.Store.files c.take_at_hand.new.store) told c.args.run.now old mid e.same so_far (Some statement) given statement refl less new t.same (g.S.Store.files c.next.new.store) (e.files ∙ told) c.in_ok-take_next.field-0 t.read.taken;
     }
 
 pub statements-preserved-in_ok-take_next : goal.statements-preserved-in_ok-take_next
@@ -120,8 +120,8 @@ statements-preserved-in_ok-take_next g c =
     record {
       files = t.kept.files ∙ e.files ∙ told;
       count = search rules;
-      running = still_running old mid e.same less (g.S.Store.files c.next.new.store) statement new c.in_ok-take_next.field-0 t.taken t.same (subst IsRunning (sym here) c.statements.invariant.running);
-      so_far = all_further (g.S.Store.files c.args.store.now) (g.S.Store.files c.take_at_hand.new.store) told c.args.run.now old mid e.same so_far (Some statement) given statement refl less new t.same (g.S.Store.files c.next.new.store) (e.files ∙ told) c.in_ok-take_next.field-0 t.taken;
+      running = still_running old mid e.same less (g.S.Store.files c.next.new.store) statement new c.in_ok-take_next.field-0 t.read.taken t.same (subst IsRunning (sym here) c.statements.invariant.running);
+      so_far = all_further (g.S.Store.files c.args.store.now) (g.S.Store.files c.take_at_hand.new.store) told c.args.run.now old mid e.same so_far (Some statement) given statement refl less new t.same (g.S.Store.files c.next.new.store) (e.files ∙ told) c.in_ok-take_next.field-0 t.read.taken;
     }
 
 pub statements-smaller : goal.statements-smaller

@@ -12,4 +12,4 @@ returns-then-is_empty-clause-taken g c = none_behind (g.S.Store.files c.args.sto
 pub returns-clause-taken : goal.returns-clause-taken
 returns-clause-taken g c =
     let some : lexemes c.args.tokens.now ≡ [] → ⊥ = some_tokens c.args.tokens.now (some_there (length c.args.tokens.now) c.if-is_empty.ensures) in
-    taken_behind (g.S.Store.files c.args.store.now) (g.S.Store.blamed c.take_rest.new.store) (place_in c.args.at.file.now c.args.at.line) (lexemes c.args.tokens.now) c.args.assembler.now c.take_rest.new.assembler c.take_rest.result some c.take_rest.ensures.taken c.take_rest.ensures.stopped
+    taken_behind (g.S.Store.files c.args.store.now) (g.S.Store.blamed c.take_rest.new.store) (place_in c.args.at.file.now c.args.at.line) (lexemes c.args.tokens.now) c.args.assembler.now c.take_rest.new.assembler c.take_rest.result some c.take_rest.ensures.read.taken c.take_rest.ensures.read.stopped

@@ -4,30 +4,17 @@ use Rattle.semantics65.specs.Numbering.{AreNamed}
 use Rattle.semantics65.specs.Views.{place_in}
 use Rattle.semantics65.specs.Machine.{Takes}
 use Rattle.semantics65.specs.Reading.{IsRest}
-use Rattle.asm65.specs.Inner.Running.{StopsQuietly, TakesBy, Told}
-use Rattle.asm65.specs.Assembly.{Without}
+use Rattle.asm65.specs.Inner.Running.{Reads}
 use Rattle.asm65.proofs.running.take_line.Goals as goal
 
-pub returns-in-Some-clause-taken : goal.returns-in-Some-clause-taken
-returns-in-Some-clause-taken g c =
+pub returns-in-Some-clause-read : goal.returns-in-Some-clause-read
+returns-in-Some-clause-read g c =
     let place = place_in c.args.at.file.now c.args.at.line in
-    let P : List Lexeme → Type 0 = λ ts. TakesBy (AreNamed ts) (Told (g.S.Store.files c.args.store.now) (λ m t. IsRest m Takes t place ts)) 1 c.args.assembler.now c.take_rest.new.assembler c.take_rest.result in
-    subst P (c.in-Some.ensures.tokens) c.take_rest.ensures.taken
+    let P : List Lexeme → Type 0 = λ ts. Reads (g.S.Store.files c.args.store.now) (g.S.Store.blamed c.take_rest.new.store) (AreNamed ts) (λ m t. IsRest m Takes t place ts) 1 c.args.assembler.now c.take_rest.new.assembler c.take_rest.result in
+    subst P (c.in-Some.ensures.tokens) c.take_rest.ensures.read
 
-pub returns-in-Some-clause-stopped : goal.returns-in-Some-clause-stopped
-returns-in-Some-clause-stopped g c =
+pub returns-in_ok-tokens-in-None-clause-read : goal.returns-in_ok-tokens-in-None-clause-read
+returns-in_ok-tokens-in-None-clause-read g c =
     let place = place_in c.args.at.file.now c.args.at.line in
-    let P : List Lexeme → Type 0 = λ ts. StopsQuietly (Without (g.S.Store.blamed c.take_rest.new.store) (λ m t. IsRest m Takes t place ts)) 1 c.args.assembler.now c.take_rest.new.assembler c.take_rest.result in
-    subst P (c.in-Some.ensures.tokens) c.take_rest.ensures.stopped
-
-pub returns-in_ok-tokens-in-None-clause-taken : goal.returns-in_ok-tokens-in-None-clause-taken
-returns-in_ok-tokens-in-None-clause-taken g c =
-    let place = place_in c.args.at.file.now c.args.at.line in
-    let P : List Lexeme → Type 0 = λ ts. TakesBy (AreNamed ts) (Told (g.S.Store.files c.args.store.now) (λ m t. IsRest m Takes t place ts)) 1 c.args.assembler.now c.take_rest-in-None.new.assembler c.take_rest-in-None.result in
-    subst P (ap lexemes c.deref.ensures.value ∙ c.in_ok-tokens-in-None.ensures) c.take_rest-in-None.ensures.taken
-
-pub returns-in_ok-tokens-in-None-clause-stopped : goal.returns-in_ok-tokens-in-None-clause-stopped
-returns-in_ok-tokens-in-None-clause-stopped g c =
-    let place = place_in c.args.at.file.now c.args.at.line in
-    let P : List Lexeme → Type 0 = λ ts. StopsQuietly (Without (g.S.Store.blamed c.take_rest-in-None.new.store) (λ m t. IsRest m Takes t place ts)) 1 c.args.assembler.now c.take_rest-in-None.new.assembler c.take_rest-in-None.result in
-    subst P (ap lexemes c.deref.ensures.value ∙ c.in_ok-tokens-in-None.ensures) c.take_rest-in-None.ensures.stopped
+    let P : List Lexeme → Type 0 = λ ts. Reads (g.S.Store.files c.args.store.now) (g.S.Store.blamed c.take_rest-in-None.new.store) (AreNamed ts) (λ m t. IsRest m Takes t place ts) 1 c.args.assembler.now c.take_rest-in-None.new.assembler c.take_rest-in-None.result in
+    subst P (ap lexemes c.deref.ensures.value ∙ c.in_ok-tokens-in-None.ensures) c.take_rest-in-None.ensures.read

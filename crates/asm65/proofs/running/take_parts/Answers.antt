@@ -19,7 +19,7 @@ take_label-requires g c = roomy_less 2 2 c.args.assembler.now c.requires
 
 pub take_behind-requires-2 : goal.take_behind-requires-2
 take_behind-requires-2 g c =
-    roomy_behind (AreNamed (lexemes c.args.parts.label.now)) (LabelBy (g.S.Store.files c.args.store.now) (place_in c.args.at.file.now c.args.at.line) (lexemes c.args.parts.label.now)) c.args.assembler.now c.take_label.new.assembler c.requires c.in_ok-take_label.ensures.taken
+    roomy_behind (AreNamed (lexemes c.args.parts.label.now)) (LabelBy (g.S.Store.files c.args.store.now) (place_in c.args.at.file.now c.args.at.line) (lexemes c.args.parts.label.now)) c.args.assembler.now c.take_label.new.assembler c.requires c.in_ok-take_label.ensures.read.taken
 
 pub returns-then-is_empty-clause-taken : goal.returns-then-is_empty-clause-taken
 returns-then-is_empty-clause-taken g c =
@@ -37,7 +37,7 @@ returns-in_err-take_label-clause-taken g c =
     let ts = lexemes c.args.parts.rest.now in
     let some : ls ≡ [] → ⊥ = some_tokens c.args.parts.label.now (some_there (length c.args.parts.label.now) c.if-is_empty.ensures) in
     let P : Answer → Type 0 = TakesAll o blamed place (given_parts ls ts) c.args.assembler.now c.take_label.new.assembler in
-    subst P (sym (p.1 ∙ ap Err p.2)) (label_refused o blamed place ls ts c.args.assembler.now c.take_label.new.assembler e some c.in_err-take_label.ensures.taken c.in_err-take_label.ensures.stopped)
+    subst P (sym (p.1 ∙ ap Err p.2)) (label_refused o blamed place ls ts c.args.assembler.now c.take_label.new.assembler e some c.in_err-take_label.ensures.read.taken c.in_err-take_label.ensures.read.stopped)
 
 pub returns-clause-taken : goal.returns-clause-taken
 returns-clause-taken g c =
@@ -49,4 +49,4 @@ returns-clause-taken g c =
     let new = c.take_behind-2.new.assembler in
     let some : ls ≡ [] → ⊥ = some_tokens c.args.parts.label.now (some_there (length c.args.parts.label.now) c.if-is_empty.ensures) in
     let P : Option Files → Type 0 = λ o. TakesAll o blamed place (given_behind ts) mid new c.take_behind-2.result in
-    label_taken (g.S.Store.files c.args.store.now) blamed place ls ts c.args.assembler.now mid new c.in_ok-take_label.field-0 c.take_behind-2.result some c.in_ok-take_label.ensures.taken (subst P c.in_ok-take_label.ensures.kept.files c.take_behind-2.ensures.taken)
+    label_taken (g.S.Store.files c.args.store.now) blamed place ls ts c.args.assembler.now mid new c.in_ok-take_label.field-0 c.take_behind-2.result some c.in_ok-take_label.ensures.read.taken (subst P c.in_ok-take_label.ensures.kept.files c.take_behind-2.ensures.taken)

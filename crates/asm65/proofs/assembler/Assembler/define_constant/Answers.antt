@@ -16,7 +16,7 @@ use Rattle.std.specs.Result.{result_ok}
 use Rattle.symbols65.specs.Tables.{definition_in}
 use Rattle.symbols65.specs.Views.{table_of, with_definition, words_of}
 use Rattle.asm65.specs.declared.assembler.Assembler.{Assembler}
-use Rattle.asm65.specs.Inner.Holding.{Holds, IsConstant, with_symbols}
+use Rattle.asm65.specs.Inner.Holding.{Holds, IsConstant}
 use Rattle.asm65.proofs.Namings.{holds_grown, last_there, more_defined}
 use Rattle.asm65.proofs.Enterings.{says_nothing}
 use Rattle.asm65.proofs.Waitings.{holds_entered}
@@ -44,7 +44,7 @@ returns-in_ok-wait c = λ count t h inside unnamed.
       value = refl;
     } in
     let u : State = awaiting t (record { place = place; context = s; piece = valued equated e }) in
-    (u, (u, later, refl), c.in_ok-wait.ensures.waits count (with_symbols t y) (valued equated e) held (e, there, refl)))
+    (u, (u, later, refl), c.in_ok-wait.ensures.waits count (record t { symbols = y }) (valued equated e) held (e, there, refl)))
 
 formed_there : (o : Option Form) → is_some o ≡ true → (f : Form) × (o ≡ Some f)
 formed_there None e = absurd cc

@@ -1,10 +1,8 @@
-use Rattle.std.proofs.Common.{◌∙◌, map, sym, ap}
-use Rattle.std.specs.Prelude.{Some, None, true}
+use Rattle.std.proofs.Common.{sym}
 use Rattle.ast65.specs.declared.language.Statement.{Statement}
 use Rattle.ast65.specs.declared.language.Statement.TheVariants as statement
 use Rattle.semantics65.specs.Views.{place_in}
-use Rattle.semantics65.specs.Module.{exported}
-use Rattle.asm65.proofs.Namings.{mentions_enter, adds_cheap, adds_constant, adds_forced, adds_globals, adds_imports, adds_label, adds_pieces, adds_proc, adds_scope, adds_unnamed, nothing_behind, taken_as}
+use Rattle.asm65.proofs.Namings.{adds_pieces, nothing_behind, puts_nothing, taken_as}
 use Rattle.asm65.proofs.assembler.Assembler.enter.Goals as goal
 
 pub returns-in-Instruction : goal.returns-in-Instruction
@@ -23,7 +21,7 @@ returns-in-Values c =
     let s = c.args.site.context in
     let m = c.args.measured in
     let old = c.args.self.now in
-    let new = c.enter_values.new.self in
+    let new = c.enter_values.new.assembler in
     let x : Statement = statement.Values c.in-Values.width c.in-Values.items in
     taken_as place s m old new c.enter_values.result x c.args.statement (sym c.in-Values.is) (λ h. adds_pieces place s m old new x (λ y. nothing_behind y) h) c.enter_values.ensures
 
@@ -33,7 +31,7 @@ returns-in-Reserve c =
     let s = c.args.site.context in
     let m = c.args.measured in
     let old = c.args.self.now in
-    let new = c.enter_room.new.self in
+    let new = c.enter_room.new.assembler in
     let x : Statement = statement.Reserve c.in-Reserve.count c.in-Reserve.value in
     taken_as place s m old new c.enter_room.result x c.args.statement (sym c.in-Reserve.is) (λ h. adds_pieces place s m old new x (λ y. nothing_behind y) (h place)) c.enter_room.ensures
 
@@ -43,7 +41,7 @@ returns-in-Align c =
     let s = c.args.site.context in
     let m = c.args.measured in
     let old = c.args.self.now in
-    let new = c.enter_room-in-Align.new.self in
+    let new = c.enter_room-in-Align.new.assembler in
     let x : Statement = statement.Align c.in-Align.multiple c.in-Align.value in
     taken_as place s m old new c.enter_room-in-Align.result x c.args.statement (sym c.in-Align.is) (λ h. adds_pieces place s m old new x (λ y. nothing_behind y) (h place)) c.enter_room-in-Align.ensures
 
@@ -53,7 +51,7 @@ returns-in-FilePart c =
     let s = c.args.site.context in
     let m = c.args.measured in
     let old = c.args.self.now in
-    let new = c.enter_part.new.self in
+    let new = c.enter_part.new.assembler in
     let x : Statement = statement.FilePart c.in-FilePart.bytes c.in-FilePart.start c.in-FilePart.len in
     taken_as place s m old new c.enter_part.result x c.args.statement (sym c.in-FilePart.is) (λ h. adds_pieces place s m old new x (λ y. nothing_behind y) (h place)) c.enter_part.ensures
 
@@ -67,112 +65,7 @@ returns-in-Assert c =
     let x : Statement = statement.Assert c.in-Assert.value c.in-Assert.action c.in-Assert.text in
     taken_as place s m old new c.enter_assertion.result x c.args.statement (sym c.in-Assert.is) (λ h. adds_pieces place s m old new x (λ y. nothing_behind y) h) c.enter_assertion.ensures
 
-pub returns-in-Label : goal.returns-in-Label
-returns-in-Label c =
-    let place = place_in c.args.site.at.file.now c.args.site.at.line in
-    let s = c.args.site.context in
-    let m = c.args.measured in
-    let old = c.args.self.now in
-    let new = c.define_label.new.self in
-    let x : Statement = statement.Label c.as_slice-name.result.now in
-    taken_as place s m old new c.define_label.result x c.args.statement (ap statement.Label c.as_slice-name.ensures ∙ sym c.in-Label.is) (λ h. adds_label place s m old new c.as_slice-name.result.now (h place)) c.define_label.ensures
-
-pub returns-in-CheapLabel : goal.returns-in-CheapLabel
-returns-in-CheapLabel c =
-    let place = place_in c.args.site.at.file.now c.args.site.at.line in
-    let s = c.args.site.context in
-    let m = c.args.measured in
-    let old = c.args.self.now in
-    let new = c.define_label-in-CheapLabel.new.self in
-    let x : Statement = statement.CheapLabel c.as_slice-name-in-CheapLabel.result.now in
-    taken_as place s m old new c.define_label-in-CheapLabel.result x c.args.statement (ap statement.CheapLabel c.as_slice-name-in-CheapLabel.ensures ∙ sym c.in-CheapLabel.is) (λ h. adds_cheap place s m old new c.as_slice-name-in-CheapLabel.result.now (h place)) c.define_label-in-CheapLabel.ensures
-
-pub returns-in-UnnamedLabel : goal.returns-in-UnnamedLabel
-returns-in-UnnamedLabel c =
-    let place = place_in c.args.site.at.file.now c.args.site.at.line in
-    let s = c.args.site.context in
-    let m = c.args.measured in
-    let old = c.args.self.now in
-    let new = c.define_label-in-UnnamedLabel.new.self in
-    let x : Statement = statement.UnnamedLabel in
-    taken_as place s m old new c.define_label-in-UnnamedLabel.result x c.args.statement (sym c.in-UnnamedLabel.is) (λ h. adds_unnamed place s m old new (h place)) c.define_label-in-UnnamedLabel.ensures
-
-pub returns-in-Constant : goal.returns-in-Constant
-returns-in-Constant c =
-    let place = place_in c.args.site.at.file.now c.args.site.at.line in
-    let s = c.args.site.context in
-    let m = c.args.measured in
-    let old = c.args.self.now in
-    let new = c.define_constant.new.self in
-    let x : Statement = statement.Constant c.as_slice.result.now c.in-Constant.value in
-    taken_as place s m old new c.define_constant.result x c.args.statement (ap (λ n. statement.Constant n c.in-Constant.value) c.as_slice.ensures ∙ sym c.in-Constant.is) (λ h. adds_constant place s m old new c.as_slice.result.now c.in-Constant.value h) c.define_constant.ensures
-
-pub returns-in-OpenScope-Some : goal.returns-in-OpenScope-Some
-returns-in-OpenScope-Some c =
-    let place = place_in c.args.site.at.file.now c.args.site.at.line in
-    let s = c.args.site.context in
-    let m = c.args.measured in
-    let old = c.args.self.now in
-    let new = c.open_block.new.self in
-    let x : Statement = statement.OpenScope (Some c.as_slice-in-OpenScope-Some.result.now) in
-    taken_as place s m old new c.open_block.result x c.args.statement (ap (λ n. statement.OpenScope (Some n)) (c.as_slice-in-OpenScope-Some.ensures ∙ c.in-OpenScope-Some.name-is) ∙ ap statement.OpenScope (sym c.in-OpenScope-Some.field-0-is) ∙ sym c.in-OpenScope-Some.is) (λ h. adds_scope place s m old new (Some c.as_slice-in-OpenScope-Some.result.now) (h place)) c.open_block.ensures
-
-pub returns-in-OpenScope-None : goal.returns-in-OpenScope-None
-returns-in-OpenScope-None c =
-    let place = place_in c.args.site.at.file.now c.args.site.at.line in
-    let s = c.args.site.context in
-    let m = c.args.measured in
-    let old = c.args.self.now in
-    let new = c.open_block-in-OpenScope-None.new.self in
-    let x : Statement = statement.OpenScope None in
-    taken_as place s m old new c.open_block-in-OpenScope-None.result x c.args.statement (ap statement.OpenScope (sym c.in-OpenScope-None.field-0-is) ∙ sym c.in-OpenScope-None.is) (λ h. adds_scope place s m old new None (h place)) c.open_block-in-OpenScope-None.ensures
-
-pub returns-in-OpenProc : goal.returns-in-OpenProc
-returns-in-OpenProc c =
-    let place = place_in c.args.site.at.file.now c.args.site.at.line in
-    let s = c.args.site.context in
-    let m = c.args.measured in
-    let old = c.args.self.now in
-    let new = c.open_proc.new.self in
-    let x : Statement = statement.OpenProc c.as_slice-in-OpenProc.result.now in
-    taken_as place s m old new c.open_proc.result x c.args.statement (ap statement.OpenProc c.as_slice-in-OpenProc.ensures ∙ sym c.in-OpenProc.is) (λ h. adds_proc place s m old new c.as_slice-in-OpenProc.result.now (h place)) c.open_proc.ensures
-
-pub returns-in-Import : goal.returns-in-Import
-returns-in-Import c =
-    let place = place_in c.args.site.at.file.now c.args.site.at.line in
-    let s = c.args.site.context in
-    let m = c.args.measured in
-    let old = c.args.self.now in
-    let new = c.import_names.new.self in
-    let x : Statement = statement.Import c.in-Import.size c.as_slice-in-Import.result.now in
-    taken_as place s m old new c.import_names.result x c.args.statement (ap (statement.Import c.in-Import.size) c.as_slice-in-Import.ensures ∙ sym c.in-Import.is) (λ h. adds_imports place s m old new c.in-Import.size c.as_slice-in-Import.result.now h) c.import_names.ensures
-
-pub returns-in-Global : goal.returns-in-Global
-returns-in-Global c =
-    let place = place_in c.args.site.at.file.now c.args.site.at.line in
-    let s = c.args.site.context in
-    let m = c.args.measured in
-    let old = c.args.self.now in
-    let new = c.import_names-in-Global.new.self in
-    let x : Statement = statement.Global c.in-Global.size c.as_slice-in-Global.result.now in
-    taken_as place s m old new c.import_names-in-Global.result x c.args.statement (ap (statement.Global c.in-Global.size) c.as_slice-in-Global.ensures ∙ sym c.in-Global.is) (λ h. adds_globals place s m old new c.in-Global.size c.as_slice-in-Global.result.now h) c.import_names-in-Global.ensures
-
-pub returns-in-ForceImport : goal.returns-in-ForceImport
-returns-in-ForceImport c =
-    let place = place_in c.args.site.at.file.now c.args.site.at.line in
-    let s = c.args.site.context in
-    let m = c.args.measured in
-    let old = c.args.self.now in
-    let new = c.demand_names.new.self in
-    let x : Statement = statement.ForceImport c.as_slice-in-ForceImport.result.now in
-    taken_as place s m old new c.demand_names.result x c.args.statement (ap statement.ForceImport c.as_slice-in-ForceImport.ensures ∙ sym c.in-ForceImport.is) (λ h. adds_forced place s m old new c.as_slice-in-ForceImport.result.now h) c.demand_names.ensures
-
-pub returns-in-Export : goal.returns-in-Export
-returns-in-Export c =
-    let place = place_in c.args.site.at.file.now c.args.site.at.line in
-    let s = c.args.site.context in
-    let m = c.args.measured in
-    let old = c.args.self.now in
-    let new = c.mention.new.self in
-    let x : Statement = statement.Export c.as_slice-in-Export.result.now in
-    taken_as place s m old new c.mention.result x c.args.statement (ap statement.Export c.as_slice-in-Export.ensures ∙ sym c.in-Export.is) (λ h. adds_pieces place s m old new x (λ y. nothing_behind y) (mentions_enter place s (map (exported true) c.as_slice-in-Export.result.now) old new h)) c.mention.ensures.mentioned
+pub enter_names-requires-clause-named : goal.enter_names-requires-clause-named
+enter_names-requires-clause-named c =
+    let x = c.in_default in
+    puts_nothing c.args.statement x.not-Instruction x.not-Values x.not-Reserve x.not-Align x.not-FilePart x.not-Assert

@@ -15,5 +15,5 @@ returns-then-branch c =
 pub returns : goal.returns
 returns c =
     ok_then c.wait.result
-    (λ waits. waits_enters c.args.self.now c.wait.new.self (place_in c.args.site.at.file.now c.args.site.at.line) c.args.site.context (Assertion c.args.action c.args.text c.args.value) (valued (asserted c.args.action c.args.text) c.args.value) waits refl)
+    (λ waits. waits_enters c.args.self.now c.wait.new.assembler (place_in c.args.site.at.file.now c.args.site.at.line) c.args.site.context (Assertion c.args.action c.args.text c.args.value) (valued (asserted c.args.action c.args.text) c.args.value) waits refl)
     c.wait.ensures.waits

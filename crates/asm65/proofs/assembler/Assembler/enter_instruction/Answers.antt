@@ -15,8 +15,8 @@ returns c =
     let place = place_in c.args.site.at.file.now c.args.site.at.line in
     let s = c.args.site.context in
     let old = c.args.self.now in
-    let mid = c.enter_code.new.self in
-    let new = c.enter_operand_of.new.self in
+    let mid = c.enter_code.new.assembler in
+    let new = c.enter_operand_of.new.assembler in
     let code = subst (λ code. Enters place s (given (opcode_part code) ∷ []) old mid) c.opcode.ensures (c.in_ok-enter_code.ensures place) in
     ok_then c.enter_operand_of.result
     (λ value. enters_both place s (given (opcode_part (opcode_of c.args.mnemonic c.args.mode)) ∷ []) (operand_pieces (width_of c.args.mode) (operand_tree c.args.operand)) old mid new code

@@ -3,7 +3,7 @@ use Rattle.std.specs.Prelude.{true}
 use Rattle.semantics65.specs.Symbols.{Definition, Scope, Symbols, named}
 use Rattle.symbols65.specs.Views.{table_of, with_definition, with_scope}
 use Rattle.asm65.specs.declared.assembler.Assembler.{Assembler}
-use Rattle.asm65.specs.Inner.Holding.{label_at, with_symbols}
+use Rattle.asm65.specs.Inner.Holding.{label_at}
 use Rattle.asm65.proofs.Namings.{holds_grown, more_defined, more_opened, on_both}
 use Rattle.asm65.proofs.assembler.Assembler.open_proc.Goals as goal
 
@@ -20,5 +20,5 @@ returns c =
     (let y : Symbols = with_definition t.symbols d in
     let here : table_of mid.symbols ≡ y = first ∙ ap (λ (z : Symbols). with_definition z d) h.symbols in
     let held = holds_grown count t old mid y h c.in_ok-define.ensures.keeps here c.in_ok-define.ensures.known (more_defined t.symbols d) h.inside unnamed in
-    (t, refl, holds_grown count (with_symbols t y) mid new (with_scope y b) held c.open_scope.ensures.keeps (table ∙ ap (λ (z : Symbols). with_scope z b) here) known (more_opened y b) inside unnamed)))
+    (t, refl, holds_grown count (record t { symbols = y }) mid new (with_scope y b) held c.open_scope.ensures.keeps (table ∙ ap (λ (z : Symbols). with_scope z b) here) known (more_opened y b) inside unnamed)))
     c.open_scope.ensures.table c.open_scope.ensures.known

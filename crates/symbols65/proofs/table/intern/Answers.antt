@@ -19,7 +19,7 @@ returns-in_ok-word-in-None-clause-number c =
     let keys = c.args.words.now.keys in
     let ws = map (λ k. k.items) keys in
     let key = c.in_ok-from_slice-in-None.field-0 in
-    let same = c.in_ok-from_slice-in-None.ensures.items in
+    let same = c.in_ok-from_slice-in-None.ensures.ok in
     let now = ap (map (λ k. k.items)) c.in_ok-word-in-None.ensures.keys ∙ insert_name (λ k. k.items) keys key in
     ap (λ l. position (bytes_eq c.args.name.now) l) now
     ∙ ap (λ n. position (bytes_eq n) (with_one ws key.items)) (sym same)

@@ -18,5 +18,5 @@ returns-clause-taken c =
     let new = c.take.new.self in
     let r = c.take.result in
     let P : List ℕ → Tree → Type 0 = λ n e. (count : ℕ) (t : State) → Holds count t old → count < opening_limit → Answers (Takes t place (Constant n e)) (λ u. Holds (count + 0) u new) r in
-    let numbered : P c.in_ok-name.field-0 (number d.value) = subst (P c.in_ok-name.field-0) c.new-value.ensures c.take.ensures.taken in
+    let numbered : P c.in_ok-name.name (number d.value) = subst (P c.in_ok-name.name) c.new-value.ensures c.take.ensures.taken in
     defines_by place (define_of d) old new r (subst (λ n. P n (number d.value)) c.in_ok-name.ensures numbered) c.take.ensures.texts

@@ -3,15 +3,17 @@
 PREFIX ?= /usr/local
 PROGRAM := crates/bin65/out/bin65
 
-.PHONY: try example test program wrong-bodies install release bench clean
+.PHONY: try example test program wrong-bodies install uninstall release bench clean
 
 # The program is built only once every function below it is proved; nothing is done where no source changed.
 program:
 	@python3 gate/prove.py
 
-# A first link within two minutes, of the program as the toolchain runs it unproved.
+# A first link within two minutes, of the program as the toolchain runs it unproved: of a source of example/, or of yours.
+#     make try
+#     make try SOURCE=my.s SCRIPT=my.cfg [IMAGE=my.bin]
 try:
-	@sh example/try.sh
+	@SOURCE='$(SOURCE)' SCRIPT='$(SCRIPT)' IMAGE='$(IMAGE)' sh example/try.sh
 
 example: program
 	@sh example/first.sh $(abspath $(PROGRAM))
@@ -29,15 +31,19 @@ wrong-bodies:
 	@python3 gate/wrong_bodies.py $(CRATE)
 
 bench: program
-	@sh bench/run.sh $(abspath $(PROGRAM))
+	@python3 bench/run.py $(abspath $(PROGRAM))
 
+# The program, work65, the man pages, the pages with their examples, and what scripts there are for users: gate/install.sh has where.
 install: program
-	install -D -m 755 $(PROGRAM) $(DESTDIR)$(PREFIX)/bin/bin65
-	for page in man/*.1; do install -D -m 644 $$page $(DESTDIR)$(PREFIX)/share/man/man1/$${page#man/}; done
+	@stage=$$(mktemp -d) && trap 'rm -rf "$$stage"' EXIT && python3 gate/release.py stage $(abspath $(PROGRAM)) "$$stage" && \
+	    sh gate/install.sh install "$$stage" '$(DESTDIR)' '$(PREFIX)'
+
+uninstall:
+	@sh gate/install.sh uninstall '$(DESTDIR)' '$(PREFIX)'
 
 # An archive that is installed without the toolchain: docs/RELEASE.md says what is in it and what one trusts with it.
 release: program
-	@python3 gate/release.py $(abspath $(PROGRAM)) release
+	@python3 gate/release.py pack $(abspath $(PROGRAM)) release
 
 clean:
 	rm -rf crates/*/out example/out bench-out release

@@ -1,19 +1,16 @@
-#!/usr/bin/env python3
-"""usage: assemble.py BIN65 FOLDER    (see run.sh)"""
+"""Times of assembling and linking: lines of `nop`, of data with expressions and of instructions in procs, and plain data."""
 import os
 import random
 import shutil
 import subprocess
-import sys
 import time
 
-program, folder = os.path.abspath(sys.argv[1]), sys.argv[2]
 SCRIPT = "MEMORY { ROM: start = 0, size = $1000000; } SEGMENTS { CODE: load = ROM, type = ro; }\n"
 numbers = random.Random(9)
 
 
 def expressions(count):
-    """Lines of data with expressions over labels before and behind them, and over constants."""
+    """Lines of data with expressions over labels before and after them, and over constants."""
     blocks = count // 10
     lines = []
     for k in range(blocks):
@@ -64,35 +61,35 @@ def programs(count):
     return lines
 
 
+# By their names: what it is, its lines or bytes, the lines of so many, and the seconds that it takes on README's machine with cc65.
 CASES = {
-    "1": ("100,000 lines of nop", 100_000, ["    nop"] * 100_000),
-    "2": ("200,000 lines of nop", 200_000, ["    nop"] * 200_000),
-    "4": ("400,000 lines of nop", 400_000, ["    nop"] * 400_000),
-    "e1": ("100,000 of expressions", 100_000, expressions(100_000)),
-    "e2": ("200,000 of expressions", 200_000, expressions(200_000)),
-    "e4": ("400,000 of expressions", 400_000, expressions(400_000)),
-    "m1": ("100,000 of instructions", 100_000, programs(100_000)),
-    "m2": ("200,000 of instructions", 200_000, programs(200_000)),
-    "m4": ("400,000 of instructions", 400_000, programs(400_000)),
-    "data": (
-        "1 MB of .byte lists",
-        1 << 20,
-        ["    .byte " + ",".join("$%02X" % numbers.randrange(256) for _ in range(16)) for _ in range(1 << 16)],
-    ),
+    "1": ("lines of nop", 100_000, lambda count: ["    nop"] * count, 6),
+    "2": ("lines of nop", 200_000, lambda count: ["    nop"] * count, 8),
+    "4": ("lines of nop", 400_000, lambda count: ["    nop"] * count, 16),
+    "e1": ("lines of expressions", 100_000, expressions, 9),
+    "e2": ("lines of expressions", 200_000, expressions, 10),
+    "e4": ("lines of expressions", 400_000, expressions, 20),
+    "m1": ("lines of instructions", 100_000, programs, 8),
+    "m2": ("lines of instructions", 200_000, programs, 10),
+    "m4": ("lines of instructions", 400_000, programs, 20),
+    "data": ("bytes in .byte lists", 1 << 20,
+             lambda count: ["    .byte " + ",".join("$%02X" % numbers.randrange(256) for _ in range(16)) for _ in range(count // 16)], 7),
 }
+# Those of which instructions are counted.
+COUNTED = ("1", "e1", "m1", "data")
 
 
-def steps(own, name):
-    """The words of assembling and linking a case, by bin65 or by cc65's own tools."""
-    tools = [[program, "ca65"], [program, "ld65"]] if own else [["ca65"], ["ld65"]]
-    mark = "own" if own else "cc65"
+def steps(program, name):
+    """The words of assembling and linking a case, by bin65 (a program) or by cc65's own tools (none)."""
+    tools = [[program, "ca65"], [program, "ld65"]] if program else [["ca65"], ["ld65"]]
+    mark = "own" if program else "cc65"
     return [
         tools[0] + ["-o", f"{name}.{mark}.o", f"{name}.s"],
         tools[1] + ["-C", "s.cfg", "-o", f"{name}.{mark}.out", f"{name}.{mark}.o"],
     ]
 
 
-def least(words, times=3):
+def least(words, folder, times=3):
     spent = []
     for _ in range(times):
         start = time.monotonic()
@@ -101,7 +98,7 @@ def least(words, times=3):
     return min(spent)
 
 
-def instructions(words):
+def instructions(words, folder):
     """How many instructions a run takes, or nothing where valgrind isn't there."""
     if not shutil.which("valgrind"):
         return None
@@ -109,26 +106,34 @@ def instructions(words):
         ["valgrind", "--tool=callgrind", "--callgrind-out-file=/dev/null"] + words,
         cwd=folder, stdout=subprocess.DEVNULL, stderr=subprocess.PIPE, text=True, check=True,
     )
-    return int(next(line for line in run.stderr.splitlines() if "Collected" in line).split()[-1])
+    counts = [line.split()[-1] for line in run.stderr.splitlines() if "Collected" in line]
+    return int(counts[0]) if counts else None
 
 
-with open(os.path.join(folder, "s.cfg"), "w") as file:
-    file.write(SCRIPT)
-real = shutil.which("ld65") and shutil.which("ca65")
-for name, (what, units, lines) in CASES.items():
-    with open(os.path.join(folder, name + ".s"), "w") as file:
-        file.write("\n".join(lines) + "\n")
-    total = 0
-    for words, theirs in zip(steps(True, name), steps(False, name)):
-        ours = least(words)
+def timed(program, folder, name, what, lines, units):
+    """Assembles and links a source by both, and compares the images."""
+    for file, text in (("s.cfg", SCRIPT), (f"{name}.s", "\n".join(lines) + "\n")):
+        with open(f"{folder}/{file}", "w", encoding="utf-8") as it:
+            it.write(text)
+    real, total = shutil.which("ld65") and shutil.which("ca65"), 0
+    for words, theirs in zip(steps(program, name), steps(None, name)):
+        ours = least(words, folder)
         ratio = ""
         if real:
-            other = least(theirs)
+            other = least(theirs, folder)
             ratio = f"   cc65 {other:8.4f} s   bin65 / cc65 {ours / other:5.2f}"
-        print(f"{what:24} {words[1]:6} bin65 {ours:8.4f} s{ratio}", flush=True)
-        total += (instructions(words) or 0) if name in ("1", "e1", "m1", "data") else 0
+        print(f"{what:29} {words[1]:6} bin65 {ours:8.4f} s{ratio}", flush=True)
+        total += (instructions(words, folder) or 0) if name in COUNTED else 0
     if total:
-        print(f"{'':24} {total / units:.0f} instructions for each line or byte of data, ca65 and ld65 together")
+        print(f"{'':29} {total / units:.0f} instructions for each line or byte of data, ca65 and ld65 together")
     if real:
         with open(os.path.join(folder, name + ".own.out"), "rb") as a, open(os.path.join(folder, name + ".cc65.out"), "rb") as b:
-            print(f"{'':24} images {'the same' if a.read() == b.read() else 'DIFFER'}")
+            print(f"{'':29} images {'the same' if a.read() == b.read() else 'DIFFER'}")
+
+
+def parts(program, folder, divisor):
+    """What is timed, as (what, seconds that it takes on README's machine with cc65, how)."""
+    for name, (what, units, lines, seconds) in CASES.items():
+        units = max(100, units // divisor)
+        whole = f"{units:,} {what}"
+        yield whole, seconds, lambda name=name, whole=whole, units=units, lines=lines: timed(program, folder, name, whole, lines(units), units)

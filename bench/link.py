@@ -1,16 +1,12 @@
-#!/usr/bin/env python3
-"""usage: link.py BIN65 FOLDER    (see run.sh)"""
+"""Times of linking: an object of 4,096 full literal records, and many runs of the smallest object."""
 import os
 import shutil
 import subprocess
-import sys
 import time
 
-program, folder = os.path.abspath(sys.argv[1]), sys.argv[2]
-RECORDS = 4096
-RUNS = 1000
 SCRIPT = "MEMORY { ROM: start = 0, size = $%X; } SEGMENTS { CODE: load = ROM; }\n"
 CC65_SCRIPT = "MEMORY { ROM: start = 0, size = $%X, file = %%O; } SEGMENTS { CODE: load = ROM, type = ro; }\n"
+PIECE = bytes(range(256)) * 16
 
 
 def number(value, size):
@@ -26,20 +22,15 @@ def an_object(pieces):
     return b"R65o\x01" + record(2, number(size, 4) + b"\x00CODE") + b"".join(record(3, p) for p in pieces) + record(8, b"")
 
 
-def write(name, content):
-    with open(os.path.join(folder, name), "wb") as file:
-        file.write(content)
-
-
-def spent(words, runs):
+def spent(words, folder, runs):
     start = time.monotonic()
     for _ in range(runs):
         subprocess.run(words, cwd=folder, check=True)
     return time.monotonic() - start
 
 
-def least(words, runs, times=5):
-    return min(spent(words, runs) for _ in range(times))
+def least(words, folder, runs, times):
+    return min(spent(words, folder, runs) for _ in range(times))
 
 
 def show(what, ours, theirs):
@@ -47,25 +38,28 @@ def show(what, ours, theirs):
     print(f"{what:40} bin65 {ours:8.4f} s{ratio}")
 
 
-piece = bytes(range(256)) * 16
-size = RECORDS * len(piece)
-write("large.o", an_object([piece] * RECORDS))
-write("small.o", an_object([b"\xa9\x00\x60"]))
-write("large.cfg", (SCRIPT % size).encode())
-write("small.cfg", (SCRIPT % 16).encode())
-real = shutil.which("ld65") and shutil.which("ca65")
-if real:
-    line = ".byte " + ",".join(str(b) for b in piece[:256]) + "\n"
-    write("large.s", (line * (size // 256)).encode())
-    write("small.s", b"lda #0\nrts\n")
-    for name, room in (("large", size), ("small", 16)):
-        write(name + ".cc65.cfg", (CC65_SCRIPT % room).encode())
-        subprocess.run(["ca65", "-o", name + ".cc65.o", name + ".s"], cwd=folder, check=True)
-for name, what, runs in (("large", f"{RECORDS} full literal records, one run", 1), ("small", f"three bytes, {RUNS} runs", RUNS)):
-    times = 5 if runs == 1 else 3
-    ours = least([program, "ld65", "-C", name + ".cfg", "-o", name + ".out", name + ".o"], runs, times)
-    theirs = least(["ld65", "-C", name + ".cc65.cfg", "-o", name + ".cc65.out", name + ".cc65.o"], runs, times) if real else None
+def timed(program, folder, name, what, made, size, source, runs, times):
+    """Links an object, and one that cc65 makes of a source with the same bytes."""
+    real = shutil.which("ld65") and shutil.which("ca65")
+    for file, content in ((".o", made), (".cfg", (SCRIPT % size).encode()), (".s", source), (".cc65.cfg", (CC65_SCRIPT % size).encode())):
+        with open(f"{folder}/{name}{file}", "wb") as it:
+            it.write(content)
+    ours, theirs = least([program, "ld65", "-C", f"{name}.cfg", "-o", f"{name}.out", f"{name}.o"], folder, runs, times), None
+    if real:
+        subprocess.run(["ca65", "-o", f"{name}.cc65.o", f"{name}.s"], cwd=folder, check=True)
+        theirs = least(["ld65", "-C", f"{name}.cc65.cfg", "-o", f"{name}.cc65.out", f"{name}.cc65.o"], folder, runs, times)
     show(what, ours, theirs)
     if real:
         with open(os.path.join(folder, name + ".out"), "rb") as a, open(os.path.join(folder, name + ".cc65.out"), "rb") as b:
             print(f"{'':40} images {'the same' if a.read() == b.read() else 'DIFFER'}")
+
+
+def parts(program, folder, divisor):
+    """What is timed, as (what, seconds that it takes on README's machine with cc65, how)."""
+    records, runs = max(1, 4096 // divisor), max(1, 1000 // divisor)
+    line = ".byte " + ",".join(str(b) for b in PIECE[:256]) + "\n"
+    size = records * len(PIECE)
+    what = f"{records} full literal records, one run"
+    yield what, 45, lambda what=what: timed(program, folder, "large", what, an_object([PIECE] * records), size, (line * (size // 256)).encode(), 1, 5)
+    what = f"three bytes, {runs} runs"
+    yield what, 10, lambda what=what: timed(program, folder, "small", what, an_object([b"\xa9\x00\x60"]), 16, b"lda #0\nrts\n", runs, 3)

@@ -63,7 +63,7 @@ compare_with_cc65() {
     echo "$image and the sizes of its modules' sections are those that cc65 makes here."
 }
 
-build nes game.nes '3915879728 40976' main controller player pictures
+build nes game.nes '3915879728 40976' main controller player tiles
 build c64 game.prg '108397790 762' main print numbers
 build balls balls.prg '2020342428 705' main screen
 options='-D NTSC'

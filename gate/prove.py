@@ -157,6 +157,9 @@ def build(told):
 def main(names):
     rt = kit.load()
     rt.rtlib.guarded()
+    if hasattr(rt, "share_work"):
+        # What another checkout on this machine proved of the same text is taken over, and what it kept is begun with.
+        rt.share_work(True)
     sources = None if names else sum_of_sources(rt)
     if not names and os.path.isfile(PROGRAM) and rt.rtlib.text_of(SUM) == sources + sum_of([PROGRAM]):
         return 0

@@ -1,9 +1,11 @@
 #!/usr/bin/env python3
-"""Packs a release: the program, the commit and the kit that it is built of, what its proofs said, the pages, the examples, man
-pages, and checksums of all. The same program and logs give the same archive.
+"""Packs a release: the program, its version, the commit and the kit that it is built of, what its proofs said, the pages, the
+examples, man pages, the workbench, and checksums of all. The same program and logs give the same archive.
 
-usage: release.py PROGRAM FOLDER    puts bin65-VERSION.tar.gz into the folder. The version is CHANGELOG's first."""
-import glob
+usage: release.py pack PROGRAM FOLDER [CRATES]    puts bin65-VERSION.tar.gz into the folder; the logs of proofs are those in CRATES,
+                                                  and each crate of the program has to have one
+       release.py stage PROGRAM FOLDER            puts what is installed into the folder, without logs
+       release.py version                         prints the version: it is CHANGELOG's first heading"""
 import gzip
 import hashlib
 import io
@@ -14,17 +16,24 @@ import sys
 import tarfile
 
 ROOT = os.path.dirname(os.path.dirname(os.path.realpath(__file__)))
-PAGES = ("README.md", "CHANGELOG.md", "CONTRIBUTING.md", "docs/*.md", "example")
-INSTALL = """# Installs what was released; no toolchain is needed.
+PARTS = ("README.md", "CHANGELOG.md", "CONTRIBUTING.md", "docs", "example", "man", "workbench/work65")
+LEFT_OUT = re.compile(r"(^|/)(__pycache__|out)(/|$)|\.pyc$")
+MAKEFILE = """# Installs what was released, and takes it out again; no toolchain is needed.
 PREFIX ?= /usr/local
 
 install:
 \tsha256sum --check --quiet SHA256SUMS
-\tinstall -D -m 755 bin65 $(DESTDIR)$(PREFIX)/bin/bin65
-\tfor page in man/*.1; do install -D -m 644 $$page $(DESTDIR)$(PREFIX)/share/man/man1/$${page#man/}; done
+\t@sh install.sh install . '$(DESTDIR)' '$(PREFIX)'
 
-.PHONY: install
+uninstall:
+\t@sh install.sh uninstall '$(DESTDIR)' '$(PREFIX)'
+
+.PHONY: install uninstall
 """
+
+
+class Refused(Exception):
+    """A release that isn't packed, and why."""
 
 
 def read(file):
@@ -36,22 +45,71 @@ def said(*words):
     return subprocess.run(words, cwd=ROOT, capture_output=True, text=True, check=True).stdout.strip()
 
 
+def version_of(changelog):
+    """The version that a text of changes begins with."""
+    heading = re.search(r"^## (.*)$", changelog, re.M)
+    if not heading or not re.fullmatch(r"\d+\.\d+(\.\d+)?", heading[1]):
+        raise Refused(f"CHANGELOG.md's first heading is no version: {heading[1] if heading else 'there is none'}")
+    return heading[1]
+
+
 def version():
-    return re.search(r"^## (\S+)", read(f"{ROOT}/CHANGELOG.md").decode(), re.M)[1]
+    return version_of(read(f"{ROOT}/CHANGELOG.md").decode())
+
+
+def is_clone():
+    return os.path.exists(f"{ROOT}/.git")
 
 
 def commit():
     """The commit, and whether the tree has anything that isn't in it."""
+    if not is_clone():
+        return "unknown\n"
     changed = said("git", "status", "--porcelain", "--untracked-files=no")
     return said("git", "rev-parse", "HEAD") + (" with changes\n" if changed else "\n")
 
 
-def contents(program):
+def listed():
+    """The names of the files of PARTS that belong to the repository."""
+    if is_clone():
+        return said("git", "ls-files", *PARTS).splitlines()
+    found = [f"{folder}/{it}" for part in PARTS for folder, _, files in os.walk(f"{ROOT}/{part}") for it in files]
+    found = [os.path.relpath(it, ROOT) for it in found] + [it for it in PARTS if os.path.isfile(f"{ROOT}/{it}")]
+    return [it for it in found if not LEFT_OUT.search(it)]
+
+
+def crates_of_the_program():
+    """The names of the crates that bin65 stands on, and its own."""
+    lines = [it.partition(":") for it in read(f"{ROOT}/crates.txt").decode().splitlines() if not it.startswith("#")]
+    below = {name.strip(): words.split() for name, _, words in lines}
+    found, left = set(), ["bin65"]
+    while left:
+        it = left.pop()
+        if it in below and it not in found:
+            found.add(it)
+            left += below[it]
+    return sorted(found)
+
+
+def logs(crates):
+    """What the proofs of the program's crates said, by their names in the archive."""
+    found = {it: f"{crates}/{it}/out/prove.log" for it in crates_of_the_program()}
+    missing = [it for it, file in found.items() if not os.path.isfile(file) or not os.path.getsize(file)]
+    if missing:
+        raise Refused(f"there is no log of the proof of {', '.join(missing)}: `make clean` and `make release` prove all again")
+    return {f"logs/{it}.log": read(file) for it, file in found.items()}
+
+
+def installed(program):
+    """The files that are installed, by their names in the archive."""
+    files = {"bin65": read(program), "VERSION": f"{version()}\n".encode(), "COMMIT": commit().encode()}
+    return files | {it: read(f"{ROOT}/{it}") for it in listed()}
+
+
+def contents(program, crates):
     """The files of a release by their names."""
-    files = {"bin65": read(program), "COMMIT": commit().encode(), "KIT": f"{said('rt', 'version')}\n".encode(), "Makefile": INSTALL.encode()}
-    files |= {it: read(f"{ROOT}/{it}") for it in said("git", "ls-files", "man", *PAGES).splitlines()}
-    for log in glob.glob(f"{ROOT}/crates/*/out/prove.log"):
-        files[f"logs/{log.split('/')[-3]}.log"] = read(log)
+    files = installed(program) | logs(crates) | {"install.sh": read(f"{ROOT}/gate/install.sh"), "Makefile": MAKEFILE.encode()}
+    files["KIT"] = f"{said('rt', 'version')}\n".encode()
     sums = "".join(f"{hashlib.sha256(files[name]).hexdigest()}  {name}\n" for name in sorted(files))
     return files | {"SHA256SUMS": sums.encode()}
 
@@ -67,15 +125,30 @@ def pack(files, folder):
     return gzip.compress(packed.getvalue(), mtime=when)
 
 
-def main(program, folder):
-    files, name = contents(program), f"bin65-{version()}"
-    os.makedirs(folder, exist_ok=True)
-    with open(f"{folder}/{name}.tar.gz", "wb") as it:
-        it.write(pack(files, name))
-    print(f"{folder}/{name}.tar.gz has the program, {sum(it.startswith('logs/') for it in files)} logs of proofs, the pages and the examples.")
-    print(f"commit  {files['COMMIT'].decode().strip()}")
-    print(f"sha256  {hashlib.sha256(files['bin65']).hexdigest()}  bin65")
+def write(file, content):
+    os.makedirs(os.path.dirname(file), exist_ok=True)
+    with open(file, "wb") as it:
+        it.write(content)
+
+
+def main(what, *words):
+    if what == "version":
+        print(version())
+    elif what == "stage":
+        program, folder = words
+        for name, content in installed(program).items():
+            write(f"{folder}/{name}", content)
+    else:
+        program, folder, crates = *words, *[f"{ROOT}/crates"][: 3 - len(words)]
+        files, name = contents(program, crates), f"bin65-{version()}"
+        write(f"{folder}/{name}.tar.gz", pack(files, name))
+        print(f"{folder}/{name}.tar.gz has the program, {sum(it.startswith('logs/') for it in files)} logs of proofs, the pages and the examples.")
+        print(f"commit  {files['COMMIT'].decode().strip()}")
+        print(f"sha256  {hashlib.sha256(files['bin65']).hexdigest()}  bin65")
 
 
 if __name__ == "__main__":
-    main(*sys.argv[1:])
+    try:
+        main(*sys.argv[1:])
+    except Refused as why:
+        sys.exit(f"release.py: {why}")

@@ -1,21 +1,28 @@
 """What is told while crates are proved: how long it will take, how far it is, and how much is left.
 
-The times are those of gate/times.txt: seconds that each crate's proof took from nothing on four processors with two proofs
-side by side. Fewer processors take longer in proportion; and once some of this run's proofs have ended, the others are taken
-to be as much slower or faster as these were."""
+Times are reckoned: a crate's proof takes as long as it has functions, and the program is compiled behind its own. A function
+took some three seconds of the clock, with two proofs side by side on four processors. Fewer processors take longer in
+proportion; and once some of this run's proofs have ended, the others are taken to be as much slower or faster as these were."""
+import glob
 import heapq
+import re
 
 import kit
 
-TIMES = f"{kit.ROOT}/gate/times.txt"
 ON = 4
+BEFORE, FUNCTION, PROGRAM = 20, 3.1, 360
 
 
-def stored_times():
-    """Seconds by the crates' names."""
-    with open(TIMES, encoding="utf-8") as it:
-        lines = [line.split() for line in it if line.strip() and not line.startswith("#")]
-    return {name: int(seconds) for name, seconds in lines}
+def reckoned_times(names):
+    """Seconds by the crates' names, from nothing on four processors."""
+    times = {}
+    for name in names:
+        functions = 0
+        for file in glob.glob(f"{kit.ROOT}/crates/{name}/src/**/*.rt", recursive=True):
+            with open(file, encoding="utf-8") as it:
+                functions += len(re.findall(r"^ *(?:pub )?fn ", it.read(), re.M))
+        times[name] = round(BEFORE + FUNCTION * functions) + (PROGRAM if name == "bin65" else 0)
+    return times
 
 
 def in_minutes(seconds):
@@ -47,17 +54,15 @@ class Telling:
 
     def __init__(self, order, below, lanes, processors, last, times=None):
         self.order, self.below, self.lanes, self.processors, self.last = order, below, lanes, processors, last
-        self.times = stored_times() if times is None else times
+        self.times = reckoned_times([*below, *([last] if last else [])]) if times is None else times
         self.proved, self.running, self.took, self.said = set(), {}, {}, None
 
     def expected(self, name):
-        """Seconds that a proof will take here, as far as is known; one that isn't stored takes as long as the others do."""
-        stored = self.times.get(name, sum(self.times.values()) / max(1, len(self.times)))
-        ended = [it for it in self.took if it in self.times]
-        measured = sum(self.times[it] for it in ended)
-        if measured > 60:
-            return stored * sum(self.took[it] for it in ended) / measured
-        return stored * max(1, ON / self.processors)
+        """Seconds that a proof will take here, as far as is known."""
+        ended = sum(self.times[it] for it in self.took)
+        if ended > 60:
+            return self.times[name] * sum(self.took.values()) / ended
+        return self.times[name] * max(1, ON / self.processors)
 
     def seconds_left(self, now):
         """Until all is proved and built. What takes longer than was thought is taken to end soon."""

@@ -12,30 +12,35 @@ import sys
 
 import failing
 
+# How many bytes a file has at most.
+LIMIT = 16_777_216
+
 
 class Call:
-    """A call as failing.c reports it: what was asked, of which file, and what came of it. `place` is where in the file a reading or
-    seeking stood, and `known` how many of the file's first bytes had been read before."""
+    """A call as failing.c reports it: what was asked, of which file, and what came of it. `place` is where in the file a reading
+    stands, also that for which a file is opened or sought."""
 
     def __init__(self, line):
         self.asked, rest = line.split(" ", 1)
         self.name, answer = rest.rsplit(" ", 1)
         self.answer = int(answer)
-        self.place = self.known = 0
+        self.place = 0
 
 
 def calls_of(report):
     calls = [Call(line) for line in report.splitlines()]
-    place, known = {}, {}
+    place = {}
     for call in calls:
         if call.asked == "open":
             place[call.name] = 0
         elif call.asked == "seek":
             place[call.name] = call.answer
-        call.place, call.known = place.get(call.name, 0), known.get(call.name, 0)
+        call.place = place.get(call.name, 0)
         if call.asked == "read" and call.answer > 0:
             place[call.name] = call.place + call.answer
-            known[call.name] = max(call.known, place[call.name])
+    for call, behind in zip(calls, calls[1:]):
+        if call.asked == "open" and behind.asked == "seek" and behind.name == call.name:
+            call.place = behind.place
     return calls
 
 
@@ -49,14 +54,15 @@ def asking(before, name):
     return None
 
 
-def source_places(words, before, call):
-    """The places of a call on a file that a source is made of: the line of it that was read last, or that is being read; where there
-    is none yet, the line that asks for it, or the source without a line."""
-    known = before.get(call.name, b"")[: call.known] if call.name.endswith((".s", ".inc")) else b""
-    ended = known.count(b"\n")
-    lines = {ended, ended + (not known.endswith(b"\n") and known != b"")}
+def source_place(words, before, call):
+    """The place of a call on a file that a source is made of: the line of it in which it reads, or the line before where that is
+    before a line's first byte. Where there is none yet, or a file is looked for by what stands behind the limit of files, it is the
+    line that asks for the file, or the source without a line."""
+    is_text = call.name.endswith((".s", ".inc")) and call.place < LIMIT
+    front = before.get(call.name, b"")[: call.place] if is_text else b""
+    line = front.count(b"\n") + (front != b"" and not front.endswith(b"\n"))
     outside = call.name if call.name == words[-1] else asking(before, call.name)
-    return {f"{call.name}:{line}" if line else outside for line in lines}
+    return f"{call.name}:{line}" if line else outside
 
 
 def input_places(before, call):
@@ -101,7 +107,7 @@ def messages_of(words, before, calls, failed):
     if is_written:
         places = {failed.name}
     elif words[0] == "ca65":
-        places = source_places(words, before, failed)
+        places = {source_place(words, before, failed)}
     else:
         places = input_places(before, failed)
     return [f"{place}: Error: file error\n".encode() for place in places]

@@ -1,6 +1,6 @@
 #!/usr/bin/env python3
 """Each link of a page leads to a file of the repository, and to a heading of it where it names one; the README has at most
-150 lines.
+150 lines; and tests/README.md has a row for each script of tests/.
 
 usage: links.py. The last line is 'N passed, M failed'."""
 import glob
@@ -13,38 +13,56 @@ import pages
 LINK = re.compile(r"\]\(([^)\s]+)\)")
 
 
+def read(file):
+    with open(file, encoding="utf-8") as it:
+        return it.read()
+
+
 def anchors(file):
     """The names of a page's headings, as they stand in links."""
-    text = re.sub(r"^```.*?^```$", "", pages.read(file), flags=re.M | re.S)
+    text = re.sub(r"^```.*?^```$", "", read(file), flags=re.M | re.S)
     for heading in re.findall(r"^#+ (.*)$", text, re.M):
         yield re.sub(r"[^\w\- ]", "", heading.lower()).replace(" ", "-")
 
 
-def wrong(page):
-    """The links of a page that lead nowhere."""
-    text = re.sub(r"^```.*?^```$", "", pages.read(page), flags=re.M | re.S)
+def wrong(root, page):
+    """The links of a page that lead nowhere in a folder."""
+    text = re.sub(r"^```.*?^```$", "", read(f"{root}/{page}"), flags=re.M | re.S)
     for link in LINK.findall(re.sub(r"`[^`\n]*`", "", text)):
         file, _, anchor = link.partition("#")
         target = os.path.normpath(os.path.join(os.path.dirname(page), file)) if file else page
         if "://" in link:
             continue
-        if not os.path.exists(f"{pages.ROOT}/{target}"):
+        if not os.path.exists(f"{root}/{target}"):
             yield f"{page}: {link}: no such file"
-        elif anchor and not any(re.fullmatch(f"{re.escape(it)}(-\\d+)?", anchor) for it in anchors(target)):
+        elif anchor and not any(re.fullmatch(f"{re.escape(it)}(-\\d+)?", anchor) for it in anchors(f"{root}/{target}")):
             yield f"{page}: {link}: no such heading"
 
 
+def pages_of(root):
+    found = [it for place in ("", "docs/", "tests/", "example/*/") for it in glob.glob(f"{root}/{place}*.md")]
+    return sorted(os.path.relpath(it, root) for it in found)
+
+
+def all_wrong(root):
+    """The links of all pages that lead nowhere."""
+    return [it for page in pages_of(root) for it in wrong(root, page)]
+
+
 def main():
-    os.chdir(pages.ROOT)
-    found = sorted(glob.glob("*.md") + glob.glob("docs/*.md"))
-    faults = {page: list(wrong(page)) for page in found}
+    faults = {page: list(wrong(pages.ROOT, page)) for page in pages_of(pages.ROOT)}
     if (lines := len(pages.read("README.md").splitlines())) > 150:
         faults["README.md"].append(f"README.md has {lines} lines")
+    listed = re.findall(r"^\| (`.*?`) \|", pages.read("tests/README.md"), re.M)
+    named = {it.rstrip("/") for row in listed for it in re.findall(r"`([^`]+)`", row)}
+    there = {os.path.basename(it) for pattern in ("*.py", "*.sh", "*.c") for it in glob.glob(f"{pages.ROOT}/tests/{pattern}")}
+    faults["tests/README.md"] += [f"tests/README.md has no row for {it}" for it in sorted(there - named)]
     for it in sum(faults.values(), []):
         print(it)
     failed = sum(map(bool, faults.values()))
-    print(f"{len(found) - failed} passed, {failed} failed")
+    print(f"{len(faults) - failed} passed, {failed} failed")
     sys.exit(failed > 0)
 
 
-main()
+if __name__ == "__main__":
+    main()

@@ -1,6 +1,6 @@
 #!/usr/bin/env python3
 """Checks docs/MESSAGES.md: each example gives what the page shows, of a table's two sources the first is refused and the
-second taken, the headings stand in alphabetical order, and each text that the code can print stands on the page.
+second taken, the headings stand in alphabetical order and in the contents, and each text that the code can print stands on the page.
 
 usage: messages.py BIN65. The last line is 'N passed, M failed'."""
 import glob
@@ -63,6 +63,11 @@ def missing(page):
             yield f"{place}: '{text}' isn't on the page"
 
 
+def anchor(title):
+    """A heading's name, as it stands in links."""
+    return re.sub(r"[^\w\- ]", "", title.lower()).replace(" ", "-")
+
+
 def rows_wrong(text, tools, folder):
     """The rows of a table whose first source isn't refused, or whose second one is."""
     for refused, taken in ROW.findall(text):
@@ -91,6 +96,8 @@ def main():
     titles = [it for it, _ in found]
     faults = list(missing(page))
     faults += ["the headings aren't in alphabetical order"] if titles != sorted(titles, key=str.lower) else []
+    listed = re.findall(r"\]\(#([^)]*)\)", page.split("## Contents\n")[1].split("\n## ")[0].partition("\n- ")[2])
+    faults += ["the contents aren't the headings"] if listed != [*map(anchor, titles), "texts-of-your-own", "texts-that-no-command-prints"] else []
     passed, failed = 1 - bool(faults), len(faults)
     with tempfile.TemporaryDirectory() as top:
         tools = pages.tools_of(os.path.abspath(sys.argv[1]), f"{top}/tools")

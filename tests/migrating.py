@@ -36,7 +36,7 @@ PAIR = re.compile(f"```cc65{BLOCK}```asm{BLOCK}Both place (.*?)\\.\n", re.S)
 OTHER = re.compile(f"{CFG}```cc65{BLOCK}cc65 (.*?), bin65 (.*?)\\.\n{CFG}```asm{BLOCK}Both place (.*?)\\.\n", re.S)
 SUMS = re.compile(f"(?:```cfg65{BLOCK})?```cfg{BLOCK}```asm{BLOCK}Both place (.*?)\\.\n", re.S)
 ROW = re.compile(r"^\| (`[^|]+`) \| (`[^|]+`) \| `([0-9A-F ]+)` \|$", re.M)
-OPCODES = re.compile(r"^\| `(\w+)` \|(.*)\|$", re.M)
+OPCODES = re.compile(r"^\| `(\w{3})` \|((?: *[0-9A-F]{0,2} *\|)*(?: *[0-9A-F]{0,2} *))\|$", re.M)
 FORMS = ("#1", "$10", "$10,x", "$10,y", "$1234", "$1234,x", "$1234,y", "($10,x)", "($10),y")
 # Texts that have to change, and that no word tells
 UNSEEN = ("`.export` within a scope",)

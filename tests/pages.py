@@ -60,9 +60,11 @@ def carry_out(shown, tools, folder):
 
 
 def tools_of(program, folder):
-    """A folder in which `bin65` is a program."""
+    """A folder in which `bin65` and `work65` are programs."""
     os.makedirs(folder)
     os.symlink(program, f"{folder}/bin65")
+    put(f"{folder}/work65", f'#!/bin/sh\nexec sh "{ROOT}/workbench/work65.sh" "$@"\n')
+    os.chmod(f"{folder}/work65", 0o755)
     return folder
 
 

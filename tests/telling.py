@@ -55,7 +55,8 @@ def main():
         "b for 1:00 (7 of 9 functions checked)",
         "what is slower than was thought": "2 of 3 crates are proved, some 22 minutes left" in slow[19],
         "the same again": (lambda it: it.line(5, lambda _: "") and it.line(5, lambda _: "") is None)(told(4)),
-        "stored times": set(telling.stored_times()) == proved_crates(),
+        "reckoned times": all(15 < it < 1200 for it in telling.reckoned_times(proved_crates()).values()),
+        "a crate of many functions": telling.reckoned_times(["link65"])["link65"] > 300 > telling.reckoned_times(["whole65"])["whole65"],
     }
     for name, is_so in checks.items():
         if not is_so:

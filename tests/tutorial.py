@@ -1,6 +1,7 @@
 #!/usr/bin/env python3
-"""Follows README.md and docs/TUTORIAL.md in an empty folder each, as they are written: each command has to print what the
-page shows. Where cc65 is installed its tools go the same way beside it, and each image has to be theirs.
+"""Follows README.md and docs/TUTORIAL.md in an empty folder each, as they are written, and docs/DEBUGGING.md where TUTORIAL ends:
+each command has to print what the page shows. Where cc65 is installed its tools go the same way beside it, and each image has to be theirs; where its sim65 is, it runs
+the images that print.
 
 usage: tutorial.py BIN65. The last line is 'N passed, M failed'."""
 import glob
@@ -23,16 +24,28 @@ def images(folder):
     return found
 
 
-def follow(page, program):
-    """Follows a page, and yields its parts that show something with what is wrong in each."""
+def is_simulated(step):
+    """Whether a step runs an image in cc65's simulator."""
+    return step[0] == "run" and step[1].startswith("sim65 ")
+
+
+def follow(page, program, before=()):
+    """Follows a page after those before it, and yields its parts that show something with what is wrong in each."""
     with tempfile.TemporaryDirectory() as top:
         ours, theirs = f"{top}/ours", f"{top}/theirs"
-        os.makedirs(ours)
-        os.makedirs(theirs)
         tools = pages.tools_of(program, f"{top}/tools")
         cc65 = pages.cc65_of(f"{top}/cc65") if all(map(shutil.which, ("ca65", "ld65", "ar65"))) else None
+        for folder in (ours, theirs):
+            os.makedirs(folder)
+            shutil.copy(f"{pages.ROOT}/example/labels.sh", folder)
+        for it in before:
+            pages.carry_out(pages.steps(pages.read(it)), tools, ours)
+            if cc65:
+                pages.carry_out(pages.steps(pages.read(it)), cc65, theirs)
         for title, text in pages.sections(pages.read(page), "##"):
-            shown = pages.steps(text)
+            shown = [it for it in pages.steps(text) if shutil.which("sim65") or not is_simulated(it)]
+            if len(shown) < len(pages.steps(text)):
+                print(f"sim65 isn't here: what it would run in '{title}' isn't run")
             wrong = pages.carry_out(shown, tools, ours)
             if cc65:
                 pages.carry_out(shown, cc65, theirs)
@@ -46,8 +59,8 @@ def follow(page, program):
 
 def main():
     passed = failed = 0
-    for page, parts in (("README.md", 1), ("docs/TUTORIAL.md", 7)):
-        found = list(follow(page, os.path.abspath(sys.argv[1])))
+    for page, parts, before in (("README.md", 1, ()), ("docs/TUTORIAL.md", 8, ()), ("docs/DEBUGGING.md", 4, ("docs/TUTORIAL.md",))):
+        found = list(follow(page, os.path.abspath(sys.argv[1]), before))
         for title, wrong in found:
             for it in wrong:
                 print(f"{page}, {title}: {it}")

@@ -143,7 +143,7 @@ second: .byte   11, 101, 255
         rts
 .endproc
 
-; The byte in A in decimal; and with a blank behind it.
+; The byte in A in decimal; and with a blank after it.
 print_byte:
         sta     value
         lda     #0
@@ -155,7 +155,7 @@ print_entry:
 blank:  lda     #' '
         jmp     print_character
 
-; Prints quotients by 7, each with the remainder behind an R.
+; Prints quotients by 7, each with the remainder after an R.
 .proc quotients
         .pushseg
         .rodata
@@ -240,7 +240,7 @@ title:  .asciiz "PRIMES"
         rts
 .endproc
 
-; Prints a checksum of the BASIC line and of the code behind it, up to here.
+; Prints a checksum of the BASIC line and of the code after it, up to here.
 .proc sums
         .pushseg
         .rodata

@@ -55,7 +55,7 @@ digits: .byte   "0123456789ABCDEF"
         .popseg
 .endproc
 
-; The number in value, without leading zeros; value is 0 behind it. The digits come lowest first and wait on the stack.
+; The number in value, without leading zeros; value is 0 after it. The digits come lowest first and wait on the stack.
 .proc print_decimal
         base    = 10
 

@@ -2,7 +2,8 @@
         .import begin, print
         .export start
 
-.segment "STARTUP"
+; The script puts this segment before all other code.
+.segment "START"
 start:  jsr     begin
         lda     #<greeting
         ldx     #>greeting

@@ -1,4 +1,4 @@
-; The text at ptr1 behind the one at ptr2.
+; The text at ptr1 after the one at ptr2.
 
         .export         strcat
         .import         strlen, strcpy

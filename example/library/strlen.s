@@ -1,4 +1,4 @@
-; How many bytes stand before the 0 behind ptr1, in Y.
+; How many bytes stand before the 0 after ptr1, in Y.
 
         .export         strlen
         .importzp       ptr1

@@ -6,7 +6,7 @@
         .export         reset
         .globalzp       frames
 
-; Registers of the picture unit, of the sound unit, and the one that copies a page into the sprites' memory.
+; Registers of the PPU, of the sound unit, and the one that copies a page into the sprites' memory.
 .scope ppu
         control       = $2000
         mask          = $2001
@@ -21,7 +21,7 @@
         names         = $2000
         row           = 32              ; names in a row
         rows          = 30
-        attributes    = 64              ; bytes behind the names, one for 4 by 4 of them
+        attributes    = 64              ; bytes after the names, one for 4 by 4 of them
 .endscope
 
 .scope apu
@@ -31,13 +31,13 @@
         no_interrupt  = %01000000
 .endscope
 
-; What is written to ppu::control and ppu::mask while the picture is shown.
+; What is written to ppu::control and ppu::mask while the frame is shown.
 .scope show
-        control       = interrupt | upper_pictures
+        control       = interrupt | upper_tiles
         mask          = background | sprites | left_edge
 
         interrupt     = 1 << 7          ; at the start of each vertical blank
-        upper_pictures = 1 << 4         ; the background's pictures are those at $1000
+        upper_tiles = 1 << 4         ; the background's tiles are those at $1000
         left_edge     = %00000110
         background    = 1 << 3
         sprites       = 1 << 4
@@ -48,12 +48,12 @@ off_screen      = $FF                   ; a sprite this far down isn't seen
 
 .segment "HEADER"
         program_banks = 2               ; of 16 KiB
-        picture_banks = 1               ; of 8 KiB
+        tile_banks = 1               ; of 8 KiB
         mapper        = 0
         mirrored      = 1               ; vertically
 
         .byte           "NES", $1A
-        .byte           program_banks, picture_banks
+        .byte           program_banks, tile_banks
         .byte           (mapper & $0F) << 4 | mirrored, mapper & $F0
         .res            8, 0
 
@@ -63,7 +63,7 @@ off_screen      = $FF                   ; a sprite this far down isn't seen
 .zeropage
 frames:         .res    1               ; counted by the vertical blanks
 text:           .res    2               ; a pointer
-picture_ready:  .res    1               ; 1 once a frame's sprites are in place
+frame_ready:    .res    1               ; 1 once a frame's sprites are in place
 
 .bss
 scroll_x:       .res    1
@@ -88,7 +88,7 @@ end:
         .assert         palette::end - palette = 32, error, "a palette has 32 colours"
         .assert         palette::sprites - palette = 16, error
 
-; Lines of text, each with its place among the names: the picture unit takes the high byte first.
+; Lines of text, each with its place among the names: the PPU takes the high byte first.
 lines:  .dbyt           ppu::names + 6 * ppu::row + 9
         .asciiz         "MOVE THE BALL"
         .dbyt           ppu::names + 24 * ppu::row + 7
@@ -96,7 +96,7 @@ lines:  .dbyt           ppu::names + 6 * ppu::row + 9
         .dbyt           0               ; no line is there
 
 .code
-; Runs at power-on and at reset: quiet first, then two frames until the picture unit listens, then the program.
+; Runs at power-on and at reset: quiet first, then two frames until the PPU listens, then the program.
 .proc reset
         sei
         cld
@@ -148,7 +148,7 @@ clear:  sta     z:0,x
         jsr     read_controller
         jsr     player_step
         lda     #1
-        sta     picture_ready
+        sta     frame_ready
         jmp     main
 .endproc
 .endproc
@@ -195,7 +195,7 @@ clear:  sta     z:0,x
         dex
         bne     :-
         rts
-        .assert pages * 256 + rest = 960, error, "the picture has 960 names"
+        .assert pages * 256 + rest = 960, error, "the screen has 960 names"
 .endproc
 
 ; Writes all lines of text. Overwrites A, X, Y, text.
@@ -245,11 +245,11 @@ set_address:
         tya
         pha
         bit     ppu::status
-        lda     picture_ready
+        lda     frame_ready
         beq     @scroll
         lda     #0
         sta     ppu::oam_address
-        sta     picture_ready
+        sta     frame_ready
         lda     #>oam
         sta     ppu::oam_copy
 @scroll:
@@ -273,5 +273,5 @@ irq:    inc     interrupts
 :       rti
 
         .assert <oam = 0, error, "the sprites aren't at the start of a page"
-        .assert bss_end <= $0800, error, "the variables are behind the end of memory"
+        .assert bss_end <= $0800, error, "the variables don't end in memory"
         .assert irq >= $8000 && irq <= $FFF9, error

@@ -1,18 +1,18 @@
 ; The player: a ball of four sprites, with a place and a speed in 1/256 of a dot. It is pulled towards the speed that
-; the buttons ask for, and stops at the edges of the picture.
+; the buttons ask for, and stops at the edges of the screen.
 
         .export         player_begin, player_step, oam
         .importzp       held, pressed, button_b, button_left, button_up, ball, ball_turns
         .globalzp       frames
 
-; The picture's edges for the upper left corner of a ball of 16 by 16 dots.
+; The screen's edges for the upper left corner of a ball of 16 by 16 dots.
 left_edge       = 8
 right_edge      = 256 - 8 - 16
 top_edge        = 16
 bottom_edge     = 240 - 16 - 16
 
 sprites         = 4
-entry           = 4                     ; bytes of a sprite: its line, picture, attributes, column
+entry           = 4                     ; bytes of a sprite: its line, tile, attributes, column
 
 .segment "OAM"
 oam:            .res    64 * entry
@@ -49,7 +49,7 @@ least:  .byte   left_edge, 0, top_edge
 most:   .byte   right_edge, 0, bottom_edge
 .endscope
 
-; Each sprite's line, attributes and column; attributes mirror one picture into four corners.
+; Each sprite's line, attributes and column; attributes mirror one tile into four corners.
         .align  16, $FF
 .scope mirrored
         column  = %01000000
@@ -167,7 +167,7 @@ place:  sta     player::x_place + 1,x
         lda     corners,y
         adc     player::y_place + 1
         sta     a:oam,x
-        lda     frames                  ; a picture for 8 frames
+        lda     frames                  ; a tile for 8 frames
         lsr     a
         lsr     a
         lsr     a

@@ -4,7 +4,7 @@ use Rattle.std.specs.Prelude.{IfSome}
 use Rattle.std.specs.FinMap.{get}
 use Rattle.std.specs.Str.{bytes_eq}
 use Rattle.base65.specs.Outcome.{◌>>=◌, Refuses}
-use Rattle.base65.specs.Store.{Files}
+use Rattle.base65.specs.Store.{Files, IsBytes}
 use Rattle.object65.specs.declared.fault.ObjectFault.{ObjectFault}
 use Rattle.object65.specs.declared.object.Object.{Object}
 use Rattle.object65.specs.Reading.{file_limit, object_at}
@@ -145,3 +145,12 @@ begun_anew (Some bytes) e = absurd (no_such bytes e)
 pub begun_empty : (known : Option Files) (name : List ℕ) (new : List Member) (e : LibraryFault) → new ≡ [] → e ≡ FileNotFound → IfSome known (λ m. Refuses is_outside e (in_file (get m name) library_at)) → IfSome known (λ m. begun (get m name) ≡ Ok new)
 begun_empty None name new e none is h = tt
 begun_empty (Some m) name new e none is h = begun_anew (get m name) (rw is at h) ∙ ap (λ ms. Ok ms) (sym none)
+
+missing : (file : Option (List ℕ)) → in_file file library_at ≡ Err FileNotFound → IfSome file IsBytes
+missing None e = tt
+missing (Some bytes) e = absurd (no_such bytes e)
+
+-- a file that isn't there has no other bytes
+pub missing_bytes : (known : Option Files) (name : List ℕ) (e : LibraryFault) → e ≡ FileNotFound → IfSome known (λ m. Refuses is_outside e (in_file (get m name) library_at)) → IfSome known (λ m. IfSome (get m name) IsBytes)
+missing_bytes None name e is h = tt
+missing_bytes (Some m) name e is h = missing (get m name) (rw is at h)

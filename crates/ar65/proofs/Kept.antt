@@ -15,7 +15,7 @@ use Rattle.cli65.specs.declared.line.Operation.{Operation}
 use Rattle.cli65.specs.declared.line.Operation.TheVariants as operation
 use Rattle.cli65.specs.Line.{Archiving}
 use Rattle.ar65.specs.declared.archiving.Archived.TheVariants as archived
-use Rattle.ar65.specs.Laws.{HoldBytes, KeptLibraryLaw}
+use Rattle.ar65.specs.Laws.{HaveBytes, KeptLibraryLaw, files_read}
 use Rattle.ar65.specs.Librarian.{as_file, as_library, begun, deleted_by, done, extracted, extracted_by, listed_by, member_name, members_in, replaced_by, rewritten, with_file, with_files, without_files}
 
 bound : {E A B : Type 0} (r : Result A E) (f : A → Result B E) (y : B) → (r >>= f) ≡ Ok y → (x : A) × (r ≡ Ok x) × (f x ≡ Ok y)
@@ -44,12 +44,12 @@ put_stock : (file : Option (List ℕ)) (name : List ℕ) (ms ns : List Member) �
 put_stock None name ms ns is stock e = absurd cc
 put_stock (Some bytes) name ms ns is stock e = stock_law.replaced ms ns name bytes is stock e
 
-with_stock : (m : Files) (ms ns : List Member) (k : ℕ) (files : List (List ℕ)) → HoldBytes m → IsStock ms → with_files m ms k files ≡ Ok ns → IsStock ns
+with_stock : (m : Files) (ms ns : List Member) (k : ℕ) (files : List (List ℕ)) → HaveBytes m files → IsStock ms → with_files m ms k files ≡ Ok ns → IsStock ns
 with_stock m ms ns k [] hold stock e = let same : ms ≡ ns = cc in subst IsStock same stock
 with_stock m ms ns k (file ∷ files) hold stock e =
     let one = bound (as_file k (with_file m ms file)) _ _ e in
     let put = of_file k (with_file m ms file) one.0 one.1 in
-    with_stock m one.0 ns (k + 1) files hold (put_stock (get m file) (member_name file) ms one.0 (hold file) stock put) one.2
+    with_stock m one.0 ns (k + 1) files hold.1 (put_stock (get m file) (member_name file) ms one.0 hold.0 stock put) one.2
 
 without_stock : (ms ns : List Member) (files : List (List ℕ)) → IsStock ms → without_files ms files ≡ Ok ns → IsStock ns
 without_stock ms ns [] stock e = let same : ms ≡ ns = cc in subst IsStock same stock
@@ -65,20 +65,20 @@ written_anew ns bytes stock e =
     let same : made.0 ≡ bytes = cc (made.2) in
     (ns, written_is ns bytes stock (made.1 ∙ ap (λ b. Ok b) same))
 
-by_replacing : (m : Files) (a : Archiving) (bytes : List ℕ) → HoldBytes m → replaced_by m a ≡ Ok (archived.Library bytes) → (ms : List Member) × IsLibrary bytes ms
+by_replacing : (m : Files) (a : Archiving) (bytes : List ℕ) → HaveBytes m (a.library ∷ a.files) → replaced_by m a ≡ Ok (archived.Library bytes) → (ms : List Member) × IsLibrary bytes ms
 unfolding replaced_by
 by_replacing m a bytes hold e =
     let old = bound (as_library (begun (get m a.library))) _ _ e in
     let new = bound (with_files m old.0 0 a.files) _ _ old.2 in
-    let first = begun_stock (get m a.library) old.0 (hold a.library) (of_library (begun (get m a.library)) old.0 old.1) in
-    written_anew new.0 bytes (with_stock m old.0 new.0 0 a.files hold first new.1) new.2
+    let first = begun_stock (get m a.library) old.0 hold.0 (of_library (begun (get m a.library)) old.0 old.1) in
+    written_anew new.0 bytes (with_stock m old.0 new.0 0 a.files hold.1 first new.1) new.2
 
-by_deleting : (m : Files) (a : Archiving) (bytes : List ℕ) → HoldBytes m → deleted_by m a ≡ Ok (archived.Library bytes) → (ms : List Member) × IsLibrary bytes ms
+by_deleting : (m : Files) (a : Archiving) (bytes : List ℕ) → IfSome (get m a.library) IsBytes → deleted_by m a ≡ Ok (archived.Library bytes) → (ms : List Member) × IsLibrary bytes ms
 unfolding deleted_by
 by_deleting m a bytes hold e =
     let old = bound (as_library (members_in m a.library)) _ _ e in
     let new = bound (as_library (without_files old.0 a.files)) _ _ old.2 in
-    let first = read_stock (get m a.library) old.0 (hold a.library) (of_library (members_in m a.library) old.0 old.1) in
+    let first = read_stock (get m a.library) old.0 hold (of_library (members_in m a.library) old.0 old.1) in
     written_anew new.0 bytes (without_stock old.0 new.0 a.files first (of_library (without_files old.0 a.files) new.0 new.1)) new.2
 
 not_listed : (m : Files) (a : Archiving) (bytes : List ℕ) → listed_by m a ≡ Ok (archived.Library bytes) → ⊥
@@ -92,9 +92,9 @@ not_extracted m a bytes e =
     let files = bound (as_library (extracted old.0 a.files)) _ _ old.2 in
     cc (files.2)
 
-by_operation : (op : Operation) (m : Files) (a : Archiving) (bytes : List ℕ) → HoldBytes m → done op m a ≡ Ok (archived.Library bytes) → (ms : List Member) × IsLibrary bytes ms
+by_operation : (op : Operation) (m : Files) (a : Archiving) (bytes : List ℕ) → HaveBytes m (a.library ∷ files_read op a.files) → done op m a ≡ Ok (archived.Library bytes) → (ms : List Member) × IsLibrary bytes ms
 by_operation operation.Replace m a bytes hold e = by_replacing m a bytes hold e
-by_operation operation.Delete m a bytes hold e = by_deleting m a bytes hold e
+by_operation operation.Delete m a bytes hold e = by_deleting m a bytes hold.0 e
 by_operation operation.List m a bytes hold e = absurd (not_listed m a bytes e)
 by_operation operation.Extract m a bytes hold e = absurd (not_extracted m a bytes e)
 

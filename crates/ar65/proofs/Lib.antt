@@ -4,6 +4,7 @@ pub mod Longs
 pub mod Named
 pub mod Names
 pub mod Puts
+pub mod SomeArchive
 pub mod Takes
 pub mod Together
 pub mod Turns

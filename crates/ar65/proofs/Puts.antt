@@ -6,21 +6,20 @@ use Rattle.std.proofs.lemmas.List.{drop_all}
 use Rattle.base65.specs.Outcome.{◌>>=◌, Gives, Refuses, Unless}
 use Rattle.base65.specs.Reading.{front_in}
 use Rattle.base65.specs.Store.{Files, HasFailed, Passes, PassesBy}
-use Rattle.base65.specs.StoreFaults.{is_outside_store}
-use Rattle.base65.specs.declared.store.StoreFault.{StoreFault}
-use Rattle.base65.specs.declared.store.StoreFault.TheVariants as store
 use Rattle.object65.specs.Reading.{file_limit}
 use Rattle.library65.specs.declared.contents.Contents.{Contents}
 use Rattle.library65.specs.declared.fault.LibraryFault.{LibraryFault}
 use Rattle.library65.specs.declared.fault.LibraryFault.TheVariants as fault
-use Rattle.library65.specs.Fault.{is_memory as is_library_memory, is_outside as is_library_outside, of_store}
+use Rattle.library65.specs.Fault.{is_memory as is_library_memory, is_outside as is_library_outside}
 use Rattle.library65.specs.Libraries.{checked, replaced, with_member}
 use Rattle.library65.specs.Reading.{in_file}
 use Rattle.library65.specs.Spelling.{Member}
 use Rattle.library65.proofs.Members.{not_stored}
 use Rattle.ar65.specs.declared.refusal.Refusal.TheVariants as refusal
 use Rattle.ar65.specs.Librarian.{as_file, member_name, with_file, with_files}
+use Rattle.ar65.specs.Laws.{HaveBytes}
 use Rattle.ar65.specs.Refusals.{is_failure, is_outside}
+use Rattle.base65.specs.Store.{IsBytes}
 use Rattle.ar65.proofs.Longs.{told_by_front}
 
 -- ---- One FILE.
@@ -118,3 +117,23 @@ file_none (Some m) next before ms names k name e same at left put =
     let whole : with_file m ms name ≡ Err e → with_files m before 0 names ≡ Err (refusal.File k e) = λ h.
     sym left ∙ ap (with_files m ms k) at ∙ ap (λ r. as_file k r >>= (λ xs. with_files m xs (k + 1) (drop (k + 1) names))) h in
     file_outside k e (with_files m before 0 names ≡ Err (refusal.File k e)) (unless_then (is_library_outside e) whole here)
+
+-- ---- What was read are bytes.
+
+-- where the FILEs that are left have bytes, all have
+abbrev pub HaveLeft : Option Files → List (List ℕ) → ℕ → Type 0
+HaveLeft known names k = IfSome known (λ m. HaveBytes m (drop k names) → HaveBytes m names)
+
+pub left_all : (known : Option Files) (names : List (List ℕ)) → HaveLeft known names 0
+left_all None names = tt
+left_all (Some m) names = λ h. h
+
+pub left_more : (known next : Option Files) (names : List (List ℕ)) (k : ℕ) (name : List ℕ) → next ≡ known → drop k names ≡ name ∷ drop (k + 1) names → HaveLeft known names k → IfSome next (λ m. IfSome (get m name) IsBytes) → HaveLeft known names (k + 1)
+left_more None next names k name same front left here = tt
+left_more (Some m) next names k name same front left here =
+    let there : IfSome (get m name) IsBytes = rw same at here in
+    λ more. left (subst (HaveBytes m) (sym front) (there, more))
+
+pub left_none : (known : Option Files) (names : List (List ℕ)) (k : ℕ) → length names ≤ k → HaveLeft known names k → IfSome known (λ m. HaveBytes m names)
+left_none None names k h left = tt
+left_none (Some m) names k h left = left (subst (HaveBytes m) (sym (drop_all k names h)) tt)

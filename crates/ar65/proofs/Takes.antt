@@ -3,7 +3,7 @@ use Rattle.std.proofs.Common.{◌≡◌, ◌∙◌, ℕ, ◌+◌, Bool, true, fa
 use Rattle.std.specs.Prelude.{IfSome, ◌==◌}
 use Rattle.std.specs.FinMap.{get}
 use Rattle.base65.specs.Outcome.{◌>>=◌, Refuses, Unless}
-use Rattle.base65.specs.Store.{Files, Passes, PassesBy}
+use Rattle.base65.specs.Store.{Files}
 use Rattle.library65.specs.declared.fault.LibraryFault.{LibraryFault}
 use Rattle.library65.specs.declared.fault.LibraryFault.TheVariants as fault
 use Rattle.library65.specs.Fault.{is_memory as is_library_memory}
@@ -15,7 +15,7 @@ use Rattle.ar65.specs.declared.archiving.Archived.TheVariants as archived
 use Rattle.ar65.specs.declared.members.MemberFile.{MemberFile}
 use Rattle.ar65.specs.declared.refusal.Refusal.TheVariants as refusal
 use Rattle.ar65.specs.Librarian.{AreTexts, extracted, extracted_by, file_of, files_of, member_name, without_files}
-use Rattle.ar65.specs.Refusals.{is_failure, is_outside}
+use Rattle.ar65.specs.Refusals.{is_outside}
 use Rattle.ar65.proofs.Names.{names_are_texts}
 use Rattle.ar65.proofs.Turns.{ahead, each_none, refused_so}
 
@@ -72,15 +72,3 @@ not_extracted (Some m) a ms names e same read gives =
     go : (b : Bool) → Unless b (extracted ms names ≡ Err e) → Unless b (extracted_by m a ≡ Err (refusal.Library e))
     go true h = tt
     go false h = let given : extracted ms a.files ≡ Err e = ap (extracted ms) (sym same) ∙ h in rw (read, given) refl
-
--- behind a library that was read no fault is the store's
-pub library_count : {T U : Type 0} (old new : ℕ) (x : T) (e : LibraryFault) → Passes fault.FileError old new (Ok x) → (e ≡ fault.FileError → ⊥) → PassesBy {T = U} is_failure old new (Err (refusal.Library e))
-library_count old new x e p none = record {
-  later = p.later;
-  told = λ h. absurd (cc (p.told h));
-  cause = λ h. absurd (none (stored e h));
-}
-  where
-    stored : (e : LibraryFault) → is_failure (refusal.Library e) ≡ true → e ≡ fault.FileError
-    stored fault.FileError h = refl
-    stored e h = absurd cc

@@ -1,7 +1,6 @@
 -- What is found or done one item behind the other.
 use Rattle.std.proofs.Common.{◌≡◌, ◌∙◌, ℕ, zero, suc, ◌+◌, ◌<◌, Bool, true, false, List, [], ◌∷◌, ◌++◌, length, get_or, slice_get, drop, map, Some, refl, sym, ap, add-one, append_assoc, arith, Result, Ok, Err}
 use Rattle.std.specs.Borrow.{Bor}
-use Rattle.std.proofs.lemmas.List.{append-nil}
 use Rattle.base65.specs.Outcome.{◌>>=◌, Refuses, Unless, each}
 use Rattle.ar65.specs.Librarian.{member_name}
 

@@ -1,24 +1,41 @@
 -- What holds of the librarian, whatever the files.
-use Rattle.std.specs.Prelude.{◌≡◌, ℕ, List, [], map, Some, IfSome, Ok}
+use Rattle.std.specs.Prelude.{◌≡◌, ℕ, List, [], ◌∷◌, map, Some, IfSome, Ok}
 use Rattle.std.specs.FinMap.{get}
 use Rattle.std.specs.List.{AllByRecursion}
+use Rattle.base65.specs.Own.{IsOwn}
 use Rattle.base65.specs.Store.{Files}
 use Rattle.object65.specs.Record.{IsBytes}
 use Rattle.library65.specs.Libraries.{written}
 use Rattle.library65.specs.Spelling.{IsLibrary, Member}
 use Rattle.cli65.specs.Line.{Archiving}
+use Rattle.cli65.specs.declared.line.Operation.{Operation}
+use Rattle.cli65.specs.declared.line.Operation.TheVariants as operation
 use Rattle.ar65.specs.declared.archiving.Archived.TheVariants as archived
 use Rattle.ar65.specs.declared.members.MemberFile.{MemberFile}
 use Rattle.ar65.specs.Librarian.{archived_of, extracted, with_files}
+use Rattle.ar65.specs.Refusals.{is_outside}
 
--- each file is a list of bytes
-abbrev pub HoldBytes : Files → Type 0
-HoldBytes m = (name : List ℕ) → IfSome (get m name) IsBytes
+-- the FILEs that an operation reads
+abbrev pub files_read : Operation → List (List ℕ) → List (List ℕ)
+files_read operation.Replace files = files
+files_read _ files = []
+
+-- files of these names have bytes
+abbrev pub HaveBytes : Files → List (List ℕ) → Type 0
+HaveBytes m names = AllByRecursion (λ name. IfSome (get m name) IsBytes) names
+
+-- what a line reads are bytes: its library, and the FILEs that it puts in
+abbrev pub ReadsBytes : Files → Archiving → Type 0
+ReadsBytes m a = HaveBytes m (a.library ∷ files_read a.operation a.files)
+
+-- what a line comes to of any files is no fault from outside
+abbrev pub SomeArchiveLaw : Type 0
+SomeArchiveLaw = (m : Files) (a : Archiving) → IsOwn is_outside (archived_of m a)
 
 -- what `r` and `d` write is a library
 abbrev pub KeptLibraryLaw : Type 0
 KeptLibraryLaw =
-    (m : Files) (a : Archiving) (bytes : List ℕ) → HoldBytes m
+    (m : Files) (a : Archiving) (bytes : List ℕ) → ReadsBytes m a
     → archived_of m a ≡ Ok (archived.Library bytes)
     → (ms : List Member) × IsLibrary bytes ms
 

@@ -1,7 +1,7 @@
 -- What a refusal names where the store failed: the library, or a FILE that is put in; and it is what the failed call
 -- asked for, where the store tells that.
-use Rattle.std.specs.Prelude.{◌≡◌, ℕ, ◌⊎◌, List, slice_get, Option, Some, true}
-use Rattle.base65.specs.Store.{IsBlamed}
+use Rattle.std.specs.Prelude.{◌≡◌, ℕ, ◌⊎◌, List, slice_get, Some, true}
+use Rattle.base65.specs.Store.{IsBlamed, Blamed}
 use Rattle.library65.specs.declared.fault.LibraryFault.TheVariants.{FileError}
 use Rattle.cli65.specs.declared.line.Operation.TheVariants.{Replace}
 use Rattle.cli65.specs.Line.{Archiving}
@@ -10,31 +10,22 @@ use Rattle.ar65.specs.declared.refusal.Refusal.TheVariants.{Library, File}
 use Rattle.ar65.specs.Refusals.{is_failure}
 
 -- the library, for which the failed call asked
-abbrev pub IsOfLibrary : Option (List ℕ) → List ℕ → Refusal → Type 0
+abbrev pub IsOfLibrary : Blamed → List ℕ → Refusal → Type 0
 IsOfLibrary blamed library e = (e ≡ Library FileError) × IsBlamed blamed library
 
 -- one of these files, for which it asked
-abbrev pub IsOfFiles : Option (List ℕ) → List (List ℕ) → Refusal → Type 0
+abbrev pub IsOfFiles : Blamed → List (List ℕ) → Refusal → Type 0
 IsOfFiles blamed files e =
     (place : ℕ) × (name : List ℕ) × (slice_get files place ≡ Some name) × (e ≡ File place FileError) × IsBlamed blamed name
 
-abbrev pub IsOfLine : Option (List ℕ) → Archiving → Refusal → Type 0
+abbrev pub IsOfLine : Blamed → Archiving → Refusal → Type 0
 IsOfLine blamed a e =
     IsOfLibrary blamed a.library e ⊎ ((a.operation ≡ Replace) × IsOfFiles blamed a.files e)
 
--- where the store failed, the refusal names the library
-abbrev pub NamesLibrary : Option (List ℕ) → List ℕ → Refusal → Type 0
-NamesLibrary blamed library e = is_failure e ≡ true → IsOfLibrary blamed library e
-
--- one of these files
-abbrev pub NamesFiles : Option (List ℕ) → List (List ℕ) → Refusal → Type 0
+-- where the store failed, the refusal names one of these files
+abbrev pub NamesFiles : Blamed → List (List ℕ) → Refusal → Type 0
 NamesFiles blamed files e = is_failure e ≡ true → IsOfFiles blamed files e
 
--- the library or one of these files
-abbrev pub NamesEither : Option (List ℕ) → Archiving → Refusal → Type 0
-NamesEither blamed a e =
-    is_failure e ≡ true → IsOfLibrary blamed a.library e ⊎ IsOfFiles blamed a.files e
-
--- something that the line reads
-abbrev pub NamesOfLine : Option (List ℕ) → Archiving → Refusal → Type 0
+-- where it failed, the refusal names something that the line reads
+abbrev pub NamesOfLine : Blamed → Archiving → Refusal → Type 0
 NamesOfLine blamed a e = is_failure e ≡ true → IsOfLine blamed a e

@@ -1,6 +1,11 @@
 //! What holds of the librarian, whatever the files. Each function's contract is a law.
 
-ghost use Rattle.ar65.specs.Laws.{KeptLibraryLaw, PutTogetherLaw};
+ghost use Rattle.ar65.specs.Laws.{KeptLibraryLaw, PutTogetherLaw, SomeArchiveLaw};
+
+/// Whatever the files, a line comes to something, or to a first fault that the files have.
+pub fn some_archive()
+    ensures { SomeArchiveLaw }
+{}
 
 /// What `r` and `d` write is a library.
 pub fn keeps_a_library()

@@ -1,15 +1,16 @@
 //! The members of a library: read, put in, taken out, listed, made files, and written.
 
-ghost use Rattle.std.specs.Prelude.{◌≡◌, IfErr, IfOk, IfSome, IsErrOf, map, true};
+ghost use Rattle.std.specs.Prelude.{◌≡◌, IfErr, IfOk, IfSome, IsErrOf, OnOk, map, true};
 ghost use Rattle.std.specs.FinMap as map;
 ghost use Rattle.std.specs.Str.{is_utf8};
 ghost use Rattle.base65.specs.Outcome.{Gives};
-ghost use Rattle.base65.specs.Store.{Asks, PassesBy};
+ghost use Rattle.base65.specs.Store.{Asks, HoldsBytes, PassesBy};
 ghost use Rattle.object65.specs.Reading.{Leaves};
 ghost use Rattle.library65.specs.declared.fault.LibraryFault.TheVariants.{FileError};
 ghost use Rattle.library65.specs.Fault.{is_memory, is_outside as is_library_outside};
 ghost use Rattle.library65.specs.Libraries.{member_names, written};
 ghost use Rattle.ar65.specs.Librarian.{AreTexts, begun, extracted, file_of, files_of, member_name, names_text, with_file, with_files, without_files};
+ghost use Rattle.ar65.specs.Laws.{HaveBytes};
 ghost use Rattle.ar65.specs.Naming.{NamesFiles};
 ghost use Rattle.ar65.specs.Refusals.{is_failure, is_outside};
 
@@ -37,6 +38,7 @@ pub fn load_or_begin<S: Store>(
 ) -> Result<Library, LibraryFault>
     ensures read { IfSome (S.files store.old) (λ m.
         Gives is_library_outside (λ l. l) result (begun (map.get m file.now))) }
+    ensures bytes { IfSome (S.files store.old) (λ m. HoldsBytes (map.get m file.now) result) }
     ensures kept { Leaves S.files S.failures S.blamed FileError file.now store.old store.new result }
     ensures asked { Asks is_library_outside (S.failures store.old) result }
 {
@@ -56,6 +58,7 @@ fn put_file<S: Store>(
 ) -> Result<(), LibraryFault>
     ensures put { IfSome (S.files store.old) (λ m.
         Gives is_library_outside (λ _. library.new) result (with_file m library.old file.now)) }
+    ensures bytes { IfSome (S.files store.old) (λ m. HoldsBytes (map.get m file.now) result) }
     ensures kept { Leaves S.files S.failures S.blamed FileError file.now store.old store.new result }
 {
     let bytes = read_front(alloc, store, file, FILE_LIMIT as usize + 1)?;
@@ -71,6 +74,8 @@ pub fn put_files<S: Store>(
 ) -> Result<(), Refusal>
     ensures put { IfSome (S.files store.old) (λ m.
         Gives is_outside (λ _. library.new) result (with_files m library.old 0 (map (λ s. s.now) files.now))) }
+    ensures bytes { IfSome (S.files store.old) (λ m.
+        OnOk result (HaveBytes m (map (λ s. s.now) files.now))) }
     ensures files { S.files store.new ≡ S.files store.old }
     ensures count { PassesBy is_failure (S.failures store.old) (S.failures store.new) result }
     ensures named { IfErr result (NamesFiles (S.blamed store.new) (map (λ s. s.now) files.now)) }

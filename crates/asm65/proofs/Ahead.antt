@@ -2,11 +2,11 @@
 use Rattle.std.proofs.lemmas.Bool.Decides.{nat_tests}
 use Rattle.std.proofs.Common.{◌≡◌, ◌∙◌, ℕ, Bool, true, false, ◌+◌, ◌<◌, ◌≤◌, List, [], ◌∷◌, length, take, drop, refl, subst, arith, Option}
 use Rattle.std.specs.Prelude.{Ok, Err, ◌==◌}
-use Rattle.base65.specs.Store.{Files}
+use Rattle.base65.specs.Store.{Files, Blamed}
 use Rattle.syntax65.specs.Tokens.{Lexeme, lexemes}
 use Rattle.syntax65.specs.declared.lexing.tokens.Token.{Token}
 use Rattle.expand65.specs.Failing.{Gives, IsAhead, given_behind, given_parts}
-use Rattle.expand65.specs.Standing.{measure_of, place_of}
+use Rattle.expand65.specs.Standing.{IsPlaced, measure_of, place_of}
 use Rattle.expand65.specs.declared.expander.Expander.{Expander}
 use Rattle.expand65.specs.State.{label, plain}
 use Rattle.expand65.specs.declared.passing.Peeked.{Peeked}
@@ -43,7 +43,7 @@ no_tokens (t ∷ ts) e =
     let some : (length (t ∷ ts) == 0) ≡ false = grind (arith, nat_tests) in
     absurd (let bad : true ≡ false = e ∙ some in cc)
 
-module _ (o : Option Files) (blamed : Option (List ℕ)) (place : Place) where
+module _ (o : Option Files) (blamed : Blamed) (place : Place) where
   abbrev RestStops : List Lexeme → Assembler → Assembler → Answer → Type 0
   RestStops ts = StopsQuietly (Without blamed (λ m t. IsRest m Takes t place ts)) 1
 
@@ -71,17 +71,17 @@ module _ (o : Option Files) (blamed : Option (List ℕ)) (place : Place) where
 
 -- ---- Whether a line was taken.
 
-pub line_taken : (o : Option Files) (blamed : Option (List ℕ)) (old new : Run) (b : Bool) → b ≡ true → TakesLineIf o blamed old new (Ok b) → TakesLine o blamed old new (Ok tt)
+pub line_taken : (o : Option Files) (blamed : Blamed) (old new : Run) (b : Bool) → b ≡ true → TakesLineIf o blamed old new (Ok b) → TakesLine o blamed old new (Ok tt)
 line_taken o blamed old new true e h = h
 line_taken o blamed old new false e h = absurd cc
 
-pub no_line_taken : (o : Option Files) (blamed : Option (List ℕ)) (old new : Run) (b : Bool) → b ≡ false → TakesLineIf o blamed old new (Ok b) → new ≡ old
+pub no_line_taken : (o : Option Files) (blamed : Blamed) (old new : Run) (b : Bool) → b ≡ false → TakesLineIf o blamed old new (Ok b) → new ≡ old
 no_line_taken o blamed old new true e h = absurd cc
 no_line_taken o blamed old new false e h = h
 
-pub line_is : (o : Option Files) (blamed : Option (List ℕ)) (old : Run) (expander : Expander) (assembler : Assembler) (n : ℕ) (ts ls us : List Lexeme) (place : Place) (r : Answer) → Gives old.expander (given_parts (take n ts) (drop n ts)) expander → measure_of expander < measure_of old.expander → ls ≡ take n ts → us ≡ drop n ts → place ≡ place_of expander → TakesAll o blamed place (given_parts ls us) old.assembler assembler r → TakesLine o blamed old (record { expander = expander; assembler = assembler }) r
-line_is o blamed old expander assembler n ts ls us place r given less front behind at taken =
+pub line_is : (o : Option Files) (blamed : Blamed) (old : Run) (expander : Expander) (assembler : Assembler) (n : ℕ) (ts ls us : List Lexeme) (place : Place) (r : Answer) → Gives old.expander (given_parts (take n ts) (drop n ts)) expander → measure_of expander < measure_of old.expander → ((m : Files) → IsPlaced m old.expander → IsPlaced m expander) → ls ≡ take n ts → us ≡ drop n ts → place ≡ place_of expander → TakesAll o blamed place (given_parts ls us) old.assembler assembler r → TakesLine o blamed old (record { expander = expander; assembler = assembler }) r
+line_is o blamed old expander assembler n ts ls us place r given less placed front behind at taken =
     let P : List Lexeme → Type 0 = λ l. TakesAll o blamed place (given_parts l us) old.assembler assembler r in
     let Q : List Lexeme → Type 0 = λ l. TakesAll o blamed place (given_parts (take n ts) l) old.assembler assembler r in
     let S : Place → Type 0 = λ p. TakesAll o blamed p (given_parts (take n ts) (drop n ts)) old.assembler assembler r in
-    record { statements = given_parts (take n ts) (drop n ts); given = given; taken = subst S at (subst Q behind (subst P front taken)); less = less }
+    record { statements = given_parts (take n ts) (drop n ts); given = given; taken = subst S at (subst Q behind (subst P front taken)); less = less; placed = placed }

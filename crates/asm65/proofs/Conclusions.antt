@@ -1,40 +1,42 @@
--- What waits comes to, and an assembler behind the last line.
-use Rattle.std.proofs.Common.{◌≡◌, ◌∙◌, ◌||◌, ℕ, Bool, true, false, List, refl, sym, ap, [], ◌∷◌, ◌++◌, subst, append_assoc, suc, map}
+-- What slots come to, and an assembler behind the last line.
+use Rattle.std.proofs.Common.{◌≡◌, ◌∙◌, ◌||◌, ℕ, Bool, true, false, List, refl, sym, ap, [], ◌∷◌, ◌++◌, subst, append_assoc, length, map}
 use Rattle.base65.specs.Outcome.{◌>>=◌, Unless}
-use Rattle.syntax65.specs.Trees.{Tree}
-use Rattle.syntax65.specs.declared.place.Place.{Place}
 use Rattle.ast65.specs.declared.fault.AsmFault.{AsmFault}
 use Rattle.ast65.specs.Faults.{is_failure, is_memory, is_outside}
-use Rattle.semantics65.specs.declared.laid.Context.{Context}
-use Rattle.semantics65.specs.Norms.{defined_form, form_of_definition, form_of_value, norm_of}
-use Rattle.semantics65.specs.Symbols.{Symbols}
-use Rattle.semantics65.specs.Machine as machine
-use Rattle.semantics65.specs.Machine.{before_it, resolved, Finished, State, concluded, filled, finished}
-use Rattle.semantics65.specs.Module as piece
-use Rattle.semantics65.specs.Module.{Made, made_of, used, Outcome}
-use Rattle.asm65.specs.declared.assembler.Piece.{Piece}
-use Rattle.asm65.specs.declared.assembler.Piece.TheVariants.{Datum, Operand, Constant, Assertion, Import, ForcedImport, Export}
-use Rattle.asm65.specs.declared.assembler.Fixup.{Fixup}
-use Rattle.asm65.specs.Inner.Holding.{IsConstant, IsPiece, IsFixup, AreAwaited, AreFixups, Holds}
-use Rattle.asm65.specs.Inner.Running.{coming, AreFaulty, AreSettled, IsFaulty, IsSettled, ReceivesAll, SettlesAll}
-use Rattle.std.specs.Prelude.{IfOk, Result, Ok, Err, IfErr, None}
-use Rattle.std.proofs.lemmas.List.{append-nil}
-use Rattle.semantics65.specs.Contents.{Content}
-use Rattle.semantics65.specs.Reading.{PlacedFault}
-use Rattle.semantics65.proofs.Resolving.{made_asks, resolved_more, resolved_stops}
-use Rattle.emit65.specs.Fed.{Stands, names_in}
-use Rattle.asm65.specs.declared.concluding.Ending.{Ending}
-use Rattle.asm65.specs.declared.texts.AsmRefusal.{AsmRefusal}
-use Rattle.asm65.specs.Assembly.{is_outside_refusal, placed_of, in_places, is_from_outside}
-use Rattle.symbols65.proofs.Measures.{unless_then}
+use Rattle.std.specs.Prelude.{IfOk, Result, Ok, Err, None}
+use Rattle.std.specs.List.{list_all}
+use Rattle.std.proofs.lemmas.List.{append-nil, map-append}
 use Rattle.object65.specs.declared.object.Object.{Object}
 use Rattle.object65.specs.Objects.{is_good_object}
+use Rattle.semantics65.specs.Contents.{Content, telling}
 use Rattle.semantics65.specs.declared.contents.Segment.{Segment}
 use Rattle.semantics65.specs.Layout.{Cursor}
-use Rattle.semantics65.specs.Numbering.{object_with, AreSound}
+use Rattle.semantics65.specs.Machine.{Finished, Slot, State, coming, concluded, finished, holds, resolved}
+use Rattle.semantics65.specs.Module.{Made, Outcome, quietly}
+use Rattle.semantics65.specs.Numbering.{AreSound, object_with, section_keys}
+use Rattle.semantics65.specs.Reading.{PlacedFault}
+use Rattle.semantics65.specs.Symbols.{Symbols}
+use Rattle.semantics65.proofs.Entries.{after, nothing_after}
+use Rattle.semantics65.proofs.Resolving.{found_all, resolved_more, resolved_stops}
+use Rattle.emit65.specs.Fed.{AreAlike, AreSlotsAlike, HasSlots, StandIn, Stands, content_by, content_of, names_in, slot_of, stands_in}
+use Rattle.emit65.specs.declared.files.Files.{Files}
+use Rattle.emit65.specs.declared.entries.Entry.{Entry}
+use Rattle.emit65.specs.declared.entries.Entry.TheVariants.{Bytes, Room, Value, Told, Waits}
+use Rattle.emit65.specs.declared.fixups.Fixup.{Fixup}
+use Rattle.std.specs.Global.{Box}
+use Rattle.emit65.specs.declared.sections.Closed.{Closed}
+use Rattle.emit65.proofs.Grown.{standing_more}
+use Rattle.emit65.proofs.Renumbering.{left, right}
+use Rattle.emit65.proofs.Slots.{comes_alike, faulty_alike, held_alike, held_contents, keys_by, settled, settled_quiet, slots_trans}
+use Rattle.symbols65.proofs.Measures.{unless_then}
+use Rattle.symbols65.specs.Measuring.{cursor_of}
 use Rattle.symbols65.specs.Views.{table_of}
 use Rattle.asm65.specs.declared.assembler.Assembler.{Assembler}
-use Rattle.symbols65.specs.Measuring.{cursor_of}
+use Rattle.asm65.specs.declared.concluding.Ending.{Ending}
+use Rattle.asm65.specs.declared.texts.AsmRefusal.{AsmRefusal}
+use Rattle.asm65.specs.Assembly.{in_places, is_from_outside, is_outside_refusal, placed_of}
+use Rattle.asm65.specs.Inner.Holding.{Holds}
+use Rattle.asm65.specs.Inner.Running.{AreFaulty, AreSettled, ComesTo, IsFaulty, IsObjectOf, IsPutIn, IsSettled}
 
 -- ---- Faults from outside.
 
@@ -58,209 +60,172 @@ pub no_more : (b c : Bool) → (b ≡ true → c ≡ true) → c ≡ false → b
 no_more true c h e = absurd (let both : true ≡ false = sym (h refl) ∙ e in cc)
 no_more false c h e = refl
 
--- ---- What a piece comes to.
+-- what is refused from outside may be refused so
+pub outside_comes : (P : Type 0) (b : Bool) → b ≡ true → Unless b P
+outside_comes P true e = tt
+outside_comes P false e = absurd cc
 
-constant_form : (y : Symbols) (s : Context) (at : ℕ) (e : Tree) → IsConstant y s at e → defined_form y at ≡ norm_of y s e
-constant_form y s at e k =
-    ap (form_of_definition (norm_of y)) k.there
-    ∙ ap (form_of_value (norm_of y) k.definition.context) k.value
-    ∙ ap (λ (z : Context). norm_of y z e) k.context
+-- ---- One more entry.
 
-pub comes_to : (y : Symbols) (place : Place) (s : Context) (w : Piece) (p : piece.Piece) → IsPiece y s w p → coming y place s w ≡ made_of y place s p
-comes_to y place s (Datum width e) p h = ap (made_of y place s) (sym h)
-comes_to y place s (Operand width e) p h = ap (made_of y place s) (sym h)
-comes_to y place s (Constant at) p h = ap (λ r. r >>= used place s piece.equated) (constant_form y s at h.0 h.1) ∙ ap (made_of y place s) (sym h.2)
-comes_to y place s (Assertion act words e) p h = ap (made_of y place s) (sym h)
-comes_to y place s (Import n) p h = ap (made_of y place s) (sym h)
-comes_to y place s (ForcedImport n) p h = ap (made_of y place s) (sym h)
-comes_to y place s (Export must n) p h = ap (made_of y place s) (sym h)
+pub put_in : (files : List (List ℕ)) (e : Entry) (c : Content) (old new : Ending) → new.done.items ≡ old.done.items ++ e ∷ [] → slot_of files e ≡ holds c → stands_in (length files) e ≡ true → IsPutIn files c old new
+put_in files e c old new done is standing = record {
+  slots = ap (map (slot_of files)) done ∙ map-append (slot_of files) old.done.items (e ∷ []) ∙ ap (λ x. map (slot_of files) old.done.items ++ x ∷ []) is;
+  standing = λ s. subst (StandIn (length files)) (sym done) (standing_more (length files) old.done.items e standing s);
+}
 
-pub waiting_comes : (y : Symbols) (files : List (List ℕ)) (w : Fixup) (v : machine.Fixup) (here : Place) → IsFixup y files w v → here ≡ v.place → coming y here w.context w.piece ≡ made_of y v.place v.context v.piece
-waiting_comes y files w v here h same =
-    ap (λ (s : Context). coming y here s w.piece) (sym h.context)
-    ∙ ap (λ (p : Place). coming y p v.context w.piece) same
-    ∙ comes_to y v.place v.context w.piece v.piece h.piece
+-- an entry that doesn't wait holds its content
+known_slot : (files : List (List ℕ)) (e : Entry) → ((w : Box Fixup) → e ≡ Waits w → ⊥) → slot_of files e ≡ holds (content_of files e)
+known_slot files (Bytes g bytes) h = refl
+known_slot files (Room g n) h = refl
+known_slot files (Value width g o f) h = refl
+known_slot files (Told o ss) h = refl
+known_slot files (Waits w) h = absurd (h w refl)
 
--- ---- What waits is settled one behind the other.
+pub known_settled : (y : Symbols) (files : List (List ℕ)) (e : Entry) (old new : Ending) → ((w : Box Fixup) → e ≡ Waits w → ⊥) → new.done.items ≡ old.done.items ++ e ∷ [] → new.err ≡ old.err → stands_in (length files) e ≡ true → IsSettled y files (slot_of files e) old new
+known_settled y files e old new h done err standing =
+    let is = known_slot files e h in
+    record {
+      made = quietly (content_of files e);
+      found = ap (coming y) is;
+      entry = put_in files e (content_of files e) old new done is standing;
+      err = err ∙ sym (append-nil old.err);
+    }
 
-abbrev pub done_with : List Content → List ℕ → Finished Content
-done_with cs said = record { found = Ok cs; warned = said }
+-- ---- Slots come to their contents one behind the other.
 
--- some of what waits is settled, and the others are left
-pub record SoFar (y : Symbols) (files : List (List ℕ)) (vs : List machine.Fixup) (left : List Fixup) (old new : Ending) : Type 0 where
-  pub done : List machine.Fixup
-  pub rest : List machine.Fixup
-  pub all : done ++ rest ≡ vs
-  pub waits : AreFixups y files left rest
+-- some slots have come to their contents, and others are left
+pub record SoFar (y : Symbols) (files : List (List ℕ)) (all : List Slot) (left : List Entry) (old new : Ending) : Type 0 where
   pub contents : List Content
-  pub warned : List ℕ
-  pub found : resolved y done ≡ done_with contents warned
-  pub sections : ReceivesAll old.sections new.sections contents
-  pub err : new.err ≡ old.err ++ warned
+  pub said : List ℕ
+  pub found : resolved y all ≡ after (found_all contents said) (resolved y (map (slot_of files) left))
+  pub entries : map (slot_of files) new.done.items ≡ map holds contents
+  pub standing : StandIn (length files) new.done.items
+  pub others : StandIn (length files) left
+  pub err : new.err ≡ old.err ++ said
 
-pub begins : (y : Symbols) (files : List (List ℕ)) (vs : List machine.Fixup) (left : List Fixup) (e : Ending) → AreFixups y files left vs → SoFar y files vs left e e
-begins y files vs left e h = record {
-  done = [];
-  rest = vs;
-  all = refl;
-  waits = h;
+pub begins : (y : Symbols) (files : List (List ℕ)) (left : List Entry) (e : Ending) → e.done.items ≡ [] → StandIn (length files) left → SoFar y files (map (slot_of files) left) left e e
+begins y files left e none standing = record {
   contents = [];
-  warned = [];
-  found = refl;
-  sections = λ cs rest s. s;
+  said = [];
+  found = sym (nothing_after (resolved y (map (slot_of files) left)));
+  entries = ap (map (slot_of files)) none;
+  standing = subst (StandIn (length files)) (sym none) refl;
+  others = standing;
   err = sym (append-nil e.err);
 }
 
-pub goes_on : (y : Symbols) (files : List (List ℕ)) (vs : List machine.Fixup) (w : Fixup) (left : List Fixup) (old mid new : Ending) → SoFar y files vs (w ∷ left) old mid → ((v : machine.Fixup) → IsFixup y files w v → IsSettled y v mid new) → SoFar y files vs left old new
-goes_on y files vs w left old mid new so settled = by so.rest so.all so.waits
-  where
-    by : (rest : List machine.Fixup) → so.done ++ rest ≡ vs → AreFixups y files (w ∷ left) rest → SoFar y files vs left old new
-    by [] all waits = absurd waits
-    by (v ∷ rest) all waits =
-        let k = settled v waits.0 in
-        record {
-          done = so.done ++ v ∷ [];
-          rest = rest;
-          all = append_assoc so.done (v ∷ []) rest ∙ all;
-          waits = waits.1;
-          contents = so.contents ++ k.made.content ∷ [];
-          warned = so.warned ++ k.made.warning;
-          found = resolved_more y so.done v so.contents so.warned k.made so.found k.found;
-          sections = λ cs more s. k.sections cs more (so.sections cs (k.made.content ∷ more) (subst (λ (ws : List Content). Stands cs ws old.sections) (append_assoc so.contents (k.made.content ∷ []) more) s));
-          err = k.err ∙ ap (λ (e : List ℕ). e ++ k.made.warning) so.err ∙ append_assoc old.err so.warned k.made.warning;
-        }
-
-pub stops : (y : Symbols) (files : List (List ℕ)) (vs : List machine.Fixup) (w : Fixup) (left : List Fixup) (old mid new : Ending) (e : AsmRefusal) → SoFar y files vs (w ∷ left) old mid → ((v : machine.Fixup) → IsFixup y files w v → Unless (is_outside_refusal e) (IsFaulty y v e mid new)) → Unless (is_outside_refusal e) (AreFaulty y vs e old new)
-stops y files vs w left old mid new e so faulty = by so.rest so.all so.waits
-  where
-    one : (v : machine.Fixup) (rest : List machine.Fixup) → so.done ++ v ∷ rest ≡ vs → IsFaulty y v e mid new → AreFaulty y vs e old new
-    one v rest all k =
-        let stopped : resolved y vs ≡ record { found = Err (record { place = v.place; fault = (placed_of e).fault }); warned = so.warned } = ap (resolved y) (sym all) ∙ resolved_stops y so.done rest v so.contents so.warned (placed_of e).fault so.found k.found in
-        let at : Place → Result (List Content) PlacedFault = λ p. Err (record { place = p; fault = (placed_of e).fault }) in
-        record {
-          found = ap (λ (r : Finished Content). r.found) stopped ∙ ap at (sym k.place);
-          err = k.err ∙ so.err ∙ ap (λ (r : Finished Content). old.err ++ r.warned) (sym stopped);
-        }
-
-    by : (rest : List machine.Fixup) → so.done ++ rest ≡ vs → AreFixups y files (w ∷ left) rest → Unless (is_outside_refusal e) (AreFaulty y vs e old new)
-    by [] all waits = absurd waits
-    by (v ∷ rest) all waits = unless_then (is_outside_refusal e) (one v rest all) (faulty v waits.0)
-
-pub ends : (y : Symbols) (files : List (List ℕ)) (vs : List machine.Fixup) (old new : Ending) → SoFar y files vs [] old new → AreSettled y vs old new
-ends y files vs old new so =
-    let all : so.done ≡ vs = sym (append-nil so.done) ∙ ap (λ ws. so.done ++ ws) (sym so.waits) ∙ so.all in
-    let done : resolved y vs ≡ done_with so.contents so.warned = ap (resolved y) (sym all) ∙ so.found in
+pub goes_on : (y : Symbols) (files : List (List ℕ)) (all : List Slot) (e : Entry) (left : List Entry) (old mid new : Ending) → SoFar y files all (e ∷ left) old mid → (stands_in (length files) e ≡ true → IsSettled y files (slot_of files e) mid new) → SoFar y files all left old new
+goes_on y files all e rest old mid new so settled =
+    let here = left (stands_in (length files) e) (list_all (stands_in (length files)) rest) so.others in
+    let k = settled here in
     record {
-      contents = so.contents;
-      found = ap (λ (r : Finished Content). r.found) done;
-      sections = so.sections;
-      err = so.err ∙ ap (λ (r : Finished Content). old.err ++ r.warned) (sym done);
+      contents = so.contents ++ k.made.content ∷ [];
+      said = so.said ++ k.made.warning;
+      found = so.found ∙ resolved_more y so.contents so.said (slot_of files e) (map (slot_of files) rest) k.made k.found;
+      entries = k.entry.slots ∙ ap (λ xs. xs ++ holds k.made.content ∷ []) so.entries ∙ sym (map-append holds so.contents (k.made.content ∷ []));
+      standing = k.entry.standing so.standing;
+      others = right (stands_in (length files) e) (list_all (stands_in (length files)) rest) so.others;
+      err = k.err ∙ ap (λ (x : List ℕ). x ++ k.made.warning) so.err ∙ append_assoc old.err so.said k.made.warning;
     }
 
--- ---- The contents of what waits.
-
-pub awaited : (y : Symbols) (vs : List machine.Fixup) (cs : List Content) → (resolved y vs).found ≡ Ok cs → AreAwaited vs cs
-awaited y [] cs h = let same : [] ≡ cs = cc in subst (AreAwaited []) same (refl, tt)
-awaited y (v ∷ vs) cs h = by (made_of y v.place v.context v.piece) (resolved y vs).found refl (made_asks y v.place v.context v.piece) (awaited y vs) h
+pub stops : (y : Symbols) (files : List (List ℕ)) (all : List Slot) (e : Entry) (left : List Entry) (old mid new : Ending) (f : AsmRefusal) → SoFar y files all (e ∷ left) old mid → (stands_in (length files) e ≡ true → Unless (is_outside_refusal f) (IsFaulty y (slot_of files e) f mid new)) → Unless (is_outside_refusal f) (AreFaulty y all f old.err new.err)
+stops y files all e rest old mid new f so faulty = unless_then (is_outside_refusal f) one (faulty (left (stands_in (length files) e) (list_all (stands_in (length files)) rest) so.others))
   where
-    by : (r : Result Made AsmFault) (s : Result (List Content) PlacedFault) → (resolved y vs).found ≡ s → IfOk r (λ m. m.content.asks ≡ false) → ((ds : List Content) → (resolved y vs).found ≡ Ok ds → AreAwaited vs ds) → (before_it v.place r (record { found = s; warned = (resolved y vs).warned })).found ≡ Ok cs → AreAwaited (v ∷ vs) cs
-    by (Ok m) (Ok ds) e asks more k = let same : m.content ∷ ds ≡ cs = cc in subst (AreAwaited (v ∷ vs)) same (ap suc (more ds e).0, (asks, (more ds e).1))
-    by (Ok m) (Err f) e asks more k = absurd cc
-    by (Err f) s e asks more k = absurd cc
+    one : IsFaulty y (slot_of files e) f mid new → AreFaulty y all f old.err new.err
+    one k = record {
+      said = so.said;
+      found = so.found ∙ resolved_stops y so.contents so.said (slot_of files e) (map (slot_of files) rest) (placed_of f) k.found;
+      err = k.err ∙ so.err;
+    }
+
+after_none : (cs : List Content) (said : List ℕ) (y : Symbols) → after (found_all cs said) (resolved y []) ≡ found_all cs said
+after_none cs said y = λ n. record { found = Ok (append-nil cs n); warned = append-nil said n }
+
+pub ends : (y : Symbols) (files : List (List ℕ)) (all : List Slot) (old new : Ending) → SoFar y files all [] old new → AreSettled y files all old new
+ends y files all old new so = record {
+  contents = so.contents;
+  said = so.said;
+  found = so.found ∙ after_none so.contents so.said y;
+  entries = so.entries;
+  standing = so.standing;
+  err = so.err;
+}
+
+-- ---- The object of what was fed.
+
+-- contents that slots have come to stand in their place
+settled_slots : (y : Symbols) (xs : List Slot) (t u : Closed) (cs ds : List Content) → u.asked ≡ t.asked → u.files ≡ t.files → HasSlots xs t → cs ≡ map (content_by (settled y)) xs → AreAlike cs ds → map (slot_of (names_in t.files)) u.entries.items ≡ map holds ds → StandIn (length (names_in t.files)) u.entries.items → HasSlots (map holds cs) u
+settled_slots y xs t u cs ds asked files h by alike entries standing = record {
+  asked =
+      ap section_keys (held_contents (λ w. telling []) cs ∙ by) ∙ keys_by (settled y) (settled_quiet y) xs ∙ h.asked
+      ∙ ap (λ s. s.keys) (sym asked);
+  alike =
+      subst (λ (fs : Files). AreSlotsAlike (map holds cs) (map (slot_of (names_in fs)) u.entries.items)) (sym files)
+      (subst (λ (ys : List Slot). AreSlotsAlike (map holds cs) ys) (sym entries) (held_alike cs ds alike));
+  standing = subst (λ (fs : Files). StandIn (length (names_in fs)) u.entries.items) (sym files) standing;
+}
+
+-- an object that is made of what slots have come to
+pub object_come : (y : Symbols) (segments : List Segment) (xs : List Slot) (t u : Closed) (old new : Ending) (o : Object) → u.asked ≡ t.asked → u.files ≡ t.files → u.entries.items ≡ new.done.items → HasSlots xs t → AreSettled y (names_in t.files) (map (slot_of (names_in t.files)) t.entries.items) old new → ((cs : List Content) → HasSlots (map holds cs) u → o ≡ object_with segments y.imports cs) → ((cs : List Content) → HasSlots (map holds cs) u → AreSound segments y.imports cs → is_good_object o ≡ true) → IsObjectOf y segments xs o old.err new.err
+object_come y segments xs t u old new o asked files same h k made good =
+    let names = names_in t.files in
+    let come = comes_alike y xs (map (slot_of names) t.entries.items) k.contents k.said h.alike k.found in
+    let entries : map (slot_of names) u.entries.items ≡ map holds k.contents = ap (map (slot_of names)) same ∙ k.entries in
+    let standing : StandIn (length names) u.entries.items = subst (StandIn (length names)) (sym same) k.standing in
+    let has = settled_slots y xs t u come.contents k.contents asked files h come.by come.alike entries standing in
+    record {
+      contents = come.contents;
+      said = k.said;
+      found = come.is;
+      object = made come.contents has;
+      good = good come.contents has;
+      err = k.err;
+    }
+
+-- or their first fault
+pub fault_come : (y : Symbols) (xs : List Slot) (t : Closed) (e : AsmRefusal) (old new : List ℕ) → HasSlots xs t → Unless (is_outside_refusal e) (AreFaulty y (map (slot_of (names_in t.files)) t.entries.items) e old new) → Unless (is_outside_refusal e) (AreFaulty y xs e old new)
+fault_come y xs t e old new h = unless_then (is_outside_refusal e) (λ k. record {
+  said = k.said;
+  found = faulty_alike y xs (map (slot_of (names_in t.files)) t.entries.items) (placed_of e) k.said h.alike k.found;
+  err = k.err;
+})
 
 -- ---- What an assembler comes to behind the last line.
 
--- what is settled, of an assembler
-abbrev pub ending_of : Assembler → Ending
-ending_of a = record { known = a.known; sections = a.sections; err = a.texts.err }
+-- by the symbol table and the segments of the state that it holds
+held_comes : (count : ℕ) (t : State) (a : Assembler) (new : List ℕ) (r : Result Object AsmRefusal) → Holds count t a → ComesTo (table_of a.symbols) a.cursor.segments.items t.slots a.texts.err new r → ComesTo t.symbols t.cursor.segments t.slots t.err new r
+held_comes count t a new r h k =
+    let first : ComesTo t.symbols (cursor_of a.cursor).segments t.slots a.texts.err new r = subst (λ (y : Symbols). ComesTo y a.cursor.segments.items t.slots a.texts.err new r) h.symbols k in
+    let second : ComesTo t.symbols t.cursor.segments t.slots a.texts.err new r = subst (λ (w : Cursor). ComesTo t.symbols w.segments t.slots a.texts.err new r) h.cursor first in
+    subst (λ (e : List ℕ). ComesTo t.symbols t.cursor.segments t.slots e new r) h.err second
 
-abbrev pub files_of : Assembler → List (List ℕ)
-files_of a = names_in a.files
+abbrev concluded_by : State → Finished Content → Outcome
+concluded_by t r = record { result = r.found >>= (λ cs. Ok (object_with t.cursor.segments t.symbols.imports cs)); out = t.out; err = t.err ++ r.warned }
 
--- by the symbol table of the state that it holds
-pub all_settled : (count : ℕ) (t : State) (a : Assembler) (files : List (List ℕ)) (new : Ending) (r : Result Unit AsmRefusal) → Holds count t a → files ≡ files_of a → ((vs : List machine.Fixup) → AreFixups (table_of a.symbols) files a.fixups.items vs → SettlesAll (table_of a.symbols) vs (ending_of a) new r) → SettlesAll t.symbols t.fixups (ending_of a) new r
-all_settled count t a files new r h same settled =
-    let there : AreFixups (table_of a.symbols) (files_of a) a.fixups.items t.fixups = subst (λ (y : Symbols). AreFixups y (files_of a) a.fixups.items t.fixups) (sym h.symbols) h.fixups in
-    let waits : AreFixups (table_of a.symbols) files a.fixups.items t.fixups = subst (λ (fs : List (List ℕ)). AreFixups (table_of a.symbols) fs a.fixups.items t.fixups) (sym same) there in
-    subst (λ (y : Symbols). SettlesAll y t.fixups (ending_of a) new r) h.symbols (settled t.fixups waits)
+answer_concluded : (t : State) (out new : List ℕ) (r : Result Object AsmRefusal) → out ≡ t.out → ComesTo t.symbols t.cursor.segments t.slots t.err new r → is_from_outside r ≡ false → record { result = in_places r; out = out; err = new } ≡ concluded t None
+answer_concluded t out new (Ok o) same k inside =
+    let answer : Object → List ℕ → List ℕ → Outcome = λ x said err. record { result = Ok x; out = said; err = err } in
+    (λ n. answer (k.object n) (same n) (k.err n)) ∙ ap (concluded_by t) (sym k.found)
+answer_concluded t out new (Err e) same u inside =
+    let k = certain (is_outside_refusal e) (AreFaulty t.symbols t.slots e t.err new) u inside in
+    let answer : List ℕ → List ℕ → Outcome = λ said err. record { result = Err (placed_of e); out = said; err = err } in
+    (λ n. answer (same n) (k.err n)) ∙ ap (concluded_by t) (sym k.found)
 
--- the sections stand for the contents of the state
-pub stands_finished : (count : ℕ) (t : State) (a : Assembler) (new : Ending) → Holds count t a → (k : AreSettled t.symbols t.fixups (ending_of a) new) → Stands (filled t.slots k.contents) [] new.sections
-stands_finished count t a new h k =
-    let cs = k.contents in
-    k.sections (filled t.slots cs) [] (subst (λ (ws : List Content). Stands (filled t.slots cs) ws a.sections) (sym (append-nil cs)) (h.sections cs (awaited t.symbols t.fixups cs k.found)))
+pub comes_concluded : (count : ℕ) (t : State) (a : Assembler) (new : List ℕ) (r : Result Object AsmRefusal) → Holds count t a → ComesTo (table_of a.symbols) a.cursor.segments.items t.slots a.texts.err new r → is_from_outside r ≡ false → record { result = in_places r; out = a.texts.out; err = new } ≡ concluded t None
+comes_concluded count t a new r h k inside = answer_concluded t a.texts.out new r h.out (held_comes count t a new r h k) inside
 
-pub finished_found : (t : State) (cs : List Content) → (resolved t.symbols t.fixups).found ≡ Ok cs → (finished t).found ≡ Ok (filled t.slots cs)
-finished_found t cs e = (let fill : Result (List Content) PlacedFault → Result (List Content) PlacedFault = λ r. r >>= (λ ds. Ok (filled t.slots ds)) in ap fill e)
-
--- its segments and imports are those of the state
-pub same_object : (count : ℕ) (t : State) (a : Assembler) (cs : List Content) → Holds count t a → object_with a.cursor.segments.items (map (λ k. k.items) a.symbols.imports.keys) cs ≡ object_with t.cursor.segments t.symbols.imports cs
-same_object count t a cs h =
-    ap (λ (w : Cursor). object_with w.segments (table_of a.symbols).imports cs) h.cursor
-    ∙ ap (λ (y : Symbols). object_with t.cursor.segments y.imports cs) h.symbols
-
-pub object_concluded : (count : ℕ) (t : State) (a : Assembler) (new : Ending) (o : Object) → Holds count t a → AreSettled t.symbols t.fixups (ending_of a) new → ((cs : List Content) → Stands cs [] new.sections → o ≡ object_with a.cursor.segments.items (map (λ k. k.items) a.symbols.imports.keys) cs) → record { result = Ok o; out = a.texts.out; err = new.err } ≡ concluded t None
-object_concluded count t a new o h k made =
-    let cs = filled t.slots k.contents in
-    let object : List Content → Object = object_with t.cursor.segments t.symbols.imports in
-    let same : o ≡ object cs = made cs (stands_finished count t a new h k) ∙ same_object count t a cs h in
-    let answer : Object → Result Object PlacedFault = λ x. Ok x in
-    let answers : Result (List Content) PlacedFault → Result Object PlacedFault = λ r. r >>= (λ ds. Ok (object ds)) in
-    let result : answer o ≡ (concluded t None).result = ap answer same ∙ ap answers (sym (finished_found t k.contents k.found)) in
-    let err : new.err ≡ (concluded t None).err = k.err ∙ ap (λ (e : List ℕ). e ++ (finished t).warned) h.err in
-    let whole : Result Object PlacedFault → List ℕ → List ℕ → Outcome = λ r out said. record { result = r; out = out; err = said } in
-    ap (λ (r : Result Object PlacedFault). whole r a.texts.out new.err) result
-    ∙ ap (λ (out : List ℕ). whole (concluded t None).result out new.err) h.out
-    ∙ ap (λ (said : List ℕ). whole (concluded t None).result t.out said) err
-
-pub fault_concluded : (count : ℕ) (t : State) (a : Assembler) (new : Ending) (e : AsmRefusal) → Holds count t a → AreFaulty t.symbols t.fixups e (ending_of a) new → record { result = Err (placed_of e); out = a.texts.out; err = new.err } ≡ concluded t None
-fault_concluded count t a new e h k =
-    let object : List Content → Object = object_with t.cursor.segments t.symbols.imports in
-    let answers : Result (List Content) PlacedFault → Result Object PlacedFault = λ r. (r >>= (λ cs. Ok (filled t.slots cs))) >>= (λ ds. Ok (object ds)) in
-    let fault : Result Object PlacedFault = Err (placed_of e) in
-    let result : fault ≡ (concluded t None).result = ap answers (sym k.found) in
-    let err : new.err ≡ (concluded t None).err = k.err ∙ ap (λ (x : List ℕ). x ++ (finished t).warned) h.err in
-    let whole : Result Object PlacedFault → List ℕ → List ℕ → Outcome = λ r out said. record { result = r; out = out; err = said } in
-    ap (λ (r : Result Object PlacedFault). whole r a.texts.out new.err) result
-    ∙ ap (λ (out : List ℕ). whole (concluded t None).result out new.err) h.out
-    ∙ ap (λ (said : List ℕ). whole (concluded t None).result t.out said) err
-
-pub object_good : (count : ℕ) (t : State) (a : Assembler) (new : Ending) (o : Object) → Holds count t a → AreSettled t.symbols t.fixups (ending_of a) new → ((cs : List Content) → Stands cs [] new.sections → AreSound a.cursor.segments.items (map (λ k. k.items) a.symbols.imports.keys) cs → is_good_object o ≡ true) → ((cs : List Content) → (finished t).found ≡ Ok cs → AreSound t.cursor.segments t.symbols.imports cs) → is_good_object o ≡ true
-object_good count t a new o h k good sound =
-    let cs = filled t.slots k.contents in
-    let there : AreSound t.cursor.segments t.symbols.imports cs = sound cs (finished_found t k.contents k.found) in
-    let segments : AreSound (cursor_of a.cursor).segments t.symbols.imports cs = subst (λ (w : Cursor). AreSound w.segments t.symbols.imports cs) (sym h.cursor) there in
-    good cs (stands_finished count t a new h k) (subst (λ (y : Symbols). AreSound a.cursor.segments.items y.imports cs) (sym h.symbols) segments)
-
--- ---- Either answer.
-
-abbrev pub imports_of : Assembler → List (List ℕ)
-imports_of a = map (λ k. k.items) a.symbols.imports.keys
-
--- the object stands for what is settled
-abbrev pub IsMade : List Segment → List (List ℕ) → Ending → Object → Type 0
-IsMade segments imports new o =
-    (cs : List Content) → Stands cs [] new.sections → o ≡ object_with segments imports cs
-
--- it can be written, if what it rests on holds
-abbrev pub IsGoodWhere : List Segment → List (List ℕ) → Ending → Object → Type 0
-IsGoodWhere segments imports new o =
-    (cs : List Content) → Stands cs [] new.sections → AreSound segments imports cs →
-    is_good_object o ≡ true
-
-pub either_concluded : (count : ℕ) (t : State) (a : Assembler) (new : Ending) (r : Result Object AsmRefusal) → Holds count t a → AreSettled t.symbols t.fixups (ending_of a) new → IfOk r (IsMade a.cursor.segments.items (imports_of a) new) → IfErr r (λ e. is_outside_refusal e ≡ true) → is_from_outside r ≡ false → record { result = in_places r; out = a.texts.out; err = new.err } ≡ concluded t None
-either_concluded count t a new (Ok o) h k made outside e = object_concluded count t a new o h k made
-either_concluded count t a new (Err x) h k made outside e = absurd (let both : true ≡ false = sym outside ∙ e in cc)
-
+-- its object can be written, if what it rests on holds
 abbrev pub IsGoodIf : Assembler → Object → Type 0
 IsGoodIf a o =
     (count : ℕ) (t : State) → Holds count t a →
     ((cs : List Content) → (finished t).found ≡ Ok cs → AreSound t.cursor.segments t.symbols.imports cs) →
     is_good_object o ≡ true
 
-pub either_good : (a : Assembler) (new : Ending) (r x : Result Object AsmRefusal) → x ≡ r → ((count : ℕ) (t : State) → Holds count t a → AreSettled t.symbols t.fixups (ending_of a) new) → IfOk r (IsGoodWhere a.cursor.segments.items (imports_of a) new) → IfOk x (IsGoodIf a)
-either_good a new r x same settled good = subst (λ (z : Result Object AsmRefusal). IfOk z (IsGoodIf a)) (sym same) (by r good)
+pub comes_good : (a : Assembler) (new : List ℕ) (r x : Result Object AsmRefusal) → x ≡ r → ((xs : List Slot) → Stands xs a.sections → ComesTo (table_of a.symbols) a.cursor.segments.items xs a.texts.err new r) → IfOk x (IsGoodIf a)
+comes_good a new r x same comes = subst (λ (z : Result Object AsmRefusal). IfOk z (IsGoodIf a)) (sym same) (by r comes)
   where
-    by : (z : Result Object AsmRefusal) → IfOk z (IsGoodWhere a.cursor.segments.items (imports_of a) new) → IfOk z (IsGoodIf a)
-    by (Ok o) g = λ count t h sound. object_good count t a new o h (settled count t h) g sound
-    by (Err e) g = tt
+    by : (z : Result Object AsmRefusal) → ((xs : List Slot) → Stands xs a.sections → ComesTo (table_of a.symbols) a.cursor.segments.items xs a.texts.err new z) → IfOk z (IsGoodIf a)
+    by (Ok o) k = λ count t h sound.
+        (let found = held_comes count t a new (Ok o) h (k t.slots h.sections) in
+        found.good (sound found.contents (ap (λ (f : Finished Content). f.found) found.found)))
+    by (Err e) k = tt

@@ -1,5 +1,5 @@
 -- Pieces that are entered, one behind the other, and when they are put at once.
-use Rattle.std.proofs.Common.{◌≡◌, ◌∙◌, ℕ, zero, suc, List, [], ◌∷◌, ◌++◌, map, refl, ap, subst, append-nil, append_assoc}
+use Rattle.std.proofs.Common.{◌≡◌, ℕ, zero, suc, List, [], ◌∷◌, ◌++◌, map, refl, sym, ap, subst, append-nil, append_assoc}
 use Rattle.std.specs.Prelude.{ℤ, pos, negsuc, Bool, true, false, Result, Ok, Err}
 use Rattle.std.specs.List.{list_all}
 use Rattle.base65.specs.Outcome.{◌>>=◌}
@@ -21,14 +21,12 @@ use Rattle.semantics65.specs.Module.{Piece, Purpose, as_part, asserted, datum, g
 use Rattle.semantics65.proofs.Resolving.{final_settles, settled_given}
 use Rattle.semantics65.specs.Symbols.{Symbols}
 use Rattle.emit65.specs.declared.sections.Sections.{Sections}
-use Rattle.emit65.specs.Fed.{Feeds, contents_in, names_in}
-use Rattle.emit65.proofs.Alikes.{alike_nothing, alike_trans, empty_alike}
-use Rattle.emit65.proofs.Pieces.{runs, runs_stand}
-use Rattle.emit65.proofs.Standings.{asked_same}
+use Rattle.emit65.specs.Fed.{Feeds, Stands}
+use Rattle.emit65.proofs.Alikes.{alike_sym, empty_alike}
+use Rattle.emit65.proofs.Pieces.{held_stand, runs, runs_stand}
 use Rattle.symbols65.specs.Views.{table_of}
 use Rattle.asm65.specs.declared.assembler.Assembler.{Assembler}
-use Rattle.asm65.specs.declared.assembler.Piece as held
-use Rattle.asm65.specs.Inner.Holding.{Enters, IsPiece, AreStored, IsPut, IsTried, Waits, operand_stored}
+use Rattle.asm65.specs.Inner.Holding.{Enters, AreStored, IsPut, IsTried, Waits, operand_stored}
 use Rattle.asm65.proofs.Puttings.{stored_is}
 use Rattle.asm65.proofs.Waitings.{all_entered, holds_all, holds_entered, waits_enters}
 
@@ -52,13 +50,13 @@ enters_both place s ps qs old mid new first second count t h =
 abbrev fed : Assembler → Sections → Assembler
 fed a x = record a { sections = x }
 
-pub fed_enters : (old : Assembler) (x : Sections) (place : Place) (s : Context) (p : Piece) (c : Content) → Feeds old.sections x c → IsSettled (table_of old.symbols) place s p c → Enters place s (p ∷ []) old (fed old x)
+pub fed_enters : (old : Assembler) (x : Sections) (place : Place) (s : Context) (p : Piece) (c : Content) → Feeds old.sections x (holds c) → IsSettled (table_of old.symbols) place s p c → Enters place s (p ∷ []) old (fed old x)
 fed_enters old x place s p c feeds settled count t h =
     let there : IsSettled t.symbols place s p c = subst (λ y. IsSettled y place s p c) h.symbols settled in
-    (entered t c, (entered t c, at_once c there, refl), holds_entered count t old (fed old x) h (record { symbols = refl; known = refl; cursor = refl; texts = refl }) c feeds refl refl)
+    (entered t c, (entered t c, at_once c there, refl), holds_entered count t old (fed old x) h (record { symbols = refl; known = refl; cursor = refl; texts = refl }) c feeds)
 
 -- what needs no value
-pub given_enters : (old : Assembler) (x : Sections) (place : Place) (s : Context) (p : Part) → Feeds old.sections x (put s.segment p) → Enters place s (given p ∷ []) old (fed old x)
+pub given_enters : (old : Assembler) (x : Sections) (place : Place) (s : Context) (p : Part) → Feeds old.sections x (holds (put s.segment p)) → Enters place s (given p ∷ []) old (fed old x)
 given_enters old x place s p feeds = fed_enters old x place s (given p) (put s.segment p) feeds (settled_given (table_of old.symbols) place s p)
 
 -- a value whose form is final and puts a part
@@ -98,27 +96,20 @@ numbers_put place s t width (n ∷ ns) fit =
           (append_assoc t.slots (holds c ∷ []) (map holds cs)) (numbers_put place s (entered t c) width ns others),
     )
 
-pub numbers_enter : (old : Assembler) (x : Sections) (place : Place) (s : Context) (width : Width) (ns bytes : List ℕ) → AreStored width ns bytes → Feeds old.sections x (put s.segment (Known bytes)) → Enters place s (map (item_piece width) (map numbered ns)) old (fed old x)
+pub numbers_enter : (old : Assembler) (x : Sections) (place : Place) (s : Context) (width : Width) (ns bytes : List ℕ) → AreStored width ns bytes → Feeds old.sections x (holds (put s.segment (Known bytes))) → Enters place s (map (item_piece width) (map numbered ns)) old (fed old x)
 numbers_enter old x place s width ns bytes stored feeds count t h =
     let f : ℕ → List ℕ = λ (n : ℕ). value_bytes width (pos n) in
-    let known = subst (λ (b : List ℕ). Feeds old.sections x (put s.segment (Known b))) stored.bytes feeds in (
+    let known = subst (λ (b : List ℕ). Feeds old.sections x (holds (put s.segment (Known b)))) stored.bytes feeds in (
       all_entered t (runs s.segment f ns),
       numbers_put place s t width ns stored.fit,
-      holds_all count t old (fed old x) h (record { symbols = refl; known = refl; cursor = refl; texts = refl }) (runs s.segment f ns) (runs_stand s.segment f ns old.sections x known) refl refl,
+      holds_all count t old (fed old x) h (record { symbols = refl; known = refl; cursor = refl; texts = refl }) (runs s.segment f ns) (runs_stand s.segment f ns old.sections x known),
     )
 
 -- ---- Assertions.
 
 -- nothing is said
-pub says_nothing : (x : Sections) → Feeds x x (telling [])
-says_nothing x cs fixups h = record {
-  asked = asked_same cs (telling []) refl ∙ h.asked;
-  latest = h.latest;
-  alike = alike_trans (cs ++ telling [] ∷ []) cs (contents_in (names_in x.files) fixups x.entries) (alike_nothing cs (telling [] ∷ []) (empty_alike 0 false)) h.alike;
-  waits = h.waits;
-  settled = h.settled;
-  standing = h.standing;
-}
+pub says_nothing : (x : Sections) → Feeds x x (holds (telling []))
+says_nothing x xs h = held_stand xs [] (telling [] ∷ []) x (alike_sym (telling [] ∷ []) [] (empty_alike 0 false)) refl (subst (λ (ys : List Slot). Stands ys x) (sym (append-nil xs)) h)
 
 so_used : (place : Place) (s : Context) (act : Action) (words : List ℕ) (v : ℤ) → (v ≡ pos 0 → ⊥) → used place s (asserted act words) (lit v) ≡ Ok (quietly (telling []))
 so_used place s action.Error words (pos zero) h = absurd (h refl)
@@ -135,6 +126,6 @@ so_enters old place s act words e v h final = fed_enters old old.sections place 
 -- ---- Later.
 
 -- what isn't put at once waits
-pub tried_waits : (old mid new : Assembler) (place : Place) (s : Context) (p : held.Piece) (v : Piece) (b : Bool) → IsTried place s v old mid b → b ≡ false → IsPiece (table_of mid.symbols) s p v → Waits place s p mid new → Enters place s (v ∷ []) old new
-tried_waits old mid new place s p v true h e is waits = absurd cc
-tried_waits old mid new place s p v false h e is waits = subst (λ (a : Assembler). Enters place s (v ∷ []) a new) h (waits_enters mid new place s p v waits is)
+pub tried_waits : (old mid new : Assembler) (place : Place) (s : Context) (p : Piece) (b : Bool) → IsTried place s p old mid b → b ≡ false → Waits place s p mid new → Enters place s (p ∷ []) old new
+tried_waits old mid new place s p true h e waits = absurd cc
+tried_waits old mid new place s p false h e waits = subst (λ (a : Assembler). Enters place s (p ∷ []) a new) h (waits_enters mid new place s p waits)

@@ -28,12 +28,9 @@ use Rattle.semantics65.specs.Layout as faults
 use Rattle.semantics65.specs.Symbols.{Meaning, defined_at, imported_as, first_found, last_of, meaning_of, member_meaning, or_fault, scope_from, scopes_from, scopes_of, shown, unnamed_meaning, Definition, Key, Scope, Symbols, cheap_in, defined, imported, key_defined, named, unnamed_at}
 use Rattle.semantics65.specs.Norms.{constant_in, defined_form, folded, form_by, form_of_definition, form_of_meaning, form_of_value, norm, norm_of, length_of}
 use Rattle.semantics65.specs.Module as piece
-use Rattle.semantics65.specs.Module.{Made, Purpose, absent_of, as_part, as_said, made_of, used}
+use Rattle.semantics65.specs.Module.{Made, Piece, Purpose, absent_of, as_part, as_said, made_of, used}
 use Rattle.symbols65.specs.declared.measuring.Measured.{Measured}
 use Rattle.symbols65.specs.Measuring.{measure_of, measured, unread_fault}
-use Rattle.asm65.specs.declared.assembler.Piece.{Piece}
-use Rattle.asm65.specs.declared.assembler.Piece.TheVariants.{Datum, Operand, Constant, Assertion, Import, ForcedImport, Export}
-use Rattle.asm65.specs.Inner.Running.{coming}
 
 abbrev pub IsInside : {A : Type 0} → Result A AsmFault → Type 0
 IsInside r = IfErr r (λ e. is_failure e ≡ false)
@@ -188,14 +185,12 @@ inside_export y place n must (Some j) = inside_then (defined_form y j) _ (inside
 inside_valued : (y : Symbols) (place : Place) (s : Context) (why : Purpose) (e : Tree) → IsInside (made_of y place s (piece.valued why e))
 inside_valued y place s why e = inside_then (norm_of y s e) (used place s why) (inside_norm_of y s e) (inside_used place s why)
 
-inside_coming : (y : Symbols) (place : Place) (s : Context) (p : Piece) → IsInside (coming y place s p)
-inside_coming y place s (Datum w e) = inside_valued y place s (piece.datum w) e
-inside_coming y place s (Operand w e) = inside_valued y place s (piece.operand w) e
-inside_coming y place s (Constant at) = inside_then (defined_form y at) (used place s piece.equated) (inside_defined y at) (inside_used place s piece.equated)
-inside_coming y place s (Assertion act words e) = inside_valued y place s (piece.asserted act words) e
-inside_coming y place s (Import n) = inside_said (import_fault y n) (inside_import y n)
-inside_coming y place s (ForcedImport n) = tt
-inside_coming y place s (Export must n) = inside_said (export_said y place n (absent_of must n) (defined y (named 0 n))) (inside_export y place n must (defined y (named 0 n)))
+inside_made : (y : Symbols) (place : Place) (s : Context) (p : Piece) → IsInside (made_of y place s p)
+inside_made y place s (piece.given p) = tt
+inside_made y place s (piece.valued why e) = inside_valued y place s why e
+inside_made y place s (piece.imported n) = inside_said (import_fault y n) (inside_import y n)
+inside_made y place s (piece.demanded n) = tt
+inside_made y place s (piece.exported must n) = inside_said (export_said y place n (absent_of must n) (defined y (named 0 n))) (inside_export y place n must (defined y (named 0 n)))
 
 -- ---- What a call answers.
 
@@ -218,8 +213,8 @@ inside_from {X} {Y} (Err e) view read h k = go (is_memory e) refl k
         by (Err f) same i = (let e' : f ≡ e = cc in rw e' at i)
 
 -- what waits comes to its content, or to a fault that is no store's
-pub resolved_inside : {X : Type 0} (r : Result X AsmFault) (view : X → Made) (y : Symbols) (place : Place) (s : Context) (p : Piece) → Gives is_memory view r (coming y place s p) → IsInside r
-resolved_inside r view y place s p h = inside_from r view (coming y place s p) (inside_coming y place s p) h
+pub resolved_inside : {X : Type 0} (r : Result X AsmFault) (view : X → Made) (y : Symbols) (place : Place) (s : Context) (p : Piece) → Gives is_memory view r (made_of y place s p) → IsInside r
+resolved_inside r view y place s p h = inside_from r view (made_of y place s p) (inside_made y place s p) h
 
 -- ---- A line.
 

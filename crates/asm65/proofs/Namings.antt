@@ -4,7 +4,6 @@ use Rattle.semantics65.specs.declared.laid.Context.{Context}
 use Rattle.semantics65.specs.Layout.{context_of}
 use Rattle.semantics65.specs.Reading.{known_at}
 use Rattle.semantics65.specs.Machine.{State, Puts, PutsAll, awaiting, at_once, later, symbols_behind}
-use Rattle.emit65.specs.Fed.{names_in}
 use Rattle.symbols65.specs.Views.{table_of, with_definition, with_names, with_scope}
 use Rattle.symbols65.specs.Measuring.{cursor_of, AreWithin, IsCounted, IsSoundCursor, AreInside}
 use Rattle.asm65.specs.declared.assembler.Assembler.{Assembler}
@@ -19,8 +18,6 @@ use Rattle.semantics65.specs.Symbols.{Definition, Scope, Symbols, cheap_in, name
 use Rattle.symbols65.specs.declared.cursor.Cursor.{Cursor}
 use Rattle.semantics65.specs.Module as piece
 use Rattle.symbols65.specs.Resolving.{IsTable}
-use Rattle.symbols65.specs.Tables.{Begins}
-use Rattle.asm65.proofs.Waitings.{waiting_stays}
 use Rattle.std.specs.declared.alloc.AllocError.{AllocError}
 use Rattle.syntax65.specs.declared.lexing.tokens.AddressSize.{AddressSize}
 use Rattle.syntax65.specs.declared.lexing.tokens.AddressSize.TheVariants as size
@@ -45,12 +42,9 @@ known_held count t a s h at =
 
 -- ---- More names.
 
-begins_itself : (names : List (List ℕ)) → Begins names names
-begins_itself names = ([], sym (append-nil names))
-
 -- a state with more names is held, where its table is
-pub holds_grown : (count : ℕ) (t : State) (old new : Assembler) (y : Symbols) → Holds count t old → KeepsPut old new → table_of new.symbols ≡ y → IsTable (table_of new.symbols) new.known.states.items → Extends t.symbols y → AreInside count y.scopes → AreBefore t.cursor.unnamed y.definitions → Holds count (record t { symbols = y }) new
-holds_grown count t old new y h keeps symbols known more inside unnamed = record {
+pub holds_grown : (count : ℕ) (t : State) (old new : Assembler) (y : Symbols) → Holds count t old → KeepsPut old new → table_of new.symbols ≡ y → IsTable (table_of new.symbols) new.known.states.items → AreInside count y.scopes → AreBefore t.cursor.unnamed y.definitions → Holds count (record t { symbols = y }) new
+holds_grown count t old new y h keeps symbols known inside unnamed = record {
   symbols = symbols;
   known = subst (λ (z : Symbols). IsTable z new.known.states.items) symbols known;
   cursor = ap cursor_of keeps.cursor ∙ h.cursor;
@@ -59,9 +53,7 @@ holds_grown count t old new y h keeps symbols known more inside unnamed = record
   counted = subst (IsCounted count) (sym keeps.cursor) h.counted;
   inside = inside;
   unnamed = unnamed;
-  fixups = rw (keeps.fixups, keeps.files) (waiting_stays t.symbols y (names_in old.files) (names_in old.files) old.fixups.items t.fixups more (begins_itself (names_in old.files)) h.fixups);
-  sections = λ ws are. rw keeps.sections (h.sections ws are);
-  slots = h.slots;
+  sections = rw keeps.sections h.sections;
   out = ap (λ x. x.out) keeps.texts ∙ h.out;
   err = ap (λ x. x.err) keeps.texts ∙ h.err;
 }
@@ -73,11 +65,6 @@ more_defined y d = record {
   later_scopes = [];
   scopes = sym (append-nil y.scopes);
 }
-
--- the last one is behind the others
-pub last_there : {A : Type 0} (xs : List A) (x : A) (i : ℕ) → i ≡ length xs → slice_get (xs ++ x ∷ []) i ≡ Some x
-last_there [] x i e = rw e refl
-last_there (y ∷ xs) x i e = rw e (last_there xs x (length xs) refl)
 
 -- ---- Pieces that wait one behind the other.
 
@@ -133,8 +120,8 @@ puts_beside place s t u (p ∷ ps) h =
     let rest = puts_beside place s h.0 u ps h.2 in
     record { symbols = rest.symbols ∙ one.symbols; cursor = rest.cursor ∙ one.cursor; out = rest.out ∙ one.out; err = rest.err ∙ one.err }
 
-pub turns_after : (place : Place) (s : Context) (ps : List piece.Piece) (becomes : Symbols → Symbols) (old mid new : Assembler) → Enters place s ps old mid → KeepsPut mid new → table_of new.symbols ≡ becomes (table_of mid.symbols) → IsTable (table_of new.symbols) new.known.states.items → ((y : Symbols) → Extends y (becomes y)) → Turns place s ps becomes old new
-turns_after place s ps becomes old mid new enters keeps table known more count t h inside unnamed =
+pub turns_after : (place : Place) (s : Context) (ps : List piece.Piece) (becomes : Symbols → Symbols) (old mid new : Assembler) → Enters place s ps old mid → KeepsPut mid new → table_of new.symbols ≡ becomes (table_of mid.symbols) → IsTable (table_of new.symbols) new.known.states.items → Turns place s ps becomes old new
+turns_after place s ps becomes old mid new enters keeps table known count t h inside unnamed =
     let x = enters count t h in
     let u : State = x.0 in
     let held : Holds count u mid = x.2 in
@@ -142,7 +129,6 @@ turns_after place s ps becomes old mid new enters keeps table known more count t
       u,
       x.1,
       holds_grown count u mid new (becomes t.symbols) held keeps (table ∙ ap becomes (held.symbols ∙ beside.symbols)) known
-          (subst (λ (y : Symbols). Extends y (becomes t.symbols)) (sym beside.symbols) (more t.symbols))
           inside
           (subst (λ (w : layout.Cursor). AreBefore w.unnamed (becomes t.symbols).definitions) (sym beside.cursor) unnamed),
     )

@@ -2,7 +2,7 @@
 use Rattle.std.proofs.Common.{◌≡◌, ◌∙◌, ℕ, ◌+◌, ◌*◌, ◌≤◌, ◌<◌, inl, inr, arith, nat_lt, Bool, true, false, List, [], Option, Some, None, refl, sym, ap, subst}
 use Rattle.std.specs.Prelude.{Result, Ok, Err, IfOk, IfErr, IfSome, ⊤, ◌||◌}
 use Rattle.base65.specs.Outcome.{Finds, Unless, ◌>>=◌}
-use Rattle.base65.specs.Store.{Files, IsBlamed, Passes, PassesBy}
+use Rattle.base65.specs.Store.{Files, IsBlamedAt, Passes, PassesBy, Blamed}
 use Rattle.std.proofs.lemmas.Bool.Decides.{nat_tests}
 use Rattle.syntax65.specs.declared.fault.ExpandFault.TheVariants.{FileError}
 use Rattle.expand65.specs.declared.expander.Expander.{Expander}
@@ -11,7 +11,7 @@ use Rattle.expand65.specs.Expansion.{opened_in}
 use Rattle.object65.specs.declared.object.Object.{Object}
 use Rattle.object65.specs.Objects.{is_good_object}
 use Rattle.syntax65.specs.declared.place.Place.{Place}
-use Rattle.expand65.specs.Standing.{Opens, measure_of, place_of}
+use Rattle.expand65.specs.Standing.{IsPlaced, Opens, measure_of, place_of}
 use Rattle.ast65.specs.declared.fault.AsmFault.TheVariants.{Expansion, OutOfMemory, FileError as PartError}
 use Rattle.semantics65.specs.Contents.{Content}
 use Rattle.semantics65.specs.declared.contents.Segment.{Segment}
@@ -35,7 +35,7 @@ use Rattle.asm65.specs.declared.assembling.Assembly.{Assembly}
 use Rattle.asm65.specs.declared.texts.AsmRefusal.{AsmRefusal}
 use Rattle.asm65.specs.declared.running.Run.{Run}
 use Rattle.asm65.specs.Assembly.{Concludes, answer_of, has_failed, is_from_memory, is_from_outside, is_outside_refusal, placed_of}
-use Rattle.asm65.specs.Failing.{StopsAll, Stops, StopsSo, StopsBehind, Begins}
+use Rattle.asm65.specs.Failing.{nowhere, StopsAll, Stops, StopsSo, StopsBehind, Begins}
 use Rattle.asm65.specs.Inner.Holding.{Holds}
 use Rattle.asm65.specs.Inner.Running.{HoldsWithin, IsHeldBy, IsReached, at_first, behind, HoldsSome, IsRunning, Leaves, Ran, SaysAs, running_limit}
 use Rattle.asm65.proofs.Sources.{RanAll, some_all, some_both, some_then}
@@ -55,7 +55,7 @@ laid_reached _ (behind t u place x reached sound takes) =
     record { layout = more.0; follows = more.2; good = good_statement before.layout more.0 place x before.good sound more.1 }
 
 stands_reached : (t : State) (l : Laid t) → StandsFor l.layout t
-stands_reached t l = subst (StandsFor l.layout) (sym l.follows.same) (stands_for l.layout l.follows.slots l.follows.fixups l.follows.comes)
+stands_reached t l = subst (StandsFor l.layout) (sym l.follows.same) (stands_for l.layout l.follows.slots l.follows.comes)
 
 pub good_concluded : (t : State) (o : Object) → IsReached t → (concluded t None).result ≡ Ok o → is_good_object o ≡ true
 good_concluded t o reached is = by (finished t).found (contents_from t.symbols l.layout.laid) refl stands.found is
@@ -247,20 +247,20 @@ memory_silent (Ok o) P f h = absurd cc
 memory_silent (Err e) P f h = f (memory_outside e.fault h)
 
 -- the store didn't fail
-never_so : (m : Files) (blamed : Option (List ℕ)) (job : Job) (a : Assembly) → IfErr a.result (λ e. has_failed e ≡ false) → StopsSo m blamed job a
+never_so : (m : Files) (blamed : Blamed) (job : Job) (a : Assembly) → IfErr a.result (λ e. has_failed e ≡ false) → StopsSo m blamed job a
 never_so m blamed job a none = by a.result none
   where
     by : (r : Found) → IfErr r (λ e. has_failed e ≡ false) → IfErr r (λ e. has_failed e ≡ true → Stops m blamed job (placed_of e) a.out a.err)
     by (Ok o) h = tt
     by (Err e) h = λ yes. absurd (let both : true ≡ false = sym yes ∙ h in cc)
 
-pub stops_never_so : (o : Option Files) (blamed : Option (List ℕ)) (job : Job) (a : Assembly) → IfErr a.result (λ e. has_failed e ≡ false) → IfSome o (λ m. StopsSo m blamed job a)
+pub stops_never_so : (o : Option Files) (blamed : Blamed) (job : Job) (a : Assembly) → IfErr a.result (λ e. has_failed e ≡ false) → IfSome o (λ m. StopsSo m blamed job a)
 stops_never_so o blamed job a none = some_all (λ m. StopsSo m blamed job a) o (λ m. never_so m blamed job a none)
 
-abbrev pub StopsFrom : Files → Option (List ℕ) → Run → Assembly → Type 0
+abbrev pub StopsFrom : Files → Blamed → Run → Assembly → Type 0
 StopsFrom m blamed first a = (job : Job) → Begins m job first → StopsSo m blamed job a
 
-pub stops_never_from : (o : Option Files) (blamed : Option (List ℕ)) (first : Run) (a : Assembly) → IfErr a.result (λ e. has_failed e ≡ false) → IfSome o (λ m. StopsFrom m blamed first a)
+pub stops_never_from : (o : Option Files) (blamed : Blamed) (first : Run) (a : Assembly) → IfErr a.result (λ e. has_failed e ≡ false) → IfSome o (λ m. StopsFrom m blamed first a)
 stops_never_from o blamed first a none = some_all (λ m. StopsFrom m blamed first a) o (λ m job begins. never_so m blamed job a none)
 
 pub as_fault : (r : Found) (e : AsmFault) → is_failure e ≡ false → IfErr r (λ x. has_failed x ≡ is_failure e) → IfErr r (λ x. has_failed x ≡ false)
@@ -272,22 +272,22 @@ as_memory (Ok o) h = tt
 as_memory (Err x) h = ap is_failure h
 
 -- it failed before a line was read
-pub stops_first : (o : Option Files) (blamed : Option (List ℕ)) (job : Job) (e : ExpandFault) (a : Assembly) → IfErr a.result (λ x. has_failed x ≡ is_failure (Expansion e)) → (is_failure (Expansion e) ≡ true → IfErr a.result (λ x. (x.fault ≡ Expansion e) × (x.line ≡ 0))) → (is_from_outside a.result ≡ true → (a.out ≡ []) × (a.err ≡ [])) → (e ≡ FileError → IsBlamed blamed job.source) → IfSome o (λ m. StopsSo m blamed job a)
+pub stops_first : (o : Option Files) (blamed : Blamed) (job : Job) (e : ExpandFault) (a : Assembly) → IfErr a.result (λ x. has_failed x ≡ is_failure (Expansion e)) → (is_failure (Expansion e) ≡ true → IfErr a.result (λ x. (x.fault ≡ Expansion e) × ((placed_of x).place ≡ nowhere))) → (is_from_outside a.result ≡ true → (a.out ≡ []) × (a.err ≡ [])) → (e ≡ FileError → IsBlamedAt blamed job.source 16777216) → IfSome o (λ m. StopsSo m blamed job a)
 stops_first o blamed job e a failed first silent asked = some_all (λ m. StopsSo m blamed job a) o (λ m. by m a.result failed first silent)
   where
-    by : (m : Files) (r : Found) → IfErr r (λ x. has_failed x ≡ is_failure (Expansion e)) → (is_failure (Expansion e) ≡ true → IfErr r (λ x. (x.fault ≡ Expansion e) × (x.line ≡ 0))) → (is_from_outside r ≡ true → (a.out ≡ []) × (a.err ≡ [])) → IfErr r (λ x. has_failed x ≡ true → Stops m blamed job (placed_of x) a.out a.err)
+    by : (m : Files) (r : Found) → IfErr r (λ x. has_failed x ≡ is_failure (Expansion e)) → (is_failure (Expansion e) ≡ true → IfErr r (λ x. (x.fault ≡ Expansion e) × ((placed_of x).place ≡ nowhere))) → (is_from_outside r ≡ true → (a.out ≡ []) × (a.err ≡ [])) → IfErr r (λ x. has_failed x ≡ true → Stops m blamed job (placed_of x) a.out a.err)
     by m (Ok x) failed first silent = tt
     by m (Err x) failed first silent = λ yes.
         (let is : is_failure (Expansion e) ≡ true = sym failed ∙ yes in
         let there = first is in
         let nothing = silent (failure_outside x.fault yes) in
-        inl (record { source = asked (only_error e is); fault = there.0 ∙ expansion_error e is; line = there.1; no_out = nothing.0; no_err = nothing.1 }))
+        inl (record { source = asked (only_error e is); fault = there.0 ∙ expansion_error e is; place = there.1; no_out = nothing.0; no_err = nothing.1 }))
 
 abbrev pub StoppedAt : Place → AsmFault → Found → Type 0
 StoppedAt place e r = IfErr r (λ x. placed_of x ≡ record { place = place; fault = e })
 
 -- it failed behind some statements
-pub stops_here : (o : Option Files) (blamed : Option (List ℕ)) (first now : Run) (e : AsmFault) (a : Assembly) → is_failure e ≡ true → StoppedAt (place_of now.expander) e a.result → a.out ≡ now.assembler.texts.out → a.err ≡ now.assembler.texts.err → IfSome o (λ m. StopsAll m blamed first now (Err e)) → IfSome o (λ m. StopsFrom m blamed first a)
+pub stops_here : (o : Option Files) (blamed : Blamed) (first now : Run) (e : AsmFault) (a : Assembly) → is_failure e ≡ true → StoppedAt (place_of now.expander) e a.result → a.out ≡ now.assembler.texts.out → a.err ≡ now.assembler.texts.err → IfSome o (λ m. StopsAll m blamed first now (Err e)) → IfSome o (λ m. StopsFrom m blamed first a)
 stops_here o blamed first now e a failed placed out err all =
     some_then (λ m. StopsAll m blamed first now (Err e)) (λ m. StopsFrom m blamed first a) o (λ m h job begins. by m job a.result placed (h failed job begins)) all
   where
@@ -304,7 +304,7 @@ stopped_silent (Ok o) place e P failed p h = absurd cc
 stopped_silent (Err x) place e P failed p h = absurd (let both : true ≡ false = sym h ∙ ap (λ (q : PlacedFault). is_memory q.fault) p ∙ failure_inside e failed in cc)
 
 -- a fault behind some statements, which may be a failure of the store
-pub stops_behind : (o : Option Files) (blamed : Option (List ℕ)) (first now : Run) (e : AsmFault) (a : Assembly) → IfErr a.result (λ x. has_failed x ≡ is_failure e) → (is_failure e ≡ true → StoppedAt (place_of now.expander) e a.result) → (is_failure e ≡ true → (a.out ≡ now.assembler.texts.out) × (a.err ≡ now.assembler.texts.err)) → IfSome o (λ m. StopsAll m blamed first now (Err e)) → IfSome o (λ m. StopsFrom m blamed first a)
+pub stops_behind : (o : Option Files) (blamed : Blamed) (first now : Run) (e : AsmFault) (a : Assembly) → IfErr a.result (λ x. has_failed x ≡ is_failure e) → (is_failure e ≡ true → StoppedAt (place_of now.expander) e a.result) → (is_failure e ≡ true → (a.out ≡ now.assembler.texts.out) × (a.err ≡ now.assembler.texts.err)) → IfSome o (λ m. StopsAll m blamed first now (Err e)) → IfSome o (λ m. StopsFrom m blamed first a)
 stops_behind o blamed first now e a same stopped said all = by (is_failure e) refl
   where
     by : (b : Bool) → is_failure e ≡ b → IfSome o (λ m. StopsFrom m blamed first a)
@@ -312,6 +312,7 @@ stops_behind o blamed first now e a same stopped said all = by (is_failure e) re
     by false is = stops_never_from o blamed first a (as_fault a.result e is same)
 
 -- what an opened source comes to behind its constants
-pub run_stops : (o : Option Files) (blamed : Option (List ℕ)) (job : Job) (x : Expander) (b : Assembler) (v : Unit {0}) (a : Assembly) → AreLeft job b v → measure_of x ≤ 3145729 → IfSome o (λ m. Opens m (Ok x) (opened_in m job.source job.include)) → IfSome o (λ m. StopsFrom m blamed (record { expander = x; assembler = b }) a) → IfSome o (λ m. StopsSo m blamed job a)
-run_stops o blamed job x b v a left size opens all =
-    some_both (λ m. Opens m (Ok x) (opened_in m job.source job.include)) (λ m. StopsFrom m blamed (record { expander = x; assembler = b }) a) (λ m. StopsSo m blamed job a) o (λ m q r. r job (left.0, q, left.1, first_held x b left.0 (record { expander = x; assembler = b }) refl size left.3)) opens all
+pub run_stops : (o : Option Files) (blamed : Blamed) (job : Job) (x : Expander) (b : Assembler) (v : Unit {0}) (a : Assembly) → AreLeft job b v → measure_of x ≤ 3145729 → IfSome o (λ m. Opens m (Ok x) (opened_in m job.source job.include)) → IfSome o (λ m. IsPlaced m x) → IfSome o (λ m. StopsFrom m blamed (record { expander = x; assembler = b }) a) → IfSome o (λ m. StopsSo m blamed job a)
+run_stops o blamed job x b v a left size opens placed all =
+    some_both (λ m. Opens m (Ok x) (opened_in m job.source job.include) × IsPlaced m x) (λ m. StopsFrom m blamed (record { expander = x; assembler = b }) a) (λ m. StopsSo m blamed job a) o (λ m q r. r job (left.0, q.0, q.1, left.1, first_held x b left.0 (record { expander = x; assembler = b }) refl size left.3))
+    (some_both (λ m. Opens m (Ok x) (opened_in m job.source job.include)) (λ m. IsPlaced m x) (λ m. Opens m (Ok x) (opened_in m job.source job.include) × IsPlaced m x) o (λ m q p. (q, p)) opens placed) all

@@ -9,6 +9,7 @@ use Rattle.syntax65.specs.declared.place.Place.{Place}
 use Rattle.semantics65.specs.Contents.{Part, Known, Filled, Waiting, put, room_part, stored, written}
 use Rattle.ast65.specs.declared.fault.AsmFault.{AsmFault}
 use Rattle.ast65.specs.declared.fault.AsmFault.TheVariants.{FileNameTooLong, OutOfRange}
+use Rattle.semantics65.specs.Machine.{holds}
 use Rattle.emit65.specs.declared.sections.Sections.{Sections}
 use Rattle.emit65.specs.Fed.{Feeds}
 use Rattle.semantics65.specs.declared.laid.Settled as held
@@ -24,10 +25,10 @@ in_range known = Ok (Known known)
 pub stored_is : (width : Width) (place : Place) (v : ℤ) → fits_width width v ≡ true → stored width place (lit v) ≡ in_range (value_bytes width v)
 stored_is width place v fits = ap (λ (b : Bool). if b then in_range (value_bytes width v) else Err OutOfRange) fits
 
-pub literal_put : (old new : Sections) (g : ℕ) (width : Width) (place : Place) (v : ℤ) (bytes : List ℕ) → fits_width width v ≡ true → bytes ≡ value_bytes width v → Feeds old new (put g (Known bytes)) → IsPut old new g (stored width place (lit v)) true
+pub literal_put : (old new : Sections) (g : ℕ) (width : Width) (place : Place) (v : ℤ) (bytes : List ℕ) → fits_width width v ≡ true → bytes ≡ value_bytes width v → Feeds old new (holds (put g (Known bytes))) → IsPut old new g (stored width place (lit v)) true
 literal_put old new g width place v bytes fits same feeds =
     subst (λ (r : Result Part AsmFault). IsPut old new g r true) (sym (stored_is width place v fits))
-    (subst (λ (known : List ℕ). Feeds old new (put g (Known known))) same feeds)
+    (subst (λ (known : List ℕ). Feeds old new (holds (put g (Known known)))) same feeds)
 
 pub literal_is : (f : Form) (v : ℤ) → literal_in (Ok f) ≡ Some v → f ≡ lit v
 literal_is (lit w) v e = let same : w ≡ v = cc in ap lit same
@@ -45,7 +46,7 @@ other_stored width place (prefix op f) e = refl
 other_stored width place (binary op f g) e = refl
 
 -- so it is put where an object can hold the name of the file
-pub other_put : (old new : Sections) (g : ℕ) (width : Width) (place : Place) (f : Form) → literal_in (Ok f) ≡ None → is_file_name place.file ≡ true → Feeds old new (put g (Waiting width place f)) → IsPut old new g (stored width place f) true
+pub other_put : (old new : Sections) (g : ℕ) (width : Width) (place : Place) (f : Form) → literal_in (Ok f) ≡ None → is_file_name place.file ≡ true → Feeds old new (holds (put g (Waiting width place f))) → IsPut old new g (stored width place f) true
 other_put old new g width place f e fits feeds =
     subst (λ r. IsPut old new g r true) (sym (other_stored width place f e))
     (subst (λ b. IsPut old new g (if b then Ok (Waiting width place f) else Err FileNameTooLong) true) (sym fits) feeds)

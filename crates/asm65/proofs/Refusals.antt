@@ -9,7 +9,8 @@ use Rattle.expand65.specs.declared.expander.Expander.{Expander}
 use Rattle.ast65.specs.declared.fault.AsmFault.{AsmFault}
 use Rattle.ast65.specs.declared.fault.AsmFault.TheVariants.{Expansion}
 use Rattle.ast65.specs.Faults.{is_failure, is_memory, is_outside}
-use Rattle.asm65.specs.Assembly.{has_failed, is_from_outside, is_outside_refusal}
+use Rattle.asm65.specs.Assembly.{has_failed, is_from_outside, is_outside_refusal, placed_of}
+use Rattle.asm65.specs.Failing.{nowhere}
 use Rattle.asm65.proofs.Outcomes.{Found, only_error}
 
 -- ---- It is refused for this fault.
@@ -22,7 +23,7 @@ pub failed_as : (e : AsmFault) (r : Found) → IfErr r (λ x. x.fault ≡ e) →
 failed_as e (Ok o) h = tt
 failed_as e (Err x) h = ap is_failure h
 
-pub first_as : (e : AsmFault) (r : Found) → IfErr r (λ x. x.fault ≡ e) → IfErr r (λ x. x.line ≡ 0) → IfErr r (λ x. (x.fault ≡ e) × (x.line ≡ 0))
+pub first_as : (e : AsmFault) (r : Found) → IfErr r (λ x. x.fault ≡ e) → IfErr r (λ x. (placed_of x).place ≡ nowhere) → IfErr r (λ x. (x.fault ≡ e) × ((placed_of x).place ≡ nowhere))
 first_as e (Ok o) h k = tt
 first_as e (Err x) h k = (h, k)
 

@@ -3,7 +3,7 @@ use Rattle.std.proofs.Common.{◌≡◌, ◌∙◌, ℕ, zero, suc, ◌+◌, ◌
 use Rattle.std.specs.Prelude.{Result, Ok, Err, IfErr, IfSome, ◌==◌, if◌then◌else◌}
 use Rattle.std.proofs.lemmas.List.{append-nil}
 use Rattle.base65.specs.Outcome.{First, Unless}
-use Rattle.base65.specs.Store.{Files}
+use Rattle.base65.specs.Store.{Files, Blamed}
 use Rattle.syntax65.specs.Tokens.{Lexeme}
 use Rattle.expand65.specs.Playing.{tokens_in}
 use Rattle.expand65.specs.Standing.{stated}
@@ -131,7 +131,7 @@ rest_leaves o place (k ∷ ts) x y old new (Err e) some is read taken = λ count
     wrong_rest place k ts x y is o (count + 1) t new e read (taken count t room h)
 
 -- a statement that is refused before its file is read
-module _ (blamed : Option (List ℕ)) (place : Place) (x : Statement) (old new : Assembler) (e : AsmFault) (refused : (count : ℕ) (t : State) → Holds count t old → IsRefusedUnread blamed t place x e) (same : new.texts ≡ old.texts) where
+module _ (blamed : Blamed) (place : Place) (x : Statement) (old new : Assembler) (e : AsmFault) (refused : (count : ℕ) (t : State) → Holds count t old → IsRefusedUnread blamed t place x e) (same : new.texts ≡ old.texts) where
   pub rest_unread : (o : Option Files) (ts : List Lexeme) → (ts ≡ [] → ⊥) → IsStatement ts (Ok x) → TakesBy (AreNamed ts) (RestBy o place ts) 1 old new (Err e)
   rest_unread o [] some is = absurd (some refl)
   rest_unread o (k ∷ ts) some is = λ count t room h.
@@ -235,7 +235,7 @@ label_room place o old mid v held front =
     (a.3.0, a.0, omega (arith, room, few), a.3.2)
 
 -- a label says nothing, so neither does a failure behind it
-pub label_stops : (blamed : Option (List ℕ)) (place : Place) (ts rest : List Lexeme) (o : Option Statement) (old mid new : Assembler) (v : Unit {0}) (r : Answer) → IsRoomy 2 old → Says ts rest o → FrontBy place o old mid (Ok v) → StopsQuietly (Without blamed (λ m t. IsRest m Takes t place rest)) 1 mid new r → StopsQuietly (Without blamed (λ m t. IsLabel m Takes t place ts)) 2 old new r
+pub label_stops : (blamed : Blamed) (place : Place) (ts rest : List Lexeme) (o : Option Statement) (old mid new : Assembler) (v : Unit {0}) (r : Answer) → IsRoomy 2 old → Says ts rest o → FrontBy place o old mid (Ok v) → StopsQuietly (Without blamed (λ m t. IsRest m Takes t place rest)) 1 mid new r → StopsQuietly (Without blamed (λ m t. IsLabel m Takes t place ts)) 2 old new r
 label_stops blamed place ts rest o old mid new v (Ok w) held says front quiet = tt
 label_stops blamed place ts rest o old mid new v (Err e) held says front quiet = λ failed.
     (let room = held.2 in
@@ -317,10 +317,10 @@ given_plain f place g line ts old new r is same h =
 
 -- ---- Where the store fails.
 
-abbrev pub GivenStops : Option (List ℕ) → Place → given.Statement → Assembler → Assembler → Answer → Type 0
+abbrev pub GivenStops : Blamed → Place → given.Statement → Assembler → Assembler → Answer → Type 0
 GivenStops blamed place g old new r = StopsQuietly (Without blamed (λ m t. IsGiven m Takes t place (stated g))) 2 old new r
 
-pub label_given_stops : (blamed : Option (List ℕ)) (place : Place) (g : given.Statement) (line : Line) (ts : List Lexeme) (old new : Assembler) (r : Answer) → g ≡ Label line → ts ≡ tokens_in line → StopsQuietly (Without blamed (λ m t. IsLabel m Takes t place ts)) 2 old new r → GivenStops blamed place g old new r
+pub label_given_stops : (blamed : Blamed) (place : Place) (g : given.Statement) (line : Line) (ts : List Lexeme) (old new : Assembler) (r : Answer) → g ≡ Label line → ts ≡ tokens_in line → StopsQuietly (Without blamed (λ m t. IsLabel m Takes t place ts)) 2 old new r → GivenStops blamed place g old new r
 label_given_stops blamed place g line ts old new r is same h =
     let Q : List Lexeme → Type 0 = λ ts. StopsQuietly (Without blamed (λ m t. IsLabel m Takes t place ts)) 2 old new r in
     subst (λ g. GivenStops blamed place g old new r) (sym is) (subst Q same h)
@@ -331,7 +331,7 @@ stops_wider Is old new (Err e) h = λ failed.
     (let q = h failed in
     record { fault = q.fault; out = q.out; err = q.err; unread = λ count t room held. q.unread count t (omega (arith, room)) held })
 
-pub plain_given_stops : (blamed : Option (List ℕ)) (place : Place) (g : given.Statement) (line : Line) (ts : List Lexeme) (old new : Assembler) (r : Answer) → g ≡ Plain line → ts ≡ tokens_in line → StopsQuietly (Without blamed (λ m t. IsRest m Takes t place ts)) 1 old new r → GivenStops blamed place g old new r
+pub plain_given_stops : (blamed : Blamed) (place : Place) (g : given.Statement) (line : Line) (ts : List Lexeme) (old new : Assembler) (r : Answer) → g ≡ Plain line → ts ≡ tokens_in line → StopsQuietly (Without blamed (λ m t. IsRest m Takes t place ts)) 1 old new r → GivenStops blamed place g old new r
 plain_given_stops blamed place g line ts old new r is same h =
     let Q : List Lexeme → Type 0 = λ ts. StopsQuietly (Without blamed (λ m t. IsRest m Takes t place ts)) 2 old new r in
     subst (λ g. GivenStops blamed place g old new r) (sym is) (subst Q same (stops_wider _ old new r h))

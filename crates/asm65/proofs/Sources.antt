@@ -2,7 +2,7 @@
 use Rattle.std.proofs.Common.{◌≡◌, [], List, ◌∙◌, ℕ, ◌+◌, ◌*◌, ◌≤◌, ◌<◌, Bool, true, false, Option, Some, None, refl, sym, ap, subst, arith}
 use Rattle.std.specs.Prelude.{Result, Ok, Err, IfSome, if◌then◌else◌}
 use Rattle.base65.specs.Outcome.{Unless}
-use Rattle.base65.specs.Store.{Files}
+use Rattle.base65.specs.Store.{Files, Blamed}
 use Rattle.expand65.specs.declared.expander.Statement.{Statement}
 use Rattle.expand65.specs.declared.expander.Statement.TheVariants.{Label, Plain}
 use Rattle.syntax65.specs.declared.fault.ExpandFault.{ExpandFault}
@@ -10,7 +10,7 @@ use Rattle.syntax65.specs.declared.place.Place.{Place}
 use Rattle.syntax65.specs.declared.fault.ExpandFault.TheVariants as fault_of
 use Rattle.expand65.specs.Expansion.{Reaches, statement, nothing, fault, opened_in}
 use Rattle.syntax65.specs.Faults as expansion
-use Rattle.expand65.specs.Standing.{Answered, FollowsFrom, Opens, StandsFor, measure_of, place_of, state_in, stated}
+use Rattle.expand65.specs.Standing.{Answered, FollowsFrom, IsPlaced, Opens, StandsFor, measure_of, place_of, state_in, stated}
 use Rattle.expand65.specs.State as expand
 use Rattle.expand65.specs.Failing.{Gives, Passes, none as no_more, one_more as gives_more, Goes as Walks, IsOnItsWay, StopsOnItsWay, no_step}
 use Rattle.expand65.proofs.AtHand.{reaches_behind}
@@ -110,8 +110,12 @@ abbrev pub NextBy : Files → Run → Result (Option Statement) ExpandFault → 
 NextBy m old r mid = (t : State) → IsHeldBy t old → FollowsFrom m (known_at t.symbols t.cursor) old.expander r mid.expander
 
 -- where the store failed on the way to it
-abbrev pub StopsBy : Files → Option (List ℕ) → Run → Result (Option Statement) ExpandFault → Run → Type 0
+abbrev pub StopsBy : Files → Blamed → Run → Result (Option Statement) ExpandFault → Run → Type 0
 StopsBy m blamed old r mid = (t : State) → IsHeldBy t old → StopsOnItsWay m blamed (known_at t.symbols t.cursor) old.expander r mid.expander
+
+-- files are read at the places that the expander goes by, if they were at first
+abbrev pub StaysPlaced : Files → Run → Run → Type 0
+StaysPlaced m first now = IsPlaced m first.expander → IsPlaced m now.expander
 
 pub goes_first : (m : Files) (run : Run) → Goes m run run
 goes_first m run job t opens defined held = (
@@ -242,21 +246,21 @@ module _ (m : Files) (first old mid : Run) (same : mid.assembler ≡ old.assembl
       by u count holds false runs = (u, runs, (count, holds))
 
   -- the store fails while expansion reads on
-  pub stops_out : (blamed : Option (List ℕ)) (e : ExpandFault) (r : Answer) → r ≡ Err (Expansion e) → StopsBy m blamed old (Err e) mid → Goes m first old → StopsAll m blamed first mid r
-  stops_out blamed e r fails where_it_is so_far = subst (StopsAll m blamed first mid) (sym fails) (λ failed job begun_so. by (of_store e failed) job (so_far job begun_so.0 begun_so.1 begun_so.2 begun_so.3))
+  pub stops_out : (blamed : Blamed) (e : ExpandFault) (r : Answer) → r ≡ Err (Expansion e) → StopsBy m blamed old (Err e) mid → Goes m first old → StaysPlaced m first old → StopsAll m blamed first mid r
+  stops_out blamed e r fails where_it_is so_far placed = subst (StopsAll m blamed first mid) (sym fails) (λ failed job begun_so. by (of_store e failed) job (placed begun_so.2) (so_far job begun_so.0 begun_so.1 begun_so.3 begun_so.4))
     where
-      by : expansion.is_failure e ≡ true → (job : Job) → (u : State) × Stays m job old u → StopsBehind m blamed job (record { place = place_of mid.expander; fault = Expansion e }) mid.assembler.texts.out mid.assembler.texts.err
-      by failed job now =
+      by : expansion.is_failure e ≡ true → (job : Job) → IsPlaced m old.expander → (u : State) × Stays m job old u → StopsBehind m blamed job (record { place = place_of mid.expander; fault = Expansion e }) mid.assembler.texts.out mid.assembler.texts.err
+      by failed job here now =
           let u = now.0 in
           let s = now.1 in
           let says = says_held s.held.count u old.assembler mid.assembler same s.held.holds in
           let k = known_at u.symbols u.cursor in
           let walked : IsOnItsWay m blamed k s.here (place_of mid.expander) → IsOnItsWay m blamed k s.left (place_of mid.expander) = λ so. record { state = so.state; reading = so.reading; goes = goes_over m k s.left s.here so.state (s.walks k) so.goes; fails = so.fails; at = so.at } in
-          record { left = s.left; behind = u; taken = s.taken; where_it_is = walked (where_it_is u s.held s.here s.stands failed); says_out = says.0; says_err = says.1 }
+          record { left = s.left; behind = u; taken = s.taken; where_it_is = walked (where_it_is u s.held here s.here s.stands failed); says_out = says.0; says_err = says.1 }
 
   -- it fails while a statement is taken
-  pub stops_wrong : (blamed : Option (List ℕ)) (x : Statement) (new : Run) (e : AsmFault) (r : Answer) → r ≡ Err e → NextBy m old (Ok (Some x)) mid → measure_of mid.expander < measure_of old.expander → StopsQuietly (Without blamed (λ m t. IsGiven m Takes t (place_of mid.expander) (stated x))) 2 mid.assembler new.assembler (Err e) → new.expander ≡ mid.expander → Goes m first old → StopsAll m blamed first new r
-  stops_wrong blamed x new e r fails next less quiet stays so_far = subst (StopsAll m blamed first new) (sym fails) (λ failed job begun_so. by failed job (so_far job begun_so.0 begun_so.1 begun_so.2 begun_so.3))
+  pub stops_wrong : (blamed : Blamed) (x : Statement) (new : Run) (e : AsmFault) (r : Answer) → r ≡ Err e → NextBy m old (Ok (Some x)) mid → measure_of mid.expander < measure_of old.expander → StopsQuietly (Without blamed (λ m t. IsGiven m Takes t (place_of mid.expander) (stated x))) 2 mid.assembler new.assembler (Err e) → new.expander ≡ mid.expander → Goes m first old → StopsAll m blamed first new r
+  stops_wrong blamed x new e r fails next less quiet stays so_far = subst (StopsAll m blamed first new) (sym fails) (λ failed job begun_so. by failed job (so_far job begun_so.0 begun_so.1 begun_so.3 begun_so.4))
     where
       by : is_failure e ≡ true → (job : Job) → (u : State) × Stays m job old u → StopsBehind m blamed job (record { place = place_of new.expander; fault = e }) new.assembler.texts.out new.assembler.texts.err
       by failed job now =
@@ -288,9 +292,10 @@ module _ (o p : Option Files) (told : p ≡ o) (first old mid : Run) (same : mid
   all_out e r fails next =
       some_both (λ m. Goes m first old) (λ m. NextBy m old (Err e) mid) (λ m. RanAll m first mid r) o (λ m so n. goes_out m first old mid same e r fails n so) so_far (subst (λ q. IfSome q (λ m. NextBy m old (Err e) mid)) told next)
 
-  pub all_stop : (blamed : Option (List ℕ)) (e : ExpandFault) (r : Answer) → r ≡ Err (Expansion e) → IfSome p (λ m. StopsBy m blamed old (Err e) mid) → IfSome o (λ m. StopsAll m blamed first mid r)
-  all_stop blamed e r fails stops =
-      some_both (λ m. Goes m first old) (λ m. StopsBy m blamed old (Err e) mid) (λ m. StopsAll m blamed first mid r) o (λ m so s. stops_out m first old mid same blamed e r fails s so) so_far (subst (λ q. IfSome q (λ m. StopsBy m blamed old (Err e) mid)) told stops)
+  pub all_stop : (blamed : Blamed) (e : ExpandFault) (r : Answer) → r ≡ Err (Expansion e) → IfSome o (λ m. StaysPlaced m first old) → IfSome p (λ m. StopsBy m blamed old (Err e) mid) → IfSome o (λ m. StopsAll m blamed first mid r)
+  all_stop blamed e r fails placed stops =
+      some_both (λ m. Goes m first old × StaysPlaced m first old) (λ m. StopsBy m blamed old (Err e) mid) (λ m. StopsAll m blamed first mid r) o (λ m so s. stops_out m first old mid same blamed e r fails s so.0 so.1)
+      (some_both (λ m. Goes m first old) (λ m. StaysPlaced m first old) (λ m. Goes m first old × StaysPlaced m first old) o (λ m so here. (so, here)) so_far placed) (subst (λ q. IfSome q (λ m. StopsBy m blamed old (Err e) mid)) told stops)
 
   module _ (q : Option Statement) (next : IfSome p (λ m. NextBy m old (Ok q) mid)) where
     given : (x : Option Statement) → q ≡ x → IfSome o (λ m. NextBy m old (Ok x) mid)
@@ -315,7 +320,7 @@ module _ (o p : Option Files) (told : p ≡ o) (first old mid : Run) (same : mid
           some_both (λ m. Goes m first old × NextBy m old (Ok (Some x)) mid) (TakesIn (Ok v)) (λ m. Goes m first new) o (λ m so t. goes_further m first old mid same x new v less so.1 t stays so.0)
           (some_both (λ m. Goes m first old) (λ m. NextBy m old (Ok (Some x)) mid) (λ m. Goes m first old × NextBy m old (Ok (Some x)) mid) o (λ m so n. (so, n)) so_far (given (Some x) is)) (told_taken (Ok v) taken)
 
-      pub all_stopped : (blamed : Option (List ℕ)) (e : AsmFault) (r : Answer) → r ≡ Err e → StopsQuietly (Without blamed (λ m t. IsGiven m Takes t (place_of mid.expander) (stated x))) 2 mid.assembler new.assembler (Err e) → IfSome o (λ m. StopsAll m blamed first new r)
+      pub all_stopped : (blamed : Blamed) (e : AsmFault) (r : Answer) → r ≡ Err e → StopsQuietly (Without blamed (λ m t. IsGiven m Takes t (place_of mid.expander) (stated x))) 2 mid.assembler new.assembler (Err e) → IfSome o (λ m. StopsAll m blamed first new r)
       all_stopped blamed e r fails quiet =
           some_both (λ m. Goes m first old) (λ m. NextBy m old (Ok (Some x)) mid) (λ m. StopsAll m blamed first new r) o (λ m so n. stops_wrong m first old mid same blamed x new e r fails n less quiet stays so) so_far (given (Some x) is)
 
@@ -323,6 +328,11 @@ module _ (o p : Option Files) (told : p ≡ o) (first old mid : Run) (same : mid
       all_wrong e r fails taken =
           some_both (λ m. Goes m first old × NextBy m old (Ok (Some x)) mid) (TakesIn (Err e)) (λ m. RanAll m first new r) o (λ m so t. goes_wrong m first old mid same x new e r fails less so.1 t stays so.0)
           (some_both (λ m. Goes m first old) (λ m. NextBy m old (Ok (Some x)) mid) (λ m. Goes m first old × NextBy m old (Ok (Some x)) mid) o (λ m so n. (so, n)) so_far (given (Some x) is)) (told_taken (Err e) taken)
+
+-- one statement further
+pub placed_on : (o p : Option Files) → p ≡ o → (first old mid new : Run) → new.expander ≡ mid.expander → IfSome o (λ m. StaysPlaced m first old) → IfSome p (λ m. StaysPlaced m old mid) → IfSome o (λ m. StaysPlaced m first new)
+placed_on o p told first old mid new stays placed next =
+    some_both (λ m. StaysPlaced m first old) (λ m. StaysPlaced m old mid) (λ m. StaysPlaced m first new) o (λ m a b h. subst (IsPlaced m) (sym stays) (b (a h))) placed (subst (λ q. IfSome q (λ m. StaysPlaced m old mid)) told next)
 
 -- ---- The statements of a line.
 
@@ -341,7 +351,7 @@ goes_passed m first e f a passes so_far job t opens defined held =
         left = s.left;
         here = state_in m f;
         walks = λ k. goes_over m k s.left s.here (state_in m f) (s.walks k) (subst (λ z. Walks m k z (state_in m f)) s.stands.1 (passes.goes m k));
-        stands = (passes.failed ∙ s.stands.0, refl, passes.named s.stands.2);
+        stands = (passes.failed ∙ s.stands.0, refl);
         fit = s.fit;
         goes = s.goes;
         taken = s.taken;
@@ -349,7 +359,7 @@ goes_passed m first e f a passes so_far job t opens defined held =
       },
     )
 
-module _ (o : Option Files) (blamed : Option (List ℕ)) (place : Place) where
+module _ (o : Option Files) (blamed : Blamed) (place : Place) where
   -- at the place of the expander behind a statement
   taken_at : (x : expand.Stated) (mid f : Expander) (a b : Assembler) (r : Answer) → place ≡ place_of f → place_of mid ≡ place_of f → TakesOne o blamed place x a b r → TakesOne o blamed (place_of mid) x a b r
   taken_at x mid f a b r here at h = subst (λ p. TakesOne o blamed p x a b r) (here ∙ sym at) h
@@ -359,7 +369,7 @@ module _ (o : Option Files) (blamed : Option (List ℕ)) (place : Place) where
   line_running _ e f a b (gives_more _ mid _ x xs follows at given) (one_more _ c _ _ _ _ one all) here held =
       line_running xs mid f c b given all here (still_running (run_of e a) (run_of mid a) refl follows.less o x (run_of mid c) tt (taken_at (stated x) mid f a c (Ok tt) here at one).taken refl held)
 
-module _ (m : Files) (blamed : Option (List ℕ)) (place : Place) (first : Run) where
+module _ (m : Files) (blamed : Blamed) (place : Place) (first : Run) where
   line_goes_on : (xs : List expand.Stated) (e f : Expander) (a b : Assembler) → Gives e xs f → TakesAll (Some m) blamed place xs a b (Ok tt) → place ≡ place_of f → Goes m first (run_of e a) → Goes m first (run_of f b)
   line_goes_on [] e f a b (no_more _ _ passes) (none _) here so_far = goes_passed m first e f a passes so_far
   line_goes_on _ e f a b (gives_more _ mid _ x xs follows at given) (one_more _ c _ _ _ _ one all) here so_far =
@@ -378,7 +388,7 @@ module _ (m : Files) (blamed : Option (List ℕ)) (place : Place) (first : Run) 
   line_refused _ e f a b g (gives_more _ mid _ x xs follows at given) (one_more _ c _ _ _ _ one all) here so_far =
       line_refused xs mid f c b g given all here (goes_further m first (run_of e a) (run_of mid a) refl x (run_of mid c) tt follows.less (λ t held. follows.next m (known_at t.symbols t.cursor)) (taken_at (Some m) blamed place (stated x) mid f a c (Ok tt) here at one).taken refl so_far)
 
-module _ (o : Option Files) (blamed : Option (List ℕ)) (first old new : Run) where
+module _ (o : Option Files) (blamed : Blamed) (first old new : Run) where
   pub all_on : TakesLine o blamed old new (Ok tt) → IfSome o (λ m. Goes m first old) → IfSome o (λ m. Goes m first new)
   all_on line so_far = by o line so_far
     where

@@ -29,7 +29,7 @@ use Rattle.asm65.specs.declared.assembler.Assembler.{Assembler}
 use Rattle.asm65.specs.declared.texts.Texts.{Texts}
 use Rattle.asm65.specs.Inner.Holding.{AreBefore, Holds, IsBefore, IsNew, IsPlaced, Turns, asked_of, laid_as, stepped}
 use Rattle.asm65.proofs.Namings.{IsBeside, puts_beside}
-use Rattle.base65.specs.Store.{Files, IsBlamed}
+use Rattle.base65.specs.Store.{Files, IsBlamed, Blamed}
 use Rattle.syntax65.specs.Trees.{Tree}
 use Rattle.expand65.specs.Expansion.{beside, file_named}
 use Rattle.ast65.specs.Faults.{is_failure, is_memory, is_outside}
@@ -139,9 +139,7 @@ holds_known count t a k h table = record {
   counted = h.counted;
   inside = h.inside;
   unnamed = h.unnamed;
-  fixups = h.fixups;
   sections = h.sections;
-  slots = h.slots;
   out = h.out;
   err = h.err;
 }
@@ -164,9 +162,7 @@ holds_stepped count t place x a v said h cursor sound ends counted out err =
       counted = counted;
       inside = wider count (opened_by x) u.symbols.scopes h.inside;
       unnamed = still_before x t.cursor.unnamed u.symbols.definitions (subst (λ (w : Cursor). AreBefore w.unnamed u.symbols.definitions) same h.unnamed);
-      fixups = h.fixups;
       sections = h.sections;
-      slots = h.slots;
       out = out ∙ ap (λ (o : List ℕ). o ++ out_of x) h.out;
       err = err ∙ ap (λ (o : List ℕ). o ++ warning_of place x) h.err;
     }
@@ -196,7 +192,7 @@ puts_aside place s u v w o e (p ∷ ps) h =
     (aside x u.cursor u.out u.err, one_aside place s u x w o e p h.1, puts_aside place s (aside x u.cursor u.out u.err) v x.cursor x.out x.err ps h.2)
 
 abbrev with_all : State → Symbols → Cursor → List ℕ → List ℕ → State
-with_all v y w o e = record { symbols = y; cursor = w; slots = v.slots; fixups = v.fixups; out = o; err = e }
+with_all v y w o e = record { symbols = y; cursor = w; slots = v.slots; out = o; err = e }
 
 all_same_state : (v : State) (y z : Symbols) (w x : Cursor) (o p e f : List ℕ) → y ≡ z → w ≡ x → o ≡ p → e ≡ f → with_all v y w o e ≡ with_all v z x p f
 all_same_state v y z w x o p e f a b c d =
@@ -280,14 +276,14 @@ module _ (t : State) (place : Place) (name : List ℕ) (start len : Option Tree)
       (takes_refused t place (FilePart None start len) FileNotFound (unread_missing t.symbols t.cursor start len h)))
 
   -- it is refused whatever the file has
-  pub refused_unread : (blamed : Option (List ℕ)) → is_failure e ≡ false → Unless (is_memory e) (unless_fault {A = Unit {0}} found tt ≡ Err e) → IsRefusedUnread blamed t place x e
+  pub refused_unread : (blamed : Blamed) → is_failure e ≡ false → Unless (is_memory e) (unless_fault {A = Unit {0}} found tt ≡ Err e) → IsRefusedUnread blamed t place x e
   refused_unread blamed inside h = record {
     inside = unless_then (is_outside e) (λ p. whatever (fault_there found e p)) (unless_either _ (is_memory e) (is_failure e) h);
     failed = λ so. absurd cc;
   }
 
   -- its file can't be read
-  pub failed_unread : (blamed : Option (List ℕ)) (u : Unit {0}) → is_outside e ≡ true → (is_failure e ≡ true → IsBlamed blamed (beside place.file name)) → unless_fault {A = Unit {0}} found tt ≡ Ok u → IsRefusedUnread blamed t place x e
+  pub failed_unread : (blamed : Blamed) (u : Unit {0}) → is_outside e ≡ true → (is_failure e ≡ true → IsBlamed blamed (beside place.file name)) → unless_fault {A = Unit {0}} found tt ≡ Ok u → IsRefusedUnread blamed t place x e
   failed_unread blamed u outside asked h = record {
     inside = subst (λ b. Unless b ((m : Files) → Takes t place (with_bytes m place x) (Err e))) (sym outside) tt;
     failed = λ so. (beside place.file name, asked so, without (fault_none found u h));

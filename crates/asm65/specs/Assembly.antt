@@ -1,6 +1,6 @@
 -- From a source to its object: what is assembled, and files that could not be read.
 use Rattle.std.specs.Prelude.{◌≡◌, ℕ, List, Option, None, Result, Err, Bool, false, [], map, Ok, unwrap_or}
-use Rattle.base65.specs.Store.{Files, IsBlamed}
+use Rattle.base65.specs.Store.{Files, IsBlamed, Blamed}
 use Rattle.expand65.specs.Expansion.{file_named}
 use Rattle.ast65.specs.declared.fault.AsmFault.{AsmFault}
 use Rattle.semantics65.specs.Machine.{State}
@@ -17,7 +17,7 @@ use Rattle.asm65.specs.declared.texts.AsmRefusal.{AsmRefusal}
 -- ---- A statement whose file can't be read.
 
 -- so it is answered for any files among which the one that was asked for last isn't there
-abbrev pub Without : Option (List ℕ) → (Files → State → Result State AsmFault → Type 0) → State → Result State AsmFault → Type 0
+abbrev pub Without : Blamed → (Files → State → Result State AsmFault → Type 0) → State → Result State AsmFault → Type 0
 Without blamed IsAnswer t r =
     (name : List ℕ) × IsBlamed blamed name × ((m : Files) → file_named m name ≡ None → IsAnswer m t r)
 

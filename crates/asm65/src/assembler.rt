@@ -1,4 +1,4 @@
-//! What the assembler holds between two statements, and what waits.
+//! What the assembler holds between two statements.
 
 ghost use Rattle.symbols65.specs.Views.{table_of};
 ghost use Rattle.asm65.specs.Inner.Holding.{known_where, Holds};
@@ -6,56 +6,14 @@ ghost use Rattle.std.specs.Prelude.{IfOk};
 ghost use Rattle.semantics65.specs.Machine.{begun};
 
 use crate::texts::Texts;
-use base65::{Seed, Sequence};
-use emit65::{Files, Sections};
+use base65::Seed;
+use emit65::Sections;
 use expand65::Knows;
-use object65::{Action, Width};
 use semantics65::Context;
 use std::alloc::{AllocError, Global};
 use symbols65::knowing::constant_now;
 use symbols65::{Cursor, NormCache, Symbols, definition_of};
 use syntax65::{Expr, Name};
-
-/// What waits of a statement.
-#[derive(Drop)]
-pub enum Piece {
-    /// A value of a list.
-    Datum {
-        width: Width,
-        value: Expr,
-    },
-    /// The value of an instruction's operand.
-    Operand {
-        width: Width,
-        value: Expr,
-    },
-    /// The constant that is defined at a place of the symbol table: its expression may have a fault.
-    Constant(usize),
-    Assertion {
-        action: Action,
-        text: Sequence<u8>,
-        value: Expr,
-    },
-    /// A name that the module may not define.
-    Import(Sequence<u8>),
-    /// A name that is imported though nothing may use it.
-    ForcedImport(Sequence<u8>),
-    /// A name that is exported where it is defined, or has to be.
-    Export {
-        must: bool,
-        name: Sequence<u8>,
-    },
-}
-
-/// A piece of a statement that waits, and where the statement stands.
-#[derive(Drop)]
-pub struct Fixup {
-    /// The file, by its place among those that are named.
-    pub file: usize,
-    pub line: u32,
-    pub context: Context,
-    pub piece: Piece,
-}
 
 /// What is known of names and expressions at a context, by the definitions before it.
 #[derive(Clone, Copy)]
@@ -83,12 +41,8 @@ pub struct Assembler {
     /// The forms of constants that were found by the symbol table as it stands.
     pub known: NormCache,
     pub cursor: Cursor,
-    /// What statements put into sections and said to the linker, with room for what waits.
+    /// What statements put into sections and said to the linker, and what waits.
     pub sections: Sections,
-    /// What waits, in the order of the source.
-    pub fixups: Vec<Fixup>,
-    /// The files in which something waits.
-    pub files: Files,
     pub texts: Texts,
 }
 
@@ -102,8 +56,6 @@ impl Assembler {
             known: NormCache::new(alloc),
             cursor: Cursor::start(alloc)?,
             sections: Sections::new(alloc, seed),
-            fixups: Vec::new(alloc),
-            files: Files::new(alloc, seed),
             texts: Texts::new(alloc),
         })
     }

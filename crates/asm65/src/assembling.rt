@@ -13,12 +13,12 @@ ghost use Rattle.symbols65.specs.Measuring.{opening_limit};
 ghost use Rattle.syntax65.specs.Trees.{number};
 ghost use Rattle.ast65.specs.declared.language.Statement.TheVariants.{Constant};
 ghost use Rattle.base65.specs.Outcome.{Finds};
-ghost use Rattle.base65.specs.Store.{Asks, IsBlamed, Passes, PassesBy};
+ghost use Rattle.base65.specs.Store.{Asks, IsBlamedAt, Passes, PassesBy};
 ghost use Rattle.object65.specs.Objects.{ObjectFits, is_good_object};
 ghost use Rattle.expand65.specs.Expansion.{opened_in};
-ghost use Rattle.expand65.specs.Standing.{Opens, measure_of, place_of};
+ghost use Rattle.expand65.specs.Standing.{IsPlaced, Opens, measure_of, place_of};
 ghost use Rattle.syntax65.specs.Faults.{is_outside as is_expand_outside};
-ghost use Rattle.asm65.specs.Failing.{Begins, StopsSo};
+ghost use Rattle.asm65.specs.Failing.{Begins, StopsSo, nowhere};
 
 use crate::assembler::Assembler;
 use crate::concluding::{conclude, refuse};
@@ -104,7 +104,7 @@ pub fn define_all(
 /// A refusal from outside before a line was read, with which nothing is said.
 fn refused_outside(alloc: Global, fault: AsmFault) -> Assembly
     ensures fault { IfErr result.result (λ e. e.fault ≡ fault) }
-    ensures line { IfErr result.result (λ e. e.line ≡ 0) }
+    ensures placed { IfErr result.result (λ e. (placed_of e).place ≡ nowhere) }
     ensures none { IfOk result.result (λ _. ⊥) }
     ensures silent { (result.out ≡ []) × (result.err ≡ []) }
 {
@@ -154,7 +154,7 @@ fn refused(alloc: Global, assembler: Assembler, at: At<'_>, fault: AsmFault) -> 
     ensures none { IfOk result.result (λ _. ⊥) }
     ensures failed { IfErr result.result (λ e. has_failed e ≡ is_failure fault) }
     ensures first { is_failure fault ≡ true →
-        IfErr result.result (λ e. (e.fault ≡ fault) × (e.line ≡ 0)) }
+        IfErr result.result (λ e. (e.fault ≡ fault) × ((placed_of e).place ≡ nowhere)) }
     ensures silent { is_from_outside result.result ≡ true → (result.out ≡ []) × (result.err ≡ []) }
 {
     if is_outside(&fault) {
@@ -196,8 +196,9 @@ fn opened<S: Store>(alloc: Global, store: &mut S, job: &AsmJob<'_>) -> Result<Ex
     ensures size { IfOk result (λ e. measure_of e ≤ 3145729) }
     ensures count { Passes ExpandFault.FileError (S.failures store.old) (S.failures store.new) result }
     ensures blamed { IsErrOf result ExpandFault.FileError →
-        IsBlamed (S.blamed store.new) (job_of job.now).source }
+        IsBlamedAt (S.blamed store.new) (job_of job.now).source 16777216 }
     ensures asked { Asks is_expand_outside (S.failures store.old) result }
+    ensures placed { IfSome (S.files store.old) (λ m. IfOk result (IsPlaced m)) }
 {
     let mut include = Sequence::new(alloc);
     for folder in job.include {

@@ -4,6 +4,7 @@
 mod assembler;
 mod assembling;
 mod concluding;
+mod copying;
 mod files;
 mod naming;
 mod putting;

@@ -1,24 +1,29 @@
 //! Names that statements define, open, import and export.
 
 ghost use Rattle.std.specs.Prelude.{◌≡◌, None, OnOk, length, IfOk, map, ◌∷◌, [], Some, ◌++◌, false, true};
-ghost use Rattle.semantics65.specs.Symbols.{defined, Symbols, Key as DefinedKey, named};
+ghost use Rattle.semantics65.specs.Symbols.{defined, Key as DefinedKey, named};
 ghost use Rattle.symbols65.specs.Tables.{KeepsFinal, definition_seen, key_of};
 ghost use Rattle.symbols65.specs.Views.{table_of, with_definition, with_names, with_scope};
 ghost use Rattle.std.specs.Option.{option_map};
 ghost use Rattle.semantics65.specs.Layout.{opened_twice};
 ghost use Rattle.symbols65.specs.Resolving.{IsTable};
-ghost use Rattle.asm65.specs.Inner.Holding.{KeepsPut, IsNew, IsPiece, is_put, laid_as, KeepsTables, mentioned, is_for_zero_page, label_at, Mentions, Turns};
-ghost use Rattle.semantics65.specs.declared.laid.Context.{Context};
+ghost use Rattle.asm65.specs.Inner.Holding.{Enters, KeepsPut, IsNew, is_put, laid_as, KeepsTables, mentioned, is_for_zero_page, label_at, Mentions, Turns};
+ghost use Rattle.semantics65.specs.Norms.{IsFinal};
+ghost use Rattle.object65.specs.Form.{Form};
+ghost use Rattle.emit65.specs.Fed.{piece_of};
 ghost use Rattle.semantics65.specs.Machine.{symbols_behind};
 ghost use Rattle.semantics65.specs.Views.{place_at};
 ghost use Rattle.semantics65.specs.Module.{equated, valued, demanded, imported, pieces_of};
 ghost use Rattle.syntax65.specs.declared.place.Place.{Place};
 
-use crate::assembler::{Assembler, Piece};
+use crate::assembler::Assembler;
+use crate::copying::copy_of;
 use crate::putting::Site;
 use crate::putting::values::wait;
 use ast65::Statement;
 use base65::Sequence;
+use emit65::Piece;
+use object65::Norm;
 use semantics65::Context;
 use std::alloc::{AllocError, Global};
 use symbols65::{Definition, Key, Measured, define, stable_form};
@@ -36,7 +41,7 @@ pub enum Mention {
 
 /// What waits of a name that is mentioned.
 fn piece_of(alloc: Global, mention: Mention, name: &[u8]) -> Result<Piece, AllocError>
-    ensures { IfOk result (λ p. (y : Symbols) (s : Context) → IsPiece y s p (mentioned mention name.now)) }
+    ensures { IfOk result (λ p. piece_of p ≡ mentioned mention name.now) }
 {
     let name = Sequence::from_vec(Vec::from_slice(alloc, name)?);
     match mention {
@@ -132,12 +137,33 @@ impl Assembler {
     {
         for name in names {
             let piece = piece_of(alloc, mention, name.as_slice())?;
-            wait(alloc, self, site, piece)?;
+            wait(self, site, piece)?;
         }
         Ok(())
     }
 
-    /// A constant is defined. Where its form isn't final it waits: its expression may have a fault.
+    /// A constant waits whose form isn't final: its expression may have a fault.
+    fn enter_constant(
+        &mut self,
+        alloc: Global,
+        site: Site<'_>,
+        value: &Expr,
+        form: &Option<Norm>,
+    ) -> Result<(), AllocError>
+        requires { (f : Form) → form.now ≡ Some f →
+            IsFinal (table_of self.old.symbols) site.context value.now f }
+        ensures entered { OnOk result (Enters (place_at site.entry.at)
+            site.entry.context (valued equated value.now ∷ []) self.old self.new) }
+        ensures tables { KeepsTables self.old self.new }
+    {
+        if form.is_some() {
+            return Ok(());
+        }
+        let value = copy_of(alloc, value)?;
+        wait(self, site, Piece::Constant(value))
+    }
+
+    /// A constant is defined.
     #[inline(never)]
     pub fn define_constant(
         &mut self,
@@ -161,8 +187,7 @@ impl Assembler {
     {
         let context = site.context;
         let form = stable_form(alloc, &self.symbols, context, &value)?;
-        let waits = form.is_none();
-        let place = self.symbols.definitions.len();
+        self.enter_constant(alloc, site, &value, &form)?;
         let scope = context.scope as usize;
         let definition = Definition {
             value: Some(value),
@@ -170,11 +195,7 @@ impl Assembler {
             size,
             form,
         };
-        self.define(alloc, Key::Named { scope, name }, definition)?;
-        if waits {
-            wait(alloc, self, site, Piece::Constant(place))?;
-        }
-        Ok(())
+        self.define(alloc, Key::Named { scope, name }, definition)
     }
 }
 

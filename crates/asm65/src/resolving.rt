@@ -8,15 +8,16 @@ ghost use Rattle.ast65.specs.Faults.{is_memory};
 ghost use Rattle.semantics65.specs.declared.laid.Context.{Context as Site};
 ghost use Rattle.semantics65.specs.Symbols.{defined, named};
 ghost use Rattle.semantics65.specs.Views.{place_at, said_at};
-ghost use Rattle.semantics65.specs.Module.{asserted, datum, quietly, used};
+ghost use Rattle.semantics65.specs.Module.{asserted, datum, made_of, quietly, used};
 ghost use Rattle.symbols65.specs.Resolving.{IsTable};
 ghost use Rattle.symbols65.specs.Views.{table_of};
-ghost use Rattle.asm65.specs.Inner.Running.{coming, made_in, noted};
+ghost use Rattle.asm65.specs.Inner.Running.{made_in, noted};
+ghost use Rattle.emit65.specs.Fed.{piece_of};
 
-use crate::assembler::{Fixup, Piece};
 use crate::putting::values::{is_file_name, literal_of, stored};
 use ast65::AsmFault;
 use base65::Sequence;
+use emit65::{Fixup, Piece};
 use object65::{Action, Norm, Width};
 use semantics65::{At, Context, Declaration, GLOBAL_SCOPE, Part};
 use std::alloc::{AllocError, Global};
@@ -139,8 +140,8 @@ pub fn resolve(
 ) -> Result<Made, AsmFault>
     requires { IsTable (table_of symbols.now) known.old.states.items }
     ensures made { Gives is_memory (made_in (place_at at.entry)) result
-        (coming (table_of symbols.now) (place_at at.entry)
-        fixup.context fixup.piece) }
+        (made_of (table_of symbols.now) (place_at at.entry)
+        fixup.context (piece_of fixup.piece)) }
     ensures table { OnOk result (IsTable (table_of symbols.now) known.new.states.items) }
 {
     let Fixup { context, piece, .. } = fixup;
@@ -154,8 +155,8 @@ pub fn resolve(
             let form = operand_form(alloc, width, context, form)?;
             use_datum(alloc, width, at, context, form)
         }
-        Piece::Constant(place) => {
-            defined_norm(alloc, symbols, known, place)?;
+        Piece::Constant(value) => {
+            norm(alloc, symbols, known, context, &value)?;
             Ok(nothing(alloc))
         }
         Piece::Assertion {

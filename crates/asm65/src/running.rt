@@ -4,7 +4,7 @@ ghost use Rattle.std.specs.Prelude.{◌≡◌, false, Err, IfErr, ◌<◌, IfOk,
 ghost use Rattle.base65.specs.Store.{Passes};
 ghost use Rattle.syntax65.specs.Tokens.{lexemes};
 ghost use Rattle.expand65.specs.Failing.{given_behind, given_parts, StopsOnItsWay};
-ghost use Rattle.expand65.specs.Standing.{stated, FollowsFrom, Opens, measure_of, place_of};
+ghost use Rattle.expand65.specs.Standing.{stated, FollowsFrom, IsPlaced, Opens, measure_of, place_of};
 ghost use Rattle.ast65.specs.declared.fault.AsmFault.TheVariants.{NotUnderstood, BadScope};
 ghost use Rattle.ast65.specs.Faults.{is_failure};
 ghost use Rattle.semantics65.specs.Numbering.{AreNamed, IsSound};
@@ -244,6 +244,8 @@ fn next<S: Store>(run: &mut Run, store: &mut S) -> Result<Option<Given>, ExpandF
     ensures stopped { IfSome (S.files store.old) (λ m. (t : State) → IsHeldBy t run.old →
         StopsOnItsWay m (S.blamed store.new) (known_at t.symbols t.cursor)
         run.old.expander result run.new.expander) }
+    ensures placed { IfSome (S.files store.old) (λ m.
+        IsPlaced m run.old.expander → OnOk result (IsPlaced m run.new.expander)) }
     ensures same { run.new.assembler ≡ run.old.assembler }
     ensures size { IfOk result (λ o. IfSome o (λ _.
         measure_of run.new.expander < measure_of run.old.expander)) }

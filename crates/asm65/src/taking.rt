@@ -17,7 +17,7 @@ ghost use Rattle.symbols65.specs.Resolving.{IsTable};
 ghost use Rattle.symbols65.specs.Views.{table_of};
 ghost use Rattle.asm65.specs.Inner.Holding.{Enters, Holds, KeepsTables, Asks, IsHeld, IsNew, IsPlaced, IsRefused, Turns, laid_as, stepped};
 
-use crate::assembler::{Assembler, Piece};
+use crate::assembler::Assembler;
 use crate::putting::Site;
 use crate::putting::statements::{
     enter_code, enter_operand_of, enter_part, enter_room, enter_values, is_so, operand_value,
@@ -26,6 +26,7 @@ use crate::putting::statements::{
 use crate::putting::values::wait;
 use ast65::{AsmFault, Operand, Statement};
 use base65::Sequence;
+use emit65::Piece;
 use object65::Action;
 use semantics65::{At, Context, Settled};
 use std::alloc::{AllocError, Global};
@@ -165,7 +166,6 @@ impl Assembler {
             return Ok(());
         }
         wait(
-            alloc,
             self,
             site,
             Piece::Assertion {

@@ -4,3 +4,4 @@ pub mod Lone
 pub mod OneStatements
 pub mod Parts
 pub mod Shown
+pub mod SomeStatements

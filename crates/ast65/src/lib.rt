@@ -4,6 +4,7 @@
 
 mod fault;
 mod language;
+pub mod laws;
 mod reading;
 
 pub use fault::AsmFault;

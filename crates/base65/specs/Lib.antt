@@ -1,6 +1,7 @@
 pub mod Digit
 pub mod MemStore
 pub mod Outcome
+pub mod Own
 pub mod Reading
 pub mod Relations
 pub mod Store

@@ -1,5 +1,5 @@
 -- What the calls of a store do to its files and to its count of failures.
-use Rattle.std.specs.Prelude.{◌≡◌, ℕ, ◌-◌, ◌^◌, ◌<◌, ◌≤◌, min, ◌⊎◌, List, [], ◌++◌, length, take, drop, Option, Some, None, Result, Ok, Err, Bool, true, IsErrOf, IsErrAnd, IfErr, IfSome, ⊤}
+use Rattle.std.specs.Prelude.{◌≡◌, ℕ, ◌-◌, ◌^◌, ◌<◌, ◌≤◌, min, ◌⊎◌, List, [], ◌++◌, length, take, drop, get_or, IfOk, Option, Some, None, Result, Ok, Err, Bool, true, IsErrOf, IsErrAnd, IfErr, IfSome, ⊤}
 use Rattle.std.specs.Ordering.{nat_cmp}
 use Rattle.std.specs.Cmp.Lexicographic.{slice_cmp}
 use Rattle.std.specs.FinMap.{FinMap, get, insert}
@@ -9,6 +9,14 @@ use Rattle.base65.specs.declared.store.StoreFault.TheVariants.{OutOfMemory, File
 -- files by the bytes of their names
 abbrev pub Files : Type 0
 Files = FinMap (slice_cmp nat_cmp) (List ℕ)
+
+-- each is a byte
+abbrev pub IsBytes : List ℕ → Type 0
+IsBytes xs = (i : ℕ) → get_or xs i 0 < 256
+
+-- where a file was read, what it has are bytes
+abbrev pub HoldsBytes : {T E : Type 0} → Option (List ℕ) → Result T E → Type 0
+HoldsBytes file result = IfOk result (λ x. IfSome file IsBytes)
 
 -- the count's last value
 abbrev pub last_count : ℕ
@@ -41,16 +49,33 @@ pub record Counts {T : Type 0} (old new : ℕ) (result : Result T StoreFault) : 
 abbrev pub Asks : {T E : Type 0} → (E → Bool) → ℕ → Result T E → Type 0
 Asks is_outside old result = old ≡ last_count → IsErrAnd result (λ e. is_outside e ≡ true)
 
--- the last failed call asked for this name, where the store tells for which
-abbrev pub IsBlamed : Option (List ℕ) → List ℕ → Type 0
-IsBlamed blamed name = IfSome blamed (λ n. n ≡ name)
+-- a call that failed: the file that it asked for, and where a reading began
+pub record FailedCall : Type 0 where
+  pub name : List ℕ
+  pub at : Option ℕ
 
--- which name the last failed call asked for, behind a call that asked for this one
-abbrev pub Blames : {T : Type 0} → List ℕ → Option (List ℕ) → Option (List ℕ) → Result T StoreFault → Type 0
-Blames name old new (Err FileError) = IsBlamed new name
-Blames name old new (Err FileNotFound) = new ≡ old
-Blames name old new (Err OutOfMemory) = new ≡ old
-Blames name old new (Ok x) = new ≡ old
+-- the call that failed last, where the store tells it
+abbrev pub Blamed : Type 0
+Blamed = Option FailedCall
+
+-- the last failed call asked for this file, where the store tells for which
+abbrev pub IsBlamed : Blamed → List ℕ → Type 0
+IsBlamed blamed name = IfSome blamed (λ c. c.name ≡ name)
+
+-- it was a reading of this file from there on, where the store tells that
+abbrev pub IsBlamedAt : Blamed → List ℕ → ℕ → Type 0
+IsBlamedAt blamed name at = IfSome blamed (λ c. (c.name ≡ name) × (c.at ≡ Some at))
+
+-- it was a reading of this file from a place between these on, where the store tells that
+abbrev pub IsBlamedIn : Blamed → List ℕ → ℕ → ℕ → Type 0
+IsBlamedIn blamed name begin end = IfSome blamed (λ c. (c.name ≡ name) × (at : ℕ) × (c.at ≡ Some at) × (begin ≤ at) × (at ≤ end))
+
+-- which call failed last, behind a call that is told so where it failed
+abbrev pub Blames : {T : Type 0} → (Blamed → Type 0) → Blamed → Blamed → Result T StoreFault → Type 0
+Blames IsTold old new (Err FileError) = IsTold new
+Blames IsTold old new (Err FileNotFound) = new ≡ old
+Blames IsTold old new (Err OutOfMemory) = new ≡ old
+Blames IsTold old new (Ok x) = new ≡ old
 
 -- The first n bytes of the buffer are those of what the file has from there on. There are none only at the
 -- file's end or where the buffer is empty.

@@ -3,7 +3,8 @@
 ghost use Rattle.std.specs.Prelude.{◌≡◌, ◌+◌, ◌<◌, ◌≤◌, min, take, drop, length, Option, Some, None, OnOk, OnErr, IfOk, IfSome, IfNone, slice_get, slice_set, [], IsErrOf};
 ghost use Rattle.std.specs.Option.{option_map, option_copied};
 ghost use Rattle.std.specs.FinMap as map;
-ghost use Rattle.base65.specs.Store.{ReadsAt, Fills, Appends};
+ghost use Rattle.std.proofs.Common.{rules};
+ghost use Rattle.base65.specs.Store.{ReadsAt, Fills, Appends, IsBytes};
 ghost use Rattle.base65.specs.MemStore.{place_of, files_of};
 
 use crate::{Store, StoreFault};
@@ -117,6 +118,19 @@ fn extend_file(files: &mut Vec<File>, name: &[u8], piece: &[u8]) -> Result<usize
     }
 }
 
+/// Puts what bytes have from a place on into the front of a buffer, and answers how many these are.
+fn copy_from(bytes: &[u8], at: u64, buf: &mut [u8]) -> usize
+    ensures fills { Fills (drop at bytes.now) result buf.new }
+    ensures bound { result ≤ length buf.new }
+    ensures bytes { IsBytes bytes.now }
+{
+    let start = (at as usize).min(bytes.len());
+    let rest = &bytes[start..];
+    let n = rest.len().min(buf.len());
+    buf[..n].copy_from_slice(&rest[..n]);
+    n
+}
+
 impl Store for MemStore {
     ghost files = { λ s. Some s };
 
@@ -126,11 +140,7 @@ impl Store for MemStore {
 
     fn read_at(&mut self, name: &str, at: u64, buf: &mut [u8]) -> Result<usize, StoreFault> {
         let bytes = self.get(name).ok_or(StoreFault::FileNotFound)?;
-        let start = (at as usize).min(bytes.len());
-        let rest = &bytes[start..];
-        let n = rest.len().min(buf.len());
-        buf[..n].copy_from_slice(&rest[..n]);
-        Ok(n)
+        Ok(copy_from(bytes, at, buf))
     }
 
     fn create(&mut self, name: &str) -> Result<(), StoreFault> {
@@ -140,4 +150,6 @@ impl Store for MemStore {
     fn append(&mut self, name: &str, piece: &[u8]) -> Result<usize, StoreFault> {
         extend_file(&mut self.files, name.as_bytes(), piece)
     }
+
+    ghost counted = { λ _. Prim.search rules };
 }

@@ -3,7 +3,7 @@
 ghost use Rattle.std.specs.Prelude.{◌≡◌, ◌≤◌, ◌<◌, ◌+◌, ◌^◌, IfOk, IfSome, IsErrOf, length};
 ghost use Rattle.std.specs.FinMap as map;
 ghost use Rattle.base65.specs.Outcome.{Gives};
-ghost use Rattle.base65.specs.Store.{Asks, IsBlamed, Passes};
+ghost use Rattle.base65.specs.Store.{Asks, HoldsBytes, IsBlamed, Passes};
 ghost use Rattle.base65.specs.StoreFaults.{is_outside_store};
 ghost use Rattle.base65.specs.Reading.{front_in, ReadsChunk};
 
@@ -23,6 +23,7 @@ fn read_chunk<S: Store>(
     requires want { want ≤ 4096 }
     requires room { at < 2 ^ 63 }
     ensures read { IfSome (S.files store.old) (λ m. ReadsChunk (map.get m name.now) at want bytes.old.items bytes.new.items result) }
+    ensures bytes { IfSome (S.files store.old) (λ m. HoldsBytes (map.get m name.now) result) }
     ensures grown { IfOk result (λ n. (n ≤ want) × (length bytes.new.items ≡ length bytes.old.items + n)) }
     ensures files { S.files store.new ≡ S.files store.old }
     ensures count { Passes StoreFault.FileError (S.failures store.old) (S.failures store.new) result }
@@ -44,6 +45,7 @@ pub fn read_front<S: Store>(
 ) -> Result<Vec<u8>, StoreFault>
     requires { most < 2 ^ 62 }
     ensures read { IfSome (S.files store.old) (λ m. Gives is_outside_store (λ v. v.items) result (front_in (map.get m name.now) most)) }
+    ensures bytes { IfSome (S.files store.old) (λ m. HoldsBytes (map.get m name.now) result) }
     ensures files { S.files store.new ≡ S.files store.old }
     ensures count { Passes StoreFault.FileError (S.failures store.old) (S.failures store.new) result }
     ensures blamed { IsErrOf result StoreFault.FileError → IsBlamed (S.blamed store.new) name.now }

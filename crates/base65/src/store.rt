@@ -4,7 +4,7 @@ ghost use Rattle.std.specs.Prelude.{◌≡◌, ◌≤◌, ◌<◌, ◌+◌, ◌^
 ghost use Rattle.std.specs.FinMap as map;
 ghost use Rattle.base65.specs.declared.store.StoreFault.TheVariants.{OutOfMemory, FileError};
 ghost use Rattle.base65.specs.StoreFaults.{is_outside_store};
-ghost use Rattle.base65.specs.Store.{Files, Asks, Blames, IsBlamed, Counts, ReadsAt, Creates, Appends, Tells, ReadsFull, Passes};
+ghost use Rattle.base65.specs.Store.{Files, Blamed, HoldsBytes, Asks, Blames, IsBlamed, IsBlamedAt, IsBlamedIn, last_count, Counts, ReadsAt, Creates, Appends, Tells, ReadsFull, Passes};
 
 use crate::seed::Seed;
 use std::alloc::{AllocError, AllocFailed};
@@ -57,8 +57,8 @@ pub trait Store {
     /// How often a call has failed.
     ghost failures: { Self → ℕ };
 
-    /// Which name the last failed call asked for, where the store tells it.
-    ghost blamed: { Self → Option (List ℕ) };
+    /// Which call failed last, where the store tells it.
+    ghost blamed: { Self → Blamed };
 
     /// What tables of names begin their hashes with in a run over these files.
     fn seed(&self) -> Seed {
@@ -69,15 +69,16 @@ pub trait Store {
     fn read_at(&mut self, name: &str, at: u64, buf: &mut [u8]) -> Result<usize, StoreFault>
         ensures bound { IfOk result (λ n. n ≤ length buf.new) }
         ensures read { IfSome (files self.old) (λ m. ReadsAt (map.get m name.now) at buf.new result) }
+        ensures bytes { IfSome (files self.old) (λ m. HoldsBytes (map.get m name.now) result) }
         ensures files { files self.new ≡ files self.old }
         ensures count { Counts (failures self.old) (failures self.new) result }
-        ensures blamed { Blames name.now (blamed self.old) (blamed self.new) result };
+        ensures blamed { Blames (λ b. IsBlamedAt b name.now at) (blamed self.old) (blamed self.new) result };
 
     /// Makes a file empty, and begins it where there is none.
     fn create(&mut self, name: &str) -> Result<(), StoreFault>
         ensures created { Tells (λ old new. Creates old name.now new result) (files self.old) (files self.new) }
         ensures count { Counts (failures self.old) (failures self.new) result }
-        ensures blamed { Blames name.now (blamed self.old) (blamed self.new) result };
+        ensures blamed { Blames (λ b. IsBlamed b name.now) (blamed self.old) (blamed self.new) result };
 
     /// Adds the first bytes of a piece behind a file's own, and answers how many it added: one at least of a
     /// piece that isn't empty.
@@ -85,7 +86,10 @@ pub trait Store {
         ensures bound { IfOk result (λ n. (n ≤ length piece.now) × (n ≡ 0 → length piece.now ≡ 0)) }
         ensures appended { Tells (λ old new. Appends old name.now piece.now new result) (files self.old) (files self.new) }
         ensures count { Counts (failures self.old) (failures self.new) result }
-        ensures blamed { Blames name.now (blamed self.old) (blamed self.new) result };
+        ensures blamed { Blames (λ b. IsBlamed b name.now) (blamed self.old) (blamed self.new) result };
+
+    /// The count of failures has a last value.
+    ghost counted: { (s : Self) → failures s ≤ last_count };
 }
 
 /// Reads until the buffer is full or the file ends.
@@ -98,9 +102,11 @@ pub fn read_full<S: Store>(
     requires { at + length buf.old < 2 ^ 64 }
     ensures bound { IfOk result (λ n. n ≤ length buf.new) }
     ensures read { IfSome (S.files store.old) (λ m. ReadsFull (map.get m name.now) at buf.new result) }
+    ensures bytes { IfSome (S.files store.old) (λ m. HoldsBytes (map.get m name.now) result) }
     ensures files { S.files store.new ≡ S.files store.old }
     ensures count { Passes FileError (S.failures store.old) (S.failures store.new) result }
     ensures blamed { IsErrOf result FileError → IsBlamed (S.blamed store.new) name.now }
+    ensures within { IsErrOf result FileError → IsBlamedIn (S.blamed store.new) name.now at (at + length buf.old) }
     ensures asked { Asks is_outside_store (S.failures store.old) result }
 {
     let mut done = 0;

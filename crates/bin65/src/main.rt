@@ -4,7 +4,7 @@
 use std::io::ErrorKind;
 use std::process::ExitCode;
 use std::{env, io};
-use tools65::{DiskStore, Seed, Status, print, run};
+use tools65::{DiskStore, Seed, Status, Stream, print, run_over};
 
 /// Runs the program's words as a command. It fails where memory runs out before they are there, or where some word isn't
 /// text.
@@ -18,7 +18,13 @@ fn run_words(rt: &HostRuntime) -> io::Result<Status> {
     let mut store = DiskStore::new(rt.alloc(), rt.clone()?).with_seed(seed);
     let mut out = rt.stdout();
     let mut err = rt.stderr();
-    Ok(run(rt.alloc(), words.as_slice(), &mut store, &mut out, &mut err))
+    Ok(run_over(
+        rt.alloc(),
+        words.as_slice(),
+        &mut store,
+        &mut Stream::over(&mut out),
+        &mut Stream::over(&mut err),
+    ))
 }
 
 /// What is said where no command could be run.
@@ -34,7 +40,7 @@ fn main(rt: HostRuntime) -> ExitCode {
         Ok(Status::Success) => ExitCode::SUCCESS,
         Ok(Status::Failure) => ExitCode::FAILURE,
         Err(error) => {
-            print(&mut rt.stderr(), text_of(&error));
+            print(&mut Stream::over(&mut rt.stderr()), text_of(&error));
             ExitCode::FAILURE
         }
     }

@@ -1,5 +1,6 @@
 pub mod CommandLine
 pub mod Defining
+pub mod Laws
 pub mod Line
 pub mod LineFaults
 pub mod Messages

@@ -5,6 +5,7 @@
 mod commands;
 mod defining;
 mod fault;
+pub mod laws;
 mod line;
 mod messages;
 mod numbers;

@@ -14,7 +14,7 @@ use Rattle.semantics65.specs.declared.contents.Declaration.TheVariants as told
 use Rattle.semantics65.specs.Numbering.{content_imports, imports_in, key_of, once, optional_key, said_imports}
 use Rattle.semantics65.specs.Views.{said_at}
 use Rattle.emit65.specs.declared.entries.Entry.{Entry}
-use Rattle.emit65.specs.declared.entries.Entry.TheVariants.{Bytes, Room, Value, Told, Open}
+use Rattle.emit65.specs.declared.entries.Entry.TheVariants.{Bytes, Room, Value, Told, Waits}
 use Rattle.emit65.specs.Fed.{content_of, names_of, place_by}
 
 pub once_append : (ks found ls : List ℕ) → once (once found ks) ls ≡ once found (ks ++ ls)
@@ -54,4 +54,4 @@ imports_anyhow names files more (Bytes g bytes ∷ es) = imports_anyhow names fi
 imports_anyhow names files more (Room g n ∷ es) = imports_anyhow names files more es
 imports_anyhow names files more (Value width g o f ∷ es) = ap (λ ks. ((imports_in f ++ []) ++ []) ++ ks) (imports_anyhow names files more es)
 imports_anyhow names files more (Told o ss ∷ es) = λ n. said_anywhere names (place_by files o) (place_by more o) ss n ++ imports_anyhow names files more es n
-imports_anyhow names files more (Open ∷ es) = imports_anyhow names files more es
+imports_anyhow names files more (Waits w ∷ es) = imports_anyhow names files more es

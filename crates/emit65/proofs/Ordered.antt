@@ -16,12 +16,13 @@ use Rattle.semantics65.specs.Contents.{put, telling, Content, Filled, Known, Par
 use Rattle.semantics65.specs.declared.contents.Declaration as telled
 use Rattle.semantics65.specs.declared.contents.Declaration.TheVariants as told
 use Rattle.semantics65.specs.declared.contents.Segment.{Segment}
-use Rattle.semantics65.specs.Numbering.{all_joined, all_said, assert_of, exports_among, fragment_of, fragments_of, import_keys, in_files, name_of, numbered, once, parts_in, section_of, segment_name, segment_power, object_with}
+use Rattle.semantics65.specs.Machine.{holds}
+use Rattle.semantics65.specs.Numbering.{all_joined, all_said, assert_of, exports_among, fragment_of, fragments_of, import_keys, in_files, name_of, numbered, once, parts_in, section_keys, section_of, segment_name, segment_power, object_with}
 use Rattle.semantics65.specs.Views.{said_at}
 use Rattle.emit65.specs.declared.entries.Entry.{Entry}
-use Rattle.emit65.specs.declared.entries.Entry.TheVariants.{Bytes, Room, Value, Told, Open}
+use Rattle.emit65.specs.declared.entries.Entry.TheVariants.{Bytes, Room, Value, Told, Waits}
 use Rattle.emit65.specs.declared.entries.SourcePos.{SourcePos}
-use Rattle.emit65.specs.Fed.{content_of, origin_by, place_by, stands_in, AreAlike, filled, StandIn, Stands, contents_in, names_in}
+use Rattle.emit65.specs.Fed.{content_of, contents_so_far, origin_by, place_by, stands_in, AreAlike, HasSlots, StandIn, names_in}
 use Rattle.emit65.specs.Inner.Drafts.{asserts_at, entry_asserts, exports_at, exports_from, object_before, in_order}
 use Rattle.emit65.proofs.Drafting.{fragment_put, fragments_put, section_put, sections_are}
 use Rattle.emit65.proofs.Exporting.{among_append}
@@ -29,9 +30,10 @@ use Rattle.emit65.proofs.Keys.{imports_anyhow}
 use Rattle.emit65.proofs.Naming.{found_there, is_listed, listed_there}
 use Rattle.emit65.proofs.Reordering.{is_listed_part, is_listed_said, object_at, ordered}
 use Rattle.emit65.proofs.Renumbering.{and, left, right}
-use Rattle.emit65.specs.declared.sections.Sections.{Sections}
-use Rattle.emit65.proofs.Alikes.{alike_trans, object_over, same_object}
-use Rattle.emit65.proofs.Fillings.{nothing_waits}
+use Rattle.emit65.specs.declared.sections.Closed.{Closed}
+use Rattle.emit65.proofs.Alikes.{object_over, same_object}
+use Rattle.emit65.proofs.Grown.{contents_of_slots}
+use Rattle.emit65.proofs.Slots.{held_contents}
 
 -- ---- The object of entries, in the order of its files, is that of their contents.
 
@@ -80,8 +82,8 @@ module _ (files : List (List ℕ)) (apart : IsDistinct bytes_eq files) where
     fragments_are h (Told o ss ∷ es) standing =
         fragments_are h es (others (Told o ss) es standing)
         ∙ ap (fragments_of at s i) (sym (told_parts (map (said_at (place_by files o)) ss) (contents es) h))
-    fragments_are h (Open ∷ es) standing =
-        fragments_are h es (others Open es standing)
+    fragments_are h (Waits w ∷ es) standing =
+        fragments_are h es (others (Waits w) es standing)
         ∙ ap (fragments_of at s i) (sym (told_parts [] (contents es) h))
 
     sections_at : (segments : List Segment) (es : List Entry) (keys : List ℕ) → StandIn (length files) es → map (section_put s i segments es) keys ≡ map (section_of at segments s i (contents es)) keys
@@ -105,7 +107,7 @@ module _ (files : List (List ℕ)) (apart : IsDistinct bytes_eq files) where
     exports_said found (Bytes g bytes ∷ es) standing = exports_said found es (others (Bytes g bytes) es standing)
     exports_said found (Room g n ∷ es) standing = exports_said found es (others (Room g n) es standing)
     exports_said found (Value width g o f ∷ es) standing = exports_said found es (others (Value width g o f) es standing)
-    exports_said found (Open ∷ es) standing = exports_said found es (others Open es standing)
+    exports_said found (Waits w ∷ es) standing = exports_said found es (others (Waits w) es standing)
     exports_said found (Told o ss ∷ es) standing =
         exports_said (exports_at s i (origin_by o) found ss) es (others (Told o ss) es standing)
         ∙ ap (λ found. exports_among at s i found (all_said (contents es))) (exports_are o found ss (origin_back o (first (Told o ss) es standing)))
@@ -122,7 +124,7 @@ module _ (files : List (List ℕ)) (apart : IsDistinct bytes_eq files) where
     asserts_said (Bytes g bytes ∷ es) standing = asserts_said es (others (Bytes g bytes) es standing)
     asserts_said (Room g n ∷ es) standing = asserts_said es (others (Room g n) es standing)
     asserts_said (Value width g o f ∷ es) standing = asserts_said es (others (Value width g o f) es standing)
-    asserts_said (Open ∷ es) standing = asserts_said es (others Open es standing)
+    asserts_said (Waits w ∷ es) standing = asserts_said es (others (Waits w) es standing)
     asserts_said (Told o ss ∷ es) standing =
         (λ n. asserts_are o ss (origin_back o (first (Told o ss) es standing)) n ++ asserts_said es (others (Told o ss) es standing) n)
         ∙ sym (filter_map-append (assert_of at s i) (map (said_at (place_by files o)) ss) (all_said (contents es)))
@@ -140,9 +142,9 @@ module _ (files : List (List ℕ)) (apart : IsDistinct bytes_eq files) where
     parts_listed h (Told o ss ∷ es) standing =
         ap (list_all (is_listed_part files apart s i)) (told_parts (map (said_at (place_by files o)) ss) (contents es) h)
         ∙ parts_listed h es (others (Told o ss) es standing)
-    parts_listed h (Open ∷ es) standing =
+    parts_listed h (Waits w ∷ es) standing =
         ap (list_all (is_listed_part files apart s i)) (told_parts [] (contents es) h)
-        ∙ parts_listed h es (others Open es standing)
+        ∙ parts_listed h es (others (Waits w) es standing)
 
     told_listed : (o : SourcePos) (ss : List telled.Declaration) → is_listed files apart (place_by files o) ≡ true → list_all (is_listed_said files apart s i) (map (said_at (place_by files o)) ss) ≡ true
     told_listed o [] h = refl
@@ -155,7 +157,7 @@ module _ (files : List (List ℕ)) (apart : IsDistinct bytes_eq files) where
     said_listed (Bytes g bytes ∷ es) standing = said_listed es (others (Bytes g bytes) es standing)
     said_listed (Room g n ∷ es) standing = said_listed es (others (Room g n) es standing)
     said_listed (Value width g o f ∷ es) standing = said_listed es (others (Value width g o f) es standing)
-    said_listed (Open ∷ es) standing = said_listed es (others Open es standing)
+    said_listed (Waits w ∷ es) standing = said_listed es (others (Waits w) es standing)
     said_listed (Told o ss ∷ es) standing =
         let mine = map (said_at (place_by files o)) ss in
         list_all-append (is_listed_said files apart s i) mine (all_said (contents es))
@@ -176,11 +178,20 @@ module _ (files : List (List ℕ)) (apart : IsDistinct bytes_eq files) where
 
 -- ---- The object of all that was fed.
 
--- the object of all entries is that of what they stand for
-pub finished : (segments : List Segment) (names : List (List ℕ)) (s : Sections) (es : List Entry) (cs : List Content) → IsDistinct bytes_eq (names_in s.files) → Stands cs [] s → AreAlike (contents_in (names_in s.files) [] s.entries) (filled (names_in s.files) [] es) → (StandIn (length (names_in s.files)) s.entries.done.items → StandIn (length (names_in s.files)) es) → in_order (names_in s.files) (object_before segments names s.asked.keys (import_keys names (map (content_of []) es)) es) ≡ object_with segments names cs
-finished segments names s es cs apart h same standing =
-    let files = names_in s.files in
-    entries_ordered files apart segments names s.asked.keys es (standing h.standing)
-    ∙ sym (same_object segments names s.asked.keys cs (map (content_of files) es)
-    (subst (λ (ds : List Content). AreAlike cs ds) (nothing_waits files es) (alike_trans cs (contents_in files [] s.entries) (filled files [] es) h.alike same)))
-    ∙ ap (λ ks. object_over segments names ks cs) (sym h.asked)
+-- contents that were fed are alike those of the entries
+contents_fed : (cs : List Content) (t : Closed) → HasSlots (map holds cs) t → AreAlike cs (map (content_of (names_in t.files)) t.entries.items)
+contents_fed cs t h =
+    let files = names_in t.files in
+    let es = t.entries.items in
+    subst (λ (ds : List Content). AreAlike ds (map (content_of files) es)) (held_contents (λ w. telling []) cs)
+    (subst (λ (ds : List Content). AreAlike (contents_so_far (map holds cs)) ds) (contents_of_slots files es) (h.alike.contents (λ w. telling [])))
+
+-- the object of all entries is that of what was fed
+pub finished : (segments : List Segment) (names : List (List ℕ)) (t : Closed) (cs : List Content) → IsDistinct bytes_eq (names_in t.files) → HasSlots (map holds cs) t → in_order (names_in t.files) (object_before segments names t.asked.keys (import_keys names (map (content_of []) t.entries.items)) t.entries.items) ≡ object_with segments names cs
+finished segments names t cs apart h =
+    let files = names_in t.files in
+    let es = t.entries.items in
+    let keys : section_keys cs ≡ t.asked.keys = ap section_keys (sym (held_contents (λ w. telling []) cs)) ∙ h.asked in
+    entries_ordered files apart segments names t.asked.keys es h.standing
+    ∙ sym (same_object segments names t.asked.keys cs (map (content_of files) es) (contents_fed cs t h))
+    ∙ ap (λ ks. object_over segments names ks cs) (sym keys)

@@ -3,16 +3,36 @@ use Rattle.std.proofs.Common.{arith, ◌≡◌, ◌∙◌, ℕ, Bool, true, fals
 use Rattle.std.specs.Prelude.{if◌then◌else◌}
 use Rattle.std.specs.List.{flat_map}
 use Rattle.std.proofs.lemmas.Grind.{common_steps, flat_map-append}
+use Rattle.std.proofs.lemmas.List.{map-append}
 use Rattle.semantics65.specs.Contents.{Content, Part, Declaration, Known, asking, put, telling}
+use Rattle.semantics65.specs.Machine.{Slot, holds}
 use Rattle.semantics65.specs.Numbering.{all_said, content_imports, once, part_imports, parts_in, section_keys, segments_asked}
 use Rattle.emit65.specs.declared.sections.Sections.{Sections}
-use Rattle.emit65.specs.Fed.{AreAlike, in_pieces, Feeds, Stands}
+use Rattle.emit65.specs.Fed.{AreAlike, AreSlotsAlike, content_by, contents_so_far, in_pieces, names_in, slots_in, Feeds, Stands}
 use Rattle.emit65.proofs.Alikes.{alike_back, alike_sym, alike_trans, bytes_alike, no_bytes_alike}
-use Rattle.emit65.proofs.Standings.{asked_more}
+use Rattle.emit65.proofs.Slots.{asked_more, held_alike, held_contents, slots_back, slots_sym, slots_trans}
 
 -- contents that are alike and ask for the same sections
-pub alike_stands : (cs ds ws : List Content) (s : Sections) → AreAlike cs ds → section_keys cs ≡ section_keys ds → Stands cs ws s → Stands ds ws s
-alike_stands cs ds ws s alike keys h = grind (arith, common_steps, alike_trans, alike_sym)
+pub alike_stands : (xs ys : List Slot) (s : Sections) → AreSlotsAlike xs ys → section_keys (contents_so_far xs) ≡ section_keys (contents_so_far ys) → Stands xs s → Stands ys s
+alike_stands xs ys s alike keys h = record {
+  asked = sym keys ∙ h.asked;
+  latest = h.latest;
+  alike = slots_trans ys xs (slots_in (names_in s.files) s.entries) (slots_sym xs ys alike) h.alike;
+  standing = h.standing;
+}
+
+-- contents behind the same
+pub held_stand : (xs : List Slot) (cs ds : List Content) (s : Sections) → AreAlike cs ds → segments_asked cs ≡ segments_asked ds → Stands (xs ++ map holds cs) s → Stands (xs ++ map holds ds) s
+held_stand xs cs ds s alike asks h =
+    alike_stands (xs ++ map holds cs) (xs ++ map holds ds) s (slots_back xs (map holds cs) (map holds ds) (held_alike cs ds alike))
+    (keys cs ∙ ap (once (section_keys (contents_so_far xs))) asks ∙ sym (keys ds))
+    h
+  where
+    keys : (es : List Content) → section_keys (contents_so_far (xs ++ map holds es)) ≡ once (section_keys (contents_so_far xs)) (segments_asked es)
+    keys es =
+        ap section_keys (map-append (content_by (λ w. telling [])) xs (map holds es))
+        ∙ ap (λ ds. section_keys (contents_so_far xs ++ ds)) (held_contents (λ w. telling []) es)
+        ∙ asked_more (contents_so_far xs) es
 
 -- ---- Bytes in one go.
 
@@ -32,12 +52,8 @@ runs_ask g f [] = refl
 runs_ask g f (x ∷ xs) = runs_ask g f xs
 
 -- sections that are fed the bytes of all in one go stand for what they are fed one by one
-pub runs_stand : {A : Type 0} (g : ℕ) (f : A → List ℕ) (xs : List A) (old new : Sections) → Feeds old new (put g (Known (flat_map f xs))) → (cs ws : List Content) → Stands cs ws old → Stands (cs ++ runs g f xs) ws new
-runs_stand g f xs old new feeds cs ws h =
-    let one : List Content = put g (Known (flat_map f xs)) ∷ [] in
-    alike_stands (cs ++ one) (cs ++ runs g f xs) ws new (alike_back cs one (runs g f xs) (runs_alike g f xs))
-    (asked_more cs one ∙ ap (once (section_keys cs)) (sym (runs_ask g f xs)) ∙ sym (asked_more cs (runs g f xs)))
-    (feeds cs ws h)
+pub runs_stand : {A : Type 0} (g : ℕ) (f : A → List ℕ) (xs : List A) (old new : Sections) → Feeds old new (holds (put g (Known (flat_map f xs)))) → (ys : List Slot) → Stands ys old → Stands (ys ++ map holds (runs g f xs)) new
+runs_stand g f xs old new feeds ys h = held_stand ys (put g (Known (flat_map f xs)) ∷ []) (runs g f xs) new (runs_alike g f xs) (sym (runs_ask g f xs)) (feeds ys h)
 
 -- ---- Its parts.
 
@@ -93,9 +109,5 @@ module _ (g : ℕ) (ps : List Part) (ss : List Declaration) where
   pieces_ask false = parts_ask g ps ss
 
 -- a content in pieces stands for the whole
-pub pieces_stand : (cs ws : List Content) (c : Content) (s : Sections) → Stands (cs ++ in_pieces c) ws s → Stands (cs ++ c ∷ []) ws s
-pieces_stand cs ws c s h =
-    alike_stands (cs ++ in_pieces c) (cs ++ c ∷ []) ws s
-    (alike_back cs (in_pieces c) (c ∷ []) (pieces_alike c.segment c.parts c.said c.asks))
-    (asked_more cs (in_pieces c) ∙ ap (once (section_keys cs)) (pieces_ask c.segment c.parts c.said c.asks) ∙ sym (asked_more cs (c ∷ [])))
-    h
+pub pieces_stand : (xs : List Slot) (c : Content) (s : Sections) → Stands (xs ++ map holds (in_pieces c)) s → Stands (xs ++ holds c ∷ []) s
+pieces_stand xs c s h = held_stand xs (in_pieces c) (c ∷ []) s (pieces_alike c.segment c.parts c.said c.asks) (pieces_ask c.segment c.parts c.said c.asks) h

@@ -1,11 +1,11 @@
-//! What was fed, in the order of the source: parts of sections, what is said, and what is open.
+//! What was fed, in the order of the source: parts of sections, what is said, and what waits.
 
-ghost use Rattle.std.specs.Prelude.{◌≡◌, ◌+◌, ◌<◌, ℕ, List, [], ◌∷◌, length, false, true, slice_get, None, Some, IfSome, IfNone, OnOk, IfOk, take};
-ghost use Rattle.std.specs.List.{list_any};
-ghost use Rattle.semantics65.specs.Contents.{Content, Filled, Known, put};
-ghost use Rattle.emit65.specs.declared.entries.Entry.TheVariants.{Open};
-ghost use Rattle.emit65.specs.Fed.{AreAlike, content_of, filled, is_open, open_count, origin_by, stands_in, DefersIn, IsAdded, IsSettled, SettlesIn, StandIn, Takes, TakesIn, contents_in};
+ghost use Rattle.std.specs.Prelude.{◌≡◌, ◌+◌, ℕ, List, [], ◌∷◌, length, map, true, OnOk, IfOk};
+ghost use Rattle.semantics65.specs.Contents.{Filled, Known, put};
+ghost use Rattle.semantics65.specs.Machine.{holds};
+ghost use Rattle.emit65.specs.Fed.{AreSlotsAlike, origin_by, slot_of, slots_in, stands_in, IsAdded, StandIn, Takes, TakesIn};
 
+use crate::fixups::Fixup;
 use base65::Sequence;
 use object65::{Norm, Origin, Width};
 use semantics65::Declaration;
@@ -57,8 +57,8 @@ pub enum Entry {
         pos: SourcePos,
         said: Sequence<Declaration>,
     },
-    /// What waits.
-    Open,
+    /// What waits. It is large, and few entries wait.
+    Waits(Box<Fixup>),
 }
 
 /// Entries in the order of the source. Those put last, bytes and room behind them in one section, may still grow.
@@ -66,8 +66,6 @@ pub enum Entry {
 pub struct Entries {
     pub alloc: Global,
     pub done: Vec<Entry>,
-    /// No entry in front of this place is open.
-    pub settled: usize,
     /// The segment of what may grow.
     pub segment: u32,
     pub bytes: Sequence<u8>,
@@ -84,35 +82,14 @@ pub fn sum_of(left: u32, right: u32) -> Result<u32, AllocError>
     }
 }
 
-/// The place of the first open entry, where none in front of a place is open.
-fn next_open(entries: &[Entry], from: usize) -> Option<usize>
-    ensures within { IfSome result (λ i. i < length entries.now) }
-    ensures waits { IfSome result (λ i. slice_get entries.now i ≡ Some Open) }
-    ensures first { list_any is_open (take from entries.now) ≡ false →
-        IfSome result (λ i. list_any is_open (take i entries.now) ≡ false) }
-    ensures none { list_any is_open (take from entries.now) ≡ false →
-        IfNone result (list_any is_open entries.now ≡ false) }
-{
-    for i in from..entries.len() {
-        if let Entry::Open = &entries[i] {
-            return Some(i);
-        }
-    }
-    None
-}
-
 impl Entries {
     pub fn new(alloc: Global) -> Self
-        ensures none { (files : List (List ℕ)) (ws : List Content) →
-            AreAlike [] (contents_in files ws result) }
-        ensures waits { open_count result.done.items ≡ 0 }
-        ensures settled { IsSettled result }
+        ensures none { (files : List (List ℕ)) → AreSlotsAlike [] (slots_in files result) }
         ensures standing { (count : ℕ) → StandIn count result.done.items }
     {
         Entries {
             alloc,
             done: Vec::new(alloc),
-            settled: 0,
             segment: 0,
             bytes: Sequence::new(alloc),
             room: 0,
@@ -173,7 +150,7 @@ impl Entries {
 
     /// Adds bytes to the section of a segment.
     pub fn add_bytes(&mut self, segment: u32, bytes: &[u8]) -> Result<(), AllocError>
-        ensures { OnOk result (Takes self.old self.new (put segment (Known bytes.now) ∷ [])) }
+        ensures { OnOk result (Takes self.old self.new (holds (put segment (Known bytes.now)) ∷ [])) }
     {
         if self.room > 0 {
             self.close()?;
@@ -185,50 +162,27 @@ impl Entries {
 
     /// Adds room of so many bytes to the section of a segment.
     pub fn add_room(&mut self, segment: u32, count: u32) -> Result<(), AllocError>
-        ensures { OnOk result (Takes self.old self.new (put segment (Filled count) ∷ [])) }
+        ensures { OnOk result (Takes self.old self.new (holds (put segment (Filled count)) ∷ [])) }
     {
         self.begin(segment)?;
         self.room = sum_of(self.room, count)?;
         Ok(())
     }
 
-    /// Adds an entry that doesn't wait.
+    /// Adds an entry.
     pub fn push(&mut self, entry: Entry) -> Result<(), AllocError>
-        requires { is_open entry ≡ false }
         ensures { OnOk result ((files : List (List ℕ)) → stands_in (length files) entry ≡ true →
-            TakesIn files self.old self.new (content_of files entry ∷ [])) }
+            TakesIn files self.old self.new (slot_of files entry ∷ [])) }
     {
         self.close()?;
         self.add(entry)?;
         Ok(())
     }
 
-    /// Adds an entry that waits.
-    pub fn defer(&mut self) -> Result<(), AllocError>
-        ensures { OnOk result ((files : List (List ℕ)) → DefersIn files self.old self.new) }
-    {
-        self.close()?;
-        self.add(Entry::Open)?;
-        Ok(())
-    }
-
-    /// Gives the first open entry its content.
-    pub fn settle(&mut self, entry: Entry)
-        requires { is_open entry ≡ false }
-        ensures { (files : List (List ℕ)) → stands_in (length files) entry ≡ true →
-            IsSettled self.old → SettlesIn files self.old self.new (content_of files entry) }
-    {
-        let Some(place) = next_open(self.done.as_slice(), self.settled) else {
-            return;
-        };
-        self.done[place] = entry;
-        self.settled = place + 1;
-    }
-
     /// All entries.
     pub fn into_list(self) -> Result<Vec<Entry>, AllocError>
-        ensures alike { IfOk result (λ list. (files : List (List ℕ)) (ws : List Content) →
-            AreAlike (contents_in files ws self) (filled files ws list.items)) }
+        ensures alike { IfOk result (λ list. (files : List (List ℕ)) →
+            AreSlotsAlike (slots_in files self) (map (slot_of files) list.items)) }
         ensures standing { IfOk result (λ list. (files : List (List ℕ)) →
             StandIn (length files) self.done.items → StandIn (length files) list.items) }
     {

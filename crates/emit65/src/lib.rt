@@ -3,10 +3,13 @@
 
 mod entries;
 mod files;
+mod fixups;
 pub mod laws;
 mod numbering;
 mod sections;
 
+pub use entries::{Entry, SourcePos};
 pub use files::Files;
+pub use fixups::{Fixup, Piece};
 pub use numbering::Imports;
-pub use sections::Sections;
+pub use sections::{Closed, Sections};

@@ -1,19 +1,21 @@
 //! Sections that are fed.
 
 ghost use Rattle.std.specs.Prelude.{◌≡◌, ◌<◌, length, IfOk, map, [], List, replicate, true, OnOk};
-ghost use Rattle.semantics65.specs.Contents.{put, telling, Content, Filled, Known, Waiting, asking};
-ghost use Rattle.semantics65.specs.Views.{part_at, place_in, said_at};
-ghost use Rattle.emit65.specs.Fed.{place_by, Begins, IsEntry, names_in, names_of, Awaits, Feeds, Receives, Stands};
+ghost use Rattle.semantics65.specs.Contents.{put, Content, Filled, Known, Waiting, asking};
+ghost use Rattle.semantics65.specs.Machine.{Slot, holds};
+ghost use Rattle.semantics65.specs.Views.{place_in};
+ghost use Rattle.emit65.specs.Fed.{place_by, Begins, names_in, names_of, waiting, Feeds, HasSlots, Stands};
 ghost use Rattle.object65.specs.Objects.{is_good_object, ObjectFits};
 ghost use Rattle.semantics65.specs.Numbering.{object_with, AreSound};
 
 use crate::entries::{Entries, Entry, SourcePos};
 use crate::files::Files;
+use crate::fixups::{Fixup, Piece};
 use crate::numbering::{Imports, in_order, narrow, object_of};
-use base65::{Seed, Sequence};
+use base65::Seed;
 use indexmap::IndexSet;
 use object65::{Norm, Object, Width};
-use semantics65::{At, Declaration, Part, Segment};
+use semantics65::{At, Context, Segment};
 use std::alloc::{AllocError, Global};
 
 impl Files {
@@ -29,33 +31,6 @@ impl Files {
             file: narrow(place)?,
             line: at.line,
         })
-    }
-
-    /// A part of the section of a segment, of a statement that stands at this place. A value alone needs it.
-    fn put(
-        &mut self,
-        alloc: Global,
-        segment: u32,
-        at: At<'_>,
-        part: Part,
-    ) -> Result<Entry, AllocError>
-        ensures more { Begins (names_in self.old) (names_in self.new) }
-        ensures entry { IfOk result (λ e. IsEntry (names_in self.new) e (put segment
-            (part_at (place_in at.entry.file.now at.entry.line) part))) }
-    {
-        match part {
-            Part::Known(bytes) => Ok(Entry::Bytes { segment, bytes }),
-            Part::Filled(count) => Ok(Entry::Room { segment, count }),
-            Part::Waiting { width, form } => {
-                let pos = self.pos_of(alloc, at)?;
-                Ok(Entry::Value {
-                    width,
-                    segment,
-                    pos,
-                    form,
-                })
-            }
-        }
     }
 }
 
@@ -75,7 +50,7 @@ pub struct Sections {
 impl Sections {
     /// No section, and nothing said.
     pub fn new(alloc: Global, seed: Seed) -> Self
-        ensures { Stands [] [] result }
+        ensures { Stands [] result }
     {
         Sections {
             asked: IndexSet::new(alloc),
@@ -87,7 +62,7 @@ impl Sections {
 
     /// Asks for a section of a segment. Sections have the order in which they are first asked for.
     pub fn ask(&mut self, segment: u32) -> Result<(), AllocError>
-        ensures { OnOk result (Feeds self.old self.new (asking segment)) }
+        ensures { OnOk result (Feeds self.old self.new (holds (asking segment))) }
     {
         if let Some(latest) = self.latest {
             if latest == segment {
@@ -101,7 +76,7 @@ impl Sections {
 
     /// Puts bytes into the section of a segment.
     pub fn append(&mut self, segment: u32, bytes: &[u8]) -> Result<(), AllocError>
-        ensures { OnOk result (Feeds self.old self.new (put segment (Known bytes.now))) }
+        ensures { OnOk result (Feeds self.old self.new (holds (put segment (Known bytes.now)))) }
     {
         self.entries.add_bytes(segment, bytes)?;
         Ok(())
@@ -109,7 +84,8 @@ impl Sections {
 
     /// Puts so many bytes of one value into the section of a segment.
     pub fn fill(&mut self, segment: u32, count: u32, byte: u8) -> Result<(), AllocError>
-        ensures { OnOk result (Feeds self.old self.new (put segment (Known (replicate count byte)))) }
+        ensures { OnOk result (Feeds self.old self.new
+            (holds (put segment (Known (replicate count byte))))) }
     {
         let mut bytes = Vec::new(self.entries.alloc);
         bytes.resize(count as usize, byte)?;
@@ -119,7 +95,7 @@ impl Sections {
 
     /// Puts room of so many bytes into the section of a segment, which the linker fills.
     pub fn room(&mut self, segment: u32, count: u32) -> Result<(), AllocError>
-        ensures { OnOk result (Feeds self.old self.new (put segment (Filled count))) }
+        ensures { OnOk result (Feeds self.old self.new (holds (put segment (Filled count)))) }
     {
         self.entries.add_room(segment, count)?;
         Ok(())
@@ -133,57 +109,38 @@ impl Sections {
         at: At<'_>,
         form: Norm,
     ) -> Result<(), AllocError>
-        ensures { OnOk result (Feeds self.old self.new
-            (put segment (Waiting width (place_in at.entry.file.now at.entry.line) form))) }
-    {
-        let part = Part::Waiting { width, form };
-        let entry = self.files.put(self.entries.alloc, segment, at, part)?;
-        self.entries.push(entry)?;
-        Ok(())
-    }
-
-    /// Defers what comes here: a part of a section, or what a statement says. What is deferred is settled in the same
-    /// order.
-    pub fn defer(&mut self) -> Result<(), AllocError>
-        ensures { OnOk result (Awaits self.old self.new) }
-    {
-        self.entries.defer()?;
-        Ok(())
-    }
-
-    /// Settles the first that is still deferred, as a part of the section of a segment. Its statement stands at this
-    /// place.
-    pub fn settle(&mut self, segment: u32, at: At<'_>, part: Part) -> Result<(), AllocError>
-        ensures { OnOk result (Receives self.old self.new
-            (put segment (part_at (place_in at.entry.file.now at.entry.line) part))) }
-    {
-        let entry = self.files.put(self.entries.alloc, segment, at, part)?;
-        self.entries.settle(entry);
-        Ok(())
-    }
-
-    /// Settles the first that is still deferred, as what a statement says that stands at this place.
-    pub fn settle_said(&mut self, at: At<'_>, said: Sequence<Declaration>) -> Result<(), AllocError>
-        ensures { OnOk result (Receives self.old self.new
-            (telling (map (said_at (place_in at.entry.file.now at.entry.line)) said))) }
+        ensures { OnOk result (Feeds self.old self.new (holds
+            (put segment (Waiting width (place_in at.entry.file.now at.entry.line) form)))) }
     {
         let pos = self.files.pos_of(self.entries.alloc, at)?;
-        self.entries.settle(Entry::Told { pos, said });
+        self.entries.push(Entry::Value {
+            width,
+            segment,
+            pos,
+            form,
+        })?;
         Ok(())
     }
 
-    /// The object of a module: of its segments, the names of its imports in the order of their keys, and what was fed.
-    pub fn finish(
-        self,
-        alloc: Global,
-        segments: &[Segment],
-        imports: &Imports,
-    ) -> Result<Object, AllocError>
-        ensures object { IfOk result (λ o. (cs : List Content) → Stands cs [] self →
-            o ≡ object_with segments.now (names_of imports.now) cs) }
-        ensures numbers { IfOk result ObjectFits }
-        ensures good { IfOk result (λ o. (cs : List Content) → Stands cs [] self →
-            AreSound segments.now (names_of imports.now) cs → is_good_object o ≡ true) }
+    /// Leaves room for what a piece of a statement comes to, which waits here. The statement stands at this place.
+    pub fn wait(&mut self, at: At<'_>, context: Context, piece: Piece) -> Result<(), AllocError>
+        ensures { OnOk result (Feeds self.old self.new
+            (waiting (place_in at.entry.file.now at.entry.line) context piece)) }
+    {
+        let pos = self.files.pos_of(self.entries.alloc, at)?;
+        let fixup = Fixup {
+            pos,
+            context,
+            piece,
+        };
+        let fixup = Box::new(self.entries.alloc, fixup)?;
+        self.entries.push(Entry::Waits(fixup))?;
+        Ok(())
+    }
+
+    /// What was fed, behind the last statement.
+    pub fn close(self) -> Result<Closed, AllocError>
+        ensures { IfOk result (λ t. (xs : List Slot) → Stands xs self → HasSlots xs t) }
     {
         let Sections {
             asked,
@@ -192,6 +149,44 @@ impl Sections {
             entries,
         } = self;
         let entries = entries.into_list()?;
+        Ok(Closed {
+            asked,
+            files,
+            entries,
+        })
+    }
+}
+
+/// What was fed, behind the last statement, where entries no longer grow.
+#[derive(Drop)]
+pub struct Closed {
+    /// The segments of which a section was asked for.
+    pub asked: IndexSet<u32>,
+    /// The files in which entries stand.
+    pub files: Files,
+    pub entries: Vec<Entry>,
+}
+
+impl Closed {
+    /// The object of a module: of its segments, the names of its imports in the order of their keys, and what was fed, of
+    /// which nothing waits any more.
+    pub fn finish(
+        self,
+        alloc: Global,
+        segments: &[Segment],
+        imports: &Imports,
+    ) -> Result<Object, AllocError>
+        ensures object { IfOk result (λ o. (cs : List Content) → HasSlots (map holds cs) self →
+            o ≡ object_with segments.now (names_of imports.now) cs) }
+        ensures numbers { IfOk result ObjectFits }
+        ensures good { IfOk result (λ o. (cs : List Content) → HasSlots (map holds cs) self →
+            AreSound segments.now (names_of imports.now) cs → is_good_object o ≡ true) }
+    {
+        let Closed {
+            asked,
+            files,
+            entries,
+        } = self;
         let object = object_of(alloc, segments, imports, asked, entries)?;
         in_order(alloc, &files, object)
     }

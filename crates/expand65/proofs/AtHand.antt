@@ -6,7 +6,7 @@ use Rattle.std.proofs.Math.Seq.{drop-append_seam, take-append_seam}
 use Rattle.base65.specs.Store.{Files}
 use Rattle.syntax65.specs.Tokens.{Lexeme}
 use Rattle.expand65.specs.Fronts.{front_directive, is_mislabelled, label_len, line_directive}
-use Rattle.expand65.specs.Standing.{left_of, NamesFiles, state_of, FollowsFrom, fronted, measure_of, place_of, state_in, stated}
+use Rattle.expand65.specs.Standing.{left_of, state_of, FollowsFrom, fronted, measure_of, place_of, state_in, stated}
 use Rattle.expand65.specs.Lines.{labelled, Takes}
 use Rattle.expand65.specs.Playing.{tokens_in}
 use Rattle.expand65.specs.declared.fronts.Directive.{Directive}
@@ -85,35 +85,35 @@ reaches_behind m k s _ n (goes_once _ t u h step) r = reaches_behind m k s t n h
 
 -- ---- The statements of a line that is taken.
 
-follows_given : (m : Files) (k : Meaning) (old new : Expander) (x : Statement) (y : Stated) → stated x ≡ y → old.failed ≡ false → new.failed ≡ old.failed → (NamesFiles old.rewriter.reader → NamesFiles new.rewriter.reader) → Reaches m k (state_in m old) (statement y (state_in m new)) → FollowsFrom m k old (Ok (Some x)) new
-follows_given m k old new x y is right same named h = grind (arith, common_steps)
+follows_given : (m : Files) (k : Meaning) (old new : Expander) (x : Statement) (y : Stated) → stated x ≡ y → old.failed ≡ false → new.failed ≡ old.failed → Reaches m k (state_in m old) (statement y (state_in m new)) → FollowsFrom m k old (Ok (Some x)) new
+follows_given m k old new x y is right same h = grind (arith, common_steps)
 
 -- one statement more
-more : (old mid new : Expander) (x : Statement) (y : Stated) (ys : List Stated) → stated x ≡ y → old.failed ≡ false → mid.failed ≡ old.failed → (NamesFiles old.rewriter.reader → NamesFiles mid.rewriter.reader) → ((m : Files) (k : Meaning) → Reaches m k (state_in m old) (statement y (state_in m mid))) → measure_of mid < measure_of old → place_of mid ≡ place_of new → Gives mid ys new → Gives old (y ∷ ys) new
-more old mid new x y ys is right same named reaches less at rest =
+more : (old mid new : Expander) (x : Statement) (y : Stated) (ys : List Stated) → stated x ≡ y → old.failed ≡ false → mid.failed ≡ old.failed → ((m : Files) (k : Meaning) → Reaches m k (state_in m old) (statement y (state_in m mid))) → measure_of mid < measure_of old → place_of mid ≡ place_of new → Gives mid ys new → Gives old (y ∷ ys) new
+more old mid new x y ys is right same reaches less at rest =
     let P : Stated → Type 0 = λ z. Gives old (z ∷ ys) new in
-    subst P is (one_more old mid new x ys (record { next = λ m k. follows_given m k old mid x y is right same named (reaches m k); less = less }) at rest)
+    subst P is (one_more old mid new x ys (record { next = λ m k. follows_given m k old mid x y is right same (reaches m k); less = less }) at rest)
 
 none_more : (e : Expander) → Gives e [] e
-none_more e = none e e (record { goes = λ m k. no_step (state_in m e); failed = refl; named = λ h. h; size = omega arith })
+none_more e = none e e (record { goes = λ m k. no_step (state_in m e); failed = refl; size = omega arith })
 
 -- what stands behind a label
 rest_given : (old : Expander) (reader : Reader) (ts : List Lexeme) → old.failed ≡ false → front_directive ts ≡ None → CallsNone old.rewriter ts → Gives (behind old reader (Rest (line_of ts))) (given_behind ts) (behind old reader Nothing)
 rest_given old reader [] right d calls =
     let mid = behind old reader (Rest (line_of [])) in
     let new = behind old reader Nothing in
-    none mid new (record { goes = λ m k. goes_once (state_in m mid) (state_in m mid) (state_in m new) (no_step (state_in m mid)) (step_nothing m k (state_of m new.rewriter)); failed = refl; named = λ h. h; size = omega arith })
+    none mid new (record { goes = λ m k. goes_once (state_in m mid) (state_in m mid) (state_in m new) (no_step (state_in m mid)) (step_nothing m k (state_of m new.rewriter)); failed = refl; size = omega arith })
 rest_given old reader (t ∷ ts) right d calls =
     let mid = behind old reader (Rest (line_of (t ∷ ts))) in
     let new = behind old reader Nothing in
     let kept = line_kept (t ∷ ts) in
-    more mid new new (Plain (line_of (t ∷ ts))) (plain (t ∷ ts)) [] (ap plain kept) right refl (λ h. h) (λ m k.
+    more mid new new (Plain (line_of (t ∷ ts))) (plain (t ∷ ts)) [] (ap plain kept) right refl (λ m k.
     let s = state_of m new.rewriter in
     let P : Option Directive → Type 0 = λ o. Leads m (acted k s (t ∷ ts) o) (gives (plain (t ∷ ts)) s) in
     let Q : List Lexeme → Type 0 = λ l. Leads m (acted k s l (front_directive l)) (gives (plain (t ∷ ts)) s) in
     given (state_in m mid) s (plain (t ∷ ts)) (step_rest m k mid (line_of (t ∷ ts)) (gives (plain (t ∷ ts)) s) refl (subst Q (sym kept) (subst P (sym d) (no_call m new.rewriter t ts calls))))) (omega arith) refl (none_more new)
 
-module _ (old : Expander) (reader : Reader) (right : old.failed ≡ false) (bare : old.front ≡ Nothing) (named : NamesFiles old.rewriter.reader → NamesFiles reader) (some : 0 < old.rewriter.reader.room) (fewer : reader.room ≡ old.rewriter.reader.room - 1) (outer : reader.outer ≡ old.rewriter.reader.outer) where
+module _ (old : Expander) (reader : Reader) (right : old.failed ≡ false) (bare : old.front ≡ Nothing) (some : 0 < old.rewriter.reader.room) (fewer : reader.room ≡ old.rewriter.reader.room - 1) (outer : reader.outer ≡ old.rewriter.reader.outer) where
   as_many : length reader.outer.items ≡ length old.rewriter.reader.outer.items
   as_many = ap (λ x. length x.items) outer
 
@@ -129,10 +129,10 @@ module _ (old : Expander) (reader : Reader) (right : old.failed ≡ false) (bare
   pub line_given : (n : ℕ) (ts : List Lexeme) → IsGivenAs n old.rewriter ts → ((m : Files) → Takes (left_of m old.rewriter.reader) (Ok (Some ts, left_of m reader))) → Gives old (given_parts (take n ts) (drop n ts)) (behind old reader Nothing)
   line_given zero [] (e, d, calls) taken =
       let new = behind old reader Nothing in
-      none old new (record { goes = λ m k. goes_once (state_in m old) (state_in m old) (state_in m new) (no_step (state_in m old)) (from m (λ s. IsStep m k s (goes (state_in m new))) (step_acted m k old.rewriter reader [] (taken m) (goes (state_in m new)) e d refl)); failed = refl; named = named; size = omega (arith, less_behind) })
+      none old new (record { goes = λ m k. goes_once (state_in m old) (state_in m old) (state_in m new) (no_step (state_in m old)) (from m (λ s. IsStep m k s (goes (state_in m new))) (step_acted m k old.rewriter reader [] (taken m) (goes (state_in m new)) e d refl)); failed = refl; size = omega (arith, less_behind) })
   line_given zero (t ∷ ts) (e, d, calls) taken =
       let new = behind old reader Nothing in
-      more old new new (Plain (line_of (t ∷ ts))) (plain (t ∷ ts)) [] (ap plain (line_kept (t ∷ ts))) right refl named (λ m k.
+      more old new new (Plain (line_of (t ∷ ts))) (plain (t ∷ ts)) [] (ap plain (line_kept (t ∷ ts))) right refl (λ m k.
       let s = state_in m new in
       given (state_in m old) s (plain (t ∷ ts)) (from m (λ z. IsStep m k z (gives (plain (t ∷ ts)) s)) (step_acted m k old.rewriter reader (t ∷ ts) (taken m) (gives (plain (t ∷ ts)) s) e d (no_call m new.rewriter t ts calls)))) less_behind refl (none_more new)
   line_given (suc n) [] (e, d, calls) taken = absurd cc
@@ -140,7 +140,7 @@ module _ (old : Expander) (reader : Reader) (right : old.failed ≡ false) (bare
       let ts = t ∷ us in
       let rest = drop (suc n) ts in
       let mid = behind old reader (Rest (line_of rest)) in
-      more old mid (behind old reader Nothing) (Label (line_of (take (suc n) ts))) (label (take (suc n) ts)) (given_behind rest) (ap label (line_kept (take (suc n) ts))) right refl named (λ m k.
+      more old mid (behind old reader Nothing) (Label (line_of (take (suc n) ts))) (label (take (suc n) ts)) (given_behind rest) (ap label (line_kept (take (suc n) ts))) right refl (λ m k.
       let s = state_of m mid.rewriter in
       let P : List Lexeme → Type 0 = λ l. Reaches m k (state_in m old) (statement (label (take (suc n) ts)) (with_items s (labelled l ∷ s.left.items))) in
       let to = with_items s (labelled rest ∷ s.left.items) in

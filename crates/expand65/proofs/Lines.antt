@@ -253,7 +253,7 @@ piece_too_long line here behind n h e le long =
     subst Q whole (part_is_long (line ++ take n here) (drop n here ++ behind) (part_append line (take n here) h piece) more)
 
 -- what stands behind the bytes before a line's end
-stops : (bs : List ℕ) (b : ℕ) (cs : List ℕ) → drop (prefix_len is_inside bs) bs ≡ b ∷ cs → is_line_end b ≡ true
+pub stops : (bs : List ℕ) (b : ℕ) (cs : List ℕ) → drop (prefix_len is_inside bs) bs ≡ b ∷ cs → is_line_end b ≡ true
 stops [] b cs e = absurd cc
 stops (a ∷ bs) b cs e = grind (arith, common_steps, (stops bs b cs), prefix_end, prefix_more)
 

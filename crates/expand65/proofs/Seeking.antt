@@ -10,7 +10,7 @@ use Rattle.std.proofs.lemmas.List.{length-drop, take_more}
 use Rattle.std.proofs.lemmas.List.Folds.{list_any-append}
 use Rattle.std.proofs.lemmas.Str.{IsUtf8-from_is_utf8}
 use Rattle.base65.specs.Outcome.{Unless}
-use Rattle.base65.specs.Store.{Files, IsBlamed, ReadsAt}
+use Rattle.base65.specs.Store.{Files, IsBlamedAt, ReadsAt, Blamed}
 use Rattle.syntax65.specs.Faults.{is_outside}
 use Rattle.expand65.specs.Failing.{IsAmong}
 use Rattle.expand65.specs.Expansion.{file_named, first_file, folder_of, found_or, is_slash}
@@ -102,7 +102,7 @@ is_refused m name others f u h = grind (arith, common_steps)
 
 -- ---- The name that was asked for.
 
-pub among_at : (blamed : Option (List ℕ)) (f : List ℕ → List ℕ) (l : List (List ℕ)) (i : ℕ) (d : List ℕ) → i < length l → IsBlamed blamed (f (get_or l i d)) → IsAmong blamed (map f l)
+pub among_at : (blamed : Blamed) (f : List ℕ → List ℕ) (l : List (List ℕ)) (i : ℕ) (d : List ℕ) → i < length l → IsBlamedAt blamed (f (get_or l i d)) 16777216 → IsAmong blamed (map f l)
 among_at blamed f [] i d h k = absurd (omega (arith, h))
 among_at blamed f (x ∷ l) zero d h k = inl k
 among_at blamed f (x ∷ l) (suc i) d h k = inr (among_at blamed f l i d (omega (arith, h)) k)

@@ -3,7 +3,7 @@ use Rattle.std.proofs.lemmas.Grind.{common_steps}
 use Rattle.std.proofs.Common.{arith, ◌≡◌, ℕ, List, [], ◌∷◌, ◌++◌, Bool, true, false, Option, Some, None, IfSome, Ok, Err, ap, refl, sym, subst, ◌∙◌, inl, inr, Result}
 use Rattle.std.specs.Prelude.{if◌then◌else◌}
 use Rattle.base65.specs.Outcome.{Unless}
-use Rattle.base65.specs.Store.{Files}
+use Rattle.base65.specs.Store.{Files, Blamed}
 use Rattle.syntax65.specs.Tokens.{Lexeme}
 use Rattle.std.specs.Option.{option_map_or}
 use Rattle.expand65.specs.Blocks.{Block, Whole}
@@ -107,44 +107,44 @@ pub only_error : (f : ExpandFault) → is_failure f ≡ true → f ≡ FileError
 only_error x h = grind (arith, common_steps)
 
 -- the same step, by another word
-pub stops_by : {A : Type 0} (o : Option Files) (blamed : Option (List ℕ)) (x y : Files → Step) (old new : Reader) (r : Result A ExpandFault) → ((m : Files) → x m ≡ y m) → IfSome o (λ m. StopsAt (Fails blamed (x m)) old new r) → IfSome o (λ m. StopsAt (Fails blamed (y m)) old new r)
+pub stops_by : {A : Type 0} (o : Option Files) (blamed : Blamed) (x y : Files → Step) (old new : Reader) (r : Result A ExpandFault) → ((m : Files) → x m ≡ y m) → IfSome o (λ m. StopsAt (Fails m blamed (x m)) old new r) → IfSome o (λ m. StopsAt (Fails m blamed (y m)) old new r)
 stops_by None blamed x y old new r e h = tt
-stops_by (Some m) blamed x y old new r e h = subst (λ z. StopsAt (Fails blamed z) old new r) (e m) h
+stops_by (Some m) blamed x y old new r e h = subst (λ z. StopsAt (Fails m blamed z) old new r) (e m) h
 
 -- at a line that is taken, or behind it
-fails_taken : (blamed : Option (List ℕ)) (m : Files) (k : Meaning) (r : Rewriter) (p : Place) → Fails blamed (takes (left_of m r.reader) (step_behind k (state_of m r))) p → FailsAt blamed k (state_of m r) p
+fails_taken : (blamed : Blamed) (m : Files) (k : Meaning) (r : Rewriter) (p : Place) → Fails m blamed (takes (left_of m r.reader) (step_behind k (state_of m r))) p → FailsAt m blamed k (state_of m r) p
 unfolding FailsAt
-fails_taken blamed m k r p h = subst (λ z. Fails blamed z p) (sym (first_taken m k r)) h
+fails_taken blamed m k r p h = subst (λ z. Fails m blamed z p) (sym (first_taken m k r)) h
 
-pub stops_taking : {A : Type 0} (o : Option Files) (blamed : Option (List ℕ)) (k : Meaning) (old : Rewriter) (new : Reader) (r : Result A ExpandFault) → IfSome o (λ m. StopsAt (FailsAtLine blamed (left_of m old.reader)) old.reader new r) → IfSome o (λ m. StopsAt (FailsAt blamed k (state_of m old)) old.reader new r)
-stops_taking o blamed k old new r h = stops_so o (λ m. FailsAtLine blamed (left_of m old.reader)) (λ m. FailsAt blamed k (state_of m old)) old.reader new r (λ m p f. fails_taken blamed m k old p (inl f)) h
+pub stops_taking : {A : Type 0} (o : Option Files) (blamed : Blamed) (k : Meaning) (old : Rewriter) (new : Reader) (r : Result A ExpandFault) → IfSome o (λ m. StopsAt (FailsAtLine m blamed (left_of m old.reader)) old.reader new r) → IfSome o (λ m. StopsAt (FailsAt m blamed k (state_of m old)) old.reader new r)
+stops_taking o blamed k old new r h = stops_so o (λ m. FailsAtLine m blamed (left_of m old.reader)) (λ m. FailsAt m blamed k (state_of m old)) old.reader new r (λ m p f. fails_taken blamed m k old p (inl f)) h
 
 -- behind a line
-pub stops_behind : {A : Type 0} (o : Option Files) (blamed : Option (List ℕ)) (k : Meaning) (old mid : Rewriter) (new : Reader) (ts : List Lexeme) (r : Result A ExpandFault) → IfSome o (λ m. Takes (left_of m old.reader) (Ok (Some ts, left_of m mid.reader))) → ((m : Files) → state_of m mid ≡ with_left (state_of m old) (left_of m mid.reader)) → mark_of mid.reader.top ≡ mark_of old.reader.top → IfSome o (λ m. StopsAt (Fails blamed (unless_mislabelled k (state_of m mid) ts (is_mislabelled ts))) mid.reader new r) → IfSome o (λ m. StopsAt (FailsAt blamed k (state_of m old)) old.reader new r)
+pub stops_behind : {A : Type 0} (o : Option Files) (blamed : Blamed) (k : Meaning) (old mid : Rewriter) (new : Reader) (ts : List Lexeme) (r : Result A ExpandFault) → IfSome o (λ m. Takes (left_of m old.reader) (Ok (Some ts, left_of m mid.reader))) → ((m : Files) → state_of m mid ≡ with_left (state_of m old) (left_of m mid.reader)) → mark_of mid.reader.top ≡ mark_of old.reader.top → IfSome o (λ m. StopsAt (Fails m blamed (unless_mislabelled k (state_of m mid) ts (is_mislabelled ts))) mid.reader new r) → IfSome o (λ m. StopsAt (FailsAt m blamed k (state_of m old)) old.reader new r)
 stops_behind None blamed k old mid new ts r t e same h = tt
 stops_behind (Some m) blamed k old mid new ts (Ok x) t e same h = tt
 stops_behind (Some m) blamed k old mid new ts (Err f) t e same h = λ failed.
     let so = h failed in
-    let behind = subst (λ s. Fails blamed (unless_mislabelled k s ts (is_mislabelled ts)) new.place) (e m) so.there in
+    let behind = subst (λ s. Fails m blamed (unless_mislabelled k s ts (is_mislabelled ts)) new.place) (e m) so.there in
     record { there = fails_taken blamed m k old new.place (inr (Ok (Some ts, left_of m mid.reader), t, behind)); mark = so.mark ∙ same }
 
 -- ---- Of one line.
 
 -- the branches behind one that was taken are passed over
-pub stops_at_else : {A : Type 0} (o : Option Files) (blamed : Option (List ℕ)) (old : Rewriter) (new : Reader) (cs : List Bool) (r : Result A ExpandFault) → popped old.conditions old.reader.top.conditions ≡ Some (false, cs) → IfSome o (λ m. StopsAt (FailsInBlock blamed Passed 0 (left_of m old.reader)) old.reader new r) → IfSome o (λ m. StopsAt (Fails blamed (else_line (state_of m old) (last_condition (state_of m old)))) old.reader new r)
+pub stops_at_else : {A : Type 0} (o : Option Files) (blamed : Blamed) (old : Rewriter) (new : Reader) (cs : List Bool) (r : Result A ExpandFault) → popped old.conditions old.reader.top.conditions ≡ Some (false, cs) → IfSome o (λ m. StopsAt (FailsInBlock m blamed Passed 0 (left_of m old.reader)) old.reader new r) → IfSome o (λ m. StopsAt (Fails m blamed (else_line (state_of m old) (last_condition (state_of m old)))) old.reader new r)
 stops_at_else o blamed old new cs r e h = stops_by o blamed (λ m. else_line (state_of m old) (Some (false, cs))) (λ m. else_line (state_of m old) (last_condition (state_of m old))) old.reader new r (λ m. else_is m old (Some (false, cs)) e) h
 
 -- ---- Of one step, by what stands in front of the lines.
 
-fails_rest : (blamed : Option (List ℕ)) (m : Files) (k : Meaning) (r : Rewriter) (line : Line) (p : Place) → Fails blamed (acted k (state_of m r) (tokens_in line) (front_directive (tokens_in line))) p → FailsAt blamed k (fronted (Rest line) (state_of m r)) p
+fails_rest : (blamed : Blamed) (m : Files) (k : Meaning) (r : Rewriter) (line : Line) (p : Place) → Fails m blamed (acted k (state_of m r) (tokens_in line) (front_directive (tokens_in line))) p → FailsAt m blamed k (fronted (Rest line) (state_of m r)) p
 unfolding FailsAt
 fails_rest blamed m k r line p h = h
 
-fails_branch : (blamed : Option (List ℕ)) (m : Files) (k : Meaning) (r : Rewriter) (line : Line) (p : Place) → Fails blamed (if_line k (state_of m r) True (tokens_in line)) p → FailsAt blamed k (fronted (Branch line) (state_of m r)) p
+fails_branch : (blamed : Blamed) (m : Files) (k : Meaning) (r : Rewriter) (line : Line) (p : Place) → Fails m blamed (if_line k (state_of m r) True (tokens_in line)) p → FailsAt m blamed k (fronted (Branch line) (state_of m r)) p
 unfolding FailsAt
 fails_branch blamed m k r line p h = h
 
-stops_in : {A : Type 0} (o : Option Files) (blamed : Option (List ℕ)) (k : Meaning) (old : Expander) (new : Reader) (r : Result A ExpandFault) (front : Front) (P : Files → Place → Type 0) → old.front ≡ front → ((m : Files) → innermost (fronted front (state_of m old.rewriter)).left.items ≡ innermost (left_of m old.rewriter.reader).items) → ((m : Files) (p : Place) → P m p → FailsAt blamed k (fronted front (state_of m old.rewriter)) p) → IfSome o (λ m. StopsAt (P m) old.rewriter.reader new r) → IfSome o (λ m. StopsReading m blamed k (state_in m old) r (mark_of new.top) new.place)
+stops_in : {A : Type 0} (o : Option Files) (blamed : Blamed) (k : Meaning) (old : Expander) (new : Reader) (r : Result A ExpandFault) (front : Front) (P : Files → Place → Type 0) → old.front ≡ front → ((m : Files) → innermost (fronted front (state_of m old.rewriter)).left.items ≡ innermost (left_of m old.rewriter.reader).items) → ((m : Files) (p : Place) → P m p → FailsAt m blamed k (fronted front (state_of m old.rewriter)) p) → IfSome o (λ m. StopsAt (P m) old.rewriter.reader new r) → IfSome o (λ m. StopsReading m blamed k (state_in m old) r (mark_of new.top) new.place)
 stops_in None blamed k old new r front P is same f h = tt
 stops_in (Some m) blamed k old new (Ok x) front P is same f h = tt
 stops_in (Some m) blamed k old new (Err e) front P is same f h = λ failed.
@@ -158,14 +158,14 @@ stops_in (Some m) blamed k old new (Err e) front P is same f h = λ failed.
       within = same m ∙ innermost_is m old.rewriter.reader ∙ ap Some (sym so.mark);
     })
 
-pub stops_plain : {A : Type 0} (o : Option Files) (blamed : Option (List ℕ)) (k : Meaning) (old : Expander) (new : Reader) (r : Result A ExpandFault) → old.front ≡ Nothing → IfSome o (λ m. StopsAt (FailsAt blamed k (state_of m old.rewriter)) old.rewriter.reader new r) → IfSome o (λ m. StopsReading m blamed k (state_in m old) r (mark_of new.top) new.place)
-stops_plain o blamed k old new r is h = stops_in o blamed k old new r Nothing (λ m. FailsAt blamed k (state_of m old.rewriter)) is (λ m. refl) (λ m p f. f) h
+pub stops_plain : {A : Type 0} (o : Option Files) (blamed : Blamed) (k : Meaning) (old : Expander) (new : Reader) (r : Result A ExpandFault) → old.front ≡ Nothing → IfSome o (λ m. StopsAt (FailsAt m blamed k (state_of m old.rewriter)) old.rewriter.reader new r) → IfSome o (λ m. StopsReading m blamed k (state_in m old) r (mark_of new.top) new.place)
+stops_plain o blamed k old new r is h = stops_in o blamed k old new r Nothing (λ m. FailsAt m blamed k (state_of m old.rewriter)) is (λ m. refl) (λ m p f. f) h
 
-pub stops_rest : {A : Type 0} (o : Option Files) (blamed : Option (List ℕ)) (k : Meaning) (old : Expander) (new : Reader) (line : Line) (r : Result A ExpandFault) → old.front ≡ Rest line → IfSome o (λ m. StopsAt (Fails blamed (acted k (state_of m old.rewriter) (tokens_in line) (front_directive (tokens_in line)))) old.rewriter.reader new r) → IfSome o (λ m. StopsReading m blamed k (state_in m old) r (mark_of new.top) new.place)
-stops_rest o blamed k old new line r is h = stops_in o blamed k old new r (Rest line) (λ m. Fails blamed (acted k (state_of m old.rewriter) (tokens_in line) (front_directive (tokens_in line)))) is (λ m. refl) (λ m p. fails_rest blamed m k old.rewriter line p) h
+pub stops_rest : {A : Type 0} (o : Option Files) (blamed : Blamed) (k : Meaning) (old : Expander) (new : Reader) (line : Line) (r : Result A ExpandFault) → old.front ≡ Rest line → IfSome o (λ m. StopsAt (Fails m blamed (acted k (state_of m old.rewriter) (tokens_in line) (front_directive (tokens_in line)))) old.rewriter.reader new r) → IfSome o (λ m. StopsReading m blamed k (state_in m old) r (mark_of new.top) new.place)
+stops_rest o blamed k old new line r is h = stops_in o blamed k old new r (Rest line) (λ m. Fails m blamed (acted k (state_of m old.rewriter) (tokens_in line) (front_directive (tokens_in line)))) is (λ m. refl) (λ m p. fails_rest blamed m k old.rewriter line p) h
 
-pub stops_branch : {A : Type 0} (o : Option Files) (blamed : Option (List ℕ)) (k : Meaning) (old : Expander) (new : Reader) (line : Line) (r : Result A ExpandFault) → old.front ≡ Branch line → IfSome o (λ m. StopsAt (Fails blamed (if_line k (state_of m old.rewriter) True (tokens_in line))) old.rewriter.reader new r) → IfSome o (λ m. StopsReading m blamed k (state_in m old) r (mark_of new.top) new.place)
-stops_branch o blamed k old new line r is h = stops_in o blamed k old new r (Branch line) (λ m. Fails blamed (if_line k (state_of m old.rewriter) True (tokens_in line))) is (λ m. refl) (λ m p. fails_branch blamed m k old.rewriter line p) h
+pub stops_branch : {A : Type 0} (o : Option Files) (blamed : Blamed) (k : Meaning) (old : Expander) (new : Reader) (line : Line) (r : Result A ExpandFault) → old.front ≡ Branch line → IfSome o (λ m. StopsAt (Fails m blamed (if_line k (state_of m old.rewriter) True (tokens_in line))) old.rewriter.reader new r) → IfSome o (λ m. StopsReading m blamed k (state_in m old) r (mark_of new.top) new.place)
+stops_branch o blamed k old new line r is h = stops_in o blamed k old new r (Branch line) (λ m. Fails m blamed (if_line k (state_of m old.rewriter) True (tokens_in line))) is (λ m. refl) (λ m p. fails_branch blamed m k old.rewriter line p) h
 
 -- ---- Of steps one after another.
 
@@ -184,7 +184,7 @@ pub goes_over : (m : Files) (k : Meaning) (s t u : State) → Goes m k s t → G
 goes_over m k s _ _ g (no_step t) = g
 goes_over m k s t _ g (one_more _ v u h step) = one_more s v u (goes_over m k s t v g h) step
 
-pub stops_later : {A : Type 0} (B : Type 0) (o : Option Files) (blamed : Option (List ℕ)) (k : Meaning) (i e : Expander) (mark : Mark) (place : Place) (r : Result A ExpandFault) (f : ExpandFault) → r ≡ Err f → IfSome o (HasGone k i e) → IfSome o (λ m. StopsReading {A = B} m blamed k (state_in m e) (Err f) mark place) → IfSome o (λ m. StopsReading m blamed k (state_in m i) r mark place)
+pub stops_later : {A : Type 0} (B : Type 0) (o : Option Files) (blamed : Blamed) (k : Meaning) (i e : Expander) (mark : Mark) (place : Place) (r : Result A ExpandFault) (f : ExpandFault) → r ≡ Err f → IfSome o (HasGone k i e) → IfSome o (λ m. StopsReading {A = B} m blamed k (state_in m e) (Err f) mark place) → IfSome o (λ m. StopsReading m blamed k (state_in m i) r mark place)
 stops_later x y blamed k i e there place r f is h s = grind (arith, common_steps, goes_over)
 
 -- ---- At the place of the line that was read last.

@@ -180,7 +180,7 @@ first_state file folders bytes = record {
 
 -- the first state of the source of a name, unless it isn't there or is too long
 abbrev pub opened_in : Files → List ℕ → List (List ℕ) → Result State ExpandFault
-opened_in m file folders = bytes_in (fmap.get m file) >>= (λ bytes. Ok (first_state file folders bytes))
+opened_in m file folders = bytes_in (file_named m file) >>= (λ bytes. Ok (first_state file folders bytes))
 
 -- ---- What is proved of the definitions.
 

@@ -1,12 +1,12 @@
 -- Where expansion is when the store fails, and the statements of lines at hand.
-use Rattle.std.specs.Prelude.{◌≡◌, ℕ, true, List, Option, Some, None, Result, IfErr, ◌⊎◌, Bool, false, [], ◌∷◌, drop, Ok, ◌<◌, ◌≤◌}
+use Rattle.std.specs.Prelude.{◌≡◌, ℕ, true, List, Some, None, Result, IfErr, ◌⊎◌, Bool, false, [], ◌∷◌, drop, Ok, ◌<◌, ◌≤◌}
 use Rattle.std.specs.Option.{option_and_then}
-use Rattle.base65.specs.Store.{Files, IsBlamed}
+use Rattle.base65.specs.Store.{Files, IsBlamedAt, Blamed}
 use Rattle.expand65.specs.State.{Meaning, State, Step, leads, parses, decides, takes, takes_block, searches, goes, Stated, label, plain, IsCondition}
-use Rattle.expand65.specs.Standing.{StandsFor, place_of, FollowsFrom, measure_of, state_in, stated, macros_of, last_read, FailsAtLine, FailsInBlock, NamesFiles}
+use Rattle.expand65.specs.Standing.{StandsFor, place_of, FollowsFrom, measure_of, state_in, stated, macros_of, last_read, FailsAtLine, FailsInBlock, IsPlaced}
 use Rattle.expand65.specs.Expansion.{IsStep, step_from}
 use Rattle.expand65.specs.Types.{Expander, ExpandFault, Place, ExprFault, Peeked, Nothing, Statement, Rewriter}
-use Rattle.expand65.specs.Lines.{Mark, innermost, Taken, Takes}
+use Rattle.expand65.specs.Lines.{file_limit, Mark, innermost, Taken, Takes}
 use Rattle.syntax65.specs.Faults.{is_failure}
 use Rattle.syntax65.specs.Expressions.{IsParsed}
 use Rattle.syntax65.specs.Tokens.{Lexeme}
@@ -17,24 +17,24 @@ use Rattle.expand65.specs.Playing.{IsNext}
 
 -- ---- A step of expansion in which the store fails, and its place.
 
--- one of these names was asked for last, where the store tells which was
-abbrev pub IsAmong : Option (List ℕ) → List (List ℕ) → Type 0
+-- one of these names was asked for last, for a byte more than is read of a file, where the store tells that
+abbrev pub IsAmong : Blamed → List (List ℕ) → Type 0
 IsAmong b [] = ⊥
-IsAmong b (name ∷ names) = IsBlamed b name ⊎ IsAmong b names
+IsAmong b (name ∷ names) = IsBlamedAt b name file_limit ⊎ IsAmong b names
 
 -- It fails where a line is taken, at a line of a block, or where a file is looked for; or in what the step reads behind
 -- that.
-abbrev pub Fails : Option (List ℕ) → Step → Place → Type 0
-Fails b (leads x) p = ⊥
-Fails b (parses ts next) p = (q : Result (Tree × ℕ) ExprFault) × IsParsed ts q × Fails b (next q) p
-Fails b (decides k test ts next) p = (c : Result Bool ExpandFault) × IsCondition k test ts c × Fails b (next c) p
-Fails b (takes l next) p = FailsAtLine b l p ⊎ ((t : Taken) × Takes l t × Fails b (next t) p)
-Fails b (takes_block k l next) p = FailsInBlock b k 0 l p
-Fails b (searches l names next) p = (p ≡ l.place) × IsAmong b names
+abbrev pub Fails : Files → Blamed → Step → Place → Type 0
+Fails m b (leads x) p = ⊥
+Fails m b (parses ts next) p = (q : Result (Tree × ℕ) ExprFault) × IsParsed ts q × Fails m b (next q) p
+Fails m b (decides k test ts next) p = (c : Result Bool ExpandFault) × IsCondition k test ts c × Fails m b (next c) p
+Fails m b (takes l next) p = FailsAtLine m b l p ⊎ ((t : Taken) × Takes l t × Fails m b (next t) p)
+Fails m b (takes_block k l next) p = FailsInBlock m b k 0 l p
+Fails m b (searches l names next) p = (p ≡ l.place) × IsAmong b names
 
 -- the store fails in the step from a state, at this place
-unfoldable pub FailsAt : Option (List ℕ) → Meaning → State → Place → Type 0
-FailsAt b k s p = Fails b (step_from k s s.left.items) p
+unfoldable pub FailsAt : Files → Blamed → Meaning → State → Place → Type 0
+FailsAt m b k s p = Fails m b (step_from k s s.left.items) p
 
 -- ---- Where expansion was when the store failed.
 
@@ -45,28 +45,29 @@ pub data Goes (m : Files) (k : Meaning) : State → State → Type 0 where
 
 -- From a state expansion was on its way to the next statement, and in a step of it the store failed; this is the place
 -- of the line that was read last.
-pub record IsOnItsWay (m : Files) (blamed : Option (List ℕ)) (k : Meaning) (s : State) (place : Place) : Type 0 where
+pub record IsOnItsWay (m : Files) (blamed : Blamed) (k : Meaning) (s : State) (place : Place) : Type 0 where
   pub state : State
   pub reading : Place
   pub goes : Goes m k s state
-  pub fails : FailsAt blamed k state reading
+  pub fails : FailsAt m blamed k state reading
   pub at : place ≡ last_read reading (option_and_then (λ k. k.back) (innermost state.left.items))
 
--- the place of an expander that was refused since the store failed, from the state that it stood for
-abbrev pub StopsOnItsWay : {A : Type 0} → Files → Option (List ℕ) → Meaning → Expander → Result A ExpandFault → Expander → Type 0
+-- the place of an expander that was refused since the store failed, from the state that it stood for, where its files
+-- were read at the places that it went by
+abbrev pub StopsOnItsWay : {A : Type 0} → Files → Blamed → Meaning → Expander → Result A ExpandFault → Expander → Type 0
 StopsOnItsWay m blamed k old result new =
-    (s : State) → StandsFor m old s → IfErr result (λ e. is_failure e ≡ true → IsOnItsWay m blamed k s (place_of new))
+    IsPlaced m old → (s : State) → StandsFor m old s → IfErr result (λ e. is_failure e ≡ true → IsOnItsWay m blamed k s (place_of new))
 
 -- ---- Where a reader was reading, before its place becomes that of the line that was read last.
 
 -- where a reader was reading when the store failed
-pub record Reading (m : Files) (blamed : Option (List ℕ)) (k : Meaning) (s : State) (mark : Mark) (place : Place) : Type 0 where
+pub record Reading (m : Files) (blamed : Blamed) (k : Meaning) (s : State) (mark : Mark) (place : Place) : Type 0 where
   pub state : State
   pub goes : Goes m k s state
-  pub fails : FailsAt blamed k state place
+  pub fails : FailsAt m blamed k state place
   pub within : innermost state.left.items ≡ Some mark
 
-abbrev pub StopsReading : {A : Type 0} → Files → Option (List ℕ) → Meaning → State → Result A ExpandFault → Mark → Place → Type 0
+abbrev pub StopsReading : {A : Type 0} → Files → Blamed → Meaning → State → Result A ExpandFault → Mark → Place → Type 0
 StopsReading m blamed k s result mark place = IfErr result (λ e. is_failure e ≡ true → Reading m blamed k s mark place)
 
 -- ---- Lines of files that are given as they stand.
@@ -98,7 +99,6 @@ given_parts (t ∷ ts) rest = label (t ∷ ts) ∷ given_behind rest
 pub record Passes (old new : Expander) : Type 0 where
   pub goes : (m : Files) (k : Meaning) → Goes m k (state_in m old) (state_in m new)
   pub failed : new.failed ≡ old.failed
-  pub named : NamesFiles old.rewriter.reader → NamesFiles new.rewriter.reader
   pub size : measure_of new ≤ measure_of old
 
 -- a statement comes next, whatever names and expressions mean

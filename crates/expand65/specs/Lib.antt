@@ -2,6 +2,7 @@ pub mod Blocks
 pub mod Expansion
 pub mod Failing
 pub mod Fronts
+pub mod Laws
 pub mod Lines
 pub mod Macros
 pub mod Playing

@@ -4,7 +4,7 @@ use Rattle.std.specs.Prelude.{ℕ, Bool, List, [], ◌∷◌, ◌++◌, codes, d
 use Rattle.std.specs.Map.{lookup}
 use Rattle.std.specs.Option.{option_or}
 use Rattle.std.specs.Str.{bytes_eq, str_eq_ignore_ascii_case}
-use Rattle.base65.specs.Store.{Files, IsBlamed, Passes}
+use Rattle.base65.specs.Store.{Files, IsBlamedAt, Passes, Blamed}
 use Rattle.syntax65.specs.Faults.{is_failure, is_outside, fault_of_lexing}
 use Rattle.syntax65.specs.Tokens.{Lexeme, IsRead}
 use Rattle.syntax65.specs.declared.lexing.tokens.TokenKind.TheVariants as token
@@ -187,9 +187,9 @@ pub record LeavesStore {X T : Type 0} (files_of : X → Option Files) (failures_
   pub files : files_of new ≡ files_of old
   pub count : Passes FileError (failures_of old) (failures_of new) result
 
--- the same of a call that asks for the file of one name
-pub record LeavesOf {X T : Type 0} (files_of : X → Option Files) (failures_of : X → ℕ) (blamed_of : X → Option (List ℕ)) (name : List ℕ) (old new : X) (result : Result T ExpandFault) : Type 0 where
-  pub blamed : IfErr result (λ e. is_failure e ≡ true → IsBlamed (blamed_of new) name)
+-- the same of a call that is told so which call of the store failed
+pub record LeavesBlamed {X T : Type 0} (files_of : X → Option Files) (failures_of : X → ℕ) (blamed_of : X → Blamed) (IsTold : Blamed → Type 0) (old new : X) (result : Result T ExpandFault) : Type 0 where
+  pub blamed : IfErr result (λ e. is_failure e ≡ true → IsTold (blamed_of new))
   pub files : files_of new ≡ files_of old
   pub count : Passes FileError (failures_of old) (failures_of new) result
 
@@ -256,6 +256,43 @@ rest_of m f = drop f.at f.buffer.items ++ drop f.next (content m f.name)
 -- the lines that it still has
 abbrev pub left_in_file : Files → OpenFile → List Item
 left_in_file m f = numbered f.line (lines_of (rest_of m f))
+
+-- It reads on behind all that was at hand, and doesn't ask for more than is read of a file.
+abbrev pub IsReadOn : OpenFile → Blamed → Type 0
+IsReadOn f blamed = IsBlamedAt blamed f.name f.next × (f.next < file_limit) × (length f.buffer.items ≤ f.at)
+
+-- These are left of some bytes behind their first n lines: each front of the bytes that goes some way into them begins n
+-- lines more than that way does.
+pub record IsBehind (bytes rest : List ℕ) (n : ℕ) : Type 0 where
+  pub taken : List ℕ
+  pub whole : bytes ≡ taken ++ rest
+  pub count : (front behind : List ℕ) → rest ≡ front ++ behind → length (lines_of (taken ++ front)) ≡ n + length (lines_of front)
+
+-- so is what an open file still has
+abbrev pub IsFileBehind : Files → OpenFile → ℕ → Type 0
+IsFileBehind m f n = IsBehind (content m f.name) (rest_of m f) n
+
+-- a file is open at the place of the line that was taken last of it
+pub record IsFileAt (m : Files) (f : OpenFile) (p : Place) : Type 0 where
+  pub name : f.name ≡ p.file
+  pub line : p.line ≡ f.line
+  pub behind : IsFileBehind m f f.line
+
+abbrev pub in_line : List ℕ → ℕ → Place
+in_line file n = record { file = file; line = n }
+
+-- The last failed call was a reading of a place's file, where the store tells which it was. The place's line is the one
+-- in which it came or, where that was before its first byte, the line before: as many lines begin in the bytes before
+-- the place where it began to read.
+pub record IsReadingAt (m : Files) (blamed : Blamed) (p : Place) : Type 0 where
+  pub at : ℕ
+  pub asked : IsBlamedAt blamed p.file at
+  pub within : at < file_limit
+  pub line : p.line ≡ length (lines_of (take at (bytes_of m p.file)))
+
+-- a line's end stands between these
+abbrev pub IsEndedLine : List ℕ → List ℕ → List ℕ → Type 0
+IsEndedLine all line behind = (b : ℕ) × (is_line_end b ≡ true) × (all ≡ line ++ b ∷ behind)
 
 -- a byte within a line
 abbrev pub is_inside : ℕ → Bool

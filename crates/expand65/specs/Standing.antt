@@ -1,11 +1,11 @@
 -- What an expander stands for, how the code holds it, and where lines were being read when the store failed.
 use Rattle.std.specs.Prelude.{◌≡◌, ℕ, ◌-◌, Bool, true, false, List, [], ◌∷◌, ◌++◌, ◌<◌, length, map, Result, Ok, Err, ⊤, None, reverse, ◌==◌, Some, Option, IfErr, if◌then◌else◌, ◌+◌, ◌*◌, IfOk, IfSome, OnOk, ◌≤◌}
 use Rattle.base65.specs.Outcome.{Unless}
-use Rattle.base65.specs.Store.{Files, IsBlamed}
+use Rattle.base65.specs.Store.{Files, Blamed}
 use Rattle.syntax65.specs.Tokens.{Lexeme}
 use Rattle.syntax65.specs.Faults.{is_outside, is_failure}
 use Rattle.expand65.specs.Playing.{tokens_in, left_to_play, replacing_of, Plainly, definition_of}
-use Rattle.expand65.specs.Lines.{left_in_file, IsOpened, Takes, turns, Item, written, played, mark, Mark, Left, left, moved, Stop, come_back, Replacing, labelled, branch, Definition}
+use Rattle.expand65.specs.Lines.{IsFileAt, IsReadingAt, left_in_file, IsOpened, Takes, turns, Item, written, played, mark, Mark, Left, left, moved, Stop, come_back, Replacing, labelled, branch, Definition}
 use Rattle.expand65.specs.Types.{ExpandFault, Source, Line, Place, Replay, Reader, Directive, Rewriter, Expander, Nothing, Rest, Statement}
 use Rattle.expand65.specs.declared.input.Source.TheVariants as source
 use Rattle.expand65.specs.declared.input.NextLine.{NextLine}
@@ -41,6 +41,10 @@ left_in m (source.Repeat r next count) = turns_left r next count
 abbrev pub is_call : Source → Bool
 is_call (source.Call r) = true
 is_call _ = false
+
+abbrev pub is_file : Source → Bool
+is_file (source.File f) = true
+is_file _ = false
 
 abbrev pub IsFile : Source → Type 0
 IsFile (source.File f) = ⊤
@@ -109,31 +113,49 @@ abbrev pub IsPassedOver : Bool → Left → Left → Type 0
 IsPassedOver true l m = m ≡ l
 IsPassedOver false l m = Plainly l m
 
--- ---- Under which names open files are read.
+-- ---- At which places open files are read.
 
--- a file is read under the name that the places of its lines have
-abbrev pub IsNamed : Source → Place → Type 0
-IsNamed (source.File f) p = f.name ≡ p.file
-IsNamed _ p = ⊤
+-- a file is read at the place of the line that was taken last
+abbrev pub IsAt : Files → Source → Place → Type 0
+IsAt m (source.File f) p = IsFileAt m f p
+IsAt m _ p = ⊤
+
+-- its number is that of the place's line
+abbrev pub IsLineOf : Source → Place → Type 0
+IsLineOf (source.File f) p = p.line ≡ f.line
+IsLineOf _ p = ⊤
+
+-- the place once a line more is taken
+abbrev pub onward : Source → Place → Place
+onward s p = if is_file s then moved p (p.line + 1) else p
+
+-- a file that isn't the source goes back to a place
+abbrev pub HasBack : Source → Option Place → Type 0
+HasBack s None = is_file s ≡ false
+HasBack s (Some p) = ⊤
 
 -- So are inputs one inside the other, from the innermost on, where reading is at a place; the source goes back to none.
-abbrev pub AreNamed : List Input → Place → Type 0
-AreNamed [] p = ⊤
-AreNamed (i ∷ []) p = IsNamed i.source p × (i.back ≡ None)
-AreNamed (i ∷ j ∷ is) p = IsNamed i.source p × AreNamed (j ∷ is) (come_back p i.back)
+abbrev pub AreAt : Files → List Input → Place → Type 0
+AreAt m [] p = ⊤
+AreAt m (i ∷ []) p = IsAt m i.source p × (i.back ≡ None)
+AreAt m (i ∷ j ∷ is) p = IsAt m i.source p × HasBack i.source i.back × AreAt m (j ∷ is) (come_back p i.back)
 
 -- what is open in a reader, from the innermost on
 abbrev pub open_in : Reader → List Input
 open_in r = r.top ∷ reverse r.outer.items
 
-unfoldable pub NamesFiles : Reader → Type 0
-NamesFiles r = AreNamed (open_in r) r.place
+-- the files that are open in a reader are read at the places that it goes by
+unfoldable pub IsInPlace : Files → Reader → Type 0
+IsInPlace m r = AreAt m (open_in r) r.place
 
--- the innermost end mark and the inputs outside stay, and files are read under the names of their places
+-- so they are in files that a store tells
+abbrev pub StandsIn : Option Files → Reader → Type 0
+StandsIn files r = IfSome files (λ m. IsInPlace m r)
+
+-- the innermost end mark and the inputs outside stay
 pub record Stays (old new : Reader) : Type 0 where
   pub mark : mark_of new.top ≡ mark_of old.top
   pub outer : new.outer ≡ old.outer
-  pub named : NamesFiles old → NamesFiles new
 
 -- ---- Where lines were being read when the store failed.
 
@@ -144,15 +166,15 @@ IsAsked (mark k ∷ is) = k.is_macro ≡ false
 IsAsked _ = ⊥
 
 -- The store fails while the next line is read: before its first byte is there, at the place of the line before, or
--- within it, at its own. Its file was asked for.
-pub data FailsAtLine (blamed : Option (List ℕ)) (l : Left) : Place → Type 0 where
-  before : IsAsked l.items → IsBlamed blamed l.place.file → FailsAtLine blamed l l.place
-  within : (n : ℕ) (bytes : List ℕ) (is : List Item) → l.items ≡ written n bytes ∷ is → IsBlamed blamed l.place.file → FailsAtLine blamed l (moved l.place n)
+-- within it, at its own.
+pub data FailsAtLine (m : Files) (blamed : Blamed) (l : Left) : Place → Type 0 where
+  before : IsAsked l.items → IsReadingAt m blamed l.place → FailsAtLine m blamed l l.place
+  within : (n : ℕ) (bytes : List ℕ) (is : List Item) → l.items ≡ written n bytes ∷ is → IsReadingAt m blamed (moved l.place n) → FailsAtLine m blamed l (moved l.place n)
 
 -- It fails at a line of a block, behind lines that don't end the block.
-pub data FailsInBlock (blamed : Option (List ℕ)) (k : BlockKind) : ℕ → Left → Place → Type 0 where
-  at_line : (d : ℕ) (l : Left) (p : Place) → FailsAtLine blamed l p → FailsInBlock blamed k d l p
-  behind_line : (d c : ℕ) (l m : Left) (ts : List Lexeme) (p : Place) → Takes l (Ok (Some ts, m)) → judge k d ts ≡ on c → FailsInBlock blamed k c m p → FailsInBlock blamed k d l p
+pub data FailsInBlock (m : Files) (blamed : Blamed) (k : BlockKind) : ℕ → Left → Place → Type 0 where
+  at_line : (d : ℕ) (l : Left) (p : Place) → FailsAtLine m blamed l p → FailsInBlock m blamed k d l p
+  behind_line : (d c : ℕ) (l n : Left) (ts : List Lexeme) (p : Place) → Takes l (Ok (Some ts, n)) → judge k d ts ≡ on c → FailsInBlock m blamed k c n p → FailsInBlock m blamed k d l p
 
 -- a reader stands at such a place, in the input in which it began
 pub record HasStopped (IsThere : Place → Type 0) (old new : Reader) : Type 0 where
@@ -199,8 +221,8 @@ abbrev pub LeadsTo : Rewriter → Rewriter → Result Turn ExpandFault → (Stat
 LeadsTo old new result step = (m : Files) → Turns result (state_of m new) (λ r. r ≡ step (state_of m old))
 
 -- the place of a rewriter that was refused since the store failed, from the state before, where the files are known
-abbrev pub StopsBy : Option Files → Rewriter → Rewriter → Result Turn ExpandFault → (State → Place → Type 0) → Type 0
-StopsBy files old new result IsThere = NamesFiles old.reader → IfSome files (λ m. StopsAt (IsThere (state_of m old)) old.reader new.reader result)
+abbrev pub StopsBy : Option Files → Rewriter → Rewriter → Result Turn ExpandFault → (Files → State → Place → Type 0) → Type 0
+StopsBy files old new result IsThere = StandsIn files old.reader → IfSome files (λ m. StopsAt (IsThere m (state_of m old)) old.reader new.reader result)
 
 -- What may follow a rewriter at most: lines, and ends of inputs. A line may open an input.
 abbrev pub size_of : Rewriter → ℕ
@@ -215,8 +237,8 @@ weight_of (Decides line) = 3
 weight_of Ends = 0
 
 -- what acting on one line leaves of a rewriter
-pub record Keeps (old new : Rewriter) (result : Result Turn ExpandFault) : Type 0 where
-  pub named : NamesFiles old.reader → OnOk result (NamesFiles new.reader)
+pub record Keeps (files : Option Files) (old new : Rewriter) (result : Result Turn ExpandFault) : Type 0 where
+  pub stands : StandsIn files old.reader → OnOk result (StandsIn files new.reader)
   pub size : IfOk result (λ t. size_of new + weight_of t ≤ size_of old + 2)
 
 -- a directive that nothing stands behind
@@ -250,9 +272,13 @@ fronted f s = with_items s (in_front f s.left.items)
 abbrev pub state_in : Files → Expander → State
 state_in m e = fronted e.front (state_of m e.rewriter)
 
--- an expander that hasn't failed stands for one state; the files that it has open are read under the names of their places
+-- an expander that hasn't failed stands for one state
 abbrev pub StandsFor : Files → Expander → State → Type 0
-StandsFor m e s = (e.failed ≡ false) × (state_in m e ≡ s) × NamesFiles e.rewriter.reader
+StandsFor m e s = (e.failed ≡ false) × (state_in m e ≡ s)
+
+-- the files that it has open are read at the places that it goes by
+abbrev pub IsPlaced : Files → Expander → Type 0
+IsPlaced m e = IsInPlace m e.rewriter.reader
 
 -- the place of the line that was read last
 abbrev pub place_of : Expander → Place

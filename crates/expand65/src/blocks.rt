@@ -5,7 +5,7 @@ ghost use Rattle.base65.specs.Store.{Files};
 ghost use Rattle.syntax65.specs.Tokens.{Lexeme, lexemes};
 ghost use Rattle.syntax65.specs.Faults.{is_failure};
 ghost use Rattle.expand65.specs.Blocks.{Block, is_kept, judge, judged, with_line};
-ghost use Rattle.expand65.specs.Standing.{Stays, Answers, branch_of, left_of, IsPassedOver, Judges, FailsInBlock, NamesFiles, StopsAt};
+ghost use Rattle.expand65.specs.Standing.{Stays, Answers, branch_of, left_of, IsPassedOver, Judges, FailsInBlock, IsInPlace, StandsIn, StopsAt};
 ghost use Rattle.expand65.specs.Playing.{tokens_in};
 ghost use Rattle.expand65.specs.Lines.{LeavesStore};
 
@@ -230,6 +230,7 @@ impl Reader {
         ensures passed { (m : Files) → IsPassedOver (is_kept kind) (left_of m self.old) (left_of m self.new) }
         ensures room { self.new.room ≤ self.old.room }
         ensures stays { Stays self.old self.new }
+        ensures stands { (m : Files) → IsInPlace m self.old → IsInPlace m self.new }
     {
         if !kind.is_kept() {
             self.pass_plain_lines();
@@ -248,9 +249,11 @@ impl Reader {
             self.new.place result (Block kind 0 [] (left_of m self.old))) }
         ensures room { OnOk result (self.new.room < self.old.room) }
         ensures stays { Stays self.old self.new }
+        ensures stands { StandsIn (S.files store.old) self.old →
+            OnOk result (StandsIn (S.files store.old) self.new) }
         ensures leaves { LeavesStore S.files S.failures store.old store.new result }
-        ensures stopped { NamesFiles self.old → IfSome (S.files store.old) (λ m. StopsAt
-            (FailsInBlock (S.blamed store.new) kind 0 (left_of m self.old))
+        ensures stopped { StandsIn (S.files store.old) self.old → IfSome (S.files store.old) (λ m.
+            StopsAt (FailsInBlock m (S.blamed store.new) kind 0 (left_of m self.old))
             self.old self.new result) }
     {
         let mut lines = Sequence::new(alloc);

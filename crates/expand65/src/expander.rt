@@ -3,8 +3,8 @@
 ghost use Rattle.std.specs.Prelude.{◌≡◌, ◌≤◌, IfSome, length, ◌<◌, ◌+◌, ◌*◌, true, false, take, drop, Err, IfOk, IsErrOf, List, OnErr, OnOk, ℕ};
 ghost use Rattle.syntax65.specs.Tokens.{lexemes, Lexeme, HoldsNothing, held};
 ghost use Rattle.expand65.specs.Failing.{IsGivenAs, Gives, IsAhead, given_parts, StopsOnItsWay, StopsReading};
-ghost use Rattle.expand65.specs.Standing.{Comes, FollowsFrom, Opens, StandsFor, is_end, led, measure_of, place_of, state_in, Turns, size_of, state_of, turned, weight_of, NamesFiles, left_of, mark_of};
-ghost use Rattle.base65.specs.Store.{Asks, Files, IsBlamed, Passes};
+ghost use Rattle.expand65.specs.Standing.{Comes, FollowsFrom, IsPlaced, Opens, StandsFor, is_end, led, measure_of, place_of, state_in, Turns, size_of, state_of, turned, weight_of, IsInPlace, StandsIn, left_of, mark_of};
+ghost use Rattle.base65.specs.Store.{Asks, Files, IsBlamedAt, Passes};
 ghost use Rattle.syntax65.specs.Faults.{is_outside};
 ghost use Rattle.expand65.specs.Expansion.{first_left, opened_in, IsStep};
 ghost use Rattle.expand65.specs.State.{State};
@@ -90,8 +90,10 @@ impl Expander {
         ensures files { S.files store.new ≡ S.files store.old }
         ensures size { IfOk result (λ e. measure_of e ≤ 3145729) }
         ensures count { Passes ExpandFault.FileError (S.failures store.old) (S.failures store.new) result }
-        ensures blamed { IsErrOf result ExpandFault.FileError → IsBlamed (S.blamed store.new) file.now }
+        ensures blamed { IsErrOf result ExpandFault.FileError →
+            IsBlamedAt (S.blamed store.new) file.now 16777216 }
         ensures asked { Asks is_outside (S.failures store.old) result }
+        ensures placed { IfSome (S.files store.old) (λ m. IfOk result (IsPlaced m)) }
     {
         if !is_there(store, file)? {
             return Err(ExpandFault::FileNotFound);
@@ -125,6 +127,8 @@ impl Expander {
     ) -> Result<Option<Statement>, ExpandFault>
         ensures next { IfSome (S.files store.old) (λ m.
             FollowsFrom m (K.meaning knows.now) self.old result self.new) }
+        ensures placed { IfSome (S.files store.old) (λ m.
+            IsPlaced m self.old → OnOk result (IsPlaced m self.new)) }
         // Where the store fails: the place is that of the line that was read last.
         ensures stopped { IfSome (S.files store.old) (λ m.
             StopsOnItsWay m (S.blamed store.new) (K.meaning knows.now) self.old result self.new) }
@@ -186,6 +190,8 @@ impl Expander {
         ensures place { place_of self.new ≡ moved (place_of self.old) line.number }
         ensures less { (ts : List Lexeme) → IsAhead self.old line ts →
             measure_of self.new < measure_of self.old }
+        ensures placed { (m : Files) (ts : List Lexeme) → IsAhead self.old line ts →
+            IsPlaced m self.old → IsPlaced m self.new }
     {
         self.rewriter.reader.take_peeked(line);
     }
@@ -211,9 +217,9 @@ impl Expander {
     ) -> Result<Option<Statement>, ExpandFault>
         ensures comes { IfSome (S.files store.old) (λ m.
             Comes m (K.meaning knows.now) (state_in m self.old) result (state_in m self.new)) }
-        ensures named { NamesFiles self.old.rewriter.reader →
-            OnOk result (NamesFiles self.new.rewriter.reader) }
-        ensures stopped { NamesFiles self.old.rewriter.reader → IfSome (S.files store.old) (λ m.
+        ensures stands { StandsIn (S.files store.old) self.old.rewriter.reader →
+            OnOk result (StandsIn (S.files store.old) self.new.rewriter.reader) }
+        ensures stopped { StandsIn (S.files store.old) self.old.rewriter.reader → IfSome (S.files store.old) (λ m.
             StopsReading m (S.blamed store.new) (K.meaning knows.now) (state_in m self.old) result
             (mark_of self.new.rewriter.reader.top) (place_of self.new)) }
         ensures size { IfOk result (λ o. IfSome o (λ _. measure_of self.new < measure_of self.old)) }
@@ -237,9 +243,9 @@ impl Expander {
         ensures turns { IfSome (S.files store.old) (λ m.
             Turns result (state_of m self.new.rewriter)
             (IsStep m (K.meaning knows.now) (state_in m self.old))) }
-        ensures named { NamesFiles self.old.rewriter.reader →
-            OnOk result (NamesFiles self.new.rewriter.reader) }
-        ensures stopped { NamesFiles self.old.rewriter.reader → IfSome (S.files store.old) (λ m.
+        ensures stands { StandsIn (S.files store.old) self.old.rewriter.reader →
+            OnOk result (StandsIn (S.files store.old) self.new.rewriter.reader) }
+        ensures stopped { StandsIn (S.files store.old) self.old.rewriter.reader → IfSome (S.files store.old) (λ m.
             StopsReading m (S.blamed store.new) (K.meaning knows.now) (state_in m self.old) result
             (mark_of self.new.rewriter.reader.top) (place_of self.new)) }
         ensures size { IfOk result (λ t. size_of self.new.rewriter + weight_of t < measure_of self.old) }
@@ -263,7 +269,7 @@ impl Expander {
     fn follow(&mut self, turn: Turn) -> Option<Statement>
         ensures led { (m : Files) →
             turned (state_of m self.old.rewriter) turn ≡ led (state_in m self.new) result }
-        ensures named { NamesFiles self.old.rewriter.reader → NamesFiles self.new.rewriter.reader }
+        ensures stands { self.new.rewriter ≡ self.old.rewriter }
         ensures size { measure_of self.new ≡ size_of self.old.rewriter + weight_of turn }
     {
         let (front, statement) = match turn {
@@ -283,7 +289,7 @@ fn reader_of(alloc: Global, file: &str) -> Result<Reader, AllocError>
     ensures lines { IfOk result (λ r. (m : Files) →
         length (bytes_of m file.now) ≤ 16777216 → left_of m r ≡ first_left file.now
         (bytes_of m file.now)) }
-    ensures named { IfOk result NamesFiles }
+    ensures stands { (m : Files) → IfOk result (IsInPlace m) }
     ensures size { IfOk result (λ r. 3 * r.room + length r.outer.items ≤ 3145728) }
 {
     let top = Input {

@@ -1,10 +1,10 @@
 //! Open files, read a buffer at a time.
 
-ghost use Rattle.std.specs.Prelude.{◌≡◌, ◌<◌, ◌≤◌, ◌+◌, ◌-◌, [], min, length, drop, true, false, IsTrue, IfErr, IfOk, IfSome, List, OnOk, ℕ};
+ghost use Rattle.std.specs.Prelude.{◌≡◌, ◌<◌, ◌≤◌, ◌+◌, ◌-◌, ◌++◌, [], min, length, drop, true, false, IsTrue, IfErr, IfOk, IfSome, List, OnOk, ℕ};
 ghost use Rattle.std.specs.List.{prefix_len};
-ghost use Rattle.base65.specs.Store.{Files};
+ghost use Rattle.base65.specs.Store.{Files, IsBlamedAt};
 ghost use Rattle.syntax65.specs.Faults.{is_failure, is_outside};
-ghost use Rattle.expand65.specs.Lines.{LeavesOf, numbered, lines_of, IsPiece, ReadsLine, TakesPiece, bytes_of, is_inside, left_in_file, rest_of, without_return};
+ghost use Rattle.expand65.specs.Lines.{IsEndedLine, IsFileBehind, IsReadOn, IsReadingAt, LeavesBlamed, LeavesStore, in_line, numbered, lines_of, IsPiece, ReadsLine, TakesPiece, bytes_of, is_inside, left_in_file, rest_of, without_return};
 
 use base65::{Sequence, Store, StoreFault, Text};
 use memchr::memchr;
@@ -46,7 +46,8 @@ fn read_piece<S: Store>(
         IfOk result (λ n. IsPiece (drop at (bytes_of m name.now)) want n bytes.new.items)) }
     ensures few { IfOk result (λ n. (n ≤ want) × (length bytes.new.items ≡ n)) }
     ensures outside { IfErr result (λ e. is_outside e ≡ true) }
-    ensures leaves { LeavesOf S.files S.failures S.blamed name.now store.old store.new result }
+    ensures leaves { LeavesBlamed S.files S.failures S.blamed (λ b. IsBlamedAt b name.now at)
+        store.old store.new result }
 {
     // Where as many were read before, there is nothing to fill.
     bytes.resize(want, 0)?;
@@ -79,6 +80,8 @@ impl OpenFile {
         ensures lines { (m : Files) →
             length (bytes_of m name) ≤ 16777216 → left_in_file m result ≡ numbered 0
             (lines_of (bytes_of m name)) }
+        ensures line { result.line ≡ 0 }
+        ensures behind { (m : Files) → IsFileBehind m result 0 }
     {
         OpenFile {
             name,
@@ -92,7 +95,8 @@ impl OpenFile {
 
     /// Reads on where nothing is at hand.
     fn read_on<S: Store>(&mut self, store: &mut S) -> Result<(), ExpandFault>
-        requires { length self.old.buffer.items ≤ self.old.at }
+        requires all { length self.old.buffer.items ≤ self.old.at }
+        requires more { self.old.next < 16777216 }
         ensures kept { IfSome (S.files store.old) (λ m. OnOk result (rest_of m self.new ≡ rest_of m self.old)) }
         ensures front { OnOk result (self.new.at ≡ 0) }
         ensures none { IfSome (S.files store.old) (λ m.
@@ -100,7 +104,8 @@ impl OpenFile {
         ensures outside { IfErr result (λ e. is_outside e ≡ true) }
         ensures line { self.new.line ≡ self.old.line }
         ensures name { self.new.name ≡ self.old.name }
-        ensures leaves { LeavesOf S.files S.failures S.blamed self.old.name store.old store.new result }
+        ensures leaves { LeavesBlamed S.files S.failures S.blamed (IsReadOn self.old)
+            store.old store.new result }
     {
         let want = wanted(self.next, self.buffer.len());
         let n = read_piece(store, self.name.as_str(), self.next, want, &mut self.buffer)?;
@@ -119,10 +124,15 @@ impl OpenFile {
         ensures outside { IfErr result (λ e. is_outside e ≡ true) }
         ensures line { self.new.line ≡ self.old.line }
         ensures name { self.new.name ≡ self.old.name }
-        ensures leaves { LeavesOf S.files S.failures S.blamed self.old.name store.old store.new result }
+        ensures leaves { LeavesBlamed S.files S.failures S.blamed (IsReadOn self.old)
+            store.old store.new result }
     {
         if self.at < self.buffer.len() {
             return Ok(true);
+        }
+        // A file that was opened has no more bytes than that.
+        if self.next >= MAX_FILE {
+            return Ok(false);
         }
         self.read_on(store)?;
         Ok(!self.buffer.is_empty())
@@ -140,6 +150,9 @@ impl OpenFile {
         ensures few { OnOk result (length line.new.items ≤ 4097) }
         ensures inside { IfErr result (λ e. is_failure e ≡ false) }
         ensures more { IfOk result (λ ended. ended ≡ false → length line.old.items < length line.new.items) }
+        ensures ended { IfOk result (λ ended. ended ≡ true →
+            IsEndedLine (line.old.items ++ drop self.old.at self.old.buffer.items) line.new.items
+            (drop self.new.at self.new.buffer.items)) }
         ensures same { (self.new.name ≡ self.old.name) × (self.new.next ≡ self.old.next) ×
             (self.new.line ≡ self.old.line) }
     {
@@ -168,9 +181,14 @@ impl OpenFile {
         requires { self.old.at < length self.old.buffer.items }
         ensures read { IfSome (S.files store.old) (λ m.
             ReadsLine (lines_of (rest_of m self.old)) result (lines_of (rest_of m self.new))) }
+        ensures behind { IfSome (S.files store.old) (λ m. IsFileBehind m self.old self.old.line →
+            OnOk result (IsFileBehind m self.new (self.old.line + 1))) }
+        ensures blamed { IfSome (S.files store.old) (λ m. IsFileBehind m self.old self.old.line →
+            IfErr result (λ e. is_failure e ≡ true → IsReadingAt m (S.blamed store.new)
+            (in_line self.old.name (self.old.line + 1)))) }
         ensures line { self.new.line ≡ self.old.line }
         ensures name { self.new.name ≡ self.old.name }
-        ensures leaves { LeavesOf S.files S.failures S.blamed self.old.name store.old store.new result }
+        ensures leaves { LeavesStore S.files S.failures store.old store.new result }
     {
         let mut line = mem::replace(&mut self.spare, Vec::new(alloc));
         line.clear();

@@ -4,7 +4,7 @@ ghost use Rattle.std.specs.Prelude.{◌≡◌, ◌<◌, ◌+◌, ◌^◌, ◌++�
 ghost use Rattle.std.specs.FinMap as fmap;
 ghost use Rattle.std.specs.Str.{is_utf8};
 ghost use Rattle.base65.specs.Outcome.{Gives};
-ghost use Rattle.base65.specs.Store.{Asks, IsBlamed};
+ghost use Rattle.base65.specs.Store.{Asks, IsBlamedAt};
 ghost use Rattle.syntax65.specs.Faults.{is_outside};
 ghost use Rattle.expand65.specs.Failing.{IsAmong};
 ghost use Rattle.expand65.specs.Fronts.{begins};
@@ -68,7 +68,8 @@ pub fn is_there<S: Store>(store: &mut S, name: &str) -> Result<bool, ExpandFault
     ensures there { IfSome (S.files store.old) (λ m.
         Gives is_outside (λ b. b) result (is_there (fmap.get m name.now))) }
     ensures leaves { LeavesStore S.files S.failures store.old store.new result }
-    ensures blamed { IsErrOf result ExpandFault.FileError → IsBlamed (S.blamed store.new) name.now }
+    ensures blamed { IsErrOf result ExpandFault.FileError →
+        IsBlamedAt (S.blamed store.new) name.now 16777216 }
     ensures asked { Asks is_outside (S.failures store.old) result }
 {
     let mut byte = [0u8; 1];
@@ -112,7 +113,8 @@ fn look_up<S: Store>(alloc: Global, store: &mut S, name: &[u8]) -> Result<Option
     ensures tries { IfSome (S.files store.old) (λ m.
         (others : Result (List ℕ × List ℕ) ExpandFault) → Tries m result others
         (found_or name.now (file_named m name.now) others)) }
-    ensures blamed { IsErrOf result ExpandFault.FileError → IsBlamed (S.blamed store.new) name.now }
+    ensures blamed { IsErrOf result ExpandFault.FileError →
+        IsBlamedAt (S.blamed store.new) name.now 16777216 }
     ensures leaves { LeavesStore S.files S.failures store.old store.new result }
 {
     let Some(text) = text_of(name) else {

@@ -2,12 +2,12 @@
 
 ghost use Rattle.std.specs.Prelude.{◌≡◌, ◌↔◌, ◌<◌, ◌+◌, drop, length, true, false, [], ◌∷◌, Ok, IsTrue, IfErr, IfOk, IfSome, OnOk, Result};
 ghost use Rattle.std.specs.List.{prefix_len};
-ghost use Rattle.base65.specs.Store.{Files, IsBlamed};
+ghost use Rattle.base65.specs.Store.{Files};
 ghost use Rattle.syntax65.specs.Faults.{is_failure, is_outside};
-ghost use Rattle.expand65.specs.Standing.{ComesNext, IsFile, IsReady, TakesLine, is_call, left_in, turns_left, IsNamed};
+ghost use Rattle.expand65.specs.Standing.{ComesNext, IsFile, IsReady, TakesLine, is_call, is_file, left_in, moved_by, onward, turns_left, IsAt, IsLineOf};
 ghost use Rattle.expand65.specs.Playing.{tokens_in, left_to_play, replacing_of};
 ghost use Rattle.syntax65.specs.declared.place.Place.{Place};
-ghost use Rattle.expand65.specs.Lines.{is_inside, left_in_file, LeavesStore, LeavesOf, number_token};
+ghost use Rattle.expand65.specs.Lines.{is_inside, left_in_file, moved, IsFileAt, IsReadingAt, LeavesStore, number_token};
 
 use crate::file::{OpenFile, line_len};
 use crate::line::Line;
@@ -67,8 +67,14 @@ impl OpenFile {
         ensures more { IfOk result (λ n. (n ≡ NextLine.AtEnd →
             ⊥) → self.new.at < length self.new.buffer.items) }
         ensures outside { IfErr result (λ e. is_outside e ≡ true) }
-        ensures name { self.new.name ≡ self.old.name }
-        ensures leaves { LeavesOf S.files S.failures S.blamed self.old.name store.old store.new result }
+        ensures onward { (p : Place) → p.line ≡ self.old.line → IfOk result (λ n.
+            (n ≡ NextLine.AtEnd → ⊥) → moved_by n p ≡ moved p (p.line + 1)) }
+        ensures line { self.new.line ≡ self.old.line }
+        ensures at { IfSome (S.files store.old) (λ m. (p : Place) → IsFileAt m self.old p →
+            OnOk result (IsFileAt m self.new p)) }
+        ensures blamed { IfSome (S.files store.old) (λ m. (p : Place) → IsFileAt m self.old p →
+            IfErr result (λ e. is_failure e ≡ true → IsReadingAt m (S.blamed store.new) p)) }
+        ensures leaves { LeavesStore S.files S.failures store.old store.new result }
     {
         if !self.has_more(store)? {
             return Ok(NextLine::AtEnd);
@@ -85,7 +91,8 @@ impl OpenFile {
         requires end { len ≡ prefix_len is_inside (drop self.old.at self.old.buffer.items) }
         requires within { len < length (drop self.old.at self.old.buffer.items) }
         ensures taken { (m : Files) → TakesLine (left_in_file m self.old) result (left_in_file m self.new) }
-        ensures name { self.new.name ≡ self.old.name }
+        ensures at { (m : Files) (p : Place) → IsFileAt m self.old p →
+            OnOk result (IsFileAt m self.new (moved p (p.line + 1))) }
         ensures inside { IfErr result (λ e. is_failure e ≡ false) }
     {
         let (_, rest) = self.buffer.split_at(self.at);
@@ -104,8 +111,12 @@ impl OpenFile {
         requires { self.old.at < length self.old.buffer.items }
         ensures taken { IfSome (S.files store.old) (λ m.
             TakesLine (left_in_file m self.old) result (left_in_file m self.new)) }
-        ensures name { self.new.name ≡ self.old.name }
-        ensures leaves { LeavesOf S.files S.failures S.blamed self.old.name store.old store.new result }
+        ensures at { IfSome (S.files store.old) (λ m. (p : Place) → IsFileAt m self.old p →
+            OnOk result (IsFileAt m self.new (moved p (p.line + 1)))) }
+        ensures blamed { IfSome (S.files store.old) (λ m. (p : Place) → IsFileAt m self.old p →
+            IfErr result (λ e. is_failure e ≡ true → IsReadingAt m (S.blamed store.new)
+            (moved p (p.line + 1)))) }
+        ensures leaves { LeavesStore S.files S.failures store.old store.new result }
     {
         let (_, rest) = self.buffer.split_at(self.at);
         let len = line_len(rest);
@@ -136,6 +147,7 @@ impl Replay {
     fn next_line(&self) -> NextLine
         ensures comes { ComesNext (left_to_play self.now) result }
         ensures ready { (result ≡ NextLine.AtEnd → ⊥) → self.now.at < length self.now.body.value.lines }
+        ensures played { (result ≡ NextLine.AtEnd → ⊥) → result ≡ NextLine.Replayed }
     {
         if self.has_line() {
             NextLine::Replayed
@@ -169,6 +181,7 @@ fn begin_turn(
     ensures comes { IfOk result (λ n. ComesNext (turns_left replay.new next.new count) n) }
     ensures ready { IfOk result (λ n. (n ≡ NextLine.AtEnd →
         ⊥) → replay.new.at < length replay.new.body.value.lines) }
+    ensures played { IfOk result (λ n. (n ≡ NextLine.AtEnd → ⊥) → n ≡ NextLine.Replayed) }
     ensures inside { IfErr result (λ e. is_failure e ≡ false) }
     ensures outside { IfErr result (λ e. is_outside e ≡ true) }
 {
@@ -210,9 +223,13 @@ impl Source {
         ensures call { is_call self.new ≡ is_call self.old }
         ensures file { IfErr result (λ e. is_failure e ≡ true → IsFile self.old) }
         ensures outside { IfErr result (λ e. is_outside e ≡ true) }
-        ensures named { (p : Place) → IsNamed self.old p → IsNamed self.new p }
-        ensures blamed { (p : Place) → IsNamed self.old p →
-            IfErr result (λ e. is_failure e ≡ true → IsBlamed (S.blamed store.new) p.file) }
+        ensures kind { is_file self.new ≡ is_file self.old }
+        ensures onward { (p : Place) → IsLineOf self.old p → IfOk result (λ n.
+            (n ≡ NextLine.AtEnd → ⊥) → moved_by n p ≡ onward self.new p) }
+        ensures at { IfSome (S.files store.old) (λ m. (p : Place) → IsAt m self.old p →
+            OnOk result (IsAt m self.new p)) }
+        ensures blamed { IfSome (S.files store.old) (λ m. (p : Place) → IsAt m self.old p →
+            IfErr result (λ e. is_failure e ≡ true → IsReadingAt m (S.blamed store.new) p)) }
         ensures leaves { LeavesStore S.files S.failures store.old store.new result }
     {
         match self {
@@ -229,9 +246,12 @@ impl Source {
             TakesLine (left_in m self.old) result (left_in m self.new)) }
         ensures call { is_call self.new ≡ is_call self.old }
         ensures file { IfErr result (λ e. is_failure e ≡ true → IsFile self.old) }
-        ensures named { (p : Place) → IsNamed self.old p → IsNamed self.new p }
-        ensures blamed { (p : Place) → IsNamed self.old p →
-            IfErr result (λ e. is_failure e ≡ true → IsBlamed (S.blamed store.new) p.file) }
+        ensures kind { is_file self.new ≡ is_file self.old }
+        ensures at { IfSome (S.files store.old) (λ m. (p : Place) → IsAt m self.old p →
+            OnOk result (IsAt m self.new (onward self.old p))) }
+        ensures blamed { IfSome (S.files store.old) (λ m. (p : Place) → IsAt m self.old p →
+            IfErr result (λ e. is_failure e ≡ true → IsReadingAt m (S.blamed store.new)
+            (onward self.old p))) }
         ensures leaves { LeavesStore S.files S.failures store.old store.new result }
     {
         match self {

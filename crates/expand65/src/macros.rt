@@ -1,6 +1,6 @@
 //! Macros: their definitions, their calls and the arguments of these.
 
-ghost use Rattle.std.specs.Prelude.{◌≡◌, ◌<◌, ◌≤◌, ◌+◌, ◌^◌, IfOk, IsSome, IsTrue, length, map, option_map, false, is_some, IfErr, Ok, Some};
+ghost use Rattle.std.specs.Prelude.{Option, ◌≡◌, ◌<◌, ◌≤◌, ◌+◌, ◌^◌, IfOk, IsSome, IsTrue, length, map, option_map, false, is_some, IfErr, Ok, Some};
 ghost use Rattle.syntax65.specs.Tokens.{lexeme_of, lexemes};
 ghost use Rattle.expand65.specs.Macros.{arguments_of, braces_behind, closes_last, is_braced, parts_within, unbraced, macro_line, called, distinct_of, header_of, macro_at, macro_of, ordinary, params_of, is_comma_at, name_at, part_len};
 ghost use Rattle.expand65.specs.Fronts.{names_of, understood};
@@ -9,6 +9,7 @@ ghost use Rattle.base65.specs.Outcome.{Gives};
 ghost use Rattle.syntax65.specs.Faults.{is_failure, is_outside};
 ghost use Rattle.expand65.specs.Failing.{Fails};
 ghost use Rattle.expand65.specs.Expansion.{Leads};
+ghost use Rattle.base65.specs.Store.{Files};
 ghost use Rattle.expand65.specs.Standing.{Keeps, TurnsTo, LeadsTo, StopsBy, macros_of};
 ghost use Rattle.expand65.specs.Lines.{LeavesStore};
 
@@ -221,10 +222,10 @@ impl Rewriter {
     ) -> Result<Turn, ExpandFault>
         ensures turns { TurnsTo (S.files store.old) self.old self.new result (λ m s.
             Leads m (macro_line s (lexemes tokens.now))) }
-        ensures keeps { Keeps self.old self.new result }
+        ensures keeps { Keeps (S.files store.old) self.old self.new result }
         ensures leaves { LeavesStore S.files S.failures store.old store.new result }
-        ensures stopped { StopsBy (S.files store.old) self.old self.new result (λ s.
-            Fails (S.blamed store.new) (macro_line s (lexemes tokens.now))) }
+        ensures stopped { StopsBy (S.files store.old) self.old self.new result (λ m s.
+            Fails m (S.blamed store.new) (macro_line s (lexemes tokens.now))) }
     {
         let Header { name, params } = header_of(self.alloc, tokens)?;
         if self.has_macro(name.as_slice()) {
@@ -277,7 +278,7 @@ impl Rewriter {
     fn call(&mut self, body: Rc<Body>, tokens: &[Token<'_>]) -> Result<Turn, ExpandFault>
         ensures turns { LeadsTo self.old self.new result (λ s.
             called s (definition_of body.value) (arguments_of (lexemes tokens.now))) }
-        ensures keeps { Keeps self.old self.new result }
+        ensures keeps { (files : Option Files) → Keeps files self.old self.new result }
         ensures inside { IfErr result (λ e. is_failure e ≡ false) }
     {
         let arguments = arguments_of(self.alloc, tokens)?;
@@ -292,7 +293,7 @@ impl Rewriter {
         requires { length arguments ≤ length body.value.params.keys }
         ensures turns { LeadsTo self.old self.new result (λ s.
             called s (definition_of body.value) (map tokens_in arguments)) }
-        ensures keeps { Keeps self.old self.new result }
+        ensures keeps { (files : Option Files) → Keeps files self.old self.new result }
         ensures inside { IfErr result (λ e. is_failure e ≡ false) }
     {
         let Some(number) = self.expansions.checked_add(1) else {
@@ -322,7 +323,7 @@ impl Rewriter {
     /// A line without a directive of expansion: nothing, a call or a statement.
     pub fn call_or_give(&mut self, line: Line) -> Result<Turn, ExpandFault>
         ensures turns { LeadsTo self.old self.new result (λ s. ordinary s (tokens_in line)) }
-        ensures keeps { Keeps self.old self.new result }
+        ensures keeps { (files : Option Files) → Keeps files self.old self.new result }
         ensures inside { IfErr result (λ e. is_failure e ≡ false) }
     {
         let Some(first) = line.first() else {

@@ -5,9 +5,9 @@ ghost use Rattle.syntax65.specs.Tokens.{IsFront, Lexeme, lexeme_of, HoldsNothing
 ghost use Rattle.base65.specs.Store.{Files};
 ghost use Rattle.std.specs.Option.{option_map, option_map_or};
 ghost use Rattle.expand65.specs.Fronts.{is_colon};
-ghost use Rattle.expand65.specs.Standing.{Stays, is_call, left_in, left_of, IsNamed};
+ghost use Rattle.expand65.specs.Standing.{Stays, is_call, is_file, left_in, left_of, IsAt, IsInPlace};
 ghost use Rattle.syntax65.specs.declared.place.Place.{Place};
-ghost use Rattle.expand65.specs.Lines.{moved, left_in_file, without_return, Takes};
+ghost use Rattle.expand65.specs.Lines.{IsFileAt, moved, left_in_file, without_return, Takes};
 ghost use Rattle.expand65.specs.Playing.{IsPlainLine, PassesPlain, Plainly, IsPlain, IsAtHand, IsFirstLine, IsFirstOf, IsNext, TakesWritten};
 
 use crate::file::{OpenFile, line_len};
@@ -130,7 +130,8 @@ impl OpenFile {
     fn take_peeked(&mut self, line: Peeked)
         ensures taken { (m : Files) (ts : List Lexeme) → IsFirstOf self.old line ts →
             TakesWritten (left_in_file m self.old) line.number ts (left_in_file m self.new) }
-        ensures name { self.new.name ≡ self.old.name }
+        ensures at { (m : Files) (ts : List Lexeme) (p : Place) → IsFirstOf self.old line ts →
+            IsFileAt m self.old p → IsFileAt m self.new (moved p line.number) }
     {
         self.at = line.behind;
         self.line = line.number;
@@ -166,7 +167,9 @@ impl Source {
     fn take_peeked(&mut self, line: Peeked)
         ensures taken { (m : Files) (ts : List Lexeme) → IsAtHand self.old line ts →
             TakesWritten (left_in m self.old) line.number ts (left_in m self.new) }
-        ensures named { (p : Place) → IsNamed self.old p → IsNamed self.new p }
+        ensures at { (m : Files) (ts : List Lexeme) (p : Place) → IsAtHand self.old line ts →
+            IsAt m self.old p → IsAt m self.new (moved p line.number) }
+        ensures kind { is_file self.new ≡ is_file self.old }
         ensures call { is_call self.new ≡ is_call self.old }
     {
         if let Source::File(file) = self {
@@ -197,6 +200,8 @@ impl Reader {
         ensures place { self.new.place ≡ moved self.old.place line.number }
         ensures room { self.new.room ≡ self.old.room - 1 }
         ensures stays { Stays self.old self.new }
+        ensures stands { (m : Files) (ts : List Lexeme) → IsNext self.old line ts →
+            IsInPlace m self.old → IsInPlace m self.new }
     {
         self.top.source.take_peeked(line);
         self.room = self.room.saturating_sub(1);
@@ -209,6 +214,7 @@ impl Reader {
         ensures room { IsTrue result → self.new.room < self.old.room }
         ensures stays { Stays self.old self.new }
         ensures none { result ≡ false → self.new ≡ self.old }
+        ensures stands { (m : Files) → IsInPlace m self.old → IsInPlace m self.new }
     {
         if self.room == 0 {
             return false;
@@ -225,6 +231,7 @@ impl Reader {
         ensures passed { (m : Files) → Plainly (left_of m self.old) (left_of m self.new) }
         ensures room { self.new.room ≤ self.old.room }
         ensures stays { Stays self.old self.new }
+        ensures stands { (m : Files) → IsInPlace m self.old → IsInPlace m self.new }
     {
         'lines: loop {
             if !self.pass_line() {

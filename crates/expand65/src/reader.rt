@@ -3,7 +3,7 @@
 ghost use Rattle.std.specs.Prelude.{◌≡◌, ◌<◌, ◌≤◌, ◌+◌, if◌then◌else◌, length, IfErr, IfNone, IfOk, IfSome, IsTrue, OnOk, [], false, option_map};
 ghost use Rattle.base65.specs.Store.{Files};
 ghost use Rattle.syntax65.specs.Faults.{is_failure, is_outside};
-ghost use Rattle.expand65.specs.Standing.{Stays, FailsAtLine, StopsAt, last_read, AreNamed, IsNamed, NamesFiles, open_in, Answers, left_in, left_of, mark_of, moved_by, outside};
+ghost use Rattle.expand65.specs.Standing.{Stays, FailsAtLine, StopsAt, last_read, AreAt, HasBack, IsAt, IsInPlace, StandsIn, open_in, Answers, left_in, left_of, mark_of, moved_by, outside};
 ghost use Rattle.expand65.specs.Playing.{tokens_in};
 ghost use Rattle.expand65.specs.Lines.{closed, pushed, Takes, LeavesStore, outside_macro, come_back};
 ghost use Rattle.expand65.specs.Blocks.{TakesInBlock};
@@ -67,9 +67,12 @@ impl Reader {
         ensures room { IfOk result (λ l. IfSome l (λ _. self.new.room < self.old.room)) }
         ensures less { OnOk result (self.new.room ≤ self.old.room) }
         ensures stays { Stays self.old self.new }
+        ensures stands { StandsIn (S.files store.old) self.old →
+            OnOk result (StandsIn (S.files store.old) self.new) }
         ensures leaves { LeavesStore S.files S.failures store.old store.new result }
-        ensures stopped { NamesFiles self.old → IfSome (S.files store.old) (λ m. StopsAt
-            (FailsAtLine (S.blamed store.new) (left_of m self.old)) self.old self.new result) }
+        ensures stopped { StandsIn (S.files store.old) self.old → IfSome (S.files store.old) (λ m.
+            StopsAt (FailsAtLine m (S.blamed store.new) (left_of m self.old))
+            self.old self.new result) }
     {
         let next = self.top.source.begin_line(alloc, store)?;
         if next.is_end() {
@@ -95,9 +98,12 @@ impl Reader {
             (TakesInBlock (left_of m self.old))) }
         ensures room { OnOk result (self.new.room < self.old.room) }
         ensures stays { Stays self.old self.new }
+        ensures stands { StandsIn (S.files store.old) self.old →
+            OnOk result (StandsIn (S.files store.old) self.new) }
         ensures leaves { LeavesStore S.files S.failures store.old store.new result }
-        ensures stopped { NamesFiles self.old → IfSome (S.files store.old) (λ m. StopsAt
-            (FailsAtLine (S.blamed store.new) (left_of m self.old)) self.old self.new result) }
+        ensures stopped { StandsIn (S.files store.old) self.old → IfSome (S.files store.old) (λ m.
+            StopsAt (FailsAtLine m (S.blamed store.new) (left_of m self.old))
+            self.old self.new result) }
     {
         match self.next_line(alloc, store)? {
             Some(line) => Ok(line),
@@ -113,8 +119,9 @@ impl Reader {
         ensures room { self.new.room ≡ self.old.room }
         ensures outer { OnOk result (length self.new.outer.items ≡ length self.old.outer.items + 1) }
         ensures place { self.new.place ≡ self.old.place }
-        ensures named { (p : Place) → IsNamed input.source p → come_back p input.back ≡ self.old.place →
-            NamesFiles self.old → OnOk result (AreNamed (open_in self.new) p) }
+        ensures stands { (m : Files) (p : Place) → IsAt m input.source p →
+            HasBack input.source input.back → come_back p input.back ≡ self.old.place →
+            IsInPlace m self.old → OnOk result (AreAt m (open_in self.new) p) }
         ensures inside { IfErr result (λ e. is_failure e ≡ false) }
     {
         if self.outer.len() >= MAX_NESTING {
@@ -132,8 +139,8 @@ impl Reader {
             (if result then (left_of m self.new).items else []) ≡ outside m self.old.outer.items }
         ensures back { (p : Place) → come_back p back.new ≡ come_back (come_back p back.old) self.old.top.back }
         ensures place { self.new.place ≡ self.old.place }
-        ensures named { (p : Place) → AreNamed (open_in self.old) (come_back p back.old) →
-            AreNamed (open_in self.new) (come_back p back.new) }
+        ensures stands { (m : Files) (p : Place) → AreAt m (open_in self.old) (come_back p back.old) →
+            AreAt m (open_in self.new) (come_back p back.new) }
         ensures room { self.new.room ≡ self.old.room }
         ensures outer { IsTrue result → length self.new.outer.items < length self.old.outer.items }
         ensures fewer { length self.new.outer.items ≤ length self.old.outer.items }
@@ -157,7 +164,7 @@ impl Reader {
             left_in m self.old.top.source ≡ [] → Answers
             (λ more. ((if more then (left_of m self.new).items else []), self.new.place))
             self.new.place result (λ r. r ≡ closed conditions self.old.place (left_of m self.old).items) }
-        ensures named { NamesFiles self.old → OnOk result (NamesFiles self.new) }
+        ensures stands { (m : Files) → IsInPlace m self.old → OnOk result (IsInPlace m self.new) }
         ensures room { self.new.room ≡ self.old.room }
         ensures outer { IfOk result (λ more. IsTrue more →
             length self.new.outer.items < length self.old.outer.items) }
@@ -183,7 +190,7 @@ impl Reader {
               self.new.place,
             )) result }
         ensures none { IfNone result (self.new.place ≡ self.old.place) }
-        ensures named { NamesFiles self.old → IfSome result (λ _. NamesFiles self.new) }
+        ensures stands { (m : Files) → IsInPlace m self.old → IfSome result (λ _. IsInPlace m self.new) }
         ensures room { self.new.room ≡ self.old.room }
         ensures fewer { length self.new.outer.items ≤ length self.old.outer.items }
     {

@@ -1,12 +1,13 @@
 //! Repeats, the names of an expansion's own, and leaving one.
 
-ghost use Rattle.std.specs.Prelude.{◌≡◌, false, map, IfErr, ℕ, Ok, Result};
+ghost use Rattle.std.specs.Prelude.{Option, ◌≡◌, false, map, IfErr, ℕ, Ok, Result};
 ghost use Rattle.std.specs.List.{list_any};
 ghost use Rattle.base65.specs.Outcome.{Gives};
 ghost use Rattle.syntax65.specs.Tokens.{lexemes};
 ghost use Rattle.syntax65.specs.Faults.{is_failure, is_outside};
 ghost use Rattle.expand65.specs.Fronts.{understood};
 ghost use Rattle.expand65.specs.Macros.{exit_macro, is_made, local_line, new_names, repeat_line, repeated, repeat_header, turns_of, variable_of};
+ghost use Rattle.base65.specs.Store.{Files};
 ghost use Rattle.expand65.specs.Standing.{Keeps, TurnsTo, LeadsTo, StopsBy};
 ghost use Rattle.syntax65.specs.Expressions.{IsParsed};
 ghost use Rattle.base65.specs.Relations.{Answers};
@@ -67,7 +68,7 @@ impl Rewriter {
     /// `.local` and what stands behind it.
     pub fn add_locals(&mut self, tokens: &[Token<'_>]) -> Result<Turn, ExpandFault>
         ensures turns { LeadsTo self.old self.new result (λ s. local_line s (lexemes tokens.now)) }
-        ensures keeps { Keeps self.old self.new result }
+        ensures keeps { (files : Option Files) → Keeps files self.old self.new result }
         ensures inside { IfErr result (λ e. is_failure e ≡ false) }
     {
         if !self.reader.top.source.is_call() {
@@ -84,7 +85,7 @@ impl Rewriter {
     /// LeavesStore the innermost expansion.
     pub fn exit_macro(&mut self) -> Result<Turn, ExpandFault>
         ensures turns { LeadsTo self.old self.new result exit_macro }
-        ensures keeps { Keeps self.old self.new result }
+        ensures keeps { (files : Option Files) → Keeps files self.old self.new result }
         ensures inside { IfErr result (λ e. is_failure e ≡ false) }
     {
         let Some(end) = self.reader.leave_macro() else {
@@ -162,10 +163,10 @@ impl Rewriter {
     ) -> Result<Turn, ExpandFault>
         ensures turns { TurnsTo (S.files store.old) self.old self.new result (λ m s.
             Leads m (repeat_line (K.meaning knows.now) s (lexemes tokens.now))) }
-        ensures keeps { Keeps self.old self.new result }
+        ensures keeps { Keeps (S.files store.old) self.old self.new result }
         ensures leaves { LeavesStore S.files S.failures store.old store.new result }
-        ensures stopped { StopsBy (S.files store.old) self.old self.new result (λ s.
-            Fails (S.blamed store.new) (repeat_line (K.meaning knows.now) s (lexemes tokens.now))) }
+        ensures stopped { StopsBy (S.files store.old) self.old self.new result (λ m s.
+            Fails m (S.blamed store.new) (repeat_line (K.meaning knows.now) s (lexemes tokens.now))) }
     {
         let header = header_of(self.alloc, tokens)?;
         let count = turns_of(knows.value(self.alloc, &header.count)?)?;
@@ -181,10 +182,10 @@ impl Rewriter {
     ) -> Result<Turn, ExpandFault>
         ensures turns { TurnsTo (S.files store.old) self.old self.new result (λ m s.
             Leads m (repeated s count (map (λ k. k.items) variable.keys))) }
-        ensures keeps { Keeps self.old self.new result }
+        ensures keeps { Keeps (S.files store.old) self.old self.new result }
         ensures leaves { LeavesStore S.files S.failures store.old store.new result }
-        ensures stopped { StopsBy (S.files store.old) self.old self.new result (λ s.
-            Fails (S.blamed store.new) (repeated s count (map (λ k. k.items) variable.keys))) }
+        ensures stopped { StopsBy (S.files store.old) self.old self.new result (λ m s.
+            Fails m (S.blamed store.new) (repeated s count (map (λ k. k.items) variable.keys))) }
     {
         let block = self.reader.block(self.alloc, store, BlockKind::Repeat)?;
         let lines = block.lines;

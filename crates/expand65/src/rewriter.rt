@@ -1,12 +1,12 @@
 //! Lines rewritten one after another.
 
-ghost use Rattle.std.specs.Prelude.{◌≡◌, ◌≤◌, ◌<◌, ◌+◌, [], true, false, length, IfErr, IfOk, IfSome, Ok, OnOk};
+ghost use Rattle.std.specs.Prelude.{Option, ◌≡◌, ◌≤◌, ◌<◌, ◌+◌, [], true, false, length, IfErr, IfOk, IfSome, Ok, OnOk};
 ghost use Rattle.base65.specs.Store.{Files};
 ghost use Rattle.syntax65.specs.Tokens.{lexemes};
 ghost use Rattle.expand65.specs.State.{else_line, ended_if, if_line, unless_refused, Meaning};
 ghost use Rattle.expand65.specs.Failing.{Fails, FailsAt};
 ghost use Rattle.syntax65.specs.Faults.{is_failure};
-ghost use Rattle.expand65.specs.Standing.{NamesFiles, left_in, left_of, Keeps, TurnsTo, LeadsTo, StopsBy, Turns, size_of, stands_alone, state_of, weight_of};
+ghost use Rattle.expand65.specs.Standing.{StandsIn, left_in, left_of, Keeps, TurnsTo, LeadsTo, StopsBy, Turns, size_of, stands_alone, state_of, weight_of};
 ghost use Rattle.expand65.specs.Fronts.{front_directive, is_mislabelled, string_of, understood};
 ghost use Rattle.expand65.specs.Expansion.{Leads, acted, at_mark, unless_mislabelled, directed, include_file, included, IsStep, last_condition};
 ghost use Rattle.expand65.specs.Playing.{tokens_in};
@@ -67,10 +67,10 @@ impl Rewriter {
     ) -> Result<Turn, ExpandFault>
         ensures turns { TurnsTo (S.files store.old) self.old self.new result (λ m s.
             Leads m (if_line (K.meaning knows.now) s test (lexemes tokens.now))) }
-        ensures keeps { Keeps self.old self.new result }
+        ensures keeps { Keeps (S.files store.old) self.old self.new result }
         ensures leaves { LeavesStore S.files S.failures store.old store.new result }
-        ensures stopped { StopsBy (S.files store.old) self.old self.new result (λ s.
-            Fails (S.blamed store.new)
+        ensures stopped { StopsBy (S.files store.old) self.old self.new result (λ m s.
+            Fails m (S.blamed store.new)
             (if_line (K.meaning knows.now) s test (lexemes tokens.now))) }
     {
         if condition(self.alloc, knows, test, tokens)? {
@@ -92,7 +92,7 @@ impl Rewriter {
     /// An `.endif` of an open condition.
     pub fn end_if(&mut self) -> Result<Turn, ExpandFault>
         ensures turns { LeadsTo self.old self.new result (λ s. ended_if s (last_condition s)) }
-        ensures keeps { Keeps self.old self.new result }
+        ensures keeps { (files : Option Files) → Keeps files self.old self.new result }
         ensures inside { IfErr result (λ e. is_failure e ≡ false) }
     {
         match self.conditions.pop_above(self.reader.top.conditions) {
@@ -105,10 +105,10 @@ impl Rewriter {
     pub fn pass_else<S: Store>(&mut self, store: &mut S) -> Result<Turn, ExpandFault>
         ensures turns { TurnsTo (S.files store.old) self.old self.new result (λ m s.
             Leads m (else_line s (last_condition s))) }
-        ensures keeps { Keeps self.old self.new result }
+        ensures keeps { Keeps (S.files store.old) self.old self.new result }
         ensures leaves { LeavesStore S.files S.failures store.old store.new result }
-        ensures stopped { StopsBy (S.files store.old) self.old self.new result (λ s.
-            Fails (S.blamed store.new) (else_line s (last_condition s))) }
+        ensures stopped { StopsBy (S.files store.old) self.old self.new result (λ m s.
+            Fails m (S.blamed store.new) (else_line s (last_condition s))) }
     {
         match self.conditions.pop_above(self.reader.top.conditions) {
             None => Err(ExpandFault::NotOpened),
@@ -129,10 +129,10 @@ impl Rewriter {
         ensures turns { TurnsTo (S.files store.old) self.old self.new result (λ m s.
             Leads m
             (unless_refused s (understood (string_of (lexemes tokens.now))) (include_file s))) }
-        ensures keeps { Keeps self.old self.new result }
+        ensures keeps { Keeps (S.files store.old) self.old self.new result }
         ensures leaves { LeavesStore S.files S.failures store.old store.new result }
-        ensures stopped { StopsBy (S.files store.old) self.old self.new result (λ s.
-            Fails (S.blamed store.new)
+        ensures stopped { StopsBy (S.files store.old) self.old self.new result (λ m s.
+            Fails m (S.blamed store.new)
             (unless_refused s (understood (string_of (lexemes tokens.now))) (include_file s))) }
     {
         let Some(name) = string_of(tokens) else {
@@ -148,7 +148,7 @@ impl Rewriter {
         ensures turns { (m : Files) →
             length (bytes_of m file) ≤ 16777216 → Turns result (state_of m self.new)
             (λ r. r ≡ included (state_of m self.old) (file_of m file)) }
-        ensures keeps { Keeps self.old self.new result }
+        ensures keeps { (files : Option Files) → Keeps files self.old self.new result }
         ensures inside { IfErr result (λ e. is_failure e ≡ false) }
     {
         let place = Place {
@@ -176,10 +176,10 @@ impl Rewriter {
         ensures turns { IfSome (S.files store.old) (λ m.
             (k : Meaning) → Turns result (state_of m self.new)
             (Leads m (directed k (state_of m self.old) directive (lexemes tokens.now)))) }
-        ensures keeps { Keeps self.old self.new result }
+        ensures keeps { Keeps (S.files store.old) self.old self.new result }
         ensures leaves { LeavesStore S.files S.failures store.old store.new result }
         ensures stopped { (k : Meaning) → StopsBy (S.files store.old) self.old self.new result
-            (λ s. Fails (S.blamed store.new) (directed k s directive (lexemes tokens.now))) }
+            (λ m s. Fails m (S.blamed store.new) (directed k s directive (lexemes tokens.now))) }
     {
         if !tokens.is_empty() {
             return Err(ExpandFault::NotUnderstood);
@@ -204,10 +204,10 @@ impl Rewriter {
     ) -> Result<Turn, ExpandFault>
         ensures turns { TurnsTo (S.files store.old) self.old self.new result (λ m s.
             Leads m (directed (K.meaning knows.now) s directive (lexemes tokens.now))) }
-        ensures keeps { Keeps self.old self.new result }
+        ensures keeps { Keeps (S.files store.old) self.old self.new result }
         ensures leaves { LeavesStore S.files S.failures store.old store.new result }
-        ensures stopped { StopsBy (S.files store.old) self.old self.new result (λ s.
-            Fails (S.blamed store.new)
+        ensures stopped { StopsBy (S.files store.old) self.old self.new result (λ m s.
+            Fails m (S.blamed store.new)
             (directed (K.meaning knows.now) s directive (lexemes tokens.now))) }
     {
         match directive {
@@ -241,10 +241,10 @@ impl Rewriter {
         ensures turns { TurnsTo (S.files store.old) self.old self.new result (λ m s.
             Leads m
             (acted (K.meaning knows.now) s (tokens_in line) (front_directive (tokens_in line)))) }
-        ensures keeps { Keeps self.old self.new result }
+        ensures keeps { Keeps (S.files store.old) self.old self.new result }
         ensures leaves { LeavesStore S.files S.failures store.old store.new result }
-        ensures stopped { StopsBy (S.files store.old) self.old self.new result (λ s.
-            Fails (S.blamed store.new)
+        ensures stopped { StopsBy (S.files store.old) self.old self.new result (λ m s.
+            Fails m (S.blamed store.new)
             (acted (K.meaning knows.now) s (tokens_in line) (front_directive (tokens_in line)))) }
     {
         match line.directive() {
@@ -267,11 +267,12 @@ impl Rewriter {
         ensures turns { TurnsTo (S.files store.old) self.old self.new result (λ m s.
             Leads m
             (unless_mislabelled (K.meaning knows.now) s (tokens_in line) (is_mislabelled (tokens_in line)))) }
-        ensures named { NamesFiles self.old.reader → OnOk result (NamesFiles self.new.reader) }
+        ensures stands { StandsIn (S.files store.old) self.old.reader →
+            OnOk result (StandsIn (S.files store.old) self.new.reader) }
         ensures size { IfOk result (λ t. size_of self.new + weight_of t ≤ size_of self.old + 3) }
         ensures leaves { LeavesStore S.files S.failures store.old store.new result }
-        ensures stopped { StopsBy (S.files store.old) self.old self.new result (λ s.
-            Fails (S.blamed store.new)
+        ensures stopped { StopsBy (S.files store.old) self.old self.new result (λ m s.
+            Fails m (S.blamed store.new)
             (unless_mislabelled (K.meaning knows.now) s (tokens_in line) (is_mislabelled (tokens_in line)))) }
     {
         match line.parted(self.alloc)? {
@@ -285,7 +286,8 @@ impl Rewriter {
         ensures turns { (m : Files) →
             left_in m self.old.reader.top.source ≡ [] → Turns result (state_of m self.new)
             (λ r. r ≡ at_mark (state_of m self.old) (left_of m self.old.reader).items) }
-        ensures named { NamesFiles self.old.reader → OnOk result (NamesFiles self.new.reader) }
+        ensures stands { (files : Option Files) → StandsIn files self.old.reader →
+            OnOk result (StandsIn files self.new.reader) }
         ensures size { IfOk result (λ t. size_of self.new + weight_of t < size_of self.old + 1) }
         ensures inside { IfErr result (λ e. is_failure e ≡ false) }
     {
@@ -305,11 +307,12 @@ impl Rewriter {
     ) -> Result<Turn, ExpandFault>
         ensures turns { TurnsTo (S.files store.old) self.old self.new result (λ m s.
             IsStep m (K.meaning knows.now) s) }
-        ensures named { NamesFiles self.old.reader → OnOk result (NamesFiles self.new.reader) }
+        ensures stands { StandsIn (S.files store.old) self.old.reader →
+            OnOk result (StandsIn (S.files store.old) self.new.reader) }
         ensures size { IfOk result (λ t. size_of self.new + weight_of t < size_of self.old + 1) }
         ensures leaves { LeavesStore S.files S.failures store.old store.new result }
-        ensures stopped { StopsBy (S.files store.old) self.old self.new result (λ s.
-            FailsAt (S.blamed store.new) (K.meaning knows.now) s) }
+        ensures stopped { StopsBy (S.files store.old) self.old self.new result (λ m s.
+            FailsAt m (S.blamed store.new) (K.meaning knows.now) s) }
     {
         match self.reader.next_line(self.alloc, store)? {
             None => self.end_input(),

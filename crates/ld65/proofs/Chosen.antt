@@ -74,7 +74,7 @@ IsAfter known library all left old now =
 
 module _ (known : Option Files) (library : List ℕ) (all : List Entry) where
   -- some members, and then others
-  in_turn : (s : Script) (m : Files) (before : List Module) (some left : List Entry) → with_members s m library before (some ++ left) ≡ (with_members s m library before some >>= (λ ms. with_members s m library ms left))
+  pub in_turn : (s : Script) (m : Files) (before : List Module) (some left : List Entry) → with_members s m library before (some ++ left) ≡ (with_members s m library before some >>= (λ ms. with_members s m library ms left))
   in_turn s m before [] left = refl
   in_turn s m before (e ∷ es) left = go (with_member s m library before e) (λ ms. in_turn s m ms es left)
     where
@@ -165,7 +165,7 @@ after_all known library es places k old new le is before stands =
 -- ---- A library.
 
 -- an index that was read
-indexed : (known : Option Files) (k : ℕ) (library : List ℕ) (es : List Entry) → IfSome known (λ m. as_library k (index_in m library) ≡ Ok es) → IfSome known (λ m. index_in m library ≡ Ok es)
+pub indexed : (known : Option Files) (k : ℕ) (library : List ℕ) (es : List Entry) → IfSome known (λ m. as_library k (index_in m library) ≡ Ok es) → IfSome known (λ m. index_in m library ≡ Ok es)
 indexed None k library es h = tt
 indexed (Some m) k library es h = go (index_in m library) h
   where

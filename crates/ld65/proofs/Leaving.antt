@@ -1,7 +1,8 @@
 -- What calls leave of a store and of a linker, one behind another.
 use Rattle.std.proofs.lemmas.Grind.{common_steps}
-use Rattle.std.proofs.Common.{◌≡◌, ◌∙◌, ◌<◌, ℕ, List, [], Bool, true, false, if◌then◌else◌, Option, Some, Result, Ok, Err, refl, ap, arith, slice_get, subst, sym, IfErr}
-use Rattle.base65.specs.Store.{Files, Passes, PassesBy}
+use Rattle.std.proofs.Common.{◌≡◌, ◌∙◌, ◌<◌, ℕ, List, [], Bool, true, false, if◌then◌else◌, Option, Result, Ok, Err, refl, ap, arith, ◌≤◌, ◌+◌, subst, sym, IfErr}
+use Rattle.std.specs.Prelude.{IsErrOf}
+use Rattle.base65.specs.Store.{Files, IsBlamedIn, Passes, PassesBy, Blamed}
 use Rattle.object65.specs.declared.fault.ObjectFault.{ObjectFault}
 use Rattle.object65.specs.declared.fault.ObjectFault.TheVariants as object
 use Rattle.object65.specs.Record.{is_memory as is_object_memory}
@@ -10,11 +11,14 @@ use Rattle.link65.specs.declared.fault.LinkFault.{LinkFault}
 use Rattle.link65.specs.declared.fault.LinkFault.TheVariants as link
 use Rattle.link65.specs.Faults.{of_object}
 use Rattle.link65.specs.Programs.{Module}
+use Rattle.script65.specs.declared.script.Script.{Script}
 use Rattle.link65.specs.Standing.{Feeding, IsFed, Keeps, is_open}
 use Rattle.ld65.specs.declared.refusal.Refusal.{Refusal}
 use Rattle.ld65.specs.Inner.Feeding.{LeavesBy, LeavesFed}
 use Rattle.ld65.specs.Linkage.{as_refusal, member_module}
-use Rattle.ld65.specs.Naming.{IsOfInput, NamesInput, NamesInputs, NamesMember}
+use Rattle.ld65.specs.Naming.{IsOfFront, IsOfMember, IsOfObject, Names}
+use Rattle.ld65.specs.declared.refusal.Refusal.TheVariants.{Member, Object}
+use Rattle.library65.specs.declared.index.Entry.{Entry}
 use Rattle.ld65.specs.Refusals.{is_failure, refusal_at, refusal_in}
 use Rattle.ld65.proofs.Objects.{file_failed}
 
@@ -23,7 +27,7 @@ keeps_on old mid new first next = record { script = next.script ∙ first.script
 
 -- ---- Of the linker's faults none but the store's own is a failure of a file.
 
-stored : (f : ObjectFault) → of_object f ≡ file_failed → f ≡ object.FileError
+pub stored : (f : ObjectFault) → of_object f ≡ file_failed → f ≡ object.FileError
 stored f h = go (is_object_memory f) h
   where
     go : (b : Bool) → (if b then link.OutOfMemory else link.Malformed f) ≡ file_failed → f ≡ object.FileError
@@ -49,7 +53,7 @@ err_is e f h = cc h
 pub none_passed : {T : Type 0} (a b : ℕ) (x : T) → Passes file_failed a b (Ok x) → b ≡ a
 none_passed a b x passes = grind (arith, common_steps)
 
-module _ {X : Type 0} {files_of : X → Option Files} {failures_of : X → ℕ} {blamed_of : X → Option (List ℕ)} (name : List ℕ) (old new : X) where
+module _ {X : Type 0} {files_of : X → Option Files} {failures_of : X → ℕ} {blamed_of : X → Blamed} (name : List ℕ) (old new : X) where
   -- a call that doesn't ask the store
   pub untouched : {T : Type 0} (r : Result T LinkFault) → files_of new ≡ files_of old → failures_of new ≡ failures_of old → (r ≡ Err file_failed → ⊥) → Leaves files_of failures_of blamed_of file_failed name old new r
   untouched r files same free = record {
@@ -98,12 +102,16 @@ named_count named a b e fails stored passes = record {
 }
 
 -- what is left behind an object, where the linker stands for modules
-abbrev LeavesObject : {X : Type 0} → (X → Option Files) → (X → ℕ) → (X → Option (List ℕ)) → List ℕ → X → X → Feeding → Result (Unit {0}) LinkFault → Type 0
+abbrev LeavesObject : {X : Type 0} → (X → Option Files) → (X → ℕ) → (X → Blamed) → List ℕ → X → X → Feeding → Result (Unit {0}) LinkFault → Type 0
 LeavesObject files_of failures_of blamed_of name old new before r = (modules : List Module) → IsFed before modules → Leaves files_of failures_of blamed_of file_failed name old new r
 
-module _ {X : Type 0} {files_of : X → Option Files} {failures_of : X → ℕ} {blamed_of : X → Option (List ℕ)} (old new : X) (before after : Feeding) (keeps : Keeps before after) (files : files_of new ≡ files_of old) where
-  pub object_left : (Names : Option (List ℕ) → Refusal → Type 0) (name : List ℕ) → is_open after ≡ false → LeavesObject files_of failures_of blamed_of name old new before (Ok tt) → LeavesFed files_of failures_of blamed_of Names old new before after (Ok tt)
-  object_left Names name opened left = record {
+-- where the store failed, the call asked for these bytes of a file
+abbrev FailsWithin : {X : Type 0} → (X → Blamed) → List ℕ → ℕ → ℕ → X → Feeding → Result (Unit {0}) LinkFault → Type 0
+FailsWithin blamed_of name begin end new before r = (modules : List Module) → IsFed before modules → IsErrOf r file_failed → begin ≤ end → IsBlamedIn (blamed_of new) name begin end
+
+module _ {X : Type 0} {files_of : X → Option Files} {failures_of : X → ℕ} {blamed_of : X → Blamed} (old new : X) (before after : Feeding) (keeps : Keeps before after) (files : files_of new ≡ files_of old) where
+  pub object_left : (NamesBehind : List Module → Blamed → Refusal → Type 0) (name : List ℕ) → is_open after ≡ false → LeavesObject files_of failures_of blamed_of name old new before (Ok tt) → LeavesFed files_of failures_of blamed_of NamesBehind old new before after (Ok tt)
+  object_left NamesBehind name opened left = record {
     opened = opened;
     keeps = keeps;
     files = files;
@@ -111,7 +119,7 @@ module _ {X : Type 0} {files_of : X → Option Files} {failures_of : X → ℕ} 
     named = λ modules stands. tt;
   }
 
-  pub file_left : (place : ℕ) (name : List ℕ) (e : LinkFault) → LeavesObject files_of failures_of blamed_of name old new before (Err e) → LeavesFed files_of failures_of blamed_of (λ b. NamesInput b place name) old new before after (Err (refusal_at place e))
+  pub file_left : (place : ℕ) (name : List ℕ) (e : LinkFault) → LeavesObject files_of failures_of blamed_of name old new before (Err e) → LeavesFed files_of failures_of blamed_of (λ _ b. Names (IsOfObject b place name)) old new before after (Err (refusal_at place e))
   file_left place name e left = record {
     opened = tt;
     keeps = keeps;
@@ -119,20 +127,20 @@ module _ {X : Type 0} {files_of : X → Option Files} {failures_of : X → ℕ} 
     count = λ modules stands. named_count (refusal_at place) _ _ e refl (is_stored_at place e) (left modules stands).count;
     named = λ modules stands failed.
         let fault = is_stored_at place e failed in
-        let P : LinkFault → Type 0 = λ f. IsOfInput (blamed_of new) place name (refusal_at place f) in
+        let P : LinkFault → Type 0 = λ f. IsOfObject (blamed_of new) place name (refusal_at place f) in
         subst P (sym fault) (refl, (left modules stands).blamed (ap Err fault));
   }
 
-  pub member_left : (library member called : List ℕ) (e : LinkFault) → called ≡ member_module library member → LeavesObject files_of failures_of blamed_of library old new before (Err e) → LeavesFed files_of failures_of blamed_of (λ b. NamesMember b library) old new before after (Err (refusal_in called e))
-  member_left library member called e is left = record {
+  pub member_left : (library called : List ℕ) (entry : Entry) (e : LinkFault) → called ≡ member_module library entry.name → LeavesObject files_of failures_of blamed_of library old new before (Err e) → FailsWithin blamed_of library entry.place (entry.place + entry.size) new before (Err e) → LeavesFed files_of failures_of blamed_of (λ _ b. Names (IsOfMember b library entry)) old new before after (Err (refusal_in called e))
+  member_left library called entry e is left within = record {
     opened = tt;
     keeps = keeps;
     files = files;
     count = λ modules stands. named_count (refusal_in called) _ _ e refl (is_stored_in called e) (left modules stands).count;
-    named = λ modules stands place failed.
+    named = λ modules stands failed.
         let fault = is_stored_in called e failed in
-        let P : LinkFault → Type 0 = λ f. IsOfInput (blamed_of new) place library (refusal_in called f) in
-        subst P (sym fault) ((member, is), (left modules stands).blamed (ap Err fault));
+        let P : LinkFault → Type 0 = λ f. IsOfMember (blamed_of new) library entry (refusal_in called f) in
+        subst P (sym fault) (ap (λ n. Member n object.FileError) is, within modules stands (ap Err fault) (omega arith));
   }
 
 -- ---- Inputs and members, one behind another.
@@ -140,10 +148,10 @@ module _ {X : Type 0} {files_of : X → Option Files} {failures_of : X → ℕ} 
 kept_by : {T : Type 0} (a b : ℕ) (x : T) → PassesBy is_failure a b (Ok x) → b ≡ a
 kept_by a b x passes = let not_later : a < b → ⊥ = λ h. absurd (passes.told h) in omega (arith, passes.later, not_later)
 
-module _ {X : Type 0} {files_of : X → Option Files} {failures_of : X → ℕ} {blamed_of : X → Option (List ℕ)} (Names : Option (List ℕ) → Refusal → Type 0) where
+module _ {X : Type 0} {files_of : X → Option Files} {failures_of : X → ℕ} {blamed_of : X → Blamed} (NamesBehind : List Module → Blamed → Refusal → Type 0) where
   -- a call that asks the store alone
-  pub read_left : {T : Type 0} (old new : X) (before : Feeding) (x : T) → is_open before ≡ false → LeavesBy files_of failures_of blamed_of Names old new (Ok x) → LeavesFed files_of failures_of blamed_of Names old new before before (Ok tt)
-  read_left old new before x opened left = record {
+  pub read_left : {T : Type 0} (NamesRead : Blamed → Refusal → Type 0) (old new : X) (before : Feeding) (x : T) → is_open before ≡ false → LeavesBy files_of failures_of blamed_of NamesRead old new (Ok x) → LeavesFed files_of failures_of blamed_of NamesBehind old new before before (Ok tt)
+  read_left NamesRead old new before x opened left = record {
     opened = opened;
     keeps = record { script = refl; output = refl };
     files = left.files;
@@ -151,33 +159,30 @@ module _ {X : Type 0} {files_of : X → Option Files} {failures_of : X → ℕ} 
     named = λ modules stands. tt;
   }
 
-  pub unread_left : {T : Type 0} (old new : X) (before : Feeding) (e : Refusal) → LeavesBy {T = T} files_of failures_of blamed_of Names old new (Err e) → LeavesFed files_of failures_of blamed_of Names old new before before (Err e)
-  unread_left old new before e left = record {
+  pub unread_left : {T : Type 0} (NamesRead : Blamed → Refusal → Type 0) (old new : X) (before : Feeding) (e : Refusal) → ((modules : List Module) (b : Blamed) → NamesRead b e → NamesBehind modules b e) → LeavesBy {T = T} files_of failures_of blamed_of NamesRead old new (Err e) → LeavesFed files_of failures_of blamed_of NamesBehind old new before before (Err e)
+  unread_left NamesRead old new before e so left = record {
     opened = tt;
     keeps = record { script = refl; output = refl };
     files = left.files;
     count = λ modules stands. let p = left.count in record { later = p.later; told = λ h. p.told h; cause = λ h. p.cause h };
-    named = λ modules stands. left.named;
+    named = λ modules stands. so modules (blamed_of new) left.named;
   }
 
-  pub behind_others : (NamesOne : Option (List ℕ) → Refusal → Type 0) (old mid new : X) (before middle after : Feeding) (r : Result (Unit {0}) Refusal) → ((b : Option (List ℕ)) (e : Refusal) → NamesOne b e → Names b e) → ((modules : List Module) → IsFed before modules → (more : List Module) × IsFed middle more) → LeavesFed files_of failures_of blamed_of Names old mid before middle (Ok tt) → LeavesFed files_of failures_of blamed_of NamesOne mid new middle after r → LeavesFed files_of failures_of blamed_of Names old new before after r
-  behind_others NamesOne old mid new before middle after r named so first next = record {
+  -- a call behind others, by what each names where the store failed
+  pub behind_others : (NamesOne : List Module → Blamed → Refusal → Type 0) (old mid new : X) (before middle after : Feeding) (r : Result (Unit {0}) Refusal) → ((modules : List Module) → IsFed before modules → (more : List Module) × IsFed middle more × (IfErr r (NamesOne more (blamed_of new)) → IfErr r (NamesBehind modules (blamed_of new)))) → LeavesFed files_of failures_of blamed_of NamesBehind old mid before middle (Ok tt) → LeavesFed files_of failures_of blamed_of NamesOne mid new middle after r → LeavesFed files_of failures_of blamed_of NamesBehind old new before after r
+  behind_others NamesOne old mid new before middle after r so first next = record {
     opened = next.opened;
     keeps = keeps_on before middle after first.keeps next.keeps;
     files = next.files ∙ first.files;
     count = λ modules stands.
         let p = so modules stands in
         subst (λ (n : ℕ). PassesBy is_failure n (failures_of new) r) (kept_by _ _ tt (first.count modules stands)) (next.count p.0 p.1);
-    named = λ modules stands. let p = so modules stands in by r (next.named p.0 p.1);
+    named = λ modules stands. let p = so modules stands in p.2 (next.named p.0 p.1);
   }
-    where
-      by : (r : Result (Unit {0}) Refusal) → IfErr r (NamesOne (blamed_of new)) → IfErr r (Names (blamed_of new))
-      by (Ok u) h = tt
-      by (Err e) h = named (blamed_of new) e h
 
 -- a refusal of a call that doesn't ask the store
-pub unasked : {X : Type 0} {files_of : X → Option Files} {failures_of : X → ℕ} {blamed_of : X → Option (List ℕ)} (place : ℕ) (name : List ℕ) (old : X) (before : Feeding) (e : Refusal) → is_failure e ≡ false → LeavesFed files_of failures_of blamed_of (λ b. NamesInput b place name) old old before before (Err e)
-unasked place name old before e free = record {
+pub unasked : {X : Type 0} {files_of : X → Option Files} {failures_of : X → ℕ} {blamed_of : X → Blamed} (IsOf : List Module → Blamed → Refusal → Type 0) (old : X) (before : Feeding) (e : Refusal) → is_failure e ≡ false → LeavesFed files_of failures_of blamed_of (λ modules b. Names (IsOf modules b)) old old before before (Err e)
+unasked IsOf old before e free = record {
   opened = tt;
   keeps = record { script = refl; output = refl };
   files = refl;
@@ -185,21 +190,48 @@ unasked place name old before e free = record {
   named = λ modules stands failed. absurd cc;
 }
 
-pub inputs_named : (inputs : List (List ℕ)) (place : ℕ) (name : List ℕ) → slice_get inputs place ≡ Some name → (blamed : Option (List ℕ)) (e : Refusal) → NamesInput blamed place name e → NamesInputs blamed inputs e
-inputs_named inputs place name at blamed e named failed = (place, name, at, named failed)
+-- ---- The front of an input.
+
+failed_front : (place : ℕ) (f : ObjectFault) → is_failure (Object place f) ≡ true → f ≡ object.FileError
+failed_front place f h = let same : link.Malformed f ≡ file_failed = is_stored_at place (link.Malformed f) h in cc
+
+module _ {X : Type 0} {files_of : X → Option Files} {failures_of : X → ℕ} {blamed_of : X → Blamed} (NamesBehind : List Module → Blamed → Refusal → Type 0) (name : List ℕ) (old new : X) (before : Feeding) where
+  pub front_read : (b : Bool) → is_open before ≡ false → Leaves files_of failures_of blamed_of object.FileError name old new (Ok b) → LeavesFed files_of failures_of blamed_of NamesBehind old new before before (Ok tt)
+  front_read b opened left = record {
+    opened = opened;
+    keeps = record { script = refl; output = refl };
+    files = left.files;
+    count = λ modules stands. record { later = left.count.later; told = λ h. let no : ⊥ = cc (left.count.told h) in absurd no; cause = tt };
+    named = λ modules stands. tt;
+  }
+
+pub front_unread : {X : Type 0} {files_of : X → Option Files} {failures_of : X → ℕ} {blamed_of : X → Blamed} (IsOf : List Module → Blamed → Refusal → Type 0) (name : List ℕ) (old new : X) (before : Feeding) (place : ℕ) (f : ObjectFault) → ((modules : List Module) (e : Refusal) → IsOfFront (blamed_of new) place name e → IsOf modules (blamed_of new) e) → Leaves {T = Bool} files_of failures_of blamed_of object.FileError name old new (Err f) → (IsErrOf {T = Bool} (Err f) object.FileError → IsBlamedIn (blamed_of new) name 0 4) → LeavesFed files_of failures_of blamed_of (λ modules b. Names (IsOf modules b)) old new before before (Err (Object place f))
+front_unread {X} {files_of} {failures_of} {blamed_of} IsOf name old new before place f so left within = record {
+  opened = tt;
+  keeps = record { script = refl; output = refl };
+  files = left.files;
+  count = λ modules stands. record {
+    later = left.count.later;
+    told = λ h. let same : f ≡ object.FileError = cc (left.count.told h) in ap (λ x. is_failure (Object place x)) same;
+    cause = λ h. left.count.cause (ap Err (failed_front place f h));
+  };
+  named = λ modules stands failed.
+      let same = failed_front place f failed in
+      so modules (Object place f) (ap (λ x. Object place x) same, within (ap Err same));
+}
 
 -- ---- All inputs.
 
-module _ {X T : Type 0} {files_of : X → Option Files} {failures_of : X → ℕ} {blamed_of : X → Option (List ℕ)} (names inputs : List (List ℕ)) (old new : X) (fresh fed : Feeding) (stands : IsFed fresh []) where
-  pub refused_left : (e : Refusal) → names ≡ inputs → LeavesFed files_of failures_of blamed_of (λ b. NamesInputs b names) old new fresh fed (Err e) → LeavesBy {T = T} files_of failures_of blamed_of (λ b. NamesInputs b inputs) old new (Err e)
+module _ {X T : Type 0} {files_of : X → Option Files} {failures_of : X → ℕ} {blamed_of : X → Blamed} (IsOf : Script → List Module → Blamed → List (List ℕ) → Refusal → Type 0) (s : Script) (names inputs : List (List ℕ)) (old new : X) (fresh fed : Feeding) (script : fresh.script ≡ s) (stands : IsFed fresh []) where
+  pub refused_left : (e : Refusal) → names ≡ inputs → LeavesFed files_of failures_of blamed_of (λ first b. Names (IsOf fresh.script first b names)) old new fresh fed (Err e) → LeavesBy {T = T} files_of failures_of blamed_of (λ b. Names (IsOf s [] b inputs)) old new (Err e)
   refused_left e same left = record {
     files = left.files;
     count = let p = left.count [] stands in record { later = p.later; told = λ h. p.told h; cause = λ h. p.cause h };
-    named = let P : List (List ℕ) → Type 0 = λ ns. NamesInputs (blamed_of new) ns e in subst P same (left.named [] stands);
+    named = let P : Script → List (List ℕ) → Type 0 = λ t ns. Names (IsOf t [] (blamed_of new) ns) e in subst (λ t. P t inputs) script (subst (P fresh.script) same (left.named [] stands));
   }
 
   -- behind them no other call fails the store
-  pub linked_left : (r : Result T LinkFault) → LeavesFed files_of failures_of blamed_of (λ b. NamesInputs b names) old new fresh fed (Ok tt) → LeavesBy files_of failures_of blamed_of (λ b. NamesInputs b inputs) old new (as_refusal r)
+  pub linked_left : (r : Result T LinkFault) → LeavesFed files_of failures_of blamed_of (λ first b. Names (IsOf fresh.script first b names)) old new fresh fed (Ok tt) → LeavesBy files_of failures_of blamed_of (λ b. Names (IsOf s [] b inputs)) old new (as_refusal r)
   linked_left (Ok x) left = let p = left.count [] stands in record {
     files = left.files;
     count = record { later = p.later; told = λ h. absurd (p.told h); cause = tt };

@@ -3,3 +3,5 @@ pub mod Fed
 pub mod Leaving
 pub mod LineInputs
 pub mod Objects
+pub mod SomeLink
+pub mod Turns

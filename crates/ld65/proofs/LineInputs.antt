@@ -1,24 +1,23 @@
 -- From a script and the inputs of a line to what they are linked to.
-use Rattle.std.proofs.Common.{◌≡◌, ◌∙◌, ℕ, ◌+◌, ◌≤◌, ◌<◌, List, length, take, Bool, true, false, nat_lt, Option, Some, None, Result, Ok, Err, refl, ap, subst, arith, zero, suc, [], ◌∷◌, ◌++◌, Bor, drop, get_or, map, slice_get, add-one}
-use Rattle.std.specs.Prelude.{IfSome, ◌||◌, min}
+use Rattle.std.proofs.Common.{◌≡◌, inr, ◌∙◌, ℕ, ◌+◌, ◌≤◌, ◌<◌, List, length, take, Bool, true, false, nat_lt, Option, Some, None, Result, Ok, Err, refl, ap, subst, arith, zero, suc, [], ◌∷◌, ◌++◌, Bor, drop, get_or, map, slice_get, add-one}
+use Rattle.std.specs.Prelude.{IfErr, IfSome, ◌||◌, min}
 use Rattle.std.specs.FinMap.{get}
 use Rattle.std.proofs.lemmas.Bool.Decides.{nat_tests}
 use Rattle.std.proofs.lemmas.List.{take_all, length-take}
-use Rattle.base65.specs.Outcome.{First, Finds, Unless, ◌>>=◌}
-use Rattle.base65.specs.Store.{Files}
+use Rattle.base65.specs.Outcome.{First, Finds, Unless}
+use Rattle.base65.specs.Store.{Blamed, Files}
 use Rattle.base65.specs.declared.store.StoreFault.TheVariants.{FileNotFound}
 use Rattle.script65.specs.declared.script.Script.{Script}
-use Rattle.script65.specs.declared.fault.Stop.{Stop}
-use Rattle.script65.specs.declared.fault.Fault.TheVariants.{TooLong}
 use Rattle.script65.specs.declared.fault.ScriptFault.{ScriptFault}
 use Rattle.script65.specs.Faults.{is_script_outside}
-use Rattle.script65.specs.Grammar.{First as FirstOf, sized}
-use Rattle.script65.specs.Scripts.{IsScript, script_of, with_line}
+use Rattle.script65.specs.Scripts.{IsScript}
+use Rattle.script65.proofs.OneReading.{long_texts}
 use Rattle.link65.specs.declared.linking.Linked.{Linked}
 use Rattle.cli65.specs.Line.{Linking}
 use Rattle.ld65.specs.declared.refusal.Refusal.{Refusal}
 use Rattle.ld65.specs.declared.refusal.Refusal.TheVariants as refusal
 use Rattle.ld65.specs.Linkage.{IsLinkedBy, IsLinked, as_script, text_of, AreInputs, IsInput, file_input, as_refusal, output_of}
+use Rattle.ld65.specs.Naming.{IsOfInputs, IsOfLine, IsScriptIn, Names}
 use Rattle.ld65.specs.Refusals.{is_outside, refusal_at}
 use Rattle.ld65.specs.Inner.Texts.{front_of, script_limit, script_text}
 use Rattle.link65.specs.declared.fault.LinkFault.{LinkFault}
@@ -30,29 +29,6 @@ use Rattle.link65.specs.Faults.{is_memory}
 use Rattle.link65.specs.Links.{LinkOf, names_once}
 
 -- ---- From a script that was read to what is linked by it.
-
-first_err : {A B : Type 0} (head : Result A Stop) (e : Stop) (Next : A → Result B Stop → Type 0) (r : Result B Stop) → head ≡ Err e → FirstOf head Next r → r ≡ Err e
-first_err (Ok x) e Next r h k = absurd cc
-first_err (Err f) e Next r h k = let same : f ≡ e = cc in k ∙ ap Err same
-
-err_first : {A B : Type 0} (head : Result A Stop) (e : Stop) (Next : A → Result B Stop → Type 0) → head ≡ Err e → FirstOf {B = B} head Next (Err e)
-err_first (Ok x) e Next h = absurd cc
-err_first (Err f) e Next h = let same : e ≡ f = cc in ap Err same
-
-abbrev too_long : Stop
-too_long = record { fault = TooLong; at = 0 }
-
-long_head : (bytes : List ℕ) → nat_lt script_limit (length bytes) ≡ true → sized bytes ≡ Err too_long
-unfolding sized
-long_head bytes h = rw h refl
-
-long_script : (text bytes : List ℕ) (q : Result Script ScriptFault) → nat_lt script_limit (length text) ≡ true → nat_lt script_limit (length bytes) ≡ true → IsScript text q → IsScript bytes q
-long_script text bytes q h k s =
-    let d = s.1 in
-    let p : d.0 ≡ Err too_long = first_err (sized text) too_long _ d.0 (long_head text h) d.1 in
-    let e : s.0 ≡ Err too_long = d.2 ∙ ap (λ x. x >>= script_of text) p in
-    let f : q ≡ with_line text (Err too_long) = s.2 ∙ ap (with_line text) e in
-    (Err too_long, (Err too_long, err_first (sized bytes) too_long _ (long_head bytes k), refl), f)
 
 is_long : (n : ℕ) (bytes : List ℕ) → nat_lt n (length bytes) ≡ true → nat_lt n (length (take (n + 1) bytes)) ≡ true
 is_long n bytes h =
@@ -68,8 +44,28 @@ is_short n bytes h =
 
 -- the front of a script tells what the whole does
 whole_script : (b : Bool) (bytes : List ℕ) (q : Result Script ScriptFault) → nat_lt script_limit (length bytes) ≡ b → IsScript (take (script_limit + 1) bytes) q → IsScript bytes q
-whole_script true bytes q h s = long_script (take (script_limit + 1) bytes) bytes q (is_long script_limit bytes h) h s
+whole_script true bytes q h s = long_texts (take (script_limit + 1) bytes) bytes q (is_long script_limit bytes h) h s
 whole_script false bytes q h s = subst (λ (x : List ℕ). IsScript x q) (is_short script_limit bytes h) s
+
+-- a script that was read is that of its file
+script_in : (m : Files) (name text : List ℕ) (s : Script) → Ok text ≡ script_text m name → IsScript text (Ok s) → IsScriptIn m name s
+script_in m name text s read is = go (get m name) refl read
+  where
+    go : (file : Option (List ℕ)) → get m name ≡ file → Ok text ≡ front_of (text_of file) → IsScriptIn m name s
+    go None e h = absurd cc
+    go (Some bytes) e h =
+        let front : text ≡ take (script_limit + 1) bytes = cc in
+        (bytes, e, whole_script (nat_lt script_limit (length bytes)) bytes (Ok s) refl (subst (λ (x : List ℕ). IsScript x (Ok s)) front is))
+
+-- an input is named, by that script
+pub named_line : (known next : Option Files) (l : Linking) (text : List ℕ) (s : Script) (b : Blamed) (r : Result Linked Refusal) → next ≡ known → IfSome known (λ m. Ok text ≡ script_text m l.script) → IsScript text (Ok s) → IfErr r (Names (IsOfInputs next s [] b l.inputs)) → IfErr r (Names (IsOfLine known b l))
+named_line known next l text s b (Ok x) same read is named = tt
+named_line known next l text s b (Err e) same read is named = λ failed.
+    inr (s, told known read, subst (λ (f : Option Files). IsOfInputs f s [] b l.inputs e) same (named failed))
+  where
+    told : (f : Option Files) → IfSome f (λ m. Ok text ≡ script_text m l.script) → IfSome f (λ m. IsScriptIn m l.script s)
+    told None h = tt
+    told (Some m) h = script_in m l.script text s h is
 
 -- what the linker does with a script that was read
 abbrev pub Rest : Files → Linking → Result Script ScriptFault → Result Linked Refusal → Type 0

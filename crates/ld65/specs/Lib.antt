@@ -1,4 +1,5 @@
 pub mod Inner
+pub mod Laws
 pub mod Linkage
 pub mod Naming
 pub mod Refusals

@@ -1,6 +1,7 @@
 //! The command ld65: what a line of it comes to.
 #![tactic(auto)]
 
+pub mod laws;
 mod linking;
 mod members;
 mod refusal;

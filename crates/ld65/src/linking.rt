@@ -1,7 +1,7 @@
 //! From the inputs of a line to what they are linked to.
 
-ghost use Rattle.std.specs.Prelude.{◌≡◌, [], List, ℕ, OnOk, Option, true, false, IfErr, IfSome, Ok, map};
-ghost use Rattle.base65.specs.Store.{PassesBy, Asks};
+ghost use Rattle.std.specs.Prelude.{◌≡◌, ◌≤◌, [], List, ℕ, OnOk, Option, true, false, IfErr, IfOk, IfSome, IsErrOf, Ok, map};
+ghost use Rattle.base65.specs.Store.{PassesBy, Asks, IsBlamedIn};
 ghost use Rattle.object65.specs.declared.fault.ObjectFault.TheVariants.{FileError};
 ghost use Rattle.object65.specs.Scanning.{start};
 ghost use Rattle.library65.specs.declared.index.Entry as index;
@@ -15,7 +15,7 @@ ghost use Rattle.object65.specs.Record.{is_outside as is_object_outside};
 ghost use Rattle.object65.specs.Reading.{Leaves, in_file};
 ghost use Rattle.ld65.specs.Linkage.{is_library, output_of, IsLinkedBy, IsLinked};
 ghost use Rattle.ld65.specs.Refusals.{is_failure, is_outside};
-ghost use Rattle.ld65.specs.Naming.{NamesInput, NamesInputs, NamesOfLine, NamesScript};
+ghost use Rattle.ld65.specs.Naming.{IsOfInput, IsOfInputs, IsOfLine, IsOfObject, IsOfScript, Names};
 ghost use Rattle.cli65.specs.Line.{linking};
 ghost use Rattle.ld65.specs.Inner.Texts.{script_text};
 
@@ -61,6 +61,11 @@ fn feed_records<S: Store>(
         IsFeeding linker.old modules called entry (start head.0) →
         Leaves S.files S.failures S.blamed (Malformed FileError) object.now.file.now
         store.old store.new result }
+    ensures within { (modules : List Module) (called : List ℕ) (entry : Option index.Entry) →
+        IsFeeding linker.old modules called entry (start head.0) →
+        IsErrOf result (Malformed FileError) → head.1 ≤ object.now.end →
+        IsBlamedIn (S.blamed store.new) object.now.file.now head.1 object.now.end }
+    ensures bound { IfOk result (λ end. (head.1 ≤ end) × (end ≤ object.now.end)) }
 {
     let (version, first) = head;
     let mut next = first;
@@ -89,6 +94,9 @@ pub fn feed_object<S: Store>(
     ensures kept { (modules : List Module) → IsFed linker.old modules →
         Leaves S.files S.failures S.blamed (Malformed FileError) object.now.file.now
         store.old store.new result }
+    ensures within { (modules : List Module) → IsFed linker.old modules →
+        IsErrOf result (Malformed FileError) → object.now.begin ≤ object.now.end →
+        IsBlamedIn (S.blamed store.new) object.now.file.now object.now.begin object.now.end }
 {
     let head = read_head(store, object.file, object.begin, object.end)?;
     linker.begin_module(object.name, head.0, object.entry)?;
@@ -105,6 +113,7 @@ const LIBRARY: [u8; 4] = [0x52, 0x36, 0x35, 0x6c];
 fn is_library<S: Store>(store: &mut S, name: &str) -> Result<bool, ObjectFault>
     ensures read { IfSome (S.files store.old) (λ m. Gives is_object_outside (λ b. b) result (in_file (get m name.now) (λ bytes. Ok (is_library bytes)))) }
     ensures kept { Leaves S.files S.failures S.blamed FileError name.now store.old store.new result }
+    ensures within { IsErrOf result FileError → IsBlamedIn (S.blamed store.new) name.now 0 4 }
 {
     let mut front = [0u8; 4];
     let n = read_full(store, name, 0, &mut front)?;
@@ -121,7 +130,7 @@ fn feed_file<S: Store>(
     requires { is_open linker.old ≡ false }
     ensures fed { FeedsFile (S.files store.old) input.now.place input.now.name.now linker.old linker.new result }
     ensures kept { LeavesFed S.files S.failures S.blamed
-        (λ b. NamesInput b input.now.place input.now.name.now)
+        (λ _ b. Names (IsOfObject b input.now.place input.now.name.now))
         store.old store.new linker.old linker.new result }
 {
     let object = ObjectInput {
@@ -148,7 +157,8 @@ fn feed_input<S: Store>(
     requires { is_open linker.old ≡ false }
     ensures fed { FeedsInput (S.files store.old) input.now.place input.now.name.now linker.old linker.new result }
     ensures kept { LeavesFed S.files S.failures S.blamed
-        (λ b. NamesInput b input.now.place input.now.name.now)
+        (λ before b. Names (IsOfInput (S.files store.old) linker.old.script before b
+        input.now.place input.now.name.now))
         store.old store.new linker.old linker.new result }
 {
     match is_library(store, input.name) {
@@ -168,7 +178,8 @@ fn feed_inputs<S: Store>(
     requires { is_open linker.old ≡ false }
     ensures fed { FeedsInputs (S.files store.old) (map (λ s. s.now) inputs.now) linker.old linker.new result }
     ensures kept { LeavesFed S.files S.failures S.blamed
-        (λ b. NamesInputs b (map (λ s. s.now) inputs.now))
+        (λ first b. Names (IsOfInputs (S.files store.old) linker.old.script first b
+        (map (λ s. s.now) inputs.now)))
         store.old store.new linker.old linker.new result }
 {
     let mut reader = RecordReader::new();
@@ -197,7 +208,8 @@ fn link_inputs<S: Store>(
 ) -> Result<Linked, Refusal>
     ensures linked { IfSome (S.files store.old) (λ m. Finds is_outside (IsLinkedBy m (linking line.now) script) result) }
     ensures kept { LeavesBy S.files S.failures S.blamed
-        (λ b. NamesInputs b (linking line.now).inputs) store.old store.new result }
+        (λ b. Names (IsOfInputs (S.files store.old) script [] b (linking line.now).inputs))
+        store.old store.new result }
 {
     let mut linker = Linker::seeded(alloc, store.seed(), script, output_of(line))?;
     feed_inputs(alloc, store, &mut linker, line.inputs.as_slice())?;
@@ -208,7 +220,7 @@ fn link_inputs<S: Store>(
 fn read_text<S: Store>(alloc: Global, store: &mut S, name: &str) -> Result<Sequence<u8>, Refusal>
     ensures read { IfSome (S.files store.old) (λ m. Finds is_outside (λ r. r ≡ script_text m name.now) result) }
     ensures kept { LeavesBy S.files S.failures S.blamed
-        (λ b. NamesScript b name.now) store.old store.new result }
+        (λ b. Names (IsOfScript b name.now)) store.old store.new result }
     ensures asked { Asks is_outside (S.failures store.old) result }
 {
     Ok(Sequence::from_vec(read_front(alloc, store, name, SCRIPT_LIMIT + 1)?))
@@ -225,7 +237,8 @@ pub fn link_files<S: Store>(
     ensures linked { IfSome (S.files store.old) (λ m. Finds is_outside (IsLinked m (linking line.now)) result) }
     ensures files { S.files store.new ≡ S.files store.old }
     ensures count { PassesBy is_failure (S.failures store.old) (S.failures store.new) result }
-    ensures named { IfErr result (NamesOfLine (S.blamed store.new) (linking line.now)) }
+    ensures named { IfErr result
+        (Names (IsOfLine (S.files store.old) (S.blamed store.new) (linking line.now))) }
     ensures asked { Asks is_outside (S.failures store.old) result }
 {
     let text = read_text(alloc, store, line.script)?;

@@ -9,7 +9,7 @@ ghost use Rattle.link65.specs.Standing.{IsFed, is_open};
 ghost use Rattle.ld65.specs.Inner.Feeding.{AreChosen, FeedsLibrary, FeedsMembers, LeavesBy, LeavesFed};
 ghost use Rattle.ld65.specs.Linkage.{as_library, index_in, member_module};
 ghost use Rattle.ld65.specs.Refusals.{is_failure, is_memory, is_outside};
-ghost use Rattle.ld65.specs.Naming.{NamesInput, NamesMember};
+ghost use Rattle.ld65.specs.Naming.{IsOfIndex, IsOfLibrary, IsOfMember, Names};
 
 use crate::linking::{ObjectInput, feed_object};
 use crate::refusal::Refusal;
@@ -32,7 +32,7 @@ fn index_of<S: Store>(alloc: Global, store: &mut S, input: &Named<'_>) -> Result
     ensures read { IfSome (S.files store.old) (λ m. Gives is_outside (λ x. x.entries) result (as_library input.now.place (index_in m input.now.name.now))) }
     ensures within { IfOk result (λ x. AllByRecursion (λ e. e.place + e.size ≤ file_limit) x.entries) }
     ensures kept { LeavesBy S.files S.failures S.blamed
-        (λ b. NamesInput b input.now.place input.now.name.now) store.old store.new result }
+        (λ b. Names (IsOfIndex b input.now.place input.now.name.now)) store.old store.new result }
 {
     match read_index(alloc, store, input.name) {
         Ok(index) => Ok(index),
@@ -88,7 +88,7 @@ fn feed_member<S: Store>(
     requires within { member.now.entry.now.place + member.now.entry.now.size ≤ file_limit }
     ensures fed { FeedsMembers (S.files store.old) member.now.library.now (member.now.entry.now ∷ []) linker.old linker.new result }
     ensures kept { LeavesFed S.files S.failures S.blamed
-        (λ b. NamesMember b member.now.library.now)
+        (λ _ b. Names (IsOfMember b member.now.library.now member.now.entry.now))
         store.old store.new linker.old linker.new result }
 {
     let name = module_name(alloc, member)?;
@@ -122,7 +122,8 @@ pub fn feed_library<S: Store>(
     requires { is_open linker.old ≡ false }
     ensures fed { FeedsLibrary (S.files store.old) input.now.place input.now.name.now linker.old linker.new result }
     ensures kept { LeavesFed S.files S.failures S.blamed
-        (λ b. NamesInput b input.now.place input.now.name.now)
+        (λ before b. Names (IsOfLibrary (S.files store.old) linker.old.script before b
+        input.now.place input.now.name.now))
         store.old store.new linker.old linker.new result }
 {
     let index = index_of(alloc, store, input)?;

@@ -6,5 +6,7 @@ pub mod Members
 pub mod Read
 pub mod Selections
 pub mod Shown
+pub mod SomeLibrary
+pub mod SomeSelection
 pub mod Steps
 pub mod Tables

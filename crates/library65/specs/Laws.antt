@@ -1,14 +1,30 @@
 -- What holds of indexes and libraries, whatever made them.
-use Rattle.std.specs.Prelude.{◌≡◌, ℕ, List, [], Ok}
+use Rattle.std.specs.Prelude.{◌≡◌, ℕ, false, List, [], Result, Ok}
+use Rattle.base65.specs.Own.{IsOwn}
 use Rattle.object65.specs.Record.{IsBytes}
 use Rattle.library65.specs.declared.index.Entry.{Entry}
-use Rattle.library65.specs.Libraries.{deleted as deleted_of, library_at, replaced as replaced_of, written}
+use Rattle.library65.specs.Fault.{is_outside}
+use Rattle.library65.specs.Libraries.{deleted as deleted_of, library_at, replaced as replaced_of, written, written_behind}
 use Rattle.library65.specs.Reading.{index_at}
 use Rattle.library65.specs.Spelling.{IsIndex, IsLibrary, IsStock, Member}
 
 -- a library has one spelling
 abbrev pub OneLibraryLaw : Type 0
 OneLibraryLaw = (a b : List ℕ) (ms : List Member) → IsLibrary a ms → IsLibrary b ms → a ≡ b
+
+-- of any bytes an index is read, or their first fault
+abbrev pub SomeIndexLaw : Type 0
+SomeIndexLaw = (bytes : List ℕ) → IsOwn is_outside (index_at bytes)
+
+-- and a library likewise
+abbrev pub SomeLibraryLaw : Type 0
+SomeLibraryLaw = (bytes : List ℕ) → IsOwn is_outside (library_at bytes)
+
+-- any members are edited and written, or there is a fault of theirs
+pub record SomeEditLaw : Type 0 where
+  pub replaced : (ms : List Member) (n bytes : List ℕ) → IsOwn is_outside (replaced_of ms n bytes)
+  pub deleted : (ms : List Member) (name : List ℕ) → IsOwn is_outside (deleted_of ms name)
+  pub written : (before : List ℕ) (ms : List Member) → IsOwn is_outside (written_behind before ms)
 
 -- what is read as an index is spelled so
 abbrev pub IndexReadLaw : Type 0

@@ -44,6 +44,12 @@ pub record IsSelection (es : List Entry) (wanted defined : List (List ℕ)) (pla
 abbrev pub OneSelectionLaw : Type 0
 OneSelectionLaw = (es : List Entry) (wanted defined : List (List ℕ)) (a b : List ℕ) → IsSelection es wanted defined a → IsSelection es wanted defined b → a ≡ b
 
+-- and one at least
+abbrev pub SomeSelectionLaw : Type 0
+SomeSelectionLaw =
+    (es : List Entry) (wanted defined : List (List ℕ)) →
+    (places : List ℕ) × IsSelection es wanted defined places
+
 -- where more is wanted, no fewer members are selected
 abbrev pub GrowingSelectionLaw : Type 0
 GrowingSelectionLaw = (es : List Entry) (wanted more defined : List (List ℕ)) (a b : List ℕ) → ((name : List ℕ) → is_among wanted name ≡ true → is_among more name ≡ true) → IsSelection es wanted defined a → IsSelection es more defined b → (place : ℕ) → has_place a place ≡ true → has_place b place ≡ true

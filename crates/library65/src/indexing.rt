@@ -3,7 +3,7 @@
 ghost use Rattle.std.specs.Prelude.{◌≡◌, ◌≤◌, ◌<◌, ◌+◌, length, IfOk, OnOk, IfSome, IsErrOf, ◌++◌, ◌∷◌, [], ℕ, List, map, Ok, false};
 ghost use Rattle.std.specs.FinMap as map;
 ghost use Rattle.base65.specs.Outcome.{Gives};
-ghost use Rattle.base65.specs.Store.{Asks};
+ghost use Rattle.base65.specs.Store.{Asks, HoldsBytes};
 ghost use Rattle.object65.specs.Reading.{Leaves, file_limit};
 ghost use Rattle.library65.specs.Fault.{is_outside, is_memory};
 ghost use Rattle.library65.specs.Spelling.{is_among, is_member_name};
@@ -25,6 +25,7 @@ pub const HEAD: [u8; 5] = [0x52, 0x36, 0x35, 0x6c, 0x01];
 /// Refuses a file that doesn't begin as a library.
 pub fn read_head<S: Store>(store: &mut S, file: &str) -> Result<(), LibraryFault>
     ensures read { IfSome (S.files store.old) (λ m. Gives is_outside (λ u. u) result (in_file (map.get m file.now) head_at)) }
+    ensures bytes { IfSome (S.files store.old) (λ m. HoldsBytes (map.get m file.now) result) }
     ensures kept { Leaves S.files S.failures S.blamed FileError file.now store.old store.new result }
     ensures asked { Asks is_outside (S.failures store.old) result }
 {
@@ -202,6 +203,7 @@ fn read_listing<S: Store>(
 /// Reads the number of members behind the head.
 fn read_count<S: Store>(store: &mut S, file: &str) -> Result<u32, LibraryFault>
     ensures read { IfSome (S.files store.old) (λ m. Gives is_outside (λ n. n) result (in_file (map.get m file.now) count_at)) }
+    ensures bytes { IfSome (S.files store.old) (λ m. HoldsBytes (map.get m file.now) result) }
     ensures kept { Leaves S.files S.failures S.blamed FileError file.now store.old store.new result }
     ensures asked { Asks is_outside (S.failures store.old) result }
 {
@@ -216,6 +218,7 @@ pub fn read_list<S: Store>(
     file: &str,
 ) -> Result<(Vec<Listing>, u64), LibraryFault>
     ensures read { IfSome (S.files store.old) (λ m. Gives is_outside (λ x. (x.0.items, x.1)) result (in_file (map.get m file.now) list_at)) }
+    ensures bytes { IfSome (S.files store.old) (λ m. HoldsBytes (map.get m file.now) result) }
     ensures kept { Leaves S.files S.failures S.blamed FileError file.now store.old store.new result }
     ensures asked { Asks is_outside (S.failures store.old) result }
     ensures limit { IfOk result (λ x. x.1 ≤ file_limit) }
@@ -301,6 +304,7 @@ fn check_end<S: Store>(store: &mut S, file: &str, end: u64) -> Result<(), Librar
 #[tactic(auto, unfolding(crate::specs::Reading::index_at))]
 pub fn read_index<S: Store>(alloc: Global, store: &mut S, file: &str) -> Result<Index, LibraryFault>
     ensures read { IfSome (S.files store.old) (λ m. Gives is_outside (λ x. x.entries) result (in_file (map.get m file.now) index_at)) }
+    ensures bytes { IfSome (S.files store.old) (λ m. HoldsBytes (map.get m file.now) result) }
     ensures kept { Leaves S.files S.failures S.blamed FileError file.now store.old store.new result }
     ensures asked { Asks is_outside (S.failures store.old) result }
     // Also where the store doesn't tell.

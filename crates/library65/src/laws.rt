@@ -1,11 +1,26 @@
 //! What holds of libraries and selections, whatever made them. Each function's contract is a law.
 
-ghost use Rattle.library65.specs.Laws.{IndexReadLaw, IndexSpellingLaw, LibraryReadLaw, LibrarySpellingLaw, OneLibraryLaw, StockLaw, WrittenLaw};
-ghost use Rattle.library65.specs.Selection.{GrowingSelectionLaw, OneSelectionLaw};
+ghost use Rattle.library65.specs.Laws.{IndexReadLaw, IndexSpellingLaw, LibraryReadLaw, LibrarySpellingLaw, OneLibraryLaw, SomeEditLaw, SomeIndexLaw, SomeLibraryLaw, StockLaw, WrittenLaw};
+ghost use Rattle.library65.specs.Selection.{GrowingSelectionLaw, OneSelectionLaw, SomeSelectionLaw};
 
 /// A library has one spelling.
 pub fn one_spelling()
     ensures { OneLibraryLaw }
+{}
+
+/// Any bytes are read as an index, or refused for a fault of their own.
+pub fn some_index()
+    ensures { SomeIndexLaw }
+{}
+
+/// Any bytes are loaded as a library, or refused for a fault of their own.
+pub fn some_library()
+    ensures { SomeLibraryLaw }
+{}
+
+/// Any members are edited and written, or refused for a fault of their own.
+pub fn some_edit()
+    ensures { SomeEditLaw }
 {}
 
 /// What is spelled as an index is read as that index.
@@ -41,6 +56,11 @@ pub fn edits_leave_a_library()
 /// What is wanted has one selection at most.
 pub fn one_selection()
     ensures { OneSelectionLaw }
+{}
+
+/// What is wanted has a selection.
+pub fn some_selection()
+    ensures { SomeSelectionLaw }
 {}
 
 /// Where more is wanted, no fewer members are selected.

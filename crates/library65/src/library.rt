@@ -6,7 +6,7 @@ ghost use Rattle.std.specs.Iterator.{YieldsFirstRef, item_count};
 ghost use Rattle.std.specs.Option.{option_copied};
 ghost use Rattle.base65.specs.Outcome.{Gives};
 ghost use Rattle.std.specs.FinMap as map;
-ghost use Rattle.base65.specs.Store.{Asks};
+ghost use Rattle.base65.specs.Store.{Asks, HoldsBytes};
 ghost use Rattle.library65.specs.Fault.{is_memory, is_outside};
 ghost use Rattle.library65.specs.Reading.{in_file};
 ghost use Rattle.library65.specs.Libraries.{bytes_of, checked, deleted, library_at, member_names, replaced, with_member, without_member, written_behind, IsSound, members_of};
@@ -167,6 +167,7 @@ impl Library {
     /// Reads a library from its file, all of it.
     pub fn load<S: Store>(alloc: Global, store: &mut S, file: &str) -> Result<Self, LibraryFault>
         ensures read { IfSome (S.files store.old) (λ m. Gives is_outside (λ l. l) result (in_file (map.get m file.now) library_at)) }
+        ensures bytes { IfSome (S.files store.old) (λ m. HoldsBytes (map.get m file.now) result) }
         ensures kept { Leaves S.files S.failures S.blamed FileError file.now store.old store.new result }
         ensures asked { Asks is_outside (S.failures store.old) result }
     {

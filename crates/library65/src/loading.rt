@@ -5,7 +5,7 @@ ghost use Rattle.std.specs.FinMap as map;
 ghost use Rattle.std.specs.List.{AllByRecursion};
 ghost use Rattle.base65.specs.Outcome.{Gives};
 ghost use Rattle.base65.specs.Reading.{ReadsChunk};
-ghost use Rattle.base65.specs.Store.{Asks};
+ghost use Rattle.base65.specs.Store.{Asks, HoldsBytes};
 ghost use Rattle.object65.specs.Reading.{Leaves, file_limit};
 ghost use Rattle.library65.specs.Fault.{is_memory, is_outside};
 ghost use Rattle.library65.specs.Libraries.{added, agreed, checked, joined, library_at, piece_at, IsSound, members_of};
@@ -142,6 +142,7 @@ pub fn read_members<S: Store>(
     file: &str,
 ) -> Result<IndexMap<Vec<u8>, Stored, Seed>, LibraryFault>
     ensures read { IfSome (S.files store.old) (λ m. Gives is_outside (λ ms. members_of ms) result (in_file (map.get m file.now) library_at)) }
+    ensures bytes { IfSome (S.files store.old) (λ m. HoldsBytes (map.get m file.now) result) }
     ensures kept { Leaves S.files S.failures S.blamed FileError file.now store.old store.new result }
     ensures asked { Asks is_outside (S.failures store.old) result }
     ensures sound { IfOk result (λ ms. IsSound ms) }

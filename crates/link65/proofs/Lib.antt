@@ -7,6 +7,7 @@ pub mod ListLemmas
 pub mod OutcomeLemmas
 pub mod Passes
 pub mod SegmentLemmas
+pub mod SomeOutcome
 pub mod TextLemmas
 pub mod Tries
 pub mod Walk

@@ -41,15 +41,6 @@ pub enum Attempt {
     Needs(usize),
 }
 
-fn as_found(outcome: Result<i64, ValueFault>) -> Result<i64, Stop>
-    ensures { result ≡ as_found outcome }
-{
-    match outcome {
-        Ok(value) => Ok(value),
-        Err(fault) => Err(Stop::Fault(fault)),
-    }
-}
-
 /// The value of an import, as far as exports are known.
 fn try_import(marks: &[Mark], provider: Provider) -> Result<i64, Stop>
     ensures { result ≡ import_tried marks.now provider }
@@ -61,7 +52,10 @@ fn try_import(marks: &[Mark], provider: Provider) -> Result<i64, Stop>
             None => Err(Stop::Fault(ValueFault::Unresolved)),
             Some(Mark::Untouched) => Err(Stop::Needs(export)),
             Some(Mark::BeingEvaluated) => Err(Stop::Fault(ValueFault::Circular)),
-            Some(Mark::Found(outcome)) => as_found(*outcome),
+            Some(Mark::Found(outcome)) => match outcome {
+                Ok(value) => Ok(*value),
+                Err(fault) => Err(Stop::Fault(*fault)),
+            },
         },
     }
 }
@@ -124,17 +118,6 @@ fn resolved_at(modules: &[Resolved], owner: usize) -> Option<&Resolved>
     modules.get(owner)
 }
 
-/// What an attempt gave.
-fn attempt_of(outcome: Result<i64, Stop>) -> Attempt
-    ensures { result ≡ attempt_of outcome }
-{
-    match outcome {
-        Ok(value) => Attempt::Settled(Ok(value)),
-        Err(Stop::Fault(fault)) => Attempt::Settled(Err(fault)),
-        Err(Stop::Needs(export)) => Attempt::Needs(export),
-    }
-}
-
 /// What the export at a place comes to as far as exports are known, or what it needs first.
 fn try_export(modules: &[Resolved], exports: &[Exported], marks: &[Mark], place: usize) -> Attempt
     requires { place < length exports.now }
@@ -142,7 +125,11 @@ fn try_export(modules: &[Resolved], exports: &[Exported], marks: &[Mark], place:
 {
     let export = &exports[place];
     let resolved = resolved_at(modules, export.owner);
-    attempt_of(try_form(&export.form, resolved, marks))
+    match try_form(&export.form, resolved, marks) {
+        Ok(value) => Attempt::Settled(Ok(value)),
+        Err(Stop::Fault(fault)) => Attempt::Settled(Err(fault)),
+        Err(Stop::Needs(export)) => Attempt::Needs(export),
+    }
 }
 
 /// What an attempt answered where nothing is needed any more.

@@ -98,20 +98,14 @@ pub struct Names<'a> {
     pub weak_places: Places<'a>,
 }
 
-fn definition_value(definitions: &[Definition], place: usize) -> i64
-    ensures { result ≡ option_map_or (λ d. d.value) (slice_get definitions.now place) (pos 0) }
-{
-    match definitions.get(place) {
-        Some(definition) => definition.value,
-        None => 0,
-    }
-}
-
 fn by_definition(definitions: &[Definition], place: Option<usize>, other: Provider) -> Provider
     ensures { result ≡ by_definition definitions.now place other }
 {
     match place {
-        Some(place) => Provider::ByScript(definition_value(definitions, place)),
+        Some(place) => match definitions.get(place) {
+            Some(definition) => Provider::ByScript(definition.value),
+            None => Provider::ByScript(0),
+        },
         None => other,
     }
 }
@@ -190,13 +184,6 @@ pub fn export_places<'a>(
     places_of(alloc, seed, names.as_slice())
 }
 
-fn row_places<'a>(alloc: Global, rows: &'a [Row]) -> Result<Places<'a>, AllocError>
-    ensures { IfOk result (λ t. IsTable t (map (λ r. r.name) rows.entry.now)) }
-{
-    let names = row_names(alloc, rows)?;
-    places_of(alloc, Seed::default(), names.as_slice())
-}
-
 /// Where rows are placed, each found by its name.
 #[derive(Drop)]
 pub struct Addresses<'a> {
@@ -224,10 +211,12 @@ impl<'a> Addresses<'a> {
         ensures rows { IfOk result (λ a. a.rows.now ≡ rows.entry.now) }
         ensures places { IfOk result (λ a. a.places.now ≡ places.entry.now) }
     {
+        let names = row_names(alloc, rows)?;
+        let by_name = places_of(alloc, Seed::default(), names.as_slice())?;
         Ok(Addresses {
             rows,
             places,
-            by_name: row_places(alloc, rows)?,
+            by_name,
         })
     }
 

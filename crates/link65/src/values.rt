@@ -131,17 +131,6 @@ pub fn value_at(
     }
 }
 
-/// Refuses a value that doesn't fit.
-fn check_fit(alloc: Global, members: &[Member], fixup: &Fixup, value: i64) -> Result<(), LinkFault>
-    ensures checked { Gives is_memory (λ u. u) result (fitting (site members.now fixup.now.owner fixup.now.origin) fixup.now value) }
-    ensures fits { OnOk result (fits_width fixup.now.width value ≡ true) }
-{
-    if !fits(fixup.width, value) {
-        return Err(LinkFault::OutOfRange(site_of(alloc, members, fixup.owner, fixup.origin)?));
-    }
-    Ok(())
-}
-
 /// The value of a datum, or its fault: it has none, or one that doesn't fit.
 pub fn datum_value(alloc: Global, program: &Placed<'_>, fixup: &Fixup) -> Result<i64, LinkFault>
     requires { AllFound program.now.marks.now }
@@ -151,7 +140,10 @@ pub fn datum_value(alloc: Global, program: &Placed<'_>, fixup: &Fixup) -> Result
 {
     let outcome = value_in(program, fixup.owner, &fixup.form);
     let value = value_at(alloc, program.members, fixup.owner, fixup.origin, outcome)?;
-    check_fit(alloc, program.members, fixup, value)?;
+    if !fits(fixup.width, value) {
+        let site = site_of(alloc, program.members, fixup.owner, fixup.origin)?;
+        return Err(LinkFault::OutOfRange(site));
+    }
     Ok(value)
 }
 

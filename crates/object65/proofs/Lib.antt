@@ -11,6 +11,7 @@ pub mod Reached
 pub mod Records
 pub mod Scannings
 pub mod Shorts
+pub mod SomeObject
 pub mod Sounds
 pub mod Spellings
 pub mod Steps

@@ -1,18 +1,19 @@
 -- What holds of objects and their bytes, and of forms.
 use Rattle.std.specs.Prelude.{◌≡◌, ℕ, ◌+◌, ◌≤◌, ℤ, List, [], ◌++◌, length, true, false, Result, Ok}
 use Rattle.byteorder.specs.Endian.{little_number}
+use Rattle.base65.specs.Own.{IsOwn}
 use Rattle.base65.specs.declared.values.Op1.{Op1}
 use Rattle.base65.specs.declared.values.Op2.{Op2}
 use Rattle.object65.specs.declared.object.Object.{Object}
-use Rattle.object65.specs.Record.{IsBytes, ◌>>=◌, Entry}
-use Rattle.object65.specs.Folding.{fold1, fold2, folds1, folds2, is_normal, node_limit}
+use Rattle.object65.specs.Record.{IsBytes, ◌>>=◌, Entry, is_outside}
+use Rattle.object65.specs.Folding.{lacks_memory, fold1, fold2, folds1, folds2, is_normal, node_limit}
 use Rattle.object65.specs.Form.{Form, prefix, binary, nodes}
 use Rattle.object65.specs.FormValue.{value_in, value_of_one, value_of_two}
 use Rattle.object65.specs.Objects.{ObjectFits, is_good_object}
-use Rattle.object65.specs.Reading.{room, file_limit, object_at}
+use Rattle.object65.specs.Reading.{room, file_limit, head_at, record_at, end_at, object_at}
 use Rattle.object65.specs.Spelling.{IsObject}
 use Rattle.object65.specs.Items.{with_items}
-use Rattle.object65.specs.Scanning.{items_of, outline_of, State, after_all}
+use Rattle.object65.specs.Scanning.{Outline, items_of, outline_of, State, after, after_all, finished as finished_of, scan_end as scan_end_of, scanned as scanned_of}
 use Rattle.object65.specs.Versions.{in_version_one}
 
 -- what is read as an object is spelled so
@@ -22,6 +23,26 @@ ReadLaw = (bytes : List ℕ) (at limit : ℕ) (o : Object) → IsBytes (room byt
 -- what is spelled so is read, within the largest file
 abbrev pub SpellingLaw : Type 0
 SpellingLaw = (bytes : List ℕ) (at limit : ℕ) (o : Object) → at + length (room bytes at limit) ≤ file_limit → IsObject (room bytes at limit) o → object_at at limit bytes ≡ Ok o
+
+-- from any place of any bytes an object is read, or its first fault
+abbrev pub SomeObjectLaw : Type 0
+SomeObjectLaw = (bytes : List ℕ) (at limit : ℕ) → IsOwn is_outside (object_at at limit bytes)
+
+-- so are its parts; and whatever was taken of an object, any record is taken or refused
+pub record SomePartLaw : Type 0 where
+  pub head : (bytes : List ℕ) (at limit : ℕ) → IsOwn is_outside (head_at at limit bytes)
+  pub part : (bytes : List ℕ) (v at limit : ℕ) → IsOwn is_outside (record_at v at limit bytes)
+  pub end : (bytes : List ℕ) (at limit : ℕ) → IsOwn is_outside (end_at at limit bytes)
+  pub scanned : (o : Outline) (e : Entry) → IsOwn is_outside (scanned_of o e)
+  pub scan_end : (o : Outline) → IsOwn is_outside (scan_end_of o)
+  pub taken : (s : State) (e : Entry) → IsOwn is_outside (after s e)
+  pub finished : (s : State) → IsOwn is_outside (finished_of s)
+
+-- any operation on forms has a form, or a fault that isn't want of memory
+abbrev pub SomeFoldLaw : Type 0
+SomeFoldLaw =
+    ((op : Op1) (f : Form) → IsOwn lacks_memory (fold1 op f))
+    × ((op : Op2) (f g : Form) → IsOwn lacks_memory (fold2 op f g))
 
 -- no spelling begins another, and so none is that of two objects
 abbrev pub PrefixLaw : Type 0

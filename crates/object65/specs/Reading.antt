@@ -10,7 +10,7 @@ use Rattle.base65.specs.declared.store.StoreFault.{StoreFault}
 use Rattle.base65.specs.declared.store.StoreFault.TheVariants as store
 use Rattle.object65.specs.declared.object.Object.{Object}
 use Rattle.object65.specs.Scanning.{State, start, after, finished}
-use Rattle.base65.specs.Store.{Files, IsBlamed, Passes}
+use Rattle.base65.specs.Store.{Files, IsBlamed, Passes, Blamed}
 
 -- ---- Reading an object from left to right, with the first fault that is met.
 
@@ -20,7 +20,7 @@ room bytes at limit = take (limit - at) (drop at bytes)
 
 -- What a call that reads a file leaves of a store: its files as before; its count of failures, a failure passed on as
 -- this error; and that the call that failed asked for this name.
-pub record Leaves {X T E : Type 0} (files_of : X → Option Files) (failures_of : X → ℕ) (blamed_of : X → Option (List ℕ)) (error : E) (name : List ℕ) (old new : X) (result : Result T E) : Type 0 where
+pub record Leaves {X T E : Type 0} (files_of : X → Option Files) (failures_of : X → ℕ) (blamed_of : X → Blamed) (error : E) (name : List ℕ) (old new : X) (result : Result T E) : Type 0 where
   pub files : files_of new ≡ files_of old
   pub count : Passes error (failures_of old) (failures_of new) result
   pub blamed : IsErrOf result error → IsBlamed (blamed_of new) name

@@ -6,11 +6,7 @@ use Rattle.object65.specs.declared.fault.ObjectFault.{ObjectFault}
 use Rattle.object65.specs.declared.fault.ObjectFault.TheVariants.{FailedBefore, OutOfMemory, NotAnObject, UnknownVersion, CutShort, UnknownRecord, OutOfOrder, IndexOutOfRange, BadSize, NotCanonical, BytesAfterEnd, FileError, FileNotFound}
 use Rattle.object65.specs.declared.record.Record.{Record}
 pub use Rattle.base65.specs.Outcome.{◌>>=◌, Gives, Refuses}
-
--- ---- Lists of bytes.
-
-abbrev pub IsBytes : List ℕ → Type 0
-IsBytes xs = (i : ℕ) → get_or xs i 0 < 256
+pub use Rattle.base65.specs.Store.{IsBytes}
 
 -- ---- Why an object is refused: in words, and whether the cause lies outside the bytes.
 

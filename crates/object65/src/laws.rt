@@ -1,6 +1,6 @@
 //! What holds of objects and their bytes, whatever wrote them, and of forms. Each function's contract is a law.
 
-ghost use Rattle.object65.specs.Laws.{ReadLaw, SpellingLaw, PrefixLaw, OneSpellingLaw, NumberLaw, ItemsLaw, VersionLaw, PrefixFoldLaw, BinaryFoldLaw, NormalLaw, StaysLaw};
+ghost use Rattle.object65.specs.Laws.{ReadLaw, SomeFoldLaw, SomeObjectLaw, SomePartLaw, SpellingLaw, PrefixLaw, OneSpellingLaw, NumberLaw, ItemsLaw, VersionLaw, PrefixFoldLaw, BinaryFoldLaw, NormalLaw, StaysLaw};
 
 /// What is read as an object is spelled so.
 pub fn read_is_spelled()
@@ -10,6 +10,17 @@ pub fn read_is_spelled()
 /// What is spelled as an object is read as that object.
 pub fn spelled_is_read()
     ensures { SpellingLaw }
+{}
+
+/// Any bytes are read as an object, or refused for a fault of their own.
+pub fn some_object()
+    ensures { SomeObjectLaw }
+{}
+
+/// So are a head, a record and an end; and whatever was taken of an object, any record is taken, or refused for a
+/// fault of its own.
+pub fn some_part()
+    ensures { SomePartLaw }
 {}
 
 /// No spelling is a proper prefix of another, and none is that of two objects.
@@ -48,6 +59,11 @@ pub fn prefix_keeps_its_value<E>()
 /// Folding an operation on two forms keeps its value likewise, and so no import is dropped.
 pub fn binary_keeps_its_value<E>()
     ensures { BinaryFoldLaw E }
+{}
+
+/// Any operation on forms has a form, or a fault that isn't want of memory.
+pub fn some_fold()
+    ensures { SomeFoldLaw }
 {}
 
 /// What folding gives can't be folded any more and has at most 255 nodes.

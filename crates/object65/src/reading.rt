@@ -1,8 +1,8 @@
 //! Reading an object from a file: its head and end, the fronts of its records, and the whole.
 
-ghost use Rattle.std.specs.Prelude.{◌≡◌, ◌≤◌, ◌+◌, ◌-◌, true, length, IfOk, IfSome};
+ghost use Rattle.std.specs.Prelude.{◌≡◌, ◌≤◌, ◌+◌, ◌-◌, true, length, IfOk, IfSome, IsErrOf};
 ghost use Rattle.std.specs.FinMap as map;
-ghost use Rattle.base65.specs.Store.{Asks};
+ghost use Rattle.base65.specs.Store.{Asks, HoldsBytes, IsBlamedIn};
 ghost use Rattle.base65.specs.StoreFaults.{is_outside_store};
 ghost use Rattle.object65.specs.Record.{Gives, is_outside, is_version};
 ghost use Rattle.object65.specs.Reading.{Leaves, in_file, head_at, end_at, IsRoomRead, records_at, object_at};
@@ -28,8 +28,11 @@ pub fn read_room<S: Store>(
     ensures room { IfOk result (λ n. n ≤ limit - at) }
     ensures read { IfSome (S.files store.old)
         (λ m. IsRoomRead (map.get m name.now) at limit buf.new result) }
+    ensures bytes { IfSome (S.files store.old)
+        (λ m. HoldsBytes (map.get m name.now) result) }
     ensures kept { Leaves S.files S.failures S.blamed StoreFault.FileError name.now store.old
         store.new result }
+    ensures within { IsErrOf result StoreFault.FileError → at ≤ limit → IsBlamedIn (S.blamed store.new) name.now at limit }
     ensures asked { Asks is_outside_store (S.failures store.old) result }
 {
     let room = limit.saturating_sub(at);
@@ -46,8 +49,11 @@ pub fn read_head<S: Store>(
 ) -> Result<(u8, u64), ObjectFault>
     ensures read { IfSome (S.files store.old)
         (λ m. Gives is_outside (λ x. x) result (in_file (map.get m name.now) (head_at at limit))) }
+    ensures bytes { IfSome (S.files store.old)
+        (λ m. HoldsBytes (map.get m name.now) result) }
     ensures kept { Leaves S.files S.failures S.blamed FileError name.now store.old store.new
         result }
+    ensures within { IsErrOf result ObjectFault.FileError → at ≤ limit → IsBlamedIn (S.blamed store.new) name.now at limit }
     ensures asked { Asks is_outside (S.failures store.old) result }
     ensures version { IfOk result (λ x. is_version x.0 ≡ true) }
     ensures bound { IfOk result (λ x. (x.1 ≡ at + 5) × (x.1 ≤ limit)) }
@@ -68,6 +74,7 @@ pub fn check_end<S: Store>(
         (λ m. Gives is_outside (λ u. u) result (in_file (map.get m name.now) (end_at at limit))) }
     ensures kept { Leaves S.files S.failures S.blamed FileError name.now store.old store.new
         result }
+    ensures within { IsErrOf result ObjectFault.FileError → at ≤ limit → IsBlamedIn (S.blamed store.new) name.now at limit }
     ensures asked { Asks is_outside (S.failures store.old) result }
 {
     let mut next = [0u8; 1];
@@ -119,6 +126,8 @@ pub fn read_object<S: Store>(
     ensures read { IfSome (S.files store.old)
         (λ m. Gives is_outside (λ o. o) result
         (in_file (map.get m name.now) (object_at at limit))) }
+    ensures bytes { IfSome (S.files store.old)
+        (λ m. HoldsBytes (map.get m name.now) result) }
     ensures kept { Leaves S.files S.failures S.blamed FileError name.now store.old store.new
         result }
     ensures asked { Asks is_outside (S.failures store.old) result }

@@ -1,8 +1,8 @@
 //! Records, read from a file one after another into one room.
 
-ghost use Rattle.std.specs.Prelude.{◌≡◌, ◌≤◌, ◌<◌, ◌+◌, ◌-◌, ◌^◌, [], Ok, length, false, IfOk, IfErr, IfSome, OnOk, OnErr, take};
+ghost use Rattle.std.specs.Prelude.{◌≡◌, ◌≤◌, ◌<◌, ◌+◌, ◌-◌, ◌^◌, [], Ok, length, false, IfOk, IfErr, IfSome, IsErrOf, OnOk, OnErr, take};
 ghost use Rattle.std.specs.FinMap as map;
-ghost use Rattle.base65.specs.Store.{Asks};
+ghost use Rattle.base65.specs.Store.{Asks, IsBlamedIn};
 ghost use Rattle.object65.specs.Record.{Gives, is_memory, is_outside, entry_of};
 ghost use Rattle.object65.specs.Reading.{Leaves, IsAhead, from_place, has_record, record_in, in_file, record_at, room, file_limit};
 ghost use Rattle.object65.specs.declared.fault.ObjectFault.TheVariants.{FileError};
@@ -112,6 +112,7 @@ impl RecordReader {
             (in_file (map.get m name.now) (λ bytes. Ok (take 8192 (room bytes at limit))))) }
         ensures kept { Leaves S.files S.failures S.blamed FileError name.now store.old store.new
             result }
+        ensures within { IsErrOf result ObjectFault.FileError → at ≤ limit → IsBlamedIn (S.blamed store.new) name.now at limit }
         ensures asked { Asks is_outside (S.failures store.old) result }
         ensures begin { OnOk result (self.new.begin ≡ at) }
         ensures none { OnErr result (self.new.ahead ≡ []) }
@@ -141,6 +142,7 @@ impl RecordReader {
             IsAhead (map.get m name.now) self.new) }
         ensures kept { Leaves S.files S.failures S.blamed FileError name.now store.old store.new
             result }
+        ensures within { IsErrOf result ObjectFault.FileError → at ≤ limit → IsBlamedIn (S.blamed store.new) name.now at limit }
         ensures asked { self.old.ahead ≡ [] → Asks is_outside (S.failures store.old) result }
         ensures bound { IfOk result (λ n. (n ≡ at + 3 + length self.new.entry.body) × (n ≤ limit) ×
             (n ≤ file_limit)) }

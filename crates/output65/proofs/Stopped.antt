@@ -1,11 +1,11 @@
 -- Outcomes whose files aren't all written since a call of the store fails.
-use Rattle.std.proofs.Common.{◌≡◌, ℕ, ◌<◌, List, [], Bool, true, false, Option, Some, None, refl, slice_get}
+use Rattle.std.proofs.Common.{◌≡◌, ℕ, ◌<◌, true, false, Option, Some, None, refl, slice_get}
 use Rattle.std.specs.Prelude.{IfSome}
-use Rattle.base65.specs.Store.{Files, IsBlamed, Tells}
+use Rattle.base65.specs.Store.{Files, IsBlamed, Tells, Blamed}
 use Rattle.base65.specs.declared.store.StoreFault.{StoreFault}
 use Rattle.base65.specs.declared.store.StoreFault.TheVariants.{OutOfMemory, FileNotFound, FileError}
 use Rattle.base65.specs.declared.output.OutputFile.{OutputFile}
-use Rattle.output65.specs.Leaving.{Prints, SaysBoth, StopsAt, Streams, streams, is_failure as is_unwritten_failure}
+use Rattle.output65.specs.Leaving.{SaysBehind, StopsAt, Streams, is_failure as is_unwritten_failure}
 use Rattle.output65.specs.Stopping.{StopsWriting, file_error_line}
 use Rattle.output65.specs.declared.outcome.Outcome.{Outcome}
 use Rattle.output65.specs.declared.outcome.Status.{Status}
@@ -21,15 +21,15 @@ file_error u = go u.fault refl
     go FileNotFound e h = let no : is_unwritten_failure u ≡ false = rw e refl in cc
 
 -- where a file isn't written since a call failed
-pub stops_writing : (known new : Option Files) (fm fn : ℕ) (o : Outcome) (u : Unwritten) (blamed : Option (List ℕ)) (io : Streams) (err_mid : Option (List ℕ)) (whole : Bool) (status : Status) → status ≡ Failure → (fm < fn → is_unwritten_failure u ≡ true) → Tells (StopsAt o.outputs u.place) known new → SaysBoth (streams io.out_old io.out_new io.err_old err_mid) o.out o.err true → ((file : OutputFile) → u.fault ≡ FileError → slice_get o.outputs u.place ≡ Some file → Prints err_mid io.err_new (file_error_line file.name) whole) → ((file : OutputFile) → u.fault ≡ FileError → slice_get o.outputs u.place ≡ Some file → IsBlamed blamed file.name) → IfSome known (λ m. fm < fn → StopsWriting o m new blamed io status)
-stops_writing None new fm fn o u blamed io err_mid whole status failed told left said behind asked = tt
-stops_writing (Some m) None fm fn o u blamed io err_mid whole status failed told left said behind asked = absurd left
-stops_writing (Some m) (Some n) fm fn o u blamed io err_mid whole status failed told left said behind asked = λ rose. record {
+pub stops_writing : (known new : Option Files) (fm fn : ℕ) (o : Outcome) (u : Unwritten) (blamed : Blamed) (io : Streams) (status : Status) → status ≡ Failure → (fm < fn → is_unwritten_failure u ≡ true) → Tells (StopsAt o.outputs u.place) known new → ((file : OutputFile) → u.fault ≡ FileError → slice_get o.outputs u.place ≡ Some file → SaysBehind io o.out o.err (file_error_line file.name)) → ((file : OutputFile) → u.fault ≡ FileError → slice_get o.outputs u.place ≡ Some file → IsBlamed blamed file.name) → IfSome known (λ m. fm < fn → StopsWriting o m new blamed io status)
+stops_writing None new fm fn o u blamed io status failed told left said asked = tt
+stops_writing (Some m) None fm fn o u blamed io status failed told left said asked = absurd left
+stops_writing (Some m) (Some n) fm fn o u blamed io status failed told left said asked = λ rose. record {
   place = u.place;
   left = left;
   output = left.0;
   at = left.1;
   asked = asked left.0 (file_error u (told rose)) left.1;
-  said = record { err_mid = err_mid; said = said; whole = whole; behind = behind left.0 (file_error u (told rose)) left.1 };
+  said = said left.0 (file_error u (told rose)) left.1;
   failed = failed;
 }

@@ -1,5 +1,5 @@
 -- A text that is taken a part at a time.
-use Rattle.std.proofs.Common.{◌≡◌, ◌∙◌, ℕ, ◌<◌, ◌≤◌, arith, length-append, List, [], ◌∷◌, ◌++◌, ◌+◌, get_or, length, map, take, drop, Option, Some, None, Ok, Err, Bool, true, false, cond, ◌⊎◌, inl, inr, refl, sym, ap, subst, append_assoc}
+use Rattle.std.proofs.Common.{◌≡◌, ◌∙◌, ℕ, ◌<◌, ◌≤◌, arith, length-append, List, [], ◌∷◌, ◌++◌, ◌+◌, get_or, length, map, take, drop, Option, Some, None, Ok, Err, Bool, true, false, cond, ◌⊎◌, inl, inr, not, ◌||◌, refl, sym, ap, subst, append_assoc}
 use Rattle.std.specs.FinMap as map
 use Rattle.std.proofs.lemmas.List.{take_at, drop_at, append-nil, map-append, take-append-drop, take-append-le, take_more}
 use Rattle.std.proofs.lemmas.Grind.{flat_map-append}
@@ -11,7 +11,7 @@ use Rattle.std.specs.Cmp.Lexicographic.{slice_cmp, nat_list_cmp_total}
 use Rattle.base65.specs.Store.{Files, Tells, NoneFailed, HasFailed, Appends as Appended}
 use Rattle.base65.specs.declared.store.StoreFault.{StoreFault}
 use Rattle.base65.specs.declared.store.StoreFault.TheVariants.{OutOfMemory, FileNotFound, FileError}
-use Rattle.output65.specs.Leaving.{Prints, SaysBoth, IsPartly, apply, StopsAt, StopsShort, Streams, streams, is_failure, is_file_error}
+use Rattle.output65.specs.Leaving.{Prints, SaysBoth, IsPartly, apply, StopsAt, StopsShort, Streams, streams, SaysBehind, took_both, is_failure, is_file_error}
 use Rattle.output65.specs.declared.writing.Unwritten.{Unwritten}
 use Rattle.base65.proofs.Filling.{take-add}
 use Rattle.output65.specs.declared.outcome.Outcome.{Outcome}
@@ -171,13 +171,31 @@ by_cause u = go u.fault refl
     go FileNotFound e a b = absurd (b e)
     go FileError e a b = let yes : is_file_error u.fault ≡ true = ap is_file_error e in cc
 
+-- both streams took their texts
+pub both_took : (out err : Bool) → not (out || err) ≡ true → (out ≡ false) × (err ≡ false)
+both_took false false h = (refl, refl)
+both_took false true h = absurd cc
+both_took true err h = absurd cc
+
+-- what is said behind the texts of both
+pub behind_both : (io mid : Streams) (out err fault : List ℕ) → mid ≡ streams io.out_old io.out_new io.out_refused io.err_old mid.err_new mid.err_refused → took_both mid ≡ true → SaysBoth mid out err → Prints mid.err_new io.err_new fault (not io.err_refused) → SaysBehind io out err fault
+behind_both io mid out err fault same took said more =
+    let none = both_took mid.out_refused mid.err_refused took in
+    let taken : io.out_refused ≡ false = sym (ap (λ (x : Streams). x.out_refused) same) ∙ none.0 in
+    record {
+      err_mid = mid.err_new;
+      said = subst (λ (b : Bool). SaysBoth (streams io.out_old io.out_new io.out_refused io.err_old mid.err_new b) out err) none.1 (subst (λ (x : Streams). SaysBoth x out err) same said);
+      taken = taken;
+      behind = more;
+    }
+
 -- outputs that aren't all written
-pub short : (known new : Option Files) (fo fm fn : ℕ) (o : Outcome) (memory : List ℕ) (u : Unwritten) (io : Streams) (err_mid : Option (List ℕ)) (whole : Bool) (status : Status) (P : Files → Type 0) → status ≡ Failure → fo ≤ fm → fm ≡ fn → (is_failure u ≡ true → HasFailed fo fm) → IfSome known (λ m. u.fault ≡ FileNotFound → ⊥) → Tells (StopsAt o.outputs u.place) known new → SaysBoth (streams io.out_old io.out_new io.err_old err_mid) o.out o.err true → (u.fault ≡ OutOfMemory → Prints err_mid io.err_new memory whole) → IfSome known (λ m. NoneFailed fo fn → P m ⊎ StopsShort o memory m new io status)
-short None new fo fm fn o memory u io err_mid whole status P e later same cause there left said more = tt
-short (Some m) new fo fm fn o memory u io err_mid whole status P e later same cause there left said more = λ none.
+pub short : (known new : Option Files) (fo fm fn : ℕ) (o : Outcome) (memory : List ℕ) (u : Unwritten) (io : Streams) (status : Status) (P : Files → Type 0) → status ≡ Failure → fo ≤ fm → fm ≡ fn → (is_failure u ≡ true → HasFailed fo fm) → IfSome known (λ m. u.fault ≡ FileNotFound → ⊥) → Tells (StopsAt o.outputs u.place) known new → (u.fault ≡ OutOfMemory → SaysBehind io o.out o.err memory) → IfSome known (λ m. NoneFailed fo fn → P m ⊎ StopsShort o memory m new io status)
+short None new fo fm fn o memory u io status P e later same cause there left said = tt
+short (Some m) new fo fm fn o memory u io status P e later same cause there left said = λ none.
     let want : u.fault ≡ OutOfMemory = by_cause u (not_failed (is_failure u) refl none) there in
     inr (record {
-      said = record { err_mid = err_mid; said = said; whole = whole; behind = more want };
+      said = said want;
       place = u.place;
       left = left;
       failed = e;

@@ -1,5 +1,5 @@
 -- What a run leaves: texts on two streams, and files.
-use Rattle.std.specs.Prelude.{◌≡◌, ℕ, ◌<◌, ◌⊎◌, List, [], ◌∷◌, ◌++◌, length, take, slice_get, Option, Some, None, Bool, true, false, ⊤}
+use Rattle.std.specs.Prelude.{◌≡◌, ℕ, ◌<◌, ◌⊎◌, List, [], ◌∷◌, ◌++◌, length, take, slice_get, Option, Some, None, Bool, true, false, not, ◌||◌, ⊤}
 use Rattle.std.specs.FinMap.{insert}
 use Rattle.std.specs.Io.KnownBytes.{Keeps}
 use Rattle.base65.specs.Store.{Files, Tells}
@@ -10,6 +10,7 @@ use Rattle.output65.specs.declared.outcome.Outcome.{Outcome}
 use Rattle.base65.specs.declared.output.OutputFile.{OutputFile}
 use Rattle.output65.specs.declared.outcome.Status.{Status}
 use Rattle.output65.specs.declared.outcome.Status.TheVariants.{Failure}
+use Rattle.output65.specs.declared.stream.Stream.{Stream}
 
 -- a stream has taken all of a text, or a first part of it that isn't all
 abbrev pub Prints : Option (List ℕ) → Option (List ℕ) → List ℕ → Bool → Type 0
@@ -32,28 +33,53 @@ IsPartly old name bytes new = (new ≡ old) ⊎ ((k : ℕ) × (new ≡ insert ol
 abbrev pub StopsAt : List OutputFile → ℕ → Files → Files → Type 0
 StopsAt outputs i old new = (o : OutputFile) × (slice_get outputs i ≡ Some o) × IsPartly (apply (take i outputs) old) o.name o.bytes new
 
--- what standard output and standard error hold before a run and behind it, where they tell
+-- what standard output and standard error hold before a run and behind it, where they tell, and whether they have refused
+-- behind it
 pub record Streams : Type 0 where
   pub out_old : Option (List ℕ)
   pub out_new : Option (List ℕ)
+  pub out_refused : Bool
   pub err_old : Option (List ℕ)
   pub err_new : Option (List ℕ)
+  pub err_refused : Bool
 
-abbrev pub streams : Option (List ℕ) → Option (List ℕ) → Option (List ℕ) → Option (List ℕ) → Streams
-streams out_old out_new err_old err_new = record { out_old = out_old; out_new = out_new; err_old = err_old; err_new = err_new }
+abbrev pub streams : Option (List ℕ) → Option (List ℕ) → Bool → Option (List ℕ) → Option (List ℕ) → Bool → Streams
+streams out_old out_new out_refused err_old err_new err_refused =
+    record { out_old = out_old; out_new = out_new; out_refused = out_refused; err_old = err_old; err_new = err_new; err_refused = err_refused }
 
--- a text for each of two streams: both have taken theirs whole, or one stops short and nothing further is said
-abbrev pub SaysBoth : Streams → List ℕ → List ℕ → Bool → Type 0
-SaysBoth io out err true = Prints io.out_old io.out_new out true × Prints io.err_old io.err_new err true
-SaysBoth io out err false = (Prints io.out_old io.out_new out false × Keeps io.err_old io.err_new) ⊎ (Prints io.out_old io.out_new out true × Prints io.err_old io.err_new err false)
+-- the same of two streams over writers
+abbrev pub between : {W E : Type 0} → (W → Option (List ℕ)) → (E → Option (List ℕ)) → Stream W → Stream W → Stream E → Stream E → Streams
+between out_contents err_contents o n e f =
+    streams (out_contents o.writer.now) (out_contents n.writer.now) n.has_refused (err_contents e.writer.now) (err_contents f.writer.now) f.has_refused
 
--- both texts were taken whole, and behind that of standard error a text of a fault, or a first part of it
+-- so it is of streams over these writers, of which nothing is known but what they hold
+abbrev pub OverWriters : Option (List ℕ) → Option (List ℕ) → Option (List ℕ) → Option (List ℕ) → (Streams → Type 0) → Type 0
+OverWriters out_old out_new err_old err_new IsSo =
+    (out_refused : Bool) × (err_refused : Bool) × IsSo (streams out_old out_new out_refused err_old err_new err_refused)
+
+-- they are over the same writers as before
+pub record AreSame {W E : Type 0} (o n : Stream W) (e f : Stream E) : Type 0 where
+  pub out : n.writer.ghost_name ≡ o.writer.ghost_name
+  pub err : f.writer.ghost_name ≡ e.writer.ghost_name
+
+-- the text for standard error where standard output took its own; where that refused, nothing is asked of standard error
+abbrev pub SaysNext : Bool → Streams → List ℕ → Type 0
+SaysNext false io err = Prints io.err_old io.err_new err (not io.err_refused)
+SaysNext true io err = Keeps io.err_old io.err_new × (io.err_refused ≡ false)
+
+-- A text for each of two streams, standard output's first: a stream takes its own whole, or it has refused, and nothing further
+-- is said.
+abbrev pub SaysBoth : Streams → List ℕ → List ℕ → Type 0
+SaysBoth io out err = Prints io.out_old io.out_new out (not io.out_refused) × SaysNext io.out_refused io err
+
+-- Both texts were taken whole, and behind that of standard error a text of a fault; or a first part of it, where standard
+-- error has refused.
 pub record SaysBehind (io : Streams) (out err fault : List ℕ) : Type 0 where
   -- standard error behind its own text
   pub err_mid : Option (List ℕ)
-  pub said : SaysBoth (streams io.out_old io.out_new io.err_old err_mid) out err true
-  pub whole : Bool
-  pub behind : Prints err_mid io.err_new fault whole
+  pub said : SaysBoth (streams io.out_old io.out_new io.out_refused io.err_old err_mid false) out err
+  pub taken : io.out_refused ≡ false
+  pub behind : Prints err_mid io.err_new fault (not io.err_refused)
 
 abbrev pub is_file_error : StoreFault → Bool
 is_file_error FileError = true
@@ -63,6 +89,10 @@ is_file_error _ = false
 abbrev pub is_failure : Unwritten → Bool
 is_failure u = is_file_error u.fault
 
+-- both streams took their texts
+abbrev pub took_both : Streams → Bool
+took_both io = not (io.out_refused || io.err_refused)
+
 -- where both texts were taken, the files behind an outcome and its status; else no file is written
 abbrev pub Settles : Outcome → Files → Option Files → Status → Bool → Type 0
 Settles o old new status true = (new ≡ Some (apply o.outputs old)) × (status ≡ o.status)
@@ -70,9 +100,8 @@ Settles o old new status false = (new ≡ Some old) × (status ≡ Failure)
 
 -- A run of an outcome: it says its texts, standard output's first, and then writes its files.
 pub record Performs (o : Outcome) (old : Files) (new : Option Files) (io : Streams) (status : Status) : Type 0 where
-  pub whole : Bool
-  pub said : SaysBoth io o.out o.err whole
-  pub settled : Settles o old new status whole
+  pub said : SaysBoth io o.out o.err
+  pub settled : Settles o old new status (took_both io)
 
 -- Memory ran out while an outcome's files were written: its texts were taken whole, and behind them stands what is said
 -- of want of memory, or a first part of that.

@@ -1,3 +1,4 @@
 pub mod Leaving
 pub mod Outputs
 pub mod Stopping
+pub mod Stream

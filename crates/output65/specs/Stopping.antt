@@ -1,6 +1,6 @@
 -- What is left where a call of the store fails while files are written.
 use Rattle.std.specs.Prelude.{◌≡◌, ℕ, List, ◌∷◌, [], codes, slice_get, Option, Some}
-use Rattle.base65.specs.Store.{Files, IsBlamed, Tells}
+use Rattle.base65.specs.Store.{Files, IsBlamed, Tells, Blamed}
 use Rattle.base65.specs.declared.output.OutputFile.{OutputFile}
 use Rattle.cli65.specs.Messages.{joined}
 use Rattle.output65.specs.Leaving.{SaysBehind, StopsAt, Streams}
@@ -15,7 +15,7 @@ file_error_line name = joined (name ∷ codes ": Error: file error\n" ∷ [])
 -- A call failed while an outcome's files were written: its texts were taken whole; the outputs before one are written, that
 -- one in part or not at all, and no later one; the failed call asked for that file; and what befell it is said behind the
 -- texts, or a first part of that.
-pub record StopsWriting (o : Outcome) (old : Files) (new : Option Files) (blamed : Option (List ℕ)) (io : Streams) (status : Status) : Type 0 where
+pub record StopsWriting (o : Outcome) (old : Files) (new : Option Files) (blamed : Blamed) (io : Streams) (status : Status) : Type 0 where
   pub place : ℕ
   pub left : Tells (StopsAt o.outputs place) (Some old) new
   pub output : OutputFile

@@ -29,6 +29,7 @@ pub struct DiskStore<R: Files> {
     seed: Seed,
     reading: Option<ReadAhead<R::File>>,
     writing: Option<Writing<R::File>>,
+    ghost few: { failures ≤ 18446744073709551615 },
 }
 
 /// The fault of an error, which is counted unless no file is there.
@@ -102,8 +103,9 @@ impl<R: Files> DiskStore<R> {
     }
 
     /// The store with a seed for tables of names.
-    pub fn with_seed(self, seed: Seed) -> Self {
-        DiskStore { seed, ..self }
+    pub fn with_seed(mut self, seed: Seed) -> Self {
+        self.seed = seed;
+        self
     }
 
     /// Opens a file to be read, unless it is the one that was read last.
@@ -217,4 +219,6 @@ impl<R: Files> Store for DiskStore<R> {
             Err(e) => Err(fault_of(&mut self.failures, &e)),
         }
     }
+
+    ghost counted = { λ s. s.few };
 }

@@ -6,6 +6,7 @@ mod outcome;
 mod outputs;
 mod performing;
 mod printing;
+mod stream;
 mod writing;
 
 pub use disk_store::DiskStore;
@@ -13,4 +14,5 @@ pub use outcome::{Outcome, Status};
 pub use outputs::{outputs_of, with_map};
 pub use performing::{perform, say_memory};
 pub use printing::print;
+pub use stream::Stream;
 pub use writing::write_file;

@@ -1,23 +1,32 @@
 //! Carries an outcome out.
 
-ghost use Rattle.std.specs.Prelude.{◌≡◌, ◌<◌, ◌≤◌, ◌⊎◌, [], slice_get, IfSome, Some};
+ghost use Rattle.std.specs.Prelude.{◌≡◌, ◌<◌, ◌≤◌, ◌⊎◌, [], slice_get, IfSome, Some, false, not};
 ghost use Rattle.base65.specs.Store.{NoneFailed};
-ghost use Rattle.output65.specs.Leaving.{Prints, SaysBoth, Performs, StopsShort, streams};
+ghost use Rattle.output65.specs.Leaving.{AreSame, Prints, SaysBoth, Performs, StopsShort, between, took_both};
 ghost use Rattle.cli65.specs.Messages.{memory_line};
 ghost use Rattle.base65.specs.declared.output.OutputFile.{OutputFile};
 ghost use Rattle.output65.specs.Stopping.{StopsWriting, file_error_line};
 
 use crate::outcome::{Outcome, Status};
 use crate::printing::{print, print_all};
+use crate::stream::Stream;
 use crate::writing::{Unwritten, write_outputs};
 use base65::{OutputFile, Store, StoreFault};
 use std::io::Write;
 
 /// Says a text on each of two streams, on the second only where the first took all of its own, and answers
 /// whether both did.
-fn say_both<W: Write, E: Write>(out: &mut W, text: &[u8], err: &mut E, error_text: &[u8]) -> bool
-    ensures { SaysBoth (streams (W.contents out.old) (W.contents out.new) (E.contents err.old) (E.contents err.new))
-        text.now error_text.now result }
+fn say_both<W: Write, E: Write>(
+    out: &mut Stream<'_, W>,
+    text: &[u8],
+    err: &mut Stream<'_, E>,
+    error_text: &[u8],
+) -> bool
+    requires out { out.old.has_refused ≡ false }
+    requires err { err.old.has_refused ≡ false }
+    ensures same { AreSame out.old out.new err.old err.new }
+    ensures said { SaysBoth (between W.contents E.contents out.old out.new err.old err.new) text.now error_text.now }
+    ensures took { result ≡ took_both (between W.contents E.contents out.old out.new err.old err.new) }
 {
     if !print(out, text) {
         return false;
@@ -26,8 +35,11 @@ fn say_both<W: Write, E: Write>(out: &mut W, text: &[u8], err: &mut E, error_tex
 }
 
 /// Says that memory ran out, behind a name, and answers whether the stream took all of it.
-pub fn say_memory<E: Write>(err: &mut E, name: &str) -> bool
-    ensures { Prints (E.contents err.old) (E.contents err.new) (memory_line name.now) result }
+pub fn say_memory<E: Write>(err: &mut Stream<'_, E>, name: &str) -> bool
+    requires { err.old.has_refused ≡ false }
+    ensures same { err.new.writer.ghost_name ≡ err.old.writer.ghost_name }
+    ensures said { Prints (E.contents err.old.writer.now) (E.contents err.new.writer.now) (memory_line name.now) (not err.new.has_refused) }
+    ensures took { result ≡ not err.new.has_refused }
 {
     print_all(err, &[name.as_bytes(), b": Error: out of memory\n"])
 }
@@ -35,14 +47,17 @@ pub fn say_memory<E: Write>(err: &mut E, name: &str) -> bool
 /// Says why an output isn't written: that memory ran out, or what befell its file. Answers whether the stream
 /// took all of it.
 fn say_unwritten<E: Write>(
-    err: &mut E,
+    err: &mut Stream<'_, E>,
     outputs: &[OutputFile],
     unwritten: Unwritten,
     memory_name: &str,
 ) -> bool
-    ensures memory { unwritten.fault ≡ StoreFault.OutOfMemory → Prints (E.contents err.old) (E.contents err.new) (memory_line memory_name.now) result }
+    requires { err.old.has_refused ≡ false }
+    ensures same { err.new.writer.ghost_name ≡ err.old.writer.ghost_name }
+    ensures memory { unwritten.fault ≡ StoreFault.OutOfMemory →
+        Prints (E.contents err.old.writer.now) (E.contents err.new.writer.now) (memory_line memory_name.now) (not err.new.has_refused) }
     ensures failed { (file : OutputFile) → unwritten.fault ≡ StoreFault.FileError → slice_get outputs.now unwritten.place ≡ Some file →
-        Prints (E.contents err.old) (E.contents err.new) (file_error_line file.name) result }
+        Prints (E.contents err.old.writer.now) (E.contents err.new.writer.now) (file_error_line file.name) (not err.new.has_refused) }
 {
     let words: &[u8] = match unwritten.fault {
         StoreFault::OutOfMemory => return say_memory(err, memory_name),
@@ -61,22 +76,25 @@ fn say_unwritten<E: Write>(
 pub fn perform<S: Store, W: Write, E: Write>(
     outcome: &Outcome,
     store: &mut S,
-    out: &mut W,
-    err: &mut E,
+    out: &mut Stream<'_, W>,
+    err: &mut Stream<'_, E>,
     memory_name: &str,
 ) -> Status
+    requires out { out.old.has_refused ≡ false }
+    requires err { err.old.has_refused ≡ false }
+    ensures same { AreSame out.old out.new err.old err.new }
     ensures done { IfSome (S.files store.old) (λ m. NoneFailed (S.failures store.old) (S.failures store.new) →
         Performs outcome.now m (S.files store.new)
-        (streams (W.contents out.old) (W.contents out.new) (E.contents err.old) (E.contents err.new)) result
+        (between W.contents E.contents out.old out.new err.old err.new) result
         ⊎ StopsShort outcome.now (memory_line memory_name.now) m (S.files store.new)
-        (streams (W.contents out.old) (W.contents out.new) (E.contents err.old) (E.contents err.new)) result) }
+        (between W.contents E.contents out.old out.new err.old err.new) result) }
     ensures plain { outcome.now.outputs ≡ [] → IfSome (S.files store.old) (λ m.
         Performs outcome.now m (S.files store.new)
-        (streams (W.contents out.old) (W.contents out.new) (E.contents err.old) (E.contents err.new)) result) }
+        (between W.contents E.contents out.old out.new err.old err.new) result) }
     ensures untouched { outcome.now.outputs ≡ [] → S.blamed store.new ≡ S.blamed store.old }
     ensures failed { IfSome (S.files store.old) (λ m. S.failures store.old < S.failures store.new →
         StopsWriting outcome.now m (S.files store.new) (S.blamed store.new)
-        (streams (W.contents out.old) (W.contents out.new) (E.contents err.old) (E.contents err.new)) result) }
+        (between W.contents E.contents out.old out.new err.old err.new) result) }
     ensures later { S.failures store.old ≤ S.failures store.new }
     ensures rose { S.failures store.old < S.failures store.new → result ≡ Status.Failure }
     ensures failing { outcome.now.status ≡ Status.Failure → result ≡ Status.Failure }

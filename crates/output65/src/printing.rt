@@ -1,14 +1,19 @@
 //! Text to a stream.
 
-ghost use Rattle.std.specs.Prelude.{map};
+ghost use Rattle.std.specs.Prelude.{◌≡◌, false, map, not};
 ghost use Rattle.output65.specs.Leaving.{Prints};
 ghost use Rattle.cli65.specs.Messages.{joined};
 
+use crate::stream::Stream;
 use std::io::Write;
 
-/// Prints a text, and answers whether the stream took all of it. Where it didn't, it has the first part.
-pub fn print<W: Write>(stream: &mut W, text: &[u8]) -> bool
-    ensures { Prints (W.contents stream.old) (W.contents stream.new) text.now result }
+/// Prints a text, and answers whether the stream took all of it. Where it didn't, it has the first part, and has refused
+/// the rest.
+pub fn print<W: Write>(stream: &mut Stream<'_, W>, text: &[u8]) -> bool
+    requires { stream.old.has_refused ≡ false }
+    ensures same { stream.new.writer.ghost_name ≡ stream.old.writer.ghost_name }
+    ensures printed { Prints (W.contents stream.old.writer.now) (W.contents stream.new.writer.now) text.now result }
+    ensures refused { result ≡ not stream.new.has_refused }
 {
     let mut rest = text;
     'printing: while !rest.is_empty() {
@@ -22,8 +27,11 @@ pub fn print<W: Write>(stream: &mut W, text: &[u8]) -> bool
 }
 
 /// Prints texts one behind the other as one text.
-pub fn print_all<W: Write>(stream: &mut W, parts: &[&[u8]]) -> bool
-    ensures { Prints (W.contents stream.old) (W.contents stream.new) (joined (map (λ p. p.now) parts.now)) result }
+pub fn print_all<W: Write>(stream: &mut Stream<'_, W>, parts: &[&[u8]]) -> bool
+    requires { stream.old.has_refused ≡ false }
+    ensures same { stream.new.writer.ghost_name ≡ stream.old.writer.ghost_name }
+    ensures printed { Prints (W.contents stream.old.writer.now) (W.contents stream.new.writer.now) (joined (map (λ p. p.now) parts.now)) result }
+    ensures refused { result ≡ not stream.new.has_refused }
 {
     for part in parts {
         if !print(stream, part) {

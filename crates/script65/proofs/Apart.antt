@@ -1,13 +1,14 @@
 -- What a placement has; no two rows of an area overlap, and each lies within it.
 use Rattle.std.proofs.lemmas.Grind.{common_steps}
-use Rattle.std.proofs.Common.{◌≡◌, ℕ, suc, ◌+◌, Bool, true, false, cond, List, [], ◌∷◌, ◌++◌, length, map, Option, Result, Ok, Err, refl, sym, ◌∙◌, ap, arith, ◌≢◌, ◌<◌, ◌≤◌, slice_get, Some, unwrap_or, subst, nat_lt}
-use Rattle.std.specs.Prelude.{if◌then◌else◌, ⊤, ◌==◌}
+use Rattle.std.proofs.Common.{◌≡◌, ℕ, suc, ◌+◌, Bool, true, false, cond, List, [], ◌∷◌, ◌++◌, length, map, Option, Result, Ok, Err, refl, sym, ◌∙◌, ap, arith, ◌≢◌, ◌<◌, ◌≤◌, slice_get, Some, unwrap_or, subst}
+use Rattle.std.specs.Prelude.{if◌then◌else◌, ⊤}
 use Rattle.std.specs.List.{AllByRecursion}
 use Rattle.std.proofs.lemmas.List.{length-map}
 use Rattle.base65.specs.Outcome.{◌>>=◌}
 use Rattle.script65.specs.declared.script.Area.{Area}
 use Rattle.script65.specs.declared.script.Row.{Row}
-use Rattle.script65.specs.PlacingLaws.{AllPlaced, RowsThere, SameNeeds, AllWithin, AreApart, AreBehind, AreWithin, NoOverlap, address_in}
+use Rattle.script65.specs.PlacingLaws.{AllPlaced, RowsThere, SameNeeds, AllWithin, AreApart, AreBehind, AreWithin, NoOverlap}
+use Rattle.script65.specs.Places.{address_in}
 use Rattle.script65.specs.Placing.{area_place, areas_from, has_row, is_in, row_after, row_place, rows_exist, rows_from, size_of, standing, unplaced, fitted, moved, sized_row}
 use Rattle.script65.specs.AreaSums.{bounds_in}
 use Rattle.script65.specs.declared.placement.AreaPlace.{AreaPlace}
@@ -18,7 +19,6 @@ use Rattle.script65.specs.declared.placement.SegmentNeed.{SegmentNeed}
 use Rattle.script65.specs.declared.placing.site.Bounds.{Bounds}
 use Rattle.script65.specs.declared.placing.site.Spot.{Spot}
 use Rattle.script65.proofs.Walks.{bind_ok, one_longer, Kept, Made, all_hold, bounds_order, get_before, get_last}
-use Rattle.std.proofs.lemmas.Bool.Decides.{nat_tests}
 use Rattle.script65.specs.declared.script.Script.{Script}
 use Rattle.std.proofs.lemmas.Option.{slice_get_within}
 

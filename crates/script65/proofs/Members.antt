@@ -15,8 +15,8 @@ use Rattle.std.specs.List.{position_or_len}
 use Rattle.std.proofs.lemmas.Slice.Eq.{bytes_eq-Decides}
 use Rattle.std.proofs.Math.Path.{fun_ext}
 use Rattle.std.proofs.Math.Seq.{drop-append_seam}
-use Rattle.script65.specs.declared.reading.table.Entry.{Entry}
-use Rattle.script65.specs.Naming.{place_of_part}
+use Rattle.script65.specs.declared.reading.entries.Entry.{Entry}
+use Rattle.script65.specs.Inner.Tables.{part_at}
 
 -- ---- The rows of each area.
 
@@ -108,7 +108,7 @@ pub same_rest : (a b : List ℕ) → codes "__" ++ a ≡ codes "__" ++ b → a �
 same_rest a b e = cc
 
 -- the name that stands for a part of what has a name
-abbrev pub part_name : List ℕ → List ℕ → List ℕ
+abbrev part_name : List ℕ → List ℕ → List ℕ
 part_name name end = codes "__" ++ (name ++ end)
 
 -- names with one ending are the same where the names in them are
@@ -130,13 +130,13 @@ nowhere : {A : Type 0} (xs : List A) → position (λ x. false) xs ≡ None
 nowhere xs = ap (λ n. cond (nat_lt n (length xs)) (Some n) None) (past_all xs) ∙ ap (λ b. cond b (Some (length xs)) None) (not_less (length xs))
 
 -- a name that has no such ending
-pub named_nowhere : (es : List (List ℕ × Entry)) (name end : List ℕ) → ((n : List ℕ) → name ≢ part_name n end) → place_of_part es name end ≡ None
+pub named_nowhere : (es : List Entry) (name end : List ℕ) → ((n : List ℕ) → name ≢ part_name n end) → part_at es name end ≡ None
 named_nowhere es name end never =
-    let P : (List ℕ × Entry) → Bool = λ e. bytes_eq name (part_name e.0 end) in
-    let Q : (List ℕ × Entry) → Bool = λ e. false in
-    let same : P ≡ Q = fun_ext (λ e. to_false (P e) (λ t. never e.0 (same_bytes name (part_name e.0 end) t))) in
+    let P : Entry → Bool = λ e. bytes_eq name (part_name e.name end) in
+    let Q : Entry → Bool = λ e. false in
+    let same : P ≡ Q = fun_ext (λ e. to_false (P e) (λ t. never e.name (same_bytes name (part_name e.name end) t))) in
     ap (λ p. position p es) same ∙ nowhere es
 
 -- a name that has it behind a name
-pub named_there : (es : List (List ℕ × Entry)) (name n end : List ℕ) → name ≡ part_name n end → place_of_part es name end ≡ position (λ e. bytes_eq n e.0) es
+pub named_there : (es : List Entry) (name n end : List ℕ) → name ≡ part_name n end → part_at es name end ≡ position (λ (e : Entry). bytes_eq n e.name) es
 named_there es name n end is = grind (arith, common_steps, fun_ext, inner_name)

@@ -1,79 +1,139 @@
--- A text is one script, or has one first fault.
-use Rattle.std.proofs.lemmas.Grind.{common_steps}
-use Rattle.std.proofs.Common.{arith, ◌≡◌, ℕ, Bool, true, false, List, sym, ap, ◌∙◌, Ok, Err}
-use Rattle.std.specs.Prelude.{Result}
-use Rattle.script65.specs.declared.fault.Stop.{Stop}
-use Rattle.script65.specs.declared.reading.tokens.Form.TheVariants as form
-use Rattle.script65.specs.declared.reading.words.Block.{Block}
-use Rattle.script65.specs.declared.reading.words.Part.{Part}
-use Rattle.script65.specs.declared.reading.words.Shape.{Shape}
-use Rattle.script65.specs.declared.reading.words.Value.{Value}
-use Rattle.script65.specs.declared.script.Script.{Script}
-use Rattle.script65.specs.Grammar.{Many, ends, more, stops, First, Then, IsPart, Parts, IsSum, IsValue, IsAttribute, Attributes, IsEntry, Entries, IsBlock, Blocks, Draft, Drafts, stands, ends_sum}
-use Rattle.script65.specs.Laws.{OneReading}
-use Rattle.script65.specs.Scripts.{Reads, script_of, with_line}
+-- A text has one script, or one first fault.
+use Rattle.std.proofs.Common.{arith, ◌≡◌, ◌≤◌, ◌<◌, ℕ, zero, suc, ◌+◌, Bool, true, false, List, [], ◌∷◌, length, length-drop, drop, Option, Some, None, refl, sym, ap, ◌∙◌, subst, ◌⊎◌, inl, inr}
+use Rattle.std.specs.Prelude.{◌==◌, ◌&&◌, not, if◌then◌else◌, Result, Ok, Err}
+use Rattle.std.specs.List.{list_any, take_while}
+use Rattle.std.specs.Str.{is_utf8}
+use Rattle.std.specs.Char.{is_ascii_digit, is_ascii_hexdigit}
 use Rattle.base65.specs.Outcome.{◌>>=◌}
-use Rattle.script65.specs.Tokens.{token_at}
+use Rattle.script65.specs.declared.fault.Stop.{Stop}
+use Rattle.script65.specs.Faults.{stop_at}
+use Rattle.script65.specs.declared.fault.Fault.TheVariants.{TooLong}
+use Rattle.script65.specs.Attributes.{Block, Takes, Value}
+use Rattle.script65.specs.Entries.{Entries, Entry, Part, no_entries, sum_of_parts}
+use Rattle.script65.specs.Breaks.{Place, Move, on, done, stop, move, between_blocks, behind_block_word, between_entries, behind_name, between_attributes, behind_word, before_value, before_term, behind_term, behind_value, attribute_value, sum_end}
+use Rattle.script65.proofs.TokenByToken.{Reads, next, ends, stops, ReadsText}
+use Rattle.script65.specs.declared.script.Script.{Script}
+use Rattle.script65.specs.declared.fault.ScriptFault.{ScriptFault}
+use Rattle.script65.specs.Laws.{OneReading}
+use Rattle.script65.proofs.Written.{Follows, follows, reads_of}
+use Rattle.script65.specs.Scripts.{IsRead, IsScript, LengthOr, is_too_long, script_from, with_line}
+use Rattle.script65.specs.Tokens.{Lexeme, the_end, front, gap, hex_behind, mark, string_behind, token, begins_with, is_letter, is_string_byte, is_word_byte, word_behind, decimal_behind, output, none}
 
-abbrev IsOne : {S : Type 0} → (S → ℕ → Result (S × ℕ) Stop → Type 0) → Type 0
-IsOne {S} P = (s : S) (at : ℕ) (r q : Result (S × ℕ) Stop) → P s at r → P s at q → r ≡ q
+-- ---- At most one.
 
--- how a reading began
-abbrev Began : {S : Type 0} → (ℕ → Bool) → (S → ℕ → Result (S × ℕ) Stop → Type 0) → S → ℕ → Result (S × ℕ) Stop → Bool → Result (S × ℕ) Stop → Type 0
-Began closes Item s at q true i = q ≡ Ok (s, at)
-Began closes Item s at q false (Ok x) = Many closes Item x.0 x.1 q
-Began closes Item s at q false (Err e) = q ≡ Err e
+module _ (bytes : List ℕ) where
+  pub reads_one : (es : Entries) (p : Place) (at : ℕ) (r q : Result Entries Stop) → Reads bytes es p at r → Reads bytes es p at q → r ≡ q
+  reads_one _ _ _ _ u (next es fs p q at r e h) k = reads_one fs q (token bytes at).behind r u h (subst (λ m. Follows bytes at m u) e (follows bytes es p at u k))
+  reads_one _ _ _ _ u (ends es fs p at e) k = sym (subst (λ m. Follows bytes at m u) e (follows bytes es p at u k))
+  reads_one _ _ _ _ u (stops es p at f place e) k = sym (subst (λ m. Follows bytes at m u) e (follows bytes es p at u k))
 
--- where the item is known
-began : {S : Type 0} (closes : ℕ → Bool) (Item : S → ℕ → Result (S × ℕ) Stop → Type 0) → IsOne Item → (s : S) (at : ℕ) (q i : Result (S × ℕ) Stop) → closes at ≡ false → Item s at i → Many closes Item s at q → Began closes Item s at q false i
-began closes x one s at y i shut h z = grind (arith, common_steps)
-
-closed : {S : Type 0} (closes : ℕ → Bool) (Item : S → ℕ → Result (S × ℕ) Stop → Type 0) (s : S) (at : ℕ) (q : Result (S × ℕ) Stop) → closes at ≡ true → Many closes Item s at q → q ≡ Ok (s, at)
-closed closes x s at y h z = grind (arith, common_steps)
-
-many_one : {S : Type 0} (closes : ℕ → Bool) (Item : S → ℕ → Result (S × ℕ) Stop → Type 0) → IsOne Item → IsOne (Many closes Item)
-many_one closes Item one _ _ _ q (ends s at e) k = sym (closed closes Item s at q e k)
-many_one closes Item one _ _ _ q (more s t at next r e g d) k = many_one closes Item one t next r q d (began closes Item one s at q (Ok (t, next)) e g k)
-many_one closes Item one _ _ _ q (stops s at f e g) k = sym (began closes Item one s at q (Err f) e g k)
-
-first_one : {A B : Type 0} (head : Result A Stop) (Next : A → Result B Stop → Type 0) → ((x : A) (r q : Result B Stop) → Next x r → Next x q → r ≡ q) → (r q : Result B Stop) → First head Next r → First head Next q → r ≡ q
-first_one x y one r q h k = grind (arith, common_steps)
-
-then_one : {A B : Type 0} (P : Result A Stop → Type 0) (f : A → Result B Stop) → ((r q : Result A Stop) → P r → P q → r ≡ q) → (r q : Result B Stop) → Then P f r → Then P f q → r ≡ q
-then_one P f one r q h k = h.2 ∙ ap (λ v. v >>= f) (one h.0 k.0 h.1 k.1) ∙ sym k.2
-
-parts_one : (bytes : List ℕ) → IsOne (Parts bytes)
-parts_one bytes = many_one (ends_sum bytes) (IsPart bytes) (λ s at r q h k. h ∙ sym k)
-
-sum_one : (bytes : List ℕ) (at : ℕ) (r q : Result (Value × List Part × ℕ) Stop) → IsSum bytes at r → IsSum bytes at q → r ≡ q
-sum_one bytes at = grind (arith, common_steps, first_one, then_one, parts_one)
-
-value_one : (bytes : List ℕ) (s : Shape) (at : ℕ) (r q : Result (Value × List Part × ℕ) Stop) → IsValue bytes s at r → IsValue bytes s at q → r ≡ q
-value_one bytes x at r q h k = grind (arith, common_steps, sum_one)
-
-attribute_one : (bytes : List ℕ) (block : Block) → IsOne (IsAttribute bytes block)
-attribute_one bytes block given at = grind (arith, common_steps, first_one, then_one, value_one)
-
-attributes_one : (bytes : List ℕ) (block : Block) → IsOne (Attributes bytes block)
-attributes_one bytes block = many_one (stands bytes form.Semicolon) (IsAttribute bytes block) (attribute_one bytes block)
-
-entry_one : (bytes : List ℕ) (block : Block) → IsOne (IsEntry bytes block)
-entry_one bytes block d at = grind (arith, common_steps, first_one, then_one, attributes_one)
-
-entries_one : (bytes : List ℕ) (block : Block) → IsOne (Entries bytes block)
-entries_one bytes block = many_one (stands bytes form.Close) (IsEntry bytes block) (entry_one bytes block)
-
-block_one : (bytes : List ℕ) → IsOne (IsBlock bytes)
-block_one bytes d at = grind (arith, common_steps, first_one, then_one, entries_one)
-
-blocks_one : (bytes : List ℕ) → IsOne (Blocks bytes)
-blocks_one bytes = many_one (stands bytes form.End) (IsBlock bytes) (block_one bytes)
-
-drafts_one : (bytes : List ℕ) (r q : Result Draft Stop) → Drafts bytes r → Drafts bytes q → r ≡ q
-drafts_one bytes = grind (arith, common_steps, first_one, then_one, blocks_one)
-
-reads_one : (bytes : List ℕ) (r q : Result Script Stop) → Reads bytes r → Reads bytes q → r ≡ q
-reads_one bytes = then_one (Drafts bytes) (script_of bytes) (drafts_one bytes)
+  pub entries_one : (r q : Result Entries Stop) → ReadsText bytes r → ReadsText bytes q → r ≡ q
+  entries_one r q = by (is_too_long bytes)
+    where
+      by : (x : Bool) → LengthOr x r (Reads bytes no_entries between_blocks 0 r) → LengthOr x q (Reads bytes no_entries between_blocks 0 q) → r ≡ q
+      by true h k = h ∙ sym k
+      by false h k = reads_one no_entries between_blocks 0 r q h k
 
 pub one_reading : OneReading
-one_reading bytes r q h k = h.2 ∙ ap (with_line bytes) (reads_one bytes h.0 k.0 h.1 k.1) ∙ sym k.2
+one_reading bytes r q h k = h.2 ∙ ap (λ x. with_line bytes (x >>= script_from)) (entries_one bytes h.0 k.0 (reads_of bytes h.0 h.1) (reads_of bytes k.0 k.1)) ∙ sym k.2
+
+-- ---- At least one.
+
+-- a token has a byte at least, unless it is the end
+some_bytes : (b : ℕ) (bs : List ℕ) → 0 < (front (b ∷ bs)).1
+some_bytes b bs = by (is_letter b) (is_ascii_digit b) (b == 36) (b == 34) (b == 37)
+  where
+    hex : (ds : List ℕ) → 0 < (hex_behind ds).1
+    hex [] = omega arith
+    hex (d ∷ ds) = omega arith
+
+    closed : (x : Bool) (text : List ℕ) → 0 < (if◌then◌else◌ {A = Lexeme × ℕ} x (Rattle.script65.specs.Tokens.string text, 2 + length text) (none, 1)).1
+    closed true text = omega arith
+    closed false text = omega arith
+
+    capital : (x : Bool) → 0 < (if◌then◌else◌ {A = Lexeme × ℕ} x (output, 2) (none, 1)).1
+    capital true = omega arith
+    capital false = omega arith
+
+    by : (x y z u v : Bool) → 0 < (if x then word_behind b (take_while is_word_byte bs) else if y then decimal_behind b (take_while is_ascii_digit bs) else if z then hex_behind (take_while is_ascii_hexdigit bs) else if u then string_behind (take_while is_string_byte bs) bs else if v then (if begins_with 79 bs then (output, 2) else (none, 1)) else (mark b, 1)).1
+    by true y z u v = omega arith
+    by false true z u v = omega arith
+    by false false true u v = hex (take_while is_ascii_hexdigit bs)
+    by false false false true v = let text = take_while is_string_byte bs in closed (begins_with 34 (drop (length text) bs) && is_utf8 text && not (list_any (λ b. b == 37) text)) text
+    by false false false false true = capital (begins_with 79 bs)
+    by false false false false false = omega arith
+
+-- the end leads nowhere
+abbrev pub Leads : Move → Type 0
+Leads (on es p) = Unit {0}
+Leads _ = ⊥
+
+no_value : (es : Entries) (b : Block) (e : Entry) (a : List ℕ) (t : Takes) (at : ℕ) → Leads (attribute_value es b e a t the_end at) → ⊥
+no_value es b e a Rattle.script65.specs.Attributes.a_sum at h = h
+no_value es b e a _ at h = h
+
+no_sum : (es : Entries) (b : Block) (e : Entry) (a : List ℕ) (ps : List Part) (v : Option Value) (at : ℕ) → Leads (sum_end es b e a ps v the_end at) → ⊥
+no_sum es b e a ps (Some v) at h = h
+no_sum es b e a ps None at h = h
+
+pub end_leads : (es : Entries) (p : Place) (at : ℕ) → Leads (move es p the_end at) → ⊥
+end_leads es between_blocks at h = h
+end_leads es (behind_block_word b) at h = h
+end_leads es (between_entries b) at h = h
+end_leads es (behind_name b e) at h = h
+end_leads es (between_attributes b e) at h = h
+end_leads es (behind_word b e row) at h = no_value es b e row.0 row.1 at h
+end_leads es (before_value b e row) at h = no_value es b e row.0 row.1 at h
+end_leads es (before_term b e a ps taken) at h = h
+end_leads es (behind_term b e a ps) at h = no_sum es b e a ps (sum_of_parts ps) at h
+end_leads es (behind_value b e) at h = h
+
+module _ (bytes : List ℕ) where
+  -- a token that isn't the end is further on
+  further : (at : ℕ) → ((token bytes at).lexeme ≡ the_end) ⊎ ((at < length bytes) × (at < (token bytes at).behind))
+  unfolding token
+  further at = by (drop (at + gap false (drop at bytes)) bytes) refl
+    where
+      by : (here : List ℕ) → drop (at + gap false (drop at bytes)) bytes ≡ here → ((front here).0 ≡ the_end) ⊎ ((at < length bytes) × (at < (at + gap false (drop at bytes)) + (front here).1))
+      by [] e = inl refl
+      by (b ∷ bs) e = inr (omega (arith, length-drop (at + gap false (drop at bytes)) bytes, ap length e), omega (arith, some_bytes b bs))
+
+  -- a reading from each place from which so many bytes are left
+  abbrev Some_from : ℕ → Type 0
+  Some_from n = (at : ℕ) (es : Entries) (p : Place) → length bytes ≤ at + n → (r : Result Entries Stop) × Reads bytes es p at r
+
+  some_step : (n at : ℕ) (es : Entries) (p : Place) → length bytes ≤ at + n → (at < length bytes → (k : ℕ) × Some_from k × (k + 1 ≡ n)) → (r : Result Entries Stop) × Reads bytes es p at r
+  some_step n at es p enough rest = by (move es p (token bytes at).lexeme (token bytes at).at) refl
+    where
+      on_to : (fs : Entries) (q : Place) → move es p (token bytes at).lexeme (token bytes at).at ≡ on fs q → ((token bytes at).lexeme ≡ the_end) ⊎ ((at < length bytes) × (at < (token bytes at).behind)) → (r : Result Entries Stop) × Reads bytes es p at r
+      on_to fs q e (inl end) = absurd (end_leads es p (token bytes at).at (subst Leads (sym e ∙ ap (λ l. move es p l (token bytes at).at) end) tt))
+      on_to fs q e (inr h) =
+          let k = rest h.0 in
+          let left : length bytes ≤ (token bytes at).behind + k.0 = omega (arith, k.2) in
+          let more = k.1 (token bytes at).behind fs q left in
+          (more.0, next es fs p q at more.0 e more.1)
+
+      by : (m : Move) → move es p (token bytes at).lexeme (token bytes at).at ≡ m → (r : Result Entries Stop) × Reads bytes es p at r
+      by (done fs) e = (Ok fs, ends es fs p at e)
+      by (stop f place) e = (Err (stop_at f place), stops es p at f place e)
+      by (on fs q) e = on_to fs q e (further at)
+
+  reads_some : (n : ℕ) → Some_from n
+  reads_some zero at es p enough = some_step zero at es p enough (λ lt. absurd (omega arith))
+  reads_some (suc n) at es p enough = some_step (suc n) at es p enough (λ lt. (n, reads_some n, omega arith))
+
+  pub entries_some : (r : Result Entries Stop) × ReadsText bytes r
+  entries_some = by (is_too_long bytes)
+    where
+      by : (x : Bool) → (r : Result Entries Stop) × LengthOr x r (Reads bytes no_entries between_blocks 0 r)
+      by true = (Err (stop_at TooLong 0), refl)
+      by false = reads_some (length bytes) 0 no_entries between_blocks (omega arith)
+
+-- ---- Texts that are too long.
+
+-- they have one fault, whatever they say
+pub long_texts : (text bytes : List ℕ) (q : Result Script ScriptFault) → is_too_long text ≡ true → is_too_long bytes ≡ true → IsScript text q → IsScript bytes q
+long_texts text bytes q h k s =
+    let long : Result Entries Stop = Err (stop_at TooLong 0) in
+    let same : s.0 ≡ long = subst (λ b. LengthOr b s.0 (IsRead text s.0)) h s.1 in
+    (long, subst (λ b. LengthOr b long (IsRead bytes long)) (sym k) refl, s.2 ∙ ap (λ d. with_line text (d >>= script_from)) same)

@@ -1,9 +1,8 @@
 -- Each area holds its sums, read off the placement itself.
 use Rattle.std.proofs.lemmas.Grind.{common_steps}
-use Rattle.std.proofs.Common.{◌≡◌, ◌<◌, ◌≤◌, ℕ, zero, suc, Bool, true, false, List, [], ◌∷◌, map, slice_get, refl, ap, ◌∙◌, subst, Ok, arith, nat_lt, ◌+◌, ◌^◌, not, ◌++◌, find, length, Option, Some, None, is_some, sym, nat_le}
-use Rattle.std.specs.Prelude.{Result, if◌then◌else◌, ⊤, ◌==◌}
+use Rattle.std.proofs.Common.{◌≡◌, ◌<◌, ◌≤◌, ℕ, zero, suc, Bool, true, false, List, [], ◌∷◌, map, slice_get, refl, ap, ◌∙◌, subst, Ok, arith, ◌+◌, ◌^◌, not, ◌++◌, find, length, Option, Some, None, is_some, sym}
+use Rattle.std.specs.Prelude.{Result, if◌then◌else◌, ⊤}
 use Rattle.std.specs.Option.{option_map_or}
-use Rattle.std.proofs.lemmas.Bool.Decides.{nat_tests}
 use Rattle.base65.specs.Outcome.{◌>>=◌}
 use Rattle.script65.specs.declared.script.Area.{Area}
 use Rattle.script65.specs.declared.script.Row.{Row}
@@ -97,7 +96,7 @@ value_stays k part (r ∷ rs) (s ∷ ss) (t ∷ ts) (suc i) h known = value_stay
 the_difference : (added taken n : ℕ) → difference added taken ≡ Some n → (taken + n ≡ added) × (n < 2 ^ 32)
 the_difference added taken n h = grind (arith, common_steps)
 
-none_found : (known : Term → Bool) (ts : List Term) → find (λ t. not (known t)) ts ≡ None → list_all known ts ≡ true
+pub none_found : (known : Term → Bool) (ts : List Term) → find (λ t. not (known t)) ts ≡ None → list_all known ts ≡ true
 none_found known [] h = refl
 none_found known (t ∷ ts) h = grind (arith, common_steps, (none_found known ts))
 
@@ -114,19 +113,19 @@ found_of s ts n h = grind (arith, common_steps, the_difference, none_found)
 
 -- the sum of terms by other places, where what is known is the same there
 module _ (known : Term → Bool) (v w : Term → ℕ) (same : (t : Term) → known t ≡ true → w t ≡ v t) where
-  come_same : (is : Term → Bool) (ts : List Term) → list_all known ts ≡ true → come_to is w ts ≡ come_to is v ts
+  pub come_same : (is : Term → Bool) (ts : List Term) → list_all known ts ≡ true → come_to is w ts ≡ come_to is v ts
   come_same is [] h = refl
   come_same is (t ∷ ts) h = grind (arith, common_steps, (come_same is ts))
 
 -- places of areas that agree on those before a place, and on the start of that one
-record Agree (k : ℕ) (begun : Bool) (ps qs : List AreaPlace) : Type 0 where
+pub record Agree (k : ℕ) (begun : Bool) (ps qs : List AreaPlace) : Type 0 where
   pub before : (j : ℕ) → j < k → slice_get qs j ≡ slice_get ps j
   pub own : begun ≡ true → option_map_or (area_value area.Start) (slice_get qs k) 0 ≡ option_map_or (area_value area.Start) (slice_get ps k) 0
 
 area_same : (k : ℕ) (begun : Bool) (ps qs : List AreaPlace) (part : AreaPart) (j : ℕ) → Agree k begun ps qs → area_known k begun part j ≡ true → option_map_or (area_value part) (slice_get qs j) 0 ≡ option_map_or (area_value part) (slice_get ps j) 0
 area_same k begun ps qs x j h known = grind (arith, common_steps)
 
-operand_same : (k : ℕ) (begun : Bool) (rows : List Row) (ps qs : List AreaPlace) (ss ts : List Spot) (o : Operand) → Agree k begun ps qs → Settled k rows ss ts → operand_known k begun rows o ≡ true → operand_value qs (map row_place ts) o ≡ operand_value ps (map row_place ss) o
+pub operand_same : (k : ℕ) (begun : Bool) (rows : List Row) (ps qs : List AreaPlace) (ss ts : List Spot) (o : Operand) → Agree k begun ps qs → Settled k rows ss ts → operand_known k begun rows o ≡ true → operand_value qs (map row_place ts) o ≡ operand_value ps (map row_place ss) o
 operand_same k begun rows ps qs ss ts (operand.Number n) a s known = refl
 operand_same k begun rows ps qs ss ts (operand.Area j part) a s known = area_same k begun ps qs part j a known
 operand_same k begun rows ps qs ss ts (operand.Row i part) a s known = value_stays k part rows ss ts i s known

@@ -1,11 +1,12 @@
 -- Sums without names are looked at as they are read: areas of such sums alone are fixed.
 use Rattle.std.proofs.lemmas.Grind.{common_steps}
 use Rattle.std.proofs.Common.{◌≡◌, ◌≤◌, ℕ, ◌+◌, ◌^◌, Bool, false, not, List, [], ◌∷◌, ◌++◌, find, Some, None, is_some, refl, sym, ap, ◌∙◌, Ok, Err, arith, nat_lt, true, Option, unwrap_or, subst}
-use Rattle.std.specs.Prelude.{Result, if◌then◌else◌, ◌||◌, ◌==◌}
+use Rattle.std.specs.Prelude.{Result, if◌then◌else◌, ◌||◌}
 use Rattle.std.specs.List.{AllByRecursion, list_any}
 use Rattle.std.proofs.lemmas.Bool.Decides.{nat_tests}
 use Rattle.base65.specs.Outcome.{◌>>=◌, each}
-use Rattle.script65.specs.AreaSums.{come_to, difference, Standing, bounds_in, is_known, number_or_fault, operand_known, places_there, spanned, sum_by, sum_in, sum_unless, term_value, with_start}
+use Rattle.script65.specs.declared.fault.Stop.{Stop}
+use Rattle.script65.specs.AreaSums.{come_to, difference, Standing, bounds_in, is_known, number_or_fault, operand_known, places_there, spanned, sum_by, sum_in, sum_of, sum_unless, term_value, with_start}
 use Rattle.script65.specs.declared.script.Area.{Area}
 use Rattle.script65.specs.declared.script.Operand.TheVariants as operand
 use Rattle.script65.specs.declared.script.Row.{Row}
@@ -19,27 +20,21 @@ use Rattle.script65.specs.declared.placement.RowPlace.{RowPlace}
 use Rattle.script65.specs.declared.placing.site.Bounds.{Bounds}
 use Rattle.script65.specs.declared.placing.site.Spot.{Spot}
 use Rattle.std.specs.Option.{option_map, option_map_or, option_and_then}
+use Rattle.std.specs.Prelude.{⊤}
+use Rattle.std.proofs.Common.{cond}
 use Rattle.script65.specs.declared.fault.Fault.{Fault}
-use Rattle.script65.specs.declared.fault.Fault.TheVariants.{AttributeTwice, UnknownAttribute}
-use Rattle.script65.specs.declared.fault.Stop.{Stop}
-use Rattle.script65.specs.declared.reading.table.Entry.{Entry}
-use Rattle.script65.specs.declared.reading.tokens.Token.{Token}
-use Rattle.script65.specs.declared.reading.tokens.Form.TheVariants as form
-use Rattle.script65.specs.declared.reading.words.Attribute.{Attribute}
-use Rattle.script65.specs.declared.reading.words.Attribute.TheVariants as attribute
-use Rattle.script65.specs.declared.reading.words.Block.{Block}
-use Rattle.script65.specs.declared.reading.words.Block.TheVariants.{Memory, Segments, Symbols}
-use Rattle.script65.specs.declared.reading.words.Given.{Given}
-use Rattle.script65.specs.declared.reading.words.Part.{Part}
-use Rattle.script65.specs.declared.reading.words.Shape.{Shape}
-use Rattle.script65.specs.declared.reading.words.Shape.TheVariants as shape
-use Rattle.script65.specs.declared.reading.words.Value.{Value}
-use Rattle.script65.specs.declared.reading.words.Value.TheVariants as value
-use Rattle.script65.specs.Grammar.{Draft, Drafts, First, IsAttribute, IsBlock, IsEntry, IsSum, IsValue, Many, area_end, area_fault, attribute_rank, attribute_word, block_head, entry_end, entry_head, ends, expect, has, is_name, is_of, more, nothing, number_given, number_in, number_of_parts, part_at, sized, some_or, stands, stop, stops, sum_end, sum_value, text_of, unless_fault, value_given}
-use Rattle.script65.specs.Naming.{extent_of, parts_given, term_of, terms_given}
-use Rattle.script65.specs.Scripts.{area_of, area_with}
-use Rattle.script65.specs.Tokens.{token_at}
-use Rattle.script65.specs.Words.{attribute_of}
+use Rattle.script65.specs.declared.fault.Fault.TheVariants.{AttributeTwice, NameTwice, SyntaxError}
+use Rattle.std.specs.Prelude.{codes}
+use Rattle.std.specs.Str.{bytes_eq, str_eq_ignore_ascii_case}
+use Rattle.script65.specs.Attributes.{Block, memory, segments, symbols, Takes, a_sum, a_byte, number_from, one_of, an_area, a_file, Value, number, unknown_sum, attributes, blocks, row_of, said}
+use Rattle.script65.specs.Entries.{Entries, Entry, Given, Part, area_closing, as_number, closing_fault, given_for, is_given, no_entries, number_for, of_kind, part_of, parts_for, sum_of_parts, value_for, value_of, with_given}
+use Rattle.script65.specs.Breaks.{Place, Move, on, done, stop, between_blocks, behind_block_word, between_entries, behind_name, between_attributes, behind_word, before_value, before_term, behind_term, behind_value}
+use Rattle.script65.proofs.TokenByToken.{Reads, next, ends, stops, ReadsText}
+use Rattle.script65.proofs.Written.{reads_of}
+use Rattle.script65.specs.Entries as entries
+use Rattle.script65.specs.Breaks as breaks
+use Rattle.script65.specs.Scripts.{LengthOr, area_from, is_too_long, sum_for, sums_of, term_from}
+use Rattle.script65.specs.Tokens.{Lexeme, token, word, semicolon, comma, colon, equals, plus, minus, brace, end_brace, the_end}
 use Rattle.script65.proofs.Named.{and_then, each_holds, extent_is, made_of, ok_is}
 
 -- ---- Areas whose sums are numbers alone.
@@ -96,122 +91,207 @@ only_numbers script needs bounds h = grind (arith, common_steps, areas_fixed)
 
 -- ---- What is kept while a script is read.
 
-first_then : {A B : Type 0} (head : Result A Stop) (Next : A → Result B Stop → Type 0) (y : B) → First head Next (Ok y) → (x : A) × (head ≡ Ok x) × Next x (Ok y)
-first_then x z y h = grind (arith, common_steps)
-
--- what each item keeps, all keep
-many_keep : {S : Type 0} (closes : ℕ → Bool) (Item : S → ℕ → Result (S × ℕ) Stop → Type 0) (Keeps : S → Type 0)
-    → ((s t : S) (at next : ℕ) → Keeps s → Item s at (Ok (t, next)) → Keeps t)
-    → (s : S) (at : ℕ) (r : Result (S × ℕ) Stop) → Many closes Item s at r → Keeps s → (x : S × ℕ) → r ≡ Ok x → Keeps x.0
-many_keep closes Item Keeps step _ _ _ (ends s at e) keeps x h = let same : s ≡ x.0 = ap (λ (p : _). p.0) (ok_is (s, at) x h) in subst Keeps same keeps
-many_keep closes Item Keeps step _ _ _ (more s t at next r e g d) keeps x h = many_keep closes Item Keeps step t next r d (step s t at next keeps g) x h
-many_keep closes Item Keeps step _ _ _ (stops s at f e g) keeps x h = absurd cc
-
 put_behind : {A : Type 0} (P : A → Type 0) (xs : List A) (x : A) → AllByRecursion P xs → P x → AllByRecursion P (xs ++ x ∷ [])
 put_behind P [] x h p = (p, tt)
 put_behind P (y ∷ ys) x h p = (h.0, put_behind P ys x h.1 p)
 
--- ---- Attributes of areas.
+pub find_all : {A : Type 0} (P : A → Type 0) (p : A → Bool) (xs : List A) (x : A) → AllByRecursion P xs → find p xs ≡ Some x → P x
+find_all P p [] x h e = absurd cc
+find_all P p (y ∷ ys) x h e = by (p y) e (λ f. find_all P p ys x h.1 f)
+  where
+    by : (b : Bool) → cond b (Some y) (find p ys) ≡ Some x → (find p ys ≡ Some x → P x) → P x
+    by true e again = let same : y ≡ x = cc in subst P same h.0
+    by false e again = again e
 
-abbrev takes_sum : Attribute → Bool
-takes_sum a = attribute_rank a == 0 || attribute_rank a == 1
+abbrev takes_sum : List ℕ → Bool
+takes_sum a = bytes_eq (codes "start") a || bytes_eq (codes "size") a
 
--- those of areas that take a sum
-summed_shape : (word : List ℕ) (a : Attribute × Shape) → attribute_of Memory word ≡ Some a → takes_sum a.0 ≡ true → a.1 ≡ shape.Sum
-unfolding attribute_of
-summed_shape word a h takes = grind (arith, common_steps)
-
-known_word : (o : Option (Attribute × Shape)) (t : Token) (x : Attribute × Shape) → some_or o UnknownAttribute t ≡ Ok x → o ≡ Some x
-known_word (Some y) t x h = ap Some (ok_is y x h)
-known_word None t x h = absurd cc
-
-first_given : (b : Bool) (t : Token) (x a : Attribute × Shape × ℕ) → (if b then stop AttributeTwice t else Ok x) ≡ Ok a → x ≡ a
-first_given true t x a h = absurd cc
-first_given false t x a h = ok_is x a h
-
-word_summed : (bytes : List ℕ) (given : List Given) (at : ℕ) (a : Attribute × Shape × ℕ) → attribute_word bytes Memory given at ≡ Ok a → takes_sum a.0 ≡ true → a.1 ≡ shape.Sum
-unfolding attribute_word
-word_summed bytes given at a h takes =
-    let t = and_then (expect bytes form.Word at) _ a h in
-    let b = and_then (some_or (attribute_of Memory (text_of bytes t.0)) UnknownAttribute t.0) _ a t.2 in
-    let made : (b.0.0, b.0.1, t.0.to) ≡ a = first_given (has b.0.0 given) t.0 (b.0.0, b.0.1, t.0.to) a b.2 in
-    let is : attribute_of Memory (text_of bytes t.0) ≡ Some b.0 = known_word (attribute_of Memory (text_of bytes t.0)) t.0 b.0 b.1 in
-    let same : b.0.0 ≡ a.0 = ap (λ (x : Attribute × Shape × ℕ). x.0) made in
-    sym (ap (λ (x : Attribute × Shape × ℕ). x.1) made) ∙ summed_shape (text_of bytes t.0) b.0 is (ap takes_sum same ∙ takes)
-
--- the value of a sum is that of its parts
+-- the value of a sum is that of its terms
 abbrev pub IsSummed : Given → Type 0
-IsSummed g = (takes_sum g.attribute ≡ true) → sum_value g.parts ≡ Some g.value
+IsSummed g = (takes_sum g.word ≡ true) → sum_of_parts g.parts ≡ Some g.value
 
 abbrev pub AreSummed : List Given → Type 0
 AreSummed given = AllByRecursion IsSummed given
 
-sum_is : (bytes : List ℕ) (at : ℕ) (v : Value × List Part × ℕ) → IsSum bytes at (Ok v) → sum_value v.1 ≡ Some v.0
-sum_is bytes at v h =
-    let p = first_then (part_at bytes false at) _ v h in
-    let parts = and_then p.2.0 sum_end v (sym p.2.2) in
-    by parts.0 v (sum_value parts.0.0) refl parts.2
-  where
-    valued : {x : List Part × ℕ} {w : Value} → sum_value x.0 ≡ Some w → sum_end x ≡ Ok (w, x.0, x.1)
-    valued e = rw e refl
-
-    by : (x : List Part × ℕ) (v : Value × List Part × ℕ) (o : Option Value) → sum_value x.0 ≡ o → sum_end x ≡ Ok v → sum_value v.1 ≡ Some v.0
-    by x v (Some w) e h =
-        let made : (w, x.0, x.1) ≡ v = ok_is {E = Stop} (w, x.0, x.1) v (sym (valued e) ∙ h) in
-        subst (λ (u : Value × List Part × ℕ). sum_value u.1 ≡ Some u.0) made e
-    by x v None e h = absurd cc
-
-value_is : (bytes : List ℕ) (s : _) (at : ℕ) (v : Value × List Part × ℕ) → s ≡ shape.Sum → IsValue bytes s at (Ok v) → sum_value v.1 ≡ Some v.0
-value_is bytes s at v e h = sum_is bytes at v (subst (λ x. IsValue bytes x at (Ok v)) e h)
-
-attribute_summed : (bytes : List ℕ) (given t : List Given) (at next : ℕ) → AreSummed given → IsAttribute bytes Memory given at (Ok (t, next)) → AreSummed t
-attribute_summed bytes given t at next keeps h = grind (arith, common_steps, first_then, and_then, ok_is, put_behind, value_is, word_summed)
-
--- ---- Entries.
-
 -- an area whose sums have their values, and which ends at the last address or before it
-pub record IsGood (e : List ℕ × Entry) : Type 0 where
-  pub summed : AreSummed e.1.given
-  pub ends : area_fault e.1.given ≡ None
+pub record IsGood (e : Entry) : Type 0 where
+  pub summed : AreSummed e.given
+  pub ends : area_closing e ≡ None
 
-abbrev pub AreGood : Draft → Type 0
-AreGood d = AllByRecursion IsGood d.areas
+abbrev pub AreGood : Entries → Type 0
+AreGood es = AllByRecursion IsGood es.areas
 
-passed : {A : Type 0} (o : Option Fault) (t : Token) (x y : A) → unless_fault o t x ≡ Ok y → (o ≡ None) × (x ≡ y)
-passed z t x y h = grind (arith, common_steps)
+-- so it is where an area is read
+abbrev InMemory : Block → Type 0 → Type 0
+InMemory memory P = P
+InMemory _ P = ⊤
 
-entry_good : (bytes : List ℕ) (block : Block) (d t : Draft) (at next : ℕ) → AreGood d → IsEntry bytes block d at (Ok (t, next)) → AreGood t
-unfolding entry_end
-entry_good bytes Memory d t at next keeps h =
-    let name = first_then (entry_head bytes Memory d at) _ (t, next) h in
-    let x = and_then name.2.0 (entry_end bytes Memory name.0.0 d) (t, next) (sym name.2.2) in
-    let summed : AreSummed x.0.0 = many_keep (stands bytes form.Semicolon) (IsAttribute bytes Memory) AreSummed (attribute_summed bytes) [] name.0.1 name.2.0 name.2.1 tt x.0 x.1 in
-    let e : Entry = record { at = name.0.0.from; given = x.0.0 } in
-    let made = passed (area_fault x.0.0) (token_at bytes x.0.1) _ (t, next) x.2 in
-    let good : IsGood (text_of bytes name.0.0, e) = record { summed = summed; ends = made.0 } in
-    subst (λ (p : Draft × ℕ). AreGood p.0) made.1 (put_behind IsGood d.areas (text_of bytes name.0.0, e) keeps good)
-entry_good bytes Segments d t at next keeps h = grind (arith, common_steps, first_then, and_then, passed)
-entry_good bytes Symbols d t at next keeps h = grind (arith, common_steps, first_then, and_then, passed)
+abbrev TakesSum : List ℕ × Takes → Type 0
+TakesSum row = takes_sum row.0 ≡ true → row.1 ≡ a_sum
 
-blocks_good : (bytes : List ℕ) (d t : Draft) (at next : ℕ) → AreGood d → IsBlock bytes d at (Ok (t, next)) → AreGood t
-blocks_good bytes d t at next keeps h =
-    let b = first_then (block_head bytes at) _ (t, next) h in
-    let x = and_then b.2.0 _ (t, next) (sym b.2.2) in
-    let made : AreGood x.0.0 = many_keep (stands bytes form.Close) (IsEntry bytes b.0.0) AreGood (entry_good bytes b.0.0) d b.0.1 b.2.0 b.2.1 keeps x.0 x.1 in
-    let same : x.0.0 ≡ t = ap (λ (p : Draft × ℕ). p.0) (ok_is _ (t, next) x.2) in
-    subst AreGood same made
+abbrev Keeps : Place → Type 0
+Keeps between_blocks = ⊤
+Keeps (behind_block_word b) = ⊤
+Keeps (between_entries b) = ⊤
+Keeps (behind_name b e) = InMemory b (AreSummed e.given)
+Keeps (between_attributes b e) = InMemory b (AreSummed e.given)
+Keeps (behind_word b e row) = InMemory b (AreSummed e.given) × InMemory b (TakesSum row)
+Keeps (before_value b e row) = InMemory b (AreSummed e.given) × InMemory b (TakesSum row)
+Keeps (before_term b e a ps taken) = InMemory b (AreSummed e.given)
+Keeps (behind_term b e a ps) = InMemory b (AreSummed e.given)
+Keeps (behind_value b e) = InMemory b (AreSummed e.given)
 
-pub drafts_good : (bytes : List ℕ) (d : Draft) → Drafts bytes (Ok d) → AreGood d
-drafts_good bytes d h =
-    let at = first_then (sized bytes) _ d h in
-    let x = and_then at.2.0 _ d (sym at.2.2) in
-    let made : AreGood x.0.0 = many_keep (stands bytes form.End) (IsBlock bytes) AreGood (blocks_good bytes) nothing at.0 at.2.0 at.2.1 tt x.0 x.1 in
-    subst AreGood (ok_is x.0.0 d x.2) made
+-- what a token does keeps it
+abbrev Holds : Move → Type 0
+Holds (on es p) = AreGood es × Keeps p
+Holds (done es) = AreGood es
+Holds (stop f at) = ⊤
+
+memory_rows : AllByRecursion TakesSum (attributes memory)
+memory_rows = (λ h. refl, (λ h. refl, (λ h. absurd cc, (λ h. absurd cc, (λ h. absurd cc, (λ h. absurd cc, (λ h. absurd cc, tt)))))))
+
+row_takes : (b : Block) (w : List ℕ) (row : List ℕ × Takes) → row_of w (attributes b) ≡ Some row → InMemory b (TakesSum row)
+row_takes memory w row h = find_all TakesSum (λ (row : List ℕ × Takes). str_eq_ignore_ascii_case w row.0) (attributes memory) row memory_rows h
+row_takes segments w row h = tt
+row_takes symbols w row h = tt
+
+block_holds : (es : Entries) (l : Lexeme) (at : ℕ) → AreGood es → Holds (breaks.block_word es l at)
+block_holds es (word w) at good = by (said w blocks)
+  where
+    by : (o : Option Block) → Holds (option_map_or (λ b. on es (behind_block_word b)) o (stop SyntaxError at))
+    by (Some b) = (good, tt)
+    by None = tt
+block_holds es the_end at good = good
+block_holds es _ at good = tt
+
+brace_holds : (es : Entries) (b : Block) (l : Lexeme) (at : ℕ) → AreGood es → Holds (breaks.block_brace es b l at)
+brace_holds es b brace at good = (good, tt)
+brace_holds es b _ at good = tt
+
+none_given : (b : Block) → InMemory b (AreSummed [])
+none_given memory = tt
+none_given segments = tt
+none_given symbols = tt
+
+name_holds : (es : Entries) (b : Block) (l : Lexeme) (at : ℕ) → AreGood es → Holds (breaks.entry_name es b l at)
+name_holds es b (word w) at good = by (list_any (λ (e : Entry). bytes_eq w e.name) (of_kind b es))
+  where
+    by : (x : Bool) → Holds (if x then stop NameTwice at else on es (behind_name b (record { name = w; at = at; given = [] })))
+    by true = tt
+    by false = (good, none_given b)
+name_holds es b end_brace at good = (good, tt)
+name_holds es b _ at good = tt
+
+colon_holds : (es : Entries) (b : Block) (e : Entry) (l : Lexeme) (at : ℕ) → AreGood es → InMemory b (AreSummed e.given) → Holds (breaks.entry_colon es b e l at)
+colon_holds es b e colon at good kept = (good, kept)
+colon_holds es b e _ at good kept = tt
+
+closed : (es : Entries) (b : Block) (e : Entry) → AreGood es → InMemory b (AreSummed e.given) → closing_fault b e ≡ None → AreGood (entries.with_entry b e es)
+closed es memory e good kept h = put_behind IsGood es.areas e good (record { summed = kept; ends = h })
+closed es segments e good kept h = good
+closed es symbols e good kept h = good
+
+attribute_holds : (es : Entries) (b : Block) (e : Entry) (l : Lexeme) (at : ℕ) → AreGood es → InMemory b (AreSummed e.given) → Holds (breaks.attribute_or_end es b e l at)
+attribute_holds es b e (word w) at good kept = by (row_of w (attributes b)) refl
+  where
+    once : (row : List ℕ × Takes) (x : Bool) → InMemory b (TakesSum row) → Holds (if x then stop AttributeTwice at else on es (behind_word b e row))
+    once row true takes = tt
+    once row false takes = (good, (kept, takes))
+
+    by : (o : Option (List ℕ × Takes)) → row_of w (attributes b) ≡ o → Holds (breaks.known_attribute es b e o at)
+    by (Some row) h = once row (is_given row.0 e) (row_takes b w row h)
+    by None h = tt
+attribute_holds es b e semicolon at good kept = by (closing_fault b e) refl
+  where
+    by : (o : Option Fault) → closing_fault b e ≡ o → Holds (breaks.entry_end es b e o at)
+    by (Some f) h = tt
+    by None h = (closed es b e good kept h, tt)
+attribute_holds es b e _ at good kept = tt
+
+comma_holds : (es : Entries) (b : Block) (e : Entry) (l : Lexeme) (at : ℕ) → AreGood es → InMemory b (AreSummed e.given) → Holds (breaks.comma_or_next es b e l at)
+comma_holds es b e comma at good kept = (good, kept)
+comma_holds es b e l at good kept = attribute_holds es b e l at good kept
+
+with_more : (b : Block) (e : Entry) (g : Given) → InMemory b (AreSummed e.given) → InMemory b (IsSummed g) → InMemory b (AreSummed (with_given g e).given)
+with_more memory e g kept h = put_behind IsSummed e.given g kept h
+with_more segments e g kept h = tt
+with_more symbols e g kept h = tt
+
+part_holds : (es : Entries) (b : Block) (e : Entry) (a : List ℕ) (ps : List Part) (at : ℕ) (r : Result Part Fault) → AreGood es → InMemory b (AreSummed e.given) → Holds (breaks.add_part es b e a ps at r)
+part_holds es b e a ps at (Ok p) good kept = (good, kept)
+part_holds es b e a ps at (Err f) good kept = tt
+
+-- a value that is no sum
+give_holds : (es : Entries) (b : Block) (e : Entry) (a : List ℕ) (at : ℕ) (r : Result Value Fault) → AreGood es → InMemory b (AreSummed e.given) → InMemory b (takes_sum a ≡ true → ⊥) → Holds (breaks.give es b e a at r)
+give_holds es b e a at (Ok v) good kept other = (good, with_more b e (record { word = a; value = v; parts = [] }) kept (never b other))
+  where
+    never : (b : Block) → InMemory b (takes_sum a ≡ true → ⊥) → InMemory b (IsSummed (record { word = a; value = v; parts = [] }))
+    never memory other = λ h. absurd (other h)
+    never segments other = tt
+    never symbols other = tt
+give_holds es b e a at (Err f) good kept other = tt
+
+no_sum : (b : Block) (a : List ℕ) (takes : Takes) → (takes ≡ a_sum → ⊥) → InMemory b (TakesSum (a, takes)) → InMemory b (takes_sum a ≡ true → ⊥)
+no_sum memory a takes other h = λ t. other (h t)
+no_sum segments a takes other h = tt
+no_sum symbols a takes other h = tt
+
+value_holds : (es : Entries) (b : Block) (e : Entry) (a : List ℕ) (takes : Takes) (l : Lexeme) (at : ℕ) → AreGood es → InMemory b (AreSummed e.given) → InMemory b (TakesSum (a, takes)) → Holds (breaks.attribute_value es b e a takes l at)
+value_holds es b e a a_sum l at good kept row = part_holds es b e a [] at (part_of false at l) good kept
+value_holds es b e a (number_from low high) l at good kept row = give_holds es b e a at (value_of (number_from low high) l) good kept (no_sum b a (number_from low high) (λ h. cc) row)
+value_holds es b e a a_byte l at good kept row = give_holds es b e a at (value_of a_byte l) good kept (no_sum b a a_byte (λ h. cc) row)
+value_holds es b e a (one_of words) l at good kept row = give_holds es b e a at (value_of (one_of words) l) good kept (no_sum b a (one_of words) (λ h. cc) row)
+value_holds es b e a an_area l at good kept row = give_holds es b e a at (value_of an_area l) good kept (no_sum b a an_area (λ h. cc) row)
+value_holds es b e a a_file l at good kept row = give_holds es b e a at (value_of a_file l) good kept (no_sum b a a_file (λ h. cc) row)
+
+equals_holds : (es : Entries) (b : Block) (e : Entry) (row : List ℕ × Takes) (l : Lexeme) (at : ℕ) → AreGood es → InMemory b (AreSummed e.given) → InMemory b (TakesSum row) → Holds (breaks.equals_or_value es b e row l at)
+equals_holds es b e row equals at good kept takes = (good, (kept, takes))
+equals_holds es b e row l at good kept takes = value_holds es b e row.0 row.1 l at good kept takes
+
+end_holds : (es : Entries) (b : Block) (e : Entry) (a : List ℕ) (ps : List Part) (o : Option Value) (l : Lexeme) (at : ℕ) → AreGood es → InMemory b (AreSummed e.given) → sum_of_parts ps ≡ o → Holds (breaks.sum_end es b e a ps o l at)
+end_holds es b e a ps (Some v) l at good kept h = comma_holds es b (with_given (record { word = a; value = v; parts = ps }) e) l at good (with_more b e (record { word = a; value = v; parts = ps }) kept (summed b))
+  where
+    summed : (b : Block) → InMemory b (IsSummed (record { word = a; value = v; parts = ps }))
+    summed memory = λ t. h
+    summed segments = tt
+    summed symbols = tt
+end_holds es b e a ps None l at good kept h = tt
+
+sign_holds : (es : Entries) (b : Block) (e : Entry) (a : List ℕ) (ps : List Part) (l : Lexeme) (at : ℕ) → AreGood es → InMemory b (AreSummed e.given) → Holds (breaks.sign_or_end es b e a ps l at)
+sign_holds es b e a ps plus at good kept = (good, kept)
+sign_holds es b e a ps minus at good kept = (good, kept)
+sign_holds es b e a ps l at good kept = end_holds es b e a ps (sum_of_parts ps) l at good kept refl
+
+move_holds : (es : Entries) (p : Place) (l : Lexeme) (at : ℕ) → AreGood es → Keeps p → Holds (breaks.move es p l at)
+move_holds es between_blocks l at good kept = block_holds es l at good
+move_holds es (behind_block_word b) l at good kept = brace_holds es b l at good
+move_holds es (between_entries b) l at good kept = name_holds es b l at good
+move_holds es (behind_name b e) l at good kept = colon_holds es b e l at good kept
+move_holds es (between_attributes b e) l at good kept = attribute_holds es b e l at good kept
+move_holds es (behind_word b e row) l at good kept = equals_holds es b e row l at good kept.0 kept.1
+move_holds es (before_value b e row) l at good kept = value_holds es b e row.0 row.1 l at good kept.0 kept.1
+move_holds es (before_term b e a ps taken) l at good kept = part_holds es b e a ps at (part_of taken at l) good kept
+move_holds es (behind_term b e a ps) l at good kept = sign_holds es b e a ps l at good kept
+move_holds es (behind_value b e) l at good kept = comma_holds es b e l at good kept
+
+reads_good : (bytes : List ℕ) (es : Entries) (p : Place) (at : ℕ) (r : Result Entries Stop) → Reads bytes es p at r → AreGood es → Keeps p → (fs : Entries) → r ≡ Ok fs → AreGood fs
+reads_good bytes _ _ _ _ (next es fs p q at r e k) good kept gs h =
+    let held = subst Holds e (move_holds es p (token bytes at).lexeme (token bytes at).at good kept) in
+    reads_good bytes fs q (token bytes at).behind r k held.0 held.1 gs h
+reads_good bytes _ _ _ _ (ends es fs p at e) good kept gs h = subst AreGood (ok_is fs gs h) (subst Holds e (move_holds es p (token bytes at).lexeme (token bytes at).at good kept))
+reads_good bytes _ _ _ _ (stops es p at f place e) good kept gs h = absurd cc
+
+entries_good : (bytes : List ℕ) (es : Entries) → ReadsText bytes (Ok es) → AreGood es
+entries_good bytes es = by (is_too_long bytes)
+  where
+    by : (x : Bool) → LengthOr x (Ok es) (Reads bytes no_entries between_blocks 0 (Ok es)) → AreGood es
+    by true h = absurd cc
+    by false h = reads_good bytes no_entries between_blocks 0 (Ok es) h tt tt es refl
 
 -- ---- Sums of numbers.
 
 abbrev NoNames : List Part → Type 0
-NoNames ps = AllByRecursion (λ p. is_name p ≡ false) ps
+NoNames ps = AllByRecursion (λ (p : Part). is_some p.number ≡ true) ps
 
 -- the terms of parts without names are their numbers
 record SameSums (ps : List Part) (ts : List Term) : Type 0 where
@@ -219,18 +299,18 @@ record SameSums (ps : List Part) (ts : List Term) : Type 0 where
   pub added : come_to (λ (t : Term). not t.minus) (term_value [] []) ts ≡ come_to (λ (p : Part). not p.minus) (λ (p : Part). unwrap_or p.number 0) ps
   pub taken : come_to (λ (t : Term). t.minus) (term_value [] []) ts ≡ come_to (λ (p : Part). p.minus) (λ (p : Part). unwrap_or p.number 0) ps
 
-same_sums : (bytes : List ℕ) (d : Draft) (ps : List Part) (ts : List Term) → NoNames ps → each (term_of bytes d) ps ≡ Ok ts → SameSums ps ts
-same_sums bytes d [] ts n h = subst (SameSums []) (ok_is {E = Stop} [] ts h) (record { numbers = tt; added = refl; taken = refl })
-same_sums bytes d (p ∷ ps) ts n h = by p.number refl (λ us k. same_sums bytes d ps us n.1 k)
+same_sums : (es : Entries) (ps : List Part) (ts : List Term) → NoNames ps → each (term_from es) ps ≡ Ok ts → SameSums ps ts
+same_sums es [] ts n h = subst (SameSums []) (ok_is {E = Stop} [] ts h) (record { numbers = tt; added = refl; taken = refl })
+same_sums es (p ∷ ps) ts n h = by p.number refl (λ us k. same_sums es ps us n.1 k)
   where
-    by : (o : Option ℕ) → p.number ≡ o → ((us : List Term) → each (term_of bytes d) ps ≡ Ok us → SameSums ps us) → SameSums (p ∷ ps) ts
-    by None e again = let never : true ≡ false = ap (λ o. not (is_some o)) (sym e) ∙ n.0 in cc
+    by : (o : Option ℕ) → p.number ≡ o → ((us : List Term) → each (term_from es) ps ≡ Ok us → SameSums ps us) → SameSums (p ∷ ps) ts
+    by None e again = let never : false ≡ true = ap is_some (sym e) ∙ n.0 in absurd cc
     by (Some m) e again =
         let t : Term = record { minus = p.minus; operand = operand.Number m } in
-        let first : term_of bytes d p ≡ Ok t = rw e refl in
-        let x = and_then (term_of bytes d p) (λ y. each (term_of bytes d) ps >>= (λ ys. Ok (y ∷ ys))) ts h in
+        let first : term_from es p ≡ Ok t = rw e refl in
+        let x = and_then (term_from es p) (λ y. each (term_from es) ps >>= (λ ys. Ok (y ∷ ys))) ts h in
         let same : t ≡ x.0 = ok_is {E = Stop} t x.0 (sym first ∙ x.1) in
-        let rest = and_then (each (term_of bytes d) ps) (λ ys. Ok (x.0 ∷ ys)) ts x.2 in
+        let rest = and_then (each (term_from es) ps) (λ ys. Ok (x.0 ∷ ys)) ts x.2 in
         let more = again rest.0 rest.1 in
         let all : t ∷ rest.0 ≡ ts = ap (λ t. t ∷ rest.0) same ∙ ok_is {E = Stop} (x.0 ∷ rest.0) ts rest.2 in
         let number : m ≡ unwrap_or p.number 0 = ap (λ o. unwrap_or o 0) (sym e) in
@@ -241,90 +321,92 @@ same_sums bytes d (p ∷ ps) ts n h = by p.number refl (λ us k. same_sums bytes
         } in
         subst (SameSums (p ∷ ps)) all good
 
-no_name : (ps : List Part) → NoNames ps → list_any is_name ps ≡ false
+no_name : (ps : List Part) → NoNames ps → list_any (λ (p : Part). not (is_some p.number)) ps ≡ false
 no_name [] n = refl
-no_name (p ∷ ps) n = ap (λ b. b || list_any is_name ps) n.0 ∙ no_name ps n.1
+no_name (p ∷ ps) n = ap (λ b. not b || list_any (λ (p : Part). not (is_some p.number)) ps) n.0 ∙ no_name ps n.1
 
 -- what an attribute's sum comes to, where it has no name
-record IsNumber (bytes : List ℕ) (d : Draft) (a : Attribute) (given : List Given) (ts : List Term) : Type 0 where
+record IsNumber (es : Entries) (a : List ℕ) (e : Entry) (ts : List Term) : Type 0 where
   pub number : ℕ
-  pub given_is : number_given a given ≡ Some number
+  pub given_is : number_for a e ≡ Some number
   pub terms : AreNumbers ts number
 
-find_good : (a : Attribute) (given : List Given) → AreSummed given → list_any (is_of a) given ≡ true → (g : Given) × (find (is_of a) given ≡ Some g) × IsSummed g × (is_of a g ≡ true)
+find_good : (a : List ℕ) (given : List Given) → AreSummed given → is_some (find (λ (g : Given). bytes_eq a g.word) given) ≡ true → (g : Given) × (find (λ (g : Given). bytes_eq a g.word) given ≡ Some g) × IsSummed g × (bytes_eq a g.word ≡ true)
 find_good a [] s h = absurd cc
-find_good a (g ∷ gs) s h = by (is_of a g) refl h (find_good a gs s.1)
+find_good a (g ∷ gs) s h = by (bytes_eq a g.word) refl h (find_good a gs s.1)
   where
-    by : (b : Bool) → is_of a g ≡ b → (b || list_any (is_of a) gs) ≡ true → (list_any (is_of a) gs ≡ true → (x : Given) × (find (is_of a) gs ≡ Some x) × IsSummed x × (is_of a x ≡ true)) → (x : Given) × ((if b then Some g else find (is_of a) gs) ≡ Some x) × IsSummed x × (is_of a x ≡ true)
+    by : (b : Bool) → bytes_eq a g.word ≡ b → is_some (cond b (Some g) (find (λ (g : Given). bytes_eq a g.word) gs)) ≡ true → (is_some (find (λ (g : Given). bytes_eq a g.word) gs) ≡ true → (x : Given) × (find (λ (g : Given). bytes_eq a g.word) gs ≡ Some x) × IsSummed x × (bytes_eq a x.word ≡ true)) → (x : Given) × (cond b (Some g) (find (λ (g : Given). bytes_eq a g.word) gs) ≡ Some x) × IsSummed x × (bytes_eq a x.word ≡ true)
     by true e h again = (g, refl, s.0, e)
     by false e h again = again h
 
-number_of : (bytes : List ℕ) (d : Draft) (a : Attribute) (given : List Given) (ts : List Term) → ((g : Given) → is_of a g ≡ true → takes_sum g.attribute ≡ true) → AreSummed given → has a given ≡ true → NoNames (parts_given a given) → terms_given bytes d a given ≡ Ok ts → IsNumber bytes d a given ts
-unfolding has parts_given value_given
-number_of bytes d a given ts takes summed has_a none h =
-    let g = find_good a given summed has_a in
-    let parts : parts_given a given ≡ g.0.parts = ap (λ o. option_map_or (λ (g : Given). g.parts) o []) g.1 in
-    let had : value_given a given ≡ Some g.0.value = ap (option_map (λ (g : Given). g.value)) g.1 in
-    let sum : sum_value g.0.parts ≡ Some g.0.value = g.2 (takes g.0 g.3) in
+number_of : (es : Entries) (a : List ℕ) (e : Entry) (ts : List Term) → ((g : Given) → bytes_eq a g.word ≡ true → takes_sum g.word ≡ true) → AreSummed e.given → is_given a e ≡ true → NoNames (parts_for a e) → sum_for es a e ≡ Ok ts → IsNumber es a e ts
+number_of es a e ts takes summed has_a none h =
+    let g = find_good a e.given summed has_a in
+    let parts : parts_for a e ≡ g.0.parts = ap (λ o. option_map_or (λ (g : Given). g.parts) o []) g.1 in
+    let had : value_for a e ≡ Some g.0.value = ap (option_map (λ (g : Given). g.value)) g.1 in
+    let sum : sum_of_parts g.0.parts ≡ Some g.0.value = g.2 (takes g.0 g.3) in
     let unnamed : NoNames g.0.parts = subst NoNames parts none in
-    let whole : option_map value.Number (number_of_parts g.0.parts) ≡ Some g.0.value = ap (λ b. if b then Some value.Sum else option_map value.Number (number_of_parts g.0.parts)) (sym (no_name g.0.parts unnamed)) ∙ sum in
-    let same = same_sums bytes d g.0.parts ts unnamed (ap (each (term_of bytes d)) (sym parts) ∙ h) in
-    by g.0.parts g.0.value had (number_of_parts g.0.parts) refl whole same
+    let whole : option_map number (sum_of (λ (p : Part). p.minus) (λ (p : Part). unwrap_or p.number 0) g.0.parts) ≡ Some g.0.value = ap (λ b. if b then Some unknown_sum else option_map number (sum_of (λ (p : Part). p.minus) (λ (p : Part). unwrap_or p.number 0) g.0.parts)) (sym (no_name g.0.parts unnamed)) ∙ sum in
+    let same = same_sums es g.0.parts ts unnamed (ap (each (term_from es)) (sym parts) ∙ h) in
+    by g.0.parts g.0.value had (sum_of (λ (p : Part). p.minus) (λ (p : Part). unwrap_or p.number 0) g.0.parts) refl whole same
   where
-    by : (ps : List Part) (v : Value) → value_given a given ≡ Some v → (o : Option ℕ) → number_of_parts ps ≡ o → option_map value.Number o ≡ Some v → SameSums ps ts → IsNumber bytes d a given ts
-    by ps v e (Some n) f k same =
-        let is : value.Number n ≡ v = cc in
+    by : (ps : List Part) (v : Value) → value_for a e ≡ Some v → (o : Option ℕ) → sum_of (λ (p : Part). p.minus) (λ (p : Part). unwrap_or p.number 0) ps ≡ o → option_map number o ≡ Some v → SameSums ps ts → IsNumber es a e ts
+    by ps v f (Some n) g k same =
+        let is : number n ≡ v = cc in
         record {
           number = n;
-          given_is = ap (option_and_then number_in) e ∙ ap (λ v. number_in v) (sym is);
+          given_is = ap (option_and_then as_number) f ∙ ap (λ v. as_number v) (sym is);
           terms = record {
             numbers = same.numbers;
-            sum = ap (λ m. difference m (come_to (λ (t : Term). t.minus) (term_value [] []) ts)) same.added ∙ ap (difference (come_to (λ (p : Part). not p.minus) (λ (p : Part). unwrap_or p.number 0) ps)) same.taken ∙ f;
+            sum = ap (λ m. difference m (come_to (λ (t : Term). t.minus) (term_value [] []) ts)) same.added ∙ ap (difference (come_to (λ (p : Part). not p.minus) (λ (p : Part). unwrap_or p.number 0) ps)) same.taken ∙ g;
           };
         }
-    by ps v e None f k same = absurd cc
+    by ps v f None g k same = absurd cc
 
-starts_in : (g : Given) → is_of attribute.Start g ≡ true → takes_sum g.attribute ≡ true
-starts_in g h = grind (arith, common_steps)
+starts_in : (g : Given) → bytes_eq (codes "start") g.word ≡ true → takes_sum g.word ≡ true
+starts_in g h = ap (λ b. b || bytes_eq (codes "size") g.word) h
 
-sizes_in : (g : Given) → is_of attribute.Size g ≡ true → takes_sum g.attribute ≡ true
-sizes_in g h = grind (arith, common_steps)
+sizes_in : (g : Given) → bytes_eq (codes "size") g.word ≡ true → takes_sum g.word ≡ true
+sizes_in g h = by (bytes_eq (codes "start") g.word)
+  where
+    by : (b : Bool) → (b || bytes_eq (codes "size") g.word) ≡ true
+    by true = refl
+    by false = h
 
 -- ---- Areas.
 
 -- what an area has at its `;`
-record Ends (given : List Given) : Type 0 where
-  pub start : has attribute.Start given ≡ true
-  pub size : has attribute.Size given ≡ true
-  pub inside : area_end given ≤ 2 ^ 32
+record Ends (e : Entry) : Type 0 where
+  pub start : is_given (codes "start") e ≡ true
+  pub size : is_given (codes "size") e ≡ true
+  pub inside : unwrap_or (number_for (codes "start") e) 0 + unwrap_or (number_for (codes "size") e) 0 ≤ 2 ^ 32
 
-ends_of : (given : List Given) → area_fault given ≡ None → Ends given
-ends_of given h = grind (arith, common_steps)
+ends_of : (e : Entry) → area_closing e ≡ None → Ends e
+ends_of e h = grind (arith, common_steps)
 
-fixed_of : (bytes : List ℕ) (d : Draft) (e : List ℕ × Entry) (a : Area) → IsGood e × HasNoNames e → area_of bytes d e ≡ Ok a → (b : Bounds) × IsFixed a b
-fixed_of bytes d e a q h =
-    let x = and_then (extent_of bytes d e.1.given) (λ x. Ok (area_with bytes e x)) a h in
-    let g = extent_is bytes d e.1.given x.0 x.1 in
-    let made : area_with bytes e x.0 ≡ a = ok_is {E = Stop} (area_with bytes e x.0) a x.2 in
-    let ends = ends_of e.1.given q.0.ends in
-    let start = number_of bytes d attribute.Start e.1.given x.0.0 starts_in q.0.summed ends.start q.1.0 g.start in
-    let size = number_of bytes d attribute.Size e.1.given x.0.1 sizes_in q.0.summed ends.size q.1.1 g.size in
-    let first : unwrap_or (number_given attribute.Start e.1.given) 0 ≡ start.number = ap (λ o. unwrap_or o 0) start.given_is in
-    let second : unwrap_or (number_given attribute.Size e.1.given) 0 ≡ size.number = ap (λ o. unwrap_or o 0) size.given_is in
+fixed_of : (es : Entries) (e : Entry) (a : Area) → IsGood e × HasNoNames e → area_from es e ≡ Ok a → (b : Bounds) × IsFixed a b
+fixed_of es e a q h =
+    let x = and_then (sums_of es e) _ a h in
+    let g = extent_is es e x.0 x.1 in
+    let made = ok_is {E = Stop} _ a x.2 in
+    let ends = ends_of e q.0.ends in
+    let start = number_of es (codes "start") e x.0.0 starts_in q.0.summed ends.start q.1.0 g.start in
+    let size = number_of es (codes "size") e x.0.1 sizes_in q.0.summed ends.size q.1.1 g.size in
+    let first : unwrap_or (number_for (codes "start") e) 0 ≡ start.number = ap (λ o. unwrap_or o 0) start.given_is in
+    let second : unwrap_or (number_for (codes "size") e) 0 ≡ size.number = ap (λ o. unwrap_or o 0) size.given_is in
     let inside : start.number + size.number ≤ 2 ^ 32 = omega (arith, ends.inside) in
     let b : Bounds = record { start = start.number; end = start.number + size.number } in
-    let fixed : IsFixed (area_with bytes e x.0) b = record { size = size.number; starts = start.terms; spans = size.terms; ends = refl; inside = inside } in
-    (b, subst (λ a. IsFixed a b) made fixed)
+    (b, subst (λ a. IsFixed a b) made (record { size = size.number; starts = start.terms; spans = size.terms; ends = refl; inside = inside }))
 
 all_fixed : (areas : List Area) → AllByRecursion (λ a. (b : Bounds) × IsFixed a b) areas → (bounds : List Bounds) × AreFixed areas bounds
 all_fixed [] h = ([], tt)
 all_fixed (a ∷ as') h = let rest = all_fixed as' h.1 in (h.0.0 ∷ rest.0, (h.0.1, rest.1))
 
-both : (es : List (List ℕ × Entry)) → AllByRecursion IsGood es → AllByRecursion HasNoNames es → AllByRecursion (λ e. IsGood e × HasNoNames e) es
+both : (es : List Entry) → AllByRecursion IsGood es → AllByRecursion HasNoNames es → AllByRecursion (λ e. IsGood e × HasNoNames e) es
 both [] g n = tt
 both (e ∷ es) g n = ((g.0, n.0), both es g.1 n.1)
 
 pub no_names_fixed : NoNamesFixed
-no_names_fixed bytes d script h made without =
-    let m = made_of bytes d script made in
-    all_fixed script.areas (each_holds (area_of bytes d) (λ e. IsGood e × HasNoNames e) (λ a. (b : Bounds) × IsFixed a b) (λ e a q k. fixed_of bytes d e a q k) d.areas script.areas (both d.areas (drafts_good bytes d h) without) m.areas)
+no_names_fixed bytes es script h made without =
+    let m = made_of es script made in
+    all_fixed script.areas (each_holds (area_from es) (λ e. IsGood e × HasNoNames e) (λ a. (b : Bounds) × IsFixed a b) (λ e a q k. fixed_of es e a q k) es.areas script.areas (both es.areas (entries_good bytes es (reads_of bytes (Ok es) h)) without) m.areas)

@@ -1,6 +1,6 @@
 -- Areas and their rows, one behind the other.
 use Rattle.std.proofs.lemmas.Grind.{common_steps}
-use Rattle.std.proofs.Common.{◌≡◌, ◌<◌, ℕ, zero, suc, ◌+◌, Bool, true, false, List, [], ◌∷◌, ◌++◌, length, take, drop, get_or, slice_get, slice_set, Some, refl, sym, ap, ◌∙◌, subst, Ok, Err, arith, add-one, ◌≤◌, ◌^◌, map, nat_lt, inl, inr, ◌⊎◌, length-append}
+use Rattle.std.proofs.Common.{◌≡◌, ◌<◌, ℕ, zero, suc, ◌+◌, Bool, true, false, List, [], ◌∷◌, ◌++◌, length, take, drop, get_or, slice_get, slice_set, Some, refl, sym, ap, ◌∙◌, subst, Ok, Err, arith, add-one, ◌≤◌, ◌^◌, map, inl, inr, ◌⊎◌, length-append}
 use Rattle.std.proofs.lemmas.Option.{slice_get-get_or}
 use Rattle.std.specs.Prelude.{Result, if◌then◌else◌}
 use Rattle.script65.specs.declared.placement.PlaceFault.{PlaceFault}
@@ -11,7 +11,6 @@ use Rattle.script65.specs.declared.script.Row.{Row}
 use Rattle.base65.specs.Outcome.{Unless, ◌>>=◌}
 use Rattle.script65.specs.Placing.{is_in, places_in, row_after, rows_from, spots_after, area_place, areas_from, place_of, row_place, rows_exist, standing, unplaced}
 use Rattle.script65.proofs.Eaches.{drop_at, unless_map}
-use Rattle.std.proofs.lemmas.Bool.Decides.{nat_tests}
 use Rattle.script65.specs.declared.script.Script.{Script}
 use Rattle.script65.specs.AreaSums.{Standing, bounds_in, spanned, sum_in, with_start}
 use Rattle.script65.specs.declared.placement.AreaPlace.{AreaPlace}

@@ -1,6 +1,5 @@
 -- Why a script is refused, and why its rows aren't placed.
-use Rattle.std.specs.Prelude.{Bool, Result, Ok, Err, ℕ, true, false, if◌then◌else◌, List, ◌++◌, codes, encode_utf8_all}
-use Rattle.base65.specs.Outcome.{Unless}
+use Rattle.std.specs.Prelude.{Bool, ℕ, true, false, if◌then◌else◌, List, ◌++◌, codes, encode_utf8_all}
 use Rattle.script65.specs.declared.fault.Fault.{Fault}
 use Rattle.script65.specs.declared.fault.Fault.TheVariants.{OutOfMemory, SyntaxError, UnknownAttribute, AttributeTwice, AttributeMissing, NameTwice, NoSuchArea, OutOfRange, Excluded, TooLong, NoSuchName, AmbiguousName}
 use Rattle.script65.specs.declared.fault.Stop.{Stop}
@@ -8,13 +7,6 @@ use Rattle.script65.specs.declared.fault.ScriptFault.{ScriptFault}
 use Rattle.std.specs.Fmt.{decimal}
 use Rattle.script65.specs.declared.placement.PlaceFault.{PlaceFault}
 use Rattle.script65.specs.declared.placement.PlaceFault.TheVariants as place
-
--- ---- What reading answers, over any type of faults, of which some come from outside: from memory.
-
--- what a call answered, seen by view, is so, unless it was refused from outside
-abbrev pub Finds : {E X Y : Type 0} → (E → Bool) → (X → Y) → (Result Y E → Type 0) → Result X E → Type 0
-Finds is_outside view P (Ok x) = P (Ok (view x))
-Finds is_outside view P (Err e) = Unless (is_outside e) (P (Err e))
 
 -- ---- The faults of scripts: their texts, and which of them come from memory.
 
@@ -46,6 +38,10 @@ script_fault_text e =
 abbrev pub is_memory_fault : Fault → Bool
 is_memory_fault OutOfMemory = true
 is_memory_fault _ = false
+
+-- a fault at a place of the text
+abbrev pub stop_at : Fault → ℕ → Stop
+stop_at fault at = record { fault = fault; at = at }
 
 abbrev pub is_outside : Stop → Bool
 is_outside e = is_memory_fault e.fault

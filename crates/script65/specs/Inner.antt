@@ -1,3 +1,4 @@
 -- What only the contracts within the crate cite: definitions in the terms of its code.
+pub mod Reading
 pub mod Standing
 pub mod Tables

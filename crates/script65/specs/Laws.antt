@@ -1,6 +1,7 @@
 -- What holds of every script.
 use Rattle.std.specs.Prelude.{◌≡◌, ◌<◌, ℕ, List, Result, Ok, length, ⊤}
 use Rattle.std.specs.List.{AllByRecursion}
+use Rattle.base65.specs.Own.{IsOwn}
 use Rattle.script65.specs.declared.fault.ScriptFault.{ScriptFault}
 use Rattle.script65.specs.declared.script.Area.{Area}
 use Rattle.script65.specs.declared.script.Operand.{Operand}
@@ -8,11 +9,23 @@ use Rattle.script65.specs.declared.script.Operand.TheVariants as operand
 use Rattle.script65.specs.declared.script.Row.{Row}
 use Rattle.script65.specs.declared.script.Script.{Script}
 use Rattle.script65.specs.declared.script.Term.{Term}
+use Rattle.script65.specs.Faults.{is_script_outside}
 use Rattle.script65.specs.Scripts.{IsScript}
+use Rattle.script65.specs.Tokens.{IsFront, front}
 
 -- a text is one script or has one first fault, at most
 abbrev pub OneReading : Type 0
 OneReading = (bytes : List ℕ) (r q : Result Script ScriptFault) → IsScript bytes r → IsScript bytes q → r ≡ q
+
+-- and one at least, which is no want of memory
+abbrev pub SomeReadingLaw : Type 0
+SomeReadingLaw =
+    (bytes : List ℕ) →
+    (r : Result Script ScriptFault) × IsScript bytes r × IsOwn is_script_outside r
+
+-- the token at the front of a text is the longest there is
+abbrev pub LongestTokens : Type 0
+LongestTokens = (here : List ℕ) → IsFront here (front here).0 (front here).1
 
 -- ---- What is named is there.
 

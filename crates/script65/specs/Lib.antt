@@ -1,11 +1,13 @@
 pub mod AreaSums
+pub mod Attributes
+pub mod Breaks
+pub mod Entries
 pub mod Faults
 pub mod Grammar
 pub mod Inner
 pub mod Laws
-pub mod Naming
+pub mod Places
 pub mod Placing
 pub mod PlacingLaws
 pub mod Scripts
 pub mod Tokens
-pub mod Words

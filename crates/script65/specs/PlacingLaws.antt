@@ -1,13 +1,12 @@
 -- What holds of every placement.
-use Rattle.std.specs.Prelude.{◌≡◌, ◌≤◌, ◌<◌, ℕ, ◌+◌, ◌^◌, true, false, not, ◌==◌, if◌then◌else◌, List, [], ◌∷◌, ◌++◌, map, Some, Result, Ok, length, slice_get, ⊤}
+use Rattle.std.specs.Prelude.{◌≡◌, ◌≤◌, ◌<◌, ℕ, ◌+◌, ◌^◌, true, false, not, is_some, codes, List, [], ◌∷◌, ◌++◌, map, Some, Result, Ok, length, slice_get, ⊤}
 use Rattle.std.specs.List.{AllByRecursion, list_all}
 use Rattle.base65.specs.Outcome.{◌>>=◌}
-use Rattle.script65.specs.Grammar.{Draft, Drafts, is_name}
-use Rattle.script65.specs.Naming.{parts_given}
-use Rattle.script65.specs.Scripts.{script_of}
+use Rattle.base65.specs.Own.{IsOwn}
+use Rattle.script65.specs.Entries.{Entries, Entry, Part, parts_for}
+use Rattle.script65.specs.Scripts.{HasEntries, script_from}
 use Rattle.script65.specs.AreaSums.{come_to, is_known, sum_by, term_value}
-use Rattle.script65.specs.declared.reading.table.Entry.{Entry}
-use Rattle.script65.specs.declared.reading.words.Attribute.TheVariants as attribute
+use Rattle.script65.specs.Faults.{is_place_outside}
 use Rattle.script65.specs.declared.script.Area.{Area}
 use Rattle.script65.specs.declared.script.Operand.TheVariants as operand
 use Rattle.script65.specs.declared.script.Row.{Row}
@@ -20,13 +19,16 @@ use Rattle.script65.specs.declared.placement.RowPlace.{RowPlace}
 use Rattle.script65.specs.declared.placement.SegmentNeed.{SegmentNeed}
 use Rattle.script65.specs.declared.placing.site.Bounds.{Bounds}
 use Rattle.script65.specs.declared.placing.site.Spot.{Spot}
+use Rattle.script65.specs.Places.{IsPlaced, address_in}
 use Rattle.script65.specs.Placing.{area_place, has_row, is_in, place_of, row_place, rows_exist, rows_from, size_of, unplaced}
 
--- ---- Rows in their areas.
+-- ---- There is one.
 
--- where a row stands in the area at a place of the script, in which it runs or loads
-abbrev pub address_in : ℕ → Row → RowPlace → ℕ
-address_in k r p = if r.run == k then p.run else p.load
+-- a script has a placement for any needs, or else a first fault, which isn't want of memory
+abbrev pub SomePlacement : Type 0
+SomePlacement = (script : Script) (needs : List SegmentNeed) → (r : Result Placement PlaceFault) × IsPlaced script needs r × IsOwn is_place_outside r
+
+-- ---- Rows in their areas.
 
 -- of two rows of an area the later begins where the earlier ends, or behind it
 abbrev pub IsBehind : ℕ → Row → RowPlace → Row → RowPlace → Type 0
@@ -120,16 +122,17 @@ OnlyNumbers =
     place_of script needs ≡ (rows_exist script.rows needs >>= λ u. fixed_from 0 script.rows script.areas bounds [] (map (unplaced needs) script.rows))
 
 -- an area of a text has no name in its sums
-abbrev pub HasNoNames : List ℕ × Entry → Type 0
+abbrev pub HasNoNames : Entry → Type 0
 HasNoNames e =
-    AllByRecursion (λ p. is_name p ≡ false) (parts_given attribute.Start e.1.given)
-    × AllByRecursion (λ p. is_name p ≡ false) (parts_given attribute.Size e.1.given)
+    AllByRecursion (λ (p : Part). is_some p.number ≡ true) (parts_for (codes "start") e)
+    × AllByRecursion (λ (p : Part). is_some p.number ≡ true) (parts_for (codes "size") e)
 
--- a script in whose text no sum has a name has such areas: its sums were looked at as they were read
+-- a script in whose text no sum has a name has such areas: sums were looked at as they were read
 abbrev pub NoNamesFixed : Type 0
 NoNamesFixed =
-    (bytes : List ℕ) (d : Draft) (script : Script) → Drafts bytes (Ok d) → script_of bytes d ≡ Ok script →
-    AllByRecursion HasNoNames d.areas → (bounds : List Bounds) × AreFixed script.areas bounds
+    (bytes : List ℕ) (es : Entries) (script : Script) →
+    HasEntries bytes (Ok es) → script_from es ≡ Ok script →
+    AllByRecursion HasNoNames es.areas → (bounds : List Bounds) × AreFixed script.areas bounds
 
 -- ---- What a placement rests on.
 

@@ -1,186 +1,288 @@
--- The script that the entries of a text make, or the first fault behind its last byte.
-use Rattle.std.specs.Prelude.{◌≡◌, ℕ, Bool, false, ◌==◌, ◌&&◌, ◌||◌, not, nat_le, is_some, unwrap_or, if◌then◌else◌, List, [], map, length, slice_get, position, Option, Some, None, Result, Ok, Err}
-use Rattle.std.specs.Option.{option_map_or, option_and_then}
+-- What entries say, the faults behind the last byte, and the script of a text or its first fault.
+use Rattle.std.specs.Prelude.{◌≡◌, ℕ, Bool, true, false, ◌+◌, ◌==◌, ◌&&◌, ◌||◌, not, nat_lt, is_some, unwrap_or, if◌then◌else◌, List, [], codes, map, length, take, find, slice_get, position, Option, Some, None, Result, Ok, Err}
+use Rattle.std.specs.List.{count_by}
+use Rattle.std.specs.Option.{option_map, option_map_or, option_and_then, option_or}
 use Rattle.std.specs.Str.{bytes_eq}
+use Rattle.base65.specs.Outcome.{◌>>=◌, each}
 use Rattle.script65.specs.declared.fault.Fault.{Fault}
-use Rattle.script65.specs.declared.fault.Fault.TheVariants.{NoSuchArea, Excluded}
-use Rattle.script65.specs.declared.fault.Stop.{Stop}
+use Rattle.script65.specs.declared.fault.Fault.TheVariants.{NoSuchArea, Excluded, TooLong, NoSuchName, AmbiguousName}
 use Rattle.script65.specs.declared.fault.ScriptFault.{ScriptFault}
 use Rattle.script65.specs.declared.script.Access.{Access}
 use Rattle.script65.specs.declared.script.Access.TheVariants.{ReadWrite}
 use Rattle.script65.specs.declared.script.Area.{Area}
 use Rattle.script65.specs.declared.script.AreaFile.{AreaFile}
 use Rattle.script65.specs.declared.script.AreaFile.TheVariants.{Output, Named}
+use Rattle.script65.specs.declared.script.AreaPart.{AreaPart}
+use Rattle.script65.specs.declared.script.AreaPart.TheVariants as area_part
 use Rattle.script65.specs.declared.script.Begin.{Begin}
 use Rattle.script65.specs.declared.script.Begin.TheVariants as begin
+use Rattle.script65.specs.declared.script.Operand.{Operand}
+use Rattle.script65.specs.declared.script.Operand.TheVariants as operand
 use Rattle.script65.specs.declared.script.Row.{Row}
+use Rattle.script65.specs.declared.script.RowPart.{RowPart}
+use Rattle.script65.specs.declared.script.RowPart.TheVariants as row_part
 use Rattle.script65.specs.declared.script.Script.{Script}
 use Rattle.script65.specs.declared.script.Symbol.{Symbol}
 use Rattle.script65.specs.declared.script.SymbolKind.{SymbolKind}
 use Rattle.script65.specs.declared.script.SymbolKind.TheVariants as kind
 use Rattle.script65.specs.declared.script.Term.{Term}
-use Rattle.script65.specs.declared.reading.words.Attribute.{Attribute}
-use Rattle.script65.specs.declared.reading.words.Attribute.TheVariants as attribute
-use Rattle.script65.specs.declared.reading.words.Role.{Role}
-use Rattle.script65.specs.declared.reading.words.Role.TheVariants as role
-use Rattle.script65.specs.declared.reading.words.Value.{Value}
-use Rattle.script65.specs.declared.reading.words.Value.TheVariants as value
-use Rattle.script65.specs.declared.reading.words.Given.{Given}
-use Rattle.script65.specs.declared.reading.table.Entry.{Entry}
+use Rattle.script65.specs.AreaSums.{area_word, row_word, part_name}
+use Rattle.script65.specs.Attributes.{Role, exported, weak, Value, flag, byte, meant, access, area, file, output_file}
+use Rattle.script65.specs.declared.fault.Stop.{Stop}
+use Rattle.script65.specs.Faults.{names, stop_at}
+use Rattle.script65.specs.Breaks.{Breaks, between_blocks}
+use Rattle.script65.specs.Entries.{Part, Given, Entry, Entries, no_entries, number_for, parts_for, role_for, value_for}
+use Rattle.script65.specs.Grammar.{IsWritten}
 use Rattle.script65.specs.Placing.{is_read_only, is_written}
-use Rattle.script65.specs.Faults.{names}
-use Rattle.base65.specs.Outcome.{◌>>=◌, each}
-use Rattle.script65.specs.Tokens.{text, token_at, line_of}
-use Rattle.script65.specs.Grammar.{Draft, Drafts, value_given, number_given, role_given, text_of, Then}
-use Rattle.script65.specs.Naming.{extent_of}
+use Rattle.script65.specs.Tokens.{token, written}
 
-abbrev pub flag_in : Value → Option Bool
-flag_in (value.Flag b) = Some b
-flag_in _ = None
+-- ---- What is given, or else the default.
 
-abbrev pub access_in : Value → Option Access
-access_in (value.Access a) = Some a
-access_in _ = None
+abbrev pub as_flag : Value → Option Bool
+as_flag (meant (flag b)) = Some b
+as_flag _ = None
 
-abbrev pub byte_in : Value → Option ℕ
-byte_in (value.Byte n) = Some n
-byte_in _ = None
+abbrev pub as_byte : Value → Option ℕ
+as_byte (byte n) = Some n
+as_byte _ = None
 
--- the bytes of a name that stands in the text
-abbrev pub name_in : List ℕ → Value → Option (List ℕ)
-name_in bytes (value.Name from to) = Some (text bytes from to)
-name_in bytes _ = None
+abbrev pub as_access : Value → Option Access
+as_access (meant (access a)) = Some a
+as_access _ = None
 
-abbrev pub file_in : List ℕ → Value → AreaFile
-file_in bytes (value.File from to) = Named (text bytes from to)
-file_in bytes _ = Output
+abbrev pub as_file : Value → Option AreaFile
+as_file (file name) = Some (Named name)
+as_file output_file = Some Output
+as_file _ = None
 
-abbrev pub flag_given : Attribute → List Given → Bool
-flag_given a given = unwrap_or (option_and_then flag_in (value_given a given)) false
+abbrev pub as_area : Value → Option (List ℕ)
+as_area (area name) = Some name
+as_area _ = None
 
-abbrev pub access_given : List Given → Access
-access_given given = unwrap_or (option_and_then access_in (value_given attribute.Type given)) ReadWrite
+-- what is given for an attribute, read so, or else the default
+abbrev pub given_or : {A : Type 0} → A → (Value → Option A) → List ℕ → Entry → A
+given_or default read word e = unwrap_or (option_and_then read (value_for word e)) default
 
-abbrev pub name_given : List ℕ → Attribute → List Given → Option (List ℕ)
-name_given bytes a given = option_and_then (name_in bytes) (value_given a given)
+abbrev pub number_or : ℕ → List ℕ → Entry → ℕ
+number_or default word e = unwrap_or (number_for word e) default
 
--- the number given, or another where there is none
-abbrev pub number_or : ℕ → Attribute → List Given → ℕ
-number_or other a given = unwrap_or (number_given a given) other
+-- the byte of gaps
+abbrev pub fill_or : ℕ → Entry → ℕ
+fill_or default e = given_or default as_byte (codes "fillval") e
 
--- the byte given, or another where there is none
-abbrev pub byte_or : ℕ → List Given → ℕ
-byte_or other given = unwrap_or (option_and_then byte_in (value_given attribute.FillValue given)) other
+-- what may be in a segment or an area: `rw` where it isn't given
+abbrev pub access_of : Entry → Access
+access_of e = given_or ReadWrite as_access (codes "type") e
 
-abbrev pub area_file : List ℕ → List Given → AreaFile
-area_file bytes given = option_map_or (file_in bytes) (value_given attribute.File given) Output
+-- the linker's output, where it isn't given
+abbrev pub file_of : Entry → AreaFile
+file_of e = given_or Output as_file (codes "file") e
 
-abbrev pub area_with : List ℕ → List ℕ × Entry → List Term × List Term → Area
-area_with bytes e extent = record {
-  name = e.0;
-  start = extent.0;
-  size = extent.1;
-  read_only = is_read_only (access_given e.1.given);
-  file = area_file bytes e.1.given;
-  fill = flag_given attribute.Fill e.1.given;
-  fill_value = byte_or 0 e.1.given;
-  define = flag_given attribute.Define e.1.given;
-}
+-- no, where it isn't given
+abbrev pub says_yes : List ℕ → Entry → Bool
+says_yes word e = given_or false as_flag word e
 
--- an area, or the first fault of a name in its sums
-abbrev pub area_of : List ℕ → Draft → List ℕ × Entry → Result Area Stop
-area_of bytes d e = extent_of bytes d e.1.given >>= λ x. Ok (area_with bytes e x)
+-- ---- Names in sums.
 
-abbrev pub kind_of : Role → ℕ → SymbolKind
-kind_of role.Export n = kind.Export n
-kind_of role.Weak n = kind.Weak n
-kind_of role.Import n = kind.Import
+-- an export of this name; a weak symbol is none, and neither is an import
+abbrev pub export_value : Option Role → ℕ → Option Operand
+export_value (Some exported) n = Some (operand.Number n)
+export_value _ n = None
 
-abbrev pub symbol_of : List ℕ × Entry → Symbol
-symbol_of e = record {
-  name = e.0;
-  kind = kind_of (unwrap_or (role_given e.1.given) role.Import) (number_or 0 attribute.Value e.1.given);
-}
+abbrev pub entry_of : List ℕ → List Entry → Option Entry
+entry_of name es =
+    option_and_then (slice_get es) (position (λ (e : Entry). bytes_eq name e.name) es)
 
--- rows
+abbrev pub as_export : List Entry → List ℕ → Option Operand
+as_export symbols name =
+    option_and_then
+    (λ (e : Entry). export_value (role_for e) (number_or 0 (codes "value") e))
+    (entry_of name symbols)
 
--- a fault at a row's name
-abbrev pub stop_at : {A : Type 0} → Fault → Entry → Result A Stop
-stop_at fault e = Err (record { fault = fault; at = e.at })
+-- the place of the entry N for which this is `__N_PART__`
+abbrev pub part_place : List Entry → List ℕ → List ℕ → Option ℕ
+part_place es part name = position (λ (e : Entry). bytes_eq name (part_name e.name part)) es
 
--- the place of the area of a name
-abbrev pub area_index : Draft → List ℕ → Option ℕ
-area_index d name = position (λ e. bytes_eq name e.0) d.areas
+abbrev pub as_area_part : List Entry → List ℕ → AreaPart → Option Operand
+as_area_part areas name part =
+    option_map (λ k. operand.Area k part) (part_place areas (area_word part) name)
 
-abbrev pub found : Option ℕ → Entry → Result ℕ Stop
-found (Some place) e = Ok place
-found None e = stop_at NoSuchArea e
+abbrev pub as_row_part : List Entry → List ℕ → RowPart → Option Operand
+as_row_part rows name part =
+    option_map (λ k. operand.Row k part) (part_place rows (row_word part) name)
 
--- the place of the area that an attribute names, or another where it names none
-abbrev pub area_given : List ℕ → Draft → Attribute → Option ℕ → Entry → Result ℕ Stop
-area_given bytes d a other e = found (option_map_or (area_index d) (name_given bytes a e.given) other) e
+abbrev pub first_of_three : Option Operand → Option Operand → Option Operand → Option Operand
+first_of_three a b c = option_or a (option_or b c)
 
--- `start` and `offset`, or two areas for what is not written
-abbrev pub is_excluded : List Given → ℕ → ℕ → Bool
-is_excluded given load run =
-    (is_some (number_given attribute.Start given) && is_some (number_given attribute.Offset given))
-    || (not (is_written (access_given given)) && not (load == run))
+-- what a name stands for: an export, a part of an area or a part of a row, and only one of these
+abbrev pub one_of_three : Option Operand → Option Operand → Option Operand → Result Operand Fault
+one_of_three None None None = Err NoSuchName
+one_of_three (Some o) None None = Ok o
+one_of_three None (Some o) None = Ok o
+one_of_three None None (Some o) = Ok o
+one_of_three _ _ _ = Err AmbiguousName
 
-abbrev pub begin_of : Option ℕ → Option ℕ → Begin
-begin_of (Some start) offset = begin.Start start
-begin_of None (Some offset) = begin.Offset offset
-begin_of None None = begin.Aligned
+abbrev pub operand_for : Entries → Option ℕ → List ℕ → Result Operand Fault
+operand_for es (Some n) name = Ok (operand.Number n)
+operand_for es None name =
+    one_of_three
+    (as_export es.symbols name)
+    (first_of_three
+    (as_area_part es.areas name area_part.Start)
+    (as_area_part es.areas name area_part.Size)
+    (as_area_part es.areas name area_part.Last))
+    (first_of_three
+    (as_row_part es.rows name row_part.Load)
+    (as_row_part es.rows name row_part.Run)
+    (as_row_part es.rows name row_part.Size))
 
-abbrev pub area_fill : Draft → ℕ → ℕ
-area_fill d place = option_map_or (λ (e : List ℕ × Entry). byte_or 0 e.1.given) (slice_get d.areas place) 0
+-- a term, or the fault of its name, at that
+abbrev pub term_or_fault : Part → Result Operand Fault → Result Term Stop
+term_or_fault p (Ok o) = Ok (record { minus = p.minus; operand = o })
+term_or_fault p (Err fault) = Err (stop_at fault p.at)
 
-abbrev pub row_with : List ℕ × Entry → ℕ → ℕ → ℕ → Row
-row_with e load run fill = record {
-  name = e.0;
+abbrev pub term_from : Entries → Part → Result Term Stop
+term_from es p = term_or_fault p (operand_for es p.number p.name)
+
+abbrev pub sum_for : Entries → List ℕ → Entry → Result (List Term) Stop
+sum_for es word e = each (term_from es) (parts_for word e)
+
+-- ---- Areas.
+
+-- whether `start` stands before `size` in the text
+abbrev pub is_start_first : Entry → Bool
+is_start_first e =
+    option_map_or (λ (g : Given). bytes_eq (codes "start") g.word)
+    (find (λ (g : Given). bytes_eq (codes "start") g.word || bytes_eq (codes "size") g.word) e.given)
+    true
+
+-- the sums of an area, or the first fault of a name in them, in the order of the text
+abbrev pub sums_of : Entries → Entry → Result (List Term × List Term) Stop
+sums_of es e =
+    if is_start_first e
+    then (sum_for es (codes "start") e
+    >>= λ start. sum_for es (codes "size") e
+    >>= λ size. Ok (start, size))
+    else (sum_for es (codes "size") e
+    >>= λ size. sum_for es (codes "start") e
+    >>= λ start. Ok (start, size))
+
+abbrev pub area_from : Entries → Entry → Result Area Stop
+area_from es e = sums_of es e >>= λ sums. Ok (record {
+  name = e.name;
+  start = sums.0;
+  size = sums.1;
+  read_only = is_read_only (access_of e);
+  file = file_of e;
+  fill = says_yes (codes "fill") e;
+  fill_value = fill_or 0 e;
+  define = says_yes (codes "define") e;
+})
+
+-- ---- Rows.
+
+-- the place of the area of a name, or a fault at the row's name
+abbrev pub area_place : Entry → Option ℕ → Result ℕ Stop
+area_place e (Some k) = Ok k
+area_place e None = Err (stop_at NoSuchArea e.at)
+
+abbrev pub place_named : List ℕ → List Entry → Option ℕ
+place_named name areas = position (λ (e : Entry). bytes_eq name e.name) areas
+
+-- the place of the area that an attribute names, or another where it isn't given
+abbrev pub area_for : Entries → List ℕ → Option ℕ → Entry → Result ℕ Stop
+area_for es word other e =
+    area_place e
+    (option_map_or (λ name. place_named name es.areas) (option_and_then as_area (value_for word e)) other)
+
+-- `start` and `offset` exclude each other, and so do two areas and a segment that isn't written
+abbrev pub exclude_each_other : Entry → ℕ → ℕ → Bool
+exclude_each_other e load run =
+    (is_some (number_for (codes "start") e) && is_some (number_for (codes "offset") e))
+    || (not (is_written (access_of e)) && not (load == run))
+
+abbrev pub begin_at : Option ℕ → Option ℕ → Begin
+begin_at (Some start) offset = begin.Start start
+begin_at None (Some offset) = begin.Offset offset
+begin_at None None = begin.Aligned
+
+abbrev pub row_at : Entries → Entry → ℕ → ℕ → Row
+row_at es e load run = record {
+  name = e.name;
   load = load;
   run = run;
-  access = access_given e.1.given;
-  align = number_or 1 attribute.Align e.1.given;
-  align_load = number_or 1 attribute.AlignLoad e.1.given;
-  begin = begin_of (number_given attribute.Start e.1.given) (number_given attribute.Offset e.1.given);
-  fill_value = byte_or fill e.1.given;
-  define = flag_given attribute.Define e.1.given;
-  optional = flag_given attribute.Optional e.1.given;
+  access = access_of e;
+  align = number_or 1 (codes "align") e;
+  align_load = number_or 1 (codes "align_load") e;
+  begin = begin_at (number_for (codes "start") e) (number_for (codes "offset") e);
+  fill_value = fill_or (option_map_or (fill_or 0) (slice_get es.areas load) 0) e;
+  define = says_yes (codes "define") e;
+  optional = says_yes (codes "optional") e;
 }
 
--- the areas of a row, which there are and which its attributes don't exclude
-abbrev pub row_areas : List ℕ → Draft → Entry → Result (ℕ × ℕ) Stop
-row_areas bytes d e = do
-  load ← area_given bytes d attribute.Load None e
-  run ← area_given bytes d attribute.Run (Some load) e
-  if is_excluded e.given load run then stop_at Excluded e else Ok (load, run)
+abbrev pub row_from : Entries → Entry → Result Row Stop
+row_from es e = do
+  load ← area_for es (codes "load") None e
+  run ← area_for es (codes "run") (Some load) e
+  if exclude_each_other e load run then Err (stop_at Excluded e.at) else Ok (row_at es e load run)
 
-abbrev pub row_of : List ℕ → Draft → List ℕ × Entry → Result Row Stop
-row_of bytes d e = row_areas bytes d e.1 >>= λ a. Ok (row_with e a.0 a.1 (area_fill d a.0))
+-- ---- Symbols.
 
--- the script of what was read, or the first fault of a name in a sum, or else that of a row
-abbrev pub script_of : List ℕ → Draft → Result Script Stop
-script_of bytes d =
-    each (area_of bytes d) d.areas
-    >>= λ areas. each (row_of bytes d) d.rows
-    >>= λ rows. Ok (record { areas = areas; rows = rows; symbols = map symbol_of d.symbols })
+abbrev pub symbol_kind : Option Role → ℕ → SymbolKind
+symbol_kind (Some exported) n = kind.Export n
+symbol_kind (Some weak) n = kind.Weak n
+symbol_kind _ n = kind.Import
 
--- the script of a text, or its first fault
-abbrev pub Reads : List ℕ → Result Script Stop → Type 0
-Reads bytes = Then (Drafts bytes) (script_of bytes)
+abbrev pub symbol_from : Entry → Symbol
+symbol_from e = record {
+  name = e.name;
+  kind = symbol_kind (role_for e) (number_or 0 (codes "value") e);
+}
 
--- the token at a place of the text, which may be none
-abbrev pub name_at : List ℕ → ℕ → List ℕ
-name_at bytes at = if nat_le at (length bytes) then text_of bytes (token_at bytes at) else []
+-- ---- Scripts.
 
--- a fault with its line in place of its place, and of some with the name that they concern
-abbrev pub fault_at : List ℕ → Stop → ScriptFault
-fault_at bytes e = record { fault = e.fault; line = line_of bytes e.at; name = if names e.fault then name_at bytes e.at else [] }
+-- what entries say, or the first fault behind the last byte: of a name in a sum, or else of a row
+abbrev pub script_from : Entries → Result Script Stop
+script_from es = do
+  areas ← each (area_from es) es.areas
+  rows ← each (row_from es) es.rows
+  Ok (record { areas = areas; rows = rows; symbols = map symbol_from es.symbols })
+
+-- a script has at most so many bytes
+abbrev pub is_too_long : List ℕ → Bool
+is_too_long bytes = nat_lt 1048576 (length bytes)
+
+-- these are the entries that the grammar writes, or this is the first place where it breaks
+abbrev pub IsRead : List ℕ → Result Entries Stop → Type 0
+IsRead bytes (Ok es) = IsWritten bytes es
+IsRead bytes (Err f) = Breaks bytes no_entries between_blocks 0 f
+
+-- the fault of a script that is too long stands at its first byte
+abbrev pub LengthOr : Bool → Result Entries Stop → Type 0 → Type 0
+LengthOr true r P = r ≡ Err (stop_at TooLong 0)
+LengthOr false r P = P
+
+-- the entries of a text, or its first fault before its last byte
+abbrev pub HasEntries : List ℕ → Result Entries Stop → Type 0
+HasEntries bytes r = LengthOr (is_too_long bytes) r (IsRead bytes r)
+
+-- the line of a place, the first being 1
+abbrev pub line_at : List ℕ → ℕ → ℕ
+line_at bytes at = 1 + count_by (λ b. b == 10) (take at bytes)
+
+-- a fault with the line of its place, and, if it is one of a name, with the token there
+abbrev pub fault_in : List ℕ → Stop → ScriptFault
+fault_in bytes f = record {
+  fault = f.fault;
+  line = line_at bytes f.at;
+  name = if names f.fault then written bytes (token bytes f.at) else [];
+}
 
 abbrev pub with_line : List ℕ → Result Script Stop → Result Script ScriptFault
 with_line bytes (Ok s) = Ok s
-with_line bytes (Err e) = Err (fault_at bytes e)
+with_line bytes (Err f) = Err (fault_in bytes f)
 
 -- the script of a text, or its first fault with the line of that
 abbrev pub IsScript : List ℕ → Result Script ScriptFault → Type 0
-IsScript bytes r = (q : Result Script Stop) × Reads bytes q × (r ≡ with_line bytes q)
+IsScript bytes r =
+    (q : Result Entries Stop) × HasEntries bytes q × (r ≡ with_line bytes (q >>= script_from))

@@ -1,97 +1,122 @@
 -- The tokens of scripts.
-use Rattle.std.specs.Prelude.{ℕ, Bool, ◌==◌, ◌&&◌, List, [], ◌∷◌, Option, Some, None, if◌then◌else◌, true, false, ◌||◌, ◌+◌, ◌-◌, not, nat_le, length, take, drop}
-use Rattle.std.specs.List.{prefix_len, count_by, list_any}
+use Rattle.std.specs.Prelude.{◌≡◌, ◌≤◌, ℕ, Bool, true, false, ◌==◌, ◌&&◌, ◌||◌, not, ◌+◌, ◌-◌, List, [], ◌∷◌, ◌++◌, codes, Some, length, take, drop, find, if◌then◌else◌}
+use Rattle.std.specs.List.{list_all, list_any, take_while}
+use Rattle.std.specs.Option.{option_map_or}
 use Rattle.std.specs.Char.{is_ascii_alphabetic, is_ascii_digit, is_ascii_hexdigit}
 use Rattle.std.specs.Str.{is_utf8}
 use Rattle.base65.specs.Digit.{digits}
-use Rattle.script65.specs.declared.reading.tokens.Form.{Form}
-use Rattle.script65.specs.declared.reading.tokens.Form.TheVariants as form
-use Rattle.script65.specs.declared.reading.tokens.Token.{Token}
+-- A token: an identifier; a number, by its value if that is below 2 ^ 32; a string, by its text;
+-- `%O`; or a mark. The end of a text, and a byte with which no token begins, count as tokens, too.
+pub use Rattle.script65.specs.declared.reading.tokens.Lexeme.{Lexeme}
+pub use Rattle.script65.specs.declared.reading.tokens.Lexeme.TheVariants.{Word as word, Number as numeral, Text as string, Output as output, Colon as colon, Semicolon as semicolon, Comma as comma, Equals as equals, Plus as plus, Minus as minus, Open as brace, Close as end_brace, End as the_end, Bad as none}
+-- a token, the place of its first byte, and the place behind its last
+pub use Rattle.script65.specs.declared.reading.tokens.Token.{Token}
 
--- the value of a number's text: hex digits behind a `$`, else decimal digits
-abbrev pub number_of : List ℕ → Option ℕ
-number_of [] = None
-number_of (b ∷ bs) = if b == 36 then digits 16 bs else digits 10 (b ∷ bs)
+-- ---- Bytes.
 
 -- a letter or `_`
 abbrev pub is_letter : ℕ → Bool
 is_letter b = is_ascii_alphabetic b || b == 95
 
 -- a letter, `_` or a digit
-abbrev pub is_word : ℕ → Bool
-is_word b = is_letter b || is_ascii_digit b
+abbrev pub is_word_byte : ℕ → Bool
+is_word_byte b = is_letter b || is_ascii_digit b
+
+-- a byte of a string's text: neither `"` nor LF
+abbrev pub is_string_byte : ℕ → Bool
+is_string_byte b = not (b == 34 || b == 10)
 
 -- a blank, a tab, a CR or an LF
 abbrev pub is_blank : ℕ → Bool
 is_blank b = b == 32 || b == 9 || b == 13 || b == 10
 
--- how many bytes of blanks and comments are at the front; the flag tells that a comment has begun
-abbrev pub gap_len : Bool → List ℕ → ℕ
-gap_len comment [] = 0
-gap_len true (b ∷ bs) = 1 + gap_len (not (b == 10)) bs
-gap_len false (b ∷ bs) = if b == 35 then 1 + gap_len true bs else if is_blank b then 1 + gap_len false bs else 0
+-- ---- The token at a place.
 
--- a byte of a string's text: neither `"` nor LF
-abbrev pub is_inside : ℕ → Bool
-is_inside b = not (b == 34 || b == 10)
+-- How many bytes of blanks and comments stand at the front, where a comment has begun or not. It is
+-- from a `#` to the end of the line.
+abbrev pub gap : Bool → List ℕ → ℕ
+gap comment [] = 0
+gap true (b ∷ bs) = 1 + gap (not (b == 10)) bs
+gap false (b ∷ bs) = if b == 35 then 1 + gap true bs else if is_blank b then 1 + gap false bs else 0
 
--- whether the bytes begin with a `"`
-abbrev pub is_closed : List ℕ → Bool
-is_closed [] = false
-is_closed (b ∷ bs) = b == 34
+-- whether a text begins with this byte
+abbrev pub begins_with : ℕ → List ℕ → Bool
+begins_with b [] = false
+begins_with b (c ∷ cs) = c == b
 
--- the text of a string: UTF-8 without `%`
-unfoldable pub is_text : List ℕ → Bool
-is_text bs = is_utf8 bs && not (list_any (λ b. b == 37) bs)
+-- a text between two `"`, the first of which stands before these bytes: UTF-8 without `%`
+abbrev pub string_behind : List ℕ → List ℕ → Lexeme × ℕ
+string_behind text bs =
+    if begins_with 34 (drop (length text) bs) && is_utf8 text && not (list_any (λ b. b == 37) text)
+    then (string text, 2 + length text)
+    else (none, 1)
 
--- behind a `"`: a text of n bytes and a `"`
-unfoldable pub string_of : ℕ → List ℕ → Form × ℕ
-string_of n bs = if is_closed (drop n bs) && is_text (take n bs) then (form.Text, 2 + n) else (form.Bad, 1)
+-- hex digits behind a `$`
+abbrev pub hex_behind : List ℕ → Lexeme × ℕ
+hex_behind [] = (none, 1)
+hex_behind (d ∷ ds) = (numeral (digits 16 (d ∷ ds)), 1 + length (d ∷ ds))
 
--- behind a `%`
-abbrev pub output_of : List ℕ → Form × ℕ
-output_of [] = (form.Bad, 1)
-output_of (b ∷ bs) = if b == 79 then (form.Output, 2) else (form.Bad, 1)
+abbrev pub marks : List (ℕ × Lexeme)
+marks =
+    (58, colon) ∷ (59, semicolon) ∷ (44, comma) ∷ (61, equals)
+    ∷ (43, plus) ∷ (45, minus) ∷ (123, brace) ∷ (125, end_brace) ∷ []
 
--- behind a `$`
-abbrev pub hex_of : List ℕ → Form × ℕ
-hex_of bs = if prefix_len is_ascii_hexdigit bs == 0 then (form.Bad, 1) else (form.Number, 1 + prefix_len is_ascii_hexdigit bs)
+abbrev pub mark : ℕ → Lexeme
+mark b = option_map_or (λ (m : ℕ × Lexeme). m.1) (find (λ (m : ℕ × Lexeme). b == m.0) marks) none
 
--- a byte that is a token by itself
-abbrev pub mark_of : ℕ → Form
-mark_of b =
-    if b == 58 then form.Colon
-    else if b == 59 then form.Semicolon
-    else if b == 44 then form.Comma
-    else if b == 61 then form.Equals
-    else if b == 43 then form.Plus
-    else if b == 45 then form.Minus
-    else if b == 123 then form.Open
-    else if b == 125 then form.Close
-    else form.Bad
+-- a letter or `_`, and as many letters, `_` and digits as follow
+abbrev pub word_behind : ℕ → List ℕ → Lexeme × ℕ
+word_behind b bs = (word (b ∷ bs), 1 + length bs)
 
--- the form and length of the token at the front
-abbrev pub front : List ℕ → Form × ℕ
-front [] = (form.End, 0)
+-- as many decimal digits as there are
+abbrev pub decimal_behind : ℕ → List ℕ → Lexeme × ℕ
+decimal_behind b bs = (numeral (digits 10 (b ∷ bs)), 1 + length bs)
+
+-- the token at the front of a text, and of how many bytes it is: as many as can be
+abbrev pub front : List ℕ → Lexeme × ℕ
+front [] = (the_end, 0)
 front (b ∷ bs) =
-    if is_letter b then (form.Word, 1 + prefix_len is_word bs)
-    else if is_ascii_digit b then (form.Number, 1 + prefix_len is_ascii_digit bs)
-    else if b == 36 then hex_of bs
-    else if b == 34 then string_of (prefix_len is_inside bs) bs
-    else if b == 37 then output_of bs
-    else (mark_of b, 1)
+    if is_letter b then word_behind b (take_while is_word_byte bs)
+    else if is_ascii_digit b then decimal_behind b (take_while is_ascii_digit bs)
+    else if b == 36 then hex_behind (take_while is_ascii_hexdigit bs)
+    else if b == 34 then string_behind (take_while is_string_byte bs) bs
+    else if b == 37 then (if begins_with 79 bs then (output, 2) else (none, 1))
+    else (mark b, 1)
 
 abbrev pub token_from : List ℕ → ℕ → Token
-token_from bytes from = record { form = (front (drop from bytes)).0; from = from; to = from + (front (drop from bytes)).1 }
+token_from bytes at = record {
+  lexeme = (front (drop at bytes)).0;
+  at = at;
+  behind = at + (front (drop at bytes)).1;
+}
 
--- the token at a place, or the next behind it
-unfoldable pub token_at : List ℕ → ℕ → Token
-token_at bytes at = token_from bytes (at + gap_len false (drop at bytes))
+-- the token at a place or the next behind it
+unfoldable pub token : List ℕ → ℕ → Token
+token bytes place = token_from bytes (place + gap false (drop place bytes))
 
--- the bytes between two places
-unfoldable pub text : List ℕ → ℕ → ℕ → List ℕ
-text bytes from to = if nat_le from to && nat_le to (length bytes) then take (to - from) (drop from bytes) else []
+-- the bytes of a token
+abbrev pub written : List ℕ → Token → List ℕ
+written bytes t = take (t.behind - t.at) (drop t.at bytes)
 
--- the line of a place, the first being 1
-abbrev pub line_of : List ℕ → ℕ → ℕ
-line_of bytes at = 1 + count_by (λ b. b == 10) (take at bytes)
+-- ---- Texts that are tokens.
+
+-- each token as it is written
+pub data Spells : List ℕ → Lexeme → Type 0 where
+  spells_word : (b : ℕ) (bs : List ℕ) → is_letter b ≡ true → list_all is_word_byte bs ≡ true → Spells (b ∷ bs) (word (b ∷ bs))
+  spells_decimal : (b : ℕ) (bs : List ℕ) → list_all is_ascii_digit (b ∷ bs) ≡ true → Spells (b ∷ bs) (numeral (digits 10 (b ∷ bs)))
+  spells_hex : (b : ℕ) (bs : List ℕ) → list_all is_ascii_hexdigit (b ∷ bs) ≡ true → Spells (36 ∷ b ∷ bs) (numeral (digits 16 (b ∷ bs)))
+  spells_string : (text : List ℕ) → list_all is_string_byte text ≡ true → is_utf8 text ≡ true → list_any (λ b. b == 37) text ≡ false → Spells (34 ∷ (text ++ 34 ∷ [])) (string text)
+  spells_output : Spells (codes "%O") output
+  spells_mark : (b : ℕ) (l : Lexeme) → find (λ (m : ℕ × Lexeme). b == m.0) marks ≡ Some (b, l) → Spells (b ∷ []) l
+
+-- of the texts at the front that are tokens this is the longest
+pub record IsLongest (here : List ℕ) (l : Lexeme) (n : ℕ) : Type 0 where
+  pub within : n ≤ length here
+  pub spells : Spells (take n here) l
+  pub longest : (m : ℕ) (k : Lexeme) → m ≤ length here → Spells (take m here) k → m ≤ n
+
+-- the end, or no token at the front, or the longest one
+abbrev pub IsFront : List ℕ → Lexeme → ℕ → Type 0
+IsFront here the_end n = here ≡ []
+IsFront here none n = (m : ℕ) (k : Lexeme) → m ≤ length here → Spells (take m here) k → ⊥
+IsFront here l n = IsLongest here l n

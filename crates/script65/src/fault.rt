@@ -110,6 +110,17 @@ pub struct Stop {
     pub at: usize,
 }
 
+impl Stop {
+    ghost use Rattle.std.specs.Prelude.{◌≡◌};
+    ghost use Rattle.script65.specs.Faults.{stop_at};
+
+    pub fn new(fault: Fault, at: usize) -> Self
+        ensures { result ≡ stop_at fault at }
+    {
+        Stop { fault, at }
+    }
+}
+
 impl From<AllocError> for Stop {
     ghost from_gives = { λ _ e. e.fault ≡ OutOfMemory };
 

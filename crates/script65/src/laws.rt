@@ -1,16 +1,37 @@
 //! What holds of every script and of every placement by one.
 
-ghost use Rattle.script65.specs.Laws.{AllThere, OneReading};
-ghost use Rattle.script65.specs.PlacingLaws.{AllPlaced, AllWithin, NoNamesFixed, NoOverlap, OnlyNumbers, RowsThere, SameNeeds, SumsHold};
+ghost use Rattle.script65.specs.Laws.{AllThere, LongestTokens, OneReading, SomeReadingLaw};
+ghost use Rattle.script65.specs.Places.{OnePlacement};
+ghost use Rattle.script65.specs.PlacingLaws.{AllPlaced, AllWithin, NoNamesFixed, NoOverlap, OnlyNumbers, RowsThere, SameNeeds, SomePlacement, SumsHold};
 
 /// A text is one script or has one first fault, at most.
 pub fn one_reading()
     ensures { OneReading }
 {}
 
+/// And it is one at least: no text lacks a script and a fault of its own.
+pub fn some_reading()
+    ensures { SomeReadingLaw }
+{}
+
+/// The token at the front of a text is the longest text there that is a token.
+pub fn longest_tokens()
+    ensures { LongestTokens }
+{}
+
 /// Areas and rows that a script's rows and sums name are there.
 pub fn all_there()
     ensures { AllThere }
+{}
+
+/// A script has a placement for any needs, or else a first fault of its own.
+pub fn some_placement()
+    ensures { SomePlacement }
+{}
+
+/// A script has one placement for its needs, or else one first fault: that which the function of a cursor gives.
+pub fn one_placement()
+    ensures { OnePlacement }
 {}
 
 /// No two rows of an area overlap.

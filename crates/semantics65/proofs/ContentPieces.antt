@@ -1,11 +1,7 @@
 -- The content of a statement is what its pieces come to.
-use borrow.Author.Rules.{rules}
 use Rattle.std.proofs.lemmas.Grind.{common_steps}
-use Rattle.std.proofs.Common.{arith, ◌≡◌, ◌∙◌, ℕ, List, [], ◌∷◌, ◌++◌, map, Bool, true, false, Option, Some, None, refl, sym, ap}
-use Rattle.std.specs.Prelude.{Result, Ok, Err, if◌then◌else◌}
-use Rattle.std.specs.List.{flat_map}
-use Rattle.std.proofs.lemmas.List.{append-nil}
-use Rattle.syntax65.specs.Opcodes.{opcode_of}
+use Rattle.std.proofs.Common.{arith, ◌≡◌, ◌∙◌, ℕ, List, [], ◌∷◌, ◌++◌, map, Bool, true, false, Option, refl, sym, ap}
+use Rattle.std.specs.Prelude.{Result, Ok, Err}
 use Rattle.base65.specs.Outcome.{◌>>=◌, each}
 use Rattle.syntax65.specs.Trees.{Tree}
 use Rattle.syntax65.specs.declared.lexing.tokens.AddressSize.{AddressSize}
@@ -13,20 +9,16 @@ use Rattle.syntax65.specs.declared.instructions.names.Mnemonic.{Mnemonic}
 use Rattle.object65.specs.Form.{Form}
 use Rattle.object65.specs.declared.object.Width.{Width}
 use Rattle.object65.specs.declared.object.Action.{Action}
-use Rattle.semantics65.specs.Contents.{Content, Part, Declaration, ForcedImport, content_of, decided, each_of, export_said, import_fault, instruction_parts, item_part, opcode_part, operand_form, operand_part, operand_parts, operand_tree, stored, telling}
+use Rattle.semantics65.specs.Contents.{Content, Part, Declaration, ForcedImport, content_of, decided, each_of, export_said, import_fault, instruction_parts, item_part, operand_parts}
 use Rattle.ast65.specs.declared.fault.AsmFault.{AsmFault}
 use Rattle.ast65.specs.declared.language.Item.{Item}
 use Rattle.ast65.specs.declared.language.Operand.{Operand}
 use Rattle.ast65.specs.declared.language.Statement.{Statement}
 use Rattle.ast65.specs.declared.language.Statement.TheVariants.{Constant, Instruction, Values, Import, Export, Global, ForceImport, Assert}
-use Rattle.ast65.specs.declared.language.Item.TheVariants.{Value, Text}
 use Rattle.syntax65.specs.declared.place.Place.{Place}
 use Rattle.semantics65.specs.Symbols.{Laid, asks_section, Symbols, defined, named}
 use Rattle.semantics65.specs.declared.laid.Settled.{Settled}
-use Rattle.semantics65.specs.declared.laid.Settled.TheVariants.{Unsettled, InMode, FilledWith, FromByte}
 use Rattle.semantics65.specs.declared.laid.Context.{Context}
-use Rattle.semantics65.specs.Norms.{norm_of, width_of}
-use Rattle.semantics65.specs.Reading.{PlacedFault, at_place}
 use Rattle.semantics65.specs.Machine.{Finished}
 use Rattle.semantics65.specs.Module.{asserted, assertion_warnings, asserted_by, contents_from, failed, has_content, sound_from, Made, Piece, absent_of, as_part, as_said, demanded, equated, exported, given, imported, instruction_pieces, item_piece, made_of, operand, operand_pieces, pieces_of, used, valued}
 use Rattle.semantics65.specs.Module as p

@@ -1,24 +1,22 @@
 -- Contents by their entries, and what is found one behind the other.
-use borrow.Author.Rules.{rules}
-use Rattle.std.proofs.Common.{◌≡◌, ◌∙◌, ℕ, Bool, true, false, cond, nat_eq, List, [], ◌∷◌, ◌++◌, map, refl, sym, ap, suc, length, arith, append_assoc}
+use Rattle.std.proofs.Common.{◌≡◌, ◌∙◌, ℕ, Bool, true, false, cond, nat_eq, List, [], ◌∷◌, ◌++◌, map, refl, sym, ap, arith, append_assoc}
 use Rattle.std.specs.Prelude.{filter_map, slice_get, Result, Ok, Err}
 use Rattle.std.specs.List.{filter, flat_map}
 use Rattle.std.proofs.Math.Path.{fun_ext}
 use Rattle.std.proofs.lemmas.Grind.{common_steps, flat_map-append}
 use Rattle.std.proofs.lemmas.List.{append-nil, map-append}
-use Rattle.std.proofs.lemmas.List.Elements.{filter-append}
 use Rattle.object65.specs.declared.object.Object.{Object}
 use Rattle.object65.specs.declared.object.Origin.{Origin}
 use Rattle.syntax65.specs.declared.place.Place.{Place}
 use Rattle.semantics65.specs.Contents.{Content, Part, Declaration, asking, put, telling}
 use Rattle.semantics65.specs.declared.contents.Segment.{Segment}
 use Rattle.semantics65.specs.Numbering.{all_joined, all_said, assert_files, assert_of, content_imports, export_files, exports_among, fragments_of, in_files, name_of, names_once, object_with, once, part_files, part_imports, parts_in, said_imports, segment_name, segment_power, segments_asked}
-use Rattle.semantics65.specs.Machine.{AreAlike, Finished, Slot, Fixup, awaited, before_it, filled, holds, resolved, awaited_in}
+use Rattle.semantics65.specs.Machine.{AreAlike, Finished, Slot, before_it, resolved}
 use Rattle.base65.specs.Outcome.{◌>>=◌}
 use Rattle.ast65.specs.declared.fault.AsmFault.{AsmFault}
 use Rattle.semantics65.specs.Symbols.{Symbols}
 use Rattle.semantics65.specs.Reading.{PlacedFault}
-use Rattle.semantics65.specs.Module.{Made, made_of}
+use Rattle.semantics65.specs.Module.{Made}
 
 -- ---- Contents by their entries: what decides their object.
 
@@ -256,46 +254,35 @@ after_nothing {A = A} a = grind (arith, common_steps, append-nil)
 pub after_after : {A : Type 0} (a b c : Finished A) → after (after a b) c ≡ after a (after b c)
 after_after {A = A} a b c = grind (arith, common_steps, append_assoc)
 
--- ---- What waits.
+-- ---- Slots, one behind the other.
 
 -- a piece where it stands
 abbrev pub placed : {A : Type 0} → Place → (Made → List A) → Result Made AsmFault → Finished A
 placed place f (Ok m) = record { found = Ok (f m); warned = m.warning }
 placed place f (Err e) = record { found = Err (record { place = place; fault = e }); warned = [] }
 
-before_after : (place : Place) (r : Result Made AsmFault) (b : Finished Content) → before_it place r b ≡ after (placed place (λ m. m.content ∷ []) r) b
-before_after place x1 b = grind (arith, common_steps)
+-- one slot
+abbrev pub alone : Result Made PlacedFault → Finished Content
+alone (Ok m) = record { found = Ok (m.content ∷ []); warned = m.warning }
+alone (Err e) = record { found = Err e; warned = [] }
 
-pub resolved_append : (y : Symbols) (ws vs : List Fixup) → resolved y (ws ++ vs) ≡ after (resolved y ws) (resolved y vs)
-resolved_append y [] vs = sym (nothing_after (resolved y vs))
-resolved_append y (w ∷ ws) vs = grind (arith, common_steps, (resolved_append y ws vs), before_after, after_after)
+before_after : (r : Result Made PlacedFault) (b : Finished Content) → before_it r b ≡ after (alone r) b
+before_after x1 b = grind (arith, common_steps)
 
-resolved_length : (y : Symbols) (ws : List Fixup) (cs : List Content) → (resolved y ws).found ≡ Ok cs → length cs ≡ length ws
-resolved_length y [] cs h = (let same : [] ≡ cs = cc in ap length (sym same))
-resolved_length y (w ∷ ws) cs h = grind (arith, common_steps, (resolved_length y ws))
-
--- ---- Slots that are filled.
-
-pub filled_append : (olds news : List Slot) (cs ds : List Content) → awaited_in olds ≡ length cs → filled (olds ++ news) (cs ++ ds) ≡ filled olds cs ++ filled news ds
-filled_append [] news [] ds h = refl
-filled_append [] news (c ∷ cs) ds h = absurd cc
-filled_append (holds b ∷ olds) news cs ds h = ap (λ bs. b ∷ bs) (filled_append olds news cs ds h)
-filled_append (awaited ∷ olds) news [] ds h = absurd cc
-filled_append (awaited ∷ olds) news (c ∷ cs) ds h = ap (λ bs. c ∷ bs) (filled_append olds news cs ds (omega (arith, h)))
-
-entries_filled : (olds news : List Slot) (cs ds : List Content) → awaited_in olds ≡ length cs → all_entries (filled (olds ++ news) (cs ++ ds)) ≡ all_entries (filled olds cs) ++ all_entries (filled news ds)
-entries_filled olds news cs ds h = ap all_entries (filled_append olds news cs ds h) ∙ flat_map-append entries_of (filled olds cs) (filled news ds)
+pub resolved_append : (y : Symbols) (xs ys : List Slot) → resolved y (xs ++ ys) ≡ after (resolved y xs) (resolved y ys)
+resolved_append y [] ys = sym (nothing_after (resolved y ys))
+resolved_append y (x ∷ xs) ys = grind (arith, common_steps, (resolved_append y xs ys), before_after, after_after)
 
 -- contents that were found, as entries
 abbrev pub as_entries : Finished Content → Finished Entry
 as_entries r = record { found = r.found >>= (λ cs. Ok (all_entries cs)); warned = r.warned }
 
+entries_after : (a b : Finished Content) → as_entries (after a b) ≡ after (as_entries a) (as_entries b)
+entries_after a b = grind (arith, common_steps, flat_map-append)
+
 -- what slots come to
-abbrev pub slots_filled : List Slot → Finished Content → Finished Content
-slots_filled slots r = record { found = r.found >>= (λ cs. Ok (filled slots cs)); warned = r.warned }
+abbrev pub come : Symbols → List Slot → Finished Entry
+come y slots = as_entries (resolved y slots)
 
-abbrev pub come : Symbols → List Slot → List Fixup → Finished Entry
-come y slots ws = as_entries (slots_filled slots (resolved y ws))
-
-pub come_append : (y : Symbols) (olds news : List Slot) (ws vs : List Fixup) → awaited_in olds ≡ length ws → come y (olds ++ news) (ws ++ vs) ≡ after (come y olds ws) (come y news vs)
-come_append y olds news ws vs count = grind (arith, common_steps, resolved_append, resolved_length, entries_filled)
+pub come_append : (y : Symbols) (olds news : List Slot) → come y (olds ++ news) ≡ after (come y olds) (come y news)
+come_append y olds news = ap as_entries (resolved_append y olds news) ∙ entries_after (resolved y olds) (resolved y news)

@@ -1,5 +1,14 @@
 pub mod ContentPieces
 pub mod Entries
+pub mod FitContents
+pub mod FitForms
+pub mod FitItems
+pub mod FitKeys
+pub mod FitLayouts
+pub mod FitObjects
+pub mod FitStatements
+pub mod FitSteps
+pub mod FitTokens
 pub mod NamedItems
 pub mod NamedLines
 pub mod NamedSteps
@@ -7,6 +16,10 @@ pub mod OneLayouts
 pub mod Passes
 pub mod Resolving
 pub mod Segments
+pub mod SomeContents
+pub mod SomeForms
+pub mod SomeLayouts
+pub mod SomeLines
 pub mod SoundContents
 pub mod SoundForms
 pub mod SoundLayouts

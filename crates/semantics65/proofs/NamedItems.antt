@@ -1,17 +1,14 @@
 -- The lines that are left hold names alone, and no more macros are called than lines were taken.
-use borrow.Author.Rules.{rules}
 use Rattle.std.proofs.lemmas.Grind.{common_steps}
-use Rattle.std.proofs.Common.{◌≡◌, ◌∙◌, ℕ, zero, suc, ◌+◌, ◌≤◌, Bool, true, false, List, [], ◌∷◌, ◌++◌, length, map, Option, Some, None, refl, sym, ap, subst, arith}
-use Rattle.std.specs.Prelude.{Result, Ok, Err, nat_le, if◌then◌else◌, ⊤}
+use Rattle.std.proofs.Common.{◌≡◌, ℕ, zero, suc, ◌+◌, ◌≤◌, Bool, true, false, List, [], ◌∷◌, ◌++◌, map, Option, Some, None, refl, ap, subst, arith}
+use Rattle.std.specs.Prelude.{Result, Ok, Err, if◌then◌else◌, ⊤}
 use Rattle.std.specs.List.{AllByRecursion}
-use Rattle.syntax65.specs.Tokens.{Lexeme, IsRead}
-use Rattle.syntax65.specs.declared.lexing.tokens.LexFault.{LexFault}
+use Rattle.syntax65.specs.Tokens.{Lexeme}
 use Rattle.syntax65.specs.declared.fault.ExpandFault.{ExpandFault}
-use Rattle.syntax65.specs.declared.fault.ExpandFault.TheVariants.{LineTooLong}
 use Rattle.syntax65.specs.declared.place.Place.{Place}
 use Rattle.expand65.specs.Blocks.{Block, a_fault, a_mark, a_refusal, the_last, one_more, is_kept, with_line, Whole}
 use Rattle.expand65.specs.declared.blocks.BlockKind.{BlockKind}
-use Rattle.expand65.specs.Lines.{numbered, localised, outside_macro, turns, Item, written, played, labelled, branch, mark, Left, left, Mark, Stop, come_back, in_turn, repeating, Replacing, replaced, token_limit, IsOpened, Taken, Takes, TakesFrom, lexed, reached, taken_as}
+use Rattle.expand65.specs.Lines.{numbered, localised, outside_macro, turns, Item, written, played, labelled, branch, mark, Left, left, Stop, come_back, in_turn, repeating, Replacing, IsOpened, Takes, TakesFrom, reached, taken_as}
 use Rattle.semantics65.proofs.Segments.{all_more}
 use Rattle.semantics65.proofs.NamedLines.{AreAllFit, Each, IsReplacingFit, replaced_fit, with_locals_fit, AreFit, IsBase, read_fit}
 use Rattle.semantics65.proofs.SoundForms.{all_append}

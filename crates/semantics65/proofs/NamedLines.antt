@@ -1,12 +1,11 @@
 -- Identifiers that expansion gives are names that objects can hold.
-use borrow.Author.Rules.{rules}
 use Rattle.std.proofs.lemmas.Grind.{common_steps}
 use Rattle.syntax65.specs.declared.lexing.tokens.TokenKind.TheVariants as token
-use Rattle.std.proofs.Common.{◌≡◌, ◌∙◌, ℕ, zero, suc, ◌+◌, ◌≤◌, Bool, true, false, nat_lt, List, [], ◌∷◌, ◌++◌, length, take, drop, Option, None, refl, sym, subst, arith, append_assoc, ◌-◌, map, Some, cond}
-use Rattle.std.specs.Prelude.{Ok, codes, decimal, ◌&&◌, ◌||◌, ◌==◌, ⊤, slice_get, unwrap_or, position, if◌then◌else◌}
+use Rattle.std.proofs.Common.{◌≡◌, ◌∙◌, ℕ, zero, suc, ◌+◌, ◌≤◌, Bool, true, false, nat_lt, List, [], ◌∷◌, ◌++◌, length, take, drop, Option, None, refl, sym, subst, arith, append_assoc, map, Some}
+use Rattle.std.specs.Prelude.{Ok, codes, decimal, ◌&&◌, ◌||◌, ◌==◌, ⊤, slice_get, unwrap_or, if◌then◌else◌}
 use Rattle.std.specs.Char.{is_ascii_digit}
 use Rattle.std.specs.List.{AllByRecursion, list_all, list_any}
-use Rattle.std.specs.Str.{all_ascii_digits, bytes_eq}
+use Rattle.std.specs.Str.{all_ascii_digits}
 use Rattle.std.proofs.lemmas.Bool.Decides.{nat_tests}
 use Rattle.std.proofs.lemmas.Fmt.{digits_decimal, length-decimal-le}
 use Rattle.std.proofs.lemmas.List.{length-append}
@@ -18,14 +17,13 @@ use Rattle.syntax65.specs.declared.lexing.tokens.LexFault.{LexFault}
 use Rattle.syntax65.specs.declared.lexing.tokens.TokenKind.{TokenKind}
 use Rattle.object65.proofs.Goods.{and, left, right}
 use Rattle.object65.specs.Objects.{is_name, is_printed}
-use Rattle.expand65.specs.Lines.{line_limit, own_token, all_local, with_local, with_locals, Replacing, argument_at, is_count_word, replaced, stand_in}
-use Rattle.expand65.specs.Macros.{is_made, new_names, unmade, arguments_of, braces_behind, is_braced, parts_within, put_in_first, unbraced}
+use Rattle.expand65.specs.Lines.{line_limit, own_token, all_local, with_local, with_locals, Replacing, argument_at, replaced, stand_in}
+use Rattle.expand65.specs.Macros.{is_made, new_names, unmade, arguments_of, braces_behind, parts_within, put_in_first, unbraced}
 use Rattle.semantics65.specs.Numbering.{AreNamed, IsNamed}
 use Rattle.semantics65.proofs.Sounding.{tokens_named}
 use Rattle.std.specs.Map.{lookup}
 use Rattle.std.specs.Option.{option_or}
-use Rattle.syntax65.specs.Expressions.{is_reserved}
-use Rattle.expand65.specs.Fronts.{is_comma, name_in, names_from, ◌>=>◌}
+use Rattle.expand65.specs.Fronts.{name_in, names_from, ◌>=>◌}
 use Rattle.semantics65.proofs.SoundForms.{all_append}
 
 -- ---- Identifiers that expansion gives are names that objects can hold: those of lines, and those that it makes.

@@ -1,14 +1,11 @@
 -- What expansion gives holds names alone, whatever step it comes from.
-use borrow.Author.Rules.{rules}
 use Rattle.std.proofs.lemmas.Grind.{common_steps}
-use Rattle.std.proofs.Common.{◌≡◌, ℕ, zero, suc, ◌+◌, ◌≤◌, Bool, true, false, List, [], ◌∷◌, ◌++◌, length, map, take, drop, Option, Some, None, sym, subst, arith}
-use Rattle.std.specs.Prelude.{Result, Ok, Err, ◌==◌, nat_le, if◌then◌else◌, ⊤}
+use Rattle.std.proofs.Common.{◌≡◌, ℕ, zero, suc, ◌+◌, ◌≤◌, Bool, true, false, List, [], ◌∷◌, ◌++◌, length, map, drop, Option, Some, None, sym, subst, arith}
+use Rattle.std.specs.Prelude.{Result, Ok, Err, nat_le, if◌then◌else◌, ⊤}
 use Rattle.std.specs.List.{AllByRecursion}
-use Rattle.std.specs.Str.{bytes_eq}
 use Rattle.base65.specs.Store.{Files}
 use Rattle.syntax65.specs.Tokens.{Lexeme}
 use Rattle.syntax65.specs.declared.lexing.tokens.TokenKind.{TokenKind}
-use Rattle.syntax65.specs.declared.lexing.tokens.TokenKind.TheVariants as token
 use Rattle.expand65.specs.declared.fronts.Directive.{Directive}
 use Rattle.expand65.specs.declared.fronts.Directive.TheVariants.{Macro, EndMacro, ExitMacro, Local, Repeat, EndRepeat, If, ElseIf, Else, EndIf, Include, Error, End}
 use Rattle.syntax65.specs.declared.fault.ExpandFault.{ExpandFault}
@@ -18,15 +15,15 @@ use Rattle.syntax65.specs.Trees.{Tree}
 use Rattle.syntax65.specs.declared.expressions.words.ExprFault.{ExprFault}
 use Rattle.expand65.specs.declared.fronts.Test.{Test}
 use Rattle.expand65.specs.declared.fronts.Test.TheVariants.{True}
-use Rattle.expand65.specs.Macros.{arguments_of, called, called_or_given, counted, defined, entered, exit_macro, exited, given_to, header_of, local_line, local_named, macro_at, macro_of, mark_from, new_names, ordinary, repeated, repeat_of}
-use Rattle.expand65.specs.Blocks.{Block, at_elseif, at_else, at_end, Whole}
+use Rattle.expand65.specs.Macros.{called, counted, defined, entered, exit_macro, exited, given_to, header_of, local_line, macro_at, macro_of, mark_from, ordinary, repeated, repeat_of}
+use Rattle.expand65.specs.Blocks.{Block, Whole}
 use Rattle.expand65.specs.declared.blocks.BlockKind.TheVariants as kind
 use Rattle.expand65.specs.State.{decided, else_line, ended_if, found, if_alone, if_line, Meaning, State, Stated, label, plain, Step, leads, parses, decides, takes, takes_block, searches, Stepped, goes, gives, ends, stops, unless_refused, unless_stopped, with_conditions, with_items, with_left}
 use Rattle.expand65.specs.Expansion.{Leads, Next, Reaches, further, given, ended, stopped, statement, nothing, fault as at_fault, acted, at_mark, unless_mislabelled, directed, first_file, first_state, include_file, included, last_condition, not_opened, split, step_behind, step_from, IsStep}
-use Rattle.expand65.specs.Fronts.{front_directive, is_mislabelled, label_len, line_directive, string_of, understood}
-use Rattle.expand65.specs.Lines.{numbered, outside_macro, turns, Item, written, played, labelled, branch, mark, Left, left, Mark, Stop, come_back, innermost, marks, repeating, Definition, line_limit, lines_of, nesting_limit, Taken, Takes}
-use Rattle.semantics65.proofs.NamedItems.{AreItemsFit, AreLines, IsBlockFit, IsItemFit, IsOutside, block_fit, lines_in, localised_fit, localised_rests, numbered_lines, outside_fit, none_taken, played_lines, rests, rests_append, taken_fit, turns_lines}
-use Rattle.semantics65.proofs.NamedLines.{AreAllFit, Each, IsReplacingFit, arguments_fit, lookup_each, new_names_fit, AreFit, IsBase, fit_drop, fit_take}
+use Rattle.expand65.specs.Fronts.{front_directive, label_len, line_directive, string_of, understood}
+use Rattle.expand65.specs.Lines.{outside_macro, turns, Item, written, played, labelled, branch, mark, Left, Mark, Stop, repeating, Definition, line_limit, Taken, Takes}
+use Rattle.semantics65.proofs.NamedItems.{AreItemsFit, AreLines, IsBlockFit, IsOutside, block_fit, lines_in, localised_fit, localised_rests, numbered_lines, outside_fit, none_taken, played_lines, rests, rests_append, taken_fit, turns_lines}
+use Rattle.semantics65.proofs.NamedLines.{AreAllFit, Each, IsReplacingFit, arguments_fit, lookup_each, new_names_fit, AreFit, fit_drop, fit_take}
 use Rattle.semantics65.proofs.SoundForms.{all_append}
 
 -- ---- States.

@@ -1,5 +1,4 @@
 -- A source is laid in one way, and one kind of states stands for another.
-use borrow.Author.Rules.{rules}
 use Rattle.std.proofs.lemmas.Grind.{common_steps}
 use Rattle.expand65.specs.State as expand
 use Rattle.std.proofs.Common.{arith, ◌≡◌, List, [], ◌∷◌, Option, Some, None, refl, sym, subst, ◌∙◌, ap}

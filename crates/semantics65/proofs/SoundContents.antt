@@ -1,13 +1,9 @@
 -- The contents of sound statements.
-use borrow.Author.Rules.{rules}
 use Rattle.std.proofs.lemmas.Grind.{common_steps}
-use Rattle.std.proofs.Common.{◌≡◌, ◌∙◌, ℕ, suc, ◌+◌, ◌<◌, Bool, true, false, cond, nat_eq, refl, sym, ap, subst, arith, List, [], ◌∷◌, ◌++◌, length, map, take, slice_get, Some, Result, Ok, Err}
-use Rattle.std.specs.Prelude.{⊤, IfOk, ◌||◌, sum_by, if◌then◌else◌}
-use Rattle.std.specs.List.{AllByRecursion, list_any, filter, flat_map}
+use Rattle.std.proofs.Common.{◌≡◌, ◌∙◌, ℕ, suc, ◌<◌, Bool, true, false, nat_eq, refl, sym, ap, subst, arith, List, [], ◌∷◌, ◌++◌, length, take, slice_get, Some, Result, Ok}
+use Rattle.std.specs.Prelude.{⊤, IfOk, sum_by, if◌then◌else◌}
+use Rattle.std.specs.List.{AllByRecursion, list_any, flat_map}
 use Rattle.std.specs.Str.{bytes_eq}
-use Rattle.std.proofs.lemmas.Bool.Decides.{nat_tests}
-use Rattle.std.proofs.lemmas.List.Folds.{list_any-append}
-use Rattle.std.proofs.lemmas.List.Quantifiers.{position-Some}
 use Rattle.std.proofs.lemmas.List.Sums.{sum_by-append, sum_by-cons}
 use Rattle.base65.specs.Outcome.{◌>>=◌}
 use Rattle.object65.specs.Objects.{are_names, is_name}
@@ -18,7 +14,6 @@ use Rattle.semantics65.specs.Reading.{at_place}
 use Rattle.syntax65.specs.declared.place.Place.{Place}
 use Rattle.semantics65.specs.Symbols.{Laid, asks_section, Symbols, imported, imports_of, symbols_of, with_new}
 use Rattle.ast65.specs.declared.language.Statement.{Statement}
-use Rattle.ast65.specs.declared.language.Statement.TheVariants as statement
 use Rattle.semantics65.specs.Machine.{SoundContents}
 use Rattle.semantics65.specs.Module.{contents_from}
 use Rattle.semantics65.specs.Numbering.{once, parts_in, section_keys, segments_asked, IsMeasured, IsSound, IsSoundContent, part_len, statements_in}

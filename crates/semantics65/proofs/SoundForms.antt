@@ -1,21 +1,17 @@
 -- The forms of expressions by the symbol table of sound statements.
 use borrow.Author.Rules.{rules}
 use Rattle.std.proofs.lemmas.Grind.{common_steps}
-use Rattle.object65.specs.declared.folding.FormFault.TheVariants as fault
 use Rattle.syntax65.specs.Trees as tree
-use Rattle.std.proofs.Common.{◌≡◌, ℕ, Bool, true, false, nat_eq, nat_le, refl, Option, Some, None, Ok, Err, zero, suc, subst, arith, List, [], ◌∷◌, ◌++◌, ◌+◌, length, take, slice_get}
-use Rattle.std.specs.Prelude.{⊤, ℤ, ◌-ℤ◌, IfOk, Result, if◌then◌else◌, ◌||◌, ◌-◌}
-use Rattle.base65.specs.Values.{value2, wrapped}
+use Rattle.std.proofs.Common.{◌≡◌, ℕ, Bool, true, false, refl, Option, Some, None, Ok, zero, suc, subst, arith, List, [], ◌∷◌, ◌++◌, length, take, slice_get}
+use Rattle.std.specs.Prelude.{⊤, IfOk, Result, ◌||◌}
 use Rattle.base65.specs.declared.values.Op1.{Op1}
-use Rattle.base65.specs.declared.values.Op1.TheVariants.{Plus}
 use Rattle.base65.specs.declared.values.Op2.{Op2}
-use Rattle.base65.specs.declared.values.Op2.TheVariants.{Add, Subtract}
 use Rattle.object65.specs.declared.folding.FormFault.{FormFault}
-use Rattle.object65.specs.Folding.{fold1, fold2, fold_any, fold_difference, fold_prefix, fold_sum, limited, literal, node_limit}
-use Rattle.object65.specs.Form.{Form, lit, sec, imp, prefix, binary, nodes}
+use Rattle.object65.specs.Folding.{fold1, fold2}
+use Rattle.object65.specs.Form.{Form, lit, sec, imp, prefix, binary}
 use Rattle.object65.specs.Laws.{IsFolded}
 use Rattle.object65.proofs.Foldings.{normal_law}
-use Rattle.semantics65.specs.Norms.{folded, defined_form, form_by, form_of_definition, form_of_meaning, form_of_value, norm, norm_of}
+use Rattle.semantics65.specs.Norms.{folded, defined_form, form_by, form_of_meaning, form_of_value, norm, norm_of}
 use Rattle.std.specs.List.{AllByRecursion, flat_map}
 use Rattle.base65.specs.Outcome.{◌>>=◌}
 use Rattle.syntax65.specs.Trees.{Tree, number, here, name, cheap, forward, backward, unary}
@@ -23,8 +19,7 @@ use Rattle.syntax65.specs.declared.lexing.tokens.AddressSize.{AddressSize}
 use Rattle.ast65.specs.declared.fault.AsmFault.{AsmFault}
 use Rattle.ast65.specs.declared.fault.AsmFault.TheVariants.{Undefined, NoSuchScope, NoSuchLabel}
 use Rattle.ast65.specs.declared.language.Statement.{Statement}
-use Rattle.ast65.specs.declared.language.Statement.TheVariants.{Label, CheapLabel, UnnamedLabel, Constant, OpenProc}
-use Rattle.semantics65.specs.Symbols.{Laid, asks_section, has_here, Meaning, defined_at, imported_as, backward_meaning, first_found, last_of, meaning_of, member_meaning, or_fault, plain_meaning, scope_from, scoped_meaning, scopes_from, scopes_of, shown, unnamed_meaning, Definition, Symbols, cheap_in, defined, definition_with, definitions_of, imported, key_defined, named, unnamed_at, value_defined}
+use Rattle.semantics65.specs.Symbols.{Laid, asks_section, has_here, Meaning, defined_at, imported_as, backward_meaning, first_found, last_of, meaning_of, member_meaning, or_fault, plain_meaning, scope_from, scoped_meaning, scopes_from, scopes_of, shown, unnamed_meaning, Definition, Symbols, defined, definition_with, definitions_of, imported, key_defined, named, unnamed_at, value_defined}
 use Rattle.semantics65.specs.declared.laid.Context.{Context}
 
 -- ---- The sections and imports that forms hold.

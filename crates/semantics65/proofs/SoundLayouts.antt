@@ -1,29 +1,25 @@
 -- What statements lay is sound: names of segments, statements, their lengths, and the room in each section.
-use borrow.Author.Rules.{rules}
 use Rattle.std.proofs.lemmas.Grind.{common_steps}
-use Rattle.std.proofs.Common.{◌≡◌, ◌∙◌, ℕ, zero, suc, ◌+◌, ◌<◌, ◌≤◌, Bool, true, false, nat_eq, nat_lt, cond, List, [], ◌∷◌, ◌++◌, length, map, take, slice_get, Option, Some, None, Ok, refl, sym, ap, subst, arith}
-use Rattle.std.specs.Prelude.{◌&&◌, sum_by}
+use Rattle.std.proofs.Common.{◌≡◌, ◌∙◌, ℕ, zero, suc, ◌+◌, ◌<◌, ◌≤◌, Bool, true, false, nat_eq, cond, List, [], ◌∷◌, ◌++◌, length, map, take, slice_get, Option, Some, None, Ok, refl, sym, ap, subst, arith}
+use Rattle.std.specs.Prelude.{sum_by}
 use Rattle.std.specs.List.{AllByRecursion}
 use Rattle.std.proofs.lemmas.Bool.Decides.{nat_tests}
 use Rattle.std.proofs.lemmas.List.{map-append}
-use Rattle.std.proofs.lemmas.List.Elements.{filter-append}
-use Rattle.std.proofs.lemmas.List.Sums.{sum_by-append}
 use Rattle.syntax65.specs.declared.lexing.tokens.AddressSize.{AddressSize}
 use Rattle.object65.specs.Objects.{are_names, is_name, section_limit}
 use Rattle.object65.proofs.Reached.{names_push}
 use Rattle.semantics65.specs.declared.contents.Segment.{Segment}
 use Rattle.ast65.specs.declared.fault.AsmFault.{AsmFault}
-use Rattle.ast65.specs.declared.fault.AsmFault.TheVariants.{NotUnderstood, SectionTooLarge}
 use Rattle.syntax65.specs.declared.place.Place.{Place}
-use Rattle.semantics65.specs.Symbols.{Laid, Symbols, key_defined, symbols_of}
+use Rattle.semantics65.specs.Symbols.{Laid, Symbols, symbols_of}
 use Rattle.semantics65.specs.declared.laid.Context.{Context}
 use Rattle.ast65.specs.declared.language.Statement.{Statement}
 use Rattle.ast65.specs.declared.language.Statement.TheVariants as statement
-use Rattle.semantics65.specs.Layout.{Layout, Cursor, current_behind, first_size, grown_at, kept_behind, laid, last_kept, layout_behind, multiple_of, named_segments, new_segment, nothing_laid, or_last, own_size, place_of, rest_kept, segment_at, segments_behind, size_stated, context_of, alignment_fault, block_fault, defined_twice, first_fault, form_fault, is_open, line_fault, lost_scopes, missing_file, opened_twice, operand_fault, part_fault, pop_fault, scope_name, size_fault, stands_outside, trees_of, when, unless_fault}
+use Rattle.semantics65.specs.Layout.{Layout, Cursor, current_behind, grown_at, kept_behind, laid, layout_behind, multiple_of, named_segments, nothing_laid, own_size, place_of, segment_at, segments_behind, size_stated, context_of, line_fault, unless_fault}
 use Rattle.semantics65.specs.Reading.{IsLaid}
 use Rattle.semantics65.specs.Norms.{length_of, settled_of}
 use Rattle.semantics65.specs.Numbering.{IsMeasured, IsSound, IsSoundLayout, statements_in}
-use Rattle.semantics65.proofs.Segments.{Grows, all_more, all_same, end_behind, grows, grows_none, named_there, not_among, one_longer}
+use Rattle.semantics65.proofs.Segments.{Grows, all_more, all_same, end_behind, grows, grows_none, not_among, one_longer}
 
 -- ---- Faults that there aren't.
 

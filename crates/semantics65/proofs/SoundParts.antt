@@ -1,27 +1,21 @@
 -- The parts of sound statements.
-use borrow.Author.Rules.{rules}
 use Rattle.std.proofs.lemmas.Grind.{common_steps}
-use Rattle.std.proofs.Common.{◌≡◌, ◌∙◌, ℕ, ◌+◌, Bool, true, false, nat_eq, nat_lt, refl, sym, ap, subst, arith, pos, List, [], ◌∷◌, length, replicate, take, drop, Option, Some, None, Ok, Err}
-use Rattle.std.specs.Prelude.{⊤, ℤ, IfOk, ◌&&◌, ◌-◌, sum_by, if◌then◌else◌}
+use Rattle.std.proofs.Common.{◌≡◌, ◌∙◌, ℕ, ◌+◌, Bool, true, false, nat_eq, nat_lt, refl, sym, ap, subst, arith, List, [], ◌∷◌, length, take, drop, Option, Some, None, Ok}
+use Rattle.std.specs.Prelude.{⊤, ℤ, IfOk, ◌&&◌, sum_by, if◌then◌else◌}
 use Rattle.std.specs.List.{AllByRecursion, list_all, list_any}
-use Rattle.std.proofs.lemmas.List.{length-replicate, length-take, length-take-le}
 use Rattle.std.proofs.lemmas.List.Sums.{sum_by-cons}
 use Rattle.std.proofs.lemmas.List.Folds.{list_all-append}
 use Rattle.base65.specs.Outcome.{◌>>=◌, each}
 use Rattle.syntax65.specs.Opcodes.{opcode_of}
 use Rattle.syntax65.specs.Trees.{Tree}
 use Rattle.syntax65.specs.declared.instructions.codes.Mode.{Mode}
-use Rattle.syntax65.specs.declared.instructions.codes.Mode.TheVariants.{Implied, Accumulator, Immediate, Indirect, IndirectX, IndirectY, Relative}
+use Rattle.syntax65.specs.declared.instructions.codes.Mode.TheVariants.{Implied, Accumulator, Immediate, Indirect, IndirectX, IndirectY}
 use Rattle.syntax65.specs.declared.instructions.names.Mnemonic.{Mnemonic}
 use Rattle.syntax65.specs.declared.lexing.tokens.AddressSize.{AddressSize}
-use Rattle.syntax65.specs.declared.lexing.tokens.AddressSize.TheVariants as size
-use Rattle.base65.specs.declared.values.Op2.TheVariants.{Subtract}
 use Rattle.object65.specs.Form.{Form, lit, sec, imp, prefix, binary}
-use Rattle.object65.specs.Objects.{fits_width, is_file_name, value_bytes, width_len}
+use Rattle.object65.specs.Objects.{is_file_name, value_bytes, width_len}
 use Rattle.object65.specs.declared.object.Width.{Width}
-use Rattle.object65.specs.declared.object.Width.TheVariants.{Byte, Word, HighFirst, Dword, Branch}
-use Rattle.semantics65.specs.Contents.{Part, Known, Waiting, file_bytes, instruction_parts, item_part, opcode_part, operand_form, operand_part, operand_parts, operand_tree, parts_of, room_part, stored, written}
-use Rattle.ast65.specs.declared.fault.AsmFault.TheVariants.{OutOfRange, FileNameTooLong}
+use Rattle.semantics65.specs.Contents.{Part, Waiting, file_bytes, instruction_parts, item_part, opcode_part, operand_form, operand_part, operand_parts, operand_tree, parts_of, room_part, stored, written}
 use Rattle.syntax65.specs.declared.place.Place.{Place}
 use Rattle.semantics65.specs.Symbols.{Laid, asks_section, has_here, Symbols}
 use Rattle.semantics65.specs.declared.laid.Settled.{Settled}
@@ -34,9 +28,9 @@ use Rattle.ast65.specs.declared.language.Statement.TheVariants.{Instruction, Val
 use Rattle.ast65.specs.declared.language.Operand.TheVariants as operand
 use Rattle.ast65.specs.declared.language.Item.TheVariants.{Value, Text}
 use Rattle.ast65.specs.declared.language.Index.{Index}
-use Rattle.semantics65.specs.Norms.{constant_in, norm_of, address_mode, branch_mode, bytes_between, counted, fill_settled, first_of, is_branch, item_len, length_of, mode_for, mode_len, mode_of, mode_settled, operand_len, optional_value, part_len as file_len, part_start, settled_of, size_of, width_of}
+use Rattle.semantics65.specs.Norms.{norm_of, address_mode, branch_mode, bytes_between, fill_settled, first_of, is_branch, item_len, length_of, mode_len, mode_of, mode_settled, operand_len, part_len as file_len, part_start, settled_of, size_of, width_of}
 use Rattle.semantics65.specs.Numbering.{imports_in, IsMeasured, IsSoundAt, IsSoundForm, IsSoundPart, part_len, sections_in}
-use Rattle.semantics65.proofs.SoundForms.{Holds, IsWell, two_well, Asks, Pass, norm_well, well_then}
+use Rattle.semantics65.proofs.SoundForms.{Holds, IsWell, Asks, Pass, norm_well, well_then}
 
 -- ---- Forms.
 

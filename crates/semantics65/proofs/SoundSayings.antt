@@ -1,10 +1,9 @@
 -- What sound statements say.
-use borrow.Author.Rules.{rules}
 use Rattle.std.proofs.lemmas.Grind.{common_steps}
 use Rattle.object65.specs.declared.object.Action.TheVariants as action
-use Rattle.std.proofs.Common.{arith, ◌≡◌, List, [], ◌∷◌, ◌++◌, refl, ap, Result, Ok, Err, ℕ, zero, suc, ◌<◌, Bool, true, false, subst, length, map, pos, negsuc, Option, Some, None}
-use Rattle.std.specs.List.{flat_map, AllByRecursion, list_all}
-use Rattle.base65.specs.Outcome.{◌>>=◌, each}
+use Rattle.std.proofs.Common.{arith, ◌≡◌, List, [], ◌∷◌, ◌++◌, refl, Result, Ok, ℕ, zero, suc, ◌<◌, Bool, true, false, subst, length, map, pos, negsuc, Option, Some, None}
+use Rattle.std.specs.List.{AllByRecursion, list_all}
+use Rattle.base65.specs.Outcome.{◌>>=◌}
 use Rattle.semantics65.specs.Contents.{Declaration, Exported, ForcedImport, Asserted, each_of, decided, export_said, import_fault, said_of, written}
 use Rattle.ast65.specs.declared.fault.AsmFault.{AsmFault}
 use Rattle.std.specs.Prelude.{⊤, IfOk, ◌&&◌}

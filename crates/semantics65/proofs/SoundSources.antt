@@ -1,30 +1,25 @@
 -- What a source lays is sound: its statements are of names that objects can hold.
-use borrow.Author.Rules.{rules}
 use Rattle.std.proofs.lemmas.Grind.{common_steps}
-use Rattle.std.proofs.Common.{arith, ◌≡◌, ℕ, Bool, true, false, List, [], ◌∷◌, Option, Some, None, refl, sym, subst}
-use Rattle.std.specs.Prelude.{Result, Ok, Err, if◌then◌else◌}
-use Rattle.std.specs.FinMap as fmap
+use Rattle.std.proofs.Common.{arith, ◌≡◌, ℕ, List, [], ◌∷◌, Option, Some, None, refl, sym, subst}
+use Rattle.std.specs.Prelude.{Result, Ok, Err}
 use Rattle.std.specs.Option.{option_map_or}
 use Rattle.base65.specs.Outcome.{◌>>=◌, First}
 use Rattle.base65.specs.Store.{Files}
 use Rattle.syntax65.specs.Tokens.{Lexeme}
 use Rattle.syntax65.specs.Trees.{number}
-use Rattle.syntax65.specs.Expressions.{is_reserved}
-use Rattle.syntax65.specs.declared.lexing.tokens.TokenKind.{TokenKind}
-use Rattle.syntax65.specs.declared.lexing.tokens.TokenKind.TheVariants as token
 use Rattle.syntax65.specs.declared.fault.ExpandFault.{ExpandFault}
 use Rattle.syntax65.specs.declared.place.Place.{Place}
-use Rattle.expand65.specs.Expansion.{statement, first_state, opened_in, bytes_in}
+use Rattle.expand65.specs.Expansion.{statement, file_named, first_state, opened_in, bytes_in}
 use Rattle.expand65.specs.State as expand
 use Rattle.ast65.specs.declared.fault.AsmFault.{AsmFault}
 use Rattle.ast65.specs.declared.language.Statement.{Statement}
-use Rattle.ast65.specs.declared.language.Statement.TheVariants.{Label, CheapLabel, UnnamedLabel, Constant, NamedPart}
+use Rattle.ast65.specs.declared.language.Statement.TheVariants.{Constant}
 use Rattle.semantics65.specs.Layout.{Layout, nothing_laid}
 use Rattle.semantics65.specs.Numbering.{AreNamed, IsSound}
-use Rattle.ast65.specs.Parsing.{IsStatement, is_colon, label_before, label_of, named_label}
+use Rattle.ast65.specs.Parsing.{IsStatement, label_before, label_of}
 use Rattle.semantics65.proofs.Sounding.{statement_sound}
 use Rattle.semantics65.specs.Machine.{SoundLayoutLaw}
-use Rattle.semantics65.specs.Reading.{IsLaid, laying, AreDefined, AreTaken, taken, faulty, refused, ended, Define, Follows, IsBegun, IsGiven, IsLabel, IsLabelled, IsRest, Job, Reached, no_line, stopped, with_bytes}
+use Rattle.semantics65.specs.Reading.{IsLaid, laying, AreDefined, AreTaken, taken, faulty, refused, ended, Define, IsBegun, IsGiven, IsLabel, IsLabelled, IsRest, Job, Reached, with_bytes}
 use Rattle.semantics65.proofs.NamedSteps.{IsStateFit, first_fit, next_fit, tokens_of}
 use Rattle.semantics65.proofs.NamedLines.{are_named}
 use Rattle.semantics65.proofs.SoundLayouts.{IsGood, good_statement, nothing_good, sound_from}
@@ -102,7 +97,7 @@ good_defined y z place (d ∷ ds) good h = by h.0 h.1 h.2 (λ w. good_defined w 
 -- ---- A source.
 
 pub opened_fit : (m : Files) (file : List ℕ) (folders : List (List ℕ)) (s : expand.State) → opened_in m file folders ≡ Ok s → IsStateFit 0 s
-opened_fit m file folders s h = by (bytes_in (fmap.get m file)) h
+opened_fit m file folders s h = by (bytes_in (file_named m file)) h
   where
     by : (q : Result (List ℕ) ExpandFault) → (q >>= (λ bytes. Ok (first_state file folders bytes))) ≡ Ok s → IsStateFit 0 s
     by (Ok bytes) e = let same : first_state file folders bytes ≡ s = cc in subst (IsStateFit 0) same (first_fit file folders bytes)

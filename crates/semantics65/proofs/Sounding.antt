@@ -1,5 +1,5 @@
 -- What lines say is sound: names of identifiers, and texts that are short enough.
-use Rattle.std.proofs.Common.{◌≡◌, ℕ, ◌≤◌, Bool, true, false, List, [], ◌∷◌, refl, sym, ap, subst, arith, ◌<◌, ◌∙◌}
+use Rattle.std.proofs.Common.{◌≡◌, ℕ, ◌≤◌, Bool, true, false, List, [], ◌∷◌, refl, sym, ap, subst, arith, ◌<◌}
 use Rattle.std.specs.Prelude.{MatchBool, Ok, nat_lt, nat_le, length, take, drop, ◌==◌, ◌&&◌, if◌then◌else◌, None, Option, Result, Err, ◌++◌, codes, Some}
 use Rattle.std.specs.Char.{is_ascii_alphabetic, is_ascii_digit}
 use Rattle.std.specs.List.{list_all, onto_first, AllByRecursion}

@@ -1,11 +1,9 @@
 -- What taking the statements of a source comes to, one after the other.
-use borrow.Author.Rules.{rules}
 use Rattle.std.proofs.lemmas.Grind.{common_steps}
 use Rattle.expand65.specs.State as expand
 use Rattle.syntax65.specs.Faults as expansion
-use Rattle.syntax65.specs.declared.lexing.tokens.TokenKind.TheVariants as token
-use Rattle.std.proofs.Common.{arith, ◌≡◌, List, [], ◌∷◌, refl, sym, subst, Some, None, Bool, true, false, ap, ℕ, Option}
-use Rattle.std.specs.Prelude.{Result, Ok, Err, length, if◌then◌else◌}
+use Rattle.std.proofs.Common.{arith, ◌≡◌, List, [], ◌∷◌, refl, sym, subst, Some, Bool, true, false, ap, Option}
+use Rattle.std.specs.Prelude.{Result, Ok, Err, length}
 use Rattle.base65.specs.Store.{Files}
 use Rattle.syntax65.specs.Trees.{number}
 use Rattle.syntax65.specs.declared.fault.ExpandFault.{ExpandFault}
@@ -13,19 +11,16 @@ use Rattle.syntax65.specs.declared.place.Place.{Place}
 use Rattle.expand65.specs.Expansion.{Reaches, statement, nothing, fault, opened_in}
 use Rattle.ast65.specs.declared.fault.AsmFault.{AsmFault}
 use Rattle.ast65.specs.declared.fault.AsmFault.TheVariants.{Expansion}
-use Rattle.ast65.specs.declared.language.Statement.TheVariants.{Constant, Label, UnnamedLabel}
+use Rattle.ast65.specs.declared.language.Statement.TheVariants.{Constant}
 use Rattle.semantics65.specs.Reading.{GoesOn, AreDefined, taken, faulty, refused, ended, Between, Define, IsBegun, IsGiven, IsSource, Job, Reached, Taking, no_line, open_fault, stopped}
 use Rattle.base65.specs.Outcome.{Unless}
 use Rattle.expand65.specs.declared.expander.Expander.{Expander}
-use Rattle.syntax65.specs.declared.fault.ExpandFault.TheVariants.{OutOfMemory, FileError}
 use Rattle.expand65.specs.Standing.{Opens, StandsFor, place_of}
 use Rattle.ast65.specs.Faults.{is_outside}
 use Rattle.syntax65.specs.Tokens.{Lexeme, lexemes}
-use Rattle.syntax65.specs.Expressions.{is_reserved}
 use Rattle.syntax65.specs.declared.lexing.tokens.Token.{Token}
-use Rattle.syntax65.specs.declared.lexing.tokens.TokenKind.{TokenKind}
 use Rattle.ast65.specs.declared.language.Statement.{Statement}
-use Rattle.ast65.specs.Parsing.{is_colon, label_before, label_of, named_label}
+use Rattle.ast65.specs.Parsing.{label_of}
 use Rattle.semantics65.specs.Module.{out_of, warning_of}
 
 -- ---- The statements of a source one behind the other: how they begin, one step further, and each end.

@@ -1,4 +1,6 @@
 pub mod Contents
+pub mod Fitting
+pub mod Laws
 pub mod Layout
 pub mod Machine
 pub mod Module

@@ -1,5 +1,5 @@
 -- The machine of one pass, and what holds of it and of what a source means.
-use Rattle.std.specs.Prelude.{◌≡◌, ℕ, suc, List, [], ◌∷◌, ◌++◌, Option, Some, None, Result, Ok, Err, if◌then◌else◌}
+use Rattle.std.specs.Prelude.{◌≡◌, ℕ, List, [], ◌∷◌, ◌++◌, Option, Some, None, Result, Ok, Err, if◌then◌else◌}
 use Rattle.base65.specs.Outcome.{◌>>=◌}
 use Rattle.base65.specs.Store.{Files}
 use Rattle.semantics65.specs.Types.{Object, AsmFault, Statement, Place, Context}
@@ -7,7 +7,7 @@ use Rattle.semantics65.specs.Contents.{Content, asking}
 use Rattle.semantics65.specs.Symbols.{Laid, asks_section, Symbols, definitions_of, imports_of, scope_opened, symbols_of, with_new, zero_page_names}
 use Rattle.semantics65.specs.Layout.{Cursor, laid, cursor_behind, start, line_fault, Layout}
 use Rattle.semantics65.specs.Numbering.{object_with, all_said, content_imports, parts_in, segments_asked, AreSound, IsSoundLayout}
-use Rattle.semantics65.specs.Reading.{PlacedFault, known_at, Between, IsSource, Job, Reached, AreLaid}
+use Rattle.semantics65.specs.Reading.{PlacedFault, at_place, known_at, Between, IsSource, Job, Reached, AreLaid}
 use Rattle.semantics65.specs.Module.{Outcome, out_of, warning_of, Made, Piece, made_of, pieces_of, quietly, IsOutcome, assertion_warnings, contents_from, printed, warned, Purpose, used, valued}
 use Rattle.semantics65.specs.Norms.{Extends, IsFinal}
 use Rattle.std.specs.List.{flat_map}
@@ -31,34 +31,25 @@ pub record Fixup : Type 0 where
   pub context : Context
   pub piece : Piece
 
--- a content, or room for one that is decided behind the last line
+-- a content, or a piece whose content is decided behind the last line
 pub data Slot : Type 0 where
   holds : Content → Slot
-  awaited : Slot
+  waits : Fixup → Slot
 
 pub record State : Type 0 where
   pub symbols : Symbols
   pub cursor : Cursor
-  -- what was put into the sections and said to the linker, in the order of the source
+  -- what was put into the sections and said to the linker, and what waits, in the order of the source
   pub slots : List Slot
-  -- for each slot that awaits its content, the piece that it comes from
-  pub fixups : List Fixup
   -- what was printed, and the warnings
   pub out : List ℕ
   pub err : List ℕ
-
--- how many slots await their content
-abbrev pub awaited_in : List Slot → ℕ
-awaited_in [] = 0
-awaited_in (holds c ∷ slots) = awaited_in slots
-awaited_in (awaited ∷ slots) = suc (awaited_in slots)
 
 abbrev pub begun : State
 begun = record {
   symbols = symbols_of [];
   cursor = start;
   slots = [];
-  fixups = [];
   out = [];
   err = [];
 }
@@ -66,7 +57,7 @@ begun = record {
 -- ---- A statement.
 
 abbrev pub awaiting : State → Fixup → State
-awaiting t w = record t { slots = t.slots ++ awaited ∷ []; fixups = t.fixups ++ w ∷ [] }
+awaiting t w = record t { slots = t.slots ++ waits w ∷ [] }
 
 abbrev pub entered : State → Content → State
 entered t c = record t { slots = t.slots ++ holds c ∷ [] }
@@ -131,29 +122,24 @@ pub record Finished (A : Type 0) : Type 0 where
   pub found : Result (List A) PlacedFault
   pub warned : List ℕ
 
-abbrev pub before_it : Place → Result Made AsmFault → Finished Content → Finished Content
-before_it place (Ok m) r =
+-- what a slot comes to by the symbol table of all statements, or its fault
+abbrev pub coming : Symbols → Slot → Result Made PlacedFault
+coming y (holds c) = Ok (quietly c)
+coming y (waits w) = at_place w.place (made_of y w.place w.context w.piece)
+
+abbrev pub before_it : Result Made PlacedFault → Finished Content → Finished Content
+before_it (Ok m) r =
     record { found = r.found >>= (λ cs. Ok (m.content ∷ cs)); warned = m.warning ++ r.warned }
-before_it place (Err e) r =
-    record { found = Err (record { place = place; fault = e }); warned = [] }
+before_it (Err e) r = record { found = Err e; warned = [] }
 
--- what waits is gone through once, by the symbol table of all statements
-abbrev pub resolved : Symbols → List Fixup → Finished Content
+-- slots are gone through once, in the order of the source
+abbrev pub resolved : Symbols → List Slot → Finished Content
 resolved y [] = record { found = Ok []; warned = [] }
-resolved y (w ∷ ws) = before_it w.place (made_of y w.place w.context w.piece) (resolved y ws)
-
--- each slot that awaits its content has it
-abbrev pub filled : List Slot → List Content → List Content
-filled [] cs = []
-filled (holds c ∷ slots) cs = c ∷ filled slots cs
-filled (awaited ∷ slots) [] = filled slots []
-filled (awaited ∷ slots) (c ∷ cs) = c ∷ filled slots cs
+resolved y (x ∷ slots) = before_it (coming y x) (resolved y slots)
 
 -- what a state comes to behind the last line
 abbrev pub finished : State → Finished Content
-finished t =
-    let r : Finished Content = resolved t.symbols t.fixups in
-    record { found = r.found >>= (λ cs. Ok (filled t.slots cs)); warned = r.warned }
+finished t = resolved t.symbols t.slots
 
 -- what is answered behind the last line, or at a line's fault
 abbrev pub concluded : State → Option PlacedFault → Outcome

@@ -1,5 +1,7 @@
 //! What holds of the definitions, each as the contract of a function that does nothing.
 
+ghost use Rattle.semantics65.specs.Fitting.{FittingObjectLaw};
+ghost use Rattle.semantics65.specs.Laws.{SomeAnswerLaw, SomeFormLaw, SomeLayoutLaw};
 ghost use Rattle.semantics65.specs.Machine.{FinalSettles, LaidRuns, OneAnswer, OneLayout, OnePass, RunsLaid, SoundContents, SoundLayoutLaw};
 
 /// A source is laid in one way at most.
@@ -10,6 +12,22 @@ pub fn one_layout()
 /// A source comes to one answer at most.
 pub fn one_answer()
     ensures { OneAnswer }
+{}
+
+/// An expression has a form by any symbol table, or a first fault, which is never one from outside.
+pub fn some_form()
+    ensures { SomeFormLaw }
+{}
+
+/// Whatever the files are, a source is laid up to its last line, or to a first fault of a line, which is never one from
+/// outside.
+pub fn some_layout()
+    ensures { SomeLayoutLaw }
+{}
+
+/// Whatever the files are, a source comes to an answer; its fault is never one from outside.
+pub fn some_answer()
+    ensures { SomeAnswerLaw }
 {}
 
 /// What a source lays is sound: names are names, and each section has room.
@@ -40,4 +58,9 @@ pub fn one_pass()
 /// Whatever is laid can be reached in one pass.
 pub fn laid_runs()
     ensures { LaidRuns }
+{}
+
+/// The numbers and texts of a source's object are those of their types.
+pub fn fitting_object()
+    ensures { FittingObjectLaw }
 {}

@@ -158,14 +158,14 @@ one_form j k (b ∷ bs) h g = kind_of_class (class_of b) j bs (behind j b bs h) 
 
 -- Marks are told by their bytes
 
-abbrev mark_of_pair : ℕ → ℕ → Mark
+abbrev pub mark_of_pair : ℕ → ℕ → Mark
 mark_of_pair b c =
     if b == 58 then (if c == 58 then Scope else Define)
     else (if b == 60 then (if c == 62 then NotEqual else (if c == 61 then LessOrEqual else ShiftLeft))
     else (if b == 62 then (if c == 61 then GreaterOrEqual else ShiftRight)
     else (if b == 38 then BothTrue else EitherTrue)))
 
-abbrev mark_of_byte : ℕ → Mark
+abbrev pub mark_of_byte : ℕ → Mark
 mark_of_byte b =
     if b == 58 then ColonMark
     else (if b == 43 then Plus
@@ -186,12 +186,12 @@ mark_of_byte b =
     else (if b == 44 then Comma
     else (if b == 123 then OpenBrace else CloseBrace)))))))))))))))))
 
-abbrev mark_of : List ℕ → Mark
+abbrev pub mark_of : List ℕ → Mark
 mark_of [] = Scope
 mark_of (b ∷ []) = mark_of_byte b
 mark_of (b ∷ c ∷ bs) = mark_of_pair b c
 
-spelled_back : (m : Mark) → mark_of (spelling m) ≡ m
+pub spelled_back : (m : Mark) → mark_of (spelling m) ≡ m
 spelled_back x = grind (arith, common_steps)
 
 one_mark : (m n : Mark) → spelling m ≡ spelling n → m ≡ n

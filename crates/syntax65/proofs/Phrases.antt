@@ -19,7 +19,7 @@ use Rattle.syntax65.specs.declared.expressions.words.ExprFault.TheVariants.{OutO
 level_pos : (op : Op2) → 0 < level_of op
 level_pos x = grind (arith, common_steps)
 
-level_zero : (ts : List Lexeme) (j : ℕ) → NoOperator ts 0 j
+pub level_zero : (ts : List Lexeme) (j : ℕ) → NoOperator ts 0 j
 level_zero ts j op h = level_pos op
 
 -- names

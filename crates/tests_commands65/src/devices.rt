@@ -101,16 +101,12 @@ fn reads_and_writes_once(rt: HostRuntime) -> Result<(), Fail> {
 fn stops_within_the_names(rt: HostRuntime) -> Result<(), Fail> {
     for k in 0..5 {
         let mut store = library(rt.alloc())?;
-        let mut out = Stopping {
-            taken: Vec::new(rt.alloc()),
-            left: k,
-            fails: true,
-        };
+        let mut out = Stopping::behind(rt.alloc(), k, true);
         let mut err = Vec::new(rt.alloc());
         let words = ["bin65", "ar65", "t", "l.lib"];
         let status = run(rt.alloc(), &words, &mut store, &mut out, &mut err);
         assert!(rt; (status == Status::Success) == (k == 4) && err.is_empty());
-        assert!(rt; out.taken.as_slice() == &b"a.o\n"[..k]);
+        assert!(rt; out.taken.as_slice() == &b"a.o\n"[..k] && !out.is_asked_again);
     }
     Ok(())
 }
@@ -122,15 +118,11 @@ fn stops_with_its_stream(rt: HostRuntime) -> Result<(), Fail> {
         let mut store = MemStore::new(rt.alloc());
         store.put("a.o", O1)?;
         let mut out = Vec::new(rt.alloc());
-        let mut err = Stopping {
-            taken: Vec::new(rt.alloc()),
-            left: k,
-            fails: true,
-        };
+        let mut err = Stopping::behind(rt.alloc(), k, true);
         let status = run(rt.alloc(), &LINK, &mut store, &mut out, &mut err);
         assert_eq!(rt; status, Status::Failure);
         assert!(rt; out.is_empty());
-        assert!(rt; err.taken.as_slice() == &message[..k]);
+        assert!(rt; err.taken.as_slice() == &message[..k] && !err.is_asked_again);
         assert!(rt; store.get("a.out").is_none());
     }
     Ok(())
@@ -180,15 +172,11 @@ const ONE_MEMBER: &[u8] =
 fn stops_behind_two_bytes(rt: HostRuntime) -> Result<(), Fail> {
     let mut store = MemStore::new(rt.alloc());
     store.put("l.lib", ONE_MEMBER)?;
-    let mut out = Stopping {
-        taken: Vec::new(rt.alloc()),
-        left: 2,
-        fails: true,
-    };
+    let mut out = Stopping::behind(rt.alloc(), 2, true);
     let mut err = Vec::new(rt.alloc());
     let words = ["bin65", "ar65", "t", "l.lib"];
     let status = run(rt.alloc(), &words, &mut store, &mut out, &mut err);
-    assert!(rt; out.taken.as_slice() == b"a.".as_slice() && err.is_empty());
+    assert!(rt; out.taken.as_slice() == b"a.".as_slice() && err.is_empty() && !out.is_asked_again);
     assert_eq!(rt; status, Status::Failure);
     Ok(())
 }

@@ -8,6 +8,9 @@ use std::test::Fail;
 use testkit65::{RUNS, Ran, is_right, parts_of, run_on, words_of};
 use tools65::{Status, run};
 
+/// How many bytes a file has at most. A file is looked for by what stands behind them.
+const MAX_FILE: u64 = 16_777_216;
+
 /// Adds a name to those that are kept, where it isn't there.
 fn add_name(alloc: Global, names: &mut Vec<Text>, name: &str) -> Result<(), AllocError> {
     if !names.iter().any(|it| it.as_str() == name) {
@@ -49,6 +52,30 @@ fn begins_with(names: &[Text], front: &[Text]) -> bool {
             .all(|(name, other)| name.as_str() == other.as_str())
 }
 
+/// How many lines begin in some bytes.
+fn lines_begun(bytes: &[u8]) -> usize {
+    let ended = bytes.iter().filter(|byte| **byte == b'\n').count();
+    match bytes.last() {
+        Some(byte) if *byte != b'\n' => ended.saturating_add(1),
+        _ => ended,
+    }
+}
+
+/// Whether a line asks for a file of this name.
+fn asks_for(line: &str, name: &str) -> bool {
+    let Some((directive, rest)) = line.split_once(" \"") else {
+        return false;
+    };
+    let (asked, _) = rest.split_once('"').unwrap_or((rest, ""));
+    (directive == ".include" || directive == ".incbin") && asked == name
+}
+
+/// Whether a place is this line of a file.
+fn is_line(alloc: Global, place: &str, file: &str, line: usize) -> Result<bool, AllocError> {
+    let wanted = format!(in alloc; "{file}:{line}")?;
+    Ok(wanted.as_str() == place)
+}
+
 /// A run in which nothing fails: its words, the names of all files, the files before it, what it said, and its store behind it.
 #[derive(Drop)]
 struct Plain<'a> {
@@ -83,25 +110,68 @@ fn plain_run<'a>(
 }
 
 impl Plain<'_> {
-    /// Whether a place is a line of one of the files.
-    fn is_line(&self, place: &str) -> bool {
-        match place.rsplit_once(':') {
-            Some((file, line)) => {
-                self.names.iter().any(|name| name.as_str() == file)
-                    && line.bytes().all(|b| b.is_ascii_digit())
+    /// The number of the line that asks for a file of this name, in one that is asked.
+    fn asking_line(&self, file: &str, name: &str) -> Option<usize> {
+        let bytes = self.before.get(file)?;
+        let text = std::str::from_utf8(bytes).ok()?;
+        let line = text.lines().position(|line| asks_for(line, name))?;
+        line.checked_add(1)
+    }
+
+    /// Whether a place is that of the first line that asks for a file.
+    fn is_asking(&self, alloc: Global, place: &str, name: &str) -> Result<bool, AllocError> {
+        let (_, name) = name.rsplit_once('/').unwrap_or(("", name));
+        for file in self.names.iter() {
+            if let Some(line) = self.asking_line(file.as_str(), name) {
+                return is_line(alloc, place, file.as_str(), line);
             }
-            None => false,
+        }
+        Ok(false)
+    }
+
+    /// The line of a source's file in which the call that failed began to read or, before its first byte, the line before; 0 where no
+    /// byte of it was read, or it was looked for, or has no lines.
+    fn line_read(&self, name: &str, store: &FailsOnce) -> usize {
+        let is_text = name.ends_with(".s") || name.ends_with(".inc");
+        match (self.before.get(name), store.at) {
+            (Some(bytes), Some(at)) if is_text && at < MAX_FILE => {
+                let (front, _) = bytes.split_at(bytes.len().min(at as usize));
+                lines_begun(front)
+            }
+            _ => 0,
         }
     }
 
-    /// Whether a place is the file of the call that failed: by its name, where a library is read perhaps with a member's, and where
-    /// a source is read by a line.
-    fn is_place(&self, place: &str, store: &FailsOnce) -> bool {
-        let (library, member) = place.split_once('(').unwrap_or((place, ""));
-        if store.failed_for(library) {
-            return member.is_empty() || !self.is_written(store);
+    /// Whether a place is the one where a source was read when the call failed: a line of the file that it read, or where there is
+    /// none yet, the line that asks for that file, or the source without a line.
+    fn is_source_place(
+        &self,
+        alloc: Global,
+        place: &str,
+        store: &FailsOnce,
+    ) -> Result<bool, AllocError> {
+        let Some(asked) = &store.asked else {
+            return Ok(false);
+        };
+        let name = asked.as_str();
+        let line = self.line_read(name, store);
+        if line > 0 {
+            return is_line(alloc, place, name, line);
         }
-        self.words.get(1) == Some(&"ca65") && !self.is_written(store) && self.is_line(place)
+        if self.words.last() == Some(&name) {
+            return Ok(place == name);
+        }
+        self.is_asking(alloc, place, name)
+    }
+
+    /// Whether a place is that of the call that failed: where a source is read that of a line, else the file's name, where a library is
+    /// read perhaps with a member's.
+    fn is_place(&self, alloc: Global, place: &str, store: &FailsOnce) -> Result<bool, AllocError> {
+        if self.words.get(1) == Some(&"ca65") && !self.is_written(store) {
+            return self.is_source_place(alloc, place, store);
+        }
+        let (library, member) = place.split_once('(').unwrap_or((place, ""));
+        Ok(store.failed_for(library) && (member.is_empty() || !self.is_written(store)))
     }
 
     /// Whether the call that failed was one of those that write.
@@ -114,20 +184,22 @@ impl Plain<'_> {
 
     /// Whether a run says first parts of what the plain one says, all of it where it was writing, and then that the file of the call
     /// that failed couldn't be read or written.
-    fn is_said(&self, ran: &Ran, store: &FailsOnce) -> bool {
+    fn is_said(&self, alloc: Global, ran: &Ran, store: &FailsOnce) -> Result<bool, AllocError> {
         let Ok(text) = std::str::from_utf8(ran.err.as_slice()) else {
-            return false;
+            return Ok(false);
         };
         let Some(text) = text.strip_suffix(": Error: file error\n") else {
-            return false;
+            return Ok(false);
         };
         let (said, place) = text.rsplit_once('\n').unwrap_or(("", text));
         let is_all = ran.out.len() == self.ran.out.len()
             && text.len().checked_sub(place.len()) == Some(self.ran.err.len());
-        self.is_place(place, store)
-            && (is_all || !self.is_written(store))
-            && self.ran.err.as_slice().starts_with(said.as_bytes())
-            && self.ran.out.as_slice().starts_with(ran.out.as_slice())
+        Ok(
+            self.is_place(alloc, place, store)?
+                && (is_all || !self.is_written(store))
+                && self.ran.err.as_slice().starts_with(said.as_bytes())
+                && self.ran.out.as_slice().starts_with(ran.out.as_slice()),
+        )
     }
 
     /// Whether a file is as it has to be: as before where it wasn't created, a first part of what it gets where a call for it
@@ -160,14 +232,17 @@ impl Plain<'_> {
     }
 
     /// Whether a run ends as it has to where one of its calls failed; as the plain one where none did.
-    fn is_ended(&self, ran: &Ran, store: &FailsOnce) -> bool {
+    fn is_ended(&self, alloc: Global, ran: &Ran, store: &FailsOnce) -> Result<bool, AllocError> {
         if store.failed {
-            return ran.status == Status::Failure && self.is_said(ran, store) && self.is_left(store);
+            let is_said = self.is_said(alloc, ran, store)?;
+            return Ok(ran.status == Status::Failure && is_said && self.is_left(store));
         }
-        ran.status == self.ran.status
-            && ran.out.as_slice() == self.ran.out.as_slice()
-            && ran.err.as_slice() == self.ran.err.as_slice()
-            && self.are_files(&store.files, &self.store.files)
+        Ok(
+            ran.status == self.ran.status
+                && ran.out.as_slice() == self.ran.out.as_slice()
+                && ran.err.as_slice() == self.ran.err.as_slice()
+                && self.are_files(&store.files, &self.store.files),
+        )
     }
 
     /// How many calls fail in turn, where each run ends as it has to.
@@ -176,7 +251,7 @@ impl Plain<'_> {
             let files = copy_of(alloc, &self.before, self.names.as_slice())?;
             let mut store = FailsOnce::behind(alloc, files, Some(k));
             let ran = run_on(alloc, &mut store, self.words.as_slice());
-            if !self.is_ended(&ran, &store) {
+            if !self.is_ended(alloc, &ran, &store)? {
                 return Ok(None);
             }
             if !store.failed {
@@ -189,11 +264,7 @@ impl Plain<'_> {
     /// Whether a run whose standard output stops behind so many bytes ends as it has to.
     fn stops_output(&self, alloc: Global, left: usize, fails: bool) -> Result<bool, AllocError> {
         let mut store = copy_of(alloc, &self.before, self.names.as_slice())?;
-        let mut out = Stopping {
-            taken: Vec::new(alloc),
-            left,
-            fails,
-        };
+        let mut out = Stopping::behind(alloc, left, fails);
         let mut err = Vec::new(alloc);
         let status = run(alloc, self.words.as_slice(), &mut store, &mut out, &mut err);
         let text = self.ran.out.as_slice();
@@ -209,11 +280,7 @@ impl Plain<'_> {
     /// Whether a run whose standard error stops behind so many bytes ends as it has to.
     fn stops_errors(&self, alloc: Global, left: usize, fails: bool) -> Result<bool, AllocError> {
         let mut store = copy_of(alloc, &self.before, self.names.as_slice())?;
-        let mut err = Stopping {
-            taken: Vec::new(alloc),
-            left,
-            fails,
-        };
+        let mut err = Stopping::behind(alloc, left, fails);
         let mut out = Vec::new(alloc);
         let status = run(alloc, self.words.as_slice(), &mut store, &mut out, &mut err);
         let text = self.ran.err.as_slice();
@@ -226,6 +293,7 @@ impl Plain<'_> {
         let taken = stream.taken.as_slice();
         if taken.len() < text.len() {
             return stream.left == 0
+                && !stream.is_asked_again
                 && text.starts_with(taken)
                 && status == Status::Failure
                 && self.are_files(files, &self.before);

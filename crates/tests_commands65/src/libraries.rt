@@ -1,6 +1,7 @@
 //! Links with libraries.
 
 ghost use Rattle.std.specs.Prelude.{Some, None};
+ghost use Rattle.std.proofs.Common.{rules};
 
 use base65::{MemStore, Store, StoreFault};
 use std::alloc::{AllocError, Global};
@@ -214,6 +215,8 @@ impl Store for Counting {
     fn append(&mut self, name: &str, piece: &[u8]) -> Result<usize, StoreFault> {
         self.files.append(name, piece)
     }
+
+    ghost counted = { λ _. Prim.search rules };
 }
 
 /// How many bytes are read of the library where none of its members is needed: its first four, and its index with the byte at

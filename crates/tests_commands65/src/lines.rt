@@ -5,7 +5,8 @@ use std::alloc::{AllocError, Global};
 use std::test::Fail;
 use testkit65::{O1, Ran, S1, files, is_quiet};
 use tools65::{
-    AssembleLine, Define, Line, LinkLine, Operation, Status, print, read_line, run_line, write_file,
+    AssembleLine, Define, Line, LinkLine, Operation, Status, Stream, print, read_line, run_line,
+    write_file,
 };
 
 fn is_link(line: &LinkLine<'_>) -> bool {
@@ -140,7 +141,7 @@ fn writes_and_prints(rt: HostRuntime) -> Result<(), Fail> {
     assert_eq!(rt; write_file(&mut store, "b", b"new"), Ok(()));
     assert!(rt; store.get("b") == Some(b"new".as_slice()));
     let mut out = Vec::new(rt.alloc());
-    assert!(rt; print(&mut out, b"text"));
+    assert!(rt; print(&mut Stream::over(&mut out), b"text"));
     assert!(rt; out.as_slice() == b"text".as_slice());
     Ok(())
 }

@@ -1,7 +1,9 @@
 //! Stores and writers that give little or fail.
 
-ghost use Rattle.std.specs.Prelude.{Some, ◌≡◌, true, false, if◌then◌else◌, None, IfOk, OnErr};
-ghost use Rattle.std.specs.Option.{ForSome};
+ghost use Rattle.std.specs.Prelude.{Some, ◌≡◌, ◌≤◌, Bool, true, false, if◌then◌else◌, None, IfOk, OnErr};
+ghost use Rattle.base65.specs.Store.{last_count};
+ghost use Rattle.std.proofs.Common.{rules};
+ghost use Rattle.std.specs.Option.{ForSome, option_map};
 ghost use Rattle.std.specs.Bool.{OnTrue, OnFalse};
 
 use base65::{MemStore, Store, StoreFault, Text};
@@ -35,6 +37,8 @@ impl Store for ByteByByte {
         let most = piece.len().min(1);
         self.files.append(name, &piece[..most])
     }
+
+    ghost counted = { λ _. Prim.search rules };
 }
 
 /// Files in memory. The bytes that were read are counted, and the files that were created.
@@ -66,6 +70,8 @@ impl Store for Counting {
     fn append(&mut self, name: &str, piece: &[u8]) -> Result<usize, StoreFault> {
         self.files.append(name, piece)
     }
+
+    ghost counted = { λ _. Prim.search rules };
 }
 
 /// A store that fills every buffer, with zeros.
@@ -93,10 +99,12 @@ impl Store for Filling {
     fn append(&mut self, _name: &str, piece: &[u8]) -> Result<usize, StoreFault> {
         Ok(piece.len())
     }
+
+    ghost counted = { λ _. Prim.search rules };
 }
 
 /// Files in memory. One call fails, the one behind so many others, and is counted; those behind it don't. It keeps which file
-/// that call was for, and which files were created, in order.
+/// that call was for and where a reading began, and tells both, and which files were created, in order.
 #[derive(Drop)]
 pub struct FailsOnce {
     alloc: Global,
@@ -105,6 +113,7 @@ pub struct FailsOnce {
     left: Option<u64>,
     pub failed: bool,
     pub asked: Option<Text>,
+    pub at: Option<u64>,
     pub created: Vec<Text>,
     ghost once: { ForSome left (λ _. failed ≡ false) },
 }
@@ -119,6 +128,7 @@ impl FailsOnce {
             left,
             failed: false,
             asked: None,
+            at: None,
             created: Vec::new(alloc),
         }
     }
@@ -135,11 +145,14 @@ impl FailsOnce {
     }
 
     /// Whether this is the call that fails.
-    fn fails(&mut self, name: &str) -> Result<bool, AllocError>
+    fn fails(&mut self, name: &str, at: Option<u64>) -> Result<bool, AllocError>
         ensures files { self.new.files ≡ self.old.files }
         ensures yes { IfOk result (λ b. OnTrue b ((self.old.failed ≡ false) × (self.new.failed ≡ true))) }
         ensures no { IfOk result (λ b. OnFalse b (self.new.failed ≡ self.old.failed)) }
         ensures refused { OnErr result (self.new.failed ≡ self.old.failed) }
+        ensures asked { IfOk result (λ b. OnTrue b ((self.new.asked ≡ Some name.now) × (self.new.at ≡ at))) }
+        ensures unasked { IfOk result (λ b. OnFalse b ((self.new.asked ≡ self.old.asked) × (self.new.at ≡ self.old.at))) }
+        ensures untold { OnErr result ((self.new.asked ≡ self.old.asked) × (self.new.at ≡ self.old.at)) }
     {
         match self.left {
             Some(0) => {
@@ -147,6 +160,7 @@ impl FailsOnce {
                 self.left = None;
                 self.failed = true;
                 self.asked = Some(name);
+                self.at = at;
                 Ok(true)
             }
             Some(n) => {
@@ -171,17 +185,17 @@ impl Store for FailsOnce {
 
     ghost failures = { λ s. if s.failed then 1 else 0 };
 
-    ghost blamed = { λ _. None };
+    ghost blamed = { λ s. option_map (λ name. record { name = name; at = s.at }) s.asked };
 
     fn read_at(&mut self, name: &str, at: u64, buf: &mut [u8]) -> Result<usize, StoreFault> {
-        if self.fails(name)? {
+        if self.fails(name, Some(at))? {
             return Err(StoreFault::FileError);
         }
         self.files.read_at(name, at, buf)
     }
 
     fn create(&mut self, name: &str) -> Result<(), StoreFault> {
-        if self.fails(name)? {
+        if self.fails(name, None)? {
             return Err(StoreFault::FileError);
         }
         self.created.push(Text::copy_of(self.alloc, name)?)?;
@@ -189,7 +203,7 @@ impl Store for FailsOnce {
     }
 
     fn append(&mut self, name: &str, piece: &[u8]) -> Result<usize, StoreFault> {
-        if self.fails(name)? {
+        if self.fails(name, None)? {
             return Err(StoreFault::FileError);
         }
         if self.by_bytes {
@@ -198,23 +212,49 @@ impl Store for FailsOnce {
         }
         self.files.append(name, piece)
     }
+
+    ghost counted = { λ s. elim s.failed as (λ (b : Bool). (if b then 1 else 0) ≤ last_count) [ true ↦ Prim.search rules | false ↦ Prim.search rules ] };
 }
 
-/// A writer that stops behind so many bytes: it fails, or takes none of what is left.
+/// A writer that stops behind so many bytes: it fails, or takes none of what is left. Asked again it takes all, and keeps
+/// that it was.
 #[derive(Drop)]
 pub struct Stopping {
     pub taken: Vec<u8>,
     pub left: usize,
-    pub fails: bool,
+    fails: bool,
+    has_refused: bool,
+    pub is_asked_again: bool,
+}
+
+impl Stopping {
+    /// A writer that fails behind so many bytes, or takes no more.
+    pub fn behind(alloc: Global, left: usize, fails: bool) -> Stopping {
+        Stopping {
+            taken: Vec::new(alloc),
+            left,
+            fails,
+            has_refused: false,
+            is_asked_again: false,
+        }
+    }
 }
 
 impl Write for Stopping {
     ghost contents = { λ w. Some w.taken.items };
 
     fn write(&mut self, buf: &[u8]) -> io::Result<usize> {
+        if self.has_refused {
+            self.is_asked_again = true;
+            self.taken.extend_from_slice(buf)?;
+            return Ok(buf.len());
+        }
         let n = buf.len().min(self.left);
-        if n == 0 && !buf.is_empty() && self.fails {
-            return Err(io::Error::from(ErrorKind::Other));
+        if n == 0 && !buf.is_empty() {
+            self.has_refused = true;
+            if self.fails {
+                return Err(io::Error::from(ErrorKind::Other));
+            }
         }
         self.taken.extend_from_slice(&buf[..n])?;
         self.left -= n;

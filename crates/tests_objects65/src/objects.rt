@@ -6,6 +6,7 @@ mod scans;
 mod versions;
 
 ghost use Rattle.std.specs.Prelude.{◌≡◌, IfOk, None, true};
+ghost use Rattle.std.proofs.Common.{rules};
 ghost use Rattle.object65.specs.Objects.{is_good_object};
 
 use arrayvec::ArrayVec;
@@ -159,6 +160,8 @@ impl Store for Endless {
     fn append(&mut self, _name: &str, piece: &[u8]) -> Result<usize, StoreFault> {
         Ok(piece.len())
     }
+
+    ghost counted = { λ _. Prim.search rules };
 }
 
 #[test]

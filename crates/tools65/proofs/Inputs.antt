@@ -39,7 +39,7 @@ use Rattle.tools65.specs.Inputs.{SourcesSelectedLaw, WrittenInputLaw, WrittenMem
 use Rattle.tools65.specs.OneProgram.{AreInputOf, AreMembers, AreObjectsOf, AreSelected, AreTaken, IsModuleOf, IsObjectOf, Source}
 use Rattle.tools65.specs.Written.{IsOneOf, IsSourceInput, IsSourceObject, IsWrittenOf}
 use Rattle.tools65.proofs.Selected.{ok_err, ok_same}
-use Rattle.tools65.proofs.Selecting.{selection_exists}
+use Rattle.library65.proofs.SomeSelection.{some_selection}
 
 -- ---- The object of a source is one of the grammar.
 
@@ -207,7 +207,7 @@ module _ (sources : List Source) (m : Files) where
         let defined : List (List ℕ) = given_names s (program_of before) in
         let kind : is_library_in m library ≡ true = kind_in m library bytes true there (ap is_library is.is_index.spelled ∙ mark_bytes es is.is_index.members) in
         let index = ap (λ (f : Option (List ℕ)). in_library f index_at) there ∙ index_again bytes es is.is_index in
-        let selected = selection_exists es wanted defined in
+        let selected = some_selection es wanted defined in
         let stored = all_stored library bytes es ps there is.is_index.limit is.members all in
         let own = members_given library (chosen es selected.0) (all_chosen (HasSource library) es selected.0 stored) in
         let taken : AreTaken s m before library own.modules = (es, selected.0, index, selected.1, own.are) in

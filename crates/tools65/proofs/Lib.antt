@@ -1,10 +1,11 @@
+pub mod Computed
 pub mod Runs
 pub mod Failing
 pub mod OneLinks
-pub mod Selecting
 pub mod Inputs
 pub mod Archived
 pub mod Selected
 pub mod Wholes
 pub mod WholeRuns
 pub mod OneOutcomes
+pub mod SomeOutcomes

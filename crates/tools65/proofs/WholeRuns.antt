@@ -16,7 +16,7 @@ use Rattle.ld65.specs.declared.refusal.Refusal.{Refusal}
 use Rattle.ld65.specs.Linkage.{IsLinked, output_of}
 use Rattle.ld65.specs.Refusals.{memory_message}
 use Rattle.tools65.specs.Command.{Commands, Does, DoesLine, Ran, RanWords, line_memory, outcome_of}
-use Rattle.output65.specs.Leaving.{Performs, Settles, StopsAt, StopsShort, Streams, apply}
+use Rattle.output65.specs.Leaving.{Performs, Settles, StopsAt, StopsShort, Streams, apply, took_both}
 use Rattle.tools65.specs.OneProgram.{DoesWhole, HasFiles, HaveNoImage, IsRefusal, LineLinksWhole, LineRunsLaw, LinksWhole, RunsLaw, SelectsSources, Source, WholeOf, WordsLinkWhole, WritesWhole, WroteFiles}
 use Rattle.output65.specs.Outputs.{failing, with_map}
 use Rattle.output65.specs.declared.outcome.Outcome.{Outcome}
@@ -37,7 +37,7 @@ settled_well o m new status false h e = absurd (not_both (sym e ∙ h.1))
 
 -- its outcome is carried out whole
 carried_out : (o : Outcome) (memory : List ℕ) (m : Files) (new : Option Files) (io : Streams) (status : Status) → status ≡ Success → Performs o m new io status ⊎ StopsShort o memory m new io status → (o.status ≡ Success) × (new ≡ Some (apply o.outputs m))
-carried_out o memory m new io status e (inl p) = settled_well o m new status p.whole p.settled e
+carried_out o memory m new io status e (inl p) = settled_well o m new status (took_both io) p.settled e
 carried_out o memory m new io status e (inr p) = absurd (not_both (sym e ∙ p.failed))
 
 failing_fails : (o : Outcome) (text : List ℕ) → o ≡ failing text → o.status ≡ Success → ⊥
@@ -70,7 +70,7 @@ no_place outputs place m (Some z) none left = none_there place left.0 (sym (ap (
 
 -- an outcome without files leaves the files as they were
 left_alone : (o : Outcome) (memory : List ℕ) (m : Files) (new : Option Files) (io : Streams) (status : Status) → o.outputs ≡ [] → o.status ≡ Failure → Performs o m new io status ⊎ StopsShort o memory m new io status → (new ≡ Some m) × (status ≡ Failure)
-left_alone o memory m new io status none fails (inl p) = settled_alone o m new status p.whole none fails p.settled
+left_alone o memory m new io status none fails (inl p) = settled_alone o m new status (took_both io) none fails p.settled
 left_alone o memory m new io status none fails (inr p) = absurd (no_place o.outputs p.place m new none p.left)
 
 module _ (l : Linking) (m : Files) (s : Script) (xs : List Source) (k : SelectsSources l m s xs) where

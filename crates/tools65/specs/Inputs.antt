@@ -5,7 +5,6 @@ use Rattle.std.specs.List.{AllByRecursion}
 use Rattle.base65.specs.Store.{Files}
 use Rattle.object65.specs.Reading.{file_limit}
 use Rattle.object65.specs.Spelling.{IsObject}
-use Rattle.library65.specs.Selection.{IsSelection}
 use Rattle.library65.specs.Spelling.{IsMember, Member}
 use Rattle.library65.specs.declared.index.Entry.{Entry}
 use Rattle.link65.specs.Programs.{Module}
@@ -15,12 +14,6 @@ use Rattle.cli65.specs.Line.{Linking}
 use Rattle.ld65.specs.Linkage.{member_input}
 use Rattle.tools65.specs.OneProgram.{AreInputOf, IsModuleOf, IsObjectOf, SelectsSources, Source}
 use Rattle.tools65.specs.Written.{IsOneOf, IsSourceInput, IsWrittenOf}
-
--- what is wanted of a library has a selection
-abbrev pub SelectionExistsLaw : Type 0
-SelectionExistsLaw =
-    (es : List Entry) (wanted defined : List (List ℕ)) →
-    (places : List ℕ) × IsSelection es wanted defined places
 
 -- what ca65 wrote of a source is spelled as an object of the grammar
 abbrev pub WrittenObjectLaw : Type 0

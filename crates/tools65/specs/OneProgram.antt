@@ -68,6 +68,13 @@ OneProgramLaw =
     (output : List ℕ) (s : Script) (xs : List Source) (ms : List Module) (files : List OutputFile) →
     AreObjectsOf xs ms → WholeOf output s xs files ↔ IsLinkedTo output s ms files
 
+-- So it is decided whether sources have an image.
+abbrev pub ImageOrNoneLaw : Type 0
+ImageOrNoneLaw =
+    (output : List ℕ) (s : Script) (xs : List Source) (ms : List Module) → AreObjectsOf xs ms →
+    ((files : List OutputFile) × WholeOf output s xs files)
+    ⊎ ((files : List OutputFile) → WholeOf output s xs files → ⊥)
+
 -- ---- The modules that a line selects: the objects given, and of each library the members that are needed.
 
 -- the module of an object, which its library's index tells, if it is a member of one

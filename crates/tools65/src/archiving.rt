@@ -1,11 +1,12 @@
 //! What a line of the librarian does.
 
-ghost use Rattle.std.specs.Prelude.{◌≡◌, IfOk, map};
-ghost use Rattle.cli65.specs.Line.{archiving};
+ghost use Rattle.std.specs.Prelude.{◌≡◌, IfOk, IfSome, map};
+ghost use Rattle.cli65.specs.Line.{archive, archiving};
 ghost use Rattle.tools65.specs.Archives.{archive_outcome, archived_outcome, library_file, output_of};
+ghost use Rattle.tools65.specs.Inner.Computing.{Computes, Leaves};
 
-use ar65::{Archived, MemberFile, Refusal, refusal_message};
-use base65::{OutputFile, Sequence, Text};
+use ar65::{Archived, MemberFile, Refusal, archive, refusal_message};
+use base65::{OutputFile, Sequence, Store, Text};
 use cli65::ArchiveLine;
 use output65::{Outcome, Status};
 use std::alloc::{AllocError, Global};
@@ -64,7 +65,7 @@ fn archived_outcome(
 }
 
 /// What a line does, or why it does nothing.
-pub fn archive_outcome(
+fn archive_outcome(
     alloc: Global,
     line: &ArchiveLine<'_>,
     archived: Result<Archived, Refusal>,
@@ -80,4 +81,18 @@ pub fn archive_outcome(
             status: Status::Failure,
         }),
     }
+}
+
+/// Does with a library what a line says, and computes what that does.
+pub fn compute_archive<S: Store>(
+    alloc: Global,
+    line: &ArchiveLine<'_>,
+    store: &mut S,
+) -> Result<Outcome, AllocError>
+    ensures computed { IfSome (S.files store.old) (λ m. IfOk result (Computes (archive (archiving line.now)) m
+        (S.blamed store.new) (S.failures store.old) (S.failures store.new))) }
+    ensures kept { Leaves S.files S.failures store.old store.new result }
+{
+    let archived = archive(alloc, store, line);
+    archive_outcome(alloc, line, archived)
 }

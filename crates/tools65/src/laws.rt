@@ -1,19 +1,30 @@
 //! What holds of commands, and of linking what ca65 wrote. Each function's contract is a law.
 
-ghost use Rattle.tools65.specs.Inputs.{SelectionExistsLaw, SourcesSelectedLaw, WrittenInputLaw, WrittenMemberLaw, WrittenObjectLaw};
+ghost use Rattle.tools65.specs.Inputs.{SourcesSelectedLaw, WrittenInputLaw, WrittenMemberLaw, WrittenObjectLaw};
 ghost use Rattle.tools65.specs.Kept.{ArchivedSourcesLaw, AssembledFileLaw};
-ghost use Rattle.tools65.specs.OneOutcome.{OneOutcomeLaw};
-ghost use Rattle.tools65.specs.OneProgram.{LineRunsLaw, OneProgramLaw, RunsLaw};
+ghost use Rattle.tools65.specs.OneOutcome.{AnOutcomeLaw, OneOutcomeLaw};
+ghost use Rattle.tools65.specs.OneProgram.{ImageOrNoneLaw, LineRunsLaw, OneProgramLaw, RunsLaw};
 
 /// What words do as a command, given the files, is one outcome at most: these texts, these files, this status.
 pub fn one_outcome()
     ensures { OneOutcomeLaw }
 {}
 
+/// Whatever words are and whatever bytes files hold, there is exactly one thing that the words do as a command: these texts,
+/// these files, this status.
+pub fn an_outcome_exists()
+    ensures { AnOutcomeLaw }
+{}
+
 /// Linking objects that ca65 wrote of sources, in either version, gives files exactly where the sources, laid out
 /// and evaluated as one program, have an image, and these files are that image.
 pub fn one_program()
     ensures { OneProgramLaw }
+{}
+
+/// Sources of such objects have an image as one program, or they have none.
+pub fn image_or_none()
+    ensures { ImageOrNoneLaw }
 {}
 
 /// What `run` does with words that are a link of sources' objects: it carries out the image that the sources have as one
@@ -26,11 +37,6 @@ pub fn runs_of_one_program()
 /// The same of `run_line` and a line.
 pub fn lines_of_one_program()
     ensures { LineRunsLaw }
-{}
-
-/// What is wanted of a library has a selection.
-pub fn selection_exists()
-    ensures { SelectionExistsLaw }
 {}
 
 /// What ca65 wrote of a source, in either version, is spelled as an object of the grammar.

@@ -1,158 +1,83 @@
 //! One command.
 
-ghost use Rattle.std.specs.Prelude.{◌≡◌, ◌≤◌, IfOk, IfSome, map};
+ghost use Rattle.std.specs.Prelude.{◌≡◌, ◌≤◌, IfOk, IfSome, false, map};
 ghost use Rattle.base65.specs.Store.{HasFailed, NoneFailed};
-ghost use Rattle.cli65.specs.Line.{archive, archiving, assemble, assembling, line_of, link, linking, view};
+ghost use Rattle.cli65.specs.Line.{line_of, view};
 ghost use Rattle.cli65.specs.Messages.{memory_line};
-ghost use Rattle.output65.specs.Leaving.{streams};
-ghost use Rattle.tools65.specs.Archives.{Archives};
-ghost use Rattle.tools65.specs.Command.{outcome_of, Ran, Assembles, Does, DoesLine, Commands, line_memory};
+ghost use Rattle.output65.specs.Leaving.{AreSame, OverWriters, between};
+ghost use Rattle.tools65.specs.Command.{Commands, DoesLine, Ran, line_memory};
 ghost use Rattle.tools65.specs.Failing.{FailsLine, FailsWords};
+ghost use Rattle.tools65.specs.Inner.Computing.{Computes, Leaves};
 ghost use Rattle.tools65.specs.OneProgram.{LineLinksWhole, WordsLinkWhole};
-ghost use Rattle.ld65.specs.Refusals.{memory_message};
 
-use crate::archiving::archive_outcome;
-use crate::assembling::job::{defines_of, folders_of};
-use crate::assembling::outcome::asm_outcome;
-use ar65::archive;
-use asm65::{AsmJob, assemble};
-use base65::{Sequence, Store};
-use cli65::{ArchiveLine, AssembleLine, Line, LinkLine, fault_message, read_line};
-use ld65::{Linked, Refusal, link_files, refusal_message};
-use output65::{Outcome, Status, perform, print, say_memory, with_map};
+use crate::archiving::compute_archive;
+use crate::assembling::outcome::compute_assembly;
+use crate::linking::compute_link;
+use base65::Store;
+use cli65::{Line, fault_message, read_line};
+use output65::{Outcome, Status, Stream, perform, print, say_memory};
 use std::alloc::{AllocError, Global};
 use std::convert::AsStr;
 use std::io::Write;
 
-/// What linking does: it warns and writes its files and its map, or says why there are none.
-fn link_outcome(
-    alloc: Global,
-    line: &LinkLine<'_>,
-    linked: Result<Linked, Refusal>,
-) -> Result<Outcome, AllocError>
-    ensures { IfOk result (λ outcome. outcome ≡ outcome_of (linking line.now) linked) }
+/// The name behind which want of memory is said while a line runs.
+fn memory_name<'a>(line: &'a Line<'_>) -> &'a str
+    ensures { memory_line result.now ≡ line_memory (view line.now) }
 {
-    match linked {
-        Ok(linked) => Ok(Outcome {
-            out: Sequence::new(alloc),
-            err: linked.warnings,
-            outputs: with_map(alloc, line.map, linked.files, linked.map)?,
-            status: Status::Success,
-        }),
-        Err(refusal) => Ok(Outcome {
-            out: Sequence::new(alloc),
-            err: refusal_message(alloc, line, &refusal)?,
-            outputs: Sequence::new(alloc),
-            status: Status::Failure,
-        }),
+    match line {
+        Line::Assemble(line) => line.source,
+        Line::Link(_) => "ld65",
+        Line::Archive(line) => line.library,
     }
 }
 
-/// Links, and answers the status.
-fn run_link<S: Store, W: Write, E: Write>(
+/// Reads what a line names, and computes its outcome; nothing is said or written.
+fn compute<S: Store>(alloc: Global, line: &Line<'_>, store: &mut S) -> Result<Outcome, AllocError>
+    ensures computed { IfSome (S.files store.old) (λ m. IfOk result (Computes (view line.now) m
+        (S.blamed store.new) (S.failures store.old) (S.failures store.new))) }
+    ensures kept { Leaves S.files S.failures store.old store.new result }
+{
+    match line {
+        Line::Assemble(line) => compute_assembly(alloc, line, store),
+        Line::Link(line) => compute_link(alloc, line, store),
+        Line::Archive(line) => compute_archive(alloc, line, store),
+    }
+}
+
+/// Runs a line over two streams, and answers the status. Everything is computed first, then the texts are printed, then the
+/// files are written; a run that is refused writes none, and a stream that has refused is asked no more.
+pub fn run_line_over<S: Store, W: Write, E: Write>(
     alloc: Global,
-    line: &LinkLine<'_>,
+    line: &Line<'_>,
     store: &mut S,
-    out: &mut W,
-    err: &mut E,
+    out: &mut Stream<'_, W>,
+    err: &mut Stream<'_, E>,
 ) -> Status
+    requires out { out.old.has_refused ≡ false }
+    requires err { err.old.has_refused ≡ false }
+    ensures same { AreSame out.old out.new err.old err.new }
     ensures done { IfSome (S.files store.old) (λ m. NoneFailed (S.failures store.old) (S.failures store.new) →
-        Ran (Does (linking line.now)) memory_message m (S.files store.new)
-        (streams (W.contents out.old) (W.contents out.new) (E.contents err.old) (E.contents err.new)) result) }
+        Ran (DoesLine (view line.now)) (line_memory (view line.now)) m (S.files store.new)
+        (between W.contents E.contents out.old out.new err.old err.new) result) }
     ensures failed { IfSome (S.files store.old) (λ m. HasFailed (S.failures store.old) (S.failures store.new) →
-        FailsLine (link (linking line.now)) m (S.files store.new) (S.blamed store.new)
-        (streams (W.contents out.old) (W.contents out.new) (E.contents err.old) (E.contents err.new)) result) }
+        FailsLine (view line.now) m (S.files store.new) (S.blamed store.new)
+        (between W.contents E.contents out.old out.new err.old err.new) result) }
     ensures one_program { IfSome (S.files store.old) (λ m. NoneFailed (S.failures store.old) (S.failures store.new) →
-        LineLinksWhole (link (linking line.now)) m (S.files store.new)
-        (streams (W.contents out.old) (W.contents out.new) (E.contents err.old) (E.contents err.new)) result) }
+        LineLinksWhole (view line.now) m (S.files store.new)
+        (between W.contents E.contents out.old out.new err.old err.new) result) }
     ensures later { S.failures store.old ≤ S.failures store.new }
     ensures rose { HasFailed (S.failures store.old) (S.failures store.new) → result ≡ Status.Failure }
 {
-    let linked = link_files(alloc, store, line);
-    match link_outcome(alloc, line, linked) {
-        Ok(outcome) => perform(&outcome, store, out, err, "ld65"),
+    match compute(alloc, line, store) {
+        Ok(outcome) => perform(&outcome, store, out, err, memory_name(line)),
         Err(_) => {
-            say_memory(err, "ld65");
+            say_memory(err, memory_name(line));
             Status::Failure
         }
     }
 }
 
-/// Assembles, and answers the status.
-fn run_assemble<S: Store, W: Write, E: Write>(
-    alloc: Global,
-    line: &AssembleLine<'_>,
-    store: &mut S,
-    out: &mut W,
-    err: &mut E,
-) -> Status
-    ensures done { IfSome (S.files store.old) (λ m. NoneFailed (S.failures store.old) (S.failures store.new) →
-        Ran (Assembles (assembling line.now)) (memory_line line.now.source.now) m (S.files store.new)
-        (streams (W.contents out.old) (W.contents out.new) (E.contents err.old) (E.contents err.new)) result) }
-    ensures failed { IfSome (S.files store.old) (λ m. HasFailed (S.failures store.old) (S.failures store.new) →
-        FailsLine (assemble (assembling line.now)) m (S.files store.new) (S.blamed store.new)
-        (streams (W.contents out.old) (W.contents out.new) (E.contents err.old) (E.contents err.new)) result) }
-    ensures one_program { IfSome (S.files store.old) (λ m. NoneFailed (S.failures store.old) (S.failures store.new) →
-        LineLinksWhole (assemble (assembling line.now)) m (S.files store.new)
-        (streams (W.contents out.old) (W.contents out.new) (E.contents err.old) (E.contents err.new)) result) }
-    ensures later { S.failures store.old ≤ S.failures store.new }
-    ensures rose { HasFailed (S.failures store.old) (S.failures store.new) → result ≡ Status.Failure }
-{
-    let Ok(include) = folders_of(alloc, line.include.as_slice()) else {
-        say_memory(err, line.source);
-        return Status::Failure;
-    };
-    let Ok(defines) = defines_of(alloc, line.defines.as_slice()) else {
-        say_memory(err, line.source);
-        return Status::Failure;
-    };
-    let job = AsmJob {
-        source: line.source,
-        include: include.as_slice(),
-        defines: defines.as_slice(),
-    };
-    let assembly = assemble(alloc, store, &job);
-    match asm_outcome(alloc, line, assembly) {
-        Ok(outcome) => perform(&outcome, store, out, err, line.source),
-        Err(_) => {
-            say_memory(err, line.source);
-            Status::Failure
-        }
-    }
-}
-
-/// Does what a line of the librarian says, and answers the status.
-fn run_archive<S: Store, W: Write, E: Write>(
-    alloc: Global,
-    line: &ArchiveLine<'_>,
-    store: &mut S,
-    out: &mut W,
-    err: &mut E,
-) -> Status
-    ensures done { IfSome (S.files store.old) (λ m. NoneFailed (S.failures store.old) (S.failures store.new) →
-        Ran (Archives (archiving line.now)) (memory_line line.now.library.now) m (S.files store.new)
-        (streams (W.contents out.old) (W.contents out.new) (E.contents err.old) (E.contents err.new)) result) }
-    ensures failed { IfSome (S.files store.old) (λ m. HasFailed (S.failures store.old) (S.failures store.new) →
-        FailsLine (archive (archiving line.now)) m (S.files store.new) (S.blamed store.new)
-        (streams (W.contents out.old) (W.contents out.new) (E.contents err.old) (E.contents err.new)) result) }
-    ensures one_program { IfSome (S.files store.old) (λ m. NoneFailed (S.failures store.old) (S.failures store.new) →
-        LineLinksWhole (archive (archiving line.now)) m (S.files store.new)
-        (streams (W.contents out.old) (W.contents out.new) (E.contents err.old) (E.contents err.new)) result) }
-    ensures later { S.failures store.old ≤ S.failures store.new }
-    ensures rose { HasFailed (S.failures store.old) (S.failures store.new) → result ≡ Status.Failure }
-{
-    let archived = archive(alloc, store, line);
-    match archive_outcome(alloc, line, archived) {
-        Ok(outcome) => perform(&outcome, store, out, err, line.library),
-        Err(_) => {
-            say_memory(err, line.library);
-            Status::Failure
-        }
-    }
-}
-
-/// Runs a line, and answers the status. Everything is computed first, then the texts are printed, then the
-/// files are written; a run that is refused writes none.
+/// Runs a line over streams over these writers, and answers the status.
 pub fn run_line<S: Store, W: Write, E: Write>(
     alloc: Global,
     line: &Line<'_>,
@@ -161,25 +86,59 @@ pub fn run_line<S: Store, W: Write, E: Write>(
     err: &mut E,
 ) -> Status
     ensures done { IfSome (S.files store.old) (λ m. NoneFailed (S.failures store.old) (S.failures store.new) →
-        Ran (DoesLine (view line.now)) (line_memory (view line.now)) m (S.files store.new)
-        (streams (W.contents out.old) (W.contents out.new) (E.contents err.old) (E.contents err.new)) result) }
+        OverWriters (W.contents out.old) (W.contents out.new) (E.contents err.old) (E.contents err.new)
+        (λ io. Ran (DoesLine (view line.now)) (line_memory (view line.now)) m (S.files store.new) io result)) }
     ensures failed { IfSome (S.files store.old) (λ m. HasFailed (S.failures store.old) (S.failures store.new) →
-        FailsLine (view line.now) m (S.files store.new) (S.blamed store.new)
-        (streams (W.contents out.old) (W.contents out.new) (E.contents err.old) (E.contents err.new)) result) }
+        OverWriters (W.contents out.old) (W.contents out.new) (E.contents err.old) (E.contents err.new)
+        (λ io. FailsLine (view line.now) m (S.files store.new) (S.blamed store.new) io result)) }
     ensures one_program { IfSome (S.files store.old) (λ m. NoneFailed (S.failures store.old) (S.failures store.new) →
-        LineLinksWhole (view line.now) m (S.files store.new)
-        (streams (W.contents out.old) (W.contents out.new) (E.contents err.old) (E.contents err.new)) result) }
+        OverWriters (W.contents out.old) (W.contents out.new) (E.contents err.old) (E.contents err.new)
+        (λ io. LineLinksWhole (view line.now) m (S.files store.new) io result)) }
     ensures later { S.failures store.old ≤ S.failures store.new }
     ensures rose { HasFailed (S.failures store.old) (S.failures store.new) → result ≡ Status.Failure }
 {
-    match line {
-        Line::Assemble(line) => run_assemble(alloc, line, store, out, err),
-        Line::Link(line) => run_link(alloc, line, store, out, err),
-        Line::Archive(line) => run_archive(alloc, line, store, out, err),
+    run_line_over(
+        alloc,
+        line,
+        store,
+        &mut Stream::over(out),
+        &mut Stream::over(err),
+    )
+}
+
+/// Runs words as a command over two streams, the first word being the program's name, and answers the status.
+pub fn run_over<A: AsStr, S: Store, W: Write, E: Write>(
+    alloc: Global,
+    words: &[A],
+    store: &mut S,
+    out: &mut Stream<'_, W>,
+    err: &mut Stream<'_, E>,
+) -> Status
+    requires out { out.old.has_refused ≡ false }
+    requires err { err.old.has_refused ≡ false }
+    ensures same { AreSame out.old out.new err.old err.new }
+    ensures done { IfSome (S.files store.old) (λ m. NoneFailed (S.failures store.old) (S.failures store.new) →
+        Commands (map A.text words.now) m (S.files store.new)
+        (between W.contents E.contents out.old out.new err.old err.new) result) }
+    ensures failed { IfSome (S.files store.old) (λ m. HasFailed (S.failures store.old) (S.failures store.new) →
+        FailsWords (S.failures store.old) (map A.text words.now) m (S.files store.new) (S.blamed store.new)
+        (between W.contents E.contents out.old out.new err.old err.new) result) }
+    ensures one_program { IfSome (S.files store.old) (λ m. NoneFailed (S.failures store.old) (S.failures store.new) →
+        WordsLinkWhole (line_of (map A.text words.now)) m (S.files store.new)
+        (between W.contents E.contents out.old out.new err.old err.new) result) }
+    ensures later { S.failures store.old ≤ S.failures store.new }
+    ensures rose { HasFailed (S.failures store.old) (S.failures store.new) → result ≡ Status.Failure }
+{
+    match read_line(alloc, words) {
+        Ok(line) => run_line_over(alloc, &line, store, out, err),
+        Err(fault) => {
+            print(err, fault_message(fault));
+            Status::Failure
+        }
     }
 }
 
-/// Runs words as a command, the first being the program's name, and answers the status.
+/// Runs words as a command over streams over these writers, the first word being the program's name, and answers the status.
 pub fn run<A: AsStr, S: Store, W: Write, E: Write>(
     alloc: Global,
     words: &[A],
@@ -188,22 +147,22 @@ pub fn run<A: AsStr, S: Store, W: Write, E: Write>(
     err: &mut E,
 ) -> Status
     ensures done { IfSome (S.files store.old) (λ m. NoneFailed (S.failures store.old) (S.failures store.new) →
-        Commands (map A.text words.now) m (S.files store.new)
-        (streams (W.contents out.old) (W.contents out.new) (E.contents err.old) (E.contents err.new)) result) }
+        OverWriters (W.contents out.old) (W.contents out.new) (E.contents err.old) (E.contents err.new)
+        (λ io. Commands (map A.text words.now) m (S.files store.new) io result)) }
     ensures failed { IfSome (S.files store.old) (λ m. HasFailed (S.failures store.old) (S.failures store.new) →
-        FailsWords (S.failures store.old) (map A.text words.now) m (S.files store.new) (S.blamed store.new)
-        (streams (W.contents out.old) (W.contents out.new) (E.contents err.old) (E.contents err.new)) result) }
+        OverWriters (W.contents out.old) (W.contents out.new) (E.contents err.old) (E.contents err.new)
+        (λ io. FailsWords (S.failures store.old) (map A.text words.now) m (S.files store.new) (S.blamed store.new) io result)) }
     ensures one_program { IfSome (S.files store.old) (λ m. NoneFailed (S.failures store.old) (S.failures store.new) →
-        WordsLinkWhole (line_of (map A.text words.now)) m (S.files store.new)
-        (streams (W.contents out.old) (W.contents out.new) (E.contents err.old) (E.contents err.new)) result) }
+        OverWriters (W.contents out.old) (W.contents out.new) (E.contents err.old) (E.contents err.new)
+        (λ io. WordsLinkWhole (line_of (map A.text words.now)) m (S.files store.new) io result)) }
     ensures later { S.failures store.old ≤ S.failures store.new }
     ensures rose { HasFailed (S.failures store.old) (S.failures store.new) → result ≡ Status.Failure }
 {
-    match read_line(alloc, words) {
-        Ok(line) => run_line(alloc, &line, store, out, err),
-        Err(fault) => {
-            print(err, fault_message(fault));
-            Status::Failure
-        }
-    }
+    run_over(
+        alloc,
+        words,
+        store,
+        &mut Stream::over(out),
+        &mut Stream::over(err),
+    )
 }

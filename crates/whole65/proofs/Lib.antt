@@ -1,4 +1,5 @@
 pub mod Asserted
+pub mod Circular
 pub mod Equality
 pub mod Exports
 pub mod Files

@@ -22,7 +22,7 @@ use Rattle.script65.specs.declared.placement.Placement.{Placement}
 use Rattle.script65.specs.declared.script.Script.{Script}
 use Rattle.std.specs.List.{AllByRecursion}
 use Rattle.script65.specs.Placing.{place_of}
-use Rattle.whole65.specs.Values.{Program, Value}
+use Rattle.whole65.specs.Values.{Needs, Program, Spot, Value}
 use Rattle.whole65.specs.Whole.{AreRow}
 
 -- an expression has one value at most
@@ -30,6 +30,10 @@ abbrev pub OneValueLaw : Type 0
 OneValueLaw =
     (p : Program) (owner place : ℕ) (e : Tree) (v w : ℤ) →
     Value p owner place e v → Value p owner place e w → v ≡ w
+
+-- what is needed for its own value has none
+abbrev pub CircularLaw : Type 0
+CircularLaw = (p : Program) (x : Spot) (v : ℤ) → Needs p x x → Value p x.owner x.place x.tree v → ⊥
 
 -- Wherever sections lie, an expression that has a normal form has the value of that form, and none where the form has none:
 -- names are replaced by their definitions, operations are folded, and imports have the values of exports.

@@ -72,3 +72,39 @@ pub data Value (p : Program) : (owner place : ℕ) → Tree → ℤ → Type 0 w
   joined :
       {owner place : ℕ} {op : Op2} {e f : Tree} {a b v : ℤ} →
       Value p owner place e a → Value p owner place f b → value2 op a b ≡ Some v → Value p owner place (tree.binary op e f) v
+
+-- ---- What an expression needs for its value.
+
+-- an expression, and where it stands
+pub record Spot : Type 0 where
+  pub owner : ℕ
+  pub place : ℕ
+  pub tree : Tree
+
+abbrev pub at : (owner place : ℕ) → Tree → Spot
+at owner place e = record { owner = owner; place = place; tree = e }
+
+-- A constant needs its own expression, an import the name that its module exports, an operation its operands.
+pub data NeedsNext (p : Program) : Spot → Spot → Type 0 where
+  of_constant :
+      {owner place where_set : ℕ} {e f : Tree} →
+      meaning_in p owner place e ≡ Some (constant_at where_set f) →
+      NeedsNext p (at owner place e) (at owner where_set f)
+  of_import :
+      {owner place provider : ℕ} {e : Tree} {x : List ℕ} →
+      meaning_in p owner place e ≡ Some (import_of x) → p.provider x ≡ by_module provider →
+      NeedsNext p (at owner place e) (at provider (p.global provider) (name false (x ∷ [])))
+  of_prefix :
+      {owner place : ℕ} {op : Op1} {e : Tree} →
+      NeedsNext p (at owner place (tree.unary op e)) (at owner place e)
+  of_left :
+      {owner place : ℕ} {op : Op2} {e f : Tree} →
+      NeedsNext p (at owner place (tree.binary op e f)) (at owner place e)
+  of_right :
+      {owner place : ℕ} {op : Op2} {e f : Tree} →
+      NeedsNext p (at owner place (tree.binary op e f)) (at owner place f)
+
+-- and what these need in turn
+pub data Needs (p : Program) : Spot → Spot → Type 0 where
+  next : {x y : Spot} → NeedsNext p x y → Needs p x y
+  behind : {x y z : Spot} → NeedsNext p x y → Needs p y z → Needs p x z

@@ -1,11 +1,16 @@
 //! What holds of whole programs, from one value to the equality. Each function's contract is a law.
 
 ghost use Rattle.whole65.specs.Equality.{EqualityLaw};
-ghost use Rattle.whole65.specs.Laws.{ExportValueLaw, OffsetLaw, OneValueLaw, PlacementLaw, RowsLaw, SameValuesLaw};
+ghost use Rattle.whole65.specs.Laws.{CircularLaw, ExportValueLaw, OffsetLaw, OneValueLaw, PlacementLaw, RowsLaw, SameValuesLaw};
 
 /// An expression has at most one value.
 pub fn one_value()
     ensures { OneValueLaw }
+{}
+
+/// What is needed for its own value has none.
+pub fn none_where_circular()
+    ensures { CircularLaw }
 {}
 
 /// An expression and its normal form have the same value, or none, wherever sections lie. `E` is what may go wrong with

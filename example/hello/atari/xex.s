@@ -1,12 +1,14 @@
-; What cc65's linker writes around an Atari program by itself: two bytes for the file, where the program is loaded, and
-; behind it the address at which it starts. Here the script has an area for each.
-        .import __MAIN_START__, __BSS_RUN__, start
+; What makes a file that the Atari loads of a program: a mark, the block's first and last address before it, and after it
+; a block of two bytes with the address at which it starts.
+        .import __PROGRAM_START__, __PROGRAM_LAST__, start
+RUNAD = $02E0
 
-.segment "EXEHDR"
+.segment "MARK"
         .word   $FFFF
 
-.segment "MAINHDR"
-        .addr   __MAIN_START__, __BSS_RUN__ - 1
+.segment "FROM_TO"
+        .addr   __PROGRAM_START__, __PROGRAM_LAST__ - 1
 
-.segment "AUTOSTRT"
-        .addr   $02E0, $02E1, start
+.segment "RUN"
+        .addr   RUNAD, RUNAD + 1
+        .addr   start

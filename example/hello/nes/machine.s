@@ -1,4 +1,4 @@
-; The NES: the file's header, the three vectors, pictures of five letters, and a character on the screen.
+; The NES: the file's header, the three vectors, tiles of four letters, and a character on the screen.
         .import start
         .export begin, put
 PPUCTRL   = $2000
@@ -10,7 +10,7 @@ PPUDATA   = $2007
 
 .segment "HEADER"
         .byte   "NES", $1A
-        .byte   2, 1            ; two banks of 16 KiB of program, one of 8 KiB of pictures
+        .byte   2, 1            ; two banks of 16 KiB of program, one of 8 KiB of tiles
         .byte   1               ; no bank switching
         .res    9, 0
 
@@ -28,11 +28,10 @@ reset:  sei
         txs
         jmp     start
 
-.segment "ONCE"
 begin:  lda     #0
         sta     PPUCTRL
         sta     PPUMASK
-        ldx     #2              ; the picture chip is awake after two pictures
+        ldx     #2              ; the PPU is awake after two frames
 :       bit     PPUSTATUS
         bpl     :-
         dex
@@ -60,7 +59,7 @@ begin:  lda     #0
 
 .code
 put:    pha
-        lda     #0              ; no picture meanwhile
+        lda     #0              ; shows nothing meanwhile
         sta     PPUMASK
         lda     #>$21C0         ; the 15th row
         jsr     at_column
@@ -93,8 +92,8 @@ go_to:  sta     PPUADDR
         .res    8, 0
 .endmacro
 
-; A picture has 16 bytes, and the pictures stand in the places of their characters.
-.segment "CHARS"
+; A tile has 16 bytes, and each stands in the place of its character.
+.segment "TILES"
         .res    'E' * 16, 0
         letter  %11111100, %11000000, %11000000, %11111000, %11000000, %11000000, %11111100
         .res    ('H' - 'E' - 1) * 16, 0

@@ -3,19 +3,15 @@ use Rattle.std.specs.Prelude.{◌≡◌, ℕ, ◌<◌, ⊤, false, List, [], ◌
 use Rattle.std.specs.List.{AllByRecursion, flat_map, list_all}
 use Rattle.syntax65.specs.Trees.{Tree, name}
 use Rattle.syntax65.specs.declared.place.Place.{Place}
-use Rattle.semantics65.specs.Contents.{Content, Part, operand_form, put, stored, asking}
+use Rattle.semantics65.specs.Contents.{Part, operand_form, put, stored, asking}
 use Rattle.semantics65.specs.declared.laid.Context.{Context}
 use Rattle.semantics65.specs.Symbols.{Definition, Key, Symbols, unnamed_at, meaning_of, Laid, asks_section, defined, key_defined}
-use Rattle.semantics65.specs.Machine as machine
-use Rattle.semantics65.specs.Machine.{PutsAll, State, awaited_in, filled, awaiting, entered}
+use Rattle.semantics65.specs.Machine.{PutsAll, State, awaiting, entered, holds}
 use Rattle.semantics65.specs.Module as piece
-use Rattle.emit65.specs.Fed.{Stands, Feeds, names_in}
+use Rattle.emit65.specs.Fed.{Stands, Feeds}
 use Rattle.symbols65.specs.Resolving.{IsTable}
 use Rattle.symbols65.specs.Views.{table_of}
 use Rattle.asm65.specs.declared.assembler.Assembler.{Assembler}
-use Rattle.asm65.specs.declared.assembler.Piece.{Piece}
-use Rattle.asm65.specs.declared.assembler.Piece.TheVariants.{Datum, Operand, Constant, Assertion, Import, ForcedImport, Export}
-use Rattle.asm65.specs.declared.assembler.Fixup.{Fixup}
 use Rattle.symbols65.specs.Measuring.{AreInside, AreWithin, IsCounted, IsSoundCursor, cursor_of, measure_of, opening_limit}
 use Rattle.expand65.specs.State.{Meaning}
 use Rattle.semantics65.specs.Norms.{constant_in, IsFinal}
@@ -37,39 +33,6 @@ use Rattle.symbols65.specs.declared.measuring.Measured.{Measured}
 use Rattle.asm65.specs.declared.naming.Mention.{Mention}
 use Rattle.asm65.specs.declared.naming.Mention.TheVariants as mention
 
--- ---- What waits.
-
--- the expression of the constant that is defined at a place, where a statement stands
-pub record IsConstant (y : Symbols) (s : Context) (place : ℕ) (e : Tree) : Type 0 where
-  pub definition : Definition
-  pub there : slice_get y.definitions place ≡ Some definition
-  pub context : definition.context ≡ s
-  pub value : definition.value ≡ Some e
-
--- a piece of the machine's, of a statement that stands here
-abbrev pub IsPiece : Symbols → Context → Piece → piece.Piece → Type 0
-IsPiece y s (Datum w e) p = p ≡ piece.valued (piece.datum w) e
-IsPiece y s (Operand w e) p = p ≡ piece.valued (piece.operand w) e
-IsPiece y s (Constant place) p =
-    (e : Tree) × IsConstant y s place e × (p ≡ piece.valued piece.equated e)
-IsPiece y s (Assertion act words e) p = p ≡ piece.valued (piece.asserted act words) e
-IsPiece y s (Import n) p = p ≡ piece.imported n
-IsPiece y s (ForcedImport n) p = p ≡ piece.demanded n
-IsPiece y s (Export must n) p = p ≡ piece.exported must n
-
--- by the names of files
-pub record IsFixup (y : Symbols) (files : List (List ℕ)) (w : Fixup) (v : machine.Fixup) : Type 0 where
-  pub file : slice_get files w.file ≡ Some v.place.file
-  pub line : v.place.line ≡ w.line
-  pub context : v.context ≡ w.context
-  pub piece : IsPiece y v.context w.piece v.piece
-
--- one behind the other
-abbrev pub AreFixups : Symbols → List (List ℕ) → List Fixup → List machine.Fixup → Type 0
-AreFixups y files [] vs = vs ≡ []
-AreFixups y files (w ∷ ws) [] = ⊥
-AreFixups y files (w ∷ ws) (v ∷ vs) = IsFixup y files w v × AreFixups y files ws vs
-
 -- ---- What is counted.
 
 -- an unnamed label has one of the numbers that are given out
@@ -82,12 +45,7 @@ AreBefore next ds = AllByRecursion (λ d. IsBefore next d.key) ds
 
 -- ---- An assembler.
 
--- contents for what waits, none of which asks for a section
-abbrev pub AreAwaited : List machine.Fixup → List Content → Type 0
-AreAwaited vs ws = (length ws ≡ length vs) × AllByRecursion (λ c. c.asks ≡ false) ws
-
--- An assembler holds a state, behind statements that opened so much. Whatever will be in place of
--- what waits, its sections stand for the state's contents.
+-- An assembler holds a state, behind statements that opened so much.
 pub record Holds (count : ℕ) (t : State) (a : Assembler) : Type 0 where
   pub symbols : table_of a.symbols ≡ t.symbols
   pub known : IsTable t.symbols a.known.states.items
@@ -97,9 +55,7 @@ pub record Holds (count : ℕ) (t : State) (a : Assembler) : Type 0 where
   pub counted : IsCounted count a.cursor
   pub inside : AreInside count t.symbols.scopes
   pub unnamed : AreBefore t.cursor.unnamed t.symbols.definitions
-  pub fixups : AreFixups t.symbols (names_in a.files) a.fixups.items t.fixups
-  pub sections : (ws : List Content) → AreAwaited t.fixups ws → Stands (filled t.slots ws) ws a.sections
-  pub slots : awaited_in t.slots ≡ length t.fixups
+  pub sections : Stands t.slots a.sections
   pub out : a.texts.out ≡ t.out
   pub err : a.texts.err ≡ t.err
 
@@ -130,18 +86,17 @@ pub record KeepsTables (old new : Assembler) : Type 0 where
   pub texts : new.texts ≡ old.texts
 
 -- A piece of a statement that stands here waits.
-abbrev pub Waits : Place → Context → Piece → Assembler → Assembler → Type 0
+abbrev pub Waits : Place → Context → piece.Piece → Assembler → Assembler → Type 0
 Waits place s p old new =
-    (count : ℕ) (t : State) (v : piece.Piece) → Holds count t old →
-    IsPiece (table_of old.symbols) s p v →
-    Holds count (awaiting t (record { place = place; context = s; piece = v })) new
+    (count : ℕ) (t : State) → Holds count t old →
+    Holds count (awaiting t (record { place = place; context = s; piece = p })) new
 
 -- ---- Parts.
 
 -- a part is put into the section of a segment, if there is one; else the sections stay
 abbrev pub IsPut : Sections → Sections → ℕ → Result Part AsmFault → Bool → Type 0
 IsPut old new segment r false = new ≡ old
-IsPut old new segment (Ok p) true = Feeds old new (put segment p)
+IsPut old new segment (Ok p) true = Feeds old new (holds (put segment p))
 IsPut old new segment (Err e) true = ⊥
 
 -- what is stored of an operand's form
@@ -198,8 +153,6 @@ pub record IsNew (y : Symbols) (s : Context) (x : Statement) : Type 0 where
 pub record KeepsPut (old new : Assembler) : Type 0 where
   pub cursor : new.cursor ≡ old.cursor
   pub sections : new.sections ≡ old.sections
-  pub fixups : new.fixups ≡ old.fixups
-  pub files : new.files ≡ old.files
   pub texts : new.texts ≡ old.texts
 
 -- Pieces of a statement that stands here are entered, and then the symbol table is the one that it

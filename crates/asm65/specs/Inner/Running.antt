@@ -1,11 +1,11 @@
 -- What calls leave, the states that are held, the lines of a source, and what waits behind them.
-use Rattle.std.specs.Prelude.{◌≡◌, ℕ, ◌+◌, ◌*◌, ◌≤◌, ◌<◌, List, [], ◌∷◌, Option, None, IfErr, IfSome, Bool, true, false, Result, Ok, Err, take, ◌++◌, map}
+use Rattle.std.specs.Prelude.{◌≡◌, ℕ, ◌+◌, ◌*◌, ◌≤◌, ◌<◌, List, [], ◌∷◌, Option, None, IfErr, IfSome, Bool, true, false, Result, Ok, Err, take, ◌++◌, map, length}
 use Rattle.base65.specs.Outcome.{Unless, ◌>>=◌}
-use Rattle.base65.specs.Store.{Files, PassesBy}
+use Rattle.base65.specs.Store.{Files, PassesBy, Blamed}
 use Rattle.syntax65.specs.Tokens.{Lexeme}
 use Rattle.expand65.specs.Failing.{Gives}
 use Rattle.expand65.specs.State as expand
-use Rattle.expand65.specs.Standing.{measure_of, place_of}
+use Rattle.expand65.specs.Standing.{IsPlaced, measure_of, place_of}
 use Rattle.syntax65.specs.declared.place.Place.{Place}
 use Rattle.ast65.specs.declared.fault.AsmFault.{AsmFault}
 use Rattle.ast65.specs.declared.fault.AsmFault.TheVariants.{FileError, FileNotFound}
@@ -24,21 +24,21 @@ use Rattle.std.specs.Option.{option_map, unwrap_or}
 use Rattle.semantics65.specs.Contents.{Content, put, telling, written}
 use Rattle.semantics65.specs.declared.contents.Declaration.{Declaration}
 use Rattle.semantics65.specs.declared.laid.Context.{Context}
-use Rattle.semantics65.specs.Norms.{defined_form}
 use Rattle.semantics65.specs.Symbols.{Symbols}
 use Rattle.semantics65.specs.Views.{part_at, said_at}
-use Rattle.semantics65.specs.Machine as machine
-use Rattle.semantics65.specs.Module.{warning_at, Made, as_said, made_of, used}
-use Rattle.semantics65.specs.Module as piece
-use Rattle.emit65.specs.Fed.{Receives, Stands}
-use Rattle.emit65.specs.declared.sections.Sections.{Sections}
+use Rattle.semantics65.specs.Machine.{Slot, coming, holds, resolved}
+use Rattle.semantics65.specs.Module.{warning_at, Made, as_said}
+use Rattle.semantics65.specs.Numbering.{AreSound, object_with}
+use Rattle.object65.specs.declared.object.Object.{Object}
+use Rattle.semantics65.specs.declared.contents.Segment.{Segment}
+use Rattle.object65.specs.Objects.{is_good_object}
+use Rattle.emit65.specs.Fed.{StandIn, slot_of}
+use Rattle.emit65.specs.declared.entries.Entry.{Entry}
 use Rattle.asm65.specs.declared.concluding.Ending.{Ending}
 use Rattle.asm65.specs.declared.texts.AsmRefusal.{AsmRefusal}
 use Rattle.asm65.specs.declared.resolving.Filling.{Filling}
 use Rattle.asm65.specs.declared.resolving.Filling.TheVariants as filling
 use Rattle.asm65.specs.declared.resolving.Made as code
-use Rattle.asm65.specs.declared.assembler.Piece.{Piece}
-use Rattle.asm65.specs.declared.assembler.Piece.TheVariants.{Datum, Operand, Constant, Assertion, Import, ForcedImport, Export}
 
 -- ---- What a call that takes statements leaves.
 
@@ -109,7 +109,7 @@ StopsQuietly IsAnswer more old new r =
     IfErr r (λ e. is_failure e ≡ true → IsStopped IsAnswer more old new e)
 
 -- so it takes what it reads of a store, where that tells its files, or stops where the store failed
-pub record Reads (o : Option Files) (blamed : Option (List ℕ)) (AreSo : Type 0)
+pub record Reads (o : Option Files) (blamed : Blamed) (AreSo : Type 0)
     (IsAnswer : Files → State → Result State AsmFault → Type 0) (more : ℕ) (old new : Assembler)
     (r : Result (Unit {0}) AsmFault) : Type 0 where
   pub taken : TakesBy AreSo (Told o IsAnswer) more old new r
@@ -148,12 +148,12 @@ tokens_of (expand.plain ts) = ts
 
 -- A statement that expansion gives at a place is taken.
 abbrev pub TakesOne :
-    Option Files → Option (List ℕ) → Place → expand.Stated → Assembler → Assembler →
+    Option Files → Blamed → Place → expand.Stated → Assembler → Assembler →
     Result (Unit {0}) AsmFault → Type 0
 TakesOne o blamed place x = Reads o blamed (AreNamed (tokens_of x)) (λ m t. IsGiven m Takes t place x) 2
 
 -- such statements are taken one behind the other, up to the first that is refused
-pub data TakesAll (o : Option Files) (blamed : Option (List ℕ)) (place : Place) :
+pub data TakesAll (o : Option Files) (blamed : Blamed) (place : Place) :
     List expand.Stated → Assembler → Assembler → Result (Unit {0}) AsmFault → Type 0 where
   none : (a : Assembler) → TakesAll o blamed place [] a a (Ok tt)
   refused :
@@ -166,14 +166,15 @@ pub data TakesAll (o : Option Files) (blamed : Option (List ℕ)) (place : Place
       TakesAll o blamed place (x ∷ xs) old new r
 
 -- The statements of the next line of a run are taken.
-pub record TakesLine (o : Option Files) (blamed : Option (List ℕ)) (old new : Run) (r : Result (Unit {0}) AsmFault) : Type 0 where
+pub record TakesLine (o : Option Files) (blamed : Blamed) (old new : Run) (r : Result (Unit {0}) AsmFault) : Type 0 where
   pub statements : List expand.Stated
   pub given : Gives old.expander statements new.expander
   pub taken : TakesAll o blamed (place_of new.expander) statements old.assembler new.assembler r
   pub less : measure_of new.expander < measure_of old.expander
+  pub placed : (m : Files) → IsPlaced m old.expander → IsPlaced m new.expander
 
 -- they are, or nothing is done
-abbrev pub TakesLineIf : Option Files → Option (List ℕ) → Run → Run → Result Bool AsmFault → Type 0
+abbrev pub TakesLineIf : Option Files → Blamed → Run → Run → Result Bool AsmFault → Type 0
 TakesLineIf o blamed old new (Ok true) = TakesLine o blamed old new (Ok tt)
 TakesLineIf o blamed old new (Ok false) = new ≡ old
 TakesLineIf o blamed old new (Err e) = TakesLine o blamed old new (Err e)
@@ -188,7 +189,7 @@ read_bytes m place x = x
 
 -- A statement is refused before its file is read for what is wrong with it whatever the files have; where the store
 -- fails nothing is, so without its file the answer would be that it isn't there.
-pub record IsRefusedUnread (blamed : Option (List ℕ)) (t : State) (place : Place) (x : Statement) (e : AsmFault) : Type 0 where
+pub record IsRefusedUnread (blamed : Blamed) (t : State) (place : Place) (x : Statement) (e : AsmFault) : Type 0 where
   pub inside : Unless (is_outside e) ((m : Files) → Takes t place (with_bytes m place x) (Err e))
   pub failed : is_failure e ≡ true → Without blamed (λ m t. Takes t place (with_bytes m place x)) t (Err FileNotFound)
 
@@ -210,57 +211,64 @@ made_in place m = record {
 abbrev pub noted : Place → Declaration → Result Made AsmFault
 noted place s = written place (said_at place s ∷ []) >>= as_said
 
--- of a constant only the fault of its expression is found
-abbrev pub coming : Symbols → Place → Context → Piece → Result Made AsmFault
-coming y place s (Datum width e) = made_of y place s (piece.valued (piece.datum width) e)
-coming y place s (Operand width e) =
-    made_of y place s (piece.valued (piece.operand width) e)
-coming y place s (Constant at) = defined_form y at >>= used place s piece.equated
-coming y place s (Assertion act words e) =
-    made_of y place s (piece.valued (piece.asserted act words) e)
-coming y place s (Import n) = made_of y place s (piece.imported n)
-coming y place s (ForcedImport n) = made_of y place s (piece.demanded n)
-coming y place s (Export must n) = made_of y place s (piece.exported must n)
+-- ---- Behind the last line.
 
--- ---- What waits.
+-- an entry more, which holds this content where these are the files
+pub record IsPutIn (files : List (List ℕ)) (c : Content) (old new : Ending) : Type 0 where
+  pub slots :
+      map (slot_of files) new.done.items ≡ map (slot_of files) old.done.items ++ holds c ∷ []
+  pub standing : StandIn (length files) old.done.items → StandIn (length files) new.done.items
 
--- contents are received one behind the other
-abbrev pub ReceivesAll : Sections → Sections → List Content → Type 0
-ReceivesAll old new ws =
-    (cs rest : List Content) → Stands cs (ws ++ rest) old → Stands cs rest new
-
--- a piece that waits has come to its content, and its warning is said
-pub record IsSettled (y : Symbols) (v : machine.Fixup) (old new : Ending) : Type 0 where
+-- a slot has come to its content, and its warning is said
+pub record IsSettled (y : Symbols) (files : List (List ℕ)) (x : Slot) (old new : Ending) : Type 0 where
   pub made : Made
-  pub found : made_of y v.place v.context v.piece ≡ Ok made
-  pub sections : Receives old.sections new.sections made.content
+  pub found : coming y x ≡ Ok made
+  pub entry : IsPutIn files made.content old new
   pub err : new.err ≡ old.err ++ made.warning
 
 -- it has a fault instead, and nothing is said
-pub record IsFaulty (y : Symbols) (v : machine.Fixup) (e : AsmRefusal) (old new : Ending) :
-    Type 0 where
-  pub found : made_of y v.place v.context v.piece ≡ Err (placed_of e).fault
-  pub place : (placed_of e).place ≡ v.place
+pub record IsFaulty (y : Symbols) (x : Slot) (e : AsmRefusal) (old new : Ending) : Type 0 where
+  pub found : coming y x ≡ Err (placed_of e)
   pub err : new.err ≡ old.err
 
-abbrev pub Settles : Symbols → machine.Fixup → Ending → Ending → Result Unit AsmRefusal → Type 0
-Settles y v old new (Ok u) = IsSettled y v old new
-Settles y v old new (Err e) = Unless (is_outside_refusal e) (IsFaulty y v e old new)
+abbrev pub Settles : Symbols → List (List ℕ) → Slot → Ending → Ending → Result Unit AsmRefusal → Type 0
+Settles y files x old new (Ok u) = IsSettled y files x old new
+Settles y files x old new (Err e) = Unless (is_outside_refusal e) (IsFaulty y x e old new)
 
--- all that waits has come to its contents
-pub record AreSettled (y : Symbols) (vs : List machine.Fixup) (old new : Ending) : Type 0 where
+-- all slots have come to contents, which the entries hold
+pub record AreSettled (y : Symbols) (files : List (List ℕ)) (xs : List Slot) (old new : Ending) :
+    Type 0 where
   pub contents : List Content
-  pub found : (machine.resolved y vs).found ≡ Ok contents
-  pub sections : ReceivesAll old.sections new.sections contents
-  pub err : new.err ≡ old.err ++ (machine.resolved y vs).warned
+  pub said : List ℕ
+  pub found : resolved y xs ≡ record { found = Ok contents; warned = said }
+  pub entries : map (slot_of files) new.done.items ≡ map holds contents
+  pub standing : StandIn (length files) new.done.items
+  pub err : new.err ≡ old.err ++ said
 
 -- there is a first fault, behind the warnings of what stands before it
-pub record AreFaulty (y : Symbols) (vs : List machine.Fixup) (e : AsmRefusal)
-    (old new : Ending) : Type 0 where
-  pub found : (machine.resolved y vs).found ≡ Err (placed_of e)
-  pub err : new.err ≡ old.err ++ (machine.resolved y vs).warned
+pub record AreFaulty (y : Symbols) (xs : List Slot) (e : AsmRefusal) (old new : List ℕ) : Type 0 where
+  pub said : List ℕ
+  pub found : resolved y xs ≡ record { found = Err (placed_of e); warned = said }
+  pub err : new ≡ old ++ said
 
 abbrev pub SettlesAll :
-    Symbols → List machine.Fixup → Ending → Ending → Result Unit AsmRefusal → Type 0
-SettlesAll y vs old new (Ok u) = AreSettled y vs old new
-SettlesAll y vs old new (Err e) = Unless (is_outside_refusal e) (AreFaulty y vs e old new)
+    Symbols → List (List ℕ) → List Entry → Ending → Ending → Result Unit AsmRefusal → Type 0
+SettlesAll y files es old new (Ok u) = AreSettled y files (map (slot_of files) es) old new
+SettlesAll y files es old new (Err e) =
+    Unless (is_outside_refusal e) (AreFaulty y (map (slot_of files) es) e old.err new.err)
+
+-- slots come to contents, and this is their object, which can be written if what it rests on holds
+pub record IsObjectOf (y : Symbols) (segments : List Segment) (xs : List Slot) (o : Object) (old new : List ℕ) :
+    Type 0 where
+  pub contents : List Content
+  pub said : List ℕ
+  pub found : resolved y xs ≡ record { found = Ok contents; warned = said }
+  pub object : o ≡ object_with segments y.imports contents
+  pub good : AreSound segments y.imports contents → is_good_object o ≡ true
+  pub err : new ≡ old ++ said
+
+-- the object of slots, or their first fault, and what was said before and is said behind
+abbrev pub ComesTo :
+    Symbols → List Segment → List Slot → (old new : List ℕ) → Result Object AsmRefusal → Type 0
+ComesTo y segments xs old new (Ok o) = IsObjectOf y segments xs o old new
+ComesTo y segments xs old new (Err e) = Unless (is_outside_refusal e) (AreFaulty y xs e old new)

@@ -9,13 +9,14 @@ ghost use Rattle.asm65.specs.Inner.Holding.{AreStored, IsPut, operand_stored, Ke
 ghost use Rattle.base65.specs.Outcome.{Gives};
 ghost use Rattle.ast65.specs.Faults.{is_memory};
 ghost use Rattle.object65.specs.Objects.{is_file_name};
+ghost use Rattle.emit65.specs.Fed.{piece_of};
 ghost use Rattle.semantics65.specs.Module.{datum, operand, valued};
 
 use super::Site;
-use crate::assembler::{Assembler, Fixup, Piece};
+use crate::assembler::Assembler;
 use ast65::{AsmFault, Item};
 use base65::Sequence;
-use emit65::Sections;
+use emit65::{Piece, Sections};
 use object65::format::FILE_NAME_LIMIT;
 use object65::{Node, Norm, Width, fits, put};
 use semantics65::{At, Context, Part, Settled};
@@ -175,27 +176,13 @@ pub fn stored(alloc: Global, width: Width, at: At<'_>, form: Norm) -> Result<Par
 
 /// A piece of a statement waits.
 #[inline(never)]
-pub fn wait(
-    alloc: Global,
-    assembler: &mut Assembler,
-    site: Site<'_>,
-    piece: Piece,
-) -> Result<(), AllocError>
+pub fn wait(assembler: &mut Assembler, site: Site<'_>, piece: Piece) -> Result<(), AllocError>
     ensures waits { OnOk result (Waits
         (place_at site.entry.at) site.entry.context
-        piece assembler.old assembler.new) }
+        (piece_of piece) assembler.old assembler.new) }
     ensures tables { KeepsTables assembler.old assembler.new }
 {
-    let file = assembler.files.place_of(alloc, site.at.file)?;
-    let line = site.at.line;
-    let context = site.context;
-    assembler.fixups.push(Fixup {
-        file,
-        line,
-        context,
-        piece,
-    })?;
-    assembler.sections.defer()
+    assembler.sections.wait(site.at, site.context, piece)
 }
 
 /// Puts a value of a list, if it is settled without a fault.
@@ -250,7 +237,7 @@ pub fn enter_datum(
     if try_datum(alloc, assembler, site, width, &value)? {
         return Ok(());
     }
-    wait(alloc, assembler, site, Piece::Datum { width, value })
+    wait(assembler, site, Piece::Datum { width, value })
 }
 
 /// Enters the value of an operand.
@@ -269,5 +256,5 @@ pub fn enter_operand(
     if try_operand(alloc, assembler, site, width, &value)? {
         return Ok(());
     }
-    wait(alloc, assembler, site, Piece::Operand { width, value })
+    wait(assembler, site, Piece::Operand { width, value })
 }

@@ -66,7 +66,7 @@ fn segment_of(entry: &Entry) -> Option<u32>
     match entry {
         Entry::Bytes { segment, .. } | Entry::Room { segment, .. } => Some(*segment),
         Entry::Value { segment, .. } => Some(*segment),
-        Entry::Told { .. } | Entry::Open => None,
+        Entry::Told { .. } | Entry::Waits(_) => None,
     }
 }
 
@@ -101,7 +101,7 @@ fn add_put(
                 },
             )
         }
-        Entry::Told { .. } | Entry::Open => Ok(()),
+        Entry::Told { .. } | Entry::Waits(_) => Ok(()),
     }
 }
 

@@ -127,7 +127,7 @@ fn add_entry(keys: &mut IndexSet<u32>, imports: &Imports, entry: &Entry) -> Resu
             }
             Ok(())
         }
-        Entry::Bytes { .. } | Entry::Room { .. } | Entry::Open => Ok(()),
+        Entry::Bytes { .. } | Entry::Room { .. } | Entry::Waits(_) => Ok(()),
     }
 }
 

@@ -2,7 +2,7 @@
 use Rattle.std.specs.Prelude.{◌≡◌, ℕ, List, [], ◌∷◌, ◌++◌, length, option_map, Option, Result, Ok, Err, IfErr, IfSome, OnOk, Bool, true, false}
 use Rattle.std.specs.FinMap.{get}
 use Rattle.base65.specs.Outcome.{Unless}
-use Rattle.base65.specs.Store.{Files, PassesBy}
+use Rattle.base65.specs.Store.{Files, PassesBy, Blamed}
 use Rattle.object65.specs.declared.fault.ObjectFault.{ObjectFault}
 use Rattle.object65.specs.Record.{is_outside as is_object_outside}
 use Rattle.object65.specs.Reading.{in_file, records_at}
@@ -87,15 +87,16 @@ FeedsInputs known names old new r = FeedsBy known (λ m before. AreInputs old.sc
 -- ---- What a call leaves of a store, and of a linker that it feeds.
 
 -- of a store its files as before, and its count of failures, each passed on; and what a refusal names
-pub record LeavesBy {X T : Type 0} (files_of : X → Option Files) (failures_of : X → ℕ) (blamed_of : X → Option (List ℕ)) (Names : Option (List ℕ) → Refusal → Type 0) (old new : X) (result : Result T Refusal) : Type 0 where
+pub record LeavesBy {X T : Type 0} (files_of : X → Option Files) (failures_of : X → ℕ) (blamed_of : X → Blamed) (Names : Blamed → Refusal → Type 0) (old new : X) (result : Result T Refusal) : Type 0 where
   pub files : files_of new ≡ files_of old
   pub count : PassesBy is_failure (failures_of old) (failures_of new) result
   pub named : IfErr result (Names (blamed_of new))
 
--- the same where the linker stands for modules; of a linker its script and output, and no open module where it answered
-pub record LeavesFed {X : Type 0} (files_of : X → Option Files) (failures_of : X → ℕ) (blamed_of : X → Option (List ℕ)) (Names : Option (List ℕ) → Refusal → Type 0) (old new : X) (before after : Feeding) (result : Result (Unit {0}) Refusal) : Type 0 where
+-- the same where the linker stands for modules, by which a refusal names what it does; of a linker its script and output, and no
+-- open module where it answered
+pub record LeavesFed {X : Type 0} (files_of : X → Option Files) (failures_of : X → ℕ) (blamed_of : X → Blamed) (NamesBehind : List Module → Blamed → Refusal → Type 0) (old new : X) (before after : Feeding) (result : Result (Unit {0}) Refusal) : Type 0 where
   pub opened : OnOk result (is_open after ≡ false)
   pub keeps : Keeps before after
   pub files : files_of new ≡ files_of old
   pub count : (modules : List Module) → IsFed before modules → PassesBy is_failure (failures_of old) (failures_of new) result
-  pub named : (modules : List Module) → IsFed before modules → IfErr result (Names (blamed_of new))
+  pub named : (modules : List Module) → IsFed before modules → IfErr result (NamesBehind modules (blamed_of new))

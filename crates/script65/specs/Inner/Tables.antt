@@ -1,13 +1,13 @@
--- What tables of entries hold.
-use Rattle.std.specs.Prelude.{ℕ, List, map}
-use Rattle.script65.specs.declared.reading.table.Entry.{Entry}
-use Rattle.script65.specs.declared.reading.table.Table.{Table}
-use Rattle.script65.specs.declared.reading.table.Tables.{Tables}
-use Rattle.script65.specs.Grammar.{Draft}
+-- Tables of entries.
+use Rattle.std.specs.Prelude.{◌≡◌, ◌++◌, ℕ, List, Option, codes, position}
+use Rattle.std.specs.List.{AllByRecursion}
+use Rattle.std.specs.Str.{bytes_eq}
+use Rattle.script65.specs.declared.reading.entries.Entry.{Entry}
 
--- the entries with their names, in order
-abbrev pub named : Table → List (List ℕ × Entry)
-named t = map (λ p. (p.0.now, p.1)) t.entries.entries
+-- each entry stands under its own name
+abbrev pub AreNamed : List (List ℕ × Entry) → Type 0
+AreNamed es = AllByRecursion (λ (e : List ℕ × Entry). e.0 ≡ e.1.name) es
 
-abbrev pub draft_in : Tables → Draft
-draft_in t = record { areas = named t.areas; rows = named t.rows; symbols = named t.symbols }
+-- the place of the entry of which this is the name for the part with an ending
+abbrev pub part_at : List Entry → List ℕ → List ℕ → Option ℕ
+part_at es name end = position (λ (e : Entry). bytes_eq name (codes "__" ++ (e.name ++ end))) es

@@ -6,13 +6,13 @@ ghost use Rattle.indexmap.specs.IndexMap.{get_by};
 ghost use Rattle.indexmap.specs.IndexSet.{contains_by};
 ghost use Rattle.base65.specs.Outcome.{Gives};
 ghost use Rattle.script65.specs.Faults.{is_place_outside};
-ghost use Rattle.script65.specs.Placing.{has_row, rows_exist, size_of, unplaced, is_in, places_in, area_place, areas_from, row_place, rows_from, spots_after};
+ghost use Rattle.script65.specs.Placing.{has_row, rows_exist, size_of, unplaced, is_in, places_in, areas_from, row_place, rows_from, spots_after};
 ghost use Rattle.std.specs.Option.{option_map};
 ghost use Rattle.script65.specs.declared.placing.site.Spot.{Spot};
 ghost use Rattle.script65.specs.declared.script.Row.{Row};
 
 use crate::placement::{AreaPlace, PlaceFault, RowPlace, SegmentNeed};
-use crate::placing::site::{Bounds, Site, Spot};
+use crate::placing::site::{Site, Spot};
 use crate::placing::sums::{Standing, row_place};
 use crate::script::{Area, Row};
 use base65::Sequence;
@@ -176,17 +176,6 @@ fn place_area(
     Ok(cursor)
 }
 
-fn area_place(bounds: Bounds, last: u64) -> AreaPlace
-    requires { bounds.start ≤ bounds.end }
-    ensures { result ≡ area_place bounds last }
-{
-    AreaPlace {
-        start: bounds.start,
-        size: bounds.end - bounds.start,
-        last,
-    }
-}
-
 /// Places all areas and their rows, each area with its members, and answers where the areas are.
 pub fn place_areas(
     alloc: Global,
@@ -218,7 +207,11 @@ pub fn place_areas(
             bounds,
         };
         let last = place_area(alloc, &site, rows, members[place].as_slice(), spots)?;
-        places.push(area_place(bounds, last))?;
+        places.push(AreaPlace {
+            start: bounds.start,
+            size: bounds.end - bounds.start,
+            last,
+        })?;
     }
     Ok(places)
 }

@@ -8,7 +8,7 @@ ghost use Rattle.base65.specs.Outcome.{Gives};
 ghost use Rattle.script65.specs.Faults.{is_place_outside};
 ghost use Rattle.script65.specs.Inner.Standing.{standing_in};
 ghost use Rattle.script65.specs.Placing.{row_place};
-ghost use Rattle.script65.specs.AreaSums.{area_known, area_value, bounds_in, is_known, operand_name, operand_value, places_there, row_known, row_value, spanned, sum_by, sum_in, unknown};
+ghost use Rattle.script65.specs.AreaSums.{bounds_in, is_known, operand_name, operand_value, places_there, sum_by, sum_in, unknown};
 
 use crate::placement::{AreaPlace, PlaceFault, RowPlace};
 use crate::placing::site::{Bounds, Spot};
@@ -40,46 +40,6 @@ pub fn row_place(spot: Spot) -> RowPlace
     }
 }
 
-fn area_value(part: AreaPart, place: AreaPlace) -> u64
-    ensures { result ≡ area_value part place }
-{
-    match part {
-        AreaPart::Start => place.start,
-        AreaPart::Size => place.size,
-        AreaPart::Last => place.last,
-    }
-}
-
-fn row_value(part: RowPart, place: RowPlace) -> u64
-    ensures { result ≡ row_value part place }
-{
-    match part {
-        RowPart::Load => place.load,
-        RowPart::Run => place.run,
-        RowPart::Size => place.size,
-    }
-}
-
-// Whether a part of the area at another place is known.
-fn area_known(place: usize, begun: bool, part: AreaPart, other: usize) -> bool
-    ensures { result ≡ area_known place begun part other }
-{
-    match part {
-        AreaPart::Start => other < place || (begun && other == place),
-        AreaPart::Size | AreaPart::Last => other < place,
-    }
-}
-
-fn row_known(place: usize, part: RowPart, row: &Row) -> bool
-    ensures { result ≡ row_known place part row.now }
-{
-    match part {
-        RowPart::Load => row.load < place,
-        RowPart::Run => row.run < place,
-        RowPart::Size => true,
-    }
-}
-
 // `__N_PART__`, by what stands behind the name.
 fn part_name(alloc: Global, name: &[u8], ending: &[u8]) -> Result<Sequence<u8>, AllocError>
     ensures { IfOk result (λ text. text ≡ codes "__" ++ (name.now ++ ending.now)) }
@@ -88,21 +48,6 @@ fn part_name(alloc: Global, name: &[u8], ending: &[u8]) -> Result<Sequence<u8>, 
     text.extend_from_slice(name)?;
     text.extend_from_slice(ending)?;
     Ok(text)
-}
-
-// Where an area begins and ends.
-fn spanned(alloc: Global, name: &[u8], start: u32, size: u32) -> Result<Bounds, PlaceFault>
-    ensures value { Gives is_place_outside (λ b. b) result (spanned name.now start size) }
-    ensures order { IfOk result (λ b. b.start ≤ b.end) }
-    ensures small { IfOk result (λ b. b.end ≤ 2 ^ 32) }
-{
-    let start = u64::from(start);
-    let end = start + u64::from(size);
-    if end > 1 << 32 {
-        Err(PlaceFault::AreaOutOfRange(Sequence::copy_of(alloc, name)?))
-    } else {
-        Ok(Bounds { start, end })
-    }
 }
 
 impl Standing<'_> {
@@ -132,11 +77,19 @@ impl Standing<'_> {
         match operand {
             Operand::Number(number) => u64::from(number),
             Operand::Area(place, part) => match self.area_place(place) {
-                Some(place) => area_value(part, place),
+                Some(place) => match part {
+                    AreaPart::Start => place.start,
+                    AreaPart::Size => place.size,
+                    AreaPart::Last => place.last,
+                },
                 None => 0,
             },
             Operand::Row(row, part) => match self.row_place(row) {
-                Some(place) => row_value(part, place),
+                Some(place) => match part {
+                    RowPart::Load => place.load,
+                    RowPart::Run => place.run,
+                    RowPart::Size => place.size,
+                },
                 None => 0,
             },
         }
@@ -147,9 +100,18 @@ impl Standing<'_> {
     {
         match term.operand {
             Operand::Number(_) => true,
-            Operand::Area(place, part) => area_known(self.place, self.start.is_some(), part, place),
+            Operand::Area(place, part) => match part {
+                AreaPart::Start => {
+                    place < self.place || (self.start.is_some() && place == self.place)
+                }
+                AreaPart::Size | AreaPart::Last => place < self.place,
+            },
             Operand::Row(row, part) => match self.rows.get(row) {
-                Some(row) => row_known(self.place, part, row),
+                Some(row) => match part {
+                    RowPart::Load => row.load < self.place,
+                    RowPart::Run => row.run < self.place,
+                    RowPart::Size => true,
+                },
                 None => false,
             },
         }
@@ -242,6 +204,12 @@ impl Standing<'_> {
             ..*self
         };
         let size = begun.sum(alloc, self.area.size.as_slice())?;
-        spanned(alloc, self.area.name.as_slice(), start, size)
+        let start = u64::from(start);
+        let end = start + u64::from(size);
+        if end > 1 << 32 {
+            let name = Sequence::copy_of(alloc, self.area.name.as_slice())?;
+            return Err(PlaceFault::AreaOutOfRange(name));
+        }
+        Ok(Bounds { start, end })
     }
 }

@@ -1,187 +1,290 @@
-//! Reads the blocks of a script and their entries.
+//! What is read of a script: entries, and what they give.
 
-ghost use Rattle.std.specs.Prelude.{◌≡◌, ◌≤◌, ◌<◌, false, IfOk, length, []};
-ghost use Rattle.script65.specs.Faults.{is_outside, Finds};
-ghost use Rattle.script65.specs.Grammar.{IsFurther, Attributes, Blocks, Drafts, Entries, IsBlock, IsEntry, block_head, entries_of, entry_fault, entry_head, is_taken, nothing, sized, text_of, unless_fault};
-ghost use Rattle.script65.specs.Inner.Tables.{draft_in};
+ghost use Rattle.std.specs.Prelude.{◌≡◌, ◌++◌, ◌∷◌, [], codes, position, slice_get, IfOk, OnOk, false};
+ghost use Rattle.std.specs.List.{list_any};
+ghost use Rattle.std.specs.Option.{option_and_then, option_copied, option_map};
+ghost use Rattle.std.specs.Str.{bytes_eq};
+ghost use Rattle.script65.specs.Entries.{area_closing, closing_fault, given_for, has_name, is_given, no_entries, number_for, parts_for, role_for, value_for, with_entry, with_given};
+ghost use Rattle.script65.specs.Scripts.{access_of, as_area, fill_or, number_or, says_yes};
+ghost use Rattle.script65.specs.declared.reading.entries.Entry.{Entry};
 
-use crate::fault::{Fault, Stop};
-use crate::reading::attributes::{attribute, expect, stands};
-use crate::reading::table::{Entry, Tables, entry_fault};
-use crate::reading::tokens::{Form, Token, text, token_at};
-use crate::reading::words::{BLOCKS, Block, Given, meaning};
+use crate::fault::Fault;
+use crate::reading::tokens::Bytes;
+use crate::reading::words::{Block, Meaning, Role};
+use crate::script::Access;
 use base65::Sequence;
-use std::alloc::Global;
+use indexmap::IndexMap;
+use std::alloc::{AllocError, Global};
+use std::marker::Model;
 
-// The attributes up to a `;`, and where that stands.
-fn attributes(
-    alloc: Global,
-    bytes: &[u8],
-    block: Block,
-    start: usize,
-) -> Result<(Sequence<Given>, usize), Stop>
-    requires { start ≤ length bytes.now }
-    ensures found { Finds is_outside (λ x. x) (Attributes bytes.now block [] start) result }
-    ensures within { IfOk result (λ r. r.1 ≤ length bytes.now) }
-    ensures order { IfOk result (λ r. start ≤ r.1) }
-{
-    let mut given = Sequence::new(alloc);
-    let mut at = start;
-    'attributes: while !stands(bytes, Form::Semicolon, at) {
-        let (next, end) = attribute(alloc, bytes, block, given.as_slice(), at)?;
-        given.push(next)?;
-        at = end;
+/// What is given for an attribute. A sum without names is its number, and one with a name is known only where areas are
+/// placed.
+#[derive(Drop)]
+pub enum Value<'a> {
+    Number(u32),
+    Byte(u8),
+    Sum,
+    Said(Meaning),
+    /// The name of an area.
+    Area(Bytes<'a>),
+    File(Bytes<'a>),
+    /// The linker's output.
+    Output,
+}
+
+/// A term of a sum: a number, or else a name, and its place.
+#[derive(Drop)]
+pub struct Part<'a> {
+    /// Whether a `-` stands before it.
+    pub minus: bool,
+    pub number: Option<u32>,
+    pub name: Bytes<'a>,
+    pub at: usize,
+}
+
+/// An attribute, what is given for it, and of a sum its terms.
+#[derive(Drop)]
+pub struct Given<'a> {
+    pub word: Bytes<'a>,
+    pub value: Value<'a>,
+    pub parts: Sequence<Part<'a>>,
+}
+
+/// An entry: its name, the place of that, and its attributes.
+#[derive(Drop)]
+pub struct Entry<'a> {
+    pub name: Bytes<'a>,
+    pub at: usize,
+    pub given: Sequence<Given<'a>>,
+}
+
+impl<'a> Entry<'a> {
+    /// What the entry gives for an attribute.
+    pub fn given_for(&self, word: &str) -> Option<&Given<'a>>
+        ensures { option_map (λ g. g.now) result ≡ given_for word.now self.now }
+    {
+        for given in self.given.as_slice() {
+            if word.as_bytes() == given.word.as_slice() {
+                return Some(given);
+            }
+        }
+        None
     }
-    Ok((given, at))
-}
 
-#[tactic(auto, unfolding(crate::specs::Grammar::entry_head))]
-fn entry_head(
-    bytes: &[u8],
-    block: Block,
-    tables: &Tables,
-    at: usize,
-) -> Result<(Token, usize), Stop>
-    requires { at ≤ length bytes.now }
-    ensures value { result ≡ entry_head bytes.now block (draft_in tables.now) at }
-    ensures further { IfOk result (λ r. IsFurther at r.1 (length bytes.now)) }
-    ensures fresh { IfOk result (λ r.
-        is_taken (text_of bytes.now r.0) (entries_of block (draft_in tables.now)) ≡ false) }
-{
-    let name = expect(bytes, Form::Word, at)?;
-    if tables.has(block, text(bytes, name.from, name.to)) {
-        return Err(name.stop(Fault::NameTwice));
+    pub fn is_given(&self, word: &str) -> bool
+        ensures { result ≡ is_given word.now self.now }
+    {
+        self.given_for(word).is_some()
     }
-    let colon = expect(bytes, Form::Colon, name.to)?;
-    Ok((name, colon.to))
-}
 
-// Refuses an entry at its `;` for what is wrong with its attributes.
-fn check_entry(block: Block, given: &[Given], close: Token) -> Result<(), Stop>
-    ensures { result ≡ unless_fault (entry_fault block given.now) close tt }
-{
-    match entry_fault(block, given) {
-        Some(fault) => Err(close.stop(fault)),
-        None => Ok(()),
+    /// The terms of its sum, if it is one.
+    pub fn parts_for(&self, word: &str) -> &[Part<'a>]
+        ensures { result.now ≡ parts_for word.now self.now }
+    {
+        for given in self.given.as_slice() {
+            if word.as_bytes() == given.word.as_slice() {
+                return given.parts.as_slice();
+            }
+        }
+        &[]
     }
-}
 
-// Reads an entry into the tables, and answers where it ends.
-fn entry<'a>(
-    alloc: Global,
-    bytes: &'a [u8],
-    block: Block,
-    tables: &mut Tables<'a>,
-    at: usize,
-) -> Result<usize, Stop>
-    requires { at ≤ length bytes.now }
-    ensures found { Finds is_outside (λ end. (draft_in tables.new, end))
-        (IsEntry bytes.now block (draft_in tables.old) at) result }
-    ensures further { IfOk result (λ end. IsFurther at end (length bytes.now)) }
-{
-    let (name, start) = entry_head(bytes, block, tables, at)?;
-    let (given, end) = attributes(alloc, bytes, block, start)?;
-    let close = token_at(bytes, end);
-    check_entry(block, given.as_slice(), close)?;
-    let entry = Entry {
-        at: name.from,
-        given,
-    };
-    tables.push(block, text(bytes, name.from, name.to), entry)?;
-    Ok(close.to)
-}
-
-// Reads the entries up to a `}` into the tables, and answers where that stands.
-fn entries<'a>(
-    alloc: Global,
-    bytes: &'a [u8],
-    block: Block,
-    tables: &mut Tables<'a>,
-    start: usize,
-) -> Result<usize, Stop>
-    requires { start ≤ length bytes.now }
-    ensures found { Finds is_outside (λ end. (draft_in tables.new, end))
-        (Entries bytes.now block (draft_in tables.old) start) result }
-    ensures within { IfOk result (λ end. end ≤ length bytes.now) }
-    ensures order { IfOk result (λ end. start ≤ end) }
-{
-    let mut at = start;
-    'entries: while !stands(bytes, Form::Close, at) {
-        at = entry(alloc, bytes, block, tables, at)?;
+    pub fn value_for(&self, word: &str) -> Option<&Value<'a>>
+        ensures { option_map (λ v. v.now) result ≡ value_for word.now self.now }
+    {
+        Some(&self.given_for(word)?.value)
     }
-    Ok(at)
-}
 
-#[tactic(auto, unfolding(crate::specs::Grammar::block_head))]
-fn block_head(bytes: &[u8], at: usize) -> Result<(Block, usize), Stop>
-    requires { at ≤ length bytes.now }
-    ensures value { result ≡ block_head bytes.now at }
-    ensures further { IfOk result (λ r. IsFurther at r.1 (length bytes.now)) }
-{
-    let word = expect(bytes, Form::Word, at)?;
-    let Some(block) = meaning(&BLOCKS, text(bytes, word.from, word.to)) else {
-        return Err(word.stop(Fault::SyntaxError));
-    };
-    let brace = expect(bytes, Form::Open, word.to)?;
-    Ok((block, brace.to))
-}
-
-// Reads a block into the tables, and answers where it ends.
-fn block<'a>(
-    alloc: Global,
-    bytes: &'a [u8],
-    tables: &mut Tables<'a>,
-    at: usize,
-) -> Result<usize, Stop>
-    requires { at ≤ length bytes.now }
-    ensures found { Finds is_outside (λ end. (draft_in tables.new, end))
-        (IsBlock bytes.now (draft_in tables.old) at) result }
-    ensures further { IfOk result (λ end. IsFurther at end (length bytes.now)) }
-{
-    let (kind, start) = block_head(bytes, at)?;
-    let end = entries(alloc, bytes, kind, tables, start)?;
-    Ok(token_at(bytes, end).to)
-}
-
-// Reads all blocks into the tables, and answers where the script ends.
-fn blocks<'a>(
-    alloc: Global,
-    bytes: &'a [u8],
-    tables: &mut Tables<'a>,
-    start: usize,
-) -> Result<usize, Stop>
-    requires { start ≤ length bytes.now }
-    ensures { Finds is_outside (λ end. (draft_in tables.new, end))
-        (Blocks bytes.now (draft_in tables.old) start) result }
-{
-    let mut at = start;
-    'script: while !stands(bytes, Form::End, at) {
-        at = block(alloc, bytes, tables, at)?;
+    pub fn number_for(&self, word: &str) -> Option<u32>
+        ensures { result ≡ number_for word.now self.now }
+    {
+        match self.value_for(word) {
+            Some(Value::Number(n)) => Some(*n),
+            _ => None,
+        }
     }
-    Ok(at)
-}
 
-#[tactic(auto, unfolding(crate::specs::Grammar::sized))]
-fn sized(bytes: &[u8]) -> Result<usize, Stop>
-    ensures value { result ≡ sized bytes.now }
-    ensures within { IfOk result (λ at. at ≤ length bytes.now) }
-{
-    if bytes.len() > 1_048_576 {
-        Err(Stop {
-            fault: Fault::TooLong,
-            at: 0,
-        })
-    } else {
-        Ok(0)
+    pub fn role(&self) -> Option<Role>
+        ensures { result ≡ role_for self.now }
+    {
+        match self.value_for("type") {
+            Some(Value::Said(Meaning::Role(role))) => Some(*role),
+            _ => None,
+        }
+    }
+
+    /// The name of the area that an attribute names.
+    pub fn area_for(&self, word: &str) -> Option<&[u8]>
+        ensures { option_copied result ≡ option_and_then as_area (value_for word.now self.now) }
+    {
+        match self.value_for(word) {
+            Some(Value::Area(name)) => Some(name.as_slice()),
+            _ => None,
+        }
+    }
+
+    /// The number given, or another where there is none.
+    pub fn number_or(&self, other: u32, word: &str) -> u32
+        ensures { result ≡ number_or other word.now self.now }
+    {
+        self.number_for(word).unwrap_or(other)
+    }
+
+    /// The byte of gaps given, or another where there is none.
+    pub fn fill_or(&self, other: u8) -> u8
+        ensures { result ≡ fill_or other self.now }
+    {
+        match self.value_for("fillval") {
+            Some(Value::Byte(n)) => *n,
+            _ => other,
+        }
+    }
+
+    /// Whether an attribute says yes.
+    pub fn says_yes(&self, word: &str) -> bool
+        ensures { result ≡ says_yes word.now self.now }
+    {
+        match self.value_for(word) {
+            Some(Value::Said(Meaning::Flag(flag))) => *flag,
+            _ => false,
+        }
+    }
+
+    pub fn access(&self) -> Access
+        ensures { result ≡ access_of self.now }
+    {
+        match self.value_for("type") {
+            Some(Value::Said(Meaning::Access(access))) => *access,
+            _ => Access::ReadWrite,
+        }
+    }
+
+    /// What is wrong with an entry of a block, at its end.
+    pub fn closing_fault(&self, block: Block) -> Option<Fault>
+        ensures { result ≡ closing_fault block self.now }
+    {
+        match block {
+            Block::Memory => self.area_fault(),
+            Block::Segments => (!self.is_given("load")).then_some(Fault::AttributeMissing),
+            Block::Symbols => match self.role() {
+                None => Some(Fault::AttributeMissing),
+                Some(Role::Import) => self.is_given("value").then_some(Fault::Excluded),
+                Some(_) => (!self.is_given("value")).then_some(Fault::AttributeMissing),
+            },
+        }
+    }
+
+    fn area_fault(&self) -> Option<Fault>
+        ensures { result ≡ area_closing self.now }
+    {
+        if !(self.is_given("start") && self.is_given("size")) {
+            return Some(Fault::AttributeMissing);
+        }
+        let start = self.number_or(0, "start");
+        let size = self.number_or(0, "size");
+        (u64::from(start) + u64::from(size) > 1 << 32).then_some(Fault::OutOfRange)
     }
 }
 
-/// The entries of a text, or its first fault before its last byte.
-pub fn read_entries(alloc: Global, bytes: &[u8]) -> Result<Tables<'_>, Stop>
-    ensures { Finds is_outside draft_in (Drafts bytes.now) result }
-{
-    let start = sized(bytes)?;
-    let mut tables = Tables::new(alloc);
-    blocks(alloc, bytes, &mut tables, start)?;
-    Ok(tables)
+/// Entries in their order, each found by its name at once, which contracts see as a list.
+#[derive(Drop)]
+pub struct Table<'a> {
+    entries: IndexMap<&'a [u8], Entry<'a>>,
+}
+
+impl<'a> Model for Table<'a> {
+    ghost use Rattle.std.specs.Prelude.{List, map};
+    ghost use Rattle.script65.specs.declared.reading.entries.Entry.{Entry};
+
+    ghost Value = { List Entry };
+
+    ghost use Rattle.script65.specs.Inner.Tables.{AreNamed};
+
+    ghost view = { λ t. map (λ e. e.1) t.entries.entries };
+
+    ghost invariant = { λ t. AreNamed (map (λ e. (e.0.now, e.1)) t.entries.entries) };
+}
+
+impl<'a> Table<'a> {
+    pub fn new(alloc: Global) -> Self
+        ensures { result ≡ [] }
+    {
+        Table {
+            entries: IndexMap::new(alloc),
+        }
+    }
+
+    /// Whether an entry has this name.
+    pub fn has(&self, name: &[u8]) -> bool
+        ensures { result ≡ list_any (λ (e : Entry). bytes_eq name.now e.name) self.now }
+    {
+        self.entries.contains_key(name)
+    }
+
+    /// The place of the entry of this name.
+    pub fn place_of(&self, name: &[u8]) -> Option<usize>
+        ensures { result ≡ position (λ (e : Entry). bytes_eq name.now e.name) self.now }
+    {
+        self.entries.get_index_of(name)
+    }
+
+    /// The entry at a place.
+    pub fn get(&self, place: usize) -> Option<&Entry<'a>>
+        ensures { option_map (λ e. e.now) result ≡ slice_get self.now place }
+    {
+        let (_, entry) = self.entries.get_index(place)?;
+        Some(entry)
+    }
+
+    /// Adds an entry of a new name behind the others.
+    pub fn push(&mut self, entry: Entry<'a>) -> Result<(), AllocError>
+        requires { list_any (λ (e : Entry). bytes_eq entry.name e.name) self.old ≡ false }
+        ensures ok { OnOk result (self.new ≡ self.old ++ entry.entry ∷ []) }
+    {
+        self.entries.insert(entry.name.as_slice(), entry)?;
+        Ok(())
+    }
+}
+
+/// The entries of all blocks, by the kind of block.
+#[derive(Drop)]
+pub struct Entries<'a> {
+    pub areas: Table<'a>,
+    pub rows: Table<'a>,
+    pub symbols: Table<'a>,
+}
+
+impl<'a> Entries<'a> {
+    pub fn new(alloc: Global) -> Self
+        ensures { result ≡ no_entries }
+    {
+        Entries {
+            areas: Table::new(alloc),
+            rows: Table::new(alloc),
+            symbols: Table::new(alloc),
+        }
+    }
+
+    /// Whether an entry of a block's kind has this name.
+    pub fn has(&self, block: Block, name: &[u8]) -> bool
+        ensures { result ≡ has_name name.now block self.now }
+    {
+        match block {
+            Block::Memory => self.areas.has(name),
+            Block::Segments => self.rows.has(name),
+            Block::Symbols => self.symbols.has(name),
+        }
+    }
+
+    /// Adds an entry of a new name to those of a block's kind.
+    pub fn push(&mut self, block: Block, entry: Entry<'a>) -> Result<(), AllocError>
+        requires { has_name entry.name block self.old ≡ false }
+        ensures ok { OnOk result (self.new ≡ with_entry block entry.entry self.old) }
+    {
+        match block {
+            Block::Memory => self.areas.push(entry),
+            Block::Segments => self.rows.push(entry),
+            Block::Symbols => self.symbols.push(entry),
+        }
+    }
 }

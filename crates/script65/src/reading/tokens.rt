@@ -1,20 +1,52 @@
 //! The tokens of a script, and the one at a place.
 
-ghost use Rattle.std.specs.Prelude.{◌==◌, ◌≡◌, ◌≢◌, ◌≤◌, ◌<◌, false, ◌+◌, length, drop};
-ghost use Rattle.std.specs.List.{prefix_len, list_any};
+ghost use Rattle.std.specs.Prelude.{◌≡◌, ◌≢◌, ◌≤◌, ◌<◌, ◌+◌, ◌==◌, false, length, drop};
+ghost use Rattle.std.specs.List.{prefix_len, list_any, take_while};
 ghost use Rattle.std.specs.Char.{is_ascii_digit, is_ascii_hexdigit};
-ghost use Rattle.script65.specs.Tokens.{number_of, is_letter, is_word, is_inside, is_blank, is_text, gap_len, front, hex_of, mark_of, string_of, output_of, token_at, text, line_of};
-ghost use Rattle.script65.specs.declared.reading.tokens.Form.TheVariants as form;
+ghost use Rattle.script65.specs.Tokens.{front, gap, hex_behind, is_blank, is_letter, is_string_byte, is_word_byte, mark, string_behind, the_end, token, written};
+ghost use Rattle.script65.specs.Scripts.{line_at};
 
-use crate::fault::{Fault, Stop};
 use base65::{digits, is_utf8};
+use std::marker::Model;
 
-/// A form of token. The end of the script and a byte that begins no token are forms too.
-#[derive(Clone, Copy)]
-pub enum Form {
-    Word,
-    Number,
-    Text,
+/// Bytes of a script, which contracts see as a list.
+#[derive(Drop)]
+pub struct Bytes<'a> {
+    bytes: &'a [u8],
+}
+
+impl<'a> Model for Bytes<'a> {
+    ghost use Rattle.std.specs.Prelude.{List, ℕ};
+    ghost use Rattle.std.specs.Coded.{coded_list, coded_ℕ};
+
+    ghost Value = { List ℕ };
+
+    ghost coded = { coded_list coded_ℕ };
+
+    ghost view = { λ b. b.bytes.now };
+}
+
+impl<'a> Bytes<'a> {
+    pub fn of(bytes: &'a [u8]) -> Self
+        ensures { result ≡ bytes.now }
+    {
+        Bytes { bytes }
+    }
+
+    pub fn as_slice(&self) -> &'a [u8]
+        ensures { result.now ≡ self.now }
+    {
+        self.bytes
+    }
+}
+
+/// What a token is: an identifier; a number, by its value if that is below 2 ^ 32; a string, by its text; `%O`; or a
+/// mark. The end of the script and a byte with which no token begins are tokens, too.
+#[derive(Drop)]
+pub enum Lexeme<'a> {
+    Word(Bytes<'a>),
+    Number(Option<u32>),
+    Text(Bytes<'a>),
     Output,
     Colon,
     Semicolon,
@@ -28,54 +60,18 @@ pub enum Form {
     Bad,
 }
 
-/// A token, and the places of its first byte and behind its last.
-#[derive(Clone, Copy)]
-pub struct Token {
-    pub form: Form,
-    pub from: usize,
-    pub to: usize,
-}
-
-impl Token {
-    ghost use Rattle.std.specs.Prelude.{◌≡◌};
-
-    /// A fault at the token.
-    pub fn stop(self, fault: Fault) -> Stop
-        ensures { result ≡ record { fault = fault; at = self.from } }
-    {
-        Stop {
-            fault,
-            at: self.from,
-        }
-    }
-}
-
-/// The value of a number's text, if it is one.
-pub fn number_of(text: &[u8]) -> Option<u32>
-    ensures { result ≡ number_of text.now }
-{
-    match text {
-        [b'$', rest @ ..] => digits(16, rest),
-        _ => digits(10, text),
-    }
+/// A token, the place of its first byte, and the place behind its last.
+#[derive(Drop)]
+pub struct Token<'a> {
+    pub lexeme: Lexeme<'a>,
+    pub at: usize,
+    pub behind: usize,
 }
 
 fn is_letter(b: u8) -> bool
     ensures { result ≡ is_letter b }
 {
     b.is_ascii_alphabetic() || b == b'_'
-}
-
-fn is_word(b: u8) -> bool
-    ensures { result ≡ is_word b }
-{
-    is_letter(b) || b.is_ascii_digit()
-}
-
-fn is_inside(b: u8) -> bool
-    ensures { result ≡ is_inside b }
-{
-    !(b == b'"' || b == b'\n')
 }
 
 fn is_blank(b: u8) -> bool
@@ -85,17 +81,23 @@ fn is_blank(b: u8) -> bool
 }
 
 fn word_len(bytes: &[u8]) -> usize
-    ensures count { result ≡ prefix_len is_word bytes.now }
+    ensures count { result ≡ prefix_len is_word_byte bytes.now }
     ensures within { result ≤ length bytes.now }
 {
-    bytes.iter().take_while(|b| is_word(**b)).count()
+    bytes
+        .iter()
+        .take_while(|b| is_letter(**b) || b.is_ascii_digit())
+        .count()
 }
 
-fn inside_len(bytes: &[u8]) -> usize
-    ensures count { result ≡ prefix_len is_inside bytes.now }
+fn string_len(bytes: &[u8]) -> usize
+    ensures count { result ≡ prefix_len is_string_byte bytes.now }
     ensures within { result ≤ length bytes.now }
 {
-    bytes.iter().take_while(|b| is_inside(**b)).count()
+    bytes
+        .iter()
+        .take_while(|b| !(**b == b'"' || **b == b'\n'))
+        .count()
 }
 
 fn decimal_len(bytes: &[u8]) -> usize
@@ -114,7 +116,7 @@ fn hex_len(bytes: &[u8]) -> usize
 
 // How many bytes of blanks and comments are at the front.
 fn gap_len(bytes: &[u8]) -> usize
-    ensures count { result ≡ gap_len false bytes.now }
+    ensures count { result ≡ gap false bytes.now }
     ensures within { result ≤ length bytes.now }
 {
     let mut comment = false;
@@ -136,123 +138,111 @@ fn has_percent(bytes: &[u8]) -> bool
     bytes.iter().any(|b| *b == b'%')
 }
 
-// Whether the bytes may be the text of a string.
-#[tactic(auto, unfolding(crate::specs::Tokens::is_text))]
-fn is_text(bytes: &[u8]) -> bool
-    ensures { result ≡ is_text bytes.now }
-{
-    is_utf8(bytes) && !has_percent(bytes)
-}
-
-// The form and length of the token whose `"` stands before these bytes.
-#[tactic(auto, unfolding(crate::specs::Tokens::string_of))]
-fn string(rest: &[u8]) -> (Form, usize)
-    ensures value { result ≡ string_of (prefix_len is_inside rest.now) rest.now }
+// The token whose `"` stands before these bytes, and of how many bytes it is.
+fn string(rest: &[u8]) -> (Lexeme<'_>, usize)
+    ensures value { result ≡ string_behind (take_while is_string_byte rest.now) rest.now }
     ensures within { result.1 ≤ 1 + length rest.now }
     ensures some { 0 < result.1 }
 {
-    let len = inside_len(rest);
-    let (inside, behind) = rest.split_at(len);
+    let (inside, behind) = rest.split_at(string_len(rest));
     match behind {
-        [b'"', ..] if is_text(inside) => (Form::Text, 2 + len),
-        _ => (Form::Bad, 1),
+        [b'"', ..] if is_utf8(inside) && !has_percent(inside) => {
+            (Lexeme::Text(Bytes::of(inside)), 2 + inside.len())
+        }
+        _ => (Lexeme::Bad, 1),
     }
 }
 
-// The form and length of the token whose `%` stands before these bytes.
-fn output(rest: &[u8]) -> (Form, usize)
-    ensures value { result ≡ output_of rest.now }
-    ensures within { result.1 ≤ 1 + length rest.now }
-    ensures some { 0 < result.1 }
-{
-    match rest {
-        [b'O', ..] => (Form::Output, 2),
-        _ => (Form::Bad, 1),
-    }
-}
-
-// The form and length of the token whose `$` stands before these bytes.
-fn hex(rest: &[u8]) -> (Form, usize)
-    ensures value { result ≡ hex_of rest.now }
+// The token whose `$` stands before these bytes, and of how many bytes it is.
+fn hex(rest: &[u8]) -> (Lexeme<'_>, usize)
+    ensures value { result ≡ hex_behind (take_while is_ascii_hexdigit rest.now) }
     ensures within { result.1 ≤ 1 + length rest.now }
     ensures some { 0 < result.1 }
 {
     match hex_len(rest) {
-        0 => (Form::Bad, 1),
-        len => (Form::Number, 1 + len),
+        0 => (Lexeme::Bad, 1),
+        len => (Lexeme::Number(digits(16, &rest[..len])), 1 + len),
     }
 }
 
-// The form of a byte that is a token by itself.
-fn mark_of(b: u8) -> Form
-    ensures { result ≡ mark_of b }
+// A byte that is a token by itself, or begins none.
+fn mark(b: u8) -> Lexeme<'static>
+    ensures { result ≡ mark b }
 {
     match b {
-        b':' => Form::Colon,
-        b';' => Form::Semicolon,
-        b',' => Form::Comma,
-        b'=' => Form::Equals,
-        b'+' => Form::Plus,
-        b'-' => Form::Minus,
-        b'{' => Form::Open,
-        b'}' => Form::Close,
-        _ => Form::Bad,
+        b':' => Lexeme::Colon,
+        b';' => Lexeme::Semicolon,
+        b',' => Lexeme::Comma,
+        b'=' => Lexeme::Equals,
+        b'+' => Lexeme::Plus,
+        b'-' => Lexeme::Minus,
+        b'{' => Lexeme::Open,
+        b'}' => Lexeme::Close,
+        _ => Lexeme::Bad,
     }
 }
 
-// The form and length of the token at the front.
-fn front(here: &[u8]) -> (Form, usize)
+// The token at the front, and of how many bytes it is.
+fn front(here: &[u8]) -> (Lexeme<'_>, usize)
     ensures value { result ≡ front here.now }
     ensures within { result.1 ≤ length here.now }
-    ensures some { result.0 ≢ form.End → 0 < result.1 }
+    ensures some { result.0 ≢ the_end → 0 < result.1 }
 {
-    match here {
-        [] => (Form::End, 0),
-        [first, rest @ ..] => match *first {
-            b'a'..=b'z' | b'A'..=b'Z' | b'_' => (Form::Word, 1 + word_len(rest)),
-            b'0'..=b'9' => (Form::Number, 1 + decimal_len(rest)),
-            b'$' => hex(rest),
-            b'"' => string(rest),
-            b'%' => output(rest),
-            mark => (mark_of(mark), 1),
+    let [first, rest @ ..] = here else {
+        return (Lexeme::End, 0);
+    };
+    if is_letter(*first) {
+        let len = 1 + word_len(rest);
+        return (Lexeme::Word(Bytes::of(&here[..len])), len);
+    }
+    if first.is_ascii_digit() {
+        let len = 1 + decimal_len(rest);
+        return (Lexeme::Number(digits(10, &here[..len])), len);
+    }
+    match *first {
+        b'$' => hex(rest),
+        b'"' => string(rest),
+        b'%' => match rest {
+            [b'O', ..] => (Lexeme::Output, 2),
+            _ => (Lexeme::Bad, 1),
         },
+        other => (mark(other), 1),
     }
 }
 
 /// The token at a place, or the next behind it.
-#[tactic(auto, unfolding(crate::specs::Tokens::token_at))]
-pub fn token_at(bytes: &[u8], at: usize) -> Token
-    requires { at ≤ length bytes.now }
-    ensures value { result ≡ token_at bytes.now at }
-    ensures within { result.to ≤ length bytes.now }
-    ensures start { at ≤ result.from }
-    ensures order { result.from ≤ result.to }
-    ensures some { result.form ≢ form.End → result.from < result.to }
+#[tactic(auto, unfolding(crate::specs::Tokens::token))]
+pub fn token_at(bytes: &[u8], place: usize) -> Token<'_>
+    requires { place ≤ length bytes.now }
+    ensures value { result ≡ token bytes.now place }
+    ensures within { result.behind ≤ length bytes.now }
+    ensures order { result.at ≤ result.behind }
+    ensures some { result.lexeme ≢ the_end → place < result.behind }
 {
-    let from = at + gap_len(&bytes[at..]);
-    let (form, len) = front(&bytes[from..]);
+    let at = place + gap_len(&bytes[place..]);
+    let (lexeme, len) = front(&bytes[at..]);
     Token {
-        form,
-        from,
-        to: from + len,
+        lexeme,
+        at,
+        behind: at + len,
     }
 }
 
-/// The bytes between two places, or none where they are no places.
-#[tactic(auto, unfolding(crate::specs::Tokens::text))]
-pub fn text(bytes: &[u8], from: usize, to: usize) -> &[u8]
-    ensures { result.now ≡ text bytes.now from to }
+/// The bytes of the token at a place.
+#[tactic(auto, using(crate::proofs::Front::none_behind))]
+pub fn written(bytes: &[u8], place: usize) -> &[u8]
+    ensures { result.now ≡ written bytes.now (token bytes.now place) }
 {
-    if from <= to && to <= bytes.len() {
-        &bytes[from..to]
-    } else {
-        &[]
+    if place > bytes.len() {
+        return &[];
     }
+    let token = token_at(bytes, place);
+    &bytes[token.at..token.behind]
 }
 
 /// The line of a place.
 pub fn line_of(bytes: &[u8], at: usize) -> usize
-    ensures { result ≡ line_of bytes.now at }
+    ensures { result ≡ line_at bytes.now at }
 {
     let front = bytes.get(..at).unwrap_or(bytes);
     1 + front.iter().filter(|b| **b == b'\n').count()

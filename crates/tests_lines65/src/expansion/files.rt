@@ -1,6 +1,7 @@
 //! Files that are included, and how much is read of a source.
 
 ghost use Rattle.std.specs.Prelude.{None};
+ghost use Rattle.std.proofs.Common.{rules};
 
 use super::{expanded, in_folder, put_lines};
 use base65::{MemStore, Store, StoreFault};
@@ -86,6 +87,8 @@ impl Store for Lines {
     fn append(&mut self, _name: &str, piece: &[u8]) -> Result<usize, StoreFault> {
         Ok(piece.len())
     }
+
+    ghost counted = { λ _. Prim.search rules };
 }
 
 #[test]

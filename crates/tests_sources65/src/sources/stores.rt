@@ -1,6 +1,7 @@
 //! Stores that fail, that lack the file, or that never end.
 
-ghost use Rattle.std.specs.Prelude.{◌≡◌, ◌+◌, ◌-◌, ◌^◌, ◌<◌, None};
+ghost use Rattle.std.specs.Prelude.{◌≡◌, ◌+◌, ◌-◌, ◌^◌, ◌<◌, ◌≤◌, None};
+ghost use Rattle.std.proofs.Common.{rules};
 
 use super::{alone, in_words};
 use asm65::{AsmRefusal, assemble};
@@ -31,6 +32,8 @@ impl Store for Broken {
     fn append(&mut self, _name: &str, _piece: &[u8]) -> Result<usize, StoreFault> {
         Err(StoreFault::FileError)
     }
+
+    ghost counted = { λ _. Prim.search rules };
 }
 
 /// A store whose files never end.
@@ -55,6 +58,8 @@ impl Store for Endless {
     fn append(&mut self, _name: &str, piece: &[u8]) -> Result<usize, StoreFault> {
         Ok(piece.len())
     }
+
+    ghost counted = { λ _. Prim.search rules };
 }
 
 /// A store that reads the source `b.s` and fails at every other name. It counts each failure.
@@ -62,6 +67,7 @@ impl Store for Endless {
 struct Alone {
     source: &'static [u8],
     failures: u64,
+    ghost few: { failures ≤ 18446744073709551615 },
 }
 
 impl Alone {
@@ -112,6 +118,8 @@ impl Store for Alone {
         }
         Err(self.fail())
     }
+
+    ghost counted = { λ s. s.few };
 }
 
 fn assembled_in<S: Store>(alloc: Global, store: &mut S) -> Result<Object, AsmRefusal> {

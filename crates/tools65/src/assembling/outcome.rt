@@ -1,17 +1,19 @@
 //! What assembling comes to.
 
-ghost use Rattle.std.specs.Prelude.{◌≡◌, IfOk, true};
+ghost use Rattle.std.specs.Prelude.{◌≡◌, IfOk, IfSome, true};
 ghost use Rattle.object65.specs.Objects.{ObjectFits, is_good_object};
 ghost use Rattle.object65.specs.Spelling.{object_bytes};
 ghost use Rattle.tools65.specs.Assembling.{IsOutputName};
 ghost use Rattle.asm65.specs.Assembly.{answer_of, placed_of};
 ghost use Rattle.tools65.specs.Command.{AssemblesTo, refused_with};
-ghost use Rattle.cli65.specs.Line.{assembling};
+ghost use Rattle.cli65.specs.Line.{assemble, assembling};
+ghost use Rattle.tools65.specs.Inner.Computing.{Computes, Leaves};
 
+use crate::assembling::job::{defines_of, folders_of};
 use crate::assembling::naming::object_name;
 use crate::assembling::refusal::asm_message;
-use asm65::{AsmRefusal, Assembly};
-use base65::{Sequence, Text};
+use asm65::{AsmJob, AsmRefusal, Assembly, assemble};
+use base65::{Sequence, Store, Text};
 use cli65::{AssembleLine, join};
 use object65::{Object, write_object};
 use output65::{Outcome, Status, outputs_of};
@@ -67,7 +69,7 @@ fn refused(
 }
 
 /// What assembling does: it writes the object, or says why there is none.
-pub fn asm_outcome(
+fn asm_outcome(
     alloc: Global,
     line: &AssembleLine<'_>,
     assembly: Assembly,
@@ -90,4 +92,25 @@ pub fn asm_outcome(
         }
         Err(refusal) => refused(alloc, line.source, (out, err), &refusal),
     }
+}
+
+/// Assembles, and computes what a line does.
+pub fn compute_assembly<S: Store>(
+    alloc: Global,
+    line: &AssembleLine<'_>,
+    store: &mut S,
+) -> Result<Outcome, AllocError>
+    ensures computed { IfSome (S.files store.old) (λ m. IfOk result (Computes (assemble (assembling line.now)) m
+        (S.blamed store.new) (S.failures store.old) (S.failures store.new))) }
+    ensures kept { Leaves S.files S.failures store.old store.new result }
+{
+    let include = folders_of(alloc, line.include.as_slice())?;
+    let defines = defines_of(alloc, line.defines.as_slice())?;
+    let job = AsmJob {
+        source: line.source,
+        include: include.as_slice(),
+        defines: defines.as_slice(),
+    };
+    let assembly = assemble(alloc, store, &job);
+    asm_outcome(alloc, line, assembly)
 }

@@ -1,6 +1,6 @@
 use Rattle.std.proofs.Common.{◌∙◌, Err, ap, map}
 use Rattle.ar65.proofs.Named.{of_file}
-use Rattle.ar65.proofs.Puts.{file_more, file_none, refused_count, same_count}
+use Rattle.ar65.proofs.Puts.{file_more, file_none, left_more, refused_count, same_count}
 use Rattle.ar65.proofs.Turns.{name_next, name_there}
 use Rattle.ar65.proofs.members.put_files.Goals as goal
 
@@ -15,6 +15,7 @@ pub loop-place-preserved : goal.loop-place-preserved
 loop-place-preserved g c = record {
   files = c.in-Ok.ensures.kept.files ∙ c.loop-place.invariant.files;
   left = file_more _ _ c.args.library.now c.loop-place.library c.put_file.new.library (map (λ s. s.now) c.args.files.now) c.loop-place.place _ c.loop-place.invariant.files (name_next (λ s. s.now) c.args.files.now c.loop-place.place _ c.loop-place-test.true) c.loop-place.invariant.left c.in-Ok.ensures.put;
+  bytes = left_more _ _ (map (λ s. s.now) c.args.files.now) c.loop-place.place _ c.loop-place.invariant.files (name_next (λ s. s.now) c.args.files.now c.loop-place.place _ c.loop-place-test.true) c.loop-place.invariant.bytes c.in-Ok.ensures.bytes;
   count = same_count _ _ _ _ c.loop-place.invariant.count c.in-Ok.ensures.kept.count;
 }
 

@@ -1,10 +1,11 @@
 use Rattle.std.proofs.Common.{◌≡◌, map}
-use Rattle.ar65.proofs.Puts.{IsLeft}
+use Rattle.ar65.proofs.Puts.{HaveLeft, IsLeft}
 use Rattle.ar65.proofs.members.put_files.Given as goal
 
 abbrev pub invariant-loop-place : goal.invariant-loop-place
 invariant-loop-place g l = record {
   files : g.S.Store.files l.store ≡ g.S.Store.files l.fn.store;
   left : IsLeft (g.S.Store.files l.fn.store) l.fn.library (map (λ s. s.now) l.files) l.library l.place;
+  bytes : HaveLeft (g.S.Store.files l.fn.store) (map (λ s. s.now) l.files) l.place;
   count : g.S.Store.failures l.store ≡ g.S.Store.failures l.fn.store;
 }

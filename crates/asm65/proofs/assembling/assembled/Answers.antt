@@ -60,4 +60,4 @@ pub returns-in-Ok-define_all-clause-stopped : goal.returns-in-Ok-define_all-clau
 returns-in-Ok-define_all-clause-stopped g c =
     let run : Run = record { expander = c.in-Ok.expander; assembler = c.define_all.new.assembler } in
     let P : Option Files → Type 0 = λ o. IfSome o (λ m. StopsFrom m (g.S.Store.blamed c.finished.new.store) run c.finished.result) in
-    run_stops (g.S.Store.files c.args.store.now) (g.S.Store.blamed c.finished.new.store) (job_of c.args.job.now) c.in-Ok.expander c.define_all.new.assembler c.in-Ok-define_all.field-0 c.finished.result c.in-Ok-define_all.ensures.defined c.in-Ok.ensures.size c.in-Ok.ensures.opened (subst P c.in-Ok.ensures.files c.finished.ensures.stopped)
+    run_stops (g.S.Store.files c.args.store.now) (g.S.Store.blamed c.finished.new.store) (job_of c.args.job.now) c.in-Ok.expander c.define_all.new.assembler c.in-Ok-define_all.field-0 c.finished.result c.in-Ok-define_all.ensures.defined c.in-Ok.ensures.size c.in-Ok.ensures.opened c.in-Ok.ensures.placed (subst P c.in-Ok.ensures.files c.finished.ensures.stopped)

@@ -10,7 +10,7 @@ pub returns-then-is_outside-clause-failed : goal.returns-then-is_outside-clause-
 returns-then-is_outside-clause-failed c = failed_as c.args.fault c.refused_outside.result.result c.refused_outside.ensures.fault
 
 pub returns-then-is_outside-clause-first : goal.returns-then-is_outside-clause-first
-returns-then-is_outside-clause-first c = λ failed. first_as c.args.fault c.refused_outside.result.result c.refused_outside.ensures.fault c.refused_outside.ensures.line
+returns-then-is_outside-clause-first c = λ failed. first_as c.args.fault c.refused_outside.result.result c.refused_outside.ensures.fault c.refused_outside.ensures.placed
 
 pub returns-clause-failed : goal.returns-clause-failed
 returns-clause-failed c =

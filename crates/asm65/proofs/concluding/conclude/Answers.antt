@@ -1,54 +1,30 @@
-use Rattle.std.proofs.Common.{◌≡◌, ℕ, List, ap, false, map, string_bytes, subst, Global}
-use Rattle.std.specs.Prelude.{IfOk, None, Ok, Err, Result}
-use Rattle.base65.specs.Outcome.{Unless}
+use Rattle.std.proofs.Common.{ℕ, List, false, subst}
+use Rattle.std.specs.Prelude.{None, Result}
 use Rattle.object65.specs.declared.object.Object.{Object}
 use Rattle.semantics65.specs.declared.contents.Segment.{Segment}
-use Rattle.semantics65.specs.Machine.{State, concluded}
-use Rattle.asm65.specs.declared.texts.AsmRefusal.{AsmRefusal}
-use Rattle.asm65.specs.Assembly.{is_outside_refusal}
+use Rattle.semantics65.specs.Machine.{Slot, State, concluded}
+use Rattle.emit65.specs.Fed.{Stands}
+use Rattle.symbols65.specs.Views.{table_of}
 use Rattle.asm65.specs.Inner.Holding.{Holds}
-use Rattle.asm65.specs.Inner.Running.{AreFaulty, AreSettled}
-use Rattle.asm65.proofs.Conclusions.{certain, IsGoodWhere, IsMade, all_settled, either_concluded, either_good, ending_of, fault_concluded, imports_of}
+use Rattle.asm65.specs.Inner.Running.{ComesTo}
+use Rattle.asm65.specs.declared.assembler.Assembler.{Assembler}
+use Rattle.asm65.proofs.Conclusions.{comes_concluded, comes_good}
 use Rattle.asm65.proofs.concluding.conclude.Goals as goal
-
-pub returns-in-Ok-finish-clause-concluded : goal.returns-in-Ok-finish-clause-concluded
-returns-in-Ok-finish-clause-concluded c =
-    let a = c.args.assembler in
-    let new = c.settle_all-settled.new.ending in
-    let files = map (string_bytes {Z = Global}) c.as_slice.result.now in
-    let made : Result Object AsmRefusal = Ok c.in-Ok-finish.object in
-    λ (count : ℕ) (t : State).
-    λ (h : Holds count t a).
-    let k : AreSettled t.symbols t.fixups (ending_of a) new = all_settled count t a files new (Ok tt) h (ap (map (string_bytes {Z = Global})) c.as_slice.ensures.keys) c.in-Ok.ensures.settled in
-    c.answered.ensures.concluded (concluded t None) (either_concluded count t a new made h k (subst (λ (gs : List Segment). IfOk made (IsMade gs (imports_of a) new)) c.as_slice-segments.ensures.value c.in-Ok-finish.ensures.object) tt)
-
-pub returns-in-Ok-finish-clause-good : goal.returns-in-Ok-finish-clause-good
-returns-in-Ok-finish-clause-good c =
-    let a = c.args.assembler in
-    let new = c.settle_all-settled.new.ending in
-    let files = map (string_bytes {Z = Global}) c.as_slice.result.now in
-    let made : Result Object AsmRefusal = Ok c.in-Ok-finish.object in
-    either_good a new made c.answered.result.result c.answered.ensures.answer
-    (λ (count : ℕ) (t : State). λ (h : Holds count t a). all_settled count t a files new (Ok tt) h (ap (map (string_bytes {Z = Global})) c.as_slice.ensures.keys) c.in-Ok.ensures.settled)
-    (subst (λ (gs : List Segment). IfOk made (IsGoodWhere gs (imports_of a) new)) c.as_slice-segments.ensures.value c.in-Ok-finish.ensures.good)
-
-pub returns-in-Ok-clause-concluded : goal.returns-in-Ok-clause-concluded
-returns-in-Ok-clause-concluded c =
-    let a = c.args.assembler in
-    let new = c.settle_all-settled.new.ending in
-    let files = map (string_bytes {Z = Global}) c.as_slice.result.now in
-    let lost : Result Object AsmRefusal = Err c.without_memory.result in
-    λ (count : ℕ) (t : State).
-    λ (h : Holds count t a).
-    let k : AreSettled t.symbols t.fixups (ending_of a) new = all_settled count t a files new (Ok tt) h (ap (map (string_bytes {Z = Global})) c.as_slice.ensures.keys) c.in-Ok.ensures.settled in
-    c.answered-in-Err-finish.ensures.concluded (concluded t None) (either_concluded count t a new lost h k tt c.without_memory.ensures.outside)
 
 pub returns-clause-concluded : goal.returns-clause-concluded
 returns-clause-concluded c =
-    let a = c.args.assembler in
-    let new = c.settle_all-settled.new.ending in
-    let files = map (string_bytes {Z = Global}) c.as_slice.result.now in
+    let a : Assembler = c.args.assembler in
+    let r = c.object_found-found.result in
+    let new = c.object_found-found.new.ending.err in
     λ (count : ℕ) (t : State).
     λ (h : Holds count t a).
-    let k : Unless (is_outside_refusal c.in-Err.refusal) (AreFaulty t.symbols t.fixups c.in-Err.refusal (ending_of a) new) = all_settled count t a files new (Err c.in-Err.refusal) h (ap (map (string_bytes {Z = Global})) c.as_slice.ensures.keys) c.in-Err.ensures.settled in
-    c.answered-in-Err.ensures.concluded (concluded t None) (λ (e : is_outside_refusal c.in-Err.refusal ≡ false). fault_concluded count t a new c.in-Err.refusal h (certain (is_outside_refusal c.in-Err.refusal) (AreFaulty t.symbols t.fixups c.in-Err.refusal (ending_of a) new) k e))
+    let k : ComesTo (table_of a.symbols) a.cursor.segments.items t.slots a.texts.err new r = subst (λ (gs : List Segment). ComesTo (table_of a.symbols) gs t.slots a.texts.err new r) c.as_slice-segments.ensures.value (c.object_found-found.ensures.found t.slots h.sections) in
+    c.answered.ensures.concluded (concluded t None) (comes_concluded count t a new r h k)
+
+pub returns-clause-good : goal.returns-clause-good
+returns-clause-good c =
+    let a : Assembler = c.args.assembler in
+    let r = c.object_found-found.result in
+    let new = c.object_found-found.new.ending.err in
+    comes_good a new r c.answered.result.result c.answered.ensures.answer
+    (λ (xs : List Slot). λ (s : Stands xs a.sections). subst (λ (gs : List Segment). ComesTo (table_of a.symbols) gs xs a.texts.err new r) c.as_slice-segments.ensures.value (c.object_found-found.ensures.found xs s))

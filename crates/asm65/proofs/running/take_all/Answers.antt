@@ -9,7 +9,7 @@ use Rattle.ast65.specs.declared.fault.AsmFault.{AsmFault}
 use Rattle.asm65.specs.Inner.Running.{IsRunning, TakesLine}
 use Rattle.asm65.specs.declared.running.Run.{Run}
 use Rattle.asm65.proofs.Ahead.{line_taken, no_line_taken}
-use Rattle.asm65.proofs.Sources.{Goes, NextBy, all_end, all_further, all_on, all_out, all_refused, all_stop, all_stopped, all_wrong, goes_first, line_running, some_all, still_running}
+use Rattle.asm65.proofs.Sources.{Goes, NextBy, all_end, all_further, all_on, all_out, all_refused, all_stop, all_stopped, all_wrong, goes_first, line_running, placed_on, some_all, some_then, still_running, StaysPlaced}
 use Rattle.asm65.proofs.running.take_all.Goals as goal
 
 pub statements-init : goal.statements-init
@@ -18,6 +18,7 @@ statements-init g c = record {
   count = refl;
   running = c.requires;
   so_far = some_all (λ m. Goes m c.args.run.now c.args.run.now) (g.S.Store.files c.args.store.now) (λ m. goes_first m c.args.run.now);
+  placed = some_all (λ m. StaysPlaced m c.args.run.now c.args.run.now) (g.S.Store.files c.args.store.now) (λ m h. h);
 }
 
 pub returns-in_err-statement-clause-ran : goal.returns-in_err-statement-clause-ran
@@ -36,11 +37,13 @@ returns-in_err-statement-clause-stopped g c =
     let here = no_line_taken (g.S.Store.files c.statements.store) (g.S.Store.blamed c.take_at_hand.new.store) c.statements.run c.take_at_hand.new.run c.in_ok-take_at_hand.field-0 c.if-branch.false c.in_ok-take_at_hand.ensures.next in
     let T : Run → Type 0 = λ r. IfSome (g.S.Store.files c.args.store.now) (λ m. Goes m c.args.run.now r) in
     let so_far = subst T (sym here) c.statements.invariant.so_far in
+    let K : Run → Type 0 = λ r. IfSome (g.S.Store.files c.args.store.now) (λ m. StaysPlaced m c.args.run.now r) in
+    let placed = subst K (sym here) c.statements.invariant.placed in
     let told = c.in_ok-take_at_hand.ensures.kept.files ∙ c.statements.invariant.files in
     let r = c.from_residual-in_err-statement.result in
     let p = err_from_is_err_and r c.from_residual-in_err-statement.ensures.1 in
     let e = c.in_err-statement.ensures in
-    all_stop (g.S.Store.files c.args.store.now) (g.S.Store.files c.take_at_hand.new.store) told c.args.run.now c.take_at_hand.new.run c.next.new.run e.same so_far (g.S.Store.blamed c.next.new.store) c.in_err-statement.field-0.0 r (p.1 ∙ ap Err p.2) e.stopped
+    all_stop (g.S.Store.files c.args.store.now) (g.S.Store.files c.take_at_hand.new.store) told c.args.run.now c.take_at_hand.new.run c.next.new.run e.same so_far (g.S.Store.blamed c.next.new.store) c.in_err-statement.field-0.0 r (p.1 ∙ ap Err p.2) placed e.stopped
 
 pub returns-in_err-take_next-clause-ran : goal.returns-in_err-take_next-clause-ran
 returns-in_err-take_next-clause-ran g c =
@@ -83,6 +86,7 @@ statements-preserved g c =
     let here = no_line_taken (g.S.Store.files c.statements.store) (g.S.Store.blamed c.take_at_hand.new.store) c.statements.run c.take_at_hand.new.run c.in_ok-take_at_hand.field-0 c.if-branch.false c.in_ok-take_at_hand.ensures.next in
     let T : Run → Type 0 = λ r. IfSome (g.S.Store.files c.args.store.now) (λ m. Goes m c.args.run.now r) in
     let so_far = subst T (sym here) c.statements.invariant.so_far in
+    let K : Run → Type 0 = λ r. IfSome (g.S.Store.files c.args.store.now) (λ m. StaysPlaced m c.args.run.now r) in
     let told = c.in_ok-take_at_hand.ensures.kept.files ∙ c.statements.invariant.files in
     let old = c.take_at_hand.new.run in
     let mid = c.next.new.run in
@@ -98,6 +102,7 @@ statements-preserved g c =
       files = t.kept.files ∙ e.files ∙ told;
       count = search rules;
       running = still_running old mid e.same less (g.S.Store.files c.next.new.store) statement new c.in_ok-take_next.field-0 t.read.taken t.same (subst IsRunning (sym here) c.statements.invariant.running);
+      placed = placed_on (g.S.Store.files c.args.store.now) (g.S.Store.files c.take_at_hand.new.store) told c.args.run.now old mid new t.same (subst K (sym here) c.statements.invariant.placed) e.placed;
       so_far = all_further (g.S.Store.files c.args.store.now) (g.S.Store.files c.take_at_hand.new.store) told c.args.run.now old mid e.same so_far (Some statement) given statement refl less new t.same (g.S.Store.files c.next.new.store) (e.files ∙ told) c.in_ok-take_next.field-0 t.read.taken;
     }
 
@@ -106,6 +111,7 @@ statements-preserved-in_ok-take_next g c =
     let here = no_line_taken (g.S.Store.files c.statements.store) (g.S.Store.blamed c.take_at_hand.new.store) c.statements.run c.take_at_hand.new.run c.in_ok-take_at_hand.field-0 c.if-branch.false c.in_ok-take_at_hand.ensures.next in
     let T : Run → Type 0 = λ r. IfSome (g.S.Store.files c.args.store.now) (λ m. Goes m c.args.run.now r) in
     let so_far = subst T (sym here) c.statements.invariant.so_far in
+    let K : Run → Type 0 = λ r. IfSome (g.S.Store.files c.args.store.now) (λ m. StaysPlaced m c.args.run.now r) in
     let told = c.in_ok-take_at_hand.ensures.kept.files ∙ c.statements.invariant.files in
     let old = c.take_at_hand.new.run in
     let mid = c.next.new.run in
@@ -121,6 +127,7 @@ statements-preserved-in_ok-take_next g c =
       files = t.kept.files ∙ e.files ∙ told;
       count = search rules;
       running = still_running old mid e.same less (g.S.Store.files c.next.new.store) statement new c.in_ok-take_next.field-0 t.read.taken t.same (subst IsRunning (sym here) c.statements.invariant.running);
+      placed = placed_on (g.S.Store.files c.args.store.now) (g.S.Store.files c.take_at_hand.new.store) told c.args.run.now old mid new t.same (subst K (sym here) c.statements.invariant.placed) e.placed;
       so_far = all_further (g.S.Store.files c.args.store.now) (g.S.Store.files c.take_at_hand.new.store) told c.args.run.now old mid e.same so_far (Some statement) given statement refl less new t.same (g.S.Store.files c.next.new.store) (e.files ∙ told) c.in_ok-take_next.field-0 t.read.taken;
     }
 
@@ -199,6 +206,7 @@ statements-preserved-then-branch g c =
       files = e.kept.files ∙ c.statements.invariant.files;
       count = search rules;
       running = line_running o blamed (place_of new.expander) line.statements old.expander new.expander old.assembler new.assembler line.given line.taken refl c.statements.invariant.running;
+      placed = some_then (λ m. StaysPlaced m c.args.run.now old) (λ m. StaysPlaced m c.args.run.now new) (g.S.Store.files c.args.store.now) (λ m h first. line.placed m (h first)) c.statements.invariant.placed;
       so_far = all_on (g.S.Store.files c.args.store.now) blamed c.args.run.now old new (subst (λ q. TakesLine q blamed old new (Ok tt)) c.statements.invariant.files line) c.statements.invariant.so_far;
     }
 

@@ -2,7 +2,7 @@ use Rattle.std.proofs.Common.{◌≡◌}
 use Rattle.std.specs.Prelude.{IfSome}
 use Rattle.expand65.specs.Standing.{measure_of}
 use Rattle.asm65.specs.Inner.Running.{IsRunning}
-use Rattle.asm65.proofs.Sources.{Goes}
+use Rattle.asm65.proofs.Sources.{Goes, StaysPlaced}
 use Rattle.asm65.proofs.running.take_all.Given as goal
 
 abbrev pub invariant-statements : goal.invariant-statements
@@ -11,6 +11,7 @@ invariant-statements g l = record {
   count : g.S.Store.failures l.store ≡ g.S.Store.failures l.fn.store;
   running : IsRunning l.run;
   so_far : IfSome (g.S.Store.files l.fn.store) (λ m. Goes m l.fn.run l.run);
+  placed : IfSome (g.S.Store.files l.fn.store) (λ m. StaysPlaced m l.fn.run l.run);
 }
 
 abbrev pub decreases-statements : goal.decreases-statements

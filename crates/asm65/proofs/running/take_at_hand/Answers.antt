@@ -37,7 +37,7 @@ returns-in_err-taken-clause-next g c =
     let at : place ≡ place_of c.take_peeked.new.self = ap (λ f. place_in f line.number) c.place.ensures.place.0 ∙ sym c.take_peeked.ensures.place in
     let o = g.S.Store.files c.args.store.now in
     let blamed = g.S.Store.blamed c.take_parts-taken.new.store in
-    let all = line_is o blamed c.args.run.now c.take_peeked.new.self c.take_parts-taken.new.assembler n ts (lexemes c.split_at.result.0.now) (lexemes c.split_at.result.1.now) place c.take_parts-taken.result (c.take_peeked.ensures.given n ts ahead is) (c.take_peeked.ensures.less ts ahead) front behind at c.take_parts-taken.ensures.taken in
+    let all = line_is o blamed c.args.run.now c.take_peeked.new.self c.take_parts-taken.new.assembler n ts (lexemes c.split_at.result.0.now) (lexemes c.split_at.result.1.now) place c.take_parts-taken.result (c.take_peeked.ensures.given n ts ahead is) (c.take_peeked.ensures.less ts ahead) (λ m. c.take_peeked.ensures.placed m ts ahead) front behind at c.take_parts-taken.ensures.taken in
     let R : Answer → Type 0 = λ q. TakesLine o blamed c.args.run.now (record { expander = c.take_peeked.new.self; assembler = c.take_parts-taken.new.assembler }) q in
     let p = err_from_is_err_and c.from_residual.result c.from_residual.ensures.1 in
     rw (p.1, p.2) (subst R c.in_err-taken.was all)
@@ -60,6 +60,6 @@ returns-clause-next g c =
     let at : place ≡ place_of c.take_peeked.new.self = ap (λ f. place_in f line.number) c.place.ensures.place.0 ∙ sym c.take_peeked.ensures.place in
     let o = g.S.Store.files c.args.store.now in
     let blamed = g.S.Store.blamed c.take_parts-taken.new.store in
-    let all = line_is o blamed c.args.run.now c.take_peeked.new.self c.take_parts-taken.new.assembler n ts (lexemes c.split_at.result.0.now) (lexemes c.split_at.result.1.now) place c.take_parts-taken.result (c.take_peeked.ensures.given n ts ahead is) (c.take_peeked.ensures.less ts ahead) front behind at c.take_parts-taken.ensures.taken in
+    let all = line_is o blamed c.args.run.now c.take_peeked.new.self c.take_parts-taken.new.assembler n ts (lexemes c.split_at.result.0.now) (lexemes c.split_at.result.1.now) place c.take_parts-taken.result (c.take_peeked.ensures.given n ts ahead is) (c.take_peeked.ensures.less ts ahead) (λ m. c.take_peeked.ensures.placed m ts ahead) front behind at c.take_parts-taken.ensures.taken in
     let R : Answer → Type 0 = λ q. TakesLine o blamed c.args.run.now (record { expander = c.take_peeked.new.self; assembler = c.take_parts-taken.new.assembler }) q in
     subst R c.in_ok-taken.was all

@@ -1,6 +1,6 @@
 use Rattle.std.proofs.Common.{◌≡◌, ◌∙◌, Err, ap, get_or, subst}
 use Rattle.std.proofs.lemmas.Result.{err_from_is_err_and}
-use Rattle.base65.specs.Store.{IsBlamed}
+use Rattle.base65.specs.Store.{IsBlamedAt}
 use Rattle.syntax65.specs.declared.fault.ExpandFault.TheVariants.{FileError}
 use Rattle.expand65.specs.Expansion.{within}
 use Rattle.expand65.proofs.Seeking.{among_at}
@@ -16,4 +16,4 @@ returns-in_err-found-clause-blamed g c = λ is.
     let same : c.in_err-found.field-0.0 ≡ FileError = cc in
     let folder = get_or c.args.folders.now c.loop-folder.folder-index c.folder-item.result in
     let name_is : c.as_slice.result.now ≡ within c.args.name.now folder = c.as_slice.ensures.value ∙ c.in_ok-whole.ensures ∙ ap (within c.args.name.now) (c.as_bytes.ensures.value ∙ c.as_str.ensures ∙ c.folder-item.is) in
-    among_at blamed (within c.args.name.now) c.args.folders.now c.loop-folder.folder-index c.folder-item.result c.loop-folder-test.true (subst (IsBlamed blamed) name_is (c.in_err-found.ensures.blamed (ap Err same))))
+    among_at blamed (within c.args.name.now) c.args.folders.now c.loop-folder.folder-index c.folder-item.result c.loop-folder-test.true (subst (λ n. IsBlamedAt blamed n 16777216) name_is (c.in_err-found.ensures.blamed (ap Err same))))

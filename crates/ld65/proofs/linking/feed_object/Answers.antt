@@ -1,9 +1,10 @@
-use Rattle.std.proofs.Common.{◌∙◌, refl}
+use Rattle.std.proofs.Common.{◌∙◌, ap, arith, refl, Err}
 use Rattle.std.proofs.lemmas.Result.{err_from_is_err_and}
 use Rattle.object65.proofs.Records.{kept_count}
 use Rattle.ld65.specs.Inner.Feeding.{input_of}
-use Rattle.ld65.proofs.Leaving.{none_passed, fault_behind, unread_behind, untouched}
+use Rattle.ld65.proofs.Leaving.{err_is, none_passed, fault_behind, unread_behind, untouched}
 use Rattle.ld65.proofs.Objects.{end_free, no_head, no_records, more_behind, whole_module}
+use Rattle.ld65.proofs.Turns.{later_in, read_within}
 use Rattle.ld65.proofs.linking.feed_object.Goals as goal
 
 pub returns-in_err-head-clause-fed : goal.returns-in_err-head-clause-fed
@@ -58,3 +59,27 @@ returns-clause-kept g c modules stands =
     let end = c.in_ok-check_end.ensures.kept in
     untouched _ _ _ c.end_module.result (end.files ∙ fed.files ∙ head.files) (kept_count _ _ _ end.count ∙ none_passed _ _ _ fed.count ∙ kept_count _ _ _ head.count)
     (end_free c.in_ok-head.head c.in_ok-end.end _ (input_of c.args.object.now) c.args.linker.now c.begin_module.new.self c.feed_records.new.linker c.end_module.new.self c.end_module.result begun c.in_ok-end.ensures.fed c.end_module.ensures.ended modules stands)
+
+pub returns-in_err-head-clause-within : goal.returns-in_err-head-clause-within
+returns-in_err-head-clause-within g c modules stands failed room =
+    let p = err_from_is_err_and c.from_residual.result c.from_residual.ensures.1 in
+    read_within _ _ _ _ _ c.in_err-head.field-0.0 (omega arith) room c.in_err-head.ensures.within (rw (p.1, p.2) at failed)
+
+pub returns-in_err-end-clause-within : goal.returns-in_err-end-clause-within
+returns-in_err-end-clause-within g c modules stands failed room =
+    let p = err_from_is_err_and c.from_residual-in_err-end.result c.from_residual-in_err-end.ensures.1 in
+    let bound = c.in_ok-head.ensures.bound in
+    let begun = c.in_ok-begin_module.ensures.begun modules stands in
+    let fault = err_is _ _ (rw (p.1, p.2) at failed) in
+    later_in _ _ _ _ _ (omega (arith, bound.0)) (c.in_err-end.ensures.within modules c.args.object.now.name.now _ begun (ap Err fault) bound.1)
+
+pub returns-in_err-check_end-clause-within : goal.returns-in_err-check_end-clause-within
+returns-in_err-check_end-clause-within g c modules stands failed room =
+    let p = err_from_is_err_and c.from_residual-in_err-check_end.result c.from_residual-in_err-check_end.ensures.1 in
+    let bound = c.in_ok-head.ensures.bound in
+    read_within _ _ _ _ _ c.in_err-check_end.field-0.0 (omega (arith, bound.0, c.in_ok-end.ensures.bound.0)) c.in_ok-end.ensures.bound.1 c.in_err-check_end.ensures.within (rw (p.1, p.2) at failed)
+
+pub returns-clause-within : goal.returns-clause-within
+returns-clause-within g c modules stands failed room =
+    let begun = c.in_ok-begin_module.ensures.begun in
+    absurd (end_free c.in_ok-head.head c.in_ok-end.end _ (input_of c.args.object.now) c.args.linker.now c.begin_module.new.self c.feed_records.new.linker c.end_module.new.self c.end_module.result begun c.in_ok-end.ensures.fed c.end_module.ensures.ended modules stands failed)

@@ -1,4 +1,4 @@
-use Rattle.std.proofs.Common.{◌≡◌, ◌-◌, true}
+use Rattle.std.proofs.Common.{◌≡◌, ◌-◌, ◌≤◌, true}
 use Rattle.object65.proofs.Records.{StandsAhead}
 use Rattle.link65.specs.Standing.{Keeps, is_open}
 use Rattle.ld65.specs.Inner.Feeding.{input_of}
@@ -13,6 +13,8 @@ invariant-records g l = record {
   opened : is_open l.linker ≡ true;
   keeps : Keeps l.fn.linker l.linker;
   stands : IsAt (g.S.Store.files l.fn.store) (input_of l.object) l.fn.head l.next l.fn.linker l.linker;
+  later : l.fn.head.1 ≤ l.next;
+  room : l.fn.head.1 ≤ l.object.end → l.next ≤ l.object.end;
 }
 
 abbrev pub decreases-records : goal.decreases-records

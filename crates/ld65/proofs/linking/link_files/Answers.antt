@@ -4,7 +4,7 @@ use Rattle.base65.specs.Outcome.{Unless}
 use Rattle.cli65.specs.Line.{linking}
 use Rattle.script65.specs.Faults.{is_script_outside}
 use Rattle.script65.specs.Scripts.{IsScript}
-use Rattle.ld65.proofs.LineInputs.{script_ok, script_err, script_unread}
+use Rattle.ld65.proofs.LineInputs.{named_line, script_ok, script_err, script_unread}
 use Rattle.ld65.proofs.linking.link_files.Goals as goal
 
 pub returns-in_err-text-clause-linked : goal.returns-in_err-text-clause-linked
@@ -23,3 +23,8 @@ pub returns-clause-linked : goal.returns-clause-linked
 returns-clause-linked g c =
     let is = subst (λ (text : List ℕ). IsScript text (Ok c.in_ok-script.script)) c.as_slice.ensures c.in_ok-script.ensures in
     script_ok _ _ (linking c.args.line.now) c.in_ok-text.text c.in_ok-script.script _ c.in_ok-text.ensures.kept.files c.in_ok-text.ensures.read is c.link_inputs.ensures.linked
+
+pub returns-clause-named : goal.returns-clause-named
+returns-clause-named g c =
+    let is = subst (λ (text : List ℕ). IsScript text (Ok c.in_ok-script.script)) c.as_slice.ensures c.in_ok-script.ensures in
+    named_line _ _ (linking c.args.line.now) c.in_ok-text.text c.in_ok-script.script _ c.link_inputs.result c.in_ok-text.ensures.kept.files c.in_ok-text.ensures.read is c.link_inputs.ensures.kept.named

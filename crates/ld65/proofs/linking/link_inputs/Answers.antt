@@ -1,6 +1,7 @@
 use Rattle.std.proofs.Common.{◌∙◌, Err, Ok, ap, map}
 use Rattle.std.proofs.lemmas.Result.{err_from_is_err_and}
 use Rattle.cli65.specs.Line.{linking}
+use Rattle.ld65.specs.Naming.{IsOfInputs}
 use Rattle.ld65.proofs.Leaving.{linked_left, refused_left}
 use Rattle.ld65.proofs.LineInputs.{inputs_refused, inputs_linked}
 use Rattle.ld65.proofs.linking.link_inputs.Goals as goal
@@ -15,7 +16,7 @@ pub returns-in_err-feed_inputs-clause-kept : goal.returns-in_err-feed_inputs-cla
 returns-in_err-feed_inputs-clause-kept g c =
     let p = err_from_is_err_and c.from_residual-in_err-feed_inputs.result c.from_residual-in_err-feed_inputs.ensures.1 in
     let names = ap (map (λ s. s.now)) c.as_slice.ensures in
-    rw (p.1, p.2) (refused_left _ _ _ _ _ _ c.in_ok-linker.ensures.fed c.in_err-feed_inputs.field-0.0 names c.in_err-feed_inputs.ensures.kept)
+    rw (p.1, p.2) (refused_left (IsOfInputs (g.S.Store.files c.args.store.now)) c.args.script _ _ _ _ _ _ c.in_ok-linker.ensures.script c.in_ok-linker.ensures.fed c.in_err-feed_inputs.field-0.0 names c.in_err-feed_inputs.ensures.kept)
 
 pub returns-in_err-finish-clause-linked : goal.returns-in_err-finish-clause-linked
 returns-in_err-finish-clause-linked g c =
@@ -27,7 +28,7 @@ returns-in_err-finish-clause-linked g c =
 pub returns-in_err-finish-clause-kept : goal.returns-in_err-finish-clause-kept
 returns-in_err-finish-clause-kept g c =
     let p = err_from_is_err_and c.from_residual-in_err-finish.result c.from_residual-in_err-finish.ensures.1 in
-    rw (p.1, p.2) (linked_left _ _ _ _ _ _ c.in_ok-linker.ensures.fed (Err c.in_err-finish.field-0.0) c.in_ok-feed_inputs.ensures.kept)
+    rw (p.1, p.2) (linked_left (IsOfInputs (g.S.Store.files c.args.store.now)) c.args.script _ _ _ _ _ _ c.in_ok-linker.ensures.script c.in_ok-linker.ensures.fed (Err c.in_err-finish.field-0.0) c.in_ok-feed_inputs.ensures.kept)
 
 pub returns-clause-linked : goal.returns-clause-linked
 returns-clause-linked g c =
@@ -36,4 +37,4 @@ returns-clause-linked g c =
     inputs_linked _ (linking c.args.line.now) _ c.output_of.result.now c.args.script c.in_ok-linker.linker c.feed_inputs.new.linker (Ok c.in_ok-finish.field-0) names c.output_of.ensures c.in_ok-linker.ensures.names c.in_ok-linker.ensures.script (kept.script ∙ c.in_ok-linker.ensures.script) (kept.output ∙ c.in_ok-linker.ensures.output) c.in_ok-linker.ensures.fed c.in_ok-feed_inputs.ensures.fed c.in_ok-finish.ensures.linked
 
 pub returns-clause-kept : goal.returns-clause-kept
-returns-clause-kept g c = linked_left _ _ _ _ _ _ c.in_ok-linker.ensures.fed (Ok c.in_ok-finish.field-0) c.in_ok-feed_inputs.ensures.kept
+returns-clause-kept g c = linked_left (IsOfInputs (g.S.Store.files c.args.store.now)) c.args.script _ _ _ _ _ _ c.in_ok-linker.ensures.script c.in_ok-linker.ensures.fed (Ok c.in_ok-finish.field-0) c.in_ok-feed_inputs.ensures.kept

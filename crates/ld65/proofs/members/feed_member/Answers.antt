@@ -26,4 +26,4 @@ returns-in-Err-clause-fed g c =
 pub returns-in-Err-clause-kept : goal.returns-in-Err-clause-kept
 returns-in-Err-clause-kept g c =
     let refused = c.in-Err.ensures in
-    rw c.of_member.ensures (member_left _ _ _ _ refused.keeps refused.files c.args.member.now.library.now c.args.member.now.entry.now.name c.in_ok-name.name c.in-Err.fault c.in_ok-name.ensures refused.kept)
+    rw c.of_member.ensures (member_left _ _ _ _ refused.keeps refused.files c.args.member.now.library.now c.in_ok-name.name c.args.member.now.entry.now c.in-Err.fault c.in_ok-name.ensures refused.kept refused.within)

@@ -1,11 +1,13 @@
-use Rattle.std.proofs.Common.{length, ◌≤◌}
+use Rattle.std.proofs.Common.{◌≡◌, false, length, ◌≤◌}
 use Rattle.output65.proofs.Texts.{Printing}
 use Rattle.output65.proofs.printing.print.Given as goal
 
 abbrev pub invariant-printing : goal.invariant-printing
 invariant-printing g l = record {
   within : length l.rest ≤ length l.text;
-  done : Printing (g.W.Write.contents l.fn.stream) (g.W.Write.contents l.stream) l.text l.rest;
+  done : Printing (g.W.Write.contents l.fn.stream.writer.now) (g.W.Write.contents l.stream.writer.now) l.text l.rest;
+  same : l.stream.writer.ghost_name ≡ l.fn.stream.writer.ghost_name;
+  asked : l.stream.has_refused ≡ false;
 }
 
 abbrev pub decreases-printing : goal.decreases-printing

@@ -1,4 +1,4 @@
-use Rattle.std.proofs.Common.{◌≡◌, ◌<◌, List, length, subst, arith, rules}
+use Rattle.std.proofs.Common.{◌<◌, List, length, subst, arith, rules}
 use Rattle.base65.specs.declared.output.OutputFile.{OutputFile}
 use Rattle.output65.proofs.Texts.{next_output}
 use Rattle.output65.proofs.writing.write_outputs.Goals as goal

@@ -1,29 +1,22 @@
-use Rattle.std.proofs.Common.{refl, map}
-use Rattle.tools65.proofs.Failing.{failed_words, refused_fails}
-use Rattle.tools65.proofs.Runs.{line_run, refused_words}
-use Rattle.tools65.proofs.WholeRuns.{words_whole}
+use Rattle.std.proofs.Common.{map, rules}
+use Rattle.cli65.specs.Line.{line_of}
+use Rattle.tools65.specs.Command.{Commands}
+use Rattle.tools65.specs.Failing.{FailsWords}
+use Rattle.tools65.specs.OneProgram.{WordsLinkWhole}
+use Rattle.tools65.proofs.Runs.{over_writers}
 use Rattle.tools65.proofs.running.run.Goals as goal
 
-pub returns-in-Ok-clause-done : goal.returns-in-Ok-clause-done
-returns-in-Ok-clause-done g c = line_run _ _ _ _ (map g.A.AsStr.text c.args.words.now) _ _ _ c.in-Ok.ensures c.run_line.ensures.done
+pub returns-clause-done : goal.returns-clause-done
+returns-clause-done g c =
+    over_writers _ _ _ _ _ _ c.run_over.new.out.has_refused c.run_over.new.err.has_refused
+    (λ m io. Commands (map g.A.AsStr.text c.args.words.now) m (g.S.Store.files c.run_over.new.store) io c.run_over.result) (search rules)
 
-pub returns-in-Err-clause-done : goal.returns-in-Err-clause-done
-returns-in-Err-clause-done g c =
-    refused_words _ _ (map g.A.AsStr.text c.args.words.now) c.in-Err.fault _ _ _ c.print.result _ _ refl refl c.in-Err.ensures (rw c.fault_message.ensures at c.print.ensures)
+pub returns-clause-failed : goal.returns-clause-failed
+returns-clause-failed g c =
+    over_writers _ _ _ _ _ _ c.run_over.new.out.has_refused c.run_over.new.err.has_refused
+    (λ m io. FailsWords (g.S.Store.failures c.args.store.now) (map g.A.AsStr.text c.args.words.now) m (g.S.Store.files c.run_over.new.store) (g.S.Store.blamed c.run_over.new.store) io c.run_over.result) (search rules)
 
-pub returns-in-Ok-clause-failed : goal.returns-in-Ok-clause-failed
-returns-in-Ok-clause-failed g c = failed_words _ _ _ _ (map g.A.AsStr.text c.args.words.now) _ _ _ _ c.in-Ok.ensures c.run_line.ensures.failed
-
-pub returns-in-Err-clause-failed : goal.returns-in-Err-clause-failed
-returns-in-Err-clause-failed g c =
-    refused_fails _ _ _ (map g.A.AsStr.text c.args.words.now) c.in-Err.fault _ _ _ _ c.print.result _ refl refl c.in-Err.ensures (rw c.fault_message.ensures at c.print.ensures)
-
-pub returns-in-Ok-clause-one_program : goal.returns-in-Ok-clause-one_program
-returns-in-Ok-clause-one_program g c =
-    words_whole _ _ _ _ (map g.A.AsStr.text c.args.words.now) _ _
-    (line_run _ _ _ _ (map g.A.AsStr.text c.args.words.now) _ _ _ c.in-Ok.ensures c.run_line.ensures.done)
-
-pub returns-in-Err-clause-one_program : goal.returns-in-Err-clause-one_program
-returns-in-Err-clause-one_program g c =
-    words_whole _ _ _ _ (map g.A.AsStr.text c.args.words.now) _ _
-    (refused_words _ _ (map g.A.AsStr.text c.args.words.now) c.in-Err.fault _ _ _ c.print.result _ _ refl refl c.in-Err.ensures (rw c.fault_message.ensures at c.print.ensures))
+pub returns-clause-one_program : goal.returns-clause-one_program
+returns-clause-one_program g c =
+    over_writers _ _ _ _ _ _ c.run_over.new.out.has_refused c.run_over.new.err.has_refused
+    (λ m io. WordsLinkWhole (line_of (map g.A.AsStr.text c.args.words.now)) m (g.S.Store.files c.run_over.new.store) io c.run_over.result) (search rules)

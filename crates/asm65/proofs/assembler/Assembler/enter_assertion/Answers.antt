@@ -1,7 +1,5 @@
-use Rattle.std.proofs.Common.{refl}
 use Rattle.semantics65.specs.Views.{place_in}
 use Rattle.semantics65.specs.Module.{asserted, valued}
-use Rattle.asm65.specs.declared.assembler.Piece.TheVariants.{Assertion}
 use Rattle.asm65.proofs.Enterings.{so_enters}
 use Rattle.symbols65.proofs.Measures.{ok_then}
 use Rattle.asm65.proofs.Waitings.{waits_enters}
@@ -15,5 +13,5 @@ returns-then-branch c =
 pub returns : goal.returns
 returns c =
     ok_then c.wait.result
-    (λ waits. waits_enters c.args.self.now c.wait.new.assembler (place_in c.args.site.at.file.now c.args.site.at.line) c.args.site.context (Assertion c.args.action c.args.text c.args.value) (valued (asserted c.args.action c.args.text) c.args.value) waits refl)
+    (λ waits. waits_enters c.args.self.now c.wait.new.assembler (place_in c.args.site.at.file.now c.args.site.at.line) c.args.site.context (valued (asserted c.args.action c.args.text) c.args.value) waits)
     c.wait.ensures.waits

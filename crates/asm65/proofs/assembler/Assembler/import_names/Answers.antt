@@ -2,7 +2,7 @@ use Rattle.std.proofs.Common.{◌∙◌, ap, map}
 use Rattle.semantics65.specs.Views.{place_in}
 use Rattle.symbols65.specs.Views.{table_of, with_names}
 use Rattle.asm65.specs.Inner.Holding.{is_for_zero_page, mentioned}
-use Rattle.asm65.proofs.Namings.{mentions_enter, more_imported, on_both, turns_after}
+use Rattle.asm65.proofs.Namings.{mentions_enter, on_both, turns_after}
 use Rattle.asm65.proofs.assembler.Assembler.import_names.Goals as goal
 
 pub returns : goal.returns
@@ -15,5 +15,5 @@ returns c =
     let ps = map (mentioned c.args.mention) names in
     let b = is_for_zero_page c.args.size in
     on_both c.import.result (λ table known.
-    turns_after place s ps (λ y. with_names y b names) old mid c.import.new.self (mentions_enter place s ps old mid c.in_ok-mention.ensures.mentioned) c.import.ensures.keeps (table ∙ ap (λ z. with_names (table_of mid.symbols) z names) c.is_for_zero_page.ensures) known (λ y. more_imported y b names))
+    turns_after place s ps (λ y. with_names y b names) old mid c.import.new.self (mentions_enter place s ps old mid c.in_ok-mention.ensures.mentioned) c.import.ensures.keeps (table ∙ ap (λ z. with_names (table_of mid.symbols) z names) c.is_for_zero_page.ensures) known)
     c.import.ensures.table c.import.ensures.known

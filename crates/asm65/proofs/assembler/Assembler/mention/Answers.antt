@@ -1,12 +1,12 @@
-use Rattle.std.proofs.Common.{List, ℕ, map, take, sym, subst, arith}
+use Rattle.std.proofs.Common.{◌≡◌, ◌∙◌, List, ℕ, ap, map, take, sym, subst, arith}
 use Rattle.syntax65.specs.declared.place.Place.{Place}
 use Rattle.semantics65.specs.declared.laid.Context.{Context}
 use Rattle.semantics65.specs.Views.{place_in}
-use Rattle.semantics65.specs.Machine.{State}
+use Rattle.semantics65.specs.Machine.{State, awaiting}
 use Rattle.semantics65.specs.Module as piece
-use Rattle.symbols65.specs.Views.{table_of}
+use Rattle.emit65.specs.Fed.{piece_of}
 use Rattle.asm65.specs.declared.assembler.Assembler.{Assembler}
-use Rattle.asm65.specs.Inner.Holding.{Holds, IsPiece, all_awaiting, mentioned}
+use Rattle.asm65.specs.Inner.Holding.{Holds, all_awaiting, mentioned}
 use Rattle.asm65.proofs.Namings.{all_taken, keeps_both, one_more_awaiting, taken_more}
 use Rattle.asm65.proofs.assembler.Assembler.mention.Goals as goal
 
@@ -19,12 +19,13 @@ loop-name-preserved c =
     let f : List ℕ → piece.Piece = mentioned c.args.mention in
     let n : List ℕ = c.name-item.result in
     let some : List piece.Piece = take c.loop-name.name-index (map f c.args.names.now) in
-    let is : IsPiece (table_of before.symbols) s c.in_ok-piece.piece (f n) = subst (λ (m : List ℕ). IsPiece (table_of before.symbols) s c.in_ok-piece.piece (f m)) c.as_slice.ensures (c.in_ok-piece.ensures (table_of before.symbols) s) in
+    let is : piece_of c.in_ok-piece.piece ≡ f n = c.in_ok-piece.ensures ∙ ap f c.as_slice.ensures in
     record {
       mentioned = λ count t h.
           subst (λ (ps : List piece.Piece). Holds count (all_awaiting place s t ps) new) (taken_more f c.args.names.now c.loop-name.name-index c.name-item.result (omega arith) c.name-item.is)
           (subst (λ (u : State). Holds count u new) (sym (one_more_awaiting place s t some (f n)))
-          (c.in_ok-wait.ensures.waits count (all_awaiting place s t some) (f n) (c.loop-name.invariant.mentioned count t h) is));
+          (subst (λ (p : piece.Piece). Holds count (awaiting (all_awaiting place s t some) (record { place = place; context = s; piece = p })) new) is
+          (c.in_ok-wait.ensures.waits count (all_awaiting place s t some) (c.loop-name.invariant.mentioned count t h))));
       tables = keeps_both c.args.self.now before new c.loop-name.invariant.tables c.in_ok-wait.ensures.tables;
     }
 

@@ -4,7 +4,7 @@ use Rattle.std.specs.Option.{option_map}
 use Rattle.semantics65.specs.Symbols.{Scope}
 use Rattle.symbols65.specs.Views.{with_scope}
 use Rattle.asm65.proofs.Enterings.{enters_none}
-use Rattle.asm65.proofs.Namings.{more_opened, on_both, turns_after}
+use Rattle.asm65.proofs.Namings.{on_both, turns_after}
 use Rattle.asm65.proofs.assembler.Assembler.open_block.Goals as goal
 
 pub returns : goal.returns
@@ -13,5 +13,5 @@ returns c =
     let s = c.args.context in
     let b : Scope = record { within = c.args.context.scope; name = option_map (λ n. n.now) c.args.name; is_proc = false } in
     on_both c.open_scope.result (λ table known place.
-    turns_after place s [] (λ y. with_scope y b) old old c.open_scope.new.self (enters_none place s old) c.open_scope.ensures.keeps table known (λ y. more_opened y b))
+    turns_after place s [] (λ y. with_scope y b) old old c.open_scope.new.self (enters_none place s old) c.open_scope.ensures.keeps table known)
     c.open_scope.ensures.table c.open_scope.ensures.known

@@ -4,7 +4,7 @@ use Rattle.semantics65.specs.Symbols.{Definition, Scope, Symbols, named}
 use Rattle.symbols65.specs.Views.{table_of, with_definition, with_scope}
 use Rattle.asm65.specs.declared.assembler.Assembler.{Assembler}
 use Rattle.asm65.specs.Inner.Holding.{label_at}
-use Rattle.asm65.proofs.Namings.{holds_grown, more_defined, more_opened, on_both}
+use Rattle.asm65.proofs.Namings.{holds_grown, on_both}
 use Rattle.asm65.proofs.assembler.Assembler.open_proc.Goals as goal
 
 pub returns : goal.returns
@@ -19,6 +19,6 @@ returns c =
     on_both c.open_scope.result (λ table known place count t h inside unnamed.
     (let y : Symbols = with_definition t.symbols d in
     let here : table_of mid.symbols ≡ y = first ∙ ap (λ (z : Symbols). with_definition z d) h.symbols in
-    let held = holds_grown count t old mid y h c.in_ok-define.ensures.keeps here c.in_ok-define.ensures.known (more_defined t.symbols d) h.inside unnamed in
-    (t, refl, holds_grown count (record t { symbols = y }) mid new (with_scope y b) held c.open_scope.ensures.keeps (table ∙ ap (λ (z : Symbols). with_scope z b) here) known (more_opened y b) inside unnamed)))
+    let held = holds_grown count t old mid y h c.in_ok-define.ensures.keeps here c.in_ok-define.ensures.known h.inside unnamed in
+    (t, refl, holds_grown count (record t { symbols = y }) mid new (with_scope y b) held c.open_scope.ensures.keeps (table ∙ ap (λ (z : Symbols). with_scope z b) here) known inside unnamed)))
     c.open_scope.ensures.table c.open_scope.ensures.known

@@ -4,6 +4,7 @@ use Rattle.std.specs.Vec.Iter.{into_iter_items}
 use Rattle.syntax65.specs.declared.place.Place.{Place}
 use Rattle.object65.specs.declared.object.Width.{Width}
 use Rattle.semantics65.specs.Contents.{put, Known}
+use Rattle.semantics65.specs.Machine.{holds}
 use Rattle.ast65.specs.declared.language.Item.{Item}
 use Rattle.semantics65.specs.declared.laid.Context.{Context}
 use Rattle.semantics65.specs.Views.{place_in}
@@ -32,7 +33,7 @@ loop-item-preserved c b h =
     let rest = into_iter_items c.next.new.self in
     let one : Enters place s (item_piece width c.in-Some.item ∷ []) a mid =
     rw c.in-Text.is (given_enters a c.append.new.self place s (Known c.in-Text.bytes)
-    (subst (λ (bytes : List ℕ). Feeds a.sections c.append.new.self (put s.segment (Known bytes))) c.as_slice.ensures c.in_ok-append-in-Text.ensures)) in
+    (subst (λ (bytes : List ℕ). Feeds a.sections c.append.new.self (holds (put s.segment (Known bytes)))) c.as_slice.ensures c.in_ok-append-in-Text.ensures)) in
     c.loop-item.invariant b
     (subst (Entered place s width a b) (sym c.in-Some.ensures.steps.0)
     (enters_both place s (item_piece width c.in-Some.item ∷ []) (map (item_piece width) rest) a mid b one h))

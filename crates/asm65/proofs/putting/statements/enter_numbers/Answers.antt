@@ -1,6 +1,7 @@
 use Rattle.std.proofs.Common.{List, ℕ, map, subst}
 use Rattle.std.specs.Prelude.{IfSome, OnOk, Option}
 use Rattle.semantics65.specs.Contents.{put, Known}
+use Rattle.semantics65.specs.Machine.{holds}
 use Rattle.semantics65.specs.Views.{place_in}
 use Rattle.ast65.specs.declared.language.Item.{Item}
 use Rattle.symbols65.proofs.Measures.{ok_then}
@@ -17,7 +18,7 @@ returns-in-Some c =
     let stored : AreStored c.args.width c.args.numbers.now c.in-Some.bytes = subst (λ (o : Option (List ℕ)). IfSome o (AreStored c.args.width c.args.numbers.now)) c.in-Some.is c.in_ok-bytes.ensures in
     ok_then c.append.result
     (λ feeds. numbers_enter old c.append.new.self (place_in c.args.site.at.file.now c.args.site.at.line) s c.args.width c.args.numbers.now c.in-Some.bytes stored
-    (subst (λ (bytes : List ℕ). Feeds old.sections c.append.new.self (put s.segment (Known bytes))) c.as_slice.ensures feeds))
+    (subst (λ (bytes : List ℕ). Feeds old.sections c.append.new.self (holds (put s.segment (Known bytes)))) c.as_slice.ensures feeds))
     c.append.ensures
 
 pub returns-in_ok-items_of-in-None : goal.returns-in_ok-items_of-in-None

@@ -1,7 +1,5 @@
-use Rattle.std.proofs.Common.{refl}
 use Rattle.semantics65.specs.Views.{place_in}
 use Rattle.semantics65.specs.Module.{datum, valued}
-use Rattle.asm65.specs.declared.assembler.Piece.TheVariants.{Datum}
 use Rattle.asm65.proofs.Enterings.{tried_waits}
 use Rattle.symbols65.proofs.Measures.{ok_then}
 use Rattle.asm65.proofs.putting.values.enter_datum.Goals as goal
@@ -10,4 +8,4 @@ pub returns : goal.returns
 returns c =
     let place = place_in c.args.site.at.file.now c.args.site.at.line in
     let v = valued (datum c.args.width) c.args.value in
-    ok_then c.wait.result (λ waits. tried_waits c.args.assembler.now c.try_datum.new.assembler c.wait.new.assembler place c.args.site.context (Datum c.args.width c.args.value) v c.in_ok-try_datum.field-0 c.in_ok-try_datum.ensures c.if-branch.false refl waits) c.wait.ensures.waits
+    ok_then c.wait.result (λ waits. tried_waits c.args.assembler.now c.try_datum.new.assembler c.wait.new.assembler place c.args.site.context v c.in_ok-try_datum.field-0 c.in_ok-try_datum.ensures c.if-branch.false waits) c.wait.ensures.waits

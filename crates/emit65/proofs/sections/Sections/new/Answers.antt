@@ -1,4 +1,4 @@
-use Rattle.std.proofs.Common.{[], length, sym}
+use Rattle.std.proofs.Common.{length, sym}
 use Rattle.emit65.specs.Fed.{names_in}
 use Rattle.emit65.proofs.sections.Sections.new.Goals as goal
 
@@ -6,8 +6,6 @@ pub returns : goal.returns
 returns c = record {
   asked = sym c.new.ensures.empty;
   latest = tt;
-  alike = c.new-3.ensures.none (names_in c.new-2.result) [];
-  waits = c.new-3.ensures.waits;
-  settled = c.new-3.ensures.settled;
+  alike = c.new-3.ensures.none (names_in c.new-2.result);
   standing = c.new-3.ensures.standing (length (names_in c.new-2.result));
 }

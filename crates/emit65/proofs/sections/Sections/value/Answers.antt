@@ -1,9 +1,15 @@
-use Rattle.std.proofs.Common.{refl}
-use Rattle.emit65.specs.Fed.{names_in}
+use Rattle.std.proofs.Common.{◌≡◌, ap, length, refl, rules, true}
+use Rattle.semantics65.specs.Contents.{Waiting, put}
+use Rattle.semantics65.specs.Machine.{holds}
+use Rattle.emit65.specs.Fed.{names_in, stands_in}
+use Rattle.emit65.specs.declared.entries.Entry.TheVariants.{Value}
 use Rattle.emit65.proofs.Standings.{stands_put}
 use Rattle.emit65.proofs.sections.Sections.value.Goals as goal
 
 pub returns : goal.returns
-returns c = λ cs ws h.
-    let entry = c.in_ok-entry.ensures.entry in
-    stands_put c.args.self.now _ c.in_ok-entry.entry _ cs ws refl refl refl c.in_ok-entry.ensures.more entry (c.in_ok-push.ensures (names_in c.put.new.self) entry.standing) h
+returns c = λ xs h.
+    let pos = c.in_ok-pos.ensures in
+    let names = names_in c.pos_of.new.self in
+    let entry = Value c.args.width c.args.segment c.in_ok-pos.pos c.args.form in
+    let listed : stands_in (length names) entry ≡ true = search rules in
+    stands_put c.args.self.now _ entry _ xs refl refl refl pos.more (ap (λ p. holds (put c.args.segment (Waiting c.args.width p c.args.form))) pos.place) (c.in_ok-push.ensures names listed) h

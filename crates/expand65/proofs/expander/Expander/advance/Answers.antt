@@ -1,14 +1,16 @@
-use Rattle.std.proofs.Common.{◌∙◌, Err, ap, arith, refl, sym, rules}
+use Rattle.std.proofs.Common.{◌∙◌, Err, ap, arith, refl, subst, sym, rules}
 use Rattle.std.proofs.lemmas.Result.{err_from_is_err_and}
 use Rattle.base65.specs.Outcome.{Unless}
 use Rattle.syntax65.specs.Faults.{is_outside}
-use Rattle.expand65.specs.Standing.{state_of, turned, led, place_of, state_in, mark_of}
+use Rattle.expand65.specs.Standing.{StandsIn, state_of, turned, led, place_of, state_in, mark_of}
 use Rattle.expand65.specs.State.{stops}
 use Rattle.expand65.specs.Expansion.{IsStep}
 use Rattle.expand65.specs.Failing.{StopsReading}
+use Rattle.expand65.specs.declared.rewriter.Rewriter.{Rewriter}
 use Rattle.expand65.specs.declared.rewriter.Turn.{Turn}
 use Rattle.expand65.proofs.Lines.{moved_to}
 use Rattle.expand65.proofs.Going.{came_to_end, came_to_fault, gave, goes_on, none_led}
+use Rattle.expand65.proofs.Placed.{stands_back, stands_where}
 use Rattle.expand65.proofs.Stopping.{gone_on, none_gone, stops_later}
 use Rattle.expand65.proofs.expander.Expander.advance.Goals as goal
 
@@ -47,11 +49,12 @@ steps-preserved g c =
     let new = c.follow.new.self in
     let t = c.in_ok-turn.turn in
     let step = moved_to (λ m. IsStep m k (state_in m c.steps.self) (turned (state_of m mid.rewriter) t)) o (g.S.Store.files c.steps.store) c.steps.invariant.files c.in_ok-turn.ensures.turns in
+    let moves : StandsIn o mid.rewriter.reader → StandsIn o new.rewriter.reader = subst (λ (r : Rewriter). StandsIn o r.reader) (sym c.follow.ensures.stands) in
     record {
       files = c.in_ok-turn.ensures.leaves.files ∙ c.steps.invariant.files;
       count = search rules;
       size = omega (arith, c.steps.invariant.size, c.in_ok-turn.ensures.size, c.follow.ensures.size);
-      named = λ h. c.follow.ensures.named (c.in_ok-turn.ensures.named (c.steps.invariant.named h));
+      stands = λ h. moves (stands_back o (g.S.Store.files c.steps.store) c.steps.self.rewriter.reader mid.rewriter.reader c.steps.invariant.files c.in_ok-turn.ensures.stands (c.steps.invariant.stands h));
       gone = gone_on o k c.args.self.now c.steps.self mid new t c.steps.invariant.gone step (λ m. c.follow.ensures.led m ∙ ap (led (state_in m new)) c.in_default.is);
       so_far = goes_on o k c.args.self.now c.steps.self mid new t c.steps.invariant.so_far step (λ m. c.follow.ensures.led m ∙ ap (led (state_in m new)) c.in_default.is);
     }
@@ -64,7 +67,7 @@ returns-in_err-turn-clause-stopped g c = λ names.
     let f = c.in_err-turn.field-0.0 in
     let new = c.turn.new.self in
     let blamed = g.S.Store.blamed c.turn.new.store in
-    let stopped = moved_to (λ m. StopsReading {A = Turn} m blamed k (state_in m c.steps.self) (Err f) (mark_of new.rewriter.reader.top) (place_of new)) o (g.S.Store.files c.steps.store) c.steps.invariant.files (c.in_err-turn.ensures.stopped (c.steps.invariant.named names)) in
+    let stopped = moved_to (λ m. StopsReading {A = Turn} m blamed k (state_in m c.steps.self) (Err f) (mark_of new.rewriter.reader.top) (place_of new)) o (g.S.Store.files c.steps.store) c.steps.invariant.files (c.in_err-turn.ensures.stopped (stands_where o (g.S.Store.files c.steps.store) c.steps.self.rewriter.reader c.steps.invariant.files (c.steps.invariant.stands names))) in
     stops_later Turn o blamed k c.args.self.now c.steps.self (mark_of new.rewriter.reader.top) (place_of new) c.from_residual.result f (p.1 ∙ ap Err p.2) c.steps.invariant.gone stopped)
 
 pub steps-init : goal.steps-init
@@ -75,7 +78,14 @@ steps-init g c =
       files = refl;
       count = refl;
       size = omega arith;
-      named = λ h. h;
+      stands = λ h. h;
       gone = none_gone o k c.args.self.now;
       so_far = none_led o k c.args.self.now;
     }
+
+pub returns-in-Some-clause-stands : goal.returns-in-Some-clause-stands
+returns-in-Some-clause-stands g c = λ stands.
+    (let o = g.S.Store.files c.args.store.now in
+    let old = c.steps.self.rewriter.reader in
+    let mid = c.turn.new.self.rewriter.reader in
+    subst (λ (r : Rewriter). StandsIn o r.reader) (sym c.follow.ensures.stands) (stands_back o (g.S.Store.files c.steps.store) old mid c.steps.invariant.files c.in_ok-turn.ensures.stands (c.steps.invariant.stands stands)))

@@ -48,6 +48,6 @@ returns-in_ok-tokens-in-Branch-clause-stopped g c = λ names.
     let k = g.K.Knows.meaning c.args.knows.now in
     let blamed = g.S.Store.blamed c.begin_if.new.store in
     let new = c.begin_if.new.self.reader in
-    let P : List Lexeme → Type 0 = λ us. IfSome o (λ m. StopsAt (Fails blamed (if_line k (state_of m old.rewriter) True us)) old.rewriter.reader new c.begin_if.result) in
+    let P : List Lexeme → Type 0 = λ us. IfSome o (λ m. StopsAt (Fails m blamed (if_line k (state_of m old.rewriter) True us)) old.rewriter.reader new c.begin_if.result) in
     let stopped = subst P (ap lexemes c.as_slice.ensures.value ∙ c.in_ok-tokens-in-Branch.ensures) (c.begin_if.ensures.stopped names) in
     stops_branch o blamed k old new c.in-Branch.line c.begin_if.result (sym c.replace.ensures.value ∙ c.in-Branch.is) stopped)

@@ -1,12 +1,13 @@
-use Rattle.std.proofs.Common.{◌≡◌, ◌∙◌, ◌+◌, ap, drop, refl, subst, take, List, ℕ, Ok, Err, Result, Some}
+use Rattle.std.proofs.Common.{◌≡◌, ◌∙◌, ◌+◌, ap, drop, refl, subst, sym, take, List, ℕ, Ok, Err, Result, Some}
 use Rattle.std.proofs.lemmas.Result.{err_from_is_err_and}
 use Rattle.base65.specs.Outcome.{Unless}
 use Rattle.syntax65.specs.Tokens.{Lexeme, IsRead}
 use Rattle.syntax65.specs.declared.lexing.tokens.LexFault.{LexFault}
 use Rattle.syntax65.specs.Faults.{is_outside}
 use Rattle.expand65.specs.Playing.{tokens_in}
-use Rattle.expand65.specs.Lines.{without_return, lexed}
+use Rattle.expand65.specs.Lines.{IsFileAt, moved, without_return, lexed}
 use Rattle.expand65.specs.declared.file.OpenFile.{OpenFile}
+use Rattle.expand65.proofs.Counting.{here_at}
 use Rattle.expand65.proofs.Opening.{file_refused, file_taken, first_at_hand}
 use Rattle.expand65.proofs.file.OpenFile.take_at_hand.Goals as goal
 
@@ -28,3 +29,10 @@ returns-clause-taken c = λ m.
     let same = c.trimmed.ensures ∙ ap without_return (c.split_at-2.ensures.front ∙ ap (take c.args.len) here) in
     let P : List ℕ → Type 0 = λ bytes. (q : Result (List Lexeme) LexFault) × IsRead bytes q × (Ok (tokens_in c.in_ok-line.line) ≡ lexed q) in
     file_taken (Some m) old new (without_return (take c.args.len (drop old.at old.buffer.items))) c.in_ok-line.line c.in-Some.number (first_at_hand m old c.args.len c.in-Some.number c.requires.end c.requires.within) refl c.in-Some.ensures.1 (subst P same c.in_ok-line.ensures.tokens)
+
+pub returns-clause-at : goal.returns-clause-at
+returns-clause-at c = λ m p h.
+    (let old = c.args.self.now in
+    let new : OpenFile = record { name = old.name; buffer = old.buffer; at = old.at + (c.args.len + 1); next = old.next; line = c.in-Some.number; spare = old.spare } in
+    let P : ℕ → Type 0 = λ n. IsFileAt m new (moved p n) in
+    subst P (c.in-Some.ensures.1 ∙ ap (λ n. n + 1) (sym h.line)) (here_at m old c.args.len c.in-Some.number p c.requires.end c.requires.within c.in-Some.ensures.1 h))

@@ -2,7 +2,8 @@ use Rattle.std.proofs.Common.{◌≡◌, ℕ, ◌+◌, ◌≤◌, ◌<◌, ◌++
 use Rattle.std.proofs.lemmas.Bool.Decides.{nat_tests}
 use Rattle.std.proofs.lemmas.List.{length-drop, drop-drop}
 use Rattle.std.specs.List.{prefix_len}
-use Rattle.expand65.specs.Lines.{lines_of, is_inside, without_return}
+use Rattle.expand65.specs.Lines.{IsEndedLine, lines_of, is_inside, without_return}
+use Rattle.expand65.proofs.Counting.{piece_ends_line}
 use Rattle.expand65.proofs.Lines.{piece_too_long, piece_ends, piece_is_part}
 use Rattle.expand65.proofs.file.OpenFile.take_piece.Goals as goal
 
@@ -42,3 +43,17 @@ returns-clause-part c =
     let P : List ℕ → Type 0 = λ l. prefix_len is_inside l ≡ length l in
     let items = c.in_ok-extend_from_slice.ensures.items ∙ ap (λ l. c.args.line.now.items ++ l) (c.split_at-2.ensures.front ∙ ap (take c.line_len-len.result) same) in
     subst P (sym items) (piece_is_part c.args.line.now.items (drop c.args.self.now.at c.args.self.now.buffer.items) c.line_len-len.result c.requires.part count)
+
+pub returns-clause-ended : goal.returns-clause-ended
+returns-clause-ended c = λ is.
+    (let here = drop c.args.self.now.at c.args.self.now.buffer.items in
+    let line = c.args.line.now.items in
+    let n = c.line_len-len.result in
+    let same = c.split_at.ensures.back ∙ ap (drop c.args.self.now.at) c.deref.ensures.value in
+    let count = c.line_len-len.ensures.count ∙ ap (prefix_len is_inside) same in
+    let some : 0 < length c.split_at-2.result.1.now = grind (arith, nat_tests, c.is_empty.ensures, c.if-is_empty.false) in
+    let less : c.line_len-len.result < length here = omega (arith, some, ap length c.split_at-2.ensures.back, length-drop c.line_len-len.result c.split_at.result.1.now, ap length same) in
+    let items = c.in_ok-extend_from_slice.ensures.items ∙ ap (λ l. line ++ l) (c.split_at-2.ensures.front ∙ ap (take n) same) in
+    let P : List ℕ → Type 0 = λ l. IsEndedLine (line ++ here) l (drop (c.args.self.now.at + (n + 1)) c.args.self.now.buffer.items) in
+    let Q : List ℕ → Type 0 = λ l. IsEndedLine (line ++ here) (line ++ take n here) l in
+    subst P (sym items) (subst Q (drop-drop (n + 1) c.args.self.now.at c.args.self.now.buffer.items) (piece_ends_line line here n count less)))

@@ -1,6 +1,11 @@
-use Rattle.std.proofs.Common.{subst, sym}
-use Rattle.expand65.specs.Standing.{TakesLine, left_in, turns_left}
+use Rattle.std.proofs.Common.{◌≡◌, IfSome, OnOk, subst, sym, true}
+use Rattle.std.specs.Prelude.{IfErr}
+use Rattle.syntax65.specs.Faults.{is_failure}
+use Rattle.syntax65.specs.declared.place.Place.{Place}
+use Rattle.expand65.specs.Lines.{IsFileAt, IsReadingAt}
+use Rattle.expand65.specs.Standing.{IsAt, onward, TakesLine, left_in, turns_left}
 use Rattle.expand65.specs.declared.input.Source.{Source}
+use Rattle.expand65.proofs.Counting.{never_at, nothing_at}
 use Rattle.expand65.proofs.Going.{where_so}
 use Rattle.expand65.proofs.Turning.{takes_in_turn}
 use Rattle.expand65.proofs.input.Source.take_line.Goals as goal
@@ -13,3 +18,26 @@ returns-in-Repeat-clause-taken g c =
     let next = c.in-Repeat.field-1 in
     let count = c.in-Repeat.field-2 in
     where_so (g.S.Store.files c.args.store.now) (λ m. TakesLine (left_in m c.args.self.now) r (turns_left new next count)) (λ m. let P : Source → Type 0 = λ s. TakesLine (left_in m s) r (turns_left new next count) in subst P (sym c.in-Repeat.is) (takes_in_turn old new next count r c.take_line-in-Repeat.ensures.taken c.take_line-in-Repeat.ensures.body c.take_line-in-Repeat.ensures.same))
+
+pub returns-in-File-clause-at : goal.returns-in-File-clause-at
+returns-in-File-clause-at g c =
+    let P : Source → Type 0 = λ s. IfSome (g.S.Store.files c.args.store.now) (λ m. (p : Place) → IsAt m s p → OnOk c.take_line.result (IsFileAt m c.take_line.new.self (onward s p))) in
+    subst P (sym c.in-File.is) c.take_line.ensures.at
+
+pub returns-in-Call-clause-at : goal.returns-in-Call-clause-at
+returns-in-Call-clause-at g c = nothing_at (g.S.Store.files c.args.store.now) (λ m p. IsAt m c.args.self.now p) c.take_line-in-Call.result
+
+pub returns-in-Repeat-clause-at : goal.returns-in-Repeat-clause-at
+returns-in-Repeat-clause-at g c = nothing_at (g.S.Store.files c.args.store.now) (λ m p. IsAt m c.args.self.now p) c.take_line-in-Repeat.result
+
+pub returns-in-File-clause-blamed : goal.returns-in-File-clause-blamed
+returns-in-File-clause-blamed g c =
+    let blamed = g.S.Store.blamed c.take_line.new.store in
+    let P : Source → Type 0 = λ s. IfSome (g.S.Store.files c.args.store.now) (λ m. (p : Place) → IsAt m s p → IfErr c.take_line.result (λ e. is_failure e ≡ true → IsReadingAt m blamed (onward s p))) in
+    subst P (sym c.in-File.is) c.take_line.ensures.blamed
+
+pub returns-in-Call-clause-blamed : goal.returns-in-Call-clause-blamed
+returns-in-Call-clause-blamed g c = never_at (g.S.Store.files c.args.store.now) (λ m p. IsAt m c.args.self.now p) (λ m p. IsReadingAt m (g.S.Store.blamed c.args.store.now) (onward c.args.self.now p)) c.take_line-in-Call.result c.take_line-in-Call.ensures.inside
+
+pub returns-in-Repeat-clause-blamed : goal.returns-in-Repeat-clause-blamed
+returns-in-Repeat-clause-blamed g c = never_at (g.S.Store.files c.args.store.now) (λ m p. IsAt m c.args.self.now p) (λ m p. IsReadingAt m (g.S.Store.blamed c.args.store.now) (onward c.args.self.now p)) c.take_line-in-Repeat.result c.take_line-in-Repeat.ensures.inside

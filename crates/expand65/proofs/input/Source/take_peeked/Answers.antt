@@ -1,7 +1,7 @@
 use Rattle.std.proofs.Common.{sym, subst}
-use Rattle.expand65.specs.Standing.{left_in}
+use Rattle.expand65.specs.Standing.{IsAt, left_in}
 use Rattle.expand65.specs.Playing.{IsAtHand, TakesWritten}
-use Rattle.expand65.specs.Lines.{left_in_file}
+use Rattle.expand65.specs.Lines.{IsFileAt, left_in_file, moved}
 use Rattle.expand65.specs.declared.input.Source.{Source}
 use Rattle.expand65.proofs.input.Source.take_peeked.Goals as goal
 
@@ -9,3 +9,8 @@ pub returns-in-File-clause-taken : goal.returns-in-File-clause-taken
 returns-in-File-clause-taken c = λ m ts.
     let P : Source → Type 0 = λ s. IsAtHand s c.args.line ts → TakesWritten (left_in m s) c.args.line.number ts (left_in_file m c.take_peeked.new.self) in
     subst P (sym c.in-File.is) (c.take_peeked.ensures.taken m ts)
+
+pub returns-in-File-clause-at : goal.returns-in-File-clause-at
+returns-in-File-clause-at c = λ m ts p.
+    let P : Source → Type 0 = λ s. IsAtHand s c.args.line ts → IsAt m s p → IsFileAt m c.take_peeked.new.self (moved p c.args.line.number) in
+    subst P (sym c.in-File.is) (c.take_peeked.ensures.at m ts p)

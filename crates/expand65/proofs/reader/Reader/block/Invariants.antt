@@ -1,6 +1,6 @@
 use Rattle.std.proofs.Common.{◌≡◌, ◌≤◌, map}
 use Rattle.std.specs.Prelude.{IfSome}
-use Rattle.expand65.specs.Standing.{mark_of, NamesFiles}
+use Rattle.expand65.specs.Standing.{mark_of, StandsIn}
 use Rattle.expand65.specs.Playing.{tokens_in}
 use Rattle.expand65.proofs.Blocking.{Leads}
 use Rattle.expand65.proofs.StoppedReading.{Fails}
@@ -13,7 +13,7 @@ invariant-lines g l = record {
   room : l.self.room ≤ l.fn.self.room;
   files : g.S.Store.files l.store ≡ g.S.Store.files l.fn.store;
   count : g.S.Store.failures l.store ≡ g.S.Store.failures l.fn.store;
-  named : NamesFiles l.fn.self → NamesFiles l.self;
+  stands : StandsIn (g.S.Store.files l.fn.store) l.fn.self → StandsIn (g.S.Store.files l.fn.store) l.self;
   reads : IfSome (g.S.Store.files l.fn.store) (Fails l.kind l.depth l.self l.fn.self);
   so_far : IfSome (g.S.Store.files l.fn.store) (Leads l.kind l.depth (map tokens_in l.lines) l.self l.fn.self);
 }

@@ -1,6 +1,6 @@
 use Rattle.std.proofs.Common.{◌∙◌, ◌<◌, ◌≤◌, ◌++◌, ◌∷◌, [], ap, refl, arith, length, reverse, subst, sym}
-use Rattle.expand65.specs.Standing.{AreNamed}
-use Rattle.expand65.proofs.Naming.{enters}
+use Rattle.expand65.specs.Standing.{AreAt}
+use Rattle.expand65.proofs.Placed.{enters}
 use Rattle.expand65.specs.declared.reader.Reader.{Reader}
 use Rattle.expand65.proofs.Inputs.{entered_one, entered_none}
 use Rattle.expand65.proofs.reader.Reader.enter.Goals as goal
@@ -17,8 +17,8 @@ returns-clause-entered c =
     let new : Reader = record { top = c.replace-outer.new.dest; outer = c.push.new.self; room = old.room; place = old.place } in
     λ m. entered_one m old new c.args.input few c.replace-outer.ensures.after (c.in_ok-push.ensures.items ∙ ap (λ i. old.outer.items ++ i ∷ []) c.replace-outer.ensures.value) refl refl
 
-pub returns-clause-named : goal.returns-clause-named
-returns-clause-named c = λ p s b h.
+pub returns-clause-stands : goal.returns-clause-stands
+returns-clause-stands c = λ m p s k b h.
     (let old = c.args.self.now in
     let items = c.push.new.self.items in
-    subst (λ i. AreNamed (i ∷ reverse items) p) (sym c.replace-outer.ensures.after) (enters old items c.args.input p (c.in_ok-push.ensures.items ∙ ap (λ i. old.outer.items ++ i ∷ []) c.replace-outer.ensures.value) s b h))
+    subst (λ i. AreAt m (i ∷ reverse items) p) (sym c.replace-outer.ensures.after) (enters m old items c.args.input p (c.in_ok-push.ensures.items ∙ ap (λ i. old.outer.items ++ i ∷ []) c.replace-outer.ensures.value) s k b h))

@@ -1,10 +1,10 @@
 use Rattle.std.proofs.Common.{◌≡◌, ◌∙◌, [], Bool, ap, refl, sym, subst, arith}
 use Rattle.std.specs.Prelude.{if◌then◌else◌}
 use Rattle.expand65.specs.Lines.{outside_macro, come_back}
-use Rattle.expand65.specs.Standing.{left_of, outside, AreNamed, open_in}
+use Rattle.expand65.specs.Standing.{left_of, outside, AreAt, open_in}
 use Rattle.expand65.proofs.Inputs.{goes_out, is_out, none_out, same_items}
 use Rattle.syntax65.specs.declared.place.Place.{Place}
-use Rattle.expand65.proofs.Naming.{goes_back, named_in}
+use Rattle.expand65.proofs.Placed.{goes_back, placed_in}
 use Rattle.expand65.proofs.reader.Reader.leave_macro.Goals as goal
 
 pub returns-then-not-more-clause-left : goal.returns-then-not-more-clause-left
@@ -17,7 +17,7 @@ returns-then-not-more-clause-left c =
 pub inputs-init : goal.inputs-init
 inputs-init c = record {
   so_far = λ m. refl;
-  named = λ h. named_in c.args.self.now h;
+  stands = λ m h. placed_in m c.args.self.now h;
   place = refl;
   room = refl;
   fewer = omega arith;
@@ -31,7 +31,7 @@ inputs-preserved c =
     record {
       so_far = λ m. let P : Bool → Type 0 = λ b. (if b then (left_of m new).items else []) ≡ outside m old.outer.items in
           goes_out m old new (come_back old.place c.inputs.back) (come_back new.place back) (outside_macro (left_of m c.args.self.now).items c.args.self.now.place) (sym c.is_call-is_call.ensures ∙ c.if-is_call.false) (subst P c.if-not-more.false (c.drop_top-more.ensures.left m)) (ap (λ p. come_back p back) c.drop_top-more.ensures.place ∙ c.drop_top-more.ensures.back old.place) (c.inputs.invariant.so_far m);
-      named = λ h. subst (λ (q : Place). AreNamed (open_in new) (come_back q back)) (sym c.drop_top-more.ensures.place) (c.drop_top-more.ensures.named old.place (c.inputs.invariant.named h));
+      stands = λ m h. subst (λ (q : Place). AreAt m (open_in new) (come_back q back)) (sym c.drop_top-more.ensures.place) (c.drop_top-more.ensures.stands m old.place (c.inputs.invariant.stands m h));
       place = c.drop_top-more.ensures.place ∙ c.inputs.invariant.place;
       room = c.drop_top-more.ensures.room ∙ c.inputs.invariant.room;
       fewer = omega (arith, c.drop_top-more.ensures.fewer, c.inputs.invariant.fewer);
@@ -46,9 +46,9 @@ returns-then-is_call-clause-left c =
     let more = c.drop_top-more.result in
     λ m. is_out m old new (come_back old.place c.inputs.back) (outside_macro (left_of m c.args.self.now).items c.args.self.now.place) more (sym c.is_call-is_call.ensures ∙ c.if-is_call.true) (same_items m mid new more (outside m old.outer.items) c.go_back.ensures.top c.go_back.ensures.outer (c.drop_top-more.ensures.left m)) (c.go_back.ensures.place ∙ ap (λ p. come_back p back) c.drop_top-more.ensures.place ∙ c.drop_top-more.ensures.back old.place) (c.inputs.invariant.so_far m)
 
-pub returns-then-is_call-clause-named : goal.returns-then-is_call-clause-named
-returns-then-is_call-clause-named c = λ h.
+pub returns-then-is_call-clause-stands : goal.returns-then-is_call-clause-stands
+returns-then-is_call-clause-stands c = λ m h.
     (let old = c.inputs.self in
     let mid = c.drop_top-more.new.self in
     let back = c.drop_top-more.new.back in
-    goes_back mid c.go_back.new.self (come_back old.place back) c.go_back.ensures.top c.go_back.ensures.outer (c.go_back.ensures.place ∙ ap (λ p. come_back p back) c.drop_top-more.ensures.place) (c.drop_top-more.ensures.named old.place (c.inputs.invariant.named h)))
+    goes_back m mid c.go_back.new.self (come_back old.place back) c.go_back.ensures.top c.go_back.ensures.outer (c.go_back.ensures.place ∙ ap (λ p. come_back p back) c.drop_top-more.ensures.place) (c.drop_top-more.ensures.stands m old.place (c.inputs.invariant.stands m h)))

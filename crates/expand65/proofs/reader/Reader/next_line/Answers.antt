@@ -1,12 +1,13 @@
-use Rattle.std.proofs.Common.{◌≡◌, ◌∙◌, ap, refl, suc, arith, ◌-◌, true, Ok, Err, rules}
+use Rattle.std.proofs.Common.{◌≡◌, ◌∙◌, ap, refl, suc, arith, ◌-◌, true, Ok, Err}
 use Rattle.std.proofs.lemmas.Result.{err_from_is_err_and}
-use Rattle.expand65.specs.Standing.{TakesLine, left_in, left_of, FailsAtLine}
-use Rattle.expand65.specs.Lines.{Mark}
+use Rattle.expand65.specs.Standing.{IsAt, IsLineOf, TakesLine, left_in, left_of, FailsAtLine, onward}
+use Rattle.expand65.specs.Lines.{IsReadingAt, Mark}
 use Rattle.expand65.specs.declared.input.NextLine.TheVariants.{AtEnd}
 use Rattle.expand65.specs.declared.reader.Reader.{Reader}
 use Rattle.expand65.proofs.Lines.{moved_to}
 use Rattle.syntax65.specs.declared.place.Place.{Place}
-use Rattle.expand65.proofs.Naming.{innermost_named, moved_file, reads_on}
+use Rattle.syntax65.specs.Faults.{is_failure}
+use Rattle.expand65.proofs.Placed.{innermost_at, line_stands, reading_before, reading_within, reads_on, stands_by}
 use Rattle.expand65.proofs.Inputs.{told_taken, told_refused}
 use Rattle.expand65.proofs.StoppedReading.{fails_before, fails_within, stopped_so}
 use Rattle.expand65.proofs.reader.Reader.next_line.Goals as goal
@@ -37,53 +38,46 @@ returns-clause-read g c =
     told_taken o old new mid c.in_ok-next.next line c.in_ok-next.ensures.comes c.in_ok-next.ensures.same not_end taken same refl c.move_by.ensures more
 
 pub returns-in_err-next-clause-stopped : goal.returns-in_err-next-clause-stopped
-returns-in_err-next-clause-stopped g c = λ named.
+returns-in_err-next-clause-stopped g c = λ stands.
     (let p = err_from_is_err_and c.from_residual.result c.from_residual.ensures.1 in
     let o = g.S.Store.files c.args.store.now in
     let old = c.args.self.now in
     let new : Reader = record { top = record { source = c.begin_line.new.self; conditions = old.top.conditions; back = old.top.back }; outer = old.outer; room = old.room; place = old.place } in
     let same = ap (λ b. let k : Mark = record { is_macro = b; conditions = old.top.conditions; back = old.top.back } in k) c.in_err-next.ensures.call in
     let blamed = g.S.Store.blamed c.begin_line.new.store in
-    rw (p.1, p.2) (stopped_so o (λ m. FailsAtLine blamed (left_of m old)) old new c.in_err-next.field-0.0 same (λ failed. fails_before o blamed old (c.in_err-next.ensures.file failed) (c.in_err-next.ensures.blamed old.place (innermost_named old named) failed))))
+    rw (p.1, p.2) (stopped_so o (λ m. FailsAtLine m blamed (left_of m old)) old new c.in_err-next.field-0.0 same (λ failed. fails_before o blamed old (c.in_err-next.ensures.file failed) (reading_before o old blamed c.in_err-next.field-0.0 failed c.in_err-next.ensures.blamed stands))))
 
 pub returns-in_err-line-clause-stopped : goal.returns-in_err-line-clause-stopped
-returns-in_err-line-clause-stopped g c = λ named.
+returns-in_err-line-clause-stopped g c = λ stands.
     (let p = err_from_is_err_and c.from_residual-in_err-line.result c.from_residual-in_err-line.ensures.1 in
     let o = g.S.Store.files c.args.store.now in
     let old = c.args.self.now in
     let mid = c.begin_line.new.self in
+    let next = c.in_ok-next.next in
     let new : Reader = record { top = record { source = c.take_line.new.self; conditions = old.top.conditions; back = old.top.back }; outer = old.outer; room = old.room - 1; place = c.move_by.new.place } in
     let not_end : c.in_ok-next.next ≡ AtEnd → ⊥ = λ e. let t : c.is_end.result ≡ true = c.is_end.ensures.1 e in let u = c.if-is_end.false in absurd cc in
     let same = ap (λ b. let k : Mark = record { is_macro = b; conditions = old.top.conditions; back = old.top.back } in k) (c.in_err-line.ensures.call ∙ c.in_ok-next.ensures.call) in
     let blamed = g.S.Store.blamed c.take_line.new.store in
-    rw (p.1, p.2) (stopped_so o (λ m. FailsAtLine blamed (left_of m old)) old new c.in_err-line.field-0.0 same (λ failed. fails_within o blamed old mid c.move_by.new.place c.in_ok-next.next (c.in_err-line.ensures.file failed) c.in_ok-next.ensures.comes c.in_ok-next.ensures.same not_end c.move_by.ensures (c.in_err-line.ensures.blamed old.place (c.in_ok-next.ensures.named old.place (innermost_named old named)) failed))))
+    let f = c.in_err-line.field-0.0 in
+    let stops = moved_to (λ m. (q : Place) → IsAt m mid q → is_failure f ≡ true → IsReadingAt m blamed (onward mid q)) o (g.S.Store.files c.begin_line.new.store) c.in_ok-next.ensures.leaves.files c.in_err-line.ensures.blamed in
+    let moves : IsLineOf old.top.source old.place → c.move_by.new.place ≡ onward mid old.place = λ is. c.move_by.ensures ∙ c.in_ok-next.ensures.onward old.place is not_end in
+    rw (p.1, p.2) (stopped_so o (λ m. FailsAtLine m blamed (left_of m old)) old new f same (λ failed. fails_within o blamed old mid c.move_by.new.place next (c.in_err-line.ensures.file failed) c.in_ok-next.ensures.comes c.in_ok-next.ensures.same not_end c.move_by.ensures (reading_within o old mid c.move_by.new.place blamed f failed c.in_ok-next.ensures.at stops moves stands))))
 
-pub returns-in_err-next-clause-stays : goal.returns-in_err-next-clause-stays
-returns-in_err-next-clause-stays g c =
+pub returns-then-is_end-clause-stands : goal.returns-then-is_end-clause-stands
+returns-then-is_end-clause-stands g c = λ stands.
+    (let o = g.S.Store.files c.args.store.now in
     let old = c.args.self.now in
     let new : Reader = record { top = record { source = c.begin_line.new.self; conditions = old.top.conditions; back = old.top.back }; outer = old.outer; room = old.room; place = old.place } in
-    record { mark = search rules; outer = refl; named = reads_on old new refl refl c.in_err-next.ensures.named refl }
+    stands_by o (λ m. (q : Place) → IsAt m old.top.source q → IsAt m c.begin_line.new.self q) old new (λ m at h. reads_on m old new refl refl c.in_ok-next.ensures.kind refl (at old.place (innermost_at m old h)) h) c.in_ok-next.ensures.at stands)
 
-pub returns-then-is_end-clause-stays : goal.returns-then-is_end-clause-stays
-returns-then-is_end-clause-stays g c =
+pub returns-clause-stands : goal.returns-clause-stands
+returns-clause-stands g c = λ stands.
+    (let o = g.S.Store.files c.args.store.now in
     let old = c.args.self.now in
-    let new : Reader = record { top = record { source = c.begin_line.new.self; conditions = old.top.conditions; back = old.top.back }; outer = old.outer; room = old.room; place = old.place } in
-    record { mark = search rules; outer = refl; named = reads_on old new refl refl c.in_ok-next.ensures.named refl }
-
-pub returns-then-self-eq0-clause-stays : goal.returns-then-self-eq0-clause-stays
-returns-then-self-eq0-clause-stays g c =
-    let old = c.args.self.now in
-    let new : Reader = record { top = record { source = c.begin_line.new.self; conditions = old.top.conditions; back = old.top.back }; outer = old.outer; room = old.room; place = c.move_by.new.place } in
-    record { mark = search rules; outer = refl; named = reads_on old new refl refl c.in_ok-next.ensures.named (ap (λ (p : Place). p.file) c.move_by.ensures ∙ moved_file c.in_ok-next.next old.place) }
-
-pub returns-in_err-line-clause-stays : goal.returns-in_err-line-clause-stays
-returns-in_err-line-clause-stays g c =
-    let old = c.args.self.now in
+    let mid = c.begin_line.new.self in
     let new : Reader = record { top = record { source = c.take_line.new.self; conditions = old.top.conditions; back = old.top.back }; outer = old.outer; room = old.room - 1; place = c.move_by.new.place } in
-    record { mark = search rules; outer = refl; named = reads_on old new refl refl (λ p h. c.in_err-line.ensures.named p (c.in_ok-next.ensures.named p h)) (ap (λ (p : Place). p.file) c.move_by.ensures ∙ moved_file c.in_ok-next.next old.place) }
-
-pub returns-clause-stays : goal.returns-clause-stays
-returns-clause-stays g c =
-    let old = c.args.self.now in
-    let new : Reader = record { top = record { source = c.take_line.new.self; conditions = old.top.conditions; back = old.top.back }; outer = old.outer; room = old.room - 1; place = c.move_by.new.place } in
-    record { mark = search rules; outer = refl; named = reads_on old new refl refl (λ p h. c.in_ok-line.ensures.named p (c.in_ok-next.ensures.named p h)) (ap (λ (p : Place). p.file) c.move_by.ensures ∙ moved_file c.in_ok-next.next old.place) }
+    let not_end : c.in_ok-next.next ≡ AtEnd → ⊥ = λ e. let t : c.is_end.result ≡ true = c.is_end.ensures.1 e in let u = c.if-is_end.false in absurd cc in
+    let told = c.in_ok-next.ensures.leaves.files in
+    let takes = moved_to (λ m. (q : Place) → IsAt m mid q → IsAt m c.take_line.new.self (onward mid q)) o (g.S.Store.files c.begin_line.new.store) told c.in_ok-line.ensures.at in
+    let moves : IsLineOf old.top.source old.place → c.move_by.new.place ≡ onward mid old.place = λ is. c.move_by.ensures ∙ c.in_ok-next.ensures.onward old.place is not_end in
+    line_stands o old new mid refl refl (c.in_ok-line.ensures.kind ∙ c.in_ok-next.ensures.kind) c.in_ok-next.ensures.kind moves c.in_ok-next.ensures.at takes stands)

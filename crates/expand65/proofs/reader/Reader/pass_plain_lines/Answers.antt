@@ -8,7 +8,7 @@ lines-init c = record {
   outer = refl;
   mark = refl;
   room = omega arith;
-  named = λ h. h;
+  stands = λ m h. h;
   so_far = λ m. no_line (left_of m c.args.self.now);
 }
 
@@ -20,6 +20,6 @@ lines-preserved c =
       outer = c.pass_line.ensures.stays.outer ∙ c.lines.invariant.outer;
       mark = c.pass_line.ensures.stays.mark ∙ c.lines.invariant.mark;
       room = omega (arith, less, c.lines.invariant.room);
-      named = λ h. c.pass_line.ensures.stays.named (c.lines.invariant.named h);
+      stands = λ m h. c.pass_line.ensures.stands m (c.lines.invariant.stands m h);
       so_far = λ m. a_line (left_of m c.args.self.now) (left_of m c.lines.self) (left_of m new) (c.lines.invariant.so_far m) (c.pass_line.ensures.passed m c.if-not-pass_line.false);
     }

@@ -1,6 +1,6 @@
 use Rattle.std.proofs.Common.{◌≡◌, ◌≤◌}
 use Rattle.base65.specs.Store.{Files}
-use Rattle.expand65.specs.Standing.{left_of, mark_of, NamesFiles}
+use Rattle.expand65.specs.Standing.{left_of, mark_of, IsInPlace}
 use Rattle.expand65.specs.Playing.{Plainly}
 use Rattle.expand65.proofs.reader.Reader.pass_plain_lines.Given as goal
 
@@ -9,7 +9,7 @@ invariant-lines l = record {
   outer : l.self.outer ≡ l.fn.self.outer;
   mark : mark_of l.self.top ≡ mark_of l.fn.self.top;
   room : l.self.room ≤ l.fn.self.room;
-  named : NamesFiles l.fn.self → NamesFiles l.self;
+  stands : (m : Files) → IsInPlace m l.fn.self → IsInPlace m l.self;
   so_far : (m : Files) → Plainly (left_of m l.fn.self) (left_of m l.self);
 }
 

@@ -28,3 +28,6 @@ returns-in_ok-tokens-in-Some-clause-stopped g c = λ names.
     let d = c.in-Some.directive in
     let behind = c.behind_first.ensures ∙ ap (λ (l : List Token). drop 1 (lexemes l)) c.as_slice.ensures.value ∙ ap (drop 1) c.in_ok-tokens-in-Some.ensures in
     stops_by (g.S.Store.files c.args.store.now) (g.S.Store.blamed c.act_by.new.store) (λ m. directed k (state_of m old) d us) (λ m. acted k (state_of m old) ts (front_directive ts)) old.reader c.act_by.new.self.reader c.act_by.result (λ m. acted_by k (state_of m old) ts us d (sym c.directive.ensures ∙ c.in-Some.is) behind) (c.act_by.ensures.stopped names))
+
+pub returns-in-None-clause-keeps : goal.returns-in-None-clause-keeps
+returns-in-None-clause-keeps g c = c.call_or_give.ensures.keeps (g.S.Store.files c.args.store.now)

@@ -8,3 +8,6 @@ returns-in-EndMacro-clause-stopped g c = c.act_alone-in-EndMacro.ensures.stopped
 
 pub returns-in-ExitMacro-clause-stopped : goal.returns-in-ExitMacro-clause-stopped
 returns-in-ExitMacro-clause-stopped g c = c.act_alone-in-ExitMacro.ensures.stopped (g.K.Knows.meaning c.args.knows.now)
+
+pub returns-in-Local-clause-keeps : goal.returns-in-Local-clause-keeps
+returns-in-Local-clause-keeps g c = c.add_locals.ensures.keeps (g.S.Store.files c.args.store.now)

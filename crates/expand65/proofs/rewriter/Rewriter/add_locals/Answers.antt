@@ -5,7 +5,7 @@ use Rattle.expand65.specs.Standing.{left_in}
 use Rattle.expand65.specs.Lines.{localised, mark}
 use Rattle.expand65.proofs.Stopping.{bad_names, names_added, no_macro}
 use Rattle.expand65.specs.declared.reader.Reader.{Reader}
-use Rattle.expand65.proofs.Naming.{call_named, reads_on}
+use Rattle.expand65.proofs.Placed.{call_at, call_kind, reads_on, stands_so}
 use Rattle.expand65.proofs.rewriter.Rewriter.add_locals.Goals as goal
 
 pub returns-then-not-is_call-clause-turns : goal.returns-then-not-is_call-clause-turns
@@ -20,7 +20,9 @@ pub returns-clause-turns : goal.returns-clause-turns
 returns-clause-turns c = λ m. names_added m c.args.self.now c.add_locals.new.self (lexemes c.args.tokens.now) (map (λ s. s.now) c.in_ok-names.names.items) (sym c.is_call.ensures ∙ c.if-not-is_call.false) c.in_ok-names.ensures.names c.add_locals.ensures.call (λ k is. let P : List (Bor (List ℕ)) → Type 0 = λ ns. left_in m c.add_locals.new.self ++ mark k ∷ is ≡ localised (map (λ s. s.now) ns) (left_in m c.args.self.now.reader.top.source ++ mark k ∷ is) in subst P c.as_slice.ensures.value (c.in_ok-add_locals.ensures.added m k is))
 
 pub returns-clause-keeps : goal.returns-clause-keeps
-returns-clause-keeps c =
-    let old = c.args.self.now.reader in
+returns-clause-keeps c = λ files.
+    (let old = c.args.self.now.reader in
     let new : Reader = record { top = record { source = c.add_locals.new.self; conditions = old.top.conditions; back = old.top.back }; outer = old.outer; room = old.room; place = old.place } in
-    record { named = reads_on old new refl refl (λ p h. call_named c.add_locals.new.self p (c.add_locals.ensures.call ∙ sym c.is_call.ensures ∙ c.if-not-is_call.false)) refl; size = search rules }
+    let was = sym c.is_call.ensures ∙ c.if-not-is_call.false in
+    let is = c.add_locals.ensures.call ∙ was in
+    record { stands = stands_so files old new (λ m h. reads_on m old new refl refl (call_kind old.top.source new.top.source was is) refl (call_at m new.top.source old.place is) h); size = search rules })

@@ -1,12 +1,15 @@
 use Rattle.std.proofs.Common.{◌∙◌, refl, sym, rules}
 use Rattle.syntax65.specs.declared.place.Place.{Place}
 use Rattle.expand65.specs.declared.reader.Reader.{Reader}
-use Rattle.expand65.proofs.Naming.{goes_back}
+use Rattle.expand65.proofs.Placed.{goes_back, opened_at, stands_so}
 use Rattle.expand65.proofs.rewriter.Rewriter.enter_file.Goals as goal
 
 pub returns-clause-keeps : goal.returns-clause-keeps
-returns-clause-keeps c =
-    let place : Place = record { file = c.in_ok-copy_of.field-0; line = 0 } in
+returns-clause-keeps c = λ files.
+    (let place : Place = record { file = c.in_ok-copy_of.field-0; line = 0 } in
     let mid = c.enter.new.self in
     let new : Reader = record { top = mid.top; outer = mid.outer; room = mid.room; place = place } in
-    record { named = λ h. goes_back mid new place refl refl refl (c.in_ok-enter.ensures.named place (c.new.ensures.name ∙ sym (c.in_ok-copy_of.ensures ∙ c.as_str.ensures)) c.in_ok-back.ensures h); size = search rules }
+    record {
+      stands = stands_so files c.args.self.now.reader new (λ m h. goes_back m mid new place refl refl refl (c.in_ok-enter.ensures.stands m place (opened_at m c.new.result place (c.new.ensures.name ∙ sym (c.in_ok-copy_of.ensures ∙ c.as_str.ensures)) c.new.ensures.line refl (c.new.ensures.behind m)) tt c.in_ok-back.ensures h));
+      size = search rules;
+    })

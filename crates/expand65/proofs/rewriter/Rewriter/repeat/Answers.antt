@@ -14,7 +14,7 @@ use Rattle.expand65.specs.declared.playing.Body.{Body}
 use Rattle.expand65.specs.declared.playing.Replay.{Replay}
 use Rattle.expand65.proofs.Going.{where_known}
 use Rattle.expand65.proofs.Defining.{repeated_none, repeated_one, rewritten, turns_ready}
-use Rattle.expand65.proofs.Naming.{goes_back}
+use Rattle.expand65.proofs.Placed.{goes_back, stands_so}
 use Rattle.expand65.proofs.rewriter.Rewriter.repeat.Goals as goal
 
 pub returns-clause-turns : goal.returns-clause-turns
@@ -51,4 +51,4 @@ pub returns-clause-keeps : goal.returns-clause-keeps
 returns-clause-keeps g c =
     let mid = c.block.new.self in
     let new = c.enter.new.self in
-    record { named = λ h. goes_back new new mid.place refl refl c.enter.ensures.place (c.in_ok-enter.ensures.named mid.place tt refl (c.in_ok-block.ensures.stays.named h)); size = search rules }
+    record { stands = λ h. stands_so (g.S.Store.files c.args.store.now) mid new (λ m s. goes_back m new new mid.place refl refl c.enter.ensures.place (c.in_ok-enter.ensures.stands m mid.place tt refl refl s)) (c.in_ok-block.ensures.stands h); size = search rules }

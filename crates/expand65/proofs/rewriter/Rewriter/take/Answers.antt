@@ -16,6 +16,7 @@ use Rattle.expand65.specs.declared.rewriter.Rewriter.{Rewriter}
 use Rattle.expand65.specs.declared.rewriter.Turn.{Turn}
 use Rattle.expand65.proofs.Going.{refused_step, step_taken, turns_so, where_both, where_known}
 use Rattle.expand65.proofs.Lines.{moved_to}
+use Rattle.expand65.proofs.Placed.{stands_on_ok, stands_where}
 use Rattle.expand65.proofs.Stopping.{stops_behind, stops_taking}
 use Rattle.expand65.proofs.rewriter.Rewriter.take.Goals as goal
 
@@ -76,5 +77,12 @@ returns-in-Some-clause-stopped g c = λ names.
     let P : Option Line → Type 0 = λ l. IfSome o (λ m. Takes (left_of m old.reader) (Ok (option_map tokens_in l, left_of m new))) in
     let blamed = g.S.Store.blamed c.begin.new.store in
     let taken = subst P c.in-Some.is c.in_ok-next_line.ensures.read in
-    let stopped = moved_to (λ m. StopsAt (Fails blamed (unless_mislabelled k (state_of m mid) ts (is_mislabelled ts))) new end.reader r) o (g.S.Store.files c.next_line.new.store) c.in_ok-next_line.ensures.leaves.files (c.begin.ensures.stopped (c.in_ok-next_line.ensures.stays.named names)) in
+    let stopped = moved_to (λ m. StopsAt (Fails m blamed (unless_mislabelled k (state_of m mid) ts (is_mislabelled ts))) new end.reader r) o (g.S.Store.files c.next_line.new.store) c.in_ok-next_line.ensures.leaves.files (c.begin.ensures.stopped (stands_where o (g.S.Store.files c.next_line.new.store) new c.in_ok-next_line.ensures.leaves.files (c.in_ok-next_line.ensures.stands names))) in
     stops_behind o blamed k old mid end.reader ts r taken (λ m. refl) c.in_ok-next_line.ensures.stays.mark stopped)
+
+pub returns-in-None-clause-stands : goal.returns-in-None-clause-stands
+returns-in-None-clause-stands g c = λ stands. c.end_input.ensures.stands (g.S.Store.files c.args.store.now) (c.in_ok-next_line.ensures.stands stands)
+
+pub returns-in-Some-clause-stands : goal.returns-in-Some-clause-stands
+returns-in-Some-clause-stands g c = λ stands.
+    stands_on_ok (g.S.Store.files c.args.store.now) (g.S.Store.files c.next_line.new.store) c.begin.result c.next_line.new.self c.begin.new.self.reader c.in_ok-next_line.ensures.leaves.files c.begin.ensures.stands (c.in_ok-next_line.ensures.stands stands)

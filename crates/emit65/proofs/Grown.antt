@@ -1,0 +1,65 @@
+-- Entries as slots, one more of them, and with more files.
+use Rattle.std.proofs.lemmas.Grind.{common_steps}
+use Rattle.std.proofs.Common.{◌≡◌, ◌∙◌, ℕ, zero, suc, ◌<◌, ◌≤◌, true, List, [], ◌∷◌, ◌++◌, length, map, refl, ap, arith}
+use Rattle.std.specs.Prelude.{nat_lt}
+use Rattle.std.specs.List.{list_all}
+use Rattle.std.proofs.lemmas.List.Folds.{list_all-append}
+use Rattle.std.proofs.lemmas.Bool.Decides.{nat_tests}
+use Rattle.semantics65.specs.Contents.{Filled, Known, Waiting, put, telling}
+use Rattle.semantics65.specs.Machine.{holds, waits}
+use Rattle.semantics65.specs.Views.{place_in, said_at}
+use Rattle.semantics65.specs.Numbering.{name_of}
+use Rattle.emit65.specs.declared.entries.Entry.{Entry}
+use Rattle.emit65.specs.declared.entries.Entry.TheVariants.{Bytes, Room, Value, Told, Waits}
+use Rattle.emit65.specs.declared.entries.SourcePos.{SourcePos}
+use Rattle.emit65.specs.Fed.{Begins, StandIn, content_by, content_of, piece_of, place_by, slot_of, stands_in}
+use Rattle.emit65.proofs.Renumbering.{and, left, right}
+
+-- what entries have so far, by their slots
+pub contents_of_slots : (files : List (List ℕ)) (es : List Entry) → map (content_by (λ w. telling [])) (map (slot_of files) es) ≡ map (content_of files) es
+contents_of_slots files [] = refl
+contents_of_slots files (Bytes g bytes ∷ es) = ap (λ cs. put g (Known bytes) ∷ cs) (contents_of_slots files es)
+contents_of_slots files (Room g n ∷ es) = ap (λ cs. put g (Filled n) ∷ cs) (contents_of_slots files es)
+contents_of_slots files (Value width g o f ∷ es) = ap (λ cs. put g (Waiting width (place_by files o) f) ∷ cs) (contents_of_slots files es)
+contents_of_slots files (Told o ss ∷ es) = ap (λ cs. telling (map (said_at (place_by files o)) ss) ∷ cs) (contents_of_slots files es)
+contents_of_slots files (Waits w ∷ es) = ap (λ cs. telling [] ∷ cs) (contents_of_slots files es)
+
+-- ---- More files.
+
+name_grown : (files later : List (List ℕ)) (k : ℕ) → nat_lt k (length files) ≡ true → name_of (files ++ later) k ≡ name_of files k
+name_grown [] later k h = let lt : k < 0 = grind (arith, nat_tests) in absurd (omega (arith, lt))
+name_grown (n ∷ files) later zero h = refl
+name_grown (n ∷ files) later (suc k) h = name_grown files later k (let lt : nat_lt k (length files) ≡ true = grind (arith, nat_tests) in lt)
+
+pub place_grown : (files later : List (List ℕ)) (o : SourcePos) → nat_lt o.file (length files) ≡ true → place_by (files ++ later) o ≡ place_by files o
+place_grown files later o h = ap (λ n. place_in n o.line) (name_grown files later o.file h)
+
+pub slot_grown : (files later : List (List ℕ)) (e : Entry) → stands_in (length files) e ≡ true → slot_of (files ++ later) e ≡ slot_of files e
+slot_grown files later (Bytes g bytes) h = refl
+slot_grown files later (Room g n) h = refl
+slot_grown files later (Value width g o f) h = ap (λ p. holds (put g (Waiting width p f))) (place_grown files later o h)
+slot_grown files later (Told o ss) h = ap (λ p. holds (telling (map (said_at p) ss))) (place_grown files later o h)
+slot_grown files later (Waits w) h = ap (λ p. waits (record { place = p; context = w.value.context; piece = piece_of w.value.piece })) (place_grown files later w.value.pos h)
+
+pub slots_grown : (files later : List (List ℕ)) (es : List Entry) → StandIn (length files) es → map (slot_of (files ++ later)) es ≡ map (slot_of files) es
+slots_grown files later [] h = refl
+slots_grown files later (e ∷ es) h =
+    let one = slot_grown files later e (left (stands_in (length files) e) (list_all (stands_in (length files)) es) h) in
+    let rest = slots_grown files later es (right (stands_in (length files) e) (list_all (stands_in (length files)) es) h) in
+    λ n. one n ∷ rest n
+
+-- ---- Entries that stand in files.
+
+stands_grown : (m n : ℕ) (e : Entry) → m ≤ n → stands_in m e ≡ true → stands_in n e ≡ true
+stands_grown m n x le h = grind (arith, common_steps)
+
+pub standing_grown : (m n : ℕ) (es : List Entry) → m ≤ n → StandIn m es → StandIn n es
+standing_grown m n [] le h = refl
+standing_grown m n (e ∷ es) le h = grind (arith, common_steps, (standing_grown m n es le (right (stands_in m e) (list_all (stands_in m) es) h)), and, stands_grown, left, right)
+
+pub standing_more : (n : ℕ) (es : List Entry) (e : Entry) → stands_in n e ≡ true → StandIn n es → StandIn n (es ++ e ∷ [])
+standing_more n es e h all = list_all-append (stands_in n) es (e ∷ []) ∙ and (list_all (stands_in n) es) (list_all (stands_in n) (e ∷ [])) all (and (stands_in n e) true h refl)
+
+-- names with others behind them are as many or more
+pub begins_long : (names more : List (List ℕ)) → Begins names more → length names ≤ length more
+begins_long names more h = grind (arith, common_steps)

@@ -1,0 +1,10 @@
+use Rattle.std.proofs.Common.{refl}
+use Rattle.emit65.specs.Fed.{names_in}
+use Rattle.emit65.proofs.Standings.{stands_closed}
+use Rattle.emit65.proofs.sections.Sections.close.Goals as goal
+
+pub returns : goal.returns
+returns c = λ xs h.
+    let files = names_in c.args.self.files in
+    let list = c.in_ok-entries.ensures in
+    stands_closed c.args.self _ xs refl refl (list.alike files) (list.standing files) h

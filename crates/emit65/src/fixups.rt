@@ -1,0 +1,46 @@
+//! What waits for the names of all statements.
+
+use crate::entries::SourcePos;
+use base65::Sequence;
+use object65::{Action, Width};
+use semantics65::Context;
+use syntax65::Expr;
+
+/// What waits of a statement.
+#[derive(Drop)]
+pub enum Piece {
+    /// A value of a list.
+    Datum {
+        width: Width,
+        value: Expr,
+    },
+    /// The value of an instruction's operand.
+    Operand {
+        width: Width,
+        value: Expr,
+    },
+    /// The expression of a constant, which may have a fault.
+    Constant(Expr),
+    Assertion {
+        action: Action,
+        text: Sequence<u8>,
+        value: Expr,
+    },
+    /// A name that the module may not define.
+    Import(Sequence<u8>),
+    /// A name that is imported though nothing may use it.
+    ForcedImport(Sequence<u8>),
+    /// A name that is exported where it is defined, or has to be.
+    Export {
+        must: bool,
+        name: Sequence<u8>,
+    },
+}
+
+/// A piece of a statement that waits, and where the statement stands.
+#[derive(Drop)]
+pub struct Fixup {
+    pub pos: SourcePos,
+    pub context: Context,
+    pub piece: Piece,
+}

@@ -1,0 +1,45 @@
+use Rattle.std.proofs.Common.{◌≡◌, ◌+◌, IfSome, Ok, OnOk, subst, sym, true}
+use Rattle.std.specs.Prelude.{IfErr, IfOk}
+use Rattle.syntax65.specs.Faults.{is_failure}
+use Rattle.syntax65.specs.declared.place.Place.{Place}
+use Rattle.expand65.specs.Lines.{IsFileAt, IsReadingAt, moved}
+use Rattle.expand65.specs.Standing.{IsAt, IsLineOf, moved_by}
+use Rattle.expand65.specs.declared.input.NextLine.{NextLine}
+use Rattle.expand65.specs.declared.input.NextLine.TheVariants.{AtEnd}
+use Rattle.expand65.specs.declared.input.Source.{Source}
+use Rattle.expand65.proofs.Counting.{never_at, nothing_at, played_on}
+use Rattle.expand65.proofs.input.Source.begin_line.Goals as goal
+
+pub returns-in-File-clause-at : goal.returns-in-File-clause-at
+returns-in-File-clause-at g c =
+    let P : Source → Type 0 = λ s. IfSome (g.S.Store.files c.args.store.now) (λ m. (p : Place) → IsAt m s p → OnOk c.begin_line.result (IsFileAt m c.begin_line.new.self p)) in
+    subst P (sym c.in-File.is) c.begin_line.ensures.at
+
+pub returns-in-Call-clause-at : goal.returns-in-Call-clause-at
+returns-in-Call-clause-at g c = nothing_at {A = NextLine} (g.S.Store.files c.args.store.now) (λ m p. IsAt m c.args.self.now p) (Ok c.next_line.result)
+
+pub returns-in-Repeat-clause-at : goal.returns-in-Repeat-clause-at
+returns-in-Repeat-clause-at g c = nothing_at (g.S.Store.files c.args.store.now) (λ m p. IsAt m c.args.self.now p) c.begin_turn.result
+
+pub returns-in-File-clause-blamed : goal.returns-in-File-clause-blamed
+returns-in-File-clause-blamed g c =
+    let blamed = g.S.Store.blamed c.begin_line.new.store in
+    let P : Source → Type 0 = λ s. IfSome (g.S.Store.files c.args.store.now) (λ m. (p : Place) → IsAt m s p → IfErr c.begin_line.result (λ e. is_failure e ≡ true → IsReadingAt m blamed p)) in
+    subst P (sym c.in-File.is) c.begin_line.ensures.blamed
+
+pub returns-in-Call-clause-blamed : goal.returns-in-Call-clause-blamed
+returns-in-Call-clause-blamed g c = never_at {A = NextLine} (g.S.Store.files c.args.store.now) (λ m p. IsAt m c.args.self.now p) (λ m p. IsReadingAt m (g.S.Store.blamed c.args.store.now) p) (Ok c.next_line.result) tt
+
+pub returns-in-Repeat-clause-blamed : goal.returns-in-Repeat-clause-blamed
+returns-in-Repeat-clause-blamed g c = never_at (g.S.Store.files c.args.store.now) (λ m p. IsAt m c.args.self.now p) (λ m p. IsReadingAt m (g.S.Store.blamed c.args.store.now) p) c.begin_turn.result c.begin_turn.ensures.inside
+
+pub returns-in-File-clause-onward : goal.returns-in-File-clause-onward
+returns-in-File-clause-onward g c = λ p.
+    let P : Source → Type 0 = λ s. IsLineOf s p → IfOk c.begin_line.result (λ n. (n ≡ AtEnd → ⊥) → moved_by n p ≡ moved p (p.line + 1)) in
+    subst P (sym c.in-File.is) (c.begin_line.ensures.onward p)
+
+pub returns-in-Call-clause-onward : goal.returns-in-Call-clause-onward
+returns-in-Call-clause-onward g c = λ p line. played_on (Ok c.next_line.result) p c.next_line.ensures.played
+
+pub returns-in-Repeat-clause-onward : goal.returns-in-Repeat-clause-onward
+returns-in-Repeat-clause-onward g c = λ p line. played_on c.begin_turn.result p c.begin_turn.ensures.played

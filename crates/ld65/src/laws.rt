@@ -1,0 +1,13 @@
+//! What holds of links by lines, whatever the files. Each function's contract is a law.
+
+ghost use Rattle.ld65.specs.Laws.{SomeLinkLaw, SomeScriptedLinkLaw};
+
+/// By any script a line comes to files, warnings and a map, or to a first fault of the files.
+pub fn some_scripted_link()
+    ensures { SomeScriptedLinkLaw }
+{}
+
+/// Any line comes to files, warnings and a map, or to a first fault of its script or of the files.
+pub fn some_link()
+    ensures { SomeLinkLaw }
+{}

@@ -1,0 +1,16 @@
+use Rattle.std.proofs.Common.{rules, arith, Ok}
+use Rattle.std.proofs.lemmas.Grind.{common_steps}
+use Rattle.script65.specs.declared.placement.Placement.{Placement}
+use Rattle.script65.proofs.Stood.{placed_so}
+use Rattle.script65.proofs.placing.place.Goals as goal
+
+pub returns-in_err-check_rows-clause-stands : goal.returns-in_err-check_rows-clause-stands
+returns-in_err-check_rows-clause-stands c = placed_so c.args.script.now c.args.needs.now c.from_residual.result (search rules)
+
+pub returns-in_err-areas-clause-stands : goal.returns-in_err-areas-clause-stands
+returns-in_err-areas-clause-stands c = placed_so c.args.script.now c.args.needs.now c.from_residual-in_err-areas.result (search rules)
+
+pub returns-clause-stands : goal.returns-clause-stands
+returns-clause-stands c =
+    let p : Placement = record { areas = c.in_ok-areas.areas; rows = c.in_ok-row_places.field-0 } in
+    placed_so c.args.script.now c.args.needs.now (Ok p) (grind (arith, common_steps))

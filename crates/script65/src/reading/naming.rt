@@ -1,0 +1,149 @@
+//! Says what the names of sums stand for.
+
+ghost use Rattle.std.specs.Prelude.{◌≡◌, ◌≢◌, ◌++◌, ℕ, List, MatchOption, codes};
+ghost use Rattle.base65.specs.Outcome.{Gives};
+ghost use Rattle.script65.specs.Faults.{is_outside};
+ghost use Rattle.script65.specs.Inner.Tables.{part_at};
+ghost use Rattle.script65.specs.Scripts.{as_area_part, as_export, as_row_part, is_start_first, one_of_three, operand_for, sum_for, sums_of};
+
+use crate::fault::{Fault, Stop};
+use crate::reading::entries::{Entries, Entry, Part, Table};
+use crate::reading::words::Role;
+use crate::script::{AreaPart, Operand, RowPart, Term};
+use base65::Sequence;
+use std::alloc::Global;
+
+// The value of a symbol of this name that the script exports.
+fn export_named(symbols: &Table, name: &[u8]) -> Option<Operand>
+    ensures { result ≡ as_export symbols.now name.now }
+{
+    let entry = symbols.get(symbols.place_of(name)?)?;
+    let value = entry.number_or(0, "value");
+    match entry.role() {
+        Some(Role::Export) => Some(Operand::Number(value)),
+        _ => None,
+    }
+}
+
+// What stands between `__` and an ending.
+fn inside<'a>(name: &'a [u8], ending: &[u8]) -> Option<&'a [u8]>
+    ensures { MatchOption result ((n : List ℕ) → name.now ≢ codes "__" ++ (n ++ ending.now))
+        (λ n. name.now ≡ codes "__" ++ (n.now ++ ending.now)) }
+{
+    name.strip_prefix(b"__")?.strip_suffix(ending)
+}
+
+// The place of the entry of which a name is that for the part with this ending.
+fn place_of_part(table: &Table, name: &[u8], ending: &[u8]) -> Option<usize>
+    ensures { result ≡ part_at table.now name.now ending.now }
+{
+    table.place_of(inside(name, ending)?)
+}
+
+fn area_named(areas: &Table, name: &[u8], part: AreaPart) -> Option<Operand>
+    ensures { result ≡ as_area_part areas.now name.now part }
+{
+    let place = place_of_part(areas, name, part.ending())?;
+    Some(Operand::Area(place, part))
+}
+
+fn row_named(rows: &Table, name: &[u8], part: RowPart) -> Option<Operand>
+    ensures { result ≡ as_row_part rows.now name.now part }
+{
+    let place = place_of_part(rows, name, part.ending())?;
+    Some(Operand::Row(place, part))
+}
+
+// The one that there is.
+fn only(
+    export: Option<Operand>,
+    area: Option<Operand>,
+    row: Option<Operand>,
+) -> Result<Operand, Fault>
+    ensures { result ≡ one_of_three export area row }
+{
+    match (export, area, row) {
+        (None, None, None) => Err(Fault::NoSuchName),
+        (Some(operand), None, None) => Ok(operand),
+        (None, Some(operand), None) => Ok(operand),
+        (None, None, Some(operand)) => Ok(operand),
+        _ => Err(Fault::AmbiguousName),
+    }
+}
+
+// What a term stands for.
+fn operand_for(entries: &Entries, number: Option<u32>, name: &[u8]) -> Result<Operand, Fault>
+    ensures { result ≡ operand_for entries.now number name.now }
+{
+    if let Some(number) = number {
+        return Ok(Operand::Number(number));
+    }
+    let start = area_named(&entries.areas, name, AreaPart::Start);
+    let size = area_named(&entries.areas, name, AreaPart::Size);
+    let last = area_named(&entries.areas, name, AreaPart::Last);
+    let load = row_named(&entries.rows, name, RowPart::Load);
+    let run = row_named(&entries.rows, name, RowPart::Run);
+    let row_size = row_named(&entries.rows, name, RowPart::Size);
+    only(
+        export_named(&entries.symbols, name),
+        start.or(size.or(last)),
+        load.or(run.or(row_size)),
+    )
+}
+
+// The terms of an area's sum, or the first fault of a name.
+fn sum_for(
+    alloc: Global,
+    entries: &Entries,
+    word: &str,
+    entry: &Entry,
+) -> Result<Sequence<Term>, Stop>
+    ensures { Gives is_outside (λ x. x) result (sum_for entries.now word.now entry.now) }
+{
+    let mut terms = Sequence::new(alloc);
+    for part in entry.parts_for(word) {
+        match operand_for(entries, part.number, part.name.as_slice()) {
+            Ok(operand) => terms.push(Term {
+                minus: part.minus,
+                operand,
+            })?,
+            Err(fault) => return Err(Stop::new(fault, part.at)),
+        }
+    }
+    Ok(terms)
+}
+
+// Whether `start` stands before `size` in the text.
+fn is_start_first(entry: &Entry) -> bool
+    ensures { result ≡ is_start_first entry.now }
+{
+    for given in entry.given.as_slice() {
+        let word = given.word.as_slice();
+        if "start".as_bytes() == word {
+            return true;
+        }
+        if "size".as_bytes() == word {
+            return false;
+        }
+    }
+    true
+}
+
+/// The sums of an area, or the first fault of a name in them, in the order of the text.
+pub fn sums_of(
+    alloc: Global,
+    entries: &Entries,
+    entry: &Entry,
+) -> Result<(Sequence<Term>, Sequence<Term>), Stop>
+    ensures { Gives is_outside (λ x. x) result (sums_of entries.now entry.now) }
+{
+    if is_start_first(entry) {
+        let start = sum_for(alloc, entries, "start", entry)?;
+        let size = sum_for(alloc, entries, "size", entry)?;
+        Ok((start, size))
+    } else {
+        let size = sum_for(alloc, entries, "size", entry)?;
+        let start = sum_for(alloc, entries, "start", entry)?;
+        Ok((start, size))
+    }
+}

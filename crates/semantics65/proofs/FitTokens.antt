@@ -1,0 +1,187 @@
+-- The numbers in a line's tokens are small, and so those of expressions; no line has more tokens than bytes.
+use Rattle.std.proofs.lemmas.Grind.{common_steps}
+use Rattle.std.proofs.Common.{arith, ◌≡◌, ℕ, zero, suc, ◌+◌, ◌<◌, ◌≤◌, Bool, true, false, List, [], ◌∷◌, length, take, drop, Option, Some, None, refl, subst, if◌then◌else◌}
+use Rattle.std.specs.Prelude.{⊤, Ok, nat_lt, ◌==◌, ◌&&◌, ◌-◌, slice_index, codes}
+use Rattle.std.specs.List.{AllByRecursion, list_all, prefix_len}
+use Rattle.std.specs.Str.Parse.{digits_value}
+use Rattle.std.specs.Str.{str_eq_ignore_ascii_case}
+use Rattle.std.proofs.lemmas.Bool.Decides.{nat_tests}
+use Rattle.std.proofs.lemmas.List.{length-drop}
+use Rattle.base65.specs.Digit.{digits, is_digit}
+use Rattle.base65.specs.declared.values.Op1.TheVariants as one
+use Rattle.syntax65.specs.Expressions.{IsParsed, leaf_of, opening_at, opening_of, opening_of_mark, opening_of_word, text_at, is_reserved, Phrase, a_leaf, a_name, a_global, prefixed, enclosed, of_level, joined, negated}
+use Rattle.syntax65.specs.Forms.{IsForm, IsToken, number_of, plain_number_of, is_blank}
+use Rattle.syntax65.specs.Tokens.{IsRead, Lexeme, Reads, after_blanks}
+use Rattle.syntax65.specs.Trees.{Tree, number, here, cheap, forward, backward, unary, binary}
+use Rattle.syntax65.specs.declared.expressions.words.Opening.{Opening}
+use Rattle.syntax65.specs.declared.expressions.words.Opening.TheVariants.{Number, Here, Cheap, Forward, Backward, Name, Prefix, Negation, Nothing}
+use Rattle.syntax65.specs.declared.lexing.tokens.LexFault.{LexFault}
+use Rattle.syntax65.specs.declared.lexing.tokens.Mark.{Mark}
+use Rattle.syntax65.specs.declared.lexing.tokens.TokenKind.{TokenKind}
+use Rattle.syntax65.specs.declared.lexing.tokens.TokenKind.TheVariants as token
+use Rattle.syntax65.proofs.Fronts.{empty}
+
+-- ---- Bytes.
+
+abbrev pub AreBytes : List ℕ → Type 0
+AreBytes bs = AllByRecursion (λ b. b < 256) bs
+
+pub bytes_drop : (n : ℕ) (bs : List ℕ) → AreBytes bs → AreBytes (drop n bs)
+bytes_drop zero bs h = h
+bytes_drop (suc n) [] h = tt
+bytes_drop (suc n) (b ∷ bs) h = bytes_drop n bs h.1
+
+pub bytes_take : (n : ℕ) (bs : List ℕ) → AreBytes bs → AreBytes (take n bs)
+bytes_take zero bs h = tt
+bytes_take (suc n) [] h = tt
+bytes_take (suc n) (b ∷ bs) h = (h.0, bytes_take n bs h.1)
+
+-- ---- Tokens.
+
+-- no number of a source is larger
+abbrev pub number_limit : ℕ
+number_limit = 1099511627776
+
+abbrev pub IsSmall : TokenKind → Type 0
+IsSmall (token.Number v) = v < number_limit
+IsSmall (token.Character c) = c < number_limit
+IsSmall _ = ⊤
+
+abbrev pub AreSmall : List Lexeme → Type 0
+AreSmall ts = AllByRecursion (λ t. IsSmall t.0) ts
+
+pub small_drop : (n : ℕ) (ts : List Lexeme) → AreSmall ts → AreSmall (drop n ts)
+small_drop zero ts h = h
+small_drop (suc n) [] h = tt
+small_drop (suc n) (t ∷ ts) h = small_drop n ts h.1
+
+pub small_take : (n : ℕ) (ts : List Lexeme) → AreSmall ts → AreSmall (take n ts)
+small_take zero ts h = tt
+small_take (suc n) [] h = tt
+small_take (suc n) (t ∷ ts) h = (h.0, small_take n ts h.1)
+
+digits_small : (radix : ℕ) (bs : List ℕ) (v : ℕ) → digits radix bs ≡ Some v → v < 4294967296
+digits_small radix [] v h = absurd cc
+digits_small radix (b ∷ bs) v h = by (list_all (is_digit radix) (b ∷ bs)) (nat_lt (digits_value radix (b ∷ bs)) 4294967296) refl h
+  where
+    by : (a c : Bool) → nat_lt (digits_value radix (b ∷ bs)) 4294967296 ≡ c → (if a && c then Some (digits_value radix (b ∷ bs)) else None) ≡ Some v → v < 4294967296
+    by true true e k = let same : digits_value radix (b ∷ bs) ≡ v = cc in subst (λ n. n < 4294967296) same (grind (arith, nat_tests))
+    by true false e k = absurd cc
+    by false c e k = absurd cc
+
+plain_small : (text : List ℕ) (v : ℕ) → plain_number_of text ≡ Some v → v < 4294967296
+plain_small text v h = by (slice_index text (length text - 1) == 104) h
+  where
+    by : (b : Bool) → (if b then digits 16 (take (length text - 1) text) else digits 10 text) ≡ Some v → v < 4294967296
+    by true k = digits_small 16 (take (length text - 1) text) v k
+    by false k = digits_small 10 text v k
+
+number_small : (text : List ℕ) (v : ℕ) → number_of text ≡ Some v → v < 4294967296
+number_small [] v h = absurd cc
+number_small (b ∷ bs) v h = by (b == 36) (b == 37) h
+  where
+    by : (a c : Bool) → (if a then digits 16 bs else (if c then digits 2 bs else plain_number_of (b ∷ bs))) ≡ Some v → v < 4294967296
+    by true c k = digits_small 16 bs v k
+    by false true k = digits_small 2 bs v k
+    by false false k = plain_small (b ∷ bs) v k
+
+character_small : (c : ℕ) (text : List ℕ) → IsForm (token.Character c) text → AreBytes text → c < number_limit
+character_small c [] form h = absurd form
+character_small c (b ∷ bs) form h = let all = subst AreBytes form.1 h.1 in let small : c < 256 = all.0 in omega (arith, small)
+
+token_small : (first : Bool) (k : TokenKind) (n : ℕ) (text : List ℕ) → IsToken first k n text → AreBytes text → IsSmall k
+token_small first (token.Number v) n text h bytes = let small = number_small (take n text) v h.value in omega (arith, small)
+token_small first (token.Character c) n text h bytes = character_small c (take n text) h.longest.stands.form (bytes_take n text bytes)
+token_small first _ n text h bytes = tt
+
+reads_small : (first : Bool) (line : List ℕ) (ts : List Lexeme) (end : Option LexFault) → Reads first line ts end → AreBytes line → AreSmall ts
+reads_small first line [] end h bytes = tt
+reads_small first line (t ∷ ts) end h bytes =
+    let text = bytes_drop (prefix_len is_blank line) line bytes in
+    (token_small first t.0 (length t.1) (after_blanks line) h.1 text, reads_small false (drop (length t.1) (after_blanks line)) ts end h.2 (bytes_drop (length t.1) (after_blanks line) text))
+
+some_bytes : (first : Bool) (k : TokenKind) (n : ℕ) (text : List ℕ) → IsToken first k n text → 0 < n
+some_bytes first k zero text h = absurd (empty first k text h.longest.stands)
+some_bytes first k (suc n) text h = omega arith
+
+reads_few : (first : Bool) (line : List ℕ) (ts : List Lexeme) (end : Option LexFault) → Reads first line ts end → length ts ≤ length line
+reads_few first line [] end h = omega arith
+reads_few first line (t ∷ ts) end h =
+    let few = reads_few false (drop (length t.1) (after_blanks line)) ts end h.2 in
+    let some = some_bytes first t.0 (length t.1) (after_blanks line) h.1 in
+    let room = h.1.longest.stands.room in
+    let text = length-drop (prefix_len is_blank line) line in
+    let rest = length-drop (length t.1) (after_blanks line) in
+    omega (arith, few, some, room, text, rest)
+
+pub read_small : (line : List ℕ) (ts : List Lexeme) → IsRead line (Ok ts) → AreBytes line → AreSmall ts
+read_small line ts h bytes = reads_small true line ts None h.1 bytes
+
+pub read_few : (line : List ℕ) (ts : List Lexeme) → IsRead line (Ok ts) → length ts ≤ 4096
+read_few line ts h = let few = reads_few true line ts None h.1 in let short = h.0 in omega (arith, few, short)
+
+-- ---- Expressions.
+
+abbrev pub IsSmallTree : Tree → Type 0
+IsSmallTree (number v) = v < number_limit
+IsSmallTree (unary op e) = IsSmallTree e
+IsSmallTree (binary op e f) = IsSmallTree e × IsSmallTree f
+IsSmallTree _ = ⊤
+
+abbrev OpensSmall : Opening → Type 0
+OpensSmall (Number v) = v < number_limit
+OpensSmall _ = ⊤
+
+either_small : (b : Bool) (o p : Opening) → OpensSmall o → OpensSmall p → OpensSmall (if b then o else p)
+either_small true o p h j = h
+either_small false o p h j = j
+
+mark_small : (m : Mark) → OpensSmall (opening_of_mark m)
+mark_small m = grind (arith, common_steps)
+
+word_small : (text : List ℕ) → OpensSmall (opening_of_word text)
+word_small text =
+    either_small (str_eq_ignore_ascii_case text (codes ".bitnot")) (Prefix one.BitNot) _ tt
+    (either_small (str_eq_ignore_ascii_case text (codes ".lobyte")) (Prefix one.LowByte) _ tt
+    (either_small (str_eq_ignore_ascii_case text (codes ".hibyte")) (Prefix one.HighByte) _ tt
+    (either_small (str_eq_ignore_ascii_case text (codes ".bankbyte")) (Prefix one.BankByte) _ tt
+    (either_small (str_eq_ignore_ascii_case text (codes ".not")) Negation Nothing tt tt))))
+
+kind_small : (k : TokenKind) (text : List ℕ) → IsSmall k → OpensSmall (opening_of k text)
+kind_small token.Identifier text h = either_small (is_reserved text) Nothing Name tt tt
+kind_small token.Directive text h = word_small text
+kind_small (token.Number v) text h = h
+kind_small (token.Character c) text h = h
+kind_small token.Unnamed text h = either_small (nat_lt 0 (length text - 1) && (slice_index text 1 == 43)) (Forward (length text - 1)) (Backward (length text - 1)) tt tt
+kind_small (token.Symbol m) text h = mark_small m
+kind_small token.CheapName text h = tt
+kind_small token.Text text h = tt
+kind_small (token.SizePrefix s) text h = tt
+
+opening_small : (ts : List Lexeme) (i : ℕ) → AreSmall ts → OpensSmall (opening_at ts i)
+opening_small [] zero h = tt
+opening_small [] (suc i) h = tt
+opening_small (t ∷ ts) zero h = kind_small t.0 t.1 h.0
+opening_small (t ∷ ts) (suc i) h = opening_small ts i h.1
+
+leaf_small : (o : Opening) (text : List ℕ) (t : Tree) → leaf_of o text ≡ Some t → OpensSmall o → IsSmallTree t
+leaf_small (Number v) text t e h = let same : number v ≡ t = cc in subst IsSmallTree same h
+leaf_small Here text t e h = let same : here ≡ t = cc in subst IsSmallTree same tt
+leaf_small Cheap text t e h = let same : cheap text ≡ t = cc in subst IsSmallTree same tt
+leaf_small (Forward n) text t e h = let same : forward n ≡ t = cc in subst IsSmallTree same tt
+leaf_small (Backward n) text t e h = let same : backward n ≡ t = cc in subst IsSmallTree same tt
+leaf_small _ text t e h = absurd cc
+
+module _ (ts : List Lexeme) (h : AreSmall ts) where
+  phrase_small : (room n i j : ℕ) (t : Tree) → Phrase ts room n i j t → IsSmallTree t
+  phrase_small _ _ _ _ _ (a_leaf room i t e) = leaf_small (opening_at ts i) (text_at ts i) t e (opening_small ts i h)
+  phrase_small _ _ _ _ _ (a_name room i j parts p) = tt
+  phrase_small _ _ _ _ _ (a_global room i j parts e p) = tt
+  phrase_small _ _ _ _ _ (prefixed room i j op t e p) = phrase_small room 0 (i + 1) j t p
+  phrase_small _ _ _ _ _ (enclosed room i j t e p c) = phrase_small room 6 (i + 1) j t p
+  phrase_small _ _ _ _ _ (of_level room n i j t p) = phrase_small room n i j t p
+  phrase_small _ _ _ _ _ (joined room n i j k op t u p e l q) = (phrase_small room (n + 1) i j t p, phrase_small room n (j + 1) k u q)
+  phrase_small _ _ _ _ _ (negated room i j t e p) = phrase_small room 6 (i + 1) j t p
+
+pub parsed_small : (ts : List Lexeme) (e : Tree) (n : ℕ) → AreSmall ts → IsParsed ts (Ok (e, n)) → IsSmallTree e
+parsed_small ts e n h p = phrase_small ts h 64 6 0 n e p.phrase

@@ -1,0 +1,25 @@
+use Rattle.std.proofs.Common.{◌≡◌, map, rules}
+use Rattle.cli65.specs.Line.{Assembling, assembling}
+use Rattle.asm65.specs.Assembly.{define_of}
+use Rattle.semantics65.specs.Reading.{Job}
+use Rattle.tools65.specs.Assembling.{define_in}
+use Rattle.tools65.proofs.Computed.{assembly_fails_so, computes_assembly, same_job}
+use Rattle.tools65.proofs.assembling.outcome.compute_assembly.Goals as goal
+
+pub returns-clause-computed : goal.returns-clause-computed
+returns-clause-computed g c =
+    let a : Assembling = assembling c.args.line.now in
+    let j : Job = record { source = a.source; include = c.as_slice-3.result.now; defines = map define_of c.as_slice-4.result.now } in
+    let include : c.as_slice-3.result.now ≡ a.include = search rules in
+    let defines : map define_of c.as_slice-4.result.now ≡ map define_in a.defines = search rules in
+    let made = c.assemble-assembly in
+    computes_assembly a made.result.out made.result.err _ _ _ _ j made.result.result c.asm_outcome.result (same_job a _ _ include defines) made.ensures.count made.ensures.asked made.ensures.stopped made.ensures.assembled c.asm_outcome.ensures
+
+pub returns-clause-kept : goal.returns-clause-kept
+returns-clause-kept g c =
+    let made = c.assemble-assembly in
+    record {
+      files = made.ensures.files;
+      later = made.ensures.count.later;
+      failing = assembly_fails_so (assembling c.args.line.now) made.result.out made.result.err _ _ made.result.result c.asm_outcome.result made.ensures.count made.ensures.asked c.asm_outcome.ensures;
+    }

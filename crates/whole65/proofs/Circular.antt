@@ -1,0 +1,72 @@
+-- What is needed for its own value has none: a derivation goes through all that is needed, and ends.
+use Rattle.std.proofs.lemmas.Grind.{common_steps}
+use Rattle.std.proofs.Common.{◌≡◌, ℕ, false, Option, Some, None, arith, List, [], ◌∷◌, refl, subst, sym}
+use Rattle.std.specs.Prelude.{ℤ, ⊤}
+use Rattle.syntax65.specs.Trees.{Tree, name}
+use Rattle.syntax65.specs.Trees as tree
+use Rattle.whole65.specs.Values.{Provider, by_module, by_script, by_nobody, Program, Meaning, label_at, constant_at, import_of, meaning_in, Value, number, here, label, constant, exported, scripted, prefixed, joined, Spot, at, NeedsNext, of_constant, of_import, of_prefix, of_left, of_right, Needs, next, behind}
+use Rattle.whole65.specs.Laws.{CircularLaw}
+
+-- what is needed ends
+data Ends (p : Program) : Spot → Type 0 where
+  ends : {x : Spot} → ((y : Spot) → NeedsNext p x y → Ends p y) → Ends p x
+
+-- what is needed next ends, by what an expression is and means
+abbrev EndsBy : Program → Provider → List ℕ → Type 0
+EndsBy p (by_module provider) x = Ends p (at provider (p.global provider) (name false (x ∷ [])))
+EndsBy p (by_script v) x = ⊤
+EndsBy p by_nobody x = ⊤
+
+abbrev EndsAs : Program → ℕ → Option Meaning → Type 0
+EndsAs p owner None = ⊤
+EndsAs p owner (Some (label_at place)) = ⊤
+EndsAs p owner (Some (constant_at place f)) = Ends p (at owner place f)
+EndsAs p owner (Some (import_of x)) = EndsBy p (p.provider x) x
+
+abbrev EndsBehind : Program → ℕ → ℕ → Tree → Type 0
+EndsBehind p owner place (tree.number n) = ⊤
+EndsBehind p owner place tree.here = ⊤
+EndsBehind p owner place (tree.unary op e) = Ends p (at owner place e)
+EndsBehind p owner place (tree.binary op e f) = Ends p (at owner place e) × Ends p (at owner place f)
+EndsBehind p owner place e = EndsAs p owner (p.means owner place e)
+
+of_meaning : (p : Program) (owner place : ℕ) (e : Tree) (m : Meaning) → meaning_in p owner place e ≡ Some m → EndsBehind p owner place e → EndsAs p owner (Some m)
+of_meaning p owner place x m q h = grind (arith, common_steps)
+
+by_meaning : (p : Program) (owner place : ℕ) (e : Tree) (m : Meaning) → meaning_in p owner place e ≡ Some m → EndsAs p owner (Some m) → EndsBehind p owner place e
+by_meaning p owner place x m q h = grind (arith, common_steps)
+
+step_ends : (p : Program) {x y : Spot} → NeedsNext p x y → EndsBehind p x.owner x.place x.tree → Ends p y
+step_ends p (of_constant {owner = owner} {place = place} {where_set = w} {e = e} {f = f} q) h = of_meaning p owner place e (constant_at w f) q h
+step_ends p (of_import {owner = owner} {place = place} {provider = provider} {e = e} {x = x} q g) h =
+    subst (λ g. EndsBy p g x) g (of_meaning p owner place e (import_of x) q h)
+step_ends p of_prefix h = h
+step_ends p of_left h = h.0
+step_ends p of_right h = h.1
+
+here_ends : (p : Program) (owner place : ℕ) (e : Tree) → EndsBehind p owner place e → Ends p (at owner place e)
+here_ends p owner place e h = ends (λ y s. step_ends p s h)
+
+value_ends : (p : Program) {owner place : ℕ} {e : Tree} {v : ℤ} → Value p owner place e v → EndsBehind p owner place e
+value_ends p number = tt
+value_ends p here = tt
+value_ends p (label {owner = owner} {place = place} {at = w} {e = e} m) = by_meaning p owner place e (label_at w) m tt
+value_ends p (constant {owner = owner} {place = place} {at = w} {e = e} {f = f} m d) = by_meaning p owner place e (constant_at w f) m (here_ends p owner w f (value_ends p d))
+value_ends p (exported {owner = owner} {place = place} {provider = provider} {e = e} {x = x} m g d) =
+    let there : Ends p (at provider (p.global provider) (name false (x ∷ []))) = here_ends p provider (p.global provider) (name false (x ∷ [])) (value_ends p d) in
+    by_meaning p owner place e (import_of x) m (subst (λ g. EndsBy p g x) (sym g) there)
+value_ends p (scripted {owner = owner} {place = place} {e = e} {x = x} {v = v} m g) = by_meaning p owner place e (import_of x) m (subst (λ g. EndsBy p g x) (sym g) tt)
+value_ends p (prefixed {owner = owner} {place = place} {e = e} d) = here_ends p owner place e (value_ends p d)
+value_ends p (joined {owner = owner} {place = place} {e = e} {f = f} c d q) = (here_ends p owner place e (value_ends p c), here_ends p owner place f (value_ends p d))
+
+-- one step more
+and_then : (p : Program) {x y z : Spot} → Needs p x y → NeedsNext p y z → Needs p x z
+and_then p (next s) t = behind s (next t)
+and_then p (behind s n) t = behind s (and_then p n t)
+
+never_back : (p : Program) {x : Spot} → Ends p x → {y : Spot} → Needs p x y → y ≡ x → ⊥
+never_back p (ends {x = x} h) (next {y = y} s) q = never_back p (h y s) (next (subst (λ z. NeedsNext p z y) (sym q) s)) refl
+never_back p (ends {x = x} h) (behind {y = y} {z = z} s n) q = never_back p (h y s) (and_then p n (subst (λ w. NeedsNext p w y) (sym q) s)) refl
+
+pub circular_law : CircularLaw
+circular_law p x v n d = never_back p (here_ends p x.owner x.place x.tree (value_ends p d)) n refl

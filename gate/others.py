@@ -1,0 +1,54 @@
+"""Whether a file of ours has somebody else's text: six or more of its lines, of at least 30 bytes, that an installed cc65 has in one
+of its files, too. Addresses are facts; texts aren't ours. Blanks don't count: a run of them is one."""
+import os
+import subprocess
+
+# Where cc65's files are: where it is told to look for them, or where packages and its own Makefile put them.
+PLACES = (os.environ.get("CC65_HOME", ""), "/usr/share/cc65", "/usr/local/share/cc65")
+CC65 = next(filter(os.path.isdir, PLACES), PLACES[1])
+BYTES, LINES = 30, 6
+
+
+def lines(file):
+    """The lines of a text that are long enough to be somebody's."""
+    with open(file, "rb") as it:
+        text = it.read()
+    return set() if b"\0" in text else {it for it in (b" ".join(line.split()) for line in text.split(b"\n")) if len(it) >= BYTES}
+
+
+def index(folder):
+    """The files that have a line, by the line."""
+    found = {}
+    for place, _, files in os.walk(folder):
+        for it in files:
+            for line in lines(f"{place}/{it}"):
+                found.setdefault(line, set()).add(f"{place}/{it}")
+    return found
+
+
+def why_others(file, there):
+    """Which file of theirs one of ours was taken from, if it was."""
+    shared = {}
+    for line in lines(file):
+        for it in there.get(line, ()):
+            shared[it] = shared.get(it, 0) + 1
+    most = max(shared, key=shared.get, default=None)
+    return f"{shared[most]} of its lines stand in {most}" if most and shared[most] >= LINES else None
+
+
+def files_of(root):
+    """The names of a repository's files, or where it is no clone, of all files."""
+    if not os.path.exists(f"{root}/.git"):
+        return sorted(os.path.relpath(f"{place}/{it}", root) for place, _, files in os.walk(root) for it in files)
+    words = ["git", "ls-files", "-z", "--cached", "--others", "--exclude-standard"]
+    return list(filter(None, subprocess.run(words, cwd=root, capture_output=True, check=True).stdout.decode().split("\0")))
+
+
+def looked_at(root, folder=CC65):
+    """What was looked at, as (what, why it is wrong); nothing where cc65 isn't installed."""
+    if not os.path.isdir(folder):
+        print(f"cc65 isn't here: no file is compared with those of {folder}")
+        return
+    there = index(folder)
+    whys = [(it, why_others(f"{root}/{it}", there)) for it in files_of(root) if os.path.isfile(f"{root}/{it}")]
+    yield "texts of cc65's", "; ".join(f"{it}: {why}" for it, why in whys if why) or None

@@ -1,0 +1,60 @@
+#!/usr/bin/env python3
+"""Runs bench/run.py with sizes a five-hundredth of its own, by a program that waits before it does anything: each line has to come
+as it happens, and to say which part it is and how long the rest will take; images have to be the same.
+
+usage: bench.py BIN65. The last line is 'N passed, M failed'."""
+import os
+import re
+import shutil
+import subprocess
+import sys
+import tempfile
+import time
+
+import pages
+
+FIRST = re.compile(r"\d\d:\d\d:\d\d (\d+) parts, (.*): (a minute|some \d+ minutes) where nothing else runs\.\n")
+PART = re.compile(r"\d\d:\d\d:\d\d part (\d+) of (\d+): (.*); (a minute|some \d+ minutes) left\n")
+LAST = re.compile(r"\d\d:\d\d:\d\d That took a minute\.\n")
+
+
+def lines_of(program, folder):
+    """The lines that are printed, each with the time at which it came."""
+    pages.put(f"{folder}/slow", f'#!/bin/sh\nsleep 0.02\nexec "{program}" "$@"\n')
+    os.chmod(f"{folder}/slow", 0o755)
+    words = ["python3", f"{pages.ROOT}/bench/run.py", f"{folder}/slow", f"{folder}/out", "500"]
+    # (without what may be set for Python, as that nothing waits in a buffer)
+    how = {it: os.environ[it] for it in os.environ if not it.startswith("PYTHON")}
+    with subprocess.Popen(words, env=how, stdout=subprocess.PIPE, text=True) as ran:
+        found = [(time.monotonic(), line) for line in ran.stdout]
+    return found, ran.returncode
+
+
+def main():
+    checks = {}
+    with tempfile.TemporaryDirectory() as folder:
+        found, status = lines_of(os.path.abspath(sys.argv[1]), folder)
+        kept = sorted(os.listdir(f"{folder}/out"))
+    text = [line for _, line in found]
+    parts = [(at, PART.fullmatch(line)) for at, line in found if PART.fullmatch(line)]
+    checks["it ends well"] = status == 0 and LAST.fullmatch(text[-1])
+    checks["the first line"] = (it := FIRST.fullmatch(text[0])) and int(it[1]) == len(parts) == 12
+    checks["each part has its number"] = [(int(it[1]), int(it[2])) for _, it in parts] == [(at, 12) for at in range(1, 13)]
+    checks["parts come as they begin"] = all(later - at > 0.04 for (at, line), (later, _) in zip(found, found[1:]) if PART.fullmatch(line))
+    checks["what is timed"] = parts[2][1][3] == "200 lines of nop" and "e4.s" in kept and "large.out" in kept
+    times = [line for line in text if re.search(r"bin65 +\d+\.\d{4} s", line)]
+    checks["each has its times"] = len(times) == 2 + 2 * 10
+    if shutil.which("ca65") and shutil.which("ld65"):
+        checks["cc65 beside it"] = "cc65's tools beside it" in text[0] and all("bin65 / cc65" in it for it in times)
+        checks["the images"] = sum("images the same" in it for it in text) == 12 and not any("DIFFER" in it for it in text)
+    else:
+        checks["bin65 alone"] = "bin65 alone" in text[0] and not any("cc65 /" in it for it in times)
+    for name, is_so in checks.items():
+        if not is_so:
+            print(f"{name}: FAILED")
+    failed = sum(not it for it in checks.values())
+    print(f"{len(checks) - failed} passed, {failed} failed")
+    sys.exit(failed > 0)
+
+
+main()

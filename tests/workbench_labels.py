@@ -1,0 +1,150 @@
+#!/usr/bin/env python3
+"""work65 labels: the labels of each program are those that cc65's `ld65 -Ln` writes of it with debug information, by name and
+address. Where cc65 isn't installed that is skipped. Other forms are compared with lines that are written here.
+
+usage: workbench_labels.py BIN65. The last line is 'N passed, M failed'."""
+import os
+import re
+import sys
+import tempfile
+from typing import Dict, List, Set, Tuple
+
+import workbench_builds as builds
+
+VICE = """
+al 000013 .pointer
+al 00804C .work
+al 008051 .work@again
+al 00804E .work::deep::here
+al 008068 .work::deep::away
+al 00806C .work::hidden
+al 00806D .work::done
+al 00D000 .PORT
+al 00C01B .table
+al 008080 .private
+al 00800C .again?2
+""".split("\n")
+CARTRIDGE = {
+    "game.s": """        .segment "HEADER"
+        .byte   "NES", $1A, 2, 0, 0
+        .res    9
+        .zeropage
+        .res    4
+score:  .res    1
+        .bss
+buffer: .res    8
+        .segment "EXTRA"
+saved:  .res    2
+CONTROL := $2000
+        .segment "FIRST"
+        .res    16
+table:  .byte   1
+        .code
+.proc reset
+@loop:  sta     CONTROL
+        jmp     @loop
+.endproc
+""",
+    "game.cfg": """MEMORY {
+    ZP:    file = "", start = $0010, size = $00F0;
+    RAM:   file = "", start = $0300, size = $0500;
+    WORK:  file = "", start = $6000, size = $2000;
+    HEAD:  start = 0, size = 16;
+    BANK0: start = $8000, size = $4000, fill = yes;
+    BANK1: start = $C000, size = $4000, fill = yes;
+}
+SEGMENTS {
+    ZEROPAGE: load = ZP, type = zp;
+    BSS:      load = RAM, type = bss;
+    EXTRA:    load = WORK, type = bss;
+    HEADER:   load = HEAD, type = ro;
+    FIRST:    load = BANK0, type = ro;
+    CODE:     load = BANK1, type = ro;
+}
+""",
+}
+FORMS: Dict[str, List[str]] = {
+    "mesen": [
+        "NesInternalRam:0014:score",
+        "NesInternalRam:0300:buffer",
+        "NesMemory:2000:CONTROL",
+        "NesWorkRam:0000:saved",
+        "NesPrgRom:0010:table",
+        "NesPrgRom:4000:reset",
+        "NesPrgRom:4000:reset@loop",
+    ],
+    "nocash": "00000014 score|00000300 buffer|00002000 CONTROL|00006000 saved|00008010 table|0000C000 reset|0000C000 reset@loop".split("|"),
+    "fceux": ["$0014#score#", "$0300#buffer#", "$2000#CONTROL#", "$6000#saved#", "$8010#table#", "$C000#reset#", "$C000#reset@loop#"],
+}
+# A constant of 255 operators and operands, as many as one may have: its value can't be asked for, and it has no label.
+LARGE = f"""        .import other
+large := {"+".join(["other"] * 128)}
+        .word   large
+last:   rts
+"""
+BESIDE = {"ram": FORMS["fceux"][:4], "0": FORMS["fceux"][4:5], "1": FORMS["fceux"][5:]}
+
+
+def ours(text: str) -> Set[Tuple[str, str]]:
+    """Addresses and names, without scopes and regions; a call's own names are one."""
+    found = set()
+    for line in text.splitlines():
+        _, address, name = line.split(" ")
+        name = name[1:].split("::")[-1]
+        name = "@" + name.split("@")[1] if "@" in name else name
+        found.add((address, "local" if "?" in name else name))
+    return found
+
+
+def theirs(text: str) -> Set[Tuple[str, str]]:
+    """The same of cc65's: where an area's bytes lie in its file is a name that bin65 doesn't have."""
+    found = set()
+    for address, name in re.findall(r"^al ([0-9A-F]{6,}) \.(\S+)$", text, re.M):
+        if "_FILEOFFS__" not in name:
+            found.add((address, "local" if name.startswith("LOCAL-MACRO") else name))
+    return found
+
+
+def of_rows_without_bytes(names: Set[Tuple[str, str]]) -> Set[Tuple[str, str]]:
+    """What `define` gives for rows that no module has: cc65 gives nothing there."""
+    rows = {name[2:-7] for address, name in names if name.startswith("__") and name.endswith("_SIZE__") and address == "000000"}
+    return {it for it in names for row in rows if it[1] in (f"__{row}_LOAD__", f"__{row}_RUN__", f"__{row}_SIZE__")}
+
+
+def forms(results: builds.Results, program: str, folder: str) -> None:
+    """The other forms, of a cartridge with two banks."""
+    for name, text in CARTRIDGE.items():
+        builds.pages.put(f"{folder}/{name}", text)
+    for form, wanted in FORMS.items():
+        said = builds.work65(program, folder, "labels", "-C", "game.cfg", "--format", form, "game.s").stdout
+        results.check(form, said.splitlines() == wanted, said)
+    builds.work65(program, folder, "labels", "-C", "game.cfg", "--format", "fceux", "-o", "game.nes", "game.s")
+    builds.pages.put(f"{folder}/large.s", LARGE)
+    builds.pages.put(f"{folder}/small.s", "        .export other\nother   = 3\n")
+    said = builds.work65(program, folder, "labels", "-C", "game.cfg", "--format", "nocash", "large.s", "small.s").stdout
+    results.check("a constant as large as one can be", said == "00000003 other\n0000C002 last\n", said)
+    written = {it.split(".")[2]: builds.text_of(f"{folder}/{it}").splitlines() for it in os.listdir(folder) if it.endswith(".nl")}
+    results.check("fceux's files", written == BESIDE, written)
+
+
+def main() -> None:
+    program = os.path.abspath(sys.argv[1])
+    results = builds.Results()
+    with tempfile.TemporaryDirectory() as folder:
+        forms(results, program, folder)
+        programs = builds.programs(folder)
+        for it in programs if builds.has_cc65() else programs[:1]:
+            said = builds.work65(program, f"{folder}/{it.folder}", "labels", *it.words()).stdout
+            if it.name == "tricks":
+                for wanted in filter(None, VICE):
+                    results.check(wanted, wanted in said.splitlines(), said)
+            if builds.has_cc65():
+                mine, other = ours(said), theirs(builds.by_cc65(it, folder).labels)
+                mine -= of_rows_without_bytes(mine) - other
+                results.check(f"{it.name}: the labels of ld65 -Ln", mine == other, f"ours alone {mine - other}\ncc65's alone {other - mine}")
+    if not builds.has_cc65():
+        print("cc65 isn't here: labels aren't compared with those of ld65 -Ln")
+    results.end()
+
+
+main()

@@ -1,0 +1,382 @@
+#!/usr/bin/env python3
+"""Tries `work65 port`: sources in the everyday idiom, the pairs of docs/MIGRATING.md and cc65's own scripts are brought over; what
+comes out has the image that cc65's tools make of the source as it was, or a place is said that can't be brought over.
+
+usage: workbench_port.py BIN65. The last line is 'N passed, M failed'."""
+import contextlib
+import io
+import os
+import random
+import re
+import shutil
+import subprocess
+import sys
+import tempfile
+import time
+
+import pages
+import stock
+
+sys.path.insert(0, f"{pages.ROOT}/workbench")
+from work65.main import main as work65  # noqa: E402
+
+WORK65 = f"{pages.ROOT}/workbench/work65.sh"
+CASES = f"{pages.ROOT}/tests/workbench/sources.txt"
+SCRIPT = """MEMORY {
+    Z: file = "", start = $0002, size = $FE;
+    M: file = %O, start = $C000, size = $3000;
+    R: file = "", start = $0200, size = $1000;
+}
+SEGMENTS {
+    ZEROPAGE: load = Z, type = zp, optional = yes;
+    CODE: load = M, type = rw;
+    RODATA: load = M, type = rw, optional = yes;
+    DATA: load = M, type = rw, optional = yes;
+    BSS: load = R, type = bss, optional = yes;
+}
+SYMBOLS {
+    pointer: type = export, value = $10;
+    extra: type = export, value = $12;
+    table: type = export, value = $1234;
+    print: type = export, value = $1240;
+    music: type = export, value = $1250;
+    chrout: type = export, value = $FFD2;
+    limit: type = export, value = 9;
+}
+"""
+# Sources of which a place can't be brought over: what is said of it names this word.
+REFUSED = {
+    "game-exports": "far", "game-counter": "count", "game-processor": "lax", "game-enums": ".if",
+    "other-shifts": ">>", "mix-org": ".org", "mix-condes": ".constructor", "mix-65c02": '"65C02"', "mix-scope-used": "n", "mix-align": "3",
+}
+MUTATIONS, MIXED = 150, 80
+
+
+class Tries:
+    """What passed and failed."""
+
+    def __init__(self, program):
+        self.program = os.path.abspath(program)
+        self.passed = self.failed = 0
+
+    def check(self, name, is_so, found=""):
+        self.passed, self.failed = self.passed + bool(is_so), self.failed + (not is_so)
+        if not is_so:
+            print(f"{name}: {found}")
+
+    def inside(self, *words, folder):
+        """What work65 says, run within this process: its status, and what it writes."""
+        said, here = io.StringIO(), os.getcwd()
+        os.chdir(folder)
+        try:
+            with contextlib.redirect_stdout(said), contextlib.redirect_stderr(said):
+                status = work65(list(words))
+        finally:
+            os.chdir(here)
+        return subprocess.CompletedProcess(words, status, said.getvalue(), "")
+
+    def work65(self, *words, folder):
+        how = {**os.environ, "BIN65": self.program, "TMPDIR": folder}
+        return subprocess.run(["sh", WORK65, *words], cwd=folder, env=how, capture_output=True, text=True, check=False)
+
+
+def image(assembler, linker, source, folder, script="l.cfg"):
+    """The image of a source, or what was said."""
+    for words in ([*assembler, "-o", "a.o", source], [*linker, "-C", script, "-o", "a.bin", "a.o"]):
+        ran = subprocess.run(words, cwd=folder, capture_output=True, text=True, check=False)
+        if ran.returncode:
+            return ran.stderr
+    with open(f"{folder}/a.bin", "rb") as it:
+        return it.read()
+
+
+def cases():
+    """The sources: name, target, text."""
+    with open(CASES, encoding="utf-8") as it:
+        parts = re.split(r"^=== (\S+) (\S+)\n", it.read(), flags=re.M)
+    return list(zip(parts[1::3], parts[2::3], parts[3::3]))
+
+
+def ported(tries, name, target, text, has_cc65):
+    """Ports one source, and compares the image with that of cc65's tools. One that includes a file of cc65's is left out where
+    that isn't there."""
+    if ".include " in text and not stock.is_there():
+        print(f"cc65 isn't installed: {name} isn't tried, which includes a file of its own")
+        return
+    with tempfile.TemporaryDirectory() as folder:
+        for file, content in (("a.s", text), ("l.cfg", SCRIPT)):
+            pages.put(f"{folder}/{file}", content)
+        target_words = ["--target", target] if target else []
+        ran = tries.inside("port", "a.s", "-o", "out", *target_words, folder=folder)
+        if name in REFUSED:
+            tries.check(f"{name} is said", ran.returncode == 1 and f": {REFUSED[name]}: " in ran.stdout, ran.stdout + ran.stderr)
+            return
+        shutil.copy(f"{folder}/l.cfg", f"{folder}/out/l.cfg")
+        ours = image([tries.program, "ca65"], [tries.program, "ld65"], "a.s", f"{folder}/out")
+        if ran.returncode or not isinstance(ours, bytes):
+            tries.check(name, False, f"{ran.stdout}{ran.stderr}{ours if not isinstance(ours, bytes) else ''}")
+            return
+        if has_cc65:
+            theirs = image(["ca65", *(["-t", target] if target else [])], ["ld65"], "a.s", folder)
+            tries.check(name, theirs == ours, f"cc65 {theirs if isinstance(theirs, str) else theirs.hex(' ')}, bin65 {ours.hex(' ')}")
+        left = tries.inside("check", "out", folder=folder)
+        # What a condition on the processor leaves out is known to port alone.
+        tries.check(f"{name}, nothing left", left.returncode == 0 or name == "apple-cpu", left.stdout)
+
+
+def pairs(tries, has_cc65):
+    """Each text before of the page MIGRATING gives its image, or is said."""
+    text = pages.read("docs/MIGRATING.md").split("\n### A row with `align`")[0]
+    rows = re.findall(r"^\| (`[^|]+`) \| `[^|]+` \| `[0-9A-F ]+` \|$", text, re.M)
+    found = re.findall(r"^```cc65\n(.*?)^```$", text, re.M | re.S)
+    found += ["".join(f"{it}\n" for it in re.findall(r"`([^`]+)`", row)) for row in rows]
+    for number, before in enumerate(found):
+        with tempfile.TemporaryDirectory() as folder:
+            for file, content in (("a.s", before), ("l.cfg", SCRIPT)):
+                pages.put(f"{folder}/{file}", content)
+            ran = tries.inside("port", "a.s", "-o", "out", folder=folder)
+            shutil.copy(f"{folder}/l.cfg", f"{folder}/out/l.cfg")
+            ours = image([tries.program, "ca65"], [tries.program, "ld65"], "a.s", f"{folder}/out")
+            theirs = image(["ca65"], ["ld65"], "a.s", folder) if has_cc65 else ours
+            if not isinstance(theirs, bytes):
+                continue
+            good = ours == theirs if ran.returncode == 0 else ": " in ran.stdout
+            tries.check(f"pair {number + 1} of MIGRATING", good, f"{before}{ran.stdout}{ours!r}")
+
+
+def scripts(tries):
+    """cc65's own scripts are taken once they are ported, or what is left is said."""
+    with tempfile.TemporaryDirectory() as folder:
+        ran = tries.work65("port", stock.SCRIPTS, "-o", "out", folder=folder)
+        said = set(re.findall(r"([\w-]+\.cfg):\d+:", ran.stdout))
+        brought = re.search(r"brings (\d+) of them over; the other (\d+)", pages.read("docs/MIGRATING.md"))
+        counts = (len(os.listdir(stock.SCRIPTS)) - len(said), len(said))
+        tries.check("the page's numbers of scripts", counts == (int(brought[1]), int(brought[2])), counts)
+        for name in sorted(os.listdir(f"{folder}/out")):
+            link = subprocess.run([tries.program, "ld65", "-C", f"{folder}/out/{name}", "-o", "/dev/null", "/dev/null"],
+                                  capture_output=True, text=True, check=False)
+            is_read = not link.stderr.startswith(f"{folder}/out/{name}:")
+            tries.check(f"script {name}", is_read != (name in said), link.stderr)
+
+
+# A program of several files with cc65's own script: its includes lie in a folder, and one of them is cc65's.
+TREE = {
+    "src/main.s": """.feature labels_without_colons
+.include "nes.inc"
+.include "game.inc"
+.macpack longbranch
+.import wait, score
+.export reset: absolute
+.segment "HEADER"
+        .byte   "NES", $1A, 2, 1, 0, 0
+.segment "STARTUP"
+reset   sei
+        ldx     #$FF
+        txs
+@1      bit     PPU_STATUS
+        bpl     @1
+        jsr     wait
+        jeq     reset
+        lda     #Mode::PLAY
+        sta     hero + Actor::mode
+        jmp     reset
+.segment "VECTORS"
+        .addr   0, reset, 0
+.segment "CHARS"
+        .incbin "tiles.chr", 0, -1
+.segment "BSS"
+hero    .tag    Actor
+.segment "CODE"
+.segment "RODATA"
+        .byte   .sizeof(Actor), SPEED
+        .incbin "tiles.chr", 2
+.segment "DATA"
+        .word   score
+.segment "ZEROPAGE"
+        .res    1
+""",
+    "src/lib/wait.s": """.include "../game.inc"
+.export wait, score : abs = 5
+.proc wait
+        ldx     #SPEED
+@1:     dex
+        bne     @1
+        lda     #Mode::OVER
+        rts
+.endproc
+""",
+    "src/game.inc": """.ifndef GAME_INC
+GAME_INC = 1
+.define SPEED 3
+.enum Mode
+        TITLE
+        PLAY
+        OVER
+.endenum
+.struct Actor
+        place   .word
+        mode    .byte
+.endstruct
+.endif
+""",
+    "src/tiles.chr": "0123456789",
+}
+
+
+def tree(tries):
+    """A program of several files is brought over with cc65's script, and --verify builds both and finds the images the same, or
+    says that they differ."""
+    with tempfile.TemporaryDirectory() as folder:
+        for name, text in TREE.items():
+            os.makedirs(os.path.dirname(f"{folder}/{name}"), exist_ok=True)
+            pages.put(f"{folder}/{name}", text)
+        shutil.copy(f"{stock.SCRIPTS}/nes.cfg", f"{folder}/src/nes.cfg")
+        before = {it: pages.read(os.path.relpath(f"{folder}/{it}", pages.ROOT)) for it in TREE}
+        ran = tries.work65("port", "src", "-o", "out", "--target", "nes", "--verify", folder=folder)
+        tries.check("a tree", ran.returncode == 0 and not ran.stdout + ran.stderr, ran.stdout + ran.stderr)
+        after = {it: pages.read(os.path.relpath(f"{folder}/{it}", pages.ROOT)) for it in TREE}
+        tries.check("a tree stays as it was", before == after)
+        for it in ("src/main.s", "src/lib/wait.s"):
+            out = f"{folder}/out/{it[4:]}"
+            ran = subprocess.run([tries.program, "ca65", "-o", f"{folder}/{os.path.basename(it)}.o", out], capture_output=True, text=True, check=False)
+            tries.check(f"{it} needs no options", ran.returncode == 0, ran.stderr)
+        # An image that differs: .ifdef in a scope that has used the name, behind a macro that port doesn't look into.
+        pages.put(f"{folder}/src/lib/wait.s", TREE["src/lib/wait.s"] + ".macro ask name\n.ifdef name\n nop\n.endif\n.endmacro\nn = 5\n.proc p\n lda n\n ask n\n.endproc\n")
+        ran = tries.work65("port", "src", "-o", "out2", "--target", "nes", "--verify", folder=folder)
+        tries.check("a tree whose image differs", ran.returncode == 1 and "nes.cfg: the images differ" in ran.stdout, ran.stdout + ran.stderr)
+        left = sorted(os.listdir(folder))
+        tries.check("nothing but the copies", left == ["main.s.o", "out", "out2", "src", "wait.s.o"], left)
+
+
+TOP = re.compile(r"^\s*\.(feature|macpack|linecont|setcpu|include)", re.I)
+
+
+def wrapped(chance, body, name):
+    """A source within a scope, a procedure, a macro that is called, a repeat or a condition, or as it is."""
+    kind = chance.choice(("", "scope", "proc", "if") if ".macro" in body else ("", "scope", "proc", "if", "macro", "repeat"))
+    if kind == "macro":
+        return f".macro {name}\n{body}\n.endmacro\n {name}\n"
+    if kind == "if":
+        return f".if 1\n{body}\n.else\n nothing here\n.endif\n"
+    words = {"scope": f".scope {name}", "proc": f".proc {name}", "repeat": f".repeat 1, {name}"}
+    return f"{words[kind]}\n{body}\n.end{kind}\n" if kind else f"{body}\n"
+
+
+def mixed(tries):
+    """Sources put together by chance, each within something: the same image, or a place is said."""
+    chance, count = random.Random(6502), {"the same": 0, "said": 0}
+    for number in range(MIXED):
+        chosen = chance.sample(cases(), chance.randint(1, 3))
+        target = chance.choice(chosen)[1]
+        lines = [(at, it) for at, (_, _, text) in enumerate(chosen) for it in text.split("\n")]
+        top = "".join(f"{it}\n" for it in dict.fromkeys(it.strip() for _, it in lines if TOP.match(it)))
+        bodies = ["\n".join(it for at, it in lines if at == one and not TOP.match(it)) for one in range(len(chosen))]
+        text = top + "".join(wrapped(chance, it, f"around_{number}_{at}") for at, it in enumerate(bodies))
+        with tempfile.TemporaryDirectory() as folder:
+            for file, content in (("a.s", text), ("l.cfg", SCRIPT)):
+                pages.put(f"{folder}/{file}", content)
+            theirs = image(["ca65", "-t", target], ["ld65"], "a.s", folder)
+            if not isinstance(theirs, bytes):
+                continue
+            ran = tries.inside("port", "a.s", "-o", "out", "--target", target, folder=folder)
+            shutil.copy(f"{folder}/l.cfg", f"{folder}/out/l.cfg")
+            ours = image([tries.program, "ca65"], [tries.program, "ld65"], "a.s", f"{folder}/out")
+            count["said" if ran.returncode else "the same"] += 1
+            tries.check(f"mixture {number}", ours == theirs if ran.returncode == 0 else ": " in ran.stdout, f"{text}{ran.stdout}{ours!r}")
+    print(f"port: of {MIXED} mixtures {count['the same']} give the same image, {count['said']} have a place that is said")
+
+
+def examples(tries):
+    """What bin65 takes comes out as it was."""
+    with tempfile.TemporaryDirectory() as folder:
+        ran = tries.work65("port", f"{pages.ROOT}/example", "-o", "out", folder=folder)
+        tries.check("the examples", ran.returncode == 0 and not ran.stdout, ran.stdout)
+        for top, _, names in os.walk(f"{folder}/out"):
+            for name in names:
+                file = os.path.relpath(f"{top}/{name}", f"{folder}/out")
+                same = pages.read(f"example/{file}") == pages.read(os.path.relpath(f"{top}/{name}", pages.ROOT))
+                tries.check(f"example/{file} stays", same)
+
+
+def bad_input(tries):
+    """What can't be read or written is said in one line, and nothing is left behind."""
+    with tempfile.TemporaryDirectory() as folder:
+        pages.put(f"{folder}/a.s", " nop\n")
+        pages.put(f"{folder}/file", "")
+        os.mkdir(f"{folder}/empty")
+        with open(f"{folder}/b.s", "wb") as it:
+            it.write(bytes(range(256)))
+        for words in (("none.s", "-o", "out"), ("empty", "-o", "out"), ("a.s", "-o", "file"), ("a.s", "-o", "/proc/none/out")):
+            ran = tries.work65("port", *words, folder=folder)
+            good = ran.returncode == 1 and ran.stderr.startswith("work65: ") and ran.stderr.count("\n") == 1
+            tries.check(f"port {' '.join(words)}", good, ran.stderr)
+        ran = tries.work65("port", "a.s", folder=folder)
+        tries.check("port without -o", ran.returncode == 2, ran.stderr)
+        ran = tries.work65("port", "b.s", "-o", "out", folder=folder)
+        tries.check("port of bytes that are no text", ran.returncode == 1 and "Traceback" not in ran.stderr, ran.stderr)
+        left = sorted(os.listdir(folder))
+        tries.check("nothing is left behind", left == ["a.s", "b.s", "empty", "file", "out"], left)
+
+
+# Sources that would go on without an end.
+ENDLESS = (
+    ".define again(x1) again x1 x1\n.byte again 3\n", ".define both both both\n lda #both\n",
+    ".macro m a1\n n {a1 a1}\n.ident(\"x1\")\n.endmacro\n.macro n a1\n m {a1 a1}\n.endmacro\n m nop\n",
+    ".macro m\n m\n m\n.ident(\"x1\")\n.endmacro\n m\n",
+    ".macro m\n.repeat 1000\n.repeat 1000\n.ident(\"x1\")\n.endrepeat\n.endrepeat\n.endmacro\n m\n",
+    ".include \"a.s\"\n", ".repeat 1000000\n.ident(\"x1\"):\n.endrepeat\n",
+)
+
+
+def endless(tries):
+    """Sources that would go on without an end are said, or left to bin65, in a few seconds."""
+    for text in ENDLESS:
+        with tempfile.TemporaryDirectory() as folder:
+            pages.put(f"{folder}/a.s", text)
+            begun = time.monotonic()
+            ran = tries.work65("port", "a.s", "-o", "out", folder=folder)
+            took = time.monotonic() - begun
+            tries.check(f"without an end: {text!r}", took < 20 and ran.returncode in (0, 1) and not ran.stderr, ran.stderr[-500:])
+
+
+def mutated(tries):
+    """Sources with changed bytes give no traceback."""
+    chance = random.Random(65)
+    sources = [text for _, _, text in cases()]
+    words = sorted({word for text in sources for word in re.findall(r"\S+", text)})
+    with tempfile.TemporaryDirectory() as folder:
+        os.mkdir(f"{folder}/in")
+        for number in range(MUTATIONS):
+            parts = re.split(r"(\s+)", chance.choice(sources))
+            for _ in range(chance.randint(1, 6)):
+                parts[chance.randrange(len(parts))] = chance.choice([chance.choice(words), "", "\n", chr(chance.randrange(256))])
+            with open(f"{folder}/in/{number}.s", "w", encoding="latin-1") as it:
+                it.write("".join(parts))
+        for command in (("check", "in"), ("port", "in", "-o", "out")):
+            ran = tries.work65(*command, folder=folder)
+            tries.check(f"{command[0]} of mutations", ran.returncode in (0, 1) and not ran.stderr, ran.stderr[-600:])
+
+
+def main():
+    tries = Tries(sys.argv[1])
+    has_cc65 = shutil.which("ca65") is not None and shutil.which("ld65") is not None
+    if not has_cc65:
+        print("cc65 isn't installed: images are compared with none of its own")
+    for name, target, text in cases():
+        ported(tries, name, target, text, has_cc65)
+    pairs(tries, has_cc65)
+    if stock.is_there():
+        scripts(tries)
+    if stock.is_there() and has_cc65:
+        tree(tries)
+    if has_cc65:
+        mixed(tries)
+    examples(tries)
+    bad_input(tries)
+    endless(tries)
+    mutated(tries)
+    print(f"{tries.passed} passed, {tries.failed} failed")
+    sys.exit(tries.failed > 0)
+
+
+main()

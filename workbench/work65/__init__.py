@@ -1,0 +1,1 @@
+"""work65: what a programmer does around a build with bin65."""

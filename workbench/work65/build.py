@@ -1,0 +1,270 @@
+"""A build by bin65 in a folder that goes away: objects, a link with its map and its files, and copies that say where lines are."""
+import argparse
+import gc
+import os
+import signal
+import tempfile
+from contextlib import contextmanager
+from dataclasses import dataclass, field
+from typing import Dict, Iterator, List, Optional
+
+from work65.instrument import Constants, Copies, How, instrument
+from work65.layout import Layout, layout_of
+from work65.mapfile import Module, read_map
+from work65.mirror import Mirror
+from work65.objects import Object, read_object
+from work65.problem import Problem
+from work65.program import Program
+from work65.progress import Progress
+from work65.replay import Told, replay
+from work65.scripts import OUTPUT, read_script, with_files
+from work65.sources import Closure, read_bytes, read_text
+from work65.trace import met
+
+
+@dataclass(frozen=True)
+class Wanted:
+    """What is to be built: the words of the line."""
+
+    script: str
+    sources: List[str]
+    folders: List[str]
+    defines: List[str]
+    libraries: List[str]
+    image: str
+
+
+@dataclass
+class Unit:
+    """A source and its object, and, once it is linked, its module in the map."""
+
+    source: str
+    object: str
+    module: str
+    linked: Optional[Module] = None
+    told: Optional[Told] = None
+
+
+@dataclass
+class Build:
+    """What was built."""
+
+    wanted: Wanted
+    units: List[Unit]
+    layout: Layout
+    files: Dict[str, bytes] = field(default_factory=dict)
+
+
+def add_arguments(parser: argparse.ArgumentParser) -> None:
+    """What the line of a build takes."""
+    parser.add_argument("-C", dest="script", metavar="SCRIPT", required=True, help="the linker script")
+    add_assembler_arguments(parser)
+    add = parser.add_argument
+    add("--library", dest="libraries", action="append", default=[], metavar="NAME=FOLDER", help="a library of FOLDER's sources, last in the link")
+    add("--image", default="a.out", metavar="FILE", help="how the linker's output is named (a.out)")
+    add("sources", nargs="+", metavar="SOURCE", help="a source, or an object or library that is linked at its place")
+
+
+def add_assembler_arguments(parser: argparse.ArgumentParser) -> None:
+    """What the line of an assembler run takes."""
+    add = parser.add_argument
+    add("-I", dest="folders", action="append", default=[], metavar="DIR", help="a folder in which included files are searched for")
+    add("-D", dest="defines", action="append", default=[], metavar="NAME[=NUMBER]", help="a constant that is defined beforehand")
+    add("-g", action="store_true", help="accepted, as ca65 does; without effect")
+
+
+def wanted_of(arguments: argparse.Namespace) -> Wanted:
+    """What a line asks for."""
+    return Wanted(arguments.script, arguments.sources, arguments.folders, arguments.defines, arguments.libraries, arguments.image)
+
+
+def interrupt(number: int, _: object) -> None:
+    """Ends the run as Ctrl-C does."""
+    raise KeyboardInterrupt
+
+
+@contextmanager
+def folder_for_a_while() -> Iterator[str]:
+    """A folder that goes away, also where the run is ended."""
+    for it in (signal.SIGTERM, signal.SIGHUP):
+        signal.signal(it, interrupt)
+    try:
+        folder = tempfile.TemporaryDirectory(prefix="work65-")
+    except OSError as error:
+        raise Problem(f"no folder for temporary files can be made: {error.strerror}") from error
+    with folder as name:
+        yield os.path.realpath(name)
+
+
+def is_linked_as_it_is(name: str) -> bool:
+    """Whether a word names an object or a library."""
+    try:
+        with open(name, "rb") as it:
+            return it.read(4) in (b"R65o", b"R65l")
+    except OSError as error:
+        raise Problem(f"{name}: {error.strerror}") from error
+
+
+def sources_of_library(word: str) -> List[str]:
+    """The sources of a library NAME=FOLDER."""
+    name, _, folder = word.partition("=")
+    if not name or not folder:
+        raise Problem(f"--library wants NAME=FOLDER: {word}", 2)
+    sources = sorted(it for it in os.listdir(folder) if it.endswith((".s", ".asm"))) if os.path.isdir(folder) else []
+    if not sources:
+        raise Problem(f"{folder} is no folder of sources")
+    return [os.path.join(folder, it) for it in sources]
+
+
+def in_library(module: str) -> str:
+    """A module's name without the folder in which its library was made."""
+    return module.partition("/")[2] if module.startswith("library") and "/" in module else module
+
+
+class Builder:
+    """Runs the steps of a build."""
+
+    def __init__(self, program: Program, wanted: Wanted, folder: str, constants: Constants) -> None:
+        self.program, self.wanted, self.folder, self.constants = program, wanted, folder, constants
+        self.options = [f"-I{it}" for it in wanted.folders] + [f"-D{it}" for it in wanted.defines]
+        self.units: List[Unit] = []
+        self.given: Dict[str, str] = {}
+
+    def run(self, words: List[str], folder: Optional[str] = None, known: Optional[Dict[str, str]] = None) -> None:
+        """Runs bin65; what it says of a fault is said here, with the names that the user knows."""
+        ran = self.program.run(words, folder)
+        if ran.status:
+            said = ran.err.decode("utf-8", "surrogateescape").strip() or f"{self.program.path} ended with status {ran.status}"
+            for made, name in (known or {}).items():
+                said = name + said[len(made) :] if said.startswith(made) else said
+            raise Problem(said)
+
+    def path(self, name: str) -> str:
+        """A file of the folder."""
+        return os.path.join(self.folder, name)
+
+    def assemble(self, source: str, object_name: str, module: str) -> Unit:
+        """Assembles a source."""
+        unit = Unit(source, object_name, module)
+        self.run(["ca65", f"-o{self.path(object_name)}", *self.options, "--", source])
+        self.units.append(unit)
+        return unit
+
+    def free(self, folder: str, source: str) -> str:
+        """A name for the object of a source that no other has."""
+        stem = os.path.splitext(os.path.basename(source))[0].lstrip("-") or "source"
+        name, number = f"{folder}{stem}.o", 2
+        while os.path.exists(self.path(name)):
+            name, number = f"{folder}{stem}-{number}.o", number + 1
+        return name
+
+    def library(self, word: str, number: int, progress: Progress) -> str:
+        """Makes a library of a folder's sources, and answers its name in the folder of the build."""
+        place, members = f"library{number}/", []
+        os.makedirs(self.path(place))
+        made = place + os.path.basename(word.partition("=")[0])
+        for it in sources_of_library(word):
+            progress.step()
+            member = self.free(place, it)
+            self.assemble(it, member, f"{made}({os.path.basename(member)})")
+            members.append(member)
+        self.run(["ar65", "r", made, *members], self.folder)
+        return made
+
+    def build(self) -> Build:
+        """Assembles, links, and has copies say where lines are."""
+        members = sum(len(sources_of_library(it)) for it in self.wanted.libraries)
+        progress = Progress("sources", 2 * (len(self.wanted.sources) + members))
+        try:
+            built = self.link(self.inputs(progress))
+            closures = [Closure(it.source, self.wanted.folders) for it in built.units]
+            mirror = self.mirror(closures)
+            for unit, closure in zip(built.units, closures):
+                progress.step()
+                self.tell(unit, closure, mirror)
+        finally:
+            progress.end()
+        return built
+
+    def inputs(self, progress: Progress) -> List[str]:
+        """What is linked: the sources' objects, what is linked as it is, and libraries."""
+        found = []
+        for source in self.wanted.sources:
+            progress.step()
+            if is_linked_as_it_is(source):
+                self.given[os.path.abspath(source)] = source
+                found.append(os.path.abspath(source))
+            else:
+                name = self.free("", source)
+                found.append(self.assemble(source, name, name).object)
+        return found + [self.library(word, number, progress) for number, word in enumerate(self.wanted.libraries, 1)]
+
+    def link(self, inputs: List[str]) -> Build:
+        """Links; the files of areas come into the folder, whatever the script names them."""
+        text, names = with_files(read_text(self.wanted.script), self.wanted.image)
+        with open(self.path("script"), "w", encoding="latin-1", newline="") as it:
+            it.write(text)
+        known = {"script:": f"{self.wanted.script}:", **self.given}
+        self.run(["ld65", "-Cscript", "-oimage", "-mmap", *inputs], self.folder, known)
+        links = read_map(read_bytes(self.path("map")), "the map")
+        script = read_script(text, self.wanted.script)
+        for area in script.areas:
+            area.file = names.get(area.file, area.file)
+        files = {}
+        for made, name in {**names, "image": OUTPUT}.items():
+            if os.path.isfile(self.path(made)):
+                files[name] = read_bytes(self.path(made))
+        modules = {it.name: it for it in links.modules}
+        for unit in self.units:
+            unit.linked = modules.get(unit.module)
+            unit.module = in_library(unit.module)
+        units = [it for it in self.units if it.linked is not None]
+        for module in links.modules:
+            file, mark, member = module.name.partition("(")
+            module.name = self.given[file] + mark + member if file in self.given else in_library(module.name)
+        return Build(self.wanted, units, layout_of(script, links, self.wanted.script), files)
+
+    def mirror(self, closures: List[Closure]) -> Mirror:
+        """A folder for the copies of these sources."""
+        folders = {os.path.dirname(it) for closure in closures for it in closure.sources}
+        folders |= {os.path.realpath(it) for it in [".", *self.wanted.folders] if os.path.isdir(it)}
+        return Mirror(self.path("copies"), folders)
+
+    def tell(self, unit: Unit, closure: Closure, mirror: Mirror) -> None:
+        """Has a copy of a source say where its lines are."""
+        try:
+            copies = self.copy(unit, closure, mirror, self.constants)
+        except Problem:
+            if self.constants is Constants.NONE:
+                raise
+            copies = self.copy(unit, closure, mirror, Constants.NONE)  # a constant's expression may be as large as one can be
+        copy, plain = self.read(self.path("copy")), self.read(self.path(unit.object))
+        if not plain.is_same_program(copy.without(copies.names.segment)):
+            raise Problem(f"{unit.source}: a copy that says where its lines are isn't the same program: nothing can be said of it")
+        unit.told = replay(closure, met(copy, copies), {it.name: it.size for it in plain.sections})
+
+    def copy(self, unit: Unit, closure: Closure, mirror: Mirror, constants: Constants) -> Copies:
+        """Assembles a copy of a source."""
+        copies = instrument(closure, How(constants, mirror.root))
+        for source, text in copies.texts:
+            mirror.put(source.place, text)
+        options = [f"-I{mirror.inside(it)}" for it in self.wanted.folders] + [f"-D{it}" for it in self.wanted.defines]
+        words = ["ca65", f"-o{self.path('copy')}", *options, "--", mirror.inside(unit.source)]
+        try:
+            self.run(words, mirror.inside(os.path.realpath(".")))
+        except Problem as problem:
+            said = f"{unit.source}: a copy that says where its lines are is refused: {problem}"
+            raise Problem(said.replace(mirror.root, "")) from problem
+        finally:
+            mirror.take_back()
+        return copies
+
+    def read(self, name: str) -> Object:
+        """An object that was just made."""
+        return read_object(read_bytes(name))
+
+
+def build(program: Program, wanted: Wanted, folder: str, constants: Constants) -> Build:
+    """Builds in a folder. Nothing that it makes is thrown away before the end, so nothing is searched for it."""
+    gc.disable()
+    return Builder(program, wanted, folder, constants).build()

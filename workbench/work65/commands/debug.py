@@ -1,0 +1,26 @@
+"""work65 debug: the debug file that cc65's linker writes with --dbgfile."""
+import argparse
+import os
+
+from work65.build import add_arguments as add_build_arguments, build, folder_for_a_while, wanted_of
+from work65.debugfile import debug_file
+from work65.instrument import Constants
+from work65.output import write
+from work65.program import Program
+
+HELP = "the debug file that cc65's linker writes with --dbgfile, for stepping through sources"
+
+
+def add_arguments(parser: argparse.ArgumentParser) -> None:
+    """Adds what this subcommand takes."""
+    add_build_arguments(parser)
+    parser.add_argument("-o", dest="output", metavar="FILE.dbg", required=True, help="the debug file")
+
+
+def run(arguments: argparse.Namespace) -> int:
+    """Runs it, and answers the status."""
+    program = Program.find(arguments.bin65)
+    with folder_for_a_while() as folder:
+        built = build(program, wanted_of(arguments), folder, Constants.ALL)
+    write(arguments.output, os.fsencode(debug_file(built)))
+    return 0

@@ -1,0 +1,142 @@
+"""work65 explain: messages of bin65 with their source lines, and with what the page says of them."""
+import argparse
+import os
+import signal
+import subprocess
+import sys
+import textwrap
+from typing import IO, Iterator, List, Optional, Sequence
+
+from work65 import arguments as bad_arguments
+from work65 import causes, leaving_out, pages
+from work65.habits import sources
+from work65.habits.table import BY_WORD
+from work65.language.files import Text, text_of
+from work65.language.statements import statement_of
+from work65.language.tokens import line_of
+from work65.language.tree import surveyed
+from work65.message import Message, message_of
+from work65.problem import Problem
+
+HELP = "adds the source line and the page's paragraph to each message"
+FIRST = "        "
+
+
+def add_arguments(parser: argparse.ArgumentParser) -> None:
+    """Adds what this subcommand takes."""
+    said = "behind --: a command whose messages are read, in place of standard input"
+    parser.add_argument("words", nargs="*", metavar="COMMAND", help=said)
+
+
+def run(arguments: argparse.Namespace) -> int:
+    """Explains standard input, or what a command says; the status is the command's."""
+    all_entries = pages.entries()
+    if not arguments.words:
+        _explain(sys.stdin.buffer, all_entries, (), sys.stdout)
+        return 0
+    try:
+        ran = subprocess.Popen(arguments.words, stderr=subprocess.PIPE)
+    except OSError as error:
+        raise Problem(f"{arguments.words[0]}: {error.strerror}", 127) from error
+    assert ran.stderr is not None
+    try:
+        _explain(ran.stderr, all_entries, arguments.words, sys.stderr)
+    except KeyboardInterrupt:
+        ran.send_signal(signal.SIGINT)
+        ran.wait()
+        raise
+    status = ran.wait()
+    return status if status >= 0 else 128 - status
+
+
+def _explain(stream: IO[bytes], all_entries: List[pages.Entry], line: Sequence[str], out: IO[str]) -> None:
+    """Writes each line, and below a message what it means."""
+    for raw in stream:
+        text = raw.decode("utf-8", "replace").rstrip("\n")
+        print(text, file=out)
+        message = message_of(text)
+        if message is not None:
+            for it in explained(message, all_entries, line):
+                print(it, file=out)
+        out.flush()
+
+
+def explained(message: Message, all_entries: List[pages.Entry], line: Sequence[str] = ()) -> Iterator[str]:
+    """The lines below a message: the source line, what it is of the page's causes, and the paragraph."""
+    text = _text(message.file)
+    if text is not None and message.line is not None and 0 < message.line <= len(text.lines):
+        yield f"{message.line:>6} | {text.lines[message.line - 1].strip()}"
+    entry = pages.entry_for(message.text, all_entries)
+    told = list(_causes(message, entry, text, line))
+    yield from (FIRST + it for it in told)
+    if entry is not None and not (told and entry.rows):
+        yield from textwrap.wrap(entry.paragraph, 96, initial_indent=FIRST, subsequent_indent=FIRST)
+
+
+def _text(file: str) -> Optional[Text]:
+    if not os.path.isfile(file):
+        return None
+    try:
+        return text_of(file)
+    except Problem:
+        return None
+
+
+def _causes(message: Message, entry: Optional[pages.Entry], text: Optional[Text], line: Sequence[str]) -> Iterator[str]:
+    """What the line itself tells of the cause."""
+    if message.text == "bad arguments" and line:
+        at = next((at for at, it in enumerate(line) if os.path.basename(it).startswith("bin65")), None)
+        why = bad_arguments.why_bad(line[at + 1 :]) if at is not None else None
+        if why:
+            yield f"It is: {why}."
+    if text is None or text.is_script or message.line is None or message.line > len(text.lines):
+        return
+    begin = leaving_out.span_of(text.lines, message.line - 1)[0]
+    if begin < message.line - 1:
+        yield f"It is in one of the lines {begin + 1} to {message.line}, which are repeated."
+    elif called := _called(text.lines, message.line - 1):
+        yield f"It is in the lines of the macro {called}, which is called here."
+    elif message.text == "statement not understood":
+        yield from (f"It is: {it}." for it in rows_for(text.lines, message.line - 1, entry))
+    if message.text in ("statement not understood", "directive not understood", "bad character", "bad number", "no such addressing form"):
+        found = sources.found_in([text], surveyed([text]))
+        for it in found:
+            if it.line == message.line and it.habit.name != "form":
+                yield f"{it.word}: {it.cure} (MIGRATING: {it.habit.heading})"
+
+
+def _called(lines: Sequence[str], at: int) -> str:
+    """The macro of the file that a line calls; nothing where it calls none."""
+    body = statement_of(line_of(lines[at]).tokens, lambda _: False).body
+    return body[0].text if body and body[0].text in causes.macros_in(lines, lambda it: it < at) else ""
+
+
+def rows_for(lines: Sequence[str], at: int, entry: Optional[pages.Entry]) -> List[str]:
+    """The causes of the page's table that a line may have."""
+    cause = cause_at(lines, at)
+    if cause is None:
+        return []
+    rows = [what for what, source in entry.rows if row_cause(source) is cause] if entry is not None else []
+    return [pages.plain(it) for it in rows] or [cause.value]
+
+
+def cause_at(lines: Sequence[str], at: int) -> Optional[causes.Cause]:
+    """The cause of a line of a file."""
+    later = causes.macros_in(lines, lambda it: it > at)
+    return causes.cause_of(lines, at, frozenset(BY_WORD), later, causes.scopes_before(lines, at))
+
+
+def row_cause(source: str) -> Optional[causes.Cause]:
+    """The cause that a row's refused source shows: that of its first line that has one."""
+    lines = source.split("\n")
+    for at, it in enumerate(lines):
+        cause = cause_at(lines, at)
+        if cause is not None and cause is not causes.Cause.OPERAND or _is_refused(it):
+            return cause
+    return None
+
+
+def _is_refused(line: str) -> bool:
+    """Whether the form of a line alone has it refused."""
+    body = statement_of(line_of(line).tokens, lambda _: False).body
+    return bool(body) and not sources.is_plain(line, False) and body[0].lower not in sources.LOOKED_AT

@@ -1,0 +1,94 @@
+"""work65 list: a listing of sources with addresses as linked and bytes of the image."""
+import argparse
+from typing import Iterator, List
+
+from work65.build import Unit, add_arguments as add_build_arguments, build, folder_for_a_while, wanted_of
+from work65.instrument import Constants
+from work65.output import words, write
+from work65.program import Program
+from work65.replay import Reading, Row
+from work65.resolve import Resolver
+
+HELP = "a listing: addresses as linked, bytes of the image, line numbers and lines"
+WIDTH = 8
+
+
+def add_arguments(parser: argparse.ArgumentParser) -> None:
+    """Adds what this subcommand takes."""
+    add_build_arguments(parser)
+    parser.add_argument("-o", dest="output", metavar="FILE", help="the file for the listing (standard output)")
+    parser.add_argument("--bytes", type=int, default=24, metavar="N", help="how many bytes of a line are shown, 0 for all (24)")
+
+
+class Listing:
+    """The listing of one module."""
+
+    def __init__(self, resolver: Resolver, limit: int) -> None:
+        self.resolver, self.limit = resolver, limit
+        self.lines: List[str] = []
+        self.shown = ""
+
+    def heading(self, reading: Reading) -> None:
+        """The name of the file whose lines follow."""
+        if self.shown != reading.source.name:
+            self.shown = reading.source.name
+            self.lines.append(f"== {words(self.shown)}")
+
+    def reading(self, reading: Reading) -> None:
+        """All lines of a file, with what came of them."""
+        self.heading(reading)
+        for number in range(1, len(reading.source.lines) + 1):
+            self.heading(reading)
+            below = reading.below.get(number, [])
+            row = reading.rows.get(number)
+            if row is not None:
+                self.row(row, "")
+            else:
+                first = next((it for it in below if isinstance(it, Row)), None)
+                address = "" if first is None else self.address(first)
+                self.line(address, "", str(number), reading.source.text(number))
+            for it in below:
+                if isinstance(it, Row):
+                    self.row(it, "+" * it.depth)
+                else:
+                    self.reading(it)
+
+    def address(self, row: Row) -> str:
+        """The address of a row."""
+        return f"{self.resolver.address(row.place):04X}"
+
+    def row(self, row: Row, mark: str) -> None:
+        """A row, with as many bytes as are wanted."""
+        data = self.resolver.bytes_at(row.place, row.size)
+        shown = data[: self.limit] if self.limit > 0 else data
+        parts = [shown[at : at + WIDTH].hex(" ").upper() for at in range(0, len(shown), WIDTH)] or [""]
+        self.line(self.address(row), parts[0], f"{mark}{row.line}", row.text)
+        address = self.resolver.address(row.place)
+        for number, part in enumerate(parts[1:], 1):
+            self.line(f"{address + number * WIDTH:04X}", part, "", "")
+        if len(shown) < len(data):
+            self.line("", f"and {len(data) - len(shown)} more", "", "")
+
+    def line(self, address: str, data: str, number: str, text: str) -> None:
+        """A line of the listing."""
+        self.lines.append(f"{address:<6}{data:<23} {number:>7}  {text}".rstrip())
+
+
+def listing(units: List[Unit], resolvers: List[Resolver], limit: int) -> Iterator[str]:
+    """The lines of the listing."""
+    for unit, resolver in zip(units, resolvers):
+        if unit.told is not None:
+            it = Listing(resolver, limit)
+            it.reading(unit.told.reading)
+            yield from it.lines
+
+
+def run(arguments: argparse.Namespace) -> int:
+    """Runs it, and answers the status."""
+    program = Program.find(arguments.bin65)
+    with folder_for_a_while() as folder:
+        built = build(program, wanted_of(arguments), folder, Constants.NONE)
+        lines = listing(built.units, [Resolver(built, it) for it in built.units], arguments.bytes)
+        data = "".join(f"{it}\n" for it in lines).encode("latin-1")
+    write(arguments.output, data)
+    return 0

@@ -1,0 +1,93 @@
+"""work65 size: bytes used and free."""
+import argparse
+import json
+import os
+import sys
+from typing import Iterator, List, Sequence
+
+from work65.build import add_arguments as add_build_arguments, build, folder_for_a_while, wanted_of
+from work65.instrument import Constants
+from work65.layout import layout_of
+from work65.mapfile import read_map
+from work65.output import write
+from work65.picture import svg
+from work65.problem import Problem
+from work65.program import Program
+from work65.scripts import read_script
+from work65.sizes import AreaSize, Sizes, sizes_of
+from work65.sources import read_bytes, read_text
+
+HELP = "bytes used and free: by area, segment, module and procedure; of a map, or of sources"
+BAR = 30
+
+
+def add_arguments(parser: argparse.ArgumentParser) -> None:
+    """Adds what this subcommand takes."""
+    add_build_arguments(parser)
+    parser.add_argument("--json", action="store_true", help="all of it as JSON")
+    parser.add_argument("--svg", metavar="FILE", help="a picture of memory, in place of the text")
+
+
+def is_map(name: str) -> bool:
+    """Whether a file is a map."""
+    try:
+        with open(name, "rb") as it:
+            return it.read(8) == b"MODULES\n"
+    except OSError as error:
+        raise Problem(f"{name}: {error.strerror}") from error
+
+
+def sizes_of_line(arguments: argparse.Namespace) -> Sizes:
+    """The sizes of the map, or of the sources, that the line names."""
+    names: List[str] = arguments.sources
+    if len(names) == 1 and is_map(names[0]):
+        script = read_script(read_text(arguments.script), arguments.script)
+        return sizes_of(layout_of(script, read_map(read_bytes(names[0]), names[0]), arguments.script), [])
+    with folder_for_a_while() as folder:
+        built = build(Program.find(arguments.bin65), wanted_of(arguments), folder, Constants.NONE)
+    return sizes_of(built.layout, built.units)
+
+
+def bar(area: AreaSize) -> str:
+    """How full an area is."""
+    full = round(BAR * area.used / area.size) if area.size else BAR
+    return "#" * max(full, int(area.used > 0)) + "." * (BAR - max(full, int(area.used > 0)))
+
+
+def table(heads: Sequence[str], rows: Sequence[Sequence[str]]) -> Iterator[str]:
+    """Lines of columns: the first to the left, all others to the right."""
+    widths = [max(len(it) for it in column) for column in zip(heads, *rows)]
+    for row in (heads, *rows):
+        first, rest = row[0].ljust(widths[0]), (it.rjust(width) for it, width in zip(row[1:], widths[1:]))
+        yield "  ".join([first, *rest]).rstrip()
+
+
+def text(sizes: Sizes, has_bars: bool) -> Iterator[str]:
+    """The sizes as tables."""
+    heads = ["AREA", "start", "size", "used", "free"] + (["full"] if has_bars else [])
+    areas = []
+    for area in sizes.areas:
+        areas.append([area.name, f"{area.start:04X}", str(area.size), str(area.used), str(area.free)] + ([bar(area)] if has_bars else []))
+    yield from table(heads, areas)
+    yield ""
+    segments = [[it.name, f"{it.run:04X}", f"{it.load:04X}", str(it.size), it.area] for it in sizes.segments if it.size]
+    yield from table(["SEGMENT", "run", "load", "size", "area"], segments)
+    yield ""
+    names = [it.name for it in sizes.segments if it.size]
+    modules = [[it.name, str(it.size), *(str(it.segments.get(name, 0)) for name in names)] for it in sizes.modules]
+    yield from table(["MODULE", "size", *names], modules)
+    if sizes.procedures:
+        yield ""
+        yield from table(["PROCEDURE", "size", "module"], [[it.name, str(it.size), it.module] for it in sizes.procedures])
+
+
+def run(arguments: argparse.Namespace) -> int:
+    """Runs it, and answers the status."""
+    sizes = sizes_of_line(arguments)
+    if arguments.svg is not None:
+        write(arguments.svg, svg(sizes).encode())
+    if arguments.json:
+        write(None, (json.dumps(sizes.as_values(), indent=2) + "\n").encode())
+    elif arguments.svg is None:
+        write(None, os.fsencode("".join(f"{it}\n" for it in text(sizes, sys.stdout.isatty()))))
+    return 0

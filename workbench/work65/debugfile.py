@@ -1,0 +1,246 @@
+"""The debug file of a build, in the form that cc65's linker writes with --dbgfile, version 2."""
+import os
+from dataclasses import dataclass, field
+from typing import Dict, Iterable, List, Optional, Sequence, Tuple
+
+from work65.build import Build, Unit
+from work65.objects import Place
+from work65.replay import Label, Row, Scope, Told
+from work65.resolve import Resolver
+from work65.scripts import OUTPUT
+from work65.sources import Source
+
+# How wide an element of a list of data is, and how a debug file writes its type: bytes, words, pointers, words with the high
+# byte first.
+TYPES = {".byte": (1, "20"), ".byt": (1, "20"), ".word": (2, "21"), ".addr": (2, "4100"), ".dbyt": (2, "51")}
+LineKey = Tuple[int, int, int, bool]
+SpanKey = Tuple[int, int, int]
+
+
+@dataclass
+class Numbered:
+    """The entries of a kind: each has its number."""
+
+    kind: str
+    lines: List[str] = field(default_factory=list)
+
+    def add(self, text: str) -> int:
+        """A new entry."""
+        self.lines.append(f"{self.kind}\tid={len(self.lines)},{text}")
+        return len(self.lines) - 1
+
+
+def type_of(row: Row) -> str:
+    """The type of a row's data: an array of so many elements; nothing where it has none."""
+    width, element = TYPES.get(row.word, (0, ""))
+    if not width or not row.size:
+        return ""
+    count = row.size // width
+    length = max((count.bit_length() + 7) // 8, 1)
+    return f"{0x7F + length:02X}{count.to_bytes(length, 'little').hex().upper()}{element}"
+
+
+def ids(numbers: Iterable[int]) -> str:
+    """Numbers of entries."""
+    return "+".join(map(str, numbers))
+
+
+class DebugFile:
+    """Gathers the entries."""
+
+    def __init__(self, build: Build) -> None:
+        self.build, self.layout = build, build.layout
+        self.kinds = {it: Numbered(it) for it in ("file", "lib", "line", "mod", "scope", "seg", "span", "sym", "type")}
+        self.segments = {it.name: number for number, it in enumerate(self.layout.map.rows)}
+        self.files: Dict[str, int] = {}
+        self.file_modules: List[List[int]] = []
+        self.sources: List[Source] = []
+        self.lines: Dict[LineKey, int] = {}
+        self.line_spans: List[Dict[int, None]] = []
+        self.spans: Dict[SpanKey, int] = {}
+        self.libraries: Dict[str, int] = {}
+        self.types: Dict[str, int] = {}
+
+    def text(self) -> str:
+        """The whole file."""
+        for it in self.layout.map.rows:
+            self.segment(it.name)
+        for number, unit in enumerate(self.build.units):
+            if unit.told is not None:
+                Module(self, number, unit, unit.told).add()
+        for number, (source, modules) in enumerate(zip(self.sources, self.file_modules)):
+            self.file(number, source, modules)
+        for key, number in self.lines.items():
+            self.line(key, self.line_spans[number])
+        kinds = self.kinds
+        counts = ",".join(f"{it}={len(kinds[it].lines)}" for it in kinds)
+        head = ["version\tmajor=2,minor=0", f"info\tcsym=0,{counts}"]
+        return "".join(f"{it}\n" for it in [*head, *(line for kind in kinds.values() for line in kind.lines)])
+
+    def segment(self, name: str) -> None:
+        """A row of the script."""
+        placed, row = self.layout.map.row(name), self.layout.script.row(name)
+        kind = row.kind if row else "rw"
+        size = "zeropage" if kind == "zp" else "absolute"
+        text = f'name="{name}",start=0x{placed.run:06X},size=0x{placed.size:04X},addrsize={size},type={"ro" if kind == "ro" else "rw"}'
+        at = self.layout.place_in_file(name)
+        if at is not None and placed.size:
+            file = self.layout.file_of(name)
+            text += f',oname="{self.build.wanted.image if file == OUTPUT else file}",ooffs={at}'
+        self.kinds["seg"].add(text)
+
+    def file_number(self, source: Source, module: int) -> int:
+        """The number of a file, which a module reads."""
+        if source.place not in self.files:
+            self.files[source.place] = len(self.sources)
+            self.sources.append(source)
+            self.file_modules.append([])
+        number = self.files[source.place]
+        if module not in self.file_modules[number]:
+            self.file_modules[number].append(module)
+        return number
+
+    def file(self, number: int, source: Source, modules: Sequence[int]) -> None:
+        """A file."""
+        try:
+            found = os.stat(source.place)
+            size, time = found.st_size, int(found.st_mtime)
+        except OSError:
+            size, time = 0, 0
+        self.kinds["file"].add(f'name="{source.name}",size={size},mtime=0x{time & 0xFFFFFFFF:08X},mod={ids(modules)}')
+
+    def line_number(self, key: LineKey) -> int:
+        """The number of a line."""
+        if key not in self.lines:
+            self.lines[key] = len(self.lines)
+            self.line_spans.append({})
+        return self.lines[key]
+
+    def line(self, key: LineKey, spans: Iterable[int]) -> None:
+        """A line, with the spans that it puts."""
+        file, line, depth, in_macro = key
+        text = f"file={file},line={line}" + (",type=2" if in_macro else "") + (f",count={depth}" if depth else "")
+        self.kinds["line"].add(text + (f",span={ids(spans)}" if spans else ""))
+
+    def span(self, segment: str, start: int, size: int, kind: str) -> int:
+        """A run of bytes of a segment, which may have a type."""
+        key = (self.segments[segment], start, size)
+        if key not in self.spans:
+            said = f",type={self.type(kind)}" if kind else ""
+            self.spans[key] = self.kinds["span"].add(f"seg={key[0]},start={start},size={size}{said}")
+        return self.spans[key]
+
+    def type(self, value: str) -> int:
+        """The number of a type."""
+        if value not in self.types:
+            self.types[value] = self.kinds["type"].add(f'val="{value}"')
+        return self.types[value]
+
+    def library(self, module: str) -> Optional[int]:
+        """The library of a module `library(member)`."""
+        if not module.endswith(")"):
+            return None
+        name = module[: module.index("(")]
+        if name not in self.libraries:
+            self.libraries[name] = self.kinds["lib"].add(f'name="{name}"')
+        return self.libraries[name]
+
+
+class Module:
+    """Adds the entries of one module."""
+
+    def __init__(self, file: DebugFile, number: int, unit: Unit, told: Told) -> None:
+        self.file, self.number, self.unit, self.told = file, number, unit, told
+        self.resolver = Resolver(file.build, unit)
+        self.first_scope = len(file.kinds["scope"].lines)
+        self.first_symbol = len(file.kinds["sym"].lines)
+
+    def add(self) -> None:
+        """Adds all of them."""
+        library = self.file.library(self.unit.module)
+        name = self.unit.module[self.unit.module.find("(") + 1 :].rstrip(")")
+        text = f'name="{name}",file={self.file.file_number(self.told.reading.source, self.number)}'
+        self.file.kinds["mod"].add(text + ("" if library is None else f",lib={library}"))
+        self.lines()
+        for scope in self.told.scopes:
+            self.scope(scope)
+        for label in self.told.labels:
+            self.symbol(label)
+
+    def lines(self) -> None:
+        """The lines that put something, and calls and repeats with all that came of them."""
+        for row in self.told.rows:
+            number = self.line_of(row.source, row.line, row.depth, row.in_macro)
+            self.put(number, self.runs([row], type_of(row)))
+        for block in self.told.blocks:
+            number = self.line_of(block.source, block.line, block.depth, block.in_macro)
+            self.put(number, self.runs(block.rows))
+
+    def line_of(self, source: Source, line: int, depth: int, in_macro: bool) -> int:
+        """The number of a line."""
+        return self.file.line_number((self.file.file_number(source, self.number), line, depth, in_macro))
+
+    def put(self, line: int, spans: Sequence[int]) -> None:
+        """Gives a line its spans, each but once."""
+        self.file.line_spans[line].update(dict.fromkeys(spans))
+
+    def runs(self, rows: Sequence[Row], kind: str = "") -> List[int]:
+        """The spans of rows: bytes that follow each other are one."""
+        found: Dict[str, List[List[int]]] = {}
+        for row in rows:
+            if row.size:
+                runs = found.setdefault(row.place.section, [])
+                if runs and runs[-1][1] == row.place.offset:
+                    runs[-1][1] += row.size
+                else:
+                    runs.append([row.place.offset, row.place.offset + row.size])
+        offsets = self.resolver.offsets
+        return [self.file.span(name, offsets[name] + it[0], it[1] - it[0], kind) for name, runs in found.items() for it in runs]
+
+    def scope(self, scope: Scope) -> None:
+        """A scope."""
+        rows = self.told.rows[scope.first : scope.last]
+        size = sum(it.size for it in rows if it.place.section == rows[0].place.section)
+        number = len(self.file.kinds["scope"].lines) - self.first_scope
+        name = scope.name or (f"$anon-SCOPE-{number:04X}" if number else "")
+        text = f'name="{name}",mod={self.number}'
+        if scope.parent is not None:
+            text += ",type=scope"
+        text += f",size={size}" if size else ""
+        if scope.parent is not None:
+            text += f",parent={self.first_scope + scope.parent}"
+        if scope.label is not None:
+            text += f",sym={self.first_symbol + scope.label}"
+        spans = self.runs(rows)
+        self.file.kinds["scope"].add(text + (f",span={ids(spans)}" if spans else ""))
+
+    def size_of(self, number: int, label: Label) -> int:
+        """How many bytes a label's scope or line has."""
+        for scope in self.told.scopes:
+            if scope.label == number:
+                return sum(it.size for it in self.told.rows[scope.first : scope.last])
+        return 0 if label.row is None else self.told.rows[label.row].size
+
+    def symbol(self, label: Label) -> None:
+        """A label or a constant."""
+        number = len(self.file.kinds["sym"].lines) - self.first_symbol
+        value, place = self.resolver.value(label.value), label.value if isinstance(label.value, Place) else None
+        depth, in_macro = 0, False
+        if label.row is not None:
+            depth, in_macro = self.told.rows[label.row].depth, self.told.rows[label.row].in_macro
+        size = self.size_of(number, label)
+        is_zero_page = value is not None and 0 <= value < 0x100
+        text = f'name="{label.name}",addrsize={"zeropage" if is_zero_page else "absolute"}' + (f",size={size}" if size else "")
+        if label.region is not None:
+            text += f",parent={self.first_symbol + label.region}"
+        else:
+            text += f",scope={self.first_scope + label.scope}"
+        text += f",def={self.line_of(label.source, label.line, depth, in_macro)}"
+        text += "" if value is None else f",val=0x{value & 0xFFFFFFFF:X}"
+        text += "" if place is None else f",seg={self.file.segments[place.section]}"
+        self.file.kinds["sym"].add(f"{text},type={'equ' if label.is_equate else 'lab'}")
+
+
+def debug_file(build: Build) -> str:
+    """The text of the debug file."""
+    return DebugFile(build).text()

@@ -1,0 +1,220 @@
+"""Finds in sources what bin65 refuses."""
+from functools import lru_cache
+from typing import Dict, Iterator, List, Optional, Set, Tuple
+
+from work65.habits import marks
+from work65.habits.habit import Finding, Habit
+from work65.habits.table import BY_NAME, BY_WORD
+from work65.language import grammar, words
+from work65.language.conditions import Conditions
+from work65.language.files import Text
+from work65.language.statements import Statement, statement_of
+from work65.language.tokens import Kind, Line, Token, line_of
+from work65.language.tree import Tree
+
+TELLING = frozenset(BY_WORD)
+LOOKED_AT = TELLING | words.LISTS | words.MACRO_BEGINS | words.MACRO_ENDS | words.CONDITIONS | frozenset(
+    (".else", ".elseif", ".endif", ".scope", ".proc", ".endscope", ".endproc", ".asciiz", ".incbin", ".align",
+     ".assert", ".segment", ".setcpu")
+)
+# What is refused also in lines that are skipped: they can't be split into tokens.
+TOLD = frozenset(("digit", "comment", "bracket", "underline", "quote", "continuation"))
+CLOSERS = {".endstruct": "struct", ".endunion": "union", ".endenum": "enum"}
+
+
+class Places:
+    """What is open where the reader stands: a macro with its parameters, scopes, structures, a comment of C."""
+
+    def __init__(self) -> None:
+        self.macro: Optional[str] = None
+        self.parameters: Set[str] = set()
+        self.scopes = 0
+        self.structures: List[str] = []
+        self.is_comment = False
+        self.is_continued = False
+
+    @property
+    def is_plain(self) -> bool:
+        """Whether a line that is one of bin65's wherever it stands needs no look."""
+        return not (self.is_comment or self.structures or self.is_continued)
+
+
+@lru_cache(maxsize=1 << 16)
+def is_plain(text: str, has_escapes: bool) -> bool:
+    """Whether a line is one of bin65's, opens and closes nothing, and calls no macro."""
+    tokens = line_of(text, has_escapes).tokens
+    shapes = tuple(map(grammar.shape_of, tokens))
+    if not LOOKED_AT.isdisjoint(shapes) or grammar.wrong(shapes) is not None:
+        return False
+    return not ({"#", "(", "a", "x", "nop"} & set(shapes) and marks.is_newer(statement_of(tokens, lambda _: False)))
+
+
+class Reader:
+    """Reads the lines of one file."""
+
+    def __init__(self, text: Text, tree: Tree) -> None:
+        self.text = text
+        self.tree = tree
+        self.places = Places()
+        self.conditions = Conditions(tree.names)
+        self.calls: List[Tuple[Optional[str], str, int]] = []
+
+    def findings(self) -> Iterator[Tuple[Optional[str], Finding]]:
+        """What is found, each with the macro in whose lines it stands."""
+        has_escapes = "string_escapes" in self.tree.features
+        for number, text in enumerate(self.text.lines, 1):
+            if is_plain(text, has_escapes) and self.places.is_plain:
+                continue
+            line = line_of(text, has_escapes)
+            if not line.tokens:
+                continue
+            macro = self.places.macro
+            for word, habit, note in self.line(line, text):
+                yield self.places.macro or macro, Finding(self.text.path, number, word, habit, note)
+            if not self.conditions.is_dead:
+                self.note_calls(line, number)
+
+    def note_calls(self, line: Line, number: int) -> None:
+        """Notes the call of a macro."""
+        statement = statement_of(line.tokens, self.tree.is_macro)
+        if statement.body and statement.body[0].kind is Kind.NAME and statement.body[0].text in self.tree.macros:
+            self.calls.append((self.places.macro, statement.body[0].text, number))
+
+    def line(self, line: Line, text: str) -> Iterator[Tuple[str, Habit, str]]:
+        """What is found in a line: the word, the habit, and a cure of its own."""
+        places = self.places
+        if places.is_comment or "/*" in text:
+            yield from self.comment(line, text)
+            return
+        statement = statement_of(line.tokens, self.tree.is_macro)
+        head = statement.head
+        was_continued, places.is_continued = places.is_continued, _is_continued(line, text)
+        self.conditions.step(statement, places.parameters)
+        found = list(self.marked(line, statement, was_continued))
+        if self.conditions.is_dead:
+            yield from (it for it in found if it[1].name in TOLD)
+            return
+        yield from found
+        self.step(head, statement)
+        if not found and not places.structures and head not in CLOSERS and not was_continued:
+            yield from self.form(line, statement)
+
+    def comment(self, line: Line, text: str) -> Iterator[Tuple[str, Habit, str]]:
+        """A comment of C: its begin is found, the lines up to its end are nothing."""
+        if not self.places.is_comment and any(it.text == "/" and line.tokens[at + 1 : at + 2] and line.tokens[at + 1].text == "*"
+                                              and line.tokens[at + 1].start == it.end for at, it in enumerate(line.tokens)):
+            self.places.is_comment = True
+            yield "/*", BY_NAME["comment"], ""
+        if self.places.is_comment and "*/" in text:
+            self.places.is_comment = False
+
+    def marked(self, line: Line, statement: Statement, was_continued: bool) -> Iterator[Tuple[str, Habit, str]]:
+        """What words and marks of a line tell."""
+        if self.places.structures and statement.head not in CLOSERS:
+            for it in line.tokens:
+                if it.lower in (".tag", ".struct", ".union"):
+                    yield it.text, BY_WORD[it.lower], ""
+            return
+        if not was_continued:
+            yield from marks.label(statement, self.tree)
+        seen = set()
+        for token in line.tokens:
+            for name, note in marks.token(token):
+                if name not in seen:
+                    seen.add(name)
+                    yield token.text, BY_NAME[name], note
+            if token.lower in TELLING:
+                habit = marks.habit_of(token, statement)
+                if habit.name not in seen:
+                    seen.add(habit.name)
+                    yield token.text, habit, ""
+        for word, name in marks.statement(statement, self.places.scopes, self.places.parameters, self.tree):
+            if name not in seen:
+                yield word, BY_NAME[name], ""
+
+    def step(self, head: str, statement: Statement) -> None:
+        """Goes past a line: what it opens and closes."""
+        places = self.places
+        if head in words.MACRO_BEGINS and statement.rest:
+            places.macro = statement.rest[0].text
+            places.parameters = {it.text for it in statement.rest[1:] if it.kind is Kind.NAME}
+        elif head in words.MACRO_ENDS:
+            places.macro, places.parameters = None, set()
+        elif head in (".scope", ".proc"):
+            places.scopes += places.macro is None
+        elif head in (".endscope", ".endproc"):
+            places.scopes = max(0, places.scopes - (places.macro is None))
+        elif head in (".struct", ".union", ".enum"):
+            places.structures.append(head)
+        elif head in CLOSERS and places.structures:
+            places.structures.pop()
+
+    def form(self, line: Line, statement: Statement) -> Iterator[Tuple[str, Habit, str]]:
+        """A line that is no statement of bin65, though nothing told it."""
+        body = statement.body
+        if not body or any(it.text in self.places.parameters for it in line.tokens):
+            return
+        first = body[0]
+        if first.kind is Kind.NAME and first.text in self.tree.macros or first.text in self.tree.defines:
+            return
+        if any(it.text in self.tree.defines for it in body):
+            return
+        shapes = tuple(map(grammar.shape_of, line.tokens))
+        at = grammar.wrong(shapes)
+        if at is None:
+            return
+        if first.kind is Kind.NAME and not self.tree.is_whole and len(body) > 1 and body[1].text not in ("=", ":="):
+            if first.lower not in words.MNEMONICS:
+                return
+        word = line.tokens[min(at, len(line.tokens) - 1)].text
+        yield word, BY_NAME["form"], ""
+
+
+def _is_continued(line: Line, text: str) -> bool:
+    """Whether the next line goes on with this one."""
+    return bool(line.tokens) and line.tokens[-1].text == "\\"
+
+
+def found_in(texts: List[Text], tree: Tree) -> List[Finding]:
+    """What is found in the sources; in lines of a macro only where something calls it."""
+    found: List[Tuple[Optional[str], Finding]] = []
+    calls: List[Tuple[Optional[str], str, int, str]] = []
+    for text in texts:
+        reader = Reader(text, tree)
+        found += reader.findings()
+        calls += [(*it, text.path) for it in reader.calls]
+    called = _reached({(caller, name) for caller, name, _, _ in calls})
+    kept = [it for macro, it in found if macro is None or macro in called or it.habit.name in TOLD]
+    return sorted(kept + _refused_calls(found, calls, called), key=lambda it: (it.path, it.line))
+
+
+def _reached(calls: Set[Tuple[Optional[str], str]]) -> Set[str]:
+    """The macros that are called, from outside of all macros or from one that is called."""
+    reached = {name for caller, name in calls if caller is None}
+    while True:
+        more = {name for caller, name in calls if caller in reached} - reached
+        if not more:
+            return reached
+        reached |= more
+
+
+def _refused_calls(found: List[Tuple[Optional[str], Finding]], calls: List[Tuple[Optional[str], str, int, str]],
+                   called: Set[str]) -> List[Finding]:
+    """The first call in each file of each macro whose lines are refused."""
+    first: Dict[str, Finding] = {}
+    for macro, it in found:
+        if macro is not None and macro in called:
+            first.setdefault(macro, it)
+    while True:
+        more = {caller: first[name] for caller, name, _, _ in calls if caller is not None and name in first and caller not in first}
+        if not more:
+            break
+        first.update(more)
+    seen, refused = set(), []
+    for caller, name, line, path in calls:
+        if caller is None and name in first and (path, name) not in seen:
+            seen.add((path, name))
+            it = first[name]
+            note = f"its lines are refused, as {it.path}:{it.line}: {it.word}"
+            refused.append(Finding(path, line, name, BY_NAME["macro-call"], note))
+    return refused

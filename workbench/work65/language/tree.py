@@ -1,0 +1,104 @@
+"""What a set of files has in common: their macros, their defines, their features, and what they include."""
+import os
+from dataclasses import dataclass, field
+from typing import Dict, Iterable, List, Optional, Set, Tuple
+
+from work65.language import words
+from work65.language.files import Text, text_of
+from work65.language.tokens import Kind, Token, line_of
+from work65.problem import Problem
+
+ASMINC = ("/usr/share/cc65/asminc", "/usr/local/share/cc65/asminc")
+
+
+@dataclass
+class Tree:
+    """What was seen in all files: each macro's name with where its lines stand, names of defines, features, packages."""
+
+    macros: Dict[str, List[Tuple[str, int]]] = field(default_factory=dict)
+    defines: Set[str] = field(default_factory=set)
+    features: Set[str] = field(default_factory=set)
+    structures: Set[str] = field(default_factory=set)
+    names: Set[str] = field(default_factory=set)
+    missing: List[str] = field(default_factory=list)
+    is_whole: bool = True
+
+    def is_macro(self, name: str) -> bool:
+        """Whether a name is that of a macro or a define."""
+        return name in self.macros or name in self.defines
+
+
+def surveyed(texts: Iterable[Text], folders: Iterable[str] = (), names: Iterable[str] = ()) -> Tree:
+    """Reads all files, and those of cc65's own that they include. The names are those that -D gives."""
+    tree = Tree(names=set(names))
+    texts = list(texts)
+    known = {os.path.basename(it.path) for it in texts}
+    wanted: List[str] = []
+    for text in texts:
+        wanted += _look(text, tree)
+    seen: Set[str] = set()
+    while wanted:
+        name = wanted.pop()
+        base = os.path.basename(name)
+        if base in known or name in seen:
+            continue
+        seen.add(name)
+        found = asminc_file(name, folders)
+        if found is None:
+            tree.is_whole = False
+            tree.missing.append(name)
+        else:
+            wanted += _look(found, tree)
+    return tree
+
+
+def asminc_file(name: str, folders: Iterable[str] = ()) -> Optional[Text]:
+    """A file of cc65's own include files, where cc65 is installed; or one of these folders."""
+    places = [*folders, os.environ.get("CA65_INC", ""), *ASMINC]
+    for folder in places:
+        path = os.path.join(folder, name)
+        if folder and os.path.isfile(path):
+            try:
+                return text_of(path)
+            except Problem:
+                return None
+    return None
+
+
+def _look(text: Text, tree: Tree) -> List[str]:
+    """Notes what a file defines, and answers what it includes."""
+    included = []
+    for number, line in enumerate(text.lines, 1):
+        tokens = line_of(line).tokens
+        if tokens and tokens[0].kind is Kind.NAME:
+            tree.names.add(tokens[0].text)
+        if "." not in line:
+            continue
+        for at, token in enumerate(tokens[:4]):
+            if token.kind is Kind.DIRECTIVE:
+                included += _note(token.lower, tokens[at + 1 :], text.path, number, tree)
+                break
+    return included
+
+
+def _note(word: str, rest: Tuple[Token, ...], path: str, number: int, tree: Tree) -> List[str]:
+    """Notes what one directive says; answers the file that it includes."""
+    if not rest:
+        return []
+    name = rest[0].text
+    if word in (".proc", ".define", ".macro", ".mac"):
+        tree.names.add(name)
+    if word in words.MACRO_BEGINS:
+        tree.macros.setdefault(name, []).append((path, number))
+    elif word == ".define":
+        tree.defines.add(name)
+    elif word in (".struct", ".union"):
+        tree.structures.add(name)
+    elif word == ".feature":
+        tree.features |= {it.lower for it in rest if it.kind is Kind.NAME}
+    elif word == ".macpack" and name.lower() in words.PACKAGES:
+        for macro in words.PACKAGES[name.lower()]:
+            tree.macros.setdefault(macro, [])
+    elif word == ".include" and rest[0].kind is Kind.STRING:
+        return [name.strip('"')]
+    return []

@@ -1,0 +1,152 @@
+"""Objects as ca65 writes them (docs/FORMATS.md): sections, their fragments, imports, exports and assertions."""
+import struct
+from dataclasses import dataclass, field
+from typing import List, NamedTuple, Optional, Tuple, Union
+
+from work65.problem import Problem
+
+
+class Place(NamedTuple):
+    """A place in a section, by the section's name."""
+
+    section: str
+    offset: int
+
+
+class Import(NamedTuple):
+    """The value of an imported name."""
+
+    name: str
+
+
+class Operation(NamedTuple):
+    """An operation by its code, and what it works on."""
+
+    code: int
+    parts: Tuple["Form", ...]
+
+
+Form = Union[int, Place, Import, Operation]
+
+
+class Value(NamedTuple):
+    """A value that the linker computes."""
+
+    width: int
+    form: Form
+
+
+class Fill(NamedTuple):
+    """Room that the linker fills."""
+
+    size: int
+
+
+Fragment = Union[bytes, Value, Fill]
+
+
+@dataclass
+class Section:
+    """A section and its content."""
+
+    name: str
+    size: int
+    alignment: int
+    fragments: List[Fragment] = field(default_factory=list)
+
+
+@dataclass
+class Object:
+    """A module, without the places of its statements."""
+
+    imports: List[str] = field(default_factory=list)
+    sections: List[Section] = field(default_factory=list)
+    exports: List[Tuple[str, Form]] = field(default_factory=list)
+    asserts: List[Tuple[int, bytes, Form]] = field(default_factory=list)
+
+    def without(self, name: str) -> "Object":
+        """The same without a section."""
+        return Object(self.imports, [it for it in self.sections if it.name != name], self.exports, self.asserts)
+
+    def section(self, name: str) -> Optional[Section]:
+        """The section of a name, if there is one."""
+        return next((it for it in self.sections if it.name == name), None)
+
+    def is_same_program(self, other: "Object") -> bool:
+        """Whether two objects put the same bytes, and export and assert the same. What else is imported, and whether a segment
+        has a section of no bytes, makes no difference."""
+        mine, others = ([it for it in one.sections if it.size] for one in (self, other))
+        return (mine, self.exports, self.asserts) == (others, other.exports, other.asserts)
+
+
+WIDTHS = (1, 2, 2, 4, 1)
+
+
+class Reader:
+    """Reads the records of an object of version 2 that bin65 has just written."""
+
+    def __init__(self, data: bytes) -> None:
+        self.data, self.object = data, Object()
+        self.filled = 0
+        self.current = 0
+
+    def read(self) -> Object:
+        """The object."""
+        if self.data[:5] != b"R65o\x02":
+            raise Problem("an object isn't of version 2: another bin65 is needed")
+        at = 5
+        while at < len(self.data):
+            kind, length = struct.unpack_from("<BH", self.data, at)
+            self.record(kind, self.data[at + 3 : at + 3 + length])
+            at += 3 + length
+        return self.object
+
+    def record(self, kind: int, body: bytes) -> None:
+        """Takes one record."""
+        if kind == 5:
+            self.fragment(Value(body[0], self.form(body, 9)[0]), WIDTHS[body[0]])
+        elif kind == 3:
+            self.fragment(body, len(body))
+        elif kind == 4:
+            count = int.from_bytes(body, "little")
+            self.fragment(Fill(count), count)
+        elif kind == 1:
+            self.object.imports.append(body.decode("latin-1"))
+        elif kind == 2:
+            size, alignment = struct.unpack_from("<IB", body)
+            self.object.sections.append(Section(body[5:].decode("latin-1"), size, 1 << alignment))
+        elif kind == 6:
+            length = body[0]
+            self.object.exports.append((body[1 : 1 + length].decode("latin-1"), self.form(body, length + 9)[0]))
+        elif kind == 7:
+            self.object.asserts.append((body[0], body[10 : 10 + body[9]], self.form(body, 10 + body[9])[0]))
+
+    def fragment(self, fragment: Fragment, size: int) -> None:
+        """Puts a fragment into the first section that isn't full."""
+        sections = self.object.sections
+        while self.filled >= sections[self.current].size:
+            self.current, self.filled = self.current + 1, 0
+        sections[self.current].fragments.append(fragment)
+        self.filled += size
+
+    def form(self, body: bytes, at: int) -> Tuple[Form, int]:
+        """A form, and where it ends."""
+        code = body[at]
+        if code == 0:
+            return int(struct.unpack_from("<q", body, at + 1)[0]), at + 9
+        if code == 1:
+            section, offset = struct.unpack_from("<Iq", body, at + 1)
+            return Place(self.object.sections[section].name, offset), at + 13
+        if code == 2:
+            return Import(self.object.imports[struct.unpack_from("<I", body, at + 1)[0]]), at + 5
+        parts = []
+        at += 1
+        for _ in range(1 if code < 0x20 else 2):
+            part, at = self.form(body, at)
+            parts.append(part)
+        return Operation(code, tuple(parts)), at
+
+
+def read_object(data: bytes) -> Object:
+    """The object of these bytes."""
+    return Reader(data).read()

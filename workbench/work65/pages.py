@@ -1,0 +1,60 @@
+"""The page MESSAGES: its paragraphs by the texts that bin65 prints."""
+import os
+import re
+from dataclasses import dataclass
+from typing import List, Optional, Tuple
+
+PLACES = ("docs", "share/doc/bin65", "doc/bin65", "share/doc/work65")
+ROW = re.compile(r"^\| ([^|]+) \| (`[^|]+`) \| (?:`[^|]+`) \|$", re.M)
+
+
+def found(name: str) -> Optional[str]:
+    """A page in the folders above the package: in the tree, or where it is installed."""
+    folder = os.path.dirname(os.path.realpath(__file__))
+    while True:
+        for place in PLACES:
+            path = os.path.join(folder, place, name)
+            if os.path.isfile(path):
+                return path
+        above = os.path.dirname(folder)
+        if above == folder:
+            return None
+        folder = above
+
+
+@dataclass(frozen=True)
+class Entry:
+    """A text of the page: a pattern of it, its paragraph, and the rows of its table as (what, refused source)."""
+
+    heading: str
+    pattern: "re.Pattern[str]"
+    paragraph: str
+    rows: Tuple[Tuple[str, str], ...]
+
+
+def entries() -> List[Entry]:
+    """The entries of the page; none where it isn't there."""
+    path = found("MESSAGES.md")
+    if path is None:
+        return []
+    with open(path, encoding="utf-8") as it:
+        parts = re.split(r"^### (.*)$", it.read(), flags=re.M)
+    return [_entry(heading, text) for heading, text in zip(parts[1::2], parts[2::2])]
+
+
+def _entry(heading: str, text: str) -> Entry:
+    words = re.escape(heading).replace(r"N,\ M,\ \.\.", ".+").replace(r",\ M", "")
+    pattern = re.compile(re.sub(r"\bN\b", ".+", re.sub(r"\b[Kn]\b", r"\\d+", words)))
+    paragraph = text.strip().split("\n\n")[0]
+    rows = [(what, "\n".join(re.findall(r"`([^`]+)`", source))) for what, source in ROW.findall(text)]
+    return Entry(heading, pattern, plain(paragraph), tuple(rows))
+
+
+def plain(text: str) -> str:
+    """A text of a page without its marks."""
+    return re.sub(r"\*([^*\n]+)\*", r"\1", re.sub(r"\[([^\]]+)\]\([^)]*\)", r"\1", text)).replace("``", "`").replace("`", "")
+
+
+def entry_for(text: str, all_entries: List[Entry]) -> Optional[Entry]:
+    """The entry of a message's text."""
+    return next((it for it in all_entries if it.pattern.fullmatch(text)), None)

@@ -1,0 +1,1 @@
+"""Brings sources and scripts into the profile of bin65."""

@@ -1,0 +1,45 @@
+"""What is known of a line by its text alone; lines that many files share are looked at once."""
+from functools import lru_cache
+from typing import FrozenSet, NamedTuple, Sequence, Tuple
+
+from work65.habits.sources import is_plain
+from work65.language import words
+from work65.language.statements import parts_of
+from work65.language.tokens import Kind, Token, line_of
+from work65.porting.characters import has_text
+
+
+class Facts(NamedTuple):
+    """The tokens of a line, whether bin65 takes it as it is, its names, and whether it has text or a `*` in a list."""
+
+    tokens: Tuple[Token, ...]
+    is_plain: bool
+    names: FrozenSet[str]
+    has_text: bool
+    has_star: bool
+    directives: FrozenSet[str]
+
+
+@lru_cache(maxsize=1 << 16)
+def facts_of(text: str, has_escapes: bool) -> Facts:
+    """Looks at a line."""
+    tokens = line_of(text, has_escapes).tokens
+    names = frozenset(it.text for it in tokens if it.kind in (Kind.NAME, Kind.CHEAP))
+    directives = frozenset(it.lower for it in tokens if it.kind is Kind.DIRECTIVE)
+    return Facts(tokens, is_plain(text, has_escapes), names, has_text(tokens), _has_star(tokens), directives)
+
+
+def _has_star(tokens: Tuple[Token, ...]) -> bool:
+    """Whether a list of data has `*` as an operand in a later element."""
+    at = next((at for at, it in enumerate(tokens) if it.lower in words.DATA), None)
+    return at is not None and any(star_in(part) for part in parts_of(tokens[at + 1 :])[1:])
+
+
+def star_in(part: Sequence[Token]) -> bool:
+    """Whether `*` is an operand of an expression."""
+    last = ""
+    for it in part:
+        if it.text == "*" and (last in ("", "(", ",") or last in "+-*/|&^<>=~!" or last in words.INFIX_WORDS):
+            return True
+        last = it.lower
+    return False

@@ -1,0 +1,106 @@
+"""Operands that bin65 would take otherwise than cc65's ca65 does, without a word."""
+from typing import AbstractSet, Sequence
+
+from work65.language import words
+from work65.language.expression import value
+from work65.language.statements import Statement
+from work65.language.tokens import Kind, Token
+from work65.porting.context import Context
+from work65.porting.facts import star_in
+from work65.porting.line import Unportable, edited
+
+SHIFTS = frozenset((">>", ".shr"))
+# Instructions whose operand is no address of a byte.
+OTHERS = words.BRANCHES | {"jmp", "jsr", "brk"}
+LESS = frozenset(("-", "~"))
+
+
+def may_differ(tokens: Sequence[Token], names: AbstractSet[str], context: Context) -> bool:
+    """Whether a line that bin65 takes has to be looked at."""
+    if any(it.lower in SHIFTS for it in tokens):
+        return True
+    if len(context.scopes) > 1 and any(not names.isdisjoint(it.used) for it in context.scopes[:-1]):
+        return True
+    if any(it.text == "-" for it in tokens) and (len(names) > 1 or star_in(tokens)):
+        return True
+    return not context.differences.isdisjoint(names)
+
+
+def absolute(text: str, statement: Statement, context: Context) -> str:
+    """An instruction with `a:` before its operand where cc65 takes the absolute form and bin65 may take the short one."""
+    rest = statement.rest
+    if not rest or statement.head in OTHERS or rest[0].text in ("#", "(") or rest[0].kind is Kind.PREFIX or rest[0].lower == "a":
+        return text
+    label = statement.label
+    if label is not None and label.kind is Kind.NAME:
+        context.labels.setdefault((*context.path, label.text), context.segment)
+    names = [it for at, it in enumerate(rest) if it.kind is Kind.NAME and not _is_scoped(rest, at)]
+    if any(_is_used_outside(it, context) or it.text in context.differences for it in names) or is_difference(rest, context):
+        if statement.head in ("stx", "sty") and rest[-1].lower in ("x", "y") and rest[-2].text == ",":
+            return text
+        return edited(text, [(rest[0].start, rest[0].start, "a:")])
+    return text
+
+
+def _is_scoped(rest: Sequence[Token], at: int) -> bool:
+    """Whether a name is a part of one with scopes."""
+    return at > 0 and rest[at - 1].text == "::" or at + 1 < len(rest) and rest[at + 1].text == "::"
+
+
+def _is_used_outside(it: Token, context: Context) -> bool:
+    """Whether a scope around this one has used a name that it doesn't define: cc65 doesn't know it here."""
+    path = context.path
+    for depth, scope in enumerate(context.scopes[:-1], 1):
+        if it.text in scope.used and path[:depth] + (it.text,) not in context.labels:
+            return path + (it.text,) not in context.labels
+    return False
+
+
+def is_difference(rest: Sequence[Token], context: Context) -> bool:
+    """Whether an operand is a difference of labels that don't lie in the zero page."""
+    if not any(it.text == "-" for it in rest):
+        return False
+    labels = [it for it in rest if it.kind is Kind.NAME and _is_far(it.text, context)]
+    return len(labels) + (star_in(rest) and context.segment != "ZEROPAGE") > 1
+
+
+def segment_of(tokens: Sequence[Token], context: Context) -> str:
+    """The segment in which an expression is an address; nothing where it is none, or isn't known."""
+    if is_difference(tokens, context):
+        return ""
+    found = {context.segment} if star_in(tokens) else set()
+    for it in tokens:
+        if it.kind is Kind.NAME:
+            found.add(context.labels.get((*context.path, it.text), "") or context.labels.get((it.text,), ""))
+    return found.pop() if len(found) == 1 else ""
+
+
+def _is_far(name: str, context: Context) -> bool:
+    """Whether a name is a label outside of the zero page, or made of one."""
+    path = context.path
+    for depth in range(len(path), -1, -1):
+        key = path[:depth] + (name,)
+        if key in context.labels:
+            return context.labels[key] != "ZEROPAGE" and context.constants.get(key) is None
+    return False
+
+
+def shifted(statement: Statement, context: Context) -> None:
+    """Refuses a shift to the right of what may be negative."""
+    body = statement.body
+    for at, it in enumerate(body):
+        if it.lower in SHIFTS and _may_be_negative(body[:at], context):
+            raise Unportable(it.text, "form", "a shift of a negative number gives other bytes: divide where the remainder is 0")
+
+
+def _may_be_negative(before: Sequence[Token], context: Context) -> bool:
+    """Whether what stands before a shift has a sign, or a constant below 0."""
+    last = ""
+    for it in before:
+        if it.text in LESS and (last in ("", "(", ",", "#") or last in words.INFIX_WORDS or last in "+-*/|&^<>=~!"):
+            return True
+        found = value((it,), context.value) if it.kind is Kind.NAME else None
+        if found is not None and found < 0:
+            return True
+        last = it.lower
+    return False

@@ -1,0 +1,253 @@
+"""Functions whose value is known where they stand: of strings, of numbers, of structures."""
+import re
+from typing import Callable, Dict, List, Optional, Sequence, Tuple
+
+from work65.language import words
+from work65.language.expression import scoped_name, value
+from work65.language.statements import parts_of
+from work65.language.tokens import Kind, Token, is_closed, line_of
+from work65.porting.characters import content
+from work65.porting.context import Context
+from work65.porting.line import edited, in_parentheses, text_of_tokens
+from work65.porting.structures import size_named
+
+Part = Sequence[Token]
+VERSION = "$0320"
+PROCESSORS = {"6502": "2"}
+
+
+class Folder:
+    """Replaces functions of one line, the innermost first."""
+
+    def __init__(self, context: Context, sized: Callable[[str], Optional[str]], is_target_name: Callable[[str], Optional[bool]]) -> None:
+        self.context = context
+        self.sized = sized
+        self.is_target_name = is_target_name
+        self.is_asked = False
+        self.calls: Dict[str, Callable[[str, List[Part]], Optional[str]]] = {
+            ".sizeof": self.sizeof, ".strlen": self.strlen, ".strat": self.strat, ".concat": self.concat, ".string": self.string,
+            ".sprintf": self.sprintf, ".ident": self.ident, ".min": self.least, ".max": self.least, ".loword": self.word,
+            ".hiword": self.word, ".defined": self.defined, ".def": self.defined, ".match": self.match, ".xmatch": self.match,
+            ".tcount": self.count, ".left": self.some, ".right": self.some, ".mid": self.some, ".blank": self.blank,
+        }
+        self.name = ""
+
+    def folded(self, text: str, directives: "frozenset[str]", is_asked: bool) -> str:
+        """A line with its functions replaced, as far as their values are known; a condition asks what is defined itself."""
+        self.is_asked = is_asked
+        if ".version" in directives or ".cpu" in directives:
+            text = self.constants(text)
+        if not directives & FUNCTIONS:
+            return text
+        for _ in range(100):
+            new = self.one(text)
+            if new is None:
+                return text
+            text = new
+        return text
+
+    def constants(self, text: str) -> str:
+        """`.version` and `.cpu` as numbers."""
+        edits = []
+        for it in line_of(text, self.has_escapes).tokens:
+            if it.lower == ".version":
+                edits.append((it.start, it.end, VERSION))
+            elif it.lower == ".cpu" and self.context.processor in PROCESSORS:
+                edits.append((it.start, it.end, PROCESSORS[self.context.processor]))
+        return edited(text, edits)
+
+    @property
+    def has_escapes(self) -> bool:
+        return "string_escapes" in self.context.features
+
+    def one(self, text: str) -> Optional[str]:
+        """A line with the last function replaced that can be."""
+        tokens = line_of(text, self.has_escapes).tokens
+        for at in range(len(tokens) - 1, -1, -1):
+            call = self.calls.get(tokens[at].lower)
+            if call is None or at + 1 >= len(tokens):
+                continue
+            end, parts = _called(tokens, at)
+            if end is None:
+                continue
+            self.name = tokens[at].lower
+            new = call(text, parts)
+            if new is not None:
+                return edited(text, [(tokens[at].start, tokens[end].end, new)])
+        return None
+
+    def text(self, part: Part) -> Optional[str]:
+        """The characters of a part that is a string."""
+        if len(part) == 1 and part[0].kind is Kind.STRING and is_closed(part[0]):
+            return content(part[0], self.has_escapes)
+        return None
+
+    def number(self, part: Part) -> Optional[int]:
+        """The value of a part."""
+        return value(part, self.context.value)
+
+    def sizeof(self, text: str, parts: List[Part]) -> Optional[str]:
+        """The size of a structure, or the constant that has a label's."""
+        if len(parts) != 1 or not parts[0]:
+            return None
+        name, at = scoped_name(parts[0], 0)
+        if at != len(parts[0]):
+            return None
+        size = size_named(name, self.context)
+        if size is None:
+            return self.sized(name)
+        whole = f"{name}::{self.context.size_name}"
+        return whole if self.context.value(whole) == size else str(size)
+
+    def strlen(self, text: str, parts: List[Part]) -> Optional[str]:
+        """How many characters a string has."""
+        found = self.text(parts[0]) if len(parts) == 1 else None
+        return None if found is None else str(len(found))
+
+    def strat(self, text: str, parts: List[Part]) -> Optional[str]:
+        """The code of one character of a string."""
+        found = self.text(parts[0]) if len(parts) == 2 else None
+        at = self.number(parts[1]) if len(parts) == 2 else None
+        if found is None or at is None or not 0 <= at < len(found):
+            return None
+        return f"${self.context.charmap.of(found[at])[0]:02X}"
+
+    def concat(self, text: str, parts: List[Part]) -> Optional[str]:
+        """Strings as one."""
+        found = [self.text(it) for it in parts]
+        return None if None in found else _quoted("".join(it for it in found if it is not None))
+
+    def string(self, text: str, parts: List[Part]) -> Optional[str]:
+        """A name or a number as a string."""
+        if len(parts) != 1 or not parts[0]:
+            return None
+        name, at = scoped_name(parts[0], 0)
+        if name and at == len(parts[0]):
+            return _quoted(name) if name not in self.context.parameters else None
+        number = self.number(parts[0])
+        return None if number is None else _quoted(str(number))
+
+    def sprintf(self, text: str, parts: List[Part]) -> Optional[str]:
+        """A string with values put in."""
+        form = self.text(parts[0]) if parts else None
+        if form is None:
+            return None
+        values: List[object] = []
+        for it in parts[1:]:
+            found = self.text(it)
+            number = None if found is not None else self.number(it)
+            if found is None and number is None:
+                return None
+            values.append(found if found is not None else number)
+        if re.search(r"%[^%dsxXcou0-9.\-]", form):
+            return None
+        try:
+            return _quoted(re.sub("%([0-9.-]*)u", r"%\1d", form) % tuple(values))
+        except (TypeError, ValueError):
+            return None
+
+    def ident(self, text: str, parts: List[Part]) -> Optional[str]:
+        """The name that a string spells."""
+        found = self.text(parts[0]) if len(parts) == 1 else None
+        return found if found and re.fullmatch(r"@?[A-Za-z_]\w*(::[A-Za-z_]\w*)*", found, re.A) else None
+
+    def least(self, text: str, parts: List[Part]) -> Optional[str]:
+        """The less or the greater of two numbers."""
+        found = [self.number(it) for it in parts]
+        if len(found) != 2 or found[0] is None or found[1] is None:
+            return None
+        return str(min(found[0], found[1]) if self.name == ".min" else max(found[0], found[1]))
+
+    def defined(self, text: str, parts: List[Part]) -> Optional[str]:
+        """Whether a name that targets define is there."""
+        is_name = len(parts) == 1 and len(parts[0]) == 1 and not self.is_asked
+        known = self.is_target_name(parts[0][0].text) if is_name else None
+        return None if known is None else str(int(known))
+
+    def match(self, text: str, parts: List[Part]) -> Optional[str]:
+        """Whether two lists of tokens have the same kinds."""
+        if len(parts) != 2 or any(it.text in self.context.parameters or it.kind is Kind.DIRECTIVE for part in parts for it in part):
+            return None
+        one, other = ([_kind_of(it, self.name == ".xmatch") for it in part] for part in parts)
+        return str(int(one == other))
+
+    def has_open(self, parts: List[Part]) -> bool:
+        """Whether tokens aren't yet what they will be."""
+        return any(it.text in self.context.parameters or it.lower in FUNCTIONS for part in parts for it in part)
+
+    def some(self, text: str, parts: List[Part]) -> Optional[str]:
+        """Some tokens of a list."""
+        if len(parts) < 2 or self.has_open(parts[-1:]):
+            return None
+        numbers = [self.number(it) for it in parts[:-1]]
+        tokens = parts[-1]
+        if any(it is None for it in numbers) or len(numbers) != (2 if self.name == ".mid" else 1):
+            return None
+        known = [it for it in numbers if it is not None]
+        if self.name == ".left":
+            tokens = tokens[: known[0]]
+        elif self.name == ".right":
+            tokens = tokens[max(0, len(tokens) - known[0]) :]
+        else:
+            tokens = tokens[known[0] : known[0] + known[1]]
+        return "{" + text_of_tokens(text, tokens) + "}"
+
+    def blank(self, text: str, parts: List[Part]) -> Optional[str]:
+        """Whether a list has no tokens."""
+        if self.is_asked or self.has_open(parts):
+            return None
+        return str(int(not any(parts)))
+
+    def count(self, text: str, parts: List[Part]) -> Optional[str]:
+        """How many tokens a list has."""
+        if any(it.text in self.context.parameters or it.kind is Kind.DIRECTIVE for part in parts for it in part):
+            return None
+        return str(sum(map(len, parts)) + max(0, len(parts) - 1))
+
+    def word(self, text: str, parts: List[Part]) -> Optional[str]:
+        """The lower or upper sixteen bits."""
+        if len(parts) != 1 or not parts[0]:
+            return None
+        inner = in_parentheses(text, parts[0])
+        return f"({inner} & $FFFF)" if self.name == ".loword" else f"({inner} >> 16 & $FFFF)"
+
+
+FUNCTIONS = frozenset(
+    (".sizeof", ".strlen", ".strat", ".concat", ".string", ".sprintf", ".ident", ".min", ".max", ".loword", ".hiword",
+     ".defined", ".def", ".match", ".xmatch", ".tcount",
+     ".left", ".right", ".mid", ".blank")
+)
+
+
+def _kind_of(it: Token, is_exact: bool) -> Tuple[str, str]:
+    """What .match compares of a token, and .xmatch."""
+    if it.kind is Kind.NAME:
+        is_register = it.lower in words.REGISTERS
+        return ("register", it.lower) if is_register else ("name", it.text if is_exact else "")
+    if it.kind in (Kind.NUMBER, Kind.STRING, Kind.CHARACTER, Kind.CHEAP):
+        return it.kind.value, it.text if is_exact else ""
+    return it.kind.value, it.lower
+
+
+def _quoted(text: str) -> Optional[str]:
+    return None if '"' in text or "\n" in text else f'"{text}"'
+
+
+def _called(tokens: Sequence[Token], at: int) -> "tuple[Optional[int], List[Part]]":
+    """Where the call of a function ends, and its arguments; without parentheses the one token behind it."""
+    if tokens[at + 1].text != "(":
+        return None, []
+    depth = braces = 0
+    for end in range(at + 1, len(tokens)):
+        braces += (tokens[end].text == "{") - (tokens[end].text == "}")
+        if braces == 0:
+            depth += (tokens[end].text == "(") - (tokens[end].text == ")")
+        if depth == 0:
+            parts = parts_of(tokens[at + 2 : end])
+            return end, [_unbraced(it) for it in parts]
+    return None, []
+
+
+def _unbraced(part: Part) -> Part:
+    return part[1:-1] if len(part) > 1 and part[0].text == "{" and part[-1].text == "}" else part
+

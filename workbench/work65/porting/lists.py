@@ -1,0 +1,96 @@
+"""Lists of imports and exports: address sizes, definitions, and those within a scope."""
+from dataclasses import dataclass, field
+from typing import Dict, List, Sequence
+
+from work65.language.statements import Statement, parts_of
+from work65.language.tokens import Kind, Token
+from work65.porting.context import Context
+from work65.porting.line import Unportable, replaced, text_of_tokens
+
+SHORT = frozenset(("zp", "zeropage", "direct"))
+LONG = frozenset(("abs", "absolute", "near"))
+ZERO_PAGE = {".import": ".importzp", ".global": ".globalzp", ".export": ".exportzp"}
+
+
+@dataclass
+class Names:
+    """What a list comes to: definitions, and names by directive."""
+
+    definitions: List[str] = field(default_factory=list)
+    by_word: Dict[str, List[str]] = field(default_factory=dict)
+
+
+def listed(text: str, statement: Statement, context: Context) -> List[str]:
+    """A list that stands outside of all scopes."""
+    names = read(text, statement)
+    if not names.definitions and list(names.by_word) == [statement.head]:
+        if all(len(it) == 1 for it in parts_of(statement.rest)):
+            return [text]
+    return replaced(text, statement, names.definitions + _directives(names))
+
+
+def _directives(names: Names) -> List[str]:
+    return [f"{word} {', '.join(it)}" for word, it in names.by_word.items()]
+
+
+def read(text: str, statement: Statement) -> Names:
+    """The names of a list with what stands behind each."""
+    found = Names()
+    for part in parts_of(statement.rest):
+        if not part or part[0].kind is not Kind.NAME:
+            raise Unportable(statement.body[0].text, "size-behind", "no name stands here")
+        word = _word(text, statement.head, part, found)
+        found.by_word.setdefault(word, []).append(part[0].text)
+    return found
+
+
+def _word(text: str, head: str, part: Sequence[Token], found: Names) -> str:
+    """The directive for one name, by the size behind it; a definition is noted."""
+    rest, word = list(part[1:]), head
+    if len(rest) > 1 and rest[0].text == ":":
+        size, rest = rest[1], rest[2:]
+        if size.lower in SHORT:
+            word = ZERO_PAGE.get(head, head)
+        elif size.lower not in LONG:
+            raise Unportable(size.text, "size-behind", "an address of this size isn't here")
+    if rest and rest[0].text in ("=", ":=") and len(rest) > 1:
+        found.definitions.append(f"{part[0].text} = {text_of_tokens(text, rest[1:])}")
+    elif rest:
+        raise Unportable(rest[0].text, "size-behind", "nothing else stands behind a name")
+    return word
+
+
+@dataclass
+class Hoisted:
+    """What a list within a scope comes to: lines before the outermost scope, and behind it."""
+
+    before: List[str] = field(default_factory=list)
+    behind: List[str] = field(default_factory=list)
+    inside: List[str] = field(default_factory=list)
+
+
+def hoisted(text: str, statement: Statement, context: Context, is_global: Sequence[str]) -> Hoisted:
+    """A list within scopes: imports go before them, exports of names of the scope behind."""
+    names = read(text, statement)
+    found = Hoisted(inside=list(names.definitions))
+    if not all(it.name for it in context.scopes):
+        raise Unportable(statement.body[0].text, "in-scope", "a scope without a name is reached by nobody")
+    is_import = statement.head in (".import", ".importzp", ".forceimport")
+    for word, it in names.by_word.items():
+        for name in it:
+            if is_import:
+                if name in is_global:
+                    raise Unportable(name, "in-scope", "the name is another one outside of the scope")
+                found.before.append(f"{word} {name}")
+            elif word in (".export", ".exportzp"):
+                found.behind += _exported(word, name, context, is_global)
+            else:
+                raise Unportable(statement.body[0].text, "in-scope")
+    return found
+
+
+def _exported(word: str, name: str, context: Context, is_global: Sequence[str]) -> List[str]:
+    """The lines behind the outermost scope that export a name of an inner one."""
+    if name in is_global:
+        raise Unportable(name, "in-scope", "the name is another one outside of the scope")
+    return [f"{name} = {'::'.join([*context.path, name])}", f"{word} {name}"]

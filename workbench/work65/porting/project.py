@@ -1,0 +1,210 @@
+"""The tree that is ported: its files, how they include each other, what they become, and what can't be brought over."""
+import os
+from dataclasses import dataclass, field
+from typing import Dict, FrozenSet, List, Optional, Sequence, Set, Tuple
+
+from work65.habits.habit import Finding
+from work65.habits.table import BY_NAME
+from work65.language import words
+from work65.language.files import Text, text_of
+from work65.language.statements import Statement, statement_of
+from work65.language.tokens import Kind, line_of
+from work65.language.tree import Tree, asminc_file, surveyed
+from work65.porting.context import Row
+from work65.porting.line import Unportable
+from work65.porting.logical import Logical, logical_lines
+
+OWN = "work65"
+ALL_TARGET_NAMES = frozenset().union(*map(words.defined_by, words.TARGETS))
+
+
+@dataclass
+class Project:
+    """What is known of the tree. Paths are relative to `base`, those of files of cc65's own begin with `work65/`."""
+
+    base: str
+    texts: Dict[str, Text]
+    include_folders: Sequence[str]
+    target: Optional[str]
+    names: FrozenSet[str] = frozenset()
+    tree: Tree = field(default_factory=Tree)
+    outputs: Dict[str, List[Row]] = field(default_factory=dict)
+    findings: Dict[Tuple[str, int, str], Finding] = field(default_factory=dict)
+    sized_names: Set[str] = field(default_factory=set)
+    size_name: str = "size"
+    packages: Set[str] = field(default_factory=set)
+    defined_in: Dict[str, Dict[str, int]] = field(default_factory=dict)
+    undefined_names: Set[str] = field(default_factory=set)
+    target_names: Dict[str, Set[str]] = field(default_factory=dict)
+    included: Dict[str, Set[str]] = field(default_factory=dict)
+    places: Dict[str, str] = field(default_factory=dict)
+    variants: Dict[str, List[str]] = field(default_factory=dict)
+    modules_walked: List[str] = field(default_factory=list)
+    scripts: List[str] = field(default_factory=list)
+    _logical: Dict[str, List[Logical]] = field(default_factory=dict)
+    _globals: Dict[str, List[str]] = field(default_factory=dict)
+
+    def survey(self) -> None:
+        """Reads all files once; scripts are kept aside."""
+        self.tree = surveyed(self.texts.values(), self.include_folders, self.names)
+        for path in list(self.texts):
+            self._look(path)
+
+    def _look(self, path: str) -> None:
+        """Notes what a file includes, which sizes it asks for, and what it defines."""
+        counts = self.defined_in.setdefault(path, {})
+        targets = words.defined_by(self.target)
+        for text in self.texts[path].lines:
+            if targets and "__" in text:
+                self.target_names.setdefault(path, set()).update(it.text for it in line_of(text).tokens if it.text in targets)
+            if "." not in text:
+                continue
+            tokens = line_of(text).tokens
+            if len(tokens) > 1 and tokens[0].text == self.size_name and tokens[1].kind is Kind.DIRECTIVE:
+                self.size_name = f"{self.size_name}_of_all"
+            for at, it in enumerate(tokens):
+                if it.lower == ".sizeof":
+                    self.sized_names |= {one.text for one in tokens[at:] if one.kind is Kind.NAME}
+            statement = statement_of(tokens, lambda _: False)
+            if statement.head == ".include" and statement.rest and statement.rest[0].kind is Kind.STRING:
+                found = self.include(path, statement.rest[0].text.strip('"'))[0]
+                if found is not None:
+                    self.included.setdefault(path, set()).add(found)
+            elif statement.head == ".define" and statement.rest:
+                counts[statement.rest[0].text] = counts.get(statement.rest[0].text, 0) + 1
+            elif statement.head in (".undefine", ".undef") and statement.rest:
+                self.undefined_names.add(statement.rest[0].text)
+
+    def modules(self) -> List[str]:
+        """The files that no other includes, sources first."""
+        inside = set().union(*self.included.values()) if self.included else set()
+        own = [it for it in self.texts if not it.startswith(OWN + os.sep)]
+        first = [it for it in own if it not in inside]
+        return first + [it for it in own if it in inside and not it.lower().endswith((".inc", ".mac"))]
+
+    def closure(self, path: str) -> Set[str]:
+        """A file, and all that it includes."""
+        found, left = set(), [path]
+        while left:
+            it = left.pop()
+            if it not in found:
+                found.add(it)
+                left += self.included.get(it, ())
+        return found
+
+    def features(self, module: str) -> Set[str]:
+        """The features of a module that count for all its lines."""
+        return self.tree.features & {"string_escapes"}
+
+    def is_macro(self, name: str) -> bool:
+        """Whether a name is that of a macro or a define."""
+        return self.tree.is_macro(name)
+
+    def is_own_macro(self, name: str) -> bool:
+        """Whether the tree has a macro of this name, so that a package's isn't meant."""
+        return any(not path.endswith("longbranch.mac") for path, _ in self.tree.macros.get(name, []))
+
+    def is_single(self, statement: Statement, path: str) -> bool:
+        """Whether a define may become a constant: nothing takes it back."""
+        name = statement.rest[0].text if statement.rest else ""
+        return name not in self.undefined_names
+
+    def logical(self, path: str) -> List[Logical]:
+        """The lines of a file as ca65 reads them."""
+        if path not in self._logical:
+            self._logical[path] = logical_lines(self.texts[path].lines, True, True)
+        return self._logical[path]
+
+    def global_names(self, module: str) -> List[str]:
+        """The names that a module's own source defines outside of scopes."""
+        if module not in self._globals:
+            depth, found = 0, []
+            for text in self.texts[module].lines:
+                statement = statement_of(line_of(text).tokens, self.is_macro)
+                if depth == 0 and statement.label is not None:
+                    found.append(statement.label.text)
+                if depth == 0 and statement.rest and statement.rest[0].text in ("=", ":="):
+                    found.append(statement.body[0].text)
+                if statement.head == ".proc" and depth == 0 and statement.rest:
+                    found.append(statement.rest[0].text)
+                depth += (statement.head in (".scope", ".proc")) - (statement.head in (".endscope", ".endproc"))
+            self._globals[module] = found
+        return self._globals[module]
+
+    def include(self, path: str, name: str) -> Tuple[Optional[str], str]:
+        """The file that an .include names, and the name by which bin65 finds it."""
+        beside = os.path.normpath(os.path.join(os.path.dirname(path), name))
+        if beside in self.texts:
+            return beside, name
+        for folder in (os.path.join(self.base, os.path.dirname(self.places.get(path, path))), *self.include_folders):
+            place = os.path.normpath(os.path.join(folder, name))
+            found = os.path.relpath(place, self.base)
+            if found in self.texts:
+                return found, name if folder in self.include_folders else self.relative(found, path)
+            if os.path.isfile(place):
+                return self._added(found, text_of(place), path, name)
+        own = os.path.join(OWN, name)
+        text = None if own in self.texts else asminc_file(name, self.include_folders)
+        if own not in self.texts and text is None:
+            return None, name
+        return self._added(own, text, path, name)
+
+    def _added(self, found: str, text: Optional[Text], path: str, name: str) -> Tuple[str, str]:
+        """A file that wasn't named and is included: it comes into the tree, one from outside of it into a folder of its own."""
+        key = os.path.join(OWN, os.path.basename(found)) if found.startswith("..") else found
+        if key not in self.texts and text is not None:
+            self.texts[key] = text
+            self.places[key] = os.path.relpath(text.path, self.base)
+            self._look(key)
+            grown = surveyed([text], self.include_folders, ())
+            self.tree.macros.update({it: at for it, at in grown.macros.items() if it not in self.tree.macros})
+            self.tree.defines |= grown.defines
+        return key, self.relative(key, path)
+
+    def package(self, path: str, name: str) -> str:
+        """The file of a package, as a file names it."""
+        self.packages.add(name)
+        return os.path.relpath(os.path.join(OWN, f"{name}.mac"), os.path.dirname(path) or ".")
+
+    def keep(self, path: str, rows: List[Row], module: str) -> str:
+        """Keeps what a file became, and answers its name. What means other things in another module is one more file."""
+        for name in self.variants.setdefault(path, []):
+            if self._joined(self.outputs[name], rows):
+                return name
+        name = path if not self.variants[path] else self._free_name(path, module)
+        self.variants[path].append(name)
+        self.outputs[name] = rows
+        if name != path:
+            self.texts[name] = self.texts[path]
+        return name
+
+    def _joined(self, before: List[Row], rows: List[Row]) -> bool:
+        """Joins two readings of a file where they agree in all lines that either of them assembles."""
+        if any(one.lines != other.lines and not one.is_dead and not other.is_dead for one, other in zip(before, rows)):
+            return False
+        for one, other in zip(before, rows):
+            if one.is_dead and not other.is_dead:
+                one.lines, one.is_dead = other.lines, False
+        return True
+
+    def _free_name(self, path: str, module: str) -> str:
+        """A name for another reading of a file."""
+        stem, end = os.path.splitext(path)
+        name = f"{stem}_{os.path.splitext(os.path.basename(module))[0]}"
+        while f"{name}{end}" in self.texts:
+            name += "_"
+        return f"{name}{end}"
+
+    def relative(self, file: str, path: str) -> str:
+        """A file as another one names it."""
+        return os.path.relpath(file, os.path.dirname(path) or ".")
+
+    def is_target_name(self, name: str) -> Optional[bool]:
+        """Whether a name that targets define is defined; None where no target is given, or it is another name."""
+        if self.target is None or name not in ALL_TARGET_NAMES or name in self.names:
+            return None
+        return name in words.defined_by(self.target)
+
+    def cannot(self, path: str, number: int, why: Unportable) -> None:
+        """Notes a line that can't be brought over."""
+        self.findings.setdefault((path, number, why.habit), Finding(self.texts[path].path, number, why.word, BY_NAME[why.habit], why.note))

@@ -1,0 +1,193 @@
+"""Scripts: what bin65 doesn't take of them goes, or is written as it takes it."""
+from typing import Dict, Iterator, List, Optional, Set, Tuple
+
+from work65.language.files import Text
+from work65.language.scripts import Attribute, Block, Entry, Word, blocks_of, symbols_of, words_of
+from work65.porting.line import edited
+
+Edit = Tuple[int, int, str]
+DROPPED = ("FILES", "FORMATS", "FEATURES")
+SWITCHES = {"TRUE": "yes", "1": "yes", "FALSE": "no", "0": "no"}
+
+
+def ported(text: Text) -> List[str]:
+    """The lines of a script for bin65; what can't be brought over stays as it is."""
+    whole = "\n".join(text.lines)
+    blocks = blocks_of(words_of(whole))
+    return edited(whole, _without_overlaps(_edits(whole, blocks))).split("\n")
+
+
+def _without_overlaps(edits: "Iterator[Edit]") -> List[Edit]:
+    found: List[Edit] = []
+    for it in sorted(edits, key=lambda it: (it[0], -it[1])):
+        if not found or it[0] >= found[-1][1]:
+            found.append(it)
+    return found
+
+
+def _edits(whole: str, blocks: List[Block]) -> Iterator[Edit]:
+    start = _start_address(blocks)
+    needed = _names_in_sums(blocks)
+    binary = _is_binary(blocks)
+    numbers = _numbers(blocks)
+    for block in blocks:
+        kind = block.word.upper
+        if kind in DROPPED and block.last is not None and (binary or kind == "FEATURES"):
+            yield block.word.start, block.last.end, ""
+            continue
+        for entry in block.entries:
+            if kind == "SYMBOLS" and entry.name.text in needed:
+                yield from _exported(entry)
+            for it in entry.attributes:
+                yield from _attribute(whole, kind, it, start, numbers)
+
+
+def _start_address(blocks: List[Block]) -> str:
+    """The start address that FEATURES gives; cc65's own where it gives none."""
+    for block in blocks:
+        for entry in block.entries:
+            if block.word.upper == "FEATURES" and entry.name.upper == "STARTADDRESS" and entry.get("DEFAULT"):
+                return _number(entry.get("DEFAULT")[0])
+    return "$0200"
+
+
+def _is_binary(blocks: List[Block]) -> bool:
+    """Whether all formats are plain bytes, so that FILES and FORMATS may go."""
+    for block in blocks:
+        if block.word.upper in ("FILES", "FORMATS"):
+            for entry in block.entries:
+                form = entry.get("FORMAT")
+                if form and form[0].upper not in ("BIN", "BINARY"):
+                    return False
+                if block.word.upper == "FORMATS" and entry.name.upper in ("O65", "ATARI"):
+                    return False
+    return True
+
+
+def _names_in_sums(blocks: List[Block]) -> Set[str]:
+    """The names that sums of areas have."""
+    found = set()
+    for block in blocks:
+        for entry in block.entries:
+            if block.word.upper == "MEMORY":
+                found |= {it.text for name in ("START", "SIZE") for it in entry.get(name) if it.kind == "word"}
+    return found
+
+
+def _exported(entry: Entry) -> Iterator[Edit]:
+    """A weak symbol that an area needs is an export."""
+    kind = entry.get("TYPE")
+    if kind and kind[0].text.lower() == "weak":
+        yield kind[0].start, kind[0].end, "export"
+
+
+def _numbers(blocks: List[Block]) -> Dict[str, Optional[int]]:
+    """The values of symbols that are numbers."""
+    symbols = symbols_of(blocks)
+    found: Dict[str, Optional[int]] = {}
+    for _ in symbols:
+        before = dict(found)
+        for name, (entry, _kind) in symbols.items():
+            value = entry.get("VALUE")
+            found[name] = _value(value, found) if value else None
+        if found == before:
+            break
+    return found
+
+
+def _attribute(whole: str, kind: str, it: Attribute, start: str, numbers: Dict[str, Optional[int]]) -> Iterator[Edit]:
+    """What becomes of an attribute."""
+    name, value = it.name.upper, it.value
+    if name == "BANK" and value:
+        end = value[-1].end
+        yield it.name.start, end + (whole[end : end + 1] == ","), ""
+        return
+    for word in value:
+        if word.kind == "output" and word.upper == "%S":
+            yield word.start, word.end, start
+        elif word.kind == "number" and _number(word) != word.text:
+            yield word.start, word.end, _number(word)
+    if name in ("FILL", "DEFINE", "OPTIONAL") and value and value[0].upper in SWITCHES:
+        yield value[0].start, value[0].end, SWITCHES[value[0].upper]
+    if name in ("START", "SIZE", "VALUE", "OFFSET", "FILLVAL", "ALIGN", "ALIGN_LOAD"):
+        yield from _sum(kind, name, value, numbers)
+
+
+def _sum(kind: str, name: str, value: List[Word], numbers: Dict[str, Optional[int]]) -> Iterator[Edit]:
+    """A sum that bin65 doesn't take, as its number where that is known."""
+    is_area = kind == "MEMORY" and name in ("START", "SIZE")
+    plain = not any(it.text in "*/()" for it in value) and value and value[0].text not in "+-"
+    if not value or (is_area and plain) or (len(value) == 1 and value[0].kind != "word") or any(it.text == "%S" for it in value):
+        return
+    found = _value(value, numbers)
+    if found is not None and found >= 0:
+        yield value[0].start, value[-1].end, f"${found:04X}"
+
+
+def _number(word: Word) -> str:
+    """A number as bin65 takes it."""
+    text = word.text
+    if text[:2].lower() == "0x":
+        return "$" + text[2:]
+    if text[0] == "%":
+        return f"${int(text[1:], 2):02X}" if len(text) > 1 and set(text[1:]) <= {"0", "1"} else text
+    return f"${int(text[:-1]) * 1024:04X}" if text[-1] in "kK" else text
+
+
+def _value(value: List[Word], numbers: Dict[str, Optional[int]]) -> Optional[int]:
+    """The value of a sum; None where a name in it isn't known."""
+    reader = _Sum(value, numbers)
+    try:
+        found = reader.sum()
+    except (ValueError, IndexError, ZeroDivisionError):
+        return None
+    return found if reader.at == len(value) else None
+
+
+class _Sum:
+    """Reads a sum from the left."""
+
+    def __init__(self, value: List[Word], numbers: Dict[str, Optional[int]]) -> None:
+        self.value, self.numbers, self.at = value, numbers, 0
+
+    def is_at(self, *texts: str) -> bool:
+        """Whether one of these signs stands here."""
+        return self.at < len(self.value) and self.value[self.at].text in texts
+
+    def sum(self) -> int:
+        """A sum of products."""
+        found = self.product()
+        while self.is_at("+", "-"):
+            sign = self.value[self.at].text
+            self.at += 1
+            found = found + self.product() if sign == "+" else found - self.product()
+        return found
+
+    def product(self) -> int:
+        """A product of factors."""
+        found = self.factor()
+        while self.is_at("*", "/"):
+            sign = self.value[self.at].text
+            self.at += 1
+            found = found * self.factor() if sign == "*" else found // self.factor()
+        return found
+
+    def factor(self) -> int:
+        """A number, a name, or a sum in parentheses."""
+        word = self.value[self.at]
+        self.at += 1
+        if word.text == "-":
+            return -self.factor()
+        if word.text == "(":
+            found = self.sum()
+            if not self.is_at(")"):
+                raise ValueError
+            self.at += 1
+            return found
+        if word.kind == "word":
+            known = self.numbers.get(word.text)
+            if known is None:
+                raise ValueError
+            return known
+        text = _number(word)
+        return int(text[1:], 16) if text[0] == "$" else int(text)

@@ -1,0 +1,195 @@
+"""Statements that become others: data, imports of sizes, assertions, instructions that aren't documented."""
+from typing import Callable, Dict, List, Optional, Sequence
+
+from work65.language import words
+from work65.language.expression import scoped_name, value
+from work65.language.statements import Statement, parts_of
+from work65.language.tokens import Kind, Token, line_of
+from work65.porting.context import Context
+from work65.porting.facts import star_in
+from work65.porting.line import Unportable, commented_out, edited, in_parentheses, replaced, text_of_tokens
+from work65.porting.undocumented import OPCODES
+from work65.porting.structures import size_named
+
+Rewrite = Callable[[str, Statement, Context], List[str]]
+GOES = frozenset(
+    (".case", ".fopt", ".fileopt", ".dbg", ".list", ".listbytes", ".pagelength", ".pagelen", ".debuginfo", ".linecont", ".localchar")
+)
+SPELLED = frozenset(
+    "labels_without_colons at_in_identifiers bracket_as_indirect c_comments dollar_is_pc loose_char_term loose_string_term"
+    " missing_char_term string_escapes underline_in_numbers force_range".split()
+)
+
+
+def _gone(text: str, statement: Statement, context: Context) -> List[str]:
+    if statement.label is not None:
+        return replaced(text, statement, [])
+    return [commented_out(text)]
+
+
+def _feature(text: str, statement: Statement, context: Context) -> List[str]:
+    names = [it.lower for it in statement.rest if it.kind is Kind.NAME]
+    wrong = next((it for it in names if it not in SPELLED), None)
+    if wrong is not None:
+        raise Unportable(wrong, "feature", "what it allows can't be written for bin65")
+    context.features |= {"bracket_as_indirect"} & set(names)
+    return [commented_out(text)]
+
+
+def _bytes_of(sign: str) -> Rewrite:
+    """`.lobytes` and its like."""
+
+    def rewrite(text: str, statement: Statement, context: Context) -> List[str]:
+        elements = [f"{sign}{in_parentheses(text, it)}" for it in parts_of(statement.rest) if it]
+        return replaced(text, statement, [f".byte {', '.join(elements)}"])
+
+    return rewrite
+
+
+def _faraddr(text: str, statement: Statement, context: Context) -> List[str]:
+    found = []
+    for it in parts_of(statement.rest):
+        inner = in_parentheses(text, it)
+        found += [f".word {inner} & $FFFF", f".byte ^{inner}"]
+    return replaced(text, statement, found)
+
+
+def _tag(text: str, statement: Statement, context: Context) -> List[str]:
+    name, at = scoped_name(statement.rest, 0)
+    if not name or at != len(statement.rest):
+        raise Unportable(".tag", "struct")
+    return replaced(text, statement, [f".res {name}::{context.size_name}"])
+
+
+def _assert(text: str, statement: Statement, context: Context) -> List[str]:
+    parts = parts_of(statement.rest)
+    if len(parts) < 2 or len(parts[1]) != 1:
+        return [text]
+    action = parts[1][0]
+    plain = {"ldwarning": "warning", "lderror": "error"}.get(action.lower, action.lower)
+    return [text if plain == action.text else edited(text, [(action.start, action.end, plain)])]
+
+
+def _fatal(text: str, statement: Statement, context: Context) -> List[str]:
+    first = statement.body[0]
+    return [edited(text, [(first.start, first.end, ".error")])]
+
+
+def _incbin(text: str, statement: Statement, context: Context) -> List[str]:
+    rest = statement.rest
+    if len(rest) > 3 and rest[-2].text == "-" and rest[-3].text == "," and rest[-1].text == "1":
+        return [edited(text, [(rest[-3].start, rest[-1].end, "")])]
+    return [text]
+
+
+def _segment(text: str, statement: Statement, context: Context) -> List[str]:
+    rest = statement.rest
+    if len(rest) < 3:
+        return [text]
+    size = {"zp": "zeropage", "direct": "zeropage", "abs": "absolute", "near": "absolute"}.get(rest[2].lower, rest[2].lower)
+    if size not in ("zeropage", "absolute"):
+        raise Unportable(rest[2].text, "size-behind", "an address of this size isn't here")
+    return [text if size == rest[2].text else edited(text, [(rest[2].start, rest[2].end, size)])]
+
+
+def _sized_scope(text: str, statement: Statement, context: Context) -> List[str]:
+    colon = next((it for it in statement.rest if it.text == ":"), None)
+    if colon is None:
+        return [text]
+    size = statement.rest[-1]
+    if size.lower not in ("abs", "absolute", "near"):
+        raise Unportable(size.text, "size-behind", "an address of this size isn't here")
+    return [text[: colon.start].rstrip() + text[size.end :]]
+
+
+def _brk(text: str, statement: Statement, context: Context) -> List[str]:
+    rest = statement.rest
+    if not rest:
+        return [text]
+    operand = rest[1:] if rest[0].text == "#" else rest
+    return replaced(text, statement, ["brk", f".byte {text_of_tokens(text, operand)}"])
+
+
+def _setcpu(text: str, statement: Statement, context: Context) -> List[str]:
+    name = statement.rest[0].lower.strip('"') if statement.rest else ""
+    context.processor = name
+    if name == "6502x":
+        return [commented_out(text)]
+    return [text]
+
+
+STATEMENTS: Dict[str, Rewrite] = {
+    ".feature": _feature, ".lobytes": _bytes_of("<"), ".hibytes": _bytes_of(">"), ".bankbytes": _bytes_of("^"),
+    ".faraddr": _faraddr, ".tag": _tag, ".assert": _assert, ".fatal": _fatal, ".incbin": _incbin, ".segment": _segment,
+    ".proc": _sized_scope, ".scope": _sized_scope, "brk": _brk, ".setcpu": _setcpu, **{it: _gone for it in GOES},
+}
+
+
+def split_stars(text: str, statement: Statement, context: Context) -> List[str]:
+    """A list with `*` in a later element, an element a line."""
+    parts = parts_of(statement.rest)
+    if not any(star_in(it) for it in parts[1:]):
+        return [text]
+    return replaced(text, statement, [f"{statement.body[0].text} {text_of_tokens(text, it)}" for it in parts])
+
+
+def as_data(text: str, statement: Statement, context: Context) -> List[str]:
+    """An instruction that isn't documented, as its opcode and its operand."""
+    forms = OPCODES.get(statement.head)
+    if forms is None:
+        raise Unportable(statement.body[0].text, "undocumented")
+    rest = statement.rest
+    form, operand = _form(rest, context)
+    if form not in forms:
+        form = _only(form, forms)
+    if form not in forms:
+        raise Unportable(statement.body[0].text, "undocumented", "whether the operand is short isn't known here: write z: or a: before it")
+    opcode = f".byte ${forms[form]:02X}"
+    if form.startswith("abs"):
+        return replaced(text, statement, [opcode, f".word {text_of_tokens(text, operand)}"])
+    return replaced(text, statement, [f"{opcode}, {text_of_tokens(text, operand)}" if operand else opcode])
+
+
+def _only(form: str, forms: Dict[str, int]) -> str:
+    """A form in place of one that isn't there, or whose size isn't known: the absolute one, or the only one."""
+    size, comma, index = form.partition(",")
+    found = [it for it in (f"zp{comma}{index}", f"abs{comma}{index}") if it in forms]
+    return found[0] if len(found) == 1 and (size == "?" or found[0].startswith("abs")) else form
+
+
+def _form(rest: Sequence[Token], context: Context) -> "tuple[str, Sequence[Token]]":
+    """The form of an operand, and its expression."""
+    if not rest:
+        return "", ()
+    if rest[0].text == "#":
+        return "#", rest[1:]
+    texts = [it.lower for it in rest]
+    if texts[0] == "(" and texts[-3:] == [",", "x", ")"]:
+        return "(zp,x)", rest[1:-3]
+    if texts[0] == "(" and texts[-3:] == [")", ",", "y"]:
+        return "(zp),y", rest[1:-3]
+    index = f",{texts[-1]}" if len(texts) > 2 and texts[-2] == "," else ""
+    operand = rest[:-2] if index else rest
+    size: Optional[str] = None
+    if operand[0].kind is Kind.PREFIX:
+        size, operand = ("zp" if operand[0].lower == "z:" else "abs"), operand[1:]
+    else:
+        number = value(operand, context.value)
+        if number is not None:
+            size = "zp" if 0 <= number < 256 else "abs"
+        elif operand[0].text in "<>^":
+            size = "zp"
+    return f"{size or '?'}{index}", operand
+
+
+def with_colon(text: str, statement: Statement) -> str:
+    """A line whose label has its colon."""
+    label = statement.label
+    if label is None or statement.has_colon:
+        return text
+    rest = text[label.end :]
+    gap = rest[1:] if rest.startswith("  ") else rest
+    return text[: label.end] + ":" + gap
+
+
+

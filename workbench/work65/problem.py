@@ -1,0 +1,9 @@
+"""What a subcommand says, in one line, when it can't go on."""
+
+
+class Problem(Exception):
+    """A message for standard error, and the status that work65 ends with."""
+
+    def __init__(self, text: str, status: int = 1) -> None:
+        super().__init__(text)
+        self.status = status

@@ -1,0 +1,100 @@
+"""How many bytes of a link are where: by area, segment, module and procedure."""
+from dataclasses import asdict, dataclass, field
+from typing import Dict, List, Sequence
+
+from work65.build import Unit
+from work65.layout import Layout, Room
+from work65.mapfile import Placed
+from work65.names import scope_name
+
+
+@dataclass(frozen=True)
+class SegmentSize:
+    """A segment: where it runs and is loaded, its size, and its areas."""
+
+    name: str
+    run: int
+    load: int
+    size: int
+    area: str
+    load_area: str
+
+
+@dataclass(frozen=True)
+class AreaSize:
+    """An area: its addresses, what is used and free, and its segments."""
+
+    name: str
+    start: int
+    size: int
+    used: int
+    free: int
+    segments: List[SegmentSize]
+
+
+@dataclass(frozen=True)
+class ModuleSize:
+    """A module: its size, and that of each of its sections."""
+
+    name: str
+    size: int
+    segments: Dict[str, int]
+
+
+@dataclass(frozen=True)
+class ProcedureSize:
+    """A procedure: its whole name, its module, and its size with all that stands in it."""
+
+    name: str
+    module: str
+    size: int
+
+
+@dataclass
+class Sizes:
+    """All of them."""
+
+    areas: List[AreaSize]
+    segments: List[SegmentSize]
+    modules: List[ModuleSize]
+    procedures: List[ProcedureSize] = field(default_factory=list)
+
+    def as_values(self) -> Dict[str, object]:
+        """The same as plain values."""
+        return asdict(self)
+
+
+def segment_of(layout: Layout, placed: Placed) -> SegmentSize:
+    """A segment's size."""
+    row = layout.script.row(placed.name)
+    return SegmentSize(placed.name, placed.run, placed.load, placed.size, row.run if row else "", row.load if row else "")
+
+
+def area_of(layout: Layout, room: Room) -> AreaSize:
+    """An area's size."""
+    segments = [segment_of(layout, it) for it in room.rows]
+    return AreaSize(room.area.name, room.start, room.size, layout.used(room), layout.free(room), segments)
+
+
+def procedures_of(unit: Unit) -> List[ProcedureSize]:
+    """The procedures of a module."""
+    told = unit.told
+    if told is None:
+        return []
+    found = []
+    for number, scope in enumerate(told.scopes):
+        if scope.is_proc:
+            size = sum(it.size for it in told.rows[scope.first : scope.last])
+            found.append(ProcedureSize(scope_name(told, number)[:-2], unit.module, size))
+    return found
+
+
+def sizes_of(layout: Layout, units: Sequence[Unit]) -> Sizes:
+    """The sizes of a link."""
+    areas = [area_of(layout, it) for it in layout.rooms.values()]
+    segments = [segment_of(layout, it) for it in layout.map.rows]
+    modules = []
+    for module in layout.map.modules:
+        modules.append(ModuleSize(module.name, sum(it.size for it in module.parts), {it.segment: it.size for it in module.parts}))
+    procedures = [it for unit in units for it in procedures_of(unit)]
+    return Sizes(areas, segments, modules, sorted(procedures, key=lambda it: -it.size))

@@ -11,8 +11,8 @@ use Rattle.object65.specs.Objects.{is_good_object}
 use Rattle.semantics65.specs.Contents.{Content, telling}
 use Rattle.semantics65.specs.declared.contents.Segment.{Segment}
 use Rattle.semantics65.specs.Layout.{Cursor}
-use Rattle.semantics65.specs.Machine.{Finished, Slot, State, coming, concluded, finished, holds, resolved}
-use Rattle.semantics65.specs.Module.{Made, Outcome, quietly}
+use Rattle.semantics65.specs.Machine.{State, concluded, finished}
+use Rattle.semantics65.specs.Module.{Made, Outcome, quietly, Finished, Slot, coming, holds, resolved}
 use Rattle.semantics65.specs.Numbering.{AreSound, object_with, section_keys}
 use Rattle.semantics65.specs.Reading.{PlacedFault}
 use Rattle.semantics65.specs.Symbols.{Symbols}

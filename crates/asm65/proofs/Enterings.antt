@@ -16,8 +16,8 @@ use Rattle.semantics65.specs.Contents.{Content, Known, Part, put, stored, tellin
 use Rattle.ast65.specs.declared.fault.AsmFault.{AsmFault}
 use Rattle.semantics65.specs.Norms.{IsFinal}
 use Rattle.semantics65.specs.declared.laid.Context.{Context}
-use Rattle.semantics65.specs.Machine.{IsSettled, PutsAll, State, at_once, entered, Slot, holds}
-use Rattle.semantics65.specs.Module.{Piece, Purpose, as_part, asserted, datum, given, operand, quietly, used, valued, item_piece}
+use Rattle.semantics65.specs.Machine.{IsSettled, PutsAll, State, at_once, entered}
+use Rattle.semantics65.specs.Module.{Piece, Purpose, as_part, asserted, datum, given, operand, quietly, used, valued, item_piece, Slot, holds}
 use Rattle.semantics65.proofs.Resolving.{final_settles, settled_given}
 use Rattle.semantics65.specs.Symbols.{Symbols}
 use Rattle.emit65.specs.declared.sections.Sections.{Sections}

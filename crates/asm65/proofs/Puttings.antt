@@ -9,7 +9,7 @@ use Rattle.syntax65.specs.declared.place.Place.{Place}
 use Rattle.semantics65.specs.Contents.{Part, Known, Filled, Waiting, put, room_part, stored, written}
 use Rattle.ast65.specs.declared.fault.AsmFault.{AsmFault}
 use Rattle.ast65.specs.declared.fault.AsmFault.TheVariants.{FileNameTooLong, OutOfRange}
-use Rattle.semantics65.specs.Machine.{holds}
+use Rattle.semantics65.specs.Module.{holds}
 use Rattle.emit65.specs.declared.sections.Sections.{Sections}
 use Rattle.emit65.specs.Fed.{Feeds}
 use Rattle.semantics65.specs.declared.laid.Settled as held

@@ -3,8 +3,8 @@ use Rattle.std.proofs.Common.{◌∙◌, ℕ, List, [], ◌∷◌, ◌++◌, map
 use Rattle.semantics65.specs.Contents.{Content}
 use Rattle.syntax65.specs.declared.place.Place.{Place}
 use Rattle.semantics65.specs.declared.laid.Context.{Context}
-use Rattle.semantics65.specs.Machine.{Fixup, Slot, State, awaiting, entered, holds, later, waits}
-use Rattle.semantics65.specs.Module.{Piece}
+use Rattle.semantics65.specs.Machine.{State, awaiting, entered, later}
+use Rattle.semantics65.specs.Module.{Piece, Fixup, Slot, holds, waits}
 use Rattle.emit65.specs.declared.sections.Sections.{Sections}
 use Rattle.emit65.specs.Fed.{Feeds, Stands}
 use Rattle.symbols65.specs.declared.resolving.cache.NormCache.{NormCache}

@@ -6,7 +6,7 @@ use Rattle.std.specs.List.{list_all}
 use Rattle.std.proofs.lemmas.List.Folds.{list_all-append}
 use Rattle.std.proofs.lemmas.Bool.Decides.{nat_tests}
 use Rattle.semantics65.specs.Contents.{Filled, Known, Waiting, put, telling}
-use Rattle.semantics65.specs.Machine.{holds, waits}
+use Rattle.semantics65.specs.Module.{holds, waits}
 use Rattle.semantics65.specs.Views.{place_in, said_at}
 use Rattle.semantics65.specs.Numbering.{name_of}
 use Rattle.emit65.specs.declared.entries.Entry.{Entry}

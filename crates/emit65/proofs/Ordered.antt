@@ -16,7 +16,7 @@ use Rattle.semantics65.specs.Contents.{put, telling, Content, Filled, Known, Par
 use Rattle.semantics65.specs.declared.contents.Declaration as telled
 use Rattle.semantics65.specs.declared.contents.Declaration.TheVariants as told
 use Rattle.semantics65.specs.declared.contents.Segment.{Segment}
-use Rattle.semantics65.specs.Machine.{holds}
+use Rattle.semantics65.specs.Module.{holds}
 use Rattle.semantics65.specs.Numbering.{all_joined, all_said, assert_of, exports_among, fragment_of, fragments_of, import_keys, in_files, name_of, numbered, once, parts_in, section_keys, section_of, segment_name, segment_power, object_with}
 use Rattle.semantics65.specs.Views.{said_at}
 use Rattle.emit65.specs.declared.entries.Entry.{Entry}

@@ -5,7 +5,7 @@ use Rattle.std.specs.List.{flat_map}
 use Rattle.std.proofs.lemmas.Grind.{common_steps, flat_map-append}
 use Rattle.std.proofs.lemmas.List.{map-append}
 use Rattle.semantics65.specs.Contents.{Content, Part, Declaration, Known, asking, put, telling}
-use Rattle.semantics65.specs.Machine.{Slot, holds}
+use Rattle.semantics65.specs.Module.{Slot, holds}
 use Rattle.semantics65.specs.Numbering.{all_said, content_imports, once, part_imports, parts_in, section_keys, segments_asked}
 use Rattle.emit65.specs.declared.sections.Sections.{Sections}
 use Rattle.emit65.specs.Fed.{AreAlike, AreSlotsAlike, content_by, contents_so_far, in_pieces, names_in, slots_in, Feeds, Stands}

@@ -8,8 +8,7 @@ use Rattle.base65.specs.Outcome.{◌>>=◌}
 use Rattle.ast65.specs.declared.fault.AsmFault.{AsmFault}
 use Rattle.syntax65.specs.declared.place.Place.{Place}
 use Rattle.semantics65.specs.Contents.{Content, telling}
-use Rattle.semantics65.specs.Machine.{Finished, Fixup, Slot, before_it, coming, holds, resolved, waits}
-use Rattle.semantics65.specs.Module.{Made, made_of, quietly}
+use Rattle.semantics65.specs.Module.{Made, made_of, quietly, Finished, Fixup, Slot, before_it, coming, holds, resolved, waits}
 use Rattle.semantics65.specs.Numbering.{once, section_keys, segments_asked}
 use Rattle.semantics65.specs.Reading.{PlacedFault, at_place}
 use Rattle.semantics65.specs.Symbols.{Symbols}

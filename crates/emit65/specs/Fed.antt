@@ -8,7 +8,7 @@ use Rattle.object65.specs.declared.object.Fragment.{Fragment}
 use Rattle.object65.specs.declared.object.Origin.{Origin}
 use Rattle.semantics65.specs.Contents.{Content, Filled, Known, Waiting, asking, put, telling}
 use Rattle.semantics65.specs.Machine as machine
-use Rattle.semantics65.specs.Machine.{Slot, holds, waits}
+use Rattle.semantics65.specs.Module.{Slot, holds, waits}
 use Rattle.semantics65.specs.Module as piece
 use Rattle.semantics65.specs.Numbering.{all_joined, all_said, content_imports, fragments_of, name_of, part_files, parts_in, section_keys}
 use Rattle.semantics65.specs.Views.{place_in, said_at}

@@ -2,7 +2,7 @@
 
 ghost use Rattle.std.specs.Prelude.{◌≡◌, ◌+◌, ℕ, List, [], ◌∷◌, length, map, true, OnOk, IfOk};
 ghost use Rattle.semantics65.specs.Contents.{Filled, Known, put};
-ghost use Rattle.semantics65.specs.Machine.{holds};
+ghost use Rattle.semantics65.specs.Module.{holds};
 ghost use Rattle.emit65.specs.Fed.{AreSlotsAlike, origin_by, slot_of, slots_in, stands_in, IsAdded, StandIn, Takes, TakesIn};
 
 use crate::fixups::Fixup;

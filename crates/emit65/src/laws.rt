@@ -2,7 +2,7 @@
 
 ghost use Rattle.std.specs.Prelude.{◌≡◌, ◌++◌, ◌∷◌, [], List, map};
 ghost use Rattle.semantics65.specs.Contents.{Content};
-ghost use Rattle.semantics65.specs.Machine.{Slot, holds};
+ghost use Rattle.semantics65.specs.Module.{Slot, holds};
 ghost use Rattle.semantics65.specs.Numbering.{section_keys};
 ghost use Rattle.emit65.specs.declared.sections.Sections.{Sections};
 ghost use Rattle.emit65.specs.Fed.{AreSlotsAlike, contents_so_far, in_pieces, Stands};

@@ -2,7 +2,7 @@
 
 ghost use Rattle.std.specs.Prelude.{◌≡◌, ◌<◌, length, IfOk, map, [], List, replicate, true, OnOk};
 ghost use Rattle.semantics65.specs.Contents.{put, Content, Filled, Known, Waiting, asking};
-ghost use Rattle.semantics65.specs.Machine.{Slot, holds};
+ghost use Rattle.semantics65.specs.Module.{Slot, holds};
 ghost use Rattle.semantics65.specs.Views.{place_in};
 ghost use Rattle.emit65.specs.Fed.{place_by, Begins, names_in, names_of, waiting, Feeds, HasSlots, Stands};
 ghost use Rattle.object65.specs.Objects.{is_good_object, ObjectFits};

@@ -14,10 +14,10 @@ use Rattle.semantics65.specs.Symbols.{Laid, asks_section, Symbols, symbols_of}
 use Rattle.semantics65.specs.declared.laid.Context.{Context}
 use Rattle.semantics65.specs.Layout.{Layout, Cursor, laid, layout_behind, nothing_laid, line_fault, unless_fault}
 use Rattle.semantics65.specs.Numbering.{object_with}
-use Rattle.semantics65.specs.Machine.{AreFoundAlike, LaidRuns, OnePass, RunsLaid, StandsFor, Finished, Puts, at_once, later, PutsAll, Slot, holds, waits, State, Steps, Takes, UnlessFault, Fixup, asked, awaiting, begun, concluded, entered, finished, known, running}
+use Rattle.semantics65.specs.Machine.{AreFoundAlike, LaidRuns, OnePass, RunsLaid, StandsFor, Puts, at_once, later, PutsAll, State, Steps, Takes, UnlessFault, asked, awaiting, begun, concluded, entered, finished, known, running}
 use Rattle.semantics65.specs.Reading.{IsLaid, laying, PlacedFault}
 use Rattle.semantics65.specs.Norms.{Extends}
-use Rattle.semantics65.specs.Module.{Outcome, assertion_warnings, contents_from, outcome_of, printed, warned, Made, Piece, pieces_of}
+use Rattle.semantics65.specs.Module.{Outcome, assertion_warnings, contents_from, outcome_of, printed, warned, Made, Piece, pieces_of, Finished, Slot, holds, waits, Fixup}
 use Rattle.semantics65.proofs.ContentPieces.{all_append, all_made, made_of_pieces, piece_made, pieces_made}
 use Rattle.semantics65.proofs.Entries.{Entry, alike_by, all_entries, asked_by, entries_of, object_alike, after, after_after, after_nothing, come, come_append, nothing, placed}
 use Rattle.semantics65.proofs.Resolving.{extends_behind, extends_same, extends_then, flat_push, symbols_push}

@@ -7,13 +7,13 @@ use Rattle.std.proofs.lemmas.Grind.{common_steps, flat_map-append}
 use Rattle.std.proofs.lemmas.List.{append-nil}
 use Rattle.semantics65.specs.Symbols.{Laid, Symbols, symbols_of, with_new}
 use Rattle.semantics65.specs.Norms.{Extends}
-use Rattle.semantics65.specs.Machine.{symbols_behind, IsSettled, Finished, Slot, coming, resolved, FinalSettles}
+use Rattle.semantics65.specs.Machine.{symbols_behind, IsSettled, FinalSettles}
 use Rattle.base65.specs.Outcome.{◌>>=◌}
 use Rattle.semantics65.specs.Reading.{PlacedFault}
 use Rattle.semantics65.specs.Contents.{Part, Content, put}
 use Rattle.syntax65.specs.declared.place.Place.{Place}
 use Rattle.semantics65.specs.declared.laid.Context.{Context}
-use Rattle.semantics65.specs.Module.{given, used, Made, Piece, made_of}
+use Rattle.semantics65.specs.Module.{given, used, Made, Piece, made_of, Finished, Slot, coming, resolved}
 use Rattle.semantics65.proofs.Entries.{after}
 
 -- ---- Symbol tables that grow.

@@ -1,17 +1,15 @@
 -- What statements put into an object.
-use Rattle.std.specs.Prelude.{ℕ, Bool, List, zero, ◌+◌, pos, true, false, [], ◌∷◌, map, replicate, take, drop, Option, Some, None, Result, Ok, Err, if◌then◌else◌}
-use Rattle.semantics65.specs.Types.{Place, Action, Width, Mnemonic, Branch, AsmFault, OutOfRange, ImportedAndDefined, NotDefined, Assertion, FileNameTooLong, Item, Operand, Statement, Constant, Instruction, Values, Reserve, Align, FilePart, Import, Export, Global, ForceImport, Assert, Immediate, Address, Indirect, IndirectX, IndirectY, Value, Text, Settled, InMode, FilledWith, FromByte, Context}
+use Rattle.std.specs.Prelude.{ℕ, Bool, List, zero, ◌+◌, pos, true, false, [], ◌∷◌, replicate, take, drop, Option, Some, None, Result, Ok, Err, if◌then◌else◌}
+use Rattle.semantics65.specs.Types.{Place, Action, Width, Branch, AsmFault, OutOfRange, ImportedAndDefined, Assertion, FileNameTooLong, Operand, Immediate, Address, Indirect, IndirectX, IndirectY, Settled, FilledWith, FromByte, Context}
 use Rattle.object65.specs.Form.{Form, lit, sec}
-use Rattle.std.specs.List.{flat_map}
-use Rattle.base65.specs.Outcome.{◌>>=◌, each}
-use Rattle.syntax65.specs.Opcodes.{opcode_of}
+use Rattle.base65.specs.Outcome.{◌>>=◌}
 use Rattle.syntax65.specs.Trees.{Tree}
 use Rattle.object65.specs.Folding.{fold2}
 use Rattle.object65.specs.Objects.{fits_width, is_file_name, value_bytes}
 use Rattle.object65.specs.declared.object.Action.TheVariants as action
 use Rattle.base65.specs.declared.values.Op2.TheVariants.{Subtract}
-use Rattle.semantics65.specs.Symbols.{Laid, asks_section, Symbols, named, defined}
-use Rattle.semantics65.specs.Norms.{defined_form, folded, norm_of, width_of}
+use Rattle.semantics65.specs.Symbols.{Symbols, named, defined}
+use Rattle.semantics65.specs.Norms.{defined_form, folded}
 
 -- ---- What a module's statements put into its object: parts of sections, and what is said to other modules and to the linker.
 
@@ -33,7 +31,7 @@ pub data Declaration : Type 0 where
   -- what the linker has to check, and the text that is printed otherwise
   Asserted : Action → Place → List ℕ → Form → Declaration
 
--- a statement as the object has it
+-- a piece of a statement as the object has it
 pub record Content : Type 0 where
   -- the segment in which it stands, by its place among the segments
   pub segment : ℕ
@@ -61,10 +59,6 @@ abbrev pub operand_form : Width → Context → Form → Result Form AsmFault
 operand_form Branch s f = folded (fold2 Subtract f (sec s.segment (pos (s.offset + 2))))
 operand_form width s f = Ok f
 
-abbrev pub item_part : Symbols → Laid → Width → Item → Result Part AsmFault
-item_part y l width (Value e) = norm_of y l.context e >>= stored width l.place
-item_part y l width (Text bytes) = Ok (Known bytes)
-
 abbrev pub operand_tree : Operand → Option Tree
 operand_tree (Immediate e) = Some e
 operand_tree (Address size e r) = Some e
@@ -73,22 +67,9 @@ operand_tree (IndirectX e) = Some e
 operand_tree (IndirectY e) = Some e
 operand_tree _ = None
 
--- the value of an operand of this width
-abbrev pub operand_part : Symbols → Laid → Width → Tree → Result Part AsmFault
-operand_part y l width e = norm_of y l.context e >>= (λ f. operand_form width l.context f >>= stored width l.place)
-
-abbrev pub operand_parts : Symbols → Laid → Option Width → Option Tree → Result (List Part) AsmFault
-operand_parts y l (Some width) (Some e) = operand_part y l width e >>= (λ p. Ok (p ∷ []))
-operand_parts y l width e = Ok []
-
 abbrev pub opcode_part : Option ℕ → Part
 opcode_part None = Known []
 opcode_part (Some code) = Known (code ∷ [])
-
-abbrev pub instruction_parts : Symbols → Laid → Mnemonic → Operand → Settled → Result (List Part) AsmFault
-instruction_parts y l m o (InMode mode) =
-    operand_parts y l (width_of mode) (operand_tree o) >>= (λ ps. Ok (opcode_part (opcode_of m mode) ∷ ps))
-instruction_parts y l m o _ = Ok []
 
 -- so many bytes, of the linker's fill value where no value is given
 abbrev pub room_part : ℕ → Settled → Part
@@ -99,18 +80,6 @@ room_part count _ = Filled count
 abbrev pub file_bytes : ℕ → Option (List ℕ) → Settled → List ℕ
 file_bytes count (Some bytes) (FromByte start) = take count (drop start bytes)
 file_bytes count bytes _ = []
-
--- The parts that a statement puts into its section.
-abbrev pub parts_of : Symbols → Laid → Result (List Part) AsmFault
-parts_of y l = go l.stated
-  where
-    go : Statement → Result (List Part) AsmFault
-    go (Instruction m operand) = instruction_parts y l m operand l.settled
-    go (Values width items) = each (item_part y l width) items
-    go (Reserve n v) = Ok (room_part l.length l.settled ∷ [])
-    go (Align n v) = Ok (room_part l.length l.settled ∷ [])
-    go (FilePart bytes start len) = Ok (Known (file_bytes l.length bytes l.settled) ∷ [])
-    go _ = Ok []
 
 -- ---- What a statement says to other modules and to the linker.
 
@@ -126,34 +95,11 @@ abbrev pub export_said : Symbols → Place → List ℕ → Result (List Declara
 export_said y place n absent None = absent
 export_said y place n absent (Some j) = defined_form y j >>= (λ f. written place (Exported n place f ∷ []))
 
-abbrev pub each_of : {A : Type 0} → (A → Result (List Declaration) AsmFault) → List A → Result (List Declaration) AsmFault
-each_of f xs = each f xs >>= (λ yss. Ok (flat_map (λ ys. ys) yss))
-
 -- an assertion whose form is a literal is decided; another one is the linker's
 abbrev pub decided : Action → Place → List ℕ → Form → Result (List Declaration) AsmFault
 decided action.Error place words (lit (pos zero)) = Err (Assertion words)
 decided act place words (lit v) = Ok []
 decided act place words f = written place (Asserted act place words f ∷ [])
-
--- what a statement says, and the fault of a constant's expression
-abbrev pub said_of : Symbols → Laid → Result (List Declaration) AsmFault
-said_of y l = go l.stated
-  where
-    go : Statement → Result (List Declaration) AsmFault
-    go (Constant n e) = norm_of y l.context e >>= (λ f. Ok [])
-    go (Import size names) = each_of (import_fault y) names
-    go (Export names) = each_of (λ n. export_said y l.place n (Err (NotDefined n)) (defined y (named 0 n))) names
-    go (Global size names) = each_of (λ n. export_said y l.place n (Ok []) (defined y (named 0 n))) names
-    go (ForceImport names) = each_of (import_fault y) names >>= (λ none. Ok (map ForcedImport names))
-    go (Assert e act words) = norm_of y l.context e >>= decided act l.place words
-    go _ = Ok []
-
--- ---- A statement as the object has it.
-
-abbrev pub content_of : Symbols → Laid → Result Content AsmFault
-content_of y l =
-    parts_of y l >>= (λ ps. said_of y l >>= (λ ss.
-    Ok (record { segment = l.context.segment; asks = asks_section l.stated; parts = ps; said = ss })))
 
 -- ---- Contents of one kind.
 

@@ -6,11 +6,10 @@ use Rattle.semantics65.specs.Types.{Object, AsmFault, Statement, Place, Context}
 use Rattle.semantics65.specs.Contents.{Content, asking}
 use Rattle.semantics65.specs.Symbols.{Laid, asks_section, Symbols, definitions_of, imports_of, scope_opened, symbols_of, with_new, zero_page_names}
 use Rattle.semantics65.specs.Layout.{Cursor, laid, cursor_behind, start, line_fault, Layout}
-use Rattle.semantics65.specs.Numbering.{object_with, all_said, content_imports, parts_in, segments_asked, AreSound, IsSoundLayout}
-use Rattle.semantics65.specs.Reading.{PlacedFault, at_place, known_at, Between, IsSource, Job, Reached, AreLaid}
-use Rattle.semantics65.specs.Module.{Outcome, out_of, warning_of, Made, Piece, made_of, pieces_of, quietly, IsOutcome, assertion_warnings, contents_from, printed, warned, Purpose, used, valued}
+use Rattle.semantics65.specs.Numbering.{object_with, AreSound, IsSoundLayout}
+use Rattle.semantics65.specs.Reading.{PlacedFault, known_at, Between, IsSource, Job, Reached, AreLaid}
+use Rattle.semantics65.specs.Module.{Outcome, out_of, warning_of, Piece, pieces_of, quietly, IsOutcome, printed, warned, Purpose, used, valued, Fixup, Slot, holds, waits, coming, Finished, resolved, ending_of}
 use Rattle.semantics65.specs.Norms.{Extends, IsFinal}
-use Rattle.std.specs.List.{flat_map}
 use Rattle.syntax65.specs.Trees.{Tree}
 use Rattle.object65.specs.Form.{Form}
 
@@ -24,17 +23,6 @@ symbols_behind y l = record {
   imports = with_new y.imports (imports_of l.stated);
   zero_page = with_new y.zero_page (zero_page_names l.stated);
 }
-
--- a piece that waits, and where it stands
-pub record Fixup : Type 0 where
-  pub place : Place
-  pub context : Context
-  pub piece : Piece
-
--- a content, or a piece whose content is decided behind the last line
-pub data Slot : Type 0 where
-  holds : Content → Slot
-  waits : Fixup → Slot
 
 pub record State : Type 0 where
   pub symbols : Symbols
@@ -66,9 +54,11 @@ entered t c = record t { slots = t.slots ++ holds c ∷ [] }
 abbrev pub asked : State → Laid → State
 asked t l = if asks_section l.stated then entered t (asking l.context.segment) else t
 
--- whatever statements follow, the piece comes to this content, and to no warning
+-- whatever statements follow, and whatever was exported before, the piece comes to this content, and to no warning
 abbrev pub IsSettled : Symbols → Place → Context → Piece → Content → Type 0
-IsSettled y place s p c = (z : Symbols) → Extends y z → made_of z place s p ≡ Ok (quietly c)
+IsSettled y place s p c =
+    (z : Symbols) (names : List (List ℕ)) → Extends y z →
+    coming z names (waits (record { place = place; context = s; piece = p })) ≡ Ok (quietly c)
 
 -- a piece is entered at its line where it is settled there, or it waits
 pub data Puts (place : Place) (s : Context) (t : State) (p : Piece) : State → Type 0 where
@@ -117,29 +107,9 @@ Runs m job r = IsSource m running job begun r
 
 -- ---- Behind the last line.
 
--- what was found, or the first fault; and the warnings of assertions up to there
-pub record Finished (A : Type 0) : Type 0 where
-  pub found : Result (List A) PlacedFault
-  pub warned : List ℕ
-
--- what a slot comes to by the symbol table of all statements, or its fault
-abbrev pub coming : Symbols → Slot → Result Made PlacedFault
-coming y (holds c) = Ok (quietly c)
-coming y (waits w) = at_place w.place (made_of y w.place w.context w.piece)
-
-abbrev pub before_it : Result Made PlacedFault → Finished Content → Finished Content
-before_it (Ok m) r =
-    record { found = r.found >>= (λ cs. Ok (m.content ∷ cs)); warned = m.warning ++ r.warned }
-before_it (Err e) r = record { found = Err e; warned = [] }
-
--- slots are gone through once, in the order of the source
-abbrev pub resolved : Symbols → List Slot → Finished Content
-resolved y [] = record { found = Ok []; warned = [] }
-resolved y (x ∷ slots) = before_it (coming y x) (resolved y slots)
-
 -- what a state comes to behind the last line
 abbrev pub finished : State → Finished Content
-finished t = resolved t.symbols t.slots
+finished t = resolved t.symbols [] t.slots
 
 -- what is answered behind the last line, or at a line's fault
 abbrev pub concluded : State → Option PlacedFault → Outcome
@@ -177,36 +147,19 @@ SoundLayoutLaw =
 abbrev pub SoundContents : Type 0
 SoundContents =
     (y : Layout) (cs : List Content) →
-    IsSoundLayout y → contents_from (symbols_of y.laid) y.laid ≡ Ok cs →
+    IsSoundLayout y → (ending_of y.laid).found ≡ Ok cs →
     AreSound y.cursor.segments (symbols_of y.laid).imports cs
 
 -- ---- The machine of one pass.
 
--- Contents that ask for the same sections, bring the same imports, put the same parts into each
--- segment and say the same, all in the same order: so they have the same object.
-pub record AreAlike (cs ds : List Content) : Type 0 where
-  pub asked : segments_asked cs ≡ segments_asked ds
-  pub imports :
-      (names : List (List ℕ)) →
-      flat_map (content_imports names) cs ≡ flat_map (content_imports names) ds
-  pub parts : (g : ℕ) → parts_in cs g ≡ parts_in ds g
-  pub said : all_said cs ≡ all_said ds
-
--- alike contents, or the same fault
-abbrev pub AreFoundAlike : (a b : Result (List Content) PlacedFault) → Type 0
-AreFoundAlike (Ok cs) (Ok ds) = AreAlike cs ds
-AreFoundAlike (Ok cs) (Err e) = ⊥
-AreFoundAlike (Err e) b = b ≡ Err e
-
 -- A state stands for laid statements: it has their symbol table, what stands behind them and what
--- they print; and what waits comes to contents like theirs and to the warnings of their assertions.
+-- they print; and what waits comes to what their pieces come to.
 pub record StandsFor (y : Layout) (t : State) : Type 0 where
   pub symbols : t.symbols ≡ symbols_of y.laid
   pub cursor : t.cursor ≡ y.cursor
   pub out : t.out ≡ printed y.laid
   pub err : t.err ≡ warned y.laid
-  pub found : AreFoundAlike (finished t).found (contents_from t.symbols y.laid)
-  pub asserted : (finished t).warned ≡ assertion_warnings t.symbols y.laid
+  pub ending : finished t ≡ ending_of y.laid
 
 -- what the machine reaches stands for what is laid, with the same fault of a line
 abbrev pub RunsLaid : Type 0

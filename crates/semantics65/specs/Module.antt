@@ -1,13 +1,14 @@
--- The object of a module, all at once and piece by piece.
-use Rattle.std.specs.Prelude.{◌≡◌, ℕ, zero, pos, Option, Some, None, Bool, true, false, List, [], ◌∷◌, ◌++◌, codes, decimal, Result, Ok, Err, if◌then◌else◌, map}
-use Rattle.std.specs.List.{flat_map}
-use Rattle.base65.specs.Outcome.{◌>>=◌, each}
+-- The object of a module, piece by piece.
+use Rattle.std.specs.Prelude.{◌≡◌, ℕ, zero, pos, Option, Some, None, Bool, true, false, List, [], ◌∷◌, ◌++◌, codes, decimal, filter_map, Result, Ok, Err, if◌then◌else◌, map}
+use Rattle.std.specs.List.{flat_map, list_any}
+use Rattle.std.specs.Str.{bytes_eq}
+use Rattle.base65.specs.Outcome.{◌>>=◌}
 use Rattle.base65.specs.Store.{Files}
 use Rattle.object65.specs.Form.{Form, lit}
 use Rattle.semantics65.specs.Types.{Action, Object, AsmFault, Place, Statement, Mnemonic, Width, NotDefined, Item, Operand, Constant, Instruction, Values, Reserve, Align, FilePart, Import, Export, Global, ForceImport, Assert, Value, Text, Settled, InMode, Context}
 use Rattle.object65.specs.declared.object.Action.TheVariants as action
-use Rattle.semantics65.specs.Contents.{Content, content_of, Part, Known, Declaration, ForcedImport, put, telling, decided, export_said, file_bytes, import_fault, opcode_part, operand_form, operand_tree, room_part, stored}
-use Rattle.semantics65.specs.Symbols.{Laid, Symbols, symbols_of, defined, named}
+use Rattle.semantics65.specs.Contents.{Content, Part, Known, Declaration, Exported, ForcedImport, asking, put, telling, decided, export_said, file_bytes, import_fault, opcode_part, operand_form, operand_tree, room_part, stored}
+use Rattle.semantics65.specs.Symbols.{Laid, Symbols, asks_section, symbols_of, defined, named}
 use Rattle.ast65.specs.declared.language.Statement.TheVariants as statement
 use Rattle.semantics65.specs.Layout.{Layout}
 use Rattle.semantics65.specs.Norms.{norm_of, width_of}
@@ -15,27 +16,6 @@ use Rattle.semantics65.specs.Numbering.{object_with}
 use Rattle.semantics65.specs.Reading.{AreLaid, PlacedFault, at_place, Job, Reached}
 use Rattle.syntax65.specs.Opcodes.{opcode_of}
 use Rattle.syntax65.specs.Trees.{Tree}
-
--- ---- Contents.
-
--- the contents of statements by the symbol table of all, or the first fault among them
-abbrev pub contents_from : Symbols → List Laid → Result (List Content) PlacedFault
-contents_from y ls = each (λ l. at_place l.place (content_of y l)) ls
-
--- the object of laid statements
-abbrev pub object_of : Layout → Result Object PlacedFault
-object_of y =
-    let z : Symbols = symbols_of y.laid in
-    contents_from z y.laid >>= (λ cs. Ok (object_with y.cursor.segments z.imports cs))
-
-abbrev pub has_content : Result Content AsmFault → Bool
-has_content (Ok c) = true
-has_content (Err e) = false
-
--- the statements before the first one without contents
-abbrev pub sound_from : Symbols → List Laid → List Laid
-sound_from y [] = []
-sound_from y (l ∷ ls) = if has_content (content_of y l) then l ∷ sound_from y ls else []
 
 -- ---- What is said.
 
@@ -57,44 +37,12 @@ abbrev pub failed : Place → Action → List ℕ → Result Form AsmFault → L
 failed place action.Warning words (Ok (lit (pos zero))) = warning_at place words
 failed place act words r = []
 
-abbrev pub asserted_by : Symbols → Laid → List ℕ
-asserted_by y l = go l.stated
-  where
-    go : Statement → List ℕ
-    go (statement.Assert e act words) = failed l.place act words (norm_of y l.context e)
-    go _ = []
-
--- the warnings of assertions by the symbol table of all, up to the first statement without contents
-abbrev pub assertion_warnings : Symbols → List Laid → List ℕ
-assertion_warnings y ls = flat_map (asserted_by y) (sound_from y ls)
-
 -- what statements print while they are read
 abbrev pub printed : List Laid → List ℕ
 printed ls = flat_map (λ l. out_of l.stated) ls
 
 abbrev pub warned : List Laid → List ℕ
 warned ls = flat_map (λ l. warning_of l.place l.stated) ls
-
--- the warnings of a module whose lines have no fault: those of assertions stand behind the others
-abbrev pub all_warned : List Laid → List ℕ
-all_warned ls = warned ls ++ assertion_warnings (symbols_of ls) ls
-
--- ---- What a module comes to.
-
--- the object or the first fault, and what is said up to there
-pub record Outcome : Type 0 where
-  pub result : Result Object PlacedFault
-  pub out : List ℕ
-  pub err : List ℕ
-
--- a fault of a line stands before all others, and before the warnings of assertions
-abbrev pub outcome_of : Layout → Option PlacedFault → Outcome
-outcome_of y None = record { result = object_of y; out = printed y.laid; err = all_warned y.laid }
-outcome_of y (Some e) = record { result = Err e; out = printed y.laid; err = warned y.laid }
-
--- what a source comes to
-abbrev pub IsOutcome : Files → Job → Outcome → Type 0
-IsOutcome m job a = (r : Reached Layout) × AreLaid m job r × (a ≡ outcome_of r.behind r.fault)
 
 -- ---- Pieces.
 
@@ -184,3 +132,93 @@ made_of y place s (imported n) = import_fault y n >>= as_said
 made_of y place s (demanded n) = as_said (ForcedImport n ∷ [])
 made_of y place s (exported must n) =
     export_said y place n (absent_of must n) (defined y (named 0 n)) >>= as_said
+
+-- ---- Slots, in the order of the source.
+
+-- a piece that waits, and where it stands
+pub record Fixup : Type 0 where
+  pub place : Place
+  pub context : Context
+  pub piece : Piece
+
+-- a content, or a piece whose content is decided behind the last line
+pub data Slot : Type 0 where
+  holds : Content → Slot
+  waits : Fixup → Slot
+
+-- a piece of a laid statement
+abbrev pub waiting_at : Laid → Piece → Slot
+waiting_at l p = waits (record { place = l.place; context = l.context; piece = p })
+
+-- a laid statement asks for its section, where it does, and then comes piece by piece
+abbrev pub slots_of : Laid → List Slot
+slots_of l =
+    (if asks_section l.stated then holds (asking l.context.segment) ∷ [] else [])
+    ++ map (waiting_at l) (pieces_of l.length l.settled l.stated)
+
+abbrev pub exported_name : Declaration → Option (List ℕ)
+exported_name (Exported n place f) = Some n
+exported_name s = None
+
+-- the names that are exported among what is said
+abbrev pub exported_names : List Declaration → List (List ℕ)
+exported_names ss = filter_map exported_name ss
+
+-- an export of one of these names, which were exported before: it does nothing
+abbrev pub is_repeated : List (List ℕ) → Piece → Bool
+is_repeated names (exported must n) = list_any (bytes_eq n) names
+is_repeated names p = false
+
+-- what a slot comes to by the symbol table of all statements, behind exports of these names, or its fault
+abbrev pub coming : Symbols → List (List ℕ) → Slot → Result Made PlacedFault
+coming y names (holds c) = Ok (quietly c)
+coming y names (waits w) =
+    at_place w.place (if is_repeated names w.piece then as_said [] else made_of y w.place w.context w.piece)
+
+-- what was found, or the first fault; and the warnings of assertions up to there
+pub record Finished (A : Type 0) : Type 0 where
+  pub found : Result (List A) PlacedFault
+  pub warned : List ℕ
+
+-- what was made, before what follows it; its fault ends all
+abbrev pub followed_by : Result Made PlacedFault → (Made → Finished Content) → Finished Content
+followed_by (Ok m) rest =
+    record { found = (rest m).found >>= (λ cs. Ok (m.content ∷ cs)); warned = m.warning ++ (rest m).warned }
+followed_by (Err e) rest = record { found = Err e; warned = [] }
+
+-- slots are gone through once, in the order of the source, behind exports of these names
+abbrev pub resolved : Symbols → List (List ℕ) → List Slot → Finished Content
+resolved y names [] = record { found = Ok []; warned = [] }
+resolved y names (x ∷ slots) =
+    followed_by (coming y names x) (λ m. resolved y (names ++ exported_names m.content.said) slots)
+
+-- ---- What a module comes to.
+
+-- what laid statements come to, by the symbol table of all
+abbrev pub ending_of : List Laid → Finished Content
+ending_of ls = resolved (symbols_of ls) [] (flat_map slots_of ls)
+
+-- the object of laid statements
+abbrev pub object_of : Layout → Result Object PlacedFault
+object_of y =
+    let names : List (List ℕ) = (symbols_of y.laid).imports in
+    (ending_of y.laid).found >>= (λ cs. Ok (object_with y.cursor.segments names cs))
+
+-- the warnings of a module whose lines have no fault: those of assertions stand behind the others
+abbrev pub all_warned : List Laid → List ℕ
+all_warned ls = warned ls ++ (ending_of ls).warned
+
+-- the object or the first fault, and what is said up to there
+pub record Outcome : Type 0 where
+  pub result : Result Object PlacedFault
+  pub out : List ℕ
+  pub err : List ℕ
+
+-- a fault of a line stands before all others, and before the warnings of assertions
+abbrev pub outcome_of : Layout → Option PlacedFault → Outcome
+outcome_of y None = record { result = object_of y; out = printed y.laid; err = all_warned y.laid }
+outcome_of y (Some e) = record { result = Err e; out = printed y.laid; err = warned y.laid }
+
+-- what a source comes to
+abbrev pub IsOutcome : Files → Job → Outcome → Type 0
+IsOutcome m job a = (r : Reached Layout) × AreLaid m job r × (a ≡ outcome_of r.behind r.fault)

@@ -6,7 +6,7 @@ use Rattle.syntax65.specs.declared.place.Place.{Place}
 use Rattle.semantics65.specs.Contents.{Part, operand_form, put, stored, asking}
 use Rattle.semantics65.specs.declared.laid.Context.{Context}
 use Rattle.semantics65.specs.Symbols.{Definition, Key, Symbols, unnamed_at, meaning_of, Laid, asks_section, defined, key_defined}
-use Rattle.semantics65.specs.Machine.{PutsAll, State, awaiting, entered, holds}
+use Rattle.semantics65.specs.Machine.{PutsAll, State, awaiting, entered}
 use Rattle.semantics65.specs.Module as piece
 use Rattle.emit65.specs.Fed.{Stands, Feeds}
 use Rattle.symbols65.specs.Resolving.{IsTable}
@@ -28,7 +28,7 @@ use Rattle.ast65.specs.declared.language.Statement.{Statement}
 use Rattle.ast65.specs.declared.language.Statement.TheVariants.{Align, Assert, FilePart, Instruction, Reserve, Values}
 use Rattle.semantics65.specs.Layout.{context_of, cursor_behind, line_fault, opened_twice, scope_name}
 use Rattle.ast65.specs.Faults.{is_outside}
-use Rattle.semantics65.specs.Module.{out_of, warning_of}
+use Rattle.semantics65.specs.Module.{out_of, warning_of, holds}
 use Rattle.symbols65.specs.declared.measuring.Measured.{Measured}
 use Rattle.asm65.specs.declared.naming.Mention.{Mention}
 use Rattle.asm65.specs.declared.naming.Mention.TheVariants as mention

@@ -26,8 +26,7 @@ use Rattle.semantics65.specs.declared.contents.Declaration.{Declaration}
 use Rattle.semantics65.specs.declared.laid.Context.{Context}
 use Rattle.semantics65.specs.Symbols.{Symbols}
 use Rattle.semantics65.specs.Views.{part_at, said_at}
-use Rattle.semantics65.specs.Machine.{Slot, coming, holds, resolved}
-use Rattle.semantics65.specs.Module.{warning_at, Made, as_said}
+use Rattle.semantics65.specs.Module.{warning_at, Made, as_said, Slot, coming, holds, resolved}
 use Rattle.semantics65.specs.Numbering.{AreSound, object_with}
 use Rattle.object65.specs.declared.object.Object.{Object}
 use Rattle.semantics65.specs.declared.contents.Segment.{Segment}

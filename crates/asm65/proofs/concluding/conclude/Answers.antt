@@ -2,7 +2,8 @@ use Rattle.std.proofs.Common.{ℕ, List, false, subst}
 use Rattle.std.specs.Prelude.{None, Result}
 use Rattle.object65.specs.declared.object.Object.{Object}
 use Rattle.semantics65.specs.declared.contents.Segment.{Segment}
-use Rattle.semantics65.specs.Machine.{Slot, State, concluded}
+use Rattle.semantics65.specs.Machine.{State, concluded}
+use Rattle.semantics65.specs.Module.{Slot}
 use Rattle.emit65.specs.Fed.{Stands}
 use Rattle.symbols65.specs.Views.{table_of}
 use Rattle.asm65.specs.Inner.Holding.{Holds}

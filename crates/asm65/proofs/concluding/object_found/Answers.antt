@@ -1,5 +1,5 @@
 use Rattle.std.proofs.Common.{List}
-use Rattle.semantics65.specs.Machine.{Slot}
+use Rattle.semantics65.specs.Module.{Slot}
 use Rattle.emit65.specs.Fed.{Stands}
 use Rattle.asm65.proofs.Conclusions.{outside_comes}
 use Rattle.asm65.proofs.concluding.object_found.Goals as goal

@@ -2,7 +2,7 @@ use Rattle.std.proofs.Common.{◌≡◌, List, ℕ, ap, length, map, string_byte
 use Rattle.std.specs.Prelude.{Ok, Err}
 use Rattle.std.specs.Global.{Vec}
 use Rattle.std.proofs.lemmas.Result.{err_from_is_err_and}
-use Rattle.semantics65.specs.Machine.{Slot}
+use Rattle.semantics65.specs.Module.{Slot}
 use Rattle.semantics65.specs.Symbols.{Symbols}
 use Rattle.emit65.specs.Fed.{HasSlots, StandIn, names_in}
 use Rattle.emit65.specs.declared.entries.Entry.{Entry}

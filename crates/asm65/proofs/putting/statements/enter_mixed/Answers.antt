@@ -4,11 +4,10 @@ use Rattle.std.specs.Vec.Iter.{into_iter_items}
 use Rattle.syntax65.specs.declared.place.Place.{Place}
 use Rattle.object65.specs.declared.object.Width.{Width}
 use Rattle.semantics65.specs.Contents.{put, Known}
-use Rattle.semantics65.specs.Machine.{holds}
 use Rattle.ast65.specs.declared.language.Item.{Item}
 use Rattle.semantics65.specs.declared.laid.Context.{Context}
 use Rattle.semantics65.specs.Views.{place_in}
-use Rattle.semantics65.specs.Module.{item_piece}
+use Rattle.semantics65.specs.Module.{item_piece, holds}
 use Rattle.emit65.specs.Fed.{Feeds}
 use Rattle.asm65.specs.declared.assembler.Assembler.{Assembler}
 use Rattle.asm65.specs.Inner.Holding.{Enters}

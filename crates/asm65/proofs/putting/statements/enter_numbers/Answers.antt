@@ -1,11 +1,10 @@
 use Rattle.std.proofs.Common.{List, ℕ, map, subst}
 use Rattle.std.specs.Prelude.{IfSome, OnOk, Option}
 use Rattle.semantics65.specs.Contents.{put, Known}
-use Rattle.semantics65.specs.Machine.{holds}
 use Rattle.semantics65.specs.Views.{place_in}
 use Rattle.ast65.specs.declared.language.Item.{Item}
 use Rattle.symbols65.proofs.Measures.{ok_then}
-use Rattle.semantics65.specs.Module.{item_piece}
+use Rattle.semantics65.specs.Module.{item_piece, holds}
 use Rattle.emit65.specs.Fed.{Feeds}
 use Rattle.asm65.specs.Inner.Holding.{Enters, AreStored}
 use Rattle.asm65.proofs.Enterings.{numbers_enter}

@@ -1,7 +1,7 @@
 use Rattle.std.proofs.Common.{◌≡◌, ◌∙◌, ◌∷◌, [], List, ℕ, refl, rules, subst}
 use Rattle.std.specs.Prelude.{replicate}
 use Rattle.semantics65.specs.Contents.{Known, put}
-use Rattle.semantics65.specs.Machine.{holds}
+use Rattle.semantics65.specs.Module.{holds}
 use Rattle.emit65.specs.Fed.{TakesIn, names_in}
 use Rattle.emit65.proofs.Standings.{begins_same, stands_taken}
 use Rattle.emit65.proofs.sections.Sections.fill.Goals as goal

@@ -1,6 +1,6 @@
 use Rattle.std.proofs.Common.{◌≡◌, ap, length, refl, rules, true}
 use Rattle.semantics65.specs.Contents.{Waiting, put}
-use Rattle.semantics65.specs.Machine.{holds}
+use Rattle.semantics65.specs.Module.{holds}
 use Rattle.emit65.specs.Fed.{names_in, stands_in}
 use Rattle.emit65.specs.declared.entries.Entry.TheVariants.{Value}
 use Rattle.emit65.proofs.Standings.{stands_put}

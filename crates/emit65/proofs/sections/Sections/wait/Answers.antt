@@ -1,6 +1,6 @@
 use Rattle.std.proofs.Common.{◌≡◌, ◌∙◌, ap, length, refl, rules, true}
 use Rattle.std.specs.Prelude.{nat_lt}
-use Rattle.semantics65.specs.Machine.{waits}
+use Rattle.semantics65.specs.Module.{waits}
 use Rattle.emit65.specs.Fed.{fixup_of, names_in, piece_of, stands_in}
 use Rattle.emit65.specs.declared.entries.Entry.TheVariants.{Waits}
 use Rattle.emit65.specs.declared.fixups.Fixup.{Fixup}

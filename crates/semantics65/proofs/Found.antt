@@ -1,0 +1,114 @@
+-- What slots come to, one behind the other.
+use Rattle.std.proofs.Common.{◌≡◌, ◌∙◌, ℕ, List, [], ◌∷◌, ◌++◌, map, refl, sym, ap, subst, append_assoc, arith}
+use Rattle.std.specs.Prelude.{⊤, filter_map, Option, Some, None, Result, Ok, Err}
+use Rattle.std.specs.List.{AllByRecursion, flat_map}
+use Rattle.std.proofs.lemmas.Grind.{common_steps, flat_map-append}
+use Rattle.std.proofs.lemmas.List.{append-nil}
+use Rattle.base65.specs.Outcome.{◌>>=◌}
+use Rattle.semantics65.specs.Contents.{Content, Declaration}
+use Rattle.semantics65.specs.Module.{Finished, Made, Slot, coming, exported_name, exported_names, followed_by, resolved}
+use Rattle.semantics65.specs.Numbering.{all_said}
+use Rattle.semantics65.specs.Reading.{PlacedFault}
+use Rattle.semantics65.specs.Symbols.{Symbols}
+
+-- ---- What was found behind what was found.
+
+-- these contents, and what was said
+abbrev pub found_all : List Content → List ℕ → Finished Content
+found_all cs said = record { found = Ok cs; warned = said }
+
+abbrev pub after_found : Result (List Content) PlacedFault → List ℕ → Finished Content → Finished Content
+after_found (Ok cs) said b = record { found = b.found >>= (λ ds. Ok (cs ++ ds)); warned = said ++ b.warned }
+after_found (Err e) said b = record { found = Err e; warned = said }
+
+-- the one and then the other
+abbrev pub after : Finished Content → Finished Content → Finished Content
+after a b = after_found a.found a.warned b
+
+prepended : (r : Result (List Content) PlacedFault) → (r >>= (λ ds. Ok ([] ++ ds))) ≡ r
+prepended (Ok ds) = refl
+prepended (Err e) = refl
+
+pub nothing_after : (b : Finished Content) → after (found_all [] []) b ≡ b
+nothing_after b = ap (λ r. record { found = r; warned = b.warned }) (prepended b.found)
+
+-- a slot more comes to a content
+pub resolved_more : (y : Symbols) (names : List (List ℕ)) (cs : List Content) (said : List ℕ) (x : Slot) (xs : List Slot) (m : Made) → coming y names x ≡ Ok m →
+    after (found_all cs said) (resolved y names (x ∷ xs)) ≡ after (found_all (cs ++ m.content ∷ []) (said ++ m.warning)) (resolved y (names ++ exported_names m.content.said) xs)
+resolved_more y names cs said x xs m made = grind (arith, common_steps, append_assoc)
+
+-- the first that has a fault ends it
+pub resolved_stops : (y : Symbols) (names : List (List ℕ)) (cs : List Content) (said : List ℕ) (x : Slot) (xs : List Slot) (e : PlacedFault) → coming y names x ≡ Err e →
+    after (found_all cs said) (resolved y names (x ∷ xs)) ≡ record { found = Err e; warned = said }
+resolved_stops y names cs said x xs e made = grind (arith, common_steps, append-nil)
+
+-- ---- Names.
+
+pub names_append : (ss ts : List Declaration) → exported_names (ss ++ ts) ≡ exported_names ss ++ exported_names ts
+names_append [] ts = refl
+names_append (s ∷ ss) ts = by (exported_name s) refl
+  where
+    by : (o : Option (List ℕ)) → exported_name s ≡ o → exported_names ((s ∷ ss) ++ ts) ≡ exported_names (s ∷ ss) ++ exported_names ts
+    by None e = rw e (names_append ss ts)
+    by (Some n) e = rw e (ap (λ ns. n ∷ ns) (names_append ss ts))
+
+-- ---- Contents, each with its slot.
+
+-- slots come to these contents, behind exports of these names
+abbrev pub AreFound : Symbols → List (List ℕ) → List Slot → List Content → Type 0
+AreFound y names [] [] = ⊤
+AreFound y names (x ∷ xs) (c ∷ cs) =
+    (warning : List ℕ) × (coming y names x ≡ Ok (record { content = c; warning = warning }))
+    × AreFound y (names ++ exported_names c.said) xs cs
+AreFound y names _ _ = ⊥
+
+pub found_each : (y : Symbols) (names : List (List ℕ)) (xs : List Slot) (cs : List Content) → (resolved y names xs).found ≡ Ok cs → AreFound y names xs cs
+found_each y names [] [] h = tt
+found_each y names [] (c ∷ cs) h = absurd cc
+found_each y names (x ∷ xs) cs h = by (coming y names x) refl h
+  where
+    rest : Made → Finished Content
+    rest m = resolved y (names ++ exported_names m.content.said) xs
+
+    then : (m : Made) → coming y names x ≡ Ok m → (q : Result (List Content) PlacedFault) → (rest m).found ≡ q → (cs : List Content) → (q >>= (λ ds. Ok (m.content ∷ ds))) ≡ Ok cs → AreFound y names (x ∷ xs) cs
+    then m first (Err e) more cs h = absurd cc
+    then m first (Ok ds) more [] h = absurd cc
+    then m first (Ok ds) more (c ∷ es) h =
+        let same : m.content ≡ c = cc in
+        let others : ds ≡ es = cc in
+        subst (λ (d : Content). AreFound y names (x ∷ xs) (d ∷ es)) same
+        (m.warning, (first, found_each y (names ++ exported_names m.content.said) xs es (more ∙ ap Ok others)))
+
+    by : (r : Result Made PlacedFault) → coming y names x ≡ r → (followed_by r rest).found ≡ Ok cs → AreFound y names (x ∷ xs) cs
+    by (Err e) first h = absurd cc
+    by (Ok m) first h = then m first (rest m).found refl cs h
+
+-- contents of slots one behind the other
+pub record Split (y : Symbols) (names : List (List ℕ)) (xs ys : List Slot) (cs : List Content) : Type 0 where
+  pub first : List Content
+  pub last : List Content
+  pub all : first ++ last ≡ cs
+  pub before : AreFound y names xs first
+  pub behind : AreFound y (names ++ exported_names (all_said first)) ys last
+
+pub found_split : (y : Symbols) (names : List (List ℕ)) (xs ys : List Slot) (cs : List Content) → AreFound y names (xs ++ ys) cs → Split y names xs ys cs
+found_split y names [] ys cs h = record { first = []; last = cs; all = refl; before = tt; behind = subst (λ ns. AreFound y ns ys cs) (sym (append-nil names)) h }
+found_split y names (x ∷ xs) ys [] h = absurd h
+found_split y names (x ∷ xs) ys (c ∷ cs) (w, (made, h)) =
+    let rest = found_split y (names ++ exported_names c.said) xs ys cs h in
+    record {
+      first = c ∷ rest.first;
+      last = rest.last;
+      all = ap (λ ds. c ∷ ds) rest.all;
+      before = (w, (made, rest.before));
+      behind = subst (λ ns. AreFound y ns ys rest.last) (append_assoc names (exported_names c.said) (exported_names (all_said rest.first)) ∙ ap (λ ns. names ++ ns) (sym (names_append c.said (all_said rest.first)))) rest.behind;
+    }
+
+-- what is so of whatever such slots come to
+pub found_all_so : (y : Symbols) (P : Slot → Type 0) (Q : Content → Type 0) →
+    ((names : List (List ℕ)) (x : Slot) (m : Made) → P x → coming y names x ≡ Ok m → Q m.content) →
+    (names : List (List ℕ)) (xs : List Slot) (cs : List Content) → AllByRecursion P xs → AreFound y names xs cs → AllByRecursion Q cs
+found_all_so y P Q so names [] [] all h = tt
+found_all_so y P Q so names [] (c ∷ cs) all h = absurd h
+found_all_so y P Q so names (x ∷ xs) [] all h = absurd h
+found_all_so y P Q so names (x ∷ xs) (c ∷ cs) (p, all) (w, (made, h)) = (so names x (record { content = c; warning = w }) p made, found_all_so y P Q so (names ++ exported_names c.said) xs cs all h)

@@ -138,7 +138,7 @@ module _ {E : Type 0} (p : Program) (o : Objects E) (h : AreObjects p o) (owner 
 
   pub lines_pass : (all : List Laid) → ((place : ℕ) (l : Laid) → slice_get all place ≡ Some l → o.contexts owner place ≡ l.context) → (before ls : List Laid) (names : List (List ℕ)) (cs : List Content) → before ++ ls ≡ all → AreStated (o.symbols owner) names ls cs → AllByRecursion (HasAssertion p) (lines_behind owner before ls) ↔ AllPass o owner (all_said cs)
   lines_pass all contexts before [] names _ w no_line = (λ k. tt, λ k. tt)
-  lines_pass all contexts before (l ∷ ls) names _ w (a_line {ds = ds} {cs = cs} found more) =
+  lines_pass all contexts before (l ∷ ls) names _ w (a_line ds cs found more) =
       let next : (before ++ l ∷ []) ++ ls ≡ all = append_assoc before (l ∷ []) ls ∙ w in
       let there : slice_get all (length before) ≡ Some l = subst (λ z. slice_get z (length before) ≡ Some l) w (in_middle before l ls) in
       let one = line_passes names before l (all_said ds) (contexts (length before) l there) (stated (o.symbols owner) names l ds found).said in

@@ -137,7 +137,7 @@ one_says z before l ss h = go l.stated h
 
 lines_say : (z : Symbols) (before : List (List ℕ)) (ls : List Laid) (cs : List Content) → AreStated z before ls cs → Says z before (flat_map (λ l. exported_by l.stated) ls) (all_said cs)
 lines_say z before [] _ no_line = says_nothing z before [] refl tt
-lines_say z before (l ∷ ls) _ (a_line {ds = ds} {cs = cs} found more) =
+lines_say z before (l ∷ ls) _ (a_line ds cs found more) =
     subst (Says z before (flat_map (λ l. exported_by l.stated) (l ∷ ls))) (sym (said_append ds cs))
     (says_both z before (exported_by l.stated) (flat_map (λ l. exported_by l.stated) ls) (all_said ds) (all_said cs)
     (one_says z before l (all_said ds) (stated z before l ds found).said) (lines_say z (before ++ exported_names (all_said ds)) ls cs more))
@@ -264,7 +264,7 @@ one_tells z names l ss h = go l.stated h
 
 lines_demand : (z : Symbols) (names : List (List ℕ)) (ls : List Laid) (cs : List Content) → AreStated z names ls cs → demanded_names (all_said cs) ≡ flat_map (λ l. forced_by l.stated) ls
 lines_demand z names [] _ no_line = refl
-lines_demand z names (l ∷ ls) _ (a_line {ds = ds} {cs = cs} found more) =
+lines_demand z names (l ∷ ls) _ (a_line ds cs found more) =
     ap demanded_names (said_append ds cs)
     ∙ flat_map-append demanded_name (all_said ds) (all_said cs)
     ∙ ap (λ ns. ns ++ demanded_names (all_said cs)) (one_tells z names l (all_said ds) (stated z names l ds found).said).demanded

@@ -248,7 +248,7 @@ module _ {E : Type 0} (p : Program) (o : Objects E) (h : AreObjects p o) (fill o
 
   of_lines : (before ls : List Laid) (names : List (List ℕ)) (cs : List Content) (at : ℕ) (bytes : List ℕ) → before ++ ls ≡ all → EndsAt at (here before ls) → AreStated (o.symbols owner) names ls cs → AreBytes p fill at (map line (here before ls)) bytes ↔ AreParts (HasValue o owner) fill (parts_in cs g) bytes
   of_lines before [] names _ at bytes w ends no_line = (λ k. k, λ k. k)
-  of_lines before (l ∷ ls) names _ at bytes w ends (a_line {ds = ds} {cs = cs} found more) =
+  of_lines before (l ∷ ls) names _ at bytes w ends (a_line ds cs found more) =
       let one = stated (o.symbols owner) names l ds found in
       let next : (before ++ l ∷ []) ++ ls ≡ all = append_assoc before (l ∷ []) ls ∙ w in
       let there : slice_get all (length before) ≡ Some l = subst (λ z. slice_get z (length before) ≡ Some l) w (in_middle before l ls) in

@@ -112,7 +112,7 @@ number_later ks k g e h = grind (arith, common_steps, behind_front, none_found)
 
 lines_asked : (z : Symbols) (names : List (List ℕ)) (ls : List Laid) (cs : List Content) → AreStated z names ls cs → segments_asked cs ≡ map (λ l. l.context.segment) (filter (λ l. asks_section l.stated) ls)
 lines_asked z names [] _ no_line = refl
-lines_asked z names (l ∷ ls) _ (a_line {ds = ds} {cs = cs} found more) =
+lines_asked z names (l ∷ ls) _ (a_line ds cs found more) =
     asked_append ds cs
     ∙ ap (λ gs. gs ++ segments_asked cs) (stated z names l ds found).asked
     ∙ ap (λ gs. cond (asks_section l.stated) (l.context.segment ∷ []) [] ++ gs) (lines_asked z (names ++ exported_names (all_said ds)) ls cs more)

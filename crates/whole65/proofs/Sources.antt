@@ -94,7 +94,7 @@ module _ (z : Symbols) (owner g : ℕ) where
 
   lines_long : (before ls : List Laid) (names : List (List ℕ)) (cs : List Content) (at : ℕ) → EndsAt at (here before ls) → AreMeasured ls → AreStated z names ls cs → end_of at (map line (here before ls)) ≡ at + sum_by part_len (parts_in cs g)
   lines_long before [] names _ at ends measured no_line = sym (zero_more at)
-  lines_long before (l ∷ ls) names _ at ends measured (a_line {ds = ds} {cs = cs} found more) =
+  lines_long before (l ∷ ls) names _ at ends measured (a_line ds cs found more) =
       let one = measured 0 l refl in
       let own : sum_by part_len (parts_in ds g) ≡ cond (nat_eq l.context.segment g) l.length 0 = slots_long z names one.0 l g ds one.1 found in
       let parts : sum_by part_len (parts_in (ds ++ cs) g) ≡ cond (nat_eq l.context.segment g) l.length 0 + sum_by part_len (parts_in cs g) =

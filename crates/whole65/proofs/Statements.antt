@@ -17,7 +17,9 @@ use Rattle.semantics65.specs.Norms.{defined_form, norm_of, width_of}
 use Rattle.semantics65.specs.Numbering.{all_said, parts_in, segments_asked}
 use Rattle.semantics65.specs.Reading.{at_place}
 use Rattle.semantics65.specs.Symbols.{Laid, Symbols, asks_section, defined, named, symbols_of}
-use Rattle.semantics65.specs.Types.{Action, AsmFault, Item, Value, Text, Mnemonic, Operand, Place, Settled, InMode, Statement, Align, Assert, Constant, Export, FilePart, ForceImport, Global, Import, Instruction, Reserve, Values, Width}
+use Rattle.semantics65.specs.declared.laid.Settled.{Settled}
+use Rattle.semantics65.specs.declared.laid.Settled.TheVariants.{InMode}
+use Rattle.semantics65.specs.Types.{Action, AsmFault, Item, Value, Text, Mnemonic, Operand, Place, Statement, Align, Assert, Constant, Export, FilePart, ForceImport, Global, Import, Instruction, Reserve, Values, Width}
 use Rattle.semantics65.specs.Contents.{operand_tree}
 use Rattle.whole65.proofs.SameValues.{bind_ok, written_ok}
 use Rattle.whole65.specs.Modules.{table_of}
@@ -350,7 +352,7 @@ stated y names l ds h = by (asks_section l.stated) refl ds h
 pub data AreStated (y : Symbols) : List (List ℕ) → List Laid → List Content → Type 0 where
   no_line : {names : List (List ℕ)} → AreStated y names [] []
   a_line :
-      {names : List (List ℕ)} {l : Laid} {ls : List Laid} {ds cs : List Content} →
+      {names : List (List ℕ)} {l : Laid} {ls : List Laid} (ds cs : List Content) →
       AreFound y names (slots_of l) ds → AreStated y (names ++ exported_names (all_said ds)) ls cs → AreStated y names (l ∷ ls) (ds ++ cs)
 
 all_stated : (y : Symbols) (names : List (List ℕ)) (ls : List Laid) (cs : List Content) → AreFound y names (flat_map slots_of ls) cs → AreStated y names ls cs
@@ -358,7 +360,7 @@ all_stated y names [] [] h = no_line
 all_stated y names [] (c ∷ cs) h = absurd h
 all_stated y names (l ∷ ls) cs h =
     let split = found_split y names (slots_of l) (flat_map slots_of ls) cs h in
-    subst (AreStated y names (l ∷ ls)) split.all (a_line split.before (all_stated y (names ++ exported_names (all_said split.first)) ls split.last split.behind))
+    subst (AreStated y names (l ∷ ls)) split.all (a_line split.first split.last split.before (all_stated y (names ++ exported_names (all_said split.first)) ls split.last split.behind))
 
 -- what a module comes to is what its statements come to
 pub are_stated : (y : Layout) (cs : List Content) → (ending_of y.laid).found ≡ Ok cs → AreStated (table_of y) [] y.laid cs

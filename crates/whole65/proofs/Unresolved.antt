@@ -70,7 +70,7 @@ module _ (P : Part → Type 0) where
 
   lines_put : (z : Symbols) (names : List (List ℕ)) (ls : List Laid) (cs : List Content) → AreStated z names ls cs → AskedBy ls cs → AllByRecursion P (all_put cs)
   lines_put z names [] _ no_line up = tt
-  lines_put z names (l ∷ ls) _ (a_line {ds = ds} {cs = cs} found more) up =
+  lines_put z names (l ∷ ls) _ (a_line ds cs found more) up =
       let one = stated z names l ds found in
       let both = λ (g : ℕ) (e : list_any (nat_eq g) (map (λ (x : Laid). x.context.segment) (cond (asks_section l.stated) (l ∷ asking) asking)) ≡ true). all_parts P (parts_in ds g) (parts_in cs g) (subst (AllByRecursion P) (parts_append g ds cs) (up g e)) in
       let own : AllByRecursion P (all_put one.own) = here one (asks_section l.stated) refl (λ g e. (both g e).0) in
@@ -199,7 +199,7 @@ module _ (s : Script) (placement : Placement) (ys : List Layout) (ms : List Modu
 
   checks_valued : (before ls : List Laid) (names : List (List ℕ)) (cs : List Content) → before ++ ls ≡ y.laid → AreStated z names ls cs → AllByRecursion (HasAssertion p) (lines_behind owner before ls) → AllByRecursion IsValuedCheck (all_said cs)
   checks_valued before [] names _ w no_line has = tt
-  checks_valued before (l ∷ ls) names _ w (a_line {ds = ds} {cs = cs} found more) has =
+  checks_valued before (l ∷ ls) names _ w (a_line ds cs found more) has =
       let next : (before ++ l ∷ []) ++ ls ≡ y.laid = append_assoc before (l ∷ []) ls ∙ w in
       let there : slice_get y.laid (length before) ≡ Some l = subst (λ k. slice_get k (length before) ≡ Some l) w (in_middle before l ls) in
       let context : o.contexts owner (length before) ≡ l.context = ap (λ r. context_in r (length before)) at_y ∙ ap (context_or (global_context y)) there in

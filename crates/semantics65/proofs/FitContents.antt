@@ -73,12 +73,12 @@ IsPieceFit files n file (valued why e) = IsSmallTree e × HasFile files file why
 IsPieceFit files n file (exported must name) = IsAmong files file
 IsPieceFit files n file _ = ⊤
 
-record IsFixupFit (files : List (List ℕ)) (n : ℕ) (w : Fixup) : Type 0 where
+pub record IsFixupFit (files : List (List ℕ)) (n : ℕ) (w : Fixup) : Type 0 where
   place : IsPlaceFit w.place
   at : IsPlaced w.context
   piece : IsPieceFit files n w.place.file w.piece
 
-abbrev IsSlotFit : List (List ℕ) → ℕ → Slot → Type 0
+abbrev pub IsSlotFit : List (List ℕ) → ℕ → Slot → Type 0
 IsSlotFit files n (holds c) = IsContentFit files n c
 IsSlotFit files n (waits w) = IsFixupFit files n w
 
@@ -164,10 +164,10 @@ module _ (files : List (List ℕ)) (n : ℕ) where
       (all_mapped (IsPieceFit files n l.place.file) IsSlot (waiting_at l) (λ p k. record { place = h.place; at = h.at; piece = k }) pieces
       (pieces_fit l.place.file l.length l.settled l.stated h.small h.file))
     where
-      abbrev asked : Bool → List Slot
+      asked : Bool → List Slot
       asked b = if b then holds (asking l.context.segment) ∷ [] else []
 
-      abbrev pieces : List Piece
+      pieces : List Piece
       pieces = pieces_of l.length l.settled l.stated
 
       asked_fit : (b : Bool) → AllByRecursion IsSlot (asked b)

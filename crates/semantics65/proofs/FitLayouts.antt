@@ -341,7 +341,7 @@ pieces_ask l (p ∷ ps) xs = let rest = pieces_ask l ps xs in omega (arith, rest
 slots_ask : (l : Laid) (xs : List Slot) → asking_count (slots_of l ++ xs) ≡ counted (asks_section l.stated) + asking_count xs
 slots_ask l xs = let rest = pieces_ask l (pieces_of l.length l.settled l.stated) xs in by (asks_section l.stated) rest
   where
-    abbrev waiting : List Slot
+    waiting : List Slot
     waiting = map (waiting_at l) (pieces_of l.length l.settled l.stated)
 
     by : (b : Bool) → asking_count (waiting ++ xs) ≡ asking_count xs → asking_count (((if b then holds (asking l.context.segment) ∷ [] else []) ++ waiting) ++ xs) ≡ counted b + asking_count xs

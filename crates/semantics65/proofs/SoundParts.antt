@@ -20,8 +20,7 @@ use Rattle.object65.specs.declared.object.Width.{Width}
 use Rattle.semantics65.specs.Contents.{Content, Declaration, ForcedImport, Part, Waiting, asking, decided, export_said, file_bytes, import_fault, opcode_part, operand_form, operand_tree, put, room_part, stored, telling, written}
 use Rattle.syntax65.specs.declared.place.Place.{Place}
 use Rattle.semantics65.specs.Symbols.{Laid, asks_section, defined, has_here, named, Symbols}
-use Rattle.semantics65.specs.declared.laid.Settled.{Settled}
-use Rattle.semantics65.specs.declared.laid.Settled.TheVariants.{Unsettled, FromByte}
+use Rattle.semantics65.specs.declared.laid.Settled.TheVariants.{FromByte}
 use Rattle.semantics65.specs.declared.laid.Context.{Context}
 use Rattle.ast65.specs.declared.fault.AsmFault.{AsmFault}
 use Rattle.ast65.specs.declared.language.Item.{Item}

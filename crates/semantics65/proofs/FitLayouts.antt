@@ -1,6 +1,6 @@
 -- What a source lays has small numbers, texts for the names of its files, and no more names and statements than tokens: so its object's numbers are those of their types.
 use Rattle.std.proofs.lemmas.Grind.{common_steps}
-use Rattle.std.proofs.Common.{arith, ◌≡◌, ◌∙◌, ℕ, zero, suc, ◌+◌, ◌<◌, ◌≤◌, Bool, true, false, List, [], ◌∷◌, ◌++◌, length, Option, Some, None, refl, sym, ap, subst, if◌then◌else◌}
+use Rattle.std.proofs.Common.{arith, ◌≡◌, ◌∙◌, ℕ, zero, suc, ◌+◌, ◌<◌, ◌≤◌, Bool, true, false, List, [], ◌∷◌, ◌++◌, length, map, Option, Some, None, refl, sym, ap, subst, if◌then◌else◌}
 use Rattle.std.specs.Prelude.{Result, Ok, Err, IfOk, nat_le, ◌||◌}
 use Rattle.std.specs.FinMap as fmap
 use Rattle.std.specs.List.{AllByRecursion, flat_map, list_any}
@@ -27,16 +27,16 @@ use Rattle.ast65.specs.Parsing.{IsStatement, is_colon, label_before, label_of, n
 use Rattle.ast65.specs.declared.fault.AsmFault.{AsmFault}
 use Rattle.ast65.specs.declared.language.Statement.{Statement}
 use Rattle.ast65.specs.declared.language.Statement.TheVariants.{Constant, Label, CheapLabel, UnnamedLabel, Import, Global, ForceImport, NamedPart}
-use Rattle.semantics65.specs.Contents.{Content}
+use Rattle.semantics65.specs.Contents.{asking, Content}
 use Rattle.semantics65.specs.Fitting.{FittingObjectLaw, HoldBytes, AreOfTypes}
 use Rattle.semantics65.specs.Layout.{context_of, Cursor, laid, Layout, layout_behind, line_fault, nothing_laid, own_size, segment_at, unless_fault}
-use Rattle.semantics65.specs.Module.{contents_from, Outcome, outcome_of}
+use Rattle.semantics65.specs.Module.{ending_of, holds, Outcome, outcome_of, Piece, pieces_of, Slot, slots_of, waiting_at}
 use Rattle.semantics65.specs.Norms.{length_of}
 use Rattle.semantics65.specs.Numbering.{AreSound, object_with}
 use Rattle.semantics65.specs.Reading.{AreDefined, AreTaken, taken, faulty, refused, ended, Define, Follows, IsBegun, IsGiven, IsLabelled, IsLaid, IsRest, Job, laying, no_line, PlacedFault, Reached, with_bytes}
 use Rattle.semantics65.specs.Symbols.{asks_section, definition_with, definitions_of, imports_of, Key, key_defined, Laid, Symbols, symbols_of, value_defined, with_new}
 use Rattle.semantics65.specs.Types.{Context, Place}
-use Rattle.semantics65.proofs.FitContents.{AreContentsOf, asking, contents_fit, counted, IsAmong, IsLaidFit, is_counted}
+use Rattle.semantics65.proofs.FitContents.{all_slots_fit, AreContentsOf, asking_count, contents_fit, counted, IsAmong, IsLaidFit, is_counted}
 use Rattle.semantics65.proofs.FitForms.{AreDefinitionsFit, IsDefinitionFit, IsPlaced}
 use Rattle.semantics65.proofs.FitItems.{IsPlaceFit, tokens_left}
 use Rattle.semantics65.proofs.FitObjects.{object_fits}
@@ -326,28 +326,50 @@ all_laid : (names : List (List ℕ)) (ls : List Laid) → AllByRecursion IsLaidS
 all_laid names [] h filed = tt
 all_laid names (l ∷ ls) h filed = (record { small = h.0.small; place = h.0.place; file = filed.0; at = h.0.at }, all_laid names ls h.1 filed.1)
 
+-- ---- How many ask for a section.
+
 -- what asks for a section puts something there
 asks_counted : (x : Statement) → counted (asks_section x) ≤ counted (is_counted x)
 asks_counted (Constant n e) = omega arith
 asks_counted x = grind (arith, counted_most)
 
-asking_few : (ls : List Laid) → asking ls ≤ length (files_in ls)
+-- pieces don't ask for one
+pieces_ask : (l : Laid) (ps : List Piece) (xs : List Slot) → asking_count (map (waiting_at l) ps ++ xs) ≡ asking_count xs
+pieces_ask l [] xs = refl
+pieces_ask l (p ∷ ps) xs = let rest = pieces_ask l ps xs in omega (arith, rest)
+
+slots_ask : (l : Laid) (xs : List Slot) → asking_count (slots_of l ++ xs) ≡ counted (asks_section l.stated) + asking_count xs
+slots_ask l xs = let rest = pieces_ask l (pieces_of l.length l.settled l.stated) xs in by (asks_section l.stated) rest
+  where
+    waiting : List Slot
+    waiting = map (waiting_at l) (pieces_of l.length l.settled l.stated)
+
+    by : (b : Bool) → asking_count (waiting ++ xs) ≡ asking_count xs → asking_count (((if b then holds (asking l.context.segment) ∷ [] else []) ++ waiting) ++ xs) ≡ counted b + asking_count xs
+    by true rest = omega (arith, rest)
+    by false rest = omega (arith, rest)
+
+asking_few : (ls : List Laid) → asking_count (flat_map slots_of ls) ≤ length (files_in ls)
 asking_few [] = omega arith
 asking_few (l ∷ ls) =
     let less = asking_few ls in
     let one = asks_counted l.stated in
+    let slots = slots_ask l (flat_map slots_of ls) in
     let same = put_length (is_counted l.stated) l.place.file (files_in ls) in
-    omega (arith, less, one, same)
+    omega (arith, less, one, slots, same)
 
 -- ---- The object.
 
 module _ (y : Layout) (fit : IsLayoutFit most y) where
-  contents_there : (cs : List Content) → contents_from (symbols_of y.laid) y.laid ≡ Ok cs → AreContentsOf (symbols_of y.laid) (definitions_fit y.laid fit.laid) (files_in y.laid) y.laid cs
-  contents_there cs e =
-      subst (λ r. IfOk r (AreContentsOf (symbols_of y.laid) (definitions_fit y.laid fit.laid) (files_in y.laid) y.laid)) e
-      (contents_fit (symbols_of y.laid) (definitions_fit y.laid fit.laid) (files_in y.laid) y.laid (all_laid (files_in y.laid) y.laid fit.laid (all_filed y.laid)))
+  abbrev AreContents : List Content → Type 0
+  AreContents cs = AreContentsOf (symbols_of y.laid) (definitions_fit y.laid fit.laid) (files_in y.laid) (flat_map slots_of y.laid) cs
 
-  made_fits : (o : Object) (cs : List Content) → contents_from (symbols_of y.laid) y.laid ≡ Ok cs → AreSound y.cursor.segments (symbols_of y.laid).imports cs → object_with y.cursor.segments (symbols_of y.laid).imports cs ≡ o → ObjectFits o
+  contents_there : (cs : List Content) → (ending_of y.laid).found ≡ Ok cs → AreContents cs
+  contents_there cs e =
+      subst (λ r. IfOk r AreContents) e
+      (contents_fit (symbols_of y.laid) (definitions_fit y.laid fit.laid) (files_in y.laid) [] (flat_map slots_of y.laid)
+      (all_slots_fit (files_in y.laid) (length (symbols_of y.laid).imports) y.laid (all_laid (files_in y.laid) y.laid fit.laid (all_filed y.laid))))
+
+  made_fits : (o : Object) (cs : List Content) → (ending_of y.laid).found ≡ Ok cs → AreSound y.cursor.segments (symbols_of y.laid).imports cs → object_with y.cursor.segments (symbols_of y.laid).imports cs ≡ o → ObjectFits o
   made_fits o cs e sound same =
       let there = contents_there cs e in
       let asked = there.asked in
@@ -358,12 +380,12 @@ module _ (y : Layout) (fit : IsLayoutFit most y) where
       subst ObjectFits same
       (object_fits (files_in y.laid) (symbols_of y.laid).imports y.cursor.segments cs there.contents sound.room files (omega (arith, new, names)) (omega (arith, asked, few, files)))
 
-  found_fits : (o : Object) (q : Result (List Content) PlacedFault) → contents_from (symbols_of y.laid) y.laid ≡ q → ((cs : List Content) → contents_from (symbols_of y.laid) y.laid ≡ Ok cs → AreSound y.cursor.segments (symbols_of y.laid).imports cs) → (q >>= (λ cs. Ok (object_with y.cursor.segments (symbols_of y.laid).imports cs))) ≡ Ok o → ObjectFits o
+  found_fits : (o : Object) (q : Result (List Content) PlacedFault) → (ending_of y.laid).found ≡ q → ((cs : List Content) → (ending_of y.laid).found ≡ Ok cs → AreSound y.cursor.segments (symbols_of y.laid).imports cs) → (q >>= (λ cs. Ok (object_with y.cursor.segments (symbols_of y.laid).imports cs))) ≡ Ok o → ObjectFits o
   found_fits o (Ok cs) e sound h = let same : object_with y.cursor.segments (symbols_of y.laid).imports cs ≡ o = cc in made_fits o cs e (sound cs e) same
   found_fits o (Err f) e sound h = absurd cc
 
-  outcome_fits : (f : Option PlacedFault) (o : Object) → ((cs : List Content) → contents_from (symbols_of y.laid) y.laid ≡ Ok cs → AreSound y.cursor.segments (symbols_of y.laid).imports cs) → (outcome_of y f).result ≡ Ok o → ObjectFits o
-  outcome_fits None o sound h = found_fits o (contents_from (symbols_of y.laid) y.laid) refl sound h
+  outcome_fits : (f : Option PlacedFault) (o : Object) → ((cs : List Content) → (ending_of y.laid).found ≡ Ok cs → AreSound y.cursor.segments (symbols_of y.laid).imports cs) → (outcome_of y f).result ≡ Ok o → ObjectFits o
+  outcome_fits None o sound h = found_fits o (ending_of y.laid).found refl sound h
   outcome_fits (Some e) o sound h = absurd cc
 
 pub fitting_object : FittingObjectLaw

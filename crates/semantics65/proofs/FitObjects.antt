@@ -16,7 +16,7 @@ use Rattle.object65.specs.declared.object.Section.{Section}
 use Rattle.semantics65.specs.Contents.{Content, Declaration, Exported, ForcedImport, Asserted, Part, Known, Filled, Waiting}
 use Rattle.semantics65.specs.Numbering.{all_joined, all_said, assert_files, assert_of, content_imports, export_files, exports_among, files_named, files_of, fragment_of, fragments_of, import_keys, imports_in, in_files, is_empty, joined, key_of, number_of, numbered, object_with, optional_key, part_files, part_imports, part_len, parts_in, said_imports, section_keys, section_of, segments_asked}
 use Rattle.semantics65.specs.declared.contents.Segment.{Segment}
-use Rattle.semantics65.proofs.FitContents.{IsAmong, IsContentFit, IsPartFit, IsSaidFit, IsWritten}
+use Rattle.semantics65.proofs.FitContents.{IsAmong, IsContentFit, IsPartFit, IsSaidFit, IsWritten, flat_all}
 use Rattle.semantics65.proofs.FitForms.{IsBounded, position_below}
 use Rattle.semantics65.proofs.SoundForms.{all_append}
 use Rattle.semantics65.proofs.FitKeys.{below_few, names_all, names_few, once_short}
@@ -32,10 +32,6 @@ form_below n (sec g a) h = tt
 form_below n (imp k) h = (h, tt)
 form_below n (prefix op f) h = form_below n f h
 form_below n (binary op f g) h = all_append (λ k. k < n) (imports_in f) (imports_in g) (form_below n f h.0) (form_below n g h.1)
-
-flat_all : {A B : Type 0} (Q : A → Type 0) (P : B → Type 0) (f : A → List B) → ((x : A) → Q x → AllByRecursion P (f x)) → (xs : List A) → AllByRecursion Q xs → AllByRecursion P (flat_map f xs)
-flat_all Q P f h [] all = tt
-flat_all Q P f h (x ∷ xs) all = all_append P (f x) (flat_map f xs) (h x all.0) (flat_all Q P f h xs all.1)
 
 module _ (files : List (List ℕ)) (names : List (List ℕ)) where
   abbrev IsPart : Part → Type 0

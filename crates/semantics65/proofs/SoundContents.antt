@@ -11,11 +11,11 @@ use Rattle.semantics65.specs.Contents.{Content, asking}
 use Rattle.semantics65.specs.Symbols.{Laid, asks_section, Symbols, imported, imports_of, symbols_of, with_new}
 use Rattle.ast65.specs.declared.language.Statement.{Statement}
 use Rattle.semantics65.specs.Machine.{SoundContents}
-use Rattle.semantics65.specs.Module.{Made, Piece, Slot, coming, exported_names, holds, pieces_of, slots_of, waiting_at, waits}
+use Rattle.semantics65.specs.Module.{Made, Piece, Slot, coming, exported_names, holds, pieces_of, quietly, slots_of, waiting_at, waits}
 use Rattle.semantics65.specs.Numbering.{all_said, once, parts_in, section_keys, segments_asked, IsMeasured, IsSound, IsSoundContent, part_len, statements_in}
 use Rattle.semantics65.proofs.Found.{AreFound, found_all_so, found_each, found_split}
 use Rattle.semantics65.proofs.SoundForms.{Asks, all_append, definitions_pass}
-use Rattle.semantics65.proofs.SoundParts.{IsKnown, asked_in, below, if_found, slots_long}
+use Rattle.semantics65.proofs.SoundParts.{IsKnown, asked_in, below, content_is, if_found, slots_long}
 use Rattle.semantics65.proofs.SoundPieces.{IsSoundPiece, IsWellMade, names_all, piece_sound, pieces_sound}
 use Rattle.semantics65.proofs.Resolving.{new_append}
 
@@ -76,7 +76,7 @@ asked_behind (c ∷ cs) ds g h = asked_more c (cs ++ ds) g (asked_behind cs ds g
 -- a statement that asks for its section does so before all else
 asks_first : (z : Symbols) (names : List (List ℕ)) (l : Laid) (b : Bool) (xs : List Slot) (cs ds : List Content) → b ≡ true → AreFound z names ((if b then holds (asking l.context.segment) ∷ [] else []) ++ xs) cs → asked_in (segments_asked (cs ++ ds)) l.context.segment ≡ true
 asks_first z names l true xs [] ds e h = absurd h
-asks_first z names l true xs (c ∷ cs) ds e (w, (made, h)) = (let is : asking l.context.segment ≡ c = cc in subst (λ (d : Content). asked_in (segments_asked (d ∷ cs ++ ds)) l.context.segment ≡ true) is (asked_first (asking l.context.segment) (cs ++ ds) refl))
+asks_first z names l true xs (c ∷ cs) ds e (w, made, h) = (let is : asking l.context.segment ≡ c = content_is (quietly (asking l.context.segment)) (record { content = c; warning = w }) made in subst (λ (d : Content). asked_in (segments_asked (d ∷ cs ++ ds)) l.context.segment ≡ true) is (asked_first (asking l.context.segment) (cs ++ ds) refl))
 asks_first z names l false xs cs ds e h = absurd cc
 
 asked_all : (z : Symbols) (names : List (List ℕ)) (ls : List Laid) (cs : List Content) → AreFound z names (flat_map slots_of ls) cs → AllByRecursion (Asks (asked_in (segments_asked cs))) ls
@@ -124,11 +124,11 @@ slots_safe asked count bound (l ∷ ls) h =
     (slots_safe asked count bound ls h.1)
 
 -- what each slot comes to
-IsWell : List ℕ → ℕ → ℕ → Content → Type 0
+abbrev IsWell : List ℕ → ℕ → ℕ → Content → Type 0
 IsWell asked count bound c = IsSoundContent asked count c × (c.segment < bound)
 
 slot_well : (asked : List ℕ) (count bound : ℕ) (z : Symbols) → IsKnown asked count z → (names : List (List ℕ)) (x : Slot) (m : Made) → IsSafeSlot asked count bound x → coming z names x ≡ Ok m → IsWell asked count bound m.content
-slot_well asked count bound z k names (holds c) m h made = (let is : c ≡ m.content = cc in subst (IsWell asked count bound) is h)
+slot_well asked count bound z k names (holds c) m h made = (let is : c ≡ m.content = content_is (quietly c) m made in subst (IsWell asked count bound) is h)
 slot_well asked count bound z k names (waits w) m h made =
     let so : IsWellMade asked count w.context m = if_found (IsWellMade asked count w.context) (coming z names (waits w)) m made (piece_sound asked count z k names w.place w.context w.piece h.0) in
     (so.0, (let le = so.1 in let lt = h.1 in omega (arith, le, lt)))
@@ -159,7 +159,7 @@ length_first l ls g = by (nat_eq l.context.segment g)
   where
     by : (b : Bool) → sum_by (λ (x : Laid). x.length) (if b then l ∷ statements_in ls g else statements_in ls g) ≡ (if b then l.length else 0) + sum_by (λ (x : Laid). x.length) (statements_in ls g)
     by true = sum_by-cons (λ (x : Laid). x.length) l (statements_in ls g)
-    by false = refl
+    by false = omega arith
 
 same_room : (z : Symbols) (names : List (List ℕ)) (g : ℕ) (ls : List Laid) (cs : List Content) → AllByRecursion IsMeasuredSome ls → AreFound z names (flat_map slots_of ls) cs → sum_by part_len (parts_in cs g) ≡ sum_by (λ l. l.length) (statements_in ls g)
 same_room z names g [] [] m h = refl

@@ -10,7 +10,8 @@ use Rattle.object65.specs.Form.{Form}
 use Rattle.syntax65.specs.Trees.{Tree}
 use Rattle.semantics65.proofs.Found.{AreFound, found_each, found_split}
 use Rattle.semantics65.proofs.SoundForms.{all_append}
-use Rattle.semantics65.specs.Contents.{Content, Declaration, Exported, ForcedImport, Part, asking, decided, export_said, import_fault, operand_form, put, stored, telling, written}
+use Rattle.semantics65.proofs.SoundParts.{content_is}
+use Rattle.semantics65.specs.Contents.{Content, Declaration, Exported, ForcedImport, Part, asking, decided, export_said, import_fault, operand_form, operand_tree, put, stored, telling, written}
 use Rattle.semantics65.specs.Layout.{Layout}
 use Rattle.semantics65.specs.Module.{Made, Piece, Purpose, absent_of, as_part, as_said, asserted, coming, datum, demanded, ending_of, equated, exported, exported_names, failed, given, holds, imported, item_piece, made_of, operand, operand_pieces, pieces_of, quietly, slots_of, used, valued, waiting_at}
 use Rattle.semantics65.specs.Norms.{defined_form, norm_of, width_of}
@@ -20,7 +21,6 @@ use Rattle.semantics65.specs.Symbols.{Laid, Symbols, asks_section, defined, name
 use Rattle.semantics65.specs.declared.laid.Settled.{Settled}
 use Rattle.semantics65.specs.declared.laid.Settled.TheVariants.{InMode}
 use Rattle.semantics65.specs.Types.{Action, AsmFault, Item, Value, Text, Mnemonic, Operand, Place, Statement, Align, Assert, Constant, Export, FilePart, ForceImport, Global, Import, Instruction, Reserve, Values, Width}
-use Rattle.semantics65.specs.Contents.{operand_tree}
 use Rattle.whole65.proofs.SameValues.{bind_ok, written_ok}
 use Rattle.whole65.specs.Modules.{table_of}
 
@@ -334,8 +334,7 @@ stated y names l ds h = by (asks_section l.stated) refl ds h
         }
     by true e [] h = absurd h
     by true e (c ∷ ds) (w, made, h) =
-        let found : quietly (asking g) ≡ record { content = c; warning = w } = cc in
-        let same : asking g ≡ c = ap (λ (m : Made). m.content) found in
+        let same : asking g ≡ c = content_is (quietly (asking g)) (record { content = c; warning = w }) made in
         let before : names ++ exported_names c.said ≡ names = ap (λ (d : Content). names ++ exported_names d.said) (sym same) ∙ append-nil names in
         let all : AllCome y l names ps ds = all_come y l names ps ds (subst (λ ns. AreFound y ns (map (waiting_at l) ps) ds) before h) in
         subst (λ (d : Content). Stated y names l (d ∷ ds)) same

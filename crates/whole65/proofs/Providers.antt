@@ -1,12 +1,11 @@
 -- Who gives a name, in a link and in the whole program.
 use Rattle.std.proofs.lemmas.Grind.{common_steps}
 use Rattle.std.proofs.Common.{◌≡◌, ℕ, zero, suc, ◌+◌, Bool, true, false, cond, List, [], ◌∷◌, ◌++◌, length, map, slice_get, Option, Some, None, Result, Ok, Err, refl, sym, ◌∙◌, ap, subst, arith}
-use Rattle.std.specs.Prelude.{ℤ, pos, find, ◌||◌}
+use Rattle.std.specs.Prelude.{ℤ, pos, find}
 use Rattle.std.specs.List.{AllByRecursion, list_any, position_from}
 use Rattle.std.specs.Option.{option_map_or}
 use Rattle.std.specs.Str.{bytes_eq}
 use Rattle.std.proofs.lemmas.List.{append-nil, append_assoc, length-append}
-use Rattle.base65.specs.Outcome.{◌>>=◌}
 use Rattle.syntax65.specs.Trees as tree
 use Rattle.object65.specs.Form.{Form}
 use Rattle.object65.specs.declared.object.Export.{Export}
@@ -17,10 +16,9 @@ use Rattle.script65.specs.declared.script.Script.{Script}
 use Rattle.ast65.proofs.Lists.{same_bytes}
 use Rattle.syntax65.specs.declared.place.Place.{Place}
 use Rattle.semantics65.specs.Contents.{Content, Declaration, Exported, ForcedImport, Asserted}
-use Rattle.ast65.specs.declared.fault.AsmFault.TheVariants.{Undefined}
-use Rattle.semantics65.specs.Symbols.{Laid, or_else, or_fault, Symbols, defined, imported, named}
+use Rattle.semantics65.specs.Symbols.{Laid, Symbols, defined, named}
 use Rattle.semantics65.specs.Layout.{Layout}
-use Rattle.semantics65.specs.Norms.{defined_form, form_of_meaning, norm, norm_of}
+use Rattle.semantics65.specs.Norms.{defined_form, norm}
 use Rattle.semantics65.specs.Numbering.{all_said, exports_among, import_keys, numbered, section_keys}
 use Rattle.link65.specs.Names.{by_definition, by_export, defined_at, exported_at, is_among, script_definitions, weak_symbols}
 use Rattle.link65.specs.Names as linked
@@ -31,7 +29,7 @@ use Rattle.link65.specs.declared.parts.Exported as parts
 use Rattle.link65.specs.declared.parts.Provider.{Provider}
 use Rattle.link65.specs.declared.parts.Provider.TheVariants.{ByModule, ByScript, Nobody}
 use Rattle.link65.specs.declared.parts.ValueFault.{ValueFault}
-use Rattle.link65.specs.declared.parts.ValueFault.TheVariants.{Circular, NoValue, Unresolved}
+use Rattle.link65.specs.declared.parts.ValueFault.TheVariants.{Circular, Unresolved}
 use Rattle.semantics65.proofs.SoundForms.{all_append}
 use Rattle.semantics65.proofs.Segments.{all_more}
 use Rattle.semantics65.specs.Module.{ending_of}
@@ -41,7 +39,7 @@ use Rattle.whole65.proofs.Linked.{linked_law}
 use Rattle.whole65.proofs.Positions.{all_get}
 use Rattle.whole65.proofs.Sources.{contents_of}
 use Rattle.whole65.proofs.LinkedObjects.{IsKeyed, IsKeyedContent, IsKeyedSaid, provider_named, imports_linked, linked_objects, context_in, symbols_at}
-use Rattle.whole65.specs.Modules.{global_context, context_or, table_of}
+use Rattle.whole65.specs.Modules.{global_context, table_of}
 use Rattle.whole65.specs.Objects.{IsExport, IsGiven, IsGivenBy, Objects, AreObjects}
 use Rattle.whole65.specs.Offsets.{IsLaidOut}
 use Rattle.whole65.specs.Programs as whole

@@ -1,9 +1,8 @@
 -- The sections of an object, and what they make of one segment.
 use Rattle.std.proofs.lemmas.Grind.{common_steps}
-use Rattle.std.proofs.Common.{◌≡◌, ℕ, suc, length, ◌<◌, Bool, true, false, nat_eq, cond, List, [], ◌∷◌, ◌++◌, map, filter, Option, Some, None, Result, Ok, refl, sym, ◌∙◌, ap, subst, arith, zero, slice_get}
+use Rattle.std.proofs.Common.{◌≡◌, ℕ, suc, length, ◌<◌, Bool, true, false, nat_eq, cond, List, [], ◌∷◌, ◌++◌, map, filter, Option, Some, None, Ok, refl, sym, ◌∙◌, ap, subst, arith, zero, slice_get}
 use Rattle.std.specs.Prelude.{⊤, ◌&&◌, ◌||◌, unwrap_or}
-use Rattle.std.specs.List.{AllByRecursion, list_any, position}
-use Rattle.std.specs.Option.{option_map}
+use Rattle.std.specs.List.{AllByRecursion, list_any}
 use Rattle.std.specs.Str.{bytes_eq}
 use Rattle.std.proofs.lemmas.Bool.Decides.{nat_tests}
 use Rattle.std.proofs.lemmas.List.Folds.{list_any-append}
@@ -30,7 +29,6 @@ use Rattle.link65.specs.Programs.{grown, Module, Program, member, no_program, wi
 use Rattle.link65.specs.Programs as linked
 use Rattle.whole65.proofs.LinkedObjects.{behind_sections, or_empty, behind_modules}
 use Rattle.std.proofs.lemmas.List.{length-append}
-use Rattle.whole65.specs.Programs.{program_of}
 
 -- ---- Each once.
 

@@ -1,12 +1,10 @@
 -- The contents of a source's object, and what its sections make of a segment.
 use Rattle.std.proofs.lemmas.Grind.{common_steps}
-use Rattle.std.proofs.Common.{◌≡◌, ℕ, zero, suc, ◌+◌, ◌<◌, Bool, true, false, nat_eq, cond, List, [], ◌∷◌, ◌++◌, length, map, filter, take, slice_get, Some, Result, Ok, Err, refl, sym, ◌∙◌, ap, subst, arith, inl, inr, Option, None}
+use Rattle.std.proofs.Common.{◌≡◌, ℕ, suc, ◌+◌, ◌<◌, Bool, true, false, nat_eq, cond, List, [], ◌∷◌, ◌++◌, length, map, filter, take, slice_get, Some, Result, Ok, refl, sym, ◌∙◌, ap, arith, inl, inr, Option, None}
 use Rattle.std.specs.Prelude.{not, sum_by}
 use Rattle.std.specs.List.{list_any}
-use Rattle.std.specs.Str.{bytes_eq}
 use Rattle.std.proofs.lemmas.List.{length-append}
 use Rattle.std.proofs.lemmas.List.Sums.{sum_by-append, sum_by-cons}
-use Rattle.base65.specs.Outcome.{◌>>=◌}
 use Rattle.object65.specs.Objects.{fragment_len, section_len}
 use Rattle.object65.specs.declared.object.Fragment.{Fragment}
 use Rattle.object65.specs.declared.object.Fragment.TheVariants.{Literal, Fill, Value}
@@ -38,7 +36,6 @@ use Rattle.whole65.proofs.Versions.{by_lines}
 use Rattle.whole65.proofs.LinkedObjects.{behind_modules, behind_sections, or_empty}
 use Rattle.whole65.specs.Sources.{AreSources, IsSource}
 use Rattle.link65.specs.Programs as linked
-use Rattle.whole65.specs.Programs.{program_of}
 
 -- ---- Fragments.
 

@@ -12,9 +12,9 @@ use Rattle.object65.specs.declared.object.Fragment.TheVariants.{Literal, Fill, V
 use Rattle.object65.specs.declared.object.Object.{Object}
 use Rattle.object65.specs.declared.object.Origin.{Origin}
 use Rattle.syntax65.specs.declared.place.Place.{Place}
-use Rattle.semantics65.specs.Contents.{Content, Part, Known, Filled, Waiting, Declaration, Exported, ForcedImport, Asserted}
+use Rattle.semantics65.specs.Contents.{Content, Part, Declaration, Exported, ForcedImport, Asserted}
 use Rattle.semantics65.specs.declared.contents.Segment.{Segment}
-use Rattle.semantics65.specs.Numbering.{all_joined, all_said, assert_of, exports_among, fragment_of, fragments_of, import_keys, is_empty, joined, numbered, object_by, parts_in, section_keys, section_of}
+use Rattle.semantics65.specs.Numbering.{all_joined, all_said, assert_of, exports_among, fragment_of, fragments_of, import_keys, is_empty, joined, numbered, object_by, section_keys, section_of}
 
 -- ---- Fragments.
 

@@ -1,5 +1,5 @@
 -- Each slot comes to something, or to a fault that comes from no outside; so laid statements have an object.
-use Rattle.std.proofs.Common.{◌≡◌, pos, ℕ, zero, ◌+◌, Bool, true, false, List, [], ◌∷◌, ◌++◌, Option, Some, None, refl}
+use Rattle.std.proofs.Common.{arith, ◌≡◌, pos, ℕ, zero, ◌+◌, Bool, false, List, [], ◌∷◌, ◌++◌, Option, Some, None, refl}
 use Rattle.std.specs.Prelude.{Result, Ok, Err, IfSome}
 use Rattle.std.specs.List.{flat_map}
 use Rattle.base65.specs.Outcome.{◌>>=◌}
@@ -40,15 +40,10 @@ form_own width s f = good f
 -- ---- What is said.
 
 import_own : (y : Symbols) (n : List ℕ) → Own is_outside (import_fault y n)
-import_own y n = by (defined y (named 0 n)) refl
-  where
-    by : (o : Option ℕ) → defined y (named 0 n) ≡ o → Own is_outside (import_fault y n)
-    by None e = rw e (good [])
-    by (Some j) e = rw e (bad _ refl)
+import_own y n = record { own = grind (arith) }
 
 absent_own : (must : Bool) (n : List ℕ) → Own is_outside (absent_of must n)
-absent_own true n = bad _ refl
-absent_own false n = good []
+absent_own must n = record { own = grind (arith) }
 
 export_own : (y : Symbols) (place : Place) (n : List ℕ) (absent : Result (List Declaration) AsmFault) → Own is_outside absent → (o : Option ℕ) → Own is_outside (export_said y place n absent o)
 export_own y place n absent h None = h

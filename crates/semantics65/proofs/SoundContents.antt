@@ -86,7 +86,8 @@ asked_all z names (l ∷ ls) cs h =
     let rest = asked_all z (names ++ exported_names (all_said both.first)) ls both.last both.behind in
     let so : AllByRecursion (Asks (asked_in (segments_asked (both.first ++ both.last)))) (l ∷ ls) = (
       (λ e. asks_first z names l (asks_section l.stated) (map (waiting_at l) (pieces_of l.length l.settled l.stated)) both.first both.last e both.before),
-      asks_more (asked_in (segments_asked both.last)) (asked_in (segments_asked (both.first ++ both.last))) (λ g e. asked_behind both.first both.last g e) ls rest) in
+      asks_more (asked_in (segments_asked both.last)) (asked_in (segments_asked (both.first ++ both.last))) (λ g e. asked_behind both.first both.last g e) ls rest,
+    ) in
     subst (λ ds. AllByRecursion (Asks (asked_in (segments_asked ds))) (l ∷ ls)) both.all so
 
 asked_keys : (z : Symbols) (ls : List Laid) (cs : List Content) → AreFound z [] (flat_map slots_of ls) cs → AllByRecursion (Asks (asked_in (section_keys cs))) ls

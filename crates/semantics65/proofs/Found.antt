@@ -2,8 +2,9 @@
 use Rattle.std.proofs.Common.{◌≡◌, ◌∙◌, ℕ, List, [], ◌∷◌, ◌++◌, map, refl, sym, ap, subst, append_assoc, arith}
 use Rattle.std.specs.Prelude.{⊤, filter_map, Option, Some, None, Result, Ok, Err}
 use Rattle.std.specs.List.{AllByRecursion, flat_map}
-use Rattle.std.proofs.lemmas.Grind.{common_steps, flat_map-append}
+use Rattle.std.proofs.lemmas.Grind.{common_steps}
 use Rattle.std.proofs.lemmas.List.{append-nil}
+use Rattle.std.proofs.lemmas.List.Elements.{filter_map-append}
 use Rattle.base65.specs.Outcome.{◌>>=◌}
 use Rattle.semantics65.specs.Contents.{Content, Declaration}
 use Rattle.semantics65.specs.Module.{Finished, Made, Slot, coming, exported_name, exported_names, followed_by, resolved}
@@ -45,12 +46,7 @@ resolved_stops y names cs said x xs e made = grind (arith, common_steps, append-
 -- ---- Names.
 
 pub names_append : (ss ts : List Declaration) → exported_names (ss ++ ts) ≡ exported_names ss ++ exported_names ts
-names_append [] ts = refl
-names_append (s ∷ ss) ts = by (exported_name s) refl
-  where
-    by : (o : Option (List ℕ)) → exported_name s ≡ o → exported_names ((s ∷ ss) ++ ts) ≡ exported_names (s ∷ ss) ++ exported_names ts
-    by None e = rw e (names_append ss ts)
-    by (Some n) e = rw e (ap (λ ns. n ∷ ns) (names_append ss ts))
+names_append ss ts = filter_map-append exported_name ss ts
 
 -- ---- Contents, each with its slot.
 
@@ -62,26 +58,22 @@ AreFound y names (x ∷ xs) (c ∷ cs) =
     × AreFound y (names ++ exported_names c.said) xs cs
 AreFound y names _ _ = ⊥
 
+-- contents behind the first
+behind_first : (y : Symbols) (names : List (List ℕ)) (x : Slot) (xs : List Slot) (m : Made) → coming y names x ≡ Ok m → (r : Result (List Content) PlacedFault) →
+    ((ds : List Content) → r ≡ Ok ds → AreFound y (names ++ exported_names m.content.said) xs ds) → (cs : List Content) → (r >>= (λ ds. Ok (m.content ∷ ds))) ≡ Ok cs → AreFound y names (x ∷ xs) cs
+behind_first y names x xs m made (Err e) rest cs h = absurd cc
+behind_first y names x xs m made (Ok ds) rest cs h = (let same : (m.content ∷ ds) ≡ cs = cc in subst (AreFound y names (x ∷ xs)) same (m.warning, (made, rest ds refl)))
+
+with_first : (y : Symbols) (names : List (List ℕ)) (x : Slot) (xs : List Slot) (cs : List Content) (r : Result Made PlacedFault) → coming y names x ≡ r →
+    ((m : Made) (ds : List Content) → (resolved y (names ++ exported_names m.content.said) xs).found ≡ Ok ds → AreFound y (names ++ exported_names m.content.said) xs ds) →
+    (followed_by r (λ m. resolved y (names ++ exported_names m.content.said) xs)).found ≡ Ok cs → AreFound y names (x ∷ xs) cs
+with_first y names x xs cs (Err e) made rest h = absurd cc
+with_first y names x xs cs (Ok m) made rest h = behind_first y names x xs m made (resolved y (names ++ exported_names m.content.said) xs).found (rest m) cs h
+
 pub found_each : (y : Symbols) (names : List (List ℕ)) (xs : List Slot) (cs : List Content) → (resolved y names xs).found ≡ Ok cs → AreFound y names xs cs
 found_each y names [] [] h = tt
 found_each y names [] (c ∷ cs) h = absurd cc
-found_each y names (x ∷ xs) cs h = by (coming y names x) refl h
-  where
-    rest : Made → Finished Content
-    rest m = resolved y (names ++ exported_names m.content.said) xs
-
-    then : (m : Made) → coming y names x ≡ Ok m → (q : Result (List Content) PlacedFault) → (rest m).found ≡ q → (cs : List Content) → (q >>= (λ ds. Ok (m.content ∷ ds))) ≡ Ok cs → AreFound y names (x ∷ xs) cs
-    then m first (Err e) more cs h = absurd cc
-    then m first (Ok ds) more [] h = absurd cc
-    then m first (Ok ds) more (c ∷ es) h =
-        let same : m.content ≡ c = cc in
-        let others : ds ≡ es = cc in
-        subst (λ (d : Content). AreFound y names (x ∷ xs) (d ∷ es)) same
-        (m.warning, (first, found_each y (names ++ exported_names m.content.said) xs es (more ∙ ap Ok others)))
-
-    by : (r : Result Made PlacedFault) → coming y names x ≡ r → (followed_by r rest).found ≡ Ok cs → AreFound y names (x ∷ xs) cs
-    by (Err e) first h = absurd cc
-    by (Ok m) first h = then m first (rest m).found refl cs h
+found_each y names (x ∷ xs) cs h = with_first y names x xs cs (coming y names x) refl (λ m ds k. found_each y (names ++ exported_names m.content.said) xs ds k) h
 
 -- contents of slots one behind the other
 pub record Split (y : Symbols) (names : List (List ℕ)) (xs ys : List Slot) (cs : List Content) : Type 0 where

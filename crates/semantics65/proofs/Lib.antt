@@ -1,5 +1,3 @@
-pub mod ContentPieces
-pub mod Entries
 pub mod FitContents
 pub mod FitForms
 pub mod FitItems
@@ -9,6 +7,7 @@ pub mod FitObjects
 pub mod FitStatements
 pub mod FitSteps
 pub mod FitTokens
+pub mod Found
 pub mod NamedItems
 pub mod NamedLines
 pub mod NamedSteps
@@ -24,7 +23,7 @@ pub mod SoundContents
 pub mod SoundForms
 pub mod SoundLayouts
 pub mod SoundParts
-pub mod SoundSayings
+pub mod SoundPieces
 pub mod SoundSources
 pub mod Sounding
 pub mod Taken

@@ -1,6 +1,6 @@
 -- What waits, resolved by a symbol table that grew.
-use Rattle.std.proofs.Common.{◌≡◌, ◌∙◌, ℕ, List, [], ◌∷◌, ◌++◌, refl, sym, ap, append_assoc, false, arith}
-use Rattle.std.specs.Prelude.{if◌then◌else◌, IfOk, Ok, Err}
+use Rattle.std.proofs.Common.{◌≡◌, ◌∙◌, ℕ, List, [], ◌∷◌, ◌++◌, refl, sym, ap, false, arith}
+use Rattle.std.specs.Prelude.{if◌then◌else◌, IfOk, Ok}
 use Rattle.std.specs.List.{flat_map, list_any}
 use Rattle.std.specs.Str.{bytes_eq}
 use Rattle.std.proofs.lemmas.Grind.{common_steps, flat_map-append}
@@ -9,12 +9,11 @@ use Rattle.semantics65.specs.Symbols.{Laid, Symbols, symbols_of, with_new}
 use Rattle.semantics65.specs.Norms.{Extends}
 use Rattle.semantics65.specs.Machine.{symbols_behind, IsSettled, FinalSettles}
 use Rattle.base65.specs.Outcome.{◌>>=◌}
-use Rattle.semantics65.specs.Reading.{PlacedFault}
-use Rattle.semantics65.specs.Contents.{Part, Content, put}
+use Rattle.semantics65.specs.Reading.{at_place}
+use Rattle.semantics65.specs.Contents.{Part, put}
 use Rattle.syntax65.specs.declared.place.Place.{Place}
 use Rattle.semantics65.specs.declared.laid.Context.{Context}
-use Rattle.semantics65.specs.Module.{given, used, Made, Piece, made_of, Finished, Slot, coming, resolved}
-use Rattle.semantics65.proofs.Entries.{after}
+use Rattle.semantics65.specs.Module.{given, used, Made, Piece, made_of}
 
 -- ---- Symbol tables that grow.
 
@@ -47,24 +46,11 @@ extends_then x y z a b = grind (arith, common_steps)
 
 -- what needs no value
 pub settled_given : (y : Symbols) (place : Place) (s : Context) (p : Part) → IsSettled y place s (given p) (put s.segment p)
-settled_given y place s p z e = refl
+settled_given y place s p z names e = refl
 
 -- a value whose form is final
 pub final_settles : FinalSettles
-final_settles y place s why e f c final there z more = ap (λ r. r >>= used place s why) (final z more) ∙ there
-
--- ---- Slots behind those that have come to these contents, with what was said.
-
-abbrev pub found_all : List Content → List ℕ → Finished Content
-found_all cs said = record { found = Ok cs; warned = said }
-
--- one more
-pub resolved_more : (y : Symbols) (cs : List Content) (said : List ℕ) (x : Slot) (xs : List Slot) (m : Made) → coming y x ≡ Ok m → after (found_all cs said) (resolved y (x ∷ xs)) ≡ after (found_all (cs ++ m.content ∷ []) (said ++ m.warning)) (resolved y xs)
-resolved_more y cs said x xs m made = grind (arith, common_steps, append_assoc)
-
--- the first that has a fault ends it
-pub resolved_stops : (y : Symbols) (cs : List Content) (said : List ℕ) (x : Slot) (xs : List Slot) (e : PlacedFault) → coming y x ≡ Err e → after (found_all cs said) (resolved y (x ∷ xs)) ≡ record { found = Err e; warned = said }
-resolved_stops y cs said x xs e made = grind (arith, common_steps, append-nil)
+final_settles y place s why e f c final there z names more = ap (at_place place) (ap (λ r. r >>= used place s why) (final z more) ∙ there)
 
 -- ---- A piece asks for no section.
 

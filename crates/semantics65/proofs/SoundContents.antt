@@ -1,26 +1,23 @@
 -- The contents of sound statements.
 use Rattle.std.proofs.lemmas.Grind.{common_steps}
-use Rattle.std.proofs.Common.{◌≡◌, ◌∙◌, ℕ, suc, ◌<◌, Bool, true, false, nat_eq, refl, sym, ap, subst, arith, List, [], ◌∷◌, ◌++◌, length, take, slice_get, Some, Result, Ok}
-use Rattle.std.specs.Prelude.{⊤, IfOk, sum_by, if◌then◌else◌}
+use Rattle.std.proofs.Common.{◌≡◌, ◌∙◌, ℕ, suc, ◌+◌, ◌<◌, Bool, true, false, nat_eq, refl, sym, ap, subst, arith, List, [], ◌∷◌, ◌++◌, length, map, take, slice_get, Some, Ok}
+use Rattle.std.specs.Prelude.{sum_by, if◌then◌else◌}
 use Rattle.std.specs.List.{AllByRecursion, list_any, flat_map}
 use Rattle.std.specs.Str.{bytes_eq}
 use Rattle.std.proofs.lemmas.List.Sums.{sum_by-append, sum_by-cons}
-use Rattle.base65.specs.Outcome.{◌>>=◌}
 use Rattle.object65.specs.Objects.{are_names, is_name}
 use Rattle.object65.proofs.Reached.{names_push}
-use Rattle.semantics65.specs.Contents.{Content, content_of, parts_of, said_of}
-use Rattle.ast65.specs.declared.fault.AsmFault.{AsmFault}
-use Rattle.semantics65.specs.Reading.{at_place}
-use Rattle.syntax65.specs.declared.place.Place.{Place}
+use Rattle.semantics65.specs.Contents.{Content, asking}
 use Rattle.semantics65.specs.Symbols.{Laid, asks_section, Symbols, imported, imports_of, symbols_of, with_new}
 use Rattle.ast65.specs.declared.language.Statement.{Statement}
 use Rattle.semantics65.specs.Machine.{SoundContents}
-use Rattle.semantics65.specs.Module.{contents_from}
-use Rattle.semantics65.specs.Numbering.{once, parts_in, section_keys, segments_asked, IsMeasured, IsSound, IsSoundContent, part_len, statements_in}
-use Rattle.semantics65.proofs.SoundForms.{Asks, definitions_pass, well_then}
-use Rattle.semantics65.proofs.SoundParts.{IsKnown, PartsOf, asked_in, below, parts_sound}
+use Rattle.semantics65.specs.Module.{Made, Piece, Slot, coming, exported_names, holds, pieces_of, slots_of, waiting_at, waits}
+use Rattle.semantics65.specs.Numbering.{all_said, once, parts_in, section_keys, segments_asked, IsMeasured, IsSound, IsSoundContent, part_len, statements_in}
+use Rattle.semantics65.proofs.Found.{AreFound, found_all_so, found_each, found_split}
+use Rattle.semantics65.proofs.SoundForms.{Asks, all_append, definitions_pass}
+use Rattle.semantics65.proofs.SoundParts.{IsKnown, asked_in, below, if_found, slots_long}
+use Rattle.semantics65.proofs.SoundPieces.{IsSoundPiece, IsWellMade, names_all, piece_sound, pieces_sound}
 use Rattle.semantics65.proofs.Resolving.{new_append}
-use Rattle.semantics65.proofs.SoundSayings.{AreSoundDeclarations, names_all, said_sound}
 
 -- ---- Keys, each once.
 
@@ -60,32 +57,6 @@ all_names (x ∷ ls) known h (sound, all) =
 imports_below : (y : Symbols) (n : List ℕ) (k : ℕ) → imported y n ≡ Some k → below (length y.imports) k ≡ true
 imports_below y n k e = grind (arith, common_steps)
 
--- ---- Where contents stand, and whether they ask for a section.
-
-abbrev Stands : Laid → Content → Type 0
-Stands l c = (c.segment ≡ l.context.segment) × (c.asks ≡ asks_section l.stated)
-
--- a relation of each with each
-abbrev EachWith : (Laid → Content → Type 0) → List Laid → List Content → Type 0
-EachWith R [] [] = ⊤
-EachWith R (l ∷ ls) (c ∷ cs) = R l c × EachWith R ls cs
-EachWith R [] (c ∷ cs) = ⊥
-EachWith R (l ∷ ls) [] = ⊥
-
-at_place_ok : {A : Type 0} (P : A → Type 0) (place : Place) (r : Result A AsmFault) → IfOk r P → IfOk (at_place place r) P
-at_place_ok x1 place x2 h = grind (arith, common_steps)
-
-contents_with : (R : Laid → Content → Type 0) (y : Symbols) (P : Laid → Type 0) → ((l : Laid) → P l → IfOk (content_of y l) (R l)) → (ls : List Laid) → AllByRecursion P ls → IfOk (contents_from y ls) (EachWith R ls)
-contents_with R y P h [] ps = tt
-contents_with R y P h (l ∷ ls) (p, ps) = grind (arith, common_steps, (contents_with R y P h ls ps), well_then, at_place_ok)
-
-stands : (y : Symbols) (l : Laid) → IfOk (content_of y l) (Stands l)
-stands y l = grind (arith, common_steps)
-
-all_any : (ls : List Laid) → AllByRecursion (λ l. ⊤) ls
-all_any [] = tt
-all_any (l ∷ ls) = (tt, all_any ls)
-
 -- ---- What is asked.
 
 asks_more : (q r : ℕ → Bool) → ((g : ℕ) → q g ≡ true → r g ≡ true) → (ls : List Laid) → AllByRecursion (Asks q) ls → AllByRecursion (Asks r) ls
@@ -98,14 +69,28 @@ asked_more c cs g h = grind (arith, common_steps)
 asked_first : (c : Content) (cs : List Content) → c.asks ≡ true → asked_in (segments_asked (c ∷ cs)) c.segment ≡ true
 asked_first c cs e = grind (arith, common_steps)
 
-asked_all : (ls : List Laid) (cs : List Content) → EachWith Stands ls cs → AllByRecursion (Asks (asked_in (segments_asked cs))) ls
-asked_all [] [] h = tt
-asked_all [] (c ∷ cs) h = absurd h
-asked_all (l ∷ ls) [] h = absurd h
-asked_all (l ∷ ls) (c ∷ cs) (s, h) = grind (arith, common_steps, (asked_all ls cs h), asked_in, asked_first, asks_more, asked_more)
+asked_behind : (cs ds : List Content) (g : ℕ) → asked_in (segments_asked ds) g ≡ true → asked_in (segments_asked (cs ++ ds)) g ≡ true
+asked_behind [] ds g h = h
+asked_behind (c ∷ cs) ds g h = asked_more c (cs ++ ds) g (asked_behind cs ds g h)
 
-asked_keys : (ls : List Laid) (cs : List Content) → EachWith Stands ls cs → AllByRecursion (Asks (asked_in (section_keys cs))) ls
-asked_keys ls cs h = asks_more (asked_in (segments_asked cs)) (asked_in (section_keys cs)) (λ g e. once_holds (segments_asked cs) [] g e) ls (asked_all ls cs h)
+-- a statement that asks for its section does so before all else
+asks_first : (z : Symbols) (names : List (List ℕ)) (l : Laid) (b : Bool) (xs : List Slot) (cs ds : List Content) → b ≡ true → AreFound z names ((if b then holds (asking l.context.segment) ∷ [] else []) ++ xs) cs → asked_in (segments_asked (cs ++ ds)) l.context.segment ≡ true
+asks_first z names l true xs [] ds e h = absurd h
+asks_first z names l true xs (c ∷ cs) ds e (w, (made, h)) = (let is : asking l.context.segment ≡ c = cc in subst (λ (d : Content). asked_in (segments_asked (d ∷ cs ++ ds)) l.context.segment ≡ true) is (asked_first (asking l.context.segment) (cs ++ ds) refl))
+asks_first z names l false xs cs ds e h = absurd cc
+
+asked_all : (z : Symbols) (names : List (List ℕ)) (ls : List Laid) (cs : List Content) → AreFound z names (flat_map slots_of ls) cs → AllByRecursion (Asks (asked_in (segments_asked cs))) ls
+asked_all z names [] cs h = tt
+asked_all z names (l ∷ ls) cs h =
+    let both = found_split z names (slots_of l) (flat_map slots_of ls) cs h in
+    let rest = asked_all z (names ++ exported_names (all_said both.first)) ls both.last both.behind in
+    let so : AllByRecursion (Asks (asked_in (segments_asked (both.first ++ both.last)))) (l ∷ ls) = (
+      (λ e. asks_first z names l (asks_section l.stated) (map (waiting_at l) (pieces_of l.length l.settled l.stated)) both.first both.last e both.before),
+      asks_more (asked_in (segments_asked both.last)) (asked_in (segments_asked (both.first ++ both.last))) (λ g e. asked_behind both.first both.last g e) ls rest) in
+    subst (λ ds. AllByRecursion (Asks (asked_in (segments_asked ds))) (l ∷ ls)) both.all so
+
+asked_keys : (z : Symbols) (ls : List Laid) (cs : List Content) → AreFound z [] (flat_map slots_of ls) cs → AllByRecursion (Asks (asked_in (section_keys cs))) ls
+asked_keys z ls cs h = asks_more (asked_in (segments_asked cs)) (asked_in (section_keys cs)) (λ g e. once_holds (segments_asked cs) [] g e) ls (asked_all z [] ls cs h)
 
 -- ---- Contents.
 
@@ -114,55 +99,80 @@ record IsSafe (asked : List ℕ) (bound : ℕ) (l : Laid) : Type 0 where
   sound : IsSound l.stated
   standing : l.context.segment < bound
   asks : Asks (asked_in asked) l
-  measured : (before : Symbols) × IsMeasured before l
 
-record IsFor (asked : List ℕ) (count bound : ℕ) (l : Laid) (c : Content) : Type 0 where
-  place : c.segment ≡ l.context.segment
-  within : l.context.segment < bound
-  sound : IsSoundContent asked count c
-  long : sum_by part_len c.parts ≡ l.length
+-- and of each of its slots
+abbrev IsSafeSlot : List ℕ → ℕ → ℕ → Slot → Type 0
+IsSafeSlot asked count bound (holds c) = IsSoundContent asked count c × (c.segment < bound)
+IsSafeSlot asked count bound (waits w) = IsSoundPiece asked count w.context w.piece × (w.context.segment < bound)
 
-content_for : (asked : List ℕ) (count bound : ℕ) (y : Symbols) → IsKnown asked count y → (l : Laid) → IsSafe asked bound l → IfOk (content_of y l) (IsFor asked count bound l)
-content_for asked count bound y k l p =
-    well_then (PartsOf asked count l.length) (IsFor asked count bound l) (parts_of y l) (λ ps. said_of y l >>= (λ ss. Ok (record { segment = l.context.segment; asks = asks_section l.stated; parts = ps; said = ss }))) (parts_sound asked count y p.measured.0 k l p.asks p.measured.1)
-    (λ ps w. well_then (AreSoundDeclarations asked count) (IsFor asked count bound l) (said_of y l) (λ ss. Ok (record { segment = l.context.segment; asks = asks_section l.stated; parts = ps; said = ss })) (said_sound asked count y k l p.sound p.asks)
-    (λ ss v. record { place = refl; within = p.standing; sound = record { parts = w.0; said = v }; long = w.1 }))
+waiting_safe : (asked : List ℕ) (count bound : ℕ) (l : Laid) → l.context.segment < bound → (ps : List Piece) → AllByRecursion (IsSoundPiece asked count l.context) ps → AllByRecursion (IsSafeSlot asked count bound) (map (waiting_at l) ps)
+waiting_safe asked count bound l lt [] h = tt
+waiting_safe asked count bound l lt (p ∷ ps) h = ((h.0, lt), waiting_safe asked count bound l lt ps h.1)
 
-abbrev AreMeasured : List Laid → Type 0
-AreMeasured ls = AllByRecursion (λ l. (before : Symbols) × IsMeasured before l) ls
+asking_safe : (asked : List ℕ) (count bound : ℕ) (l : Laid) → l.context.segment < bound → (b : Bool) → AllByRecursion (IsSafeSlot asked count bound) (if b then holds (asking l.context.segment) ∷ [] else [])
+asking_safe asked count bound l lt true = ((record { parts = tt; said = tt }, lt), tt)
+asking_safe asked count bound l lt false = tt
+
+slots_safe : (asked : List ℕ) (count bound : ℕ) (ls : List Laid) → AllByRecursion (IsSafe asked bound) ls → AllByRecursion (IsSafeSlot asked count bound) (flat_map slots_of ls)
+slots_safe asked count bound [] h = tt
+slots_safe asked count bound (l ∷ ls) h =
+    let asks : List Slot = if asks_section l.stated then holds (asking l.context.segment) ∷ [] else [] in
+    let ps = pieces_of l.length l.settled l.stated in
+    all_append (IsSafeSlot asked count bound) (slots_of l) (flat_map slots_of ls)
+    (all_append (IsSafeSlot asked count bound) asks (map (waiting_at l) ps) (asking_safe asked count bound l h.0.standing (asks_section l.stated))
+    (waiting_safe asked count bound l h.0.standing ps (pieces_sound asked count l.context l.length l.settled l.stated h.0.sound h.0.asks)))
+    (slots_safe asked count bound ls h.1)
+
+-- what each slot comes to
+IsWell : List ℕ → ℕ → ℕ → Content → Type 0
+IsWell asked count bound c = IsSoundContent asked count c × (c.segment < bound)
+
+slot_well : (asked : List ℕ) (count bound : ℕ) (z : Symbols) → IsKnown asked count z → (names : List (List ℕ)) (x : Slot) (m : Made) → IsSafeSlot asked count bound x → coming z names x ≡ Ok m → IsWell asked count bound m.content
+slot_well asked count bound z k names (holds c) m h made = (let is : c ≡ m.content = cc in subst (IsWell asked count bound) is h)
+slot_well asked count bound z k names (waits w) m h made =
+    let so : IsWellMade asked count w.context m = if_found (IsWellMade asked count w.context) (coming z names (waits w)) m made (piece_sound asked count z k names w.place w.context w.piece h.0) in
+    (so.0, (let le = so.1 in let lt = h.1 in omega (arith, le, lt)))
+
+parted : (P Q : Content → Type 0) (cs : List Content) → AllByRecursion (λ c. P c × Q c) cs → AllByRecursion P cs × AllByRecursion Q cs
+parted P Q [] h = (tt, tt)
+parted P Q (c ∷ cs) h = (let rest = parted P Q cs h.1 in ((h.0.0, rest.0), (h.0.1, rest.1)))
 
 -- so it is with all where it is so with each at its place
 all_places : {A : Type 0} (P : A → Type 0) (xs : List A) → ((i : ℕ) (x : A) → slice_get xs i ≡ Some x → P x) → AllByRecursion P xs
 all_places P [] h = tt
 all_places P (x ∷ xs) h = (h 0 x refl, all_places P xs (λ i y e. h (suc i) y e))
 
-safe_all : (asked : List ℕ) (bound : ℕ) (ls : List Laid) → AllByRecursion (λ l. IsSound l.stated) ls → AllByRecursion (λ l. l.context.segment < bound) ls → AllByRecursion (Asks (asked_in asked)) ls → AreMeasured ls → AllByRecursion (IsSafe asked bound) ls
-safe_all asked bound [] s b a m = tt
-safe_all asked bound (l ∷ ls) (s, ss) (b, bs) (a, every) (m, ms) = (record { sound = s; standing = b; asks = a; measured = m }, safe_all asked bound ls ss bs every ms)
+safe_all : (asked : List ℕ) (bound : ℕ) (ls : List Laid) → AllByRecursion (λ l. IsSound l.stated) ls → AllByRecursion (λ l. l.context.segment < bound) ls → AllByRecursion (Asks (asked_in asked)) ls → AllByRecursion (IsSafe asked bound) ls
+safe_all asked bound [] s b a = tt
+safe_all asked bound (l ∷ ls) (s, ss) (b, bs) (a, every) = (record { sound = s; standing = b; asks = a }, safe_all asked bound ls ss bs every)
+
+-- ---- Room.
+
+abbrev IsMeasuredSome : Laid → Type 0
+IsMeasuredSome l = (before : Symbols) × IsMeasured before l
+
+parts_append : (cs ds : List Content) (g : ℕ) → parts_in (cs ++ ds) g ≡ parts_in cs g ++ parts_in ds g
+parts_append cs ds g = grind (arith, common_steps)
+
+length_first : (l : Laid) (ls : List Laid) (g : ℕ) → sum_by (λ (x : Laid). x.length) (statements_in (l ∷ ls) g) ≡ (if nat_eq l.context.segment g then l.length else 0) + sum_by (λ (x : Laid). x.length) (statements_in ls g)
+length_first l ls g = by (nat_eq l.context.segment g)
+  where
+    by : (b : Bool) → sum_by (λ (x : Laid). x.length) (if b then l ∷ statements_in ls g else statements_in ls g) ≡ (if b then l.length else 0) + sum_by (λ (x : Laid). x.length) (statements_in ls g)
+    by true = sum_by-cons (λ (x : Laid). x.length) l (statements_in ls g)
+    by false = refl
+
+same_room : (z : Symbols) (names : List (List ℕ)) (g : ℕ) (ls : List Laid) (cs : List Content) → AllByRecursion IsMeasuredSome ls → AreFound z names (flat_map slots_of ls) cs → sum_by part_len (parts_in cs g) ≡ sum_by (λ l. l.length) (statements_in ls g)
+same_room z names g [] [] m h = refl
+same_room z names g [] (c ∷ cs) m h = absurd h
+same_room z names g (l ∷ ls) cs m h =
+    let both = found_split z names (slots_of l) (flat_map slots_of ls) cs h in
+    ap (λ ds. sum_by part_len (parts_in ds g)) (sym both.all)
+    ∙ ap (sum_by part_len) (parts_append both.first both.last g) ∙ sum_by-append part_len (parts_in both.first g) (parts_in both.last g)
+    ∙ ap (λ n. n + sum_by part_len (parts_in both.last g)) (slots_long z names m.0.0 l g both.first m.0.1 both.before)
+    ∙ ap (λ n. (if nat_eq l.context.segment g then l.length else 0) + n) (same_room z (names ++ exported_names (all_said both.first)) g ls both.last m.1 both.behind)
+    ∙ sym (length_first l ls g)
 
 -- ---- What holds of all contents.
-
-contents_stand : (asked : List ℕ) (count bound : ℕ) (ls : List Laid) (cs : List Content) → EachWith (IsFor asked count bound) ls cs → AllByRecursion (λ c. c.segment < bound) cs
-contents_stand asked count bound [] [] h = tt
-contents_stand asked count bound [] (c ∷ cs) h = absurd h
-contents_stand asked count bound (l ∷ ls) [] h = absurd h
-contents_stand asked count bound (l ∷ ls) (c ∷ cs) (f, h) = (subst (λ (g : ℕ). g < bound) (sym f.place) f.within, contents_stand asked count bound ls cs h)
-
-contents_sound : (asked : List ℕ) (count bound : ℕ) (ls : List Laid) (cs : List Content) → EachWith (IsFor asked count bound) ls cs → AllByRecursion (IsSoundContent asked count) cs
-contents_sound asked count bound [] [] h = tt
-contents_sound asked count bound [] (c ∷ cs) h = absurd h
-contents_sound asked count bound (l ∷ ls) [] h = absurd h
-contents_sound asked count bound (l ∷ ls) (c ∷ cs) (f, h) = (f.sound, contents_sound asked count bound ls cs h)
-
-same_room : (asked : List ℕ) (count bound g : ℕ) (ls : List Laid) (cs : List Content) → EachWith (IsFor asked count bound) ls cs → sum_by part_len (parts_in cs g) ≡ sum_by (λ l. l.length) (statements_in ls g)
-same_room asked count bound g [] [] h = refl
-same_room asked count bound g [] (c ∷ cs) h = absurd h
-same_room asked count bound g (l ∷ ls) [] h = absurd h
-same_room asked count bound g (l ∷ ls) (c ∷ cs) (f, h) = grind (arith, common_steps, (same_room asked count bound g ls cs h), sum_by-append, sum_by-cons)
-
--- what an answer is so of, an answer that was given is so of
-given : {A E : Type 0} (P : A → Type 0) (r : Result A E) (x : A) → r ≡ Ok x → IfOk r P → P x
-given x1 x2 x e h = grind (arith, common_steps)
 
 pub sound_contents : SoundContents
 sound_contents = λ y cs s e.
@@ -170,16 +180,16 @@ sound_contents = λ y cs s e.
     let count = length z.imports in
     let bound = length y.cursor.segments in
     let asked = section_keys cs in
-    let shape = given (EachWith Stands y.laid) (contents_from z y.laid) cs e (contents_with Stands z (λ l. ⊤) (λ l u. stands z l) y.laid (all_any y.laid)) in
-    let asks = asked_keys y.laid cs shape in
+    let found = found_each z [] (flat_map slots_of y.laid) cs e in
+    let asks = asked_keys z y.laid cs found in
     let known : IsKnown asked count z = record { definitions = definitions_pass (asked_in asked) y.laid asks; imports = imports_below z } in
-    let measured = all_places (λ l. (before : Symbols) × IsMeasured before l) y.laid (λ i l at. (symbols_of (take i y.laid), s.measured i l at)) in
-    let safe = safe_all asked bound y.laid s.sound s.standing asks measured in
-    let made = given (EachWith (IsFor asked count bound) y.laid) (contents_from z y.laid) cs e (contents_with (IsFor asked count bound) z (IsSafe asked bound) (content_for asked count bound z known) y.laid safe) in
+    let measured = all_places IsMeasuredSome y.laid (λ i l at. (symbols_of (take i y.laid), s.measured i l at)) in
+    let safe = slots_safe asked count bound y.laid (safe_all asked bound y.laid s.sound s.standing asks) in
+    let well = parted (IsSoundContent asked count) (λ c. c.segment < bound) cs (found_all_so z (IsSafeSlot asked count bound) (IsWell asked count bound) (slot_well asked count bound z known) [] (flat_map slots_of y.laid) cs safe found) in
     record {
       named = s.named;
       imported = all_names y.laid [] refl s.sound;
-      standing = contents_stand asked count bound y.laid cs made;
-      room = λ g. (let same : sum_by part_len (parts_in cs g) ≡ sum_by (λ l. l.length) (statements_in y.laid g) = same_room asked count bound g y.laid cs made in let room = s.room g in omega (arith, same, room));
-      contents = contents_sound asked count bound y.laid cs made;
+      standing = well.1;
+      room = λ g. (let same : sum_by part_len (parts_in cs g) ≡ sum_by (λ l. l.length) (statements_in y.laid g) = same_room z [] g y.laid cs measured found in let room = s.room g in omega (arith, same, room));
+      contents = well.0;
     }

@@ -1,11 +1,13 @@
--- The parts of sound statements.
+-- The forms of sound statements, and how long what their pieces put is.
 use Rattle.std.proofs.lemmas.Grind.{common_steps}
-use Rattle.std.proofs.Common.{◌≡◌, ◌∙◌, ℕ, ◌+◌, Bool, true, false, nat_eq, nat_lt, refl, sym, ap, subst, arith, List, [], ◌∷◌, length, take, drop, Option, Some, None, Ok}
+use Rattle.std.proofs.Common.{◌≡◌, ◌∙◌, ℕ, ◌+◌, Bool, true, false, nat_eq, nat_lt, refl, sym, ap, subst, arith, List, [], ◌∷◌, ◌++◌, length, map, take, drop, Option, Some, None, Result, Ok, Err}
 use Rattle.std.specs.Prelude.{⊤, ℤ, IfOk, ◌&&◌, sum_by, if◌then◌else◌}
-use Rattle.std.specs.List.{AllByRecursion, list_all, list_any}
-use Rattle.std.proofs.lemmas.List.Sums.{sum_by-cons}
+use Rattle.std.specs.List.{list_all, list_any, filter, flat_map}
+use Rattle.std.specs.Str.{bytes_eq}
+use Rattle.std.proofs.lemmas.List.{append-nil}
+use Rattle.std.proofs.lemmas.List.Sums.{sum_by-append, sum_by-cons}
 use Rattle.std.proofs.lemmas.List.Folds.{list_all-append}
-use Rattle.base65.specs.Outcome.{◌>>=◌, each}
+use Rattle.base65.specs.Outcome.{◌>>=◌}
 use Rattle.syntax65.specs.Opcodes.{opcode_of}
 use Rattle.syntax65.specs.Trees.{Tree}
 use Rattle.syntax65.specs.declared.instructions.codes.Mode.{Mode}
@@ -15,22 +17,27 @@ use Rattle.syntax65.specs.declared.lexing.tokens.AddressSize.{AddressSize}
 use Rattle.object65.specs.Form.{Form, lit, sec, imp, prefix, binary}
 use Rattle.object65.specs.Objects.{is_file_name, value_bytes, width_len}
 use Rattle.object65.specs.declared.object.Width.{Width}
-use Rattle.semantics65.specs.Contents.{Part, Waiting, file_bytes, instruction_parts, item_part, opcode_part, operand_form, operand_part, operand_parts, operand_tree, parts_of, room_part, stored, written}
+use Rattle.semantics65.specs.Contents.{Content, Declaration, ForcedImport, Part, Waiting, asking, decided, export_said, file_bytes, import_fault, opcode_part, operand_form, operand_tree, put, room_part, stored, telling, written}
 use Rattle.syntax65.specs.declared.place.Place.{Place}
-use Rattle.semantics65.specs.Symbols.{Laid, asks_section, has_here, Symbols}
+use Rattle.semantics65.specs.Symbols.{Laid, asks_section, defined, has_here, named, Symbols}
 use Rattle.semantics65.specs.declared.laid.Settled.{Settled}
 use Rattle.semantics65.specs.declared.laid.Settled.TheVariants.{Unsettled, FromByte}
 use Rattle.semantics65.specs.declared.laid.Context.{Context}
+use Rattle.ast65.specs.declared.fault.AsmFault.{AsmFault}
 use Rattle.ast65.specs.declared.language.Item.{Item}
 use Rattle.ast65.specs.declared.language.Operand.{Operand}
 use Rattle.ast65.specs.declared.language.Statement.{Statement}
-use Rattle.ast65.specs.declared.language.Statement.TheVariants.{Instruction, Values, Reserve, Align, FilePart}
+use Rattle.ast65.specs.declared.language.Statement.TheVariants.{Constant, Instruction, Values, Reserve, Align, FilePart, Import, Export, Global, ForceImport, Assert}
 use Rattle.ast65.specs.declared.language.Operand.TheVariants as operand
 use Rattle.ast65.specs.declared.language.Item.TheVariants.{Value, Text}
 use Rattle.ast65.specs.declared.language.Index.{Index}
+use Rattle.semantics65.specs.Module.{Made, Piece, absent_of, as_part, as_said, asserted, coming, datum, demanded, equated, exported, exported_names, failed, given, holds, imported, instruction_pieces, item_piece, made_of, operand_pieces, pieces_of, quietly, slots_of, used, valued, waiting_at, waits}
+use Rattle.semantics65.specs.Module as purpose
 use Rattle.semantics65.specs.Norms.{norm_of, address_mode, branch_mode, bytes_between, fill_settled, first_of, is_branch, item_len, length_of, mode_len, mode_of, mode_settled, operand_len, part_len as file_len, part_start, settled_of, size_of, width_of}
-use Rattle.semantics65.specs.Numbering.{imports_in, IsMeasured, IsSoundAt, IsSoundForm, IsSoundPart, part_len, sections_in}
-use Rattle.semantics65.proofs.SoundForms.{Holds, IsWell, Asks, Pass, norm_well, well_then}
+use Rattle.semantics65.specs.Numbering.{imports_in, IsMeasured, IsSoundAt, IsSoundForm, part_len, parts_in, sections_in}
+use Rattle.semantics65.specs.Reading.{at_place}
+use Rattle.semantics65.proofs.Found.{AreFound}
+use Rattle.semantics65.proofs.SoundForms.{Holds, IsWell, Pass, norm_well, well_then}
 
 -- ---- Forms.
 
@@ -75,31 +82,146 @@ written_with {A} P place x h = grind (arith, common_steps)
 pub form_at : (asked : List ℕ) (count : ℕ) (place : Place) (f : Form) → IsWell (asked_in asked) (below count) f → is_file_name place.file ≡ true → IsSoundAt asked count place f
 form_at asked count place f w e = record { file = e; form = sound_form asked count f w }
 
--- ---- Items.
-
 value_len : (width : Width) (v : ℤ) → length (value_bytes width v) ≡ width_len width
 value_len x1 v = grind (arith, common_steps)
 
-abbrev PartOf : List ℕ → ℕ → ℕ → Part → Type 0
-PartOf asked count len p = IsSoundPart asked count p × (part_len p ≡ len)
+-- ---- Pieces.
 
-stored_sound : (asked : List ℕ) (count : ℕ) (width : Width) (place : Place) (f : Form) → IsWell (asked_in asked) (below count) f → IfOk (stored width place f) (PartOf asked count (width_len width))
-stored_sound asked count width place (lit v) w = grind (arith, common_steps, value_len)
-stored_sound asked count width place f w = written_with (PartOf asked count (width_len width)) place (Waiting width place f) (λ e. ((form_at asked count place f w e, refl), refl))
+-- how many bytes a piece puts
+abbrev pub piece_len : Piece → ℕ
+piece_len (given p) = part_len p
+piece_len (valued (datum width) e) = width_len width
+piece_len (valued (purpose.operand width) e) = width_len width
+piece_len _ = 0
 
-item_sound : (asked : List ℕ) (count : ℕ) (y : Symbols) → IsKnown asked count y → (l : Laid) → asked_in asked l.context.segment ≡ true → (width : Width) (it : Item) → IfOk (item_part y l width it) (PartOf asked count (item_len width it))
-item_sound asked count y k l h width (Value e) = well_then (IsWell (asked_in asked) (below count)) (PartOf asked count (width_len width)) (norm_of y l.context e) (stored width l.place) (form_sound asked count y k l.context e (λ a. h)) (λ f w. stored_sound asked count width l.place f w)
-item_sound asked count y k l h width (Text bytes) = (tt, refl)
+-- so many bytes in a segment, where it is this one
+abbrev pub there : Bool → ℕ → ℕ
+there b n = if b then n else 0
 
-abbrev pub PartsOf : List ℕ → ℕ → ℕ → List Part → Type 0
-PartsOf asked count len ps = AllByRecursion (IsSoundPart asked count) ps × (sum_by part_len ps ≡ len)
+-- what is made puts so many bytes into the segment, and none into others
+abbrev IsLong : ℕ → ℕ → Content → Type 0
+IsLong segment len c = (g : ℕ) → sum_by part_len (parts_in (c ∷ []) g) ≡ there (nat_eq segment g) len
 
-items_sound : (asked : List ℕ) (count : ℕ) (y : Symbols) → IsKnown asked count y → (l : Laid) → asked_in asked l.context.segment ≡ true → (width : Width) (its : List Item) → IfOk (each (item_part y l width) its) (PartsOf asked count (sum_by (item_len width) its))
-items_sound asked count y k l h width [] = (tt, refl)
-items_sound asked count y k l h width (it ∷ its) =
-    well_then (PartOf asked count (item_len width it)) (PartsOf asked count (sum_by (item_len width) (it ∷ its))) (item_part y l width it) (λ p. each (item_part y l width) its >>= (λ ps. Ok (p ∷ ps))) (item_sound asked count y k l h width it)
-    (λ p w. well_then (PartsOf asked count (sum_by (item_len width) its)) (PartsOf asked count (sum_by (item_len width) (it ∷ its))) (each (item_part y l width) its) (λ ps. Ok (p ∷ ps)) (items_sound asked count y k l h width its)
-    (λ ps v. ((w.0, v.0), sum_by-cons part_len p ps ∙ ap (λ n. n + sum_by part_len ps) w.1 ∙ ap (λ n. item_len width it + n) v.1 ∙ sym (sum_by-cons (item_len width) it its))))
+put_long : (segment : ℕ) (p : Part) → IsLong segment (part_len p) (put segment p)
+put_long segment p g = by (nat_eq segment g)
+  where
+    by : (b : Bool) → sum_by part_len (flat_map (λ (c : Content). c.parts) (if b then put segment p ∷ [] else [])) ≡ there b (part_len p)
+    by true = sum_by-cons part_len p [] ∙ omega arith
+    by false = refl
+
+told_long : (segment : ℕ) (ss : List Declaration) → IsLong segment 0 (telling ss)
+told_long segment ss g = nothing (nat_eq 0 g) (nat_eq segment g)
+  where
+    nothing : (a b : Bool) → sum_by part_len (flat_map (λ (c : Content). c.parts) (if a then telling ss ∷ [] else [])) ≡ there b 0
+    nothing true true = refl
+    nothing true false = refl
+    nothing false true = refl
+    nothing false false = refl
+
+asking_long : (segment g : ℕ) → sum_by part_len (parts_in (asking segment ∷ []) g) ≡ 0
+asking_long segment g = by (nat_eq segment g)
+  where
+    by : (b : Bool) → sum_by part_len (flat_map (λ (c : Content). c.parts) (if b then asking segment ∷ [] else [])) ≡ 0
+    by true = refl
+    by false = refl
+
+stored_len : (width : Width) (place : Place) (f : Form) → IfOk (stored width place f) (λ p. part_len p ≡ width_len width)
+stored_len width place (lit v) = grind (arith, common_steps, value_len)
+stored_len width place f = written_with (λ p. part_len p ≡ width_len width) place (Waiting width place f) (λ e. refl)
+
+pub any_ok : {A E : Type 0} (r : Result A E) → IfOk r (λ (x : A). ⊤)
+any_ok (Ok x) = tt
+any_ok (Err e) = tt
+
+part_long : (segment len : ℕ) (r : Result Part AsmFault) → IfOk r (λ p. part_len p ≡ len) → IfOk (r >>= as_part segment) (λ m. IsLong segment len m.content)
+part_long segment len (Ok p) h = λ g. put_long segment p g ∙ ap (there (nat_eq segment g)) h
+part_long segment len (Err e) h = tt
+
+said_long : (segment : ℕ) (r : Result (List Declaration) AsmFault) → IfOk (r >>= as_said) (λ m. IsLong segment 0 m.content)
+said_long segment (Ok ss) = told_long segment ss
+said_long segment (Err e) = tt
+
+made_long : (y : Symbols) (place : Place) (s : Context) (p : Piece) → IfOk (made_of y place s p) (λ m. IsLong s.segment (piece_len p) m.content)
+made_long y place s (given p) = put_long s.segment p
+made_long y place s (valued (datum width) e) =
+    well_then (λ f. ⊤) (λ m. IsLong s.segment (width_len width) m.content) (norm_of y s e) (used place s (datum width)) (any_ok (norm_of y s e))
+    (λ f u. part_long s.segment (width_len width) (stored width place f) (stored_len width place f))
+made_long y place s (valued (purpose.operand width) e) =
+    well_then (λ f. ⊤) (λ m. IsLong s.segment (width_len width) m.content) (norm_of y s e) (used place s (purpose.operand width)) (any_ok (norm_of y s e))
+    (λ f u. part_long s.segment (width_len width) (operand_form width s f >>= stored width place)
+    (well_then (λ g. ⊤) (λ p. part_len p ≡ width_len width) (operand_form width s f) (stored width place) (any_ok (operand_form width s f)) (λ g v. stored_len width place g)))
+made_long y place s (valued equated e) =
+    well_then (λ f. ⊤) (λ m. IsLong s.segment 0 m.content) (norm_of y s e) (used place s equated) (any_ok (norm_of y s e)) (λ f u. told_long s.segment [])
+made_long y place s (valued (asserted act words) e) =
+    well_then (λ f. ⊤) (λ m. IsLong s.segment 0 m.content) (norm_of y s e) (used place s (asserted act words)) (any_ok (norm_of y s e))
+    (λ f u. well_then (λ ss. ⊤) (λ m. IsLong s.segment 0 m.content) (decided act place words f) (λ ss. Ok (record { content = telling ss; warning = failed place act words (Ok f) })) (any_ok (decided act place words f)) (λ ss v. told_long s.segment ss))
+made_long y place s (imported n) = said_long s.segment (import_fault y n)
+made_long y place s (demanded n) = told_long s.segment (ForcedImport n ∷ [])
+made_long y place s (exported must n) = said_long s.segment (export_said y place n (absent_of must n) (defined y (named 0 n)))
+
+placed_ok : {A : Type 0} (P : A → Type 0) (place : Place) (r : Result A AsmFault) → IfOk r P → IfOk (at_place place r) P
+placed_ok P place (Ok x) h = h
+placed_ok P place (Err e) h = tt
+
+-- what is so of what is made of a piece, and of nothing where an export is repeated
+pub coming_so : (P : Made → Type 0) (y : Symbols) (names : List (List ℕ)) (place : Place) (s : Context) (p : Piece) →
+    ((must : Bool) (n : List ℕ) → p ≡ exported must n → P (quietly (telling []))) → IfOk (made_of y place s p) P →
+    IfOk (coming y names (waits (record { place = place; context = s; piece = p }))) P
+coming_so P y names place s (exported must n) repeated h = by (list_any (bytes_eq n) names)
+  where
+    by : (b : Bool) → IfOk (at_place place (if b then as_said [] else made_of y place s (exported must n))) P
+    by true = repeated must n refl
+    by false = placed_ok P place (made_of y place s (exported must n)) h
+coming_so P y names place s (given p) repeated h = h
+coming_so P y names place s (valued why e) repeated h = placed_ok P place (made_of y place s (valued why e)) h
+coming_so P y names place s (imported n) repeated h = placed_ok P place (made_of y place s (imported n)) h
+coming_so P y names place s (demanded n) repeated h = h
+
+coming_long : (y : Symbols) (names : List (List ℕ)) (place : Place) (s : Context) (p : Piece) → IfOk (coming y names (waits (record { place = place; context = s; piece = p }))) (λ m. IsLong s.segment (piece_len p) m.content)
+coming_long y names place s p =
+    coming_so (λ m. IsLong s.segment (piece_len p) m.content) y names place s p (λ must n e. subst (λ q. IsLong s.segment (piece_len q) (telling [])) (sym e) (told_long s.segment [])) (made_long y place s p)
+
+-- ---- Slots of a statement.
+
+parts_cons : (c : Content) (cs : List Content) (g : ℕ) → sum_by part_len (parts_in (c ∷ cs) g) ≡ sum_by part_len (parts_in (c ∷ []) g) + sum_by part_len (parts_in cs g)
+parts_cons c cs g = by (nat_eq c.segment g)
+  where
+    by : (b : Bool) → sum_by part_len (flat_map (λ (d : Content). d.parts) (if b then c ∷ filter (λ (d : Content). nat_eq d.segment g) cs else filter (λ (d : Content). nat_eq d.segment g) cs))
+        ≡ sum_by part_len (flat_map (λ (d : Content). d.parts) (if b then c ∷ [] else [])) + sum_by part_len (parts_in cs g)
+    by true = sum_by-append part_len c.parts (parts_in cs g) ∙ ap (λ ps. sum_by part_len ps + sum_by part_len (parts_in cs g)) (sym (append-nil c.parts))
+    by false = refl
+
+there_plus : (b : Bool) (m n : ℕ) → there b m + there b n ≡ there b (m + n)
+there_plus true m n = refl
+there_plus false m n = refl
+
+nothing_there : (b : Bool) → 0 ≡ there b 0
+nothing_there true = refl
+nothing_there false = refl
+
+pub if_found : {A E : Type 0} (P : A → Type 0) (r : Result A E) (x : A) → r ≡ Ok x → IfOk r P → P x
+if_found P r x e h = subst (λ q. IfOk q P) e h
+
+pieces_long : (y : Symbols) (names : List (List ℕ)) (l : Laid) (g : ℕ) (ps : List Piece) (cs : List Content) → AreFound y names (map (waiting_at l) ps) cs → sum_by part_len (parts_in cs g) ≡ there (nat_eq l.context.segment g) (sum_by piece_len ps)
+pieces_long y names l g [] [] h = nothing_there (nat_eq l.context.segment g)
+pieces_long y names l g [] (c ∷ cs) h = absurd h
+pieces_long y names l g (p ∷ ps) [] h = absurd h
+pieces_long y names l g (p ∷ ps) (c ∷ cs) (w, (made, h)) =
+    let b = nat_eq l.context.segment g in
+    parts_cons c cs g
+    ∙ ap (λ n. n + sum_by part_len (parts_in cs g)) (if_found (λ (m : Made). IsLong l.context.segment (piece_len p) m.content) (coming y names (waiting_at l p)) (record { content = c; warning = w }) made (coming_long y names l.place l.context p) g)
+    ∙ ap (λ n. there b (piece_len p) + n) (pieces_long y (names ++ exported_names c.said) l g ps cs h)
+    ∙ there_plus b (piece_len p) (sum_by piece_len ps)
+    ∙ ap (there b) (sym (sum_by-cons piece_len p ps))
+
+asked_long : (y : Symbols) (names : List (List ℕ)) (l : Laid) (g : ℕ) (b : Bool) (cs : List Content) → AreFound y names ((if b then holds (asking l.context.segment) ∷ [] else []) ++ map (waiting_at l) (pieces_of l.length l.settled l.stated)) cs →
+    sum_by part_len (parts_in cs g) ≡ there (nat_eq l.context.segment g) (sum_by piece_len (pieces_of l.length l.settled l.stated))
+asked_long y names l g false cs h = pieces_long y names l g (pieces_of l.length l.settled l.stated) cs h
+asked_long y names l g true [] h = absurd h
+asked_long y names l g true (c ∷ cs) (w, (made, h)) =
+    let is : asking l.context.segment ≡ c = cc in
+    parts_cons c cs g ∙ ap (λ n. n + sum_by part_len (parts_in cs g)) (ap (λ (d : Content). sum_by part_len (parts_in (d ∷ []) g)) (sym is) ∙ asking_long l.context.segment g)
+    ∙ pieces_long y (names ++ exported_names c.said) l g (pieces_of l.length l.settled l.stated) cs h
 
 -- ---- Forms of instructions.
 
@@ -157,39 +279,6 @@ operand_mode before s own m (operand.Indirect e) = first_form m (Some e) Indirec
 operand_mode before s own m (operand.IndirectX e) = first_form m (Some e) IndirectX IndirectX (stored_behind e IndirectX) (stored_behind e IndirectX)
 operand_mode before s own m (operand.IndirectY e) = first_form m (Some e) IndirectY IndirectY (stored_behind e IndirectY) (stored_behind e IndirectY)
 
--- ---- Instructions.
-
-operand_sound : (asked : List ℕ) (count : ℕ) (s : Context) → asked_in asked s.segment ≡ true → (width : Width) (f : Form) → IsWell (asked_in asked) (below count) f → IfOk (operand_form width s f) (IsWell (asked_in asked) (below count))
-operand_sound asked count s h x1 f w = grind (arith, common_steps)
-
-behind_sound : (asked : List ℕ) (count : ℕ) (y : Symbols) → IsKnown asked count y → (l : Laid) → asked_in asked l.context.segment ≡ true → (w : Option Width) (t : Option Tree) → (t ≡ None → w ≡ None) → IfOk (operand_parts y l w t) (PartsOf asked count (operand_len w))
-behind_sound asked count y k l h None t a = (tt, refl)
-behind_sound asked count y k l h (Some width) None a = (let none : Some width ≡ None = a refl in absurd cc)
-behind_sound asked count y k l h (Some width) (Some e) a =
-    let Well : Form → Type 0 = IsWell (asked_in asked) (below count) in
-    well_then (PartOf asked count (width_len width)) (PartsOf asked count (width_len width)) (operand_part y l width e) (λ p. Ok (p ∷ []))
-    (well_then Well (PartOf asked count (width_len width)) (norm_of y l.context e) (λ f. operand_form width l.context f >>= stored width l.place) (form_sound asked count y k l.context e (λ z. h))
-    (λ f v. well_then Well (PartOf asked count (width_len width)) (operand_form width l.context f) (stored width l.place) (operand_sound asked count l.context h width f v)
-    (λ g w. stored_sound asked count width l.place g w)))
-    (λ p z. ((z.0, tt), sum_by-cons part_len p [] ∙ (let same = z.1 in omega (arith, same))))
-
-code_sound : (asked : List ℕ) (count : ℕ) (o : Option ℕ) → IsSoundPart asked count (opcode_part o)
-code_sound asked count x1 = grind (arith, common_steps)
-
-instruction_sound : (asked : List ℕ) (count : ℕ) (y : Symbols) → IsKnown asked count y → (l : Laid) → asked_in asked l.context.segment ≡ true → (m : Mnemonic) (o : Operand) (mode : Option Mode) → MayForm m (operand_tree o) mode → IfOk (instruction_parts y l m o (mode_settled mode)) (PartsOf asked count (mode_len mode))
-instruction_sound asked count y k l h m o None f = (tt, refl)
-instruction_sound asked count y k l h m o (Some mode) f =
-    well_then (PartsOf asked count (operand_len (width_of mode))) (PartsOf asked count (1 + operand_len (width_of mode))) (operand_parts y l (width_of mode) (operand_tree o)) (λ ps. Ok (opcode_part (opcode_of m mode) ∷ ps)) (behind_sound asked count y k l h (width_of mode) (operand_tree o) f.alone)
-    (λ ps v. ((code_sound asked count (opcode_of m mode), v.0), sum_by-cons part_len (opcode_part (opcode_of m mode)) ps ∙ ap (λ n. n + sum_by part_len ps) f.code ∙ ap (λ n. 1 + n) v.1))
-
--- ---- Room.
-
-room_sound : (asked : List ℕ) (count : ℕ) (before : Symbols) (s : Context) (len : ℕ) (v : Option Tree) → PartOf asked count len (room_part len (fill_settled before s v))
-room_sound asked count before s len x1 = grind (arith, common_steps)
-
-one_part : (asked : List ℕ) (count len : ℕ) (p : Part) → PartOf asked count len p → PartsOf asked count len (p ∷ [])
-one_part asked count len p h = ((h.0, tt), sum_by-cons part_len p [] ∙ (let same = h.1 in omega (arith, same)))
-
 -- ---- Parts of files.
 
 between_taken : (bytes : List ℕ) (start : ℕ) (len : Option ℤ) → length (take (length (bytes_between bytes start len)) (drop start bytes)) ≡ length (bytes_between bytes start len)
@@ -198,26 +287,55 @@ between_taken bytes start x1 = grind (arith, common_steps)
 file_taken : (before : Symbols) (s : Context) (bytes : Option (List ℕ)) (start len : Option Tree) → length (file_bytes (file_len before s bytes start len) bytes (FromByte (part_start before s start))) ≡ file_len before s bytes start len
 file_taken before s x1 start len = grind (arith, common_steps, between_taken)
 
--- ---- Statements.
+-- ---- The pieces of a statement are as long as it is.
 
-abbrev pub laid_with : Statement → Place → Context → ℕ → AddressSize → Settled → Laid
-laid_with x place s len own settled = record { stated = x; place = place; context = s; length = len; size = own; settled = settled }
+items_long : (width : Width) (its : List Item) → sum_by piece_len (map (item_piece width) its) ≡ sum_by (item_len width) its
+items_long width [] = refl
+items_long width (it ∷ its) = sum_by-cons piece_len (item_piece width it) (map (item_piece width) its) ∙ ap (λ n. piece_len (item_piece width it) + n) (items_long width its) ∙ ap (λ n. n + sum_by (item_len width) its) (one it) ∙ sym (sum_by-cons (item_len width) it its)
+  where
+    one : (it : Item) → piece_len (item_piece width it) ≡ item_len width it
+    one (Value e) = refl
+    one (Text bytes) = refl
 
-abbrev PartsAre : List ℕ → ℕ → Symbols → Place → Context → AddressSize → Statement → ℕ → Settled → Type 0
-PartsAre asked count y place s own x len settled = IfOk (parts_of y (laid_with x place s len own settled)) (PartsOf asked count len)
+operands_long : (w : Option Width) (t : Option Tree) → (t ≡ None → w ≡ None) → sum_by piece_len (operand_pieces w t) ≡ operand_len w
+operands_long None t a = refl
+operands_long (Some width) None a = (let none : Some width ≡ None = a refl in absurd cc)
+operands_long (Some width) (Some e) a = sum_by-cons piece_len (valued (purpose.operand width) e) [] ∙ omega arith
 
--- with the length and what is settled as they are measured
-parts_with : (asked : List ℕ) (count : ℕ) (y before : Symbols) → IsKnown asked count y → (place : Place) (s : Context) (own : AddressSize) (x : Statement) → (asks_section x ≡ true → asked_in asked s.segment ≡ true) → PartsAre asked count y place s own x (length_of before s own x) (settled_of before s own x)
-parts_with asked count y before k place s own (Instruction m o) a = grind (arith, common_steps, instruction_sound, operand_mode)
-parts_with asked count y before k place s own (Values width its) a =
-    items_sound asked count y k (laid_with (Values width its) place s (sum_by (item_len width) its) own Unsettled) (a refl) width its
-parts_with asked count y before k place s own (Reserve n v) a = grind (arith, common_steps, one_part, room_sound)
-parts_with asked count y before k place s own (Align n v) a = grind (arith, common_steps, one_part, room_sound)
-parts_with asked count y before k place s own (FilePart bytes start more) a = grind (arith, common_steps, one_part, file_taken)
-parts_with asked count y before k place s own _ a = (tt, refl)
+instruction_long : (m : Mnemonic) (o : Operand) (mode : Option Mode) → MayForm m (operand_tree o) mode → sum_by piece_len (instruction_pieces m o (mode_settled mode)) ≡ mode_len mode
+instruction_long m o None f = refl
+instruction_long m o (Some mode) f =
+    sum_by-cons piece_len (given (opcode_part (opcode_of m mode))) (operand_pieces (width_of mode) (operand_tree o))
+    ∙ ap (λ n. n + sum_by piece_len (operand_pieces (width_of mode) (operand_tree o))) f.code ∙ ap (λ n. 1 + n) (operands_long (width_of mode) (operand_tree o) f.alone)
 
-pub parts_sound : (asked : List ℕ) (count : ℕ) (y before : Symbols) → IsKnown asked count y → (l : Laid) → Asks (asked_in asked) l → IsMeasured before l → IfOk (parts_of y l) (PartsOf asked count l.length)
-parts_sound asked count y before k l a e =
-    let P : ℕ → Type 0 = λ n. PartsAre asked count y l.place l.context l.size l.stated n (settled_of before l.context l.size l.stated) in
-    let Q : Settled → Type 0 = λ z. PartsAre asked count y l.place l.context l.size l.stated l.length z in
-    subst Q (sym e.settled) (subst P (sym e.length) (parts_with asked count y before k l.place l.context l.size l.stated a))
+room_long : (before : Symbols) (s : Context) (len : ℕ) (v : Option Tree) → part_len (room_part len (fill_settled before s v)) ≡ len
+room_long before s len x1 = grind (arith, common_steps)
+
+one_long : (p : Part) (len : ℕ) → part_len p ≡ len → sum_by piece_len (given p ∷ []) ≡ len
+one_long p len h = sum_by-cons piece_len (given p) [] ∙ (let same = h in omega (arith, same))
+
+silent : (make : List ℕ → Piece) → ((n : List ℕ) → piece_len (make n) ≡ 0) → (names : List (List ℕ)) → sum_by piece_len (map make names) ≡ 0
+silent make is [] = refl
+silent make is (n ∷ names) = sum_by-cons piece_len (make n) (map make names) ∙ ap (λ k. k + sum_by piece_len (map make names)) (is n) ∙ silent make is names
+
+measured_long : (before : Symbols) (s : Context) (own : AddressSize) (x : Statement) → sum_by piece_len (pieces_of (length_of before s own x) (settled_of before s own x) x) ≡ length_of before s own x
+measured_long before s own (Instruction m o) = instruction_long m o (mode_of before s own m o) (operand_mode before s own m o)
+measured_long before s own (Values width its) = items_long width its
+measured_long before s own (Reserve n v) = one_long (room_part (length_of before s own (Reserve n v)) (fill_settled before s v)) (length_of before s own (Reserve n v)) (room_long before s (length_of before s own (Reserve n v)) v)
+measured_long before s own (Align n v) = one_long (room_part (length_of before s own (Align n v)) (fill_settled before s v)) (length_of before s own (Align n v)) (room_long before s (length_of before s own (Align n v)) v)
+measured_long before s own (FilePart bytes start more) = grind (arith, common_steps, one_long, file_taken)
+measured_long before s own (Constant n e) = refl
+measured_long before s own (Import size names) = silent imported (λ n. refl) names
+measured_long before s own (Export names) = silent (exported true) (λ n. refl) names
+measured_long before s own (Global size names) = silent (exported false) (λ n. refl) names
+measured_long before s own (ForceImport names) = sum_by-append piece_len (map imported names) (map demanded names) ∙ ap (λ n. n + sum_by piece_len (map demanded names)) (silent imported (λ n. refl) names) ∙ silent demanded (λ n. refl) names
+measured_long before s own (Assert e act words) = refl
+measured_long before s own _ = refl
+
+-- a statement's contents put as many bytes into its segment as it places
+pub slots_long : (y : Symbols) (names : List (List ℕ)) (before : Symbols) (l : Laid) (g : ℕ) (cs : List Content) → IsMeasured before l → AreFound y names (slots_of l) cs → sum_by part_len (parts_in cs g) ≡ (if nat_eq l.context.segment g then l.length else 0)
+slots_long y names before l g cs e h =
+    asked_long y names l g (asks_section l.stated) cs h
+    ∙ ap (λ n. there (nat_eq l.context.segment g) n)
+    (ap (λ n. sum_by piece_len (pieces_of n l.settled l.stated)) e.length ∙ ap (λ z. sum_by piece_len (pieces_of (length_of before l.context l.size l.stated) z l.stated)) e.settled
+    ∙ measured_long before l.context l.size l.stated ∙ sym e.length)

@@ -183,15 +183,15 @@ contents_fed : (cs : List Content) (t : Closed) → HasSlots (map holds cs) t �
 contents_fed cs t h =
     let files = names_in t.files in
     let es = t.entries.items in
-    subst (λ (ds : List Content). AreAlike ds (map (content_of files) es)) (held_contents (λ w. telling []) cs)
-    (subst (λ (ds : List Content). AreAlike (contents_so_far (map holds cs)) ds) (contents_of_slots files es) (h.alike.contents (λ w. telling [])))
+    subst (λ (ds : List Content). AreAlike ds (map (content_of files) es)) (held_contents cs)
+    (subst (λ (ds : List Content). AreAlike (contents_so_far (map holds cs)) ds) (contents_of_slots files es) h.alike.held)
 
 -- the object of all entries is that of what was fed
 pub finished : (segments : List Segment) (names : List (List ℕ)) (t : Closed) (cs : List Content) → IsDistinct bytes_eq (names_in t.files) → HasSlots (map holds cs) t → in_order (names_in t.files) (object_before segments names t.asked.keys (import_keys names (map (content_of []) t.entries.items)) t.entries.items) ≡ object_with segments names cs
 finished segments names t cs apart h =
     let files = names_in t.files in
     let es = t.entries.items in
-    let keys : section_keys cs ≡ t.asked.keys = ap section_keys (sym (held_contents (λ w. telling []) cs)) ∙ h.asked in
+    let keys : section_keys cs ≡ t.asked.keys = ap section_keys (sym (held_contents cs)) ∙ h.asked in
     entries_ordered files apart segments names t.asked.keys es h.standing
     ∙ sym (same_object segments names t.asked.keys cs (map (content_of files) es) (contents_fed cs t h))
     ∙ ap (λ ks. object_over segments names ks cs) (sym keys)

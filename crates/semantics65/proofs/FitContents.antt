@@ -18,8 +18,8 @@ use Rattle.ast65.specs.declared.fault.AsmFault.{AsmFault}
 use Rattle.ast65.specs.declared.language.Operand.{Operand}
 use Rattle.ast65.specs.declared.language.Statement.{Statement}
 use Rattle.ast65.specs.declared.language.Statement.TheVariants.{Constant, Instruction, Values, Import, Export, Global, ForceImport}
-use Rattle.semantics65.specs.Contents.{asking, Content, decided, Declaration, Exported, ForcedImport, Asserted, export_said, import_fault, Known, Filled, Waiting, opcode_part, operand_form, operand_tree, Part, stored, telling, written}
-use Rattle.semantics65.specs.Module.{absent_of, as_part, as_said, asserted, coming, datum, demanded, equated, exported, exported_names, Finished, Fixup, followed_by, given, holds, imported, instruction_pieces, item_piece, Made, made_of, operand, operand_pieces, Piece, pieces_of, Purpose, resolved, Slot, slots_of, used, valued, waiting_at, waits}
+use Rattle.semantics65.specs.Contents.{asking, Content, decided, Declaration, Exported, ForcedImport, Asserted, export_said, import_fault, Known, Filled, Waiting, opcode_part, operand_form, operand_tree, Part, stored, telling, written, exported_names}
+use Rattle.semantics65.specs.Module.{absent_of, as_part, as_said, asserted, coming, datum, demanded, equated, exported, Finished, Fixup, followed_by, given, holds, imported, instruction_pieces, item_piece, Made, made_of, operand, operand_pieces, Piece, pieces_of, Purpose, resolved, Slot, slots_of, used, valued, waiting_at, waits}
 use Rattle.semantics65.specs.Norms.{defined_form, norm_of, width_of}
 use Rattle.semantics65.specs.Numbering.{segments_asked}
 use Rattle.semantics65.specs.Reading.{at_place, PlacedFault}

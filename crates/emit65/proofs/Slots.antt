@@ -38,7 +38,7 @@ found_behind m cs said r = by r.found
 -- slots with others behind them, which stand behind the exports that the first come to
 resolved_append : (y : Symbols) (names : List (List ℕ)) (xs zs : List Slot) → resolved y names (xs ++ zs) ≡ behind (resolved y names xs) (λ cs. resolved y (names ++ exported_names (all_said cs)) zs)
 resolved_append y names [] zs = sym (nothing_after (resolved y (names ++ []) zs) ∙ ap (λ ns. resolved y ns zs) (append-nil names))
-resolved_append y names (x ∷ xs) zs = by (coming y names x)
+resolved_append y names (x ∷ xs) zs = by (coming y names x) (λ m. resolved_append y (more m) xs zs)
   where
     rest : List Content → Finished Content
     rest cs = resolved y (names ++ exported_names (all_said cs)) zs
@@ -46,18 +46,18 @@ resolved_append y names (x ∷ xs) zs = by (coming y names x)
     more : Made → List (List ℕ)
     more m = names ++ exported_names m.content.said
 
-    then : (m : Made) (f : Result (List Content) PlacedFault) (said : List ℕ) → followed_by (Ok m) (λ k. and_then f said (λ cs. resolved y (more m ++ exported_names (all_said cs)) zs)) ≡ behind (followed_by (Ok m) (λ k. record { found = f; warned = said })) rest
-    then m (Err e) said = refl
-    then m (Ok cs) said =
+    joined : (m : Made) (f : Result (List Content) PlacedFault) (said : List ℕ) → followed_by (Ok m) (λ k. and_then f said (λ cs. resolved y (more m ++ exported_names (all_said cs)) zs)) ≡ behind (followed_by (Ok m) (λ k. record { found = f; warned = said })) rest
+    joined m (Err e) said = refl
+    joined m (Ok cs) said =
         found_behind m cs said (resolved y (more m ++ exported_names (all_said cs)) zs)
         ∙ ap (λ ns. after (found_all (m.content ∷ cs) (m.warning ++ said)) (resolved y ns zs))
         (append_assoc names (exported_names m.content.said) (exported_names (all_said cs)) ∙ ap (λ ns. names ++ ns) (sym (names_append m.content.said (all_said cs))))
 
-    by : (r : Result Made PlacedFault) → followed_by r (λ m. resolved y (more m) (xs ++ zs)) ≡ behind (followed_by r (λ m. resolved y (more m) xs)) rest
-    by (Err e) = refl
-    by (Ok m) =
+    by : (r : Result Made PlacedFault) → ((m : Made) → resolved y (more m) (xs ++ zs) ≡ behind (resolved y (more m) xs) (λ cs. resolved y (more m ++ exported_names (all_said cs)) zs)) → followed_by r (λ m. resolved y (more m) (xs ++ zs)) ≡ behind (followed_by r (λ m. resolved y (more m) xs)) rest
+    by (Err e) one = refl
+    by (Ok m) one =
         let r = resolved y (more m) xs in
-        ap (λ a. followed_by (Ok m) (λ k. a)) (resolved_append y (more m) xs zs) ∙ then m r.found r.warned
+        ap (λ a. followed_by (Ok m) (λ k. a)) (one m) ∙ joined m r.found r.warned
 
 -- ---- What is found alike.
 
@@ -220,10 +220,11 @@ asked_found : (y : Symbols) (names : List (List ℕ)) (xs : List Slot) (cs : Lis
 asked_found y names [] [] h = refl
 asked_found y names [] (c ∷ cs) h = absurd h
 asked_found y names (x ∷ xs) [] h = absurd h
-asked_found y names (holds d ∷ xs) (c ∷ cs) (warning, (made, h)) =
-    let same : d ≡ c = cc in
+asked_found y names (holds d ∷ xs) (c ∷ cs) (warning, made, h) =
+    let first : quietly d ≡ record { content = c; warning = warning } = cc in
+    let same : d ≡ c = ap (λ (m : Made). m.content) first in
     one_asks c cs (contents_so_far xs) (asked_found y (names ++ exported_names c.said) xs cs h) ∙ ap (λ e. segments_asked (e ∷ contents_so_far xs)) (sym same)
-asked_found y names (waits w ∷ xs) (c ∷ cs) (warning, (made, h)) =
+asked_found y names (waits w ∷ xs) (c ∷ cs) (warning, made, h) =
     unasked c cs (waits_quiet y names w (record { content = c; warning = warning }) made) ∙ asked_found y (names ++ exported_names c.said) xs cs h
 
 -- the sections of what slots come to are those that were asked for

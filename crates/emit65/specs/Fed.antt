@@ -1,5 +1,5 @@
 -- What sections are fed with, and what stands in them.
-use Rattle.std.specs.Prelude.{◌≡◌, ⊥, ℕ, nat_lt, Bool, true, if◌then◌else◌, List, [], ◌∷◌, ◌++◌, map, Some, nat_eq, length, string_bytes, IfSome, Result, Ok, Err}
+use Rattle.std.specs.Prelude.{◌≡◌, ℕ, nat_lt, Bool, true, if◌then◌else◌, List, [], ◌∷◌, ◌++◌, map, Some, nat_eq, length, string_bytes, IfSome, Result, Ok, Err}
 use Rattle.std.specs.List.{flat_map, list_all, list_any}
 use Rattle.std.specs.Global.{Vec}
 use Rattle.indexmap.specs.IndexSet.{IndexSet}

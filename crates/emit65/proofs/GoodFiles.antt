@@ -1,12 +1,11 @@
 -- Files of an object: names that it can hold, none twice, and each that is written among them.
 use Rattle.std.proofs.lemmas.Grind.{common_steps}
-use Rattle.std.proofs.Common.{◌≡◌, ◌∙◌, ℕ, zero, suc, ◌+◌, Bool, true, false, ◌&&◌, ◌||◌, List, [], ◌∷◌, ◌++◌, length, map, refl, sym, ap, subst, arith}
+use Rattle.std.proofs.Common.{◌≡◌, ◌∙◌, ℕ, zero, suc, ◌+◌, Bool, true, false, ◌&&◌, ◌||◌, List, [], ◌∷◌, ◌++◌, length, map, refl, ap, arith}
 use Rattle.std.specs.Prelude.{filter_map, if◌then◌else◌}
 use Rattle.std.specs.List.{AllByRecursion, flat_map, list_all, list_any}
 use Rattle.std.specs.Str.{bytes_eq}
 use Rattle.std.proofs.lemmas.Bool.Decides.{nat_tests}
-use Rattle.std.proofs.lemmas.List.{map-append}
-use Rattle.std.proofs.lemmas.List.Folds.{list_all-append, list_any-append}
+use Rattle.std.proofs.lemmas.List.Folds.{list_any-append}
 use Rattle.syntax65.specs.declared.place.Place.{Place}
 use Rattle.object65.specs.declared.object.Assert.{Assert}
 use Rattle.object65.specs.declared.object.Export.{Export}
@@ -17,7 +16,7 @@ use Rattle.object65.specs.declared.object.Section.{Section}
 use Rattle.object65.specs.Objects.{are_distinct, has_good_origin, has_good_origins, is_file_name, is_good_origin}
 use Rattle.semantics65.specs.Contents.{Content, Part, Known, Filled, Waiting, Declaration, Exported, ForcedImport, Asserted}
 use Rattle.semantics65.specs.declared.contents.Segment.{Segment}
-use Rattle.semantics65.specs.Numbering.{all_joined, all_said, assert_files, assert_of, export_files, export_of, files_named, files_of, fragments_of, import_keys, in_files, joined, names_once, numbered, object_with, part_files, parts_in, section_keys, section_of, IsSoundContent, IsSoundPart, IsSoundDeclaration}
+use Rattle.semantics65.specs.Numbering.{all_joined, all_said, assert_files, assert_of, export_files, export_of, files_named, files_of, fragments_of, import_keys, in_files, joined, names_once, object_with, part_files, parts_in, section_keys, section_of, IsSoundContent, IsSoundPart, IsSoundDeclaration}
 use Rattle.emit65.proofs.Fitting.{all_more}
 use Rattle.emit65.proofs.GoodNames.{names_push}
 use Rattle.emit65.proofs.Naming.{any_below, itself, position_at}

@@ -1,14 +1,13 @@
 -- The object of all that was fed is that of its contents.
 use Rattle.std.proofs.lemmas.Grind.{common_steps}
 use Rattle.std.proofs.Common.{◌≡◌, ◌∙◌, ℕ, ◌<◌, true, List, [], ◌∷◌, ◌++◌, length, map, position, Some, nat_lt, refl, sym, ap, arith, subst}
-use Rattle.std.specs.Prelude.{filter_map, slice_get, if◌then◌else◌}
+use Rattle.std.specs.Prelude.{filter_map, slice_get}
 use Rattle.std.specs.List.{IsDistinct, flat_map, list_all, list_any}
 use Rattle.std.specs.Str.{bytes_eq}
 use Rattle.std.proofs.lemmas.Bool.Decides.{nat_tests}
 use Rattle.std.proofs.lemmas.List.Elements.{filter_map-append}
 use Rattle.std.proofs.lemmas.List.Folds.{list_all-append}
 use Rattle.syntax65.specs.declared.place.Place.{Place}
-use Rattle.object65.specs.declared.object.Export.{Export}
 use Rattle.object65.specs.declared.object.Fragment.{Fragment}
 use Rattle.object65.specs.declared.object.Fragment.TheVariants.{Literal, Fill}
 use Rattle.object65.specs.declared.object.Origin.{Origin}
@@ -100,7 +99,7 @@ module _ (files : List (List ℕ)) (apart : IsDistinct bytes_eq files) where
     exports_are o (told.Asserted act words f ∷ ss) h = exports_are o ss h
 
     exports_said : (es : List Entry) → StandIn (length files) es → flat_map (entry_exports s i) es ≡ filter_map (export_of at s i) (all_said (contents es))
-    exports_said standing = refl
+    exports_said [] standing = refl
     exports_said (Bytes g bytes ∷ es) standing = exports_said es (others (Bytes g bytes) es standing)
     exports_said (Room g n ∷ es) standing = exports_said es (others (Room g n) es standing)
     exports_said (Value width g o f ∷ es) standing = exports_said es (others (Value width g o f) es standing)

@@ -1,7 +1,7 @@
 -- The object of contents in the order of its own files.
-use Rattle.std.proofs.Common.{◌≡◌, ◌∙◌, ℕ, ◌<◌, Bool, true, false, List, [], ◌∷◌, ◌++◌, length, map, get_or, option_map, Option, Some, None, refl, sym, ap, arith, zero, suc, ◌+◌, subst, append_assoc, append-nil}
-use Rattle.std.specs.Prelude.{slice_get, if◌then◌else◌, filter_map}
-use Rattle.std.specs.List.{AllByRecursion, IsDistinct, flat_map, list_all, list_any}
+use Rattle.std.proofs.Common.{◌≡◌, ◌∙◌, ℕ, ◌<◌, Bool, true, false, List, [], ◌∷◌, ◌++◌, length, map, get_or, option_map, Option, Some, None, refl, sym, ap, arith, zero, suc, ◌+◌, subst}
+use Rattle.std.specs.Prelude.{slice_get, filter_map}
+use Rattle.std.specs.List.{AllByRecursion, IsDistinct, flat_map, list_all}
 use Rattle.std.specs.Str.{bytes_eq}
 use Rattle.std.proofs.lemmas.Map.Keys.{IsDistinct-cons, IsDistinct-head, IsDistinct-tail}
 use Rattle.std.proofs.lemmas.Option.{slice_get-get_or}
@@ -14,8 +14,7 @@ use Rattle.object65.specs.declared.object.Section.{Section}
 use Rattle.semantics65.specs.Numbering.{number_of, once, optional_key, all_joined, all_said, assert_files, assert_of, export_files, export_of, fragments_of, import_keys, in_files, joined, name_of, names_once, numbered, part_files, parts_in, section_of, segment_name, segment_power}
 use Rattle.emit65.specs.Inner.Drafts.{assert_by, assert_key, export_by, export_key, fragment_by, fragment_keys, order_of, section_by, section_files, in_order, origin_by}
 use Rattle.emit65.proofs.Renumbering.{HasAll, first_has, has, left, number_at, number_below, once_has, second_has, once_all, right}
-use Rattle.std.proofs.lemmas.Grind.{common_steps, flat_map-append}
-use Rattle.std.proofs.lemmas.List.{map-append}
+use Rattle.std.proofs.lemmas.Grind.{common_steps}
 use Rattle.syntax65.specs.declared.place.Place.{Place}
 use Rattle.object65.specs.declared.object.Origin.{Origin}
 use Rattle.semantics65.specs.Contents.{Content, Part, Known, Filled, Waiting, Declaration, Exported, ForcedImport, Asserted}

@@ -10,21 +10,16 @@ use Rattle.syntax65.specs.Trees.{Tree}
 use Rattle.syntax65.specs.declared.instructions.names.Mnemonic.{Mnemonic}
 use Rattle.object65.specs.Folding.{fold2}
 use Rattle.object65.specs.Form.{Form, lit, sec}
-use Rattle.object65.specs.Objects.{fits_width, is_file_name, value_bytes}
 use Rattle.object65.specs.declared.object.Action.{Action}
 use Rattle.object65.specs.declared.object.Action.TheVariants as action
 use Rattle.object65.specs.declared.object.Width.{Width}
 use Rattle.object65.specs.declared.object.Width.TheVariants.{Branch}
 use Rattle.ast65.specs.declared.fault.AsmFault.{AsmFault}
-use Rattle.ast65.specs.declared.fault.AsmFault.TheVariants.{FileNameTooLong, OutOfRange}
-use Rattle.ast65.specs.declared.language.Item.{Item}
-use Rattle.ast65.specs.declared.language.Item.TheVariants.{Value, Text}
 use Rattle.ast65.specs.declared.language.Operand.{Operand}
-use Rattle.ast65.specs.declared.language.Operand.TheVariants.{Absent}
 use Rattle.ast65.specs.declared.language.Statement.{Statement}
-use Rattle.ast65.specs.declared.language.Statement.TheVariants.{Constant, Instruction, Values, Reserve, Align, FilePart, Import, Export, Global, ForceImport, Assert}
-use Rattle.semantics65.specs.Contents.{asking, Content, decided, Declaration, Exported, ForcedImport, Asserted, export_said, import_fault, Known, Filled, Waiting, opcode_part, operand_form, operand_tree, Part, room_part, stored, telling, written}
-use Rattle.semantics65.specs.Module.{absent_of, as_part, as_said, asserted, coming, datum, demanded, equated, exported, exported_names, Finished, Fixup, followed_by, given, holds, imported, instruction_pieces, is_repeated, item_piece, Made, made_of, operand, operand_pieces, Piece, pieces_of, Purpose, resolved, Slot, slots_of, used, valued, waiting_at, waits}
+use Rattle.ast65.specs.declared.language.Statement.TheVariants.{Constant, Instruction, Values, Import, Export, Global, ForceImport}
+use Rattle.semantics65.specs.Contents.{asking, Content, decided, Declaration, Exported, ForcedImport, Asserted, export_said, import_fault, Known, Filled, Waiting, opcode_part, operand_form, operand_tree, Part, stored, telling, written, exported_names}
+use Rattle.semantics65.specs.Module.{absent_of, as_part, as_said, asserted, coming, datum, demanded, equated, exported, Finished, Fixup, followed_by, given, holds, imported, instruction_pieces, item_piece, Made, made_of, operand, operand_pieces, Piece, pieces_of, Purpose, resolved, Slot, slots_of, used, valued, waiting_at, waits}
 use Rattle.semantics65.specs.Norms.{defined_form, norm_of, width_of}
 use Rattle.semantics65.specs.Numbering.{segments_asked}
 use Rattle.semantics65.specs.Reading.{at_place, PlacedFault}
@@ -108,8 +103,7 @@ flat_all Q P f h [] all = tt
 flat_all Q P f h (x ∷ xs) all = all_append P (f x) (flat_map f xs) (h x all.0) (flat_all Q P f h xs all.1)
 
 tree_small : (o : Operand) → IsSmallOperand o → IfSome (operand_tree o) IsSmallTree
-tree_small Absent small = tt
-tree_small _ small = small
+tree_small o1 small = grind (arith)
 
 module _ (files : List (List ℕ)) (n : ℕ) where
   -- ---- A statement's pieces.
@@ -118,40 +112,25 @@ module _ (files : List (List ℕ)) (n : ℕ) where
     abbrev IsPiece : Piece → Type 0
     IsPiece p = IsPieceFit files n file p
 
-    item_fit : (width : Width) (it : Item) → IsSmallItem it → IsAmong files file → IsPiece (item_piece width it)
-    item_fit width (Value e) small there = (small, there)
-    item_fit width (Text bytes) small there = tt
-
-    opcode_fit : (o : Option ℕ) → IsPartFit files n (opcode_part o)
-    opcode_fit None = tt
-    opcode_fit (Some code) = tt
+    opcode_fit : (o : Option ℕ) → IsPiece (given (opcode_part o))
+    opcode_fit o = grind (arith)
 
     operands_fit : (w : Option Width) (o : Option Tree) → IfSome o IsSmallTree → IsAmong files file → AllByRecursion IsPiece (operand_pieces w o)
-    operands_fit (Some width) (Some e) small there = ((small, there), tt)
-    operands_fit (Some width) None small there = tt
-    operands_fit None o small there = tt
+    operands_fit w o small there = grind (arith)
 
     instruction_fit : (m : Mnemonic) (o : Operand) (fixed : Settled) → IsSmallOperand o → IsAmong files file → AllByRecursion IsPiece (instruction_pieces m o fixed)
     instruction_fit m o (InMode mode) small there = (opcode_fit (opcode_of m mode), operands_fit (width_of mode) (operand_tree o) (tree_small o small) there)
     instruction_fit m o _ small there = tt
 
-    room_fit : (count : ℕ) (fixed : Settled) → IsPartFit files n (room_part count fixed)
-    room_fit count fixed = grind (arith)
-
     pieces_fit : (count : ℕ) (fixed : Settled) (x : Statement) → IsSmallStatement x → (is_counted x ≡ true → IsAmong files file) → AllByRecursion IsPiece (pieces_of count fixed x)
     pieces_fit count fixed (Instruction m o) small there = instruction_fit m o fixed small (there refl)
-    pieces_fit count fixed (Values width items) small there = all_mapped IsSmallItem IsPiece (item_piece width) (λ it h. item_fit width it h (there refl)) items small
-    pieces_fit count fixed (Reserve m v) small there = (room_fit count fixed, tt)
-    pieces_fit count fixed (Align m v) small there = (room_fit count fixed, tt)
-    pieces_fit count fixed (FilePart bytes start len) small there = (tt, tt)
-    pieces_fit count fixed (Constant m e) small there = ((small, tt), tt)
+    pieces_fit count fixed (Values width items) small there = let file = there refl in all_mapped IsSmallItem IsPiece (item_piece width) (λ it h. grind (arith)) items small
     pieces_fit count fixed (Import own names) small there = each_mapped IsPiece imported (λ m. tt) names
     pieces_fit count fixed (Export names) small there = each_mapped IsPiece (exported true) (λ m. there refl) names
     pieces_fit count fixed (Global own names) small there = each_mapped IsPiece (exported false) (λ m. there refl) names
     pieces_fit count fixed (ForceImport names) small there =
         all_append IsPiece (map imported names) (map demanded names) (each_mapped IsPiece imported (λ m. tt) names) (each_mapped IsPiece demanded (λ m. tt) names)
-    pieces_fit count fixed (Assert e act words) small there = ((small, there refl), tt)
-    pieces_fit count fixed _ small there = tt
+    pieces_fit count fixed x small there = grind (arith)
 
   -- ---- Its slots.
 
@@ -160,19 +139,11 @@ module _ (files : List (List ℕ)) (n : ℕ) where
 
   slots_fit : (l : Laid) → IsLaidFit files l → AllByRecursion IsSlot (slots_of l)
   slots_fit l h =
-      all_append IsSlot (asked (asks_section l.stated)) (map (waiting_at l) pieces) (asked_fit (asks_section l.stated))
+      let pieces : List Piece = pieces_of l.length l.settled l.stated in
+      let asked : IsContentFit files n (asking l.context.segment) = record { parts = tt; said = tt } in
+      all_append IsSlot (if asks_section l.stated then holds (asking l.context.segment) ∷ [] else []) (map (waiting_at l) pieces) (grind (arith, asked))
       (all_mapped (IsPieceFit files n l.place.file) IsSlot (waiting_at l) (λ p k. record { place = h.place; at = h.at; piece = k }) pieces
       (pieces_fit l.place.file l.length l.settled l.stated h.small h.file))
-    where
-      asked : Bool → List Slot
-      asked b = if b then holds (asking l.context.segment) ∷ [] else []
-
-      pieces : List Piece
-      pieces = pieces_of l.length l.settled l.stated
-
-      asked_fit : (b : Bool) → AllByRecursion IsSlot (asked b)
-      asked_fit true = (record { parts = tt; said = tt }, tt)
-      asked_fit false = tt
 
   pub all_slots_fit : (ls : List Laid) → AllByRecursion (IsLaidFit files) ls → AllByRecursion IsSlot (flat_map slots_of ls)
   all_slots_fit ls h = flat_all (IsLaidFit files) IsSlot slots_of slots_fit ls h
@@ -214,41 +185,28 @@ module _ (y : Symbols) (fit : AreDefinitionsFit y.definitions) (files : List (Li
     asks : m.content.asks ≡ b
 
   part_fit : (g : ℕ) (r : Result Part AsmFault) → IfOk r IsPart → IfOk (r >>= as_part g) (IsMadeFit false)
-  part_fit g r h = after_it IsPart (IsMadeFit false) r (as_part g) h (λ p k. record { content = record { parts = (k, tt); said = tt }; asks = refl })
+  part_fit g r h = after_it IsPart (IsMadeFit false) r _ h (λ p k. record { content = record { parts = (k, tt); said = tt }; asks = refl })
 
   telling_fit : (ss : List Declaration) (warning : List ℕ) → AreSaidFit ss → IsMadeFit false (record { content = telling ss; warning = warning })
   telling_fit ss warning h = record { content = record { parts = tt; said = h }; asks = refl }
 
   said_fit : (r : Result (List Declaration) AsmFault) → IfOk r AreSaidFit → IfOk (r >>= as_said) (IsMadeFit false)
-  said_fit r h = after_it AreSaidFit (IsMadeFit false) r as_said h (λ ss k. telling_fit ss [] k)
+  said_fit r h = after_it AreSaidFit (IsMadeFit false) r _ h (λ ss k. telling_fit ss [] k)
 
   written_fit : {A : Type 0} (P : A → Type 0) (place : Place) (x : A) → P x → IfOk (written place x) P
-  written_fit {A} P place x h = by (is_file_name place.file)
-    where
-      by : (b : Bool) → IfOk (if b then Ok x else Err FileNameTooLong) P
-      by true = h
-      by false = tt
+  written_fit P place x h = grind (arith)
 
   import_fit : (n : List ℕ) → IfOk (import_fault y n) AreSaidFit
-  import_fit n = by (defined y (named 0 n)) refl
-    where
-      by : (o : Option ℕ) → defined y (named 0 n) ≡ o → IfOk (import_fault y n) AreSaidFit
-      by None e = rw e tt
-      by (Some j) e = rw e tt
+  import_fit n = grind (arith)
 
   absent_fit : (must : Bool) (n : List ℕ) → IfOk (absent_of must n) AreSaidFit
-  absent_fit true n = tt
-  absent_fit false n = tt
+  absent_fit must n = grind (arith)
 
   -- ---- A piece.
 
   module _ (place : Place) (s : Context) (at : IsPlaced s) (there : IsPlaceFit place) where
     stored_fit : (width : Width) (f : Form) → IsWritten files imports place f → IfOk (stored width place f) IsPart
-    stored_fit width (lit v) h = by (fits_width width v)
-      where
-        by : (b : Bool) → IfOk (if b then Ok (Known (value_bytes width v)) else Err OutOfRange) IsPart
-        by true = tt
-        by false = tt
+    stored_fit width (lit v) h = grind (arith)
     stored_fit width f h = written_fit IsPart place (Waiting width place f) h
 
     form_fit : (width : Width) (f : Form) → IsBounded imports f → IfOk (operand_form width s f) (IsBounded imports)
@@ -266,21 +224,21 @@ module _ (y : Symbols) (fit : AreDefinitionsFit y.definitions) (files : List (Li
     export_fit : (n : List ℕ) (absent : Result (List Declaration) AsmFault) → IfOk absent AreSaidFit → IsAmong files place.file → (o : Option ℕ) → IfOk (export_said y place n absent o) AreSaidFit
     export_fit n absent h file None = h
     export_fit n absent h file (Some j) =
-        after_it (IsBounded imports) AreSaidFit (defined_form y j) (λ f. written place (Exported n place f ∷ [])) (defined_bounded y fit j)
+        after_it (IsBounded imports) AreSaidFit (defined_form y j) _ (defined_bounded y fit j)
         (λ f b. written_fit AreSaidFit place (Exported n place f ∷ []) (is_written file f b, tt))
 
     used_fit : (why : Purpose) (f : Form) → HasFile files place.file why → IsBounded imports f → IfOk (used place s why f) (IsMadeFit false)
     used_fit (datum width) f file h = part_fit s.segment (stored width place f) (stored_fit width f (is_written file f h))
     used_fit (operand width) f file h =
         part_fit s.segment (operand_form width s f >>= stored width place)
-        (after_it (IsBounded imports) IsPart (operand_form width s f) (stored width place) (form_fit width f h) (λ g k. stored_fit width g (is_written file g k)))
+        (after_it (IsBounded imports) IsPart (operand_form width s f) _ (form_fit width f h) (λ g k. stored_fit width g (is_written file g k)))
     used_fit equated f file h = telling_fit [] [] tt
     used_fit (asserted act words) f file h =
         after_it AreSaidFit (IsMadeFit false) (decided act place words f) _ (decided_fit act words f (is_written file f h)) (λ ss k. telling_fit ss _ k)
 
     made_fit : (p : Piece) → IsPieceFit files imports place.file p → IfOk (made_of y place s p) (IsMadeFit false)
     made_fit (given p) h = part_fit s.segment (Ok p) h
-    made_fit (valued why e) h = after_it (IsBounded imports) (IsMadeFit false) (norm_of y s e) (used place s why) (norm_bounded y fit s e at h.0) (λ f b. used_fit why f h.1 b)
+    made_fit (valued why e) h = after_it (IsBounded imports) (IsMadeFit false) (norm_of y s e) _ (norm_bounded y fit s e at h.0) (λ f b. used_fit why f h.1 b)
     made_fit (imported n) h = said_fit (import_fault y n) (import_fit n)
     made_fit (demanded n) h = telling_fit (ForcedImport n ∷ []) [] (tt, tt)
     made_fit (exported must n) h = said_fit (export_said y place n (absent_of must n) (defined y (named 0 n))) (export_fit n (absent_of must n) (absent_fit must n) h (defined y (named 0 n)))
@@ -288,24 +246,21 @@ module _ (y : Symbols) (fit : AreDefinitionsFit y.definitions) (files : List (Li
   -- ---- All slots.
 
   placed_fit : {A : Type 0} (P : A → Type 0) (place : Place) (r : Result A AsmFault) → IfOk r P → IfOk (at_place place r) P
-  placed_fit P place (Ok x) h = h
-  placed_fit P place (Err e) h = tt
+  placed_fit P place r1 h = grind (arith)
 
   coming_fit : (names : List (List ℕ)) (x : Slot) → IsSlotFit files imports x → IfOk (coming y names x) (IsMadeFit (asks x))
   coming_fit names (holds c) h = record { content = h; asks = refl }
-  coming_fit names (waits w) h = placed_fit (IsMadeFit false) w.place _ (by (is_repeated names w.piece))
-    where
-      by : (b : Bool) → IfOk (if b then as_said [] else made_of y w.place w.context w.piece) (IsMadeFit false)
-      by true = telling_fit [] [] tt
-      by false = made_fit w.place w.context h.at h.place w.piece h.piece
+  coming_fit names (waits w) h =
+      let nothing = telling_fit [] [] tt in
+      let made = made_fit w.place w.context h.at h.place w.piece h.piece in
+      placed_fit (IsMadeFit false) w.place _ (grind (arith, nothing, made))
 
   pub record AreContentsOf (xs : List Slot) (cs : List Content) : Type 0 where
     pub contents : AllByRecursion (IsContentFit files imports) cs
     pub asked : length (segments_asked cs) ≤ asking_count xs
 
   asked_more : (c : Content) (cs : List Content) (b : Bool) (n : ℕ) → c.asks ≡ b → length (segments_asked cs) ≤ n → length (segments_asked (c ∷ cs)) ≤ counted b + n
-  asked_more c cs true n e h = rw e (omega (arith, h))
-  asked_more c cs false n e h = rw e (omega (arith, h))
+  asked_more c cs b1 n e h = grind (arith)
 
   pub contents_fit : (names : List (List ℕ)) (xs : List Slot) → AllByRecursion (IsSlotFit files imports) xs → IfOk (resolved y names xs).found (AreContentsOf xs)
   contents_fit names [] h = record { contents = tt; asked = omega arith }

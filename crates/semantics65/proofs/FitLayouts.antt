@@ -27,10 +27,10 @@ use Rattle.ast65.specs.Parsing.{IsStatement, is_colon, label_before, label_of, n
 use Rattle.ast65.specs.declared.fault.AsmFault.{AsmFault}
 use Rattle.ast65.specs.declared.language.Statement.{Statement}
 use Rattle.ast65.specs.declared.language.Statement.TheVariants.{Constant, Label, CheapLabel, UnnamedLabel, Import, Global, ForceImport, NamedPart}
-use Rattle.semantics65.specs.Contents.{asking, Content}
+use Rattle.semantics65.specs.Contents.{Content}
 use Rattle.semantics65.specs.Fitting.{FittingObjectLaw, HoldBytes, AreOfTypes}
 use Rattle.semantics65.specs.Layout.{context_of, Cursor, laid, Layout, layout_behind, line_fault, nothing_laid, own_size, segment_at, unless_fault}
-use Rattle.semantics65.specs.Module.{ending_of, holds, Outcome, outcome_of, Piece, pieces_of, Slot, slots_of, waiting_at}
+use Rattle.semantics65.specs.Module.{ending_of, Outcome, outcome_of, Piece, pieces_of, Slot, slots_of, waiting_at}
 use Rattle.semantics65.specs.Norms.{length_of}
 use Rattle.semantics65.specs.Numbering.{AreSound, object_with}
 use Rattle.semantics65.specs.Reading.{AreDefined, AreTaken, taken, faulty, refused, ended, Define, Follows, IsBegun, IsGiven, IsLabelled, IsLaid, IsRest, Job, laying, no_line, PlacedFault, Reached, with_bytes}
@@ -339,14 +339,7 @@ pieces_ask l [] xs = refl
 pieces_ask l (p ∷ ps) xs = let rest = pieces_ask l ps xs in omega (arith, rest)
 
 slots_ask : (l : Laid) (xs : List Slot) → asking_count (slots_of l ++ xs) ≡ counted (asks_section l.stated) + asking_count xs
-slots_ask l xs = let rest = pieces_ask l (pieces_of l.length l.settled l.stated) xs in by (asks_section l.stated) rest
-  where
-    waiting : List Slot
-    waiting = map (waiting_at l) (pieces_of l.length l.settled l.stated)
-
-    by : (b : Bool) → asking_count (waiting ++ xs) ≡ asking_count xs → asking_count (((if b then holds (asking l.context.segment) ∷ [] else []) ++ waiting) ++ xs) ≡ counted b + asking_count xs
-    by true rest = omega (arith, rest)
-    by false rest = omega (arith, rest)
+slots_ask l xs = let rest = pieces_ask l (pieces_of l.length l.settled l.stated) xs in grind (arith, rest)
 
 asking_few : (ls : List Laid) → asking_count (flat_map slots_of ls) ≤ length (files_in ls)
 asking_few [] = omega arith

@@ -6,8 +6,8 @@ use Rattle.std.proofs.lemmas.Grind.{common_steps}
 use Rattle.std.proofs.lemmas.List.{append-nil}
 use Rattle.std.proofs.lemmas.List.Elements.{filter_map-append}
 use Rattle.base65.specs.Outcome.{◌>>=◌}
-use Rattle.semantics65.specs.Contents.{Content, Declaration}
-use Rattle.semantics65.specs.Module.{Finished, Made, Slot, coming, exported_name, exported_names, followed_by, resolved}
+use Rattle.semantics65.specs.Contents.{Content, Declaration, exported_name, exported_names}
+use Rattle.semantics65.specs.Module.{Finished, Made, Slot, coming, followed_by, resolved}
 use Rattle.semantics65.specs.Numbering.{all_said}
 use Rattle.semantics65.specs.Reading.{PlacedFault}
 use Rattle.semantics65.specs.Symbols.{Symbols}

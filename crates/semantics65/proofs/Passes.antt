@@ -5,7 +5,7 @@ use Rattle.std.specs.Prelude.{⊤, Bool, true, false, Result, Ok, Err, if◌then
 use Rattle.std.specs.List.{flat_map}
 use Rattle.std.proofs.lemmas.List.{append-nil}
 use Rattle.base65.specs.Outcome.{◌>>=◌}
-use Rattle.semantics65.specs.Contents.{Content, asking}
+use Rattle.semantics65.specs.Contents.{Content, asking, exported_names}
 use Rattle.ast65.specs.declared.fault.AsmFault.{AsmFault}
 use Rattle.ast65.specs.declared.language.Statement.{Statement}
 use Rattle.syntax65.specs.declared.place.Place.{Place}
@@ -16,7 +16,7 @@ use Rattle.semantics65.specs.Numbering.{object_with}
 use Rattle.semantics65.specs.Machine.{LaidRuns, OnePass, RunsLaid, StandsFor, Puts, at_once, later, PutsAll, State, Steps, Takes, UnlessFault, asked, awaiting, begun, concluded, entered, known, running}
 use Rattle.semantics65.specs.Reading.{IsLaid, laying, PlacedFault}
 use Rattle.semantics65.specs.Norms.{Extends}
-use Rattle.semantics65.specs.Module.{Outcome, outcome_of, printed, warned, Made, Piece, pieces_of, Finished, Slot, holds, waits, coming, ending_of, exported_names, followed_by, resolved, slots_of}
+use Rattle.semantics65.specs.Module.{Outcome, outcome_of, printed, warned, Made, Piece, pieces_of, Finished, Slot, holds, waits, coming, ending_of, followed_by, resolved, slots_of}
 use Rattle.semantics65.proofs.Resolving.{extends_behind, extends_same, extends_then, flat_push, symbols_push}
 use Rattle.semantics65.proofs.OneLayouts.{Matches, Simulates, StandIn, source_matches}
 

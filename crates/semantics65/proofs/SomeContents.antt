@@ -1,5 +1,5 @@
 -- Each slot comes to something, or to a fault that comes from no outside; so laid statements have an object.
-use Rattle.std.proofs.Common.{◌≡◌, pos, ℕ, zero, ◌+◌, Bool, true, false, List, [], ◌∷◌, ◌++◌, Option, Some, None, refl}
+use Rattle.std.proofs.Common.{arith, ◌≡◌, pos, ℕ, zero, ◌+◌, Bool, false, List, [], ◌∷◌, ◌++◌, Option, Some, None, refl}
 use Rattle.std.specs.Prelude.{Result, Ok, Err, IfSome}
 use Rattle.std.specs.List.{flat_map}
 use Rattle.base65.specs.Outcome.{◌>>=◌}
@@ -14,10 +14,10 @@ use Rattle.object65.specs.declared.object.Width.{Width}
 use Rattle.object65.specs.declared.object.Width.TheVariants.{Branch}
 use Rattle.object65.proofs.SomeObject.{some_fold}
 use Rattle.ast65.specs.Faults.{is_outside}
-use Rattle.semantics65.specs.Contents.{Content, decided, Declaration, export_said, import_fault, operand_form, stored, written}
+use Rattle.semantics65.specs.Contents.{Content, decided, Declaration, export_said, import_fault, operand_form, stored, written, exported_names}
 use Rattle.semantics65.specs.Laws.{is_found_outside}
 use Rattle.semantics65.specs.Layout.{Layout}
-use Rattle.semantics65.specs.Module.{absent_of, asserted, coming, datum, demanded, ending_of, equated, exported, exported_names, Finished, followed_by, given, holds, imported, is_repeated, Made, made_of, object_of, operand, outcome_of, Piece, Purpose, resolved, Slot, slots_of, used, valued, waits}
+use Rattle.semantics65.specs.Module.{absent_of, asserted, coming, datum, demanded, ending_of, equated, exported, Finished, followed_by, given, holds, imported, is_repeated, Made, made_of, object_of, operand, outcome_of, Piece, Purpose, resolved, Slot, slots_of, used, valued, waits}
 use Rattle.semantics65.specs.Norms.{defined_form, norm_of}
 use Rattle.semantics65.specs.Reading.{at_place, PlacedFault}
 use Rattle.semantics65.specs.Symbols.{defined, named, Symbols, symbols_of}
@@ -40,15 +40,10 @@ form_own width s f = good f
 -- ---- What is said.
 
 import_own : (y : Symbols) (n : List ℕ) → Own is_outside (import_fault y n)
-import_own y n = by (defined y (named 0 n)) refl
-  where
-    by : (o : Option ℕ) → defined y (named 0 n) ≡ o → Own is_outside (import_fault y n)
-    by None e = rw e (good [])
-    by (Some j) e = rw e (bad _ refl)
+import_own y n = record { own = grind (arith) }
 
 absent_own : (must : Bool) (n : List ℕ) → Own is_outside (absent_of must n)
-absent_own true n = bad _ refl
-absent_own false n = good []
+absent_own must n = record { own = grind (arith) }
 
 export_own : (y : Symbols) (place : Place) (n : List ℕ) (absent : Result (List Declaration) AsmFault) → Own is_outside absent → (o : Option ℕ) → Own is_outside (export_said y place n absent o)
 export_own y place n absent h None = h

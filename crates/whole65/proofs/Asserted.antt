@@ -10,7 +10,7 @@ use Rattle.object65.specs.Form.{Form, lit, sec, imp, prefix, binary}
 use Rattle.object65.specs.declared.object.Action.{Action}
 use Rattle.object65.specs.declared.object.Action.TheVariants as action
 use Rattle.syntax65.specs.declared.place.Place.{Place}
-use Rattle.semantics65.specs.Contents.{Content, Declaration, Exported, ForcedImport, Asserted, decided, written}
+use Rattle.semantics65.specs.Contents.{Content, Declaration, Exported, ForcedImport, Asserted, decided, written, exported_names}
 use Rattle.ast65.specs.declared.fault.AsmFault.{AsmFault}
 use Rattle.semantics65.specs.Symbols.{Laid, Symbols}
 use Rattle.ast65.specs.declared.language.Statement.{Statement}
@@ -18,7 +18,7 @@ use Rattle.ast65.specs.declared.language.Statement.TheVariants.{Export, Global, 
 use Rattle.semantics65.specs.Norms.{norm_of}
 use Rattle.semantics65.specs.Numbering.{all_said, assert_of, import_keys, numbered, section_keys}
 use Rattle.semantics65.proofs.SoundForms.{all_append}
-use Rattle.semantics65.specs.Module.{ending_of, exported_names}
+use Rattle.semantics65.specs.Module.{ending_of}
 use Rattle.whole65.proofs.Files.{all_split, table_law}
 use Rattle.whole65.proofs.SameValues.{bind_ok, written_ok, same_values_law}
 use Rattle.whole65.proofs.SectionBytes.{in_middle}

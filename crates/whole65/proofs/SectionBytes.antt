@@ -13,7 +13,7 @@ use Rattle.object65.specs.Objects.{fits_width, value_bytes}
 use Rattle.object65.specs.declared.object.Width.{Width}
 use Rattle.object65.specs.declared.object.Width.TheVariants.{Byte, Word, HighFirst, Dword, Branch}
 use Rattle.syntax65.specs.declared.place.Place.{Place}
-use Rattle.semantics65.specs.Contents.{Part, Known, Waiting, Content, operand_form, stored, written, opcode_part, operand_tree, room_part}
+use Rattle.semantics65.specs.Contents.{Part, Known, Waiting, Content, operand_form, stored, written, opcode_part, operand_tree, room_part, exported_names}
 use Rattle.ast65.specs.declared.fault.AsmFault.{AsmFault}
 use Rattle.ast65.specs.declared.fault.AsmFault.TheVariants.{OutOfRange}
 use Rattle.semantics65.specs.declared.laid.Context.{Context}
@@ -38,7 +38,7 @@ use Rattle.whole65.specs.Segments.{Line, line_end, line, line_of, lines_behind, 
 use Rattle.whole65.specs.Values.{Program, Value}
 use Rattle.semantics65.specs.Symbols.{Laid}
 use Rattle.semantics65.specs.Numbering.{all_said, parts_in}
-use Rattle.semantics65.specs.Module.{Piece, ending_of, exported_names, given, instruction_pieces, item_piece, operand_pieces, pieces_of}
+use Rattle.semantics65.specs.Module.{Piece, ending_of, given, instruction_pieces, item_piece, operand_pieces, pieces_of}
 use Rattle.whole65.proofs.Offsets.{EndsAt, all_end, ends_moved, placed}
 use Rattle.whole65.proofs.Positions.{powers_at}
 use Rattle.whole65.specs.Offsets.{lines_at, IsMultiple, IsLaidOut}

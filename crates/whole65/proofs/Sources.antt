@@ -10,12 +10,12 @@ use Rattle.object65.specs.declared.object.Fragment.{Fragment}
 use Rattle.object65.specs.declared.object.Fragment.TheVariants.{Literal, Fill, Value}
 use Rattle.object65.specs.declared.object.Origin.{Origin}
 use Rattle.syntax65.specs.declared.place.Place.{Place}
-use Rattle.semantics65.specs.Contents.{Content, Part}
+use Rattle.semantics65.specs.Contents.{Content, Part, exported_names}
 use Rattle.semantics65.specs.Symbols.{Laid, Symbols, symbols_of}
 use Rattle.semantics65.specs.Layout.{Layout}
 use Rattle.semantics65.specs.Numbering.{all_joined, all_said, fragment_of, fragments_of, is_empty, joined, parts_in, files_of, import_keys, in_files, object_by, object_with, section_keys, section_of, IsMeasured, IsSoundLayout, part_len}
 use Rattle.semantics65.proofs.SoundParts.{slots_long}
-use Rattle.semantics65.specs.Module.{ending_of, exported_names}
+use Rattle.semantics65.specs.Module.{ending_of}
 use Rattle.semantics65.specs.Reading.{PlacedFault}
 use Rattle.whole65.proofs.SameValues.{bind_ok}
 use Rattle.whole65.proofs.Offsets.{EndsAt, all_end, placed}

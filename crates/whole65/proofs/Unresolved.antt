@@ -8,7 +8,7 @@ use Rattle.syntax65.specs.Trees as tree
 use Rattle.object65.specs.Form.{Form}
 use Rattle.script65.specs.declared.placement.Placement.{Placement}
 use Rattle.script65.specs.declared.script.Script.{Script}
-use Rattle.semantics65.specs.Contents.{Content, Part, Known, Filled, Waiting, Declaration, Exported, ForcedImport, Asserted}
+use Rattle.semantics65.specs.Contents.{Content, Part, Known, Filled, Waiting, Declaration, Exported, ForcedImport, Asserted, exported_names}
 use Rattle.semantics65.specs.Symbols.{Laid, asks_section, Symbols, defined, named}
 use Rattle.ast65.specs.declared.language.Statement.TheVariants.{Assert}
 use Rattle.semantics65.specs.Layout.{Layout}
@@ -18,7 +18,7 @@ use Rattle.link65.specs.Programs.{Module}
 use Rattle.link65.specs.declared.parts.ValueFault.{ValueFault}
 use Rattle.link65.specs.declared.parts.ValueFault.TheVariants.{NoValue}
 use Rattle.semantics65.proofs.SoundForms.{all_append}
-use Rattle.semantics65.specs.Module.{ending_of, exported_names}
+use Rattle.semantics65.specs.Module.{ending_of}
 use Rattle.whole65.proofs.Exports.{IsAsserted, all_demanded, demanded_names, one_tells, IsDefined, said_all}
 use Rattle.whole65.proofs.Links.{valued_imports_law}
 use Rattle.whole65.proofs.Providers.{global_form, past_all, sources_law}

@@ -196,8 +196,8 @@ no_parts (FilePart bytes start len) e = absurd cc
 no_parts _ e = refl
 
 -- a statement that asks for no section puts nothing there
-pub quiet : {y : Symbols} {l : Laid} {names : List (List ℕ)} {cs : List Content} (count : ℕ) (s : Settled) (x : Statement) → AllCome y l names (pieces_of count s x) cs → asks_section x ≡ false → all_put cs ≡ []
-quiet count s x all e = none_put all (subst (λ b. AllByRecursion (λ p. is_part p ≡ b) (pieces_of count s x)) (no_parts x e) (pieces_alike count s x))
+pub quiet_parts : {y : Symbols} {l : Laid} {names : List (List ℕ)} {cs : List Content} (count : ℕ) (s : Settled) (x : Statement) → AllCome y l names (pieces_of count s x) cs → asks_section x ≡ false → all_put cs ≡ []
+quiet_parts count s x all e = none_put all (subst (λ b. AllByRecursion (λ p. is_part p ≡ b) (pieces_of count s x)) (no_parts x e) (pieces_alike count s x))
 
 -- ---- Where a piece's content stands.
 
@@ -275,10 +275,6 @@ said_forced : {y : Symbols} {l : Laid} {names : List (List ℕ)} (ms ns : List (
 said_forced [] ns cs all = said_demanded ns cs all
 said_forced (m ∷ ms) ns _ (a_piece {cs = cs} (an_import _) more) = said_forced ms ns cs more
 
-said_imported : {y : Symbols} {l : Laid} {names : List (List ℕ)} (ms : List (List ℕ)) (cs : List Content) → AllCome y l names (map imported ms) cs → all_said cs ≡ []
-said_imported [] _ no_piece = refl
-said_imported (m ∷ ms) _ (a_piece {cs = cs} (an_import _) more) = said_imported ms cs more
-
 nothing_said : {y : Symbols} {l : Laid} {names : List (List ℕ)} (cs : List Content) → AllCome y l names [] cs → all_said cs ≡ []
 nothing_said _ no_piece = refl
 
@@ -288,7 +284,7 @@ said_by count s (Global own ns) cs all = said_once false _ ns cs all
 said_by count s (ForceImport ns) cs all = said_forced ns ns cs all
 said_by {y = y} {l = l} count s (Assert e act words) _ (a_piece (an_assertion _ _ _ f ss normal said) no_piece) = (f, normal, subst (λ ss. decided act l.place words f ≡ Ok ss) (sym (append-nil ss)) said)
 said_by count s (Constant n e) _ (a_piece (a_constant _) no_piece) = refl
-said_by count s (Import own ns) cs all = said_imported ns cs all
+said_by {y = y} {l = l} {names = names} count s (Import own ns) cs all = said_forced ns [] cs (subst (λ ps. AllCome y l names ps cs) (sym (append-nil (map imported ns))) all)
 said_by count s (Instruction m o) cs all = none_said all (pieces_alike count s (Instruction m o))
 said_by count s (Values width items) cs all = none_said all (pieces_alike count s (Values width items))
 said_by count s (Reserve n v) cs all = none_said all (pieces_alike count s (Reserve n v))

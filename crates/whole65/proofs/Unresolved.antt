@@ -28,7 +28,7 @@ use Rattle.whole65.proofs.Sections.{alike, any_once, asked_are, held, keys_of}
 use Rattle.whole65.proofs.SameValues.{same_values_law}
 use Rattle.whole65.proofs.Rows.{any_new, any_map, names_asked, bytes_split}
 use Rattle.whole65.proofs.SectionBytes.{in_middle, section_law}
-use Rattle.whole65.proofs.Statements.{AreStated, Stated, a_line, all_put, are_stated, no_line, parts_append, put_append, quiet, said_append, stated}
+use Rattle.whole65.proofs.Statements.{AreStated, Stated, a_line, all_put, are_stated, no_line, parts_append, put_append, quiet_parts, said_append, stated}
 use Rattle.whole65.proofs.Sources.{contents_of, begin_is_multiple, whole_part}
 use Rattle.whole65.proofs.LinkedObjects.{linked_objects, context_in, symbols_at, AreParts}
 use Rattle.whole65.specs.Modules.{exports_of, forced_of, global_context, context_or, table_of}
@@ -82,7 +82,7 @@ module _ (P : Part → Type 0) where
       wider g false e = e
 
       here : (one : Stated z names l ds) (b : Bool) → asks_section l.stated ≡ b → ((g : ℕ) → list_any (nat_eq g) (map (λ (x : Laid). x.context.segment) (cond b (l ∷ asking) asking)) ≡ true → AllByRecursion P (parts_in ds g)) → AllByRecursion P (all_put one.own)
-      here one false e first = subst (AllByRecursion P) (sym (quiet l.length l.settled l.stated one.pieces e)) tt
+      here one false e first = subst (AllByRecursion P) (sym (quiet_parts l.length l.settled l.stated one.pieces e)) tt
       here one true e first =
           let g : ℕ = l.context.segment in
           let same : parts_in ds g ≡ all_put one.own = one.parts g ∙ ap (λ b. cond b (all_put one.own) []) (alike g) in

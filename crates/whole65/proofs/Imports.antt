@@ -302,7 +302,7 @@ forced_hold P y m h all =
     let c = contents_of y m h in
     let names : List (List ℕ) = (table_of y).imports in
     let keys : AllByRecursion (OfKey P names) (import_keys names c.contents) = keys_named P names (import_keys names c.contents) (subst (λ (o : Object). AllByRecursion P o.imports) c.object all) in
-    let same : demanded_names (all_said c.contents) ≡ forced_of y = all_demanded (table_of y) y.laid c.contents c.found in
+    let same : demanded_names (all_said c.contents) ≡ forced_of y = all_demanded y c.contents c.found in
     let told = in_said P names c.contents (all_keys P names (flat_map (content_imports names) c.contents) keys) in
     subst (AllByRecursion P) same
     (demands P names (all_said c.contents) told (subst (AllByRecursion (λ n. is_among names n ≡ true)) (sym same) (forced_among y)))

@@ -34,7 +34,7 @@ use Rattle.link65.specs.declared.parts.ValueFault.{ValueFault}
 use Rattle.link65.specs.declared.parts.ValueFault.TheVariants.{Circular, NoValue, Unresolved}
 use Rattle.semantics65.proofs.SoundForms.{all_append}
 use Rattle.semantics65.proofs.Segments.{all_more}
-use Rattle.semantics65.specs.Module.{contents_from}
+use Rattle.semantics65.specs.Module.{ending_of}
 use Rattle.whole65.proofs.Exports.{IsDefined, said_all, source_exports}
 use Rattle.whole65.proofs.Keyed.{form_law, keyed_law}
 use Rattle.whole65.proofs.Linked.{linked_law}
@@ -96,7 +96,7 @@ pub record IsExportOf (ys : List Layout) (ms : List Module) (e : parts.Exported)
   pub contents : List Content
   pub at_y : slice_get ys e.owner ≡ Some layout
   pub at_m : slice_get ms e.owner ≡ Some object
-  pub found : contents_from (table_of layout) layout.laid ≡ Ok contents
+  pub found : (ending_of layout.laid).found ≡ Ok contents
   pub form : Form
   pub keyed : IsKeyed (section_keys contents) (import_keys (table_of layout).imports contents) (length (table_of layout).imports) form
   pub written : e.form ≡ numbered (section_keys contents) (import_keys (table_of layout).imports contents) form
@@ -105,7 +105,7 @@ pub record IsExportOf (ys : List Layout) (ms : List Module) (e : parts.Exported)
   pub its_form : defined_form (table_of layout) definition ≡ Ok form
 
 module _ (ys : List Layout) (ms : List Module) where
-  of_source : (owner : ℕ) (y : Layout) (m : Module) (cs : List Content) → slice_get ys owner ≡ Some y → slice_get ms owner ≡ Some m → contents_from (table_of y) y.laid ≡ Ok cs → (es : List Export) → AllByRecursion (IsWritten (table_of y) (section_keys cs) (import_keys (table_of y).imports cs) (length (table_of y).imports)) es → AllByRecursion (IsExportOf ys ms) (map (exported owner) es)
+  of_source : (owner : ℕ) (y : Layout) (m : Module) (cs : List Content) → slice_get ys owner ≡ Some y → slice_get ms owner ≡ Some m → (ending_of y.laid).found ≡ Ok cs → (es : List Export) → AllByRecursion (IsWritten (table_of y) (section_keys cs) (import_keys (table_of y).imports cs) (length (table_of y).imports)) es → AllByRecursion (IsExportOf ys ms) (map (exported owner) es)
   of_source owner y m cs at_y at_m e [] h = tt
   of_source owner y m cs at_y at_m e (x ∷ es) h = (
     record { layout = y; object = m; contents = cs; at_y = at_y; at_m = at_m; found = e; form = h.0.0; keyed = h.0.2; written = h.0.3; definition = h.0.1; defining = h.0.4; its_form = h.0.5 },
@@ -126,7 +126,7 @@ module _ (ys : List Layout) (ms : List Module) where
       let z : Symbols = table_of y in
       let sections : List ℕ = section_keys cs in
       let numbers : List ℕ = import_keys z.imports cs in
-      let written = written_among z c.origins sections numbers (length z.imports) (all_said cs) [] tt (said_all z y.laid cs c.found).are_defined (keyed_said sections numbers (length z.imports) cs (keyed_law y cs h.0.sound c.found)) in
+      let written = written_among z c.origins sections numbers (length z.imports) (all_said cs) [] tt (said_all y cs c.found).are_defined (keyed_said sections numbers (length z.imports) cs (keyed_law y cs h.0.sound c.found)) in
       all_append (IsExportOf ys ms) (map (exported owner) m.object.exports) (linked_exports (suc owner) ns)
       (of_source owner y m cs at_y at_m c.found m.object.exports (subst (λ (o : Object). AllByRecursion (IsWritten z sections numbers (length z.imports)) o.exports) (sym c.object) written))
       (of_sources rest ns (suc owner) h.1 (λ i. up_y (suc i) ∙ ap (slice_get ys) (next i)) (λ i. up_m (suc i) ∙ ap (slice_get ms) (next i)))

@@ -19,13 +19,13 @@ use Rattle.ast65.specs.declared.language.Statement.{Statement}
 use Rattle.ast65.specs.declared.language.Statement.TheVariants as statement
 use Rattle.semantics65.specs.Layout.{Layout}
 use Rattle.semantics65.specs.Norms.{defined_form, norm_of}
-use Rattle.semantics65.specs.Numbering.{all_said, exports_among, import_keys, numbered, section_keys}
+use Rattle.semantics65.specs.Numbering.{all_said, import_keys, numbered, section_keys}
 use Rattle.link65.specs.Names.{export_names}
 use Rattle.link65.specs.Programs.{Module, Program, no_program, program_of, with_module, with_modules}
 use Rattle.link65.specs.Programs as linked
 use Rattle.link65.specs.declared.parts.Exported as parts
 use Rattle.semantics65.proofs.SoundForms.{all_append}
-use Rattle.semantics65.proofs.Found.{names_append}
+use Rattle.semantics65.proofs.Found.{names_append, exports_named}
 use Rattle.semantics65.proofs.Resolving.{new_append}
 use Rattle.semantics65.specs.Module.{ending_of, exported_names}
 use Rattle.whole65.proofs.Statements.{AreStated, IsLeftOut, IsSaidBy, SaidOnce, a_line, are_stated, left_out, no_line, no_name, said_append, said_first, stated}
@@ -49,13 +49,12 @@ has_definition z n = is_some (defined z (named 0 n))
 -- Statements that export names, behind exports of other names, say those that are defined: each once, where it is first exported.
 pub record Says (z : Symbols) (before names : List (List ℕ)) (ss : List Declaration) : Type 0 where
   pub exported : with_new before (filter (has_definition z) names) ≡ before ++ exported_names ss
-  pub once : with_new before (exported_names ss) ≡ before ++ exported_names ss
   pub are_defined : AllByRecursion (IsDefined z) ss
 
 says_nothing : (z : Symbols) (before : List (List ℕ)) (ss : List Declaration) → exported_names ss ≡ [] → AllByRecursion (IsDefined z) ss → Says z before [] ss
 says_nothing z before ss none all =
     let same : before ≡ before ++ exported_names ss = sym (ap (λ ns. before ++ ns) none ∙ append-nil before) in
-    record { exported = same; once = ap (with_new before) none ∙ same; are_defined = all }
+    record { exported = same; are_defined = all }
 
 says_both : (z : Symbols) (before ns ms : List (List ℕ)) (ss rs : List Declaration) → Says z before ns ss → Says z (before ++ exported_names ss) ms rs → Says z before (ns ++ ms) (ss ++ rs)
 says_both z before ns ms ss rs h k =
@@ -66,19 +65,14 @@ says_both z before ns ms ss rs h k =
           ∙ new_append before (filter (has_definition z) ns) (filter (has_definition z) ms)
           ∙ ap (λ known. with_new known (filter (has_definition z) ms)) h.exported
           ∙ k.exported ∙ both;
-      once =
-          ap (with_new before) (names_append ss rs)
-          ∙ new_append before (exported_names ss) (exported_names rs)
-          ∙ ap (λ known. with_new known (exported_names rs)) h.once
-          ∙ k.once ∙ both;
       are_defined = all_append (IsDefined z) ss rs h.are_defined k.are_defined;
     }
 
 exports_say : {z : Symbols} {place : Place} {before ns : List (List ℕ)} {ss : List Declaration} → SaidOnce z place before ns ss → Says z before ns ss
-exports_say {before = before} no_name = record { exported = sym (append-nil before); once = sym (append-nil before); are_defined = tt }
+exports_say {before = before} no_name = record { exported = sym (append-nil before); are_defined = tt }
 exports_say {z = z} {before = before} (left_out {n = n} {ns = ns} {ss = ss} why more) =
     let rest : Says z before ns ss = exports_say more in
-    record { exported = skipped why ∙ rest.exported; once = rest.once; are_defined = rest.are_defined }
+    record { exported = skipped why ∙ rest.exported; are_defined = rest.are_defined }
   where
     others : List (List ℕ)
     others = filter (has_definition z) ns
@@ -98,7 +92,6 @@ exports_say {z = z} {before = before} (said_first {n = n} {ns = ns} {ss = ss} j 
           ap (λ o. with_new before (cond (is_some o) (n ∷ filter (has_definition z) ns) (filter (has_definition z) ns))) e
           ∙ ap (λ b. with_new (cond b before (before ++ n ∷ [])) (filter (has_definition z) ns)) new
           ∙ rest.exported ∙ all;
-      once = ap (λ b. with_new (cond b before (before ++ n ∷ [])) (exported_names ss)) new ∙ rest.once ∙ all;
       are_defined = ((j, e, form), rest.are_defined);
     }
 
@@ -145,23 +138,7 @@ lines_say z before (l ∷ ls) _ (a_line ds cs found more) =
 pub said_all : (y : Layout) (cs : List Content) → (ending_of y.laid).found ≡ Ok cs → Says (table_of y) [] (flat_map (λ l. exported_by l.stated) y.laid) (all_said cs)
 said_all y cs e = lines_say (table_of y) [] y.laid cs (are_stated y cs e)
 
--- ---- Exports, each once.
-
-among_names : (n : List ℕ) (found : List Export) → list_any (λ e. bytes_eq n e.name) found ≡ list_any (λ k. bytes_eq n k) (map (λ (e : Export). e.name) found)
-among_names n [] = refl
-among_names n (e ∷ found) = ap (λ b. bytes_eq n e.name || b) (among_names n found)
-
-names_among : (origins : Place → Origin) (sections numbers : List ℕ) (ss : List Declaration) (found : List Export) → map (λ (e : Export). e.name) (exports_among origins sections numbers found ss) ≡ with_new (map (λ (e : Export). e.name) found) (exported_names ss)
-names_among origins sections numbers [] found = refl
-names_among origins sections numbers (Exported n place f ∷ ss) found =
-    names_among origins sections numbers ss (cond (list_any (λ e. bytes_eq n e.name) found) found (found ++ record { name = n; origin = origins place; form = numbered sections numbers f } ∷ []))
-    ∙ ap (λ z. with_new z (exported_names ss)) (go (list_any (λ e. bytes_eq n e.name) found) ∙ ap (λ b. cond b (map (λ (e : Export). e.name) found) (map (λ (e : Export). e.name) found ++ n ∷ [])) (among_names n found))
-  where
-    go : (b : Bool) → map (λ (e : Export). e.name) (cond b found (found ++ record { name = n; origin = origins place; form = numbered sections numbers f } ∷ [])) ≡ cond b (map (λ (e : Export). e.name) found) (map (λ (e : Export). e.name) found ++ n ∷ [])
-    go true = refl
-    go false = map-append (λ (e : Export). e.name) found (record { name = n; origin = origins place; form = numbered sections numbers f } ∷ [])
-names_among origins sections numbers (ForcedImport n ∷ ss) found = names_among origins sections numbers ss found
-names_among origins sections numbers (Asserted act place words f ∷ ss) found = names_among origins sections numbers ss found
+-- ---- Exports of a module.
 
 pub source_exports : (y : Layout) (m : Module) → IsSource y m → map (λ (e : Export). e.name) m.object.exports ≡ exports_of y
 source_exports y m h =
@@ -169,8 +146,8 @@ source_exports y m h =
     let cs : List Content = c.contents in
     let says = said_all y cs c.found in
     ap (λ (o : Object). map (λ (e : Export). e.name) o.exports) c.object
-    ∙ names_among c.origins (section_keys cs) (import_keys (table_of y).imports cs) (all_said cs) []
-    ∙ says.once ∙ sym says.exported
+    ∙ exports_named c.origins (section_keys cs) (import_keys (table_of y).imports cs) (all_said cs)
+    ∙ sym says.exported
 
 -- ---- Module by module.
 

@@ -21,7 +21,7 @@ use Rattle.ast65.specs.declared.fault.AsmFault.TheVariants.{Undefined}
 use Rattle.semantics65.specs.Symbols.{Laid, or_else, or_fault, Symbols, defined, imported, named}
 use Rattle.semantics65.specs.Layout.{Layout}
 use Rattle.semantics65.specs.Norms.{defined_form, form_of_meaning, norm, norm_of}
-use Rattle.semantics65.specs.Numbering.{all_said, exports_among, import_keys, numbered, section_keys}
+use Rattle.semantics65.specs.Numbering.{all_said, export_of, import_keys, numbered, section_keys}
 use Rattle.link65.specs.Names.{by_definition, by_export, defined_at, exported_at, is_among, script_definitions, weak_symbols}
 use Rattle.link65.specs.Names as linked
 use Rattle.link65.specs.Programs.{position_in, Module, Program, exported, no_program, program_of, with_module, with_modules, member}
@@ -57,16 +57,11 @@ abbrev IsWritten : Symbols → (sections numbers : List ℕ) → ℕ → Export 
 IsWritten z sections numbers count e =
     (f : Form) × (j : ℕ) × IsKeyed sections numbers count f × (e.form ≡ numbered sections numbers f) × (defined z (named 0 e.name) ≡ Some j) × (defined_form z j ≡ Ok f)
 
-written_among : (z : Symbols) (origins : Place → Origin) (sections numbers : List ℕ) (count : ℕ) (ss : List Declaration) (found : List Export) → AllByRecursion (IsWritten z sections numbers count) found → AllByRecursion (IsDefined z) ss → AllByRecursion (IsKeyedSaid sections numbers count) ss → AllByRecursion (IsWritten z sections numbers count) (exports_among origins sections numbers found ss)
-written_among z origins sections numbers count [] found h d k = h
-written_among z origins sections numbers count (Exported n place f ∷ ss) found h d k =
-    written_among z origins sections numbers count ss (cond (list_any (λ e. bytes_eq n e.name) found) found (found ++ record { name = n; origin = origins place; form = numbered sections numbers f } ∷ [])) (go (list_any (λ e. bytes_eq n e.name) found)) d.1 k.1
-  where
-    go : (b : Bool) → AllByRecursion (IsWritten z sections numbers count) (cond b found (found ++ record { name = n; origin = origins place; form = numbered sections numbers f } ∷ []))
-    go true = h
-    go false = all_more (IsWritten z sections numbers count) found (record { name = n; origin = origins place; form = numbered sections numbers f }) h (f, d.0.0, k.0, refl, d.0.1, d.0.2)
-written_among z origins sections numbers count (ForcedImport n ∷ ss) found h d k = written_among z origins sections numbers count ss found h d.1 k.1
-written_among z origins sections numbers count (Asserted act place words f ∷ ss) found h d k = written_among z origins sections numbers count ss found h d.1 k.1
+all_written : (z : Symbols) (origins : Place → Origin) (sections numbers : List ℕ) (count : ℕ) (ss : List Declaration) → AllByRecursion (IsDefined z) ss → AllByRecursion (IsKeyedSaid sections numbers count) ss → AllByRecursion (IsWritten z sections numbers count) (filter_map (export_of origins sections numbers) ss)
+all_written z origins sections numbers count [] d k = tt
+all_written z origins sections numbers count (Exported n place f ∷ ss) d k = ((f, d.0.0, k.0, refl, d.0.1, d.0.2), all_written z origins sections numbers count ss d.1 k.1)
+all_written z origins sections numbers count (ForcedImport n ∷ ss) d k = all_written z origins sections numbers count ss d.1 k.1
+all_written z origins sections numbers count (Asserted act place words f ∷ ss) d k = all_written z origins sections numbers count ss d.1 k.1
 
 pub keyed_said : (sections numbers : List ℕ) (count : ℕ) (cs : List Content) → AllByRecursion (IsKeyedContent sections numbers count) cs → AllByRecursion (IsKeyedSaid sections numbers count) (all_said cs)
 keyed_said sections numbers count [] h = tt
@@ -126,7 +121,7 @@ module _ (ys : List Layout) (ms : List Module) where
       let z : Symbols = table_of y in
       let sections : List ℕ = section_keys cs in
       let numbers : List ℕ = import_keys z.imports cs in
-      let written = written_among z c.origins sections numbers (length z.imports) (all_said cs) [] tt (said_all y cs c.found).are_defined (keyed_said sections numbers (length z.imports) cs (keyed_law y cs h.0.sound c.found)) in
+      let written = all_written z c.origins sections numbers (length z.imports) (all_said cs) (said_all y cs c.found).are_defined (keyed_said sections numbers (length z.imports) cs (keyed_law y cs h.0.sound c.found)) in
       all_append (IsExportOf ys ms) (map (exported owner) m.object.exports) (linked_exports (suc owner) ns)
       (of_source owner y m cs at_y at_m c.found m.object.exports (subst (λ (o : Object). AllByRecursion (IsWritten z sections numbers (length z.imports)) o.exports) (sym c.object) written))
       (of_sources rest ns (suc owner) h.1 (λ i. up_y (suc i) ∙ ap (slice_get ys) (next i)) (λ i. up_m (suc i) ∙ ap (slice_get ms) (next i)))

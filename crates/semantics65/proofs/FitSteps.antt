@@ -340,13 +340,17 @@ module _ (m : Files) where
       let none : IsLeftFit m 0 (left [] line_limit (in_line file 0)) = record { items = tt; place = place; few = omega arith } in
       record { left = pushed_fit m 0 (numbered 0 (lines_of bytes)) (record { is_macro = false; conditions = 0; back = None }) (left [] line_limit (in_line file 0)) (in_line file 0) none (file_lines m file bytes h) tt place; macros = tt }
 
-  pub opened_fit : (file : List ℕ) (folders : List (List ℕ)) (s : State) → opened_in m file folders ≡ Ok s → IsStateFit 0 s
-  opened_fit file folders s h = by (file_named m file) refl h
+  -- a source that is opened
+  pub opened_file : (file : List ℕ) (folders : List (List ℕ)) (s : State) → opened_in m file folders ≡ Ok s → (bytes : List ℕ) × IsFileFit m file bytes × (first_state file folders bytes ≡ s)
+  opened_file file folders s h = by (file_named m file) refl h
     where
-      by : (o : Option (List ℕ)) → file_named m file ≡ o → (bytes_in o >>= (λ bytes. Ok (first_state file folders bytes))) ≡ Ok s → IsStateFit 0 s
+      within : (bytes : List ℕ) (b : Bool) → file_named m file ≡ Some bytes → nat_le (length bytes) 16777216 ≡ b → ((if b then Ok bytes else Err faults.FileTooLong) >>= (λ bytes. Ok (first_state file folders bytes))) ≡ Ok s → (bytes : List ℕ) × IsFileFit m file bytes × (first_state file folders bytes ≡ s)
+      within bytes true e short h = (bytes, named_fit m file bytes e (grind (arith, nat_tests)), cc)
+      within bytes false e short h = absurd cc
+
+      by : (o : Option (List ℕ)) → file_named m file ≡ o → (bytes_in o >>= (λ bytes. Ok (first_state file folders bytes))) ≡ Ok s → (bytes : List ℕ) × IsFileFit m file bytes × (first_state file folders bytes ≡ s)
       by None e h = absurd cc
-      by (Some bytes) e h = opens (nat_le (length bytes) 16777216) refl h
-        where
-          opens : (b : Bool) → nat_le (length bytes) 16777216 ≡ b → ((if b then Ok bytes else Err faults.FileTooLong) >>= (λ bytes. Ok (first_state file folders bytes))) ≡ Ok s → IsStateFit 0 s
-          opens true short h = let same : first_state file folders bytes ≡ s = cc in subst (IsStateFit 0) same (first_fit file folders bytes (named_fit m file bytes e (grind (arith, nat_tests))))
-          opens false short h = absurd cc
+      by (Some bytes) e h = within bytes (nat_le (length bytes) 16777216) e refl h
+
+  pub opened_fit : (file : List ℕ) (folders : List (List ℕ)) (s : State) → opened_in m file folders ≡ Ok s → IsStateFit 0 s
+  opened_fit file folders s h = let o = opened_file file folders s h in subst (IsStateFit 0) o.2 (first_fit file folders o.0 o.1)

@@ -1,6 +1,6 @@
 -- What a source lays is sound: its statements are of names that objects can hold.
 use Rattle.std.proofs.lemmas.Grind.{common_steps}
-use Rattle.std.proofs.Common.{arith, ◌≡◌, ℕ, List, [], ◌∷◌, Option, Some, None, refl, sym, subst}
+use Rattle.std.proofs.Common.{arith, ◌≡◌, ℕ, ◌+◌, List, [], ◌∷◌, length, Option, Some, None, refl, sym, subst}
 use Rattle.std.specs.Prelude.{Result, Ok, Err}
 use Rattle.std.specs.Option.{option_map_or}
 use Rattle.base65.specs.Outcome.{◌>>=◌, First}
@@ -77,13 +77,13 @@ good_given m y z place (expand.plain ts) good named h = good_rest m y z place ts
 
 -- ---- All statements.
 
-good_taken : (m : Files) (s : expand.State) (y : Layout) (r : Reached Layout) → IsStateFit m 0 s → IsGood y → AreTaken m laying s y r → IsGood r.behind
-good_taken m s y r fit good (taken _ t x _ z _ reaches is more) =
-    let next = next_fit m (laying.meaning y) s (statement x t) fit reaches in
-    good_taken m t z r next.1 (good_given m y z t.left.place x good (are_named (tokens_of x) next.0) is) more
-good_taken m s y r fit good (faulty _ t x _ e reaches is) = good
-good_taken m s y r fit good (refused _ _ e place reaches) = good
-good_taken m s y r fit good (ended _ t _ reaches) = good
+good_taken : (m : Files) (n : ℕ) (s : expand.State) (y : Layout) (r : Reached Layout) → IsStateFit m n s → IsGood y → AreTaken m laying s y r → IsGood r.behind
+good_taken m n s y r fit good (taken _ t x _ z _ reaches is more) =
+    let next = next_fit m n (laying.meaning y) s (statement x t) fit reaches in
+    good_taken m (n + length (tokens_of x)) t z r next.1 (good_given m y z t.left.place x good (are_named m (tokens_of x) next.0) is) more
+good_taken m n s y r fit good (faulty _ t x _ e reaches is) = good
+good_taken m n s y r fit good (refused _ _ e place reaches) = good
+good_taken m n s y r fit good (ended _ t _ reaches) = good
 
 -- a constant of the command line has no name that an object holds
 good_defined : (y z : Layout) (place : Place) (ds : List Define) → IsGood y → AreDefined IsLaid y place ds (Ok z) → IsGood z
@@ -100,7 +100,7 @@ good_behind : (q r : Reached Layout) → r ≡ q → IsGood q.behind → IsGood 
 good_behind q r e good = subst (λ (x : Reached Layout). IsGood x.behind) (sym e) good
 
 good_begun : (m : Files) (job : Job) (o : Result expand.State ExpandFault) (r : Reached Layout) → ((s : expand.State) → o ≡ Ok s → IsStateFit m 0 s) → IsBegun m laying job nothing_laid o r → IsGood r.behind
-good_begun m job x1 r fit h = grind (arith, common_steps, good_behind, nothing_good, good_taken, good_defined)
+good_begun m job x1 r fit h = grind (arith, common_steps, good_behind, nothing_good, (good_taken m 0), good_defined)
 
 pub sound_layout : SoundLayoutLaw
 sound_layout m job r h = sound_from r.behind (good_begun m job (opened_in m job.source job.include) r (opened_fit m job.source job.include) h)

@@ -1,7 +1,6 @@
 -- The names that sources export and demand.
-use Rattle.whole65.specs.Programs as whole
-use Rattle.std.proofs.Common.{arith, ◌≡◌, ℕ, suc, Bool, true, false, cond, List, [], ◌∷◌, ◌++◌, length, map, filter, Some, Ok, refl, sym, ◌∙◌, ap, subst, inl, inr}
-use Rattle.std.specs.Prelude.{⊤, is_some, ◌||◌}
+use Rattle.std.proofs.Common.{arith, ◌≡◌, ℕ, Bool, true, false, cond, List, [], ◌∷◌, ◌++◌, length, map, filter, Some, Ok, refl, sym, ◌∙◌, ap, subst, inl, inr}
+use Rattle.std.specs.Prelude.{⊤, filter_map, is_some}
 use Rattle.std.specs.List.{AllByRecursion, flat_map, list_any}
 use Rattle.std.specs.Str.{bytes_eq}
 use Rattle.std.proofs.lemmas.List.{append-nil, append_assoc, map-append}
@@ -13,21 +12,21 @@ use Rattle.object65.specs.declared.object.Export.{Export}
 use Rattle.object65.specs.declared.object.Object.{Object}
 use Rattle.object65.specs.declared.object.Origin.{Origin}
 use Rattle.syntax65.specs.declared.place.Place.{Place}
-use Rattle.semantics65.specs.Contents.{Content, Declaration, Exported, ForcedImport, Asserted, decided}
+use Rattle.semantics65.specs.Contents.{Content, Declaration, Exported, ForcedImport, Asserted, decided, exported_names}
 use Rattle.semantics65.specs.Symbols.{Laid, Symbols, defined, named, with_new}
 use Rattle.ast65.specs.declared.language.Statement.{Statement}
 use Rattle.ast65.specs.declared.language.Statement.TheVariants as statement
 use Rattle.semantics65.specs.Layout.{Layout}
 use Rattle.semantics65.specs.Norms.{defined_form, norm_of}
-use Rattle.semantics65.specs.Numbering.{all_said, import_keys, numbered, section_keys}
+use Rattle.semantics65.specs.Numbering.{all_said, export_of, import_keys, section_keys}
 use Rattle.link65.specs.Names.{export_names}
 use Rattle.link65.specs.Programs.{Module, Program, no_program, program_of, with_module, with_modules}
 use Rattle.link65.specs.Programs as linked
 use Rattle.link65.specs.declared.parts.Exported as parts
 use Rattle.semantics65.proofs.SoundForms.{all_append}
-use Rattle.semantics65.proofs.Found.{names_append, exports_named}
+use Rattle.semantics65.proofs.Found.{names_append}
 use Rattle.semantics65.proofs.Resolving.{new_append}
-use Rattle.semantics65.specs.Module.{ending_of, exported_names}
+use Rattle.semantics65.specs.Module.{ending_of}
 use Rattle.whole65.proofs.Statements.{AreStated, IsLeftOut, IsSaidBy, SaidOnce, a_line, are_stated, left_out, no_line, no_name, said_append, said_first, stated}
 use Rattle.whole65.proofs.Sources.{contents_of}
 use Rattle.whole65.specs.Modules.{exported_by, exports_of, table_of, forced_by}
@@ -53,20 +52,19 @@ pub record Says (z : Symbols) (before names : List (List ℕ)) (ss : List Declar
 
 says_nothing : (z : Symbols) (before : List (List ℕ)) (ss : List Declaration) → exported_names ss ≡ [] → AllByRecursion (IsDefined z) ss → Says z before [] ss
 says_nothing z before ss none all =
-    let same : before ≡ before ++ exported_names ss = sym (ap (λ ns. before ++ ns) none ∙ append-nil before) in
-    record { exported = same; are_defined = all }
+    record { exported = sym (ap (λ ns. before ++ ns) none ∙ append-nil before); are_defined = all }
 
 says_both : (z : Symbols) (before ns ms : List (List ℕ)) (ss rs : List Declaration) → Says z before ns ss → Says z (before ++ exported_names ss) ms rs → Says z before (ns ++ ms) (ss ++ rs)
-says_both z before ns ms ss rs h k =
-    let both : (before ++ exported_names ss) ++ exported_names rs ≡ before ++ exported_names (ss ++ rs) = append_assoc before (exported_names ss) (exported_names rs) ∙ ap (λ z. before ++ z) (sym (names_append ss rs)) in
-    record {
-      exported =
-          ap (with_new before) (filter-append (has_definition z) ns ms)
-          ∙ new_append before (filter (has_definition z) ns) (filter (has_definition z) ms)
-          ∙ ap (λ known. with_new known (filter (has_definition z) ms)) h.exported
-          ∙ k.exported ∙ both;
-      are_defined = all_append (IsDefined z) ss rs h.are_defined k.are_defined;
-    }
+says_both z before ns ms ss rs h k = record {
+  exported =
+      ap (with_new before) (filter-append (has_definition z) ns ms)
+      ∙ new_append before (filter (has_definition z) ns) (filter (has_definition z) ms)
+      ∙ ap (λ known. with_new known (filter (has_definition z) ms)) h.exported
+      ∙ k.exported
+      ∙ append_assoc before (exported_names ss) (exported_names rs)
+      ∙ ap (λ names. before ++ names) (sym (names_append ss rs));
+  are_defined = all_append (IsDefined z) ss rs h.are_defined k.are_defined;
+}
 
 exports_say : {z : Symbols} {place : Place} {before ns : List (List ℕ)} {ss : List Declaration} → SaidOnce z place before ns ss → Says z before ns ss
 exports_say {before = before} no_name = record { exported = sym (append-nil before); are_defined = tt }
@@ -86,12 +84,12 @@ exports_say {z = z} {before = before} (left_out {n = n} {ns = ns} {ss = ss} why 
     skipped (inr e) = ap (λ o. with_new before (cond (is_some o) (n ∷ others) others)) e
 exports_say {z = z} {before = before} (said_first {n = n} {ns = ns} {ss = ss} j f new e form more) =
     let rest : Says z (before ++ n ∷ []) ns ss = exports_say more in
-    let all : (before ++ n ∷ []) ++ exported_names ss ≡ before ++ n ∷ exported_names ss = append_assoc before (n ∷ []) (exported_names ss) in
     record {
       exported =
           ap (λ o. with_new before (cond (is_some o) (n ∷ filter (has_definition z) ns) (filter (has_definition z) ns))) e
           ∙ ap (λ b. with_new (cond b before (before ++ n ∷ [])) (filter (has_definition z) ns)) new
-          ∙ rest.exported ∙ all;
+          ∙ rest.exported
+          ∙ append_assoc before (n ∷ []) (exported_names ss);
       are_defined = ((j, e, form), rest.are_defined);
     }
 
@@ -138,16 +136,21 @@ lines_say z before (l ∷ ls) _ (a_line ds cs found more) =
 pub said_all : (y : Layout) (cs : List Content) → (ending_of y.laid).found ≡ Ok cs → Says (table_of y) [] (flat_map (λ l. exported_by l.stated) y.laid) (all_said cs)
 said_all y cs e = lines_say (table_of y) [] y.laid cs (are_stated y cs e)
 
--- ---- Exports of a module.
+-- ---- Exports of objects.
+
+names_said : (origins : Place → Origin) (sections numbers : List ℕ) (ss : List Declaration) → map (λ (e : Export). e.name) (filter_map (export_of origins sections numbers) ss) ≡ exported_names ss
+names_said origins sections numbers [] = refl
+names_said origins sections numbers (Exported n place f ∷ ss) = ap (λ ns. n ∷ ns) (names_said origins sections numbers ss)
+names_said origins sections numbers (ForcedImport n ∷ ss) = names_said origins sections numbers ss
+names_said origins sections numbers (Asserted act place words f ∷ ss) = names_said origins sections numbers ss
 
 pub source_exports : (y : Layout) (m : Module) → IsSource y m → map (λ (e : Export). e.name) m.object.exports ≡ exports_of y
 source_exports y m h =
     let c = contents_of y m h in
     let cs : List Content = c.contents in
-    let says = said_all y cs c.found in
     ap (λ (o : Object). map (λ (e : Export). e.name) o.exports) c.object
-    ∙ exports_named c.origins (section_keys cs) (import_keys (table_of y).imports cs) (all_said cs)
-    ∙ sym says.exported
+    ∙ names_said c.origins (section_keys cs) (import_keys (table_of y).imports cs) (all_said cs)
+    ∙ sym (said_all y cs c.found).exported
 
 -- ---- Module by module.
 

@@ -27,7 +27,7 @@ use Rattle.link65.specs.declared.parts.Provider.TheVariants.{Nobody}
 use Rattle.link65.specs.declared.parts.Member.{Member}
 use Rattle.semantics65.proofs.SoundForms.{all_append}
 use Rattle.semantics65.proofs.Segments.{all_more}
-use Rattle.whole65.proofs.Providers.{Agree, providers_agree, of_module, of_nobody, of_script}
+use Rattle.whole65.proofs.Providers.{Agree, providers_agree}
 use Rattle.whole65.specs.Programs as whole
 use Rattle.whole65.specs.Segments.{needs_of}
 use Rattle.whole65.specs.Sources.{AreSources, IsSource}
@@ -38,8 +38,6 @@ use Rattle.std.specs.Option.{option_map}
 use Rattle.object65.specs.declared.object.Object.{Object}
 use Rattle.semantics65.specs.Contents.{Content, Part, Declaration, Exported, ForcedImport, Asserted}
 use Rattle.semantics65.specs.Symbols.{Laid, imports_of}
-use Rattle.ast65.specs.declared.language.Statement.{Statement}
-use Rattle.ast65.specs.declared.language.Statement.TheVariants.{ForceImport}
 use Rattle.semantics65.specs.Numbering.{all_said, content_imports, import_keys, key_of, name_of, once, optional_key, part_imports, said_imports}
 use Rattle.link65.proofs.SegmentLemmas.{at_front, behind_front}
 use Rattle.whole65.proofs.Keyed.{one_of, each_among, or_right}

@@ -1,12 +1,11 @@
 -- Bases of sections in a link, and forms of modules with the numbers of objects.
 use Rattle.std.proofs.lemmas.Grind.{common_steps}
-use Rattle.whole65.specs.Programs as whole
 use Rattle.std.proofs.Common.{◌≡◌, List, [], ◌∷◌, ◌++◌, Ok, refl, ◌∙◌, ap, ℕ, zero, suc, ◌+◌, ◌<◌, Bool, true, false, nat_eq, cond, length, map, take, get_or, slice_get, Some, sym, subst, arith, nat_lt}
 use Rattle.std.specs.Prelude.{◌+ℤ◌, ℤ, pos, ◌||◌, ◌&&◌, Result}
 use Rattle.std.specs.Int.{int_wrap, next_multiple_of}
 use Rattle.std.specs.List.{AllByRecursion, list_any, flat_map, list_all}
 use Rattle.base65.specs.Outcome.{◌>>=◌}
-use Rattle.base65.specs.Values.{value1, value2, wrapped}
+use Rattle.base65.specs.Values.{value2, wrapped}
 use Rattle.object65.specs.Form.{lit, sec, imp, prefix, binary, Form}
 use Rattle.object65.specs.FormValue.{or_none, value_in}
 use Rattle.semantics65.specs.Numbering.{imports_in, import_keys, number_of, section_keys, section_of, content_imports, name_of, part_imports, said_imports, numbered, sections_in, IsSoundContent, IsSoundForm, IsSoundPart, IsSoundDeclaration, IsSoundLayout}
@@ -20,7 +19,7 @@ use Rattle.script65.specs.Placing.{rounded_up}
 use Rattle.script65.specs.declared.placement.Placement.{Placement}
 use Rattle.script65.specs.declared.script.Script.{Script}
 use Rattle.syntax65.specs.declared.place.Place.{Place}
-use Rattle.semantics65.specs.Contents.{Content, Part, Known, Filled, Waiting, Declaration, Exported, ForcedImport, Asserted}
+use Rattle.semantics65.specs.Contents.{Content, Part, Known, Filled, Waiting, Declaration}
 use Rattle.semantics65.specs.Layout.{Layout}
 use Rattle.link65.specs.Programs.{Module, Program, member, no_program, program_of, with_module, with_modules, grown, section_place, section_places, segment_of, with_section}
 use Rattle.link65.specs.Values.{address_of, linkage_of, resolved, run_of, base_of, exports_through, provider_at, import_value, Linkage, value_by}

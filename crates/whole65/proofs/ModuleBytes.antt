@@ -1,6 +1,6 @@
 -- What lies in a segment, and what an object's section puts there.
 use Rattle.std.proofs.lemmas.Grind.{common_steps}
-use Rattle.std.proofs.Common.{◌≡◌, ℕ, zero, suc, List, [], ◌∷◌, ◌++◌, map, refl, sym, ◌∙◌, ap, subst, ◌+◌, Bool, true, false, cond, filter, Result, Ok, arith}
+use Rattle.std.proofs.Common.{◌≡◌, ℕ, zero, suc, List, [], ◌∷◌, ◌++◌, map, refl, sym, ◌∙◌, ap, subst, ◌+◌, true, filter, Result, Ok, arith}
 use Rattle.std.specs.Prelude.{◌↔◌, replicate, ℤ, not, Some, slice_get}
 use Rattle.std.specs.List.{flat_map, AllByRecursion}
 use Rattle.std.proofs.lemmas.List.{append-nil, append_assoc}
@@ -8,11 +8,11 @@ use Rattle.object65.specs.declared.object.Fragment.{Fragment}
 use Rattle.object65.specs.declared.object.Fragment.TheVariants.{Literal, Fill, Value}
 use Rattle.link65.specs.Programs.{Cell, known, filled, fragment_cells}
 use Rattle.link65.specs.Values.{Linkage}
-use Rattle.whole65.proofs.LinkedObjects.{AreCells, linked_value, IsValuedIn, AreFragments, IsFragment, AreParts, ArePart, Valuing, valued_by}
+use Rattle.whole65.proofs.LinkedObjects.{AreCells, linked_value, IsValuedIn, AreFragments, IsFragment, AreParts, ArePart, Valuing}
 use Rattle.base65.specs.Outcome.{◌>>=◌}
-use Rattle.base65.specs.Values.{value1, value2}
+use Rattle.base65.specs.Values.{value1}
 use Rattle.object65.specs.Form.{Form, lit, sec, imp, prefix, binary}
-use Rattle.object65.specs.FormValue.{or_none, value_in}
+use Rattle.object65.specs.FormValue.{value_in}
 use Rattle.object65.specs.declared.object.Origin.{Origin}
 use Rattle.syntax65.specs.declared.place.Place.{Place}
 use Rattle.semantics65.specs.Contents.{Part, Known, Filled, Waiting, Content}

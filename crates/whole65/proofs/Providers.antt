@@ -1,12 +1,11 @@
 -- Who gives a name, in a link and in the whole program.
 use Rattle.std.proofs.lemmas.Grind.{common_steps}
 use Rattle.std.proofs.Common.{◌≡◌, ℕ, zero, suc, ◌+◌, Bool, true, false, cond, List, [], ◌∷◌, ◌++◌, length, map, slice_get, Option, Some, None, Result, Ok, Err, refl, sym, ◌∙◌, ap, subst, arith}
-use Rattle.std.specs.Prelude.{ℤ, pos, find, ◌||◌}
-use Rattle.std.specs.List.{AllByRecursion, list_any, position_from}
+use Rattle.std.specs.Prelude.{ℤ, pos, filter_map, find}
+use Rattle.std.specs.List.{AllByRecursion, position_from}
 use Rattle.std.specs.Option.{option_map_or}
 use Rattle.std.specs.Str.{bytes_eq}
 use Rattle.std.proofs.lemmas.List.{append-nil, append_assoc, length-append}
-use Rattle.base65.specs.Outcome.{◌>>=◌}
 use Rattle.syntax65.specs.Trees as tree
 use Rattle.object65.specs.Form.{Form}
 use Rattle.object65.specs.declared.object.Export.{Export}
@@ -17,10 +16,9 @@ use Rattle.script65.specs.declared.script.Script.{Script}
 use Rattle.ast65.proofs.Lists.{same_bytes}
 use Rattle.syntax65.specs.declared.place.Place.{Place}
 use Rattle.semantics65.specs.Contents.{Content, Declaration, Exported, ForcedImport, Asserted}
-use Rattle.ast65.specs.declared.fault.AsmFault.TheVariants.{Undefined}
-use Rattle.semantics65.specs.Symbols.{Laid, or_else, or_fault, Symbols, defined, imported, named}
+use Rattle.semantics65.specs.Symbols.{Laid, Symbols, defined, named}
 use Rattle.semantics65.specs.Layout.{Layout}
-use Rattle.semantics65.specs.Norms.{defined_form, form_of_meaning, norm, norm_of}
+use Rattle.semantics65.specs.Norms.{defined_form, norm}
 use Rattle.semantics65.specs.Numbering.{all_said, export_of, import_keys, numbered, section_keys}
 use Rattle.link65.specs.Names.{by_definition, by_export, defined_at, exported_at, is_among, script_definitions, weak_symbols}
 use Rattle.link65.specs.Names as linked
@@ -31,9 +29,8 @@ use Rattle.link65.specs.declared.parts.Exported as parts
 use Rattle.link65.specs.declared.parts.Provider.{Provider}
 use Rattle.link65.specs.declared.parts.Provider.TheVariants.{ByModule, ByScript, Nobody}
 use Rattle.link65.specs.declared.parts.ValueFault.{ValueFault}
-use Rattle.link65.specs.declared.parts.ValueFault.TheVariants.{Circular, NoValue, Unresolved}
+use Rattle.link65.specs.declared.parts.ValueFault.TheVariants.{Circular, Unresolved}
 use Rattle.semantics65.proofs.SoundForms.{all_append}
-use Rattle.semantics65.proofs.Segments.{all_more}
 use Rattle.semantics65.specs.Module.{ending_of}
 use Rattle.whole65.proofs.Exports.{IsDefined, said_all, source_exports}
 use Rattle.whole65.proofs.Keyed.{form_law, keyed_law}
@@ -41,7 +38,7 @@ use Rattle.whole65.proofs.Linked.{linked_law}
 use Rattle.whole65.proofs.Positions.{all_get}
 use Rattle.whole65.proofs.Sources.{contents_of}
 use Rattle.whole65.proofs.LinkedObjects.{IsKeyed, IsKeyedContent, IsKeyedSaid, provider_named, imports_linked, linked_objects, context_in, symbols_at}
-use Rattle.whole65.specs.Modules.{global_context, context_or, table_of}
+use Rattle.whole65.specs.Modules.{global_context, table_of}
 use Rattle.whole65.specs.Objects.{IsExport, IsGiven, IsGivenBy, Objects, AreObjects}
 use Rattle.whole65.specs.Offsets.{IsLaidOut}
 use Rattle.whole65.specs.Programs as whole
@@ -57,11 +54,11 @@ abbrev IsWritten : Symbols → (sections numbers : List ℕ) → ℕ → Export 
 IsWritten z sections numbers count e =
     (f : Form) × (j : ℕ) × IsKeyed sections numbers count f × (e.form ≡ numbered sections numbers f) × (defined z (named 0 e.name) ≡ Some j) × (defined_form z j ≡ Ok f)
 
-all_written : (z : Symbols) (origins : Place → Origin) (sections numbers : List ℕ) (count : ℕ) (ss : List Declaration) → AllByRecursion (IsDefined z) ss → AllByRecursion (IsKeyedSaid sections numbers count) ss → AllByRecursion (IsWritten z sections numbers count) (filter_map (export_of origins sections numbers) ss)
-all_written z origins sections numbers count [] d k = tt
-all_written z origins sections numbers count (Exported n place f ∷ ss) d k = ((f, d.0.0, k.0, refl, d.0.1, d.0.2), all_written z origins sections numbers count ss d.1 k.1)
-all_written z origins sections numbers count (ForcedImport n ∷ ss) d k = all_written z origins sections numbers count ss d.1 k.1
-all_written z origins sections numbers count (Asserted act place words f ∷ ss) d k = all_written z origins sections numbers count ss d.1 k.1
+written_said : (z : Symbols) (origins : Place → Origin) (sections numbers : List ℕ) (count : ℕ) (ss : List Declaration) → AllByRecursion (IsDefined z) ss → AllByRecursion (IsKeyedSaid sections numbers count) ss → AllByRecursion (IsWritten z sections numbers count) (filter_map (export_of origins sections numbers) ss)
+written_said z origins sections numbers count [] d k = tt
+written_said z origins sections numbers count (Exported n place f ∷ ss) d k = ((f, d.0.0, k.0, refl, d.0.1, d.0.2), written_said z origins sections numbers count ss d.1 k.1)
+written_said z origins sections numbers count (ForcedImport n ∷ ss) d k = written_said z origins sections numbers count ss d.1 k.1
+written_said z origins sections numbers count (Asserted act place words f ∷ ss) d k = written_said z origins sections numbers count ss d.1 k.1
 
 pub keyed_said : (sections numbers : List ℕ) (count : ℕ) (cs : List Content) → AllByRecursion (IsKeyedContent sections numbers count) cs → AllByRecursion (IsKeyedSaid sections numbers count) (all_said cs)
 keyed_said sections numbers count [] h = tt
@@ -121,7 +118,7 @@ module _ (ys : List Layout) (ms : List Module) where
       let z : Symbols = table_of y in
       let sections : List ℕ = section_keys cs in
       let numbers : List ℕ = import_keys z.imports cs in
-      let written = all_written z c.origins sections numbers (length z.imports) (all_said cs) (said_all y cs c.found).are_defined (keyed_said sections numbers (length z.imports) cs (keyed_law y cs h.0.sound c.found)) in
+      let written = written_said z c.origins sections numbers (length z.imports) (all_said cs) (said_all y cs c.found).are_defined (keyed_said sections numbers (length z.imports) cs (keyed_law y cs h.0.sound c.found)) in
       all_append (IsExportOf ys ms) (map (exported owner) m.object.exports) (linked_exports (suc owner) ns)
       (of_source owner y m cs at_y at_m c.found m.object.exports (subst (λ (o : Object). AllByRecursion (IsWritten z sections numbers (length z.imports)) o.exports) (sym c.object) written))
       (of_sources rest ns (suc owner) h.1 (λ i. up_y (suc i) ∙ ap (slice_get ys) (next i)) (λ i. up_m (suc i) ∙ ap (slice_get ms) (next i)))

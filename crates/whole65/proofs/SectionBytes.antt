@@ -1,8 +1,7 @@
 -- The bytes of a module's lines in a segment and those of its parts there.
 use Rattle.std.proofs.lemmas.Grind.{common_steps}
-use Rattle.std.proofs.Common.{◌≡◌, ℕ, ◌+◌, Bool, true, false, cond, List, Result, Ok, Err, refl, sym, ◌∙◌, ap, subst, arith, suc, ◌-◌, [], ◌∷◌, ◌++◌, length, Option, Some, None, nat_eq, map, filter, slice_get}
+use Rattle.std.proofs.Common.{◌≡◌, ℕ, ◌+◌, Bool, true, false, cond, List, Result, Ok, Err, refl, sym, ◌∙◌, ap, subst, arith, suc, ◌-◌, [], ◌∷◌, ◌++◌, length, Option, Some, None, nat_eq, map, slice_get}
 use Rattle.std.specs.Prelude.{ℤ, pos, ◌+ℤ◌, ◌-ℤ◌, ◌↔◌, replicate}
-use Rattle.std.specs.Int.{w64}
 use Rattle.std.proofs.lemmas.Int.{ints, int_wrap-add_left}
 use Rattle.base65.specs.Outcome.{◌>>=◌}
 use Rattle.base65.specs.Values.{wrapped}
@@ -14,16 +13,16 @@ use Rattle.object65.specs.Objects.{fits_width, value_bytes}
 use Rattle.object65.specs.declared.object.Width.{Width}
 use Rattle.object65.specs.declared.object.Width.TheVariants.{Byte, Word, HighFirst, Dword, Branch}
 use Rattle.syntax65.specs.declared.place.Place.{Place}
-use Rattle.semantics65.specs.Contents.{Part, Known, Waiting, Content, operand_form, stored, written, opcode_part, operand_tree, room_part}
+use Rattle.semantics65.specs.Contents.{Part, Known, Waiting, Content, operand_form, stored, written, opcode_part, operand_tree, room_part, exported_names}
 use Rattle.ast65.specs.declared.fault.AsmFault.{AsmFault}
 use Rattle.ast65.specs.declared.fault.AsmFault.TheVariants.{OutOfRange}
 use Rattle.semantics65.specs.declared.laid.Context.{Context}
-use Rattle.whole65.proofs.SameValues.{bind_ok, folded_ok, written_ok, same_values_law}
+use Rattle.whole65.proofs.SameValues.{bind_ok, folded_ok, same_values_law}
 use Rattle.whole65.specs.Contents.{AreStored, counted_from, AreInstruction, AreItem, AreItems, AreLine, AreOperand, code_bytes, filling, AreBytes}
 use Rattle.whole65.specs.Objects.{HasValue, Objects, form_value, AreObjects}
 use Rattle.whole65.proofs.LinkedObjects.{ArePart, AreParts, Valuing}
 use Rattle.whole65.proofs.Statements.{AllCome, AreStated, a_datum, a_line, a_part, a_piece, all_put, an_operand, are_stated, no_line, no_piece, none_put, parts_append, pieces_alike, stated}
-use Rattle.std.proofs.lemmas.List.{append-nil, append_assoc}
+use Rattle.std.proofs.lemmas.List.{append_assoc}
 use Rattle.syntax65.specs.Opcodes.{opcode_of}
 use Rattle.syntax65.specs.Trees.{Tree}
 use Rattle.syntax65.specs.declared.instructions.names.Mnemonic.{Mnemonic}
@@ -37,13 +36,12 @@ use Rattle.ast65.specs.declared.language.Item.TheVariants as item
 use Rattle.semantics65.specs.Norms.{norm_of, width_of}
 use Rattle.whole65.specs.Segments.{Line, line_end, line, line_of, lines_behind, largest_multiple}
 use Rattle.whole65.specs.Values.{Program, Value}
-use Rattle.std.specs.List.{flat_map}
 use Rattle.semantics65.specs.Symbols.{Laid}
 use Rattle.semantics65.specs.Numbering.{all_said, parts_in}
-use Rattle.semantics65.specs.Module.{Piece, ending_of, exported_names, given, instruction_pieces, item_piece, operand_pieces, pieces_of}
+use Rattle.semantics65.specs.Module.{Piece, ending_of, given, instruction_pieces, item_piece, operand_pieces, pieces_of}
 use Rattle.whole65.proofs.Offsets.{EndsAt, all_end, ends_moved, placed}
 use Rattle.whole65.proofs.Positions.{powers_at}
-use Rattle.whole65.specs.Offsets.{ArePowers, lines_at, IsMultiple, IsLaidOut}
+use Rattle.whole65.specs.Offsets.{lines_at, IsMultiple, IsLaidOut}
 use Rattle.semantics65.specs.Layout.{Layout}
 use Rattle.whole65.specs.Modules.{table_of}
 

@@ -1,19 +1,18 @@
 -- The sections of an object, and what they make of one segment.
 use Rattle.std.proofs.lemmas.Grind.{common_steps}
-use Rattle.std.proofs.Common.{◌≡◌, ℕ, suc, length, ◌<◌, Bool, true, false, nat_eq, cond, List, [], ◌∷◌, ◌++◌, map, filter, Option, Some, None, Result, Ok, refl, sym, ◌∙◌, ap, subst, arith, zero, slice_get}
+use Rattle.std.proofs.Common.{◌≡◌, ℕ, suc, length, ◌<◌, Bool, true, false, nat_eq, cond, List, [], ◌∷◌, ◌++◌, map, filter, Option, Some, None, Ok, refl, sym, ◌∙◌, ap, subst, arith, zero, slice_get}
 use Rattle.std.specs.Prelude.{⊤, ◌&&◌, ◌||◌, unwrap_or}
-use Rattle.std.specs.List.{AllByRecursion, list_any, position}
-use Rattle.std.specs.Option.{option_map}
+use Rattle.std.specs.List.{AllByRecursion, list_any}
 use Rattle.std.specs.Str.{bytes_eq}
 use Rattle.std.proofs.lemmas.Bool.Decides.{nat_tests}
 use Rattle.std.proofs.lemmas.List.Folds.{list_any-append}
 use Rattle.link65.proofs.SegmentLemmas.{at_front, behind_front, none_among as none_found}
-use Rattle.semantics65.specs.Contents.{Content}
+use Rattle.semantics65.specs.Contents.{Content, exported_names}
 use Rattle.semantics65.specs.Symbols.{Laid, asks_section, Symbols}
 use Rattle.semantics65.specs.Layout.{Layout, segment_at}
 use Rattle.semantics65.specs.Numbering.{all_said, number_of, once, section_keys, segments_asked, section_of}
 use Rattle.semantics65.proofs.Segments.{all_more}
-use Rattle.semantics65.specs.Module.{ending_of, exported_names}
+use Rattle.semantics65.specs.Module.{ending_of}
 use Rattle.whole65.proofs.Positions.{named, Distinct, itself}
 use Rattle.whole65.proofs.Multiples.{equal}
 use Rattle.whole65.proofs.Statements.{AreStated, a_line, are_stated, asked_append, no_line, stated}
@@ -30,7 +29,6 @@ use Rattle.link65.specs.Programs.{grown, Module, Program, member, no_program, wi
 use Rattle.link65.specs.Programs as linked
 use Rattle.whole65.proofs.LinkedObjects.{behind_sections, or_empty, behind_modules}
 use Rattle.std.proofs.lemmas.List.{length-append}
-use Rattle.whole65.specs.Programs.{program_of}
 
 -- ---- Each once.
 

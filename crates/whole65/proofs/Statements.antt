@@ -2,7 +2,7 @@
 use Rattle.std.proofs.lemmas.Grind.{common_steps, flat_map-append}
 use Rattle.std.proofs.lemmas.List.{append-nil, map-append}
 use Rattle.std.proofs.lemmas.List.Elements.{filter-append}
-use Rattle.std.proofs.Common.{◌≡◌, ◌∙◌, ℕ, Bool, true, false, cond, nat_eq, List, [], ◌∷◌, ◌++◌, map, filter, Option, Some, None, Result, Ok, Err, refl, sym, ap, subst, ◌⊎◌, inl, inr, arith, if◌then◌else◌}
+use Rattle.std.proofs.Common.{◌≡◌, ◌∙◌, ℕ, Bool, true, false, cond, nat_eq, List, [], ◌∷◌, ◌++◌, map, filter, Option, Some, None, Result, Ok, refl, sym, ap, subst, ◌⊎◌, inl, inr, arith, if◌then◌else◌}
 use Rattle.std.specs.List.{AllByRecursion, flat_map, list_any}
 use Rattle.std.specs.Str.{bytes_eq}
 use Rattle.base65.specs.Outcome.{◌>>=◌}
@@ -11,16 +11,16 @@ use Rattle.syntax65.specs.Trees.{Tree}
 use Rattle.semantics65.proofs.Found.{AreFound, found_each, found_split}
 use Rattle.semantics65.proofs.SoundForms.{all_append}
 use Rattle.semantics65.proofs.SoundParts.{content_is}
-use Rattle.semantics65.specs.Contents.{Content, Declaration, Exported, ForcedImport, Part, asking, decided, export_said, import_fault, operand_form, operand_tree, put, stored, telling, written}
+use Rattle.semantics65.specs.Contents.{Content, Declaration, Exported, ForcedImport, Part, asking, decided, export_said, import_fault, operand_form, operand_tree, put, stored, telling, written, exported_names}
 use Rattle.semantics65.specs.Layout.{Layout}
-use Rattle.semantics65.specs.Module.{Made, Piece, Purpose, absent_of, as_part, as_said, asserted, coming, datum, demanded, ending_of, equated, exported, exported_names, failed, given, holds, imported, item_piece, made_of, operand, operand_pieces, pieces_of, quietly, slots_of, used, valued, waiting_at}
+use Rattle.semantics65.specs.Module.{Made, Piece, Purpose, absent_of, as_part, as_said, asserted, coming, datum, demanded, ending_of, equated, exported, failed, given, holds, imported, item_piece, made_of, operand, operand_pieces, pieces_of, quietly, slots_of, used, valued, waiting_at}
 use Rattle.semantics65.specs.Norms.{defined_form, norm_of, width_of}
 use Rattle.semantics65.specs.Numbering.{all_said, parts_in, segments_asked}
 use Rattle.semantics65.specs.Reading.{at_place}
-use Rattle.semantics65.specs.Symbols.{Laid, Symbols, asks_section, defined, named, symbols_of}
+use Rattle.semantics65.specs.Symbols.{Laid, Symbols, asks_section, defined, named}
 use Rattle.semantics65.specs.declared.laid.Settled.{Settled}
 use Rattle.semantics65.specs.declared.laid.Settled.TheVariants.{InMode}
-use Rattle.semantics65.specs.Types.{Action, AsmFault, Item, Value, Text, Mnemonic, Operand, Place, Statement, Align, Assert, Constant, Export, FilePart, ForceImport, Global, Import, Instruction, Reserve, Values, Width}
+use Rattle.semantics65.specs.Types.{Action, AsmFault, Item, Value, Text, Place, Statement, Align, Assert, Constant, Export, FilePart, ForceImport, Global, Import, Instruction, Reserve, Values, Width}
 use Rattle.whole65.proofs.SameValues.{bind_ok, written_ok}
 use Rattle.whole65.specs.Modules.{table_of}
 

@@ -1,6 +1,6 @@
 -- A link leaves names open exactly where the whole program lacks some that have to be given.
 use Rattle.std.proofs.lemmas.Grind.{common_steps}
-use Rattle.std.proofs.Common.{◌≡◌, ℕ, suc, Bool, true, false, nat_eq, cond, List, [], ◌∷◌, ◌++◌, length, map, filter, slice_get, Option, Some, None, Result, Ok, refl, sym, ◌∙◌, ap, subst, zero, ◌+◌, ◌<◌, arith}
+use Rattle.std.proofs.Common.{◌≡◌, ℕ, suc, Bool, true, false, nat_eq, cond, List, [], ◌∷◌, ◌++◌, length, map, filter, slice_get, Option, Some, None, Ok, refl, sym, ◌∙◌, ap, subst, zero, ◌+◌, ◌<◌, arith}
 use Rattle.std.specs.Prelude.{⊤, ℤ, unwrap_or, ◌||◌}
 use Rattle.std.specs.List.{AllByRecursion, flat_map, list_any}
 use Rattle.std.proofs.lemmas.List.{append_assoc}
@@ -8,10 +8,8 @@ use Rattle.syntax65.specs.Trees as tree
 use Rattle.object65.specs.Form.{Form}
 use Rattle.script65.specs.declared.placement.Placement.{Placement}
 use Rattle.script65.specs.declared.script.Script.{Script}
-use Rattle.semantics65.specs.Contents.{Content, Part, Known, Filled, Waiting, Declaration, Exported, ForcedImport, Asserted}
-use Rattle.semantics65.specs.Symbols.{Laid, asks_section, Symbols, defined, named, with_new}
-use Rattle.ast65.specs.declared.language.Statement.{Statement}
-use Rattle.ast65.specs.declared.language.Statement.TheVariants as statement
+use Rattle.semantics65.specs.Contents.{Content, Part, Known, Filled, Waiting, Declaration, Exported, ForcedImport, Asserted, exported_names}
+use Rattle.semantics65.specs.Symbols.{Laid, asks_section, Symbols, defined, named}
 use Rattle.ast65.specs.declared.language.Statement.TheVariants.{Assert}
 use Rattle.semantics65.specs.Layout.{Layout}
 use Rattle.semantics65.specs.Norms.{defined_form, norm}
@@ -20,11 +18,11 @@ use Rattle.link65.specs.Programs.{Module}
 use Rattle.link65.specs.declared.parts.ValueFault.{ValueFault}
 use Rattle.link65.specs.declared.parts.ValueFault.TheVariants.{NoValue}
 use Rattle.semantics65.proofs.SoundForms.{all_append}
-use Rattle.semantics65.specs.Module.{ending_of, exported_names}
+use Rattle.semantics65.specs.Module.{ending_of}
 use Rattle.whole65.proofs.Exports.{IsAsserted, all_demanded, demanded_names, one_tells, IsDefined, said_all}
 use Rattle.whole65.proofs.Links.{valued_imports_law}
 use Rattle.whole65.proofs.Providers.{global_form, past_all, sources_law}
-use Rattle.whole65.proofs.Imports.{KeyFor, OfKey, OfPart, OfSaid, among_swapped, at_key, each_name, imports_hold, key_for, no_key, forced_hold, all_parts, of_among, none_open}
+use Rattle.whole65.proofs.Imports.{OfKey, OfPart, OfSaid, at_key, imports_hold, key_for, no_key, forced_hold, all_parts, none_open}
 use Rattle.whole65.proofs.Keyed.{or_right, one_of}
 use Rattle.whole65.proofs.Sections.{alike, any_once, asked_are, held, keys_of}
 use Rattle.whole65.proofs.SameValues.{same_values_law}

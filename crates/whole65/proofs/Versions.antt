@@ -1,20 +1,16 @@
 -- The object of version 1 of statements, as one of those that places' origins make.
 use Rattle.std.proofs.lemmas.Grind.{common_steps}
-use Rattle.std.proofs.Common.{arith, ◌≡◌, ℕ, ◌+◌, Bool, true, false, not, cond, List, [], ◌∷◌, ◌++◌, map, filter, refl, sym, ◌∙◌, ap}
-use Rattle.std.specs.Prelude.{filter_map, ◌||◌}
-use Rattle.std.specs.List.{list_any}
-use Rattle.std.specs.Str.{bytes_eq}
-use Rattle.std.proofs.lemmas.List.{map-append}
+use Rattle.std.proofs.Common.{arith, ◌≡◌, ℕ, ◌+◌, not, List, [], ◌∷◌, ◌++◌, map, filter, refl, ◌∙◌, ap}
+use Rattle.std.specs.Prelude.{filter_map}
 use Rattle.object65.specs.Versions.{assert_in_one, export_in_one, fragment_in_one, in_version_one, line_alone, section_in_one}
-use Rattle.object65.specs.declared.object.Export.{Export}
 use Rattle.object65.specs.declared.object.Fragment.{Fragment}
 use Rattle.object65.specs.declared.object.Fragment.TheVariants.{Literal, Fill, Value}
 use Rattle.object65.specs.declared.object.Object.{Object}
 use Rattle.object65.specs.declared.object.Origin.{Origin}
 use Rattle.syntax65.specs.declared.place.Place.{Place}
-use Rattle.semantics65.specs.Contents.{Content, Part, Known, Filled, Waiting, Declaration, Exported, ForcedImport, Asserted}
+use Rattle.semantics65.specs.Contents.{Content, Part, Declaration, Exported, ForcedImport, Asserted}
 use Rattle.semantics65.specs.declared.contents.Segment.{Segment}
-use Rattle.semantics65.specs.Numbering.{all_joined, all_said, assert_of, export_of, fragment_of, fragments_of, import_keys, is_empty, joined, numbered, object_by, parts_in, section_keys, section_of}
+use Rattle.semantics65.specs.Numbering.{all_joined, all_said, assert_of, export_of, fragment_of, fragments_of, import_keys, is_empty, joined, numbered, object_by, section_keys, section_of}
 
 -- ---- Fragments.
 

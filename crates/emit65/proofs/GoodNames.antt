@@ -96,12 +96,3 @@ pub segment_named : (segments : List Segment) (g : ℕ) → segment_name (slice_
 segment_named [] g = refl
 segment_named (s ∷ segments) zero = refl
 segment_named (s ∷ segments) (suc g) = segment_named segments g
-
--- ---- Names of exports.
-
--- they are the names that are said to be exported
-pub exports_named : (at : Place → Origin) (s i : List ℕ) (ss : List Declaration) → map (λ (e : Export). e.name) (filter_map (export_of at s i) ss) ≡ exported_names ss
-exports_named at s i [] = refl
-exports_named at s i (Exported n place f ∷ ss) = ap (λ ns. n ∷ ns) (exports_named at s i ss)
-exports_named at s i (ForcedImport n ∷ ss) = exports_named at s i ss
-exports_named at s i (Asserted act place words f ∷ ss) = exports_named at s i ss

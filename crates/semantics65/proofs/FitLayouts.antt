@@ -38,12 +38,12 @@ use Rattle.semantics65.specs.Symbols.{asks_section, definition_with, definitions
 use Rattle.semantics65.specs.Types.{Context, Place}
 use Rattle.semantics65.proofs.FitContents.{all_slots_fit, AreContentsOf, asking_count, contents_fit, counted, IsAmong, IsLaidFit, is_counted}
 use Rattle.semantics65.proofs.FitForms.{AreDefinitionsFit, IsDefinitionFit, IsPlaced}
-use Rattle.semantics65.proofs.FitItems.{IsPlaceFit, tokens_left}
+use Rattle.semantics65.proofs.FitItems.{IsPlaceFit}
+use Rattle.semantics65.proofs.FitLines.{most}
 use Rattle.semantics65.proofs.FitObjects.{object_fits}
 use Rattle.semantics65.proofs.FitStatements.{IsFit, IsSmallStatement, statement_fit}
-use Rattle.semantics65.proofs.FitSteps.{first_fit, first_tokens, HaveBytes, IsStateFit, next_fit}
-use Rattle.semantics65.proofs.FitTokens.{AreBytes, AreSmall}
-use Rattle.semantics65.proofs.NamedSteps.{tokens_of}
+use Rattle.semantics65.proofs.FitSteps.{IsStateFit, next_fit, opened_file, opened_fit, tokens_of}
+use Rattle.semantics65.proofs.FitTokens.{are_small, AreBytes, AreSmall, HaveBytes}
 use Rattle.semantics65.proofs.Segments.{all_more}
 use Rattle.semantics65.proofs.SoundContents.{sound_contents}
 use Rattle.semantics65.proofs.SoundForms.{all_append}
@@ -203,17 +203,12 @@ given_fit m n y z place (expand.plain ts) fit there small h = rest_fit m n y z p
 
 -- ---- All statements.
 
-abbrev most : ℕ
-most = 4294967296
-
-taken_fit : (m : Files) → HaveBytes m → (n : ℕ) (s : expand.State) (y : Layout) (r : Reached Layout) → IsStateFit s → n + tokens_left s.left ≤ most → IsLayoutFit n y → AreTaken m laying s y r → IsLayoutFit most r.behind
-taken_fit m all n s y r state few fit (taken _ t x _ z _ reaches is more) =
-    let next = next_fit m all (laying.meaning y) s (statement x t) state (omega (arith, few)) reaches in
-    let less = next.2 in
-    taken_fit m all (n + length (tokens_of x)) t z r next.1 (omega (arith, few, less)) (given_fit m n y z t.left.place x fit next.1.left.place next.0 is) more
-taken_fit m all n s y r state few fit (faulty _ t x _ e reaches is) = more_tokens n most y (omega (arith, few)) fit
-taken_fit m all n s y r state few fit (refused _ _ e place reaches) = more_tokens n most y (omega (arith, few)) fit
-taken_fit m all n s y r state few fit (ended _ t _ reaches) = more_tokens n most y (omega (arith, few)) fit
+module _ (m : Files) (all : HaveBytes m) where
+  taken_fit : (n : ℕ) (s : expand.State) (y : Layout) (r : Reached Layout) → IsStateFit m n s → IsLayoutFit n y → AreTaken m laying s y r → IsLayoutFit most r.behind
+  taken_fit n s y r state fit (taken _ t x _ z _ reaches is more) =
+      let next = next_fit m n (laying.meaning y) s (statement x t) state reaches in
+      taken_fit (n + length (tokens_of x)) t z r next.1 (given_fit m n y z t.left.place x fit next.1.left.place (are_small m (tokens_of x) all next.0) is) more
+  taken_fit n s y r state fit _ = let few = state.left.few in more_tokens n most y (omega (arith, few)) fit
 
 defined_fit : (y z : Layout) (place : Place) (ds : List Define) → AllByRecursion (λ d. d.1 < 4294967296) ds → IsLayoutFit 0 y → IsPlaceFit place → AreDefined IsLaid y place ds (Ok z) → IsLayoutFit 0 z
 defined_fit y z place [] values fit there h = let same : y ≡ z = cc in subst (IsLayoutFit 0) same fit
@@ -235,41 +230,17 @@ bytes_each (b ∷ bs) h = (h zero, bytes_each bs (λ i. h (suc i)))
 have_bytes : (m : Files) → HoldBytes m → HaveBytes m
 have_bytes m h = λ name bytes e. bytes_each bytes (h name bytes e)
 
-short_file : (o : Option (List ℕ)) (bytes : List ℕ) → bytes_in o ≡ Ok bytes → (o ≡ Some bytes) × (length bytes ≤ 16777216)
-short_file None bytes h = absurd cc
-short_file (Some bs) bytes h = by (nat_le (length bs) 16777216) refl h
-  where
-    by : (b : Bool) → nat_le (length bs) 16777216 ≡ b → (if b then Ok bs else Err FileTooLong) ≡ Ok bytes → (Some bs ≡ Some bytes) × (length bytes ≤ 16777216)
-    by true e j = let same : bs ≡ bytes = cc in (ap Some same, subst (λ (c : List ℕ). length c ≤ 16777216) same (grind (arith, nat_tests)))
-    by false e j = absurd cc
-
--- the file of a name, which is a text
-named_file : (m : Files) (name bytes : List ℕ) → file_named m name ≡ Some bytes → (is_utf8 name ≡ true) × (fmap.get m name ≡ Some bytes)
-named_file m name bytes h = by (is_utf8 name) refl h
-  where
-    by : (b : Bool) → is_utf8 name ≡ b → (if b then fmap.get m name else None) ≡ Some bytes → (is_utf8 name ≡ true) × (fmap.get m name ≡ Some bytes)
-    by true e j = (e, j)
-    by false e j = absurd cc
-
 module _ (m : Files) (all : HaveBytes m) (job : Job) (types : AreOfTypes job.defines) where
-  -- a file within its limit, whose name is a text
-  abbrev IsSourceFit : List ℕ → Type 0
-  IsSourceFit bytes = (is_utf8 job.source ≡ true) × AreBytes bytes × (length bytes ≤ 16777216)
-
-  begun_fit : (q : Result (List ℕ) ExpandFault) (r : Reached Layout) → ((bytes : List ℕ) → q ≡ Ok bytes → IsSourceFit bytes) → IsBegun m laying job nothing_laid (q >>= (λ bytes. Ok (first_state job.source job.include bytes))) r → IsLayoutFit most r.behind
+  begun_fit : (q : Result expand.State ExpandFault) (r : Reached Layout) → ((s : expand.State) → q ≡ Ok s → IsStateFit m 0 s × (is_utf8 job.source ≡ true)) → IsBegun m laying job nothing_laid q r → IsLayoutFit most r.behind
   begun_fit (Err e) r h is = subst (λ (x : Reached Layout). IsLayoutFit most x.behind) (sym is) (nothing_fit most)
-  begun_fit (Ok bytes) r h (q, defined, follows) = by q defined follows
+  begun_fit (Ok s) r h (q, defined, follows) = by q defined follows
     where
-      by : (q : Result Layout AsmFault) → AreDefined IsLaid nothing_laid (no_line job.source) job.defines q → Follows m laying (first_state job.source job.include bytes) (no_line job.source) nothing_laid q r → IsLayoutFit most r.behind
-      by (Ok z) is follow =
-          let file = h bytes refl in
-          let there : IsPlaceFit (no_line job.source) = (file.0, omega arith) in
-          let few = first_tokens job.source job.include bytes file.1 file.2 in
-          taken_fit m all 0 (first_state job.source job.include bytes) z r (first_fit job.source job.include bytes file.0 file.1 file.2) (omega (arith, few)) (defined_fit nothing_laid z (no_line job.source) job.defines types (nothing_fit 0) there is) follow
+      by : (q : Result Layout AsmFault) → AreDefined IsLaid nothing_laid (no_line job.source) job.defines q → Follows m laying s (no_line job.source) nothing_laid q r → IsLayoutFit most r.behind
+      by (Ok z) is follow = taken_fit m all 0 s z r (h s refl).0 (defined_fit nothing_laid z (no_line job.source) job.defines types (nothing_fit 0) ((h s refl).1, omega arith) is) follow
       by (Err e) is follow = subst (λ (x : Reached Layout). IsLayoutFit most x.behind) (sym follow) (nothing_fit most)
 
   source_fit : (r : Reached Layout) → IsBegun m laying job nothing_laid (opened_in m job.source job.include) r → IsLayoutFit most r.behind
-  source_fit r is = begun_fit (bytes_in (file_named m job.source)) r (λ bytes e. (let file = short_file (file_named m job.source) bytes e in let named = named_file m job.source bytes file.0 in (named.0, all job.source bytes named.1, file.1))) is
+  source_fit r is = begun_fit (opened_in m job.source job.include) r (λ s e. (opened_fit m job.source job.include s e, (opened_file m job.source job.include s e).1.0)) is
 
 -- ---- The symbol table.
 

@@ -1,14 +1,17 @@
 -- What slots come to, one behind the other.
-use Rattle.std.proofs.Common.{◌≡◌, ◌∙◌, ℕ, List, [], ◌∷◌, ◌++◌, refl, sym, ap, subst, append_assoc, arith}
-use Rattle.std.specs.Prelude.{⊤, Result, Ok, Err}
+use Rattle.std.proofs.Common.{◌≡◌, ◌∙◌, ℕ, List, [], ◌∷◌, ◌++◌, map, refl, sym, ap, subst, append_assoc, arith}
+use Rattle.std.specs.Prelude.{⊤, filter_map, Result, Ok, Err}
 use Rattle.std.specs.List.{AllByRecursion}
 use Rattle.std.proofs.lemmas.Grind.{common_steps}
 use Rattle.std.proofs.lemmas.List.{append-nil}
 use Rattle.std.proofs.lemmas.List.Elements.{filter_map-append}
 use Rattle.base65.specs.Outcome.{◌>>=◌}
-use Rattle.semantics65.specs.Contents.{Content, Declaration, exported_name, exported_names}
+use Rattle.syntax65.specs.declared.place.Place.{Place}
+use Rattle.object65.specs.declared.object.Export.{Export}
+use Rattle.object65.specs.declared.object.Origin.{Origin}
+use Rattle.semantics65.specs.Contents.{Content, Declaration, Exported, ForcedImport, Asserted, exported_name, exported_names}
 use Rattle.semantics65.specs.Module.{Finished, Made, Slot, coming, followed_by, resolved}
-use Rattle.semantics65.specs.Numbering.{all_said}
+use Rattle.semantics65.specs.Numbering.{all_said, export_of}
 use Rattle.semantics65.specs.Reading.{PlacedFault}
 use Rattle.semantics65.specs.Symbols.{Symbols}
 
@@ -47,6 +50,13 @@ resolved_stops y names cs said x xs e made = grind (arith, common_steps, append-
 
 pub names_append : (ss ts : List Declaration) → exported_names (ss ++ ts) ≡ exported_names ss ++ exported_names ts
 names_append ss ts = filter_map-append exported_name ss ts
+
+-- the names of an object's exports are those that were said
+pub exports_named : (at : Place → Origin) (s i : List ℕ) (ss : List Declaration) → map (λ (e : Export). e.name) (filter_map (export_of at s i) ss) ≡ exported_names ss
+exports_named at s i [] = refl
+exports_named at s i (Exported n place f ∷ ss) = ap (λ ns. n ∷ ns) (exports_named at s i ss)
+exports_named at s i (ForcedImport n ∷ ss) = exports_named at s i ss
+exports_named at s i (Asserted act place words f ∷ ss) = exports_named at s i ss
 
 -- ---- Contents, each with its slot.
 

@@ -24,7 +24,7 @@ use Rattle.link65.specs.Programs.{Module, Program, no_program, program_of, with_
 use Rattle.link65.specs.Programs as linked
 use Rattle.link65.specs.declared.parts.Exported as parts
 use Rattle.semantics65.proofs.SoundForms.{all_append}
-use Rattle.semantics65.proofs.Found.{names_append}
+use Rattle.semantics65.proofs.Found.{names_append, exports_named}
 use Rattle.semantics65.proofs.Resolving.{new_append}
 use Rattle.semantics65.specs.Module.{ending_of}
 use Rattle.whole65.proofs.Statements.{AreStated, IsLeftOut, IsSaidBy, SaidOnce, a_line, are_stated, left_out, no_line, no_name, said_append, said_first, stated}
@@ -138,18 +138,12 @@ said_all y cs e = lines_say (table_of y) [] y.laid cs (are_stated y cs e)
 
 -- ---- Exports of objects.
 
-names_said : (origins : Place → Origin) (sections numbers : List ℕ) (ss : List Declaration) → map (λ (e : Export). e.name) (filter_map (export_of origins sections numbers) ss) ≡ exported_names ss
-names_said origins sections numbers [] = refl
-names_said origins sections numbers (Exported n place f ∷ ss) = ap (λ ns. n ∷ ns) (names_said origins sections numbers ss)
-names_said origins sections numbers (ForcedImport n ∷ ss) = names_said origins sections numbers ss
-names_said origins sections numbers (Asserted act place words f ∷ ss) = names_said origins sections numbers ss
-
 pub source_exports : (y : Layout) (m : Module) → IsSource y m → map (λ (e : Export). e.name) m.object.exports ≡ exports_of y
 source_exports y m h =
     let c = contents_of y m h in
     let cs : List Content = c.contents in
     ap (λ (o : Object). map (λ (e : Export). e.name) o.exports) c.object
-    ∙ names_said c.origins (section_keys cs) (import_keys (table_of y).imports cs) (all_said cs)
+    ∙ exports_named c.origins (section_keys cs) (import_keys (table_of y).imports cs) (all_said cs)
     ∙ sym (said_all y cs c.found).exported
 
 -- ---- Module by module.

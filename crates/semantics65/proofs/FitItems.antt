@@ -125,11 +125,7 @@ module _ (m : Files) where
 
   pub outside_fit : (n : ℕ) (is : List Item) (room : ℕ) (p : Place) → IsLeftFit n (left is room p) → Each (IsOutsideFit n room) (outside_macro is p)
   outside_fit n [] room p h = tt
-  outside_fit n (mark k ∷ is) room p h = let j = behind_mark n k is room p h in by k.is_macro j (outside_fit n is room (come_back p k.back) j)
-    where
-      by : (b : Bool) → IsLeftFit n (left is room (come_back p k.back)) → Each (IsOutsideFit n room) (outside_macro is (come_back p k.back)) → Each (IsOutsideFit n room) (if b then Some (k.conditions, is, come_back p k.back) else outside_macro is (come_back p k.back))
-      by true here further = here
-      by false here further = further
+  outside_fit n (mark k ∷ is) room p h = let j = behind_mark n k is room p h in grind (arith, common_steps, j, (outside_fit n is room (come_back p k.back) j))
   outside_fit n (i ∷ is) room p h = outside_fit n is room p (behind_item n i is room p h)
 
   -- ---- A line that is taken.
@@ -148,11 +144,7 @@ module _ (m : Files) where
   lexed_fit bytes (Err f) is h = tt
 
   fitted_fit : (ts : List Lexeme) → AreFit m ts → IsOpenedFit (fitted ts)
-  fitted_fit ts h = by (nat_le (length ts) 4096) refl
-    where
-      by : (b : Bool) → nat_le (length ts) 4096 ≡ b → IsOpenedFit (if b then Ok ts else Err LineTooLong)
-      by true e = (h, (grind (arith, nat_tests)))
-      by false e = tt
+  fitted_fit ts h = grind (arith, common_steps, nat_tests)
 
   opened_fit : (i : Item) (q : Result (List Lexeme) ExpandFault) → IsItemFit i → IsOpened i q → IsOpenedFit q
   opened_fit (written n bytes) q h (r, is, e) = subst IsOpenedFit (sym e) (lexed_fit bytes r is h.1)
@@ -189,11 +181,7 @@ module _ (m : Files) where
   IsBlockFit n (Err e) = ⊤
 
   with_line_fit : (k : BlockKind) (body : List (List Lexeme)) (ts : List Lexeme) → AreAllFit m body → AreFit m ts → AreAllFit m (with_line k body ts)
-  with_line_fit k body ts h j = by (is_kept k)
-    where
-      by : (b : Bool) → AreAllFit m (if b then body ++ ts ∷ [] else body)
-      by true = all_more (AreFit m) body ts h j
-      by false = h
+  with_line_fit k body ts h j = grind (arith, common_steps, all_more)
 
   pub block_fit : (n : ℕ) (k : BlockKind) (d : ℕ) (body : List (List Lexeme)) (l : Left) (q : Result (Whole × Left) Stop) → AreAllFit m body → IsLeftFit n l → Block k d body l q → IsBlockFit n q
   block_fit n k _ _ _ _ h j (a_fault d body l e t) = tt

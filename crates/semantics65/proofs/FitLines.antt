@@ -55,8 +55,7 @@ abbrev pub AreBases : List (List ℕ) → Type 0
 AreBases names = AllByRecursion IsBase names
 
 any_behind : (b : Bool) → (b || true) ≡ true
-any_behind true = refl
-any_behind false = refl
+any_behind x1 = grind (arith, common_steps)
 
 own_made : (name : List ℕ) (number : ℕ) → is_made (name ++ tail_of number) ≡ true
 own_made name number = list_any-append (λ b. b == 63) name (tail_of number) ∙ any_behind (is_made name)
@@ -122,11 +121,7 @@ arguments_few (t ∷ ts) = let same = length-map (parts_within 0 (t ∷ ts)) unb
 -- none of them was made
 bases : (m : Files) (names : List (List ℕ)) → list_any is_made names ≡ false → AllByRecursion (IsFit m token.Identifier) names → AreBases names
 bases m [] none h = tt
-bases m (n ∷ names) none h = by (is_made n) refl none (λ none. bases m names none h.1)
-  where
-    by : (b : Bool) → is_made n ≡ b → (b || list_any is_made names) ≡ false → (list_any is_made names ≡ false → AreBases names) → AreBases (n ∷ names)
-    by true e none more = absurd cc
-    by false e none more = ((h.0.0, h.0.1 e), more none)
+bases m (n ∷ names) none h = grind (arith, common_steps, (bases m names))
 
 module _ (m : Files) where
   abbrev IsNameFit : List ℕ → Type 0

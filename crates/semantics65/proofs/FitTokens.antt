@@ -88,9 +88,7 @@ are_named m [] h = tt
 are_named m (t ∷ ts) h = (is_named m t.0 t.1 h.0, are_named m ts h.1)
 
 is_small : (m : Files) (k : TokenKind) (t : List ℕ) → HaveBytes m → IsFit m k t → IsSmall k
-is_small m (token.Character c) t all h = h all
-is_small m (token.Number v) t all h = h
-is_small m _ t all h = tt
+is_small m x1 t all h = grind (arith, common_steps)
 
 pub are_small : (m : Files) (ts : List Lexeme) → HaveBytes m → AreFit m ts → AreSmall ts
 are_small m [] all h = tt
@@ -99,29 +97,14 @@ are_small m (t ∷ ts) all h = (is_small m t.0 t.1 all h.0, are_small m ts all h
 -- ---- The tokens of a line.
 
 digits_small : (radix : ℕ) (bs : List ℕ) (v : ℕ) → digits radix bs ≡ Some v → v < 4294967296
-digits_small radix [] v h = absurd cc
-digits_small radix (b ∷ bs) v h = by (list_all (is_digit radix) (b ∷ bs)) (nat_lt (digits_value radix (b ∷ bs)) 4294967296) refl h
-  where
-    by : (a c : Bool) → nat_lt (digits_value radix (b ∷ bs)) 4294967296 ≡ c → (if a && c then Some (digits_value radix (b ∷ bs)) else None) ≡ Some v → v < 4294967296
-    by true true e k = let same : digits_value radix (b ∷ bs) ≡ v = cc in subst (λ n. n < 4294967296) same (grind (arith, nat_tests))
-    by true false e k = absurd cc
-    by false c e k = absurd cc
+digits_small radix x1 v h = grind (arith, common_steps, nat_tests)
 
 plain_small : (text : List ℕ) (v : ℕ) → plain_number_of text ≡ Some v → v < 4294967296
-plain_small text v h = by (slice_index text (length text - 1) == 104) h
-  where
-    by : (b : Bool) → (if b then digits 16 (take (length text - 1) text) else digits 10 text) ≡ Some v → v < 4294967296
-    by true k = digits_small 16 (take (length text - 1) text) v k
-    by false k = digits_small 10 text v k
+plain_small text v h = grind (arith, common_steps, (digits_small 16 (take (length text - 1) text) v), (digits_small 10 text v))
 
 number_small : (text : List ℕ) (v : ℕ) → number_of text ≡ Some v → v < 4294967296
 number_small [] v h = absurd cc
-number_small (b ∷ bs) v h = by (b == 36) (b == 37) h
-  where
-    by : (a c : Bool) → (if a then digits 16 bs else (if c then digits 2 bs else plain_number_of (b ∷ bs))) ≡ Some v → v < 4294967296
-    by true c k = digits_small 16 bs v k
-    by false true k = digits_small 2 bs v k
-    by false false k = plain_small (b ∷ bs) v k
+number_small (b ∷ bs) v h = grind (arith, common_steps, (digits_small 16 bs v), (digits_small 2 bs v), (plain_small (b ∷ bs) v))
 
 character_small : (c : ℕ) (text : List ℕ) → IsForm (token.Character c) text → AreBytes text → c < number_limit
 character_small c [] form h = absurd form
@@ -180,23 +163,10 @@ mark_small : (m : Mark) → OpensSmall (opening_of_mark m)
 mark_small m = grind (arith, common_steps)
 
 word_small : (text : List ℕ) → OpensSmall (opening_of_word text)
-word_small text =
-    either_small (str_eq_ignore_ascii_case text (codes ".bitnot")) (Prefix one.BitNot) _ tt
-    (either_small (str_eq_ignore_ascii_case text (codes ".lobyte")) (Prefix one.LowByte) _ tt
-    (either_small (str_eq_ignore_ascii_case text (codes ".hibyte")) (Prefix one.HighByte) _ tt
-    (either_small (str_eq_ignore_ascii_case text (codes ".bankbyte")) (Prefix one.BankByte) _ tt
-    (either_small (str_eq_ignore_ascii_case text (codes ".not")) Negation Nothing tt tt))))
+word_small text = grind (arith, common_steps)
 
 kind_small : (k : TokenKind) (text : List ℕ) → IsSmall k → OpensSmall (opening_of k text)
-kind_small token.Identifier text h = either_small (is_reserved text) Nothing Name tt tt
-kind_small token.Directive text h = word_small text
-kind_small (token.Number v) text h = h
-kind_small (token.Character c) text h = h
-kind_small token.Unnamed text h = either_small (nat_lt 0 (length text - 1) && (slice_index text 1 == 43)) (Forward (length text - 1)) (Backward (length text - 1)) tt tt
-kind_small (token.Symbol m) text h = mark_small m
-kind_small token.CheapName text h = tt
-kind_small token.Text text h = tt
-kind_small (token.SizePrefix s) text h = tt
+kind_small x1 text h = grind (arith, common_steps, word_small, mark_small)
 
 opening_small : (ts : List Lexeme) (i : ℕ) → AreSmall ts → OpensSmall (opening_at ts i)
 opening_small [] zero h = tt
@@ -205,12 +175,7 @@ opening_small (t ∷ ts) zero h = kind_small t.0 t.1 h.0
 opening_small (t ∷ ts) (suc i) h = opening_small ts i h.1
 
 leaf_small : (o : Opening) (text : List ℕ) (t : Tree) → leaf_of o text ≡ Some t → OpensSmall o → IsSmallTree t
-leaf_small (Number v) text t e h = let same : number v ≡ t = cc in subst IsSmallTree same h
-leaf_small Here text t e h = let same : here ≡ t = cc in subst IsSmallTree same tt
-leaf_small Cheap text t e h = let same : cheap text ≡ t = cc in subst IsSmallTree same tt
-leaf_small (Forward n) text t e h = let same : forward n ≡ t = cc in subst IsSmallTree same tt
-leaf_small (Backward n) text t e h = let same : backward n ≡ t = cc in subst IsSmallTree same tt
-leaf_small _ text t e h = absurd cc
+leaf_small x1 text t e h = grind (arith, common_steps)
 
 module _ (ts : List Lexeme) (h : AreSmall ts) where
   phrase_small : (room n i j : ℕ) (t : Tree) → Phrase ts room n i j t → IsSmallTree t

@@ -1,18 +1,17 @@
 -- What is left of a source is fit: its tokens, its numbers, which are small, and its places, which are texts; and no line,
 -- block or body brings more tokens than its lines may have.
 use Rattle.std.proofs.lemmas.Grind.{common_steps}
-use Rattle.std.proofs.Common.{arith, ◌≡◌, ℕ, zero, suc, ◌+◌, ◌*◌, ◌<◌, ◌≤◌, Bool, true, false, List, [], ◌∷◌, ◌++◌, length, map, Option, Some, None, refl, sym, ap, subst, if◌then◌else◌}
-use Rattle.std.specs.Prelude.{⊤, Result, Ok, Err, nat_le}
+use Rattle.std.proofs.Common.{arith, ◌≡◌, ℕ, zero, suc, ◌+◌, ◌*◌, ◌<◌, ◌≤◌, true, List, [], ◌∷◌, ◌++◌, length, map, Option, Some, None, refl, sym, ap, subst}
+use Rattle.std.specs.Prelude.{⊤, Result, Ok, Err}
 use Rattle.std.specs.List.{AllByRecursion}
 use Rattle.std.specs.Str.{is_utf8}
 use Rattle.std.proofs.lemmas.Bool.Decides.{nat_tests}
 use Rattle.base65.specs.Store.{Files}
 use Rattle.syntax65.specs.Tokens.{IsRead, Lexeme}
 use Rattle.syntax65.specs.declared.fault.ExpandFault.{ExpandFault}
-use Rattle.syntax65.specs.declared.fault.ExpandFault.TheVariants.{LineTooLong}
 use Rattle.syntax65.specs.declared.lexing.tokens.LexFault.{LexFault}
 use Rattle.syntax65.specs.declared.place.Place.{Place}
-use Rattle.expand65.specs.Blocks.{Block, a_fault, a_mark, a_refusal, the_last, one_more, is_kept, with_line, Whole}
+use Rattle.expand65.specs.Blocks.{Block, a_fault, a_mark, a_refusal, the_last, one_more, with_line, Whole}
 use Rattle.expand65.specs.declared.blocks.BlockKind.{BlockKind}
 use Rattle.expand65.specs.Lines.{come_back, fitted, in_turn, IsOpened, Item, written, played, labelled, branch, mark, Left, left, lexed, localised, Mark, numbered, outside_macro, reached, repeating, replaced, Replacing, Stop, Taken, taken_as, Takes, TakesFrom, turns}
 use Rattle.semantics65.proofs.FitLines.{AreAllFit, AreBases, Each, IsReplacingFit, most, replaced_fit, with_locals_fit}

@@ -1,11 +1,10 @@
 -- Each step of expansion keeps what is left fit, and gives fit tokens, no more than are left; and no more macros are called
 -- than tokens were taken.
 use Rattle.std.proofs.lemmas.Grind.{common_steps}
-use Rattle.std.proofs.Common.{arith, ◌≡◌, ℤ, pos, negsuc, ℕ, zero, suc, ◌+◌, ◌*◌, ◌<◌, ◌≤◌, Bool, true, false, List, [], ◌∷◌, ◌++◌, length, take, drop, map, Option, Some, None, refl, sym, ap, subst, if◌then◌else◌}
-use Rattle.std.specs.Prelude.{⊤, IfOk, Result, Ok, Err, nat_le, ◌==◌}
+use Rattle.std.proofs.Common.{arith, ◌≡◌, ℤ, ℕ, zero, suc, ◌+◌, ◌<◌, ◌≤◌, Bool, true, false, List, [], ◌∷◌, length, drop, map, Option, Some, None, refl, sym, subst, if◌then◌else◌}
+use Rattle.std.specs.Prelude.{⊤, IfOk, Result, Ok, Err, nat_le}
 use Rattle.std.specs.FinMap as fmap
 use Rattle.std.specs.List.{AllByRecursion}
-use Rattle.std.specs.Option.{option_map_or}
 use Rattle.std.specs.Str.{is_utf8}
 use Rattle.std.proofs.lemmas.Bool.Decides.{nat_tests}
 use Rattle.std.proofs.lemmas.List.{length-drop, length-take}
@@ -16,23 +15,22 @@ use Rattle.syntax65.specs.Trees.{Tree}
 use Rattle.syntax65.specs.declared.expressions.words.ExprFault.{ExprFault}
 use Rattle.syntax65.specs.declared.fault.ExpandFault.{ExpandFault}
 use Rattle.syntax65.specs.declared.fault.ExpandFault.TheVariants as faults
-use Rattle.syntax65.specs.declared.fault.ExpandFault.TheVariants.{Nested, NotClosed, NotUnderstood}
 use Rattle.syntax65.specs.declared.lexing.tokens.TokenKind.{TokenKind}
 use Rattle.syntax65.specs.declared.place.Place.{Place}
-use Rattle.expand65.specs.Blocks.{Block, Branch, at_elseif, at_else, at_end, Whole}
+use Rattle.expand65.specs.Blocks.{Block, Branch, Whole}
 use Rattle.expand65.specs.declared.blocks.BlockKind.{BlockKind}
 use Rattle.expand65.specs.declared.blocks.BlockKind.TheVariants as kind
 use Rattle.expand65.specs.declared.fronts.Directive.{Directive}
 use Rattle.expand65.specs.declared.fronts.Directive.TheVariants.{Macro, EndMacro, ExitMacro, Local, Repeat, EndRepeat, If, ElseIf, Else, EndIf, Include, Error, End}
 use Rattle.expand65.specs.declared.fronts.Test.{Test}
 use Rattle.expand65.specs.declared.fronts.Test.TheVariants.{True}
-use Rattle.expand65.specs.Expansion.{acted, at_mark, bytes_in, directed, file_named, first_file, first_state, found_or, include_file, included, IsStep, last_condition, Leads, Next, statement, nothing, fault, not_opened, opened_in, Reaches, further, given, ended, stopped, split, step_behind, step_from, unless_mislabelled}
+use Rattle.expand65.specs.Expansion.{acted, at_mark, bytes_in, directed, file_named, first_file, first_state, found_or, include_file, IsStep, last_condition, Leads, Next, statement, nothing, fault, not_opened, opened_in, Reaches, further, given, ended, stopped, split, step_behind, step_from, unless_mislabelled}
 use Rattle.expand65.specs.Fronts.{front_directive, is_mislabelled, label_len, line_directive, string_of, understood}
-use Rattle.expand65.specs.Lines.{come_back, Definition, in_line, innermost, Item, line_limit, written, played, labelled, branch, mark, Left, left, lines_of, Mark, Replacing, numbered, outside_macro, put_before, repeating, Stop, Taken, Takes, turns}
-use Rattle.expand65.specs.Macros.{arguments_of, called, called_or_given, counted, defined, entered, exit_macro, exited, given_to, header_of, local_line, local_named, macro_at, macro_line, macro_of, mark_from, new_names, ordinary, repeat_header, repeat_line, repeat_of, repeated, turns_of}
+use Rattle.expand65.specs.Lines.{Definition, in_line, Item, line_limit, played, labelled, branch, Left, left, lines_of, Mark, Replacing, numbered, outside_macro, put_before, repeating, Stop, Taken, Takes, turns}
+use Rattle.expand65.specs.Macros.{arguments_of, called, counted, defined, entered, exit_macro, exited, given_to, header_of, local_line, local_named, macro_at, macro_of, mark_from, new_names, ordinary, repeat_line, repeat_of, repeated, turns_of}
 use Rattle.expand65.specs.State.{decided, else_line, ended_if, found, goes, gives, ends, stops, if_alone, if_line, leads, parses, decides, takes, takes_block, searches, Meaning, State, Stated, label, plain, Step, Stepped, unless_refused, unless_stopped, with_conditions, with_items, with_left}
-use Rattle.semantics65.proofs.FitItems.{AreLines, behind_mark, block_fit, fewer, IsBlockFit, IsItemFit, IsLeftFit, IsOutsideFit, IsPlaceFit, IsTakenFit, localised_fit, localised_tokens, numbered_lines, outside_fit, played_lines, pushed_fit, taken_fit, turns_lines}
-use Rattle.semantics65.proofs.FitLines.{AreAllFit, AreBases, arguments_few, arguments_fit, Each, lookup_each, most, new_names_fit}
+use Rattle.semantics65.proofs.FitItems.{AreLines, behind_mark, block_fit, fewer, IsBlockFit, IsLeftFit, IsOutsideFit, IsPlaceFit, IsTakenFit, localised_fit, localised_tokens, numbered_lines, outside_fit, played_lines, pushed_fit, taken_fit, turns_lines}
+use Rattle.semantics65.proofs.FitLines.{AreAllFit, AreBases, arguments_few, arguments_fit, Each, lookup_each, new_names_fit}
 use Rattle.semantics65.proofs.FitTokens.{all_drop, all_take, AreBytes, AreFit, HaveBytes, IsTokenFit}
 use Rattle.semantics65.proofs.SoundForms.{all_append}
 

@@ -1,23 +1,21 @@
 -- The tokens of lines are fit: identifiers are names that objects can hold, and numbers are small, and so those of
 -- expressions; no line has more tokens than bytes.
 use Rattle.std.proofs.lemmas.Grind.{common_steps}
-use Rattle.std.proofs.Common.{arith, ◌≡◌, ℕ, zero, suc, ◌+◌, ◌<◌, ◌≤◌, Bool, true, false, List, [], ◌∷◌, length, take, drop, Option, Some, None, refl, sym, subst, if◌then◌else◌}
-use Rattle.std.specs.Prelude.{⊤, Ok, nat_lt, ◌==◌, ◌&&◌, ◌-◌, slice_index, codes}
+use Rattle.std.proofs.Common.{arith, ◌≡◌, ℕ, zero, suc, ◌+◌, ◌<◌, ◌≤◌, Bool, true, false, List, [], ◌∷◌, length, take, drop, Option, Some, None, sym, subst, if◌then◌else◌}
+use Rattle.std.specs.Prelude.{⊤, Ok, ◌-◌}
 use Rattle.std.specs.FinMap as fmap
-use Rattle.std.specs.List.{AllByRecursion, list_all, prefix_len}
-use Rattle.std.specs.Str.Parse.{digits_value}
-use Rattle.std.specs.Str.{str_eq_ignore_ascii_case}
+use Rattle.std.specs.List.{AllByRecursion, prefix_len}
 use Rattle.std.proofs.lemmas.Bool.Decides.{nat_tests}
 use Rattle.std.proofs.lemmas.List.{length-drop}
-use Rattle.base65.specs.Digit.{digits, is_digit}
+use Rattle.base65.specs.Digit.{digits}
 use Rattle.base65.specs.Store.{Files}
 use Rattle.base65.specs.declared.values.Op1.TheVariants as one
-use Rattle.syntax65.specs.Expressions.{IsParsed, leaf_of, opening_at, opening_of, opening_of_mark, opening_of_word, text_at, is_reserved, Phrase, a_leaf, a_name, a_global, prefixed, enclosed, of_level, joined, negated}
+use Rattle.syntax65.specs.Expressions.{IsParsed, leaf_of, opening_at, opening_of, opening_of_mark, opening_of_word, text_at, Phrase, a_leaf, a_name, a_global, prefixed, enclosed, of_level, joined, negated}
 use Rattle.syntax65.specs.Forms.{IsForm, IsToken, number_of, plain_number_of, is_blank}
 use Rattle.syntax65.specs.Tokens.{IsRead, Lexeme, Reads, after_blanks}
-use Rattle.syntax65.specs.Trees.{Tree, number, here, cheap, forward, backward, unary, binary}
+use Rattle.syntax65.specs.Trees.{Tree, number, unary, binary}
 use Rattle.syntax65.specs.declared.expressions.words.Opening.{Opening}
-use Rattle.syntax65.specs.declared.expressions.words.Opening.TheVariants.{Number, Here, Cheap, Forward, Backward, Name, Prefix, Negation, Nothing}
+use Rattle.syntax65.specs.declared.expressions.words.Opening.TheVariants.{Number}
 use Rattle.syntax65.specs.declared.lexing.tokens.LexFault.{LexFault}
 use Rattle.syntax65.specs.declared.lexing.tokens.Mark.{Mark}
 use Rattle.syntax65.specs.declared.lexing.tokens.TokenKind.{TokenKind}

@@ -24,7 +24,8 @@ use Rattle.syntax65.proofs.Fronts.{empty}
 use Rattle.object65.specs.Objects.{is_name}
 use Rattle.expand65.specs.Macros.{is_made}
 use Rattle.semantics65.specs.Numbering.{AreNamed, IsNamed}
-use Rattle.semantics65.proofs.Sounding.{tokens_named}
+use Rattle.semantics65.proofs.Segments.{all_same}
+use Rattle.semantics65.proofs.Sounding.{short_name}
 
 -- ---- Parts of lists.
 
@@ -82,15 +83,13 @@ is_named : (m : Files) (k : TokenKind) (t : List ℕ) → IsFit m k t → IsName
 is_named m x1 t h = grind (arith, common_steps)
 
 pub are_named : (m : Files) (ts : List Lexeme) → AreFit m ts → AreNamed ts
-are_named m [] h = tt
-are_named m (t ∷ ts) h = (is_named m t.0 t.1 h.0, are_named m ts h.1)
+are_named m ts h = all_same (IsTokenFit m) (λ t. IsNamed t.0 t.1) (λ t fit. is_named m t.0 t.1 fit) ts h
 
 is_small : (m : Files) (k : TokenKind) (t : List ℕ) → HaveBytes m → IsFit m k t → IsSmall k
 is_small m x1 t all h = grind (arith, common_steps)
 
 pub are_small : (m : Files) (ts : List Lexeme) → HaveBytes m → AreFit m ts → AreSmall ts
-are_small m [] all h = tt
-are_small m (t ∷ ts) all h = (is_small m t.0 t.1 all h.0, are_small m ts all h.1)
+are_small m ts all h = all_same (IsTokenFit m) (λ t. IsSmall t.0) (λ t fit. is_small m t.0 t.1 all fit) ts h
 
 -- ---- The tokens of a line.
 
@@ -108,17 +107,19 @@ character_small : (c : ℕ) (text : List ℕ) → IsForm (token.Character c) tex
 character_small c [] form h = absurd form
 character_small c (b ∷ bs) form h = let all = subst AreBytes form.1 h.1 in let small : c < 256 = all.0 in omega (arith, small)
 
-token_fit : (m : Files) (first : Bool) (k : TokenKind) (t text : List ℕ) → t ≡ take (length t) text → IsToken first k (length t) text → (HaveBytes m → AreBytes text) → IsNamed k t → IsFit m k t
-token_fit m first token.Identifier t text at is bytes named = (named, λ none. subst (λ (n : List ℕ). length n ≤ 200) (sym at) is.short)
-token_fit m first (token.Number v) t text at is bytes named = let small = number_small (take (length t) text) v is.value in omega (arith, small)
-token_fit m first (token.Character c) t text at is bytes named = λ all. character_small c (take (length t) text) is.longest.stands.form (all_take IsByte (length t) text (bytes all))
-token_fit m first _ t text at is bytes named = tt
+token_fit : (m : Files) (first : Bool) (k : TokenKind) (t text : List ℕ) → t ≡ take (length t) text → IsToken first k (length t) text → (HaveBytes m → AreBytes text) → IsFit m k t
+token_fit m first token.Identifier t text at is bytes =
+    let short : length t ≤ 200 = subst (λ (n : List ℕ). length n ≤ 200) (sym at) is.short in
+    (short_name t (subst (IsForm token.Identifier) (sym at) is.longest.stands.form) short, λ none. short)
+token_fit m first (token.Number v) t text at is bytes = let small = number_small (take (length t) text) v is.value in omega (arith, small)
+token_fit m first (token.Character c) t text at is bytes = λ all. character_small c (take (length t) text) is.longest.stands.form (all_take IsByte (length t) text (bytes all))
+token_fit m first _ t text at is bytes = tt
 
-tokens_fit : (m : Files) (first : Bool) (line : List ℕ) (ts : List Lexeme) (end : Option LexFault) → Reads first line ts end → (HaveBytes m → AreBytes line) → AreNamed ts → AreFit m ts
-tokens_fit m first line [] end h bytes named = tt
-tokens_fit m first line (t ∷ ts) end h bytes named =
+tokens_fit : (m : Files) (first : Bool) (line : List ℕ) (ts : List Lexeme) (end : Option LexFault) → Reads first line ts end → (HaveBytes m → AreBytes line) → AreFit m ts
+tokens_fit m first line [] end h bytes = tt
+tokens_fit m first line (t ∷ ts) end h bytes =
     let text : HaveBytes m → AreBytes (after_blanks line) = λ all. all_drop IsByte (prefix_len is_blank line) line (bytes all) in
-    (token_fit m first t.0 t.1 (after_blanks line) h.0 h.1 text named.0, tokens_fit m false (drop (length t.1) (after_blanks line)) ts end h.2 (λ all. all_drop IsByte (length t.1) (after_blanks line) (text all)) named.1)
+    (token_fit m first t.0 t.1 (after_blanks line) h.0 h.1 text, tokens_fit m false (drop (length t.1) (after_blanks line)) ts end h.2 (λ all. all_drop IsByte (length t.1) (after_blanks line) (text all)))
 
 some_bytes : (first : Bool) (k : TokenKind) (n : ℕ) (text : List ℕ) → IsToken first k n text → 0 < n
 some_bytes first k zero text h = absurd (empty first k text h.longest.stands)
@@ -139,7 +140,7 @@ abbrev pub IsLineFit : Files → List Lexeme → Type 0
 IsLineFit m ts = AreFit m ts × (length ts ≤ 4096)
 
 pub read_fit : (m : Files) (line : List ℕ) (ts : List Lexeme) → IsRead line (Ok ts) → (HaveBytes m → AreBytes line) → IsLineFit m ts
-read_fit m line ts h bytes = (tokens_fit m true line ts None h.1 bytes (tokens_named line ts h), (let few = tokens_few true line ts None h.1 in let short = h.0 in omega (arith, few, short)))
+read_fit m line ts h bytes = (tokens_fit m true line ts None h.1 bytes, (let few = tokens_few true line ts None h.1 in let short = h.0 in omega (arith, few, short)))
 
 -- ---- Expressions.
 
@@ -152,10 +153,6 @@ IsSmallTree _ = ⊤
 abbrev OpensSmall : Opening → Type 0
 OpensSmall (Number v) = v < number_limit
 OpensSmall _ = ⊤
-
-either_small : (b : Bool) (o p : Opening) → OpensSmall o → OpensSmall p → OpensSmall (if b then o else p)
-either_small true o p h j = h
-either_small false o p h j = j
 
 mark_small : (m : Mark) → OpensSmall (opening_of_mark m)
 mark_small m = grind (arith, common_steps)

@@ -138,17 +138,11 @@ module _ (m : Files) where
   IsOpenedFit (Ok ts) = IsLineFit m ts
   IsOpenedFit (Err f) = ⊤
 
-  lexed_fit : (bytes : List ℕ) (q : Result (List Lexeme) LexFault) → IsRead bytes q → (HaveBytes m → AreBytes bytes) → IsOpenedFit (lexed q)
-  lexed_fit bytes (Ok ts) is h = read_fit m bytes ts is h
-  lexed_fit bytes (Err f) is h = tt
-
   fitted_fit : (ts : List Lexeme) → AreFit m ts → IsOpenedFit (fitted ts)
   fitted_fit ts h = grind (arith, common_steps, nat_tests)
 
   opened_fit : (i : Item) (q : Result (List Lexeme) ExpandFault) → IsItemFit i → IsOpened i q → IsOpenedFit q
-  opened_fit (written n bytes) q h (r, is, e) = subst IsOpenedFit (sym e) (lexed_fit bytes r is h.1)
-  opened_fit (played r ts) q h e = subst IsOpenedFit (sym e) (fitted_fit (replaced r ts) (replaced_fit m r ts h.0 h.1))
-  opened_fit _ q h o = absurd o
+  opened_fit x1 q h x2 = grind (arith, common_steps, (read_fit m), (replaced_fit m), fitted_fit)
 
   reached_fit : (p : Place) (i : Item) → IsPlaceFit p → IsItemFit i → IsPlaceFit (reached p i)
   reached_fit p (written n bytes) h j = (h.0, j.0)
@@ -157,12 +151,11 @@ module _ (m : Files) where
   same_taken : (n : ℕ) (t u : Taken) → t ≡ u → IsTakenFit n u → IsTakenFit n t
   same_taken n t u e h = subst (IsTakenFit n) (sym e) h
 
+  line_behind : (n : ℕ) (i : Item) (is : List Item) (room : ℕ) (p : Place) → IsLeftFit n (left (i ∷ is) (suc room) p) → (ts : List Lexeme) → length ts ≤ 4096 → IsLeftFit (n + length ts) (left is room (reached p i))
+  line_behind n i is room p h ts short = let few = h.few in let less = tokens_behind i is in record { items = h.items.1; place = reached_fit p i h.place h.items.0; few = omega (arith, few, short, less) }
+
   a_line : (n : ℕ) (i : Item) (is : List Item) (room : ℕ) (p : Place) (q : Result (List Lexeme) ExpandFault) (t : Taken) → IsLeftFit n (left (i ∷ is) (suc room) p) → IsOpened i q → t ≡ taken_as q (left is room (reached p i)) → IsTakenFit n t
-  a_line n i is room p q t h o e = same_taken n t (taken_as q (left is room (reached p i))) e (by q (opened_fit i q h.items.0 o))
-    where
-      by : (q : Result (List Lexeme) ExpandFault) → IsOpenedFit q → IsTakenFit n (taken_as q (left is room (reached p i)))
-      by (Ok ts) line = let few = h.few in let short = line.1 in let less = tokens_behind i is in (line.0, record { items = h.items.1; place = reached_fit p i h.place h.items.0; few = omega (arith, few, short, less) })
-      by (Err f) line = tt
+  a_line n i is room p x1 t h o e = grind (arith, common_steps, (opened_fit i x1 h.items.0 o), (line_behind n i is room p h))
 
   from_fit : (n : ℕ) (is : List Item) (room : ℕ) (p : Place) (t : Taken) → IsLeftFit n (left is room p) → TakesFrom is room p t → IsTakenFit n t
   from_fit n [] room p t h e = same_taken n t (Ok (None, left [] room p)) e h
@@ -183,10 +176,8 @@ module _ (m : Files) where
   with_line_fit k body ts h j = grind (arith, common_steps, all_more)
 
   pub block_fit : (n : ℕ) (k : BlockKind) (d : ℕ) (body : List (List Lexeme)) (l : Left) (q : Result (Whole × Left) Stop) → AreAllFit m body → IsLeftFit n l → Block k d body l q → IsBlockFit n q
-  block_fit n k _ _ _ _ h j (a_fault d body l e t) = tt
-  block_fit n k _ _ _ _ h j (a_mark d body l x t) = tt
-  block_fit n k _ _ _ _ h j (a_refusal d body l x ts f t e) = tt
   block_fit n k _ _ _ _ h j (the_last d body l x ts b t e) = let line = taken_fit n l (Ok (Some ts, x)) j t in (h, fewer n (n + length ts) x (omega arith) line.1)
   block_fit n k _ _ _ _ h j (one_more d c body l x ts r t e more) =
       let line = taken_fit n l (Ok (Some ts, x)) j t in
       block_fit n k c (with_line k body ts) x r (with_line_fit k body ts h line.0) (fewer n (n + length ts) x (omega arith) line.1) more
+  block_fit n k _ _ _ _ h j _ = tt

@@ -78,12 +78,6 @@ pub lookup_each : {K X : Type 0} (P : X → Type 0) (test : K → Bool) (es : Li
 lookup_each P test [] h = tt
 lookup_each P test (e ∷ es) h = grind (arith, common_steps, (lookup_each P test es h.1))
 
-either_each : {A : Type 0} (P : A → Type 0) (a b : Option A) → Each P a → Each P b → Each P (option_or a b)
-either_each P x1 b h k = grind (arith, common_steps)
-
-then_each : {A B : Type 0} (P : A → Type 0) (Q : B → Type 0) (o : Option A) (f : A → Option B) → Each P o → ((x : A) → P x → Each Q (f x)) → Each Q (o >=> f)
-then_each x1 x2 x3 f h next = grind (arith, common_steps)
-
 -- ---- How many arguments there are.
 
 first_few : (t : Lexeme) (parts : List (List Lexeme)) → length (put_in_first t parts) ≤ length parts + 1
@@ -129,7 +123,7 @@ module _ (m : Files) where
   argument_fit tss x1 h = grind (arith, common_steps, at_fit)
 
   stand_in_fit : (r : Replacing) (k : TokenKind) (t : List ℕ) → IsReplacingFit r → Each (AreFit m) (stand_in r (k, t))
-  stand_in_fit r x1 t fit = grind (arith, common_steps, either_each, argument_fit, lookup_each)
+  stand_in_fit r x1 t fit = grind (arith, common_steps, argument_fit, lookup_each)
 
   or_itself : (o : Option (List Lexeme)) (t : Lexeme) → Each (AreFit m) o → IsFit m t.0 t.1 → AreFit m (unwrap_or o (t ∷ []))
   or_itself x1 t h fit = grind (arith, common_steps)
@@ -147,12 +141,9 @@ module _ (m : Files) where
   parts_fit d [] h = (tt, tt)
   parts_fit d (t ∷ ts) h = grind (arith, common_steps, (parts_fit 0 ts h.1), (parts_fit (braces_behind d t) ts h.1), first_fit)
 
-  unbraced_fit : (ts : List Lexeme) → AreFit m ts → AreFit m (unbraced ts)
-  unbraced_fit ts h = grind (arith, common_steps, all_take, all_drop)
-
   all_unbraced : (tss : List (List Lexeme)) → AreAllFit tss → AreAllFit (map unbraced tss)
   all_unbraced [] h = tt
-  all_unbraced (ts ∷ tss) h = (unbraced_fit ts h.0, all_unbraced tss h.1)
+  all_unbraced (ts ∷ tss) h = grind (arith, common_steps, all_take, all_drop, (all_unbraced tss h.1))
 
   pub arguments_fit : (ts : List Lexeme) → AreFit m ts → AreAllFit (arguments_of ts)
   arguments_fit x1 h = grind (arith, common_steps, all_unbraced, parts_fit)
@@ -168,11 +159,8 @@ module _ (m : Files) where
   names_fit true (t ∷ ts) h = grind (arith, common_steps, (name_fit t.0 t.1 h.0), (names_fit false ts h.1))
   names_fit false (c ∷ ts) h = grind (arith, common_steps, (names_fit true ts h.1))
 
-  unmade_bases : (names : List (List ℕ)) → AllByRecursion IsNameFit names → Each AreBases (unmade names)
-  unmade_bases names h = grind (arith, common_steps, (bases m names))
-
   pub new_names_fit : (ts : List Lexeme) → AreFit m ts → Each AreBases (new_names ts)
-  new_names_fit ts h = then_each (AllByRecursion IsNameFit) AreBases (names_from true ts) unmade (names_fit true ts h) unmade_bases
+  new_names_fit ts h = grind (arith, common_steps, (names_fit true ts h), (bases m))
 
   local_fit : (es : List (List ℕ × List Lexeme)) (name : List ℕ) (ts : List Lexeme) → AreLocalsFit es → AreFit m ts → AreLocalsFit (with_local es name ts)
   local_fit [] name ts h fit = (fit, tt)
@@ -183,4 +171,4 @@ module _ (m : Files) where
   locals_fit number (name ∷ names) es small bases h = locals_fit number names (with_local es name (own_token number name ∷ [])) small bases.1 (local_fit es name (own_token number name ∷ []) h (own_fit m name number bases.0 small))
 
   pub with_locals_fit : (names : List (List ℕ)) (r : Replacing) → AreBases names → IsReplacingFit r → IsReplacingFit (with_locals names r)
-  with_locals_fit names r bases fit = record { arguments = fit.arguments; count = fit.count; locals = locals_fit r.number names r.locals fit.number bases fit.locals; number = fit.number }
+  with_locals_fit names r bases fit = grind (arith, common_steps, locals_fit)

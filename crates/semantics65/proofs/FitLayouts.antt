@@ -1,12 +1,10 @@
 -- What a source lays has small numbers, texts for the names of its files, and no more names and statements than tokens: so its object's numbers are those of their types.
 use Rattle.std.proofs.lemmas.Grind.{common_steps}
 use Rattle.std.proofs.Common.{arith, ◌≡◌, ◌∙◌, ℕ, zero, suc, ◌+◌, ◌<◌, ◌≤◌, Bool, true, false, List, [], ◌∷◌, ◌++◌, length, map, Option, Some, None, refl, sym, ap, subst, if◌then◌else◌}
-use Rattle.std.specs.Prelude.{Result, Ok, Err, IfOk, nat_le, ◌||◌}
-use Rattle.std.specs.FinMap as fmap
+use Rattle.std.specs.Prelude.{Result, Ok, Err, IfOk, ◌||◌}
 use Rattle.std.specs.List.{AllByRecursion, flat_map, list_any}
 use Rattle.std.specs.Option.{option_map, option_map_or}
 use Rattle.std.specs.Str.{bytes_eq, is_utf8}
-use Rattle.std.proofs.lemmas.Bool.Decides.{nat_tests}
 use Rattle.std.proofs.lemmas.List.{length-append}
 use Rattle.std.proofs.lemmas.Slice.Eq.{bytes_eq-Decides}
 use Rattle.base65.specs.Outcome.{◌>>=◌, First}
@@ -15,13 +13,12 @@ use Rattle.syntax65.specs.Expressions.{is_reserved}
 use Rattle.syntax65.specs.Tokens.{Lexeme}
 use Rattle.syntax65.specs.Trees.{number}
 use Rattle.syntax65.specs.declared.fault.ExpandFault.{ExpandFault}
-use Rattle.syntax65.specs.declared.fault.ExpandFault.TheVariants.{FileTooLong}
 use Rattle.syntax65.specs.declared.lexing.tokens.AddressSize.{AddressSize}
 use Rattle.syntax65.specs.declared.lexing.tokens.TokenKind.{TokenKind}
 use Rattle.syntax65.specs.declared.lexing.tokens.TokenKind.TheVariants as token
 use Rattle.object65.specs.Objects.{ObjectFits, section_limit}
 use Rattle.object65.specs.declared.object.Object.{Object}
-use Rattle.expand65.specs.Expansion.{bytes_in, file_named, first_state, opened_in, statement}
+use Rattle.expand65.specs.Expansion.{opened_in, statement}
 use Rattle.expand65.specs.State as expand
 use Rattle.ast65.specs.Parsing.{IsStatement, is_colon, label_before, label_of, named_label}
 use Rattle.ast65.specs.declared.fault.AsmFault.{AsmFault}
@@ -33,7 +30,7 @@ use Rattle.semantics65.specs.Layout.{context_of, Cursor, laid, Layout, layout_be
 use Rattle.semantics65.specs.Module.{ending_of, Outcome, outcome_of, Piece, pieces_of, Slot, slots_of, waiting_at}
 use Rattle.semantics65.specs.Norms.{length_of}
 use Rattle.semantics65.specs.Numbering.{AreSound, object_with}
-use Rattle.semantics65.specs.Reading.{AreDefined, AreTaken, taken, faulty, refused, ended, Define, Follows, IsBegun, IsGiven, IsLabelled, IsLaid, IsRest, Job, laying, no_line, PlacedFault, Reached, with_bytes}
+use Rattle.semantics65.specs.Reading.{AreDefined, AreTaken, taken, Define, Follows, IsBegun, IsGiven, IsLabelled, IsLaid, IsRest, Job, laying, no_line, PlacedFault, Reached, with_bytes}
 use Rattle.semantics65.specs.Symbols.{asks_section, definition_with, definitions_of, imports_of, Key, key_defined, Laid, Symbols, symbols_of, value_defined, with_new}
 use Rattle.semantics65.specs.Types.{Context, Place}
 use Rattle.semantics65.proofs.FitContents.{all_slots_fit, AreContentsOf, asking_count, contents_fit, counted, IsAmong, IsLaidFit, is_counted}

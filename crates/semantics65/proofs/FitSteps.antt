@@ -1,11 +1,10 @@
 -- Each step of expansion keeps what is left fit, and gives fit tokens, no more than are left; and no more macros are called
 -- than tokens were taken.
 use Rattle.std.proofs.lemmas.Grind.{common_steps}
-use Rattle.std.proofs.Common.{arith, ◌≡◌, ℤ, pos, negsuc, ℕ, zero, suc, ◌+◌, ◌*◌, ◌<◌, ◌≤◌, Bool, true, false, List, [], ◌∷◌, ◌++◌, length, take, drop, map, Option, Some, None, refl, sym, ap, subst, if◌then◌else◌}
-use Rattle.std.specs.Prelude.{⊤, IfOk, Result, Ok, Err, nat_le, ◌==◌}
+use Rattle.std.proofs.Common.{arith, ◌≡◌, ℤ, ℕ, zero, suc, ◌+◌, ◌<◌, ◌≤◌, Bool, true, false, List, [], ◌∷◌, length, drop, map, Option, Some, None, refl, sym, subst, if◌then◌else◌}
+use Rattle.std.specs.Prelude.{⊤, IfOk, Result, Ok, Err, nat_le}
 use Rattle.std.specs.FinMap as fmap
 use Rattle.std.specs.List.{AllByRecursion}
-use Rattle.std.specs.Option.{option_map_or}
 use Rattle.std.specs.Str.{is_utf8}
 use Rattle.std.proofs.lemmas.Bool.Decides.{nat_tests}
 use Rattle.std.proofs.lemmas.List.{length-drop, length-take}
@@ -16,23 +15,22 @@ use Rattle.syntax65.specs.Trees.{Tree}
 use Rattle.syntax65.specs.declared.expressions.words.ExprFault.{ExprFault}
 use Rattle.syntax65.specs.declared.fault.ExpandFault.{ExpandFault}
 use Rattle.syntax65.specs.declared.fault.ExpandFault.TheVariants as faults
-use Rattle.syntax65.specs.declared.fault.ExpandFault.TheVariants.{Nested, NotClosed, NotUnderstood}
 use Rattle.syntax65.specs.declared.lexing.tokens.TokenKind.{TokenKind}
 use Rattle.syntax65.specs.declared.place.Place.{Place}
-use Rattle.expand65.specs.Blocks.{Block, Branch, at_elseif, at_else, at_end, Whole}
+use Rattle.expand65.specs.Blocks.{Block, Branch, Whole}
 use Rattle.expand65.specs.declared.blocks.BlockKind.{BlockKind}
 use Rattle.expand65.specs.declared.blocks.BlockKind.TheVariants as kind
 use Rattle.expand65.specs.declared.fronts.Directive.{Directive}
 use Rattle.expand65.specs.declared.fronts.Directive.TheVariants.{Macro, EndMacro, ExitMacro, Local, Repeat, EndRepeat, If, ElseIf, Else, EndIf, Include, Error, End}
 use Rattle.expand65.specs.declared.fronts.Test.{Test}
 use Rattle.expand65.specs.declared.fronts.Test.TheVariants.{True}
-use Rattle.expand65.specs.Expansion.{acted, at_mark, bytes_in, directed, file_named, first_file, first_state, found_or, include_file, included, IsStep, last_condition, Leads, Next, statement, nothing, fault, not_opened, opened_in, Reaches, further, given, ended, stopped, split, step_behind, step_from, unless_mislabelled}
+use Rattle.expand65.specs.Expansion.{acted, at_mark, bytes_in, directed, file_named, first_file, first_state, found_or, include_file, IsStep, last_condition, Leads, Next, statement, nothing, fault, not_opened, opened_in, Reaches, further, given, ended, stopped, split, step_behind, step_from, unless_mislabelled}
 use Rattle.expand65.specs.Fronts.{front_directive, is_mislabelled, label_len, line_directive, string_of, understood}
-use Rattle.expand65.specs.Lines.{come_back, Definition, in_line, innermost, Item, line_limit, written, played, labelled, branch, mark, Left, left, lines_of, Mark, marks, nesting_limit, numbered, outside_macro, put_before, repeating, Stop, Taken, Takes, turns}
-use Rattle.expand65.specs.Macros.{arguments_of, called, called_or_given, counted, defined, entered, exit_macro, exited, given_to, header_of, local_line, local_named, macro_at, macro_line, macro_of, mark_from, new_names, ordinary, repeat_header, repeat_line, repeat_of, repeated, turns_of}
+use Rattle.expand65.specs.Lines.{Definition, in_line, Item, line_limit, played, labelled, branch, Left, left, lines_of, Mark, Replacing, numbered, outside_macro, put_before, repeating, Stop, Taken, Takes, turns}
+use Rattle.expand65.specs.Macros.{arguments_of, called, counted, defined, entered, exit_macro, exited, given_to, header_of, local_line, local_named, macro_at, macro_of, mark_from, new_names, ordinary, repeat_line, repeat_of, repeated, turns_of}
 use Rattle.expand65.specs.State.{decided, else_line, ended_if, found, goes, gives, ends, stops, if_alone, if_line, leads, parses, decides, takes, takes_block, searches, Meaning, State, Stated, label, plain, Step, Stepped, unless_refused, unless_stopped, with_conditions, with_items, with_left}
-use Rattle.semantics65.proofs.FitItems.{AreLines, behind_mark, block_fit, fewer, IsBlockFit, IsItemFit, IsLeftFit, IsOutsideFit, IsPlaceFit, IsTakenFit, localised_fit, localised_tokens, numbered_lines, outside_fit, played_lines, pushed_fit, taken_fit, turns_lines}
-use Rattle.semantics65.proofs.FitLines.{AreAllFit, AreBases, arguments_few, arguments_fit, Each, lookup_each, most, new_names_fit}
+use Rattle.semantics65.proofs.FitItems.{AreLines, behind_mark, block_fit, fewer, IsBlockFit, IsLeftFit, IsOutsideFit, IsPlaceFit, IsTakenFit, localised_fit, localised_tokens, numbered_lines, outside_fit, played_lines, pushed_fit, taken_fit, turns_lines}
+use Rattle.semantics65.proofs.FitLines.{AreAllFit, AreBases, arguments_few, arguments_fit, Each, lookup_each, new_names_fit}
 use Rattle.semantics65.proofs.FitTokens.{all_drop, all_take, AreBytes, AreFit, HaveBytes, IsTokenFit}
 use Rattle.semantics65.proofs.SoundForms.{all_append}
 
@@ -56,11 +54,7 @@ named_fit m name bytes h short = by (is_utf8 name) refl h
 
 found_fit : (m : Files) (name : List ℕ) (o : Option (List ℕ)) (others : Result (List ℕ × List ℕ) ExpandFault) → file_named m name ≡ o → IsSearchFit m others → IsSearchFit m (found_or name o others)
 found_fit m name None others e j = j
-found_fit m name (Some bytes) others e j = by (nat_le (length bytes) 16777216) refl
-  where
-    by : (b : Bool) → nat_le (length bytes) 16777216 ≡ b → IsSearchFit m (if b then Ok (name, bytes) else Err faults.FileTooLong)
-    by true short = named_fit m name bytes e (grind (arith, nat_tests))
-    by false short = tt
+found_fit m name (Some bytes) others e j = grind (arith, common_steps, nat_tests, (named_fit m name bytes e))
 
 search_fit : (m : Files) (names : List (List ℕ)) → IsSearchFit m (first_file m names)
 search_fit m [] = tt
@@ -98,24 +92,10 @@ abbrev IsFew : Result (ℕ × List (List ℕ)) ExpandFault → Type 0
 IsFew q = IfOk q (λ h. h.0 ≤ 65536)
 
 turns_few : (o : Option ℤ) → IfOk (turns_of o) (λ n. n ≤ 65536)
-turns_few None = tt
-turns_few (Some (negsuc n)) = tt
-turns_few (Some (pos n)) = by (nat_le n 65536) refl
-  where
-    by : (b : Bool) → nat_le n 65536 ≡ b → IfOk (if b then Ok n else Err faults.CountOutOfRange) (λ i. i ≤ 65536)
-    by true e = grind (arith, nat_tests)
-    by false e = tt
-
-with_variable : (q : Result ℕ ExpandFault) (variable : List (List ℕ)) → IfOk q (λ n. n ≤ 65536) → IsFew (q >>= (λ n. Ok (n, variable)))
-with_variable (Ok n) variable h = h
-with_variable (Err f) variable h = tt
+turns_few x1 = grind (arith, common_steps, nat_tests)
 
 repeat_few : (k : Meaning) (ts : List Lexeme) (q : Result (Tree × ℕ) ExprFault) → IsFew (repeat_of k ts q)
-repeat_few k ts q = by (repeat_header ts q)
-  where
-    by : (r : Result (Tree × List (List ℕ)) ExpandFault) → IsFew (r >>= (λ x. turns_of (k.value x.0) >>= (λ i. Ok (i, x.1))))
-    by (Ok x) = with_variable (turns_of (k.value x.0)) x.1 (turns_few (k.value x.0))
-    by (Err f) = tt
+repeat_few k ts q = grind (arith, common_steps, turns_few)
 
 module _ (m : Files) where
   -- so many tokens were given, or are acted on; each calls one macro at most
@@ -175,19 +155,13 @@ module _ (m : Files) where
         by (Err e) j = tt
 
     enters : (s : State) (is : List Item) (k : Mark) (p : Place) → IsStateFit n s → AreLines m is → Each IsPlaceFit k.back → IsPlaceFit p → IsKept (entered s is k p)
-    enters s is k p fit lines back place = by (nat_le (marks s.left.items) nesting_limit)
-      where
-        by : (b : Bool) → IsKept (unless_stopped (if b then Ok (left (is ++ mark k ∷ s.left.items) s.left.room s.left.place) else Err (Nested, s.left.place)) (λ l. goes (with_left s (left l.items l.room p))))
-        by true = record { left = pushed_fit m (n + s.expansions) is k s.left p fit.left lines back place; macros = fit.macros }
-        by false = tt
+    enters s is k p fit lines back place = let inner = pushed_fit m (n + s.expansions) is k s.left p fit.left lines back place in grind (arith, common_steps, inner)
 
     module _ (s : State) (fit : IsStateFit n s) where
       -- ---- Conditions.
 
       finds : (b : Branch) (x : Left) → IsLeftFit m (n + s.expansions) x → IsKept (found s b x)
-      finds at_end x h = record { left = h; macros = fit.macros }
-      finds at_else x h = record { left = h; macros = fit.macros }
-      finds (at_elseif ts) x h = record { left = record { items = (tt, h.items); place = h.place; few = h.few }; macros = fit.macros }
+      finds x1 x h = grind (arith, common_steps)
 
       decides_on : (b : Bool) → Keeps (decided s b)
       decides_on true = record { left = fit.left; macros = fit.macros }
@@ -202,8 +176,7 @@ module _ (m : Files) where
       else_on None = tt
 
       end_if_on : (o : Option (Bool × List Bool)) → IsKept (ended_if s o)
-      end_if_on None = tt
-      end_if_on (Some (b, bs)) = record { left = fit.left; macros = fit.macros }
+      end_if_on x1 = grind (arith, common_steps)
 
       -- ---- Macros.
 
@@ -213,8 +186,7 @@ module _ (m : Files) where
           (λ b x lines h. record { left = h; macros = all_append (λ (e : List ℕ × Definition). AreAllFit m e.1.body) s.macros ((name, record { params = params; body = b.0 }) ∷ []) fit.macros (lines, tt) })
 
       exits_on : (o : Option (ℕ × List Item × Place)) → Each (IsOutsideFit m (n + s.expansions) s.left.room) o → IsKept (exited s o)
-      exits_on None h = tt
-      exits_on (Some (c, is, p)) h = record { left = h; macros = fit.macros }
+      exits_on x1 h = grind (arith, common_steps)
 
       names_on : (o : Option (List (List ℕ))) → Each AreBases o → IsKept (local_named s o)
       names_on None h = tt
@@ -224,11 +196,7 @@ module _ (m : Files) where
           record { left = record { items = localised_fit m names s.left.items bases fit.left.items; place = fit.left.place; few = omega (arith, few, same) }; macros = fit.macros }
 
       local_on : (ts : List Lexeme) → AreFit m ts → IsKept (local_line s ts)
-      local_on ts h = by (option_map_or (λ k. k.is_macro) (innermost s.left.items) false)
-        where
-          by : (b : Bool) → IsKept (if b then local_named s (new_names ts) else stops (NotUnderstood, s.left.place))
-          by true = names_on (new_names ts) (new_names_fit m ts h)
-          by false = tt
+      local_on ts h = grind (arith, common_steps, (names_on (new_names ts) (new_names_fit m ts h)))
 
       -- ---- Repeats and included files.
 
@@ -259,24 +227,18 @@ module _ (m : Files) where
 
     -- ---- Calls, and other lines.
 
-    calls_on : (s : State) (d : Definition) (arguments : List (List Lexeme)) (k : ℕ) → IsStateFit (n + suc k) s → AreAllFit m d.body → AreAllFit m arguments → length arguments ≤ k + 1 → IsKept (called s d arguments)
-    calls_on s d arguments k fit body all less = by (nat_le (length arguments) (length d.params))
-      where
-        by : (b : Bool) → IsKept (if b then entered (counted s) (map (played (given_to d arguments (s.expansions + 1))) d.body) (mark_from s true None) s.left.place else stops (faults.TooManyArguments, s.left.place))
-        by true =
-            let few = fit.left.few in
-            let inner : IsStateFit n (counted s) = record { left = fewer m (n + (s.expansions + 1)) ((n + suc k) + s.expansions) s.left (omega arith) fit.left; macros = fit.macros } in
-            enters (counted s) (map (played (given_to d arguments (s.expansions + 1))) d.body) (mark_from s true None) s.left.place inner
-            (played_lines m (given_to d arguments (s.expansions + 1)) d.body (record { arguments = all; count = (omega (arith, few, less), tt); locals = tt; number = omega (arith, few) }) body) tt fit.left.place
-        by false = tt
+    calls_on : (s : State) (ts : List Lexeme) → IsStateFit (n + suc (length ts)) s → AreFit m ts → (d : Definition) → AreAllFit m d.body → IsKept (called s d (arguments_of ts))
+    calls_on s ts fit h d body =
+        let few = fit.left.few in
+        let less = arguments_few ts in
+        let inner : IsStateFit n (counted s) = record { left = fewer m (n + (s.expansions + 1)) ((n + suc (length ts)) + s.expansions) s.left (omega arith) fit.left; macros = fit.macros } in
+        let given : Replacing = given_to d (arguments_of ts) (s.expansions + 1) in
+        let lines = played_lines m given d.body (record { arguments = arguments_fit m ts h; count = (omega (arith, few, less), tt); locals = tt; number = omega (arith, few) }) body in
+        grind (arith, common_steps, (enters (counted s) (map (played given) d.body) (mark_from s true None) s.left.place inner lines tt fit.left.place))
 
     ordinary_on : (s : State) (ts : List Lexeme) → IsStateFit (n + length ts) s → AreFit m ts → IsKept (ordinary s ts)
     ordinary_on s [] fit h = before n 0 s fit
-    ordinary_on s (t ∷ ts) fit h = by (macro_at s.macros t) (macro_fit s.macros t.0 t.1 fit.macros)
-      where
-        by : (o : Option Definition) → Each (λ d. AreAllFit m d.body) o → IsKept (called_or_given s t ts o)
-        by None j = (h, fit)
-        by (Some d) j = calls_on s d (arguments_of ts) (length ts) fit j (arguments_fit m ts h.1) (arguments_few ts)
+    ordinary_on s (t ∷ ts) fit h = grind (arith, common_steps, (macro_fit s.macros t.0 t.1 fit.macros), (calls_on s ts fit h.1))
 
     acted_on : (k : Meaning) (s : State) (ts : List Lexeme) (o : Option Directive) → IsStateFit (n + length ts) s → AreFit m ts → Keeps (acted k s ts o)
     acted_on k s ts (Some d) fit h = directed_on s (before n (length ts) s fit) k d (drop 1 ts) (all_drop (IsTokenFit m) 1 ts h)
@@ -297,12 +259,7 @@ module _ (m : Files) where
     -- ---- A step.
 
     mark_on : (s : State) (is : List Item) → IsStateFit n s → IsLeftFit m (n + s.expansions) (left is s.left.room s.left.place) → IsKept (at_mark s is)
-    mark_on s (mark k ∷ is) fit h = by (k.conditions == length s.conditions)
-      where
-        by : (b : Bool) → IsKept (if b then goes (with_left s (left is s.left.room (come_back s.left.place k.back))) else stops (NotClosed, s.left.place))
-        by true = record { left = behind_mark m (n + s.expansions) k is s.left.room s.left.place h; macros = fit.macros }
-        by false = tt
-    mark_on s _ fit h = tt
+    mark_on s x1 fit h = grind (arith, common_steps, behind_mark)
 
     behind_on : (k : Meaning) (s : State) → IsStateFit n s → (t : Taken) → IsTakenFit m (n + s.expansions) t → Keeps (step_behind k s t)
     behind_on k s fit (Ok (Some ts, x)) h = line_on k (with_left s x) ts (is_mislabelled ts) (record { left = fewer m ((n + length ts) + s.expansions) ((n + s.expansions) + length ts) x (omega arith) h.1; macros = fit.macros }) h.0

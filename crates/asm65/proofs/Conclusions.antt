@@ -8,11 +8,11 @@ use Rattle.std.specs.List.{list_all}
 use Rattle.std.proofs.lemmas.List.{append-nil, map-append}
 use Rattle.object65.specs.declared.object.Object.{Object}
 use Rattle.object65.specs.Objects.{is_good_object}
-use Rattle.semantics65.specs.Contents.{Content}
+use Rattle.semantics65.specs.Contents.{Content, exported_names}
 use Rattle.semantics65.specs.declared.contents.Segment.{Segment}
 use Rattle.semantics65.specs.Layout.{Cursor}
 use Rattle.semantics65.specs.Machine.{State, concluded, finished}
-use Rattle.semantics65.specs.Module.{Outcome, quietly, Finished, Slot, coming, exported_names, holds, resolved}
+use Rattle.semantics65.specs.Module.{Outcome, quietly, Finished, Slot, coming, holds, resolved}
 use Rattle.semantics65.specs.Numbering.{AreSound, all_said, object_with, section_keys}
 use Rattle.semantics65.specs.Symbols.{Symbols}
 use Rattle.semantics65.proofs.Found.{after, found_all, nothing_after, resolved_more, resolved_stops}

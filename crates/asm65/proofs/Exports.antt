@@ -9,8 +9,9 @@ use Rattle.syntax65.specs.declared.place.Place.{Place}
 use Rattle.object65.specs.Form.{Form}
 use Rattle.object65.specs.declared.object.Action.{Action}
 use Rattle.ast65.specs.declared.fault.AsmFault.{AsmFault}
+use Rattle.semantics65.specs.Contents.{exported_names}
 use Rattle.semantics65.specs.declared.laid.Context.{Context}
-use Rattle.semantics65.specs.Module.{Made, asserted, exported_names, used}
+use Rattle.semantics65.specs.Module.{Made, asserted, used}
 
 -- ---- A name more.
 

@@ -1,5 +1,5 @@
 -- The statements of a source as an expander gives them and an assembler takes them.
-use Rattle.std.proofs.Common.{◌≡◌, [], List, ◌∙◌, ℕ, ◌+◌, ◌*◌, ◌≤◌, ◌<◌, Bool, true, false, Option, Some, None, refl, sym, ap, subst, arith}
+use Rattle.std.proofs.Common.{◌≡◌, [], List, length, ◌∙◌, ℕ, ◌+◌, ◌*◌, ◌≤◌, ◌<◌, Bool, true, false, Option, Some, None, refl, sym, ap, subst, arith}
 use Rattle.std.specs.Prelude.{Result, Ok, Err, IfSome, if◌then◌else◌}
 use Rattle.base65.specs.Outcome.{Unless}
 use Rattle.base65.specs.Store.{Files, Blamed}
@@ -24,10 +24,9 @@ use Rattle.semantics65.specs.Numbering.{AreNamed}
 use Rattle.semantics65.specs.Reading.{GoesOn, known_at, AreDefined, IsGiven, IsSource, Job, no_line, open_fault, stopped}
 use Rattle.semantics65.specs.Machine.{Runs, State, Takes, begun, running}
 use Rattle.semantics65.proofs.Taken.{same_outside, same_place, begins, ends, goes_on, is_refused, stops}
-use Rattle.semantics65.proofs.NamedSteps as named
-use Rattle.semantics65.proofs.NamedSteps.{IsStateFit, next_fit}
-use Rattle.semantics65.proofs.NamedLines.{AreFit, are_named}
-use Rattle.semantics65.proofs.SoundSources.{opened_fit}
+use Rattle.semantics65.proofs.FitSteps as fitting
+use Rattle.semantics65.proofs.FitSteps.{before, IsStateFit, next_fit, opened_fit}
+use Rattle.semantics65.proofs.FitTokens.{AreFit, are_named}
 use Rattle.asm65.specs.declared.assembler.Assembler.{Assembler}
 use Rattle.asm65.specs.declared.running.Run.{Run}
 use Rattle.symbols65.specs.Measuring.{opening_limit}
@@ -91,7 +90,7 @@ pub record Stays (m : Files) (job : Job) (run : Run) (u : State) : Type 0 where
   pub here : expand.State
   pub walks : (k : expand.Meaning) → Walks m k left here
   pub stands : StandsFor m run.expander here
-  pub fit : IsStateFit 0 left
+  pub fit : IsStateFit m 0 left
   pub goes : GoesOn m running (IsSource m running job begun) left u
   pub taken : IsTakenTo m job left u
   pub held : IsHeldBy u run
@@ -132,9 +131,9 @@ goes_first m run job t opens defined held = (
   },
 )
 
-same_tokens : (x : Statement) → AreFit (named.tokens_of (stated x)) → AreNamed (tokens_of (stated x))
-same_tokens (Label line) h = are_named _ h
-same_tokens (Plain line) h = are_named _ h
+same_tokens : (m : Files) (x : Statement) → AreFit m (fitting.tokens_of (stated x)) → AreNamed (tokens_of (stated x))
+same_tokens m (Label line) h = are_named m _ h
+same_tokens m (Plain line) h = are_named m _ h
 
 -- a failure of expansion is the store's
 of_store : (e : ExpandFault) → is_failure (Expansion e) ≡ true → expansion.is_failure e ≡ true
@@ -176,7 +175,7 @@ module _ (m : Files) (first old mid : Run) (same : mid.assembler ≡ old.assembl
       let s = now.1 in
       let h = s.held in
       let a = answered_from m (known_at u.symbols u.cursor) s.left s.here (Ok (Some x)) mid.expander (s.walks (known_at u.symbols u.cursor)) (next u h s.here s.stands) in
-      let fits = next_fit m (known_at u.symbols u.cursor) s.left (statement (stated x) a.0) s.fit a.1 in
+      let fits = next_fit m 0 (known_at u.symbols u.cursor) s.left (statement (stated x) a.0) s.fit a.1 in
       let room = few_opened h.count (measure_of old.expander) h.room (some_left (measure_of old.expander) (measure_of mid.expander) less) in
       let b = taken h.count u room (holds_same h.count u old.assembler mid.assembler same h.holds) in
       let place = same_place m mid.expander a.0 a.2 in (
@@ -186,7 +185,7 @@ module _ (m : Files) (first old mid : Run) (same : mid.assembler ≡ old.assembl
           here = a.0;
           walks = λ k. no_step a.0;
           stands = subst (λ e. StandsFor m e a.0) (sym stays) a.2;
-          fit = fits.1;
+          fit = before m 0 (length (fitting.tokens_of (stated x))) a.0 fits.1;
           goes = goes_on m running (IsSource m running job begun) s.left a.0 (stated x) u b.0 s.goes a.1 (subst (λ p. IsGiven m Takes u p (stated x) (Ok b.0)) (sym place) b.1);
           taken = further s.left a.0 (stated x) u b.0 s.taken a.1 (subst (λ p. IsGiven m Takes u p (stated x) (Ok b.0)) (sym place) b.1);
           held = held_behind u b.0 old mid new h b.3 less stays;
@@ -201,17 +200,17 @@ module _ (m : Files) (first old mid : Run) (same : mid.assembler ≡ old.assembl
       let s = now.1 in
       let h = s.held in
       let a = answered_from m (known_at u.symbols u.cursor) s.left s.here (Ok (Some x)) mid.expander (s.walks (known_at u.symbols u.cursor)) (next u h s.here s.stands) in
-      let fits = next_fit m (known_at u.symbols u.cursor) s.left (statement (stated x) a.0) s.fit a.1 in
+      let fits = next_fit m 0 (known_at u.symbols u.cursor) s.left (statement (stated x) a.0) s.fit a.1 in
       let room = few_opened h.count (measure_of old.expander) h.room (some_left (measure_of old.expander) (measure_of mid.expander) less) in
       let b = taken h.count u room (holds_same h.count u old.assembler mid.assembler same h.holds) in
       let at_mid = same_place m mid.expander a.0 a.2 in
       let at_new : place_of new.expander ≡ a.0.left.place = ap place_of stays ∙ sym at_mid in
       subst (Ran m job new) (sym fails) (by u s a.0 a.1 fits.0 at_mid at_new (is_outside e) b)
     where
-      by : (u : State) (s : Stays m job old u) (t' : expand.State) → Reaches m (known_at u.symbols u.cursor) s.left (statement (stated x) t') → AreFit (named.tokens_of (stated x)) → t'.left.place ≡ place_of mid.expander → place_of new.expander ≡ t'.left.place → (b : Bool) → Unless b ((AreNamed (tokens_of (stated x)) → IsGiven m Takes u (place_of mid.expander) (stated x) (Err e)) × SaysAs u new.assembler) → Unless b ((w : State) × Runs m job (stopped w (place_of new.expander) e) × SaysAs w new.assembler)
+      by : (u : State) (s : Stays m job old u) (t' : expand.State) → Reaches m (known_at u.symbols u.cursor) s.left (statement (stated x) t') → AreFit m (fitting.tokens_of (stated x)) → t'.left.place ≡ place_of mid.expander → place_of new.expander ≡ t'.left.place → (b : Bool) → Unless b ((AreNamed (tokens_of (stated x)) → IsGiven m Takes u (place_of mid.expander) (stated x) (Err e)) × SaysAs u new.assembler) → Unless b ((w : State) × Runs m job (stopped w (place_of new.expander) e) × SaysAs w new.assembler)
       by u s t' reaches fit at_mid at_new true h = tt
       by u s t' reaches fit at_mid at_new false h =
-          (u, subst (λ p. Runs m job (stopped u p e)) (sym at_new) (stops m running (IsSource m running job begun) s.left t' (stated x) u e s.goes reaches (subst (λ p. IsGiven m Takes u p (stated x) (Err e)) (sym at_mid) (h.0 (same_tokens x fit)))), h.1)
+          (u, subst (λ p. Runs m job (stopped u p e)) (sym at_new) (stops m running (IsSource m running job begun) s.left t' (stated x) u e s.goes reaches (subst (λ p. IsGiven m Takes u p (stated x) (Err e)) (sym at_mid) (h.0 (same_tokens m x fit)))), h.1)
 
   -- a fault of expansion
   pub goes_out : (e : ExpandFault) (r : Answer) → r ≡ Err (Expansion e) → NextBy m old (Err e) mid → Goes m first old → RanAll m first mid r

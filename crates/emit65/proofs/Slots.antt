@@ -7,8 +7,8 @@ use Rattle.std.proofs.lemmas.List.Elements.{filter-append}
 use Rattle.base65.specs.Outcome.{◌>>=◌}
 use Rattle.ast65.specs.declared.fault.AsmFault.{AsmFault}
 use Rattle.syntax65.specs.declared.place.Place.{Place}
-use Rattle.semantics65.specs.Contents.{Content}
-use Rattle.semantics65.specs.Module.{Made, made_of, Finished, Fixup, Slot, as_said, coming, exported_names, followed_by, holds, is_repeated, quietly, resolved, waits}
+use Rattle.semantics65.specs.Contents.{Content, exported_names}
+use Rattle.semantics65.specs.Module.{Made, made_of, Finished, Fixup, Slot, as_said, coming, followed_by, holds, is_repeated, quietly, resolved, waits}
 use Rattle.semantics65.specs.Numbering.{all_said, once, section_keys, segments_asked}
 use Rattle.semantics65.specs.Reading.{PlacedFault, at_place}
 use Rattle.semantics65.specs.Symbols.{Symbols}

@@ -4,7 +4,7 @@ use Rattle.std.proofs.Common.{◌≡◌, ◌∙◌, ℕ, ◌+◌, true, false, n
 use Rattle.std.specs.Prelude.{if◌then◌else◌, IfSome}
 use Rattle.std.specs.List.{list_any}
 use Rattle.std.proofs.lemmas.List.{map-append}
-use Rattle.semantics65.specs.Contents.{Content, Known, Filled, asking, put, telling}
+use Rattle.semantics65.specs.Contents.{Content, Known, Filled, asking, put}
 use Rattle.semantics65.specs.Module.{Slot, holds}
 use Rattle.semantics65.specs.Numbering.{once, section_keys}
 use Rattle.emit65.specs.declared.entries.Entries.{Entries}

@@ -146,11 +146,6 @@ module _ (n : ℕ) where
   folded_bounded (Err form.NoValue) h = tt
   folded_bounded (Err form.TooLarge) h = tt
 
--- what follows, whatever comes first
-pub whatever : {A B E : Type 0} (Q : B → Type 0) (r : Result A E) (f : A → Result B E) → ((x : A) → r ≡ Ok x → IfOk (f x) Q) → IfOk (r >>= f) Q
-whatever Q (Ok x) f h = h x refl
-whatever Q (Err e) f h = tt
-
 pub after_it : {A B E : Type 0} (P : A → Type 0) (Q : B → Type 0) (r : Result A E) (f : A → Result B E) → IfOk r P → ((x : A) → P x → IfOk (f x) Q) → IfOk (r >>= f) Q
 after_it P Q (Ok x) f h k = k x h
 after_it P Q (Err e) f h k = tt

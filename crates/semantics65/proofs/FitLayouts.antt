@@ -1,6 +1,6 @@
 -- What a source lays has small numbers, texts for the names of its files, and no more names and statements than tokens: so its object's numbers are those of their types.
 use Rattle.std.proofs.lemmas.Grind.{common_steps}
-use Rattle.std.proofs.Common.{arith, ◌≡◌, ◌∙◌, ℕ, zero, suc, ◌+◌, ◌<◌, ◌≤◌, Bool, true, false, List, [], ◌∷◌, ◌++◌, length, Option, Some, None, refl, sym, ap, subst, if◌then◌else◌}
+use Rattle.std.proofs.Common.{arith, ◌≡◌, ◌∙◌, ℕ, zero, suc, ◌+◌, ◌<◌, ◌≤◌, Bool, true, false, List, [], ◌∷◌, ◌++◌, length, map, Option, Some, None, refl, sym, ap, subst, if◌then◌else◌}
 use Rattle.std.specs.Prelude.{Result, Ok, Err, IfOk, nat_le, ◌||◌}
 use Rattle.std.specs.FinMap as fmap
 use Rattle.std.specs.List.{AllByRecursion, flat_map, list_any}
@@ -30,20 +30,20 @@ use Rattle.ast65.specs.declared.language.Statement.TheVariants.{Constant, Label,
 use Rattle.semantics65.specs.Contents.{Content}
 use Rattle.semantics65.specs.Fitting.{FittingObjectLaw, HoldBytes, AreOfTypes}
 use Rattle.semantics65.specs.Layout.{context_of, Cursor, laid, Layout, layout_behind, line_fault, nothing_laid, own_size, segment_at, unless_fault}
-use Rattle.semantics65.specs.Module.{contents_from, Outcome, outcome_of}
+use Rattle.semantics65.specs.Module.{ending_of, Outcome, outcome_of, Piece, pieces_of, Slot, slots_of, waiting_at}
 use Rattle.semantics65.specs.Norms.{length_of}
 use Rattle.semantics65.specs.Numbering.{AreSound, object_with}
 use Rattle.semantics65.specs.Reading.{AreDefined, AreTaken, taken, faulty, refused, ended, Define, Follows, IsBegun, IsGiven, IsLabelled, IsLaid, IsRest, Job, laying, no_line, PlacedFault, Reached, with_bytes}
 use Rattle.semantics65.specs.Symbols.{asks_section, definition_with, definitions_of, imports_of, Key, key_defined, Laid, Symbols, symbols_of, value_defined, with_new}
 use Rattle.semantics65.specs.Types.{Context, Place}
-use Rattle.semantics65.proofs.FitContents.{AreContentsOf, asking, contents_fit, counted, IsAmong, IsLaidFit, is_counted}
+use Rattle.semantics65.proofs.FitContents.{all_slots_fit, AreContentsOf, asking_count, contents_fit, counted, IsAmong, IsLaidFit, is_counted}
 use Rattle.semantics65.proofs.FitForms.{AreDefinitionsFit, IsDefinitionFit, IsPlaced}
-use Rattle.semantics65.proofs.FitItems.{IsPlaceFit, tokens_left}
+use Rattle.semantics65.proofs.FitItems.{IsPlaceFit}
+use Rattle.semantics65.proofs.FitLines.{most}
 use Rattle.semantics65.proofs.FitObjects.{object_fits}
 use Rattle.semantics65.proofs.FitStatements.{IsFit, IsSmallStatement, statement_fit}
-use Rattle.semantics65.proofs.FitSteps.{first_fit, first_tokens, HaveBytes, IsStateFit, next_fit}
-use Rattle.semantics65.proofs.FitTokens.{AreBytes, AreSmall}
-use Rattle.semantics65.proofs.NamedSteps.{tokens_of}
+use Rattle.semantics65.proofs.FitSteps.{IsStateFit, next_fit, opened_file, opened_fit, tokens_of}
+use Rattle.semantics65.proofs.FitTokens.{are_small, AreBytes, AreSmall, HaveBytes}
 use Rattle.semantics65.proofs.Segments.{all_more}
 use Rattle.semantics65.proofs.SoundContents.{sound_contents}
 use Rattle.semantics65.proofs.SoundForms.{all_append}
@@ -203,17 +203,12 @@ given_fit m n y z place (expand.plain ts) fit there small h = rest_fit m n y z p
 
 -- ---- All statements.
 
-abbrev most : ℕ
-most = 4294967296
-
-taken_fit : (m : Files) → HaveBytes m → (n : ℕ) (s : expand.State) (y : Layout) (r : Reached Layout) → IsStateFit s → n + tokens_left s.left ≤ most → IsLayoutFit n y → AreTaken m laying s y r → IsLayoutFit most r.behind
-taken_fit m all n s y r state few fit (taken _ t x _ z _ reaches is more) =
-    let next = next_fit m all (laying.meaning y) s (statement x t) state (omega (arith, few)) reaches in
-    let less = next.2 in
-    taken_fit m all (n + length (tokens_of x)) t z r next.1 (omega (arith, few, less)) (given_fit m n y z t.left.place x fit next.1.left.place next.0 is) more
-taken_fit m all n s y r state few fit (faulty _ t x _ e reaches is) = more_tokens n most y (omega (arith, few)) fit
-taken_fit m all n s y r state few fit (refused _ _ e place reaches) = more_tokens n most y (omega (arith, few)) fit
-taken_fit m all n s y r state few fit (ended _ t _ reaches) = more_tokens n most y (omega (arith, few)) fit
+module _ (m : Files) (all : HaveBytes m) where
+  taken_fit : (n : ℕ) (s : expand.State) (y : Layout) (r : Reached Layout) → IsStateFit m n s → IsLayoutFit n y → AreTaken m laying s y r → IsLayoutFit most r.behind
+  taken_fit n s y r state fit (taken _ t x _ z _ reaches is more) =
+      let next = next_fit m n (laying.meaning y) s (statement x t) state reaches in
+      taken_fit (n + length (tokens_of x)) t z r next.1 (given_fit m n y z t.left.place x fit next.1.left.place (are_small m (tokens_of x) all next.0) is) more
+  taken_fit n s y r state fit _ = let few = state.left.few in more_tokens n most y (omega (arith, few)) fit
 
 defined_fit : (y z : Layout) (place : Place) (ds : List Define) → AllByRecursion (λ d. d.1 < 4294967296) ds → IsLayoutFit 0 y → IsPlaceFit place → AreDefined IsLaid y place ds (Ok z) → IsLayoutFit 0 z
 defined_fit y z place [] values fit there h = let same : y ≡ z = cc in subst (IsLayoutFit 0) same fit
@@ -235,41 +230,17 @@ bytes_each (b ∷ bs) h = (h zero, bytes_each bs (λ i. h (suc i)))
 have_bytes : (m : Files) → HoldBytes m → HaveBytes m
 have_bytes m h = λ name bytes e. bytes_each bytes (h name bytes e)
 
-short_file : (o : Option (List ℕ)) (bytes : List ℕ) → bytes_in o ≡ Ok bytes → (o ≡ Some bytes) × (length bytes ≤ 16777216)
-short_file None bytes h = absurd cc
-short_file (Some bs) bytes h = by (nat_le (length bs) 16777216) refl h
-  where
-    by : (b : Bool) → nat_le (length bs) 16777216 ≡ b → (if b then Ok bs else Err FileTooLong) ≡ Ok bytes → (Some bs ≡ Some bytes) × (length bytes ≤ 16777216)
-    by true e j = let same : bs ≡ bytes = cc in (ap Some same, subst (λ (c : List ℕ). length c ≤ 16777216) same (grind (arith, nat_tests)))
-    by false e j = absurd cc
-
--- the file of a name, which is a text
-named_file : (m : Files) (name bytes : List ℕ) → file_named m name ≡ Some bytes → (is_utf8 name ≡ true) × (fmap.get m name ≡ Some bytes)
-named_file m name bytes h = by (is_utf8 name) refl h
-  where
-    by : (b : Bool) → is_utf8 name ≡ b → (if b then fmap.get m name else None) ≡ Some bytes → (is_utf8 name ≡ true) × (fmap.get m name ≡ Some bytes)
-    by true e j = (e, j)
-    by false e j = absurd cc
-
 module _ (m : Files) (all : HaveBytes m) (job : Job) (types : AreOfTypes job.defines) where
-  -- a file within its limit, whose name is a text
-  abbrev IsSourceFit : List ℕ → Type 0
-  IsSourceFit bytes = (is_utf8 job.source ≡ true) × AreBytes bytes × (length bytes ≤ 16777216)
-
-  begun_fit : (q : Result (List ℕ) ExpandFault) (r : Reached Layout) → ((bytes : List ℕ) → q ≡ Ok bytes → IsSourceFit bytes) → IsBegun m laying job nothing_laid (q >>= (λ bytes. Ok (first_state job.source job.include bytes))) r → IsLayoutFit most r.behind
+  begun_fit : (q : Result expand.State ExpandFault) (r : Reached Layout) → ((s : expand.State) → q ≡ Ok s → IsStateFit m 0 s × (is_utf8 job.source ≡ true)) → IsBegun m laying job nothing_laid q r → IsLayoutFit most r.behind
   begun_fit (Err e) r h is = subst (λ (x : Reached Layout). IsLayoutFit most x.behind) (sym is) (nothing_fit most)
-  begun_fit (Ok bytes) r h (q, defined, follows) = by q defined follows
+  begun_fit (Ok s) r h (q, defined, follows) = by q defined follows
     where
-      by : (q : Result Layout AsmFault) → AreDefined IsLaid nothing_laid (no_line job.source) job.defines q → Follows m laying (first_state job.source job.include bytes) (no_line job.source) nothing_laid q r → IsLayoutFit most r.behind
-      by (Ok z) is follow =
-          let file = h bytes refl in
-          let there : IsPlaceFit (no_line job.source) = (file.0, omega arith) in
-          let few = first_tokens job.source job.include bytes file.1 file.2 in
-          taken_fit m all 0 (first_state job.source job.include bytes) z r (first_fit job.source job.include bytes file.0 file.1 file.2) (omega (arith, few)) (defined_fit nothing_laid z (no_line job.source) job.defines types (nothing_fit 0) there is) follow
+      by : (q : Result Layout AsmFault) → AreDefined IsLaid nothing_laid (no_line job.source) job.defines q → Follows m laying s (no_line job.source) nothing_laid q r → IsLayoutFit most r.behind
+      by (Ok z) is follow = taken_fit m all 0 s z r (h s refl).0 (defined_fit nothing_laid z (no_line job.source) job.defines types (nothing_fit 0) ((h s refl).1, omega arith) is) follow
       by (Err e) is follow = subst (λ (x : Reached Layout). IsLayoutFit most x.behind) (sym follow) (nothing_fit most)
 
   source_fit : (r : Reached Layout) → IsBegun m laying job nothing_laid (opened_in m job.source job.include) r → IsLayoutFit most r.behind
-  source_fit r is = begun_fit (bytes_in (file_named m job.source)) r (λ bytes e. (let file = short_file (file_named m job.source) bytes e in let named = named_file m job.source bytes file.0 in (named.0, all job.source bytes named.1, file.1))) is
+  source_fit r is = begun_fit (opened_in m job.source job.include) r (λ s e. (opened_fit m job.source job.include s e, (opened_file m job.source job.include s e).1.0)) is
 
 -- ---- The symbol table.
 
@@ -326,28 +297,43 @@ all_laid : (names : List (List ℕ)) (ls : List Laid) → AllByRecursion IsLaidS
 all_laid names [] h filed = tt
 all_laid names (l ∷ ls) h filed = (record { small = h.0.small; place = h.0.place; file = filed.0; at = h.0.at }, all_laid names ls h.1 filed.1)
 
+-- ---- How many ask for a section.
+
 -- what asks for a section puts something there
 asks_counted : (x : Statement) → counted (asks_section x) ≤ counted (is_counted x)
 asks_counted (Constant n e) = omega arith
 asks_counted x = grind (arith, counted_most)
 
-asking_few : (ls : List Laid) → asking ls ≤ length (files_in ls)
+-- pieces don't ask for one
+pieces_ask : (l : Laid) (ps : List Piece) (xs : List Slot) → asking_count (map (waiting_at l) ps ++ xs) ≡ asking_count xs
+pieces_ask l [] xs = refl
+pieces_ask l (p ∷ ps) xs = let rest = pieces_ask l ps xs in omega (arith, rest)
+
+slots_ask : (l : Laid) (xs : List Slot) → asking_count (slots_of l ++ xs) ≡ counted (asks_section l.stated) + asking_count xs
+slots_ask l xs = let rest = pieces_ask l (pieces_of l.length l.settled l.stated) xs in grind (arith, rest)
+
+asking_few : (ls : List Laid) → asking_count (flat_map slots_of ls) ≤ length (files_in ls)
 asking_few [] = omega arith
 asking_few (l ∷ ls) =
     let less = asking_few ls in
     let one = asks_counted l.stated in
+    let slots = slots_ask l (flat_map slots_of ls) in
     let same = put_length (is_counted l.stated) l.place.file (files_in ls) in
-    omega (arith, less, one, same)
+    omega (arith, less, one, slots, same)
 
 -- ---- The object.
 
 module _ (y : Layout) (fit : IsLayoutFit most y) where
-  contents_there : (cs : List Content) → contents_from (symbols_of y.laid) y.laid ≡ Ok cs → AreContentsOf (symbols_of y.laid) (definitions_fit y.laid fit.laid) (files_in y.laid) y.laid cs
-  contents_there cs e =
-      subst (λ r. IfOk r (AreContentsOf (symbols_of y.laid) (definitions_fit y.laid fit.laid) (files_in y.laid) y.laid)) e
-      (contents_fit (symbols_of y.laid) (definitions_fit y.laid fit.laid) (files_in y.laid) y.laid (all_laid (files_in y.laid) y.laid fit.laid (all_filed y.laid)))
+  abbrev AreContents : List Content → Type 0
+  AreContents cs = AreContentsOf (symbols_of y.laid) (definitions_fit y.laid fit.laid) (files_in y.laid) (flat_map slots_of y.laid) cs
 
-  made_fits : (o : Object) (cs : List Content) → contents_from (symbols_of y.laid) y.laid ≡ Ok cs → AreSound y.cursor.segments (symbols_of y.laid).imports cs → object_with y.cursor.segments (symbols_of y.laid).imports cs ≡ o → ObjectFits o
+  contents_there : (cs : List Content) → (ending_of y.laid).found ≡ Ok cs → AreContents cs
+  contents_there cs e =
+      subst (λ r. IfOk r AreContents) e
+      (contents_fit (symbols_of y.laid) (definitions_fit y.laid fit.laid) (files_in y.laid) [] (flat_map slots_of y.laid)
+      (all_slots_fit (files_in y.laid) (length (symbols_of y.laid).imports) y.laid (all_laid (files_in y.laid) y.laid fit.laid (all_filed y.laid))))
+
+  made_fits : (o : Object) (cs : List Content) → (ending_of y.laid).found ≡ Ok cs → AreSound y.cursor.segments (symbols_of y.laid).imports cs → object_with y.cursor.segments (symbols_of y.laid).imports cs ≡ o → ObjectFits o
   made_fits o cs e sound same =
       let there = contents_there cs e in
       let asked = there.asked in
@@ -358,12 +344,12 @@ module _ (y : Layout) (fit : IsLayoutFit most y) where
       subst ObjectFits same
       (object_fits (files_in y.laid) (symbols_of y.laid).imports y.cursor.segments cs there.contents sound.room files (omega (arith, new, names)) (omega (arith, asked, few, files)))
 
-  found_fits : (o : Object) (q : Result (List Content) PlacedFault) → contents_from (symbols_of y.laid) y.laid ≡ q → ((cs : List Content) → contents_from (symbols_of y.laid) y.laid ≡ Ok cs → AreSound y.cursor.segments (symbols_of y.laid).imports cs) → (q >>= (λ cs. Ok (object_with y.cursor.segments (symbols_of y.laid).imports cs))) ≡ Ok o → ObjectFits o
+  found_fits : (o : Object) (q : Result (List Content) PlacedFault) → (ending_of y.laid).found ≡ q → ((cs : List Content) → (ending_of y.laid).found ≡ Ok cs → AreSound y.cursor.segments (symbols_of y.laid).imports cs) → (q >>= (λ cs. Ok (object_with y.cursor.segments (symbols_of y.laid).imports cs))) ≡ Ok o → ObjectFits o
   found_fits o (Ok cs) e sound h = let same : object_with y.cursor.segments (symbols_of y.laid).imports cs ≡ o = cc in made_fits o cs e (sound cs e) same
   found_fits o (Err f) e sound h = absurd cc
 
-  outcome_fits : (f : Option PlacedFault) (o : Object) → ((cs : List Content) → contents_from (symbols_of y.laid) y.laid ≡ Ok cs → AreSound y.cursor.segments (symbols_of y.laid).imports cs) → (outcome_of y f).result ≡ Ok o → ObjectFits o
-  outcome_fits None o sound h = found_fits o (contents_from (symbols_of y.laid) y.laid) refl sound h
+  outcome_fits : (f : Option PlacedFault) (o : Object) → ((cs : List Content) → (ending_of y.laid).found ≡ Ok cs → AreSound y.cursor.segments (symbols_of y.laid).imports cs) → (outcome_of y f).result ≡ Ok o → ObjectFits o
+  outcome_fits None o sound h = found_fits o (ending_of y.laid).found refl sound h
   outcome_fits (Some e) o sound h = absurd cc
 
 pub fitting_object : FittingObjectLaw

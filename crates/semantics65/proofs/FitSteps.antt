@@ -1,12 +1,14 @@
--- Each step of expansion keeps numbers small and places texts, and gives no more tokens than are left.
+-- Each step of expansion keeps what is left fit, and gives fit tokens, no more than are left; and no more macros are called
+-- than tokens were taken.
 use Rattle.std.proofs.lemmas.Grind.{common_steps}
 use Rattle.std.proofs.Common.{arith, ◌≡◌, ℤ, pos, negsuc, ℕ, zero, suc, ◌+◌, ◌*◌, ◌<◌, ◌≤◌, Bool, true, false, List, [], ◌∷◌, ◌++◌, length, take, drop, map, Option, Some, None, refl, sym, ap, subst, if◌then◌else◌}
-use Rattle.std.specs.Prelude.{⊤, Result, Ok, Err, nat_le, ◌==◌}
+use Rattle.std.specs.Prelude.{⊤, IfOk, Result, Ok, Err, nat_le, ◌==◌}
 use Rattle.std.specs.FinMap as fmap
 use Rattle.std.specs.List.{AllByRecursion}
 use Rattle.std.specs.Option.{option_map_or}
-use Rattle.std.specs.Str.{bytes_eq, is_utf8}
+use Rattle.std.specs.Str.{is_utf8}
 use Rattle.std.proofs.lemmas.Bool.Decides.{nat_tests}
+use Rattle.std.proofs.lemmas.List.{length-drop, length-take}
 use Rattle.base65.specs.Outcome.{◌>>=◌}
 use Rattle.base65.specs.Store.{Files}
 use Rattle.syntax65.specs.Tokens.{Lexeme}
@@ -14,66 +16,63 @@ use Rattle.syntax65.specs.Trees.{Tree}
 use Rattle.syntax65.specs.declared.expressions.words.ExprFault.{ExprFault}
 use Rattle.syntax65.specs.declared.fault.ExpandFault.{ExpandFault}
 use Rattle.syntax65.specs.declared.fault.ExpandFault.TheVariants as faults
-use Rattle.syntax65.specs.declared.lexing.tokens.TokenKind.TheVariants as token
+use Rattle.syntax65.specs.declared.fault.ExpandFault.TheVariants.{Nested, NotClosed, NotUnderstood}
+use Rattle.syntax65.specs.declared.lexing.tokens.TokenKind.{TokenKind}
 use Rattle.syntax65.specs.declared.place.Place.{Place}
 use Rattle.expand65.specs.Blocks.{Block, Branch, at_elseif, at_else, at_end, Whole}
 use Rattle.expand65.specs.declared.blocks.BlockKind.{BlockKind}
 use Rattle.expand65.specs.declared.blocks.BlockKind.TheVariants as kind
-use Rattle.expand65.specs.Expansion.{acted, at_mark, directed, file_named, first_file, first_state, found_or, include_file, included, IsStep, last_condition, Leads, Next, statement, nothing, fault, not_opened, Reaches, further, given, ended, stopped, split, step_behind, step_from, unless_mislabelled}
-use Rattle.expand65.specs.Fronts.{front_directive, is_mislabelled, label_len, line_directive, string_of, understood}
-use Rattle.expand65.specs.Lines.{Definition, innermost, Item, written, played, labelled, branch, mark, Left, left, lines_of, Mark, marks, nesting_limit, numbered, outside_macro, come_back, put_before, repeating, Stop, Taken, Takes, turns}
-use Rattle.expand65.specs.Macros.{arguments_of, called, called_or_given, counted, defined, entered, exit_macro, exited, given_to, header_of, local_line, local_named, macro_at, macro_line, macro_of, mark_from, new_names, ordinary, repeat_header, repeat_line, repeat_of, repeated, turns_of}
-use Rattle.expand65.specs.State.{decided, else_line, ended_if, found, goes, gives, ends, stops, if_alone, if_line, leads, parses, decides, takes, takes_block, searches, Meaning, State, Step, Stepped, unless_refused, unless_stopped, with_conditions, with_items, with_left}
-use Rattle.syntax65.specs.declared.fault.ExpandFault.TheVariants.{Nested, NotClosed, NotUnderstood}
 use Rattle.expand65.specs.declared.fronts.Directive.{Directive}
 use Rattle.expand65.specs.declared.fronts.Directive.TheVariants.{Macro, EndMacro, ExitMacro, Local, Repeat, EndRepeat, If, ElseIf, Else, EndIf, Include, Error, End}
 use Rattle.expand65.specs.declared.fronts.Test.{Test}
 use Rattle.expand65.specs.declared.fronts.Test.TheVariants.{True}
-use Rattle.semantics65.proofs.FitItems.{AllBytes, AllSmall, AreItemsFit, AreLinesFit, IsBlockFit, IsBlockOf, IsLeftFit, IsOutside, IsPlaceFit, IsTakenFit, arguments_few, arguments_small, back_fit, block_fit, lines_fit, lines_tokens, localised_fit, localised_tokens, numbered_fit, outside_fit, played_fit, taken_fit, tokens_in, tokens_left, turns_fit}
-use Rattle.semantics65.proofs.FitTokens.{AreBytes, AreSmall, small_drop, small_take}
-use Rattle.semantics65.proofs.NamedLines.{Each, lookup_each}
-use Rattle.semantics65.proofs.NamedSteps.{tokens_of}
+use Rattle.expand65.specs.Expansion.{acted, at_mark, bytes_in, directed, file_named, first_file, first_state, found_or, include_file, included, IsStep, last_condition, Leads, Next, statement, nothing, fault, not_opened, opened_in, Reaches, further, given, ended, stopped, split, step_behind, step_from, unless_mislabelled}
+use Rattle.expand65.specs.Fronts.{front_directive, is_mislabelled, label_len, line_directive, string_of, understood}
+use Rattle.expand65.specs.Lines.{come_back, Definition, in_line, innermost, Item, line_limit, written, played, labelled, branch, mark, Left, left, lines_of, Mark, marks, nesting_limit, numbered, outside_macro, put_before, repeating, Stop, Taken, Takes, turns}
+use Rattle.expand65.specs.Macros.{arguments_of, called, called_or_given, counted, defined, entered, exit_macro, exited, given_to, header_of, local_line, local_named, macro_at, macro_line, macro_of, mark_from, new_names, ordinary, repeat_header, repeat_line, repeat_of, repeated, turns_of}
+use Rattle.expand65.specs.State.{decided, else_line, ended_if, found, goes, gives, ends, stops, if_alone, if_line, leads, parses, decides, takes, takes_block, searches, Meaning, State, Stated, label, plain, Step, Stepped, unless_refused, unless_stopped, with_conditions, with_items, with_left}
+use Rattle.semantics65.proofs.FitItems.{AreLines, behind_mark, block_fit, fewer, IsBlockFit, IsItemFit, IsLeftFit, IsOutsideFit, IsPlaceFit, IsTakenFit, localised_fit, localised_tokens, numbered_lines, outside_fit, played_lines, pushed_fit, taken_fit, turns_lines}
+use Rattle.semantics65.proofs.FitLines.{AreAllFit, AreBases, arguments_few, arguments_fit, Each, lookup_each, most, new_names_fit}
+use Rattle.semantics65.proofs.FitTokens.{all_drop, all_take, AreBytes, AreFit, HaveBytes, IsTokenFit}
 use Rattle.semantics65.proofs.SoundForms.{all_append}
-
--- ---- States.
-
-pub record IsStateFit (s : State) : Type 0 where
-  pub left : IsLeftFit s.left
-  pub macros : AllByRecursion (λ e. AllSmall e.1.body) s.macros
 
 -- ---- Files.
 
--- files have bytes, and so has what is found
-abbrev pub HaveBytes : Files → Type 0
-HaveBytes m = (name bytes : List ℕ) → fmap.get m name ≡ Some bytes → AreBytes bytes
+-- a file that is found: its name is a text, and it is no longer than files are read
+abbrev pub IsFileFit : Files → List ℕ → List ℕ → Type 0
+IsFileFit m name bytes = (is_utf8 name ≡ true) × (HaveBytes m → AreBytes bytes) × (length bytes ≤ 16777216)
 
-abbrev IsFileFit : Result (List ℕ × List ℕ) ExpandFault → Type 0
-IsFileFit (Ok (name, bytes)) = (is_utf8 name ≡ true) × AreBytes bytes × (length bytes ≤ 16777216)
-IsFileFit (Err f) = ⊤
+abbrev IsSearchFit : Files → Result (List ℕ × List ℕ) ExpandFault → Type 0
+IsSearchFit m (Ok f) = IsFileFit m f.0 f.1
+IsSearchFit m (Err f) = ⊤
 
-found_fit : (name : List ℕ) (o : Option (List ℕ)) (others : Result (List ℕ × List ℕ) ExpandFault) → ((bytes : List ℕ) → o ≡ Some bytes → (is_utf8 name ≡ true) × AreBytes bytes) → IsFileFit others → IsFileFit (found_or name o others)
-found_fit name None others h j = j
-found_fit name (Some bytes) others h j = by (nat_le (length bytes) 16777216) refl
+-- a file is there where its name is a text
+named_fit : (m : Files) (name bytes : List ℕ) → file_named m name ≡ Some bytes → length bytes ≤ 16777216 → IsFileFit m name bytes
+named_fit m name bytes h short = by (is_utf8 name) refl h
   where
-    by : (b : Bool) → nat_le (length bytes) 16777216 ≡ b → IsFileFit (if b then Ok (name, bytes) else Err faults.FileTooLong)
-    by true e = ((h bytes refl).0, (h bytes refl).1, (grind (arith, nat_tests)))
-    by false e = tt
+    by : (b : Bool) → is_utf8 name ≡ b → (if b then fmap.get m name else None) ≡ Some bytes → IsFileFit m name bytes
+    by true e j = (e, (λ all. all name bytes j), short)
+    by false e j = absurd cc
 
-named_fit : (m : Files) → HaveBytes m → (name : List ℕ) (b : Bool) → is_utf8 name ≡ b → (bytes : List ℕ) → (if b then fmap.get m name else None) ≡ Some bytes → (is_utf8 name ≡ true) × AreBytes bytes
-named_fit m all name true e bytes h = (e, all name bytes h)
-named_fit m all name false e bytes h = absurd cc
+found_fit : (m : Files) (name : List ℕ) (o : Option (List ℕ)) (others : Result (List ℕ × List ℕ) ExpandFault) → file_named m name ≡ o → IsSearchFit m others → IsSearchFit m (found_or name o others)
+found_fit m name None others e j = j
+found_fit m name (Some bytes) others e j = by (nat_le (length bytes) 16777216) refl
+  where
+    by : (b : Bool) → nat_le (length bytes) 16777216 ≡ b → IsSearchFit m (if b then Ok (name, bytes) else Err faults.FileTooLong)
+    by true short = named_fit m name bytes e (grind (arith, nat_tests))
+    by false short = tt
 
-file_fit : (m : Files) → HaveBytes m → (names : List (List ℕ)) → IsFileFit (first_file m names)
-file_fit m all [] = tt
-file_fit m all (name ∷ names) = found_fit name (file_named m name) (first_file m names) (λ bytes e. named_fit m all name (is_utf8 name) refl bytes e) (file_fit m all names)
+search_fit : (m : Files) (names : List (List ℕ)) → IsSearchFit m (first_file m names)
+search_fit m [] = tt
+search_fit m (name ∷ names) = found_fit m name (file_named m name) (first_file m names) refl (search_fit m names)
 
 -- ---- The lines of a file.
 
-put_bytes : (b : ℕ) (lines : List (List ℕ)) → b < 256 → AllBytes lines → AllBytes (put_before b lines)
+put_bytes : (b : ℕ) (lines : List (List ℕ)) → b < 256 → AllByRecursion AreBytes lines → AllByRecursion AreBytes (put_before b lines)
 put_bytes b [] h j = ((h, tt), tt)
 put_bytes b (line ∷ lines) h j = ((h, j.0), j.1)
 
-lines_bytes : (bs : List ℕ) → AreBytes bs → AllBytes (lines_of bs)
+lines_bytes : (bs : List ℕ) → AreBytes bs → AllByRecursion AreBytes (lines_of bs)
 lines_bytes [] h = tt
 lines_bytes (b ∷ bs) h = grind (arith, common_steps, (lines_bytes bs h.1), put_bytes)
 
@@ -85,259 +84,273 @@ lines_few : (bs : List ℕ) → length (lines_of bs) ≤ length bs
 lines_few [] = omega arith
 lines_few (b ∷ bs) = grind (arith, common_steps, (lines_few bs), (put_few b (lines_of bs)))
 
-pub file_lines : (bytes : List ℕ) → AreBytes bytes → length bytes ≤ 16777216 → AreLinesFit (numbered 0 (lines_of bytes))
-file_lines bytes h le = let few = lines_few bytes in numbered_fit 0 (lines_of bytes) (lines_bytes bytes h) (omega (arith, few))
+file_lines : (m : Files) (name bytes : List ℕ) → IsFileFit m name bytes → AreLines m (numbered 0 (lines_of bytes))
+file_lines m name bytes (text, all, short) = let few = lines_few bytes in numbered_lines m 0 (lines_of bytes) (λ have. lines_bytes bytes (all have)) (omega (arith, few, short))
 
--- ---- A step that keeps to this many tokens, whatever it reads.
+-- ---- States.
 
-abbrev pub IsKept : ℕ → Stepped → Type 0
-IsKept n (goes t) = IsStateFit t × (tokens_left t.left ≤ n)
-IsKept n (gives x t) = AreSmall (tokens_of x) × IsStateFit t × (tokens_left t.left + length (tokens_of x) ≤ n)
-IsKept n (ends t) = ⊤
-IsKept n (stops e) = ⊤
+abbrev pub tokens_of : Stated → List Lexeme
+tokens_of (label ts) = ts
+tokens_of (plain ts) = ts
 
-abbrev Keeps : ℕ → Step → Type 0
-Keeps n (leads x) = IsKept n x
-Keeps n (parses ts next) = (q : Result (Tree × ℕ) ExprFault) → Keeps n (next q)
-Keeps n (decides k test ts next) = (c : Result Bool ExpandFault) → Keeps n (next c)
-Keeps n (takes l next) = (t : Taken) → Takes l t → Keeps n (next t)
-Keeps n (takes_block k l next) = (q : Result (Whole × Left) Stop) → Block k 0 [] l q → IsKept n (unless_stopped q (λ b. next b.0 b.1))
-Keeps n (searches l names next) = (q : Result (List ℕ × List ℕ) ExpandFault) → IsFileFit q → Keeps n (next q)
+-- turns of a repeat
+abbrev IsFew : Result (ℕ × List (List ℕ)) ExpandFault → Type 0
+IsFew q = IfOk q (λ h. h.0 ≤ 65536)
 
-same_stepped : (n : ℕ) (r x : Stepped) → r ≡ x → IsKept n x → IsKept n r
-same_stepped n r x e h = subst (IsKept n) (sym e) h
-
-led_fit : (m : Files) → HaveBytes m → (n : ℕ) (step : Step) (r : Stepped) → Keeps n step → Leads m step r → IsKept n r
-led_fit m all n (leads x) r h e = same_stepped n r x e h
-led_fit m all n (parses ts next) r h (q, p, l) = led_fit m all n (next q) r (h q) l
-led_fit m all n (decides k test ts next) r h (c, p, l) = led_fit m all n (next c) r (h c) l
-led_fit m all n (takes l next) r h (t, p, j) = led_fit m all n (next t) r (h t p) j
-led_fit m all n (takes_block k l next) r h (q, p, e) = same_stepped n r (unless_stopped q (λ b. next b.0 b.1)) e (h q p)
-led_fit m all n (searches l names next) r h j = led_fit m all n (next (first_file m names)) r (h (first_file m names) (file_fit m all names)) j
-
--- ---- Each step does.
-
-parted : (n : ℕ) (ts : List Lexeme) → length (drop n ts) + length (take n ts) ≡ length ts
-parted zero ts = omega arith
-parted (suc n) [] = omega arith
-parted (suc n) (t ∷ ts) = let same = parted n ts in omega (arith, same)
-
-turns_few : (o : Option ℤ) (n : ℕ) → turns_of o ≡ Ok n → n ≤ 65536
-turns_few None n h = absurd cc
-turns_few (Some (negsuc k)) n h = absurd cc
-turns_few (Some (pos k)) n h = by (nat_le k 65536) refl h
+turns_few : (o : Option ℤ) → IfOk (turns_of o) (λ n. n ≤ 65536)
+turns_few None = tt
+turns_few (Some (negsuc n)) = tt
+turns_few (Some (pos n)) = by (nat_le n 65536) refl
   where
-    by : (b : Bool) → nat_le k 65536 ≡ b → (if b then Ok k else Err faults.CountOutOfRange) ≡ Ok n → n ≤ 65536
-    by true e j = let same : k ≡ n = cc in subst (λ i. i ≤ 65536) same (grind (arith, nat_tests))
-    by false e j = absurd cc
+    by : (b : Bool) → nat_le n 65536 ≡ b → IfOk (if b then Ok n else Err faults.CountOutOfRange) (λ i. i ≤ 65536)
+    by true e = grind (arith, nat_tests)
+    by false e = tt
 
-macro_fit : (ms : List (List ℕ × Definition)) (t : Lexeme) → AllByRecursion (λ e. AllSmall e.1.body) ms → Each (λ d. AllSmall d.body) (macro_at ms t)
-macro_fit ms (token.Identifier, text) h = lookup_each (λ d. AllSmall d.body) (bytes_eq text) ms h
-macro_fit ms (_, text) h = tt
+with_variable : (q : Result ℕ ExpandFault) (variable : List (List ℕ)) → IfOk q (λ n. n ≤ 65536) → IsFew (q >>= (λ n. Ok (n, variable)))
+with_variable (Ok n) variable h = h
+with_variable (Err f) variable h = tt
 
-module _ (n : ℕ) (few : n ≤ 4294967296) where
-  enters : (s : State) (is : List Item) (k : Mark) (p : Place) → IsStateFit s → AreLinesFit is → Each IsPlaceFit k.back → IsPlaceFit p → tokens_left s.left ≤ n → IsKept n (entered s is k p)
-  enters s is k p fit lines back place le = by (nat_le (marks s.left.items) nesting_limit)
-    where
-      by : (b : Bool) → IsKept n (unless_stopped (if b then Ok (left (is ++ mark k ∷ s.left.items) s.left.room s.left.place) else Err (Nested, s.left.place)) (λ l. goes (with_left s (left l.items l.room p))))
-      by true =
-          let same = lines_tokens is (mark k ∷ s.left.items) lines in
-          (record { left = record { items = lines_fit is (mark k ∷ s.left.items) lines (back, fit.left.items); place = place }; macros = fit.macros }, omega (arith, same))
-      by false = tt
+repeat_few : (k : Meaning) (ts : List Lexeme) (q : Result (Tree × ℕ) ExprFault) → IsFew (repeat_of k ts q)
+repeat_few k ts q = by (repeat_header ts q)
+  where
+    by : (r : Result (Tree × List (List ℕ)) ExpandFault) → IsFew (r >>= (λ x. turns_of (k.value x.0) >>= (λ i. Ok (i, x.1))))
+    by (Ok x) = with_variable (turns_of (k.value x.0)) x.1 (turns_few (k.value x.0))
+    by (Err f) = tt
 
-  unless : {A : Type 0} (s : State) (q : Result A ExpandFault) (after : A → Step) → ((x : A) → q ≡ Ok x → Keeps n (after x)) → Keeps n (unless_refused s q after)
-  unless s (Ok x) after h = h x refl
-  unless s (Err f) after h = tt
+module _ (m : Files) where
+  -- so many tokens were given, or are acted on; each calls one macro at most
+  pub record IsStateFit (n : ℕ) (s : State) : Type 0 where
+    pub left : IsLeftFit m (n + s.expansions) s.left
+    pub macros : AllByRecursion (λ e. AreAllFit m e.1.body) s.macros
 
-  alone : (s : State) (ts : List Lexeme) (after : Step) → Keeps n after → Keeps n (if_alone s ts after)
-  alone s [] after h = h
-  alone s (t ∷ ts) after h = tt
+  -- fewer were given
+  pub before : (n k : ℕ) (s : State) → IsStateFit (n + k) s → IsStateFit n s
+  before n k s fit = record { left = fewer m (n + s.expansions) ((n + k) + s.expansions) s.left (omega arith) fit.left; macros = fit.macros }
 
-  block : (k : BlockKind) (l : Left) (after : Whole → Left → Stepped) → IsLeftFit l → ((b : Whole) (x : Left) → IsBlockOf (tokens_left l) b.0 x → IsKept n (after b x)) → Keeps n (takes_block k l after)
-  block k l after fit h = λ q b. by q (block_fit k 0 [] l q tt fit b)
-    where
-      by : (q : Result (Whole × Left) Stop) → IsBlockFit (tokens_left l) q → IsKept n (unless_stopped q (λ b. after b.0 b.1))
-      by (Ok (b, x)) j = h b x j
-      by (Err e) j = tt
+  macro_fit : (ms : List (List ℕ × Definition)) (k : TokenKind) (t : List ℕ) → AllByRecursion (λ e. AreAllFit m e.1.body) ms → Each (λ d. AreAllFit m d.body) (macro_at ms (k, t))
+  macro_fit ms x1 t h = grind (arith, common_steps, lookup_each)
 
-  module _ (s : State) (fit : IsStateFit s) (le : tokens_left s.left ≤ n) where
-    finds : (b : Branch) (lines : List (List Lexeme)) (x : Left) → IsBlockOf (tokens_left s.left) lines x → IsKept n (found s b x)
-    finds at_end lines x h = (record { left = h.behind; macros = fit.macros }, (let less = h.less in omega arith))
-    finds at_else lines x h = (record { left = h.behind; macros = fit.macros }, (let less = h.less in omega arith))
-    finds (at_elseif ts) lines x h = (record { left = record { items = (tt, h.behind.items); place = h.behind.place }; macros = fit.macros }, (let less = h.less in omega arith))
+  module _ (n : ℕ) where
+    abbrev pub IsKept : Stepped → Type 0
+    IsKept (goes t) = IsStateFit n t
+    IsKept (gives x t) = AreFit m (tokens_of x) × IsStateFit (n + length (tokens_of x)) t
+    IsKept (ends t) = ⊤
+    IsKept (stops e) = ⊤
 
-    decides_on : (b : Bool) → Keeps n (decided s b)
-    decides_on true = (record { left = fit.left; macros = fit.macros }, le)
-    decides_on false = block kind.Skipped s.left (λ b l. found s b.1 l) fit.left (λ b x h. finds b.1 b.0 x h)
+    -- a step that leads to nothing else, whatever it reads
+    abbrev Keeps : Step → Type 0
+    Keeps (leads x) = IsKept x
+    Keeps (parses ts next) = (q : Result (Tree × ℕ) ExprFault) → Keeps (next q)
+    Keeps (decides k test ts next) = (c : Result Bool ExpandFault) → Keeps (next c)
+    Keeps (takes l next) = (t : Taken) → Takes l t → Keeps (next t)
+    Keeps (takes_block k l next) = (q : Result (Whole × Left) Stop) → Block k 0 [] l q → IsKept (unless_stopped q (λ b. next b.0 b.1))
+    Keeps (searches l names next) = (q : Result (List ℕ × List ℕ) ExpandFault) → IsSearchFit m q → Keeps (next q)
 
-    if_on : (k : Meaning) (test : Test) (ts : List Lexeme) → Keeps n (if_line k s test ts)
-    if_on k test ts = λ c. unless s c (decided s) (λ b e. decides_on b)
+    same_stepped : (r x : Stepped) → r ≡ x → IsKept x → IsKept r
+    same_stepped r x e h = subst IsKept (sym e) h
 
-    else_on : (o : Option (Bool × List Bool)) → Keeps n (else_line s o)
-    else_on (Some (false, bs)) = block kind.Passed s.left (λ b l. goes (with_conditions s bs l)) fit.left (λ b x h. (record { left = h.behind; macros = fit.macros }, (let less = h.less in omega arith)))
-    else_on (Some (true, bs)) = tt
-    else_on None = tt
+    led_fit : (step : Step) (r : Stepped) → Keeps step → Leads m step r → IsKept r
+    led_fit (leads x) r fit h = same_stepped r x h fit
+    led_fit (parses ts next) r fit (q, p, h) = led_fit (next q) r (fit q) h
+    led_fit (decides k test ts next) r fit (c, p, h) = led_fit (next c) r (fit c) h
+    led_fit (takes l next) r fit (t, p, h) = led_fit (next t) r (fit t p) h
+    led_fit (takes_block k l next) r fit (q, p, h) = same_stepped r (unless_stopped q (λ b. next b.0 b.1)) h (fit q p)
+    led_fit (searches l names next) r fit h = led_fit (next (first_file m names)) r (fit (first_file m names) (search_fit m names)) h
 
-    end_if_on : (o : Option (Bool × List Bool)) → Keeps n (leads (ended_if s o))
-    end_if_on None = tt
-    end_if_on (Some (b, bs)) = (record { left = fit.left; macros = fit.macros }, le)
+    -- ---- What steps go through.
 
-    defines_on : (title : List ℕ) (params : List (List ℕ)) (o : Option Definition) → Keeps n (defined s title params o)
-    defines_on title params (Some d) = tt
-    defines_on title params None = block kind.Macro s.left _ fit.left
-        (λ b x h. (record { left = h.behind; macros = all_append (λ (e : List ℕ × Definition). AllSmall e.1.body) s.macros ((title, record { params = params; body = b.0 }) ∷ []) fit.macros (h.lines, tt) }, (let less = h.less in omega arith)))
+    unless : {A : Type 0} (s : State) (q : Result A ExpandFault) (after : A → Step) → ((x : A) → q ≡ Ok x → Keeps (after x)) → Keeps (unless_refused s q after)
+    unless s (Ok x) after h = h x refl
+    unless s (Err f) after h = tt
 
-    macro_on : (ts : List Lexeme) → Keeps n (macro_line s ts)
-    macro_on ts = unless s (understood (header_of ts)) _ (λ h e. defines_on h.0 h.1 (macro_of s.macros h.0))
+    alone : (s : State) (ts : List Lexeme) (after : Step) → Keeps after → Keeps (if_alone s ts after)
+    alone s [] after h = h
+    alone s (t ∷ ts) after h = tt
 
-    exits_on : (o : Option (ℕ × List Item × Place)) → Each (IsOutside (tokens_in s.left.items)) o → IsKept n (exited s o)
-    exits_on None h = tt
-    exits_on (Some (c, is, p)) (items, place, less) = (record { left = record { items = items; place = place }; macros = fit.macros }, omega arith)
-
-    names_on : (o : Option (List (List ℕ))) → IsKept n (local_named s o)
-    names_on None = tt
-    names_on (Some names) =
-        let same = localised_tokens names s.left.items in
-        (record { left = record { items = localised_fit names s.left.items fit.left.items; place = fit.left.place }; macros = fit.macros }, omega (arith, same))
-
-    local_on : (ts : List Lexeme) → IsKept n (local_line s ts)
-    local_on ts = by (option_map_or (λ k. k.is_macro) (innermost s.left.items) false)
+    block : (k : BlockKind) (s : State) (after : Whole → Left → Stepped) → IsStateFit n s → ((b : Whole) (x : Left) → AreAllFit m b.0 → IsLeftFit m (n + s.expansions) x → IsKept (after b x)) → Keeps (takes_block k s.left after)
+    block k s after fit h = λ q b. by q (block_fit m (n + s.expansions) k 0 [] s.left q tt fit.left b)
       where
-        by : (b : Bool) → IsKept n (if b then local_named s (new_names ts) else stops (NotUnderstood, s.left.place))
-        by true = names_on (new_names ts)
+        by : (q : Result (Whole × Left) Stop) → IsBlockFit m (n + s.expansions) q → IsKept (unless_stopped q (λ b. after b.0 b.1))
+        by (Ok (b, x)) j = h b x j.0 j.1
+        by (Err e) j = tt
+
+    enters : (s : State) (is : List Item) (k : Mark) (p : Place) → IsStateFit n s → AreLines m is → Each IsPlaceFit k.back → IsPlaceFit p → IsKept (entered s is k p)
+    enters s is k p fit lines back place = by (nat_le (marks s.left.items) nesting_limit)
+      where
+        by : (b : Bool) → IsKept (unless_stopped (if b then Ok (left (is ++ mark k ∷ s.left.items) s.left.room s.left.place) else Err (Nested, s.left.place)) (λ l. goes (with_left s (left l.items l.room p))))
+        by true = record { left = pushed_fit m (n + s.expansions) is k s.left p fit.left lines back place; macros = fit.macros }
         by false = tt
 
-    repeats_on : (count : ℕ) (variable : List (List ℕ)) → count ≤ 65536 → Keeps n (repeated s count variable)
-    repeats_on count variable small = block kind.Repeat s.left _ fit.left
-        (λ b x h. enters (with_left s x) (turns (repeating variable) b.0 0 count) (mark_from s false None) x.place (record { left = h.behind; macros = fit.macros }) (turns_fit variable b.0 0 count h.lines (omega arith)) tt h.behind.place (let less = h.less in omega arith))
+    module _ (s : State) (fit : IsStateFit n s) where
+      -- ---- Conditions.
 
-    repeat_on : (k : Meaning) (ts : List Lexeme) → Keeps n (repeat_line k s ts)
-    repeat_on k ts = λ q. unless s (repeat_of k ts q) _ (λ h e. repeats_on h.0 h.1 (by (repeat_header ts q) h e))
+      finds : (b : Branch) (x : Left) → IsLeftFit m (n + s.expansions) x → IsKept (found s b x)
+      finds at_end x h = record { left = h; macros = fit.macros }
+      finds at_else x h = record { left = h; macros = fit.macros }
+      finds (at_elseif ts) x h = record { left = record { items = (tt, h.items); place = h.place; few = h.few }; macros = fit.macros }
+
+      decides_on : (b : Bool) → Keeps (decided s b)
+      decides_on true = record { left = fit.left; macros = fit.macros }
+      decides_on false = block kind.Skipped s (λ b l. found s b.1 l) fit (λ b x lines h. finds b.1 x h)
+
+      if_on : (k : Meaning) (test : Test) (ts : List Lexeme) → Keeps (if_line k s test ts)
+      if_on k test ts = λ c. unless s c (decided s) (λ b e. decides_on b)
+
+      else_on : (o : Option (Bool × List Bool)) → Keeps (else_line s o)
+      else_on (Some (false, bs)) = block kind.Passed s (λ b l. goes (with_conditions s bs l)) fit (λ b x lines h. record { left = h; macros = fit.macros })
+      else_on (Some (true, bs)) = tt
+      else_on None = tt
+
+      end_if_on : (o : Option (Bool × List Bool)) → IsKept (ended_if s o)
+      end_if_on None = tt
+      end_if_on (Some (b, bs)) = record { left = fit.left; macros = fit.macros }
+
+      -- ---- Macros.
+
+      defines_on : (name : List ℕ) (params : List (List ℕ)) (o : Option Definition) → Keeps (defined s name params o)
+      defines_on name params (Some d) = tt
+      defines_on name params None = block kind.Macro s _ fit
+          (λ b x lines h. record { left = h; macros = all_append (λ (e : List ℕ × Definition). AreAllFit m e.1.body) s.macros ((name, record { params = params; body = b.0 }) ∷ []) fit.macros (lines, tt) })
+
+      exits_on : (o : Option (ℕ × List Item × Place)) → Each (IsOutsideFit m (n + s.expansions) s.left.room) o → IsKept (exited s o)
+      exits_on None h = tt
+      exits_on (Some (c, is, p)) h = record { left = h; macros = fit.macros }
+
+      names_on : (o : Option (List (List ℕ))) → Each AreBases o → IsKept (local_named s o)
+      names_on None h = tt
+      names_on (Some names) bases =
+          let few = fit.left.few in
+          let same = localised_tokens names s.left.items in
+          record { left = record { items = localised_fit m names s.left.items bases fit.left.items; place = fit.left.place; few = omega (arith, few, same) }; macros = fit.macros }
+
+      local_on : (ts : List Lexeme) → AreFit m ts → IsKept (local_line s ts)
+      local_on ts h = by (option_map_or (λ k. k.is_macro) (innermost s.left.items) false)
+        where
+          by : (b : Bool) → IsKept (if b then local_named s (new_names ts) else stops (NotUnderstood, s.left.place))
+          by true = names_on (new_names ts) (new_names_fit m ts h)
+          by false = tt
+
+      -- ---- Repeats and included files.
+
+      repeats_on : (count : ℕ) (variable : List (List ℕ)) → count ≤ 65536 → Keeps (repeated s count variable)
+      repeats_on count variable small = block kind.Repeat s _ fit
+          (λ b x lines h. enters (with_left s x) (turns (repeating variable) b.0 0 count) (mark_from s false None) x.place (record { left = h; macros = fit.macros }) (turns_lines m variable b.0 0 count lines (omega (arith, small))) tt h.place)
+
+      repeat_on : (k : Meaning) (ts : List Lexeme) → Keeps (repeat_line k s ts)
+      repeat_on k ts = λ q. unless s (repeat_of k ts q) _ (λ h e. repeats_on h.0 h.1 (subst IsFew e (repeat_few k ts q)))
+
+      include_on : (file : List ℕ) → Keeps (include_file s file)
+      include_on file = λ q found. unless s q _ (λ f e. (let h = subst (IsSearchFit m) e found in enters s (numbered 0 (lines_of f.1)) (mark_from s false (Some s.left.place)) (record { file = f.0; line = 0 }) fit (file_lines m f.0 f.1 h) fit.left.place (h.0, omega arith)))
+
+      directed_on : (k : Meaning) (d : Directive) (ts : List Lexeme) → AreFit m ts → Keeps (directed k s d ts)
+      directed_on k Macro ts h = unless s (understood (header_of ts)) _ (λ x e. defines_on x.0 x.1 (macro_of s.macros x.0))
+      directed_on k EndMacro ts h = alone s ts (leads (not_opened s)) tt
+      directed_on k ExitMacro ts h = alone s ts (leads (exit_macro s)) (exits_on (outside_macro s.left.items s.left.place) (outside_fit m (n + s.expansions) s.left.items s.left.room s.left.place fit.left))
+      directed_on k Local ts h = local_on ts h
+      directed_on k Repeat ts h = repeat_on k ts
+      directed_on k EndRepeat ts h = alone s ts (leads (not_opened s)) tt
+      directed_on k (If test) ts h = if_on k test ts
+      directed_on k ElseIf ts h = else_on (last_condition s)
+      directed_on k Else ts h = alone s ts (else_line s (last_condition s)) (else_on (last_condition s))
+      directed_on k EndIf ts h = alone s ts (leads (ended_if s (last_condition s))) (end_if_on (last_condition s))
+      directed_on k Include ts h = unless s (understood (string_of ts)) (include_file s) (λ file e. include_on file)
+      directed_on k Error ts h = unless s (understood (string_of ts)) (λ text. leads (stops (faults.Error text, s.left.place))) (λ text e. tt)
+      directed_on k End ts h = alone s ts (leads (goes (with_items s []))) (let few = fit.left.few in record { left = record { items = tt; place = fit.left.place; few = omega (arith, few) }; macros = fit.macros })
+
+    -- ---- Calls, and other lines.
+
+    calls_on : (s : State) (d : Definition) (arguments : List (List Lexeme)) (k : ℕ) → IsStateFit (n + suc k) s → AreAllFit m d.body → AreAllFit m arguments → length arguments ≤ k + 1 → IsKept (called s d arguments)
+    calls_on s d arguments k fit body all less = by (nat_le (length arguments) (length d.params))
       where
-        counts : (o : Option ℤ) (variable : List (List ℕ)) (r : Result ℕ ExpandFault) (h : ℕ × List (List ℕ)) → turns_of o ≡ r → (r >>= (λ i. Ok (i, variable))) ≡ Ok h → h.0 ≤ 65536
-        counts o variable (Ok i) h e j = let same : i ≡ h.0 = cc in subst (λ c. c ≤ 65536) same (turns_few o i e)
-        counts o variable (Err f) h e j = absurd cc
-
-        by : (r : Result (Tree × List (List ℕ)) ExpandFault) (h : ℕ × List (List ℕ)) → (r >>= (λ x. turns_of (k.value x.0) >>= (λ i. Ok (i, x.1)))) ≡ Ok h → h.0 ≤ 65536
-        by (Ok x) h e = counts (k.value x.0) x.1 (turns_of (k.value x.0)) h refl e
-        by (Err f) h e = absurd cc
-
-    include_on : (file : List ℕ) → Keeps n (include_file s file)
-    include_on file = λ q h. by q h
-      where
-        by : (q : Result (List ℕ × List ℕ) ExpandFault) → IsFileFit q → Keeps n (unless_refused s q (λ f. leads (included s f)))
-        by (Ok (name, bytes)) (text, all, short) = enters s (numbered 0 (lines_of bytes)) (mark_from s false (Some s.left.place)) (record { file = name; line = 0 }) fit (file_lines bytes all short) fit.left.place (text, omega arith) le
-        by (Err f) h = tt
-
-    directed_on : (k : Meaning) (d : Directive) (ts : List Lexeme) → Keeps n (directed k s d ts)
-    directed_on k Macro ts = macro_on ts
-    directed_on k EndMacro ts = alone s ts (leads (not_opened s)) tt
-    directed_on k ExitMacro ts = alone s ts (leads (exit_macro s)) (exits_on (outside_macro s.left.items s.left.place) (outside_fit (tokens_in s.left.items) s.left.items s.left.place fit.left.items fit.left.place (omega arith)))
-    directed_on k Local ts = local_on ts
-    directed_on k Repeat ts = repeat_on k ts
-    directed_on k EndRepeat ts = alone s ts (leads (not_opened s)) tt
-    directed_on k (If test) ts = if_on k test ts
-    directed_on k ElseIf ts = else_on (last_condition s)
-    directed_on k Else ts = alone s ts (else_line s (last_condition s)) (else_on (last_condition s))
-    directed_on k EndIf ts = alone s ts (leads (ended_if s (last_condition s))) (end_if_on (last_condition s))
-    directed_on k Include ts = unless s (understood (string_of ts)) (include_file s) (λ file e. include_on file)
-    directed_on k Error ts = unless s (understood (string_of ts)) (λ text. leads (stops (faults.Error text, s.left.place))) (λ text e. tt)
-    directed_on k End ts = alone s ts (leads (goes (with_items s []))) (record { left = record { items = tt; place = fit.left.place }; macros = fit.macros }, omega arith)
-
-  module _ (s : State) (fit : IsStateFit s) (ts : List Lexeme) (small : AreSmall ts) (le : tokens_left s.left + length ts ≤ n) where
-    calls_on : (d : Definition) (arguments : List (List Lexeme)) → AllSmall d.body → AllSmall arguments → length arguments ≤ length ts + 1 → IsKept n (called s d arguments)
-    calls_on d arguments body all less = by (nat_le (length arguments) (length d.params))
-      where
-        by : (b : Bool) → IsKept n (if b then entered (counted s) (map (played (given_to d arguments (s.expansions + 1))) d.body) (mark_from s true None) s.left.place else stops (faults.TooManyArguments, s.left.place))
-        by true = enters (counted s) (map (played (given_to d arguments (s.expansions + 1))) d.body) (mark_from s true None) s.left.place (record { left = fit.left; macros = fit.macros }) (played_fit (given_to d arguments (s.expansions + 1)) d.body (record { arguments = all; count = ((omega arith), tt); locals = tt }) body) tt fit.left.place (omega arith)
+        by : (b : Bool) → IsKept (if b then entered (counted s) (map (played (given_to d arguments (s.expansions + 1))) d.body) (mark_from s true None) s.left.place else stops (faults.TooManyArguments, s.left.place))
+        by true =
+            let few = fit.left.few in
+            let inner : IsStateFit n (counted s) = record { left = fewer m (n + (s.expansions + 1)) ((n + suc k) + s.expansions) s.left (omega arith) fit.left; macros = fit.macros } in
+            enters (counted s) (map (played (given_to d arguments (s.expansions + 1))) d.body) (mark_from s true None) s.left.place inner
+            (played_lines m (given_to d arguments (s.expansions + 1)) d.body (record { arguments = all; count = (omega (arith, few, less), tt); locals = tt; number = omega (arith, few) }) body) tt fit.left.place
         by false = tt
 
-  ordinary_on : (s : State) (ts : List Lexeme) → IsStateFit s → AreSmall ts → tokens_left s.left + length ts ≤ n → IsKept n (ordinary s ts)
-  ordinary_on s [] fit small le = (fit, omega arith)
-  ordinary_on s (t ∷ ts) fit small le = by (macro_at s.macros t) (macro_fit s.macros t fit.macros)
+    ordinary_on : (s : State) (ts : List Lexeme) → IsStateFit (n + length ts) s → AreFit m ts → IsKept (ordinary s ts)
+    ordinary_on s [] fit h = before n 0 s fit
+    ordinary_on s (t ∷ ts) fit h = by (macro_at s.macros t) (macro_fit s.macros t.0 t.1 fit.macros)
+      where
+        by : (o : Option Definition) → Each (λ d. AreAllFit m d.body) o → IsKept (called_or_given s t ts o)
+        by None j = (h, fit)
+        by (Some d) j = calls_on s d (arguments_of ts) (length ts) fit j (arguments_fit m ts h.1) (arguments_few ts)
+
+    acted_on : (k : Meaning) (s : State) (ts : List Lexeme) (o : Option Directive) → IsStateFit (n + length ts) s → AreFit m ts → Keeps (acted k s ts o)
+    acted_on k s ts (Some d) fit h = directed_on s (before n (length ts) s fit) k d (drop 1 ts) (all_drop (IsTokenFit m) 1 ts h)
+    acted_on k s ts None fit h = ordinary_on s ts fit h
+
+    split_on : (k : Meaning) (s : State) (ts : List Lexeme) (d : Option Directive) (len : ℕ) → IsStateFit (n + length ts) s → AreFit m ts → Keeps (split k s ts d len)
+    split_on k s ts d zero fit h = acted_on k s ts d fit h
+    split_on k s ts d (suc len) fit h =
+        let few = fit.left.few in
+        let front = length-take (suc len) ts in
+        let rest = length-drop (suc len) ts in
+        (all_take (IsTokenFit m) (suc len) ts h, record { left = record { items = (all_drop (IsTokenFit m) (suc len) ts h, fit.left.items); place = fit.left.place; few = omega (arith, few, front, rest) }; macros = fit.macros })
+
+    line_on : (k : Meaning) (s : State) (ts : List Lexeme) (b : Bool) → IsStateFit (n + length ts) s → AreFit m ts → Keeps (unless_mislabelled k s ts b)
+    line_on k s ts true fit h = tt
+    line_on k s ts false fit h = split_on k s ts (line_directive ts) (label_len ts) fit h
+
+    -- ---- A step.
+
+    mark_on : (s : State) (is : List Item) → IsStateFit n s → IsLeftFit m (n + s.expansions) (left is s.left.room s.left.place) → IsKept (at_mark s is)
+    mark_on s (mark k ∷ is) fit h = by (k.conditions == length s.conditions)
+      where
+        by : (b : Bool) → IsKept (if b then goes (with_left s (left is s.left.room (come_back s.left.place k.back))) else stops (NotClosed, s.left.place))
+        by true = record { left = behind_mark m (n + s.expansions) k is s.left.room s.left.place h; macros = fit.macros }
+        by false = tt
+    mark_on s _ fit h = tt
+
+    behind_on : (k : Meaning) (s : State) → IsStateFit n s → (t : Taken) → IsTakenFit m (n + s.expansions) t → Keeps (step_behind k s t)
+    behind_on k s fit (Ok (Some ts, x)) h = line_on k (with_left s x) ts (is_mislabelled ts) (record { left = fewer m ((n + length ts) + s.expansions) ((n + s.expansions) + length ts) x (omega arith) h.1; macros = fit.macros }) h.0
+    behind_on k s fit (Ok (None, x)) h = mark_on (with_left s x) x.items (record { left = h; macros = fit.macros }) h
+    behind_on k s fit (Err e) h = tt
+
+    -- the first line, and what else is left
+    from_on : (k : Meaning) (s : State) (is : List Item) → IsStateFit n s → IsLeftFit m (n + s.expansions) (left is s.left.room s.left.place) → Keeps (step_from k s is)
+    from_on k s (labelled ts ∷ is) fit h = let few = h.few in acted_on k (with_items s is) ts (front_directive ts) (record { left = record { items = h.items.1; place = h.place; few = omega (arith, few) }; macros = fit.macros }) h.items.0
+    from_on k s (branch ts ∷ is) fit h = if_on (with_items s is) (record { left = record { items = h.items.1; place = h.place; few = h.few }; macros = fit.macros }) k True ts
+    from_on k s _ fit h = λ t takes. behind_on k s fit t (taken_fit m (n + s.expansions) s.left t fit.left takes)
+
+  step_fit : (n : ℕ) (k : Meaning) (s : State) (r : Stepped) → IsStateFit n s → IsStep m k s r → IsKept n r
+  unfolding IsStep
+  step_fit n k s r fit step = led_fit n (step_from k s s.left.items) r (from_on n k s s.left.items fit fit.left) step
+
+  -- ---- What comes next.
+
+  abbrev pub IsNextFit : ℕ → Next → Type 0
+  IsNextFit n (statement x t) = AreFit m (tokens_of x) × IsStateFit (n + length (tokens_of x)) t
+  IsNextFit n (nothing t) = ⊤
+  IsNextFit n (fault e) = ⊤
+
+  pub next_fit : (n : ℕ) (k : Meaning) (s : State) (x : Next) → IsStateFit n s → Reaches m k s x → IsNextFit n x
+  next_fit n k s x fit (further _ t _ step more) = next_fit n k t x (step_fit n k s (goes t) fit step) more
+  next_fit n k s x fit (given _ t y step) = step_fit n k s (gives y t) fit step
+  next_fit n k s x fit (ended _ t step) = tt
+  next_fit n k s x fit (stopped _ e step) = tt
+
+  -- ---- A source's first state.
+
+  first_fit : (file : List ℕ) (folders : List (List ℕ)) (bytes : List ℕ) → IsFileFit m file bytes → IsStateFit 0 (first_state file folders bytes)
+  first_fit file folders bytes h =
+      let place : IsPlaceFit (in_line file 0) = (h.0, omega arith) in
+      let none : IsLeftFit m 0 (left [] line_limit (in_line file 0)) = record { items = tt; place = place; few = omega arith } in
+      record { left = pushed_fit m 0 (numbered 0 (lines_of bytes)) (record { is_macro = false; conditions = 0; back = None }) (left [] line_limit (in_line file 0)) (in_line file 0) none (file_lines m file bytes h) tt place; macros = tt }
+
+  -- a source that is opened
+  pub opened_file : (file : List ℕ) (folders : List (List ℕ)) (s : State) → opened_in m file folders ≡ Ok s → (bytes : List ℕ) × IsFileFit m file bytes × (first_state file folders bytes ≡ s)
+  opened_file file folders s h = by (file_named m file) refl h
     where
-      by : (o : Option Definition) → Each (λ d. AllSmall d.body) o → IsKept n (called_or_given s t ts o)
-      by None h = (small, fit, le)
-      by (Some d) h = let less = arguments_few ts in calls_on s fit (t ∷ ts) small le d (arguments_of ts) h (arguments_small ts small.1) (omega (arith, less))
+      within : (bytes : List ℕ) (b : Bool) → file_named m file ≡ Some bytes → nat_le (length bytes) 16777216 ≡ b → ((if b then Ok bytes else Err faults.FileTooLong) >>= (λ bytes. Ok (first_state file folders bytes))) ≡ Ok s → (bytes : List ℕ) × IsFileFit m file bytes × (first_state file folders bytes ≡ s)
+      within bytes true e short h = (bytes, named_fit m file bytes e (grind (arith, nat_tests)), cc)
+      within bytes false e short h = absurd cc
 
-  acted_on : (k : Meaning) (s : State) (ts : List Lexeme) (o : Option Directive) → IsStateFit s → AreSmall ts → tokens_left s.left + length ts ≤ n → Keeps n (acted k s ts o)
-  acted_on k s ts (Some d) fit small le = directed_on s fit (omega arith) k d (drop 1 ts)
-  acted_on k s ts None fit small le = ordinary_on s ts fit small le
+      by : (o : Option (List ℕ)) → file_named m file ≡ o → (bytes_in o >>= (λ bytes. Ok (first_state file folders bytes))) ≡ Ok s → (bytes : List ℕ) × IsFileFit m file bytes × (first_state file folders bytes ≡ s)
+      by None e h = absurd cc
+      by (Some bytes) e h = within bytes (nat_le (length bytes) 16777216) e refl h
 
-  -- ---- A line, or an end mark.
-
-  split_on : (k : Meaning) (s : State) (ts : List Lexeme) (d : Option Directive) (len : ℕ) → IsStateFit s → AreSmall ts → tokens_left s.left + length ts ≤ n → Keeps n (split k s ts d len)
-  split_on k s ts d zero fit small le = acted_on k s ts d fit small le
-  split_on k s ts d (suc len) fit small le =
-      let same = parted (suc len) ts in
-      (small_take (suc len) ts small, record { left = record { items = (small_drop (suc len) ts small, fit.left.items); place = fit.left.place }; macros = fit.macros }, omega (arith, same))
-
-  line_on : (k : Meaning) (s : State) (ts : List Lexeme) (b : Bool) → IsStateFit s → AreSmall ts → tokens_left s.left + length ts ≤ n → Keeps n (unless_mislabelled k s ts b)
-  line_on k s ts true fit small le = tt
-  line_on k s ts false fit small le = split_on k s ts (line_directive ts) (label_len ts) fit small le
-
-  mark_on : (s : State) (is : List Item) → IsStateFit s → AreItemsFit is → 4096 * s.left.room + tokens_in is ≤ n → IsKept n (at_mark s is)
-  mark_on s [] fit h le = tt
-  mark_on s (written i bytes ∷ is) fit h le = tt
-  mark_on s (played e ts ∷ is) fit h le = tt
-  mark_on s (labelled ts ∷ is) fit h le = tt
-  mark_on s (branch ts ∷ is) fit h le = tt
-  mark_on s (mark k ∷ is) fit h le = by (k.conditions == length s.conditions)
-    where
-      by : (b : Bool) → IsKept n (if b then goes (with_left s (left is s.left.room (come_back s.left.place k.back))) else stops (NotClosed, s.left.place))
-      by true = (record { left = record { items = h.1; place = back_fit s.left.place k.back fit.left.place h.0 }; macros = fit.macros }, omega arith)
-      by false = tt
-
-  behind_on : (k : Meaning) (s : State) → IsStateFit s → tokens_left s.left ≤ n → (t : Taken) → IsTakenFit (tokens_left s.left) t → Keeps n (step_behind k s t)
-  behind_on k s fit le (Ok (Some ts, x)) h =
-      let less = h.less in let short = h.few in
-      line_on k (with_left s x) ts (is_mislabelled ts) (record { left = h.behind; macros = fit.macros }) h.tokens (omega arith)
-  behind_on k s fit le (Ok (None, x)) h = let less = h.1 in mark_on (with_left s x) x.items (record { left = h.0; macros = fit.macros }) h.0.items (omega arith)
-  behind_on k s fit le (Err e) h = tt
-
-  taken_on : (k : Meaning) (s : State) → IsStateFit s → tokens_left s.left ≤ n → Keeps n (takes s.left (step_behind k s))
-  taken_on k s fit le = λ t takes. behind_on k s fit le t (taken_fit s.left t fit.left takes)
-
-  from_on : (k : Meaning) (s : State) (is : List Item) → s.left.items ≡ is → IsStateFit s → AreItemsFit is → 4096 * s.left.room + tokens_in is ≤ n → Keeps n (step_from k s is)
-  from_on k s (labelled ts ∷ is) e fit h le = acted_on k (with_items s is) ts (front_directive ts) (record { left = record { items = h.1; place = fit.left.place }; macros = fit.macros }) h.0 (omega arith)
-  from_on k s (branch ts ∷ is) e fit h le = if_on (with_items s is) (record { left = record { items = h.1; place = fit.left.place }; macros = fit.macros }) (omega arith) k True ts
-  from_on k s [] e fit h le = let same = ap tokens_in e in taken_on k s fit (omega (arith, same))
-  from_on k s (written i bytes ∷ is) e fit h le = let same = ap tokens_in e in taken_on k s fit (omega (arith, same))
-  from_on k s (played r ts ∷ is) e fit h le = let same = ap tokens_in e in taken_on k s fit (omega (arith, same))
-  from_on k s (mark i ∷ is) e fit h le = let same = ap tokens_in e in taken_on k s fit (omega (arith, same))
-
-step_fit : (m : Files) → HaveBytes m → (k : Meaning) (s : State) (r : Stepped) → IsStateFit s → tokens_left s.left ≤ 4294967296 → IsStep m k s r → IsKept (tokens_left s.left) r
-unfolding IsStep
-step_fit m all k s r fit few step = led_fit m all (tokens_left s.left) (step_from k s s.left.items) r (from_on (tokens_left s.left) few k s s.left.items refl fit fit.left.items (omega arith)) step
-
--- ---- What comes next.
-
-abbrev pub IsNextFit : ℕ → Next → Type 0
-IsNextFit n (statement x t) = AreSmall (tokens_of x) × IsStateFit t × (tokens_left t.left + length (tokens_of x) ≤ n)
-IsNextFit n (nothing t) = ⊤
-IsNextFit n (fault e) = ⊤
-
-fewer_still : (a b : ℕ) (n : Next) → b ≤ a → IsNextFit b n → IsNextFit a n
-fewer_still a b (statement x t) le h = let less = h.2 in (h.0, h.1, omega arith)
-fewer_still a b (nothing t) le h = tt
-fewer_still a b (fault e) le h = tt
-
-pub next_fit : (m : Files) → HaveBytes m → (k : Meaning) (s : State) (n : Next) → IsStateFit s → tokens_left s.left ≤ 4294967296 → Reaches m k s n → IsNextFit (tokens_left s.left) n
-next_fit m all k s n fit few (further _ t _ step more) =
-    let kept = step_fit m all k s (goes t) fit few step in
-    let less = kept.1 in
-    fewer_still (tokens_left s.left) (tokens_left t.left) n less (next_fit m all k t n kept.0 (omega arith) more)
-next_fit m all k s n fit few (given _ t x step) = step_fit m all k s (gives x t) fit few step
-next_fit m all k s n fit few (ended _ t step) = tt
-next_fit m all k s n fit few (stopped _ e step) = tt
-
--- ---- A source's first state.
-
-pub first_fit : (file : List ℕ) (folders : List (List ℕ)) (bytes : List ℕ) → is_utf8 file ≡ true → AreBytes bytes → length bytes ≤ 16777216 → IsStateFit (first_state file folders bytes)
-first_fit file folders bytes text all short = record {
-  left = record { items = lines_fit (numbered 0 (lines_of bytes)) (mark (record { is_macro = false; conditions = 0; back = None }) ∷ []) (file_lines bytes all short) (tt, tt); place = (text, omega arith) };
-  macros = tt;
-}
-
-pub first_tokens : (file : List ℕ) (folders : List (List ℕ)) (bytes : List ℕ) → AreBytes bytes → length bytes ≤ 16777216 → tokens_left (first_state file folders bytes).left ≤ 4294967296
-first_tokens file folders bytes all short = let same = lines_tokens (numbered 0 (lines_of bytes)) (mark (record { is_macro = false; conditions = 0; back = None }) ∷ []) (file_lines bytes all short) in omega (arith, same)
+  pub opened_fit : (file : List ℕ) (folders : List (List ℕ)) (s : State) → opened_in m file folders ≡ Ok s → IsStateFit 0 s
+  opened_fit file folders s h = let o = opened_file file folders s h in subst (IsStateFit 0) o.2 (first_fit file folders o.0 o.1)

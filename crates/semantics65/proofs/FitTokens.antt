@@ -1,13 +1,16 @@
--- The numbers in a line's tokens are small, and so those of expressions; no line has more tokens than bytes.
+-- The tokens of lines are fit: identifiers are names that objects can hold, and numbers are small, and so those of
+-- expressions; no line has more tokens than bytes.
 use Rattle.std.proofs.lemmas.Grind.{common_steps}
-use Rattle.std.proofs.Common.{arith, ◌≡◌, ℕ, zero, suc, ◌+◌, ◌<◌, ◌≤◌, Bool, true, false, List, [], ◌∷◌, length, take, drop, Option, Some, None, refl, subst, if◌then◌else◌}
+use Rattle.std.proofs.Common.{arith, ◌≡◌, ℕ, zero, suc, ◌+◌, ◌<◌, ◌≤◌, Bool, true, false, List, [], ◌∷◌, length, take, drop, Option, Some, None, refl, sym, subst, if◌then◌else◌}
 use Rattle.std.specs.Prelude.{⊤, Ok, nat_lt, ◌==◌, ◌&&◌, ◌-◌, slice_index, codes}
+use Rattle.std.specs.FinMap as fmap
 use Rattle.std.specs.List.{AllByRecursion, list_all, prefix_len}
 use Rattle.std.specs.Str.Parse.{digits_value}
 use Rattle.std.specs.Str.{str_eq_ignore_ascii_case}
 use Rattle.std.proofs.lemmas.Bool.Decides.{nat_tests}
 use Rattle.std.proofs.lemmas.List.{length-drop}
 use Rattle.base65.specs.Digit.{digits, is_digit}
+use Rattle.base65.specs.Store.{Files}
 use Rattle.base65.specs.declared.values.Op1.TheVariants as one
 use Rattle.syntax65.specs.Expressions.{IsParsed, leaf_of, opening_at, opening_of, opening_of_mark, opening_of_word, text_at, is_reserved, Phrase, a_leaf, a_name, a_global, prefixed, enclosed, of_level, joined, negated}
 use Rattle.syntax65.specs.Forms.{IsForm, IsToken, number_of, plain_number_of, is_blank}
@@ -20,21 +23,34 @@ use Rattle.syntax65.specs.declared.lexing.tokens.Mark.{Mark}
 use Rattle.syntax65.specs.declared.lexing.tokens.TokenKind.{TokenKind}
 use Rattle.syntax65.specs.declared.lexing.tokens.TokenKind.TheVariants as token
 use Rattle.syntax65.proofs.Fronts.{empty}
+use Rattle.object65.specs.Objects.{is_name}
+use Rattle.expand65.specs.Macros.{is_made}
+use Rattle.semantics65.specs.Numbering.{AreNamed, IsNamed}
+use Rattle.semantics65.proofs.Sounding.{tokens_named}
+
+-- ---- Parts of lists.
+
+pub all_drop : {A : Type 0} (P : A → Type 0) (n : ℕ) (xs : List A) → AllByRecursion P xs → AllByRecursion P (drop n xs)
+all_drop P zero xs h = h
+all_drop P (suc n) [] h = tt
+all_drop P (suc n) (x ∷ xs) h = all_drop P n xs h.1
+
+pub all_take : {A : Type 0} (P : A → Type 0) (n : ℕ) (xs : List A) → AllByRecursion P xs → AllByRecursion P (take n xs)
+all_take P zero xs h = tt
+all_take P (suc n) [] h = tt
+all_take P (suc n) (x ∷ xs) h = (h.0, all_take P n xs h.1)
 
 -- ---- Bytes.
 
+abbrev pub IsByte : ℕ → Type 0
+IsByte b = b < 256
+
 abbrev pub AreBytes : List ℕ → Type 0
-AreBytes bs = AllByRecursion (λ b. b < 256) bs
+AreBytes bs = AllByRecursion IsByte bs
 
-pub bytes_drop : (n : ℕ) (bs : List ℕ) → AreBytes bs → AreBytes (drop n bs)
-bytes_drop zero bs h = h
-bytes_drop (suc n) [] h = tt
-bytes_drop (suc n) (b ∷ bs) h = bytes_drop n bs h.1
-
-pub bytes_take : (n : ℕ) (bs : List ℕ) → AreBytes bs → AreBytes (take n bs)
-bytes_take zero bs h = tt
-bytes_take (suc n) [] h = tt
-bytes_take (suc n) (b ∷ bs) h = (h.0, bytes_take n bs h.1)
+-- files have bytes
+abbrev pub HaveBytes : Files → Type 0
+HaveBytes m = (name bytes : List ℕ) → fmap.get m name ≡ Some bytes → AreBytes bytes
 
 -- ---- Tokens.
 
@@ -50,15 +66,37 @@ IsSmall _ = ⊤
 abbrev pub AreSmall : List Lexeme → Type 0
 AreSmall ts = AllByRecursion (λ t. IsSmall t.0) ts
 
-pub small_drop : (n : ℕ) (ts : List Lexeme) → AreSmall ts → AreSmall (drop n ts)
-small_drop zero ts h = h
-small_drop (suc n) [] h = tt
-small_drop (suc n) (t ∷ ts) h = small_drop n ts h.1
+-- An identifier is a name, and a short one unless it was made. A number is small, and so is a character where the files
+-- have bytes.
+abbrev pub IsFit : Files → TokenKind → List ℕ → Type 0
+IsFit m token.Identifier t = (is_name t ≡ true) × (is_made t ≡ false → length t ≤ 200)
+IsFit m (token.Number v) t = v < number_limit
+IsFit m (token.Character c) t = HaveBytes m → c < number_limit
+IsFit m _ t = ⊤
 
-pub small_take : (n : ℕ) (ts : List Lexeme) → AreSmall ts → AreSmall (take n ts)
-small_take zero ts h = tt
-small_take (suc n) [] h = tt
-small_take (suc n) (t ∷ ts) h = (h.0, small_take n ts h.1)
+abbrev pub IsTokenFit : Files → Lexeme → Type 0
+IsTokenFit m t = IsFit m t.0 t.1
+
+abbrev pub AreFit : Files → List Lexeme → Type 0
+AreFit m ts = AllByRecursion (IsTokenFit m) ts
+
+is_named : (m : Files) (k : TokenKind) (t : List ℕ) → IsFit m k t → IsNamed k t
+is_named m x1 t h = grind (arith, common_steps)
+
+pub are_named : (m : Files) (ts : List Lexeme) → AreFit m ts → AreNamed ts
+are_named m [] h = tt
+are_named m (t ∷ ts) h = (is_named m t.0 t.1 h.0, are_named m ts h.1)
+
+is_small : (m : Files) (k : TokenKind) (t : List ℕ) → HaveBytes m → IsFit m k t → IsSmall k
+is_small m (token.Character c) t all h = h all
+is_small m (token.Number v) t all h = h
+is_small m _ t all h = tt
+
+pub are_small : (m : Files) (ts : List Lexeme) → HaveBytes m → AreFit m ts → AreSmall ts
+are_small m [] all h = tt
+are_small m (t ∷ ts) all h = (is_small m t.0 t.1 all h.0, are_small m ts all h.1)
+
+-- ---- The tokens of a line.
 
 digits_small : (radix : ℕ) (bs : List ℕ) (v : ℕ) → digits radix bs ≡ Some v → v < 4294967296
 digits_small radix [] v h = absurd cc
@@ -89,36 +127,38 @@ character_small : (c : ℕ) (text : List ℕ) → IsForm (token.Character c) tex
 character_small c [] form h = absurd form
 character_small c (b ∷ bs) form h = let all = subst AreBytes form.1 h.1 in let small : c < 256 = all.0 in omega (arith, small)
 
-token_small : (first : Bool) (k : TokenKind) (n : ℕ) (text : List ℕ) → IsToken first k n text → AreBytes text → IsSmall k
-token_small first (token.Number v) n text h bytes = let small = number_small (take n text) v h.value in omega (arith, small)
-token_small first (token.Character c) n text h bytes = character_small c (take n text) h.longest.stands.form (bytes_take n text bytes)
-token_small first _ n text h bytes = tt
+token_fit : (m : Files) (first : Bool) (k : TokenKind) (t text : List ℕ) → t ≡ take (length t) text → IsToken first k (length t) text → (HaveBytes m → AreBytes text) → IsNamed k t → IsFit m k t
+token_fit m first token.Identifier t text at is bytes named = (named, λ none. subst (λ (n : List ℕ). length n ≤ 200) (sym at) is.short)
+token_fit m first (token.Number v) t text at is bytes named = let small = number_small (take (length t) text) v is.value in omega (arith, small)
+token_fit m first (token.Character c) t text at is bytes named = λ all. character_small c (take (length t) text) is.longest.stands.form (all_take IsByte (length t) text (bytes all))
+token_fit m first _ t text at is bytes named = tt
 
-reads_small : (first : Bool) (line : List ℕ) (ts : List Lexeme) (end : Option LexFault) → Reads first line ts end → AreBytes line → AreSmall ts
-reads_small first line [] end h bytes = tt
-reads_small first line (t ∷ ts) end h bytes =
-    let text = bytes_drop (prefix_len is_blank line) line bytes in
-    (token_small first t.0 (length t.1) (after_blanks line) h.1 text, reads_small false (drop (length t.1) (after_blanks line)) ts end h.2 (bytes_drop (length t.1) (after_blanks line) text))
+tokens_fit : (m : Files) (first : Bool) (line : List ℕ) (ts : List Lexeme) (end : Option LexFault) → Reads first line ts end → (HaveBytes m → AreBytes line) → AreNamed ts → AreFit m ts
+tokens_fit m first line [] end h bytes named = tt
+tokens_fit m first line (t ∷ ts) end h bytes named =
+    let text : HaveBytes m → AreBytes (after_blanks line) = λ all. all_drop IsByte (prefix_len is_blank line) line (bytes all) in
+    (token_fit m first t.0 t.1 (after_blanks line) h.0 h.1 text named.0, tokens_fit m false (drop (length t.1) (after_blanks line)) ts end h.2 (λ all. all_drop IsByte (length t.1) (after_blanks line) (text all)) named.1)
 
 some_bytes : (first : Bool) (k : TokenKind) (n : ℕ) (text : List ℕ) → IsToken first k n text → 0 < n
 some_bytes first k zero text h = absurd (empty first k text h.longest.stands)
 some_bytes first k (suc n) text h = omega arith
 
-reads_few : (first : Bool) (line : List ℕ) (ts : List Lexeme) (end : Option LexFault) → Reads first line ts end → length ts ≤ length line
-reads_few first line [] end h = omega arith
-reads_few first line (t ∷ ts) end h =
-    let few = reads_few false (drop (length t.1) (after_blanks line)) ts end h.2 in
+tokens_few : (first : Bool) (line : List ℕ) (ts : List Lexeme) (end : Option LexFault) → Reads first line ts end → length ts ≤ length line
+tokens_few first line [] end h = omega arith
+tokens_few first line (t ∷ ts) end h =
+    let few = tokens_few false (drop (length t.1) (after_blanks line)) ts end h.2 in
     let some = some_bytes first t.0 (length t.1) (after_blanks line) h.1 in
     let room = h.1.longest.stands.room in
     let text = length-drop (prefix_len is_blank line) line in
     let rest = length-drop (length t.1) (after_blanks line) in
     omega (arith, few, some, room, text, rest)
 
-pub read_small : (line : List ℕ) (ts : List Lexeme) → IsRead line (Ok ts) → AreBytes line → AreSmall ts
-read_small line ts h bytes = reads_small true line ts None h.1 bytes
+-- a line's tokens are fit, and no more than these
+abbrev pub IsLineFit : Files → List Lexeme → Type 0
+IsLineFit m ts = AreFit m ts × (length ts ≤ 4096)
 
-pub read_few : (line : List ℕ) (ts : List Lexeme) → IsRead line (Ok ts) → length ts ≤ 4096
-read_few line ts h = let few = reads_few true line ts None h.1 in let short = h.0 in omega (arith, few, short)
+pub read_fit : (m : Files) (line : List ℕ) (ts : List Lexeme) → IsRead line (Ok ts) → (HaveBytes m → AreBytes line) → IsLineFit m ts
+read_fit m line ts h bytes = (tokens_fit m true line ts None h.1 bytes (tokens_named line ts h), (let few = tokens_few true line ts None h.1 in let short = h.0 in omega (arith, few, short)))
 
 -- ---- Expressions.
 

@@ -1,14 +1,17 @@
 -- What slots come to, one behind the other.
 use Rattle.std.proofs.Common.{◌≡◌, ◌∙◌, ℕ, List, [], ◌∷◌, ◌++◌, map, refl, sym, ap, subst, append_assoc, arith}
-use Rattle.std.specs.Prelude.{⊤, filter_map, Option, Some, None, Result, Ok, Err}
-use Rattle.std.specs.List.{AllByRecursion, flat_map}
+use Rattle.std.specs.Prelude.{⊤, filter_map, Result, Ok, Err}
+use Rattle.std.specs.List.{AllByRecursion}
 use Rattle.std.proofs.lemmas.Grind.{common_steps}
 use Rattle.std.proofs.lemmas.List.{append-nil}
 use Rattle.std.proofs.lemmas.List.Elements.{filter_map-append}
 use Rattle.base65.specs.Outcome.{◌>>=◌}
-use Rattle.semantics65.specs.Contents.{Content, Declaration}
-use Rattle.semantics65.specs.Module.{Finished, Made, Slot, coming, exported_name, exported_names, followed_by, resolved}
-use Rattle.semantics65.specs.Numbering.{all_said}
+use Rattle.syntax65.specs.declared.place.Place.{Place}
+use Rattle.object65.specs.declared.object.Export.{Export}
+use Rattle.object65.specs.declared.object.Origin.{Origin}
+use Rattle.semantics65.specs.Contents.{Content, Declaration, Exported, ForcedImport, Asserted, exported_name, exported_names}
+use Rattle.semantics65.specs.Module.{Finished, Made, Slot, coming, followed_by, resolved}
+use Rattle.semantics65.specs.Numbering.{all_said, export_of}
 use Rattle.semantics65.specs.Reading.{PlacedFault}
 use Rattle.semantics65.specs.Symbols.{Symbols}
 
@@ -48,6 +51,13 @@ resolved_stops y names cs said x xs e made = grind (arith, common_steps, append-
 pub names_append : (ss ts : List Declaration) → exported_names (ss ++ ts) ≡ exported_names ss ++ exported_names ts
 names_append ss ts = filter_map-append exported_name ss ts
 
+-- the names of an object's exports are those that were said
+pub exports_named : (at : Place → Origin) (s i : List ℕ) (ss : List Declaration) → map (λ (e : Export). e.name) (filter_map (export_of at s i) ss) ≡ exported_names ss
+exports_named at s i [] = refl
+exports_named at s i (Exported n place f ∷ ss) = ap (λ ns. n ∷ ns) (exports_named at s i ss)
+exports_named at s i (ForcedImport n ∷ ss) = exports_named at s i ss
+exports_named at s i (Asserted act place words f ∷ ss) = exports_named at s i ss
+
 -- ---- Contents, each with its slot.
 
 -- slots come to these contents, behind exports of these names
@@ -62,7 +72,7 @@ AreFound y names _ _ = ⊥
 behind_first : (y : Symbols) (names : List (List ℕ)) (x : Slot) (xs : List Slot) (m : Made) → coming y names x ≡ Ok m → (r : Result (List Content) PlacedFault) →
     ((ds : List Content) → r ≡ Ok ds → AreFound y (names ++ exported_names m.content.said) xs ds) → (cs : List Content) → (r >>= (λ ds. Ok (m.content ∷ ds))) ≡ Ok cs → AreFound y names (x ∷ xs) cs
 behind_first y names x xs m made (Err e) rest cs h = absurd cc
-behind_first y names x xs m made (Ok ds) rest cs h = (let same : (m.content ∷ ds) ≡ cs = cc in subst (AreFound y names (x ∷ xs)) same (m.warning, (made, rest ds refl)))
+behind_first y names x xs m made (Ok ds) rest cs h = (let same : (m.content ∷ ds) ≡ cs = cc in subst (AreFound y names (x ∷ xs)) same (m.warning, made, rest ds refl))
 
 with_first : (y : Symbols) (names : List (List ℕ)) (x : Slot) (xs : List Slot) (cs : List Content) (r : Result Made PlacedFault) → coming y names x ≡ r →
     ((m : Made) (ds : List Content) → (resolved y (names ++ exported_names m.content.said) xs).found ≡ Ok ds → AreFound y (names ++ exported_names m.content.said) xs ds) →
@@ -86,13 +96,13 @@ pub record Split (y : Symbols) (names : List (List ℕ)) (xs ys : List Slot) (cs
 pub found_split : (y : Symbols) (names : List (List ℕ)) (xs ys : List Slot) (cs : List Content) → AreFound y names (xs ++ ys) cs → Split y names xs ys cs
 found_split y names [] ys cs h = record { first = []; last = cs; all = refl; before = tt; behind = subst (λ ns. AreFound y ns ys cs) (sym (append-nil names)) h }
 found_split y names (x ∷ xs) ys [] h = absurd h
-found_split y names (x ∷ xs) ys (c ∷ cs) (w, (made, h)) =
+found_split y names (x ∷ xs) ys (c ∷ cs) (w, made, h) =
     let rest = found_split y (names ++ exported_names c.said) xs ys cs h in
     record {
       first = c ∷ rest.first;
       last = rest.last;
       all = ap (λ ds. c ∷ ds) rest.all;
-      before = (w, (made, rest.before));
+      before = (w, made, rest.before);
       behind = subst (λ ns. AreFound y ns ys rest.last) (append_assoc names (exported_names c.said) (exported_names (all_said rest.first)) ∙ ap (λ ns. names ++ ns) (sym (names_append c.said (all_said rest.first)))) rest.behind;
     }
 
@@ -103,4 +113,4 @@ pub found_all_so : (y : Symbols) (P : Slot → Type 0) (Q : Content → Type 0) 
 found_all_so y P Q so names [] [] all h = tt
 found_all_so y P Q so names [] (c ∷ cs) all h = absurd h
 found_all_so y P Q so names (x ∷ xs) [] all h = absurd h
-found_all_so y P Q so names (x ∷ xs) (c ∷ cs) (p, all) (w, (made, h)) = (so names x (record { content = c; warning = w }) p made, found_all_so y P Q so (names ++ exported_names c.said) xs cs all h)
+found_all_so y P Q so names (x ∷ xs) (c ∷ cs) (p, all) (w, made, h) = (so names x (record { content = c; warning = w }) p made, found_all_so y P Q so (names ++ exported_names c.said) xs cs all h)

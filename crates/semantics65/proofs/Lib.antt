@@ -3,14 +3,12 @@ pub mod FitForms
 pub mod FitItems
 pub mod FitKeys
 pub mod FitLayouts
+pub mod FitLines
 pub mod FitObjects
 pub mod FitStatements
 pub mod FitSteps
 pub mod FitTokens
 pub mod Found
-pub mod NamedItems
-pub mod NamedLines
-pub mod NamedSteps
 pub mod OneLayouts
 pub mod Passes
 pub mod Resolving

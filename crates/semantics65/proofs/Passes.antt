@@ -5,7 +5,7 @@ use Rattle.std.specs.Prelude.{⊤, Bool, true, false, Result, Ok, Err, if◌then
 use Rattle.std.specs.List.{flat_map}
 use Rattle.std.proofs.lemmas.List.{append-nil}
 use Rattle.base65.specs.Outcome.{◌>>=◌}
-use Rattle.semantics65.specs.Contents.{Content, asking}
+use Rattle.semantics65.specs.Contents.{Content, asking, exported_names}
 use Rattle.ast65.specs.declared.fault.AsmFault.{AsmFault}
 use Rattle.ast65.specs.declared.language.Statement.{Statement}
 use Rattle.syntax65.specs.declared.place.Place.{Place}
@@ -16,7 +16,7 @@ use Rattle.semantics65.specs.Numbering.{object_with}
 use Rattle.semantics65.specs.Machine.{LaidRuns, OnePass, RunsLaid, StandsFor, Puts, at_once, later, PutsAll, State, Steps, Takes, UnlessFault, asked, awaiting, begun, concluded, entered, known, running}
 use Rattle.semantics65.specs.Reading.{IsLaid, laying, PlacedFault}
 use Rattle.semantics65.specs.Norms.{Extends}
-use Rattle.semantics65.specs.Module.{Outcome, outcome_of, printed, warned, Made, Piece, pieces_of, Finished, Slot, holds, waits, coming, ending_of, exported_names, followed_by, resolved, slots_of}
+use Rattle.semantics65.specs.Module.{Outcome, outcome_of, printed, warned, Made, Piece, pieces_of, Finished, Slot, holds, waits, coming, ending_of, followed_by, resolved, slots_of}
 use Rattle.semantics65.proofs.Resolving.{extends_behind, extends_same, extends_then, flat_push, symbols_push}
 use Rattle.semantics65.proofs.OneLayouts.{Matches, Simulates, StandIn, source_matches}
 
@@ -29,32 +29,32 @@ IsSame y a b = (z : Symbols) (names : List (List ℕ)) → Extends y z → comin
 -- one by one
 abbrev pub AreSame : Symbols → List Slot → List Slot → Type 0
 AreSame y [] [] = ⊤
-AreSame y (a ∷ as) (b ∷ bs) = IsSame y a b × AreSame y as bs
+AreSame y (a ∷ xs) (b ∷ ys) = IsSame y a b × AreSame y xs ys
 AreSame y _ _ = ⊥
 
-same_append : (y : Symbols) (as bs cs ds : List Slot) → AreSame y as bs → AreSame y cs ds → AreSame y (as ++ cs) (bs ++ ds)
-same_append y [] [] cs ds h k = k
-same_append y [] (b ∷ bs) cs ds h k = absurd h
-same_append y (a ∷ as) [] cs ds h k = absurd h
-same_append y (a ∷ as) (b ∷ bs) cs ds (one, h) k = (one, same_append y as bs cs ds h k)
+same_append : (y : Symbols) (xs ys more others : List Slot) → AreSame y xs ys → AreSame y more others → AreSame y (xs ++ more) (ys ++ others)
+same_append y [] [] more others h k = k
+same_append y [] (b ∷ ys) more others h k = absurd h
+same_append y (a ∷ xs) [] more others h k = absurd h
+same_append y (a ∷ xs) (b ∷ ys) more others (one, h) k = (one, same_append y xs ys more others h k)
 
-same_later : (y z : Symbols) → Extends y z → (as bs : List Slot) → AreSame y as bs → AreSame z as bs
+same_later : (y z : Symbols) → Extends y z → (xs ys : List Slot) → AreSame y xs ys → AreSame z xs ys
 same_later y z more [] [] h = tt
-same_later y z more [] (b ∷ bs) h = absurd h
-same_later y z more (a ∷ as) [] h = absurd h
-same_later y z more (a ∷ as) (b ∷ bs) (one, h) = ((λ x names e. one x names (extends_then y z x more e)), same_later y z more as bs h)
+same_later y z more [] (b ∷ ys) h = absurd h
+same_later y z more (a ∷ xs) [] h = absurd h
+same_later y z more (a ∷ xs) (b ∷ ys) (one, h) = ((λ x names e. one x names (extends_then y z x more e)), same_later y z more xs ys h)
 
 same_behind : (r : Result Made PlacedFault) (f g : Made → Finished Content) → ((m : Made) → f m ≡ g m) → followed_by r f ≡ followed_by r g
 same_behind (Ok m) f g same = ap (λ (a : Finished Content). record { found = a.found >>= (λ cs. Ok (m.content ∷ cs)); warned = m.warning ++ a.warned }) (same m)
 same_behind (Err e) f g same = refl
 
-resolved_same : (y z : Symbols) → Extends y z → (names : List (List ℕ)) (as bs : List Slot) → AreSame y as bs → resolved z names as ≡ resolved z names bs
+resolved_same : (y z : Symbols) → Extends y z → (names : List (List ℕ)) (xs ys : List Slot) → AreSame y xs ys → resolved z names xs ≡ resolved z names ys
 resolved_same y z more names [] [] h = refl
-resolved_same y z more names [] (b ∷ bs) h = absurd h
-resolved_same y z more names (a ∷ as) [] h = absurd h
-resolved_same y z more names (a ∷ as) (b ∷ bs) (one, h) =
-    ap (λ r. followed_by r (λ m. resolved z (names ++ exported_names m.content.said) as)) (one z names more)
-    ∙ same_behind (coming z names b) (λ m. resolved z (names ++ exported_names m.content.said) as) (λ m. resolved z (names ++ exported_names m.content.said) bs) (λ m. resolved_same y z more (names ++ exported_names m.content.said) as bs h)
+resolved_same y z more names [] (b ∷ ys) h = absurd h
+resolved_same y z more names (a ∷ xs) [] h = absurd h
+resolved_same y z more names (a ∷ xs) (b ∷ ys) (one, h) =
+    ap (λ r. followed_by r (λ m. resolved z (names ++ exported_names m.content.said) xs)) (one z names more)
+    ∙ same_behind (coming z names b) (λ m. resolved z (names ++ exported_names m.content.said) xs) (λ m. resolved z (names ++ exported_names m.content.said) ys) (λ m. resolved_same y z more (names ++ exported_names m.content.said) xs ys h)
 
 -- ---- Pieces that are put.
 
@@ -104,7 +104,7 @@ known_for : (y : Layout) (place : Place) (x : Statement) (slots : List Slot) →
 known_for y place x slots = grind (arith, common_steps, symbols_push, flat_push)
 
 -- a statement asks for its section, or doesn't
-asking_slots : Laid → List Slot
+abbrev asking_slots : Laid → List Slot
 asking_slots l = if asks_section l.stated then holds (asking l.context.segment) ∷ [] else []
 
 asked_is : (t : State) (l : Laid) → asked t l ≡ holding t (t.slots ++ asking_slots l)
@@ -130,9 +130,9 @@ statement_follows y slots place x u comes puts =
     let all = same_append z slots (flat_map slots_of y.laid) (asking_slots l ++ put.slots) (slots_of l) comes own in
     let grows = subst (Extends z) (sym (symbols_push y.laid l)) (extends_behind z l) in
     record {
-      slots = slots ++ asking_slots l ++ put.slots;
+      slots = slots ++ (asking_slots l ++ put.slots);
       same = ap (λ v. known v l) put.same ∙ known_for y place x ((slots ++ asking_slots l) ++ put.slots) ∙ ap (state_for (layout_behind y place x)) (append_assoc slots (asking_slots l) put.slots);
-      comes = subst (AreSame (symbols_of (y.laid ++ l ∷ [])) (slots ++ asking_slots l ++ put.slots)) (sym (flat_push slots_of y.laid l)) (same_later z (symbols_of (y.laid ++ l ∷ [])) grows (slots ++ asking_slots l ++ put.slots) (flat_map slots_of y.laid ++ slots_of l) all);
+      comes = subst (AreSame (symbols_of (y.laid ++ l ∷ [])) (slots ++ (asking_slots l ++ put.slots))) (sym (flat_push slots_of y.laid l)) (same_later z (symbols_of (y.laid ++ l ∷ [])) grows (slots ++ (asking_slots l ++ put.slots)) (flat_map slots_of y.laid ++ slots_of l) all);
     }
 
 step_follows : (y : Layout) (slots : List Slot) (place : Place) (x : Statement) (r : Result State AsmFault) → AreSame (symbols_of y.laid) slots (flat_map slots_of y.laid) → (o : Option AsmFault) → UnlessFault o (Steps (state_for y slots) (laid (symbols_of y.laid) y.cursor place x)) r → Matches Follows (λ q. q ≡ unless_fault o (layout_behind y place x)) r

@@ -1,6 +1,6 @@
 -- What waits, resolved by a symbol table that grew.
 use Rattle.std.proofs.Common.{◌≡◌, ◌∙◌, ℕ, List, [], ◌∷◌, ◌++◌, refl, sym, ap, false, arith}
-use Rattle.std.specs.Prelude.{if◌then◌else◌, IfOk, Ok}
+use Rattle.std.specs.Prelude.{if◌then◌else◌, IfOk}
 use Rattle.std.specs.List.{flat_map, list_any}
 use Rattle.std.specs.Str.{bytes_eq}
 use Rattle.std.proofs.lemmas.Grind.{common_steps, flat_map-append}

@@ -17,11 +17,10 @@ use Rattle.syntax65.specs.declared.lexing.tokens.AddressSize.{AddressSize}
 use Rattle.object65.specs.Form.{Form, lit, sec, imp, prefix, binary}
 use Rattle.object65.specs.Objects.{is_file_name, value_bytes, width_len}
 use Rattle.object65.specs.declared.object.Width.{Width}
-use Rattle.semantics65.specs.Contents.{Content, Declaration, ForcedImport, Part, Waiting, asking, decided, export_said, file_bytes, import_fault, opcode_part, operand_form, operand_tree, put, room_part, stored, telling, written}
+use Rattle.semantics65.specs.Contents.{Content, Declaration, ForcedImport, Part, Waiting, asking, decided, export_said, file_bytes, import_fault, opcode_part, operand_form, operand_tree, put, room_part, stored, telling, written, exported_names}
 use Rattle.syntax65.specs.declared.place.Place.{Place}
 use Rattle.semantics65.specs.Symbols.{Laid, asks_section, defined, has_here, named, Symbols}
-use Rattle.semantics65.specs.declared.laid.Settled.{Settled}
-use Rattle.semantics65.specs.declared.laid.Settled.TheVariants.{Unsettled, FromByte}
+use Rattle.semantics65.specs.declared.laid.Settled.TheVariants.{FromByte}
 use Rattle.semantics65.specs.declared.laid.Context.{Context}
 use Rattle.ast65.specs.declared.fault.AsmFault.{AsmFault}
 use Rattle.ast65.specs.declared.language.Item.{Item}
@@ -31,11 +30,11 @@ use Rattle.ast65.specs.declared.language.Statement.TheVariants.{Constant, Instru
 use Rattle.ast65.specs.declared.language.Operand.TheVariants as operand
 use Rattle.ast65.specs.declared.language.Item.TheVariants.{Value, Text}
 use Rattle.ast65.specs.declared.language.Index.{Index}
-use Rattle.semantics65.specs.Module.{Made, Piece, absent_of, as_part, as_said, asserted, coming, datum, demanded, equated, exported, exported_names, failed, given, holds, imported, instruction_pieces, item_piece, made_of, operand_pieces, pieces_of, quietly, slots_of, used, valued, waiting_at, waits}
+use Rattle.semantics65.specs.Module.{Made, Piece, absent_of, as_part, as_said, asserted, coming, datum, demanded, equated, exported, failed, given, holds, imported, instruction_pieces, item_piece, made_of, operand_pieces, pieces_of, quietly, slots_of, used, valued, waiting_at, waits}
 use Rattle.semantics65.specs.Module as purpose
 use Rattle.semantics65.specs.Norms.{norm_of, address_mode, branch_mode, bytes_between, fill_settled, first_of, is_branch, item_len, length_of, mode_len, mode_of, mode_settled, operand_len, part_len as file_len, part_start, settled_of, size_of, width_of}
 use Rattle.semantics65.specs.Numbering.{imports_in, IsMeasured, IsSoundAt, IsSoundForm, part_len, parts_in, sections_in}
-use Rattle.semantics65.specs.Reading.{at_place}
+use Rattle.semantics65.specs.Reading.{PlacedFault, at_place}
 use Rattle.semantics65.proofs.Found.{AreFound}
 use Rattle.semantics65.proofs.SoundForms.{Holds, IsWell, Pass, norm_well, well_then}
 
@@ -159,7 +158,7 @@ made_long y place s (imported n) = said_long s.segment (import_fault y n)
 made_long y place s (demanded n) = told_long s.segment (ForcedImport n ∷ [])
 made_long y place s (exported must n) = said_long s.segment (export_said y place n (absent_of must n) (defined y (named 0 n)))
 
-placed_ok : {A : Type 0} (P : A → Type 0) (place : Place) (r : Result A AsmFault) → IfOk r P → IfOk (at_place place r) P
+pub placed_ok : {A : Type 0} (P : A → Type 0) (place : Place) (r : Result A AsmFault) → IfOk r P → IfOk (at_place place r) P
 placed_ok P place (Ok x) h = h
 placed_ok P place (Err e) h = tt
 
@@ -189,7 +188,7 @@ parts_cons c cs g = by (nat_eq c.segment g)
     by : (b : Bool) → sum_by part_len (flat_map (λ (d : Content). d.parts) (if b then c ∷ filter (λ (d : Content). nat_eq d.segment g) cs else filter (λ (d : Content). nat_eq d.segment g) cs))
         ≡ sum_by part_len (flat_map (λ (d : Content). d.parts) (if b then c ∷ [] else [])) + sum_by part_len (parts_in cs g)
     by true = sum_by-append part_len c.parts (parts_in cs g) ∙ ap (λ ps. sum_by part_len ps + sum_by part_len (parts_in cs g)) (sym (append-nil c.parts))
-    by false = refl
+    by false = omega arith
 
 there_plus : (b : Bool) (m n : ℕ) → there b m + there b n ≡ there b (m + n)
 there_plus true m n = refl
@@ -206,7 +205,7 @@ pieces_long : (y : Symbols) (names : List (List ℕ)) (l : Laid) (g : ℕ) (ps :
 pieces_long y names l g [] [] h = nothing_there (nat_eq l.context.segment g)
 pieces_long y names l g [] (c ∷ cs) h = absurd h
 pieces_long y names l g (p ∷ ps) [] h = absurd h
-pieces_long y names l g (p ∷ ps) (c ∷ cs) (w, (made, h)) =
+pieces_long y names l g (p ∷ ps) (c ∷ cs) (w, made, h) =
     let b = nat_eq l.context.segment g in
     parts_cons c cs g
     ∙ ap (λ n. n + sum_by part_len (parts_in cs g)) (if_found (λ (m : Made). IsLong l.context.segment (piece_len p) m.content) (coming y names (waiting_at l p)) (record { content = c; warning = w }) made (coming_long y names l.place l.context p) g)
@@ -214,13 +213,20 @@ pieces_long y names l g (p ∷ ps) (c ∷ cs) (w, (made, h)) =
     ∙ there_plus b (piece_len p) (sum_by piece_len ps)
     ∙ ap (there b) (sym (sum_by-cons piece_len p ps))
 
+none_first : (n : ℕ) → 0 + n ≡ n
+none_first n = omega arith
+
+pub content_is : (m n : Made) → ◌≡◌ {A = Result Made PlacedFault} (Ok m) (Ok n) → m.content ≡ n.content
+content_is m n e = (let same : m ≡ n = cc in ap (λ (x : Made). x.content) same)
+
 asked_long : (y : Symbols) (names : List (List ℕ)) (l : Laid) (g : ℕ) (b : Bool) (cs : List Content) → AreFound y names ((if b then holds (asking l.context.segment) ∷ [] else []) ++ map (waiting_at l) (pieces_of l.length l.settled l.stated)) cs →
     sum_by part_len (parts_in cs g) ≡ there (nat_eq l.context.segment g) (sum_by piece_len (pieces_of l.length l.settled l.stated))
 asked_long y names l g false cs h = pieces_long y names l g (pieces_of l.length l.settled l.stated) cs h
 asked_long y names l g true [] h = absurd h
-asked_long y names l g true (c ∷ cs) (w, (made, h)) =
-    let is : asking l.context.segment ≡ c = cc in
+asked_long y names l g true (c ∷ cs) (w, made, h) =
+    let is : asking l.context.segment ≡ c = content_is (quietly (asking l.context.segment)) (record { content = c; warning = w }) made in
     parts_cons c cs g ∙ ap (λ n. n + sum_by part_len (parts_in cs g)) (ap (λ (d : Content). sum_by part_len (parts_in (d ∷ []) g)) (sym is) ∙ asking_long l.context.segment g)
+    ∙ none_first (sum_by part_len (parts_in cs g))
     ∙ pieces_long y (names ++ exported_names c.said) l g (pieces_of l.length l.settled l.stated) cs h
 
 -- ---- Forms of instructions.
@@ -316,7 +322,7 @@ one_long p len h = sum_by-cons piece_len (given p) [] ∙ (let same = h in omega
 
 silent : (make : List ℕ → Piece) → ((n : List ℕ) → piece_len (make n) ≡ 0) → (names : List (List ℕ)) → sum_by piece_len (map make names) ≡ 0
 silent make is [] = refl
-silent make is (n ∷ names) = sum_by-cons piece_len (make n) (map make names) ∙ ap (λ k. k + sum_by piece_len (map make names)) (is n) ∙ silent make is names
+silent make is (n ∷ names) = (let first = is n in let more = silent make is names in sum_by-cons piece_len (make n) (map make names) ∙ omega (arith, first, more))
 
 measured_long : (before : Symbols) (s : Context) (own : AddressSize) (x : Statement) → sum_by piece_len (pieces_of (length_of before s own x) (settled_of before s own x) x) ≡ length_of before s own x
 measured_long before s own (Instruction m o) = instruction_long m o (mode_of before s own m o) (operand_mode before s own m o)
@@ -328,7 +334,7 @@ measured_long before s own (Constant n e) = refl
 measured_long before s own (Import size names) = silent imported (λ n. refl) names
 measured_long before s own (Export names) = silent (exported true) (λ n. refl) names
 measured_long before s own (Global size names) = silent (exported false) (λ n. refl) names
-measured_long before s own (ForceImport names) = sum_by-append piece_len (map imported names) (map demanded names) ∙ ap (λ n. n + sum_by piece_len (map demanded names)) (silent imported (λ n. refl) names) ∙ silent demanded (λ n. refl) names
+measured_long before s own (ForceImport names) = sum_by-append piece_len (map imported names) (map demanded names) ∙ ap (λ n. n + sum_by piece_len (map demanded names)) (silent imported (λ n. refl) names) ∙ none_first (sum_by piece_len (map demanded names)) ∙ silent demanded (λ n. refl) names
 measured_long before s own (Assert e act words) = refl
 measured_long before s own _ = refl
 

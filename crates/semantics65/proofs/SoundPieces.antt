@@ -1,6 +1,6 @@
 -- What the pieces of sound statements put and say.
 use Rattle.std.proofs.lemmas.Grind.{common_steps}
-use Rattle.std.proofs.Common.{arith, ◌≡◌, List, [], ◌∷◌, ◌++◌, refl, Result, Ok, Err, ℕ, zero, suc, ◌<◌, ◌≤◌, Bool, true, false, sym, subst, length, map, pos, negsuc, Option, Some, None}
+use Rattle.std.proofs.Common.{arith, ◌≡◌, List, [], ◌∷◌, refl, Result, Ok, Err, ℕ, zero, suc, ◌<◌, ◌≤◌, Bool, true, false, length, map, pos, negsuc, Option, Some, None}
 use Rattle.std.specs.Prelude.{⊤, IfOk, ◌&&◌}
 use Rattle.std.specs.List.{AllByRecursion, list_all}
 use Rattle.base65.specs.Outcome.{◌>>=◌}
@@ -19,7 +19,7 @@ use Rattle.ast65.specs.declared.language.Item.TheVariants.{Value, Text}
 use Rattle.ast65.specs.declared.language.Operand.{Operand}
 use Rattle.ast65.specs.declared.language.Statement.{Statement}
 use Rattle.ast65.specs.declared.language.Statement.TheVariants.{Constant, Instruction, Values, Reserve, Align, FilePart, Import, Export, Global, ForceImport, Assert}
-use Rattle.semantics65.specs.Contents.{Content, Declaration, Exported, ForcedImport, Asserted, Part, Waiting, decided, export_said, import_fault, opcode_part, operand_form, operand_tree, room_part, stored, telling, written}
+use Rattle.semantics65.specs.Contents.{Declaration, Exported, Asserted, Part, Waiting, decided, export_said, import_fault, opcode_part, operand_form, operand_tree, room_part, stored, telling, written}
 use Rattle.semantics65.specs.Symbols.{asks_section, has_here, Symbols, defined, named}
 use Rattle.semantics65.specs.declared.laid.Settled.{Settled}
 use Rattle.semantics65.specs.declared.laid.Settled.TheVariants.{InMode}

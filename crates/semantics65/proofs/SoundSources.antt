@@ -1,6 +1,6 @@
 -- What a source lays is sound: its statements are of names that objects can hold.
 use Rattle.std.proofs.lemmas.Grind.{common_steps}
-use Rattle.std.proofs.Common.{arith, ◌≡◌, ℕ, List, [], ◌∷◌, Option, Some, None, refl, sym, subst}
+use Rattle.std.proofs.Common.{arith, ◌≡◌, ℕ, ◌+◌, List, [], ◌∷◌, length, Option, Some, None, refl, sym, subst}
 use Rattle.std.specs.Prelude.{Result, Ok, Err}
 use Rattle.std.specs.Option.{option_map_or}
 use Rattle.base65.specs.Outcome.{◌>>=◌, First}
@@ -20,8 +20,8 @@ use Rattle.ast65.specs.Parsing.{IsStatement, label_before, label_of}
 use Rattle.semantics65.proofs.Sounding.{statement_sound}
 use Rattle.semantics65.specs.Machine.{SoundLayoutLaw}
 use Rattle.semantics65.specs.Reading.{IsLaid, laying, AreDefined, AreTaken, taken, faulty, refused, ended, Define, IsBegun, IsGiven, IsLabel, IsLabelled, IsRest, Job, Reached, with_bytes}
-use Rattle.semantics65.proofs.NamedSteps.{IsStateFit, first_fit, next_fit, tokens_of}
-use Rattle.semantics65.proofs.NamedLines.{are_named}
+use Rattle.semantics65.proofs.FitSteps.{IsStateFit, opened_fit, next_fit, tokens_of}
+use Rattle.semantics65.proofs.FitTokens.{are_named}
 use Rattle.semantics65.proofs.SoundLayouts.{IsGood, good_statement, nothing_good, sound_from}
 
 -- ---- A label and what stands behind it.
@@ -77,13 +77,13 @@ good_given m y z place (expand.plain ts) good named h = good_rest m y z place ts
 
 -- ---- All statements.
 
-good_taken : (m : Files) (s : expand.State) (y : Layout) (r : Reached Layout) → IsStateFit 0 s → IsGood y → AreTaken m laying s y r → IsGood r.behind
-good_taken m s y r fit good (taken _ t x _ z _ reaches is more) =
-    let next = next_fit m (laying.meaning y) s (statement x t) fit reaches in
-    good_taken m t z r next.1 (good_given m y z t.left.place x good (are_named (tokens_of x) next.0) is) more
-good_taken m s y r fit good (faulty _ t x _ e reaches is) = good
-good_taken m s y r fit good (refused _ _ e place reaches) = good
-good_taken m s y r fit good (ended _ t _ reaches) = good
+good_taken : (m : Files) (n : ℕ) (s : expand.State) (y : Layout) (r : Reached Layout) → IsStateFit m n s → IsGood y → AreTaken m laying s y r → IsGood r.behind
+good_taken m n s y r fit good (taken _ t x _ z _ reaches is more) =
+    let next = next_fit m n (laying.meaning y) s (statement x t) fit reaches in
+    good_taken m (n + length (tokens_of x)) t z r next.1 (good_given m y z t.left.place x good (are_named m (tokens_of x) next.0) is) more
+good_taken m n s y r fit good (faulty _ t x _ e reaches is) = good
+good_taken m n s y r fit good (refused _ _ e place reaches) = good
+good_taken m n s y r fit good (ended _ t _ reaches) = good
 
 -- a constant of the command line has no name that an object holds
 good_defined : (y z : Layout) (place : Place) (ds : List Define) → IsGood y → AreDefined IsLaid y place ds (Ok z) → IsGood z
@@ -96,18 +96,11 @@ good_defined y z place (d ∷ ds) good h = by h.0 h.1 h.2 (λ w. good_defined w 
 
 -- ---- A source.
 
-pub opened_fit : (m : Files) (file : List ℕ) (folders : List (List ℕ)) (s : expand.State) → opened_in m file folders ≡ Ok s → IsStateFit 0 s
-opened_fit m file folders s h = by (bytes_in (file_named m file)) h
-  where
-    by : (q : Result (List ℕ) ExpandFault) → (q >>= (λ bytes. Ok (first_state file folders bytes))) ≡ Ok s → IsStateFit 0 s
-    by (Ok bytes) e = let same : first_state file folders bytes ≡ s = cc in subst (IsStateFit 0) same (first_fit file folders bytes)
-    by (Err f) e = absurd cc
-
 good_behind : (q r : Reached Layout) → r ≡ q → IsGood q.behind → IsGood r.behind
 good_behind q r e good = subst (λ (x : Reached Layout). IsGood x.behind) (sym e) good
 
-good_begun : (m : Files) (job : Job) (o : Result expand.State ExpandFault) (r : Reached Layout) → ((s : expand.State) → o ≡ Ok s → IsStateFit 0 s) → IsBegun m laying job nothing_laid o r → IsGood r.behind
-good_begun m job x1 r fit h = grind (arith, common_steps, good_behind, nothing_good, good_taken, good_defined)
+good_begun : (m : Files) (job : Job) (o : Result expand.State ExpandFault) (r : Reached Layout) → ((s : expand.State) → o ≡ Ok s → IsStateFit m 0 s) → IsBegun m laying job nothing_laid o r → IsGood r.behind
+good_begun m job x1 r fit h = grind (arith, common_steps, good_behind, nothing_good, (good_taken m 0), good_defined)
 
 pub sound_layout : SoundLayoutLaw
 sound_layout m job r h = sound_from r.behind (good_begun m job (opened_in m job.source job.include) r (opened_fit m job.source job.include) h)

@@ -1,5 +1,5 @@
 -- The object of a module, piece by piece.
-use Rattle.std.specs.Prelude.{◌≡◌, ℕ, zero, pos, Option, Some, None, Bool, true, false, List, [], ◌∷◌, ◌++◌, codes, decimal, filter_map, Result, Ok, Err, if◌then◌else◌, map}
+use Rattle.std.specs.Prelude.{◌≡◌, ℕ, zero, pos, Option, Some, None, Bool, true, false, List, [], ◌∷◌, ◌++◌, codes, decimal, Result, Ok, Err, if◌then◌else◌, map}
 use Rattle.std.specs.List.{flat_map, list_any}
 use Rattle.std.specs.Str.{bytes_eq}
 use Rattle.base65.specs.Outcome.{◌>>=◌}
@@ -7,7 +7,7 @@ use Rattle.base65.specs.Store.{Files}
 use Rattle.object65.specs.Form.{Form, lit}
 use Rattle.semantics65.specs.Types.{Action, Object, AsmFault, Place, Statement, Mnemonic, Width, NotDefined, Item, Operand, Constant, Instruction, Values, Reserve, Align, FilePart, Import, Export, Global, ForceImport, Assert, Value, Text, Settled, InMode, Context}
 use Rattle.object65.specs.declared.object.Action.TheVariants as action
-use Rattle.semantics65.specs.Contents.{Content, Part, Known, Declaration, Exported, ForcedImport, asking, put, telling, decided, export_said, file_bytes, import_fault, opcode_part, operand_form, operand_tree, room_part, stored}
+use Rattle.semantics65.specs.Contents.{Content, Part, Known, Declaration, ForcedImport, asking, put, telling, decided, export_said, exported_names, file_bytes, import_fault, opcode_part, operand_form, operand_tree, room_part, stored}
 use Rattle.semantics65.specs.Symbols.{Laid, Symbols, asks_section, symbols_of, defined, named}
 use Rattle.ast65.specs.declared.language.Statement.TheVariants as statement
 use Rattle.semantics65.specs.Layout.{Layout}
@@ -155,14 +155,6 @@ abbrev pub slots_of : Laid → List Slot
 slots_of l =
     (if asks_section l.stated then holds (asking l.context.segment) ∷ [] else [])
     ++ map (waiting_at l) (pieces_of l.length l.settled l.stated)
-
-abbrev pub exported_name : Declaration → Option (List ℕ)
-exported_name (Exported n place f) = Some n
-exported_name s = None
-
--- the names that are exported among what is said
-abbrev pub exported_names : List Declaration → List (List ℕ)
-exported_names ss = filter_map exported_name ss
 
 -- an export of one of these names, which were exported before: it does nothing
 abbrev pub is_repeated : List (List ℕ) → Piece → Bool

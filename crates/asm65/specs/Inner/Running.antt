@@ -24,12 +24,12 @@ use Rattle.symbols65.specs.Resolving.{IsTable}
 use Rattle.asm65.specs.Inner.Holding.{Holds}
 use Rattle.asm65.specs.Assembly.{Without, is_outside_refusal, placed_of}
 use Rattle.std.specs.Option.{option_map, unwrap_or}
-use Rattle.semantics65.specs.Contents.{Content, put, telling, written}
+use Rattle.semantics65.specs.Contents.{Content, put, telling, written, exported_names}
 use Rattle.semantics65.specs.declared.contents.Declaration.{Declaration}
 use Rattle.semantics65.specs.declared.laid.Context.{Context}
 use Rattle.semantics65.specs.Symbols.{Symbols, defined, named}
 use Rattle.semantics65.specs.Views.{part_at, said_at}
-use Rattle.semantics65.specs.Module.{warning_at, Made, Piece, as_said, made_of, is_repeated, exported_names, Slot, coming, holds, resolved}
+use Rattle.semantics65.specs.Module.{warning_at, Made, Piece, as_said, made_of, is_repeated, Slot, coming, holds, resolved}
 use Rattle.semantics65.specs.Numbering.{AreSound, all_said, object_with}
 use Rattle.object65.specs.declared.object.Object.{Object}
 use Rattle.semantics65.specs.declared.contents.Segment.{Segment}

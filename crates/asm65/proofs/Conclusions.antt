@@ -83,17 +83,17 @@ known_slot files (Told o ss) h = refl
 known_slot files (Waits w) h = absurd (h w refl)
 
 -- and stays as it is
-pub known_settled : (y : Symbols) (files : List (List ℕ)) (e : Entry) (old new : Ending) → ((w : Box Fixup) → e ≡ Waits w → ⊥) → new.exported ≡ old.exported → new.err ≡ old.err → AreFed files (e ∷ []) → IsSettled y files (slot_of files e) e old new
-known_settled y files e old new h exported err fed =
+pub known_settled : (y : Symbols) (files : List (List ℕ)) (e : Entry) (now : Ending) → ((w : Box Fixup) → e ≡ Waits w → ⊥) → AreFed files (e ∷ []) → IsSettled y files (slot_of files e) e now now
+known_settled y files e now h fed =
     let is = known_slot files e h in
     let unsaid : (content_of files e).said ≡ [] = none_first (content_of files e).said [] (subst (λ (x : Slot). all_said (contents_so_far (x ∷ [])) ≡ []) is fed.unsaid) in
     record {
       made = quietly (content_of files e);
-      found = ap (coming y (names_of old.exported)) is;
+      found = ap (coming y (names_of now.exported)) is;
       entry = is;
       standing = left (stands_in (length files) e) true fed.standing;
-      names = ap names_of exported ∙ sym (append-nil (names_of old.exported)) ∙ ap (λ ss. names_of old.exported ++ exported_names ss) (sym unsaid);
-      err = err ∙ sym (append-nil old.err);
+      names = sym (append-nil (names_of now.exported)) ∙ ap (λ ss. names_of now.exported ++ exported_names ss) (sym unsaid);
+      err = sym (append-nil now.err);
     }
 
 -- ---- Slots come to their contents one behind the other.

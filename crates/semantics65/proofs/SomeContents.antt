@@ -86,7 +86,7 @@ coming_own y names (holds c) = good _
 coming_own y names (waits w) =
     placed_own w.place _ (choice (is_repeated names w.piece) _ _ (good _) (made_own y w.place w.context w.piece))
 
-followed_own : (r : Result Made PlacedFault) (rest : Made → Finished Content) → Own is_found_outside r → ((m : Made) → Own is_found_outside (rest m).found) → Own is_found_outside (followed_by r rest).found
+followed_own : (r : Result Made PlacedFault) (rest : Made → Finished) → Own is_found_outside r → ((m : Made) → Own is_found_outside (rest m).found) → Own is_found_outside (followed_by r rest).found
 followed_own (Ok m) rest h k = next (rest m).found _ (k m) (λ cs. good _)
 followed_own (Err e) rest h k = bad e h.own
 

@@ -7,13 +7,12 @@ use Rattle.std.specs.List.{AllByRecursion}
 use Rattle.std.specs.Str.{is_utf8}
 use Rattle.std.proofs.lemmas.Bool.Decides.{nat_tests}
 use Rattle.base65.specs.Store.{Files}
-use Rattle.syntax65.specs.Tokens.{IsRead, Lexeme}
+use Rattle.syntax65.specs.Tokens.{Lexeme}
 use Rattle.syntax65.specs.declared.fault.ExpandFault.{ExpandFault}
-use Rattle.syntax65.specs.declared.lexing.tokens.LexFault.{LexFault}
 use Rattle.syntax65.specs.declared.place.Place.{Place}
-use Rattle.expand65.specs.Blocks.{Block, a_fault, a_mark, a_refusal, the_last, one_more, with_line, Whole}
+use Rattle.expand65.specs.Blocks.{Block, the_last, one_more, with_line, Whole}
 use Rattle.expand65.specs.declared.blocks.BlockKind.{BlockKind}
-use Rattle.expand65.specs.Lines.{come_back, fitted, in_turn, IsOpened, Item, written, played, labelled, branch, mark, Left, left, lexed, localised, Mark, numbered, outside_macro, reached, repeating, replaced, Replacing, Stop, Taken, taken_as, Takes, TakesFrom, turns}
+use Rattle.expand65.specs.Lines.{come_back, fitted, in_turn, IsOpened, Item, written, played, labelled, branch, mark, Left, left, localised, Mark, numbered, outside_macro, reached, repeating, Replacing, Stop, Taken, taken_as, Takes, TakesFrom, turns}
 use Rattle.semantics65.proofs.FitLines.{AreAllFit, AreBases, Each, IsReplacingFit, most, replaced_fit, with_locals_fit}
 use Rattle.semantics65.proofs.FitTokens.{AreBytes, AreFit, HaveBytes, IsLineFit, number_limit, read_fit}
 use Rattle.semantics65.proofs.Segments.{all_more}
@@ -32,8 +31,7 @@ abbrev pub tokens_left : Left → ℕ
 tokens_left l = 4096 * l.room + tokens_in l.items
 
 tokens_behind : (i : Item) (is : List Item) → tokens_in is ≤ tokens_in (i ∷ is)
-tokens_behind (labelled ts) is = omega arith
-tokens_behind _ is = omega arith
+tokens_behind x1 is = grind arith
 
 tokens_append : (is js : List Item) → tokens_in (is ++ js) ≡ tokens_in is + tokens_in js
 tokens_append [] js = omega arith
@@ -51,8 +49,7 @@ abbrev pub IsPlaceFit : Place → Type 0
 IsPlaceFit p = (is_utf8 p.file ≡ true) × (p.line < 4294967296)
 
 back_fit : (p : Place) (o : Option Place) → IsPlaceFit p → Each IsPlaceFit o → IsPlaceFit (come_back p o)
-back_fit p None h j = h
-back_fit p (Some q) h j = j
+back_fit p x1 h j = grind (arith, common_steps)
 
 module _ (m : Files) where
   -- ---- What is left.
@@ -148,20 +145,17 @@ module _ (m : Files) where
   reached_fit p (written n bytes) h j = (h.0, j.0)
   reached_fit p _ h j = h
 
-  same_taken : (n : ℕ) (t u : Taken) → t ≡ u → IsTakenFit n u → IsTakenFit n t
-  same_taken n t u e h = subst (IsTakenFit n) (sym e) h
-
   line_behind : (n : ℕ) (i : Item) (is : List Item) (room : ℕ) (p : Place) → IsLeftFit n (left (i ∷ is) (suc room) p) → (ts : List Lexeme) → length ts ≤ 4096 → IsLeftFit (n + length ts) (left is room (reached p i))
   line_behind n i is room p h ts short = let few = h.few in let less = tokens_behind i is in record { items = h.items.1; place = reached_fit p i h.place h.items.0; few = omega (arith, few, short, less) }
 
-  a_line : (n : ℕ) (i : Item) (is : List Item) (room : ℕ) (p : Place) (q : Result (List Lexeme) ExpandFault) (t : Taken) → IsLeftFit n (left (i ∷ is) (suc room) p) → IsOpened i q → t ≡ taken_as q (left is room (reached p i)) → IsTakenFit n t
-  a_line n i is room p x1 t h o e = grind (arith, common_steps, (opened_fit i x1 h.items.0 o), (line_behind n i is room p h))
+  a_line : (n : ℕ) (i : Item) (is : List Item) (room : ℕ) (p : Place) (q : Result (List Lexeme) ExpandFault) → IsLeftFit n (left (i ∷ is) (suc room) p) → IsOpened i q → IsTakenFit n (taken_as q (left is room (reached p i)))
+  a_line n i is room p x1 h o = grind (arith, common_steps, (opened_fit i x1 h.items.0 o), (line_behind n i is room p h))
 
   from_fit : (n : ℕ) (is : List Item) (room : ℕ) (p : Place) (t : Taken) → IsLeftFit n (left is room p) → TakesFrom is room p t → IsTakenFit n t
-  from_fit n [] room p t h e = same_taken n t (Ok (None, left [] room p)) e h
-  from_fit n (mark k ∷ is) room p t h e = same_taken n t (Ok (None, left (mark k ∷ is) room p)) e h
-  from_fit n (_ ∷ is) zero p t h e = same_taken n t (Err (_, _)) e tt
-  from_fit n (i ∷ is) (suc room) p t h (q, o, e) = a_line n i is room p q t h o e
+  from_fit n [] room p t h e = subst (IsTakenFit n) (sym e) h
+  from_fit n (mark k ∷ is) room p t h e = subst (IsTakenFit n) (sym e) h
+  from_fit n (_ ∷ is) zero p t h e = subst (IsTakenFit n) (sym e) tt
+  from_fit n (i ∷ is) (suc room) p t h (q, o, e) = subst (IsTakenFit n) (sym e) (a_line n i is room p q h o)
 
   pub taken_fit : (n : ℕ) (l : Left) (t : Taken) → IsLeftFit n l → Takes l t → IsTakenFit n t
   taken_fit n l t h takes = from_fit n l.items l.room l.place t h takes

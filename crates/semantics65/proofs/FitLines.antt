@@ -1,11 +1,10 @@
 -- What stands in lines of bodies once names are replaced is fit: what is given for names, and the names that expansion makes.
 use Rattle.std.proofs.lemmas.Grind.{common_steps}
-use Rattle.std.proofs.Common.{◌≡◌, ◌∙◌, ℕ, zero, suc, ◌+◌, ◌≤◌, Bool, true, false, nat_lt, List, [], ◌∷◌, ◌++◌, length, Option, None, refl, sym, subst, arith, append_assoc, map, Some}
-use Rattle.std.specs.Prelude.{codes, decimal, ◌&&◌, ◌||◌, ◌==◌, ⊤, slice_get, unwrap_or, if◌then◌else◌}
+use Rattle.std.proofs.Common.{◌≡◌, ℕ, ◌+◌, ◌≤◌, Bool, true, false, List, [], ◌∷◌, ◌++◌, length, Option, None, refl, sym, subst, arith, append_assoc, map, Some}
+use Rattle.std.specs.Prelude.{codes, decimal, ◌==◌, ⊤, slice_get, unwrap_or}
 use Rattle.std.specs.Char.{is_ascii_digit}
 use Rattle.std.specs.List.{AllByRecursion, list_all, list_any}
 use Rattle.std.specs.Map.{lookup}
-use Rattle.std.specs.Option.{option_or}
 use Rattle.std.specs.Str.{all_ascii_digits}
 use Rattle.std.proofs.lemmas.Bool.Decides.{nat_tests}
 use Rattle.std.proofs.lemmas.Fmt.{digits_decimal, length-decimal-le}
@@ -16,11 +15,10 @@ use Rattle.base65.specs.Store.{Files}
 use Rattle.syntax65.specs.Tokens.{Lexeme}
 use Rattle.syntax65.specs.declared.lexing.tokens.TokenKind.{TokenKind}
 use Rattle.syntax65.specs.declared.lexing.tokens.TokenKind.TheVariants as token
-use Rattle.object65.proofs.Goods.{and, left, right}
 use Rattle.object65.specs.Objects.{is_name, is_printed}
-use Rattle.expand65.specs.Fronts.{name_in, names_from, ◌>=>◌}
+use Rattle.expand65.specs.Fronts.{name_in, names_from}
 use Rattle.expand65.specs.Lines.{own_token, all_local, with_local, with_locals, Replacing, argument_at, replaced, stand_in}
-use Rattle.expand65.specs.Macros.{is_made, new_names, unmade, arguments_of, braces_behind, parts_within, put_in_first, unbraced}
+use Rattle.expand65.specs.Macros.{is_made, new_names, arguments_of, braces_behind, parts_within, put_in_first, unbraced}
 use Rattle.semantics65.proofs.FitTokens.{all_drop, all_take, AreFit, IsFit, IsTokenFit}
 use Rattle.semantics65.proofs.SoundForms.{all_append}
 

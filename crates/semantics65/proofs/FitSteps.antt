@@ -2,7 +2,7 @@
 -- than tokens were taken.
 use Rattle.std.proofs.lemmas.Grind.{common_steps}
 use Rattle.std.proofs.Common.{arith, ◌≡◌, ℤ, ℕ, zero, suc, ◌+◌, ◌<◌, ◌≤◌, Bool, true, false, List, [], ◌∷◌, length, drop, map, Option, Some, None, refl, sym, subst, if◌then◌else◌}
-use Rattle.std.specs.Prelude.{⊤, IfOk, Result, Ok, Err, nat_le}
+use Rattle.std.specs.Prelude.{⊤, IfOk, Result, Ok, Err}
 use Rattle.std.specs.FinMap as fmap
 use Rattle.std.specs.List.{AllByRecursion}
 use Rattle.std.specs.Str.{is_utf8}
@@ -24,15 +24,15 @@ use Rattle.expand65.specs.declared.fronts.Directive.{Directive}
 use Rattle.expand65.specs.declared.fronts.Directive.TheVariants.{Macro, EndMacro, ExitMacro, Local, Repeat, EndRepeat, If, ElseIf, Else, EndIf, Include, Error, End}
 use Rattle.expand65.specs.declared.fronts.Test.{Test}
 use Rattle.expand65.specs.declared.fronts.Test.TheVariants.{True}
-use Rattle.expand65.specs.Expansion.{acted, at_mark, bytes_in, directed, file_named, first_file, first_state, found_or, include_file, IsStep, last_condition, Leads, Next, statement, nothing, fault, not_opened, opened_in, Reaches, further, given, ended, stopped, split, step_behind, step_from, unless_mislabelled}
+use Rattle.expand65.specs.Expansion.{acted, at_mark, bytes_in, directed, file_named, first_file, first_state, found_or, include_file, IsStep, last_condition, Leads, Next, statement, nothing, fault, not_opened, opened_in, Reaches, further, given, split, step_behind, step_from, unless_mislabelled}
 use Rattle.expand65.specs.Fronts.{front_directive, is_mislabelled, label_len, line_directive, string_of, understood}
-use Rattle.expand65.specs.Lines.{Definition, in_line, Item, line_limit, played, labelled, branch, Left, left, lines_of, Mark, Replacing, numbered, outside_macro, put_before, repeating, Stop, Taken, Takes, turns}
-use Rattle.expand65.specs.Macros.{arguments_of, called, counted, defined, entered, exit_macro, exited, given_to, header_of, local_line, local_named, macro_at, macro_of, mark_from, new_names, ordinary, repeat_line, repeat_of, repeated, turns_of}
-use Rattle.expand65.specs.State.{decided, else_line, ended_if, found, goes, gives, ends, stops, if_alone, if_line, leads, parses, decides, takes, takes_block, searches, Meaning, State, Stated, label, plain, Step, Stepped, unless_refused, unless_stopped, with_conditions, with_items, with_left}
-use Rattle.semantics65.proofs.FitItems.{AreLines, behind_mark, block_fit, fewer, IsBlockFit, IsLeftFit, IsOutsideFit, IsPlaceFit, IsTakenFit, localised_fit, localised_tokens, numbered_lines, outside_fit, played_lines, pushed_fit, taken_fit, turns_lines}
-use Rattle.semantics65.proofs.FitLines.{AreAllFit, AreBases, arguments_few, arguments_fit, Each, lookup_each, new_names_fit}
+use Rattle.expand65.specs.Lines.{Definition, in_line, Item, line_limit, played, labelled, branch, Left, left, lines_of, Mark, Replacing, numbered, outside_macro, put_before, repeating, Taken, Takes, turns}
+use Rattle.expand65.specs.Macros.{arguments_of, called, counted, defined, entered, exit_macro, exited, given_to, header_of, local_line, macro_at, macro_of, mark_from, ordinary, repeat_line, repeat_of, repeated, turns_of}
+use Rattle.expand65.specs.State.{decided, else_line, ended_if, found, goes, gives, ends, stops, if_alone, if_line, leads, parses, decides, takes, takes_block, searches, Meaning, State, Stated, label, plain, Step, Stepped, unless_refused, with_items, with_left}
+use Rattle.semantics65.proofs.FitItems.{AreLines, behind_mark, block_fit, fewer, IsLeftFit, IsOutsideFit, IsPlaceFit, IsTakenFit, localised_fit, localised_tokens, numbered_lines, outside_fit, played_lines, pushed_fit, taken_fit, turns_lines}
+use Rattle.semantics65.proofs.FitLines.{AreAllFit, arguments_few, arguments_fit, Each, lookup_each, new_names_fit}
 use Rattle.semantics65.proofs.FitTokens.{all_drop, all_take, AreBytes, AreFit, HaveBytes, IsTokenFit}
-use Rattle.semantics65.proofs.SoundForms.{all_append}
+use Rattle.semantics65.proofs.Segments.{all_more}
 
 -- ---- Files.
 
@@ -41,8 +41,7 @@ abbrev pub IsFileFit : Files → List ℕ → List ℕ → Type 0
 IsFileFit m name bytes = (is_utf8 name ≡ true) × (HaveBytes m → AreBytes bytes) × (length bytes ≤ 16777216)
 
 abbrev IsSearchFit : Files → Result (List ℕ × List ℕ) ExpandFault → Type 0
-IsSearchFit m (Ok f) = IsFileFit m f.0 f.1
-IsSearchFit m (Err f) = ⊤
+IsSearchFit m q = IfOk q (λ f. IsFileFit m f.0 f.1)
 
 -- a file is there where its name is a text
 named_fit : (m : Files) (name bytes : List ℕ) → file_named m name ≡ Some bytes → length bytes ≤ 16777216 → IsFileFit m name bytes
@@ -52,6 +51,12 @@ named_fit m name bytes h short = by (is_utf8 name) refl h
     by true e j = (e, (λ all. all name bytes j), short)
     by false e j = absurd cc
 
+-- a source is
+pub opened_bytes : (m : Files) (name : List ℕ) (o : Option (List ℕ)) → file_named m name ≡ o → IfOk (bytes_in o) (IsFileFit m name)
+opened_bytes m name None e = tt
+opened_bytes m name (Some bytes) e = grind (arith, common_steps, nat_tests, (named_fit m name bytes e))
+
+-- and so is what is found of some names
 found_fit : (m : Files) (name : List ℕ) (o : Option (List ℕ)) (others : Result (List ℕ × List ℕ) ExpandFault) → file_named m name ≡ o → IsSearchFit m others → IsSearchFit m (found_or name o others)
 found_fit m name None others e j = j
 found_fit m name (Some bytes) others e j = grind (arith, common_steps, nat_tests, (named_fit m name bytes e))
@@ -63,16 +68,14 @@ search_fit m (name ∷ names) = found_fit m name (file_named m name) (first_file
 -- ---- The lines of a file.
 
 put_bytes : (b : ℕ) (lines : List (List ℕ)) → b < 256 → AllByRecursion AreBytes lines → AllByRecursion AreBytes (put_before b lines)
-put_bytes b [] h j = ((h, tt), tt)
-put_bytes b (line ∷ lines) h j = ((h, j.0), j.1)
+put_bytes b x1 h j = grind (arith, common_steps)
 
 lines_bytes : (bs : List ℕ) → AreBytes bs → AllByRecursion AreBytes (lines_of bs)
 lines_bytes [] h = tt
 lines_bytes (b ∷ bs) h = grind (arith, common_steps, (lines_bytes bs h.1), put_bytes)
 
 put_few : (b : ℕ) (lines : List (List ℕ)) → length (put_before b lines) ≤ length lines + 1
-put_few b [] = omega arith
-put_few b (line ∷ lines) = omega arith
+put_few b x1 = grind arith
 
 lines_few : (bs : List ℕ) → length (lines_of bs) ≤ length bs
 lines_few [] = omega arith
@@ -123,18 +126,16 @@ module _ (m : Files) where
     Keeps (parses ts next) = (q : Result (Tree × ℕ) ExprFault) → Keeps (next q)
     Keeps (decides k test ts next) = (c : Result Bool ExpandFault) → Keeps (next c)
     Keeps (takes l next) = (t : Taken) → Takes l t → Keeps (next t)
-    Keeps (takes_block k l next) = (q : Result (Whole × Left) Stop) → Block k 0 [] l q → IsKept (unless_stopped q (λ b. next b.0 b.1))
+    Keeps (takes_block k l next) = (b : Whole) (x : Left) → Block k 0 [] l (Ok (b, x)) → IsKept (next b x)
     Keeps (searches l names next) = (q : Result (List ℕ × List ℕ) ExpandFault) → IsSearchFit m q → Keeps (next q)
 
-    same_stepped : (r x : Stepped) → r ≡ x → IsKept x → IsKept r
-    same_stepped r x e h = subst IsKept (sym e) h
-
     led_fit : (step : Step) (r : Stepped) → Keeps step → Leads m step r → IsKept r
-    led_fit (leads x) r fit h = same_stepped r x h fit
+    led_fit (leads x) r fit h = subst IsKept (sym h) fit
     led_fit (parses ts next) r fit (q, p, h) = led_fit (next q) r (fit q) h
     led_fit (decides k test ts next) r fit (c, p, h) = led_fit (next c) r (fit c) h
     led_fit (takes l next) r fit (t, p, h) = led_fit (next t) r (fit t p) h
-    led_fit (takes_block k l next) r fit (q, p, h) = same_stepped r (unless_stopped q (λ b. next b.0 b.1)) h (fit q p)
+    led_fit (takes_block k l next) r fit (Ok (b, x), p, h) = subst IsKept (sym h) (fit b x p)
+    led_fit (takes_block k l next) r fit (Err e, p, h) = subst IsKept (sym h) tt
     led_fit (searches l names next) r fit h = led_fit (next (first_file m names)) r (fit (first_file m names) (search_fit m names)) h
 
     -- ---- What steps go through.
@@ -147,17 +148,13 @@ module _ (m : Files) where
     alone s [] after h = h
     alone s (t ∷ ts) after h = tt
 
-    block : (k : BlockKind) (s : State) (after : Whole → Left → Stepped) → IsStateFit n s → ((b : Whole) (x : Left) → AreAllFit m b.0 → IsLeftFit m (n + s.expansions) x → IsKept (after b x)) → Keeps (takes_block k s.left after)
-    block k s after fit h = λ q b. by q (block_fit m (n + s.expansions) k 0 [] s.left q tt fit.left b)
-      where
-        by : (q : Result (Whole × Left) Stop) → IsBlockFit m (n + s.expansions) q → IsKept (unless_stopped q (λ b. after b.0 b.1))
-        by (Ok (b, x)) j = h b x j.0 j.1
-        by (Err e) j = tt
-
     enters : (s : State) (is : List Item) (k : Mark) (p : Place) → IsStateFit n s → AreLines m is → Each IsPlaceFit k.back → IsPlaceFit p → IsKept (entered s is k p)
     enters s is k p fit lines back place = let inner = pushed_fit m (n + s.expansions) is k s.left p fit.left lines back place in grind (arith, common_steps, inner)
 
     module _ (s : State) (fit : IsStateFit n s) where
+      block : (k : BlockKind) (b : Whole) (x : Left) → Block k 0 [] s.left (Ok (b, x)) → AreAllFit m b.0 × IsLeftFit m (n + s.expansions) x
+      block k b x p = block_fit m (n + s.expansions) k 0 [] s.left (Ok (b, x)) tt fit.left p
+
       -- ---- Conditions.
 
       finds : (b : Branch) (x : Left) → IsLeftFit m (n + s.expansions) x → IsKept (found s b x)
@@ -165,13 +162,13 @@ module _ (m : Files) where
 
       decides_on : (b : Bool) → Keeps (decided s b)
       decides_on true = record { left = fit.left; macros = fit.macros }
-      decides_on false = block kind.Skipped s (λ b l. found s b.1 l) fit (λ b x lines h. finds b.1 x h)
+      decides_on false = λ b x p. finds b.1 x (block kind.Skipped b x p).1
 
       if_on : (k : Meaning) (test : Test) (ts : List Lexeme) → Keeps (if_line k s test ts)
       if_on k test ts = λ c. unless s c (decided s) (λ b e. decides_on b)
 
       else_on : (o : Option (Bool × List Bool)) → Keeps (else_line s o)
-      else_on (Some (false, bs)) = block kind.Passed s (λ b l. goes (with_conditions s bs l)) fit (λ b x lines h. record { left = h; macros = fit.macros })
+      else_on (Some (false, bs)) = λ b x p. record { left = (block kind.Passed b x p).1; macros = fit.macros }
       else_on (Some (true, bs)) = tt
       else_on None = tt
 
@@ -182,27 +179,18 @@ module _ (m : Files) where
 
       defines_on : (name : List ℕ) (params : List (List ℕ)) (o : Option Definition) → Keeps (defined s name params o)
       defines_on name params (Some d) = tt
-      defines_on name params None = block kind.Macro s _ fit
-          (λ b x lines h. record { left = h; macros = all_append (λ (e : List ℕ × Definition). AreAllFit m e.1.body) s.macros ((name, record { params = params; body = b.0 }) ∷ []) fit.macros (lines, tt) })
+      defines_on name params None = λ b x p. (let h = block kind.Macro b x p in record { left = h.1; macros = all_more (λ (e : List ℕ × Definition). AreAllFit m e.1.body) s.macros (name, record { params = params; body = b.0 }) fit.macros h.0 })
 
       exits_on : (o : Option (ℕ × List Item × Place)) → Each (IsOutsideFit m (n + s.expansions) s.left.room) o → IsKept (exited s o)
       exits_on x1 h = grind (arith, common_steps)
 
-      names_on : (o : Option (List (List ℕ))) → Each AreBases o → IsKept (local_named s o)
-      names_on None h = tt
-      names_on (Some names) bases =
-          let few = fit.left.few in
-          let same = localised_tokens names s.left.items in
-          record { left = record { items = localised_fit m names s.left.items bases fit.left.items; place = fit.left.place; few = omega (arith, few, same) }; macros = fit.macros }
-
       local_on : (ts : List Lexeme) → AreFit m ts → IsKept (local_line s ts)
-      local_on ts h = grind (arith, common_steps, (names_on (new_names ts) (new_names_fit m ts h)))
+      local_on ts h = grind (arith, common_steps, localised_tokens, (localised_fit m), (new_names_fit m ts h))
 
       -- ---- Repeats and included files.
 
       repeats_on : (count : ℕ) (variable : List (List ℕ)) → count ≤ 65536 → Keeps (repeated s count variable)
-      repeats_on count variable small = block kind.Repeat s _ fit
-          (λ b x lines h. enters (with_left s x) (turns (repeating variable) b.0 0 count) (mark_from s false None) x.place (record { left = h; macros = fit.macros }) (turns_lines m variable b.0 0 count lines (omega (arith, small))) tt h.place)
+      repeats_on count variable small = λ b x p. (let h = block kind.Repeat b x p in enters (with_left s x) (turns (repeating variable) b.0 0 count) (mark_from s false None) x.place (record { left = h.1; macros = fit.macros }) (turns_lines m variable b.0 0 count h.0 (omega (arith, small))) tt h.1.place)
 
       repeat_on : (k : Meaning) (ts : List Lexeme) → Keeps (repeat_line k s ts)
       repeat_on k ts = λ q. unless s (repeat_of k ts q) _ (λ h e. repeats_on h.0 h.1 (subst IsFew e (repeat_few k ts q)))
@@ -286,28 +274,19 @@ module _ (m : Files) where
   pub next_fit : (n : ℕ) (k : Meaning) (s : State) (x : Next) → IsStateFit n s → Reaches m k s x → IsNextFit n x
   next_fit n k s x fit (further _ t _ step more) = next_fit n k t x (step_fit n k s (goes t) fit step) more
   next_fit n k s x fit (given _ t y step) = step_fit n k s (gives y t) fit step
-  next_fit n k s x fit (ended _ t step) = tt
-  next_fit n k s x fit (stopped _ e step) = tt
+  next_fit n k s x fit _ = tt
 
   -- ---- A source's first state.
 
-  first_fit : (file : List ℕ) (folders : List (List ℕ)) (bytes : List ℕ) → IsFileFit m file bytes → IsStateFit 0 (first_state file folders bytes)
+  pub first_fit : (file : List ℕ) (folders : List (List ℕ)) (bytes : List ℕ) → IsFileFit m file bytes → IsStateFit 0 (first_state file folders bytes)
   first_fit file folders bytes h =
       let place : IsPlaceFit (in_line file 0) = (h.0, omega arith) in
       let none : IsLeftFit m 0 (left [] line_limit (in_line file 0)) = record { items = tt; place = place; few = omega arith } in
       record { left = pushed_fit m 0 (numbered 0 (lines_of bytes)) (record { is_macro = false; conditions = 0; back = None }) (left [] line_limit (in_line file 0)) (in_line file 0) none (file_lines m file bytes h) tt place; macros = tt }
 
-  -- a source that is opened
-  pub opened_file : (file : List ℕ) (folders : List (List ℕ)) (s : State) → opened_in m file folders ≡ Ok s → (bytes : List ℕ) × IsFileFit m file bytes × (first_state file folders bytes ≡ s)
-  opened_file file folders s h = by (file_named m file) refl h
-    where
-      within : (bytes : List ℕ) (b : Bool) → file_named m file ≡ Some bytes → nat_le (length bytes) 16777216 ≡ b → ((if b then Ok bytes else Err faults.FileTooLong) >>= (λ bytes. Ok (first_state file folders bytes))) ≡ Ok s → (bytes : List ℕ) × IsFileFit m file bytes × (first_state file folders bytes ≡ s)
-      within bytes true e short h = (bytes, named_fit m file bytes e (grind (arith, nat_tests)), cc)
-      within bytes false e short h = absurd cc
-
-      by : (o : Option (List ℕ)) → file_named m file ≡ o → (bytes_in o >>= (λ bytes. Ok (first_state file folders bytes))) ≡ Ok s → (bytes : List ℕ) × IsFileFit m file bytes × (first_state file folders bytes ≡ s)
-      by None e h = absurd cc
-      by (Some bytes) e h = within bytes (nat_le (length bytes) 16777216) e refl h
-
   pub opened_fit : (file : List ℕ) (folders : List (List ℕ)) (s : State) → opened_in m file folders ≡ Ok s → IsStateFit 0 s
-  opened_fit file folders s h = let o = opened_file file folders s h in subst (IsStateFit 0) o.2 (first_fit file folders o.0 o.1)
+  opened_fit file folders s h = by (bytes_in (file_named m file)) (opened_bytes m file (file_named m file) refl) h
+    where
+      by : (q : Result (List ℕ) ExpandFault) → IfOk q (IsFileFit m file) → (q >>= (λ bytes. Ok (first_state file folders bytes))) ≡ Ok s → IsStateFit 0 s
+      by (Ok bytes) fit e = let same : first_state file folders bytes ≡ s = cc in subst (IsStateFit 0) same (first_fit file folders bytes fit)
+      by (Err f) fit e = absurd cc

@@ -1,7 +1,7 @@
 -- The tokens of lines are fit: identifiers are names that objects can hold, and numbers are small, and so those of
 -- expressions; no line has more tokens than bytes.
 use Rattle.std.proofs.lemmas.Grind.{common_steps}
-use Rattle.std.proofs.Common.{arith, ◌≡◌, ℕ, zero, suc, ◌+◌, ◌<◌, ◌≤◌, Bool, true, false, List, [], ◌∷◌, length, take, drop, Option, Some, None, sym, subst, if◌then◌else◌}
+use Rattle.std.proofs.Common.{arith, ◌≡◌, ℕ, zero, suc, ◌+◌, ◌<◌, ◌≤◌, Bool, true, false, List, [], ◌∷◌, length, take, drop, Option, Some, None, sym, subst}
 use Rattle.std.specs.Prelude.{⊤, Ok, ◌-◌}
 use Rattle.std.specs.FinMap as fmap
 use Rattle.std.specs.List.{AllByRecursion, prefix_len}

@@ -1,15 +1,13 @@
 -- What lines say is sound: names of identifiers, and texts that are short enough.
 use Rattle.std.proofs.Common.{◌≡◌, ℕ, ◌≤◌, Bool, true, false, List, [], ◌∷◌, refl, sym, ap, subst, arith, ◌<◌}
-use Rattle.std.specs.Prelude.{MatchBool, Ok, nat_lt, nat_le, length, take, drop, ◌==◌, ◌&&◌, if◌then◌else◌, None, Option, Result, Err, ◌++◌, codes, Some}
+use Rattle.std.specs.Prelude.{MatchBool, Ok, nat_lt, nat_le, length, ◌==◌, ◌&&◌, if◌then◌else◌, None, Option, Result, Err, ◌++◌, codes, Some}
 use Rattle.std.specs.Char.{is_ascii_alphabetic, is_ascii_digit}
 use Rattle.std.specs.List.{list_all, onto_first, AllByRecursion}
 use Rattle.std.proofs.lemmas.Bool.Decides.{nat_tests}
-use Rattle.syntax65.specs.Forms.{class_of, is_word, is_word_class, IsForm, IsToken}
+use Rattle.syntax65.specs.Forms.{class_of, is_word, is_word_class, IsForm}
 use Rattle.syntax65.specs.declared.lexing.places.Class.{Class}
 use Rattle.syntax65.specs.declared.lexing.places.Class.TheVariants.{Letter, Digit, Radix, At, Dot, Apostrophe, Quote, Colon, Semicolon, Blank, Other}
-use Rattle.syntax65.specs.Tokens.{Lexeme, Reads, IsRead, after_blanks}
-use Rattle.syntax65.specs.declared.lexing.tokens.LexFault.{LexFault}
-use Rattle.syntax65.specs.declared.lexing.tokens.TokenKind.{TokenKind}
+use Rattle.syntax65.specs.Tokens.{Lexeme}
 use Rattle.syntax65.specs.declared.lexing.tokens.TokenKind.TheVariants.{Identifier}
 use Rattle.object65.proofs.Goods.{and, left, right}
 use Rattle.object65.specs.Objects.{is_name, is_printed}

@@ -5,7 +5,7 @@ use Rattle.std.specs.Prelude.{⊤, Bool, true, false, Result, Ok, Err, if◌then
 use Rattle.std.specs.List.{flat_map}
 use Rattle.std.proofs.lemmas.List.{append-nil}
 use Rattle.base65.specs.Outcome.{◌>>=◌}
-use Rattle.semantics65.specs.Contents.{Content, asking, exported_names}
+use Rattle.semantics65.specs.Contents.{asking, exported_names}
 use Rattle.ast65.specs.declared.fault.AsmFault.{AsmFault}
 use Rattle.ast65.specs.declared.language.Statement.{Statement}
 use Rattle.syntax65.specs.declared.place.Place.{Place}

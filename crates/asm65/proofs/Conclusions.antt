@@ -83,17 +83,17 @@ known_slot files (Told o ss) h = refl
 known_slot files (Waits w) h = absurd (h w refl)
 
 -- and stays as it is
-pub known_settled : (y : Symbols) (files : List (List ℕ)) (e : Entry) (old new : Ending) → ((w : Box Fixup) → e ≡ Waits w → ⊥) → new.exported ≡ old.exported → new.err ≡ old.err → AreFed files (e ∷ []) → IsSettled y files (slot_of files e) e old new
-known_settled y files e old new h exported err fed =
+pub known_settled : (y : Symbols) (files : List (List ℕ)) (e : Entry) (now : Ending) → ((w : Box Fixup) → e ≡ Waits w → ⊥) → AreFed files (e ∷ []) → IsSettled y files (slot_of files e) e now now
+known_settled y files e now h fed =
     let is = known_slot files e h in
     let unsaid : (content_of files e).said ≡ [] = none_first (content_of files e).said [] (subst (λ (x : Slot). all_said (contents_so_far (x ∷ [])) ≡ []) is fed.unsaid) in
     record {
       made = quietly (content_of files e);
-      found = ap (coming y (names_of old.exported)) is;
+      found = ap (coming y (names_of now.exported)) is;
       entry = is;
       standing = left (stands_in (length files) e) true fed.standing;
-      names = ap names_of exported ∙ sym (append-nil (names_of old.exported)) ∙ ap (λ ss. names_of old.exported ++ exported_names ss) (sym unsaid);
-      err = err ∙ sym (append-nil old.err);
+      names = sym (append-nil (names_of now.exported)) ∙ ap (λ ss. names_of now.exported ++ exported_names ss) (sym unsaid);
+      err = sym (append-nil now.err);
     }
 
 -- ---- Slots come to their contents one behind the other.
@@ -196,7 +196,7 @@ object_come y segments xs t u old new o asked files none h k made good =
     let slots : List Slot = map (slot_of (names_in t.files)) t.entries.items in
     let found : resolved y [] slots ≡ found_all k.contents k.said = subst (λ (names : List (List ℕ)). resolved y names slots ≡ found_all k.contents k.said) none k.found in
     let come = comes_alike y [] xs slots k.contents k.said h.alike found in
-    let has = settled_slots y xs t u come.contents k.contents asked files h (ap (λ (f : Finished Content). f.found) come.is) come.alike k.entries k.standing in
+    let has = settled_slots y xs t u come.contents k.contents asked files h (ap (λ (f : Finished). f.found) come.is) come.alike k.entries k.standing in
     record {
       contents = come.contents;
       said = k.said;
@@ -225,7 +225,7 @@ held_comes count t a new r h k =
     let second : ComesTo t.symbols t.cursor.segments t.slots a.texts.err new r = subst (λ (w : Cursor). ComesTo t.symbols w.segments t.slots a.texts.err new r) h.cursor first in
     subst (λ (e : List ℕ). ComesTo t.symbols t.cursor.segments t.slots e new r) h.err second
 
-abbrev concluded_by : State → Finished Content → Outcome
+abbrev concluded_by : State → Finished → Outcome
 concluded_by t r = record { result = r.found >>= (λ cs. Ok (object_with t.cursor.segments t.symbols.imports cs)); out = t.out; err = t.err ++ r.warned }
 
 answer_concluded : (t : State) (out new : List ℕ) (r : Result Object AsmRefusal) → out ≡ t.out → ComesTo t.symbols t.cursor.segments t.slots t.err new r → is_from_outside r ≡ false → record { result = in_places r; out = out; err = new } ≡ concluded t None
@@ -253,5 +253,5 @@ comes_good a new r x same comes = subst (λ (z : Result Object AsmRefusal). IfOk
     by : (z : Result Object AsmRefusal) → ((xs : List Slot) → Stands xs a.sections → all_said (contents_so_far xs) ≡ [] → ComesTo (table_of a.symbols) a.cursor.segments.items xs a.texts.err new z) → IfOk z (IsGoodIf a)
     by (Ok o) k = λ count t h sound.
         (let found = held_comes count t a new (Ok o) h (k t.slots h.sections h.unsaid) in
-        found.good (sound found.contents (ap (λ (f : Finished Content). f.found) found.found)))
+        found.good (sound found.contents (ap (λ (f : Finished). f.found) found.found)))
     by (Err e) k = tt

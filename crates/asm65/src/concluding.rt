@@ -1,7 +1,6 @@
 //! What stands behind the last line comes to an object, or to the first fault.
 
 ghost use Rattle.std.specs.Prelude.{◌≡◌, ◌++◌, ◌∷◌, [], List, ℕ, IfOk, IfErr, None, Ok, OnOk, Some, length, map, nat_lt, string_bytes, true, false};
-ghost use Rattle.base65.specs.Outcome.{◌>>=◌};
 ghost use Rattle.object65.specs.Objects.{is_good_object, ObjectFits};
 ghost use Rattle.semantics65.specs.Contents.{Content};
 ghost use Rattle.ast65.specs.Faults.{is_outside};
@@ -13,7 +12,7 @@ ghost use Rattle.symbols65.specs.Resolving.{IsTable};
 ghost use Rattle.symbols65.specs.Views.{table_of};
 ghost use Rattle.asm65.specs.Assembly.{Concludes, has_failed, in_places, is_from_outside};
 ghost use Rattle.asm65.specs.Inner.Holding.{Holds};
-ghost use Rattle.asm65.specs.Inner.Running.{AreFed, ComesTo, IsFoundBy, Settles, SettlesAll, content_of, made_in, SaysAs};
+ghost use Rattle.asm65.specs.Inner.Running.{AreFed, ComesTo, IsFoundBy, Settles, SettlesAll, content_of, leaving, made_in, SaysAs};
 ghost use Rattle.semantics65.specs.Views.{place_at};
 
 use crate::assembler::Assembler;
@@ -148,7 +147,7 @@ fn settle(
     ensures settled { let files = map string_bytes whole.entry.files.now in
         AreFed files (entry.old ∷ []) →
         Settles (table_of whole.entry.symbols.now) files (slot_of files entry.old)
-        ending.old ending.new (result >>= (λ u. Ok entry.new)) }
+        ending.old ending.new (leaving entry.new result) }
     ensures found { OnOk result (IsFoundBy (table_of whole.entry.symbols.now) ending.new) }
     ensures inside { IfErr result (λ e. has_failed e ≡ false) }
 {
@@ -177,7 +176,7 @@ fn settle_all(
     ensures settled { let files = map string_bytes whole.entry.files.now in
         AreFed files entries.old.items →
         SettlesAll (table_of whole.entry.symbols.now) files (map (slot_of files) entries.old.items)
-        ending.old ending.new (result >>= (λ u. Ok entries.new.items)) }
+        ending.old ending.new (leaving entries.new.items result) }
     ensures inside { IfErr result (λ e. has_failed e ≡ false) }
 {
     for entry in entries.iter_mut() {

@@ -10,11 +10,12 @@ ghost use Rattle.ast65.specs.Faults.{is_memory};
 ghost use Rattle.semantics65.specs.declared.laid.Context.{Context as Site};
 ghost use Rattle.semantics65.specs.Symbols.{defined, named};
 ghost use Rattle.semantics65.specs.Views.{place_at, said_at};
-ghost use Rattle.semantics65.specs.Module.{asserted, datum, exported, quietly, used};
+ghost use Rattle.semantics65.specs.Module.{asserted, datum, quietly, used};
 ghost use Rattle.symbols65.specs.Resolving.{IsTable};
 ghost use Rattle.symbols65.specs.Views.{table_of};
 ghost use Rattle.asm65.specs.Inner.Running.{comes_behind, HasDefined, made_in, noted};
 ghost use Rattle.emit65.specs.Fed.{names_of, piece_of};
+ghost use Rattle.emit65.specs.declared.fixups.Piece.TheVariants.{Export};
 
 use crate::putting::values::{is_file_name, literal_of, stored};
 use ast65::AsmFault;
@@ -160,7 +161,7 @@ fn resolve_export(
     requires place { defined (table_of symbols.now) (named 0 name) ≡ Some place }
     ensures made { (must : Bool) (s : Site) → Gives is_memory (made_in (place_at at.entry)) result
         (comes_behind (table_of symbols.now) (names_of exported.old) (place_at at.entry) s
-        (exported must name)) }
+        (piece_of (Export must name))) }
     ensures table { OnOk result (IsTable (table_of symbols.now) known.new.states.items) }
     ensures names { OnOk result (HasDefined (table_of symbols.now) (names_of exported.new)) }
     ensures more { IfOk result (λ m. names_of exported.new ≡ names_of exported.old ++

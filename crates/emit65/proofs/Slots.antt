@@ -21,14 +21,14 @@ use Rattle.emit65.proofs.Keys.{once_append}
 -- ---- What slots come to, one behind the other.
 
 -- contents that were found, and then what those behind them come to
-abbrev and_then : Result (List Content) PlacedFault → List ℕ → (List Content → Finished Content) → Finished Content
+abbrev and_then : Result (List Content) PlacedFault → List ℕ → (List Content → Finished) → Finished
 and_then (Ok cs) said rest = after (found_all cs said) (rest cs)
 and_then (Err e) said rest = record { found = Err e; warned = said }
 
-abbrev behind : Finished Content → (List Content → Finished Content) → Finished Content
+abbrev behind : Finished → (List Content → Finished) → Finished
 behind a rest = and_then a.found a.warned rest
 
-found_behind : (m : Made) (cs : List Content) (said : List ℕ) (r : Finished Content) → followed_by (Ok m) (λ k. after (found_all cs said) r) ≡ after (found_all (m.content ∷ cs) (m.warning ++ said)) r
+found_behind : (m : Made) (cs : List Content) (said : List ℕ) (r : Finished) → followed_by (Ok m) (λ k. after (found_all cs said) r) ≡ after (found_all (m.content ∷ cs) (m.warning ++ said)) r
 found_behind m cs said r = by r.found
   where
     by : (f : Result (List Content) PlacedFault) → followed_by (Ok m) (λ k. after (found_all cs said) (record { found = f; warned = r.warned })) ≡ after (found_all (m.content ∷ cs) (m.warning ++ said)) (record { found = f; warned = r.warned })
@@ -40,7 +40,7 @@ resolved_append : (y : Symbols) (names : List (List ℕ)) (xs zs : List Slot) �
 resolved_append y names [] zs = sym (nothing_after (resolved y (names ++ []) zs) ∙ ap (λ ns. resolved y ns zs) (append-nil names))
 resolved_append y names (x ∷ xs) zs = by (coming y names x) (λ m. resolved_append y (more m) xs zs)
   where
-    rest : List Content → Finished Content
+    rest : List Content → Finished
     rest cs = resolved y (names ++ exported_names (all_said cs)) zs
 
     more : Made → List (List ℕ)
@@ -80,7 +80,7 @@ found_sym (Err e) (Ok ds) h = absurd h
 found_sym (Err e) (Err f) h = sym h
 
 -- with the same behind both
-come_front : (a b : Finished Content) (rest : List Content → Finished Content) → ((cs ds : List Content) → all_said cs ≡ all_said ds → rest cs ≡ rest ds) → ComeAlike a b → ComeAlike (behind a rest) (behind b rest)
+come_front : (a b : Finished) (rest : List Content → Finished) → ((cs ds : List Content) → all_said cs ≡ all_said ds → rest cs ≡ rest ds) → ComeAlike a b → ComeAlike (behind a rest) (behind b rest)
 come_front a b rest same h = by a.found b.found h.found
   where
     one : (cs ds : List Content) → AreAlike cs ds → (f : Result (List Content) PlacedFault) → AreFoundAlike (f >>= (λ es. Ok (cs ++ es))) (f >>= (λ es. Ok (ds ++ es)))
@@ -89,14 +89,14 @@ come_front a b rest same h = by a.found b.found h.found
 
     by : (q r : Result (List Content) PlacedFault) → AreFoundAlike q r → ComeAlike (and_then q a.warned rest) (and_then r b.warned rest)
     by (Ok cs) (Ok ds) k =
-        subst (λ (x : Finished Content). ComeAlike (after (found_all cs a.warned) x) (after (found_all ds b.warned) (rest ds))) (sym (same cs ds k.said))
+        subst (λ (x : Finished). ComeAlike (after (found_all cs a.warned) x) (after (found_all ds b.warned) (rest ds))) (sym (same cs ds k.said))
         (record { found = one cs ds k (rest ds).found; warned = ap (λ w. w ++ (rest ds).warned) h.warned })
     by (Ok cs) (Err e) k = absurd k
     by (Err e) (Ok ds) k = absurd k
     by (Err e) (Err f) k = record { found = k; warned = h.warned }
 
 -- with the same before both
-come_back : (a : Finished Content) (rest more : List Content → Finished Content) → ((cs : List Content) → ComeAlike (rest cs) (more cs)) → ComeAlike (behind a rest) (behind a more)
+come_back : (a : Finished) (rest more : List Content → Finished) → ((cs : List Content) → ComeAlike (rest cs) (more cs)) → ComeAlike (behind a rest) (behind a more)
 come_back a rest more h = by a.found
   where
     one : (cs : List Content) (q r : Result (List Content) PlacedFault) → AreFoundAlike q r → AreFoundAlike (q >>= (λ es. Ok (cs ++ es))) (r >>= (λ es. Ok (cs ++ es)))
@@ -144,9 +144,9 @@ slots_front xs ys zs h = record {
       (subst (λ (cs : List Content). AreAlike (contents_so_far xs ++ contents_so_far zs) cs) (sym (map-append so_far ys zs))
       (alike_front (contents_so_far xs) (contents_so_far ys) (contents_so_far zs) h.held));
   come = λ y names.
-      let rest : List Content → Finished Content = λ cs. resolved y (names ++ exported_names (all_said cs)) zs in
-      subst (λ (a : Finished Content). ComeAlike a (resolved y names (ys ++ zs))) (sym (resolved_append y names xs zs))
-      (subst (λ (b : Finished Content). ComeAlike (behind (resolved y names xs) rest) b) (sym (resolved_append y names ys zs))
+      let rest : List Content → Finished = λ cs. resolved y (names ++ exported_names (all_said cs)) zs in
+      subst (λ (a : Finished). ComeAlike a (resolved y names (ys ++ zs))) (sym (resolved_append y names xs zs))
+      (subst (λ (b : Finished). ComeAlike (behind (resolved y names xs) rest) b) (sym (resolved_append y names ys zs))
       (come_front (resolved y names xs) (resolved y names ys) rest (λ cs ds said. ap (λ ss. resolved y (names ++ exported_names ss) zs) said) (h.come y names)));
 }
 
@@ -157,9 +157,9 @@ slots_back zs xs ys h = record {
       (subst (λ (cs : List Content). AreAlike (contents_so_far zs ++ contents_so_far xs) cs) (sym (map-append so_far zs ys))
       (alike_back (contents_so_far zs) (contents_so_far xs) (contents_so_far ys) h.held));
   come = λ y names.
-      let rest : List Slot → List Content → Finished Content = λ us cs. resolved y (names ++ exported_names (all_said cs)) us in
-      subst (λ (a : Finished Content). ComeAlike a (resolved y names (zs ++ ys))) (sym (resolved_append y names zs xs))
-      (subst (λ (b : Finished Content). ComeAlike (behind (resolved y names zs) (rest xs)) b) (sym (resolved_append y names zs ys))
+      let rest : List Slot → List Content → Finished = λ us cs. resolved y (names ++ exported_names (all_said cs)) us in
+      subst (λ (a : Finished). ComeAlike a (resolved y names (zs ++ ys))) (sym (resolved_append y names zs xs))
+      (subst (λ (b : Finished). ComeAlike (behind (resolved y names zs) (rest xs)) b) (sym (resolved_append y names zs ys))
       (come_back (resolved y names zs) (rest xs) (rest ys) (λ cs. h.come y (names ++ exported_names (all_said cs)))));
 }
 
@@ -184,8 +184,8 @@ held_alike cs ds h = record {
       subst (λ (es : List Content). AreAlike es (contents_so_far (map holds ds))) (sym (held_contents cs))
       (subst (λ (es : List Content). AreAlike cs es) (sym (held_contents ds)) h);
   come = λ y names.
-      subst (λ (a : Finished Content). ComeAlike a (resolved y names (map holds ds))) (sym (held_found y names cs))
-      (subst (λ (b : Finished Content). ComeAlike (found_all cs []) b) (sym (held_found y names ds)) (record { found = h; warned = refl }));
+      subst (λ (a : Finished). ComeAlike a (resolved y names (map holds ds))) (sym (held_found y names cs))
+      (subst (λ (b : Finished). ComeAlike (found_all cs []) b) (sym (held_found y names ds)) (record { found = h; warned = refl }));
 }
 
 -- ---- The sections that are asked for.
@@ -241,7 +241,7 @@ pub record ComesAlike (y : Symbols) (names : List (List ℕ)) (xs : List Slot) (
 
 pub comes_alike : (y : Symbols) (names : List (List ℕ)) (xs ys : List Slot) (ds : List Content) (said : List ℕ) → AreSlotsAlike xs ys → resolved y names ys ≡ found_all ds said → ComesAlike y names xs ds said
 comes_alike y names xs ys ds said alike is =
-    let come : ComeAlike (resolved y names xs) (found_all ds said) = subst (λ (b : Finished Content). ComeAlike (resolved y names xs) b) is (alike.come y names) in
+    let come : ComeAlike (resolved y names xs) (found_all ds said) = subst (λ (b : Finished). ComeAlike (resolved y names xs) b) is (alike.come y names) in
     by (resolved y names xs).found refl come.found come.warned
   where
     by : (f : Result (List Content) PlacedFault) → (resolved y names xs).found ≡ f → AreFoundAlike f (Ok ds) → (resolved y names xs).warned ≡ said → ComesAlike y names xs ds said
@@ -251,11 +251,11 @@ comes_alike y names xs ys ds said alike is =
 -- the same fault
 pub faulty_alike : (y : Symbols) (names : List (List ℕ)) (xs ys : List Slot) (f : PlacedFault) (said : List ℕ) → AreSlotsAlike xs ys → resolved y names ys ≡ record { found = Err f; warned = said } → resolved y names xs ≡ record { found = Err f; warned = said }
 faulty_alike y names xs ys f said alike is =
-    let come : ComeAlike (resolved y names xs) (record { found = Err f; warned = said }) = subst (λ (b : Finished Content). ComeAlike (resolved y names xs) b) is (alike.come y names) in
+    let come : ComeAlike (resolved y names xs) (record { found = Err f; warned = said }) = subst (λ (b : Finished). ComeAlike (resolved y names xs) b) is (alike.come y names) in
     by (resolved y names xs).found refl come.found come.warned
   where
     by : (r : Result (List Content) PlacedFault) → (resolved y names xs).found ≡ r → AreFoundAlike r (Err f) → (resolved y names xs).warned ≡ said → resolved y names xs ≡ record { found = Err f; warned = said }
     by (Ok cs) found h warned = absurd h
     by (Err e) found h warned =
-        let lost : PlacedFault → List ℕ → Finished Content = λ g w. record { found = Err g; warned = w } in
+        let lost : PlacedFault → List ℕ → Finished = λ g w. record { found = Err g; warned = w } in
         (λ n. record { found = found n; warned = warned n }) ∙ ap (λ g. lost g said) h

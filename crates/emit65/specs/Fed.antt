@@ -68,7 +68,7 @@ AreFoundAlike (Err e) (Err f) = e ≡ f
 AreFoundAlike a b = ⊥
 
 -- with the same warnings
-pub record ComeAlike (a b : Finished Content) : Type 0 where
+pub record ComeAlike (a b : Finished) : Type 0 where
   pub found : AreFoundAlike a.found b.found
   pub warned : a.warned ≡ b.warned
 

@@ -165,7 +165,7 @@ asking_count (x ∷ xs) = counted (asks x) + asking_count xs
 -- ---- What slots come to.
 
 -- what follows something that was made
-followed_fit : (P : Made → Type 0) (Q : List Content → Type 0) (r : Result Made PlacedFault) (rest : Made → Finished Content) → IfOk r P → ((m : Made) → P m → IfOk ((rest m).found >>= (λ cs. Ok (m.content ∷ cs))) Q) → IfOk (followed_by r rest).found Q
+followed_fit : (P : Made → Type 0) (Q : List Content → Type 0) (r : Result Made PlacedFault) (rest : Made → Finished) → IfOk r P → ((m : Made) → P m → IfOk ((rest m).found >>= (λ cs. Ok (m.content ∷ cs))) Q) → IfOk (followed_by r rest).found Q
 followed_fit P Q (Ok m) rest h k = k m h
 followed_fit P Q (Err e) rest h k = tt
 

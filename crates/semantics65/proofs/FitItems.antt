@@ -1,20 +1,18 @@
 -- What is left of a source is fit: its tokens, its numbers, which are small, and its places, which are texts; and no line,
 -- block or body brings more tokens than its lines may have.
 use Rattle.std.proofs.lemmas.Grind.{common_steps}
-use Rattle.std.proofs.Common.{arith, ◌≡◌, ℕ, zero, suc, ◌+◌, ◌*◌, ◌<◌, ◌≤◌, Bool, true, false, List, [], ◌∷◌, ◌++◌, length, map, Option, Some, None, refl, sym, ap, subst, if◌then◌else◌}
-use Rattle.std.specs.Prelude.{⊤, Result, Ok, Err, nat_le}
+use Rattle.std.proofs.Common.{arith, ◌≡◌, ℕ, zero, suc, ◌+◌, ◌*◌, ◌<◌, ◌≤◌, true, List, [], ◌∷◌, ◌++◌, length, map, Option, Some, None, refl, sym, ap, subst}
+use Rattle.std.specs.Prelude.{⊤, Result, Ok, Err}
 use Rattle.std.specs.List.{AllByRecursion}
 use Rattle.std.specs.Str.{is_utf8}
 use Rattle.std.proofs.lemmas.Bool.Decides.{nat_tests}
 use Rattle.base65.specs.Store.{Files}
-use Rattle.syntax65.specs.Tokens.{IsRead, Lexeme}
+use Rattle.syntax65.specs.Tokens.{Lexeme}
 use Rattle.syntax65.specs.declared.fault.ExpandFault.{ExpandFault}
-use Rattle.syntax65.specs.declared.fault.ExpandFault.TheVariants.{LineTooLong}
-use Rattle.syntax65.specs.declared.lexing.tokens.LexFault.{LexFault}
 use Rattle.syntax65.specs.declared.place.Place.{Place}
-use Rattle.expand65.specs.Blocks.{Block, a_fault, a_mark, a_refusal, the_last, one_more, is_kept, with_line, Whole}
+use Rattle.expand65.specs.Blocks.{Block, the_last, one_more, with_line, Whole}
 use Rattle.expand65.specs.declared.blocks.BlockKind.{BlockKind}
-use Rattle.expand65.specs.Lines.{come_back, fitted, in_turn, IsOpened, Item, written, played, labelled, branch, mark, Left, left, lexed, localised, Mark, numbered, outside_macro, reached, repeating, replaced, Replacing, Stop, Taken, taken_as, Takes, TakesFrom, turns}
+use Rattle.expand65.specs.Lines.{come_back, fitted, in_turn, IsOpened, Item, written, played, labelled, branch, mark, Left, left, localised, Mark, numbered, outside_macro, reached, repeating, Replacing, Stop, Taken, taken_as, Takes, TakesFrom, turns}
 use Rattle.semantics65.proofs.FitLines.{AreAllFit, AreBases, Each, IsReplacingFit, most, replaced_fit, with_locals_fit}
 use Rattle.semantics65.proofs.FitTokens.{AreBytes, AreFit, HaveBytes, IsLineFit, number_limit, read_fit}
 use Rattle.semantics65.proofs.Segments.{all_more}
@@ -33,8 +31,7 @@ abbrev pub tokens_left : Left → ℕ
 tokens_left l = 4096 * l.room + tokens_in l.items
 
 tokens_behind : (i : Item) (is : List Item) → tokens_in is ≤ tokens_in (i ∷ is)
-tokens_behind (labelled ts) is = omega arith
-tokens_behind _ is = omega arith
+tokens_behind x1 is = grind arith
 
 tokens_append : (is js : List Item) → tokens_in (is ++ js) ≡ tokens_in is + tokens_in js
 tokens_append [] js = omega arith
@@ -52,8 +49,7 @@ abbrev pub IsPlaceFit : Place → Type 0
 IsPlaceFit p = (is_utf8 p.file ≡ true) × (p.line < 4294967296)
 
 back_fit : (p : Place) (o : Option Place) → IsPlaceFit p → Each IsPlaceFit o → IsPlaceFit (come_back p o)
-back_fit p None h j = h
-back_fit p (Some q) h j = j
+back_fit p x1 h j = grind (arith, common_steps)
 
 module _ (m : Files) where
   -- ---- What is left.
@@ -125,11 +121,7 @@ module _ (m : Files) where
 
   pub outside_fit : (n : ℕ) (is : List Item) (room : ℕ) (p : Place) → IsLeftFit n (left is room p) → Each (IsOutsideFit n room) (outside_macro is p)
   outside_fit n [] room p h = tt
-  outside_fit n (mark k ∷ is) room p h = let j = behind_mark n k is room p h in by k.is_macro j (outside_fit n is room (come_back p k.back) j)
-    where
-      by : (b : Bool) → IsLeftFit n (left is room (come_back p k.back)) → Each (IsOutsideFit n room) (outside_macro is (come_back p k.back)) → Each (IsOutsideFit n room) (if b then Some (k.conditions, is, come_back p k.back) else outside_macro is (come_back p k.back))
-      by true here further = here
-      by false here further = further
+  outside_fit n (mark k ∷ is) room p h = let j = behind_mark n k is room p h in grind (arith, common_steps, j, (outside_fit n is room (come_back p k.back) j))
   outside_fit n (i ∷ is) room p h = outside_fit n is room p (behind_item n i is room p h)
 
   -- ---- A line that is taken.
@@ -143,41 +135,27 @@ module _ (m : Files) where
   IsOpenedFit (Ok ts) = IsLineFit m ts
   IsOpenedFit (Err f) = ⊤
 
-  lexed_fit : (bytes : List ℕ) (q : Result (List Lexeme) LexFault) → IsRead bytes q → (HaveBytes m → AreBytes bytes) → IsOpenedFit (lexed q)
-  lexed_fit bytes (Ok ts) is h = read_fit m bytes ts is h
-  lexed_fit bytes (Err f) is h = tt
-
   fitted_fit : (ts : List Lexeme) → AreFit m ts → IsOpenedFit (fitted ts)
-  fitted_fit ts h = by (nat_le (length ts) 4096) refl
-    where
-      by : (b : Bool) → nat_le (length ts) 4096 ≡ b → IsOpenedFit (if b then Ok ts else Err LineTooLong)
-      by true e = (h, (grind (arith, nat_tests)))
-      by false e = tt
+  fitted_fit ts h = grind (arith, common_steps, nat_tests)
 
   opened_fit : (i : Item) (q : Result (List Lexeme) ExpandFault) → IsItemFit i → IsOpened i q → IsOpenedFit q
-  opened_fit (written n bytes) q h (r, is, e) = subst IsOpenedFit (sym e) (lexed_fit bytes r is h.1)
-  opened_fit (played r ts) q h e = subst IsOpenedFit (sym e) (fitted_fit (replaced r ts) (replaced_fit m r ts h.0 h.1))
-  opened_fit _ q h o = absurd o
+  opened_fit x1 q h x2 = grind (arith, common_steps, (read_fit m), (replaced_fit m), fitted_fit)
 
   reached_fit : (p : Place) (i : Item) → IsPlaceFit p → IsItemFit i → IsPlaceFit (reached p i)
   reached_fit p (written n bytes) h j = (h.0, j.0)
   reached_fit p _ h j = h
 
-  same_taken : (n : ℕ) (t u : Taken) → t ≡ u → IsTakenFit n u → IsTakenFit n t
-  same_taken n t u e h = subst (IsTakenFit n) (sym e) h
+  line_behind : (n : ℕ) (i : Item) (is : List Item) (room : ℕ) (p : Place) → IsLeftFit n (left (i ∷ is) (suc room) p) → (ts : List Lexeme) → length ts ≤ 4096 → IsLeftFit (n + length ts) (left is room (reached p i))
+  line_behind n i is room p h ts short = let few = h.few in let less = tokens_behind i is in record { items = h.items.1; place = reached_fit p i h.place h.items.0; few = omega (arith, few, short, less) }
 
-  a_line : (n : ℕ) (i : Item) (is : List Item) (room : ℕ) (p : Place) (q : Result (List Lexeme) ExpandFault) (t : Taken) → IsLeftFit n (left (i ∷ is) (suc room) p) → IsOpened i q → t ≡ taken_as q (left is room (reached p i)) → IsTakenFit n t
-  a_line n i is room p q t h o e = same_taken n t (taken_as q (left is room (reached p i))) e (by q (opened_fit i q h.items.0 o))
-    where
-      by : (q : Result (List Lexeme) ExpandFault) → IsOpenedFit q → IsTakenFit n (taken_as q (left is room (reached p i)))
-      by (Ok ts) line = let few = h.few in let short = line.1 in let less = tokens_behind i is in (line.0, record { items = h.items.1; place = reached_fit p i h.place h.items.0; few = omega (arith, few, short, less) })
-      by (Err f) line = tt
+  a_line : (n : ℕ) (i : Item) (is : List Item) (room : ℕ) (p : Place) (q : Result (List Lexeme) ExpandFault) → IsLeftFit n (left (i ∷ is) (suc room) p) → IsOpened i q → IsTakenFit n (taken_as q (left is room (reached p i)))
+  a_line n i is room p x1 h o = grind (arith, common_steps, (opened_fit i x1 h.items.0 o), (line_behind n i is room p h))
 
   from_fit : (n : ℕ) (is : List Item) (room : ℕ) (p : Place) (t : Taken) → IsLeftFit n (left is room p) → TakesFrom is room p t → IsTakenFit n t
-  from_fit n [] room p t h e = same_taken n t (Ok (None, left [] room p)) e h
-  from_fit n (mark k ∷ is) room p t h e = same_taken n t (Ok (None, left (mark k ∷ is) room p)) e h
-  from_fit n (_ ∷ is) zero p t h e = same_taken n t (Err (_, _)) e tt
-  from_fit n (i ∷ is) (suc room) p t h (q, o, e) = a_line n i is room p q t h o e
+  from_fit n [] room p t h e = subst (IsTakenFit n) (sym e) h
+  from_fit n (mark k ∷ is) room p t h e = subst (IsTakenFit n) (sym e) h
+  from_fit n (_ ∷ is) zero p t h e = subst (IsTakenFit n) (sym e) tt
+  from_fit n (i ∷ is) (suc room) p t h (q, o, e) = subst (IsTakenFit n) (sym e) (a_line n i is room p q h o)
 
   pub taken_fit : (n : ℕ) (l : Left) (t : Taken) → IsLeftFit n l → Takes l t → IsTakenFit n t
   taken_fit n l t h takes = from_fit n l.items l.room l.place t h takes
@@ -189,17 +167,11 @@ module _ (m : Files) where
   IsBlockFit n (Err e) = ⊤
 
   with_line_fit : (k : BlockKind) (body : List (List Lexeme)) (ts : List Lexeme) → AreAllFit m body → AreFit m ts → AreAllFit m (with_line k body ts)
-  with_line_fit k body ts h j = by (is_kept k)
-    where
-      by : (b : Bool) → AreAllFit m (if b then body ++ ts ∷ [] else body)
-      by true = all_more (AreFit m) body ts h j
-      by false = h
+  with_line_fit k body ts h j = grind (arith, common_steps, all_more)
 
   pub block_fit : (n : ℕ) (k : BlockKind) (d : ℕ) (body : List (List Lexeme)) (l : Left) (q : Result (Whole × Left) Stop) → AreAllFit m body → IsLeftFit n l → Block k d body l q → IsBlockFit n q
-  block_fit n k _ _ _ _ h j (a_fault d body l e t) = tt
-  block_fit n k _ _ _ _ h j (a_mark d body l x t) = tt
-  block_fit n k _ _ _ _ h j (a_refusal d body l x ts f t e) = tt
   block_fit n k _ _ _ _ h j (the_last d body l x ts b t e) = let line = taken_fit n l (Ok (Some ts, x)) j t in (h, fewer n (n + length ts) x (omega arith) line.1)
   block_fit n k _ _ _ _ h j (one_more d c body l x ts r t e more) =
       let line = taken_fit n l (Ok (Some ts, x)) j t in
       block_fit n k c (with_line k body ts) x r (with_line_fit k body ts h line.0) (fewer n (n + length ts) x (omega arith) line.1) more
+  block_fit n k _ _ _ _ h j _ = tt

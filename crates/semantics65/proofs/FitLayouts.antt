@@ -1,12 +1,10 @@
 -- What a source lays has small numbers, texts for the names of its files, and no more names and statements than tokens: so its object's numbers are those of their types.
 use Rattle.std.proofs.lemmas.Grind.{common_steps}
 use Rattle.std.proofs.Common.{arith, ◌≡◌, ◌∙◌, ℕ, zero, suc, ◌+◌, ◌<◌, ◌≤◌, Bool, true, false, List, [], ◌∷◌, ◌++◌, length, map, Option, Some, None, refl, sym, ap, subst, if◌then◌else◌}
-use Rattle.std.specs.Prelude.{Result, Ok, Err, IfOk, nat_le, ◌||◌}
-use Rattle.std.specs.FinMap as fmap
+use Rattle.std.specs.Prelude.{Result, Ok, Err, IfOk, ◌||◌}
 use Rattle.std.specs.List.{AllByRecursion, flat_map, list_any}
 use Rattle.std.specs.Option.{option_map, option_map_or}
-use Rattle.std.specs.Str.{bytes_eq, is_utf8}
-use Rattle.std.proofs.lemmas.Bool.Decides.{nat_tests}
+use Rattle.std.specs.Str.{bytes_eq}
 use Rattle.std.proofs.lemmas.List.{length-append}
 use Rattle.std.proofs.lemmas.Slice.Eq.{bytes_eq-Decides}
 use Rattle.base65.specs.Outcome.{◌>>=◌, First}
@@ -15,7 +13,6 @@ use Rattle.syntax65.specs.Expressions.{is_reserved}
 use Rattle.syntax65.specs.Tokens.{Lexeme}
 use Rattle.syntax65.specs.Trees.{number}
 use Rattle.syntax65.specs.declared.fault.ExpandFault.{ExpandFault}
-use Rattle.syntax65.specs.declared.fault.ExpandFault.TheVariants.{FileTooLong}
 use Rattle.syntax65.specs.declared.lexing.tokens.AddressSize.{AddressSize}
 use Rattle.syntax65.specs.declared.lexing.tokens.TokenKind.{TokenKind}
 use Rattle.syntax65.specs.declared.lexing.tokens.TokenKind.TheVariants as token
@@ -33,7 +30,7 @@ use Rattle.semantics65.specs.Layout.{context_of, Cursor, laid, Layout, layout_be
 use Rattle.semantics65.specs.Module.{ending_of, Outcome, outcome_of, Piece, pieces_of, Slot, slots_of, waiting_at}
 use Rattle.semantics65.specs.Norms.{length_of}
 use Rattle.semantics65.specs.Numbering.{AreSound, object_with}
-use Rattle.semantics65.specs.Reading.{AreDefined, AreTaken, taken, faulty, refused, ended, Define, Follows, IsBegun, IsGiven, IsLabelled, IsLaid, IsRest, Job, laying, no_line, PlacedFault, Reached, with_bytes}
+use Rattle.semantics65.specs.Reading.{AreDefined, AreTaken, taken, Define, Follows, IsBegun, IsGiven, IsLabelled, IsLaid, IsRest, Job, laying, no_line, PlacedFault, Reached, with_bytes}
 use Rattle.semantics65.specs.Symbols.{asks_section, definition_with, definitions_of, imports_of, Key, key_defined, Laid, Symbols, symbols_of, value_defined, with_new}
 use Rattle.semantics65.specs.Types.{Context, Place}
 use Rattle.semantics65.proofs.FitContents.{all_slots_fit, AreContentsOf, asking_count, contents_fit, counted, IsAmong, IsLaidFit, is_counted}
@@ -42,7 +39,7 @@ use Rattle.semantics65.proofs.FitItems.{IsPlaceFit}
 use Rattle.semantics65.proofs.FitLines.{most}
 use Rattle.semantics65.proofs.FitObjects.{object_fits}
 use Rattle.semantics65.proofs.FitStatements.{IsFit, IsSmallStatement, statement_fit}
-use Rattle.semantics65.proofs.FitSteps.{IsStateFit, next_fit, opened_file, opened_fit, tokens_of}
+use Rattle.semantics65.proofs.FitSteps.{first_fit, IsFileFit, IsStateFit, next_fit, opened_bytes, tokens_of}
 use Rattle.semantics65.proofs.FitTokens.{are_small, AreBytes, AreSmall, HaveBytes}
 use Rattle.semantics65.proofs.Segments.{all_more}
 use Rattle.semantics65.proofs.SoundContents.{sound_contents}
@@ -231,16 +228,16 @@ have_bytes : (m : Files) → HoldBytes m → HaveBytes m
 have_bytes m h = λ name bytes e. bytes_each bytes (h name bytes e)
 
 module _ (m : Files) (all : HaveBytes m) (job : Job) (types : AreOfTypes job.defines) where
-  begun_fit : (q : Result expand.State ExpandFault) (r : Reached Layout) → ((s : expand.State) → q ≡ Ok s → IsStateFit m 0 s × (is_utf8 job.source ≡ true)) → IsBegun m laying job nothing_laid q r → IsLayoutFit most r.behind
+  begun_fit : (q : Result (List ℕ) ExpandFault) (r : Reached Layout) → IfOk q (IsFileFit m job.source) → IsBegun m laying job nothing_laid (q >>= (λ bytes. Ok (first_state job.source job.include bytes))) r → IsLayoutFit most r.behind
   begun_fit (Err e) r h is = subst (λ (x : Reached Layout). IsLayoutFit most x.behind) (sym is) (nothing_fit most)
-  begun_fit (Ok s) r h (q, defined, follows) = by q defined follows
+  begun_fit (Ok bytes) r h (q, defined, follows) = by q defined follows
     where
-      by : (q : Result Layout AsmFault) → AreDefined IsLaid nothing_laid (no_line job.source) job.defines q → Follows m laying s (no_line job.source) nothing_laid q r → IsLayoutFit most r.behind
-      by (Ok z) is follow = taken_fit m all 0 s z r (h s refl).0 (defined_fit nothing_laid z (no_line job.source) job.defines types (nothing_fit 0) ((h s refl).1, omega arith) is) follow
+      by : (q : Result Layout AsmFault) → AreDefined IsLaid nothing_laid (no_line job.source) job.defines q → Follows m laying (first_state job.source job.include bytes) (no_line job.source) nothing_laid q r → IsLayoutFit most r.behind
+      by (Ok z) is follow = taken_fit m all 0 (first_state job.source job.include bytes) z r (first_fit m job.source job.include bytes h) (defined_fit nothing_laid z (no_line job.source) job.defines types (nothing_fit 0) (h.0, omega arith) is) follow
       by (Err e) is follow = subst (λ (x : Reached Layout). IsLayoutFit most x.behind) (sym follow) (nothing_fit most)
 
   source_fit : (r : Reached Layout) → IsBegun m laying job nothing_laid (opened_in m job.source job.include) r → IsLayoutFit most r.behind
-  source_fit r is = begun_fit (opened_in m job.source job.include) r (λ s e. (opened_fit m job.source job.include s e, (opened_file m job.source job.include s e).1.0)) is
+  source_fit r is = begun_fit (bytes_in (file_named m job.source)) r (opened_bytes m job.source (file_named m job.source) refl) is
 
 -- ---- The symbol table.
 

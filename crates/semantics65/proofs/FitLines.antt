@@ -1,11 +1,10 @@
 -- What stands in lines of bodies once names are replaced is fit: what is given for names, and the names that expansion makes.
 use Rattle.std.proofs.lemmas.Grind.{common_steps}
-use Rattle.std.proofs.Common.{◌≡◌, ◌∙◌, ℕ, zero, suc, ◌+◌, ◌≤◌, Bool, true, false, nat_lt, List, [], ◌∷◌, ◌++◌, length, take, drop, Option, None, refl, sym, subst, arith, append_assoc, map, Some}
-use Rattle.std.specs.Prelude.{codes, decimal, ◌&&◌, ◌||◌, ◌==◌, ⊤, slice_get, unwrap_or, if◌then◌else◌}
+use Rattle.std.proofs.Common.{◌≡◌, ℕ, ◌+◌, ◌≤◌, Bool, true, false, List, [], ◌∷◌, ◌++◌, length, Option, None, refl, sym, subst, arith, append_assoc, map, Some}
+use Rattle.std.specs.Prelude.{codes, decimal, ◌==◌, ⊤, slice_get, unwrap_or}
 use Rattle.std.specs.Char.{is_ascii_digit}
 use Rattle.std.specs.List.{AllByRecursion, list_all, list_any}
 use Rattle.std.specs.Map.{lookup}
-use Rattle.std.specs.Option.{option_or}
 use Rattle.std.specs.Str.{all_ascii_digits}
 use Rattle.std.proofs.lemmas.Bool.Decides.{nat_tests}
 use Rattle.std.proofs.lemmas.Fmt.{digits_decimal, length-decimal-le}
@@ -16,11 +15,10 @@ use Rattle.base65.specs.Store.{Files}
 use Rattle.syntax65.specs.Tokens.{Lexeme}
 use Rattle.syntax65.specs.declared.lexing.tokens.TokenKind.{TokenKind}
 use Rattle.syntax65.specs.declared.lexing.tokens.TokenKind.TheVariants as token
-use Rattle.object65.proofs.Goods.{and, left, right}
 use Rattle.object65.specs.Objects.{is_name, is_printed}
-use Rattle.expand65.specs.Fronts.{name_in, names_from, ◌>=>◌}
+use Rattle.expand65.specs.Fronts.{name_in, names_from}
 use Rattle.expand65.specs.Lines.{own_token, all_local, with_local, with_locals, Replacing, argument_at, replaced, stand_in}
-use Rattle.expand65.specs.Macros.{is_made, new_names, unmade, arguments_of, braces_behind, parts_within, put_in_first, unbraced}
+use Rattle.expand65.specs.Macros.{is_made, new_names, arguments_of, braces_behind, parts_within, put_in_first, unbraced}
 use Rattle.semantics65.proofs.FitTokens.{all_drop, all_take, AreFit, IsFit, IsTokenFit}
 use Rattle.semantics65.proofs.SoundForms.{all_append}
 
@@ -35,7 +33,7 @@ digit_printed b h = Prim.grind (arith, nat_tests)
 
 digits_printed : (ds : List ℕ) → all_ascii_digits ds ≡ true → list_all is_printed ds ≡ true
 digits_printed [] h = refl
-digits_printed (d ∷ ds) h = and (is_printed d) (list_all is_printed ds) (digit_printed d (left (is_ascii_digit d) (all_ascii_digits ds) h)) (digits_printed ds (right (is_ascii_digit d) (all_ascii_digits ds) h))
+digits_printed (d ∷ ds) h = grind (arith, common_steps, (digit_printed d), (digits_printed ds))
 
 decimal_printed : (n : ℕ) → n ≤ most → list_all is_printed (decimal n) ≡ true
 decimal_printed n small = digits_printed (decimal n) (digits_decimal (numerals_by_value (λ ds. all_ascii_digits ds ≡ true) tells_all_ascii_digits) n (omega (arith, small)))
@@ -54,39 +52,19 @@ IsBase name = (is_name name ≡ true) × (length name ≤ 200)
 abbrev pub AreBases : List (List ℕ) → Type 0
 AreBases names = AllByRecursion IsBase names
 
-any_behind : (b : Bool) → (b || true) ≡ true
-any_behind true = refl
-any_behind false = refl
-
-own_made : (name : List ℕ) (number : ℕ) → is_made (name ++ tail_of number) ≡ true
-own_made name number = list_any-append (λ b. b == 63) name (tail_of number) ∙ any_behind (is_made name)
-
 own_fit : (m : Files) (name : List ℕ) (number : ℕ) → IsBase name → number ≤ most → AreFit m (own_token number name ∷ [])
 own_fit m name number base small = (subst (IsFit m token.Identifier) (sym (append_assoc name (codes "?") (decimal number))) (named, λ h. absurd (made h)), tt)
   where
-    whole : List ℕ
-    whole = name ++ tail_of number
+    made : is_made (name ++ tail_of number) ≡ false → ⊥
+    made h = let all = list_any-append (λ b. b == 63) name (tail_of number) in grind (arith, common_steps)
 
-    made : is_made whole ≡ false → ⊥
-    made h = let yes = own_made name number in cc
-
-    long : length whole ≡ length name + suc (length (decimal number))
-    long = length-append name (tail_of number)
-
-    some : nat_lt 0 (length whole) ≡ true
-    some = let all = long in grind (arith, nat_tests)
-
-    few : nat_lt (length whole) 256 ≡ true
-    few = let all = long in let short = decimal_short number small in let own = base.1 in grind (arith, nat_tests)
-
-    printed_name : list_all is_printed name ≡ true
-    printed_name = right (nat_lt 0 (length name) && nat_lt (length name) 256) (list_all is_printed name) base.0
-
-    printed : list_all is_printed whole ≡ true
-    printed = list_all-append is_printed name (tail_of number) ∙ and (list_all is_printed name) (list_all is_printed (tail_of number)) printed_name (decimal_printed number small)
-
-    named : is_name whole ≡ true
-    named = and (nat_lt 0 (length whole) && nat_lt (length whole) 256) (list_all is_printed whole) (and (nat_lt 0 (length whole)) (nat_lt (length whole) 256) some few) printed
+    named : is_name (name ++ tail_of number) ≡ true
+    named =
+        let long = length-append name (tail_of number) in
+        let short = decimal_short number small in
+        let printed = list_all-append is_printed name (tail_of number) in
+        let digits = decimal_printed number small in
+        grind (arith, common_steps, nat_tests)
 
 -- ---- What is read of lists that may not be there.
 
@@ -97,12 +75,6 @@ Each P (Some x) = P x
 pub lookup_each : {K X : Type 0} (P : X → Type 0) (test : K → Bool) (es : List (K × X)) → AllByRecursion (λ e. P e.1) es → Each P (lookup test es)
 lookup_each P test [] h = tt
 lookup_each P test (e ∷ es) h = grind (arith, common_steps, (lookup_each P test es h.1))
-
-either_each : {A : Type 0} (P : A → Type 0) (a b : Option A) → Each P a → Each P b → Each P (option_or a b)
-either_each P x1 b h k = grind (arith, common_steps)
-
-then_each : {A B : Type 0} (P : A → Type 0) (Q : B → Type 0) (o : Option A) (f : A → Option B) → Each P o → ((x : A) → P x → Each Q (f x)) → Each Q (o >=> f)
-then_each x1 x2 x3 f h next = grind (arith, common_steps)
 
 -- ---- How many arguments there are.
 
@@ -122,11 +94,7 @@ arguments_few (t ∷ ts) = let same = length-map (parts_within 0 (t ∷ ts)) unb
 -- none of them was made
 bases : (m : Files) (names : List (List ℕ)) → list_any is_made names ≡ false → AllByRecursion (IsFit m token.Identifier) names → AreBases names
 bases m [] none h = tt
-bases m (n ∷ names) none h = by (is_made n) refl none (λ none. bases m names none h.1)
-  where
-    by : (b : Bool) → is_made n ≡ b → (b || list_any is_made names) ≡ false → (list_any is_made names ≡ false → AreBases names) → AreBases (n ∷ names)
-    by true e none more = absurd cc
-    by false e none more = ((h.0.0, h.0.1 e), more none)
+bases m (n ∷ names) none h = grind (arith, common_steps, (bases m names))
 
 module _ (m : Files) where
   abbrev IsNameFit : List ℕ → Type 0
@@ -146,24 +114,17 @@ module _ (m : Files) where
     pub number : r.number ≤ most
 
   at_fit : (tss : List (List Lexeme)) (i : ℕ) → AreAllFit tss → AreFit m (unwrap_or (slice_get tss i) [])
-  at_fit [] zero h = tt
-  at_fit [] (suc i) h = tt
-  at_fit (ts ∷ tss) zero h = h.0
-  at_fit (ts ∷ tss) (suc i) h = at_fit tss i h.1
+  at_fit [] x1 h = grind (arith, common_steps)
+  at_fit (ts ∷ tss) x1 h = grind (arith, common_steps, (at_fit tss))
 
   argument_fit : (tss : List (List Lexeme)) (o : Option ℕ) → AreAllFit tss → Each (AreFit m) (argument_at tss o)
   argument_fit tss x1 h = grind (arith, common_steps, at_fit)
 
-  word_fit : (r : Replacing) (b : Bool) → IsReplacingFit r → Each (AreFit m) (if b then r.count else None)
-  word_fit r true fit = fit.count
-  word_fit r false fit = tt
-
   stand_in_fit : (r : Replacing) (k : TokenKind) (t : List ℕ) → IsReplacingFit r → Each (AreFit m) (stand_in r (k, t))
-  stand_in_fit r x1 t fit = grind (arith, common_steps, either_each, argument_fit, lookup_each, word_fit)
+  stand_in_fit r x1 t fit = grind (arith, common_steps, argument_fit, lookup_each)
 
   or_itself : (o : Option (List Lexeme)) (t : Lexeme) → Each (AreFit m) o → IsFit m t.0 t.1 → AreFit m (unwrap_or o (t ∷ []))
-  or_itself None t h fit = (fit, tt)
-  or_itself (Some ts) t h fit = h
+  or_itself x1 t h fit = grind (arith, common_steps)
 
   pub replaced_fit : (r : Replacing) (ts : List Lexeme) → IsReplacingFit r → AreFit m ts → AreFit m (replaced r ts)
   replaced_fit r [] fit h = tt
@@ -172,23 +133,18 @@ module _ (m : Files) where
   -- ---- Arguments.
 
   first_fit : (t : Lexeme) (parts : List (List Lexeme)) → IsFit m t.0 t.1 → AreAllFit parts → AreAllFit (put_in_first t parts)
-  first_fit t [] fit h = ((fit, tt), tt)
-  first_fit t (part ∷ parts) fit h = ((fit, h.0), h.1)
+  first_fit t x1 fit h = grind (arith, common_steps)
 
   parts_fit : (d : ℕ) (ts : List Lexeme) → AreFit m ts → AreAllFit (parts_within d ts)
   parts_fit d [] h = (tt, tt)
   parts_fit d (t ∷ ts) h = grind (arith, common_steps, (parts_fit 0 ts h.1), (parts_fit (braces_behind d t) ts h.1), first_fit)
 
-  unbraced_fit : (ts : List Lexeme) → AreFit m ts → AreFit m (unbraced ts)
-  unbraced_fit ts h = grind (arith, common_steps, all_take, all_drop)
-
   all_unbraced : (tss : List (List Lexeme)) → AreAllFit tss → AreAllFit (map unbraced tss)
   all_unbraced [] h = tt
-  all_unbraced (ts ∷ tss) h = (unbraced_fit ts h.0, all_unbraced tss h.1)
+  all_unbraced (ts ∷ tss) h = grind (arith, common_steps, all_take, all_drop, (all_unbraced tss h.1))
 
   pub arguments_fit : (ts : List Lexeme) → AreFit m ts → AreAllFit (arguments_of ts)
-  arguments_fit [] h = tt
-  arguments_fit (t ∷ ts) h = all_unbraced (parts_within 0 (t ∷ ts)) (parts_fit 0 (t ∷ ts) h)
+  arguments_fit x1 h = grind (arith, common_steps, all_unbraced, parts_fit)
 
   -- ---- Names of an expansion's own.
 
@@ -198,16 +154,11 @@ module _ (m : Files) where
   names_fit : (b : Bool) (ts : List Lexeme) → AreFit m ts → Each (AllByRecursion IsNameFit) (names_from b ts)
   names_fit true [] h = tt
   names_fit false [] h = tt
-  names_fit true (t ∷ ts) h =
-      then_each IsNameFit (AllByRecursion IsNameFit) (name_in t) (λ name. names_from false ts >=> (λ names. Some (name ∷ names))) (name_fit t.0 t.1 h.0)
-      (λ name fit. then_each (AllByRecursion IsNameFit) (AllByRecursion IsNameFit) (names_from false ts) (λ names. Some (name ∷ names)) (names_fit false ts h.1) (λ names all. (fit, all)))
+  names_fit true (t ∷ ts) h = grind (arith, common_steps, (name_fit t.0 t.1 h.0), (names_fit false ts h.1))
   names_fit false (c ∷ ts) h = grind (arith, common_steps, (names_fit true ts h.1))
 
-  unmade_bases : (names : List (List ℕ)) → AllByRecursion IsNameFit names → Each AreBases (unmade names)
-  unmade_bases names h = grind (arith, common_steps, (bases m names))
-
   pub new_names_fit : (ts : List Lexeme) → AreFit m ts → Each AreBases (new_names ts)
-  new_names_fit ts h = then_each (AllByRecursion IsNameFit) AreBases (names_from true ts) unmade (names_fit true ts h) unmade_bases
+  new_names_fit ts h = grind (arith, common_steps, (names_fit true ts h), (bases m))
 
   local_fit : (es : List (List ℕ × List Lexeme)) (name : List ℕ) (ts : List Lexeme) → AreLocalsFit es → AreFit m ts → AreLocalsFit (with_local es name ts)
   local_fit [] name ts h fit = (fit, tt)
@@ -218,4 +169,4 @@ module _ (m : Files) where
   locals_fit number (name ∷ names) es small bases h = locals_fit number names (with_local es name (own_token number name ∷ [])) small bases.1 (local_fit es name (own_token number name ∷ []) h (own_fit m name number bases.0 small))
 
   pub with_locals_fit : (names : List (List ℕ)) (r : Replacing) → AreBases names → IsReplacingFit r → IsReplacingFit (with_locals names r)
-  with_locals_fit names r bases fit = record { arguments = fit.arguments; count = fit.count; locals = locals_fit r.number names r.locals fit.number bases fit.locals; number = fit.number }
+  with_locals_fit names r bases fit = grind (arith, common_steps, locals_fit)

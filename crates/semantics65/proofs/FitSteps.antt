@@ -1,11 +1,10 @@
 -- Each step of expansion keeps what is left fit, and gives fit tokens, no more than are left; and no more macros are called
 -- than tokens were taken.
 use Rattle.std.proofs.lemmas.Grind.{common_steps}
-use Rattle.std.proofs.Common.{arith, ◌≡◌, ℤ, pos, negsuc, ℕ, zero, suc, ◌+◌, ◌*◌, ◌<◌, ◌≤◌, Bool, true, false, List, [], ◌∷◌, ◌++◌, length, take, drop, map, Option, Some, None, refl, sym, ap, subst, if◌then◌else◌}
-use Rattle.std.specs.Prelude.{⊤, IfOk, Result, Ok, Err, nat_le, ◌==◌}
+use Rattle.std.proofs.Common.{arith, ◌≡◌, ℤ, ℕ, zero, suc, ◌+◌, ◌<◌, ◌≤◌, Bool, true, false, List, [], ◌∷◌, length, drop, map, Option, Some, None, refl, sym, subst, if◌then◌else◌}
+use Rattle.std.specs.Prelude.{⊤, IfOk, Result, Ok, Err}
 use Rattle.std.specs.FinMap as fmap
 use Rattle.std.specs.List.{AllByRecursion}
-use Rattle.std.specs.Option.{option_map_or}
 use Rattle.std.specs.Str.{is_utf8}
 use Rattle.std.proofs.lemmas.Bool.Decides.{nat_tests}
 use Rattle.std.proofs.lemmas.List.{length-drop, length-take}
@@ -16,25 +15,24 @@ use Rattle.syntax65.specs.Trees.{Tree}
 use Rattle.syntax65.specs.declared.expressions.words.ExprFault.{ExprFault}
 use Rattle.syntax65.specs.declared.fault.ExpandFault.{ExpandFault}
 use Rattle.syntax65.specs.declared.fault.ExpandFault.TheVariants as faults
-use Rattle.syntax65.specs.declared.fault.ExpandFault.TheVariants.{Nested, NotClosed, NotUnderstood}
 use Rattle.syntax65.specs.declared.lexing.tokens.TokenKind.{TokenKind}
 use Rattle.syntax65.specs.declared.place.Place.{Place}
-use Rattle.expand65.specs.Blocks.{Block, Branch, at_elseif, at_else, at_end, Whole}
+use Rattle.expand65.specs.Blocks.{Block, Branch, Whole}
 use Rattle.expand65.specs.declared.blocks.BlockKind.{BlockKind}
 use Rattle.expand65.specs.declared.blocks.BlockKind.TheVariants as kind
 use Rattle.expand65.specs.declared.fronts.Directive.{Directive}
 use Rattle.expand65.specs.declared.fronts.Directive.TheVariants.{Macro, EndMacro, ExitMacro, Local, Repeat, EndRepeat, If, ElseIf, Else, EndIf, Include, Error, End}
 use Rattle.expand65.specs.declared.fronts.Test.{Test}
 use Rattle.expand65.specs.declared.fronts.Test.TheVariants.{True}
-use Rattle.expand65.specs.Expansion.{acted, at_mark, bytes_in, directed, file_named, first_file, first_state, found_or, include_file, included, IsStep, last_condition, Leads, Next, statement, nothing, fault, not_opened, opened_in, Reaches, further, given, ended, stopped, split, step_behind, step_from, unless_mislabelled}
+use Rattle.expand65.specs.Expansion.{acted, at_mark, bytes_in, directed, file_named, first_file, first_state, found_or, include_file, IsStep, last_condition, Leads, Next, statement, nothing, fault, not_opened, opened_in, Reaches, further, given, split, step_behind, step_from, unless_mislabelled}
 use Rattle.expand65.specs.Fronts.{front_directive, is_mislabelled, label_len, line_directive, string_of, understood}
-use Rattle.expand65.specs.Lines.{come_back, Definition, in_line, innermost, Item, line_limit, written, played, labelled, branch, mark, Left, left, lines_of, Mark, marks, nesting_limit, numbered, outside_macro, put_before, repeating, Stop, Taken, Takes, turns}
-use Rattle.expand65.specs.Macros.{arguments_of, called, called_or_given, counted, defined, entered, exit_macro, exited, given_to, header_of, local_line, local_named, macro_at, macro_line, macro_of, mark_from, new_names, ordinary, repeat_header, repeat_line, repeat_of, repeated, turns_of}
-use Rattle.expand65.specs.State.{decided, else_line, ended_if, found, goes, gives, ends, stops, if_alone, if_line, leads, parses, decides, takes, takes_block, searches, Meaning, State, Stated, label, plain, Step, Stepped, unless_refused, unless_stopped, with_conditions, with_items, with_left}
-use Rattle.semantics65.proofs.FitItems.{AreLines, behind_mark, block_fit, fewer, IsBlockFit, IsItemFit, IsLeftFit, IsOutsideFit, IsPlaceFit, IsTakenFit, localised_fit, localised_tokens, numbered_lines, outside_fit, played_lines, pushed_fit, taken_fit, turns_lines}
-use Rattle.semantics65.proofs.FitLines.{AreAllFit, AreBases, arguments_few, arguments_fit, Each, lookup_each, most, new_names_fit}
+use Rattle.expand65.specs.Lines.{Definition, in_line, Item, line_limit, played, labelled, branch, Left, left, lines_of, Mark, Replacing, numbered, outside_macro, put_before, repeating, Taken, Takes, turns}
+use Rattle.expand65.specs.Macros.{arguments_of, called, counted, defined, entered, exit_macro, exited, given_to, header_of, local_line, macro_at, macro_of, mark_from, ordinary, repeat_line, repeat_of, repeated, turns_of}
+use Rattle.expand65.specs.State.{decided, else_line, ended_if, found, goes, gives, ends, stops, if_alone, if_line, leads, parses, decides, takes, takes_block, searches, Meaning, State, Stated, label, plain, Step, Stepped, unless_refused, with_items, with_left}
+use Rattle.semantics65.proofs.FitItems.{AreLines, behind_mark, block_fit, fewer, IsLeftFit, IsOutsideFit, IsPlaceFit, IsTakenFit, localised_fit, localised_tokens, numbered_lines, outside_fit, played_lines, pushed_fit, taken_fit, turns_lines}
+use Rattle.semantics65.proofs.FitLines.{AreAllFit, arguments_few, arguments_fit, Each, lookup_each, new_names_fit}
 use Rattle.semantics65.proofs.FitTokens.{all_drop, all_take, AreBytes, AreFit, HaveBytes, IsTokenFit}
-use Rattle.semantics65.proofs.SoundForms.{all_append}
+use Rattle.semantics65.proofs.Segments.{all_more}
 
 -- ---- Files.
 
@@ -43,8 +41,7 @@ abbrev pub IsFileFit : Files → List ℕ → List ℕ → Type 0
 IsFileFit m name bytes = (is_utf8 name ≡ true) × (HaveBytes m → AreBytes bytes) × (length bytes ≤ 16777216)
 
 abbrev IsSearchFit : Files → Result (List ℕ × List ℕ) ExpandFault → Type 0
-IsSearchFit m (Ok f) = IsFileFit m f.0 f.1
-IsSearchFit m (Err f) = ⊤
+IsSearchFit m q = IfOk q (λ f. IsFileFit m f.0 f.1)
 
 -- a file is there where its name is a text
 named_fit : (m : Files) (name bytes : List ℕ) → file_named m name ≡ Some bytes → length bytes ≤ 16777216 → IsFileFit m name bytes
@@ -54,13 +51,15 @@ named_fit m name bytes h short = by (is_utf8 name) refl h
     by true e j = (e, (λ all. all name bytes j), short)
     by false e j = absurd cc
 
+-- a source is
+pub opened_bytes : (m : Files) (name : List ℕ) (o : Option (List ℕ)) → file_named m name ≡ o → IfOk (bytes_in o) (IsFileFit m name)
+opened_bytes m name None e = tt
+opened_bytes m name (Some bytes) e = grind (arith, common_steps, nat_tests, (named_fit m name bytes e))
+
+-- and so is what is found of some names
 found_fit : (m : Files) (name : List ℕ) (o : Option (List ℕ)) (others : Result (List ℕ × List ℕ) ExpandFault) → file_named m name ≡ o → IsSearchFit m others → IsSearchFit m (found_or name o others)
 found_fit m name None others e j = j
-found_fit m name (Some bytes) others e j = by (nat_le (length bytes) 16777216) refl
-  where
-    by : (b : Bool) → nat_le (length bytes) 16777216 ≡ b → IsSearchFit m (if b then Ok (name, bytes) else Err faults.FileTooLong)
-    by true short = named_fit m name bytes e (grind (arith, nat_tests))
-    by false short = tt
+found_fit m name (Some bytes) others e j = grind (arith, common_steps, nat_tests, (named_fit m name bytes e))
 
 search_fit : (m : Files) (names : List (List ℕ)) → IsSearchFit m (first_file m names)
 search_fit m [] = tt
@@ -69,16 +68,14 @@ search_fit m (name ∷ names) = found_fit m name (file_named m name) (first_file
 -- ---- The lines of a file.
 
 put_bytes : (b : ℕ) (lines : List (List ℕ)) → b < 256 → AllByRecursion AreBytes lines → AllByRecursion AreBytes (put_before b lines)
-put_bytes b [] h j = ((h, tt), tt)
-put_bytes b (line ∷ lines) h j = ((h, j.0), j.1)
+put_bytes b x1 h j = grind (arith, common_steps)
 
 lines_bytes : (bs : List ℕ) → AreBytes bs → AllByRecursion AreBytes (lines_of bs)
 lines_bytes [] h = tt
 lines_bytes (b ∷ bs) h = grind (arith, common_steps, (lines_bytes bs h.1), put_bytes)
 
 put_few : (b : ℕ) (lines : List (List ℕ)) → length (put_before b lines) ≤ length lines + 1
-put_few b [] = omega arith
-put_few b (line ∷ lines) = omega arith
+put_few b x1 = grind arith
 
 lines_few : (bs : List ℕ) → length (lines_of bs) ≤ length bs
 lines_few [] = omega arith
@@ -98,24 +95,10 @@ abbrev IsFew : Result (ℕ × List (List ℕ)) ExpandFault → Type 0
 IsFew q = IfOk q (λ h. h.0 ≤ 65536)
 
 turns_few : (o : Option ℤ) → IfOk (turns_of o) (λ n. n ≤ 65536)
-turns_few None = tt
-turns_few (Some (negsuc n)) = tt
-turns_few (Some (pos n)) = by (nat_le n 65536) refl
-  where
-    by : (b : Bool) → nat_le n 65536 ≡ b → IfOk (if b then Ok n else Err faults.CountOutOfRange) (λ i. i ≤ 65536)
-    by true e = grind (arith, nat_tests)
-    by false e = tt
-
-with_variable : (q : Result ℕ ExpandFault) (variable : List (List ℕ)) → IfOk q (λ n. n ≤ 65536) → IsFew (q >>= (λ n. Ok (n, variable)))
-with_variable (Ok n) variable h = h
-with_variable (Err f) variable h = tt
+turns_few x1 = grind (arith, common_steps, nat_tests)
 
 repeat_few : (k : Meaning) (ts : List Lexeme) (q : Result (Tree × ℕ) ExprFault) → IsFew (repeat_of k ts q)
-repeat_few k ts q = by (repeat_header ts q)
-  where
-    by : (r : Result (Tree × List (List ℕ)) ExpandFault) → IsFew (r >>= (λ x. turns_of (k.value x.0) >>= (λ i. Ok (i, x.1))))
-    by (Ok x) = with_variable (turns_of (k.value x.0)) x.1 (turns_few (k.value x.0))
-    by (Err f) = tt
+repeat_few k ts q = grind (arith, common_steps, turns_few)
 
 module _ (m : Files) where
   -- so many tokens were given, or are acted on; each calls one macro at most
@@ -143,18 +126,16 @@ module _ (m : Files) where
     Keeps (parses ts next) = (q : Result (Tree × ℕ) ExprFault) → Keeps (next q)
     Keeps (decides k test ts next) = (c : Result Bool ExpandFault) → Keeps (next c)
     Keeps (takes l next) = (t : Taken) → Takes l t → Keeps (next t)
-    Keeps (takes_block k l next) = (q : Result (Whole × Left) Stop) → Block k 0 [] l q → IsKept (unless_stopped q (λ b. next b.0 b.1))
+    Keeps (takes_block k l next) = (b : Whole) (x : Left) → Block k 0 [] l (Ok (b, x)) → IsKept (next b x)
     Keeps (searches l names next) = (q : Result (List ℕ × List ℕ) ExpandFault) → IsSearchFit m q → Keeps (next q)
 
-    same_stepped : (r x : Stepped) → r ≡ x → IsKept x → IsKept r
-    same_stepped r x e h = subst IsKept (sym e) h
-
     led_fit : (step : Step) (r : Stepped) → Keeps step → Leads m step r → IsKept r
-    led_fit (leads x) r fit h = same_stepped r x h fit
+    led_fit (leads x) r fit h = subst IsKept (sym h) fit
     led_fit (parses ts next) r fit (q, p, h) = led_fit (next q) r (fit q) h
     led_fit (decides k test ts next) r fit (c, p, h) = led_fit (next c) r (fit c) h
     led_fit (takes l next) r fit (t, p, h) = led_fit (next t) r (fit t p) h
-    led_fit (takes_block k l next) r fit (q, p, h) = same_stepped r (unless_stopped q (λ b. next b.0 b.1)) h (fit q p)
+    led_fit (takes_block k l next) r fit (Ok (b, x), p, h) = subst IsKept (sym h) (fit b x p)
+    led_fit (takes_block k l next) r fit (Err e, p, h) = subst IsKept (sym h) tt
     led_fit (searches l names next) r fit h = led_fit (next (first_file m names)) r (fit (first_file m names) (search_fit m names)) h
 
     -- ---- What steps go through.
@@ -167,74 +148,49 @@ module _ (m : Files) where
     alone s [] after h = h
     alone s (t ∷ ts) after h = tt
 
-    block : (k : BlockKind) (s : State) (after : Whole → Left → Stepped) → IsStateFit n s → ((b : Whole) (x : Left) → AreAllFit m b.0 → IsLeftFit m (n + s.expansions) x → IsKept (after b x)) → Keeps (takes_block k s.left after)
-    block k s after fit h = λ q b. by q (block_fit m (n + s.expansions) k 0 [] s.left q tt fit.left b)
-      where
-        by : (q : Result (Whole × Left) Stop) → IsBlockFit m (n + s.expansions) q → IsKept (unless_stopped q (λ b. after b.0 b.1))
-        by (Ok (b, x)) j = h b x j.0 j.1
-        by (Err e) j = tt
-
     enters : (s : State) (is : List Item) (k : Mark) (p : Place) → IsStateFit n s → AreLines m is → Each IsPlaceFit k.back → IsPlaceFit p → IsKept (entered s is k p)
-    enters s is k p fit lines back place = by (nat_le (marks s.left.items) nesting_limit)
-      where
-        by : (b : Bool) → IsKept (unless_stopped (if b then Ok (left (is ++ mark k ∷ s.left.items) s.left.room s.left.place) else Err (Nested, s.left.place)) (λ l. goes (with_left s (left l.items l.room p))))
-        by true = record { left = pushed_fit m (n + s.expansions) is k s.left p fit.left lines back place; macros = fit.macros }
-        by false = tt
+    enters s is k p fit lines back place = let inner = pushed_fit m (n + s.expansions) is k s.left p fit.left lines back place in grind (arith, common_steps, inner)
 
     module _ (s : State) (fit : IsStateFit n s) where
+      block : (k : BlockKind) (b : Whole) (x : Left) → Block k 0 [] s.left (Ok (b, x)) → AreAllFit m b.0 × IsLeftFit m (n + s.expansions) x
+      block k b x p = block_fit m (n + s.expansions) k 0 [] s.left (Ok (b, x)) tt fit.left p
+
       -- ---- Conditions.
 
       finds : (b : Branch) (x : Left) → IsLeftFit m (n + s.expansions) x → IsKept (found s b x)
-      finds at_end x h = record { left = h; macros = fit.macros }
-      finds at_else x h = record { left = h; macros = fit.macros }
-      finds (at_elseif ts) x h = record { left = record { items = (tt, h.items); place = h.place; few = h.few }; macros = fit.macros }
+      finds x1 x h = grind (arith, common_steps)
 
       decides_on : (b : Bool) → Keeps (decided s b)
       decides_on true = record { left = fit.left; macros = fit.macros }
-      decides_on false = block kind.Skipped s (λ b l. found s b.1 l) fit (λ b x lines h. finds b.1 x h)
+      decides_on false = λ b x p. finds b.1 x (block kind.Skipped b x p).1
 
       if_on : (k : Meaning) (test : Test) (ts : List Lexeme) → Keeps (if_line k s test ts)
       if_on k test ts = λ c. unless s c (decided s) (λ b e. decides_on b)
 
       else_on : (o : Option (Bool × List Bool)) → Keeps (else_line s o)
-      else_on (Some (false, bs)) = block kind.Passed s (λ b l. goes (with_conditions s bs l)) fit (λ b x lines h. record { left = h; macros = fit.macros })
+      else_on (Some (false, bs)) = λ b x p. record { left = (block kind.Passed b x p).1; macros = fit.macros }
       else_on (Some (true, bs)) = tt
       else_on None = tt
 
       end_if_on : (o : Option (Bool × List Bool)) → IsKept (ended_if s o)
-      end_if_on None = tt
-      end_if_on (Some (b, bs)) = record { left = fit.left; macros = fit.macros }
+      end_if_on x1 = grind (arith, common_steps)
 
       -- ---- Macros.
 
       defines_on : (name : List ℕ) (params : List (List ℕ)) (o : Option Definition) → Keeps (defined s name params o)
       defines_on name params (Some d) = tt
-      defines_on name params None = block kind.Macro s _ fit
-          (λ b x lines h. record { left = h; macros = all_append (λ (e : List ℕ × Definition). AreAllFit m e.1.body) s.macros ((name, record { params = params; body = b.0 }) ∷ []) fit.macros (lines, tt) })
+      defines_on name params None = λ b x p. (let h = block kind.Macro b x p in record { left = h.1; macros = all_more (λ (e : List ℕ × Definition). AreAllFit m e.1.body) s.macros (name, record { params = params; body = b.0 }) fit.macros h.0 })
 
       exits_on : (o : Option (ℕ × List Item × Place)) → Each (IsOutsideFit m (n + s.expansions) s.left.room) o → IsKept (exited s o)
-      exits_on None h = tt
-      exits_on (Some (c, is, p)) h = record { left = h; macros = fit.macros }
-
-      names_on : (o : Option (List (List ℕ))) → Each AreBases o → IsKept (local_named s o)
-      names_on None h = tt
-      names_on (Some names) bases =
-          let few = fit.left.few in
-          let same = localised_tokens names s.left.items in
-          record { left = record { items = localised_fit m names s.left.items bases fit.left.items; place = fit.left.place; few = omega (arith, few, same) }; macros = fit.macros }
+      exits_on x1 h = grind (arith, common_steps)
 
       local_on : (ts : List Lexeme) → AreFit m ts → IsKept (local_line s ts)
-      local_on ts h = by (option_map_or (λ k. k.is_macro) (innermost s.left.items) false)
-        where
-          by : (b : Bool) → IsKept (if b then local_named s (new_names ts) else stops (NotUnderstood, s.left.place))
-          by true = names_on (new_names ts) (new_names_fit m ts h)
-          by false = tt
+      local_on ts h = grind (arith, common_steps, localised_tokens, (localised_fit m), (new_names_fit m ts h))
 
       -- ---- Repeats and included files.
 
       repeats_on : (count : ℕ) (variable : List (List ℕ)) → count ≤ 65536 → Keeps (repeated s count variable)
-      repeats_on count variable small = block kind.Repeat s _ fit
-          (λ b x lines h. enters (with_left s x) (turns (repeating variable) b.0 0 count) (mark_from s false None) x.place (record { left = h; macros = fit.macros }) (turns_lines m variable b.0 0 count lines (omega (arith, small))) tt h.place)
+      repeats_on count variable small = λ b x p. (let h = block kind.Repeat b x p in enters (with_left s x) (turns (repeating variable) b.0 0 count) (mark_from s false None) x.place (record { left = h.1; macros = fit.macros }) (turns_lines m variable b.0 0 count h.0 (omega (arith, small))) tt h.1.place)
 
       repeat_on : (k : Meaning) (ts : List Lexeme) → Keeps (repeat_line k s ts)
       repeat_on k ts = λ q. unless s (repeat_of k ts q) _ (λ h e. repeats_on h.0 h.1 (subst IsFew e (repeat_few k ts q)))
@@ -259,24 +215,18 @@ module _ (m : Files) where
 
     -- ---- Calls, and other lines.
 
-    calls_on : (s : State) (d : Definition) (arguments : List (List Lexeme)) (k : ℕ) → IsStateFit (n + suc k) s → AreAllFit m d.body → AreAllFit m arguments → length arguments ≤ k + 1 → IsKept (called s d arguments)
-    calls_on s d arguments k fit body all less = by (nat_le (length arguments) (length d.params))
-      where
-        by : (b : Bool) → IsKept (if b then entered (counted s) (map (played (given_to d arguments (s.expansions + 1))) d.body) (mark_from s true None) s.left.place else stops (faults.TooManyArguments, s.left.place))
-        by true =
-            let few = fit.left.few in
-            let inner : IsStateFit n (counted s) = record { left = fewer m (n + (s.expansions + 1)) ((n + suc k) + s.expansions) s.left (omega arith) fit.left; macros = fit.macros } in
-            enters (counted s) (map (played (given_to d arguments (s.expansions + 1))) d.body) (mark_from s true None) s.left.place inner
-            (played_lines m (given_to d arguments (s.expansions + 1)) d.body (record { arguments = all; count = (omega (arith, few, less), tt); locals = tt; number = omega (arith, few) }) body) tt fit.left.place
-        by false = tt
+    calls_on : (s : State) (ts : List Lexeme) → IsStateFit (n + suc (length ts)) s → AreFit m ts → (d : Definition) → AreAllFit m d.body → IsKept (called s d (arguments_of ts))
+    calls_on s ts fit h d body =
+        let few = fit.left.few in
+        let less = arguments_few ts in
+        let inner : IsStateFit n (counted s) = record { left = fewer m (n + (s.expansions + 1)) ((n + suc (length ts)) + s.expansions) s.left (omega arith) fit.left; macros = fit.macros } in
+        let given : Replacing = given_to d (arguments_of ts) (s.expansions + 1) in
+        let lines = played_lines m given d.body (record { arguments = arguments_fit m ts h; count = (omega (arith, few, less), tt); locals = tt; number = omega (arith, few) }) body in
+        grind (arith, common_steps, (enters (counted s) (map (played given) d.body) (mark_from s true None) s.left.place inner lines tt fit.left.place))
 
     ordinary_on : (s : State) (ts : List Lexeme) → IsStateFit (n + length ts) s → AreFit m ts → IsKept (ordinary s ts)
     ordinary_on s [] fit h = before n 0 s fit
-    ordinary_on s (t ∷ ts) fit h = by (macro_at s.macros t) (macro_fit s.macros t.0 t.1 fit.macros)
-      where
-        by : (o : Option Definition) → Each (λ d. AreAllFit m d.body) o → IsKept (called_or_given s t ts o)
-        by None j = (h, fit)
-        by (Some d) j = calls_on s d (arguments_of ts) (length ts) fit j (arguments_fit m ts h.1) (arguments_few ts)
+    ordinary_on s (t ∷ ts) fit h = grind (arith, common_steps, (macro_fit s.macros t.0 t.1 fit.macros), (calls_on s ts fit h.1))
 
     acted_on : (k : Meaning) (s : State) (ts : List Lexeme) (o : Option Directive) → IsStateFit (n + length ts) s → AreFit m ts → Keeps (acted k s ts o)
     acted_on k s ts (Some d) fit h = directed_on s (before n (length ts) s fit) k d (drop 1 ts) (all_drop (IsTokenFit m) 1 ts h)
@@ -297,12 +247,7 @@ module _ (m : Files) where
     -- ---- A step.
 
     mark_on : (s : State) (is : List Item) → IsStateFit n s → IsLeftFit m (n + s.expansions) (left is s.left.room s.left.place) → IsKept (at_mark s is)
-    mark_on s (mark k ∷ is) fit h = by (k.conditions == length s.conditions)
-      where
-        by : (b : Bool) → IsKept (if b then goes (with_left s (left is s.left.room (come_back s.left.place k.back))) else stops (NotClosed, s.left.place))
-        by true = record { left = behind_mark m (n + s.expansions) k is s.left.room s.left.place h; macros = fit.macros }
-        by false = tt
-    mark_on s _ fit h = tt
+    mark_on s x1 fit h = grind (arith, common_steps, behind_mark)
 
     behind_on : (k : Meaning) (s : State) → IsStateFit n s → (t : Taken) → IsTakenFit m (n + s.expansions) t → Keeps (step_behind k s t)
     behind_on k s fit (Ok (Some ts, x)) h = line_on k (with_left s x) ts (is_mislabelled ts) (record { left = fewer m ((n + length ts) + s.expansions) ((n + s.expansions) + length ts) x (omega arith) h.1; macros = fit.macros }) h.0
@@ -329,28 +274,19 @@ module _ (m : Files) where
   pub next_fit : (n : ℕ) (k : Meaning) (s : State) (x : Next) → IsStateFit n s → Reaches m k s x → IsNextFit n x
   next_fit n k s x fit (further _ t _ step more) = next_fit n k t x (step_fit n k s (goes t) fit step) more
   next_fit n k s x fit (given _ t y step) = step_fit n k s (gives y t) fit step
-  next_fit n k s x fit (ended _ t step) = tt
-  next_fit n k s x fit (stopped _ e step) = tt
+  next_fit n k s x fit _ = tt
 
   -- ---- A source's first state.
 
-  first_fit : (file : List ℕ) (folders : List (List ℕ)) (bytes : List ℕ) → IsFileFit m file bytes → IsStateFit 0 (first_state file folders bytes)
+  pub first_fit : (file : List ℕ) (folders : List (List ℕ)) (bytes : List ℕ) → IsFileFit m file bytes → IsStateFit 0 (first_state file folders bytes)
   first_fit file folders bytes h =
       let place : IsPlaceFit (in_line file 0) = (h.0, omega arith) in
       let none : IsLeftFit m 0 (left [] line_limit (in_line file 0)) = record { items = tt; place = place; few = omega arith } in
       record { left = pushed_fit m 0 (numbered 0 (lines_of bytes)) (record { is_macro = false; conditions = 0; back = None }) (left [] line_limit (in_line file 0)) (in_line file 0) none (file_lines m file bytes h) tt place; macros = tt }
 
-  -- a source that is opened
-  pub opened_file : (file : List ℕ) (folders : List (List ℕ)) (s : State) → opened_in m file folders ≡ Ok s → (bytes : List ℕ) × IsFileFit m file bytes × (first_state file folders bytes ≡ s)
-  opened_file file folders s h = by (file_named m file) refl h
-    where
-      within : (bytes : List ℕ) (b : Bool) → file_named m file ≡ Some bytes → nat_le (length bytes) 16777216 ≡ b → ((if b then Ok bytes else Err faults.FileTooLong) >>= (λ bytes. Ok (first_state file folders bytes))) ≡ Ok s → (bytes : List ℕ) × IsFileFit m file bytes × (first_state file folders bytes ≡ s)
-      within bytes true e short h = (bytes, named_fit m file bytes e (grind (arith, nat_tests)), cc)
-      within bytes false e short h = absurd cc
-
-      by : (o : Option (List ℕ)) → file_named m file ≡ o → (bytes_in o >>= (λ bytes. Ok (first_state file folders bytes))) ≡ Ok s → (bytes : List ℕ) × IsFileFit m file bytes × (first_state file folders bytes ≡ s)
-      by None e h = absurd cc
-      by (Some bytes) e h = within bytes (nat_le (length bytes) 16777216) e refl h
-
   pub opened_fit : (file : List ℕ) (folders : List (List ℕ)) (s : State) → opened_in m file folders ≡ Ok s → IsStateFit 0 s
-  opened_fit file folders s h = let o = opened_file file folders s h in subst (IsStateFit 0) o.2 (first_fit file folders o.0 o.1)
+  opened_fit file folders s h = by (bytes_in (file_named m file)) (opened_bytes m file (file_named m file) refl) h
+    where
+      by : (q : Result (List ℕ) ExpandFault) → IfOk q (IsFileFit m file) → (q >>= (λ bytes. Ok (first_state file folders bytes))) ≡ Ok s → IsStateFit 0 s
+      by (Ok bytes) fit e = let same : first_state file folders bytes ≡ s = cc in subst (IsStateFit 0) same (first_fit file folders bytes fit)
+      by (Err f) fit e = absurd cc

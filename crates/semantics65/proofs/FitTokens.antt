@@ -1,23 +1,20 @@
 -- The tokens of lines are fit: identifiers are names that objects can hold, and numbers are small, and so those of
 -- expressions; no line has more tokens than bytes.
 use Rattle.std.proofs.lemmas.Grind.{common_steps}
-use Rattle.std.proofs.Common.{arith, ◌≡◌, ℕ, zero, suc, ◌+◌, ◌<◌, ◌≤◌, Bool, true, false, List, [], ◌∷◌, length, take, drop, Option, Some, None, refl, sym, subst, if◌then◌else◌}
-use Rattle.std.specs.Prelude.{⊤, Ok, nat_lt, ◌==◌, ◌&&◌, ◌-◌, slice_index, codes}
+use Rattle.std.proofs.Common.{arith, ◌≡◌, ℕ, zero, suc, ◌+◌, ◌<◌, ◌≤◌, Bool, true, false, List, [], ◌∷◌, length, take, drop, Option, Some, None, sym, subst}
+use Rattle.std.specs.Prelude.{⊤, Ok, ◌-◌}
 use Rattle.std.specs.FinMap as fmap
-use Rattle.std.specs.List.{AllByRecursion, list_all, prefix_len}
-use Rattle.std.specs.Str.Parse.{digits_value}
-use Rattle.std.specs.Str.{str_eq_ignore_ascii_case}
+use Rattle.std.specs.List.{AllByRecursion, prefix_len}
 use Rattle.std.proofs.lemmas.Bool.Decides.{nat_tests}
 use Rattle.std.proofs.lemmas.List.{length-drop}
-use Rattle.base65.specs.Digit.{digits, is_digit}
+use Rattle.base65.specs.Digit.{digits}
 use Rattle.base65.specs.Store.{Files}
-use Rattle.base65.specs.declared.values.Op1.TheVariants as one
-use Rattle.syntax65.specs.Expressions.{IsParsed, leaf_of, opening_at, opening_of, opening_of_mark, opening_of_word, text_at, is_reserved, Phrase, a_leaf, a_name, a_global, prefixed, enclosed, of_level, joined, negated}
+use Rattle.syntax65.specs.Expressions.{IsParsed, leaf_of, opening_at, opening_of, opening_of_mark, opening_of_word, text_at, Phrase, a_leaf, a_name, a_global, prefixed, enclosed, of_level, joined, negated}
 use Rattle.syntax65.specs.Forms.{IsForm, IsToken, number_of, plain_number_of, is_blank}
 use Rattle.syntax65.specs.Tokens.{IsRead, Lexeme, Reads, after_blanks}
-use Rattle.syntax65.specs.Trees.{Tree, number, here, cheap, forward, backward, unary, binary}
+use Rattle.syntax65.specs.Trees.{Tree, number, unary, binary}
 use Rattle.syntax65.specs.declared.expressions.words.Opening.{Opening}
-use Rattle.syntax65.specs.declared.expressions.words.Opening.TheVariants.{Number, Here, Cheap, Forward, Backward, Name, Prefix, Negation, Nothing}
+use Rattle.syntax65.specs.declared.expressions.words.Opening.TheVariants.{Number}
 use Rattle.syntax65.specs.declared.lexing.tokens.LexFault.{LexFault}
 use Rattle.syntax65.specs.declared.lexing.tokens.Mark.{Mark}
 use Rattle.syntax65.specs.declared.lexing.tokens.TokenKind.{TokenKind}
@@ -26,7 +23,8 @@ use Rattle.syntax65.proofs.Fronts.{empty}
 use Rattle.object65.specs.Objects.{is_name}
 use Rattle.expand65.specs.Macros.{is_made}
 use Rattle.semantics65.specs.Numbering.{AreNamed, IsNamed}
-use Rattle.semantics65.proofs.Sounding.{tokens_named}
+use Rattle.semantics65.proofs.Segments.{all_same}
+use Rattle.semantics65.proofs.Sounding.{short_name}
 
 -- ---- Parts of lists.
 
@@ -84,60 +82,43 @@ is_named : (m : Files) (k : TokenKind) (t : List ℕ) → IsFit m k t → IsName
 is_named m x1 t h = grind (arith, common_steps)
 
 pub are_named : (m : Files) (ts : List Lexeme) → AreFit m ts → AreNamed ts
-are_named m [] h = tt
-are_named m (t ∷ ts) h = (is_named m t.0 t.1 h.0, are_named m ts h.1)
+are_named m ts h = all_same (IsTokenFit m) (λ t. IsNamed t.0 t.1) (λ t fit. is_named m t.0 t.1 fit) ts h
 
 is_small : (m : Files) (k : TokenKind) (t : List ℕ) → HaveBytes m → IsFit m k t → IsSmall k
-is_small m (token.Character c) t all h = h all
-is_small m (token.Number v) t all h = h
-is_small m _ t all h = tt
+is_small m x1 t all h = grind (arith, common_steps)
 
 pub are_small : (m : Files) (ts : List Lexeme) → HaveBytes m → AreFit m ts → AreSmall ts
-are_small m [] all h = tt
-are_small m (t ∷ ts) all h = (is_small m t.0 t.1 all h.0, are_small m ts all h.1)
+are_small m ts all h = all_same (IsTokenFit m) (λ t. IsSmall t.0) (λ t fit. is_small m t.0 t.1 all fit) ts h
 
 -- ---- The tokens of a line.
 
 digits_small : (radix : ℕ) (bs : List ℕ) (v : ℕ) → digits radix bs ≡ Some v → v < 4294967296
-digits_small radix [] v h = absurd cc
-digits_small radix (b ∷ bs) v h = by (list_all (is_digit radix) (b ∷ bs)) (nat_lt (digits_value radix (b ∷ bs)) 4294967296) refl h
-  where
-    by : (a c : Bool) → nat_lt (digits_value radix (b ∷ bs)) 4294967296 ≡ c → (if a && c then Some (digits_value radix (b ∷ bs)) else None) ≡ Some v → v < 4294967296
-    by true true e k = let same : digits_value radix (b ∷ bs) ≡ v = cc in subst (λ n. n < 4294967296) same (grind (arith, nat_tests))
-    by true false e k = absurd cc
-    by false c e k = absurd cc
+digits_small radix x1 v h = grind (arith, common_steps, nat_tests)
 
 plain_small : (text : List ℕ) (v : ℕ) → plain_number_of text ≡ Some v → v < 4294967296
-plain_small text v h = by (slice_index text (length text - 1) == 104) h
-  where
-    by : (b : Bool) → (if b then digits 16 (take (length text - 1) text) else digits 10 text) ≡ Some v → v < 4294967296
-    by true k = digits_small 16 (take (length text - 1) text) v k
-    by false k = digits_small 10 text v k
+plain_small text v h = grind (arith, common_steps, (digits_small 16 (take (length text - 1) text) v), (digits_small 10 text v))
 
 number_small : (text : List ℕ) (v : ℕ) → number_of text ≡ Some v → v < 4294967296
 number_small [] v h = absurd cc
-number_small (b ∷ bs) v h = by (b == 36) (b == 37) h
-  where
-    by : (a c : Bool) → (if a then digits 16 bs else (if c then digits 2 bs else plain_number_of (b ∷ bs))) ≡ Some v → v < 4294967296
-    by true c k = digits_small 16 bs v k
-    by false true k = digits_small 2 bs v k
-    by false false k = plain_small (b ∷ bs) v k
+number_small (b ∷ bs) v h = grind (arith, common_steps, (digits_small 16 bs v), (digits_small 2 bs v), (plain_small (b ∷ bs) v))
 
 character_small : (c : ℕ) (text : List ℕ) → IsForm (token.Character c) text → AreBytes text → c < number_limit
 character_small c [] form h = absurd form
 character_small c (b ∷ bs) form h = let all = subst AreBytes form.1 h.1 in let small : c < 256 = all.0 in omega (arith, small)
 
-token_fit : (m : Files) (first : Bool) (k : TokenKind) (t text : List ℕ) → t ≡ take (length t) text → IsToken first k (length t) text → (HaveBytes m → AreBytes text) → IsNamed k t → IsFit m k t
-token_fit m first token.Identifier t text at is bytes named = (named, λ none. subst (λ (n : List ℕ). length n ≤ 200) (sym at) is.short)
-token_fit m first (token.Number v) t text at is bytes named = let small = number_small (take (length t) text) v is.value in omega (arith, small)
-token_fit m first (token.Character c) t text at is bytes named = λ all. character_small c (take (length t) text) is.longest.stands.form (all_take IsByte (length t) text (bytes all))
-token_fit m first _ t text at is bytes named = tt
+token_fit : (m : Files) (first : Bool) (k : TokenKind) (t text : List ℕ) → t ≡ take (length t) text → IsToken first k (length t) text → (HaveBytes m → AreBytes text) → IsFit m k t
+token_fit m first token.Identifier t text at is bytes =
+    let short : length t ≤ 200 = subst (λ (n : List ℕ). length n ≤ 200) (sym at) is.short in
+    (short_name t (subst (IsForm token.Identifier) (sym at) is.longest.stands.form) short, λ none. short)
+token_fit m first (token.Number v) t text at is bytes = let small = number_small (take (length t) text) v is.value in omega (arith, small)
+token_fit m first (token.Character c) t text at is bytes = λ all. character_small c (take (length t) text) is.longest.stands.form (all_take IsByte (length t) text (bytes all))
+token_fit m first _ t text at is bytes = tt
 
-tokens_fit : (m : Files) (first : Bool) (line : List ℕ) (ts : List Lexeme) (end : Option LexFault) → Reads first line ts end → (HaveBytes m → AreBytes line) → AreNamed ts → AreFit m ts
-tokens_fit m first line [] end h bytes named = tt
-tokens_fit m first line (t ∷ ts) end h bytes named =
+tokens_fit : (m : Files) (first : Bool) (line : List ℕ) (ts : List Lexeme) (end : Option LexFault) → Reads first line ts end → (HaveBytes m → AreBytes line) → AreFit m ts
+tokens_fit m first line [] end h bytes = tt
+tokens_fit m first line (t ∷ ts) end h bytes =
     let text : HaveBytes m → AreBytes (after_blanks line) = λ all. all_drop IsByte (prefix_len is_blank line) line (bytes all) in
-    (token_fit m first t.0 t.1 (after_blanks line) h.0 h.1 text named.0, tokens_fit m false (drop (length t.1) (after_blanks line)) ts end h.2 (λ all. all_drop IsByte (length t.1) (after_blanks line) (text all)) named.1)
+    (token_fit m first t.0 t.1 (after_blanks line) h.0 h.1 text, tokens_fit m false (drop (length t.1) (after_blanks line)) ts end h.2 (λ all. all_drop IsByte (length t.1) (after_blanks line) (text all)))
 
 some_bytes : (first : Bool) (k : TokenKind) (n : ℕ) (text : List ℕ) → IsToken first k n text → 0 < n
 some_bytes first k zero text h = absurd (empty first k text h.longest.stands)
@@ -158,7 +139,7 @@ abbrev pub IsLineFit : Files → List Lexeme → Type 0
 IsLineFit m ts = AreFit m ts × (length ts ≤ 4096)
 
 pub read_fit : (m : Files) (line : List ℕ) (ts : List Lexeme) → IsRead line (Ok ts) → (HaveBytes m → AreBytes line) → IsLineFit m ts
-read_fit m line ts h bytes = (tokens_fit m true line ts None h.1 bytes (tokens_named line ts h), (let few = tokens_few true line ts None h.1 in let short = h.0 in omega (arith, few, short)))
+read_fit m line ts h bytes = (tokens_fit m true line ts None h.1 bytes, (let few = tokens_few true line ts None h.1 in let short = h.0 in omega (arith, few, short)))
 
 -- ---- Expressions.
 
@@ -172,31 +153,14 @@ abbrev OpensSmall : Opening → Type 0
 OpensSmall (Number v) = v < number_limit
 OpensSmall _ = ⊤
 
-either_small : (b : Bool) (o p : Opening) → OpensSmall o → OpensSmall p → OpensSmall (if b then o else p)
-either_small true o p h j = h
-either_small false o p h j = j
-
 mark_small : (m : Mark) → OpensSmall (opening_of_mark m)
 mark_small m = grind (arith, common_steps)
 
 word_small : (text : List ℕ) → OpensSmall (opening_of_word text)
-word_small text =
-    either_small (str_eq_ignore_ascii_case text (codes ".bitnot")) (Prefix one.BitNot) _ tt
-    (either_small (str_eq_ignore_ascii_case text (codes ".lobyte")) (Prefix one.LowByte) _ tt
-    (either_small (str_eq_ignore_ascii_case text (codes ".hibyte")) (Prefix one.HighByte) _ tt
-    (either_small (str_eq_ignore_ascii_case text (codes ".bankbyte")) (Prefix one.BankByte) _ tt
-    (either_small (str_eq_ignore_ascii_case text (codes ".not")) Negation Nothing tt tt))))
+word_small text = grind (arith, common_steps)
 
 kind_small : (k : TokenKind) (text : List ℕ) → IsSmall k → OpensSmall (opening_of k text)
-kind_small token.Identifier text h = either_small (is_reserved text) Nothing Name tt tt
-kind_small token.Directive text h = word_small text
-kind_small (token.Number v) text h = h
-kind_small (token.Character c) text h = h
-kind_small token.Unnamed text h = either_small (nat_lt 0 (length text - 1) && (slice_index text 1 == 43)) (Forward (length text - 1)) (Backward (length text - 1)) tt tt
-kind_small (token.Symbol m) text h = mark_small m
-kind_small token.CheapName text h = tt
-kind_small token.Text text h = tt
-kind_small (token.SizePrefix s) text h = tt
+kind_small x1 text h = grind (arith, common_steps, word_small, mark_small)
 
 opening_small : (ts : List Lexeme) (i : ℕ) → AreSmall ts → OpensSmall (opening_at ts i)
 opening_small [] zero h = tt
@@ -205,12 +169,7 @@ opening_small (t ∷ ts) zero h = kind_small t.0 t.1 h.0
 opening_small (t ∷ ts) (suc i) h = opening_small ts i h.1
 
 leaf_small : (o : Opening) (text : List ℕ) (t : Tree) → leaf_of o text ≡ Some t → OpensSmall o → IsSmallTree t
-leaf_small (Number v) text t e h = let same : number v ≡ t = cc in subst IsSmallTree same h
-leaf_small Here text t e h = let same : here ≡ t = cc in subst IsSmallTree same tt
-leaf_small Cheap text t e h = let same : cheap text ≡ t = cc in subst IsSmallTree same tt
-leaf_small (Forward n) text t e h = let same : forward n ≡ t = cc in subst IsSmallTree same tt
-leaf_small (Backward n) text t e h = let same : backward n ≡ t = cc in subst IsSmallTree same tt
-leaf_small _ text t e h = absurd cc
+leaf_small x1 text t e h = grind (arith, common_steps)
 
 module _ (ts : List Lexeme) (h : AreSmall ts) where
   phrase_small : (room n i j : ℕ) (t : Tree) → Phrase ts room n i j t → IsSmallTree t

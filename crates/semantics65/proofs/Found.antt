@@ -18,22 +18,22 @@ use Rattle.semantics65.specs.Symbols.{Symbols}
 -- ---- What was found behind what was found.
 
 -- these contents, and what was said
-abbrev pub found_all : List Content → List ℕ → Finished Content
+abbrev pub found_all : List Content → List ℕ → Finished
 found_all cs said = record { found = Ok cs; warned = said }
 
-abbrev pub after_found : Result (List Content) PlacedFault → List ℕ → Finished Content → Finished Content
+abbrev pub after_found : Result (List Content) PlacedFault → List ℕ → Finished → Finished
 after_found (Ok cs) said b = record { found = b.found >>= (λ ds. Ok (cs ++ ds)); warned = said ++ b.warned }
 after_found (Err e) said b = record { found = Err e; warned = said }
 
 -- the one and then the other
-abbrev pub after : Finished Content → Finished Content → Finished Content
+abbrev pub after : Finished → Finished → Finished
 after a b = after_found a.found a.warned b
 
 prepended : (r : Result (List Content) PlacedFault) → (r >>= (λ ds. Ok ([] ++ ds))) ≡ r
 prepended (Ok ds) = refl
 prepended (Err e) = refl
 
-pub nothing_after : (b : Finished Content) → after (found_all [] []) b ≡ b
+pub nothing_after : (b : Finished) → after (found_all [] []) b ≡ b
 nothing_after b = ap (λ r. record { found = r; warned = b.warned }) (prepended b.found)
 
 -- a slot more comes to a content

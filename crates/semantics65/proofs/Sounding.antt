@@ -1,15 +1,13 @@
 -- What lines say is sound: names of identifiers, and texts that are short enough.
 use Rattle.std.proofs.Common.{◌≡◌, ℕ, ◌≤◌, Bool, true, false, List, [], ◌∷◌, refl, sym, ap, subst, arith, ◌<◌}
-use Rattle.std.specs.Prelude.{MatchBool, Ok, nat_lt, nat_le, length, take, drop, ◌==◌, ◌&&◌, if◌then◌else◌, None, Option, Result, Err, ◌++◌, codes, Some}
+use Rattle.std.specs.Prelude.{MatchBool, Ok, nat_lt, nat_le, length, ◌==◌, ◌&&◌, if◌then◌else◌, None, Option, Result, Err, ◌++◌, codes, Some}
 use Rattle.std.specs.Char.{is_ascii_alphabetic, is_ascii_digit}
 use Rattle.std.specs.List.{list_all, onto_first, AllByRecursion}
 use Rattle.std.proofs.lemmas.Bool.Decides.{nat_tests}
-use Rattle.syntax65.specs.Forms.{class_of, is_word, is_word_class, IsForm, IsToken}
+use Rattle.syntax65.specs.Forms.{class_of, is_word, is_word_class, IsForm}
 use Rattle.syntax65.specs.declared.lexing.places.Class.{Class}
 use Rattle.syntax65.specs.declared.lexing.places.Class.TheVariants.{Letter, Digit, Radix, At, Dot, Apostrophe, Quote, Colon, Semicolon, Blank, Other}
-use Rattle.syntax65.specs.Tokens.{Lexeme, Reads, IsRead, after_blanks}
-use Rattle.syntax65.specs.declared.lexing.tokens.LexFault.{LexFault}
-use Rattle.syntax65.specs.declared.lexing.tokens.TokenKind.{TokenKind}
+use Rattle.syntax65.specs.Tokens.{Lexeme}
 use Rattle.syntax65.specs.declared.lexing.tokens.TokenKind.TheVariants.{Identifier}
 use Rattle.object65.proofs.Goods.{and, left, right}
 use Rattle.object65.specs.Objects.{is_name, is_printed}
@@ -90,7 +88,7 @@ words_printed [] h = refl
 words_printed (b ∷ bs) h = and (is_printed b) (list_all is_printed bs) (word_printed b (left (is_word b) (list_all is_word bs) h)) (words_printed bs (right (is_word b) (list_all is_word bs) h))
 
 -- an identifier of at most 200 bytes
-short_name : (t : List ℕ) → IsForm Identifier t → length t ≤ 200 → is_name t ≡ true
+pub short_name : (t : List ℕ) → IsForm Identifier t → length t ≤ 200 → is_name t ≡ true
 short_name [] form short = elim form [ ]
 short_name (b ∷ bs) form short =
     let few : nat_lt (length (b ∷ bs)) 256 ≡ true = grind (arith, nat_tests) in
@@ -112,22 +110,6 @@ identifier_named (b ∷ bs) h =
     let some : nat_lt 0 (length (b ∷ bs)) ≡ true = grind (arith, nat_tests) in
     let all : list_all is_printed (b ∷ bs) ≡ true = and (is_printed b) (list_all is_printed bs) (letter_printed b (left (is_letter b) (list_all is_word bs) front)) (words_printed bs (right (is_letter b) (list_all is_word bs) front)) in
     and (nat_lt 0 (length (b ∷ bs)) && nat_lt (length (b ∷ bs)) 256) (list_all is_printed (b ∷ bs)) (and (nat_lt 0 (length (b ∷ bs))) (nat_lt (length (b ∷ bs)) 256) some few) all
-
--- ---- Tokens.
-
-named : (first : Bool) (k : TokenKind) (here t : List ℕ) → t ≡ take (length t) here → IsToken first k (length t) here → IsNamed k t
-named first Identifier here t at is =
-    let form : IsForm Identifier t = subst (IsForm Identifier) (sym at) is.longest.stands.form in
-    let short : length t ≤ 200 = subst (λ (x : List ℕ). length x ≤ 200) (sym at) is.short in
-    short_name t form short
-named first _ here t at is = tt
-
-all_named : (first : Bool) (line : List ℕ) (ts : List Lexeme) (end : Option LexFault) → Reads first line ts end → AreNamed ts
-all_named first line [] end h = tt
-all_named first line (t ∷ ts) end h = (named first t.0 (after_blanks line) t.1 h.0 h.1, all_named false (drop (length t.1) (after_blanks line)) ts end h.2)
-
-pub tokens_named : (line : List ℕ) (ts : List Lexeme) → IsRead line (Ok ts) → AreNamed ts
-tokens_named line ts h = all_named true line ts None h.1
 
 -- ---- What lines say is sound: names of identifiers, and texts that are short enough.
 

@@ -168,18 +168,18 @@ coming y names (waits w) =
     at_place w.place (if is_repeated names w.piece then as_said [] else made_of y w.place w.context w.piece)
 
 -- what was found, or the first fault; and the warnings of assertions up to there
-pub record Finished (A : Type 0) : Type 0 where
-  pub found : Result (List A) PlacedFault
+pub record Finished : Type 0 where
+  pub found : Result (List Content) PlacedFault
   pub warned : List ℕ
 
 -- what was made, before what follows it; its fault ends all
-abbrev pub followed_by : Result Made PlacedFault → (Made → Finished Content) → Finished Content
+abbrev pub followed_by : Result Made PlacedFault → (Made → Finished) → Finished
 followed_by (Ok m) rest =
     record { found = (rest m).found >>= (λ cs. Ok (m.content ∷ cs)); warned = m.warning ++ (rest m).warned }
 followed_by (Err e) rest = record { found = Err e; warned = [] }
 
 -- slots are gone through once, in the order of the source, behind exports of these names
-abbrev pub resolved : Symbols → List (List ℕ) → List Slot → Finished Content
+abbrev pub resolved : Symbols → List (List ℕ) → List Slot → Finished
 resolved y names [] = record { found = Ok []; warned = [] }
 resolved y names (x ∷ slots) =
     followed_by (coming y names x) (λ m. resolved y (names ++ exported_names m.content.said) slots)
@@ -187,7 +187,7 @@ resolved y names (x ∷ slots) =
 -- ---- What a module comes to.
 
 -- what laid statements come to, by the symbol table of all
-abbrev pub ending_of : List Laid → Finished Content
+abbrev pub ending_of : List Laid → Finished
 ending_of ls = resolved (symbols_of ls) [] (flat_map slots_of ls)
 
 -- the object of laid statements

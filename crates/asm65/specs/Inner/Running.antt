@@ -247,6 +247,11 @@ pub record IsFaulty (y : Symbols) (x : Slot) (e : AsmRefusal) (old new : Ending)
   pub found : coming y (names_of old.exported) x ≡ Err (placed_of e)
   pub err : new.err ≡ old.err
 
+-- what a call leaves that isn't refused
+abbrev pub leaving : {A : Type 0} → A → Result Unit AsmRefusal → Result A AsmRefusal
+leaving a (Ok u) = Ok a
+leaving a (Err e) = Err e
+
 abbrev pub Settles : Symbols → List (List ℕ) → Slot → Ending → Ending → Result Entry AsmRefusal → Type 0
 Settles y files x old new (Ok e) = IsSettled y files x e old new
 Settles y files x old new (Err e) = Unless (is_outside_refusal e) (IsFaulty y x e old new)

@@ -1,9 +1,15 @@
-use Rattle.std.proofs.Common.{List, ℕ, map, refl, string_bytes, ◌∷◌, [], Global}
-use Rattle.semantics65.specs.Symbols.{Symbols}
+use Rattle.std.proofs.Common.{List, ℕ, [], ◌∷◌, map, string_bytes, Global}
 use Rattle.symbols65.specs.Views.{table_of}
 use Rattle.asm65.specs.Inner.Running.{AreFed}
 use Rattle.asm65.proofs.Conclusions.{known_settled}
 use Rattle.asm65.proofs.concluding.settle.Goals as goal
 
-pub returns-else-clause-settled : goal.returns-else-clause-settled
-returns-else-clause-settled c = ?
+pub returns-in_default : goal.returns-in_default
+returns-in_default c =
+    let files : List (List ℕ) = map (string_bytes {Z = Global}) c.args.whole.files.now in
+    let e = c.args.entry.now in
+    record {
+      settled = λ (h : AreFed files (e ∷ [])). known_settled (table_of c.args.whole.symbols.now) files e c.args.ending.now c.in_default.not-Waits h;
+      found = c.requires;
+      inside = tt;
+    }

@@ -3,7 +3,6 @@
 use Rattle.std.proofs.lemmas.Grind.{common_steps}
 use Rattle.std.proofs.Common.{arith, ◌≡◌, ℤ, ℕ, zero, suc, ◌+◌, ◌<◌, ◌≤◌, Bool, true, false, List, [], ◌∷◌, length, drop, map, Option, Some, None, refl, sym, subst, if◌then◌else◌}
 use Rattle.std.specs.Prelude.{⊤, IfOk, Result, Ok, Err}
-use Rattle.std.specs.FinMap as fmap
 use Rattle.std.specs.List.{AllByRecursion}
 use Rattle.std.specs.Str.{is_utf8}
 use Rattle.std.proofs.lemmas.Bool.Decides.{nat_tests}
@@ -44,21 +43,15 @@ abbrev IsSearchFit : Files → Result (List ℕ × List ℕ) ExpandFault → Typ
 IsSearchFit m q = IfOk q (λ f. IsFileFit m f.0 f.1)
 
 named_fit : (m : Files) (name bytes : List ℕ) → file_named m name ≡ Some bytes → length bytes ≤ 16777216 → IsFileFit m name bytes
-named_fit m name bytes h short = by (is_utf8 name) refl h
-  where
-    by : (b : Bool) → is_utf8 name ≡ b → (if b then fmap.get m name else None) ≡ Some bytes → IsFileFit m name bytes
-    by true e j = (e, (λ all. all name bytes j), short)
-    by false e j = absurd cc
+named_fit m name bytes h short = grind (arith, common_steps)
 
 -- so is a source
 pub opened_bytes : (m : Files) (name : List ℕ) (o : Option (List ℕ)) → file_named m name ≡ o → IfOk (bytes_in o) (IsFileFit m name)
-opened_bytes m name None e = tt
-opened_bytes m name (Some bytes) e = grind (arith, common_steps, nat_tests, (named_fit m name bytes e))
+opened_bytes m name x1 e = grind (arith, common_steps, nat_tests, (named_fit m name))
 
 -- and what is found of some names
 found_fit : (m : Files) (name : List ℕ) (o : Option (List ℕ)) (others : Result (List ℕ × List ℕ) ExpandFault) → file_named m name ≡ o → IsSearchFit m others → IsSearchFit m (found_or name o others)
-found_fit m name None others e j = j
-found_fit m name (Some bytes) others e j = grind (arith, common_steps, nat_tests, (named_fit m name bytes e))
+found_fit m name x1 others e j = grind (arith, common_steps, nat_tests, (named_fit m name))
 
 search_fit : (m : Files) (names : List (List ℕ)) → IsSearchFit m (first_file m names)
 search_fit m [] = tt
@@ -168,8 +161,7 @@ module _ (m : Files) where
 
       else_on : (o : Option (Bool × List Bool)) → Keeps (else_line s o)
       else_on (Some (false, bs)) = λ b x p. record { left = (block kind.Passed b x p).1; macros = fit.macros }
-      else_on (Some (true, bs)) = tt
-      else_on None = tt
+      else_on _ = tt
 
       end_if_on : (o : Option (Bool × List Bool)) → IsKept (ended_if s o)
       end_if_on x1 = grind (arith, common_steps)

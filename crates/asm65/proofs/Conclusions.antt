@@ -8,17 +8,15 @@ use Rattle.std.specs.List.{list_all}
 use Rattle.std.proofs.lemmas.List.{append-nil, map-append}
 use Rattle.object65.specs.declared.object.Object.{Object}
 use Rattle.object65.specs.Objects.{is_good_object}
-use Rattle.semantics65.specs.Contents.{Content, telling}
+use Rattle.semantics65.specs.Contents.{Content, exported_names}
 use Rattle.semantics65.specs.declared.contents.Segment.{Segment}
 use Rattle.semantics65.specs.Layout.{Cursor}
 use Rattle.semantics65.specs.Machine.{State, concluded, finished}
-use Rattle.semantics65.specs.Module.{Made, Outcome, quietly, Finished, Slot, coming, holds, resolved}
-use Rattle.semantics65.specs.Numbering.{AreSound, object_with, section_keys}
-use Rattle.semantics65.specs.Reading.{PlacedFault}
+use Rattle.semantics65.specs.Module.{Outcome, quietly, Finished, Slot, coming, holds, resolved}
+use Rattle.semantics65.specs.Numbering.{AreSound, all_said, object_with, section_keys}
 use Rattle.semantics65.specs.Symbols.{Symbols}
-use Rattle.semantics65.proofs.Entries.{after, nothing_after}
-use Rattle.semantics65.proofs.Resolving.{found_all, resolved_more, resolved_stops}
-use Rattle.emit65.specs.Fed.{AreAlike, AreSlotsAlike, HasSlots, StandIn, Stands, content_by, content_of, names_in, slot_of, stands_in}
+use Rattle.semantics65.proofs.Found.{after, found_all, nothing_after, resolved_more, resolved_stops}
+use Rattle.emit65.specs.Fed.{AreAlike, AreSlotsAlike, HasSlots, StandIn, Stands, content_of, contents_so_far, names_in, names_of, slot_of, so_far, stands_in}
 use Rattle.emit65.specs.declared.files.Files.{Files}
 use Rattle.emit65.specs.declared.entries.Entry.{Entry}
 use Rattle.emit65.specs.declared.entries.Entry.TheVariants.{Bytes, Room, Value, Told, Waits}
@@ -26,8 +24,8 @@ use Rattle.emit65.specs.declared.fixups.Fixup.{Fixup}
 use Rattle.std.specs.Global.{Box}
 use Rattle.emit65.specs.declared.sections.Closed.{Closed}
 use Rattle.emit65.proofs.Grown.{standing_more}
-use Rattle.emit65.proofs.Renumbering.{left, right}
-use Rattle.emit65.proofs.Slots.{comes_alike, faulty_alike, held_alike, held_contents, keys_by, settled, settled_quiet, slots_trans}
+use Rattle.emit65.proofs.Renumbering.{and, left, right}
+use Rattle.emit65.proofs.Slots.{comes_alike, faulty_alike, held_alike, held_contents, keys_found}
 use Rattle.symbols65.proofs.Measures.{unless_then}
 use Rattle.symbols65.specs.Measuring.{cursor_of}
 use Rattle.symbols65.specs.Views.{table_of}
@@ -36,7 +34,7 @@ use Rattle.asm65.specs.declared.concluding.Ending.{Ending}
 use Rattle.asm65.specs.declared.texts.AsmRefusal.{AsmRefusal}
 use Rattle.asm65.specs.Assembly.{in_places, is_from_outside, is_outside_refusal, placed_of}
 use Rattle.asm65.specs.Inner.Holding.{Holds}
-use Rattle.asm65.specs.Inner.Running.{AreFaulty, AreSettled, ComesTo, IsFaulty, IsObjectOf, IsPutIn, IsSettled}
+use Rattle.asm65.specs.Inner.Running.{AreFaulty, AreFed, AreSettled, ComesTo, IsFaulty, IsObjectOf, IsSettled}
 
 -- ---- Faults from outside.
 
@@ -67,11 +65,14 @@ outside_comes P false e = absurd cc
 
 -- ---- One more entry.
 
-pub put_in : (files : List (List ℕ)) (e : Entry) (c : Content) (old new : Ending) → new.done.items ≡ old.done.items ++ e ∷ [] → slot_of files e ≡ holds c → stands_in (length files) e ≡ true → IsPutIn files c old new
-put_in files e c old new done is standing = record {
-  slots = ap (map (slot_of files)) done ∙ map-append (slot_of files) old.done.items (e ∷ []) ∙ ap (λ x. map (slot_of files) old.done.items ++ x ∷ []) is;
-  standing = λ s. subst (StandIn (length files)) (sym done) (standing_more (length files) old.done.items e standing s);
-}
+-- lists that are nothing together
+pub none_first : {A : Type 0} (xs ys : List A) → xs ++ ys ≡ [] → xs ≡ []
+none_first [] ys h = refl
+none_first (x ∷ xs) ys h = absurd cc
+
+none_last : {A : Type 0} (xs ys : List A) → xs ++ ys ≡ [] → ys ≡ []
+none_last [] ys h = h
+none_last (x ∷ xs) ys h = absurd cc
 
 -- an entry that doesn't wait holds its content
 known_slot : (files : List (List ℕ)) (e : Entry) → ((w : Box Fixup) → e ≡ Waits w → ⊥) → slot_of files e ≡ holds (content_of files e)
@@ -81,71 +82,93 @@ known_slot files (Value width g o f) h = refl
 known_slot files (Told o ss) h = refl
 known_slot files (Waits w) h = absurd (h w refl)
 
-pub known_settled : (y : Symbols) (files : List (List ℕ)) (e : Entry) (old new : Ending) → ((w : Box Fixup) → e ≡ Waits w → ⊥) → new.done.items ≡ old.done.items ++ e ∷ [] → new.err ≡ old.err → stands_in (length files) e ≡ true → IsSettled y files (slot_of files e) old new
-known_settled y files e old new h done err standing =
+-- and stays as it is
+pub known_settled : (y : Symbols) (files : List (List ℕ)) (e : Entry) (now : Ending) → ((w : Box Fixup) → e ≡ Waits w → ⊥) → AreFed files (e ∷ []) → IsSettled y files (slot_of files e) e now now
+known_settled y files e now h fed =
     let is = known_slot files e h in
+    let unsaid : (content_of files e).said ≡ [] = none_first (content_of files e).said [] (subst (λ (x : Slot). all_said (contents_so_far (x ∷ [])) ≡ []) is fed.unsaid) in
     record {
       made = quietly (content_of files e);
-      found = ap (coming y) is;
-      entry = put_in files e (content_of files e) old new done is standing;
-      err = err ∙ sym (append-nil old.err);
+      found = ap (coming y (names_of now.exported)) is;
+      entry = is;
+      standing = left (stands_in (length files) e) true fed.standing;
+      names = sym (append-nil (names_of now.exported)) ∙ ap (λ ss. names_of now.exported ++ exported_names ss) (sym unsaid);
+      err = sym (append-nil now.err);
     }
 
 -- ---- Slots come to their contents one behind the other.
 
--- some slots have come to their contents, and others are left
-pub record SoFar (y : Symbols) (files : List (List ℕ)) (all : List Slot) (left : List Entry) (old new : Ending) : Type 0 where
+fed_first : (files : List (List ℕ)) (e : Entry) (es : List Entry) → AreFed files (e ∷ es) → AreFed files (e ∷ [])
+fed_first files e es h =
+    let said = (so_far (slot_of files e)).said in
+    record {
+      standing = and (stands_in (length files) e) true (left (stands_in (length files) e) (list_all (stands_in (length files)) es) h.standing) refl;
+      unsaid = append-nil said ∙ none_first said (all_said (contents_so_far (map (slot_of files) es))) h.unsaid;
+    }
+
+fed_rest : (files : List (List ℕ)) (e : Entry) (es : List Entry) → AreFed files (e ∷ es) → AreFed files es
+fed_rest files e es h = record {
+  standing = right (stands_in (length files) e) (list_all (stands_in (length files)) es) h.standing;
+  unsaid = none_last (so_far (slot_of files e)).said (all_said (contents_so_far (map (slot_of files) es))) h.unsaid;
+}
+
+-- some slots have come to their contents, which entries hold, and others are left
+pub record SoFar (y : Symbols) (files : List (List ℕ)) (all : List Slot) (done left : List Entry) (old new : Ending) : Type 0 where
   pub contents : List Content
   pub said : List ℕ
-  pub found : resolved y all ≡ after (found_all contents said) (resolved y (map (slot_of files) left))
-  pub entries : map (slot_of files) new.done.items ≡ map holds contents
-  pub standing : StandIn (length files) new.done.items
-  pub others : StandIn (length files) left
+  pub found : resolved y (names_of old.exported) all ≡ after (found_all contents said) (resolved y (names_of new.exported) (map (slot_of files) left))
+  pub entries : map (slot_of files) done ≡ map holds contents
+  pub standing : StandIn (length files) done
+  pub others : AreFed files left
   pub err : new.err ≡ old.err ++ said
 
-pub begins : (y : Symbols) (files : List (List ℕ)) (left : List Entry) (e : Ending) → e.done.items ≡ [] → StandIn (length files) left → SoFar y files (map (slot_of files) left) left e e
-begins y files left e none standing = record {
+pub begins : (y : Symbols) (files : List (List ℕ)) (left : List Entry) (e : Ending) → AreFed files left → SoFar y files (map (slot_of files) left) [] left e e
+begins y files left e fed = record {
   contents = [];
   said = [];
-  found = sym (nothing_after (resolved y (map (slot_of files) left)));
-  entries = ap (map (slot_of files)) none;
-  standing = subst (StandIn (length files)) (sym none) refl;
-  others = standing;
+  found = sym (nothing_after (resolved y (names_of e.exported) (map (slot_of files) left)));
+  entries = refl;
+  standing = refl;
+  others = fed;
   err = sym (append-nil e.err);
 }
 
-pub goes_on : (y : Symbols) (files : List (List ℕ)) (all : List Slot) (e : Entry) (left : List Entry) (old mid new : Ending) → SoFar y files all (e ∷ left) old mid → (stands_in (length files) e ≡ true → IsSettled y files (slot_of files e) mid new) → SoFar y files all left old new
-goes_on y files all e rest old mid new so settled =
-    let here = left (stands_in (length files) e) (list_all (stands_in (length files)) rest) so.others in
-    let k = settled here in
+pub goes_on : (y : Symbols) (files : List (List ℕ)) (all : List Slot) (done : List Entry) (e f : Entry) (left : List Entry) (old mid new : Ending) → SoFar y files all done (e ∷ left) old mid → (AreFed files (e ∷ []) → IsSettled y files (slot_of files e) f mid new) → SoFar y files all (done ++ f ∷ []) left old new
+goes_on y files all done e f rest old mid new so settled =
+    let k = settled (fed_first files e rest so.others) in
     record {
       contents = so.contents ++ k.made.content ∷ [];
       said = so.said ++ k.made.warning;
-      found = so.found ∙ resolved_more y so.contents so.said (slot_of files e) (map (slot_of files) rest) k.made k.found;
-      entries = k.entry.slots ∙ ap (λ xs. xs ++ holds k.made.content ∷ []) so.entries ∙ sym (map-append holds so.contents (k.made.content ∷ []));
-      standing = k.entry.standing so.standing;
-      others = right (stands_in (length files) e) (list_all (stands_in (length files)) rest) so.others;
+      found =
+          so.found ∙ resolved_more y (names_of mid.exported) so.contents so.said (slot_of files e) (map (slot_of files) rest) k.made k.found
+          ∙ ap (λ names. after (found_all (so.contents ++ k.made.content ∷ []) (so.said ++ k.made.warning)) (resolved y names (map (slot_of files) rest))) (sym k.names);
+      entries =
+          map-append (slot_of files) done (f ∷ [])
+          ∙ (λ n. so.entries n ++ k.entry n ∷ [])
+          ∙ sym (map-append holds so.contents (k.made.content ∷ []));
+      standing = standing_more (length files) done f k.standing so.standing;
+      others = fed_rest files e rest so.others;
       err = k.err ∙ ap (λ (x : List ℕ). x ++ k.made.warning) so.err ∙ append_assoc old.err so.said k.made.warning;
     }
 
-pub stops : (y : Symbols) (files : List (List ℕ)) (all : List Slot) (e : Entry) (left : List Entry) (old mid new : Ending) (f : AsmRefusal) → SoFar y files all (e ∷ left) old mid → (stands_in (length files) e ≡ true → Unless (is_outside_refusal f) (IsFaulty y (slot_of files e) f mid new)) → Unless (is_outside_refusal f) (AreFaulty y all f old.err new.err)
-stops y files all e rest old mid new f so faulty = unless_then (is_outside_refusal f) one (faulty (left (stands_in (length files) e) (list_all (stands_in (length files)) rest) so.others))
+pub stops : (y : Symbols) (files : List (List ℕ)) (all : List Slot) (done : List Entry) (e : Entry) (left : List Entry) (old mid new : Ending) (f : AsmRefusal) → SoFar y files all done (e ∷ left) old mid → (AreFed files (e ∷ []) → Unless (is_outside_refusal f) (IsFaulty y (slot_of files e) f mid new)) → Unless (is_outside_refusal f) (AreFaulty y (names_of old.exported) all f old.err new.err)
+stops y files all done e rest old mid new f so faulty = unless_then (is_outside_refusal f) one (faulty (fed_first files e rest so.others))
   where
-    one : IsFaulty y (slot_of files e) f mid new → AreFaulty y all f old.err new.err
+    one : IsFaulty y (slot_of files e) f mid new → AreFaulty y (names_of old.exported) all f old.err new.err
     one k = record {
       said = so.said;
-      found = so.found ∙ resolved_stops y so.contents so.said (slot_of files e) (map (slot_of files) rest) (placed_of f) k.found;
+      found = so.found ∙ resolved_stops y (names_of mid.exported) so.contents so.said (slot_of files e) (map (slot_of files) rest) (placed_of f) k.found;
       err = k.err ∙ so.err;
     }
 
-after_none : (cs : List Content) (said : List ℕ) (y : Symbols) → after (found_all cs said) (resolved y []) ≡ found_all cs said
-after_none cs said y = λ n. record { found = Ok (append-nil cs n); warned = append-nil said n }
+after_none : (cs : List Content) (said : List ℕ) → after (found_all cs said) (found_all [] []) ≡ found_all cs said
+after_none cs said = λ n. found_all (append-nil cs n) (append-nil said n)
 
-pub ends : (y : Symbols) (files : List (List ℕ)) (all : List Slot) (old new : Ending) → SoFar y files all [] old new → AreSettled y files all old new
-ends y files all old new so = record {
+pub ends : (y : Symbols) (files : List (List ℕ)) (all : List Slot) (done : List Entry) (old new : Ending) → SoFar y files all done [] old new → AreSettled y files all done old new
+ends y files all done old new so = record {
   contents = so.contents;
   said = so.said;
-  found = so.found ∙ after_none so.contents so.said y;
+  found = so.found ∙ after_none so.contents so.said;
   entries = so.entries;
   standing = so.standing;
   err = so.err;
@@ -153,12 +176,14 @@ ends y files all old new so = record {
 
 -- ---- The object of what was fed.
 
+-- entries of sections that hold nothing that is said
+pub fed_closed : (xs : List Slot) (t : Closed) → HasSlots xs t → all_said (contents_so_far xs) ≡ [] → AreFed (names_in t.files) t.entries.items
+fed_closed xs t h unsaid = record { standing = h.standing; unsaid = sym h.alike.held.said ∙ unsaid }
+
 -- contents that slots have come to stand in their place
-settled_slots : (y : Symbols) (xs : List Slot) (t u : Closed) (cs ds : List Content) → u.asked ≡ t.asked → u.files ≡ t.files → HasSlots xs t → cs ≡ map (content_by (settled y)) xs → AreAlike cs ds → map (slot_of (names_in t.files)) u.entries.items ≡ map holds ds → StandIn (length (names_in t.files)) u.entries.items → HasSlots (map holds cs) u
-settled_slots y xs t u cs ds asked files h by alike entries standing = record {
-  asked =
-      ap section_keys (held_contents (λ w. telling []) cs ∙ by) ∙ keys_by (settled y) (settled_quiet y) xs ∙ h.asked
-      ∙ ap (λ s. s.keys) (sym asked);
+settled_slots : (y : Symbols) (xs : List Slot) (t u : Closed) (cs ds : List Content) → u.asked ≡ t.asked → u.files ≡ t.files → HasSlots xs t → (resolved y [] xs).found ≡ Ok cs → AreAlike cs ds → map (slot_of (names_in t.files)) u.entries.items ≡ map holds ds → StandIn (length (names_in t.files)) u.entries.items → HasSlots (map holds cs) u
+settled_slots y xs t u cs ds asked files h found alike entries standing = record {
+  asked = ap section_keys (held_contents cs) ∙ keys_found y [] xs cs found ∙ h.asked ∙ ap (λ s. s.keys) (sym asked);
   alike =
       subst (λ (fs : Files). AreSlotsAlike (map holds cs) (map (slot_of (names_in fs)) u.entries.items)) (sym files)
       (subst (λ (ys : List Slot). AreSlotsAlike (map holds cs) ys) (sym entries) (held_alike cs ds alike));
@@ -166,13 +191,12 @@ settled_slots y xs t u cs ds asked files h by alike entries standing = record {
 }
 
 -- an object that is made of what slots have come to
-pub object_come : (y : Symbols) (segments : List Segment) (xs : List Slot) (t u : Closed) (old new : Ending) (o : Object) → u.asked ≡ t.asked → u.files ≡ t.files → u.entries.items ≡ new.done.items → HasSlots xs t → AreSettled y (names_in t.files) (map (slot_of (names_in t.files)) t.entries.items) old new → ((cs : List Content) → HasSlots (map holds cs) u → o ≡ object_with segments y.imports cs) → ((cs : List Content) → HasSlots (map holds cs) u → AreSound segments y.imports cs → is_good_object o ≡ true) → IsObjectOf y segments xs o old.err new.err
-object_come y segments xs t u old new o asked files same h k made good =
-    let names = names_in t.files in
-    let come = comes_alike y xs (map (slot_of names) t.entries.items) k.contents k.said h.alike k.found in
-    let entries : map (slot_of names) u.entries.items ≡ map holds k.contents = ap (map (slot_of names)) same ∙ k.entries in
-    let standing : StandIn (length names) u.entries.items = subst (StandIn (length names)) (sym same) k.standing in
-    let has = settled_slots y xs t u come.contents k.contents asked files h come.by come.alike entries standing in
+pub object_come : (y : Symbols) (segments : List Segment) (xs : List Slot) (t u : Closed) (old new : Ending) (o : Object) → u.asked ≡ t.asked → u.files ≡ t.files → names_of old.exported ≡ [] → HasSlots xs t → AreSettled y (names_in t.files) (map (slot_of (names_in t.files)) t.entries.items) u.entries.items old new → ((cs : List Content) → HasSlots (map holds cs) u → o ≡ object_with segments y.imports cs) → ((cs : List Content) → HasSlots (map holds cs) u → AreSound segments y.imports cs → is_good_object o ≡ true) → IsObjectOf y segments xs o old.err new.err
+object_come y segments xs t u old new o asked files none h k made good =
+    let slots : List Slot = map (slot_of (names_in t.files)) t.entries.items in
+    let found : resolved y [] slots ≡ found_all k.contents k.said = subst (λ (names : List (List ℕ)). resolved y names slots ≡ found_all k.contents k.said) none k.found in
+    let come = comes_alike y [] xs slots k.contents k.said h.alike found in
+    let has = settled_slots y xs t u come.contents k.contents asked files h (ap (λ (f : Finished). f.found) come.is) come.alike k.entries k.standing in
     record {
       contents = come.contents;
       said = k.said;
@@ -183,12 +207,14 @@ object_come y segments xs t u old new o asked files same h k made good =
     }
 
 -- or their first fault
-pub fault_come : (y : Symbols) (xs : List Slot) (t : Closed) (e : AsmRefusal) (old new : List ℕ) → HasSlots xs t → Unless (is_outside_refusal e) (AreFaulty y (map (slot_of (names_in t.files)) t.entries.items) e old new) → Unless (is_outside_refusal e) (AreFaulty y xs e old new)
-fault_come y xs t e old new h = unless_then (is_outside_refusal e) (λ k. record {
-  said = k.said;
-  found = faulty_alike y xs (map (slot_of (names_in t.files)) t.entries.items) (placed_of e) k.said h.alike k.found;
-  err = k.err;
-})
+pub fault_come : (y : Symbols) (xs : List Slot) (t : Closed) (e : AsmRefusal) (names : List (List ℕ)) (old new : List ℕ) → names ≡ [] → HasSlots xs t → Unless (is_outside_refusal e) (AreFaulty y names (map (slot_of (names_in t.files)) t.entries.items) e old new) → Unless (is_outside_refusal e) (AreFaulty y [] xs e old new)
+fault_come y xs t e names old new none h = unless_then (is_outside_refusal e) (λ k.
+    let slots : List Slot = map (slot_of (names_in t.files)) t.entries.items in
+    record {
+      said = k.said;
+      found = faulty_alike y [] xs slots (placed_of e) k.said h.alike (subst (λ (ns : List (List ℕ)). resolved y ns slots ≡ record { found = Err (placed_of e); warned = k.said }) none k.found);
+      err = k.err;
+    })
 
 -- ---- What an assembler comes to behind the last line.
 
@@ -199,7 +225,7 @@ held_comes count t a new r h k =
     let second : ComesTo t.symbols t.cursor.segments t.slots a.texts.err new r = subst (λ (w : Cursor). ComesTo t.symbols w.segments t.slots a.texts.err new r) h.cursor first in
     subst (λ (e : List ℕ). ComesTo t.symbols t.cursor.segments t.slots e new r) h.err second
 
-abbrev concluded_by : State → Finished Content → Outcome
+abbrev concluded_by : State → Finished → Outcome
 concluded_by t r = record { result = r.found >>= (λ cs. Ok (object_with t.cursor.segments t.symbols.imports cs)); out = t.out; err = t.err ++ r.warned }
 
 answer_concluded : (t : State) (out new : List ℕ) (r : Result Object AsmRefusal) → out ≡ t.out → ComesTo t.symbols t.cursor.segments t.slots t.err new r → is_from_outside r ≡ false → record { result = in_places r; out = out; err = new } ≡ concluded t None
@@ -207,7 +233,7 @@ answer_concluded t out new (Ok o) same k inside =
     let answer : Object → List ℕ → List ℕ → Outcome = λ x said err. record { result = Ok x; out = said; err = err } in
     (λ n. answer (k.object n) (same n) (k.err n)) ∙ ap (concluded_by t) (sym k.found)
 answer_concluded t out new (Err e) same u inside =
-    let k = certain (is_outside_refusal e) (AreFaulty t.symbols t.slots e t.err new) u inside in
+    let k = certain (is_outside_refusal e) (AreFaulty t.symbols [] t.slots e t.err new) u inside in
     let answer : List ℕ → List ℕ → Outcome = λ said err. record { result = Err (placed_of e); out = said; err = err } in
     (λ n. answer (same n) (k.err n)) ∙ ap (concluded_by t) (sym k.found)
 
@@ -221,11 +247,11 @@ IsGoodIf a o =
     ((cs : List Content) → (finished t).found ≡ Ok cs → AreSound t.cursor.segments t.symbols.imports cs) →
     is_good_object o ≡ true
 
-pub comes_good : (a : Assembler) (new : List ℕ) (r x : Result Object AsmRefusal) → x ≡ r → ((xs : List Slot) → Stands xs a.sections → ComesTo (table_of a.symbols) a.cursor.segments.items xs a.texts.err new r) → IfOk x (IsGoodIf a)
+pub comes_good : (a : Assembler) (new : List ℕ) (r x : Result Object AsmRefusal) → x ≡ r → ((xs : List Slot) → Stands xs a.sections → all_said (contents_so_far xs) ≡ [] → ComesTo (table_of a.symbols) a.cursor.segments.items xs a.texts.err new r) → IfOk x (IsGoodIf a)
 comes_good a new r x same comes = subst (λ (z : Result Object AsmRefusal). IfOk z (IsGoodIf a)) (sym same) (by r comes)
   where
-    by : (z : Result Object AsmRefusal) → ((xs : List Slot) → Stands xs a.sections → ComesTo (table_of a.symbols) a.cursor.segments.items xs a.texts.err new z) → IfOk z (IsGoodIf a)
+    by : (z : Result Object AsmRefusal) → ((xs : List Slot) → Stands xs a.sections → all_said (contents_so_far xs) ≡ [] → ComesTo (table_of a.symbols) a.cursor.segments.items xs a.texts.err new z) → IfOk z (IsGoodIf a)
     by (Ok o) k = λ count t h sound.
-        (let found = held_comes count t a new (Ok o) h (k t.slots h.sections) in
-        found.good (sound found.contents (ap (λ (f : Finished Content). f.found) found.found)))
+        (let found = held_comes count t a new (Ok o) h (k t.slots h.sections h.unsaid) in
+        found.good (sound found.contents (ap (λ (f : Finished). f.found) found.found)))
     by (Err e) k = tt

@@ -19,6 +19,7 @@ use Rattle.semantics65.specs.declared.laid.Context.{Context}
 use Rattle.semantics65.specs.Machine.{IsSettled, PutsAll, State, at_once, entered}
 use Rattle.semantics65.specs.Module.{Piece, Purpose, as_part, asserted, datum, given, operand, quietly, used, valued, item_piece, Slot, holds}
 use Rattle.semantics65.proofs.Resolving.{final_settles, settled_given}
+use Rattle.semantics65.specs.Numbering.{all_said}
 use Rattle.semantics65.specs.Symbols.{Symbols}
 use Rattle.emit65.specs.declared.sections.Sections.{Sections}
 use Rattle.emit65.specs.Fed.{Feeds, Stands}
@@ -50,19 +51,19 @@ enters_both place s ps qs old mid new first second count t h =
 abbrev fed : Assembler → Sections → Assembler
 fed a x = record a { sections = x }
 
-pub fed_enters : (old : Assembler) (x : Sections) (place : Place) (s : Context) (p : Piece) (c : Content) → Feeds old.sections x (holds c) → IsSettled (table_of old.symbols) place s p c → Enters place s (p ∷ []) old (fed old x)
-fed_enters old x place s p c feeds settled count t h =
+pub fed_enters : (old : Assembler) (x : Sections) (place : Place) (s : Context) (p : Piece) (c : Content) → c.said ≡ [] → Feeds old.sections x (holds c) → IsSettled (table_of old.symbols) place s p c → Enters place s (p ∷ []) old (fed old x)
+fed_enters old x place s p c quiet feeds settled count t h =
     let there : IsSettled t.symbols place s p c = subst (λ y. IsSettled y place s p c) h.symbols settled in
-    (entered t c, (entered t c, at_once c there, refl), holds_entered count t old (fed old x) h (record { symbols = refl; known = refl; cursor = refl; texts = refl }) c feeds)
+    (entered t c, (entered t c, at_once c there, refl), holds_entered count t old (fed old x) h (record { symbols = refl; known = refl; cursor = refl; texts = refl }) c quiet feeds)
 
 -- what needs no value
 pub given_enters : (old : Assembler) (x : Sections) (place : Place) (s : Context) (p : Part) → Feeds old.sections x (holds (put s.segment p)) → Enters place s (given p ∷ []) old (fed old x)
-given_enters old x place s p feeds = fed_enters old x place s (given p) (put s.segment p) feeds (settled_given (table_of old.symbols) place s p)
+given_enters old x place s p feeds = fed_enters old x place s (given p) (put s.segment p) refl feeds (settled_given (table_of old.symbols) place s p)
 
 -- a value whose form is final and puts a part
 module _ (old : Assembler) (x : Sections) (place : Place) (s : Context) (why : Purpose) (e : Tree) (f : Form) (final : IsFinal (table_of old.symbols) s e f) where
   value_entered : (r : Result Part AsmFault) → used place s why f ≡ (r >>= as_part s.segment) → IsPut old.sections x s.segment r true → Enters place s (valued why e ∷ []) old (fed old x)
-  value_entered (Ok p) is feeds = fed_enters old x place s (valued why e) (put s.segment p) feeds (final_settles (table_of old.symbols) place s why e f (put s.segment p) final is)
+  value_entered (Ok p) is feeds = fed_enters old x place s (valued why e) (put s.segment p) refl feeds (final_settles (table_of old.symbols) place s why e f (put s.segment p) final is)
   value_entered (Err e) is feeds = absurd feeds
 
   value_tried : (r : Result Part AsmFault) (b : Bool) → used place s why f ≡ (r >>= as_part s.segment) → IsPut old.sections x s.segment r b → IsTried place s (valued why e) old (fed old x) b
@@ -96,13 +97,17 @@ numbers_put place s t width (n ∷ ns) fit =
           (append_assoc t.slots (holds c ∷ []) (map holds cs)) (numbers_put place s (entered t c) width ns others),
     )
 
+runs_say : {A : Type 0} (g : ℕ) (f : A → List ℕ) (xs : List A) → all_said (runs g f xs) ≡ []
+runs_say g f [] = refl
+runs_say g f (x ∷ xs) = runs_say g f xs
+
 pub numbers_enter : (old : Assembler) (x : Sections) (place : Place) (s : Context) (width : Width) (ns bytes : List ℕ) → AreStored width ns bytes → Feeds old.sections x (holds (put s.segment (Known bytes))) → Enters place s (map (item_piece width) (map numbered ns)) old (fed old x)
 numbers_enter old x place s width ns bytes stored feeds count t h =
     let f : ℕ → List ℕ = λ (n : ℕ). value_bytes width (pos n) in
     let known = subst (λ (b : List ℕ). Feeds old.sections x (holds (put s.segment (Known b)))) stored.bytes feeds in (
       all_entered t (runs s.segment f ns),
       numbers_put place s t width ns stored.fit,
-      holds_all count t old (fed old x) h (record { symbols = refl; known = refl; cursor = refl; texts = refl }) (runs s.segment f ns) (runs_stand s.segment f ns old.sections x known),
+      holds_all count t old (fed old x) h (record { symbols = refl; known = refl; cursor = refl; texts = refl }) (runs s.segment f ns) (runs_say s.segment f ns) (runs_stand s.segment f ns old.sections x known),
     )
 
 -- ---- Assertions.
@@ -121,7 +126,7 @@ so_used place s action.Warning words (negsuc n) h = refl
 
 -- an assertion that is so whatever statements follow
 pub so_enters : (old : Assembler) (place : Place) (s : Context) (act : Action) (words : List ℕ) (e : Tree) (v : ℤ) → (v ≡ pos 0 → ⊥) → IsFinal (table_of old.symbols) s e (lit v) → Enters place s (valued (asserted act words) e ∷ []) old old
-so_enters old place s act words e v h final = fed_enters old old.sections place s (valued (asserted act words) e) (telling []) (says_nothing old.sections) (final_settles (table_of old.symbols) place s (asserted act words) e (lit v) (telling []) final (so_used place s act words v h))
+so_enters old place s act words e v h final = fed_enters old old.sections place s (valued (asserted act words) e) (telling []) refl (says_nothing old.sections) (final_settles (table_of old.symbols) place s (asserted act words) e (lit v) (telling []) final (so_used place s act words v h))
 
 -- ---- Later.
 

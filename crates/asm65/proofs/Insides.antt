@@ -28,9 +28,10 @@ use Rattle.semantics65.specs.Layout as faults
 use Rattle.semantics65.specs.Symbols.{Meaning, defined_at, imported_as, first_found, last_of, meaning_of, member_meaning, or_fault, scope_from, scopes_from, scopes_of, shown, unnamed_meaning, Definition, Key, Scope, Symbols, cheap_in, defined, imported, key_defined, named, unnamed_at}
 use Rattle.semantics65.specs.Norms.{constant_in, defined_form, folded, form_by, form_of_definition, form_of_meaning, form_of_value, norm, norm_of, length_of}
 use Rattle.semantics65.specs.Module as piece
-use Rattle.semantics65.specs.Module.{Made, Piece, Purpose, absent_of, as_part, as_said, made_of, used}
+use Rattle.semantics65.specs.Module.{Made, Piece, Purpose, absent_of, as_part, as_said, is_repeated, made_of, used}
 use Rattle.symbols65.specs.declared.measuring.Measured.{Measured}
 use Rattle.symbols65.specs.Measuring.{measure_of, measured, unread_fault}
+use Rattle.asm65.specs.Inner.Running.{comes_behind}
 
 abbrev pub IsInside : {A : Type 0} → Result A AsmFault → Type 0
 IsInside r = IfErr r (λ e. is_failure e ≡ false)
@@ -212,9 +213,16 @@ inside_from {X} {Y} (Err e) view read h k = go (is_memory e) refl k
         by (Ok x) same i = absurd cc
         by (Err f) same i = (let e' : f ≡ e = cc in rw e' at i)
 
+inside_behind : (y : Symbols) (names : List (List ℕ)) (place : Place) (s : Context) (p : Piece) → IsInside (comes_behind y names place s p)
+inside_behind y names place s p = by (is_repeated names p)
+  where
+    by : (b : Bool) → IsInside (if b then as_said [] else made_of y place s p)
+    by true = tt
+    by false = inside_made y place s p
+
 -- what waits comes to its content, or to a fault that is no store's
-pub resolved_inside : {X : Type 0} (r : Result X AsmFault) (view : X → Made) (y : Symbols) (place : Place) (s : Context) (p : Piece) → Gives is_memory view r (made_of y place s p) → IsInside r
-resolved_inside r view y place s p h = inside_from r view (made_of y place s p) (inside_made y place s p) h
+pub resolved_inside : {X : Type 0} (r : Result X AsmFault) (view : X → Made) (y : Symbols) (names : List (List ℕ)) (place : Place) (s : Context) (p : Piece) → Gives is_memory view r (comes_behind y names place s p) → IsInside r
+resolved_inside r view y names place s p h = inside_from r view (comes_behind y names place s p) (inside_behind y names place s p) h
 
 -- ---- A line.
 

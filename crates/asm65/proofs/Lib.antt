@@ -2,6 +2,7 @@ pub mod Ahead
 pub mod Conclusions
 pub mod Defines
 pub mod Enterings
+pub mod Exports
 pub mod Insides
 pub mod Namings
 pub mod Outcomes

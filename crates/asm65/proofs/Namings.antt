@@ -54,6 +54,7 @@ holds_grown count t old new y h keeps symbols known inside unnamed = record {
   inside = inside;
   unnamed = unnamed;
   sections = rw keeps.sections h.sections;
+  unsaid = h.unsaid;
   out = ap (λ x. x.out) keeps.texts ∙ h.out;
   err = ap (λ x. x.err) keeps.texts ∙ h.err;
 }

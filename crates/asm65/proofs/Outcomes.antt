@@ -14,17 +14,15 @@ use Rattle.syntax65.specs.declared.place.Place.{Place}
 use Rattle.expand65.specs.Standing.{IsPlaced, Opens, measure_of, place_of}
 use Rattle.ast65.specs.declared.fault.AsmFault.TheVariants.{Expansion, OutOfMemory, FileError as PartError}
 use Rattle.semantics65.specs.Contents.{Content}
-use Rattle.semantics65.specs.declared.contents.Segment.{Segment}
 use Rattle.ast65.specs.declared.fault.AsmFault.{AsmFault}
 use Rattle.ast65.specs.Faults.{is_failure, is_memory, is_outside}
 use Rattle.semantics65.specs.Layout.{Layout, Cursor, nothing_laid}
 use Rattle.semantics65.specs.Numbering.{object_with, AreSound}
 use Rattle.semantics65.specs.Symbols.{Symbols, symbols_of}
-use Rattle.semantics65.specs.Machine.{AreFoundAlike, StandsFor, Runs, State, Takes, begun, concluded, finished, running}
-use Rattle.semantics65.specs.Module.{IsOutcome, Outcome, contents_from}
+use Rattle.semantics65.specs.Machine.{StandsFor, Runs, State, Takes, begun, concluded, finished, running}
+use Rattle.semantics65.specs.Module.{Finished, IsOutcome, Outcome, ending_of}
 use Rattle.semantics65.specs.Reading.{PlacedFault, AreDefined, Job, no_line, stopped}
 use Rattle.semantics65.proofs.Taken.{constants_refused, open_refused}
-use Rattle.semantics65.proofs.Entries.{object_alike}
 use Rattle.semantics65.proofs.Passes.{Follows, begun_follows, one_pass, stands_for, takes_follows}
 use Rattle.semantics65.proofs.SoundContents.{sound_contents}
 use Rattle.semantics65.proofs.SoundLayouts as layouts
@@ -58,29 +56,20 @@ stands_reached : (t : State) (l : Laid t) → StandsFor l.layout t
 stands_reached t l = subst (StandsFor l.layout) (sym l.follows.same) (stands_for l.layout l.follows.slots l.follows.comes)
 
 pub good_concluded : (t : State) (o : Object) → IsReached t → (concluded t None).result ≡ Ok o → is_good_object o ≡ true
-good_concluded t o reached is = by (finished t).found (contents_from t.symbols l.layout.laid) refl stands.found is
+good_concluded t o reached is = by (finished t).found refl is
   where
-    l : Laid t
-    l = laid_reached t reached
-
-    stands : StandsFor (laid_reached t reached).layout t
-    stands = stands_reached t (laid_reached t reached)
-
-    segments : List Segment
-    segments = t.cursor.segments
-
-    by : (r q : Result (List Content) PlacedFault) → contents_from t.symbols (laid_reached t reached).layout.laid ≡ q → AreFoundAlike r q → (r >>= (λ cs. Ok (object_with t.cursor.segments t.symbols.imports cs))) ≡ Ok o → is_good_object o ≡ true
-    by (Err e) q found alike made = absurd cc
-    by (Ok cs) (Err e) found alike made = absurd alike
-    by (Ok cs) (Ok ds) found alike made =
-        let y = (laid_reached t reached).layout in
-        let for = stands_reached t (laid_reached t reached) in
+    by : (r : Result (List Content) PlacedFault) → (finished t).found ≡ r → (r >>= (λ cs. Ok (object_with t.cursor.segments t.symbols.imports cs))) ≡ Ok o → is_good_object o ≡ true
+    by (Err e) found made = absurd cc
+    by (Ok cs) found made =
+        let l = laid_reached t reached in
+        let y = l.layout in
+        let for = stands_reached t l in
         let same : object_with t.cursor.segments t.symbols.imports cs ≡ o = cc in
-        let whole : contents_from (symbols_of y.laid) y.laid ≡ Ok ds = subst (λ (z : Symbols). contents_from z y.laid ≡ Ok ds) for.symbols found in
-        let sound : AreSound y.cursor.segments (symbols_of y.laid).imports ds = sound_contents y ds (layouts.sound_from y (laid_reached t reached).good) whole in
-        let sound' : AreSound y.cursor.segments t.symbols.imports ds = subst (λ (z : Symbols). AreSound y.cursor.segments z.imports ds) (sym for.symbols) sound in
-        let sound'' : AreSound t.cursor.segments t.symbols.imports ds = subst (λ (w : Cursor). AreSound w.segments t.symbols.imports ds) (sym for.cursor) sound' in
-        ap is_good_object (sym same ∙ object_alike t.cursor.segments t.symbols.imports cs ds alike) ∙ good_object t.cursor.segments t.symbols.imports ds sound''
+        let whole : (ending_of y.laid).found ≡ Ok cs = ap (λ (f : Finished). f.found) (sym for.ending) ∙ found in
+        let sound : AreSound y.cursor.segments (symbols_of y.laid).imports cs = sound_contents y cs (layouts.sound_from y l.good) whole in
+        let sound' : AreSound y.cursor.segments t.symbols.imports cs = subst (λ (z : Symbols). AreSound y.cursor.segments z.imports cs) (sym for.symbols) sound in
+        let sound'' : AreSound t.cursor.segments t.symbols.imports cs = subst (λ (w : Cursor). AreSound w.segments t.symbols.imports cs) (sym for.cursor) sound' in
+        ap is_good_object (sym same) ∙ good_object t.cursor.segments t.symbols.imports cs sound''
 
 -- ---- Answers.
 

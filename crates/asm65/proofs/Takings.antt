@@ -140,6 +140,7 @@ holds_known count t a k h table = record {
   inside = h.inside;
   unnamed = h.unnamed;
   sections = h.sections;
+  unsaid = h.unsaid;
   out = h.out;
   err = h.err;
 }
@@ -163,6 +164,7 @@ holds_stepped count t place x a v said h cursor sound ends counted out err =
       inside = wider count (opened_by x) u.symbols.scopes h.inside;
       unnamed = still_before x t.cursor.unnamed u.symbols.definitions (subst (λ (w : Cursor). AreBefore w.unnamed u.symbols.definitions) same h.unnamed);
       sections = h.sections;
+      unsaid = h.unsaid;
       out = out ∙ ap (λ (o : List ℕ). o ++ out_of x) h.out;
       err = err ∙ ap (λ (o : List ℕ). o ++ warning_of place x) h.err;
     }

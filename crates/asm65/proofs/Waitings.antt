@@ -1,12 +1,16 @@
 -- What an assembler holds when one more piece waits or is put at once.
-use Rattle.std.proofs.Common.{◌∙◌, ℕ, List, [], ◌∷◌, ◌++◌, map, sym, ap, subst, refl}
+use Rattle.std.proofs.Common.{◌≡◌, ◌∙◌, ℕ, List, [], ◌∷◌, ◌++◌, map, sym, ap, subst, refl}
+use Rattle.std.proofs.lemmas.Grind.{flat_map-append}
+use Rattle.std.proofs.lemmas.List.{map-append}
 use Rattle.semantics65.specs.Contents.{Content}
 use Rattle.syntax65.specs.declared.place.Place.{Place}
 use Rattle.semantics65.specs.declared.laid.Context.{Context}
 use Rattle.semantics65.specs.Machine.{State, awaiting, entered, later}
 use Rattle.semantics65.specs.Module.{Piece, Fixup, Slot, holds, waits}
 use Rattle.emit65.specs.declared.sections.Sections.{Sections}
-use Rattle.emit65.specs.Fed.{Feeds, Stands}
+use Rattle.semantics65.specs.Numbering.{all_said}
+use Rattle.emit65.specs.Fed.{Feeds, Stands, contents_so_far, so_far}
+use Rattle.emit65.proofs.Slots.{held_contents}
 use Rattle.symbols65.specs.declared.resolving.cache.NormCache.{NormCache}
 use Rattle.symbols65.specs.Resolving.{IsTable}
 use Rattle.symbols65.specs.Views.{table_of}
@@ -27,10 +31,13 @@ all_entered t cs = with_slots t (map holds cs)
 abbrev pub FeedsAll : Sections → Sections → List Slot → Type 0
 FeedsAll old new xs = (ys : List Slot) → Stands ys old → Stands (ys ++ xs) new
 
+said_more : (xs ys : List Slot) → all_said (contents_so_far (xs ++ ys)) ≡ all_said (contents_so_far xs) ++ all_said (contents_so_far ys)
+said_more xs ys = ap all_said (map-append so_far xs ys) ∙ flat_map-append (λ (c : Content). c.said) (contents_so_far xs) (contents_so_far ys)
+
 module _ (count : ℕ) (t : State) (old new : Assembler) (h : Holds count t old) (keeps : KeepsTables old new) where
-  -- slots more
-  pub holds_slots : (xs : List Slot) → FeedsAll old.sections new.sections xs → Holds count (with_slots t xs) new
-  holds_slots xs feeds = record {
+  -- slots more, which say nothing yet
+  pub holds_slots : (xs : List Slot) → all_said (contents_so_far xs) ≡ [] → FeedsAll old.sections new.sections xs → Holds count (with_slots t xs) new
+  holds_slots xs quiet feeds = record {
     symbols = ap table_of keeps.symbols ∙ h.symbols;
     known = subst (λ (k : NormCache). IsTable t.symbols k.states.items) (sym keeps.known) h.known;
     cursor = ap cursor_of keeps.cursor ∙ h.cursor;
@@ -40,21 +47,22 @@ module _ (count : ℕ) (t : State) (old new : Assembler) (h : Holds count t old)
     inside = h.inside;
     unnamed = h.unnamed;
     sections = feeds t.slots h.sections;
+    unsaid = said_more t.slots xs ∙ (λ n. h.unsaid n ++ quiet n);
     out = ap (λ x. x.out) keeps.texts ∙ h.out;
     err = ap (λ x. x.err) keeps.texts ∙ h.err;
   }
 
   -- one more piece waits
   pub holds_awaiting : (w : Fixup) → Feeds old.sections new.sections (waits w) → Holds count (awaiting t w) new
-  holds_awaiting w feeds = holds_slots (waits w ∷ []) feeds
+  holds_awaiting w feeds = holds_slots (waits w ∷ []) refl feeds
 
   -- contents are put at once
-  pub holds_all : (cs : List Content) → FeedsAll old.sections new.sections (map holds cs) → Holds count (all_entered t cs) new
-  holds_all cs feeds = holds_slots (map holds cs) feeds
+  pub holds_all : (cs : List Content) → all_said cs ≡ [] → FeedsAll old.sections new.sections (map holds cs) → Holds count (all_entered t cs) new
+  holds_all cs quiet feeds = holds_slots (map holds cs) (ap all_said (held_contents cs) ∙ quiet) feeds
 
   -- a content is put at once
-  pub holds_entered : (c : Content) → Feeds old.sections new.sections (holds c) → Holds count (entered t c) new
-  holds_entered c feeds = holds_slots (holds c ∷ []) feeds
+  pub holds_entered : (c : Content) → c.said ≡ [] → Feeds old.sections new.sections (holds c) → Holds count (entered t c) new
+  holds_entered c quiet feeds = holds_slots (holds c ∷ []) (ap (λ ss. ss ++ []) quiet) feeds
 
 -- what waits is entered
 pub waits_enters : (old new : Assembler) (place : Place) (s : Context) (p : Piece) → Waits place s p old new → Enters place s (p ∷ []) old new

@@ -4,37 +4,37 @@ ghost use Rattle.std.specs.Prelude.{◌≡◌, ◌++◌, ◌∷◌, [], List, �
 ghost use Rattle.object65.specs.Objects.{is_good_object, ObjectFits};
 ghost use Rattle.semantics65.specs.Contents.{Content};
 ghost use Rattle.ast65.specs.Faults.{is_outside};
-ghost use Rattle.semantics65.specs.Numbering.{AreSound, name_of};
+ghost use Rattle.semantics65.specs.Numbering.{all_said, AreSound, name_of};
 ghost use Rattle.semantics65.specs.Machine.{State, concluded, finished};
 ghost use Rattle.semantics65.specs.Module.{Outcome, Slot, holds, waits};
-ghost use Rattle.emit65.specs.Fed.{HasSlots, StandIn, Stands, fixup_of, place_by, slot_of, stands_in};
+ghost use Rattle.emit65.specs.Fed.{Stands, contents_so_far, fixup_of, names_of, place_by, slot_of, stands_in};
 ghost use Rattle.symbols65.specs.Resolving.{IsTable};
 ghost use Rattle.symbols65.specs.Views.{table_of};
 ghost use Rattle.asm65.specs.Assembly.{Concludes, has_failed, in_places, is_from_outside};
 ghost use Rattle.asm65.specs.Inner.Holding.{Holds};
-ghost use Rattle.asm65.specs.Inner.Running.{ComesTo, IsPutIn, Settles, SettlesAll, content_of, made_in, SaysAs};
+ghost use Rattle.asm65.specs.Inner.Running.{AreFed, ComesTo, IsFoundBy, Settles, SettlesAll, content_of, leaving, made_in, SaysAs};
 ghost use Rattle.semantics65.specs.Views.{place_at};
 
 use crate::assembler::Assembler;
 use crate::assembling::Assembly;
-use crate::resolving::{Filling, Made, resolve};
+use crate::resolving::{Exported, Filling, Made, resolve};
 use crate::texts::{AsmRefusal, Texts, warn};
 use ast65::AsmFault;
 use base65::Sequence;
 use emit65::{Closed, Entry, Fixup, Sections, SourcePos};
+use indexmap::IndexSet;
 use object65::Object;
 use semantics65::{At, Part, Segment};
 use std::alloc::{AllocError, Global};
 use std::mem;
 use symbols65::{NormCache, Symbols};
 
-/// What entries have come to behind the last line.
+/// What was found on the way through what waits.
 #[derive(Drop)]
 pub struct Ending {
-    /// The forms of constants that were found.
+    /// The forms of constants.
     pub known: NormCache,
-    /// The entries, of which none waits.
-    pub done: Vec<Entry>,
+    pub exported: Exported,
     /// What goes to standard error.
     pub err: Sequence<u8>,
 }
@@ -79,21 +79,25 @@ fn entry_of(pos: SourcePos, filling: Filling) -> Entry
     }
 }
 
-/// What waited has what it came to, in a statement that stands here.
-fn take_made(ending: &mut Ending, at: At<'_>, pos: SourcePos, made: Made) -> Result<(), AllocError>
-    ensures entry { OnOk result ((files : List (List ℕ)) → place_by files pos ≡ place_at at.entry →
-        nat_lt pos.file (length files) ≡ true →
-        IsPutIn files (made_in (place_at at.entry) made).content ending.old ending.new) }
-    ensures err { OnOk result (ending.new.err ≡
-        ending.old.err ++ (made_in (place_at at.entry) made).warning) }
-    ensures known { ending.new.known ≡ ending.old.known }
+/// The entry of what waited in a statement that stands here, whose warning is said.
+fn take_made(
+    err: &mut Sequence<u8>,
+    at: At<'_>,
+    pos: SourcePos,
+    made: Made,
+) -> Result<Entry, AllocError>
+    ensures entry { IfOk result (λ e. (files : List (List ℕ)) →
+        place_by files pos ≡ place_at at.entry →
+        slot_of files e ≡ holds (made_in (place_at at.entry) made).content) }
+    ensures standing { IfOk result (λ e. (count : ℕ) → nat_lt pos.file count ≡ true →
+        stands_in count e ≡ true) }
+    ensures err { OnOk result (err.new ≡ err.old ++ (made_in (place_at at.entry) made).warning) }
 {
     let Made { filling, warning } = made;
-    ending.done.push(entry_of(pos, filling))?;
-    match warning {
-        Some(text) => warn(&mut ending.err, at.file, at.line, text.as_slice()),
-        None => Ok(()),
+    if let Some(text) = warning {
+        warn(err, at.file, at.line, text.as_slice())?;
     }
+    Ok(entry_of(pos, filling))
 }
 
 /// What waits comes to its content, or to its fault.
@@ -102,14 +106,13 @@ fn settle_fixup(
     whole: Whole<'_>,
     ending: &mut Ending,
     fixup: Fixup,
-) -> Result<(), AsmRefusal>
-    requires { IsTable (table_of whole.symbols.now) ending.old.known.states.items }
+) -> Result<Entry, AsmRefusal>
+    requires { IsFoundBy (table_of whole.symbols.now) ending.old }
     ensures settled { let files = map string_bytes whole.entry.files.now in
         nat_lt fixup.pos.file (length files) ≡ true →
         Settles (table_of whole.entry.symbols.now) files (waits (fixup_of files fixup))
         ending.old ending.new result }
-    ensures table { OnOk result
-        (IsTable (table_of whole.entry.symbols.now) ending.new.known.states.items) }
+    ensures found { OnOk result (IsFoundBy (table_of whole.entry.symbols.now) ending.new) }
     ensures inside { IfErr result (λ e. has_failed e ≡ false) }
 {
     let pos = fixup.pos;
@@ -117,48 +120,49 @@ fn settle_fixup(
         file: file_at(whole.files, pos.file),
         line: pos.line,
     };
-    match resolve(alloc, whole.symbols, &mut ending.known, at, fixup) {
-        Ok(made) => match take_made(ending, at, pos, made) {
-            Ok(()) => Ok(()),
+    match resolve(
+        alloc,
+        whole.symbols,
+        &mut ending.known,
+        &mut ending.exported,
+        at,
+        fixup,
+    ) {
+        Ok(made) => match take_made(&mut ending.err, at, pos, made) {
+            Ok(entry) => Ok(entry),
             Err(_) => Err(AsmRefusal::without_memory()),
         },
         Err(fault) => Err(AsmRefusal::of_fault(alloc, at, fault)),
     }
 }
 
-/// An entry that doesn't wait stays as it is.
-fn keep(ending: &mut Ending, entry: Entry) -> Result<(), AllocError>
-    ensures done { OnOk result (ending.new.done.items ≡ ending.old.done.items ++ entry ∷ []) }
-    ensures err { ending.new.err ≡ ending.old.err }
-    ensures known { ending.new.known ≡ ending.old.known }
-{
-    ending.done.push(entry)?;
-    Ok(())
-}
-
-/// An entry comes to its content, or to its fault.
+/// An entry that waits comes to its content where it stands, or to its fault.
 fn settle(
     alloc: Global,
     whole: Whole<'_>,
     ending: &mut Ending,
-    entry: Entry,
+    entry: &mut Entry,
 ) -> Result<(), AsmRefusal>
-    requires { IsTable (table_of whole.symbols.now) ending.old.known.states.items }
+    requires { IsFoundBy (table_of whole.symbols.now) ending.old }
     ensures settled { let files = map string_bytes whole.entry.files.now in
-        stands_in (length files) entry ≡ true →
-        Settles (table_of whole.entry.symbols.now) files (slot_of files entry)
-        ending.old ending.new result }
-    ensures table { OnOk result
-        (IsTable (table_of whole.entry.symbols.now) ending.new.known.states.items) }
+        AreFed files (entry.old ∷ []) →
+        Settles (table_of whole.entry.symbols.now) files (slot_of files entry.old)
+        ending.old ending.new (leaving entry.new result) }
+    ensures found { OnOk result (IsFoundBy (table_of whole.entry.symbols.now) ending.new) }
     ensures inside { IfErr result (λ e. has_failed e ≡ false) }
 {
-    match entry {
-        Entry::Waits(fixup) => settle_fixup(alloc, whole, ending, Box::into_inner(fixup)),
-        known => match keep(ending, known) {
-            Ok(()) => Ok(()),
-            Err(_) => Err(AsmRefusal::without_memory()),
-        },
-    }
+    let Entry::Waits(_) = entry else {
+        return Ok(());
+    };
+    let nothing = Entry::Room {
+        segment: 0,
+        count: 0,
+    };
+    let Entry::Waits(fixup) = mem::replace(entry, nothing) else {
+        return Ok(());
+    };
+    *entry = settle_fixup(alloc, whole, ending, Box::into_inner(fixup))?;
+    Ok(())
 }
 
 /// All entries come to their contents, in the order of the source, or to the first fault.
@@ -166,48 +170,49 @@ fn settle_all(
     alloc: Global,
     whole: Whole<'_>,
     ending: &mut Ending,
-    entries: Vec<Entry>,
+    entries: &mut Vec<Entry>,
 ) -> Result<(), AsmRefusal>
-    requires known { IsTable (table_of whole.symbols.now) ending.old.known.states.items }
-    requires none { ending.old.done.items ≡ [] }
+    requires { IsFoundBy (table_of whole.symbols.now) ending.old }
     ensures settled { let files = map string_bytes whole.entry.files.now in
-        StandIn (length files) entries.items →
-        SettlesAll (table_of whole.entry.symbols.now) files entries.items
-        ending.old ending.new result }
+        AreFed files entries.old.items →
+        SettlesAll (table_of whole.entry.symbols.now) files (map (slot_of files) entries.old.items)
+        ending.old ending.new (leaving entries.new.items result) }
     ensures inside { IfErr result (λ e. has_failed e ≡ false) }
 {
-    for entry in entries {
+    for entry in entries.iter_mut() {
         settle(alloc, whole, ending, entry)?;
     }
     Ok(())
 }
 
-/// The object of what was fed, or the first fault of what waits.
+/// The object of sections, behind the last statement, or the first fault of what waits.
 fn object_of(
     alloc: Global,
     symbols: &Symbols,
     segments: &[Segment],
     ending: &mut Ending,
-    closed: Closed,
+    sections: Sections,
 ) -> Result<Object, AsmRefusal>
-    requires known { IsTable (table_of symbols.now) ending.old.known.states.items }
-    requires none { ending.old.done.items ≡ [] }
-    ensures found { (xs : List Slot) → HasSlots xs closed →
+    requires found { IsFoundBy (table_of symbols.now) ending.old }
+    requires none { names_of ending.old.exported ≡ [] }
+    ensures found { (xs : List Slot) → Stands xs sections → all_said (contents_so_far xs) ≡ [] →
         ComesTo (table_of symbols.now) segments.now xs ending.old.err ending.new.err result }
     ensures numbers { IfOk result ObjectFits }
     ensures inside { IfErr result (λ e. has_failed e ≡ false) }
 {
+    let Ok(closed) = sections.close() else {
+        return Err(AsmRefusal::without_memory());
+    };
     let Closed {
         asked,
         files,
-        entries,
+        mut entries,
     } = closed;
     let whole = Whole {
         symbols,
         files: files.table.as_slice(),
     };
-    settle_all(alloc, whole, ending, entries)?;
-    let entries = mem::replace(&mut ending.done, Vec::new(alloc));
+    settle_all(alloc, whole, ending, &mut entries)?;
     let closed = Closed {
         asked,
         files,
@@ -215,27 +220,6 @@ fn object_of(
     };
     match closed.finish(alloc, segments, &symbols.imports) {
         Ok(object) => Ok(object),
-        Err(_) => Err(AsmRefusal::without_memory()),
-    }
-}
-
-/// The object of sections, behind the last statement, or the first fault of what waits.
-fn object_found(
-    alloc: Global,
-    symbols: &Symbols,
-    segments: &[Segment],
-    ending: &mut Ending,
-    sections: Sections,
-) -> Result<Object, AsmRefusal>
-    requires known { IsTable (table_of symbols.now) ending.old.known.states.items }
-    requires none { ending.old.done.items ≡ [] }
-    ensures found { (xs : List Slot) → Stands xs sections →
-        ComesTo (table_of symbols.now) segments.now xs ending.old.err ending.new.err result }
-    ensures numbers { IfOk result ObjectFits }
-    ensures inside { IfErr result (λ e. has_failed e ≡ false) }
-{
-    match sections.close() {
-        Ok(closed) => object_of(alloc, symbols, segments, ending, closed),
         Err(_) => Err(AsmRefusal::without_memory()),
     }
 }
@@ -295,11 +279,11 @@ pub fn conclude(alloc: Global, assembler: Assembler) -> Assembly
     let Texts { out, err } = texts;
     let mut ending = Ending {
         known,
-        done: Vec::new(alloc),
+        exported: IndexSet::with_hasher(alloc, *symbols.imports.hasher()),
         err,
     };
     let segments = cursor.segments.as_slice();
-    let found = object_found(alloc, &symbols, segments, &mut ending, sections);
+    let found = object_of(alloc, &symbols, segments, &mut ending, sections);
     let Ending { err, .. } = ending;
     answered(alloc, found, Texts { out, err })
 }

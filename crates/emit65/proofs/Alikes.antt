@@ -10,7 +10,7 @@ use Rattle.object65.specs.declared.object.Object.{Object}
 use Rattle.object65.specs.declared.object.Origin.{Origin}
 use Rattle.semantics65.specs.Contents.{Content, Part, Known, Filled, Declaration, put}
 use Rattle.semantics65.specs.declared.contents.Segment.{Segment}
-use Rattle.semantics65.specs.Numbering.{all_joined, all_said, assert_files, assert_of, content_imports, export_files, exports_among, fragments_of, import_keys, in_files, joined, name_of, names_once, once, part_files, part_imports, parts_in, section_of, segment_name, segment_power}
+use Rattle.semantics65.specs.Numbering.{all_joined, all_said, assert_files, assert_of, content_imports, export_files, export_of, fragments_of, import_keys, in_files, joined, name_of, names_once, once, part_files, part_imports, parts_in, section_of, segment_name, segment_power}
 use Rattle.emit65.specs.Fed.{AreAlike}
 
 -- ---- An equivalence.
@@ -169,7 +169,7 @@ no_room_alike g = empty_part g (Filled 0) refl refl (λ at s i. refl)
 -- the files that contents name, with sections of these segments
 abbrev pub files_named_by : List ℕ → List Content → List (List ℕ)
 files_named_by sections cs = flat_map (λ g. flat_map part_files (parts_in cs g)) sections
-    ++ export_files [] (all_said cs) ++ flat_map assert_files (all_said cs)
+    ++ flat_map export_files (all_said cs) ++ flat_map assert_files (all_said cs)
 
 abbrev pub files_by : List ℕ → List Content → List (List ℕ)
 files_by sections cs = names_once [] (files_named_by sections cs)
@@ -184,7 +184,7 @@ object_over segments names sections cs =
       files = files;
       imports = map (name_of names) imports;
       sections = map (section_of (in_files files) segments sections imports cs) sections;
-      exports = exports_among (in_files files) sections imports [] (all_said cs);
+      exports = filter_map (export_of (in_files files) sections imports) (all_said cs);
       asserts = filter_map (assert_of (in_files files) sections imports) (all_said cs);
     }
 
@@ -199,7 +199,7 @@ same_object segments names s cs ds h = λ n. made (numbers n) (files n) (λ g. f
     sections_files (g ∷ keys) = λ n. h.files g n ++ sections_files keys n
 
     files : files_by s cs ≡ files_by s ds
-    files = λ n. names_once [] (sections_files s n ++ export_files [] (h.said n) ++ flat_map assert_files (h.said n))
+    files = λ n. names_once [] (sections_files s n ++ flat_map export_files (h.said n) ++ flat_map assert_files (h.said n))
 
     fragments : (at : Place → Origin) (i : List ℕ) (g : ℕ) → all_joined (placed at s i cs g) ≡ all_joined (placed at s i ds g)
     fragments at i g =
@@ -211,6 +211,6 @@ same_object segments names s cs ds h = λ n. made (numbers n) (files n) (λ g. f
       files = files;
       imports = map (name_of names) i;
       sections = map (λ g. record { name = segment_name (slice_get segments g); align = segment_power (slice_get segments g); fragments = fragments g }) s;
-      exports = exports_among (in_files files) s i [] ss;
+      exports = filter_map (export_of (in_files files) s i) ss;
       asserts = filter_map (assert_of (in_files files) s i) ss;
     }

@@ -1,12 +1,11 @@
 -- Files of an object: names that it can hold, none twice, and each that is written among them.
 use Rattle.std.proofs.lemmas.Grind.{common_steps}
-use Rattle.std.proofs.Common.{◌≡◌, ◌∙◌, ℕ, zero, suc, ◌+◌, Bool, true, false, ◌&&◌, ◌||◌, List, [], ◌∷◌, ◌++◌, length, map, refl, sym, ap, subst, arith}
+use Rattle.std.proofs.Common.{◌≡◌, ◌∙◌, ℕ, zero, suc, ◌+◌, Bool, true, false, ◌&&◌, ◌||◌, List, [], ◌∷◌, ◌++◌, length, map, refl, ap, arith}
 use Rattle.std.specs.Prelude.{filter_map, if◌then◌else◌}
 use Rattle.std.specs.List.{AllByRecursion, flat_map, list_all, list_any}
 use Rattle.std.specs.Str.{bytes_eq}
 use Rattle.std.proofs.lemmas.Bool.Decides.{nat_tests}
-use Rattle.std.proofs.lemmas.List.{map-append}
-use Rattle.std.proofs.lemmas.List.Folds.{list_all-append, list_any-append}
+use Rattle.std.proofs.lemmas.List.Folds.{list_any-append}
 use Rattle.syntax65.specs.declared.place.Place.{Place}
 use Rattle.object65.specs.declared.object.Assert.{Assert}
 use Rattle.object65.specs.declared.object.Export.{Export}
@@ -17,8 +16,7 @@ use Rattle.object65.specs.declared.object.Section.{Section}
 use Rattle.object65.specs.Objects.{are_distinct, has_good_origin, has_good_origins, is_file_name, is_good_origin}
 use Rattle.semantics65.specs.Contents.{Content, Part, Known, Filled, Waiting, Declaration, Exported, ForcedImport, Asserted}
 use Rattle.semantics65.specs.declared.contents.Segment.{Segment}
-use Rattle.semantics65.specs.Numbering.{all_joined, all_said, assert_files, assert_of, export_files, exports_among, files_named, files_of, fragments_of, import_keys, in_files, joined, names_once, numbered, object_with, part_files, parts_in, section_keys, section_of, IsSoundContent, IsSoundPart, IsSoundDeclaration}
-use Rattle.emit65.proofs.Exporting.{any_map}
+use Rattle.semantics65.specs.Numbering.{all_joined, all_said, assert_files, assert_of, export_files, export_of, files_named, files_of, fragments_of, import_keys, in_files, joined, names_once, object_with, part_files, parts_in, section_keys, section_of, IsSoundContent, IsSoundPart, IsSoundDeclaration}
 use Rattle.emit65.proofs.Fitting.{all_more}
 use Rattle.emit65.proofs.GoodNames.{names_push}
 use Rattle.emit65.proofs.Naming.{any_below, itself, position_at}
@@ -96,11 +94,11 @@ module _ (asked : List ℕ) (count : ℕ) where
   all_said_sound [] h = tt
   all_said_sound (c ∷ cs) h = all_more (IsSoundDeclaration asked count) c.said (all_said cs) h.0.said (all_said_sound cs h.1)
 
-  exports_files : (found : List (List ℕ)) (ss : List Declaration) → AllByRecursion (IsSoundDeclaration asked count) ss → AreFileNames (export_files found ss)
-  exports_files found [] h = tt
-  exports_files found (ForcedImport n ∷ ss) h = exports_files found ss h.1
-  exports_files found (Asserted act place words f ∷ ss) h = exports_files found ss h.1
-  exports_files found (Exported n place f ∷ ss) h = grind (arith, common_steps, (exports_files found ss h.1), (exports_files (found ++ n ∷ []) ss h.1))
+  exports_files : (ss : List Declaration) → AllByRecursion (IsSoundDeclaration asked count) ss → AreFileNames (flat_map export_files ss)
+  exports_files [] h = tt
+  exports_files (Exported n place f ∷ ss) h = (h.0.1.file, exports_files ss h.1)
+  exports_files (ForcedImport n ∷ ss) h = exports_files ss h.1
+  exports_files (Asserted act place words f ∷ ss) h = exports_files ss h.1
 
   asserts_files : (ss : List Declaration) → AllByRecursion (IsSoundDeclaration asked count) ss → AreFileNames (flat_map assert_files ss)
   asserts_files [] h = tt
@@ -152,35 +150,11 @@ module _ (files : List (List ℕ)) (s i : List ℕ) where
       (all_joined_origins (fragments_of at s i (parts_in cs g)) (parts_origins (parts_in cs g) (all_first (IsAmong files) mine others h)))
       (sections_origins segments cs keys (all_second (IsAmong files) mine others h))
 
-  abbrev good_exports : List Export → Bool
-  good_exports es = list_all (λ (e : Export). is_good e.origin) es
-
-  exports_origins : (found : List Export) (ss : List Declaration) → good_exports found ≡ true → AreAmong files (export_files (map (λ (e : Export). e.name) found) ss) → good_exports (exports_among at s i found ss) ≡ true
-  exports_origins found [] h among = h
-  exports_origins found (ForcedImport n ∷ ss) h among = exports_origins found ss h among
-  exports_origins found (Asserted act place words f ∷ ss) h among = exports_origins found ss h among
-  exports_origins found (Exported n place f ∷ ss) h among =
-      by (list_any (λ e. bytes_eq n e.name) found) (any_map (bytes_eq n) (λ (e : Export). e.name) found)
-      (λ old. exports_origins found ss h old)
-      (λ new. exports_origins (found ++ made ∷ []) ss (pushed new.0) (subst (λ ns. AreAmong files (export_files ns ss)) (sym (map-append (λ (e : Export). e.name) found (made ∷ []))) new.1))
-    where
-      made : Export
-      made = record { name = n; origin = at place; form = numbered s i f }
-
-      pushed : IsAmong files place.file → good_exports (found ++ made ∷ []) ≡ true
-      pushed here =
-          list_all-append (λ (e : Export). is_good e.origin) found (made ∷ [])
-          ∙ and (good_exports found) (good_exports (made ∷ [])) h (and (is_good (at place)) true (origin_good place here) refl)
-
-      names : List (List ℕ)
-      names = map (λ (e : Export). e.name) found
-
-      by : (b : Bool) → list_any (bytes_eq n) names ≡ b →
-          (AreAmong files (export_files names ss) → good_exports (exports_among at s i found ss) ≡ true) →
-          (AreAmong files (place.file ∷ export_files (names ++ n ∷ []) ss) → good_exports (exports_among at s i (found ++ made ∷ []) ss) ≡ true) →
-          good_exports (exports_among at s i (if b then found else found ++ made ∷ []) ss) ≡ true
-      by true e old new = old (subst (λ (b : Bool). AreAmong files (if b then export_files names ss else place.file ∷ export_files (names ++ n ∷ []) ss)) e among)
-      by false e old new = new (subst (λ (b : Bool). AreAmong files (if b then export_files names ss else place.file ∷ export_files (names ++ n ∷ []) ss)) e among)
+  exports_origins : (ss : List Declaration) → AreAmong files (flat_map export_files ss) → list_all (λ (e : Export). is_good e.origin) (filter_map (export_of at s i) ss) ≡ true
+  exports_origins [] h = refl
+  exports_origins (Exported n place f ∷ ss) h = and (is_good (at place)) (list_all (λ (e : Export). is_good e.origin) (filter_map (export_of at s i) ss)) (origin_good place h.0) (exports_origins ss h.1)
+  exports_origins (ForcedImport n ∷ ss) h = exports_origins ss h
+  exports_origins (Asserted act place words f ∷ ss) h = exports_origins ss h
 
   asserts_origins : (ss : List Declaration) → AreAmong files (flat_map assert_files ss) → list_all (λ (a : Assert). is_good a.origin) (filter_map (assert_of at s i) ss) ≡ true
   asserts_origins [] h = refl
@@ -194,13 +168,13 @@ origins_good segments names cs =
     let s = section_keys cs in
     let i = import_keys names cs in
     let a = flat_map (λ g. flat_map part_files (parts_in cs g)) s in
-    let b = export_files [] (all_said cs) in
+    let b = flat_map export_files (all_said cs) in
     let c = flat_map assert_files (all_said cs) in
     let all : AreAmong files (files_named cs) = once_has [] (files_named cs) in
     let front = all_first (IsAmong files) (a ++ b) c all in
     let p = list_all (λ (x : Section). list_all (has_good_origin 2 (length files)) x.fragments) (map (section_of (in_files files) segments s i cs) s) in
-    let q = list_all (λ (e : Export). is_good_origin 2 (length files) e.origin) (exports_among (in_files files) s i [] (all_said cs)) in
+    let q = list_all (λ (e : Export). is_good_origin 2 (length files) e.origin) (filter_map (export_of (in_files files) s i) (all_said cs)) in
     let r = list_all (λ (t : Assert). is_good_origin 2 (length files) t.origin) (filter_map (assert_of (in_files files) s i) (all_said cs)) in
     and (p && q) r
-    (and p q (sections_origins files s i segments cs s (all_first (IsAmong files) a b front)) (exports_origins files s i [] (all_said cs) refl (all_second (IsAmong files) a b front)))
+    (and p q (sections_origins files s i segments cs s (all_first (IsAmong files) a b front)) (exports_origins files s i (all_said cs) (all_second (IsAmong files) a b front)))
     (asserts_origins files s i (all_said cs) (all_second (IsAmong files) (a ++ b) c all))

@@ -1,10 +1,10 @@
 -- Names of imports, sections and exports: good ones, and none twice.
 use Rattle.std.proofs.lemmas.Grind.{common_steps}
-use Rattle.std.proofs.Common.{◌≡◌, ◌∙◌, ℕ, zero, suc, ◌<◌, Bool, true, false, not, ◌&&◌, ◌||◌, nat_eq, List, [], ◌∷◌, ◌++◌, length, map, refl, sym, ap, arith}
-use Rattle.std.specs.Prelude.{slice_get, if◌then◌else◌}
+use Rattle.std.proofs.Common.{filter_map, ◌≡◌, ◌∙◌, ℕ, zero, suc, ◌<◌, Bool, true, false, not, ◌&&◌, ◌||◌, nat_eq, List, [], ◌∷◌, ◌++◌, length, map, refl, ap, arith}
+use Rattle.std.specs.Prelude.{slice_get}
 use Rattle.std.specs.Cmp.{nat_eq_equiv}
 use Rattle.std.specs.Cmp.Lexicographic.{pointwise, lists_equiv}
-use Rattle.std.specs.List.{AllByRecursion, IsDistinct, list_any}
+use Rattle.std.specs.List.{AllByRecursion, IsDistinct}
 use Rattle.std.proofs.lemmas.Bool.Decides.{nat_tests}
 use Rattle.std.proofs.lemmas.List.Folds.{list_any-append}
 use Rattle.std.proofs.lemmas.Map.Keys.{IsDistinct-head, IsDistinct-tail}
@@ -12,9 +12,9 @@ use Rattle.syntax65.specs.declared.place.Place.{Place}
 use Rattle.object65.specs.declared.object.Origin.{Origin}
 use Rattle.object65.specs.declared.object.Export.{Export}
 use Rattle.object65.specs.Objects.{are_distinct, are_names, is_among, is_name}
-use Rattle.semantics65.specs.Contents.{Declaration, Exported, ForcedImport, Asserted}
+use Rattle.semantics65.specs.Contents.{Declaration, Exported, ForcedImport, Asserted, exported_names}
 use Rattle.semantics65.specs.declared.contents.Segment.{Segment}
-use Rattle.semantics65.specs.Numbering.{exports_among, name_of, numbered, segment_name, IsSoundDeclaration}
+use Rattle.semantics65.specs.Numbering.{export_of, name_of, segment_name}
 use Rattle.emit65.proofs.Renumbering.{left, right, and, turned}
 
 abbrev same_name : List ℕ → List ℕ → Bool
@@ -96,27 +96,3 @@ pub segment_named : (segments : List Segment) (g : ℕ) → segment_name (slice_
 segment_named [] g = refl
 segment_named (s ∷ segments) zero = refl
 segment_named (s ∷ segments) (suc g) = segment_named segments g
-
--- ---- Names of exports.
-
-any_named : (n : List ℕ) (es : List Export) → list_any (λ e. pointwise nat_eq n e.name) es ≡ is_among (map (λ e. e.name) es) n
-any_named n [] = refl
-any_named n (e ∷ es) = ap (λ b. same_name n e.name || b) (any_named n es)
-
-push_named : (es : List Export) (e : Export) → map (λ (x : Export). x.name) (es ++ e ∷ []) ≡ map (λ (x : Export). x.name) es ++ e.name ∷ []
-push_named [] e = refl
-push_named (x ∷ es) e = ap (λ ns. x.name ∷ ns) (push_named es e)
-
-pub exports_named : (at : Place → Origin) (s i : List ℕ) (asked : List ℕ) (count : ℕ) (found : List Export) (ss : List Declaration) → are_names (map (λ (e : Export). e.name) found) ≡ true → AllByRecursion (IsSoundDeclaration asked count) ss → are_names (map (λ (e : Export). e.name) (exports_among at s i found ss)) ≡ true
-exports_named at s i asked count found [] h sound = h
-exports_named at s i asked count found (ForcedImport n ∷ ss) h sound = exports_named at s i asked count found ss h sound.1
-exports_named at s i asked count found (Asserted act line words f ∷ ss) h sound = exports_named at s i asked count found ss h sound.1
-exports_named at s i asked count found (Exported n line f ∷ ss) h sound =
-    exports_named at s i asked count (if list_any (λ e. pointwise nat_eq n e.name) found then found else found ++ made ∷ []) ss (by (list_any (λ e. pointwise nat_eq n e.name) found) refl) sound.1
-  where
-    made : Export
-    made = record { name = n; origin = at line; form = numbered s i f }
-
-    by : (b : Bool) → list_any (λ e. pointwise nat_eq n e.name) found ≡ b → are_names (map (λ (e : Export). e.name) (if b then found else found ++ made ∷ [])) ≡ true
-    by true e = h
-    by false e = ap are_names (push_named found made) ∙ names_push is_name (map (λ (e : Export). e.name) found) n h sound.0.0 (sym (any_named n found) ∙ e)

@@ -1,8 +1,8 @@
 -- The object of sound contents is one of the grammar.
 use borrow.Author.Rules.{rules}
-use Rattle.std.proofs.Common.{◌≡◌, ◌∙◌, ℕ, ◌<◌, Bool, true, false, not, ◌&&◌, nat_eq, nat_lt, cond, List, [], ◌∷◌, ◌++◌, length, map, Some, None, refl, sym, ap, subst, arith}
-use Rattle.std.specs.Prelude.{filter_map, if◌then◌else◌}
-use Rattle.std.specs.List.{AllByRecursion, IsDistinct, flat_map, list_any, list_all, position_or_len}
+use Rattle.std.proofs.Common.{◌≡◌, ◌∙◌, ℕ, ◌<◌, Bool, true, not, ◌&&◌, nat_eq, nat_lt, cond, List, [], ◌∷◌, ◌++◌, length, map, Some, None, refl, sym, ap, subst, arith}
+use Rattle.std.specs.Prelude.{filter_map}
+use Rattle.std.specs.List.{AllByRecursion, IsDistinct, flat_map, list_all, position_or_len}
 use Rattle.std.specs.Str.{bytes_eq}
 use Rattle.std.proofs.lemmas.Bool.Decides.{nat_tests}
 use Rattle.std.proofs.lemmas.Grind.{common_steps, flat_map-append}
@@ -16,9 +16,10 @@ use Rattle.object65.specs.Folding.{is_literal}
 use Rattle.object65.specs.Objects.{are_names, has_good_parts, is_good_assert, is_good_form, is_good_object, is_good_section}
 use Rattle.semantics65.specs.Contents.{Content, Part, Known, Filled, Waiting, Declaration, Exported, ForcedImport, Asserted}
 use Rattle.semantics65.specs.declared.contents.Segment.{Segment}
-use Rattle.semantics65.specs.Numbering.{all_said, assert_of, content_imports, exports_among, files_of, import_keys, in_files, imports_in, key_of, name_of, numbered, object_with, optional_key, part_imports, said_imports, section_keys, section_of, segments_asked, AreSound, IsSoundContent, IsSoundPart, IsSoundDeclaration}
+use Rattle.semantics65.specs.Numbering.{all_said, assert_of, content_imports, export_of, files_of, import_keys, in_files, imports_in, key_of, name_of, numbered, object_with, optional_key, part_imports, said_imports, section_keys, section_of, segments_asked, AreSound, IsSoundContent, IsSoundPart, IsSoundDeclaration}
 use Rattle.emit65.proofs.GoodFiles.{files_good, origins_good}
-use Rattle.emit65.proofs.GoodNames.{exports_named, names_at, segment_named}
+use Rattle.emit65.proofs.GoodNames.{names_at, segment_named}
+use Rattle.semantics65.proofs.Found.{exports_named}
 use Rattle.emit65.proofs.GoodSections.{parts_in_good, section_good}
 use Rattle.ast65.proofs.Lists.{map_length}
 use Rattle.emit65.proofs.Renumbering.{HasAll, has, left, right, and, first_has, second_has, good_form, once_all, once_distinct, once_has, same_literal}
@@ -85,22 +86,14 @@ module _ (at : Place → Origin) (s i : List ℕ) (names : List (List ℕ)) wher
   abbrev is_good_export : Export → Bool
   is_good_export e = is_good_form (length s) (length i) e.form
 
-  exports_good : (count : ℕ) (found : List Export) (ss : List Declaration) → list_all is_good_export found ≡ true → AllByRecursion (IsSoundDeclaration s count) ss → HasAll i (flat_map (said_imports names) ss) → list_all is_good_export (exports_among at s i found ss) ≡ true
-  exports_good count found [] h sound g = h
-  exports_good count found (ForcedImport n ∷ ss) h sound g = exports_good count found ss h sound.1 (second_has i (optional_key (key_of names n)) (flat_map (said_imports names) ss) g)
-  exports_good count found (Asserted act line words f ∷ ss) h sound g = exports_good count found ss h sound.1 (second_has i (imports_in f) (flat_map (said_imports names) ss) g)
-  exports_good count found (Exported n line f ∷ ss) h sound g =
-      exports_good count (if list_any (λ e. bytes_eq n e.name) found then found else found ++ made ∷ []) ss (by (list_any (λ e. bytes_eq n e.name) found)) sound.1 (second_has i (imports_in f) (flat_map (said_imports names) ss) g)
-    where
-      made : Export
-      made = record { name = n; origin = at line; form = numbered s i f }
-
-      good : is_good_form (length s) (length i) (numbered s i f) ≡ true
-      good = good_form s i count f sound.0.1.form (first_has i (imports_in f) (flat_map (said_imports names) ss) g)
-
-      by : (b : Bool) → list_all is_good_export (if b then found else found ++ made ∷ []) ≡ true
-      by true = h
-      by false = list_all-append is_good_export found (made ∷ []) ∙ and (list_all is_good_export found) (list_all is_good_export (made ∷ [])) h (and (is_good_form (length s) (length i) (numbered s i f)) true good refl)
+  exports_good : (count : ℕ) (ss : List Declaration) → AllByRecursion (IsSoundDeclaration s count) ss → HasAll i (flat_map (said_imports names) ss) → list_all is_good_export (filter_map (export_of at s i) ss) ≡ true
+  exports_good count [] sound g = refl
+  exports_good count (ForcedImport n ∷ ss) sound g = exports_good count ss sound.1 (second_has i (optional_key (key_of names n)) (flat_map (said_imports names) ss) g)
+  exports_good count (Asserted act line words f ∷ ss) sound g = exports_good count ss sound.1 (second_has i (imports_in f) (flat_map (said_imports names) ss) g)
+  exports_good count (Exported n line f ∷ ss) sound g =
+      and (is_good_form (length s) (length i) (numbered s i f)) (list_all is_good_export (filter_map (export_of at s i) ss))
+      (good_form s i count f sound.0.1.form (first_has i (imports_in f) (flat_map (said_imports names) ss) g))
+      (exports_good count ss sound.1 (second_has i (imports_in f) (flat_map (said_imports names) ss) g))
 
   asserts_good : (count : ℕ) (ss : List Declaration) → AllByRecursion (IsSoundDeclaration s count) ss → HasAll i (flat_map (said_imports names) ss) → list_all (is_good_assert (length s) (length i)) (filter_map (assert_of at s i) ss) ≡ true
   asserts_good count [] sound g = refl
@@ -148,9 +141,9 @@ parts_are_good segments names cs sound =
     ap are_names (sections_named at segments s i cs s) ∙ names_at (map (λ g. g.name) segments) s sound.named (once_distinct [] (segments_asked cs) none_twice) standing in
     let said = said_sound at s i names count cs sound.contents in
     let said_imports_had = said_has at s i names cs has_imports in
-    let es : List Export = exports_among at s i [] (all_said cs) in
+    let es : List Export = filter_map (export_of at s i) (all_said cs) in
     let ts : List Assert = filter_map (assert_of at s i) (all_said cs) in
-    let export_names : are_names (map (λ (e : Export). e.name) es) ≡ true = exports_named at s i s count [] (all_said cs) refl said in
+    let export_names : are_names (map (λ (e : Export). e.name) es) ≡ true = ap are_names (exports_named at s i (all_said cs)) ∙ sound.exported in
     let a = are_names (map (name_of names) i) in
     let b = are_names (map (λ (x : Section). x.name) (map (section_of at segments s i cs) s)) in
     let c = are_names (map (λ (e : Export). e.name) es) in
@@ -161,7 +154,7 @@ parts_are_good segments names cs sound =
     let m = length s in
     let n = length i in
     let all_sections : d m n ≡ true = sections_good at segments s i cs s (λ g. section_good at s i segments cs g (sound.room g) (parts_in_good at s i names count g cs sound.contents has_imports)) in
-    let all_exports : e m n ≡ true = exports_good at s i names count [] (all_said cs) refl said said_imports_had in
+    let all_exports : e m n ≡ true = exports_good at s i names count (all_said cs) said said_imports_had in
     let all_asserts : f m n ≡ true = asserts_good at s i names count (all_said cs) said said_imports_had in
     (λ j. whole (map_length (section_of at segments s i cs) s j) (map_length (name_of names) i j))
     ∙ and (a && b && c && d m n && e m n) (f m n) (and (a && b && c && d m n) (e m n) (and (a && b && c) (d m n) (and (a && b) c (and a b imports section_names) export_names) all_sections) all_exports) all_asserts

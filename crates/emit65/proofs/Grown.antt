@@ -12,11 +12,11 @@ use Rattle.semantics65.specs.Numbering.{name_of}
 use Rattle.emit65.specs.declared.entries.Entry.{Entry}
 use Rattle.emit65.specs.declared.entries.Entry.TheVariants.{Bytes, Room, Value, Told, Waits}
 use Rattle.emit65.specs.declared.entries.SourcePos.{SourcePos}
-use Rattle.emit65.specs.Fed.{Begins, StandIn, content_by, content_of, piece_of, place_by, slot_of, stands_in}
+use Rattle.emit65.specs.Fed.{Begins, StandIn, content_of, piece_of, place_by, slot_of, so_far, stands_in}
 use Rattle.emit65.proofs.Renumbering.{and, left, right}
 
 -- what entries have so far, by their slots
-pub contents_of_slots : (files : List (List ℕ)) (es : List Entry) → map (content_by (λ w. telling [])) (map (slot_of files) es) ≡ map (content_of files) es
+pub contents_of_slots : (files : List (List ℕ)) (es : List Entry) → map so_far (map (slot_of files) es) ≡ map (content_of files) es
 contents_of_slots files [] = refl
 contents_of_slots files (Bytes g bytes ∷ es) = ap (λ cs. put g (Known bytes) ∷ cs) (contents_of_slots files es)
 contents_of_slots files (Room g n ∷ es) = ap (λ cs. put g (Filled n) ∷ cs) (contents_of_slots files es)

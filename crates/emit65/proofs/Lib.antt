@@ -1,6 +1,5 @@
 pub mod Alikes
 pub mod Drafting
-pub mod Exporting
 pub mod Fitting
 pub mod GoodFiles
 pub mod GoodNames

@@ -1,14 +1,13 @@
 -- The object of all that was fed is that of its contents.
 use Rattle.std.proofs.lemmas.Grind.{common_steps}
 use Rattle.std.proofs.Common.{◌≡◌, ◌∙◌, ℕ, ◌<◌, true, List, [], ◌∷◌, ◌++◌, length, map, position, Some, nat_lt, refl, sym, ap, arith, subst}
-use Rattle.std.specs.Prelude.{filter_map, slice_get, if◌then◌else◌}
+use Rattle.std.specs.Prelude.{filter_map, slice_get}
 use Rattle.std.specs.List.{IsDistinct, flat_map, list_all, list_any}
 use Rattle.std.specs.Str.{bytes_eq}
 use Rattle.std.proofs.lemmas.Bool.Decides.{nat_tests}
 use Rattle.std.proofs.lemmas.List.Elements.{filter_map-append}
 use Rattle.std.proofs.lemmas.List.Folds.{list_all-append}
 use Rattle.syntax65.specs.declared.place.Place.{Place}
-use Rattle.object65.specs.declared.object.Export.{Export}
 use Rattle.object65.specs.declared.object.Fragment.{Fragment}
 use Rattle.object65.specs.declared.object.Fragment.TheVariants.{Literal, Fill}
 use Rattle.object65.specs.declared.object.Origin.{Origin}
@@ -17,15 +16,14 @@ use Rattle.semantics65.specs.declared.contents.Declaration as telled
 use Rattle.semantics65.specs.declared.contents.Declaration.TheVariants as told
 use Rattle.semantics65.specs.declared.contents.Segment.{Segment}
 use Rattle.semantics65.specs.Module.{holds}
-use Rattle.semantics65.specs.Numbering.{all_joined, all_said, assert_of, exports_among, fragment_of, fragments_of, import_keys, in_files, name_of, numbered, once, parts_in, section_keys, section_of, segment_name, segment_power, object_with}
+use Rattle.semantics65.specs.Numbering.{all_joined, all_said, assert_of, export_of, fragment_of, fragments_of, import_keys, in_files, name_of, numbered, once, parts_in, section_keys, section_of, segment_name, segment_power, object_with}
 use Rattle.semantics65.specs.Views.{said_at}
 use Rattle.emit65.specs.declared.entries.Entry.{Entry}
 use Rattle.emit65.specs.declared.entries.Entry.TheVariants.{Bytes, Room, Value, Told, Waits}
 use Rattle.emit65.specs.declared.entries.SourcePos.{SourcePos}
 use Rattle.emit65.specs.Fed.{content_of, contents_so_far, origin_by, place_by, stands_in, AreAlike, HasSlots, StandIn, names_in}
-use Rattle.emit65.specs.Inner.Drafts.{asserts_at, entry_asserts, exports_at, exports_from, object_before, in_order}
+use Rattle.emit65.specs.Inner.Drafts.{asserts_at, entry_asserts, entry_exports, exports_at, object_before, in_order}
 use Rattle.emit65.proofs.Drafting.{fragment_put, fragments_put, section_put, sections_are}
-use Rattle.emit65.proofs.Exporting.{among_append}
 use Rattle.emit65.proofs.Keys.{imports_anyhow}
 use Rattle.emit65.proofs.Naming.{found_there, is_listed, listed_there}
 use Rattle.emit65.proofs.Reordering.{is_listed_part, is_listed_said, object_at, ordered}
@@ -94,24 +92,21 @@ module _ (files : List (List ℕ)) (apart : IsDistinct bytes_eq files) where
 
     -- ---- What entries say.
 
-    exports_are : (o : SourcePos) (found : List Export) (ss : List telled.Declaration) → at (place_by files o) ≡ origin_by o → exports_at s i (origin_by o) found ss ≡ exports_among at s i found (map (said_at (place_by files o)) ss)
-    exports_are o found [] h = refl
-    exports_are o found (told.Exported n f ∷ ss) h =
-        exports_are o (if list_any (λ e. bytes_eq n e.name) found then found else found ++ record { name = n; origin = origin_by o; form = numbered s i f } ∷ []) ss h
-        ∙ ap (λ origin. exports_among at s i (if list_any (λ e. bytes_eq n e.name) found then found else found ++ record { name = n; origin = origin; form = numbered s i f } ∷ []) (map (said_at (place_by files o)) ss)) (sym h)
-    exports_are o found (told.ForcedImport n ∷ ss) h = exports_are o found ss h
-    exports_are o found (told.Asserted act words f ∷ ss) h = exports_are o found ss h
+    exports_are : (o : SourcePos) (ss : List telled.Declaration) → at (place_by files o) ≡ origin_by o → exports_at s i (origin_by o) ss ≡ filter_map (export_of at s i) (map (said_at (place_by files o)) ss)
+    exports_are o [] h = refl
+    exports_are o (told.Exported n f ∷ ss) h = λ k. record { name = n; origin = sym h k; form = numbered s i f } ∷ exports_are o ss h k
+    exports_are o (told.ForcedImport n ∷ ss) h = exports_are o ss h
+    exports_are o (told.Asserted act words f ∷ ss) h = exports_are o ss h
 
-    exports_said : (found : List Export) (es : List Entry) → StandIn (length files) es → exports_from s i found es ≡ exports_among at s i found (all_said (contents es))
-    exports_said found [] standing = refl
-    exports_said found (Bytes g bytes ∷ es) standing = exports_said found es (others (Bytes g bytes) es standing)
-    exports_said found (Room g n ∷ es) standing = exports_said found es (others (Room g n) es standing)
-    exports_said found (Value width g o f ∷ es) standing = exports_said found es (others (Value width g o f) es standing)
-    exports_said found (Waits w ∷ es) standing = exports_said found es (others (Waits w) es standing)
-    exports_said found (Told o ss ∷ es) standing =
-        exports_said (exports_at s i (origin_by o) found ss) es (others (Told o ss) es standing)
-        ∙ ap (λ found. exports_among at s i found (all_said (contents es))) (exports_are o found ss (origin_back o (first (Told o ss) es standing)))
-        ∙ among_append at s i (map (said_at (place_by files o)) ss) found (all_said (contents es))
+    exports_said : (es : List Entry) → StandIn (length files) es → flat_map (entry_exports s i) es ≡ filter_map (export_of at s i) (all_said (contents es))
+    exports_said [] standing = refl
+    exports_said (Bytes g bytes ∷ es) standing = exports_said es (others (Bytes g bytes) es standing)
+    exports_said (Room g n ∷ es) standing = exports_said es (others (Room g n) es standing)
+    exports_said (Value width g o f ∷ es) standing = exports_said es (others (Value width g o f) es standing)
+    exports_said (Waits w ∷ es) standing = exports_said es (others (Waits w) es standing)
+    exports_said (Told o ss ∷ es) standing =
+        (λ n. exports_are o ss (origin_back o (first (Told o ss) es standing)) n ++ exports_said es (others (Told o ss) es standing) n)
+        ∙ sym (filter_map-append (export_of at s i) (map (said_at (place_by files o)) ss) (all_said (contents es)))
 
     asserts_are : (o : SourcePos) (ss : List telled.Declaration) → at (place_by files o) ≡ origin_by o → asserts_at s i (origin_by o) ss ≡ filter_map (assert_of at s i) (map (said_at (place_by files o)) ss)
     asserts_are o [] h = refl
@@ -183,15 +178,15 @@ contents_fed : (cs : List Content) (t : Closed) → HasSlots (map holds cs) t �
 contents_fed cs t h =
     let files = names_in t.files in
     let es = t.entries.items in
-    subst (λ (ds : List Content). AreAlike ds (map (content_of files) es)) (held_contents (λ w. telling []) cs)
-    (subst (λ (ds : List Content). AreAlike (contents_so_far (map holds cs)) ds) (contents_of_slots files es) (h.alike.contents (λ w. telling [])))
+    subst (λ (ds : List Content). AreAlike ds (map (content_of files) es)) (held_contents cs)
+    (subst (λ (ds : List Content). AreAlike (contents_so_far (map holds cs)) ds) (contents_of_slots files es) h.alike.held)
 
 -- the object of all entries is that of what was fed
 pub finished : (segments : List Segment) (names : List (List ℕ)) (t : Closed) (cs : List Content) → IsDistinct bytes_eq (names_in t.files) → HasSlots (map holds cs) t → in_order (names_in t.files) (object_before segments names t.asked.keys (import_keys names (map (content_of []) t.entries.items)) t.entries.items) ≡ object_with segments names cs
 finished segments names t cs apart h =
     let files = names_in t.files in
     let es = t.entries.items in
-    let keys : section_keys cs ≡ t.asked.keys = ap section_keys (sym (held_contents (λ w. telling []) cs)) ∙ h.asked in
+    let keys : section_keys cs ≡ t.asked.keys = ap section_keys (sym (held_contents cs)) ∙ h.asked in
     entries_ordered files apart segments names t.asked.keys es h.standing
     ∙ sym (same_object segments names t.asked.keys cs (map (content_of files) es) (contents_fed cs t h))
     ∙ ap (λ ks. object_over segments names ks cs) (sym keys)

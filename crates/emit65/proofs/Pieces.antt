@@ -8,7 +8,7 @@ use Rattle.semantics65.specs.Contents.{Content, Part, Declaration, Known, asking
 use Rattle.semantics65.specs.Module.{Slot, holds}
 use Rattle.semantics65.specs.Numbering.{all_said, content_imports, once, part_imports, parts_in, section_keys, segments_asked}
 use Rattle.emit65.specs.declared.sections.Sections.{Sections}
-use Rattle.emit65.specs.Fed.{AreAlike, AreSlotsAlike, content_by, contents_so_far, in_pieces, names_in, slots_in, Feeds, Stands}
+use Rattle.emit65.specs.Fed.{AreAlike, AreSlotsAlike, contents_so_far, in_pieces, names_in, slots_in, so_far, Feeds, Stands}
 use Rattle.emit65.proofs.Alikes.{alike_back, alike_sym, alike_trans, bytes_alike, no_bytes_alike}
 use Rattle.emit65.proofs.Slots.{asked_more, held_alike, held_contents, slots_back, slots_sym, slots_trans}
 
@@ -30,8 +30,8 @@ held_stand xs cs ds s alike asks h =
   where
     keys : (es : List Content) → section_keys (contents_so_far (xs ++ map holds es)) ≡ once (section_keys (contents_so_far xs)) (segments_asked es)
     keys es =
-        ap section_keys (map-append (content_by (λ w. telling [])) xs (map holds es))
-        ∙ ap (λ ds. section_keys (contents_so_far xs ++ ds)) (held_contents (λ w. telling []) es)
+        ap section_keys (map-append so_far xs (map holds es))
+        ∙ ap (λ ds. section_keys (contents_so_far xs ++ ds)) (held_contents es)
         ∙ asked_more (contents_so_far xs) es
 
 -- ---- Bytes in one go.

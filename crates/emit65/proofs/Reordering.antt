@@ -1,7 +1,7 @@
 -- The object of contents in the order of its own files.
-use Rattle.std.proofs.Common.{◌≡◌, ◌∙◌, ℕ, ◌<◌, Bool, true, false, List, [], ◌∷◌, ◌++◌, length, map, get_or, option_map, Option, Some, None, refl, sym, ap, arith, zero, suc, ◌+◌, subst, append_assoc, append-nil}
-use Rattle.std.specs.Prelude.{slice_get, if◌then◌else◌, filter_map}
-use Rattle.std.specs.List.{AllByRecursion, IsDistinct, flat_map, list_all, list_any}
+use Rattle.std.proofs.Common.{◌≡◌, ◌∙◌, ℕ, ◌<◌, Bool, true, false, List, [], ◌∷◌, ◌++◌, length, map, get_or, option_map, Option, Some, None, refl, sym, ap, arith, zero, suc, ◌+◌, subst}
+use Rattle.std.specs.Prelude.{slice_get, filter_map}
+use Rattle.std.specs.List.{AllByRecursion, IsDistinct, flat_map, list_all}
 use Rattle.std.specs.Str.{bytes_eq}
 use Rattle.std.proofs.lemmas.Map.Keys.{IsDistinct-cons, IsDistinct-head, IsDistinct-tail}
 use Rattle.std.proofs.lemmas.Option.{slice_get-get_or}
@@ -11,17 +11,15 @@ use Rattle.object65.specs.declared.object.Fragment.{Fragment}
 use Rattle.object65.specs.declared.object.Fragment.TheVariants.{Literal, Fill, Value}
 use Rattle.object65.specs.declared.object.Object.{Object}
 use Rattle.object65.specs.declared.object.Section.{Section}
-use Rattle.semantics65.specs.Numbering.{number_of, once, optional_key, all_joined, all_said, assert_files, assert_of, export_files, exports_among, fragments_of, import_keys, in_files, joined, name_of, names_once, numbered, part_files, parts_in, section_of, segment_name, segment_power}
+use Rattle.semantics65.specs.Numbering.{number_of, once, optional_key, all_joined, all_said, assert_files, assert_of, export_files, export_of, fragments_of, import_keys, in_files, joined, name_of, names_once, numbered, part_files, parts_in, section_of, segment_name, segment_power}
 use Rattle.emit65.specs.Inner.Drafts.{assert_by, assert_key, export_by, export_key, fragment_by, fragment_keys, order_of, section_by, section_files, in_order, origin_by}
 use Rattle.emit65.proofs.Renumbering.{HasAll, first_has, has, left, number_at, number_below, once_has, second_has, once_all, right}
-use Rattle.std.proofs.lemmas.Grind.{common_steps, flat_map-append}
-use Rattle.std.proofs.lemmas.List.{map-append}
+use Rattle.std.proofs.lemmas.Grind.{common_steps}
 use Rattle.syntax65.specs.declared.place.Place.{Place}
 use Rattle.object65.specs.declared.object.Origin.{Origin}
 use Rattle.semantics65.specs.Contents.{Content, Part, Known, Filled, Waiting, Declaration, Exported, ForcedImport, Asserted}
 use Rattle.semantics65.specs.declared.contents.Segment.{Segment}
 use Rattle.emit65.proofs.Alikes.{files_by, files_named_by, object_over}
-use Rattle.emit65.proofs.Exporting.{any_map}
 use Rattle.emit65.proofs.Naming.{AreBelow, IsNaming, is_listed, naming_more, naming_none, naming_one, once_named, placed_by}
 
 -- ---- The file that was named last.
@@ -185,39 +183,14 @@ module _ (files : List (List ℕ)) (apart : IsDistinct bytes_eq files) (s i : Li
       (naming_one files apart place (left (is_listed files apart place) (list_all is_listed_said ss) h))
       (asserts_named ss (right (is_listed files apart place) (list_all is_listed_said ss) h))
 
-  abbrev names_in : List Export → List (List ℕ)
-  names_in found = map (λ (e : Export). e.name) found
-
-  abbrev keys_in : List Export → List ℕ
-  keys_in found = flat_map export_key found
-
-  exports_named : (found : List Export) (ss : List Declaration) (ns : List (List ℕ)) → list_all is_listed_said ss ≡ true → IsNaming files apart (keys_in found) ns → IsNaming files apart (keys_in (exports_among at s i found ss)) (ns ++ export_files (names_in found) ss)
-  exports_named found [] ns h g = subst (λ ms. IsNaming files apart (keys_in found) ms) (sym (append-nil ns)) g
-  exports_named found (ForcedImport n ∷ ss) ns h g = exports_named found ss ns h g
-  exports_named found (Asserted act place words f ∷ ss) ns h g = exports_named found ss ns (right (is_listed files apart place) (list_all is_listed_said ss) h) g
-  exports_named found (Exported n place f ∷ ss) ns h g =
-      let rest = right (is_listed files apart place) (list_all is_listed_said ss) h in
-      by (list_any (λ e. bytes_eq n e.name) found) (any_map (bytes_eq n) (λ (e : Export). e.name) found)
-      (exports_named found ss ns rest g)
-      (exports_named (found ++ made ∷ []) ss (ns ++ place.file ∷ []) rest
-      (subst (λ ks. IsNaming files apart ks (ns ++ place.file ∷ [])) (sym pushed)
-      (naming_more files apart (keys_in found) (optional_key (at place).file) ns (place.file ∷ []) g (naming_one files apart place (left (is_listed files apart place) (list_all is_listed_said ss) h)))))
-    where
-      made : Export
-      made = record { name = n; origin = at place; form = numbered s i f }
-
-      pushed : keys_in (found ++ made ∷ []) ≡ keys_in found ++ optional_key (at place).file
-      pushed = flat_map-append export_key found (made ∷ []) ∙ ap (λ ks. keys_in found ++ ks) (append-nil (optional_key (at place).file))
-
-      by : (b : Bool) → list_any (bytes_eq n) (names_in found) ≡ b →
-          IsNaming files apart (keys_in (exports_among at s i found ss)) (ns ++ export_files (names_in found) ss) →
-          IsNaming files apart (keys_in (exports_among at s i (found ++ made ∷ []) ss)) ((ns ++ place.file ∷ []) ++ export_files (names_in (found ++ made ∷ [])) ss) →
-          IsNaming files apart (keys_in (exports_among at s i (if b then found else found ++ made ∷ []) ss)) (ns ++ (if list_any (bytes_eq n) (names_in found) then export_files (names_in found) ss else place.file ∷ export_files (names_in found ++ n ∷ []) ss))
-      by true e old new = subst (λ (b : Bool). IsNaming files apart (keys_in (exports_among at s i found ss)) (ns ++ (if b then export_files (names_in found) ss else place.file ∷ export_files (names_in found ++ n ∷ []) ss))) (sym e) old
-      by false e old new =
-          subst (λ (b : Bool). IsNaming files apart (keys_in (exports_among at s i (found ++ made ∷ []) ss)) (ns ++ (if b then export_files (names_in found) ss else place.file ∷ export_files (names_in found ++ n ∷ []) ss))) (sym e)
-          (subst (λ ms. IsNaming files apart (keys_in (exports_among at s i (found ++ made ∷ []) ss)) ms)
-          (append_assoc ns (place.file ∷ []) (export_files (names_in (found ++ made ∷ [])) ss) ∙ ap (λ ms. ns ++ place.file ∷ export_files ms ss) (map-append (λ (e : Export). e.name) found (made ∷ []))) new)
+  exports_named : (ss : List Declaration) → list_all is_listed_said ss ≡ true → IsNaming files apart (flat_map export_key (filter_map (export_of at s i) ss)) (flat_map export_files ss)
+  exports_named [] h = naming_none files apart
+  exports_named (ForcedImport n ∷ ss) h = exports_named ss h
+  exports_named (Asserted act place words f ∷ ss) h = exports_named ss (right (is_listed files apart place) (list_all is_listed_said ss) h)
+  exports_named (Exported n place f ∷ ss) h =
+      naming_more files apart (optional_key (at place).file) (flat_map export_key (filter_map (export_of at s i) ss)) (place.file ∷ []) (flat_map export_files ss)
+      (naming_one files apart place (left (is_listed files apart place) (list_all is_listed_said ss) h))
+      (exports_named ss (right (is_listed files apart place) (list_all is_listed_said ss) h))
 
   -- ---- Origins by the order.
 
@@ -256,47 +229,15 @@ module _ (files : List (List ℕ)) (apart : IsDistinct bytes_eq files) (s i : Li
         let rest = asserts_by ss (right (is_listed files apart place) (list_all is_listed_said ss) h) (second_has order (optional_key (at place).file) rest_keys g) in
         λ n. record { action = act; origin = one n; text = words; form = numbered s i f } ∷ rest n
 
-    -- the exports found before are kept
-    exports_kept : (found : List Export) (ss : List Declaration) → HasAll order (keys_in (exports_among at s i found ss)) → HasAll order (keys_in found)
-    exports_kept found [] g = g
-    exports_kept found (ForcedImport n ∷ ss) g = exports_kept found ss g
-    exports_kept found (Asserted act place words f ∷ ss) g = exports_kept found ss g
-    exports_kept found (Exported n place f ∷ ss) g =
-        by (list_any (λ e. bytes_eq n e.name) found) (exports_kept (if list_any (λ e. bytes_eq n e.name) found then found else found ++ made ∷ []) ss g)
-      where
-        made : Export
-        made = record { name = n; origin = at place; form = numbered s i f }
-
-        by : (b : Bool) → HasAll order (keys_in (if b then found else found ++ made ∷ [])) → HasAll order (keys_in found)
-        by true h = h
-        by false h = first_has order (keys_in found) (keys_in (made ∷ [])) (subst (HasAll order) (flat_map-append export_key found (made ∷ [])) h)
-
-    exports_by : (found : List Export) (ss : List Declaration) → list_all is_listed_said ss ≡ true → HasAll order (keys_in (exports_among at s i found ss)) → map (export_by order) (exports_among at s i found ss) ≡ exports_among to s i (map (export_by order) found) ss
-    exports_by found [] h g = refl
-    exports_by found (ForcedImport n ∷ ss) h g = exports_by found ss h g
-    exports_by found (Asserted act place words f ∷ ss) h g = exports_by found ss (right (is_listed files apart place) (list_all is_listed_said ss) h) g
-    exports_by found (Exported n place f ∷ ss) h g =
-        exports_by next ss (right (is_listed files apart place) (list_all is_listed_said ss) h) g
-        ∙ ap (λ es. exports_among to s i es ss) (step ∙ ap (λ b. if b then map (export_by order) found else map (export_by order) found ++ ordered ∷ []) (sym (any_map (λ (e : Export). bytes_eq n e.name) (export_by order) found)))
-      where
-        made : Export
-        made = record { name = n; origin = at place; form = numbered s i f }
-
-        ordered : Export
-        ordered = record { name = n; origin = to place; form = numbered s i f }
-
-        next : List Export
-        next = if list_any (λ e. bytes_eq n e.name) found then found else found ++ made ∷ []
-
-        by : (b : Bool) → HasAll order (keys_in (if b then found else found ++ made ∷ [])) → map (export_by order) (if b then found else found ++ made ∷ []) ≡ (if b then map (export_by order) found else map (export_by order) found ++ ordered ∷ [])
-        by true kept = refl
-        by false kept =
-            let mine = second_has order (keys_in found) (keys_in (made ∷ [])) (subst (HasAll order) (flat_map-append export_key found (made ∷ [])) kept) in
-            let here = placed_by files apart order place below (left (is_listed files apart place) (list_all is_listed_said ss) h) (first_has order (optional_key (at place).file) [] mine) in
-            map-append (export_by order) found (made ∷ []) ∙ (λ j. map (export_by order) found ++ record { name = n; origin = here j; form = numbered s i f } ∷ [])
-
-        step : map (export_by order) next ≡ (if list_any (λ e. bytes_eq n e.name) found then map (export_by order) found else map (export_by order) found ++ ordered ∷ [])
-        step = by (list_any (λ e. bytes_eq n e.name) found) (exports_kept next ss g)
+    exports_by : (ss : List Declaration) → list_all is_listed_said ss ≡ true → HasAll order (flat_map export_key (filter_map (export_of at s i) ss)) → map (export_by order) (filter_map (export_of at s i) ss) ≡ filter_map (export_of to s i) ss
+    exports_by [] h g = refl
+    exports_by (ForcedImport n ∷ ss) h g = exports_by ss h g
+    exports_by (Asserted act place words f ∷ ss) h g = exports_by ss (right (is_listed files apart place) (list_all is_listed_said ss) h) g
+    exports_by (Exported n place f ∷ ss) h g =
+        let rest_keys = flat_map export_key (filter_map (export_of at s i) ss) in
+        let one = placed_by files apart order place below (left (is_listed files apart place) (list_all is_listed_said ss) h) (first_has order (optional_key (at place).file) rest_keys g) in
+        let rest = exports_by ss (right (is_listed files apart place) (list_all is_listed_said ss) h) (second_has order (optional_key (at place).file) rest_keys g) in
+        λ k. record { name = n; origin = one k; form = numbered s i f } ∷ rest k
 
   -- ---- The object.
 
@@ -307,7 +248,7 @@ module _ (files : List (List ℕ)) (apart : IsDistinct bytes_eq files) (s i : Li
     files = [];
     imports = map (name_of names) i;
     sections = map (section_of at segments s i cs) s;
-    exports = exports_among at s i [] (all_said cs);
+    exports = filter_map (export_of at s i) (all_said cs);
     asserts = filter_map (assert_of at s i) (all_said cs);
   }
 
@@ -320,7 +261,7 @@ module _ (files : List (List ℕ)) (apart : IsDistinct bytes_eq files) (s i : Li
       a = flat_map section_files (map (section_of at segments s i cs) s)
 
       b : List ℕ
-      b = flat_map export_key (exports_among at s i [] (all_said cs))
+      b = flat_map export_key (filter_map (export_of at s i) (all_said cs))
 
       c : List ℕ
       c = flat_map assert_key (filter_map (assert_of at s i) (all_said cs))
@@ -330,8 +271,8 @@ module _ (files : List (List ℕ)) (apart : IsDistinct bytes_eq files) (s i : Li
 
       naming : IsNaming files apart (a ++ b ++ c) (files_named_by s cs)
       naming =
-          naming_more files apart (a ++ b) c (flat_map (λ g. flat_map part_files (parts_in cs g)) s ++ export_files [] (all_said cs)) (flat_map assert_files (all_said cs))
-          (naming_more files apart a b (flat_map (λ g. flat_map part_files (parts_in cs g)) s) (export_files [] (all_said cs)) (sections_named segments cs s parts) (exports_named [] (all_said cs) [] said (naming_none files apart)))
+          naming_more files apart (a ++ b) c (flat_map (λ g. flat_map part_files (parts_in cs g)) s ++ flat_map export_files (all_said cs)) (flat_map assert_files (all_said cs))
+          (naming_more files apart a b (flat_map (λ g. flat_map part_files (parts_in cs g)) s) (flat_map export_files (all_said cs)) (sections_named segments cs s parts) (exports_named (all_said cs) said))
           (asserts_named (all_said cs) said)
 
       files_are : map (name_of files) order ≡ files_by s cs
@@ -349,8 +290,8 @@ module _ (files : List (List ℕ)) (apart : IsDistinct bytes_eq files) (s i : Li
       sections : map (section_by order) (map (section_of at segments s i cs) s) ≡ map (section_of (in_files (map (name_of files) order)) segments s i cs) s
       sections = sections_by order below segments cs s parts (first_has order a b front)
 
-      exports : map (export_by order) (exports_among at s i [] (all_said cs)) ≡ exports_among (in_files (map (name_of files) order)) s i [] (all_said cs)
-      exports = exports_by order below [] (all_said cs) said (second_has order a b front)
+      exports : map (export_by order) (filter_map (export_of at s i) (all_said cs)) ≡ filter_map (export_of (in_files (map (name_of files) order)) s i) (all_said cs)
+      exports = exports_by order below (all_said cs) said (second_has order a b front)
 
       asserts : map (assert_by order) (filter_map (assert_of at s i) (all_said cs)) ≡ filter_map (assert_of (in_files (map (name_of files) order)) s i) (all_said cs)
       asserts = asserts_by order below (all_said cs) said (second_has order (a ++ b) c all)
@@ -364,6 +305,6 @@ module _ (files : List (List ℕ)) (apart : IsDistinct bytes_eq files) (s i : Li
         files = fs;
         imports = map (name_of names) j;
         sections = map (section_of (in_files fs) segments s j cs) s;
-        exports = exports_among (in_files fs) s j [] (all_said cs);
+        exports = filter_map (export_of (in_files fs) s j) (all_said cs);
         asserts = filter_map (assert_of (in_files fs) s j) (all_said cs);
       }

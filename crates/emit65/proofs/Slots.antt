@@ -1,87 +1,191 @@
 -- Slots that differ for no object, and what they come to.
 use Rattle.std.proofs.lemmas.Grind.{common_steps}
-use Rattle.std.proofs.Common.{◌≡◌, ◌∙◌, ℕ, false, List, [], ◌∷◌, ◌++◌, map, refl, sym, ap, subst, append-nil, arith}
-use Rattle.std.specs.Prelude.{Result, Ok, Err, IfOk, if◌then◌else◌}
+use Rattle.std.proofs.Common.{◌≡◌, ◌∙◌, ℕ, Bool, true, false, List, [], ◌∷◌, ◌++◌, map, refl, sym, ap, subst, append-nil, append_assoc, arith}
+use Rattle.std.specs.Prelude.{Result, Ok, Err, IfOk, filter, if◌then◌else◌}
 use Rattle.std.proofs.lemmas.List.{map-append}
 use Rattle.std.proofs.lemmas.List.Elements.{filter-append}
 use Rattle.base65.specs.Outcome.{◌>>=◌}
 use Rattle.ast65.specs.declared.fault.AsmFault.{AsmFault}
 use Rattle.syntax65.specs.declared.place.Place.{Place}
-use Rattle.semantics65.specs.Contents.{Content, telling}
-use Rattle.semantics65.specs.Module.{Made, made_of, quietly, Finished, Fixup, Slot, before_it, coming, holds, resolved, waits}
-use Rattle.semantics65.specs.Numbering.{once, section_keys, segments_asked}
+use Rattle.semantics65.specs.Contents.{Content, exported_names}
+use Rattle.semantics65.specs.Module.{Made, made_of, Finished, Fixup, Slot, as_said, coming, followed_by, holds, is_repeated, quietly, resolved, waits}
+use Rattle.semantics65.specs.Numbering.{all_said, once, section_keys, segments_asked}
 use Rattle.semantics65.specs.Reading.{PlacedFault, at_place}
 use Rattle.semantics65.specs.Symbols.{Symbols}
+use Rattle.semantics65.proofs.Found.{AreFound, after, found_all, found_each, names_append, nothing_after}
 use Rattle.semantics65.proofs.Resolving.{asks_none, made_asks}
-use Rattle.emit65.specs.Fed.{AreAlike, AreSlotsAlike, content_by, contents_so_far, waiting_in}
+use Rattle.emit65.specs.Fed.{AreAlike, AreFoundAlike, AreSlotsAlike, ComeAlike, contents_so_far, so_far}
 use Rattle.emit65.proofs.Alikes.{alike_back, alike_front, alike_same, alike_sym, alike_trans}
 use Rattle.emit65.proofs.Keys.{once_append}
 
--- ---- What waits.
+-- ---- What slots come to, one behind the other.
 
-pub waiting_append : (xs ys : List Slot) → waiting_in (xs ++ ys) ≡ waiting_in xs ++ waiting_in ys
-waiting_append [] ys = refl
-waiting_append (holds c ∷ xs) ys = waiting_append xs ys
-waiting_append (waits w ∷ xs) ys = ap (λ ws. w ∷ ws) (waiting_append xs ys)
+-- contents that were found, and then what those behind them come to
+abbrev and_then : Result (List Content) PlacedFault → List ℕ → (List Content → Finished) → Finished
+and_then (Ok cs) said rest = after (found_all cs said) (rest cs)
+and_then (Err e) said rest = record { found = Err e; warned = said }
 
-pub none_waits : (cs : List Content) → waiting_in (map holds cs) ≡ []
-none_waits [] = refl
-none_waits (c ∷ cs) = none_waits cs
+abbrev behind : Finished → (List Content → Finished) → Finished
+behind a rest = and_then a.found a.warned rest
 
-pub held_contents : (comes : Fixup → Content) (cs : List Content) → map (content_by comes) (map holds cs) ≡ cs
-held_contents comes [] = refl
-held_contents comes (c ∷ cs) = ap (λ ds. c ∷ ds) (held_contents comes cs)
+found_behind : (m : Made) (cs : List Content) (said : List ℕ) (r : Finished) → followed_by (Ok m) (λ k. after (found_all cs said) r) ≡ after (found_all (m.content ∷ cs) (m.warning ++ said)) r
+found_behind m cs said r = by r.found
+  where
+    by : (f : Result (List Content) PlacedFault) → followed_by (Ok m) (λ k. after (found_all cs said) (record { found = f; warned = r.warned })) ≡ after (found_all (m.content ∷ cs) (m.warning ++ said)) (record { found = f; warned = r.warned })
+    by (Ok ds) = ap (λ (w : List ℕ). found_all (m.content ∷ (cs ++ ds)) w) (sym (append_assoc m.warning said r.warned))
+    by (Err e) = ap (λ (w : List ℕ). record { found = Err e; warned = w }) (sym (append_assoc m.warning said r.warned))
+
+-- slots with others behind them, which stand behind the exports that the first come to
+resolved_append : (y : Symbols) (names : List (List ℕ)) (xs zs : List Slot) → resolved y names (xs ++ zs) ≡ behind (resolved y names xs) (λ cs. resolved y (names ++ exported_names (all_said cs)) zs)
+resolved_append y names [] zs = sym (nothing_after (resolved y (names ++ []) zs) ∙ ap (λ ns. resolved y ns zs) (append-nil names))
+resolved_append y names (x ∷ xs) zs = by (coming y names x) (λ m. resolved_append y (more m) xs zs)
+  where
+    rest : List Content → Finished
+    rest cs = resolved y (names ++ exported_names (all_said cs)) zs
+
+    more : Made → List (List ℕ)
+    more m = names ++ exported_names m.content.said
+
+    joined : (m : Made) (f : Result (List Content) PlacedFault) (said : List ℕ) → followed_by (Ok m) (λ k. and_then f said (λ cs. resolved y (more m ++ exported_names (all_said cs)) zs)) ≡ behind (followed_by (Ok m) (λ k. record { found = f; warned = said })) rest
+    joined m (Err e) said = refl
+    joined m (Ok cs) said =
+        found_behind m cs said (resolved y (more m ++ exported_names (all_said cs)) zs)
+        ∙ ap (λ ns. after (found_all (m.content ∷ cs) (m.warning ++ said)) (resolved y ns zs))
+        (append_assoc names (exported_names m.content.said) (exported_names (all_said cs)) ∙ ap (λ ns. names ++ ns) (sym (names_append m.content.said (all_said cs))))
+
+    by : (r : Result Made PlacedFault) → ((m : Made) → resolved y (more m) (xs ++ zs) ≡ behind (resolved y (more m) xs) (λ cs. resolved y (more m ++ exported_names (all_said cs)) zs)) → followed_by r (λ m. resolved y (more m) (xs ++ zs)) ≡ behind (followed_by r (λ m. resolved y (more m) xs)) rest
+    by (Err e) one = refl
+    by (Ok m) one =
+        let r = resolved y (more m) xs in
+        ap (λ a. followed_by (Ok m) (λ k. a)) (one m) ∙ joined m r.found r.warned
+
+-- ---- What is found alike.
+
+found_same : (r : Result (List Content) PlacedFault) → AreFoundAlike r r
+found_same (Ok cs) = alike_same cs
+found_same (Err e) = refl
+
+found_trans : (p q r : Result (List Content) PlacedFault) → AreFoundAlike p q → AreFoundAlike q r → AreFoundAlike p r
+found_trans (Ok cs) (Ok ds) (Ok es) h k = alike_trans cs ds es h k
+found_trans (Ok cs) (Ok ds) (Err e) h k = absurd k
+found_trans (Ok cs) (Err e) r h k = absurd h
+found_trans (Err e) (Ok ds) r h k = absurd h
+found_trans (Err e) (Err f) (Ok es) h k = absurd k
+found_trans (Err e) (Err f) (Err g) h k = h ∙ k
+
+found_sym : (q r : Result (List Content) PlacedFault) → AreFoundAlike q r → AreFoundAlike r q
+found_sym (Ok cs) (Ok ds) h = alike_sym cs ds h
+found_sym (Ok cs) (Err e) h = absurd h
+found_sym (Err e) (Ok ds) h = absurd h
+found_sym (Err e) (Err f) h = sym h
+
+-- with the same behind both
+come_front : (a b : Finished) (rest : List Content → Finished) → ((cs ds : List Content) → all_said cs ≡ all_said ds → rest cs ≡ rest ds) → ComeAlike a b → ComeAlike (behind a rest) (behind b rest)
+come_front a b rest same h = by a.found b.found h.found
+  where
+    one : (cs ds : List Content) → AreAlike cs ds → (f : Result (List Content) PlacedFault) → AreFoundAlike (f >>= (λ es. Ok (cs ++ es))) (f >>= (λ es. Ok (ds ++ es)))
+    one cs ds k (Ok es) = alike_front cs ds es k
+    one cs ds k (Err e) = refl
+
+    by : (q r : Result (List Content) PlacedFault) → AreFoundAlike q r → ComeAlike (and_then q a.warned rest) (and_then r b.warned rest)
+    by (Ok cs) (Ok ds) k =
+        subst (λ (x : Finished). ComeAlike (after (found_all cs a.warned) x) (after (found_all ds b.warned) (rest ds))) (sym (same cs ds k.said))
+        (record { found = one cs ds k (rest ds).found; warned = ap (λ w. w ++ (rest ds).warned) h.warned })
+    by (Ok cs) (Err e) k = absurd k
+    by (Err e) (Ok ds) k = absurd k
+    by (Err e) (Err f) k = record { found = k; warned = h.warned }
+
+-- with the same before both
+come_back : (a : Finished) (rest more : List Content → Finished) → ((cs : List Content) → ComeAlike (rest cs) (more cs)) → ComeAlike (behind a rest) (behind a more)
+come_back a rest more h = by a.found
+  where
+    one : (cs : List Content) (q r : Result (List Content) PlacedFault) → AreFoundAlike q r → AreFoundAlike (q >>= (λ es. Ok (cs ++ es))) (r >>= (λ es. Ok (cs ++ es)))
+    one cs (Ok ds) (Ok es) k = alike_back cs ds es k
+    one cs (Ok ds) (Err e) k = absurd k
+    one cs (Err e) (Ok es) k = absurd k
+    one cs (Err e) (Err f) k = k
+
+    by : (f : Result (List Content) PlacedFault) → ComeAlike (and_then f a.warned rest) (and_then f a.warned more)
+    by (Ok cs) = record { found = one cs (rest cs).found (more cs).found (h cs).found; warned = ap (λ w. a.warned ++ w) (h cs).warned }
+    by (Err e) = record { found = refl; warned = refl }
 
 -- ---- An equivalence.
 
 pub slots_same : (xs : List Slot) → AreSlotsAlike xs xs
-slots_same xs = record { waiting = refl; contents = λ comes. alike_same (map (content_by comes) xs) }
+slots_same xs = record {
+  held = alike_same (contents_so_far xs);
+  come = λ y names. record { found = found_same (resolved y names xs).found; warned = refl };
+}
 
 pub slots_trans : (xs ys zs : List Slot) → AreSlotsAlike xs ys → AreSlotsAlike ys zs → AreSlotsAlike xs zs
 slots_trans xs ys zs h k = record {
-  waiting = h.waiting ∙ k.waiting;
-  contents = λ comes. alike_trans (map (content_by comes) xs) (map (content_by comes) ys) (map (content_by comes) zs) (h.contents comes) (k.contents comes);
+  held = alike_trans (contents_so_far xs) (contents_so_far ys) (contents_so_far zs) h.held k.held;
+  come = λ y names. record {
+    found = found_trans (resolved y names xs).found (resolved y names ys).found (resolved y names zs).found (h.come y names).found (k.come y names).found;
+    warned = (h.come y names).warned ∙ (k.come y names).warned;
+  };
 }
 
 pub slots_sym : (xs ys : List Slot) → AreSlotsAlike xs ys → AreSlotsAlike ys xs
 slots_sym xs ys h = record {
-  waiting = sym h.waiting;
-  contents = λ comes. alike_sym (map (content_by comes) xs) (map (content_by comes) ys) (h.contents comes);
+  held = alike_sym (contents_so_far xs) (contents_so_far ys) h.held;
+  come = λ y names. record {
+    found = found_sym (resolved y names xs).found (resolved y names ys).found (h.come y names).found;
+    warned = sym (h.come y names).warned;
+  };
 }
 
 -- ---- More slots.
 
 pub slots_front : (xs ys zs : List Slot) → AreSlotsAlike xs ys → AreSlotsAlike (xs ++ zs) (ys ++ zs)
 slots_front xs ys zs h = record {
-  waiting = waiting_append xs zs ∙ ap (λ ws. ws ++ waiting_in zs) h.waiting ∙ sym (waiting_append ys zs);
-  contents = λ comes.
-      let f = content_by comes in
-      subst (λ (cs : List Content). AreAlike cs (map f (ys ++ zs))) (sym (map-append f xs zs))
-      (subst (λ (cs : List Content). AreAlike (map f xs ++ map f zs) cs) (sym (map-append f ys zs))
-      (alike_front (map f xs) (map f ys) (map f zs) (h.contents comes)));
+  held =
+      subst (λ (cs : List Content). AreAlike cs (contents_so_far (ys ++ zs))) (sym (map-append so_far xs zs))
+      (subst (λ (cs : List Content). AreAlike (contents_so_far xs ++ contents_so_far zs) cs) (sym (map-append so_far ys zs))
+      (alike_front (contents_so_far xs) (contents_so_far ys) (contents_so_far zs) h.held));
+  come = λ y names.
+      let rest : List Content → Finished = λ cs. resolved y (names ++ exported_names (all_said cs)) zs in
+      subst (λ (a : Finished). ComeAlike a (resolved y names (ys ++ zs))) (sym (resolved_append y names xs zs))
+      (subst (λ (b : Finished). ComeAlike (behind (resolved y names xs) rest) b) (sym (resolved_append y names ys zs))
+      (come_front (resolved y names xs) (resolved y names ys) rest (λ cs ds said. ap (λ ss. resolved y (names ++ exported_names ss) zs) said) (h.come y names)));
 }
 
 pub slots_back : (zs xs ys : List Slot) → AreSlotsAlike xs ys → AreSlotsAlike (zs ++ xs) (zs ++ ys)
 slots_back zs xs ys h = record {
-  waiting = waiting_append zs xs ∙ ap (λ ws. waiting_in zs ++ ws) h.waiting ∙ sym (waiting_append zs ys);
-  contents = λ comes.
-      let f = content_by comes in
-      subst (λ (cs : List Content). AreAlike cs (map f (zs ++ ys))) (sym (map-append f zs xs))
-      (subst (λ (cs : List Content). AreAlike (map f zs ++ map f xs) cs) (sym (map-append f zs ys))
-      (alike_back (map f zs) (map f xs) (map f ys) (h.contents comes)));
+  held =
+      subst (λ (cs : List Content). AreAlike cs (contents_so_far (zs ++ ys))) (sym (map-append so_far zs xs))
+      (subst (λ (cs : List Content). AreAlike (contents_so_far zs ++ contents_so_far xs) cs) (sym (map-append so_far zs ys))
+      (alike_back (contents_so_far zs) (contents_so_far xs) (contents_so_far ys) h.held));
+  come = λ y names.
+      let rest : List Slot → List Content → Finished = λ us cs. resolved y (names ++ exported_names (all_said cs)) us in
+      subst (λ (a : Finished). ComeAlike a (resolved y names (zs ++ ys))) (sym (resolved_append y names zs xs))
+      (subst (λ (b : Finished). ComeAlike (behind (resolved y names zs) (rest xs)) b) (sym (resolved_append y names zs ys))
+      (come_back (resolved y names zs) (rest xs) (rest ys) (λ cs. h.come y (names ++ exported_names (all_said cs)))));
 }
 
 -- slots behind which others make no difference
 pub slots_nothing : (xs zs : List Slot) → AreSlotsAlike zs [] → AreSlotsAlike (xs ++ zs) xs
 slots_nothing xs zs h = slots_trans (xs ++ zs) (xs ++ []) xs (slots_back xs zs [] h) (rw (append-nil xs) (slots_same xs))
 
--- contents that are alike
+-- ---- Contents that are held.
+
+pub held_contents : (cs : List Content) → contents_so_far (map holds cs) ≡ cs
+held_contents [] = refl
+held_contents (c ∷ cs) = ap (λ ds. c ∷ ds) (held_contents cs)
+
+-- they are found as they are
+held_found : (y : Symbols) (names : List (List ℕ)) (cs : List Content) → resolved y names (map holds cs) ≡ found_all cs []
+held_found y names [] = refl
+held_found y names (c ∷ cs) = ap (λ r. followed_by (Ok (quietly c)) (λ m. r)) (held_found y (names ++ exported_names c.said) cs)
+
 pub held_alike : (cs ds : List Content) → AreAlike cs ds → AreSlotsAlike (map holds cs) (map holds ds)
 held_alike cs ds h = record {
-  waiting = none_waits cs ∙ sym (none_waits ds);
-  contents = λ comes.
-      subst (λ (es : List Content). AreAlike es (map (content_by comes) (map holds ds))) (sym (held_contents comes cs))
-      (subst (λ (es : List Content). AreAlike cs es) (sym (held_contents comes ds)) h);
+  held =
+      subst (λ (es : List Content). AreAlike es (contents_so_far (map holds ds))) (sym (held_contents cs))
+      (subst (λ (es : List Content). AreAlike cs es) (sym (held_contents ds)) h);
+  come = λ y names.
+      subst (λ (a : Finished). ComeAlike a (resolved y names (map holds ds))) (sym (held_found y names cs))
+      (subst (λ (b : Finished). ComeAlike (found_all cs []) b) (sym (held_found y names ds)) (record { found = h; warned = refl }));
 }
 
 -- ---- The sections that are asked for.
@@ -96,100 +200,62 @@ asked_same cs c quiet = asked_more cs (c ∷ []) ∙ ap (λ b. once (section_key
 one_asks : (c : Content) (cs ds : List Content) → segments_asked cs ≡ segments_asked ds → segments_asked (c ∷ cs) ≡ segments_asked (c ∷ ds)
 one_asks c cs ds same = grind (arith, common_steps)
 
+-- what asks for none makes no difference
+unasked : (c : Content) (cs : List Content) → c.asks ≡ false → segments_asked (c ∷ cs) ≡ segments_asked cs
+unasked c cs quiet = ap (λ b. map (λ (d : Content). d.segment) (if b then c ∷ filter (λ (d : Content). d.asks) cs else filter (λ (d : Content). d.asks) cs)) quiet
+
+quiet_at : (place : Place) (r : Result Made AsmFault) (m : Made) → IfOk r asks_none → at_place place r ≡ Ok m → m.content.asks ≡ false
+quiet_at place (Ok k) m h e = let same : k ≡ m = cc in subst asks_none same h
+quiet_at place (Err f) m h e = absurd cc
+
 -- what waits asks for none
-asks_by : (comes : Fixup → Content) → ((w : Fixup) → (comes w).asks ≡ false) → (xs : List Slot) → segments_asked (map (content_by comes) xs) ≡ segments_asked (contents_so_far xs)
-asks_by comes quiet [] = refl
-asks_by comes quiet (holds c ∷ xs) = one_asks c (map (content_by comes) xs) (contents_so_far xs) (asks_by comes quiet xs)
-asks_by comes quiet (waits w ∷ xs) = rw (quiet w) (asks_by comes quiet xs)
-
-pub keys_by : (comes : Fixup → Content) → ((w : Fixup) → (comes w).asks ≡ false) → (xs : List Slot) → section_keys (map (content_by comes) xs) ≡ section_keys (contents_so_far xs)
-keys_by comes quiet xs = ap (once []) (asks_by comes quiet xs)
-
--- ---- What slots come to.
-
--- the content of what waits, if it has no fault
-abbrev content_in : Result Made PlacedFault → Content
-content_in (Ok m) = m.content
-content_in (Err e) = telling []
-
-abbrev pub settled : Symbols → Fixup → Content
-settled y w = content_in (coming y (waits w))
-
--- it asks for no section
-quiet_in : (place : Place) (r : Result Made AsmFault) → IfOk r asks_none → (content_in (at_place place r)).asks ≡ false
-quiet_in place (Ok m) h = h
-quiet_in place (Err e) h = refl
-
-pub settled_quiet : (y : Symbols) (w : Fixup) → (settled y w).asks ≡ false
-settled_quiet y w = quiet_in w.place (made_of y w.place w.context w.piece) (made_asks y w.place w.context w.piece)
-
--- contents, unless what waits has a fault
-abbrev pub unless_faulty : Finished Content → List Content → Finished Content
-unless_faulty r cs = record { found = r.found >>= (λ ds. Ok cs); warned = r.warned }
-
--- what waits, alone
-abbrev pub verdict : Symbols → List Slot → Finished Content
-verdict y xs = resolved y (map waits (waiting_in xs))
-
-held_too : (c : Content) (r : Finished Content) (cs : List Content) → before_it (Ok (quietly c)) (unless_faulty r cs) ≡ unless_faulty r (c ∷ cs)
-held_too c r cs = by r.found
+waits_quiet : (y : Symbols) (names : List (List ℕ)) (w : Fixup) (m : Made) → coming y names (waits w) ≡ Ok m → m.content.asks ≡ false
+waits_quiet y names w m = quiet_at w.place (if is_repeated names w.piece then as_said [] else made_of y w.place w.context w.piece) m (by (is_repeated names w.piece))
   where
-    by : (f : Result (List Content) PlacedFault) → before_it (Ok (quietly c)) (unless_faulty (record { found = f; warned = r.warned }) cs) ≡ unless_faulty (record { found = f; warned = r.warned }) (c ∷ cs)
-    by (Ok ds) = refl
-    by (Err e) = refl
+    by : (b : Bool) → IfOk (if b then as_said [] else made_of y w.place w.context w.piece) asks_none
+    by true = refl
+    by false = made_asks y w.place w.context w.piece
 
-waits_too : (m : Result Made PlacedFault) (r : Finished Content) (cs : List Content) → before_it m (unless_faulty r cs) ≡ unless_faulty (before_it m r) (content_in m ∷ cs)
-waits_too (Err e) r cs = refl
-waits_too (Ok m) r cs = by r.found
-  where
-    by : (f : Result (List Content) PlacedFault) → before_it (Ok m) (unless_faulty (record { found = f; warned = r.warned }) cs) ≡ unless_faulty (before_it (Ok m) (record { found = f; warned = r.warned })) (m.content ∷ cs)
-    by (Ok ds) = refl
-    by (Err e) = refl
+asked_found : (y : Symbols) (names : List (List ℕ)) (xs : List Slot) (cs : List Content) → AreFound y names xs cs → segments_asked cs ≡ segments_asked (contents_so_far xs)
+asked_found y names [] [] h = refl
+asked_found y names [] (c ∷ cs) h = absurd h
+asked_found y names (x ∷ xs) [] h = absurd h
+asked_found y names (holds d ∷ xs) (c ∷ cs) (warning, made, h) =
+    let first : quietly d ≡ record { content = c; warning = warning } = cc in
+    let same : d ≡ c = ap (λ (m : Made). m.content) first in
+    one_asks c cs (contents_so_far xs) (asked_found y (names ++ exported_names c.said) xs cs h) ∙ ap (λ e. segments_asked (e ∷ contents_so_far xs)) (sym same)
+asked_found y names (waits w ∷ xs) (c ∷ cs) (warning, made, h) =
+    unasked c cs (waits_quiet y names w (record { content = c; warning = warning }) made) ∙ asked_found y (names ++ exported_names c.said) xs cs h
 
--- slots come to the contents that they hold and those that what waits comes to
-pub resolved_is : (y : Symbols) (xs : List Slot) → resolved y xs ≡ unless_faulty (verdict y xs) (map (content_by (settled y)) xs)
-resolved_is y [] = refl
-resolved_is y (holds c ∷ xs) = ap (before_it (Ok (quietly c))) (resolved_is y xs) ∙ held_too c (verdict y xs) (map (content_by (settled y)) xs)
-resolved_is y (waits w ∷ xs) = ap (before_it (coming y (waits w))) (resolved_is y xs) ∙ waits_too (coming y (waits w)) (verdict y xs) (map (content_by (settled y)) xs)
+-- the sections of what slots come to are those that were asked for
+pub keys_found : (y : Symbols) (names : List (List ℕ)) (xs : List Slot) (cs : List Content) → (resolved y names xs).found ≡ Ok cs → section_keys cs ≡ section_keys (contents_so_far xs)
+keys_found y names xs cs h = ap (once []) (asked_found y names xs cs (found_each y names xs cs h))
 
--- where some have contents, alike slots have contents like these, and the same is said
-pub record ComesAlike (y : Symbols) (xs : List Slot) (ds : List Content) (said : List ℕ) : Type 0 where
+-- ---- What slots come to, by what alike ones come to.
+
+-- contents like these, and the same is said
+pub record ComesAlike (y : Symbols) (names : List (List ℕ)) (xs : List Slot) (ds : List Content) (said : List ℕ) : Type 0 where
   pub contents : List Content
-  pub is : resolved y xs ≡ record { found = Ok contents; warned = said }
-  pub by : contents ≡ map (content_by (settled y)) xs
+  pub is : resolved y names xs ≡ found_all contents said
   pub alike : AreAlike contents ds
 
-faulty_or : (r : Finished Content) (cs ds : List Content) (said : List ℕ) → unless_faulty r ds ≡ record { found = Ok ds; warned = said } → unless_faulty r cs ≡ record { found = Ok cs; warned = said }
-faulty_or r cs ds said e = grind (arith, common_steps)
+pub comes_alike : (y : Symbols) (names : List (List ℕ)) (xs ys : List Slot) (ds : List Content) (said : List ℕ) → AreSlotsAlike xs ys → resolved y names ys ≡ found_all ds said → ComesAlike y names xs ds said
+comes_alike y names xs ys ds said alike is =
+    let come : ComeAlike (resolved y names xs) (found_all ds said) = subst (λ (b : Finished). ComeAlike (resolved y names xs) b) is (alike.come y names) in
+    by (resolved y names xs).found refl come.found come.warned
+  where
+    by : (f : Result (List Content) PlacedFault) → (resolved y names xs).found ≡ f → AreFoundAlike f (Ok ds) → (resolved y names xs).warned ≡ said → ComesAlike y names xs ds said
+    by (Ok cs) found h warned = record { contents = cs; is = λ n. record { found = found n; warned = warned n }; alike = h }
+    by (Err e) found h warned = absurd h
 
-found_is : (r : Finished Content) (cs ds : List Content) (said : List ℕ) → unless_faulty r cs ≡ record { found = Ok ds; warned = said } → cs ≡ ds
-found_is r cs ds said e = grind (arith, common_steps)
-
-pub comes_alike : (y : Symbols) (xs ys : List Slot) (ds : List Content) (said : List ℕ) → AreSlotsAlike xs ys → resolved y ys ≡ record { found = Ok ds; warned = said } → ComesAlike y xs ds said
-comes_alike y xs ys ds said alike is =
-    let cs = map (content_by (settled y)) xs in
-    let es = map (content_by (settled y)) ys in
-    let there = sym (resolved_is y ys) ∙ is in
-    let same : es ≡ ds = found_is (verdict y ys) es ds said there in
-    let whole : unless_faulty (verdict y ys) ds ≡ record { found = Ok ds; warned = said } = subst (λ (ds' : List Content). unless_faulty (verdict y ys) ds' ≡ record { found = Ok ds; warned = said }) same there in
-    record {
-      contents = cs;
-      is =
-          resolved_is y xs
-          ∙ ap (λ ws. unless_faulty (resolved y (map waits ws)) cs) alike.waiting
-          ∙ faulty_or (verdict y ys) cs ds said whole;
-      by = refl;
-      alike = subst (λ (ds' : List Content). AreAlike cs ds') same (alike.contents (settled y));
-    }
-
--- where some have a fault, alike slots have the same behind the same
-faulty_same : (r : Finished Content) (cs ds : List Content) (f : PlacedFault) (said : List ℕ) → unless_faulty r ds ≡ record { found = Err f; warned = said } → unless_faulty r cs ≡ record { found = Err f; warned = said }
-faulty_same r cs ds f said e = grind (arith, common_steps)
-
-pub faulty_alike : (y : Symbols) (xs ys : List Slot) (f : PlacedFault) (said : List ℕ) → AreSlotsAlike xs ys → resolved y ys ≡ record { found = Err f; warned = said } → resolved y xs ≡ record { found = Err f; warned = said }
-faulty_alike y xs ys f said alike is =
-    let cs = map (content_by (settled y)) xs in
-    let es = map (content_by (settled y)) ys in
-    resolved_is y xs
-    ∙ ap (λ ws. unless_faulty (resolved y (map waits ws)) cs) alike.waiting
-    ∙ faulty_same (verdict y ys) cs es f said (sym (resolved_is y ys) ∙ is)
+-- the same fault
+pub faulty_alike : (y : Symbols) (names : List (List ℕ)) (xs ys : List Slot) (f : PlacedFault) (said : List ℕ) → AreSlotsAlike xs ys → resolved y names ys ≡ record { found = Err f; warned = said } → resolved y names xs ≡ record { found = Err f; warned = said }
+faulty_alike y names xs ys f said alike is =
+    let come : ComeAlike (resolved y names xs) (record { found = Err f; warned = said }) = subst (λ (b : Finished). ComeAlike (resolved y names xs) b) is (alike.come y names) in
+    by (resolved y names xs).found refl come.found come.warned
+  where
+    by : (r : Result (List Content) PlacedFault) → (resolved y names xs).found ≡ r → AreFoundAlike r (Err f) → (resolved y names xs).warned ≡ said → resolved y names xs ≡ record { found = Err f; warned = said }
+    by (Ok cs) found h warned = absurd h
+    by (Err e) found h warned =
+        let lost : PlacedFault → List ℕ → Finished = λ g w. record { found = Err g; warned = w } in
+        (λ n. record { found = found n; warned = warned n }) ∙ ap (λ g. lost g said) h

@@ -4,7 +4,7 @@ use Rattle.std.proofs.Common.{◌≡◌, ◌∙◌, ℕ, ◌+◌, true, false, n
 use Rattle.std.specs.Prelude.{if◌then◌else◌, IfSome}
 use Rattle.std.specs.List.{list_any}
 use Rattle.std.proofs.lemmas.List.{map-append}
-use Rattle.semantics65.specs.Contents.{Content, Known, Filled, asking, put, telling}
+use Rattle.semantics65.specs.Contents.{Content, Known, Filled, asking, put}
 use Rattle.semantics65.specs.Module.{Slot, holds}
 use Rattle.semantics65.specs.Numbering.{once, section_keys}
 use Rattle.emit65.specs.declared.entries.Entries.{Entries}
@@ -13,7 +13,7 @@ use Rattle.emit65.specs.declared.entries.Entry.TheVariants.{Bytes, Room}
 use Rattle.emit65.specs.declared.files.Files.{Files}
 use Rattle.emit65.specs.declared.sections.Closed.{Closed}
 use Rattle.emit65.specs.declared.sections.Sections.{Sections}
-use Rattle.emit65.specs.Fed.{AreAlike, AreSlotsAlike, content_by, contents_so_far, slot_of, slots_in, stands_in, Begins, HasSlots, IsAdded, StandIn, Stands, TakesIn, growing, names_in}
+use Rattle.emit65.specs.Fed.{AreAlike, AreSlotsAlike, contents_so_far, slot_of, slots_in, so_far, stands_in, Begins, HasSlots, IsAdded, StandIn, Stands, TakesIn, growing, names_in}
 use Rattle.emit65.proofs.Alikes.{alike_back, alike_front, alike_nothing, alike_sym, alike_trans, bytes_alike, empty_alike, no_bytes_alike, no_room_alike, room_alike}
 use Rattle.emit65.proofs.Grown.{begins_long, slots_grown, standing_grown, standing_more}
 use Rattle.emit65.proofs.Slots.{asked_more, asked_same, held_alike, slots_back, slots_front, slots_nothing, slots_same, slots_sym, slots_trans}
@@ -224,8 +224,8 @@ same_latest : (s t : Sections) → t.asked.keys ≡ s.asked.keys → t.latest �
 same_latest s t keys latest h = grind (arith, common_steps)
 
 -- one more slot
-so_far_more : (xs : List Slot) (x : Slot) → contents_so_far (xs ++ x ∷ []) ≡ contents_so_far xs ++ content_by (λ w. telling []) x ∷ []
-so_far_more xs x = map-append (content_by (λ w. telling [])) xs (x ∷ [])
+so_far_more : (xs : List Slot) (x : Slot) → contents_so_far (xs ++ x ∷ []) ≡ contents_so_far xs ++ so_far x ∷ []
+so_far_more xs x = map-append so_far xs (x ∷ [])
 
 -- where there are more files, entries have the slots that they had
 slots_still : (old new : List (List ℕ)) (t : Entries) → Begins old new → StandIn (length old) t.done.items → slots_in old t ≡ slots_in new t
@@ -243,9 +243,9 @@ pub begins_same : (names : List (List ℕ)) → Begins names names
 begins_same names = ([], sym (append-nil names))
 
 -- one more slot that asks for no section
-pub stands_taken : (s t : Sections) (x : Slot) (xs : List Slot) → (content_by (λ w. telling []) x).asks ≡ false → t.asked.keys ≡ s.asked.keys → t.latest ≡ s.latest → Begins (names_in s.files) (names_in t.files) → TakesIn (names_in t.files) s.entries t.entries (x ∷ []) → Stands xs s → Stands (xs ++ x ∷ []) t
+pub stands_taken : (s t : Sections) (x : Slot) (xs : List Slot) → (so_far x).asks ≡ false → t.asked.keys ≡ s.asked.keys → t.latest ≡ s.latest → Begins (names_in s.files) (names_in t.files) → TakesIn (names_in t.files) s.entries t.entries (x ∷ []) → Stands xs s → Stands (xs ++ x ∷ []) t
 stands_taken s t x xs quiet keys latest begins taken h = record {
-  asked = ap section_keys (so_far_more xs x) ∙ asked_same (contents_so_far xs) (content_by (λ w. telling []) x) quiet ∙ h.asked ∙ sym keys;
+  asked = ap section_keys (so_far_more xs x) ∙ asked_same (contents_so_far xs) (so_far x) quiet ∙ h.asked ∙ sym keys;
   latest = same_latest s t keys latest h.latest;
   alike =
       let files = names_in t.files in
@@ -255,7 +255,7 @@ stands_taken s t x xs quiet keys latest begins taken h = record {
 }
 
 -- an entry that is this slot
-pub stands_put : (s t : Sections) (e : Entry) (x : Slot) (xs : List Slot) → (content_by (λ w. telling []) x).asks ≡ false → t.asked.keys ≡ s.asked.keys → t.latest ≡ s.latest → Begins (names_in s.files) (names_in t.files) → slot_of (names_in t.files) e ≡ x → TakesIn (names_in t.files) s.entries t.entries (slot_of (names_in t.files) e ∷ []) → Stands xs s → Stands (xs ++ x ∷ []) t
+pub stands_put : (s t : Sections) (e : Entry) (x : Slot) (xs : List Slot) → (so_far x).asks ≡ false → t.asked.keys ≡ s.asked.keys → t.latest ≡ s.latest → Begins (names_in s.files) (names_in t.files) → slot_of (names_in t.files) e ≡ x → TakesIn (names_in t.files) s.entries t.entries (slot_of (names_in t.files) e ∷ []) → Stands xs s → Stands (xs ++ x ∷ []) t
 stands_put s t e x xs quiet keys latest begins is taken h =
     stands_taken s t x xs quiet keys latest begins (subst (λ (y : Slot). TakesIn (names_in t.files) s.entries t.entries (y ∷ [])) is taken) h
 

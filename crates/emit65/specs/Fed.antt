@@ -1,5 +1,5 @@
 -- What sections are fed with, and what stands in them.
-use Rattle.std.specs.Prelude.{◌≡◌, ℕ, nat_lt, Bool, true, if◌then◌else◌, List, [], ◌∷◌, ◌++◌, map, Some, nat_eq, length, string_bytes, IfSome}
+use Rattle.std.specs.Prelude.{◌≡◌, ℕ, nat_lt, Bool, true, if◌then◌else◌, List, [], ◌∷◌, ◌++◌, map, Some, nat_eq, length, string_bytes, IfSome, Result, Ok, Err}
 use Rattle.std.specs.List.{flat_map, list_all, list_any}
 use Rattle.std.specs.Global.{Vec}
 use Rattle.indexmap.specs.IndexSet.{IndexSet}
@@ -7,10 +7,11 @@ use Rattle.syntax65.specs.declared.place.Place.{Place}
 use Rattle.object65.specs.declared.object.Fragment.{Fragment}
 use Rattle.object65.specs.declared.object.Origin.{Origin}
 use Rattle.semantics65.specs.Contents.{Content, Filled, Known, Waiting, asking, put, telling}
-use Rattle.semantics65.specs.Machine as machine
-use Rattle.semantics65.specs.Module.{Slot, holds, waits}
+use Rattle.semantics65.specs.Module.{Finished, Slot, holds, resolved, waits}
 use Rattle.semantics65.specs.Module as piece
 use Rattle.semantics65.specs.Numbering.{all_joined, all_said, content_imports, fragments_of, name_of, part_files, parts_in, section_keys}
+use Rattle.semantics65.specs.Reading.{PlacedFault}
+use Rattle.semantics65.specs.Symbols.{Symbols}
 use Rattle.semantics65.specs.Views.{place_in, said_at}
 use Rattle.semantics65.specs.declared.laid.Context.{Context}
 use Rattle.emit65.specs.declared.entries.Entry.{Entry}
@@ -52,26 +53,29 @@ pub record AreAlike (cs ds : List Content) : Type 0 where
 
 -- ---- Slots that differ for no object.
 
--- the content of a slot, where what waits comes to these
-abbrev pub content_by : (machine.Fixup → Content) → Slot → Content
-content_by comes (holds c) = c
-content_by comes (waits w) = comes w
+-- what a slot holds, nothing so far where it waits
+abbrev pub so_far : Slot → Content
+so_far (holds c) = c
+so_far (waits w) = telling []
 
--- nothing so far of what waits
 abbrev pub contents_so_far : List Slot → List Content
-contents_so_far xs = map (content_by (λ w. telling [])) xs
+contents_so_far xs = map so_far xs
 
--- what waits, in the order of the source
-abbrev pub waiting_in : List Slot → List machine.Fixup
-waiting_in [] = []
-waiting_in (holds c ∷ xs) = waiting_in xs
-waiting_in (waits w ∷ xs) = w ∷ waiting_in xs
+-- alike contents, or the same fault
+abbrev pub AreFoundAlike : (a b : Result (List Content) PlacedFault) → Type 0
+AreFoundAlike (Ok cs) (Ok ds) = AreAlike cs ds
+AreFoundAlike (Err e) (Err f) = e ≡ f
+AreFoundAlike a b = ⊥
 
--- The same waits, and whatever it comes to, the contents are alike.
+-- with the same warnings
+pub record ComeAlike (a b : Finished) : Type 0 where
+  pub found : AreFoundAlike a.found b.found
+  pub warned : a.warned ≡ b.warned
+
+-- What they hold is alike, and so is what they come to, by any symbol table and behind exports of any names.
 pub record AreSlotsAlike (xs ys : List Slot) : Type 0 where
-  pub waiting : waiting_in xs ≡ waiting_in ys
-  pub contents : (comes : machine.Fixup → Content) →
-      AreAlike (map (content_by comes) xs) (map (content_by comes) ys)
+  pub held : AreAlike (contents_so_far xs) (contents_so_far ys)
+  pub come : (y : Symbols) (names : List (List ℕ)) → ComeAlike (resolved y names xs) (resolved y names ys)
 
 -- ---- Entries, of which some wait.
 
@@ -98,7 +102,7 @@ abbrev pub waiting : Place → Context → Piece → Slot
 waiting place s p = waits (record { place = place; context = s; piece = piece_of p })
 
 -- as an entry has it, in one of these files
-abbrev pub fixup_of : List (List ℕ) → Fixup → machine.Fixup
+abbrev pub fixup_of : List (List ℕ) → Fixup → piece.Fixup
 fixup_of files w = record {
   place = place_by files w.pos;
   context = w.context;

@@ -138,7 +138,7 @@ pub fn object_of(
         sections: asked,
         imports: import_keys(alloc, imports, entries.as_slice())?,
     };
-    let (exports, asserts) = declared_by(alloc, *imports.hasher(), &numbers, entries.as_slice())?;
+    let (exports, asserts) = declared_by(alloc, &numbers, entries.as_slice())?;
     let drafts = filled(alloc, &numbers, entries)?;
     Ok(Object {
         version: 2,

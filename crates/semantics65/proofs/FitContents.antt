@@ -18,8 +18,8 @@ use Rattle.ast65.specs.declared.fault.AsmFault.{AsmFault}
 use Rattle.ast65.specs.declared.language.Operand.{Operand}
 use Rattle.ast65.specs.declared.language.Statement.{Statement}
 use Rattle.ast65.specs.declared.language.Statement.TheVariants.{Constant, Instruction, Values, Import, Export, Global, ForceImport}
-use Rattle.semantics65.specs.Contents.{asking, Content, decided, Declaration, Exported, ForcedImport, Asserted, export_said, import_fault, Known, Filled, Waiting, opcode_part, operand_form, operand_tree, Part, stored, telling, written}
-use Rattle.semantics65.specs.Module.{absent_of, as_part, as_said, asserted, coming, datum, demanded, equated, exported, exported_names, Finished, Fixup, followed_by, given, holds, imported, instruction_pieces, item_piece, Made, made_of, operand, operand_pieces, Piece, pieces_of, Purpose, resolved, Slot, slots_of, used, valued, waiting_at, waits}
+use Rattle.semantics65.specs.Contents.{asking, Content, decided, Declaration, Exported, ForcedImport, Asserted, export_said, import_fault, Known, Filled, Waiting, opcode_part, operand_form, operand_tree, Part, stored, telling, written, exported_names}
+use Rattle.semantics65.specs.Module.{absent_of, as_part, as_said, asserted, coming, datum, demanded, equated, exported, Finished, Fixup, followed_by, given, holds, imported, instruction_pieces, item_piece, Made, made_of, operand, operand_pieces, Piece, pieces_of, Purpose, resolved, Slot, slots_of, used, valued, waiting_at, waits}
 use Rattle.semantics65.specs.Norms.{defined_form, norm_of, width_of}
 use Rattle.semantics65.specs.Numbering.{segments_asked}
 use Rattle.semantics65.specs.Reading.{at_place, PlacedFault}
@@ -165,7 +165,7 @@ asking_count (x ∷ xs) = counted (asks x) + asking_count xs
 -- ---- What slots come to.
 
 -- what follows something that was made
-followed_fit : (P : Made → Type 0) (Q : List Content → Type 0) (r : Result Made PlacedFault) (rest : Made → Finished Content) → IfOk r P → ((m : Made) → P m → IfOk ((rest m).found >>= (λ cs. Ok (m.content ∷ cs))) Q) → IfOk (followed_by r rest).found Q
+followed_fit : (P : Made → Type 0) (Q : List Content → Type 0) (r : Result Made PlacedFault) (rest : Made → Finished) → IfOk r P → ((m : Made) → P m → IfOk ((rest m).found >>= (λ cs. Ok (m.content ∷ cs))) Q) → IfOk (followed_by r rest).found Q
 followed_fit P Q (Ok m) rest h k = k m h
 followed_fit P Q (Err e) rest h k = tt
 

@@ -1,7 +1,7 @@
 -- The object of contents has numbers of its types, where these have, and it names no more than this many files, sections and imports.
-use Rattle.std.proofs.Common.{arith, ◌≡◌, ℕ, ◌+◌, ◌<◌, ◌≤◌, Bool, true, false, not, cond, List, [], ◌∷◌, ◌++◌, length, map, Option, Some, None, refl, nat_eq, if◌then◌else◌}
+use Rattle.std.proofs.Common.{arith, ◌≡◌, ℕ, ◌+◌, ◌<◌, ◌≤◌, Bool, true, false, not, cond, List, [], ◌∷◌, ◌++◌, length, map, Option, Some, None, refl, nat_eq}
 use Rattle.std.specs.Prelude.{⊤, IfSome, filter_map, sum_by, unwrap_or}
-use Rattle.std.specs.List.{AllByRecursion, filter, flat_map, list_any, position}
+use Rattle.std.specs.List.{AllByRecursion, filter, flat_map, position}
 use Rattle.std.specs.Str.{bytes_eq, is_utf8}
 use Rattle.std.proofs.lemmas.List.Sums.{sum_by-cons}
 use Rattle.syntax65.specs.declared.place.Place.{Place}
@@ -14,7 +14,7 @@ use Rattle.object65.specs.declared.object.Fragment.TheVariants.{Literal, Fill, V
 use Rattle.object65.specs.declared.object.Origin.{Origin}
 use Rattle.object65.specs.declared.object.Section.{Section}
 use Rattle.semantics65.specs.Contents.{Content, Declaration, Exported, ForcedImport, Asserted, Part, Known, Filled, Waiting}
-use Rattle.semantics65.specs.Numbering.{all_joined, all_said, assert_files, assert_of, content_imports, export_files, exports_among, files_named, files_of, fragment_of, fragments_of, import_keys, imports_in, in_files, is_empty, joined, key_of, number_of, numbered, object_with, optional_key, part_files, part_imports, part_len, parts_in, said_imports, section_keys, section_of, segments_asked}
+use Rattle.semantics65.specs.Numbering.{all_joined, all_said, assert_files, assert_of, content_imports, export_files, export_of, files_named, files_of, fragment_of, fragments_of, import_keys, imports_in, in_files, is_empty, joined, key_of, number_of, numbered, object_with, optional_key, part_files, part_imports, part_len, parts_in, said_imports, section_keys, section_of, segments_asked}
 use Rattle.semantics65.specs.declared.contents.Segment.{Segment}
 use Rattle.semantics65.proofs.FitContents.{IsAmong, IsContentFit, IsPartFit, IsSaidFit, IsWritten, flat_all}
 use Rattle.semantics65.proofs.FitForms.{IsBounded, position_below}
@@ -93,15 +93,10 @@ module _ (files : List (List ℕ)) (names : List (List ℕ)) where
   part_names (Filled n) h = tt
   part_names (Waiting width place f) h = (written_name place f h, tt)
 
-  export_names : (found : List (List ℕ)) (ss : List Declaration) → AllByRecursion IsSaid ss → AllByRecursion IsName (export_files found ss)
-  export_names found [] h = tt
-  export_names found (Exported n place f ∷ ss) h = by (list_any (bytes_eq n) found) (export_names found ss h.1) (export_names (found ++ n ∷ []) ss h.1)
-    where
-      by : (b : Bool) → AllByRecursion IsName (export_files found ss) → AllByRecursion IsName (export_files (found ++ n ∷ []) ss) → AllByRecursion IsName (if b then export_files found ss else place.file ∷ export_files (found ++ n ∷ []) ss)
-      by true old new = old
-      by false old new = (written_name place f h.0, new)
-  export_names found (ForcedImport n ∷ ss) h = export_names found ss h.1
-  export_names found (Asserted act place words f ∷ ss) h = export_names found ss h.1
+  export_names : (d : Declaration) → IsSaid d → AllByRecursion IsName (export_files d)
+  export_names (Exported n place f) h = (written_name place f h, tt)
+  export_names (ForcedImport n) h = tt
+  export_names (Asserted act place words f) h = tt
 
   assert_names : (d : Declaration) → IsSaid d → AllByRecursion IsName (assert_files d)
   assert_names (Exported n place f) h = tt
@@ -114,10 +109,10 @@ module _ (files : List (List ℕ)) (names : List (List ℕ)) where
 
   named_all : (cs : List Content) → AllByRecursion IsContent cs → AllByRecursion IsName (files_named cs)
   named_all cs h =
-      all_append IsName (flat_map (λ g. flat_map part_files (parts_in cs g)) (section_keys cs) ++ export_files [] (all_said cs)) (flat_map assert_files (all_said cs))
-      (all_append IsName (flat_map (λ g. flat_map part_files (parts_in cs g)) (section_keys cs)) (export_files [] (all_said cs))
+      all_append IsName (flat_map (λ g. flat_map part_files (parts_in cs g)) (section_keys cs) ++ flat_map export_files (all_said cs)) (flat_map assert_files (all_said cs))
+      (all_append IsName (flat_map (λ g. flat_map part_files (parts_in cs g)) (section_keys cs)) (flat_map export_files (all_said cs))
       (flat_all (λ (k : ℕ). ⊤) IsName (λ g. flat_map part_files (parts_in cs g)) (λ g u. flat_all IsPart IsName part_files part_names (parts_in cs g) (parts_all cs g h)) (section_keys cs) (any_keys (section_keys cs)))
-      (export_names [] (all_said cs) (said_all cs h)))
+      (flat_all IsSaid IsName export_files export_names (all_said cs) (said_all cs h)))
       (flat_all IsSaid IsName assert_files assert_names (all_said cs) (said_all cs h))
 
   only_first : (ns : List (List ℕ)) → AllByRecursion IsName ns → AllByRecursion (λ n. is_utf8 n ≡ true) ns
@@ -234,19 +229,11 @@ module _ (files : List (List ℕ)) (names : List (List ℕ)) where
       abbrev IsExport : Export → Type 0
       IsExport e = OriginFits e.origin × FitsBits e.form
 
-      exports_fit : (found : List Export) (ss : List Declaration) → AllByRecursion IsExport found → AllByRecursion IsSaid ss → AllByRecursion IsExport (exports_among at sections imports found ss)
-      exports_fit found [] h said = h
-      exports_fit found (Exported n place f ∷ ss) h said =
-          exports_fit (if list_any (λ e. bytes_eq n e.name) found then found else found ++ made ∷ []) ss (by (list_any (λ e. bytes_eq n e.name) found)) said.1
-        where
-          made : Export
-          made = record { name = n; origin = at place; form = numbered sections imports f }
-
-          by : (b : Bool) → AllByRecursion IsExport (if b then found else found ++ made ∷ [])
-          by true = h
-          by false = all_append IsExport found (made ∷ []) h ((origin_fits place said.0.place.1, numbered_fits f said.0.form), tt)
-      exports_fit found (ForcedImport n ∷ ss) h said = exports_fit found ss h said.1
-      exports_fit found (Asserted act place words f ∷ ss) h said = exports_fit found ss h said.1
+      exports_fit : (ss : List Declaration) → AllByRecursion IsSaid ss → AllByRecursion IsExport (filter_map (export_of at sections imports) ss)
+      exports_fit [] said = tt
+      exports_fit (Exported n place f ∷ ss) said = ((origin_fits place said.0.place.1, numbered_fits f said.0.form), exports_fit ss said.1)
+      exports_fit (ForcedImport n ∷ ss) said = exports_fit ss said.1
+      exports_fit (Asserted act place words f ∷ ss) said = exports_fit ss said.1
 
       abbrev IsAssert : Assert → Type 0
       IsAssert a = OriginFits a.origin × FitsBits a.form
@@ -273,6 +260,6 @@ module _ (files : List (List ℕ)) (names : List (List ℕ)) where
       record {
         files = files_text cs h;
         sections = sections_fit (section_keys cs) (import_keys names cs) some_sections some_imports (files_of cs) some_files segments cs h room (section_keys cs);
-        exports = exports_fit (section_keys cs) (import_keys names cs) some_sections some_imports (files_of cs) some_files [] (all_said cs) tt (said_all cs h);
+        exports = exports_fit (section_keys cs) (import_keys names cs) some_sections some_imports (files_of cs) some_files (all_said cs) (said_all cs h);
         asserts = asserts_fit (section_keys cs) (import_keys names cs) some_sections some_imports (files_of cs) some_files (all_said cs) (said_all cs h);
       }

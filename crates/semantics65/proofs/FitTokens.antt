@@ -9,7 +9,6 @@ use Rattle.std.proofs.lemmas.Bool.Decides.{nat_tests}
 use Rattle.std.proofs.lemmas.List.{length-drop}
 use Rattle.base65.specs.Digit.{digits}
 use Rattle.base65.specs.Store.{Files}
-use Rattle.base65.specs.declared.values.Op1.TheVariants as one
 use Rattle.syntax65.specs.Expressions.{IsParsed, leaf_of, opening_at, opening_of, opening_of_mark, opening_of_word, text_at, Phrase, a_leaf, a_name, a_global, prefixed, enclosed, of_level, joined, negated}
 use Rattle.syntax65.specs.Forms.{IsForm, IsToken, number_of, plain_number_of, is_blank}
 use Rattle.syntax65.specs.Tokens.{IsRead, Lexeme, Reads, after_blanks}

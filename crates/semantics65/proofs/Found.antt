@@ -1,36 +1,39 @@
 -- What slots come to, one behind the other.
-use Rattle.std.proofs.Common.{◌≡◌, ◌∙◌, ℕ, List, [], ◌∷◌, ◌++◌, refl, sym, ap, subst, append_assoc, arith}
-use Rattle.std.specs.Prelude.{⊤, Result, Ok, Err}
+use Rattle.std.proofs.Common.{◌≡◌, ◌∙◌, ℕ, List, [], ◌∷◌, ◌++◌, map, refl, sym, ap, subst, append_assoc, arith}
+use Rattle.std.specs.Prelude.{⊤, filter_map, Result, Ok, Err}
 use Rattle.std.specs.List.{AllByRecursion}
 use Rattle.std.proofs.lemmas.Grind.{common_steps}
 use Rattle.std.proofs.lemmas.List.{append-nil}
 use Rattle.std.proofs.lemmas.List.Elements.{filter_map-append}
 use Rattle.base65.specs.Outcome.{◌>>=◌}
-use Rattle.semantics65.specs.Contents.{Content, Declaration}
-use Rattle.semantics65.specs.Module.{Finished, Made, Slot, coming, exported_name, exported_names, followed_by, resolved}
-use Rattle.semantics65.specs.Numbering.{all_said}
+use Rattle.syntax65.specs.declared.place.Place.{Place}
+use Rattle.object65.specs.declared.object.Export.{Export}
+use Rattle.object65.specs.declared.object.Origin.{Origin}
+use Rattle.semantics65.specs.Contents.{Content, Declaration, Exported, ForcedImport, Asserted, exported_name, exported_names}
+use Rattle.semantics65.specs.Module.{Finished, Made, Slot, coming, followed_by, resolved}
+use Rattle.semantics65.specs.Numbering.{all_said, export_of}
 use Rattle.semantics65.specs.Reading.{PlacedFault}
 use Rattle.semantics65.specs.Symbols.{Symbols}
 
 -- ---- What was found behind what was found.
 
 -- these contents, and what was said
-abbrev pub found_all : List Content → List ℕ → Finished Content
+abbrev pub found_all : List Content → List ℕ → Finished
 found_all cs said = record { found = Ok cs; warned = said }
 
-abbrev pub after_found : Result (List Content) PlacedFault → List ℕ → Finished Content → Finished Content
+abbrev pub after_found : Result (List Content) PlacedFault → List ℕ → Finished → Finished
 after_found (Ok cs) said b = record { found = b.found >>= (λ ds. Ok (cs ++ ds)); warned = said ++ b.warned }
 after_found (Err e) said b = record { found = Err e; warned = said }
 
 -- the one and then the other
-abbrev pub after : Finished Content → Finished Content → Finished Content
+abbrev pub after : Finished → Finished → Finished
 after a b = after_found a.found a.warned b
 
 prepended : (r : Result (List Content) PlacedFault) → (r >>= (λ ds. Ok ([] ++ ds))) ≡ r
 prepended (Ok ds) = refl
 prepended (Err e) = refl
 
-pub nothing_after : (b : Finished Content) → after (found_all [] []) b ≡ b
+pub nothing_after : (b : Finished) → after (found_all [] []) b ≡ b
 nothing_after b = ap (λ r. record { found = r; warned = b.warned }) (prepended b.found)
 
 -- a slot more comes to a content
@@ -47,6 +50,13 @@ resolved_stops y names cs said x xs e made = grind (arith, common_steps, append-
 
 pub names_append : (ss ts : List Declaration) → exported_names (ss ++ ts) ≡ exported_names ss ++ exported_names ts
 names_append ss ts = filter_map-append exported_name ss ts
+
+-- the names of an object's exports are those that were said
+pub exports_named : (at : Place → Origin) (s i : List ℕ) (ss : List Declaration) → map (λ (e : Export). e.name) (filter_map (export_of at s i) ss) ≡ exported_names ss
+exports_named at s i [] = refl
+exports_named at s i (Exported n place f ∷ ss) = ap (λ ns. n ∷ ns) (exports_named at s i ss)
+exports_named at s i (ForcedImport n ∷ ss) = exports_named at s i ss
+exports_named at s i (Asserted act place words f ∷ ss) = exports_named at s i ss
 
 -- ---- Contents, each with its slot.
 

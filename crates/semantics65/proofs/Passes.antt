@@ -5,7 +5,7 @@ use Rattle.std.specs.Prelude.{⊤, Bool, true, false, Result, Ok, Err, if◌then
 use Rattle.std.specs.List.{flat_map}
 use Rattle.std.proofs.lemmas.List.{append-nil}
 use Rattle.base65.specs.Outcome.{◌>>=◌}
-use Rattle.semantics65.specs.Contents.{Content, asking}
+use Rattle.semantics65.specs.Contents.{asking, exported_names}
 use Rattle.ast65.specs.declared.fault.AsmFault.{AsmFault}
 use Rattle.ast65.specs.declared.language.Statement.{Statement}
 use Rattle.syntax65.specs.declared.place.Place.{Place}
@@ -16,7 +16,7 @@ use Rattle.semantics65.specs.Numbering.{object_with}
 use Rattle.semantics65.specs.Machine.{LaidRuns, OnePass, RunsLaid, StandsFor, Puts, at_once, later, PutsAll, State, Steps, Takes, UnlessFault, asked, awaiting, begun, concluded, entered, known, running}
 use Rattle.semantics65.specs.Reading.{IsLaid, laying, PlacedFault}
 use Rattle.semantics65.specs.Norms.{Extends}
-use Rattle.semantics65.specs.Module.{Outcome, outcome_of, printed, warned, Made, Piece, pieces_of, Finished, Slot, holds, waits, coming, ending_of, exported_names, followed_by, resolved, slots_of}
+use Rattle.semantics65.specs.Module.{Outcome, outcome_of, printed, warned, Made, Piece, pieces_of, Finished, Slot, holds, waits, coming, ending_of, followed_by, resolved, slots_of}
 use Rattle.semantics65.proofs.Resolving.{extends_behind, extends_same, extends_then, flat_push, symbols_push}
 use Rattle.semantics65.proofs.OneLayouts.{Matches, Simulates, StandIn, source_matches}
 
@@ -44,8 +44,8 @@ same_later y z more [] (b ∷ ys) h = absurd h
 same_later y z more (a ∷ xs) [] h = absurd h
 same_later y z more (a ∷ xs) (b ∷ ys) (one, h) = ((λ x names e. one x names (extends_then y z x more e)), same_later y z more xs ys h)
 
-same_behind : (r : Result Made PlacedFault) (f g : Made → Finished Content) → ((m : Made) → f m ≡ g m) → followed_by r f ≡ followed_by r g
-same_behind (Ok m) f g same = ap (λ (a : Finished Content). record { found = a.found >>= (λ cs. Ok (m.content ∷ cs)); warned = m.warning ++ a.warned }) (same m)
+same_behind : (r : Result Made PlacedFault) (f g : Made → Finished) → ((m : Made) → f m ≡ g m) → followed_by r f ≡ followed_by r g
+same_behind (Ok m) f g same = ap (λ (a : Finished). record { found = a.found >>= (λ cs. Ok (m.content ∷ cs)); warned = m.warning ++ a.warned }) (same m)
 same_behind (Err e) f g same = refl
 
 resolved_same : (y z : Symbols) → Extends y z → (names : List (List ℕ)) (xs ys : List Slot) → AreSame y xs ys → resolved z names xs ≡ resolved z names ys
@@ -176,7 +176,7 @@ runs_laid m job r runs =
 -- ---- What is answered.
 
 -- what is answered, by what stands behind the last line
-abbrev answered : Symbols → Cursor → Finished Content → (out err : List ℕ) → Outcome
+abbrev answered : Symbols → Cursor → Finished → (out err : List ℕ) → Outcome
 answered z w f out err = record { result = f.found >>= (λ cs. Ok (object_with w.segments z.imports cs)); out = out; err = err ++ f.warned }
 
 concluded_for : (y : Layout) (t : State) (fault : Option PlacedFault) → StandsFor y t → concluded t fault ≡ outcome_of y fault

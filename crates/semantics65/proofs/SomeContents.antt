@@ -14,10 +14,10 @@ use Rattle.object65.specs.declared.object.Width.{Width}
 use Rattle.object65.specs.declared.object.Width.TheVariants.{Branch}
 use Rattle.object65.proofs.SomeObject.{some_fold}
 use Rattle.ast65.specs.Faults.{is_outside}
-use Rattle.semantics65.specs.Contents.{Content, decided, Declaration, export_said, import_fault, operand_form, stored, written}
+use Rattle.semantics65.specs.Contents.{decided, Declaration, export_said, import_fault, operand_form, stored, written, exported_names}
 use Rattle.semantics65.specs.Laws.{is_found_outside}
 use Rattle.semantics65.specs.Layout.{Layout}
-use Rattle.semantics65.specs.Module.{absent_of, asserted, coming, datum, demanded, ending_of, equated, exported, exported_names, Finished, followed_by, given, holds, imported, is_repeated, Made, made_of, object_of, operand, outcome_of, Piece, Purpose, resolved, Slot, slots_of, used, valued, waits}
+use Rattle.semantics65.specs.Module.{absent_of, asserted, coming, datum, demanded, ending_of, equated, exported, Finished, followed_by, given, holds, imported, is_repeated, Made, made_of, object_of, operand, outcome_of, Piece, Purpose, resolved, Slot, slots_of, used, valued, waits}
 use Rattle.semantics65.specs.Norms.{defined_form, norm_of}
 use Rattle.semantics65.specs.Reading.{at_place, PlacedFault}
 use Rattle.semantics65.specs.Symbols.{defined, named, Symbols, symbols_of}
@@ -86,7 +86,7 @@ coming_own y names (holds c) = good _
 coming_own y names (waits w) =
     placed_own w.place _ (choice (is_repeated names w.piece) _ _ (good _) (made_own y w.place w.context w.piece))
 
-followed_own : (r : Result Made PlacedFault) (rest : Made → Finished Content) → Own is_found_outside r → ((m : Made) → Own is_found_outside (rest m).found) → Own is_found_outside (followed_by r rest).found
+followed_own : (r : Result Made PlacedFault) (rest : Made → Finished) → Own is_found_outside r → ((m : Made) → Own is_found_outside (rest m).found) → Own is_found_outside (followed_by r rest).found
 followed_own (Ok m) rest h k = next (rest m).found _ (k m) (λ cs. good _)
 followed_own (Err e) rest h k = bad e h.own
 

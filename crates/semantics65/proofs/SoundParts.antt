@@ -17,7 +17,7 @@ use Rattle.syntax65.specs.declared.lexing.tokens.AddressSize.{AddressSize}
 use Rattle.object65.specs.Form.{Form, lit, sec, imp, prefix, binary}
 use Rattle.object65.specs.Objects.{is_file_name, value_bytes, width_len}
 use Rattle.object65.specs.declared.object.Width.{Width}
-use Rattle.semantics65.specs.Contents.{Content, Declaration, ForcedImport, Part, Waiting, asking, decided, export_said, file_bytes, import_fault, opcode_part, operand_form, operand_tree, put, room_part, stored, telling, written}
+use Rattle.semantics65.specs.Contents.{Content, Declaration, ForcedImport, Part, Waiting, asking, decided, export_said, file_bytes, import_fault, opcode_part, operand_form, operand_tree, put, room_part, stored, telling, written, exported_names}
 use Rattle.syntax65.specs.declared.place.Place.{Place}
 use Rattle.semantics65.specs.Symbols.{Laid, asks_section, defined, has_here, named, Symbols}
 use Rattle.semantics65.specs.declared.laid.Settled.TheVariants.{FromByte}
@@ -30,7 +30,7 @@ use Rattle.ast65.specs.declared.language.Statement.TheVariants.{Constant, Instru
 use Rattle.ast65.specs.declared.language.Operand.TheVariants as operand
 use Rattle.ast65.specs.declared.language.Item.TheVariants.{Value, Text}
 use Rattle.ast65.specs.declared.language.Index.{Index}
-use Rattle.semantics65.specs.Module.{Made, Piece, absent_of, as_part, as_said, asserted, coming, datum, demanded, equated, exported, exported_names, failed, given, holds, imported, instruction_pieces, item_piece, made_of, operand_pieces, pieces_of, quietly, slots_of, used, valued, waiting_at, waits}
+use Rattle.semantics65.specs.Module.{Made, Piece, absent_of, as_part, as_said, asserted, coming, datum, demanded, equated, exported, failed, given, holds, imported, instruction_pieces, item_piece, made_of, operand_pieces, pieces_of, quietly, slots_of, used, valued, waiting_at, waits}
 use Rattle.semantics65.specs.Module as purpose
 use Rattle.semantics65.specs.Norms.{norm_of, address_mode, branch_mode, bytes_between, fill_settled, first_of, is_branch, item_len, length_of, mode_len, mode_of, mode_settled, operand_len, part_len as file_len, part_start, settled_of, size_of, width_of}
 use Rattle.semantics65.specs.Numbering.{imports_in, IsMeasured, IsSoundAt, IsSoundForm, part_len, parts_in, sections_in}
@@ -158,7 +158,7 @@ made_long y place s (imported n) = said_long s.segment (import_fault y n)
 made_long y place s (demanded n) = told_long s.segment (ForcedImport n ∷ [])
 made_long y place s (exported must n) = said_long s.segment (export_said y place n (absent_of must n) (defined y (named 0 n)))
 
-placed_ok : {A : Type 0} (P : A → Type 0) (place : Place) (r : Result A AsmFault) → IfOk r P → IfOk (at_place place r) P
+pub placed_ok : {A : Type 0} (P : A → Type 0) (place : Place) (r : Result A AsmFault) → IfOk r P → IfOk (at_place place r) P
 placed_ok P place (Ok x) h = h
 placed_ok P place (Err e) h = tt
 

@@ -1,5 +1,5 @@
 -- What statements put into an object.
-use Rattle.std.specs.Prelude.{ℕ, Bool, List, zero, ◌+◌, pos, true, false, [], ◌∷◌, replicate, take, drop, Option, Some, None, Result, Ok, Err, if◌then◌else◌}
+use Rattle.std.specs.Prelude.{ℕ, Bool, List, zero, ◌+◌, pos, true, false, [], ◌∷◌, filter_map, replicate, take, drop, Option, Some, None, Result, Ok, Err, if◌then◌else◌}
 use Rattle.semantics65.specs.Types.{Place, Action, Width, Branch, AsmFault, OutOfRange, ImportedAndDefined, Assertion, FileNameTooLong, Operand, Immediate, Address, Indirect, IndirectX, IndirectY, Settled, FilledWith, FromByte, Context}
 use Rattle.object65.specs.Form.{Form, lit, sec}
 use Rattle.base65.specs.Outcome.{◌>>=◌}
@@ -30,6 +30,14 @@ pub data Declaration : Type 0 where
   ForcedImport : List ℕ → Declaration
   -- what the linker has to check, and the text that is printed otherwise
   Asserted : Action → Place → List ℕ → Form → Declaration
+
+abbrev pub exported_name : Declaration → Option (List ℕ)
+exported_name (Exported n place f) = Some n
+exported_name s = None
+
+-- the names that are exported among what is said
+abbrev pub exported_names : List Declaration → List (List ℕ)
+exported_names ss = filter_map exported_name ss
 
 -- a piece of a statement as the object has it
 pub record Content : Type 0 where

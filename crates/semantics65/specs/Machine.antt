@@ -108,7 +108,7 @@ Runs m job r = IsSource m running job begun r
 -- ---- Behind the last line.
 
 -- what a state comes to behind the last line
-abbrev pub finished : State → Finished Content
+abbrev pub finished : State → Finished
 finished t = resolved t.symbols [] t.slots
 
 -- what is answered behind the last line, or at a line's fault

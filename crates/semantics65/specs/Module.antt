@@ -1,5 +1,5 @@
 -- The object of a module, piece by piece.
-use Rattle.std.specs.Prelude.{◌≡◌, ℕ, zero, pos, Option, Some, None, Bool, true, false, List, [], ◌∷◌, ◌++◌, codes, decimal, filter_map, Result, Ok, Err, if◌then◌else◌, map}
+use Rattle.std.specs.Prelude.{◌≡◌, ℕ, zero, pos, Option, Some, None, Bool, true, false, List, [], ◌∷◌, ◌++◌, codes, decimal, Result, Ok, Err, if◌then◌else◌, map}
 use Rattle.std.specs.List.{flat_map, list_any}
 use Rattle.std.specs.Str.{bytes_eq}
 use Rattle.base65.specs.Outcome.{◌>>=◌}
@@ -7,7 +7,7 @@ use Rattle.base65.specs.Store.{Files}
 use Rattle.object65.specs.Form.{Form, lit}
 use Rattle.semantics65.specs.Types.{Action, Object, AsmFault, Place, Statement, Mnemonic, Width, NotDefined, Item, Operand, Constant, Instruction, Values, Reserve, Align, FilePart, Import, Export, Global, ForceImport, Assert, Value, Text, Settled, InMode, Context}
 use Rattle.object65.specs.declared.object.Action.TheVariants as action
-use Rattle.semantics65.specs.Contents.{Content, Part, Known, Declaration, Exported, ForcedImport, asking, put, telling, decided, export_said, file_bytes, import_fault, opcode_part, operand_form, operand_tree, room_part, stored}
+use Rattle.semantics65.specs.Contents.{Content, Part, Known, Declaration, ForcedImport, asking, put, telling, decided, export_said, exported_names, file_bytes, import_fault, opcode_part, operand_form, operand_tree, room_part, stored}
 use Rattle.semantics65.specs.Symbols.{Laid, Symbols, asks_section, symbols_of, defined, named}
 use Rattle.ast65.specs.declared.language.Statement.TheVariants as statement
 use Rattle.semantics65.specs.Layout.{Layout}
@@ -156,14 +156,6 @@ slots_of l =
     (if asks_section l.stated then holds (asking l.context.segment) ∷ [] else [])
     ++ map (waiting_at l) (pieces_of l.length l.settled l.stated)
 
-abbrev pub exported_name : Declaration → Option (List ℕ)
-exported_name (Exported n place f) = Some n
-exported_name s = None
-
--- the names that are exported among what is said
-abbrev pub exported_names : List Declaration → List (List ℕ)
-exported_names ss = filter_map exported_name ss
-
 -- an export of one of these names, which were exported before: it does nothing
 abbrev pub is_repeated : List (List ℕ) → Piece → Bool
 is_repeated names (exported must n) = list_any (bytes_eq n) names
@@ -176,18 +168,18 @@ coming y names (waits w) =
     at_place w.place (if is_repeated names w.piece then as_said [] else made_of y w.place w.context w.piece)
 
 -- what was found, or the first fault; and the warnings of assertions up to there
-pub record Finished (A : Type 0) : Type 0 where
-  pub found : Result (List A) PlacedFault
+pub record Finished : Type 0 where
+  pub found : Result (List Content) PlacedFault
   pub warned : List ℕ
 
 -- what was made, before what follows it; its fault ends all
-abbrev pub followed_by : Result Made PlacedFault → (Made → Finished Content) → Finished Content
+abbrev pub followed_by : Result Made PlacedFault → (Made → Finished) → Finished
 followed_by (Ok m) rest =
     record { found = (rest m).found >>= (λ cs. Ok (m.content ∷ cs)); warned = m.warning ++ (rest m).warned }
 followed_by (Err e) rest = record { found = Err e; warned = [] }
 
 -- slots are gone through once, in the order of the source, behind exports of these names
-abbrev pub resolved : Symbols → List (List ℕ) → List Slot → Finished Content
+abbrev pub resolved : Symbols → List (List ℕ) → List Slot → Finished
 resolved y names [] = record { found = Ok []; warned = [] }
 resolved y names (x ∷ slots) =
     followed_by (coming y names x) (λ m. resolved y (names ++ exported_names m.content.said) slots)
@@ -195,7 +187,7 @@ resolved y names (x ∷ slots) =
 -- ---- What a module comes to.
 
 -- what laid statements come to, by the symbol table of all
-abbrev pub ending_of : List Laid → Finished Content
+abbrev pub ending_of : List Laid → Finished
 ending_of ls = resolved (symbols_of ls) [] (flat_map slots_of ls)
 
 -- the object of laid statements

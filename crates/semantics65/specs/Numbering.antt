@@ -10,7 +10,7 @@ use Rattle.object65.specs.declared.object.Fragment.TheVariants.{Literal, Fill, V
 use Rattle.semantics65.specs.Types.{Object, Place, Segment, Statement}
 use Rattle.object65.specs.declared.object.Origin.{Origin}
 use Rattle.object65.specs.declared.object.Section.{Section}
-use Rattle.semantics65.specs.Contents.{Content, Part, Known, Filled, Waiting, Declaration, Exported, ForcedImport, Asserted}
+use Rattle.semantics65.specs.Contents.{Content, Part, Known, Filled, Waiting, Declaration, Exported, ForcedImport, Asserted, exported_names}
 use Rattle.semantics65.specs.Layout.{powers, Layout}
 use Rattle.syntax65.specs.Tokens.{Lexeme}
 use Rattle.syntax65.specs.declared.lexing.tokens.TokenKind.{TokenKind}
@@ -136,13 +136,11 @@ section_of at segments sections imports cs g = record {
   fragments = all_joined (fragments_of at sections imports (parts_in cs g));
 }
 
--- ---- Exports, each once, and assertions.
+-- ---- Exports and assertions.
 
-abbrev pub exports_among : (at : Place → Origin) (sections imports : List ℕ) → List Export → List Declaration → List Export
-exports_among at sections imports found [] = found
-exports_among at sections imports found (Exported n place f ∷ ss) =
-    exports_among at sections imports (if list_any (λ e. bytes_eq n e.name) found then found else found ++ record { name = n; origin = at place; form = numbered sections imports f } ∷ []) ss
-exports_among at sections imports found (s ∷ ss) = exports_among at sections imports found ss
+abbrev pub export_of : (at : Place → Origin) (sections imports : List ℕ) → Declaration → Option Export
+export_of at sections imports (Exported n place f) = Some (record { name = n; origin = at place; form = numbered sections imports f })
+export_of at sections imports _ = None
 
 abbrev pub assert_of : (at : Place → Origin) (sections imports : List ℕ) → Declaration → Option Assert
 assert_of at sections imports (Asserted act place words f) = Some (record { action = act; origin = at place; text = words; form = numbered sections imports f })
@@ -163,11 +161,9 @@ part_files (Known bytes) = []
 part_files (Filled n) = []
 part_files (Waiting width place f) = place.file ∷ []
 
--- the files of exports, of which the first of each name is written, behind those of these names
-abbrev pub export_files : List (List ℕ) → List Declaration → List (List ℕ)
-export_files found [] = []
-export_files found (Exported n place f ∷ ss) = if list_any (bytes_eq n) found then export_files found ss else place.file ∷ export_files (found ++ n ∷ []) ss
-export_files found (s ∷ ss) = export_files found ss
+abbrev pub export_files : Declaration → List (List ℕ)
+export_files (Exported n place f) = place.file ∷ []
+export_files _ = []
 
 abbrev pub assert_files : Declaration → List (List ℕ)
 assert_files (Asserted act place words f) = place.file ∷ []
@@ -176,7 +172,7 @@ assert_files _ = []
 -- those of the values of each section in its turn, then of exports, then of assertions
 abbrev pub files_named : List Content → List (List ℕ)
 files_named cs = flat_map (λ g. flat_map part_files (parts_in cs g)) (section_keys cs)
-    ++ export_files [] (all_said cs) ++ flat_map assert_files (all_said cs)
+    ++ flat_map export_files (all_said cs) ++ flat_map assert_files (all_said cs)
 
 abbrev pub files_of : List Content → List (List ℕ)
 files_of cs = names_once [] (files_named cs)
@@ -197,7 +193,7 @@ object_by version files at segments names cs =
       files = files;
       imports = map (name_of names) imports;
       sections = map (section_of at segments sections imports cs) sections;
-      exports = exports_among at sections imports [] (all_said cs);
+      exports = filter_map (export_of at sections imports) (all_said cs);
       asserts = filter_map (assert_of at sections imports) (all_said cs);
     }
 
@@ -285,6 +281,7 @@ part_len (Waiting width place f) = width_len width
 pub record AreSound (segments : List Segment) (names : List (List ℕ)) (cs : List Content) : Type 0 where
   pub named : are_names (map (λ g. g.name) segments) ≡ true
   pub imported : are_names names ≡ true
+  pub exported : are_names (exported_names (all_said cs)) ≡ true
   pub standing : AllByRecursion (λ c. c.segment < length segments) cs
   pub room : (g : ℕ) → sum_by part_len (parts_in cs g) ≤ section_limit
   pub contents : AllByRecursion (IsSoundContent (section_keys cs) (length names)) cs

@@ -215,6 +215,27 @@ fn longest_name(rt: HostRuntime) -> Result<(), Fail> {
     Ok(())
 }
 
+/// A name that is exported again in a file whose name no object holds: the second export does nothing.
+#[test]
+fn exported_again(rt: HostRuntime) -> Result<(), Fail> {
+    let folder = long_name(rt.alloc(), 4095)?;
+    let mut inner = long_name(rt.alloc(), 4095)?;
+    inner.push_str("/x.inc")?;
+    let mut store = MemStore::new(rt.alloc());
+    store.put("m.s", b".export v\nv = 1\n.include \"x.inc\"")?;
+    store.put(inner.as_str(), b".export v")?;
+    let folders = [Text::copy_of(rt.alloc(), folder.as_str())?];
+    let job = AsmJob {
+        source: "m.s",
+        include: &folders,
+        defines: &[],
+    };
+    let found = answer(rt.alloc(), &mut store, &job)?;
+    let wanted = "5236356F020903006D2E7306130001760000000001000000000100000000000000080000";
+    assert!(rt; found.as_str() == wanted);
+    Ok(())
+}
+
 /// A constant of the command line that is given twice.
 #[test]
 fn constants_given_twice(rt: HostRuntime) -> Result<(), Fail> {

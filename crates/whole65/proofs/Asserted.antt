@@ -1,47 +1,45 @@
 -- Assertions of a link and those of the whole program.
 use Rattle.std.proofs.lemmas.Grind.{common_steps}
-use Rattle.std.proofs.Common.{◌≡◌, ℕ, zero, suc, List, [], ◌∷◌, ◌++◌, length, map, slice_get, Option, Some, None, Result, Ok, Err, refl, sym, ◌∙◌, subst, ◌+◌, Bool, true, false, cond, ap, arith}
+use Rattle.std.proofs.Common.{◌≡◌, ℕ, zero, suc, List, [], ◌∷◌, ◌++◌, length, map, slice_get, Some, Result, Ok, Err, refl, sym, ◌∙◌, subst, ◌+◌, Bool, true, false, cond, ap, arith}
 use Rattle.std.specs.Prelude.{ℤ, pos, negsuc, ◌↔◌, ⊤, filter_map}
-use Rattle.std.specs.List.{AllByRecursion, flat_map}
+use Rattle.std.specs.List.{AllByRecursion}
 use Rattle.std.proofs.lemmas.List.{append_assoc, append-nil, length-append}
-use Rattle.base65.specs.Outcome.{◌>>=◌, each}
+use Rattle.base65.specs.Outcome.{◌>>=◌}
 use Rattle.syntax65.specs.Trees.{Tree}
 use Rattle.object65.specs.Form.{Form, lit, sec, imp, prefix, binary}
 use Rattle.object65.specs.declared.object.Action.{Action}
 use Rattle.object65.specs.declared.object.Action.TheVariants as action
 use Rattle.syntax65.specs.declared.place.Place.{Place}
-use Rattle.semantics65.specs.Contents.{Content, Declaration, Exported, ForcedImport, Asserted, content_of, decided, each_of, export_said, import_fault, said_of, written}
+use Rattle.semantics65.specs.Contents.{Content, Declaration, Exported, ForcedImport, Asserted, decided, written, exported_names}
 use Rattle.ast65.specs.declared.fault.AsmFault.{AsmFault}
-use Rattle.ast65.specs.declared.fault.AsmFault.TheVariants.{ImportedAndDefined, NotDefined}
-use Rattle.semantics65.specs.Symbols.{Laid, Symbols, defined, named}
+use Rattle.semantics65.specs.Symbols.{Laid, Symbols}
 use Rattle.ast65.specs.declared.language.Statement.{Statement}
-use Rattle.ast65.specs.declared.language.Statement.TheVariants.{Constant, Import, Export, Global, ForceImport, Assert}
-use Rattle.semantics65.specs.Norms.{defined_form, norm_of}
+use Rattle.ast65.specs.declared.language.Statement.TheVariants.{Export, Global, ForceImport, Assert}
+use Rattle.semantics65.specs.Norms.{norm_of}
 use Rattle.semantics65.specs.Numbering.{all_said, assert_of, import_keys, numbered, section_keys}
 use Rattle.semantics65.proofs.SoundForms.{all_append}
-use Rattle.semantics65.specs.Module.{contents_from}
-use Rattle.semantics65.specs.Reading.{PlacedFault, at_place}
+use Rattle.semantics65.specs.Module.{ending_of}
 use Rattle.whole65.proofs.Files.{all_split, table_law}
 use Rattle.whole65.proofs.SameValues.{bind_ok, written_ok, same_values_law}
-use Rattle.whole65.proofs.SectionBytes.{content_is, in_middle, placed_ok}
+use Rattle.whole65.proofs.SectionBytes.{in_middle}
+use Rattle.whole65.proofs.Statements.{AreStated, IsSaidBy, SaidOnce, a_line, are_stated, left_out, no_line, no_name, said_append, said_first, stated}
 use Rattle.whole65.specs.Objects.{AreObjects, HasValue, Objects, form_value}
 use Rattle.whole65.specs.Segments.{line_of, lines_behind}
 use Rattle.whole65.specs.Values.{Program, Value}
 use Rattle.whole65.specs.Whole.{HasAssertion, Passes, AreAsserted}
 use Rattle.std.specs.Ordering.{int_eq}
-use Rattle.std.proofs.lemmas.Bool.Decides.{Decides-int_eq, not_from_Decides}
+use Rattle.std.proofs.lemmas.Bool.Decides.{not_from_Decides}
 use Rattle.object65.specs.declared.object.Object.{Object}
 use Rattle.object65.specs.declared.object.Origin.{Origin}
 use Rattle.script65.specs.declared.placement.Placement.{Placement}
 use Rattle.script65.specs.declared.script.Script.{Script}
 use Rattle.semantics65.specs.Layout.{Layout}
-use Rattle.link65.specs.Links.{assertion_result, check_assert, check_asserts, site, value_at, value_fault}
+use Rattle.link65.specs.Links.{assertion_result, check_assert, check_asserts, site, value_at}
 use Rattle.link65.specs.Programs.{Module}
 use Rattle.link65.specs.Values.{linkage_of, AreExports, Exports, Linkage, exports_through, in_table, value_by}
 use Rattle.link65.specs.Programs as linked
 use Rattle.link65.specs.Texts.{assertion_warning}
 use Rattle.link65.specs.declared.fault.LinkFault.{LinkFault}
-use Rattle.link65.specs.declared.fault.LinkFault.TheVariants as fault
 use Rattle.link65.specs.declared.fault.Site.{Site}
 use Rattle.link65.specs.declared.parts.Asserted.{Asserted as LinkedAssertion}
 use Rattle.link65.specs.declared.parts.Member.{Member}
@@ -72,22 +70,10 @@ module _ {E : Type 0} (o : Objects E) (owner : ℕ) where
   nothing_said : (ss : List Declaration) → ◌≡◌ {A = Result (List Declaration) AsmFault} (Ok []) (Ok ss) → AllPass ss
   nothing_said ss e = let same : [] ≡ ss = cc in subst AllPass same tt
 
-  each_passes : (f : List ℕ → Result (List Declaration) AsmFault) → ((n : List ℕ) (ss : List Declaration) → f n ≡ Ok ss → AllPass ss) → (ns : List (List ℕ)) (yss : List (List Declaration)) → each f ns ≡ Ok yss → AllPass (flat_map (λ ys. ys) yss)
-  each_passes f up [] yss e = let same : [] ≡ yss = cc in subst (λ k. AllPass (flat_map (λ ys. ys) k)) same tt
-  each_passes f up (n ∷ ns) yss e =
-      let (ss, first, others) = bind_ok (f n) (λ y. each f ns >>= (λ ys. Ok (y ∷ ys))) yss e in
-      let (rest, more, last) = bind_ok (each f ns) (λ ys. Ok (ss ∷ ys)) yss others in
-      let same : ss ∷ rest ≡ yss = cc last in
-      subst (λ k. AllPass (flat_map (λ ys. ys) k)) same (all_append (IsPassed o owner) ss (flat_map (λ ys. ys) rest) (up n ss first) (each_passes f up ns rest more))
-
-  all_names : (f : List ℕ → Result (List Declaration) AsmFault) → ((n : List ℕ) (ss : List Declaration) → f n ≡ Ok ss → AllPass ss) → (ns : List (List ℕ)) (ss : List Declaration) → each_of f ns ≡ Ok ss → AllPass ss
-  all_names f up ns ss e = grind (arith, common_steps, bind_ok, each_passes)
-
-  import_passes : (z : Symbols) (n : List ℕ) (ss : List Declaration) → import_fault z n ≡ Ok ss → AllPass ss
-  import_passes z n ss h = grind (arith, common_steps)
-
-  export_passes : (z : Symbols) (place : Place) (n : List ℕ) (absent : Result (List Declaration) AsmFault) → ((ss : List Declaration) → absent ≡ Ok ss → AllPass ss) → (r : Option ℕ) (ss : List Declaration) → export_said z place n absent r ≡ Ok ss → AllPass ss
-  export_passes z place n absent nothing x ss h = grind (arith, common_steps)
+  exports_pass : {z : Symbols} {place : Place} {names ns : List (List ℕ)} {ss : List Declaration} → SaidOnce z place names ns ss → AllPass ss
+  exports_pass no_name = tt
+  exports_pass (left_out why more) = exports_pass more
+  exports_pass (said_first j f new e form more) = (tt, exports_pass more)
 
   demanded_pass : (ns : List (List ℕ)) → AllPass (map ForcedImport ns)
   demanded_pass [] = tt
@@ -134,42 +120,30 @@ module _ {E : Type 0} (p : Program) (o : Objects E) (h : AreObjects p o) (owner 
         λ k. (let r = either.1 k in (r.0, (value r.0).1 r.1, r.2)),
       )
 
-  line_passes : (before : List Laid) (l : Laid) (ss : List Declaration) → o.contexts owner (length before) ≡ l.context → said_of (o.symbols owner) l ≡ Ok ss → HasAssertion p (line_of owner before l) ↔ AllPass o owner ss
-  line_passes before l ss at d = go l.stated d
+  line_passes : (names : List (List ℕ)) (before : List Laid) (l : Laid) (ss : List Declaration) → o.contexts owner (length before) ≡ l.context → IsSaidBy (o.symbols owner) names l l.stated ss → HasAssertion p (line_of owner before l) ↔ AllPass o owner ss
+  line_passes names before l ss at d = go l.stated d
     where
       silent : AllPass o owner ss → ⊤ ↔ AllPass o owner ss
       silent all = (λ k. all, λ k. tt)
 
-      go : (x : Statement) → said_of (o.symbols owner) (record l { stated = x }) ≡ Ok ss → HasAssertion p (line_of owner before (record l { stated = x })) ↔ AllPass o owner ss
-      go (Constant n e) d = (let (f, first, last) = bind_ok (norm_of (o.symbols owner) l.context e) (λ f. Ok []) ss d in silent (nothing_said o owner ss last))
-      go (Import size names) d = silent (all_names o owner (import_fault (o.symbols owner)) (import_passes o owner (o.symbols owner)) names ss d)
-      go (Export names) d = silent (all_names o owner (λ n. export_said (o.symbols owner) l.place n (Err (NotDefined n)) (defined (o.symbols owner) (named 0 n))) (λ n rs e. export_passes o owner (o.symbols owner) l.place n (Err (NotDefined n)) (λ qs k. absurd cc) (defined (o.symbols owner) (named 0 n)) rs e) names ss d)
-      go (Global size names) d = silent (all_names o owner (λ n. export_said (o.symbols owner) l.place n (Ok []) (defined (o.symbols owner) (named 0 n))) (λ n rs e. export_passes o owner (o.symbols owner) l.place n (Ok []) (λ qs k. nothing_said o owner qs k) (defined (o.symbols owner) (named 0 n)) rs e) names ss d)
-      go (ForceImport names) d =
-          let (none, first, last) = bind_ok (each_of (import_fault (o.symbols owner)) names) (λ none. Ok (map ForcedImport names)) ss d in
-          let same : map ForcedImport names ≡ ss = cc last in
-          silent (subst (AllPass o owner) same (demanded_pass o owner names))
-      go (Assert e act words) d =
-          let (f, first, last) = bind_ok (norm_of (o.symbols owner) l.context e) (decided act l.place words) ss d in
-          assertion_passes (length before) l.place e act words f ss (subst (λ s. norm_of (o.symbols owner) s e ≡ Ok f) (sym at) first) last
-      go x d = silent (nothing_said o owner ss d)
+      go : (x : Statement) → IsSaidBy (o.symbols owner) names l x ss → HasAssertion p (line_of owner before (record l { stated = x })) ↔ AllPass o owner ss
+      go (Export ns) d = silent (exports_pass o owner d)
+      go (Global size ns) d = silent (exports_pass o owner d)
+      go (ForceImport ns) d = silent (subst (AllPass o owner) (sym d) (demanded_pass o owner ns))
+      go (Assert e act words) (f, normal, said) = assertion_passes (length before) l.place e act words f ss (subst (λ s. norm_of (o.symbols owner) s e ≡ Ok f) (sym at) normal) said
+      go x d = silent (subst (AllPass o owner) (sym d) tt)
 
   -- ---- Lines.
 
-  pub lines_pass : (all : List Laid) → ((place : ℕ) (l : Laid) → slice_get all place ≡ Some l → o.contexts owner place ≡ l.context) → (before ls : List Laid) (cs : List Content) → before ++ ls ≡ all → contents_from (o.symbols owner) ls ≡ Ok cs → AllByRecursion (HasAssertion p) (lines_behind owner before ls) ↔ AllPass o owner (all_said cs)
-  lines_pass all contexts before [] cs w e = grind (arith, common_steps)
-  lines_pass all contexts before (l ∷ ls) cs w e =
-      let found : Laid → Result Content PlacedFault = λ l. at_place l.place (content_of (o.symbols owner) l) in
-      let (c, first, others) = bind_ok (found l) (λ y. each found ls >>= (λ ys. Ok (y ∷ ys))) cs e in
-      let (ds, more, last) = bind_ok (each found ls) (λ ys. Ok (c ∷ ys)) cs others in
-      let same : c ∷ ds ≡ cs = cc last in
-      let content = content_is (o.symbols owner) l c (placed_ok l.place (content_of (o.symbols owner) l) c first) in
+  pub lines_pass : (all : List Laid) → ((place : ℕ) (l : Laid) → slice_get all place ≡ Some l → o.contexts owner place ≡ l.context) → (before ls : List Laid) (names : List (List ℕ)) (cs : List Content) → before ++ ls ≡ all → AreStated (o.symbols owner) names ls cs → AllByRecursion (HasAssertion p) (lines_behind owner before ls) ↔ AllPass o owner (all_said cs)
+  lines_pass all contexts before [] names _ w no_line = (λ k. tt, λ k. tt)
+  lines_pass all contexts before (l ∷ ls) names _ w (a_line ds cs found more) =
       let next : (before ++ l ∷ []) ++ ls ≡ all = append_assoc before (l ∷ []) ls ∙ w in
       let there : slice_get all (length before) ≡ Some l = subst (λ z. slice_get z (length before) ≡ Some l) w (in_middle before l ls) in
-      let one = line_passes before l c.said (contexts (length before) l there) content.said in
-      let deeper = lines_pass all contexts (before ++ l ∷ []) ls ds next more in (
-        λ k. subst (λ z. AllPass o owner (all_said z)) same (all_append (IsPassed o owner) c.said (all_said ds) (one.0 k.0) (deeper.0 k.1)),
-        λ k. (let q = all_split (IsPassed o owner) c.said (all_said ds) (subst (λ z. AllPass o owner (all_said z)) (sym same) k) in (one.1 q.0, deeper.1 q.1)),
+      let one = line_passes names before l (all_said ds) (contexts (length before) l there) (stated (o.symbols owner) names l ds found).said in
+      let deeper = lines_pass all contexts (before ++ l ∷ []) ls (names ++ exported_names (all_said ds)) cs next more in (
+        λ k. subst (AllPass o owner) (sym (said_append ds cs)) (all_append (IsPassed o owner) (all_said ds) (all_said cs) (one.0 k.0) (deeper.0 k.1)),
+        λ k. (let q = all_split (IsPassed o owner) (all_said ds) (all_said cs) (subst (AllPass o owner) (said_append ds cs) k) in (one.1 q.0, deeper.1 q.1)),
       )
 
 -- ---- Assertions of all modules.
@@ -250,7 +224,7 @@ module _ (s : Script) (placement : Placement) (ys : List Layout) (ms : List Modu
   abbrev Passing : LinkedAssertion → Type 0
   Passing = Succeeds l (linked.program_of ms).members (in_table table)
 
-  module _ (owner : ℕ) (y : Layout) (m : Module) (cs : List Content) (at_y : slice_get ys owner ≡ Some y) (at_m : slice_get ms owner ≡ Some m) (found : contents_from (table_of y) y.laid ≡ Ok cs) where
+  module _ (owner : ℕ) (y : Layout) (m : Module) (cs : List Content) (at_y : slice_get ys owner ≡ Some y) (at_m : slice_get ms owner ≡ Some m) (found : (ending_of y.laid).found ≡ Ok cs) where
     abbrev sections : List ℕ
     sections = section_keys cs
 
@@ -287,8 +261,8 @@ module _ (s : Script) (placement : Placement) (ys : List Layout) (ms : List Modu
 
     lines_agree : AllByRecursion (HasAssertion p) (lines_behind owner [] y.laid) ↔ AllByRecursion (IsPassed o owner) (all_said cs)
     lines_agree =
-        lines_pass p o (sources_law s placement ys ms h) owner y.laid context_there [] y.laid cs refl
-        (subst (λ z. contents_from z y.laid ≡ Ok cs) (sym table_there) found)
+        lines_pass p o (sources_law s placement ys ms h) owner y.laid context_there [] y.laid [] cs refl
+        (subst (λ z. AreStated z [] y.laid cs) (sym table_there) (are_stated y cs found))
 
   one_source : (owner : ℕ) (y : Layout) (m : Module) → slice_get ys owner ≡ Some y → slice_get ms owner ≡ Some m → IsSource y m → AllByRecursion Passing (map (linked.asserted owner) m.object.asserts) ↔ AllByRecursion (HasAssertion p) (lines_behind owner [] y.laid)
   one_source owner y m at_y at_m source =

@@ -1,53 +1,40 @@
 -- The names that sources export and demand.
-use Rattle.whole65.specs.Programs as whole
-use Rattle.std.proofs.Common.{arith, ◌≡◌, ℕ, zero, suc, Bool, true, false, cond, List, [], ◌∷◌, ◌++◌, length, map, filter, Option, Some, None, Result, Ok, Err, refl, sym, ◌∙◌, ap, subst}
-use Rattle.std.specs.Prelude.{⊤, is_some, pos, negsuc, ◌||◌}
+use Rattle.std.proofs.Common.{arith, ◌≡◌, ℕ, Bool, true, false, cond, List, [], ◌∷◌, ◌++◌, length, map, filter, Some, Ok, refl, sym, ◌∙◌, ap, subst, inl, inr}
+use Rattle.std.specs.Prelude.{⊤, filter_map, is_some}
 use Rattle.std.specs.List.{AllByRecursion, flat_map, list_any}
 use Rattle.std.specs.Str.{bytes_eq}
 use Rattle.std.proofs.lemmas.List.{append-nil, append_assoc, map-append}
 use Rattle.std.proofs.lemmas.List.Elements.{filter-append}
 use Rattle.std.proofs.lemmas.Grind.{common_steps, flat_map-append}
-use Rattle.base65.specs.Outcome.{◌>>=◌, each}
-use Rattle.object65.specs.Form.{Form, lit, sec, imp, prefix, binary}
+use Rattle.object65.specs.Form.{Form}
 use Rattle.object65.specs.declared.object.Action.{Action}
-use Rattle.object65.specs.declared.object.Action.TheVariants as action
 use Rattle.object65.specs.declared.object.Export.{Export}
 use Rattle.object65.specs.declared.object.Object.{Object}
 use Rattle.object65.specs.declared.object.Origin.{Origin}
 use Rattle.syntax65.specs.declared.place.Place.{Place}
-use Rattle.semantics65.specs.Contents.{Content, Declaration, Exported, ForcedImport, Asserted, content_of, decided, each_of, export_said, import_fault, said_of, written}
-use Rattle.ast65.specs.declared.fault.AsmFault.{AsmFault}
-use Rattle.ast65.specs.declared.fault.AsmFault.TheVariants.{ImportedAndDefined, NotDefined}
+use Rattle.semantics65.specs.Contents.{Content, Declaration, Exported, ForcedImport, Asserted, decided, exported_names}
 use Rattle.semantics65.specs.Symbols.{Laid, Symbols, defined, named, with_new}
 use Rattle.ast65.specs.declared.language.Statement.{Statement}
 use Rattle.ast65.specs.declared.language.Statement.TheVariants as statement
 use Rattle.semantics65.specs.Layout.{Layout}
 use Rattle.semantics65.specs.Norms.{defined_form, norm_of}
-use Rattle.semantics65.specs.Numbering.{all_said, exports_among, import_keys, numbered, section_keys}
+use Rattle.semantics65.specs.Numbering.{all_said, export_of, import_keys, section_keys}
 use Rattle.link65.specs.Names.{export_names}
 use Rattle.link65.specs.Programs.{Module, Program, no_program, program_of, with_module, with_modules}
 use Rattle.link65.specs.Programs as linked
 use Rattle.link65.specs.declared.parts.Exported as parts
 use Rattle.semantics65.proofs.SoundForms.{all_append}
-use Rattle.semantics65.specs.Module.{contents_from}
-use Rattle.semantics65.specs.Reading.{PlacedFault, at_place}
-use Rattle.whole65.proofs.SameValues.{bind_ok, written_ok}
-use Rattle.whole65.proofs.SectionBytes.{content_is, placed_ok}
+use Rattle.semantics65.proofs.Found.{names_append, exports_named}
+use Rattle.semantics65.proofs.Resolving.{new_append}
+use Rattle.semantics65.specs.Module.{ending_of}
+use Rattle.whole65.proofs.Statements.{AreStated, IsLeftOut, IsSaidBy, SaidOnce, a_line, are_stated, left_out, no_line, no_name, said_append, said_first, stated}
 use Rattle.whole65.proofs.Sources.{contents_of}
 use Rattle.whole65.specs.Modules.{exported_by, exports_of, table_of, forced_by}
 use Rattle.whole65.specs.Sources.{AreSources, IsSource}
 use Rattle.syntax65.specs.Trees.{Tree}
-use Rattle.ast65.specs.declared.language.Statement.TheVariants.{Constant, Import, Export as ExportNames, Global, ForceImport, Assert}
+use Rattle.ast65.specs.declared.language.Statement.TheVariants.{Export as ExportNames, Global, ForceImport, Assert}
 
 -- ---- What is said of names.
-
-abbrev pub exported_name : Declaration → List (List ℕ)
-exported_name (Exported n place f) = n ∷ []
-exported_name (ForcedImport n) = []
-exported_name (Asserted act place words f) = []
-
-abbrev pub exported_names : List Declaration → List (List ℕ)
-exported_names ss = flat_map exported_name ss
 
 -- an export has the form of the definition of its name
 abbrev pub IsDefined : Symbols → Declaration → Type 0
@@ -58,107 +45,106 @@ IsDefined z (Asserted act place words f) = ⊤
 abbrev pub has_definition : Symbols → List ℕ → Bool
 has_definition z n = is_some (defined z (named 0 n))
 
-pub record Says (z : Symbols) (names : List (List ℕ)) (ss : List Declaration) : Type 0 where
-  pub exported : exported_names ss ≡ names
+-- Statements that export names, behind exports of other names, say those that are defined: each once, where it is first exported.
+pub record Says (z : Symbols) (before names : List (List ℕ)) (ss : List Declaration) : Type 0 where
+  pub exported : with_new before (filter (has_definition z) names) ≡ before ++ exported_names ss
   pub are_defined : AllByRecursion (IsDefined z) ss
 
-says_nothing : (z : Symbols) (ss : List Declaration) → ◌≡◌ {A = Result (List Declaration) AsmFault} (Ok []) (Ok ss) → Says z [] ss
-says_nothing z ss e = let same : [] ≡ ss = cc in subst (Says z []) same (record { exported = refl; are_defined = tt })
+says_nothing : (z : Symbols) (before : List (List ℕ)) (ss : List Declaration) → exported_names ss ≡ [] → AllByRecursion (IsDefined z) ss → Says z before [] ss
+says_nothing z before ss none all =
+    record { exported = sym (ap (λ ns. before ++ ns) none ∙ append-nil before); are_defined = all }
 
-says_both : (z : Symbols) (ns ms : List (List ℕ)) (ss rs : List Declaration) → Says z ns ss → Says z ms rs → Says z (ns ++ ms) (ss ++ rs)
-says_both z ns ms ss rs h k = grind (arith, common_steps)
+says_both : (z : Symbols) (before ns ms : List (List ℕ)) (ss rs : List Declaration) → Says z before ns ss → Says z (before ++ exported_names ss) ms rs → Says z before (ns ++ ms) (ss ++ rs)
+says_both z before ns ms ss rs h k = record {
+  exported =
+      ap (with_new before) (filter-append (has_definition z) ns ms)
+      ∙ new_append before (filter (has_definition z) ns) (filter (has_definition z) ms)
+      ∙ ap (λ known. with_new known (filter (has_definition z) ms)) h.exported
+      ∙ k.exported
+      ∙ append_assoc before (exported_names ss) (exported_names rs)
+      ∙ ap (λ names. before ++ names) (sym (names_append ss rs));
+  are_defined = all_append (IsDefined z) ss rs h.are_defined k.are_defined;
+}
 
-each_says : (z : Symbols) (f : List ℕ → Result (List Declaration) AsmFault) (keep : List ℕ → List (List ℕ)) → ((n : List ℕ) (ss : List Declaration) → f n ≡ Ok ss → Says z (keep n) ss) → (ns : List (List ℕ)) (yss : List (List Declaration)) → each f ns ≡ Ok yss → Says z (flat_map keep ns) (flat_map (λ ys. ys) yss)
-each_says z f keep h [] yss e = let same : [] ≡ yss = cc in subst (λ k. Says z [] (flat_map (λ ys. ys) k)) same (record { exported = refl; are_defined = tt })
-each_says z f keep h (n ∷ ns) yss e =
-    let (ss, first, others) = bind_ok (f n) (λ y. each f ns >>= (λ ys. Ok (y ∷ ys))) yss e in
-    let (rest, more, last) = bind_ok (each f ns) (λ ys. Ok (ss ∷ ys)) yss others in
-    let same : ss ∷ rest ≡ yss = cc last in
-    subst (λ k. Says z (flat_map keep (n ∷ ns)) (flat_map (λ ys. ys) k)) same (says_both z (keep n) (flat_map keep ns) ss (flat_map (λ ys. ys) rest) (h n ss first) (each_says z f keep h ns rest more))
-
-all_says : (z : Symbols) (f : List ℕ → Result (List Declaration) AsmFault) (keep : List ℕ → List (List ℕ)) → ((n : List ℕ) (ss : List Declaration) → f n ≡ Ok ss → Says z (keep n) ss) → (ns : List (List ℕ)) (ss : List Declaration) → each_of f ns ≡ Ok ss → Says z (flat_map keep ns) ss
-all_says z f keep h ns ss e =
-    let (yss, first, last) = bind_ok (each f ns) (λ yss. Ok (flat_map (λ ys. ys) yss)) ss e in
-    let same : flat_map (λ ys. ys) yss ≡ ss = cc last in
-    subst (Says z (flat_map keep ns)) same (each_says z f keep h ns yss first)
-
-abbrev nothing_kept : List ℕ → List (List ℕ)
-nothing_kept n = []
-
-none_kept : (ns : List (List ℕ)) → flat_map nothing_kept ns ≡ []
-none_kept [] = refl
-none_kept (n ∷ ns) = none_kept ns
-
-kept_one : (q : List ℕ → Bool) (ns : List (List ℕ)) → flat_map (λ n. filter q (n ∷ [])) ns ≡ filter q ns
-kept_one q [] = refl
-kept_one q (n ∷ ns) = grind (arith, common_steps, (kept_one q ns))
-
-import_says : (z : Symbols) (n : List ℕ) (ss : List Declaration) → import_fault z n ≡ Ok ss → Says z [] ss
-import_says z n ss h = grind (arith, common_steps)
-
--- where no definition is there, nothing is said
-export_says : (z : Symbols) (place : Place) (n : List ℕ) (absent : Result (List Declaration) AsmFault) → ((ss : List Declaration) → absent ≡ Ok ss → ss ≡ []) → (ss : List Declaration) → export_said z place n absent (defined z (named 0 n)) ≡ Ok ss → Says z (filter (has_definition z) (n ∷ [])) ss
-export_says z place n absent nothing ss h = grind (arith, common_steps)
-
-decided_says : (z : Symbols) (act : Action) (place : Place) (words : List ℕ) (f : Form) (ss : List Declaration) → decided act place words f ≡ Ok ss → Says z [] ss
-decided_says z act place words f ss h = grind (arith, common_steps)
-
-demanded_says : (z : Symbols) (ns : List (List ℕ)) → Says z [] (map ForcedImport ns)
-demanded_says z [] = record { exported = refl; are_defined = tt }
-demanded_says z (n ∷ ns) = let h = demanded_says z ns in record { exported = h.exported; are_defined = (tt, h.are_defined) }
-
-one_says : (z : Symbols) (l : Laid) (ss : List Declaration) → said_of z l ≡ Ok ss → Says z (filter (has_definition z) (exported_by l.stated)) ss
-one_says z l ss h = go l.stated h
+exports_say : {z : Symbols} {place : Place} {before ns : List (List ℕ)} {ss : List Declaration} → SaidOnce z place before ns ss → Says z before ns ss
+exports_say {before = before} no_name = record { exported = sym (append-nil before); are_defined = tt }
+exports_say {z = z} {before = before} (left_out {n = n} {ns = ns} {ss = ss} why more) =
+    let rest : Says z before ns ss = exports_say more in
+    record { exported = skipped why ∙ rest.exported; are_defined = rest.are_defined }
   where
-    go : (x : Statement) → said_of z (record l { stated = x }) ≡ Ok ss → Says z (filter (has_definition z) (exported_by x)) ss
-    go (statement.Constant n e) h = (let (f, first, last) = bind_ok (norm_of z l.context e) (λ f. Ok []) ss h in says_nothing z ss last)
-    go (statement.Import size names) h = subst (λ k. Says z k ss) (none_kept names) (all_says z (import_fault z) nothing_kept (import_says z) names ss h)
-    go (statement.Export names) h = subst (λ k. Says z k ss) (kept_one (has_definition z) names) (all_says z (λ n. export_said z l.place n (Err (NotDefined n)) (defined z (named 0 n))) (λ n. filter (has_definition z) (n ∷ [])) (λ n rs e. export_says z l.place n (Err (NotDefined n)) (λ qs k. absurd cc) rs e) names ss h)
-    go (statement.Global size names) h = subst (λ k. Says z k ss) (kept_one (has_definition z) names) (all_says z (λ n. export_said z l.place n (Ok []) (defined z (named 0 n))) (λ n. filter (has_definition z) (n ∷ [])) (λ n rs e. export_says z l.place n (Ok []) (λ qs k. cc) rs e) names ss h)
-    go (statement.ForceImport names) h =
-        let (none, first, last) = bind_ok (each_of (import_fault z) names) (λ none. Ok (map ForcedImport names)) ss h in
-        let same : map ForcedImport names ≡ ss = cc last in
-        subst (Says z []) same (demanded_says z names)
-    go (statement.Assert e act words) h = (let (f, first, last) = bind_ok (norm_of z l.context e) (decided act l.place words) ss h in decided_says z act l.place words f ss last)
-    go x h = says_nothing z ss h
+    others : List (List ℕ)
+    others = filter (has_definition z) ns
 
-pub said_all : (z : Symbols) (ls : List Laid) (cs : List Content) → contents_from z ls ≡ Ok cs → Says z (filter (has_definition z) (flat_map (λ l. exported_by l.stated) ls)) (all_said cs)
-said_all z [] cs e = let same : [] ≡ cs = cc in subst (λ k. Says z [] (all_said k)) same (record { exported = refl; are_defined = tt })
-said_all z (l ∷ ls) cs e =
-    let found : Laid → Result Content PlacedFault = λ l. at_place l.place (content_of z l) in
-    let (c, first, others) = bind_ok (found l) (λ y. each found ls >>= (λ ys. Ok (y ∷ ys))) cs e in
-    let (ds, more, last) = bind_ok (each found ls) (λ ys. Ok (c ∷ ys)) cs others in
-    let same : c ∷ ds ≡ cs = cc last in
-    let content = content_is z l c (placed_ok l.place (content_of z l) c first) in
-    subst (λ k. Says z (filter (has_definition z) (flat_map (λ l. exported_by l.stated) (l ∷ ls))) (all_said k)) same
-    (subst (λ k. Says z k (all_said (c ∷ ds))) (sym (filter-append (has_definition z) (exported_by l.stated) (flat_map (λ l. exported_by l.stated) ls)))
-    (says_both z (filter (has_definition z) (exported_by l.stated)) (filter (has_definition z) (flat_map (λ l. exported_by l.stated) ls)) c.said (all_said ds) (one_says z l c.said content.said) (said_all z ls ds more)))
+    known : list_any (bytes_eq n) before ≡ true → (b : Bool) → with_new before (cond b (n ∷ others) others) ≡ with_new before others
+    known e true = ap (λ b. with_new (cond b before (before ++ n ∷ [])) others) e
+    known e false = refl
 
--- ---- Exports, each once.
+    skipped : IsLeftOut z before n → with_new before (cond (has_definition z n) (n ∷ others) others) ≡ with_new before others
+    skipped (inl e) = known e (has_definition z n)
+    skipped (inr e) = ap (λ o. with_new before (cond (is_some o) (n ∷ others) others)) e
+exports_say {z = z} {before = before} (said_first {n = n} {ns = ns} {ss = ss} j f new e form more) =
+    let rest : Says z (before ++ n ∷ []) ns ss = exports_say more in
+    record {
+      exported =
+          ap (λ o. with_new before (cond (is_some o) (n ∷ filter (has_definition z) ns) (filter (has_definition z) ns))) e
+          ∙ ap (λ b. with_new (cond b before (before ++ n ∷ [])) (filter (has_definition z) ns)) new
+          ∙ rest.exported
+          ∙ append_assoc before (n ∷ []) (exported_names ss);
+      are_defined = ((j, e, form), rest.are_defined);
+    }
 
-among_names : (n : List ℕ) (found : List Export) → list_any (λ e. bytes_eq n e.name) found ≡ list_any (λ k. bytes_eq n k) (map (λ (e : Export). e.name) found)
-among_names n [] = refl
-among_names n (e ∷ found) = ap (λ b. bytes_eq n e.name || b) (among_names n found)
-
-names_among : (origins : Place → Origin) (sections numbers : List ℕ) (ss : List Declaration) (found : List Export) → map (λ (e : Export). e.name) (exports_among origins sections numbers found ss) ≡ with_new (map (λ (e : Export). e.name) found) (exported_names ss)
-names_among origins sections numbers [] found = refl
-names_among origins sections numbers (Exported n place f ∷ ss) found =
-    names_among origins sections numbers ss (cond (list_any (λ e. bytes_eq n e.name) found) found (found ++ record { name = n; origin = origins place; form = numbered sections numbers f } ∷ []))
-    ∙ ap (λ z. with_new z (exported_names ss)) (go (list_any (λ e. bytes_eq n e.name) found) ∙ ap (λ b. cond b (map (λ (e : Export). e.name) found) (map (λ (e : Export). e.name) found ++ n ∷ [])) (among_names n found))
+forced_says : (z : Symbols) (before ns : List (List ℕ)) → Says z before [] (map ForcedImport ns)
+forced_says z before ns = says_nothing z before (map ForcedImport ns) (none ns) (all ns)
   where
-    go : (b : Bool) → map (λ (e : Export). e.name) (cond b found (found ++ record { name = n; origin = origins place; form = numbered sections numbers f } ∷ [])) ≡ cond b (map (λ (e : Export). e.name) found) (map (λ (e : Export). e.name) found ++ n ∷ [])
-    go true = refl
-    go false = map-append (λ (e : Export). e.name) found (record { name = n; origin = origins place; form = numbered sections numbers f } ∷ [])
-names_among origins sections numbers (ForcedImport n ∷ ss) found = names_among origins sections numbers ss found
-names_among origins sections numbers (Asserted act place words f ∷ ss) found = names_among origins sections numbers ss found
+    none : (ns : List (List ℕ)) → exported_names (map ForcedImport ns) ≡ []
+    none [] = refl
+    none (n ∷ ns) = none ns
+
+    all : (ns : List (List ℕ)) → AllByRecursion (IsDefined z) (map ForcedImport ns)
+    all [] = tt
+    all (n ∷ ns) = (tt, all ns)
+
+-- what an assertion says: nothing, or that it waits
+data IsDecided (act : Action) (place : Place) (words : List ℕ) (f : Form) (ss : List Declaration) : Type 0 where
+  settled : [] ≡ ss → IsDecided act place words f ss
+  waiting : Asserted act place words f ∷ [] ≡ ss → IsDecided act place words f ss
+
+is_decided : (act : Action) (place : Place) (words : List ℕ) (f : Form) (ss : List Declaration) → decided act place words f ≡ Ok ss → IsDecided act place words f ss
+is_decided x place words y ss h = grind (arith, common_steps)
+
+one_says : (z : Symbols) (before : List (List ℕ)) (l : Laid) (ss : List Declaration) → IsSaidBy z before l l.stated ss → Says z before (exported_by l.stated) ss
+one_says z before l ss h = go l.stated h
+  where
+    go : (x : Statement) → IsSaidBy z before l x ss → Says z before (exported_by x) ss
+    go (statement.Export names) h = exports_say h
+    go (statement.Global size names) h = exports_say h
+    go (statement.ForceImport names) h = subst (Says z before []) (sym h) (forced_says z before names)
+    go (statement.Assert e act words) (f, normal, said) = by (is_decided act l.place words f ss said)
+      where
+        by : IsDecided act l.place words f ss → Says z before [] ss
+        by (settled same) = subst (Says z before []) same (says_nothing z before [] refl tt)
+        by (waiting same) = subst (Says z before []) same (says_nothing z before (Asserted act l.place words f ∷ []) refl (tt, tt))
+    go x h = subst (Says z before []) (sym h) (says_nothing z before [] refl tt)
+
+lines_say : (z : Symbols) (before : List (List ℕ)) (ls : List Laid) (cs : List Content) → AreStated z before ls cs → Says z before (flat_map (λ l. exported_by l.stated) ls) (all_said cs)
+lines_say z before [] _ no_line = says_nothing z before [] refl tt
+lines_say z before (l ∷ ls) _ (a_line ds cs found more) =
+    subst (Says z before (flat_map (λ l. exported_by l.stated) (l ∷ ls))) (sym (said_append ds cs))
+    (says_both z before (exported_by l.stated) (flat_map (λ l. exported_by l.stated) ls) (all_said ds) (all_said cs)
+    (one_says z before l (all_said ds) (stated z before l ds found).said) (lines_say z (before ++ exported_names (all_said ds)) ls cs more))
+
+pub said_all : (y : Layout) (cs : List Content) → (ending_of y.laid).found ≡ Ok cs → Says (table_of y) [] (flat_map (λ l. exported_by l.stated) y.laid) (all_said cs)
+said_all y cs e = lines_say (table_of y) [] y.laid cs (are_stated y cs e)
+
+-- ---- Exports of objects.
 
 pub source_exports : (y : Layout) (m : Module) → IsSource y m → map (λ (e : Export). e.name) m.object.exports ≡ exports_of y
 source_exports y m h =
     let c = contents_of y m h in
     let cs : List Content = c.contents in
     ap (λ (o : Object). map (λ (e : Export). e.name) o.exports) c.object
-    ∙ names_among c.origins (section_keys cs) (import_keys (table_of y).imports cs) (all_said cs) []
-    ∙ ap (with_new []) (said_all (table_of y) y.laid cs c.found).exported
+    ∙ exports_named c.origins (section_keys cs) (import_keys (table_of y).imports cs) (all_said cs)
+    ∙ sym (said_all y cs c.found).exported
 
 -- ---- Module by module.
 
@@ -218,28 +204,10 @@ none_asserted z l (Exported n place f ∷ ss) h = (tt, none_asserted z l ss h.1)
 none_asserted z l (ForcedImport n ∷ ss) h = absurd h.0
 none_asserted z l (Asserted act place words f ∷ ss) h = absurd h.0
 
-nothing_more : (ss : List Declaration) → ◌≡◌ {A = Result (List Declaration) AsmFault} (Ok []) (Ok ss) → AllByRecursion IsExport ss
-nothing_more ss e = let same : [] ≡ ss = cc in subst (AllByRecursion IsExport) same tt
-
-each_all : (P : Declaration → Type 0) (f : List ℕ → Result (List Declaration) AsmFault) → ((n : List ℕ) (ss : List Declaration) → f n ≡ Ok ss → AllByRecursion P ss) → (ns : List (List ℕ)) (yss : List (List Declaration)) → each f ns ≡ Ok yss → AllByRecursion P (flat_map (λ ys. ys) yss)
-each_all P f h [] yss e = let same : [] ≡ yss = cc in subst (λ k. AllByRecursion P (flat_map (λ ys. ys) k)) same tt
-each_all P f h (n ∷ ns) yss e =
-    let (ss, first, others) = bind_ok (f n) (λ y. each f ns >>= (λ ys. Ok (y ∷ ys))) yss e in
-    let (rest, more, last) = bind_ok (each f ns) (λ ys. Ok (ss ∷ ys)) yss others in
-    let same : ss ∷ rest ≡ yss = cc last in
-    subst (λ k. AllByRecursion P (flat_map (λ ys. ys) k)) same (all_append P ss (flat_map (λ ys. ys) rest) (h n ss first) (each_all P f h ns rest more))
-
-all_of : (P : Declaration → Type 0) (f : List ℕ → Result (List Declaration) AsmFault) → ((n : List ℕ) (ss : List Declaration) → f n ≡ Ok ss → AllByRecursion P ss) → (ns : List (List ℕ)) (ss : List Declaration) → each_of f ns ≡ Ok ss → AllByRecursion P ss
-all_of P f h ns ss e =
-    let (yss, first, last) = bind_ok (each f ns) (λ yss. Ok (flat_map (λ ys. ys) yss)) ss e in
-    let same : flat_map (λ ys. ys) yss ≡ ss = cc last in
-    subst (AllByRecursion P) same (each_all P f h ns yss first)
-
-of_import : (z : Symbols) (n : List ℕ) (ss : List Declaration) → import_fault z n ≡ Ok ss → AllByRecursion IsExport ss
-of_import z n ss h = grind (arith, common_steps)
-
-of_export : (z : Symbols) (place : Place) (n : List ℕ) (absent : Result (List Declaration) AsmFault) → ((ss : List Declaration) → absent ≡ Ok ss → ss ≡ []) → (o : Option ℕ) (ss : List Declaration) → export_said z place n absent o ≡ Ok ss → AllByRecursion IsExport ss
-of_export z place n absent nothing x ss h = grind (arith, common_steps)
+exports_alone : {z : Symbols} {place : Place} {names ns : List (List ℕ)} {ss : List Declaration} → SaidOnce z place names ns ss → AllByRecursion IsExport ss
+exports_alone no_name = tt
+exports_alone (left_out why more) = exports_alone more
+exports_alone (said_first j f new e form more) = (tt, exports_alone more)
 
 -- ---- Statements.
 
@@ -247,50 +215,34 @@ of_forced : (z : Symbols) (l : Laid) (ns : List (List ℕ)) → (demanded_names 
 of_forced z l [] = (refl, tt)
 of_forced z l (n ∷ ns) = let more = of_forced z l ns in (ap (λ k. n ∷ k) more.0, (tt, more.1))
 
--- what an assertion says: nothing, or that it waits
-data IsDecided (act : Action) (place : Place) (words : List ℕ) (f : Form) (ss : List Declaration) : Type 0 where
-  settled : [] ≡ ss → IsDecided act place words f ss
-  waiting : Asserted act place words f ∷ [] ≡ ss → IsDecided act place words f ss
-
-is_decided : (act : Action) (place : Place) (words : List ℕ) (f : Form) (ss : List Declaration) → decided act place words f ≡ Ok ss → IsDecided act place words f ss
-is_decided x place words y ss h = grind (arith, common_steps)
-
-pub one_tells : (z : Symbols) (l : Laid) (ss : List Declaration) → said_of z l ≡ Ok ss → Tells z l ss
-one_tells z l ss h = go l.stated h
+pub one_tells : (z : Symbols) (names : List (List ℕ)) (l : Laid) (ss : List Declaration) → IsSaidBy z names l l.stated ss → Tells z l ss
+one_tells z names l ss h = go l.stated h
   where
     exporting : (x : Statement) → forced_by x ≡ [] → AllByRecursion IsExport ss → Tells z (record l { stated = x }) ss
     exporting x none all = record { demanded = none_demanded ss all ∙ sym none; asserted = none_asserted z (record l { stated = x }) ss all }
 
-    go : (x : Statement) → said_of z (record l { stated = x }) ≡ Ok ss → Tells z (record l { stated = x }) ss
-    go (Constant n e) h = (let (f, first, last) = bind_ok (norm_of z l.context e) (λ f. Ok []) ss h in exporting (Constant n e) refl (nothing_more ss last))
-    go (Import size names) h = exporting (Import size names) refl (all_of IsExport (import_fault z) (of_import z) names ss h)
-    go (ExportNames names) h = exporting (ExportNames names) refl (all_of IsExport (λ n. export_said z l.place n (Err (NotDefined n)) (defined z (named 0 n))) (λ n. of_export z l.place n (Err (NotDefined n)) (λ qs k. absurd cc) (defined z (named 0 n))) names ss h)
-    go (Global size names) h = exporting (Global size names) refl (all_of IsExport (λ n. export_said z l.place n (Ok []) (defined z (named 0 n))) (λ n. of_export z l.place n (Ok []) (λ qs k. cc) (defined z (named 0 n))) names ss h)
-    go (ForceImport names) h =
-        let (none, first, last) = bind_ok (each_of (import_fault z) names) (λ none. Ok (map ForcedImport names)) ss h in
-        let same : map ForcedImport names ≡ ss = cc last in
-        let both = of_forced z (record l { stated = ForceImport names }) names in
-        subst (Tells z (record l { stated = ForceImport names })) same (record { demanded = both.0; asserted = both.1 })
-    go (Assert e act words) h =
-        let (f, first, last) = bind_ok (norm_of z l.context e) (decided act l.place words) ss h in
-        by f first (is_decided act l.place words f ss last)
+    go : (x : Statement) → IsSaidBy z names l x ss → Tells z (record l { stated = x }) ss
+    go (ExportNames ns) h = exporting (ExportNames ns) refl (exports_alone h)
+    go (Global size ns) h = exporting (Global size ns) refl (exports_alone h)
+    go (ForceImport ns) h =
+        let both = of_forced z (record l { stated = ForceImport ns }) ns in
+        subst (Tells z (record l { stated = ForceImport ns })) (sym h) (record { demanded = both.0; asserted = both.1 })
+    go (Assert e act words) (f, normal, said) = by (is_decided act l.place words f ss said)
       where
-        by : (f : Form) → norm_of z l.context e ≡ Ok f → IsDecided act l.place words f ss → Tells z (record l { stated = Assert e act words }) ss
-        by f first (settled same) = subst (Tells z (record l { stated = Assert e act words })) same (record { demanded = refl; asserted = tt })
-        by f first (waiting same) = subst (Tells z (record l { stated = Assert e act words })) same (record { demanded = refl; asserted = ((e, refl, first), tt) })
-    go x h = exporting x refl (nothing_more ss h)
+        by : IsDecided act l.place words f ss → Tells z (record l { stated = Assert e act words }) ss
+        by (settled same) = subst (Tells z (record l { stated = Assert e act words })) same (record { demanded = refl; asserted = tt })
+        by (waiting same) = subst (Tells z (record l { stated = Assert e act words })) same (record { demanded = refl; asserted = ((e, refl, normal), tt) })
+    go x h = exporting x refl (subst (AllByRecursion IsExport) (sym h) tt)
 
 -- ---- All of a module.
 
-pub all_demanded : (z : Symbols) (ls : List Laid) (cs : List Content) → contents_from z ls ≡ Ok cs → demanded_names (all_said cs) ≡ flat_map (λ l. forced_by l.stated) ls
-all_demanded z [] cs e = let same : [] ≡ cs = cc in ap (λ k. demanded_names (all_said k)) (sym same)
-all_demanded z (l ∷ ls) cs e =
-    let found : Laid → Result Content PlacedFault = λ l. at_place l.place (content_of z l) in
-    let (c, first, others) = bind_ok (found l) (λ y. each found ls >>= (λ ys. Ok (y ∷ ys))) cs e in
-    let (ds, more, last) = bind_ok (each found ls) (λ ys. Ok (c ∷ ys)) cs others in
-    let same : c ∷ ds ≡ cs = cc last in
-    let content = content_is z l c (placed_ok l.place (content_of z l) c first) in
-    ap (λ k. demanded_names (all_said k)) (sym same)
-    ∙ flat_map-append demanded_name c.said (all_said ds)
-    ∙ ap (λ ns. ns ++ demanded_names (all_said ds)) (one_tells z l c.said content.said).demanded
-    ∙ ap (λ ns. forced_by l.stated ++ ns) (all_demanded z ls ds more)
+lines_demand : (z : Symbols) (names : List (List ℕ)) (ls : List Laid) (cs : List Content) → AreStated z names ls cs → demanded_names (all_said cs) ≡ flat_map (λ l. forced_by l.stated) ls
+lines_demand z names [] _ no_line = refl
+lines_demand z names (l ∷ ls) _ (a_line ds cs found more) =
+    ap demanded_names (said_append ds cs)
+    ∙ flat_map-append demanded_name (all_said ds) (all_said cs)
+    ∙ ap (λ ns. ns ++ demanded_names (all_said cs)) (one_tells z names l (all_said ds) (stated z names l ds found).said).demanded
+    ∙ ap (λ ns. forced_by l.stated ++ ns) (lines_demand z (names ++ exported_names (all_said ds)) ls cs more)
+
+pub all_demanded : (y : Layout) (cs : List Content) → (ending_of y.laid).found ≡ Ok cs → demanded_names (all_said cs) ≡ flat_map (λ l. forced_by l.stated) y.laid
+all_demanded y cs e = lines_demand (table_of y) [] y.laid cs (are_stated y cs e)

@@ -1,6 +1,6 @@
 -- The files of a link and those of the whole program.
 use Rattle.std.proofs.lemmas.Grind.{common_steps}
-use Rattle.std.proofs.Common.{◌≡◌, ℕ, zero, suc, ◌+◌, ◌<◌, List, [], ◌∷◌, length, slice_get, Option, Some, None, Result, Ok, Err, refl, ◌∙◌, ap, subst, arith, Bool, true, false, cond, ◌++◌, sym, map}
+use Rattle.std.proofs.Common.{◌≡◌, ℕ, zero, suc, ◌+◌, ◌<◌, List, [], ◌∷◌, length, slice_get, Option, Some, Result, Ok, Err, refl, ◌∙◌, ap, subst, arith, Bool, true, false, cond, ◌++◌, sym, map}
 use Rattle.std.specs.Prelude.{ℤ, ◌↔◌, ◌==◌}
 use Rattle.base65.specs.Outcome.{◌>>=◌}
 use Rattle.base65.specs.Values.{value1, value2}
@@ -9,10 +9,9 @@ use Rattle.object65.specs.FormValue.{or_none}
 use Rattle.link65.proofs.Tries.{exports_grow, form_grows, Known, further, settles_once}
 use Rattle.link65.specs.declared.parts.Exported.{Exported}
 use Rattle.link65.specs.declared.parts.Provider.{Provider}
-use Rattle.link65.specs.declared.parts.Provider.TheVariants.{ByModule, ByScript, Nobody}
 use Rattle.link65.specs.declared.parts.ValueFault.{ValueFault}
-use Rattle.link65.specs.declared.parts.ValueFault.TheVariants.{Circular, NoValue, Unresolved}
-use Rattle.link65.specs.Values.{AreExports, Exports, Linkage, Settles, base_of, export_value, exports_through, provider_at, import_value, in_table, value_by, cell_bytes, or_zero, stored, row_bytes, segment_bytes, linkage_of}
+use Rattle.link65.specs.declared.parts.ValueFault.TheVariants.{NoValue}
+use Rattle.link65.specs.Values.{AreExports, Exports, Linkage, base_of, exports_through, provider_at, import_value, in_table, value_by, cell_bytes, or_zero, stored, row_bytes, segment_bytes, linkage_of}
 use Rattle.whole65.proofs.SameValues.{bind_ok, value_covered, same_values_law}
 use Rattle.whole65.proofs.LinkedObjects.{linked_value, AreCells, cells_or, linked_objects}
 use Rattle.std.specs.List.{flat_map, AllByRecursion}
@@ -30,7 +29,7 @@ use Rattle.script65.specs.declared.script.Row.{Row}
 use Rattle.script65.specs.declared.script.Script.{Script}
 use Rattle.semantics65.specs.Layout.{Layout}
 use Rattle.link65.proofs.Passes.{passes_append}
-use Rattle.link65.specs.Files.{RowBytes, AddsArea, AddsAreas, IsAreaFile, IsImage, area_at, area_pieces, file_len, file_name, is_loaded, loaded_in, offset_of}
+use Rattle.link65.specs.Files.{RowBytes, AddsArea, AddsAreas, IsAreaFile, area_pieces, file_name, loaded_in}
 use Rattle.link65.specs.Programs as linked
 use Rattle.whole65.proofs.Providers.{IsExportOf, exports_known, export_normal, sources_law, exports_are, linked_exports}
 use Rattle.whole65.proofs.Keyed.{form_law}

@@ -27,7 +27,7 @@ use Rattle.link65.specs.declared.parts.Provider.TheVariants.{Nobody}
 use Rattle.link65.specs.declared.parts.Member.{Member}
 use Rattle.semantics65.proofs.SoundForms.{all_append}
 use Rattle.semantics65.proofs.Segments.{all_more}
-use Rattle.whole65.proofs.Providers.{Agree, providers_agree, of_module, of_nobody, of_script}
+use Rattle.whole65.proofs.Providers.{Agree, providers_agree}
 use Rattle.whole65.specs.Programs as whole
 use Rattle.whole65.specs.Segments.{needs_of}
 use Rattle.whole65.specs.Sources.{AreSources, IsSource}
@@ -38,8 +38,6 @@ use Rattle.std.specs.Option.{option_map}
 use Rattle.object65.specs.declared.object.Object.{Object}
 use Rattle.semantics65.specs.Contents.{Content, Part, Declaration, Exported, ForcedImport, Asserted}
 use Rattle.semantics65.specs.Symbols.{Laid, imports_of}
-use Rattle.ast65.specs.declared.language.Statement.{Statement}
-use Rattle.ast65.specs.declared.language.Statement.TheVariants.{ForceImport}
 use Rattle.semantics65.specs.Numbering.{all_said, content_imports, import_keys, key_of, name_of, once, optional_key, part_imports, said_imports}
 use Rattle.link65.proofs.SegmentLemmas.{at_front, behind_front}
 use Rattle.whole65.proofs.Keyed.{one_of, each_among, or_right}
@@ -302,7 +300,7 @@ forced_hold P y m h all =
     let c = contents_of y m h in
     let names : List (List ℕ) = (table_of y).imports in
     let keys : AllByRecursion (OfKey P names) (import_keys names c.contents) = keys_named P names (import_keys names c.contents) (subst (λ (o : Object). AllByRecursion P o.imports) c.object all) in
-    let same : demanded_names (all_said c.contents) ≡ forced_of y = all_demanded (table_of y) y.laid c.contents c.found in
+    let same : demanded_names (all_said c.contents) ≡ forced_of y = all_demanded y c.contents c.found in
     let told = in_said P names c.contents (all_keys P names (flat_map (content_imports names) c.contents) keys) in
     subst (AllByRecursion P) same
     (demands P names (all_said c.contents) told (subst (AllByRecursion (λ n. is_among names n ≡ true)) (sym same) (forced_among y)))

@@ -1,12 +1,11 @@
 -- Bases of sections in a link, and forms of modules with the numbers of objects.
 use Rattle.std.proofs.lemmas.Grind.{common_steps}
-use Rattle.whole65.specs.Programs as whole
 use Rattle.std.proofs.Common.{◌≡◌, List, [], ◌∷◌, ◌++◌, Ok, refl, ◌∙◌, ap, ℕ, zero, suc, ◌+◌, ◌<◌, Bool, true, false, nat_eq, cond, length, map, take, get_or, slice_get, Some, sym, subst, arith, nat_lt}
 use Rattle.std.specs.Prelude.{◌+ℤ◌, ℤ, pos, ◌||◌, ◌&&◌, Result}
 use Rattle.std.specs.Int.{int_wrap, next_multiple_of}
 use Rattle.std.specs.List.{AllByRecursion, list_any, flat_map, list_all}
 use Rattle.base65.specs.Outcome.{◌>>=◌}
-use Rattle.base65.specs.Values.{value1, value2, wrapped}
+use Rattle.base65.specs.Values.{value2, wrapped}
 use Rattle.object65.specs.Form.{lit, sec, imp, prefix, binary, Form}
 use Rattle.object65.specs.FormValue.{or_none, value_in}
 use Rattle.semantics65.specs.Numbering.{imports_in, import_keys, number_of, section_keys, section_of, content_imports, name_of, part_imports, said_imports, numbered, sections_in, IsSoundContent, IsSoundForm, IsSoundPart, IsSoundDeclaration, IsSoundLayout}
@@ -20,7 +19,7 @@ use Rattle.script65.specs.Placing.{rounded_up}
 use Rattle.script65.specs.declared.placement.Placement.{Placement}
 use Rattle.script65.specs.declared.script.Script.{Script}
 use Rattle.syntax65.specs.declared.place.Place.{Place}
-use Rattle.semantics65.specs.Contents.{Content, Part, Known, Filled, Waiting, Declaration, Exported, ForcedImport, Asserted}
+use Rattle.semantics65.specs.Contents.{Content, Part, Known, Filled, Waiting, Declaration}
 use Rattle.semantics65.specs.Layout.{Layout}
 use Rattle.link65.specs.Programs.{Module, Program, member, no_program, program_of, with_module, with_modules, grown, section_place, section_places, segment_of, with_section}
 use Rattle.link65.specs.Values.{address_of, linkage_of, resolved, run_of, base_of, exports_through, provider_at, import_value, Linkage, value_by}
@@ -46,7 +45,7 @@ use Rattle.semantics65.proofs.SoundContents.{sound_contents}
 use Rattle.whole65.proofs.ModuleBytes.{number_law}
 use Rattle.script65.specs.declared.script.Row.{Row}
 use Rattle.script65.specs.declared.placement.RowPlace.{RowPlace}
-use Rattle.semantics65.specs.Module.{contents_from}
+use Rattle.semantics65.specs.Module.{ending_of}
 use Rattle.whole65.specs.Objects.{form_value}
 
 -- ---- What the value of a form rests on.
@@ -161,7 +160,7 @@ less : (n m : ℕ) → n < m → nat_lt n m ≡ true
 less n m h = grind (arith, nat_tests)
 
 -- The base of a section of an object in a link is that of the module's segment in the whole program.
-pub section_base_law : (s : Script) (placement : Placement) (ys : List Layout) (ms : List Module) (owner g : ℕ) (y : Layout) (m : Module) (cs : List Content) → AreSources ys ms → slice_get ys owner ≡ Some y → slice_get ms owner ≡ Some m → contents_from (table_of y) y.laid ≡ Ok cs → list_any (nat_eq g) (section_keys cs) ≡ true → base_of (slice_get (linkage_of s (linked.program_of ms) placement).modules owner) (number_of (section_keys cs) g) ≡ base_in s placement ys owner g (Some y)
+pub section_base_law : (s : Script) (placement : Placement) (ys : List Layout) (ms : List Module) (owner g : ℕ) (y : Layout) (m : Module) (cs : List Content) → AreSources ys ms → slice_get ys owner ≡ Some y → slice_get ms owner ≡ Some m → (ending_of y.laid).found ≡ Ok cs → list_any (nat_eq g) (section_keys cs) ≡ true → base_of (slice_get (linkage_of s (linked.program_of ms) placement).modules owner) (number_of (section_keys cs) g) ≡ base_in s placement ys owner g (Some y)
 section_base_law s placement ys ms owner g y m cs h at_y at_m e among =
     let source : IsSource y m = source_at ys ms owner y m h at_y at_m in
     let d : IsLaidOut y = source.laid_out in
@@ -284,7 +283,7 @@ module _ (sections imports : List ℕ) (count : ℕ) where
       )
 
 -- All forms in a module's contents have the sections and the imports of its object.
-pub keyed_law : (y : Layout) (cs : List Content) → IsSoundLayout y → contents_from (table_of y) y.laid ≡ Ok cs → AllByRecursion (IsKeyedContent (section_keys cs) (import_keys (table_of y).imports cs) (length (table_of y).imports)) cs
+pub keyed_law : (y : Layout) (cs : List Content) → IsSoundLayout y → (ending_of y.laid).found ≡ Ok cs → AllByRecursion (IsKeyedContent (section_keys cs) (import_keys (table_of y).imports cs) (length (table_of y).imports)) cs
 keyed_law y cs h e =
     let names : List (List ℕ) = (table_of y).imports in
     keyed_contents (section_keys cs) (import_keys names cs) (length names) names cs (sound_contents y cs h e).contents
@@ -307,7 +306,7 @@ all_map P Q f [] h = tt
 all_map P Q f (x ∷ xs) h = (f x h.0, all_map P Q f xs h.1)
 
 -- Such a form comes in a link, through so many exports, to what linking knows of it in the whole program.
-pub form_law : (s : Script) (placement : Placement) (ys : List Layout) (ms : List Module) (owner turns : ℕ) (y : Layout) (m : Module) (cs : List Content) (f : Form) → AreSources ys ms → slice_get ys owner ≡ Some y → slice_get ms owner ≡ Some m → contents_from (table_of y) y.laid ≡ Ok cs → let sections : List ℕ = section_keys cs in let imports : List ℕ = import_keys (table_of y).imports cs in let l : Linkage = linkage_of s (linked.program_of ms) placement in IsKeyed sections imports (length (table_of y).imports) f → form_value (linked_objects s placement ys ms) turns owner f ≡ value_by l (exports_through l turns) owner (numbered sections imports f)
+pub form_law : (s : Script) (placement : Placement) (ys : List Layout) (ms : List Module) (owner turns : ℕ) (y : Layout) (m : Module) (cs : List Content) (f : Form) → AreSources ys ms → slice_get ys owner ≡ Some y → slice_get ms owner ≡ Some m → (ending_of y.laid).found ≡ Ok cs → let sections : List ℕ = section_keys cs in let imports : List ℕ = import_keys (table_of y).imports cs in let l : Linkage = linkage_of s (linked.program_of ms) placement in IsKeyed sections imports (length (table_of y).imports) f → form_value (linked_objects s placement ys ms) turns owner f ≡ value_by l (exports_through l turns) owner (numbered sections imports f)
 form_law s placement ys ms owner turns y m cs f h at_y at_m e =
     let names : List (List ℕ) = (table_of y).imports in
     let sections : List ℕ = section_keys cs in

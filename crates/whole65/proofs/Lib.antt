@@ -17,6 +17,7 @@ pub mod SameValues
 pub mod SectionBytes
 pub mod Sections
 pub mod Sources
+pub mod Statements
 pub mod Unresolved
 pub mod Versions
 pub mod LinkedObjects

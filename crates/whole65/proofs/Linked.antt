@@ -5,18 +5,17 @@ use Rattle.std.specs.List.{flat_map, AllByRecursion, list_any}
 use Rattle.syntax65.specs.Trees.{Tree}
 use Rattle.ast65.specs.declared.fault.AsmFault.{AsmFault}
 use Rattle.semantics65.specs.Symbols.{Laid, asks_section, Definition, Key, definition_with, definitions_of, key_defined, value_defined, Symbols, symbols_of, meaning_of}
-use Rattle.semantics65.specs.Layout.{Layout, laid, own_size, context_of}
+use Rattle.semantics65.specs.Layout.{Layout}
 use Rattle.semantics65.specs.Symbols as names
 use Rattle.whole65.proofs.LinkedObjects.{or_first, place_in, symbols_at, base_in, begin_in, objects_of, context_in}
-use Rattle.whole65.specs.Modules.{defining_from, definition_at, import_named, meaning_by, context_at, statement_at, table_of, global_context, context_or}
-use Rattle.whole65.specs.Objects.{definition_shown, import_shown, value_shown, meaning_shown, AreObjects, IsGiven, Objects}
+use Rattle.whole65.specs.Modules.{defining_from, import_named, meaning_by, context_at, statement_at, table_of, global_context, context_or}
+use Rattle.whole65.specs.Objects.{definition_shown, import_shown, meaning_shown, AreObjects, IsGiven, Objects}
 use Rattle.whole65.specs.Values.{Meaning, Program}
 use Rattle.std.specs.Prelude.{◌&&◌, ◌||◌, ℤ, pos, ◌+ℤ◌, nat_lt}
 use Rattle.std.specs.Str.{bytes_eq}
 use Rattle.syntax65.specs.declared.lexing.tokens.AddressSize.{AddressSize}
 use Rattle.semantics65.specs.declared.laid.Context.{Context}
 use Rattle.ast65.specs.declared.language.Statement.{Statement}
-use Rattle.ast65.specs.declared.language.Statement.TheVariants as statement
 use Rattle.semantics65.specs.Norms.{length_of}
 use Rattle.semantics65.proofs.Segments.{all_more}
 use Rattle.whole65.proofs.Positions.{IsAbsent, other_part, all_front, itself, all_get, position_law, named}
@@ -24,7 +23,7 @@ use Rattle.whole65.proofs.Multiples.{equal}
 use Rattle.whole65.proofs.Offsets.{placed}
 use Rattle.whole65.specs.Offsets.{IsLaidOut, begun, behind, lines_at, begin_of}
 use Rattle.whole65.specs.Segments.{Item, end_of, has_section, items_before, items_from, items_of, largest_multiple, line, line_end, line_of, lines_behind, lines_in, part_of, rounding, segment_name, stands_in, position_of}
-use Rattle.std.specs.Int.{int_wrap, w64}
+use Rattle.std.specs.Int.{int_wrap}
 use Rattle.std.proofs.lemmas.Bool.Decides.{nat_tests}
 use Rattle.std.proofs.lemmas.Int.{ints, int_wrap-add_left}
 use Rattle.base65.specs.Values.{wrapped}

@@ -1,19 +1,16 @@
 -- What a link comes to that gives files.
 use Rattle.std.proofs.lemmas.Grind.{common_steps}
-use Rattle.whole65.specs.Programs as whole
-use Rattle.std.proofs.Common.{arith, ◌≡◌, ℕ, List, [], ◌∷◌, ◌++◌, Result, Ok, Err, refl, sym, ◌∙◌, ap, subst, Option, Some, None}
+use Rattle.std.proofs.Common.{arith, ◌≡◌, ℕ, List, [], ◌∷◌, ◌++◌, Result, Ok, Err, refl, sym, subst, Option, Some, None}
 use Rattle.std.specs.Prelude.{ℤ, ◌↔◌}
 use Rattle.base65.specs.Outcome.{◌>>=◌, First}
 use Rattle.script65.specs.Placing.{place_of}
-use Rattle.script65.specs.declared.placement.PlaceFault.{PlaceFault}
 use Rattle.script65.specs.declared.placement.Placement.{Placement}
 use Rattle.script65.specs.declared.script.Script.{Script}
-use Rattle.link65.specs.Links.{check_asserts, check_export, check_fixup, each_passes, fixups_by_row, AreFiles, IsFinished, IsImaged, IsPlacedLink, IsProgramLink, as_placement, checked, names_once, none_unresolved, placed, no_name_again}
-use Rattle.link65.specs.Names.{unresolved, first_again, script_names}
+use Rattle.link65.specs.Links.{check_asserts, check_export, check_fixup, each_passes, fixups_by_row, AreFiles, IsProgramLink, names_once, no_name_again}
+use Rattle.link65.specs.Names.{unresolved, first_again}
 use Rattle.link65.specs.Texts.{map_text, warnings_of_rows}
-use Rattle.link65.specs.Values.{linkage_of, needs_of, AreExports, Exports, Linkage, in_table}
+use Rattle.link65.specs.Values.{linkage_of, needs_of, AreExports, in_table}
 use Rattle.link65.specs.Programs.{Program, program_of, Module}
-use Rattle.link65.specs.declared.fault.LinkFault.{LinkFault}
 use Rattle.link65.specs.declared.linking.Linked.{Linked}
 use Rattle.base65.specs.declared.output.OutputFile.{OutputFile}
 use Rattle.link65.specs.declared.parts.ValueFault.{ValueFault}
@@ -37,7 +34,6 @@ use Rattle.base65.specs.Values.{value1, value2}
 use Rattle.object65.specs.Form.{lit, sec, imp, prefix, binary, Form}
 use Rattle.object65.specs.FormValue.{or_none, value_in}
 use Rattle.semantics65.specs.Numbering.{imports_in}
-use Rattle.link65.specs.Names as linked
 use Rattle.semantics65.proofs.SoundForms.{all_append}
 use Rattle.whole65.proofs.Exports.{export_names_law}
 use Rattle.std.specs.List.{AllByRecursion}

@@ -1,6 +1,6 @@
 -- What lies in a segment, and what an object's section puts there.
 use Rattle.std.proofs.lemmas.Grind.{common_steps}
-use Rattle.std.proofs.Common.{◌≡◌, ℕ, zero, suc, List, [], ◌∷◌, ◌++◌, map, refl, sym, ◌∙◌, ap, subst, ◌+◌, Bool, true, false, cond, filter, Result, Ok, arith}
+use Rattle.std.proofs.Common.{◌≡◌, ℕ, zero, suc, List, [], ◌∷◌, ◌++◌, map, refl, sym, ◌∙◌, ap, subst, ◌+◌, true, filter, Result, Ok, arith}
 use Rattle.std.specs.Prelude.{◌↔◌, replicate, ℤ, not, Some, slice_get}
 use Rattle.std.specs.List.{flat_map, AllByRecursion}
 use Rattle.std.proofs.lemmas.List.{append-nil, append_assoc}
@@ -8,18 +8,18 @@ use Rattle.object65.specs.declared.object.Fragment.{Fragment}
 use Rattle.object65.specs.declared.object.Fragment.TheVariants.{Literal, Fill, Value}
 use Rattle.link65.specs.Programs.{Cell, known, filled, fragment_cells}
 use Rattle.link65.specs.Values.{Linkage}
-use Rattle.whole65.proofs.LinkedObjects.{AreCells, linked_value, IsValuedIn, AreFragments, IsFragment, AreParts, ArePart, Valuing, valued_by}
+use Rattle.whole65.proofs.LinkedObjects.{AreCells, linked_value, IsValuedIn, AreFragments, IsFragment, AreParts, ArePart, Valuing}
 use Rattle.base65.specs.Outcome.{◌>>=◌}
-use Rattle.base65.specs.Values.{value1, value2}
+use Rattle.base65.specs.Values.{value1}
 use Rattle.object65.specs.Form.{Form, lit, sec, imp, prefix, binary}
-use Rattle.object65.specs.FormValue.{or_none, value_in}
+use Rattle.object65.specs.FormValue.{value_in}
 use Rattle.object65.specs.declared.object.Origin.{Origin}
 use Rattle.syntax65.specs.declared.place.Place.{Place}
 use Rattle.semantics65.specs.Contents.{Part, Known, Filled, Waiting, Content}
 use Rattle.semantics65.specs.Numbering.{all_joined, fragment_of, fragments_of, is_empty, joined, number_of, numbered, parts_in, section_of}
 use Rattle.whole65.proofs.SectionBytes.{section_law}
 use Rattle.whole65.specs.Objects.{HasValue, Objects, AreObjects}
-use Rattle.semantics65.specs.Module.{contents_from}
+use Rattle.semantics65.specs.Module.{ending_of}
 use Rattle.semantics65.specs.Layout.{Layout}
 use Rattle.whole65.specs.Modules.{table_of}
 use Rattle.whole65.specs.Offsets.{lines_at, IsMultiple, IsLaidOut}
@@ -175,7 +175,7 @@ module _ {E : Type 0} (o : Objects E) (l : Linkage) (owner fill : ℕ) (sections
 
 -- A module's lines in a segment have the bytes of what its object's section puts there, where the forms in its parts have the
 -- values of those in the object.
-pub module_law : (E : Type 0) → (p : Program) (o : Objects E) (l : Linkage) (fill begin owner g : ℕ) (y : Layout) (cs : List Content) (origins : Place → Origin) (sections imports bytes : List ℕ) → AreObjects p o → o.symbols owner ≡ table_of y → ((place : ℕ) (x : Laid) → slice_get y.laid place ≡ Some x → o.contexts owner place ≡ x.context) → IsLaidOut y → IsMultiple begin (largest_multiple (lines_at g (lines_behind owner [] y.laid))) → contents_from (table_of y) y.laid ≡ Ok cs → AllByRecursion (IsValuedIn o l owner sections imports) (parts_in cs g) → AreBytes p fill begin (map line (lines_at g (lines_behind owner [] y.laid))) bytes ↔ AreCells l fill (flat_map (fragment_cells owner) (section_of origins y.cursor.segments sections imports cs g).fragments) bytes
+pub module_law : (E : Type 0) → (p : Program) (o : Objects E) (l : Linkage) (fill begin owner g : ℕ) (y : Layout) (cs : List Content) (origins : Place → Origin) (sections imports bytes : List ℕ) → AreObjects p o → o.symbols owner ≡ table_of y → ((place : ℕ) (x : Laid) → slice_get y.laid place ≡ Some x → o.contexts owner place ≡ x.context) → IsLaidOut y → IsMultiple begin (largest_multiple (lines_at g (lines_behind owner [] y.laid))) → (ending_of y.laid).found ≡ Ok cs → AllByRecursion (IsValuedIn o l owner sections imports) (parts_in cs g) → AreBytes p fill begin (map line (lines_at g (lines_behind owner [] y.laid))) bytes ↔ AreCells l fill (flat_map (fragment_cells owner) (section_of origins y.cursor.segments sections imports cs g).fragments) bytes
 module_law E p o l fill begin owner g y cs origins sections imports bytes h table contexts d m e valued =
     let Has : Valuing = linked_value l owner in
     let lines = section_law E p o fill begin owner g y cs bytes h table contexts d m e in

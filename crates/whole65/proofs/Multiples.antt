@@ -1,23 +1,22 @@
 -- Powers of two, their multiples, and what lies behind a multiple.
 use Rattle.std.proofs.lemmas.Grind.{common_steps}
-use Rattle.std.proofs.Common.{◌≡◌, ℕ, true, nat_eq, arith, zero, suc, ◌+◌, ◌-◌, ◌*◌, ◌^◌, ◌%◌, ◌/◌, ◌≤◌, ◌<◌, ◌⊎◌, inl, inr, max, sym, ◌∙◌, ap, subst, refl, List, [], ◌∷◌, ◌++◌, map, Bool, false, Option, Some, None, min, cond}
+use Rattle.std.proofs.Common.{◌≡◌, ℕ, true, nat_eq, arith, zero, suc, ◌+◌, ◌-◌, ◌*◌, ◌^◌, ◌%◌, ◌/◌, ◌≤◌, ◌<◌, ◌⊎◌, inl, inr, max, sym, ◌∙◌, ap, subst, refl, List, [], ◌∷◌, ◌++◌, map, Bool, false, Option, Some, None, min}
 use Rattle.std.proofs.lemmas.Bool.Decides.{nat_tests}
 use Rattle.std.specs.Int.{next_multiple_of}
 use Rattle.std.proofs.Math.Nat.{mul-add-mod_self_left, div-add-mod, add_assoc, mul_assoc, mod-eq_of_lt, mod_self, mul_comm}
 use Rattle.std.proofs.lemmas.Nat.{pow-add, pow_pos, mod_below}
 use Rattle.whole65.specs.Offsets.{IsMultiple, IsPower, ArePowers}
-use Rattle.semantics65.specs.Symbols.{Laid, Symbols, key_defined}
+use Rattle.semantics65.specs.Symbols.{Laid, Symbols}
 use Rattle.ast65.specs.declared.language.Statement.{Statement}
 use Rattle.ast65.specs.declared.language.Statement.TheVariants.{Align}
 use Rattle.whole65.specs.Segments.{Item, Line, end_behind, end_of, largest_multiple, line, line_end}
-use Rattle.std.specs.Prelude.{ℤ, pos, negsuc, nat_lt, not, ◌==◌, ◌&&◌, ◌||◌}
+use Rattle.std.specs.Prelude.{ℤ, pos, negsuc, not, ◌==◌}
 use Rattle.std.specs.List.{AllByRecursion, list_any}
 use Rattle.ast65.specs.declared.fault.AsmFault.{AsmFault}
-use Rattle.ast65.specs.declared.fault.AsmFault.TheVariants.{BadAlignment, NotUnderstood, SectionTooLarge}
-use Rattle.semantics65.specs.Layout.{Cursor, laid, multiple_of, own_size, powers, context_of, alignment_fault, block_fault, defined_twice, first_fault, form_fault, is_open, line_fault, lost_scopes, missing_file, multiple_fault, opened_twice, operand_fault, part_fault, pop_fault, scope_name, size_fault, stands_outside, trees_of, when}
-use Rattle.semantics65.specs.Norms.{constant_in, counted, gap, length_of}
+use Rattle.ast65.specs.declared.fault.AsmFault.TheVariants.{BadAlignment}
+use Rattle.semantics65.specs.Layout.{Cursor, laid, multiple_of, powers, context_of, alignment_fault, line_fault, multiple_fault, when}
+use Rattle.semantics65.specs.Norms.{constant_in, counted}
 use Rattle.syntax65.specs.declared.place.Place.{Place}
-use Rattle.object65.specs.Objects.{section_limit}
 use Rattle.script65.specs.Placing.{rounded_up}
 
 -- ---- Numbers that are tested.

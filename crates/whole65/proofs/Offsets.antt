@@ -6,11 +6,10 @@ use Rattle.std.proofs.lemmas.Bool.Decides.{nat_tests}
 use Rattle.syntax65.specs.declared.lexing.tokens.AddressSize.{AddressSize}
 use Rattle.semantics65.specs.declared.contents.Segment.{Segment}
 use Rattle.ast65.specs.declared.language.Statement.{Statement}
-use Rattle.ast65.specs.declared.language.Statement.TheVariants as statement
-use Rattle.semantics65.specs.Layout.{Cursor, current_behind, first_size, grown_at, kept_behind, last_kept, multiple_of, named_segments, new_segment, own_size, place_of, rest_kept, segment_at, segments_behind, context_of, Layout, laid, layout_behind, nothing_laid, line_fault}
+use Rattle.semantics65.specs.Layout.{Cursor, current_behind, grown_at, kept_behind, multiple_of, named_segments, new_segment, own_size, segment_at, segments_behind, context_of, Layout, laid, layout_behind, nothing_laid, line_fault}
 use Rattle.semantics65.specs.Norms.{length_of}
 use Rattle.semantics65.specs.Symbols.{Symbols, symbols_of, Laid}
-use Rattle.semantics65.proofs.Segments.{all_same, end_behind, grown_end, grown_length, grown_other, named_there, one_longer, all_more}
+use Rattle.semantics65.proofs.Segments.{all_same, end_behind, grown_end, grown_length, grown_other, named_there, all_more}
 use Rattle.std.proofs.lemmas.List.{append-nil, append_assoc, map-append}
 use Rattle.std.proofs.lemmas.List.Elements.{filter-append}
 use Rattle.syntax65.specs.declared.place.Place.{Place}

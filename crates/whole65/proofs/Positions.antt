@@ -14,7 +14,6 @@ use Rattle.syntax65.specs.declared.lexing.tokens.AddressSize.{AddressSize}
 use Rattle.ast65.proofs.Lists.{bytes_swap}
 use Rattle.semantics65.specs.declared.contents.Segment.{Segment}
 use Rattle.ast65.specs.declared.language.Statement.{Statement}
-use Rattle.ast65.specs.declared.language.Statement.TheVariants as statement
 use Rattle.semantics65.specs.Norms.{length_of}
 use Rattle.syntax65.specs.declared.place.Place.{Place}
 use Rattle.semantics65.proofs.Segments.{all_more, all_same, grown_length, one_longer}

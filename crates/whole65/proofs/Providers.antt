@@ -1,12 +1,11 @@
 -- Who gives a name, in a link and in the whole program.
 use Rattle.std.proofs.lemmas.Grind.{common_steps}
 use Rattle.std.proofs.Common.{◌≡◌, ℕ, zero, suc, ◌+◌, Bool, true, false, cond, List, [], ◌∷◌, ◌++◌, length, map, slice_get, Option, Some, None, Result, Ok, Err, refl, sym, ◌∙◌, ap, subst, arith}
-use Rattle.std.specs.Prelude.{ℤ, pos, find, ◌||◌}
-use Rattle.std.specs.List.{AllByRecursion, list_any, position_from}
+use Rattle.std.specs.Prelude.{ℤ, pos, filter_map, find}
+use Rattle.std.specs.List.{AllByRecursion, position_from}
 use Rattle.std.specs.Option.{option_map_or}
 use Rattle.std.specs.Str.{bytes_eq}
 use Rattle.std.proofs.lemmas.List.{append-nil, append_assoc, length-append}
-use Rattle.base65.specs.Outcome.{◌>>=◌}
 use Rattle.syntax65.specs.Trees as tree
 use Rattle.object65.specs.Form.{Form}
 use Rattle.object65.specs.declared.object.Export.{Export}
@@ -17,11 +16,10 @@ use Rattle.script65.specs.declared.script.Script.{Script}
 use Rattle.ast65.proofs.Lists.{same_bytes}
 use Rattle.syntax65.specs.declared.place.Place.{Place}
 use Rattle.semantics65.specs.Contents.{Content, Declaration, Exported, ForcedImport, Asserted}
-use Rattle.ast65.specs.declared.fault.AsmFault.TheVariants.{Undefined}
-use Rattle.semantics65.specs.Symbols.{Laid, or_else, or_fault, Symbols, defined, imported, named}
+use Rattle.semantics65.specs.Symbols.{Laid, Symbols, defined, named}
 use Rattle.semantics65.specs.Layout.{Layout}
-use Rattle.semantics65.specs.Norms.{defined_form, form_of_meaning, norm, norm_of}
-use Rattle.semantics65.specs.Numbering.{all_said, exports_among, import_keys, numbered, section_keys}
+use Rattle.semantics65.specs.Norms.{defined_form, norm}
+use Rattle.semantics65.specs.Numbering.{all_said, export_of, import_keys, numbered, section_keys}
 use Rattle.link65.specs.Names.{by_definition, by_export, defined_at, exported_at, is_among, script_definitions, weak_symbols}
 use Rattle.link65.specs.Names as linked
 use Rattle.link65.specs.Programs.{position_in, Module, Program, exported, no_program, program_of, with_module, with_modules, member}
@@ -31,17 +29,16 @@ use Rattle.link65.specs.declared.parts.Exported as parts
 use Rattle.link65.specs.declared.parts.Provider.{Provider}
 use Rattle.link65.specs.declared.parts.Provider.TheVariants.{ByModule, ByScript, Nobody}
 use Rattle.link65.specs.declared.parts.ValueFault.{ValueFault}
-use Rattle.link65.specs.declared.parts.ValueFault.TheVariants.{Circular, NoValue, Unresolved}
+use Rattle.link65.specs.declared.parts.ValueFault.TheVariants.{Circular, Unresolved}
 use Rattle.semantics65.proofs.SoundForms.{all_append}
-use Rattle.semantics65.proofs.Segments.{all_more}
-use Rattle.semantics65.specs.Module.{contents_from}
+use Rattle.semantics65.specs.Module.{ending_of}
 use Rattle.whole65.proofs.Exports.{IsDefined, said_all, source_exports}
 use Rattle.whole65.proofs.Keyed.{form_law, keyed_law}
 use Rattle.whole65.proofs.Linked.{linked_law}
 use Rattle.whole65.proofs.Positions.{all_get}
 use Rattle.whole65.proofs.Sources.{contents_of}
 use Rattle.whole65.proofs.LinkedObjects.{IsKeyed, IsKeyedContent, IsKeyedSaid, provider_named, imports_linked, linked_objects, context_in, symbols_at}
-use Rattle.whole65.specs.Modules.{global_context, context_or, table_of}
+use Rattle.whole65.specs.Modules.{global_context, table_of}
 use Rattle.whole65.specs.Objects.{IsExport, IsGiven, IsGivenBy, Objects, AreObjects}
 use Rattle.whole65.specs.Offsets.{IsLaidOut}
 use Rattle.whole65.specs.Programs as whole
@@ -57,16 +54,11 @@ abbrev IsWritten : Symbols → (sections numbers : List ℕ) → ℕ → Export 
 IsWritten z sections numbers count e =
     (f : Form) × (j : ℕ) × IsKeyed sections numbers count f × (e.form ≡ numbered sections numbers f) × (defined z (named 0 e.name) ≡ Some j) × (defined_form z j ≡ Ok f)
 
-written_among : (z : Symbols) (origins : Place → Origin) (sections numbers : List ℕ) (count : ℕ) (ss : List Declaration) (found : List Export) → AllByRecursion (IsWritten z sections numbers count) found → AllByRecursion (IsDefined z) ss → AllByRecursion (IsKeyedSaid sections numbers count) ss → AllByRecursion (IsWritten z sections numbers count) (exports_among origins sections numbers found ss)
-written_among z origins sections numbers count [] found h d k = h
-written_among z origins sections numbers count (Exported n place f ∷ ss) found h d k =
-    written_among z origins sections numbers count ss (cond (list_any (λ e. bytes_eq n e.name) found) found (found ++ record { name = n; origin = origins place; form = numbered sections numbers f } ∷ [])) (go (list_any (λ e. bytes_eq n e.name) found)) d.1 k.1
-  where
-    go : (b : Bool) → AllByRecursion (IsWritten z sections numbers count) (cond b found (found ++ record { name = n; origin = origins place; form = numbered sections numbers f } ∷ []))
-    go true = h
-    go false = all_more (IsWritten z sections numbers count) found (record { name = n; origin = origins place; form = numbered sections numbers f }) h (f, d.0.0, k.0, refl, d.0.1, d.0.2)
-written_among z origins sections numbers count (ForcedImport n ∷ ss) found h d k = written_among z origins sections numbers count ss found h d.1 k.1
-written_among z origins sections numbers count (Asserted act place words f ∷ ss) found h d k = written_among z origins sections numbers count ss found h d.1 k.1
+written_said : (z : Symbols) (origins : Place → Origin) (sections numbers : List ℕ) (count : ℕ) (ss : List Declaration) → AllByRecursion (IsDefined z) ss → AllByRecursion (IsKeyedSaid sections numbers count) ss → AllByRecursion (IsWritten z sections numbers count) (filter_map (export_of origins sections numbers) ss)
+written_said z origins sections numbers count [] d k = tt
+written_said z origins sections numbers count (Exported n place f ∷ ss) d k = ((f, d.0.0, k.0, refl, d.0.1, d.0.2), written_said z origins sections numbers count ss d.1 k.1)
+written_said z origins sections numbers count (ForcedImport n ∷ ss) d k = written_said z origins sections numbers count ss d.1 k.1
+written_said z origins sections numbers count (Asserted act place words f ∷ ss) d k = written_said z origins sections numbers count ss d.1 k.1
 
 pub keyed_said : (sections numbers : List ℕ) (count : ℕ) (cs : List Content) → AllByRecursion (IsKeyedContent sections numbers count) cs → AllByRecursion (IsKeyedSaid sections numbers count) (all_said cs)
 keyed_said sections numbers count [] h = tt
@@ -96,7 +88,7 @@ pub record IsExportOf (ys : List Layout) (ms : List Module) (e : parts.Exported)
   pub contents : List Content
   pub at_y : slice_get ys e.owner ≡ Some layout
   pub at_m : slice_get ms e.owner ≡ Some object
-  pub found : contents_from (table_of layout) layout.laid ≡ Ok contents
+  pub found : (ending_of layout.laid).found ≡ Ok contents
   pub form : Form
   pub keyed : IsKeyed (section_keys contents) (import_keys (table_of layout).imports contents) (length (table_of layout).imports) form
   pub written : e.form ≡ numbered (section_keys contents) (import_keys (table_of layout).imports contents) form
@@ -105,7 +97,7 @@ pub record IsExportOf (ys : List Layout) (ms : List Module) (e : parts.Exported)
   pub its_form : defined_form (table_of layout) definition ≡ Ok form
 
 module _ (ys : List Layout) (ms : List Module) where
-  of_source : (owner : ℕ) (y : Layout) (m : Module) (cs : List Content) → slice_get ys owner ≡ Some y → slice_get ms owner ≡ Some m → contents_from (table_of y) y.laid ≡ Ok cs → (es : List Export) → AllByRecursion (IsWritten (table_of y) (section_keys cs) (import_keys (table_of y).imports cs) (length (table_of y).imports)) es → AllByRecursion (IsExportOf ys ms) (map (exported owner) es)
+  of_source : (owner : ℕ) (y : Layout) (m : Module) (cs : List Content) → slice_get ys owner ≡ Some y → slice_get ms owner ≡ Some m → (ending_of y.laid).found ≡ Ok cs → (es : List Export) → AllByRecursion (IsWritten (table_of y) (section_keys cs) (import_keys (table_of y).imports cs) (length (table_of y).imports)) es → AllByRecursion (IsExportOf ys ms) (map (exported owner) es)
   of_source owner y m cs at_y at_m e [] h = tt
   of_source owner y m cs at_y at_m e (x ∷ es) h = (
     record { layout = y; object = m; contents = cs; at_y = at_y; at_m = at_m; found = e; form = h.0.0; keyed = h.0.2; written = h.0.3; definition = h.0.1; defining = h.0.4; its_form = h.0.5 },
@@ -126,7 +118,7 @@ module _ (ys : List Layout) (ms : List Module) where
       let z : Symbols = table_of y in
       let sections : List ℕ = section_keys cs in
       let numbers : List ℕ = import_keys z.imports cs in
-      let written = written_among z c.origins sections numbers (length z.imports) (all_said cs) [] tt (said_all z y.laid cs c.found).are_defined (keyed_said sections numbers (length z.imports) cs (keyed_law y cs h.0.sound c.found)) in
+      let written = written_said z c.origins sections numbers (length z.imports) (all_said cs) (said_all y cs c.found).are_defined (keyed_said sections numbers (length z.imports) cs (keyed_law y cs h.0.sound c.found)) in
       all_append (IsExportOf ys ms) (map (exported owner) m.object.exports) (linked_exports (suc owner) ns)
       (of_source owner y m cs at_y at_m c.found m.object.exports (subst (λ (o : Object). AllByRecursion (IsWritten z sections numbers (length z.imports)) o.exports) (sym c.object) written))
       (of_sources rest ns (suc owner) h.1 (λ i. up_y (suc i) ∙ ap (slice_get ys) (next i)) (λ i. up_m (suc i) ∙ ap (slice_get ms) (next i)))

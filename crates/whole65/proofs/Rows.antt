@@ -1,9 +1,8 @@
 -- Segments of a link and of the whole program: what they need, and what lies in them.
 use Rattle.std.proofs.lemmas.Grind.{common_steps}
-use Rattle.std.proofs.Common.{◌≡◌, ℕ, ◌<◌, Bool, true, false, nat_eq, cond, List, [], ◌∷◌, ◌++◌, length, map, filter, Option, Some, None, refl, sym, ◌∙◌, ap, suc, ◌+◌, ◌-◌, slice_get, Ok, subst, arith}
-use Rattle.std.specs.Prelude.{◌||◌, find, ◌↔◌, replicate}
+use Rattle.std.proofs.Common.{◌≡◌, ℕ, ◌<◌, Bool, true, cond, List, [], ◌∷◌, ◌++◌, length, map, filter, Option, Some, None, refl, sym, ◌∙◌, ap, suc, ◌+◌, ◌-◌, slice_get, Ok, subst, arith}
+use Rattle.std.specs.Prelude.{◌||◌, ◌↔◌, replicate}
 use Rattle.std.specs.List.{AllByRecursion, flat_map, list_any}
-use Rattle.std.specs.Option.{option_map, option_map_or}
 use Rattle.std.specs.Str.{bytes_eq}
 use Rattle.std.proofs.lemmas.List.{map-append, append-nil, append_assoc}
 use Rattle.std.proofs.lemmas.List.Folds.{list_any-append}
@@ -35,7 +34,7 @@ use Rattle.script65.specs.declared.placement.Placement.{Placement}
 use Rattle.script65.specs.declared.script.Script.{Script}
 use Rattle.link65.specs.Values.{linkage_of, Linkage}
 use Rattle.link65.specs.declared.parts.ValueFault.{ValueFault}
-use Rattle.semantics65.specs.Module.{contents_from}
+use Rattle.semantics65.specs.Module.{ending_of}
 use Rattle.semantics65.proofs.SoundForms.{all_append}
 use Rattle.whole65.proofs.Keyed.{source_at, form_law, keyed_law}
 use Rattle.whole65.proofs.ModuleBytes.{cells_joined, cells_split, of_filled, module_law}
@@ -107,7 +106,7 @@ one_source y m known h =
     ap (λ (o : Object). with_new known (map (λ (s : Section). s.name) o.sections)) c.object
     ∙ ap (with_new known) (section_names y c.origins (section_keys cs) imports cs (section_keys cs) keys.standing)
     ∙ names_once (segment_name y) known [] (segments_asked cs)
-    ∙ ap (λ z. with_new known (map (segment_name y) z)) (asked_are (table_of y) y.laid cs c.found)
+    ∙ ap (λ z. with_new known (map (segment_name y) z)) (asked_are y cs c.found)
     ∙ ap (with_new known) (names_asked y (filter (λ (l : Laid). asks_section l.stated) y.laid))
 
 all_modules : (p : LinkedProgram) (ys : List Layout) (ms : List Module) → AreSources ys ms → names_of (with_modules p ms).segments ≡ with_new (names_of p.segments) (flat_map asked_by ys)
@@ -198,7 +197,7 @@ module _ (s : Script) (placement : Placement) (ys : List Layout) (ms : List Modu
     source : IsSource y m
     source = source_at ys ms owner y m sources at_y at_m
 
-    valued : (cs : List Content) → contents_from (table_of y) y.laid ≡ Ok cs → (qs : List Part) → AllByRecursion (IsKeyedPart (section_keys cs) (import_keys (table_of y).imports cs) (length (table_of y).imports)) qs → AllByRecursion (IsValuedIn o l owner (section_keys cs) (import_keys (table_of y).imports cs)) qs
+    valued : (cs : List Content) → (ending_of y.laid).found ≡ Ok cs → (qs : List Part) → AllByRecursion (IsKeyedPart (section_keys cs) (import_keys (table_of y).imports cs) (length (table_of y).imports)) qs → AllByRecursion (IsValuedIn o l owner (section_keys cs) (import_keys (table_of y).imports cs)) qs
     valued cs e [] h = tt
     valued cs e (Known own ∷ qs) h = (tt, valued cs e qs h.1)
     valued cs e (Filled n ∷ qs) h = (tt, valued cs e qs h.1)
@@ -213,7 +212,7 @@ module _ (s : Script) (placement : Placement) (ys : List Layout) (ms : List Modu
     context_is : (place : ℕ) (x : Laid) → slice_get y.laid place ≡ Some x → o.contexts owner place ≡ x.context
     context_is place x e = ap (λ r. context_in r place) at_y ∙ ap (context_or (global_context y)) e
 
-    lines_have : (begin key : ℕ) (origins : Place → Origin) (cs : List Content) (bytes : List ℕ) → contents_from (table_of y) y.laid ≡ Ok cs → IsMultiple begin (largest_multiple (lines_at key (lines_behind owner [] y.laid))) → AreBytes p fill begin (map line (lines_at key (lines_behind owner [] y.laid))) bytes ↔ AreCells l fill (flat_map (fragment_cells owner) (section_of origins y.cursor.segments (section_keys cs) (import_keys (table_of y).imports cs) cs key).fragments) bytes
+    lines_have : (begin key : ℕ) (origins : Place → Origin) (cs : List Content) (bytes : List ℕ) → (ending_of y.laid).found ≡ Ok cs → IsMultiple begin (largest_multiple (lines_at key (lines_behind owner [] y.laid))) → AreBytes p fill begin (map line (lines_at key (lines_behind owner [] y.laid))) bytes ↔ AreCells l fill (flat_map (fragment_cells owner) (section_of origins y.cursor.segments (section_keys cs) (import_keys (table_of y).imports cs) cs key).fragments) bytes
     lines_have begin key origins cs bytes e multiple =
         let sections : List ℕ = section_keys cs in
         let imports : List ℕ = import_keys (table_of y).imports cs in

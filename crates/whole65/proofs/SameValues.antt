@@ -1,26 +1,21 @@
 -- A normal form has the value of its expression.
 use Rattle.std.proofs.lemmas.Grind.{common_steps}
-use Rattle.std.proofs.Common.{◌≡◌, ℕ, zero, suc, ◌+◌, Bool, true, false, cond, refl, sym, ◌∙◌, subst, arith, List, Option, Some, None, Result, Ok, Err, ap, [], ◌∷◌}
+use Rattle.std.proofs.Common.{◌≡◌, ℕ, zero, suc, ◌+◌, false, refl, sym, ◌∙◌, subst, arith, List, Option, Some, None, Result, Ok, ap, [], ◌∷◌}
 use Rattle.std.specs.Prelude.{ℤ, slice_get, pos}
 use Rattle.base65.specs.Outcome.{◌>>=◌}
 use Rattle.base65.specs.Values.{value1, value2}
 use Rattle.object65.specs.Form.{Form, lit, sec, imp, prefix, binary}
 use Rattle.object65.specs.FormValue.{or_none, value_in}
-use Rattle.object65.specs.Objects.{is_file_name}
 use Rattle.object65.specs.declared.folding.FormFault.{FormFault}
-use Rattle.object65.specs.declared.folding.FormFault.TheVariants as form
 use Rattle.syntax65.specs.declared.place.Place.{Place}
 use Rattle.semantics65.specs.Contents.{written}
-use Rattle.ast65.specs.declared.fault.AsmFault.{AsmFault}
-use Rattle.ast65.specs.declared.fault.AsmFault.TheVariants.{FileNameTooLong}
-use Rattle.semantics65.specs.Norms.{folded, address_of, form_of_definition, form_of_meaning, form_of_value, norm}
-use Rattle.whole65.specs.Objects.{AreObjects, IsGiven, IsGivenBy, Objects, form_value, definition_shown, import_shown, meaning_shown, value_shown, HasValue, IsExport}
+use Rattle.semantics65.specs.Norms.{folded, address_of, form_of_meaning, norm}
+use Rattle.whole65.specs.Objects.{AreObjects, IsGiven, IsGivenBy, Objects, form_value, HasValue, IsExport}
 use Rattle.whole65.specs.Values.{Provider, by_module, by_script, by_nobody, Program, Meaning, label_at, constant_at, import_of, meaning_in, Value, number, here, label, constant, exported, scripted, prefixed, joined}
 use Rattle.syntax65.specs.Trees.{Tree, name}
 use Rattle.syntax65.specs.Trees as tree
 use Rattle.whole65.specs.Laws.{OneValueLaw, SameValuesLaw}
-use Rattle.semantics65.specs.Symbols as names
-use Rattle.semantics65.specs.Symbols.{meaning_of, Definition}
+use Rattle.semantics65.specs.Symbols.{meaning_of}
 use Rattle.base65.specs.declared.values.Op1.{Op1}
 use Rattle.base65.specs.declared.values.Op2.{Op2}
 use Rattle.object65.proofs.Foldings.{binary_fold_law, prefix_fold_law}

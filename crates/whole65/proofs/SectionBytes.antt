@@ -1,10 +1,9 @@
 -- The bytes of a module's lines in a segment and those of its parts there.
 use Rattle.std.proofs.lemmas.Grind.{common_steps}
-use Rattle.std.proofs.Common.{◌≡◌, ℕ, ◌+◌, Bool, true, false, cond, List, Result, Ok, Err, refl, sym, ◌∙◌, ap, subst, arith, suc, ◌-◌, [], ◌∷◌, ◌++◌, length, Option, Some, None, nat_eq, map, filter, slice_get}
+use Rattle.std.proofs.Common.{◌≡◌, ℕ, ◌+◌, Bool, true, false, cond, List, Result, Ok, Err, refl, sym, ◌∙◌, ap, subst, arith, suc, ◌-◌, [], ◌∷◌, ◌++◌, length, Option, Some, None, nat_eq, map, slice_get}
 use Rattle.std.specs.Prelude.{ℤ, pos, ◌+ℤ◌, ◌-ℤ◌, ◌↔◌, replicate}
-use Rattle.std.specs.Int.{w64}
 use Rattle.std.proofs.lemmas.Int.{ints, int_wrap-add_left}
-use Rattle.base65.specs.Outcome.{◌>>=◌, each}
+use Rattle.base65.specs.Outcome.{◌>>=◌}
 use Rattle.base65.specs.Values.{wrapped}
 use Rattle.base65.specs.declared.values.Op2.TheVariants.{Subtract}
 use Rattle.object65.proofs.Foldings.{binary_fold_law}
@@ -14,15 +13,16 @@ use Rattle.object65.specs.Objects.{fits_width, value_bytes}
 use Rattle.object65.specs.declared.object.Width.{Width}
 use Rattle.object65.specs.declared.object.Width.TheVariants.{Byte, Word, HighFirst, Dword, Branch}
 use Rattle.syntax65.specs.declared.place.Place.{Place}
-use Rattle.semantics65.specs.Contents.{Part, Known, Waiting, Content, Declaration, operand_form, stored, written, instruction_parts, item_part, opcode_part, operand_part, operand_parts, operand_tree, parts_of, room_part, content_of, said_of}
+use Rattle.semantics65.specs.Contents.{Part, Known, Waiting, Content, operand_form, stored, written, opcode_part, operand_tree, room_part, exported_names}
 use Rattle.ast65.specs.declared.fault.AsmFault.{AsmFault}
 use Rattle.ast65.specs.declared.fault.AsmFault.TheVariants.{OutOfRange}
 use Rattle.semantics65.specs.declared.laid.Context.{Context}
-use Rattle.whole65.proofs.SameValues.{bind_ok, folded_ok, written_ok, same_values_law}
+use Rattle.whole65.proofs.SameValues.{bind_ok, folded_ok, same_values_law}
 use Rattle.whole65.specs.Contents.{AreStored, counted_from, AreInstruction, AreItem, AreItems, AreLine, AreOperand, code_bytes, filling, AreBytes}
 use Rattle.whole65.specs.Objects.{HasValue, Objects, form_value, AreObjects}
 use Rattle.whole65.proofs.LinkedObjects.{ArePart, AreParts, Valuing}
-use Rattle.std.proofs.lemmas.List.{append-nil, append_assoc}
+use Rattle.whole65.proofs.Statements.{AllCome, AreStated, a_datum, a_line, a_part, a_piece, all_put, an_operand, are_stated, no_line, no_piece, none_put, parts_append, pieces_alike, stated}
+use Rattle.std.proofs.lemmas.List.{append_assoc}
 use Rattle.syntax65.specs.Opcodes.{opcode_of}
 use Rattle.syntax65.specs.Trees.{Tree}
 use Rattle.syntax65.specs.declared.instructions.names.Mnemonic.{Mnemonic}
@@ -36,14 +36,12 @@ use Rattle.ast65.specs.declared.language.Item.TheVariants as item
 use Rattle.semantics65.specs.Norms.{norm_of, width_of}
 use Rattle.whole65.specs.Segments.{Line, line_end, line, line_of, lines_behind, largest_multiple}
 use Rattle.whole65.specs.Values.{Program, Value}
-use Rattle.std.specs.List.{flat_map}
-use Rattle.semantics65.specs.Symbols.{Laid, asks_section, Symbols}
-use Rattle.semantics65.specs.Numbering.{parts_in}
-use Rattle.semantics65.specs.Module.{contents_from}
-use Rattle.semantics65.specs.Reading.{PlacedFault, at_place}
+use Rattle.semantics65.specs.Symbols.{Laid}
+use Rattle.semantics65.specs.Numbering.{all_said, parts_in}
+use Rattle.semantics65.specs.Module.{Piece, ending_of, given, instruction_pieces, item_piece, operand_pieces, pieces_of}
 use Rattle.whole65.proofs.Offsets.{EndsAt, all_end, ends_moved, placed}
 use Rattle.whole65.proofs.Positions.{powers_at}
-use Rattle.whole65.specs.Offsets.{ArePowers, lines_at, IsMultiple, IsLaidOut}
+use Rattle.whole65.specs.Offsets.{lines_at, IsMultiple, IsLaidOut}
 use Rattle.semantics65.specs.Layout.{Layout}
 use Rattle.whole65.specs.Modules.{table_of}
 
@@ -116,12 +114,16 @@ module _ {E : Type 0} (o : Objects E) (owner fill : ℕ) where
 -- ---- The bytes of lines and those of parts.
 
 module _ {E : Type 0} (p : Program) (o : Objects E) (h : AreObjects p o) (fill : ℕ) (x : Line) (at_context : o.contexts x.owner x.place ≡ x.laid.context) where
+  -- these pieces of the statement come to these contents
+  abbrev Come : List (List ℕ) → List Piece → List Content → Type 0
+  Come names ps cs = AllCome (o.symbols x.owner) x.laid names ps cs
+
+  abbrev HaveBytes : List Content → List ℕ → Type 0
+  HaveBytes cs bytes = AreParts (HasValue o x.owner) fill (all_put cs) bytes
+
   -- one part alone
   single : (q : Part) (bytes : List ℕ) → ArePart (HasValue o x.owner) fill q bytes ↔ AreParts (HasValue o x.owner) fill (q ∷ []) bytes
   single q bytes = grind (arith, common_steps)
-
-  none : (ps : List Part) (bytes : List ℕ) → ◌≡◌ {A = Result (List Part) AsmFault} (Ok []) (Ok ps) → (bytes ≡ []) ↔ AreParts (HasValue o x.owner) fill ps bytes
-  none ps bytes e = grind (arith, common_steps)
 
   -- an expression has the value of its form
   values : (e : Tree) (f : Form) (v : ℤ) → norm_of (o.symbols x.owner) x.laid.context e ≡ Ok f → Value p x.owner x.place e v ↔ HasValue o x.owner f v
@@ -134,91 +136,87 @@ module _ {E : Type 0} (p : Program) (o : Objects E) (h : AreObjects p o) (fill :
 
   -- ---- Data.
 
-  of_item : (width : Width) (i : Item) (q : Part) (bytes : List ℕ) → item_part (o.symbols x.owner) x.laid width i ≡ Ok q → AreItem p x width i bytes ↔ ArePart (HasValue o x.owner) fill q bytes
-  of_item width (item.Value e) q bytes r =
-      let (f, normal, kept) = bind_ok (norm_of (o.symbols x.owner) x.laid.context e) (stored width x.laid.place) q r in
+  of_datum : (width : Width) (e : Tree) (f : Form) (q : Part) (bytes : List ℕ) → norm_of (o.symbols x.owner) x.laid.context e ≡ Ok f → stored width x.laid.place f ≡ Ok q → AreItem p x width (item.Value e) bytes ↔ ArePart (HasValue o x.owner) fill q bytes
+  of_datum width e f q bytes normal kept =
       let part = of_stored o x.owner fill width x.laid.place f q bytes kept in
       (λ k. part.1 (k.0, (values e f k.0 normal).0 k.1, k.2), λ k. (let b : HasBytes o x.owner width f bytes = part.0 k in (b.0, (values e f b.0 normal).1 b.1, b.2)))
-  of_item width (item.Text own) q bytes r = grind (arith, common_steps)
 
-  of_items : (width : Width) (is : List Item) (qs : List Part) (bytes : List ℕ) → each (item_part (o.symbols x.owner) x.laid width) is ≡ Ok qs → AreItems p x width is bytes ↔ AreParts (HasValue o x.owner) fill qs bytes
-  of_items width [] qs bytes r = none qs bytes r
-  of_items width (i ∷ is) qs bytes r =
-      let part : Item → Result Part AsmFault = item_part (o.symbols x.owner) x.laid width in
-      let (q, first, others) = bind_ok (part i) (λ y. each part is >>= (λ ys. Ok (y ∷ ys))) qs r in
-      let (rest, more, whole) = bind_ok (each part is) (λ ys. Ok (q ∷ ys)) qs others in
-      let same : q ∷ rest ≡ qs = cc whole in
-      let there : AreItems p x width (i ∷ is) bytes → AreParts (HasValue o x.owner) fill (q ∷ rest) bytes =
-      λ k. (k.0, k.1, (of_item width i q k.0 first).0 k.2, (of_items width is rest k.1 more).0 k.3, k.4) in
-      let back : AreParts (HasValue o x.owner) fill (q ∷ rest) bytes → AreItems p x width (i ∷ is) bytes =
-      λ k. (k.0, k.1, (of_item width i q k.0 first).1 k.2, (of_items width is rest k.1 more).1 k.3, k.4) in
-      (λ k. subst (λ z. AreParts (HasValue o x.owner) fill z bytes) same (there k), λ k. back (subst (λ z. AreParts (HasValue o x.owner) fill z bytes) (sym same) k))
+  of_items : (width : Width) (names : List (List ℕ)) (is : List Item) (cs : List Content) (bytes : List ℕ) → Come names (map (item_piece width) is) cs → AreItems p x width is bytes ↔ HaveBytes cs bytes
+  of_items width names [] _ bytes no_piece = (λ k. k, λ k. k)
+  of_items width names (item.Value e ∷ is) _ bytes (a_piece {cs = cs} (a_datum _ _ f q normal kept) more) =
+      let one = λ (own : List ℕ). of_datum width e f q own normal kept in
+      let others = λ (rest : List ℕ). of_items width _ is cs rest more in (
+        λ k. (k.0, k.1, (one k.0).0 k.2, (others k.1).0 k.3, k.4),
+        λ k. (k.0, k.1, (one k.0).1 k.2, (others k.1).1 k.3, k.4),
+      )
+  of_items width names (item.Text own ∷ is) _ bytes (a_piece {cs = cs} (a_part _) more) =
+      let others = λ (rest : List ℕ). of_items width _ is cs rest more in (
+        λ k. (k.0, k.1, k.2, (others k.1).0 k.3, k.4),
+        λ k. (k.0, k.1, k.2, (others k.1).1 k.3, k.4),
+      )
 
   -- ---- Instructions.
 
-  of_one : (width : Width) (e : Tree) (q : Part) (bytes : List ℕ) → operand_part (o.symbols x.owner) x.laid width e ≡ Ok q → AreOperand p x (Some width) (Some e) bytes ↔ ArePart (HasValue o x.owner) fill q bytes
-  of_one width e q bytes r =
-      let (f, normal, kept) = bind_ok (norm_of (o.symbols x.owner) x.laid.context e) (λ f. operand_form width x.laid.context f >>= stored width x.laid.place) q r in
-      let (g, counted, last) = bind_ok (operand_form width x.laid.context f) (stored width x.laid.place) q kept in
-      let part = of_stored o x.owner fill width x.laid.place g q bytes last in
+  of_counted : (width : Width) (e : Tree) (f g : Form) (q : Part) (bytes : List ℕ) → norm_of (o.symbols x.owner) x.laid.context e ≡ Ok f → operand_form width x.laid.context f ≡ Ok g → stored width x.laid.place g ≡ Ok q → AreOperand p x (Some width) (Some e) bytes ↔ ArePart (HasValue o x.owner) fill q bytes
+  of_counted width e f g q bytes normal counted kept =
+      let part = of_stored o x.owner fill width x.laid.place g q bytes kept in
       let form = of_operand o x.owner fill width (p.address x.owner x.place) x.laid.context f g bytes address counted in
       (λ k. part.1 (form.0 (k.0, (values e f k.0 normal).0 k.1, k.2)), λ k. (let b = form.1 (part.0 k) in (b.0, (values e f b.0 normal).1 b.1, b.2)))
 
-  of_operands : (width : Option Width) (e : Option Tree) (qs : List Part) (bytes : List ℕ) → operand_parts (o.symbols x.owner) x.laid width e ≡ Ok qs → AreOperand p x width e bytes ↔ AreParts (HasValue o x.owner) fill qs bytes
-  of_operands (Some width) (Some e) qs bytes r =
-      let (q, found, whole) = bind_ok (operand_part (o.symbols x.owner) x.laid width e) (λ q. Ok (q ∷ [])) qs r in
-      let same : q ∷ [] ≡ qs = cc whole in
-      let one = of_one width e q bytes found in
-      (λ k. subst (λ z. AreParts (HasValue o x.owner) fill z bytes) same ((single q bytes).0 (one.0 k)), λ k. one.1 ((single q bytes).1 (subst (λ z. AreParts (HasValue o x.owner) fill z bytes) (sym same) k)))
-  of_operands (Some width) None qs bytes r = none qs bytes r
-  of_operands None (Some e) qs bytes r = none qs bytes r
-  of_operands None None qs bytes r = none qs bytes r
+  of_operands : (width : Option Width) (e : Option Tree) (names : List (List ℕ)) (cs : List Content) (bytes : List ℕ) → Come names (operand_pieces width e) cs → AreOperand p x width e bytes ↔ HaveBytes cs bytes
+  of_operands (Some width) (Some e) names _ bytes (a_piece (an_operand _ _ f g q normal counted kept) no_piece) =
+      let one = of_counted width e f g q bytes normal counted kept in
+      (λ k. (single q bytes).0 (one.0 k), λ k. one.1 ((single q bytes).1 k))
+  of_operands (Some width) None names _ bytes no_piece = (λ k. k, λ k. k)
+  of_operands None e names _ bytes no_piece = (λ k. k, λ k. k)
 
   code_part : (c : Option ℕ) → opcode_part c ≡ Known (code_bytes c)
   code_part x = grind (arith, common_steps)
 
-  of_instruction : (m : Mnemonic) (d : Operand) (s : Settled) (qs : List Part) (bytes : List ℕ) → instruction_parts (o.symbols x.owner) x.laid m d s ≡ Ok qs → AreInstruction p x m d s bytes ↔ AreParts (HasValue o x.owner) fill qs bytes
-  of_instruction m d (InMode mode) qs bytes r =
-      let (rest, found, whole) = bind_ok (operand_parts (o.symbols x.owner) x.laid (width_of mode) (operand_tree d)) (λ ps. Ok (opcode_part (opcode_of m mode) ∷ ps)) qs r in
-      let last : opcode_part (opcode_of m mode) ∷ rest ≡ qs = cc whole in
-      let same : Known (code_bytes (opcode_of m mode)) ∷ rest ≡ qs = ap (λ z. z ∷ rest) (sym (code_part (opcode_of m mode))) ∙ last in
-      let there : AreInstruction p x m d (InMode mode) bytes → AreParts (HasValue o x.owner) fill (Known (code_bytes (opcode_of m mode)) ∷ rest) bytes =
-      λ k. (code_bytes (opcode_of m mode), k.0, refl, (of_operands (width_of mode) (operand_tree d) rest k.0 found).0 k.1, k.2) in
-      let back : AreParts (HasValue o x.owner) fill (Known (code_bytes (opcode_of m mode)) ∷ rest) bytes → AreInstruction p x m d (InMode mode) bytes =
-      λ k. (k.1, (of_operands (width_of mode) (operand_tree d) rest k.1 found).1 k.3, k.4 ∙ ap (λ z. z ++ k.1) k.2) in
+  of_instruction : (m : Mnemonic) (d : Operand) (s : Settled) (names : List (List ℕ)) (cs : List Content) (bytes : List ℕ) → Come names (instruction_pieces m d s) cs → AreInstruction p x m d s bytes ↔ HaveBytes cs bytes
+  of_instruction m d (InMode mode) names _ bytes (a_piece {cs = cs} (a_part _) more) =
+      let same : Known (code_bytes (opcode_of m mode)) ∷ all_put cs ≡ opcode_part (opcode_of m mode) ∷ all_put cs = ap (λ z. z ∷ all_put cs) (sym (code_part (opcode_of m mode))) in
+      let behind = λ (own : List ℕ). of_operands (width_of mode) (operand_tree d) _ cs own more in
+      let there : AreInstruction p x m d (InMode mode) bytes → AreParts (HasValue o x.owner) fill (Known (code_bytes (opcode_of m mode)) ∷ all_put cs) bytes =
+      λ k. (code_bytes (opcode_of m mode), k.0, refl, (behind k.0).0 k.1, k.2) in
+      let back : AreParts (HasValue o x.owner) fill (Known (code_bytes (opcode_of m mode)) ∷ all_put cs) bytes → AreInstruction p x m d (InMode mode) bytes =
+      λ k. (k.1, (behind k.1).1 k.3, k.4 ∙ ap (λ z. z ++ k.1) k.2) in
       (λ k. subst (λ z. AreParts (HasValue o x.owner) fill z bytes) same (there k), λ k. back (subst (λ z. AreParts (HasValue o x.owner) fill z bytes) (sym same) k))
-  of_instruction m d Unsettled qs bytes r = none qs bytes r
-  of_instruction m d (FilledWith b) qs bytes r = none qs bytes r
-  of_instruction m d (FromByte b) qs bytes r = none qs bytes r
+  of_instruction m d Unsettled names _ bytes no_piece = (λ k. k, λ k. k)
+  of_instruction m d (FilledWith b) names _ bytes no_piece = (λ k. k, λ k. k)
+  of_instruction m d (FromByte b) names _ bytes no_piece = (λ k. k, λ k. k)
 
-  -- ---- Room and parts of files.
+  -- ---- Room, parts of files, and statements that put nothing.
 
-  of_alone : (q : Part) (qs : List Part) (bytes : List ℕ) → ◌≡◌ {A = Result (List Part) AsmFault} (Ok (q ∷ [])) (Ok qs) → ArePart (HasValue o x.owner) fill q bytes ↔ AreParts (HasValue o x.owner) fill qs bytes
-  of_alone q qs bytes r = grind (arith, common_steps)
+  of_alone : (q : Part) (names : List (List ℕ)) (cs : List Content) (bytes : List ℕ) → Come names (given q ∷ []) cs → ArePart (HasValue o x.owner) fill q bytes ↔ HaveBytes cs bytes
+  of_alone q names _ bytes (a_piece (a_part _) no_piece) = single q bytes
 
   of_room : (count : ℕ) (s : Settled) (bytes : List ℕ) → ArePart (HasValue o x.owner) fill (room_part count s) bytes ≡ (bytes ≡ replicate count (filling fill s))
   of_room count x bytes = grind (arith, common_steps)
 
-  room : (count len : ℕ) (s : Settled) (qs : List Part) (bytes : List ℕ) → count ≡ len → ◌≡◌ {A = Result (List Part) AsmFault} (Ok (room_part len s ∷ [])) (Ok qs) → (bytes ≡ replicate count (filling fill s)) ↔ AreParts (HasValue o x.owner) fill qs bytes
-  room count len s qs bytes e r =
-      let alone = of_alone (room_part len s) qs bytes r in
+  room : (count len : ℕ) (s : Settled) (names : List (List ℕ)) (cs : List Content) (bytes : List ℕ) → count ≡ len → Come names (given (room_part len s) ∷ []) cs → (bytes ≡ replicate count (filling fill s)) ↔ HaveBytes cs bytes
+  room count len s names cs bytes e all =
+      let alone = of_alone (room_part len s) names cs bytes all in
       let same : ArePart (HasValue o x.owner) fill (room_part len s) bytes ≡ (bytes ≡ replicate count (filling fill s)) = of_room len s bytes ∙ ap (λ n. bytes ≡ replicate n (filling fill s)) (sym e) in
       (λ k. alone.0 (subst (λ z. z) (sym same) k), λ k. subst (λ z. z) same (alone.1 k))
 
-of_line : {E : Type 0} (p : Program) (o : Objects E) → AreObjects p o → (fill at : ℕ) (x : Line) (t : Statement) (ps : List Part) (bytes : List ℕ) → o.contexts x.owner x.place ≡ x.laid.context → line_end at x.multiple (record x.laid { stated = t }) ≡ at + x.laid.length → parts_of (o.symbols x.owner) (record x.laid { stated = t }) ≡ Ok ps → AreLine p fill at (record x { laid = record x.laid { stated = t } }) bytes ↔ AreParts (HasValue o x.owner) fill ps bytes
-of_line p o h fill at x (statement.Instruction m d) ps bytes s e q = of_instruction p o h fill x s m d x.laid.settled ps bytes q
-of_line p o h fill at x (statement.Values width is) ps bytes s e q = of_items p o h fill x s width is ps bytes q
-of_line p o h fill at x (statement.Reserve n v) ps bytes s e q = room p o h fill x s x.laid.length x.laid.length x.laid.settled ps bytes refl q
-of_line p o h fill at x (statement.Align n v) ps bytes s e q =
-    let count : line_end at x.multiple (record x.laid { stated = statement.Align n v }) - at ≡ x.laid.length = omega (arith, e) in
-    room p o h fill x s (line_end at x.multiple (record x.laid { stated = statement.Align n v }) - at) x.laid.length x.laid.settled ps bytes count q
-of_line p o h fill at x (statement.FilePart file n v) ps bytes s e q = of_alone p o h fill x s _ ps bytes q
-of_line p o h fill at x t ps bytes s e q = none p o h fill x s ps bytes q
+  none : (cs : List Content) (bytes : List ℕ) → all_put cs ≡ [] → (bytes ≡ []) ↔ HaveBytes cs bytes
+  none cs bytes e = (λ k. subst (λ qs. AreParts (HasValue o x.owner) fill qs bytes) (sym e) k, λ k. subst (λ qs. AreParts (HasValue o x.owner) fill qs bytes) e k)
 
--- A line of the whole program has the bytes of the parts that its statement puts into the section, at a position at which it
--- ends its length further on.
-pub parts_law : (E : Type 0) → (p : Program) (o : Objects E) (fill at : ℕ) (x : Line) (ps : List Part) (bytes : List ℕ) → AreObjects p o → o.contexts x.owner x.place ≡ x.laid.context → line_end at x.multiple x.laid ≡ at + x.laid.length → parts_of (o.symbols x.owner) x.laid ≡ Ok ps → AreLine p fill at x bytes ↔ AreParts (HasValue o x.owner) fill ps bytes
-parts_law E p o fill at x ps bytes h s e q = of_line p o h fill at x x.laid.stated ps bytes s e q
+of_line : {E : Type 0} (p : Program) (o : Objects E) → AreObjects p o → (fill at : ℕ) (x : Line) (t : Statement) (names : List (List ℕ)) (cs : List Content) (bytes : List ℕ) → o.contexts x.owner x.place ≡ x.laid.context → line_end at x.multiple (record x.laid { stated = t }) ≡ at + x.laid.length → AllCome (o.symbols x.owner) x.laid names (pieces_of x.laid.length x.laid.settled t) cs → AreLine p fill at (record x { laid = record x.laid { stated = t } }) bytes ↔ AreParts (HasValue o x.owner) fill (all_put cs) bytes
+of_line p o h fill at x (statement.Instruction m d) names cs bytes s e all = of_instruction p o h fill x s m d x.laid.settled names cs bytes all
+of_line p o h fill at x (statement.Values width is) names cs bytes s e all = of_items p o h fill x s width names is cs bytes all
+of_line p o h fill at x (statement.Reserve n v) names cs bytes s e all = room p o h fill x s x.laid.length x.laid.length x.laid.settled names cs bytes refl all
+of_line p o h fill at x (statement.Align n v) names cs bytes s e all =
+    let count : line_end at x.multiple (record x.laid { stated = statement.Align n v }) - at ≡ x.laid.length = omega (arith, e) in
+    room p o h fill x s (line_end at x.multiple (record x.laid { stated = statement.Align n v }) - at) x.laid.length x.laid.settled names cs bytes count all
+of_line p o h fill at x (statement.FilePart file n v) names cs bytes s e all = of_alone p o h fill x s _ names cs bytes all
+of_line p o h fill at x t names cs bytes s e all = none p o h fill x s cs bytes (none_put all (pieces_alike x.laid.length x.laid.settled t))
+
+-- A line of the whole program has the bytes of the parts that its statement's pieces put into the section, at a position at
+-- which it ends its length further on.
+pub parts_law : (E : Type 0) → (p : Program) (o : Objects E) (fill at : ℕ) (x : Line) (names : List (List ℕ)) (cs : List Content) (bytes : List ℕ) → AreObjects p o → o.contexts x.owner x.place ≡ x.laid.context → line_end at x.multiple x.laid ≡ at + x.laid.length → AllCome (o.symbols x.owner) x.laid names (pieces_of x.laid.length x.laid.settled x.laid.stated) cs → AreLine p fill at x bytes ↔ AreParts (HasValue o x.owner) fill (all_put cs) bytes
+parts_law E p o fill at x names cs bytes h s e all = of_line p o h fill at x x.laid.stated names cs bytes s e all
 
 -- ---- Parts behind parts.
 
@@ -236,19 +234,7 @@ parts_split Has fill (p ∷ ps) qs bytes (a, b, k, more, e) =
     let (own, rest, h, g, e') = parts_split Has fill ps qs b more in
     (a ++ own, rest, (a, own, k, h, refl), g, e ∙ ap (λ z. a ++ z) e' ∙ sym (append_assoc a own rest))
 
--- ---- Contents.
-
-pub record IsContent (y : Symbols) (l : Laid) (c : Content) : Type 0 where
-  pub parts : parts_of y l ≡ Ok c.parts
-  pub segment : c.segment ≡ l.context.segment
-  pub asks : c.asks ≡ asks_section l.stated
-  pub said : said_of y l ≡ Ok c.said
-
-pub content_is : (y : Symbols) (l : Laid) (c : Content) → content_of y l ≡ Ok c → IsContent y l c
-content_is y l c e = grind (arith, common_steps)
-
-pub placed_ok : (place : Place) (r : Result Content AsmFault) (c : Content) → at_place place r ≡ Ok c → r ≡ Ok c
-placed_ok place x c e = grind (arith, common_steps)
+-- ---- Lines.
 
 pub in_middle : (before : List Laid) (l : Laid) (ls : List Laid) → slice_get (before ++ l ∷ ls) (length before) ≡ Some l
 in_middle [] l ls = refl
@@ -258,41 +244,38 @@ module _ {E : Type 0} (p : Program) (o : Objects E) (h : AreObjects p o) (fill o
   abbrev here : List Laid → List Laid → List Line
   here before ls = lines_at g (lines_behind owner before ls)
 
-  of_lines : (before ls : List Laid) (cs : List Content) (at : ℕ) (bytes : List ℕ) → before ++ ls ≡ all → EndsAt at (here before ls) → contents_from (o.symbols owner) ls ≡ Ok cs → AreBytes p fill at (map line (here before ls)) bytes ↔ AreParts (HasValue o owner) fill (parts_in cs g) bytes
-  of_lines before [] cs at bytes w ends e = grind (arith, common_steps)
-  of_lines before (l ∷ ls) cs at bytes w ends e =
-      let found : Laid → Result Content PlacedFault = λ l. at_place l.place (content_of (o.symbols owner) l) in
-      let (c, first, others) = bind_ok (found l) (λ y. each found ls >>= (λ ys. Ok (y ∷ ys))) cs e in
-      let (ds, more, last) = bind_ok (each found ls) (λ ys. Ok (c ∷ ys)) cs others in
-      let same : c ∷ ds ≡ cs = cc last in
-      let content = content_is (o.symbols owner) l c (placed_ok l.place (content_of (o.symbols owner) l) c first) in
+  of_lines : (before ls : List Laid) (names : List (List ℕ)) (cs : List Content) (at : ℕ) (bytes : List ℕ) → before ++ ls ≡ all → EndsAt at (here before ls) → AreStated (o.symbols owner) names ls cs → AreBytes p fill at (map line (here before ls)) bytes ↔ AreParts (HasValue o owner) fill (parts_in cs g) bytes
+  of_lines before [] names _ at bytes w ends no_line = (λ k. k, λ k. k)
+  of_lines before (l ∷ ls) names _ at bytes w ends (a_line ds cs found more) =
+      let one = stated (o.symbols owner) names l ds found in
       let next : (before ++ l ∷ []) ++ ls ≡ all = append_assoc before (l ∷ []) ls ∙ w in
       let there : slice_get all (length before) ≡ Some l = subst (λ z. slice_get z (length before) ≡ Some l) w (in_middle before l ls) in
-      let context = contexts (length before) l there in
-      let step = go c content ds (λ z more_bytes ends. of_lines (before ++ l ∷ []) ls ds z more_bytes next ends more) context (nat_eq l.context.segment g) refl ends in
-      (λ k. subst (λ z. AreParts (HasValue o owner) fill (parts_in z g) bytes) same (step.0 k), λ k. step.1 (subst (λ z. AreParts (HasValue o owner) fill (parts_in z g) bytes) (sym same) k))
+      let parts : parts_in (ds ++ cs) g ≡ cond (nat_eq l.context.segment g) (all_put one.own) [] ++ parts_in cs g = parts_append g ds cs ∙ ap (λ qs. qs ++ parts_in cs g) (one.parts g) in
+      let step = by one.own one.pieces (contexts (length before) l there) (λ z rest ends. of_lines (before ++ l ∷ []) ls (names ++ exported_names (all_said ds)) cs z rest next ends more) (nat_eq l.context.segment g) ends in
+      (λ k. subst (λ qs. AreParts (HasValue o owner) fill qs bytes) (sym parts) (step.0 k), λ k. step.1 (subst (λ qs. AreParts (HasValue o owner) fill qs bytes) parts k))
     where
-      go : (c : Content) → IsContent (o.symbols owner) l c → (ds : List Content) → ((z : ℕ) (more : List ℕ) → EndsAt z (lines_at g (lines_behind owner (before ++ l ∷ []) ls)) → AreBytes p fill z (map line (lines_at g (lines_behind owner (before ++ l ∷ []) ls))) more ↔ AreParts (HasValue o owner) fill (parts_in ds g) more) → o.contexts owner (length before) ≡ l.context → (b : Bool) → nat_eq l.context.segment g ≡ b → EndsAt at (cond (nat_eq l.context.segment g) (line_of owner before l ∷ lines_at g (lines_behind owner (before ++ l ∷ []) ls)) (lines_at g (lines_behind owner (before ++ l ∷ []) ls))) → AreBytes p fill at (map line (cond (nat_eq l.context.segment g) (line_of owner before l ∷ lines_at g (lines_behind owner (before ++ l ∷ []) ls)) (lines_at g (lines_behind owner (before ++ l ∷ []) ls)))) bytes ↔ AreParts (HasValue o owner) fill (parts_in (c ∷ ds) g) bytes
-      go c content ds deeper context b e ends =
-          let number : nat_eq c.segment g ≡ b = ap (λ n. nat_eq n g) content.segment ∙ e in
-          let lines_are : cond (nat_eq l.context.segment g) (line_of owner before l ∷ lines_at g (lines_behind owner (before ++ l ∷ []) ls)) (lines_at g (lines_behind owner (before ++ l ∷ []) ls)) ≡ cond b (line_of owner before l ∷ lines_at g (lines_behind owner (before ++ l ∷ []) ls)) (lines_at g (lines_behind owner (before ++ l ∷ []) ls)) = ap (λ z. cond z (line_of owner before l ∷ lines_at g (lines_behind owner (before ++ l ∷ []) ls)) (lines_at g (lines_behind owner (before ++ l ∷ []) ls))) e in
-          let parts_are : parts_in (c ∷ ds) g ≡ flat_map (λ (d : Content). d.parts) (cond b (c ∷ filter (λ (d : Content). nat_eq d.segment g) ds) (filter (λ (d : Content). nat_eq d.segment g) ds)) = ap (λ z. flat_map (λ (d : Content). d.parts) (cond z (c ∷ filter (λ (d : Content). nat_eq d.segment g) ds) (filter (λ (d : Content). nat_eq d.segment g) ds))) number in
-          let step = by b (subst (EndsAt at) lines_are ends) in (
-            λ k. subst (λ z. AreParts (HasValue o owner) fill z bytes) (sym parts_are) (step.0 (subst (λ z. AreBytes p fill at (map line z) bytes) lines_are k)),
-            λ k. subst (λ z. AreBytes p fill at (map line z) bytes) (sym lines_are) (step.1 (subst (λ z. AreParts (HasValue o owner) fill z bytes) parts_are k)),
+      others : List Line
+      others = here (before ++ l ∷ []) ls
+
+      by :
+          (own : List Content) → AllCome (o.symbols owner) l names (pieces_of l.length l.settled l.stated) own → o.contexts owner (length before) ≡ l.context →
+          ((z : ℕ) (rest : List ℕ) → EndsAt z others → AreBytes p fill z (map line others) rest ↔ AreParts (HasValue o owner) fill (parts_in cs g) rest) →
+          (b : Bool) → EndsAt at (cond b (line_of owner before l ∷ others) others) →
+          AreBytes p fill at (map line (cond b (line_of owner before l ∷ others) others)) bytes ↔ AreParts (HasValue o owner) fill (cond b (all_put own) [] ++ parts_in cs g) bytes
+      by own pieces context deeper false ends = deeper at bytes ends
+      by own pieces context deeper true ends =
+          let x : Line = line_of owner before l in
+          let behind : ℕ = line_end at x.multiple l in
+          let one : (first : List ℕ) → AreLine p fill at x first ↔ AreParts (HasValue o owner) fill (all_put own) first = λ first. parts_law E p o fill at x names own first h context ends.0 pieces in (
+            λ k. parts_joined (HasValue o owner) fill (all_put own) (parts_in cs g) bytes (k.0, k.1, (one k.0).0 k.2, (deeper behind k.1 ends.1).0 k.3, k.4),
+            λ k. (let s = parts_split (HasValue o owner) fill (all_put own) (parts_in cs g) bytes k in (s.0, s.1, (one s.0).1 s.2, (deeper behind s.1 ends.1).1 s.3, s.4)),
           )
-        where
-          by : (b : Bool) → EndsAt at (cond b (line_of owner before l ∷ lines_at g (lines_behind owner (before ++ l ∷ []) ls)) (lines_at g (lines_behind owner (before ++ l ∷ []) ls))) → AreBytes p fill at (map line (cond b (line_of owner before l ∷ lines_at g (lines_behind owner (before ++ l ∷ []) ls)) (lines_at g (lines_behind owner (before ++ l ∷ []) ls)))) bytes ↔ AreParts (HasValue o owner) fill (flat_map (λ (d : Content). d.parts) (cond b (c ∷ filter (λ (d : Content). nat_eq d.segment g) ds) (filter (λ (d : Content). nat_eq d.segment g) ds))) bytes
-          by false ends = deeper at bytes ends
-          by true ends =
-              let x : Line = line_of owner before l in
-              let behind : ℕ = line_end at x.multiple l in
-              let one : (own : List ℕ) → AreLine p fill at x own ↔ AreParts (HasValue o owner) fill c.parts own = λ own. parts_law E p o fill at x c.parts own h context ends.0 content.parts in (
-                λ k. parts_joined (HasValue o owner) fill c.parts (parts_in ds g) bytes (k.0, k.1, (one k.0).0 k.2, (deeper behind k.1 ends.1).0 k.3, k.4),
-                λ k. (let s = parts_split (HasValue o owner) fill c.parts (parts_in ds g) bytes k in (s.0, s.1, (one s.0).1 s.2, (deeper behind s.1 ends.1).1 s.3, s.4)),
-              )
 
 -- A module's lines in a segment, from a multiple of their alignment on, have the bytes of what its statements put into the
 -- section.
-pub section_law : (E : Type 0) → (p : Program) (o : Objects E) (fill begin owner g : ℕ) (y : Layout) (cs : List Content) (bytes : List ℕ) → AreObjects p o → o.symbols owner ≡ table_of y → ((place : ℕ) (l : Laid) → slice_get y.laid place ≡ Some l → o.contexts owner place ≡ l.context) → IsLaidOut y → IsMultiple begin (largest_multiple (lines_at g (lines_behind owner [] y.laid))) → contents_from (table_of y) y.laid ≡ Ok cs → AreBytes p fill begin (map line (lines_at g (lines_behind owner [] y.laid))) bytes ↔ AreParts (HasValue o owner) fill (parts_in cs g) bytes
-section_law x p o fill begin owner g y cs bytes h table contexts d m e = grind (arith, common_steps, powers_at, placed, ends_moved, all_end, of_lines)
+pub section_law : (E : Type 0) → (p : Program) (o : Objects E) (fill begin owner g : ℕ) (y : Layout) (cs : List Content) (bytes : List ℕ) → AreObjects p o → o.symbols owner ≡ table_of y → ((place : ℕ) (l : Laid) → slice_get y.laid place ≡ Some l → o.contexts owner place ≡ l.context) → IsLaidOut y → IsMultiple begin (largest_multiple (lines_at g (lines_behind owner [] y.laid))) → (ending_of y.laid).found ≡ Ok cs → AreBytes p fill begin (map line (lines_at g (lines_behind owner [] y.laid))) bytes ↔ AreParts (HasValue o owner) fill (parts_in cs g) bytes
+section_law E p o fill begin owner g y cs bytes h table contexts d m e =
+    let lines : List Line = lines_at g (lines_behind owner [] y.laid) in
+    let begins : begin + 0 ≡ begin = omega arith in
+    let ends : EndsAt begin lines = subst (λ n. EndsAt n lines) begins (ends_moved begin 0 lines (powers_at g (lines_behind owner [] y.laid) (placed owner d).powers) m (all_end owner g d)) in
+    of_lines p o h fill owner g y.laid contexts [] y.laid [] cs begin bytes refl ends (subst (λ z. AreStated z [] y.laid cs) (sym table) (are_stated y cs e))

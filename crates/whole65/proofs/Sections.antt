@@ -1,25 +1,21 @@
 -- The sections of an object, and what they make of one segment.
 use Rattle.std.proofs.lemmas.Grind.{common_steps}
-use Rattle.std.proofs.Common.{◌≡◌, ℕ, suc, length, ◌<◌, Bool, true, false, nat_eq, cond, List, [], ◌∷◌, ◌++◌, map, filter, Option, Some, None, Result, Ok, refl, sym, ◌∙◌, ap, subst, arith, zero, slice_get}
+use Rattle.std.proofs.Common.{◌≡◌, ℕ, suc, length, ◌<◌, Bool, true, false, nat_eq, cond, List, [], ◌∷◌, ◌++◌, map, filter, Option, Some, None, Ok, refl, sym, ◌∙◌, ap, subst, arith, zero, slice_get}
 use Rattle.std.specs.Prelude.{⊤, ◌&&◌, ◌||◌, unwrap_or}
-use Rattle.std.specs.List.{AllByRecursion, list_any, position}
-use Rattle.std.specs.Option.{option_map}
+use Rattle.std.specs.List.{AllByRecursion, list_any}
 use Rattle.std.specs.Str.{bytes_eq}
 use Rattle.std.proofs.lemmas.Bool.Decides.{nat_tests}
 use Rattle.std.proofs.lemmas.List.Folds.{list_any-append}
-use Rattle.base65.specs.Outcome.{◌>>=◌, each}
 use Rattle.link65.proofs.SegmentLemmas.{at_front, behind_front, none_among as none_found}
-use Rattle.semantics65.specs.Contents.{Content, content_of}
+use Rattle.semantics65.specs.Contents.{Content, exported_names}
 use Rattle.semantics65.specs.Symbols.{Laid, asks_section, Symbols}
 use Rattle.semantics65.specs.Layout.{Layout, segment_at}
-use Rattle.semantics65.specs.Numbering.{number_of, once, section_keys, segments_asked, section_of}
+use Rattle.semantics65.specs.Numbering.{all_said, number_of, once, section_keys, segments_asked, section_of}
 use Rattle.semantics65.proofs.Segments.{all_more}
-use Rattle.semantics65.specs.Module.{contents_from}
-use Rattle.semantics65.specs.Reading.{PlacedFault, at_place}
-use Rattle.whole65.proofs.SameValues.{bind_ok}
+use Rattle.semantics65.specs.Module.{ending_of}
 use Rattle.whole65.proofs.Positions.{named, Distinct, itself}
 use Rattle.whole65.proofs.Multiples.{equal}
-use Rattle.whole65.proofs.SectionBytes.{IsContent, content_is, placed_ok}
+use Rattle.whole65.proofs.Statements.{AreStated, a_line, are_stated, asked_append, no_line, stated}
 use Rattle.whole65.specs.Modules.{table_of}
 use Rattle.whole65.specs.Offsets.{IsLaidOut}
 use Rattle.whole65.specs.Segments.{has_section, segment_name, stands_in}
@@ -33,7 +29,6 @@ use Rattle.link65.specs.Programs.{grown, Module, Program, member, no_program, wi
 use Rattle.link65.specs.Programs as linked
 use Rattle.whole65.proofs.LinkedObjects.{behind_sections, or_empty, behind_modules}
 use Rattle.std.proofs.lemmas.List.{length-append}
-use Rattle.whole65.specs.Programs.{program_of}
 
 -- ---- Each once.
 
@@ -113,23 +108,24 @@ number_later ks k g e h = grind (arith, common_steps, behind_front, none_found)
 
 -- ---- Sections that are asked for.
 
-pub asked_are : (z : Symbols) (ls : List Laid) (cs : List Content) → contents_from z ls ≡ Ok cs → segments_asked cs ≡ map (λ l. l.context.segment) (filter (λ l. asks_section l.stated) ls)
-asked_are z [] cs e = let same : [] ≡ cs = cc in ap segments_asked (sym same)
-asked_are z (l ∷ ls) cs e =
-    let found : Laid → Result Content PlacedFault = λ l. at_place l.place (content_of z l) in
-    let (c, first, others) = bind_ok (found l) (λ y. each found ls >>= (λ ys. Ok (y ∷ ys))) cs e in
-    let (ds, more, last) = bind_ok (each found ls) (λ ys. Ok (c ∷ ys)) cs others in
-    let same : c ∷ ds ≡ cs = cc last in
-    ap segments_asked (sym same) ∙ go c ds (content_is z l c (placed_ok l.place (content_of z l) c first)) (asked_are z ls ds more)
+lines_asked : (z : Symbols) (names : List (List ℕ)) (ls : List Laid) (cs : List Content) → AreStated z names ls cs → segments_asked cs ≡ map (λ l. l.context.segment) (filter (λ l. asks_section l.stated) ls)
+lines_asked z names [] _ no_line = refl
+lines_asked z names (l ∷ ls) _ (a_line ds cs found more) =
+    asked_append ds cs
+    ∙ ap (λ gs. gs ++ segments_asked cs) (stated z names l ds found).asked
+    ∙ ap (λ gs. cond (asks_section l.stated) (l.context.segment ∷ []) [] ++ gs) (lines_asked z (names ++ exported_names (all_said ds)) ls cs more)
+    ∙ by (asks_section l.stated)
   where
-    go : (c : Content) (ds : List Content) → IsContent z l c → segments_asked ds ≡ map (λ l. l.context.segment) (filter (λ l. asks_section l.stated) ls) → segments_asked (c ∷ ds) ≡ map (λ l. l.context.segment) (filter (λ l. asks_section l.stated) (l ∷ ls))
-    go c ds content h =
-        ap (λ b. map (λ (d : Content). d.segment) (cond b (c ∷ filter (λ (d : Content). d.asks) ds) (filter (λ (d : Content). d.asks) ds))) content.asks
-        ∙ by (asks_section l.stated)
-      where
-        by : (b : Bool) → map (λ (d : Content). d.segment) (cond b (c ∷ filter (λ (d : Content). d.asks) ds) (filter (λ (d : Content). d.asks) ds)) ≡ map (λ (x : Laid). x.context.segment) (cond b (l ∷ filter (λ (x : Laid). asks_section x.stated) ls) (filter (λ (x : Laid). asks_section x.stated) ls))
-        by true = ap (λ g. g ∷ segments_asked ds) content.segment ∙ ap (λ gs. l.context.segment ∷ gs) h
-        by false = h
+    asking : List Laid
+    asking = filter (λ (x : Laid). asks_section x.stated) ls
+
+    by : (b : Bool) → cond b (l.context.segment ∷ []) [] ++ map (λ (x : Laid). x.context.segment) asking ≡ map (λ (x : Laid). x.context.segment) (cond b (l ∷ asking) asking)
+    by true = refl
+    by false = refl
+
+-- a module's contents ask for the segments in which the statements that ask stand
+pub asked_are : (y : Layout) (cs : List Content) → (ending_of y.laid).found ≡ Ok cs → segments_asked cs ≡ map (λ l. l.context.segment) (filter (λ l. asks_section l.stated) y.laid)
+asked_are y cs e = lines_asked (table_of y) [] y.laid cs (are_stated y cs e)
 
 asked_there : (y : Layout) (name : List ℕ) (ls : List Laid) → list_any (λ l. stands_in y name l && asks_section l.stated) ls ≡ list_any (λ g. bytes_eq (segment_name y g) name) (map (λ l. l.context.segment) (filter (λ l. asks_section l.stated) ls))
 asked_there y name [] = refl
@@ -145,9 +141,9 @@ pub record AreKeys (y : Layout) (keys : List ℕ) : Type 0 where
   pub standing : AllByRecursion (λ g. g < length y.cursor.segments) keys
   pub has : (name : List ℕ) → has_section y name ≡ list_any (λ g. bytes_eq (segment_name y g) name) keys
 
-pub keys_of : (y : Layout) (cs : List Content) → IsLaidOut y → contents_from (table_of y) y.laid ≡ Ok cs → AreKeys y (section_keys cs)
+pub keys_of : (y : Layout) (cs : List Content) → IsLaidOut y → (ending_of y.laid).found ≡ Ok cs → AreKeys y (section_keys cs)
 keys_of y cs d e =
-    let asked = asked_are (table_of y) y.laid cs e in
+    let asked = asked_are y cs e in
     record {
       single = are_once [] (segments_asked cs) tt;
       standing = all_once (λ g. g < length y.cursor.segments) [] (segments_asked cs) tt (subst (AllByRecursion (λ g. g < length y.cursor.segments)) (sym asked) (below_all (length y.cursor.segments) y.laid (named d).standing));

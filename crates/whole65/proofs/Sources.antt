@@ -1,31 +1,25 @@
 -- The contents of a source's object, and what its sections make of a segment.
 use Rattle.std.proofs.lemmas.Grind.{common_steps}
-use Rattle.std.proofs.Common.{◌≡◌, ℕ, zero, suc, ◌+◌, ◌<◌, Bool, true, false, nat_eq, cond, List, [], ◌∷◌, ◌++◌, length, map, filter, take, slice_get, Some, Result, Ok, Err, refl, sym, ◌∙◌, ap, subst, arith, inl, inr, Option, None}
-use Rattle.std.specs.Prelude.{IfOk, ◌||◌, not, sum_by}
-use Rattle.std.specs.List.{AllByRecursion, flat_map, list_any}
-use Rattle.std.specs.Str.{bytes_eq}
-use Rattle.std.proofs.lemmas.Bool.Decides.{nat_tests}
+use Rattle.std.proofs.Common.{◌≡◌, ℕ, suc, ◌+◌, ◌<◌, Bool, true, false, nat_eq, cond, List, [], ◌∷◌, ◌++◌, length, map, filter, take, slice_get, Some, Result, Ok, refl, sym, ◌∙◌, ap, arith, inl, inr, Option, None}
+use Rattle.std.specs.Prelude.{not, sum_by}
+use Rattle.std.specs.List.{list_any}
 use Rattle.std.proofs.lemmas.List.{length-append}
-use Rattle.std.proofs.lemmas.List.Quantifiers.{position-Some}
 use Rattle.std.proofs.lemmas.List.Sums.{sum_by-append, sum_by-cons}
-use Rattle.base65.specs.Outcome.{◌>>=◌, each}
 use Rattle.object65.specs.Objects.{fragment_len, section_len}
 use Rattle.object65.specs.declared.object.Fragment.{Fragment}
 use Rattle.object65.specs.declared.object.Fragment.TheVariants.{Literal, Fill, Value}
 use Rattle.object65.specs.declared.object.Origin.{Origin}
 use Rattle.syntax65.specs.declared.place.Place.{Place}
-use Rattle.semantics65.specs.Contents.{Content, Part, Known, Filled, Waiting, content_of, parts_of}
-use Rattle.ast65.specs.declared.fault.AsmFault.{AsmFault}
-use Rattle.semantics65.specs.Symbols.{Laid, Symbols, imported, symbols_of}
+use Rattle.semantics65.specs.Contents.{Content, Part, exported_names}
+use Rattle.semantics65.specs.Symbols.{Laid, Symbols, symbols_of}
 use Rattle.semantics65.specs.Layout.{Layout}
-use Rattle.semantics65.specs.Numbering.{all_joined, fragment_of, fragments_of, is_empty, joined, parts_in, files_of, import_keys, in_files, object_by, object_with, section_keys, section_of, IsMeasured, IsSoundLayout, part_len}
-use Rattle.semantics65.proofs.SoundForms.{Asks, definitions_pass}
-use Rattle.semantics65.proofs.SoundParts.{IsKnown, PartsOf, asked_in, below, parts_sound}
-use Rattle.semantics65.specs.Module.{contents_from}
-use Rattle.semantics65.specs.Reading.{PlacedFault, at_place}
+use Rattle.semantics65.specs.Numbering.{all_joined, all_said, fragment_of, fragments_of, is_empty, joined, parts_in, files_of, import_keys, in_files, object_by, object_with, section_keys, section_of, IsMeasured, IsSoundLayout, part_len}
+use Rattle.semantics65.proofs.SoundParts.{slots_long}
+use Rattle.semantics65.specs.Module.{ending_of}
+use Rattle.semantics65.specs.Reading.{PlacedFault}
 use Rattle.whole65.proofs.SameValues.{bind_ok}
 use Rattle.whole65.proofs.Offsets.{EndsAt, all_end, placed}
-use Rattle.whole65.proofs.SectionBytes.{IsContent, content_is, placed_ok}
+use Rattle.whole65.proofs.Statements.{AreStated, a_line, are_stated, no_line, parts_append}
 use Rattle.whole65.specs.Modules.{table_of}
 use Rattle.whole65.specs.Offsets.{lines_at, IsLaidOut, IsMultiple}
 use Rattle.whole65.specs.Segments.{Line, end_of, line, line_end, line_of, lines_behind, has_section, items_from, largest_multiple, lines_in, part_of, rounding, segment_name, items_of}
@@ -42,7 +36,6 @@ use Rattle.whole65.proofs.Versions.{by_lines}
 use Rattle.whole65.proofs.LinkedObjects.{behind_modules, behind_sections, or_empty}
 use Rattle.whole65.specs.Sources.{AreSources, IsSource}
 use Rattle.link65.specs.Programs as linked
-use Rattle.whole65.specs.Programs.{program_of}
 
 -- ---- Fragments.
 
@@ -88,83 +81,43 @@ joined_parts_long origins ss is ps = all_long (fragments_of origins ss is ps) �
 
 -- ---- Statements.
 
--- the parts of a statement are as long as it is
-abbrev IsLong : Symbols → Laid → Type 0
-IsLong z l = IfOk (parts_of z l) (λ ps. sum_by part_len ps ≡ l.length)
-
-imports_below : (y : Symbols) (n : List ℕ) (k : ℕ) → imported y n ≡ Some k → below (length y.imports) k ≡ true
-imports_below y n k e = grind (arith, common_steps)
-
-asked_somewhere : (ls : List Laid) → AllByRecursion (Asks (asked_in (map (λ l. l.context.segment) ls))) ls
-asked_somewhere ls = go ls (λ g h. h)
-  where
-    go : (rest : List Laid) → ((g : ℕ) → list_any (nat_eq g) (map (λ l. l.context.segment) rest) ≡ true → list_any (nat_eq g) (map (λ l. l.context.segment) ls) ≡ true) → AllByRecursion (Asks (asked_in (map (λ l. l.context.segment) ls))) rest
-    go [] up = tt
-    go (l ∷ rest) up = ((λ e. up l.context.segment (ap (λ b. b || list_any (nat_eq l.context.segment) (map (λ l. l.context.segment) rest)) alike)), go rest (λ g h. up g (or_right (nat_eq g l.context.segment) (list_any (nat_eq g) (map (λ l. l.context.segment) rest)) h)))
-      where
-        alike : nat_eq l.context.segment l.context.segment ≡ true
-        alike = grind (arith, nat_tests)
-
-        or_right : (a b : Bool) → b ≡ true → (a || b) ≡ true
-        or_right true b h = refl
-        or_right false b h = h
-
-second_of : (asked : List ℕ) (count len : ℕ) (r : Result (List Part) AsmFault) → IfOk r (PartsOf asked count len) → IfOk r (λ ps. sum_by part_len ps ≡ len)
-second_of asked count len x h = grind (arith, common_steps)
-
-all_lines_long : (y : Layout) → IsSoundLayout y → AllByRecursion (IsLong (table_of y)) y.laid
-all_lines_long y s =
-    let z : Symbols = symbols_of y.laid in
-    let count : ℕ = length z.imports in
-    let asked : List ℕ = map (λ (l : Laid). l.context.segment) y.laid in
-    let every = asked_somewhere y.laid in
-    let known : IsKnown asked count z = record { definitions = definitions_pass (asked_in asked) y.laid every; imports = imports_below z } in
-    go asked count z known y.laid (λ i l e. (symbols_of (take i y.laid), s.measured i l e)) every
-  where
-    go : (asked : List ℕ) (count : ℕ) (z : Symbols) → IsKnown asked count z → (ls : List Laid) → ((i : ℕ) (l : Laid) → slice_get ls i ≡ Some l → (before : Symbols) × IsMeasured before l) → AllByRecursion (Asks (asked_in asked)) ls → AllByRecursion (IsLong z) ls
-    go asked count z known [] m a = tt
-    go asked count z known (l ∷ ls) m a =
-        let first = m 0 l refl in
-        (second_of asked count l.length (parts_of z l) (parts_sound asked count z first.0 known l a.0 first.1), go asked count z known ls (λ i x e. m (suc i) x e) a.1)
+-- statements each of which places what it was measured to place
+abbrev AreMeasured : List Laid → Type 0
+AreMeasured ls = (i : ℕ) (l : Laid) → slice_get ls i ≡ Some l → (before : Symbols) × IsMeasured before l
 
 module _ (z : Symbols) (owner g : ℕ) where
   abbrev here : List Laid → List Laid → List Line
   here before ls = lines_at g (lines_behind owner before ls)
 
-  long_parts : (l : Laid) (c : Content) → IsContent z l c → IsLong z l → sum_by part_len c.parts ≡ l.length
-  long_parts l c content h = grind (arith, common_steps)
-
-  lines_long : (before ls : List Laid) (cs : List Content) (at : ℕ) → EndsAt at (here before ls) → AllByRecursion (IsLong z) ls → contents_from z ls ≡ Ok cs → end_of at (map line (here before ls)) ≡ at + sum_by part_len (parts_in cs g)
-  lines_long before [] cs at ends long e = grind (arith, common_steps, zero_more)
-  lines_long before (l ∷ ls) cs at ends long e =
-      let found : Laid → Result Content PlacedFault = λ l. at_place l.place (content_of z l) in
-      let (c, first, others) = bind_ok (found l) (λ y. each found ls >>= (λ ys. Ok (y ∷ ys))) cs e in
-      let (ds, more, last) = bind_ok (each found ls) (λ ys. Ok (c ∷ ys)) cs others in
-      let same : c ∷ ds ≡ cs = cc last in
-      let content = content_is z l c (placed_ok l.place (content_of z l) c first) in
-      go c content ds (λ n ends. lines_long (before ++ l ∷ []) ls ds n ends long.1 more) (nat_eq l.context.segment g) refl ends ∙ ap (λ ds. at + sum_by part_len (parts_in ds g)) same
+  lines_long : (before ls : List Laid) (names : List (List ℕ)) (cs : List Content) (at : ℕ) → EndsAt at (here before ls) → AreMeasured ls → AreStated z names ls cs → end_of at (map line (here before ls)) ≡ at + sum_by part_len (parts_in cs g)
+  lines_long before [] names _ at ends measured no_line = sym (zero_more at)
+  lines_long before (l ∷ ls) names _ at ends measured (a_line ds cs found more) =
+      let one = measured 0 l refl in
+      let own : sum_by part_len (parts_in ds g) ≡ cond (nat_eq l.context.segment g) l.length 0 = slots_long z names one.0 l g ds one.1 found in
+      let parts : sum_by part_len (parts_in (ds ++ cs) g) ≡ cond (nat_eq l.context.segment g) l.length 0 + sum_by part_len (parts_in cs g) =
+      ap (sum_by part_len) (parts_append g ds cs) ∙ sum_by-append part_len (parts_in ds g) (parts_in cs g) ∙ ap (λ n. n + sum_by part_len (parts_in cs g)) own in
+      by (λ n ends. lines_long (before ++ l ∷ []) ls (names ++ exported_names (all_said ds)) cs n ends (λ i x e. measured (suc i) x e) more) (nat_eq l.context.segment g) ends
+      ∙ ap (λ n. at + n) (sym parts)
     where
-      go : (c : Content) → IsContent z l c → (ds : List Content) → ((n : ℕ) → EndsAt n (here (before ++ l ∷ []) ls) → end_of n (map line (here (before ++ l ∷ []) ls)) ≡ n + sum_by part_len (parts_in ds g)) → (b : Bool) → nat_eq l.context.segment g ≡ b → EndsAt at (cond (nat_eq l.context.segment g) (line_of owner before l ∷ here (before ++ l ∷ []) ls) (here (before ++ l ∷ []) ls)) → end_of at (map line (cond (nat_eq l.context.segment g) (line_of owner before l ∷ here (before ++ l ∷ []) ls) (here (before ++ l ∷ []) ls))) ≡ at + sum_by part_len (parts_in (c ∷ ds) g)
-      go c content ds deeper b e ends =
-          let lines_are : cond (nat_eq l.context.segment g) (line_of owner before l ∷ here (before ++ l ∷ []) ls) (here (before ++ l ∷ []) ls) ≡ cond b (line_of owner before l ∷ here (before ++ l ∷ []) ls) (here (before ++ l ∷ []) ls) = ap (λ q. cond q (line_of owner before l ∷ here (before ++ l ∷ []) ls) (here (before ++ l ∷ []) ls)) e in
-          let parts_are : parts_in (c ∷ ds) g ≡ flat_map (λ (d : Content). d.parts) (cond b (c ∷ filter (λ (d : Content). nat_eq d.segment g) ds) (filter (λ (d : Content). nat_eq d.segment g) ds)) = ap (λ n. flat_map (λ (d : Content). d.parts) (cond (nat_eq n g) (c ∷ filter (λ (d : Content). nat_eq d.segment g) ds) (filter (λ (d : Content). nat_eq d.segment g) ds))) content.segment ∙ ap (λ q. flat_map (λ (d : Content). d.parts) (cond q (c ∷ filter (λ (d : Content). nat_eq d.segment g) ds) (filter (λ (d : Content). nat_eq d.segment g) ds))) e in
-          ap (λ xs. end_of at (map line xs)) lines_are ∙ by b (subst (EndsAt at) lines_are ends) ∙ ap (λ ps. at + sum_by part_len ps) (sym parts_are)
-        where
-          by : (b : Bool) → EndsAt at (cond b (line_of owner before l ∷ here (before ++ l ∷ []) ls) (here (before ++ l ∷ []) ls)) → end_of at (map line (cond b (line_of owner before l ∷ here (before ++ l ∷ []) ls) (here (before ++ l ∷ []) ls))) ≡ at + sum_by part_len (flat_map (λ (d : Content). d.parts) (cond b (c ∷ filter (λ (d : Content). nat_eq d.segment g) ds) (filter (λ (d : Content). nat_eq d.segment g) ds)))
-          by false ends = deeper at ends
-          by true ends =
-              let behind : ℕ = line_end at (line_of owner before l).multiple l in
-              let first : behind ≡ at + l.length = ends.0 in
-              let rest = deeper behind ends.1 in
-              let own : sum_by part_len c.parts ≡ l.length = long_parts l c content long.0 in
-              let both = sum_by-append part_len c.parts (parts_in ds g) in
-              omega (arith, first, rest, own, both)
+      others : List Line
+      others = here (before ++ l ∷ []) ls
+
+      by :
+          ((n : ℕ) → EndsAt n others → end_of n (map line others) ≡ n + sum_by part_len (parts_in cs g)) →
+          (b : Bool) → EndsAt at (cond b (line_of owner before l ∷ others) others) →
+          end_of at (map line (cond b (line_of owner before l ∷ others) others)) ≡ at + (cond b l.length 0 + sum_by part_len (parts_in cs g))
+      by deeper false ends = (let rest = deeper at ends in omega (arith, rest))
+      by deeper true ends =
+          let behind : ℕ = line_end at (line_of owner before l).multiple l in
+          let first : behind ≡ at + l.length = ends.0 in
+          let rest = deeper behind ends.1 in
+          omega (arith, first, rest)
 
 -- It is as long as they are.
-pub length_law : (y : Layout) (owner g : ℕ) (cs : List Content) (origins : Place → Origin) (sections imports : List ℕ) → IsLaidOut y → IsSoundLayout y → contents_from (table_of y) y.laid ≡ Ok cs → section_len (section_of origins y.cursor.segments sections imports cs g) ≡ end_of 0 (map line (lines_at g (lines_behind owner [] y.laid)))
+pub length_law : (y : Layout) (owner g : ℕ) (cs : List Content) (origins : Place → Origin) (sections imports : List ℕ) → IsLaidOut y → IsSoundLayout y → (ending_of y.laid).found ≡ Ok cs → section_len (section_of origins y.cursor.segments sections imports cs g) ≡ end_of 0 (map line (lines_at g (lines_behind owner [] y.laid)))
 length_law y owner g cs origins sections imports d s e =
     let parts = joined_parts_long origins sections imports (parts_in cs g) in
-    let lines = lines_long (table_of y) owner g [] y.laid cs 0 (all_end owner g d) (all_lines_long y s) e in
+    let lines = lines_long (table_of y) owner g [] y.laid [] cs 0 (all_end owner g d) (λ i l at. (symbols_of (take i y.laid), s.measured i l at)) (are_stated y cs e) in
     omega (arith, parts, lines)
 
 -- ---- Contents.
@@ -172,7 +125,7 @@ length_law y owner g cs origins sections imports d s e =
 -- the contents of which a module's object is made, of one version or the other
 pub record HasContents (y : Layout) (m : Module) : Type 0 where
   pub contents : List Content
-  pub found : contents_from (table_of y) y.laid ≡ Ok contents
+  pub found : (ending_of y.laid).found ≡ Ok contents
   pub version : ℕ
   pub files : List (List ℕ)
   -- what places are in the object
@@ -182,11 +135,11 @@ pub record HasContents (y : Layout) (m : Module) : Type 0 where
 pub contents_of : (y : Layout) (m : Module) → IsSource y m → HasContents y m
 contents_of y m h =
     let names : List (List ℕ) = (table_of y).imports in
-    let (cs, first, last) = bind_ok (contents_from (table_of y) y.laid) (λ cs. Ok (object_with y.cursor.segments names cs)) h.written h.object in
+    let (cs, first, last) = bind_ok (ending_of y.laid).found (λ cs. Ok (object_with y.cursor.segments names cs)) h.written h.object in
     let same : object_with y.cursor.segments names cs ≡ h.written = cc last in
     go cs first same h.version
   where
-    go : (cs : List Content) → contents_from (table_of y) y.laid ≡ Ok cs → object_with y.cursor.segments (table_of y).imports cs ≡ h.written → IsEitherVersion h.written m.object → HasContents y m
+    go : (cs : List Content) → (ending_of y.laid).found ≡ Ok cs → object_with y.cursor.segments (table_of y).imports cs ≡ h.written → IsEitherVersion h.written m.object → HasContents y m
     go cs first same (inl as_written) = record {
       contents = cs;
       found = first;
@@ -204,7 +157,7 @@ contents_of y m h =
       object = in_one ∙ ap in_version_one (sym same) ∙ by_lines 2 (files_of cs) (in_files (files_of cs)) y.cursor.segments (table_of y).imports cs;
     }
 
-pub same_object : (y : Layout) (m : Module) (cs : List Content) → (h : IsSource y m) → contents_from (table_of y) y.laid ≡ Ok cs → m.object ≡ object_by (contents_of y m h).version (contents_of y m h).files (contents_of y m h).origins y.cursor.segments (table_of y).imports cs
+pub same_object : (y : Layout) (m : Module) (cs : List Content) → (h : IsSource y m) → (ending_of y.laid).found ≡ Ok cs → m.object ≡ object_by (contents_of y m h).version (contents_of y m h).files (contents_of y m h).origins y.cursor.segments (table_of y).imports cs
 same_object y m cs h e =
     let c = contents_of y m h in
     let both : ◌≡◌ {A = Result (List Content) PlacedFault} (Ok c.contents) (Ok cs) = sym c.found ∙ e in

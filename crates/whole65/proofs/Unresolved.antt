@@ -1,18 +1,15 @@
 -- A link leaves names open exactly where the whole program lacks some that have to be given.
 use Rattle.std.proofs.lemmas.Grind.{common_steps}
-use Rattle.std.proofs.Common.{◌≡◌, ℕ, suc, Bool, true, false, nat_eq, cond, List, [], ◌∷◌, ◌++◌, length, map, filter, slice_get, Option, Some, None, Result, Ok, refl, sym, ◌∙◌, ap, subst, zero, ◌+◌, ◌<◌, arith}
+use Rattle.std.proofs.Common.{◌≡◌, ℕ, suc, Bool, true, false, nat_eq, cond, List, [], ◌∷◌, ◌++◌, length, map, filter, slice_get, Option, Some, None, Ok, refl, sym, ◌∙◌, ap, subst, zero, ◌+◌, ◌<◌, arith}
 use Rattle.std.specs.Prelude.{⊤, ℤ, unwrap_or, ◌||◌}
 use Rattle.std.specs.List.{AllByRecursion, flat_map, list_any}
 use Rattle.std.proofs.lemmas.List.{append_assoc}
-use Rattle.base65.specs.Outcome.{◌>>=◌, each}
 use Rattle.syntax65.specs.Trees as tree
 use Rattle.object65.specs.Form.{Form}
 use Rattle.script65.specs.declared.placement.Placement.{Placement}
 use Rattle.script65.specs.declared.script.Script.{Script}
-use Rattle.semantics65.specs.Contents.{Content, Part, Known, Filled, Waiting, Declaration, Exported, ForcedImport, Asserted, content_of, parts_of}
-use Rattle.semantics65.specs.Symbols.{Laid, asks_section, Symbols, defined, named, with_new}
-use Rattle.ast65.specs.declared.language.Statement.{Statement}
-use Rattle.ast65.specs.declared.language.Statement.TheVariants as statement
+use Rattle.semantics65.specs.Contents.{Content, Part, Known, Filled, Waiting, Declaration, Exported, ForcedImport, Asserted, exported_names}
+use Rattle.semantics65.specs.Symbols.{Laid, asks_section, Symbols, defined, named}
 use Rattle.ast65.specs.declared.language.Statement.TheVariants.{Assert}
 use Rattle.semantics65.specs.Layout.{Layout}
 use Rattle.semantics65.specs.Norms.{defined_form, norm}
@@ -21,17 +18,17 @@ use Rattle.link65.specs.Programs.{Module}
 use Rattle.link65.specs.declared.parts.ValueFault.{ValueFault}
 use Rattle.link65.specs.declared.parts.ValueFault.TheVariants.{NoValue}
 use Rattle.semantics65.proofs.SoundForms.{all_append}
-use Rattle.semantics65.specs.Module.{contents_from}
-use Rattle.semantics65.specs.Reading.{PlacedFault, at_place}
-use Rattle.whole65.proofs.Exports.{IsAsserted, all_demanded, demanded_names, one_tells, IsDefined, exported_names, said_all}
+use Rattle.semantics65.specs.Module.{ending_of}
+use Rattle.whole65.proofs.Exports.{IsAsserted, all_demanded, demanded_names, one_tells, IsDefined, said_all}
 use Rattle.whole65.proofs.Links.{valued_imports_law}
 use Rattle.whole65.proofs.Providers.{global_form, past_all, sources_law}
-use Rattle.whole65.proofs.Imports.{KeyFor, OfKey, OfPart, OfSaid, among_swapped, at_key, each_name, imports_hold, key_for, no_key, forced_hold, all_parts, of_among, none_open}
+use Rattle.whole65.proofs.Imports.{OfKey, OfPart, OfSaid, at_key, imports_hold, key_for, no_key, forced_hold, all_parts, none_open}
 use Rattle.whole65.proofs.Keyed.{or_right, one_of}
 use Rattle.whole65.proofs.Sections.{alike, any_once, asked_are, held, keys_of}
-use Rattle.whole65.proofs.SameValues.{bind_ok, same_values_law}
+use Rattle.whole65.proofs.SameValues.{same_values_law}
 use Rattle.whole65.proofs.Rows.{any_new, any_map, names_asked, bytes_split}
-use Rattle.whole65.proofs.SectionBytes.{content_is, in_middle, placed_ok, section_law}
+use Rattle.whole65.proofs.SectionBytes.{in_middle, section_law}
+use Rattle.whole65.proofs.Statements.{AreStated, Stated, a_line, all_put, are_stated, no_line, parts_append, put_append, quiet_parts, said_append, stated}
 use Rattle.whole65.proofs.Sources.{contents_of, begin_is_multiple, whole_part}
 use Rattle.whole65.proofs.LinkedObjects.{linked_objects, context_in, symbols_at, AreParts}
 use Rattle.whole65.specs.Modules.{exports_of, forced_of, global_context, context_or, table_of}
@@ -60,60 +57,45 @@ use Rattle.link65.specs.Names.{unresolved, symbol_imports}
 
 -- ---- What asks for no section puts nothing there.
 
-abbrev IsQuiet : Content → Type 0
-IsQuiet c = c.asks ≡ false → c.parts ≡ []
-
-quiet_parts : (z : Symbols) (l : Laid) (ps : List Part) → asks_section l.stated ≡ false → parts_of z l ≡ Ok ps → ps ≡ []
-quiet_parts z l ps none h = grind (arith, common_steps)
-
-quiet_contents : (z : Symbols) (ls : List Laid) (cs : List Content) → contents_from z ls ≡ Ok cs → AllByRecursion IsQuiet cs
-quiet_contents z [] cs e = let same : [] ≡ cs = cc in subst (AllByRecursion IsQuiet) same tt
-quiet_contents z (l ∷ ls) cs e =
-    let found : Laid → Result Content PlacedFault = λ l. at_place l.place (content_of z l) in
-    let (c, first, others) = bind_ok (found l) (λ y. each found ls >>= (λ ys. Ok (y ∷ ys))) cs e in
-    let (ds, more, last) = bind_ok (each found ls) (λ ys. Ok (c ∷ ys)) cs others in
-    let same : c ∷ ds ≡ cs = cc last in
-    let content = content_is z l c (placed_ok l.place (content_of z l) c first) in
-    subst (AllByRecursion IsQuiet) same ((λ none. quiet_parts z l c.parts (sym content.asks ∙ none) content.parts), quiet_contents z ls ds more)
-
 -- what holds of the parts in each section that is asked for holds of the parts of all contents
 module _ (P : Part → Type 0) where
   abbrev pub Asked : List Content → Type 0
   Asked cs = (g : ℕ) → list_any (nat_eq g) (segments_asked cs) ≡ true → AllByRecursion P (parts_in cs g)
 
-  parts_if : (c : Content) (cs : List Content) (g : ℕ) (b : Bool) → nat_eq c.segment g ≡ b → AllByRecursion P (parts_in (c ∷ cs) g) → AllByRecursion P (flat_map (λ (d : Content). d.parts) (cond b (c ∷ filter (λ (d : Content). nat_eq d.segment g) cs) (filter (λ (d : Content). nat_eq d.segment g) cs)))
-  parts_if c cs g b e h = subst (λ b. AllByRecursion P (flat_map (λ (d : Content). d.parts) (cond b (c ∷ filter (λ (d : Content). nat_eq d.segment g) cs) (filter (λ (d : Content). nat_eq d.segment g) cs)))) e h
+  -- in the segments of which these statements ask for sections
+  abbrev AskedBy : List Laid → List Content → Type 0
+  AskedBy ls cs = (g : ℕ) → list_any (nat_eq g) (map (λ l. l.context.segment) (filter (λ l. asks_section l.stated) ls)) ≡ true → AllByRecursion P (parts_in cs g)
 
-  asked_later : (c : Content) (cs : List Content) → Asked (c ∷ cs) → Asked cs
-  asked_later c cs up g e = go (nat_eq c.segment g) refl (up g (wider c.asks))
+  lines_put : (z : Symbols) (names : List (List ℕ)) (ls : List Laid) (cs : List Content) → AreStated z names ls cs → AskedBy ls cs → AllByRecursion P (all_put cs)
+  lines_put z names [] _ no_line up = tt
+  lines_put z names (l ∷ ls) _ (a_line ds cs found more) up =
+      let one = stated z names l ds found in
+      let both = λ (g : ℕ) (e : list_any (nat_eq g) (map (λ (x : Laid). x.context.segment) (cond (asks_section l.stated) (l ∷ asking) asking)) ≡ true). all_parts P (parts_in ds g) (parts_in cs g) (subst (AllByRecursion P) (parts_append g ds cs) (up g e)) in
+      let own : AllByRecursion P (all_put one.own) = here one (asks_section l.stated) refl (λ g e. (both g e).0) in
+      subst (AllByRecursion P) (sym (put_append ds cs)) (all_append P (all_put ds) (all_put cs) (subst (AllByRecursion P) (sym one.put) own) (lines_put z (names ++ exported_names (all_said ds)) ls cs more (λ g e. (both g (wider g (asks_section l.stated) e)).1)))
     where
-      wider : (b : Bool) → list_any (nat_eq g) (map (λ (d : Content). d.segment) (cond b (c ∷ filter (λ (d : Content). d.asks) cs) (filter (λ (d : Content). d.asks) cs))) ≡ true
-      wider true = or_right (nat_eq g c.segment) (list_any (nat_eq g) (segments_asked cs)) e
-      wider false = e
+      asking : List Laid
+      asking = filter (λ (x : Laid). asks_section x.stated) ls
 
-      go : (b : Bool) → nat_eq c.segment g ≡ b → AllByRecursion P (parts_in (c ∷ cs) g) → AllByRecursion P (parts_in cs g)
-      go true q h = (all_parts P c.parts (parts_in cs g) (parts_if c cs g true q h)).1
-      go false q h = parts_if c cs g false q h
+      wider : (g : ℕ) (b : Bool) → list_any (nat_eq g) (map (λ (x : Laid). x.context.segment) asking) ≡ true → list_any (nat_eq g) (map (λ (x : Laid). x.context.segment) (cond b (l ∷ asking) asking)) ≡ true
+      wider g true e = or_right (nat_eq g l.context.segment) (list_any (nat_eq g) (map (λ (x : Laid). x.context.segment) asking)) e
+      wider g false e = e
 
-  asked_here : (c : Content) (cs : List Content) → IsQuiet c → Asked (c ∷ cs) → AllByRecursion P c.parts
-  asked_here c cs quiet up = go c.asks refl
-    where
-      go : (b : Bool) → c.asks ≡ b → AllByRecursion P c.parts
-      go false e = subst (AllByRecursion P) (sym (quiet e)) tt
-      go true e =
-          let first : list_any (nat_eq c.segment) (segments_asked (c ∷ cs)) ≡ true =
-          ap (λ b. list_any (nat_eq c.segment) (map (λ (d : Content). d.segment) (cond b (c ∷ filter (λ (d : Content). d.asks) cs) (filter (λ (d : Content). d.asks) cs)))) e
-          ∙ ap (λ b. b || list_any (nat_eq c.segment) (segments_asked cs)) (alike c.segment) in
-          (all_parts P c.parts (parts_in cs c.segment) (parts_if c cs c.segment true (alike c.segment) (up c.segment first))).0
+      here : (one : Stated z names l ds) (b : Bool) → asks_section l.stated ≡ b → ((g : ℕ) → list_any (nat_eq g) (map (λ (x : Laid). x.context.segment) (cond b (l ∷ asking) asking)) ≡ true → AllByRecursion P (parts_in ds g)) → AllByRecursion P (all_put one.own)
+      here one false e first = subst (AllByRecursion P) (sym (quiet_parts l.length l.settled l.stated one.pieces e)) tt
+      here one true e first =
+          let g : ℕ = l.context.segment in
+          let same : parts_in ds g ≡ all_put one.own = one.parts g ∙ ap (λ b. cond b (all_put one.own) []) (alike g) in
+          subst (AllByRecursion P) same (first g (ap (λ b. b || list_any (nat_eq g) (map (λ (x : Laid). x.context.segment) asking)) (alike g)))
 
-  parts_asked : (cs : List Content) → AllByRecursion IsQuiet cs → Asked cs → AllByRecursion (λ (c : Content). AllByRecursion P c.parts) cs
-  parts_asked [] h up = tt
-  parts_asked (c ∷ cs) h up = (asked_here c cs h.0 up, parts_asked cs h.1 (asked_later c cs up))
+  each_put : (cs : List Content) → AllByRecursion P (all_put cs) → AllByRecursion (λ (c : Content). AllByRecursion P c.parts) cs
+  each_put [] h = tt
+  each_put (c ∷ cs) h = (let both = all_parts P c.parts (all_put cs) h in (both.0, each_put cs both.1))
+
+  parts_asked : (y : Layout) (cs : List Content) → (ending_of y.laid).found ≡ Ok cs → Asked cs → AllByRecursion (λ (c : Content). AllByRecursion P c.parts) cs
+  parts_asked y cs e up = each_put cs (lines_put (table_of y) [] y.laid cs (are_stated y cs e) (λ g h. up g (ap (list_any (nat_eq g)) (asked_are y cs e) ∙ h)))
 
 -- ---- One module.
-
-new_all : (P : List ℕ → Type 0) (names : List (List ℕ)) → AllByRecursion P (with_new [] names) → AllByRecursion P names
-new_all P names h = each_name P names (λ n e. of_among P (with_new [] names) n h (among_swapped n (with_new [] names) ∙ any_new n names [] ∙ e))
 
 module _ (s : Script) (placement : Placement) (ys : List Layout) (ms : List Module) (h : AreSources ys ms) (owner : ℕ) (y : Layout) (at_y : slice_get ys owner ≡ Some y) where
   abbrev p : Program
@@ -213,19 +195,15 @@ module _ (s : Script) (placement : Placement) (ys : List Layout) (ms : List Modu
   line_valued before l [] context has k = tt
   line_valued before l (x ∷ ss) context has k = (check_valued before l x context has k.0, line_valued before l ss context has k.1)
 
-  checks_valued : (before ls : List Laid) (cs : List Content) → before ++ ls ≡ y.laid → contents_from z ls ≡ Ok cs → AllByRecursion (HasAssertion p) (lines_behind owner before ls) → AllByRecursion IsValuedCheck (all_said cs)
-  checks_valued before [] cs w e has = let same : [] ≡ cs = cc in subst (λ k. AllByRecursion IsValuedCheck (all_said k)) same tt
-  checks_valued before (l ∷ ls) cs w e has =
-      let found : Laid → Result Content PlacedFault = λ l. at_place l.place (content_of z l) in
-      let (c, first, others) = bind_ok (found l) (λ y. each found ls >>= (λ ys. Ok (y ∷ ys))) cs e in
-      let (ds, more, last) = bind_ok (each found ls) (λ ys. Ok (c ∷ ys)) cs others in
-      let same : c ∷ ds ≡ cs = cc last in
-      let content = content_is z l c (placed_ok l.place (content_of z l) c first) in
+  checks_valued : (before ls : List Laid) (names : List (List ℕ)) (cs : List Content) → before ++ ls ≡ y.laid → AreStated z names ls cs → AllByRecursion (HasAssertion p) (lines_behind owner before ls) → AllByRecursion IsValuedCheck (all_said cs)
+  checks_valued before [] names _ w no_line has = tt
+  checks_valued before (l ∷ ls) names _ w (a_line ds cs found more) has =
       let next : (before ++ l ∷ []) ++ ls ≡ y.laid = append_assoc before (l ∷ []) ls ∙ w in
       let there : slice_get y.laid (length before) ≡ Some l = subst (λ k. slice_get k (length before) ≡ Some l) w (in_middle before l ls) in
       let context : o.contexts owner (length before) ≡ l.context = ap (λ r. context_in r (length before)) at_y ∙ ap (context_or (global_context y)) there in
-      subst (λ k. AllByRecursion IsValuedCheck (all_said k)) same
-      (all_append IsValuedCheck c.said (all_said ds) (line_valued before l c.said context has.0 (one_tells z l c.said content.said).asserted) (checks_valued (before ++ l ∷ []) ls ds next more has.1))
+      let tells = one_tells z names l (all_said ds) (stated z names l ds found).said in
+      subst (AllByRecursion IsValuedCheck) (sym (said_append ds cs))
+      (all_append IsValuedCheck (all_said ds) (all_said cs) (line_valued before l (all_said ds) context has.0 tells.asserted) (checks_valued (before ++ l ∷ []) ls (names ++ exported_names (all_said ds)) cs next more has.1))
 
   -- ---- All imports of the object.
 
@@ -233,12 +211,12 @@ module _ (s : Script) (placement : Placement) (ys : List Layout) (ms : List Modu
   module_given m source given exported asserted asked =
       let c = contents_of y m source in
       let cs : List Content = c.contents in
-      let says = said_all z y.laid cs c.found in
-      let names : AllByRecursion (HasExport p owner) (exported_names (all_said cs)) = subst (AllByRecursion (HasExport p owner)) (sym says.exported) (new_all (HasExport p owner) _ exported) in
-      let demands : AllByRecursion (IsGiven p) (demanded_names (all_said cs)) = subst (AllByRecursion (IsGiven p)) (sym (all_demanded z y.laid cs c.found)) given in
+      let says = said_all y cs c.found in
+      let names : AllByRecursion (HasExport p owner) (exported_names (all_said cs)) = subst (AllByRecursion (HasExport p owner)) says.exported exported in
+      let demands : AllByRecursion (IsGiven p) (demanded_names (all_said cs)) = subst (AllByRecursion (IsGiven p)) (sym (all_demanded y cs c.found)) given in
       imports_hold (IsGiven p) y m source
-      (all_parts_given cs (parts_asked IsValuedPart cs (quiet_contents z y.laid cs c.found) asked))
-      (said_given (all_said cs) demands (exports_valued (all_said cs) says.are_defined names) (checks_valued [] y.laid cs refl c.found asserted))
+      (all_parts_given cs (parts_asked IsValuedPart y cs c.found asked))
+      (said_given (all_said cs) demands (exports_valued (all_said cs) says.are_defined names) (checks_valued [] y.laid [] cs refl (are_stated y cs c.found) asserted))
 
 -- ---- From the link.
 
@@ -315,7 +293,7 @@ module _ (s : Script) (placement : Placement) (ys : List Layout) (ms : List Modu
       let below : g < length y.cursor.segments = one_of (λ k. k < length y.cursor.segments) (section_keys cs) g keys.standing key in
       let has : has_section y name ≡ true = keys.has name ∙ held (λ k. bytes_eq (segment_name y k) name) g (section_keys cs) key (itself name) in
       let asking : List Laid = filter (λ (l : Laid). asks_section l.stated) y.laid in
-      let shown : list_any (nat_eq g) (map (λ (l : Laid). l.context.segment) asking) ≡ true = ap (list_any (nat_eq g)) (sym (asked_are (table_of y) y.laid cs c.found)) ∙ asked in
+      let shown : list_any (nat_eq g) (map (λ (l : Laid). l.context.segment) asking) ≡ true = ap (list_any (nat_eq g)) (sym (asked_are y cs c.found)) ∙ asked in
       let by_name : list_any (λ k. bytes_eq name k) (asked_by y) ≡ true =
       ap (list_any (λ k. bytes_eq name k)) (sym (names_asked y asking))
       ∙ any_map (segment_name y) name (map (λ (l : Laid). l.context.segment) asking)

@@ -1,20 +1,16 @@
 -- The object of version 1 of statements, as one of those that places' origins make.
 use Rattle.std.proofs.lemmas.Grind.{common_steps}
-use Rattle.std.proofs.Common.{arith, ◌≡◌, ℕ, ◌+◌, Bool, true, false, not, cond, List, [], ◌∷◌, ◌++◌, map, filter, refl, sym, ◌∙◌, ap}
-use Rattle.std.specs.Prelude.{filter_map, ◌||◌}
-use Rattle.std.specs.List.{list_any}
-use Rattle.std.specs.Str.{bytes_eq}
-use Rattle.std.proofs.lemmas.List.{map-append}
+use Rattle.std.proofs.Common.{arith, ◌≡◌, ℕ, ◌+◌, not, List, [], ◌∷◌, ◌++◌, map, filter, refl, ◌∙◌, ap}
+use Rattle.std.specs.Prelude.{filter_map}
 use Rattle.object65.specs.Versions.{assert_in_one, export_in_one, fragment_in_one, in_version_one, line_alone, section_in_one}
-use Rattle.object65.specs.declared.object.Export.{Export}
 use Rattle.object65.specs.declared.object.Fragment.{Fragment}
 use Rattle.object65.specs.declared.object.Fragment.TheVariants.{Literal, Fill, Value}
 use Rattle.object65.specs.declared.object.Object.{Object}
 use Rattle.object65.specs.declared.object.Origin.{Origin}
 use Rattle.syntax65.specs.declared.place.Place.{Place}
-use Rattle.semantics65.specs.Contents.{Content, Part, Known, Filled, Waiting, Declaration, Exported, ForcedImport, Asserted}
+use Rattle.semantics65.specs.Contents.{Content, Part, Declaration, Exported, ForcedImport, Asserted}
 use Rattle.semantics65.specs.declared.contents.Segment.{Segment}
-use Rattle.semantics65.specs.Numbering.{all_joined, all_said, assert_of, exports_among, fragment_of, fragments_of, import_keys, is_empty, joined, numbered, object_by, parts_in, section_keys, section_of}
+use Rattle.semantics65.specs.Numbering.{all_joined, all_said, assert_of, export_of, fragment_of, fragments_of, import_keys, is_empty, joined, numbered, object_by, section_keys, section_of}
 
 -- ---- Fragments.
 
@@ -59,24 +55,11 @@ module _ (origins : Place → Origin) (sections imports : List ℕ) where
 
   -- ---- Exports and assertions.
 
-  same_names : (n : List ℕ) (found : List Export) → list_any (λ e. bytes_eq n e.name) (map export_in_one found) ≡ list_any (λ e. bytes_eq n e.name) found
-  same_names n [] = refl
-  same_names n (e ∷ found) = ap (λ b. bytes_eq n e.name || b) (same_names n found)
-
-  exports_by_line : (found : List Export) (ss : List Declaration) → map export_in_one (exports_among origins sections imports found ss) ≡ exports_among lines sections imports (map export_in_one found) ss
-  exports_by_line found [] = refl
-  exports_by_line found (ForcedImport n ∷ ss) = exports_by_line found ss
-  exports_by_line found (Asserted act place words f ∷ ss) = exports_by_line found ss
-  exports_by_line found (Exported n place f ∷ ss) =
-      exports_by_line (cond (list_any (λ e. bytes_eq n e.name) found) found (found ++ export origins ∷ [])) ss
-      ∙ ap (λ z. exports_among lines sections imports z ss) (go (list_any (λ e. bytes_eq n e.name) found) ∙ ap (λ b. cond b (map export_in_one found) (map export_in_one found ++ export lines ∷ [])) (sym (same_names n found)))
-    where
-      export : (Place → Origin) → Export
-      export at = record { name = n; origin = at place; form = numbered sections imports f }
-
-      go : (b : Bool) → map export_in_one (cond b found (found ++ export origins ∷ [])) ≡ cond b (map export_in_one found) (map export_in_one found ++ export lines ∷ [])
-      go true = refl
-      go false = map-append export_in_one found (export origins ∷ [])
+  exports_by_line : (ss : List Declaration) → map export_in_one (filter_map (export_of origins sections imports) ss) ≡ filter_map (export_of lines sections imports) ss
+  exports_by_line [] = refl
+  exports_by_line (Exported n place f ∷ ss) = ap (λ z. record { name = n; origin = lines place; form = numbered sections imports f } ∷ z) (exports_by_line ss)
+  exports_by_line (ForcedImport n ∷ ss) = exports_by_line ss
+  exports_by_line (Asserted act place words f ∷ ss) = exports_by_line ss
 
   asserts_by_line : (ss : List Declaration) → map assert_in_one (filter_map (assert_of origins sections imports) ss) ≡ filter_map (assert_of lines sections imports) ss
   asserts_by_line [] = refl
@@ -92,6 +75,6 @@ by_lines version files origins gs names cs =
     let sections : List ℕ = section_keys cs in
     let imports : List ℕ = import_keys names cs in
     let o : Object = object_by 1 [] (λ place. line_alone (origins place)) gs names cs in
-    ap (λ z. record o { sections = z; exports = map export_in_one (exports_among origins sections imports [] (all_said cs)); asserts = map assert_in_one (filter_map (assert_of origins sections imports) (all_said cs)) }) (sections_by_line origins sections imports gs cs sections)
-    ∙ ap (λ z. record o { exports = z; asserts = map assert_in_one (filter_map (assert_of origins sections imports) (all_said cs)) }) (exports_by_line origins sections imports [] (all_said cs))
+    ap (λ z. record o { sections = z; exports = map export_in_one (filter_map (export_of origins sections imports) (all_said cs)); asserts = map assert_in_one (filter_map (assert_of origins sections imports) (all_said cs)) }) (sections_by_line origins sections imports gs cs sections)
+    ∙ ap (λ z. record o { exports = z; asserts = map assert_in_one (filter_map (assert_of origins sections imports) (all_said cs)) }) (exports_by_line origins sections imports (all_said cs))
     ∙ ap (λ z. record o { asserts = z }) (asserts_by_line origins sections imports (all_said cs))

@@ -8,7 +8,8 @@ use Rattle.semantics65.specs.declared.laid.Context.{Context}
 use Rattle.semantics65.specs.Symbols.{Definition, Key, Symbols, unnamed_at, meaning_of, Laid, asks_section, defined, key_defined}
 use Rattle.semantics65.specs.Machine.{PutsAll, State, awaiting, entered}
 use Rattle.semantics65.specs.Module as piece
-use Rattle.emit65.specs.Fed.{Stands, Feeds}
+use Rattle.semantics65.specs.Numbering.{all_said}
+use Rattle.emit65.specs.Fed.{Stands, Feeds, contents_so_far}
 use Rattle.symbols65.specs.Resolving.{IsTable}
 use Rattle.symbols65.specs.Views.{table_of}
 use Rattle.asm65.specs.declared.assembler.Assembler.{Assembler}
@@ -56,6 +57,8 @@ pub record Holds (count : ℕ) (t : State) (a : Assembler) : Type 0 where
   pub inside : AreInside count t.symbols.scopes
   pub unnamed : AreBefore t.cursor.unnamed t.symbols.definitions
   pub sections : Stands t.slots a.sections
+  -- nothing is said yet to other modules and to the linker
+  pub unsaid : all_said (contents_so_far t.slots) ≡ []
   pub out : a.texts.out ≡ t.out
   pub err : a.texts.err ≡ t.err
 

@@ -1,5 +1,7 @@
 -- What calls leave, the states that are held, the lines of a source, and what waits behind them.
-use Rattle.std.specs.Prelude.{◌≡◌, ℕ, ◌+◌, ◌*◌, ◌≤◌, ◌<◌, List, [], ◌∷◌, Option, None, IfErr, IfSome, Bool, true, false, Result, Ok, Err, take, ◌++◌, map, length}
+use Rattle.std.specs.Prelude.{◌≡◌, ℕ, ◌+◌, ◌*◌, ◌≤◌, ◌<◌, List, [], ◌∷◌, Option, None, IfErr, IfSome, Bool, true, false, Result, Ok, Err, take, ◌++◌, map, length, if◌then◌else◌}
+use Rattle.std.specs.List.{list_any}
+use Rattle.std.specs.Str.{bytes_eq}
 use Rattle.base65.specs.Outcome.{Unless, ◌>>=◌}
 use Rattle.base65.specs.Store.{Files, PassesBy, Blamed}
 use Rattle.syntax65.specs.Tokens.{Lexeme}
@@ -18,20 +20,21 @@ use Rattle.semantics65.specs.Reading.{IsGiven, Job, stopped, bytes_for, with_byt
 use Rattle.asm65.specs.declared.assembler.Assembler.{Assembler}
 use Rattle.asm65.specs.declared.running.Run.{Run}
 use Rattle.symbols65.specs.Measuring.{opening_limit}
+use Rattle.symbols65.specs.Resolving.{IsTable}
 use Rattle.asm65.specs.Inner.Holding.{Holds}
 use Rattle.asm65.specs.Assembly.{Without, is_outside_refusal, placed_of}
 use Rattle.std.specs.Option.{option_map, unwrap_or}
-use Rattle.semantics65.specs.Contents.{Content, put, telling, written}
+use Rattle.semantics65.specs.Contents.{Content, put, telling, written, exported_names}
 use Rattle.semantics65.specs.declared.contents.Declaration.{Declaration}
 use Rattle.semantics65.specs.declared.laid.Context.{Context}
-use Rattle.semantics65.specs.Symbols.{Symbols}
+use Rattle.semantics65.specs.Symbols.{Symbols, defined, named}
 use Rattle.semantics65.specs.Views.{part_at, said_at}
-use Rattle.semantics65.specs.Module.{warning_at, Made, as_said, Slot, coming, holds, resolved}
-use Rattle.semantics65.specs.Numbering.{AreSound, object_with}
+use Rattle.semantics65.specs.Module.{warning_at, Made, Piece, as_said, made_of, is_repeated, Slot, coming, holds, resolved}
+use Rattle.semantics65.specs.Numbering.{AreSound, all_said, object_with}
 use Rattle.object65.specs.declared.object.Object.{Object}
 use Rattle.semantics65.specs.declared.contents.Segment.{Segment}
 use Rattle.object65.specs.Objects.{is_good_object}
-use Rattle.emit65.specs.Fed.{StandIn, slot_of}
+use Rattle.emit65.specs.Fed.{StandIn, contents_so_far, names_of, slot_of, stands_in}
 use Rattle.emit65.specs.declared.entries.Entry.{Entry}
 use Rattle.asm65.specs.declared.concluding.Ending.{Ending}
 use Rattle.asm65.specs.declared.texts.AsmRefusal.{AsmRefusal}
@@ -210,58 +213,78 @@ made_in place m = record {
 abbrev pub noted : Place → Declaration → Result Made AsmFault
 noted place s = written place (said_at place s ∷ []) >>= as_said
 
+-- what it comes to behind exports of these names
+abbrev pub comes_behind : Symbols → List (List ℕ) → Place → Context → Piece → Result Made AsmFault
+comes_behind y names place s p = if is_repeated names p then as_said [] else made_of y place s p
+
+-- a name that isn't defined is none of these
+abbrev pub HasDefined : Symbols → List (List ℕ) → Type 0
+HasDefined y names = (n : List ℕ) → defined y (named 0 n) ≡ None → list_any (bytes_eq n) names ≡ false
+
 -- ---- Behind the last line.
 
--- an entry more, which holds this content where these are the files
-pub record IsPutIn (files : List (List ℕ)) (c : Content) (old new : Ending) : Type 0 where
-  pub slots :
-      map (slot_of files) new.done.items ≡ map (slot_of files) old.done.items ++ holds c ∷ []
-  pub standing : StandIn (length files) old.done.items → StandIn (length files) new.done.items
+-- what was found is so by a symbol table: forms of constants, and that names which were exported are defined
+pub record IsFoundBy (y : Symbols) (e : Ending) : Type 0 where
+  pub forms : IsTable y e.known.states.items
+  pub names : HasDefined y (names_of e.exported)
 
--- a slot has come to its content, and its warning is said
-pub record IsSettled (y : Symbols) (files : List (List ℕ)) (x : Slot) (old new : Ending) : Type 0 where
+-- entries that were fed stand in these files, and say nothing yet
+pub record AreFed (files : List (List ℕ)) (es : List Entry) : Type 0 where
+  pub standing : StandIn (length files) es
+  pub unsaid : all_said (contents_so_far (map (slot_of files) es)) ≡ []
+
+-- a slot has come to its content, which an entry holds, and its warning is said
+pub record IsSettled (y : Symbols) (files : List (List ℕ)) (x : Slot) (e : Entry) (old new : Ending) : Type 0 where
   pub made : Made
-  pub found : coming y x ≡ Ok made
-  pub entry : IsPutIn files made.content old new
+  pub found : coming y (names_of old.exported) x ≡ Ok made
+  pub entry : slot_of files e ≡ holds made.content
+  pub standing : stands_in (length files) e ≡ true
+  pub names : names_of new.exported ≡ names_of old.exported ++ exported_names made.content.said
   pub err : new.err ≡ old.err ++ made.warning
 
 -- it has a fault instead, and nothing is said
 pub record IsFaulty (y : Symbols) (x : Slot) (e : AsmRefusal) (old new : Ending) : Type 0 where
-  pub found : coming y x ≡ Err (placed_of e)
+  pub found : coming y (names_of old.exported) x ≡ Err (placed_of e)
   pub err : new.err ≡ old.err
 
-abbrev pub Settles : Symbols → List (List ℕ) → Slot → Ending → Ending → Result Unit AsmRefusal → Type 0
-Settles y files x old new (Ok u) = IsSettled y files x old new
+-- what a call leaves that isn't refused
+abbrev pub leaving : {A : Type 0} → A → Result Unit AsmRefusal → Result A AsmRefusal
+leaving a (Ok u) = Ok a
+leaving a (Err e) = Err e
+
+abbrev pub Settles : Symbols → List (List ℕ) → Slot → Ending → Ending → Result Entry AsmRefusal → Type 0
+Settles y files x old new (Ok e) = IsSettled y files x e old new
 Settles y files x old new (Err e) = Unless (is_outside_refusal e) (IsFaulty y x e old new)
 
 -- all slots have come to contents, which the entries hold
-pub record AreSettled (y : Symbols) (files : List (List ℕ)) (xs : List Slot) (old new : Ending) :
+pub record AreSettled (y : Symbols) (files : List (List ℕ)) (xs : List Slot) (es : List Entry) (old new : Ending) :
     Type 0 where
   pub contents : List Content
   pub said : List ℕ
-  pub found : resolved y xs ≡ record { found = Ok contents; warned = said }
-  pub entries : map (slot_of files) new.done.items ≡ map holds contents
-  pub standing : StandIn (length files) new.done.items
+  pub found : resolved y (names_of old.exported) xs ≡ record { found = Ok contents; warned = said }
+  pub entries : map (slot_of files) es ≡ map holds contents
+  pub standing : StandIn (length files) es
   pub err : new.err ≡ old.err ++ said
 
 -- there is a first fault, behind the warnings of what stands before it
-pub record AreFaulty (y : Symbols) (xs : List Slot) (e : AsmRefusal) (old new : List ℕ) : Type 0 where
+pub record AreFaulty (y : Symbols) (names : List (List ℕ)) (xs : List Slot) (e : AsmRefusal) (old new : List ℕ) :
+    Type 0 where
   pub said : List ℕ
-  pub found : resolved y xs ≡ record { found = Err (placed_of e); warned = said }
+  pub found : resolved y names xs ≡ record { found = Err (placed_of e); warned = said }
   pub err : new ≡ old ++ said
 
 abbrev pub SettlesAll :
-    Symbols → List (List ℕ) → List Entry → Ending → Ending → Result Unit AsmRefusal → Type 0
-SettlesAll y files es old new (Ok u) = AreSettled y files (map (slot_of files) es) old new
-SettlesAll y files es old new (Err e) =
-    Unless (is_outside_refusal e) (AreFaulty y (map (slot_of files) es) e old.err new.err)
+    Symbols → List (List ℕ) → List Slot → Ending → Ending → Result (List Entry) AsmRefusal → Type 0
+SettlesAll y files xs old new (Ok es) = AreSettled y files xs es old new
+SettlesAll y files xs old new (Err e) =
+    Unless (is_outside_refusal e) (AreFaulty y (names_of old.exported) xs e old.err new.err)
 
 -- slots come to contents, and this is their object, which can be written if what it rests on holds
 pub record IsObjectOf (y : Symbols) (segments : List Segment) (xs : List Slot) (o : Object) (old new : List ℕ) :
     Type 0 where
   pub contents : List Content
   pub said : List ℕ
-  pub found : resolved y xs ≡ record { found = Ok contents; warned = said }
+  pub found : resolved y [] xs ≡ record { found = Ok contents; warned = said }
   pub object : o ≡ object_with segments y.imports contents
   pub good : AreSound segments y.imports contents → is_good_object o ≡ true
   pub err : new ≡ old ++ said
@@ -270,4 +293,4 @@ pub record IsObjectOf (y : Symbols) (segments : List Segment) (xs : List Slot) (
 abbrev pub ComesTo :
     Symbols → List Segment → List Slot → (old new : List ℕ) → Result Object AsmRefusal → Type 0
 ComesTo y segments xs old new (Ok o) = IsObjectOf y segments xs o old new
-ComesTo y segments xs old new (Err e) = Unless (is_outside_refusal e) (AreFaulty y xs e old new)
+ComesTo y segments xs old new (Err e) = Unless (is_outside_refusal e) (AreFaulty y [] xs e old new)

@@ -13,7 +13,7 @@ use Rattle.object65.specs.declared.object.Section.{Section}
 use Rattle.object65.specs.Objects.{FitsBits, FragmentFits, OriginFits}
 use Rattle.semantics65.specs.declared.contents.Declaration.{Declaration}
 use Rattle.semantics65.specs.declared.contents.Segment.{Segment}
-use Rattle.semantics65.specs.Numbering.{assert_of, exports_among, is_empty, name_of, numbered, segment_name, segment_power, number_of, once, optional_key}
+use Rattle.semantics65.specs.Numbering.{assert_of, export_of, is_empty, name_of, numbered, segment_name, segment_power, number_of, once, optional_key}
 use Rattle.semantics65.specs.Views.{place_in, said_at}
 use Rattle.emit65.specs.declared.entries.Entry.{Entry}
 use Rattle.emit65.specs.declared.entries.Entry.TheVariants.{Bytes, Room, Value, Told}
@@ -23,10 +23,6 @@ use Rattle.emit65.specs.declared.numbering.exports.Declared.{Declared}
 use Rattle.emit65.specs.declared.numbering.ordering.Order.{Order}
 
 -- ---- Tables and sections in the making, from which the object of a module's contents is built.
-
--- the names are those of the exports
-abbrev pub AreNamed : Declared → Type 0
-AreNamed t = map (λ k. k.now) t.names.keys ≡ map (λ e. e.name) t.exports
 
 -- ---- Sections in the making.
 
@@ -82,14 +78,12 @@ abbrev pub with_entries : (sections imports : List ℕ) → List Entry → List 
 with_entries sections imports [] ds = ds
 with_entries sections imports (e ∷ es) ds = with_entries sections imports es (map (with_entry sections imports e) ds)
 
--- exports behind those found
-abbrev pub exports_at : (sections imports : List ℕ) → Origin → List Export → List Declaration → List Export
-exports_at sections imports origin found ss = exports_among (λ place. origin) sections imports found (map (said_at anywhere) ss)
+abbrev pub exports_at : (sections imports : List ℕ) → Origin → List Declaration → List Export
+exports_at sections imports origin ss = filter_map (export_of (λ place. origin) sections imports) (map (said_at anywhere) ss)
 
-abbrev pub exports_from : (sections imports : List ℕ) → List Export → List Entry → List Export
-exports_from sections imports found [] = found
-exports_from sections imports found (Told o ss ∷ es) = exports_from sections imports (exports_at sections imports (fed.origin_by o) found ss) es
-exports_from sections imports found (e ∷ es) = exports_from sections imports found es
+abbrev pub entry_exports : (sections imports : List ℕ) → Entry → List Export
+entry_exports sections imports (Told o ss) = exports_at sections imports (fed.origin_by o) ss
+entry_exports sections imports _ = []
 
 abbrev pub asserts_at : (sections imports : List ℕ) → Origin → List Declaration → List Assert
 asserts_at sections imports origin ss = filter_map (assert_of (λ place. origin) sections imports) (map (said_at anywhere) ss)
@@ -133,7 +127,7 @@ object_before segments names sections imports es = record {
   files = [];
   imports = map (name_of names) imports;
   sections = map (section_from segments) (with_entries sections imports es (map new_draft sections));
-  exports = exports_from sections imports [] es;
+  exports = flat_map (entry_exports sections imports) es;
   asserts = flat_map (entry_asserts sections imports) es;
 }
 

@@ -1,51 +1,44 @@
-//! The exports of an object, each once, and its assertions.
+//! The exports of an object and its assertions.
 
 ghost use Rattle.std.specs.Prelude.{◌≡◌, ◌++◌, ◌∷◌, [], IfOk, OnOk};
 ghost use Rattle.std.specs.List.{AllByRecursion, flat_map};
-ghost use Rattle.emit65.specs.Inner.Drafts.{asserts_at, AreNamed, AssertFits, DeclaredFits, entry_asserts, exports_at, ExportFits, exports_from};
+ghost use Rattle.emit65.specs.Inner.Drafts.{asserts_at, AssertFits, DeclaredFits, entry_asserts, entry_exports, exports_at, ExportFits};
 
 use super::keys::{Numbers, numbered};
 use crate::entries::Entry;
-use base65::{Seed, Sequence};
-use indexmap::IndexSet;
+use base65::Sequence;
 use object65::{Assert, Export, Origin};
 use semantics65::Declaration;
 use std::alloc::{AllocError, Global};
 
-/// Exports, with the names by which a second one is found, and assertions.
+/// Exports and assertions.
 #[derive(Drop)]
-pub struct Declared<'a> {
+pub struct Declared {
     pub exports: Sequence<Export>,
-    pub names: IndexSet<&'a [u8], Seed>,
     pub asserts: Sequence<Assert>,
 }
 
-/// Adds an export of this origin, unless its name is there, or an assertion.
-fn add_saying<'a>(
+/// Adds an export of this origin, or an assertion.
+fn add_saying(
     alloc: Global,
     numbers: &Numbers,
-    declared: &mut Declared<'a>,
+    declared: &mut Declared,
     origin: Origin,
-    said: &'a Declaration,
+    said: &Declaration,
 ) -> Result<(), AllocError>
-    requires { AreNamed declared.old }
-    ensures exports { OnOk result (declared.new.exports ≡ exports_at numbers.now.sections.keys
-        numbers.now.imports.keys origin declared.old.exports (said.entry.now ∷ [])) }
+    ensures exports { OnOk result (declared.new.exports ≡ declared.old.exports ++ exports_at
+        numbers.now.sections.keys numbers.now.imports.keys origin (said.entry.now ∷ [])) }
     ensures asserts { OnOk result (declared.new.asserts ≡ declared.old.asserts ++ asserts_at
         numbers.now.sections.keys numbers.now.imports.keys origin (said.entry.now ∷ [])) }
     ensures fits { OnOk result (DeclaredFits declared.old → DeclaredFits declared.new) }
-    ensures named { OnOk result (AreNamed declared.new) }
 {
     match said {
         Declaration::Exported { name, form } => {
-            if declared.names.insert(name.as_slice())? {
-                declared.exports.push(Export {
-                    name: Sequence::copy_of(alloc, name.as_slice())?,
-                    origin,
-                    form: numbered(alloc, numbers, form)?,
-                })?;
-            }
-            Ok(())
+            declared.exports.push(Export {
+                name: Sequence::copy_of(alloc, name.as_slice())?,
+                origin,
+                form: numbered(alloc, numbers, form)?,
+            })
         }
         Declaration::Asserted { action, text, form } => {
             declared.asserts.push(Assert {
@@ -60,19 +53,17 @@ fn add_saying<'a>(
 }
 
 /// Adds the exports and assertions of an entry.
-fn add_entry<'a>(
+fn add_entry(
     alloc: Global,
     numbers: &Numbers,
-    declared: &mut Declared<'a>,
-    entry: &'a Entry,
+    declared: &mut Declared,
+    entry: &Entry,
 ) -> Result<(), AllocError>
-    requires { AreNamed declared.old }
-    ensures exports { OnOk result (declared.new.exports ≡ exports_from numbers.now.sections.keys
-        numbers.now.imports.keys declared.old.exports (entry.entry.now ∷ [])) }
+    ensures exports { OnOk result (declared.new.exports ≡ declared.old.exports ++ entry_exports
+        numbers.now.sections.keys numbers.now.imports.keys entry.entry.now) }
     ensures asserts { OnOk result (declared.new.asserts ≡ declared.old.asserts ++ entry_asserts
         numbers.now.sections.keys numbers.now.imports.keys entry.entry.now) }
     ensures fits { OnOk result (DeclaredFits declared.old → DeclaredFits declared.new) }
-    ensures named { OnOk result (AreNamed declared.new) }
 {
     let Entry::Told { pos, said } = entry else {
         return Ok(());
@@ -86,12 +77,11 @@ fn add_entry<'a>(
 /// The exports and the assertions of a module.
 pub fn declared_by(
     alloc: Global,
-    seed: Seed,
     numbers: &Numbers,
     entries: &[Entry],
 ) -> Result<(Sequence<Export>, Sequence<Assert>), AllocError>
-    ensures exports { IfOk result (λ made. made.0 ≡ exports_from numbers.now.sections.keys
-        numbers.now.imports.keys [] entries.now) }
+    ensures exports { IfOk result (λ made. made.0 ≡ flat_map (entry_exports
+        numbers.now.sections.keys numbers.now.imports.keys) entries.now) }
     ensures asserts { IfOk result (λ made. made.1 ≡ flat_map (entry_asserts
         numbers.now.sections.keys numbers.now.imports.keys) entries.now) }
     ensures exports_fit { IfOk result (λ made. AllByRecursion ExportFits made.0) }
@@ -99,7 +89,6 @@ pub fn declared_by(
 {
     let mut declared = Declared {
         exports: Sequence::new(alloc),
-        names: IndexSet::with_hasher(alloc, seed),
         asserts: Sequence::new(alloc),
     };
     for entry in entries {

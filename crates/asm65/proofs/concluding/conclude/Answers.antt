@@ -1,10 +1,11 @@
-use Rattle.std.proofs.Common.{ℕ, List, false, subst}
+use Rattle.std.proofs.Common.{◌≡◌, ℕ, List, [], false, subst}
 use Rattle.std.specs.Prelude.{None, Result}
 use Rattle.object65.specs.declared.object.Object.{Object}
 use Rattle.semantics65.specs.declared.contents.Segment.{Segment}
 use Rattle.semantics65.specs.Machine.{State, concluded}
 use Rattle.semantics65.specs.Module.{Slot}
-use Rattle.emit65.specs.Fed.{Stands}
+use Rattle.semantics65.specs.Numbering.{all_said}
+use Rattle.emit65.specs.Fed.{Stands, contents_so_far}
 use Rattle.symbols65.specs.Views.{table_of}
 use Rattle.asm65.specs.Inner.Holding.{Holds}
 use Rattle.asm65.specs.Inner.Running.{ComesTo}
@@ -15,17 +16,17 @@ use Rattle.asm65.proofs.concluding.conclude.Goals as goal
 pub returns-clause-concluded : goal.returns-clause-concluded
 returns-clause-concluded c =
     let a : Assembler = c.args.assembler in
-    let r = c.object_found-found.result in
-    let new = c.object_found-found.new.ending.err in
+    let r = c.object_of-found.result in
+    let new = c.object_of-found.new.ending.err in
     λ (count : ℕ) (t : State).
     λ (h : Holds count t a).
-    let k : ComesTo (table_of a.symbols) a.cursor.segments.items t.slots a.texts.err new r = subst (λ (gs : List Segment). ComesTo (table_of a.symbols) gs t.slots a.texts.err new r) c.as_slice-segments.ensures.value (c.object_found-found.ensures.found t.slots h.sections) in
+    let k : ComesTo (table_of a.symbols) a.cursor.segments.items t.slots a.texts.err new r = subst (λ (gs : List Segment). ComesTo (table_of a.symbols) gs t.slots a.texts.err new r) c.as_slice-segments.ensures.value (c.object_of-found.ensures.found t.slots h.sections h.unsaid) in
     c.answered.ensures.concluded (concluded t None) (comes_concluded count t a new r h k)
 
 pub returns-clause-good : goal.returns-clause-good
 returns-clause-good c =
     let a : Assembler = c.args.assembler in
-    let r = c.object_found-found.result in
-    let new = c.object_found-found.new.ending.err in
+    let r = c.object_of-found.result in
+    let new = c.object_of-found.new.ending.err in
     comes_good a new r c.answered.result.result c.answered.ensures.answer
-    (λ (xs : List Slot). λ (s : Stands xs a.sections). subst (λ (gs : List Segment). ComesTo (table_of a.symbols) gs xs a.texts.err new r) c.as_slice-segments.ensures.value (c.object_found-found.ensures.found xs s))
+    (λ (xs : List Slot). λ (s : Stands xs a.sections). λ (unsaid : all_said (contents_so_far xs) ≡ []). subst (λ (gs : List Segment). ComesTo (table_of a.symbols) gs xs a.texts.err new r) c.as_slice-segments.ensures.value (c.object_of-found.ensures.found xs s unsaid))

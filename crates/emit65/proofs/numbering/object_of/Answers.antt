@@ -7,7 +7,7 @@ use Rattle.object65.specs.declared.object.Object.{Object}
 use Rattle.object65.specs.declared.object.Section.{Section}
 use Rattle.semantics65.specs.Numbering.{import_keys, name_of}
 use Rattle.emit65.specs.Fed.{content_of, names_of}
-use Rattle.emit65.specs.Inner.Drafts.{SectionFits, entry_asserts, exports_from, object_before, section_from}
+use Rattle.emit65.specs.Inner.Drafts.{SectionFits, entry_asserts, entry_exports, object_before, section_from}
 use Rattle.emit65.proofs.Fitting.{sections_fit}
 use Rattle.emit65.proofs.numbering.object_of.Goals as goal
 
@@ -22,7 +22,7 @@ returns-clause-object c =
     let made : List (List ℕ) → List (List ℕ) → List Section → List Export → List Assert → Object = λ f a b e t. record { version = 2; files = f; imports = a; sections = b; exports = e; asserts = t } in
     let imports = c.in_ok-import_names.ensures ∙ ap (map (name_of names)) c.as_slice-3.ensures.keys in
     let sections = c.in_ok-finish_sections.ensures ∙ ap (map (section_from segments)) c.in_ok-drafts.ensures.filled in
-    let exports = c.in_ok-exports.ensures.exports ∙ ap (exports_from s i []) c.as_slice-2.ensures.value in
+    let exports = c.in_ok-exports.ensures.exports ∙ ap (flat_map (entry_exports s i)) c.as_slice-2.ensures.value in
     let asserts = c.in_ok-exports.ensures.asserts ∙ ap (flat_map (entry_asserts s i)) c.as_slice-2.ensures.value in
     (λ n. made (c.new.ensures n) (imports n) (sections n) (exports n) (asserts n))
     ∙ ap (λ i. object_before segments names s i es) keys

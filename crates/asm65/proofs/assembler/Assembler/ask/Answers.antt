@@ -14,4 +14,4 @@ returns-in_ok-ask-clause-asked c = λ count t h.
     let new : Assembler = record old { sections = c.ask.new.self } in
     let asks : asks_section c.args.statement.now ≡ true = sym c.asks_section.ensures ∙ c.if-asks_section.true in
     subst (λ (b : Bool). Holds count (if b then entered t (asking c.args.segment) else t) new) (sym asks)
-    (holds_entered count t old new h (record { symbols = refl; known = refl; cursor = refl; texts = refl }) (asking c.args.segment) c.in_ok-ask.ensures))
+    (holds_entered count t old new h (record { symbols = refl; known = refl; cursor = refl; texts = refl }) (asking c.args.segment) refl c.in_ok-ask.ensures))

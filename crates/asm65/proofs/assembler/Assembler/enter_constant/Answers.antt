@@ -27,7 +27,7 @@ returns-then-is_some-clause-entered c =
     let s : Context = c.args.site.context in
     let e : Tree = c.args.value.now in
     let found = formed_there c.args.form.now (sym c.is_some.ensures ∙ c.if-is_some.true) in
-    fed_enters old old.sections place s (valued equated e) (telling []) (says_nothing old.sections) (final_settles (table_of old.symbols) place s equated e found.0 (telling []) (c.requires found.0 found.1) refl)
+    fed_enters old old.sections place s (valued equated e) (telling []) refl (says_nothing old.sections) (final_settles (table_of old.symbols) place s equated e found.0 (telling []) (c.requires found.0 found.1) refl)
 
 pub returns-clause-entered : goal.returns-clause-entered
 returns-clause-entered c =

@@ -39,7 +39,7 @@ returns-clause-holds c = λ place count t h.
     let mid : Assembler = record known { sections = c.ask.new.self } in
     let segment = ap (λ (s : Context). s.segment) c.context-context.ensures ∙ ap (λ (v : Cursor). (layout.context_of v).segment) h.cursor in
     let knows : Holds count t known = holds_known count t old c.measure_instruction.new.known h c.in_ok-measured.ensures.table in
-    let asked : Holds count (entered t (asking c.context-context.result.segment)) mid = holds_entered count t known mid knows (record { symbols = refl; known = refl; cursor = refl; texts = refl }) (asking c.context-context.result.segment) c.in_ok-ask.ensures in
+    let asked : Holds count (entered t (asking c.context-context.result.segment)) mid = holds_entered count t known mid knows (record { symbols = refl; known = refl; cursor = refl; texts = refl }) (asking c.context-context.result.segment) refl c.in_ok-ask.ensures in
     let held : Holds count (asked_of (layout.context_of t.cursor).segment x t) mid = subst (λ (g : ℕ). Holds count (entered t (asking g)) mid) segment asked in
     let one : 1 ≡ m.multiple = ap (λ (k : Measured). k.multiple) (is_measured y w x m c.in_ok-measured.ensures.measured) in
     let moved : cursor_of c.advance_by.new.self ≡ layout.cursor_behind t.symbols t.cursor x =

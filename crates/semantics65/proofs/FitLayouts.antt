@@ -3,27 +3,25 @@ use Rattle.std.proofs.lemmas.Grind.{common_steps}
 use Rattle.std.proofs.Common.{arith, ◌≡◌, ◌∙◌, ℕ, zero, suc, ◌+◌, ◌<◌, ◌≤◌, Bool, true, false, List, [], ◌∷◌, ◌++◌, length, map, Option, Some, None, refl, sym, ap, subst, if◌then◌else◌}
 use Rattle.std.specs.Prelude.{Result, Ok, Err, IfOk, ◌||◌}
 use Rattle.std.specs.List.{AllByRecursion, flat_map, list_any}
-use Rattle.std.specs.Option.{option_map, option_map_or}
+use Rattle.std.specs.Option.{option_map_or}
 use Rattle.std.specs.Str.{bytes_eq}
 use Rattle.std.proofs.lemmas.List.{length-append}
 use Rattle.std.proofs.lemmas.Slice.Eq.{bytes_eq-Decides}
 use Rattle.base65.specs.Outcome.{◌>>=◌, First}
 use Rattle.base65.specs.Store.{Files, IsBytes}
-use Rattle.syntax65.specs.Expressions.{is_reserved}
 use Rattle.syntax65.specs.Tokens.{Lexeme}
 use Rattle.syntax65.specs.Trees.{number}
 use Rattle.syntax65.specs.declared.fault.ExpandFault.{ExpandFault}
 use Rattle.syntax65.specs.declared.lexing.tokens.AddressSize.{AddressSize}
 use Rattle.syntax65.specs.declared.lexing.tokens.TokenKind.{TokenKind}
-use Rattle.syntax65.specs.declared.lexing.tokens.TokenKind.TheVariants as token
 use Rattle.object65.specs.Objects.{ObjectFits, section_limit}
 use Rattle.object65.specs.declared.object.Object.{Object}
 use Rattle.expand65.specs.Expansion.{bytes_in, file_named, first_state, opened_in, statement}
 use Rattle.expand65.specs.State as expand
-use Rattle.ast65.specs.Parsing.{IsStatement, is_colon, label_before, label_of, named_label}
+use Rattle.ast65.specs.Parsing.{IsStatement, label_before, label_of, named_label}
 use Rattle.ast65.specs.declared.fault.AsmFault.{AsmFault}
 use Rattle.ast65.specs.declared.language.Statement.{Statement}
-use Rattle.ast65.specs.declared.language.Statement.TheVariants.{Constant, Label, CheapLabel, UnnamedLabel, Import, Global, ForceImport, NamedPart}
+use Rattle.ast65.specs.declared.language.Statement.TheVariants.{Constant, Import, Global, ForceImport, NamedPart}
 use Rattle.semantics65.specs.Contents.{Content}
 use Rattle.semantics65.specs.Fitting.{FittingObjectLaw, HoldBytes, AreOfTypes}
 use Rattle.semantics65.specs.Layout.{context_of, Cursor, laid, Layout, layout_behind, line_fault, nothing_laid, own_size, segment_at, unless_fault}
@@ -145,34 +143,14 @@ abbrev IsLabelFit : ℕ → Option Statement × List Lexeme → Type 0
 IsLabelFit n (None, ts) = AreSmall ts × (length ts ≤ n)
 IsLabelFit n (Some x, ts) = AreSmall ts × IsFit 1 x × (length ts + 1 ≤ n)
 
-named_label_fit : (n : ℕ) (t : Lexeme) (c : Lexeme) (ts : List Lexeme) → AreSmall (t ∷ c ∷ ts) → length (t ∷ c ∷ ts) ≤ n → (o : Option Statement) → ((x : Statement) → o ≡ Some x → IsFit 1 x) → IsLabelFit n (option_map_or (λ (x : Statement × List Lexeme). (Some x.0, x.1)) (option_map (λ s. (s, ts)) o) (None, t ∷ c ∷ ts))
-named_label_fit n t c ts small le None h = (small, le)
-named_label_fit n t c ts small le (Some x) h = (small.1.1, h x refl, omega (arith, le))
-
 any_label : (k : TokenKind) (n : List ℕ) (x : Statement) → named_label k n ≡ Some x → IsFit 1 x
-any_label token.Identifier n x h = by (is_reserved n) h
-  where
-    by : (b : Bool) → (if b then None else Some (Label n)) ≡ Some x → IsFit 1 x
-    by true j = absurd cc
-    by false j = let same : Label n ≡ x = cc in subst (IsFit 1) same (record { small = tt; few = omega arith })
-any_label token.CheapName n x h = let same : CheapLabel n ≡ x = cc in subst (IsFit 1) same (record { small = tt; few = omega arith })
-any_label _ n x h = absurd cc
+any_label x1 n x h = grind (arith, common_steps)
 
 before_fit : (n : ℕ) (t : Lexeme) (ts : List Lexeme) → AreSmall (t ∷ ts) → length (t ∷ ts) ≤ n → IsLabelFit n (option_map_or (λ x. (Some x.0, x.1)) (label_before t ts) (None, t ∷ ts))
-before_fit n t [] small le = (small, le)
-before_fit n t (c ∷ ts) small le = by (is_colon c)
-  where
-    by : (b : Bool) → IsLabelFit n (option_map_or (λ (x : Statement × List Lexeme). (Some x.0, x.1)) (if b then option_map (λ s. (s, ts)) (named_label t.0 t.1) else None) (None, t ∷ c ∷ ts))
-    by true = named_label_fit n t c ts small le (named_label t.0 t.1) (λ x e. any_label t.0 t.1 x e)
-    by false = (small, le)
+before_fit n t x1 small le = grind (arith, common_steps, (any_label t.0 t.1))
 
 label_fit : (ts : List Lexeme) → AreSmall ts → IsLabelFit (length ts) (label_of ts)
-label_fit [] small = (tt, omega arith)
-label_fit (t ∷ ts) small = by (is_colon t)
-  where
-    by : (b : Bool) → IsLabelFit (length (t ∷ ts)) (if b then (Some UnnamedLabel, ts) else option_map_or (λ x. (Some x.0, x.1)) (label_before t ts) (None, t ∷ ts))
-    by true = (small.1, record { small = tt; few = omega arith }, omega arith)
-    by false = before_fit (length (t ∷ ts)) t ts small (omega arith)
+label_fit x1 small = grind (arith, common_steps, before_fit)
 
 -- ---- A statement that expansion gives.
 

@@ -1,6 +1,7 @@
 -- A statement's expressions have small numbers, and it names no more than it has tokens.
-use Rattle.std.proofs.Common.{arith, ◌≡◌, ◌∙◌, ℕ, suc, ◌+◌, ◌≤◌, Bool, true, false, List, [], ◌∷◌, ◌++◌, length, Option, Some, None, refl, sym, ap, subst, if◌then◌else◌}
-use Rattle.std.specs.Prelude.{⊤, Result, Ok, Err, codes, ◌==◌, MatchBool, MatchOption}
+use Rattle.std.proofs.lemmas.Grind.{common_steps}
+use Rattle.std.proofs.Common.{arith, ◌≡◌, ◌∙◌, ℕ, suc, ◌+◌, ◌≤◌, Bool, List, [], ◌∷◌, ◌++◌, length, Option, Some, None, refl, sym, ap, subst, if◌then◌else◌}
+use Rattle.std.specs.Prelude.{⊤, Result, Ok, Err, codes}
 use Rattle.std.specs.List.{AllByRecursion, onto_first}
 use Rattle.std.specs.Str.{bytes_eq}
 use Rattle.base65.specs.Outcome.{◌>>=◌, First}
@@ -24,17 +25,12 @@ use Rattle.ast65.specs.declared.language.Operand.TheVariants as operand
 use Rattle.ast65.specs.declared.language.Statement.{Statement}
 use Rattle.ast65.specs.declared.language.Statement.TheVariants as statement
 use Rattle.ast65.specs.declared.reading.words.Amount.{Amount}
-use Rattle.ast65.specs.declared.reading.words.Amount.TheVariants as amount
 use Rattle.ast65.specs.declared.reading.words.Directive.{Directive}
 use Rattle.ast65.specs.declared.reading.words.Directive.TheVariants as directive
 use Rattle.ast65.specs.declared.reading.words.Elements.{Elements}
-use Rattle.ast65.specs.declared.reading.words.Elements.TheVariants as elements
 use Rattle.ast65.specs.declared.reading.words.Lone.{Lone}
-use Rattle.ast65.specs.declared.reading.words.Lone.TheVariants as lone
 use Rattle.ast65.specs.declared.reading.words.Message.{Message}
-use Rattle.ast65.specs.declared.reading.words.Message.TheVariants as message
 use Rattle.ast65.specs.declared.reading.words.Names.{Names}
-use Rattle.ast65.specs.declared.reading.words.Names.TheVariants as names
 use Rattle.semantics65.proofs.FitTokens.{AreSmall, IsSmall, IsSmallTree, parsed_small}
 
 -- ---- Statements.
@@ -93,19 +89,13 @@ module _ {B : Type 0} (P : B → Type 0) where
 -- ---- Expressions.
 
 whole_small : (ts : List Lexeme) (e : Tree) (q : Result (Tree × ℕ) ExprFault) → AreSmall ts → IsParsed ts q → Ok e ≡ p.whole (length ts) q → IsSmallTree e
-whole_small ts e (Err f) small is h = absurd cc
-whole_small ts e (Ok (f, n)) small is h = by (n == length ts) h
-  where
-    by : (b : Bool) → Ok e ≡ (if b then Ok f else p.unknown) → IsSmallTree e
-    by true j = let same : f ≡ e = cc in subst IsSmallTree same (parsed_small ts f n small is)
-    by false j = absurd cc
+whole_small ts e x1 small is h = grind (arith, common_steps, parsed_small)
 
 expression_small : (ts : List Lexeme) (e : Tree) → AreSmall ts → p.IsExpression ts (Ok e) → IsSmallTree e
 expression_small ts e small (q, is, h) = whole_small ts e q small is h
 
 behind_small : (ts : List Lexeme) (x : Tree × List Lexeme) (q : Result (Tree × ℕ) ExprFault) → AreSmall ts → IsParsed ts q → Ok x ≡ p.behind ts q → IsSmallTree x.0
-behind_small ts x (Err f) small is h = absurd cc
-behind_small ts x (Ok (f, n)) small is h = let same : f ≡ x.0 = cc in subst IsSmallTree same (parsed_small ts f n small is)
+behind_small ts x x1 small is h = grind (arith, common_steps, parsed_small)
 
 front_small : (ts : List Lexeme) (x : Tree × List Lexeme) → AreSmall ts → p.IsFront ts (Ok x) → IsSmallTree x.0
 front_small ts x small (q, is, h) = behind_small ts x q small is h
@@ -122,28 +112,18 @@ module _ {B : Type 0} (P : B → Type 0) where
 -- ---- Lists.
 
 before_small : (t : Lexeme) (parts : List (List Lexeme)) → IsSmall t.0 → AllByRecursion AreSmall parts → AllByRecursion AreSmall (onto_first t parts)
-before_small t [] named all = ((named, tt), tt)
-before_small t (part ∷ parts) named all = ((named, all.0), all.1)
-
-split_small : (t : Lexeme) (ts : List Lexeme) (comma : Bool) → p.is_comma t ≡ comma → IsSmall t.0 → AllByRecursion AreSmall (p.parts_of ts) → AllByRecursion AreSmall (p.parts_of (t ∷ ts))
-split_small t ts true is named all = rw is (tt, all)
-split_small t ts false is named all = rw is (before_small t (p.parts_of ts) named all)
+before_small t x1 named all = grind (arith, common_steps)
 
 parts_small : (ts : List Lexeme) → AreSmall ts → AllByRecursion AreSmall (p.parts_of ts)
 parts_small [] small = (tt, tt)
-parts_small (t ∷ ts) small = split_small t ts (p.is_comma t) refl small.0 (parts_small ts small.1)
+parts_small (t ∷ ts) small = grind (arith, common_steps, before_small, (parts_small ts small.1))
 
 before_few : (t : Lexeme) (parts : List (List Lexeme)) → length (onto_first t parts) ≤ length parts + 1
-before_few t [] = omega arith
-before_few t (part ∷ parts) = omega arith
-
-split_few : (t : Lexeme) (ts : List Lexeme) (comma : Bool) → p.is_comma t ≡ comma → length (p.parts_of ts) ≤ length ts + 1 → length (p.parts_of (t ∷ ts)) ≤ length ts + 2
-split_few t ts true is few = rw is (omega (arith, few))
-split_few t ts false is few = let less = before_few t (p.parts_of ts) in rw is (omega (arith, few, less))
+before_few t x1 = grind arith
 
 parts_few : (ts : List Lexeme) → length (p.parts_of ts) ≤ length ts + 1
 parts_few [] = omega arith
-parts_few (t ∷ ts) = let few = split_few t ts (p.is_comma t) refl (parts_few ts) in omega (arith, few)
+parts_few (t ∷ ts) = grind (arith, common_steps, (before_few t (p.parts_of ts)), (parts_few ts))
 
 -- as many are found as parts are gone through
 each_few : {A B : Type 0} (Is : A → Result B AsmFault → Type 0) (xs : List A) (ys : List B) → p.EachIs Is xs (Ok ys) → length ys ≡ length xs
@@ -162,12 +142,7 @@ value_small : (ts : List Lexeme) (it : Item) → AreSmall ts → p.IsValue ts (O
 value_small ts it small h = of_expression IsSmallItem ts (λ x. Ok (item.Value x)) it small (λ e less j. made IsSmallItem it (item.Value e) less j) h
 
 item_small : (which : Elements) (ts : List Lexeme) (it : Item) → AreSmall ts → p.IsItem which ts (Ok it) → IsSmallItem it
-item_small elements.Values ts it small h = value_small ts it small h
-item_small elements.ValuesAndTexts ts it small h = by (p.string_of ts) h
-  where
-    by : (w : Option (List ℕ)) → MatchOption w (p.IsValue ts (Ok it)) (λ s. told it ≡ told (item.Text s)) → IsSmallItem it
-    by None j = value_small ts it small j
-    by (Some s) j = made IsSmallItem it (item.Text s) tt j
+item_small x1 ts it small h = grind (arith, common_steps, value_small)
 
 items_small : (which : Elements) (parts : List (List Lexeme)) (its : List Item) → AllByRecursion AreSmall parts → p.EachIs (p.IsItem which) parts (Ok its) → AllByRecursion IsSmallItem its
 items_small which [] its small h = let e : [] ≡ its = cc in subst (AllByRecursion IsSmallItem) e tt
@@ -193,11 +168,7 @@ ended_small end make ts o makes small h =
 
 plain_small : (ts : List Lexeme) (o : Operand) → AreSmall ts → p.IsPlainOperand ts (Ok o) → IsSmallOperand o
 unfolding IsPlainOperand
-plain_small ts o small h = by (p.spelled (p.word_of ts) (codes "a")) h
-  where
-    by : (b : Bool) → MatchBool b (told o ≡ told operand.Accumulator) (p.IsEnded p.index_of (operand.Address None) ts (Ok o)) → IsSmallOperand o
-    by true j = made IsSmallOperand o operand.Accumulator tt j
-    by false j = ended_small p.index_of (operand.Address None) ts o (λ e i less. less) small j
+plain_small ts o small h = let address = ended_small p.index_of (operand.Address None) ts o (λ e i less. less) small in grind (arith, common_steps, address)
 
 operand_small : (ts : List Lexeme) (o : Operand) → AreSmall ts → p.IsOperand ts (Ok o) → IsSmallOperand o
 operand_small [] o small h = made IsSmallOperand o operand.Absent tt h
@@ -216,30 +187,16 @@ module _ (n : ℕ) (some : 1 ≤ n) where
   alone_fit x small one = record { small = small; few = subst (λ k. k ≤ n) (sym one) some }
 
   lone_fit : (which : Lone) → IsFit n (p.lone_statement which)
-  lone_fit lone.PushSegment = alone_fit _ tt refl
-  lone_fit lone.PopSegment = alone_fit _ tt refl
-  lone_fit lone.EndScope = alone_fit _ tt refl
-  lone_fit lone.EndProc = alone_fit _ tt refl
-  lone_fit lone.Processor = alone_fit _ tt refl
-  lone_fit lone.Code = alone_fit _ tt refl
-  lone_fit lone.Rodata = alone_fit _ tt refl
-  lone_fit lone.Data = alone_fit _ tt refl
-  lone_fit lone.Bss = alone_fit _ tt refl
-  lone_fit lone.ZeroPage = alone_fit _ tt refl
+  lone_fit x1 = grind (arith, common_steps)
 
   amount_fit : (which : Amount) (c : Tree) (v : Option Tree) → IsFit n (p.amount_statement which c v)
-  amount_fit amount.Reserve c v = alone_fit (statement.Reserve c v) tt refl
-  amount_fit amount.Align c v = alone_fit (statement.Align c v) tt refl
+  amount_fit x1 c v = grind (arith, common_steps)
 
   message_fit : (which : Message) (s : List ℕ) → IsFit n (p.message_statement which s)
-  message_fit message.Out s = alone_fit (statement.Out s) tt refl
-  message_fit message.Warning s = alone_fit (statement.Warning s) tt refl
+  message_fit x1 s = grind (arith, common_steps)
 
   names_fit : (which : Names) (ns : List (List ℕ)) → length ns ≤ n → IsFit n (p.names_statement which ns)
-  names_fit (names.Import own) ns le = record { small = tt; few = le }
-  names_fit names.Export ns le = record { small = tt; few = le }
-  names_fit (names.Global own) ns le = record { small = tt; few = le }
-  names_fit names.ForceImport ns le = record { small = tt; few = le }
+  names_fit x1 ns le = grind (arith, common_steps)
 
   file_part_fit : (parts : List (List Lexeme)) (x : Statement) → p.IsFilePart parts (Ok x) → IsFit n x
   file_part_fit [] x h = absurd cc
@@ -257,8 +214,7 @@ module _ (n : ℕ) (some : 1 ≤ n) where
       (λ words f l. made Fits x (statement.Assert t act words) (alone_fit (statement.Assert t act words) less refl) l) k) j) h
 
   chosen_fit : (b : Bool) (x y : Statement) → IsFit n y → Ok x ≡ (if b then Ok y else p.unknown) → IsFit n x
-  chosen_fit true x y fit h = made Fits x y fit h
-  chosen_fit false x y fit h = absurd cc
+  chosen_fit x1 x y fit h = grind (arith, common_steps, (made Fits x y fit))
 
   directive_fit : (d : Directive) (ts : List Lexeme) (x : Statement) → length ts + 1 ≤ n → AreSmall ts → p.IsDirective d ts (Ok x) → IsFit n x
   directive_fit (directive.List which width) ts x le small (Ok its, is, h) = made Fits x (statement.Values width its) (alone_fit (statement.Values width its) (items_small which (p.parts_of ts) its (parts_small ts small) is) refl) h
@@ -299,11 +255,7 @@ module _ (n : ℕ) (some : 1 ≤ n) where
 
   named_fit : (s : List ℕ) (ts : List Lexeme) (x : Statement) → AreSmall ts → p.IsNamed s ts (Ok x) → IsFit n x
   named_fit s [] x small h = instruction_fit (mnemonic_of s) [] x small h
-  named_fit s (t ∷ ts) x small h = by (p.defines t) h
-    where
-      by : (b : Bool) → MatchBool b (p.IsConstant s ts (Ok x)) (p.IsInstruction (mnemonic_of s) (t ∷ ts) (Ok x)) → IsFit n x
-      by true j = constant_fit s ts x small.1 j
-      by false j = instruction_fit (mnemonic_of s) (t ∷ ts) x small j
+  named_fit s (t ∷ ts) x small h = grind (arith, common_steps, (constant_fit s ts x small.1), (instruction_fit (mnemonic_of s) (t ∷ ts) x small))
 
   begun_fit : (ts : List Lexeme) (x : Statement) → length ts ≤ n → AreSmall ts → p.IsStatement ts (Ok x) → IsFit n x
   begun_fit [] x le small h = absurd cc

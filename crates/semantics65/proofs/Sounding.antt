@@ -1,4 +1,5 @@
 -- What lines say is sound: names of identifiers, and texts that are short enough.
+use Rattle.std.proofs.lemmas.Grind.{common_steps}
 use Rattle.std.proofs.Common.{◌≡◌, ℕ, ◌≤◌, Bool, true, false, List, [], ◌∷◌, refl, sym, ap, subst, arith, ◌<◌}
 use Rattle.std.specs.Prelude.{MatchBool, Ok, nat_lt, nat_le, length, ◌==◌, ◌&&◌, if◌then◌else◌, None, Option, Result, Err, ◌++◌, codes, Some}
 use Rattle.std.specs.Char.{is_ascii_alphabetic, is_ascii_digit}
@@ -25,15 +26,11 @@ use Rattle.object65.specs.declared.object.Action.{Action}
 use Rattle.object65.specs.declared.object.Width.TheVariants.{Byte}
 use Rattle.ast65.specs.declared.fault.AsmFault.{AsmFault}
 use Rattle.ast65.specs.declared.reading.words.Amount.{Amount}
-use Rattle.ast65.specs.declared.reading.words.Amount.TheVariants as amount
 use Rattle.ast65.specs.declared.reading.words.Directive.{Directive}
 use Rattle.ast65.specs.declared.reading.words.Directive.TheVariants as directive
 use Rattle.ast65.specs.declared.reading.words.Lone.{Lone}
-use Rattle.ast65.specs.declared.reading.words.Lone.TheVariants as lone
 use Rattle.ast65.specs.declared.reading.words.Message.{Message}
-use Rattle.ast65.specs.declared.reading.words.Message.TheVariants as message
 use Rattle.ast65.specs.declared.reading.words.Names.{Names}
-use Rattle.ast65.specs.declared.reading.words.Names.TheVariants as names
 use Rattle.ast65.specs.declared.language.Statement.{Statement}
 use Rattle.ast65.specs.declared.language.Statement.TheVariants as statement
 use Rattle.ast65.specs.declared.language.Item.TheVariants as item
@@ -136,14 +133,10 @@ after_first (Err e) Next x each h = cc
 
 -- the name that one token is
 words_named : (ts : List Lexeme) → AreNamed ts → (n : List ℕ) → p.word_of ts ≡ Some n → is_name n ≡ true
-words_named [] named n h = cc
-words_named ((token.Identifier, t) ∷ []) named n h = let e : t ≡ n = cc in subst (λ (x : List ℕ). is_name x ≡ true) e named.0
-words_named ((_, t) ∷ []) named n h = cc
-words_named (t ∷ u ∷ ts) named n h = cc
+words_named x1 named n h = grind (arith, common_steps)
 
 plain_named : (t n : List ℕ) (reserved : Bool) → is_reserved t ≡ reserved → p.plain_name t ≡ Ok n → t ≡ n
-plain_named t n true is h = let e : p.plain_name t ≡ p.unknown = rw is refl in cc
-plain_named t n false is h = let e : p.plain_name t ≡ Ok t = rw is refl in cc
+plain_named t n x1 is h = grind (arith, common_steps)
 
 name_named : (ts : List Lexeme) (n : List ℕ) (w : Option (List ℕ)) → AreNamed ts → p.word_of ts ≡ w → Ok n ≡ (p.understood w >>= p.plain_name) → is_name n ≡ true
 name_named ts n None named word h = cc
@@ -154,16 +147,11 @@ name_named ts n (Some t) named word h =
 -- ---- Parts of lists.
 
 before_named : (t : Lexeme) (parts : List (List Lexeme)) → IsNamed t.0 t.1 → AllByRecursion AreNamed parts → AllByRecursion AreNamed (onto_first t parts)
-before_named t [] named all = ((named, tt), tt)
-before_named t (part ∷ parts) named all = ((named, all.0), all.1)
-
-split_named : (t : Lexeme) (ts : List Lexeme) (comma : Bool) → p.is_comma t ≡ comma → IsNamed t.0 t.1 → AllByRecursion AreNamed (p.parts_of ts) → AllByRecursion AreNamed (p.parts_of (t ∷ ts))
-split_named t ts true is named all = rw is (tt, all)
-split_named t ts false is named all = rw is (before_named t (p.parts_of ts) named all)
+before_named t x1 named all = grind (arith, common_steps)
 
 parts_named : (ts : List Lexeme) → AreNamed ts → AllByRecursion AreNamed (p.parts_of ts)
 parts_named [] named = (tt, tt)
-parts_named (t ∷ ts) named = split_named t ts (p.is_comma t) refl named.0 (parts_named ts named.1)
+parts_named (t ∷ ts) named = grind (arith, common_steps, before_named, (parts_named ts named.1))
 
 abbrev Each : List (List Lexeme) → Type 0
 Each parts = (ms : List (List ℕ)) → p.EachIs p.IsName parts (Ok ms) → list_all is_name ms ≡ true
@@ -183,20 +171,10 @@ names_named (part ∷ parts) named ns h = first_named part parts ns named.0 (nam
 -- ---- Directives.
 
 lone_sound : (which : Lone) → IsSound (p.lone_statement which)
-lone_sound lone.PushSegment = tt
-lone_sound lone.PopSegment = tt
-lone_sound lone.EndScope = tt
-lone_sound lone.EndProc = tt
-lone_sound lone.Processor = tt
-lone_sound lone.Code = refl
-lone_sound lone.Rodata = refl
-lone_sound lone.Data = refl
-lone_sound lone.Bss = refl
-lone_sound lone.ZeroPage = refl
+lone_sound x1 = grind (arith, common_steps)
 
 amount_sound : (which : Amount) (n : Tree) (v : Option Tree) → IsSound (p.amount_statement which n v)
-amount_sound amount.Reserve n v = tt
-amount_sound amount.Align n v = tt
+amount_sound x1 n v = grind (arith, common_steps)
 
 file_part_sound : (parts : List (List Lexeme)) (x : Statement) → p.IsFilePart parts (Ok x) → IsSound x
 file_part_sound [] x h = cc
@@ -205,41 +183,29 @@ file_part_sound (name ∷ range) x h =
     (λ n k. after k.0 (λ (v : Option Tree × Option Tree). good (statement.NamedPart n v.0 v.1)) x (λ v. made x (statement.NamedPart n v.0 v.1) tt) k.2) h
 
 named_sound : (which : Names) (ns : List (List ℕ)) → list_all is_name ns ≡ true → IsSound (p.names_statement which ns)
-named_sound (names.Import own) ns h = h
-named_sound names.Export ns h = h
-named_sound (names.Global own) ns h = h
-named_sound names.ForceImport ns h = h
+named_sound x1 ns h = grind (arith, common_steps)
 
 names_sound : (which : Names) (ts : List Lexeme) (x : Statement) → AreNamed ts → (q : Result (List (List ℕ)) AsmFault) → p.EachIs p.IsName (p.parts_of ts) q → good x ≡ (q >>= (λ ns. good (p.names_statement which ns))) → IsSound x
 names_sound which ts x named (Ok ns) is h = made x (p.names_statement which ns) (named_sound which ns (names_named (p.parts_of ts) (parts_named ts named) ns is)) h
 names_sound which ts x named (Err e) is h = cc
 
 message_sound : (which : Message) (s : List ℕ) → IsSound (p.message_statement which s)
-message_sound message.Out s = tt
-message_sound message.Warning s = tt
+message_sound x1 s = grind (arith, common_steps)
 
 abbrev ended_text : List ℕ → Statement
 ended_text s = statement.Values Byte (item.Text (s ++ 0 ∷ []) ∷ [])
 
 identifier_sound : (n : List ℕ) (own : Option AddressSize) (x : Statement) (is : Bool) → p.is_identifier n ≡ is → good x ≡ (if is then good (statement.Segment n own) else p.unknown) → IsSound x
-identifier_sound n own x true is h = made x (statement.Segment n own) (identifier_named n is) h
-identifier_sound n own x false is h = cc
+identifier_sound n own x x1 is h = grind (arith, common_steps, (identifier_named n))
 
 abbrev told : List ℕ → Result (List ℕ) AsmFault
 told words = Ok words
 
-short_words : (s words : List ℕ) (is : Bool) → nat_le (length s) 255 ≡ is → told words ≡ (if is then told s else p.unknown) → length words < 256
-short_words s words true is h = let same : s ≡ words = cc in let few : length s < 256 = grind (arith, nat_tests) in subst (λ (w : List ℕ). length w < 256) same few
-short_words s words false is h = cc
-
 own_short : (s : Option (List ℕ)) (words : List ℕ) → Ok words ≡ (p.understood s >>= (λ t. if nat_le (length t) 255 then Ok t else p.unknown)) → length words < 256
-own_short (Some s) words h = short_words s words (nat_le (length s) 255) refl h
-own_short None words h = cc
+own_short x1 words h = grind (arith, common_steps, nat_tests)
 
 words_short : (parts : List (List Lexeme)) (words : List ℕ) → Ok words ≡ p.words_of parts → length words < 256
-words_short [] words h = let same : codes "assertion failed" ≡ words = cc in let few : length (codes "assertion failed") < 256 = grind (arith, nat_tests) in subst (λ (w : List ℕ). length w < 256) same few
-words_short (part ∷ []) words h = own_short (p.string_of part) words h
-words_short (part ∷ more ∷ parts) words h = cc
+words_short x1 words h = grind (arith, common_steps, nat_tests, own_short)
 
 text_sound : (e : Tree) (act : Action) (rest : List (List Lexeme)) (x : Statement) (q : Result (List ℕ) AsmFault) → p.words_of rest ≡ q → good x ≡ (q >>= (λ words. good (statement.Assert e act words))) → IsSound x
 text_sound e act rest x (Ok words) is h = made x (statement.Assert e act words) (words_short rest words (sym is)) h
@@ -254,8 +220,7 @@ assertion_sound (e ∷ a ∷ rest) x h =
     (λ t. after (p.understood (p.word_of a) >>= p.action_word) (Said t) x (λ act. text_sound t act rest x (p.words_of rest) refl)) h.2
 
 same_processor : (s : List ℕ) (x : Statement) (is : Bool) → bytes_eq s (codes "6502") ≡ is → good x ≡ (if is then Ok statement.Nothing else p.unknown) → IsSound x
-same_processor s x true is h = made x statement.Nothing tt h
-same_processor s x false is h = cc
+same_processor s x x1 is h = grind (arith, common_steps)
 
 directive_sound : (d : Directive) (ts : List Lexeme) (x : Statement) → AreNamed ts → p.IsDirective d ts (Ok x) → IsSound x
 directive_sound (directive.List elements width) ts x named h = after h.0 (λ xs. good (statement.Values width xs)) x (λ xs. made x (statement.Values width xs) tt) h.2
@@ -289,8 +254,7 @@ instruction_sound None ts x h = cc
 instruction_sound (Some m) ts x h = after h.0 (λ o. good (statement.Instruction m o)) x (λ o. made x (statement.Instruction m o) tt) h.2
 
 word_sound : (n : List ℕ) (t : Lexeme) (ts : List Lexeme) (x : Statement) (defines : Bool) → MatchBool defines (p.IsConstant n ts (Ok x)) (p.IsInstruction (mnemonic_of n) (t ∷ ts) (Ok x)) → IsSound x
-word_sound n t ts x true h = constant_sound n ts x h
-word_sound n t ts x false h = instruction_sound (mnemonic_of n) (t ∷ ts) x h
+word_sound n t ts x x1 h = grind (arith, common_steps, (constant_sound n ts x), (instruction_sound (mnemonic_of n) (t ∷ ts) x))
 
 words_sound : (n : List ℕ) (ts : List Lexeme) (x : Statement) → p.IsNamed n ts (Ok x) → IsSound x
 words_sound n [] x h = instruction_sound (mnemonic_of n) [] x h

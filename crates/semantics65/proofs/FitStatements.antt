@@ -1,9 +1,8 @@
 -- A statement's expressions have small numbers, and it names no more than it has tokens.
 use Rattle.std.proofs.lemmas.Grind.{common_steps}
-use Rattle.std.proofs.Common.{arith, ◌≡◌, ◌∙◌, ℕ, suc, ◌+◌, ◌≤◌, Bool, List, [], ◌∷◌, ◌++◌, length, Option, Some, None, refl, sym, ap, subst, if◌then◌else◌}
-use Rattle.std.specs.Prelude.{⊤, Result, Ok, Err, codes}
+use Rattle.std.proofs.Common.{arith, ◌≡◌, ◌∙◌, ℕ, suc, ◌+◌, ◌≤◌, List, [], ◌∷◌, length, Option, Some, None, refl, sym, ap, subst, if◌then◌else◌}
+use Rattle.std.specs.Prelude.{⊤, Result, Ok, Err}
 use Rattle.std.specs.List.{AllByRecursion, onto_first}
-use Rattle.std.specs.Str.{bytes_eq}
 use Rattle.base65.specs.Outcome.{◌>>=◌, First}
 use Rattle.syntax65.specs.Expressions.{IsParsed}
 use Rattle.syntax65.specs.Mnemonics.{mnemonic_of}
@@ -13,7 +12,8 @@ use Rattle.syntax65.specs.declared.expressions.words.ExprFault.{ExprFault}
 use Rattle.syntax65.specs.declared.instructions.names.Mnemonic.{Mnemonic}
 use Rattle.syntax65.specs.declared.lexing.tokens.Mark.TheVariants as mark
 use Rattle.syntax65.specs.declared.lexing.tokens.TokenKind.TheVariants as token
-use Rattle.object65.specs.declared.object.Width.TheVariants.{Byte}
+use Rattle.syntax65.specs.declared.lexing.tokens.AddressSize.{AddressSize}
+use Rattle.object65.specs.declared.object.Action.{Action}
 use Rattle.ast65.specs.Parsing as p
 use Rattle.ast65.specs.Parsing.{IsPlainOperand}
 use Rattle.ast65.specs.declared.fault.AsmFault.{AsmFault}
@@ -186,72 +186,52 @@ module _ (n : ℕ) (some : 1 ≤ n) where
   alone_fit : (x : Statement) → IsSmallStatement x → weight x ≡ 1 → IsFit n x
   alone_fit x small one = record { small = small; few = subst (λ k. k ≤ n) (sym one) some }
 
-  lone_fit : (which : Lone) → IsFit n (p.lone_statement which)
-  lone_fit x1 = grind (arith, common_steps)
-
-  amount_fit : (which : Amount) (c : Tree) (v : Option Tree) → IsFit n (p.amount_statement which c v)
-  amount_fit x1 c v = grind (arith, common_steps)
-
-  message_fit : (which : Message) (s : List ℕ) → IsFit n (p.message_statement which s)
-  message_fit x1 s = grind (arith, common_steps)
+  segment_fit : (w : Option (List ℕ)) (own : Result (Option AddressSize) AsmFault) (x : Statement) → told x ≡ (p.understood w >>= (λ s. own >>= (λ o. if p.is_identifier s then Ok (statement.Segment s o) else p.unknown))) → IsFit n x
+  segment_fit x1 x2 x h = grind (arith, common_steps)
 
   names_fit : (which : Names) (ns : List (List ℕ)) → length ns ≤ n → IsFit n (p.names_statement which ns)
   names_fit x1 ns le = grind (arith, common_steps)
 
   file_part_fit : (parts : List (List Lexeme)) (x : Statement) → p.IsFilePart parts (Ok x) → IsFit n x
   file_part_fit [] x h = absurd cc
-  file_part_fit (title ∷ range) x h =
-      after_first Fits (p.understood (p.string_of title)) (λ s. p.Then (p.IsRange range) (λ v. Ok (statement.NamedPart s v.0 v.1))) x
-      (λ s k. after Fits k.0 (λ (v : Option Tree × Option Tree). Ok (statement.NamedPart s v.0 v.1)) x (λ v e. made Fits x (statement.NamedPart s v.0 v.1) (alone_fit (statement.NamedPart s v.0 v.1) tt refl)) k.2) h
+  file_part_fit (title ∷ range) x h = grind (arith, common_steps)
+
+  asserted_fit : (e : Result Tree AsmFault) (act : Result Action AsmFault) (words : Result (List ℕ) AsmFault) (x : Statement) → ((t : Tree) → e ≡ Ok t → IsSmallTree t) → Ok x ≡ (e >>= (λ t. act >>= (λ a. words >>= (λ w. told (statement.Assert t a w))))) → IsFit n x
+  asserted_fit x1 x2 x3 x small h = grind (arith, common_steps, small)
 
   assertion_fit : (parts : List (List Lexeme)) (x : Statement) → AllByRecursion AreSmall parts → p.IsAssertion parts (Ok x) → IsFit n x
   assertion_fit [] x small h = absurd cc
   assertion_fit (e ∷ []) x small h = absurd cc
-  assertion_fit (e ∷ a ∷ rest) x small h =
-      of_expression Fits e (λ t. p.understood (p.word_of a) >>= p.action_word >>= (λ act. p.words_of rest >>= (λ words. Ok (statement.Assert t act words)))) x small.0
-      (λ t less j. after Fits (p.understood (p.word_of a) >>= p.action_word) (λ act. p.words_of rest >>= (λ words. Ok (statement.Assert t act words))) x
-      (λ act e k. after Fits (p.words_of rest) (λ words. Ok (statement.Assert t act words)) x
-      (λ words f l. made Fits x (statement.Assert t act words) (alone_fit (statement.Assert t act words) less refl) l) k) j) h
-
-  chosen_fit : (b : Bool) (x y : Statement) → IsFit n y → Ok x ≡ (if b then Ok y else p.unknown) → IsFit n x
-  chosen_fit x1 x y fit h = grind (arith, common_steps, (made Fits x y fit))
+  assertion_fit (e ∷ a ∷ rest) x small (q, is, h) = asserted_fit q (p.understood (p.word_of a) >>= p.action_word) (p.words_of rest) x (λ t e. expression_small _ t small.0 (subst (p.IsExpression _) e is)) h
 
   directive_fit : (d : Directive) (ts : List Lexeme) (x : Statement) → length ts + 1 ≤ n → AreSmall ts → p.IsDirective d ts (Ok x) → IsFit n x
-  directive_fit (directive.List which width) ts x le small (Ok its, is, h) = made Fits x (statement.Values width its) (alone_fit (statement.Values width its) (items_small which (p.parts_of ts) its (parts_small ts small) is) refl) h
-  directive_fit (directive.List which width) ts x le small (Err f, is, h) = absurd cc
-  directive_fit directive.EndedText ts x le small h = after Fits (p.understood (p.string_of ts)) (λ s. Ok (statement.Values Byte (item.Text (s ++ 0 ∷ []) ∷ []))) x (λ s e. made Fits x (statement.Values Byte (item.Text (s ++ 0 ∷ []) ∷ [])) (alone_fit (statement.Values Byte (item.Text (s ++ 0 ∷ []) ∷ [])) (tt, tt) refl)) h
-  directive_fit (directive.Amount which) ts x le small h = after Fits h.0 (λ (y : Tree × Option Tree). Ok (p.amount_statement which y.0 y.1)) x (λ y e. made Fits x (p.amount_statement which y.0 y.1) (amount_fit which y.0 y.1)) h.2
+  directive_fit (directive.List which width) ts x le small h = grind (arith, common_steps, (λ (its : List Item). items_small which (p.parts_of ts) its (parts_small ts small)))
+  directive_fit directive.EndedText ts x le small h = grind (arith, common_steps)
+  directive_fit (directive.Amount which) ts x le small h = grind (arith, common_steps)
   directive_fit directive.FilePart ts x le small h = file_part_fit (p.parts_of ts) x h
   directive_fit directive.Segment [] x le small h = absurd cc
-  directive_fit directive.Segment (t ∷ ts) x le small h =
-      after Fits (p.understood (p.quoted_in t)) (λ s. p.size_behind ts >>= (λ own. if p.is_identifier s then Ok (statement.Segment s own) else p.unknown)) x
-      (λ s e k. after Fits (p.size_behind ts) (λ own. if p.is_identifier s then Ok (statement.Segment s own) else p.unknown) x
-      (λ own f l. chosen_fit (p.is_identifier s) x (statement.Segment s own) (alone_fit (statement.Segment s own) tt refl) l) k) h
-  directive_fit (directive.Lone which) [] x le small h = made Fits x (p.lone_statement which) (lone_fit which) h
+  directive_fit directive.Segment (t ∷ ts) x le small h = segment_fit (p.quoted_in t) (p.size_behind ts) x h
+  directive_fit (directive.Lone which) [] x le small h = grind (arith, common_steps)
   directive_fit (directive.Lone which) (t ∷ ts) x le small h = absurd cc
-  directive_fit directive.Scope [] x le small h = made Fits x (statement.OpenScope None) (alone_fit (statement.OpenScope None) tt refl) h
-  directive_fit directive.Scope (t ∷ ts) x le small h = after Fits (p.name_of (t ∷ ts)) (λ s. Ok (statement.OpenScope (Some s))) x (λ s e. made Fits x (statement.OpenScope (Some s)) (alone_fit (statement.OpenScope (Some s)) tt refl)) h
-  directive_fit directive.Proc ts x le small h = after Fits (p.name_of ts) (λ s. Ok (statement.OpenProc s)) x (λ s e. made Fits x (statement.OpenProc s) (alone_fit (statement.OpenProc s) tt refl)) h
+  directive_fit directive.Scope [] x le small h = grind (arith, common_steps)
+  directive_fit directive.Scope (t ∷ ts) x le small h = grind (arith, common_steps)
+  directive_fit directive.Proc ts x le small h = grind (arith, common_steps)
   directive_fit (directive.Names which) ts x le small (Ok ns, is, h) =
       let same = each_few p.IsName (p.parts_of ts) ns is in
       let few = parts_few ts in
       made Fits x (p.names_statement which ns) (names_fit which ns (omega (arith, same, few))) h
   directive_fit (directive.Names which) ts x le small (Err f, is, h) = absurd cc
   directive_fit directive.Assert ts x le small h = assertion_fit (p.parts_of ts) x (parts_small ts small) h
-  directive_fit (directive.Message which) ts x le small h = after Fits (p.understood (p.string_of ts)) (λ s. Ok (p.message_statement which s)) x (λ s e. made Fits x (p.message_statement which s) (message_fit which s)) h
-  directive_fit directive.SetProcessor ts x le small h = after Fits (p.understood (p.string_of ts)) (λ s. if bytes_eq s (codes "6502") then Ok statement.Nothing else p.unknown) x (λ s e k. chosen_fit (bytes_eq s (codes "6502")) x statement.Nothing (alone_fit statement.Nothing tt refl) k) h
+  directive_fit (directive.Message which) ts x le small h = grind (arith, common_steps)
+  directive_fit directive.SetProcessor ts x le small h = grind (arith, common_steps)
 
   -- ---- Statements.
 
   constant_fit : (s : List ℕ) (ts : List Lexeme) (x : Statement) → AreSmall ts → p.IsConstant s ts (Ok x) → IsFit n x
-  constant_fit s ts x small h =
-      after_first Fits (p.plain_name s) (λ own. p.Then (p.IsExpression ts) (λ e. Ok (statement.Constant own e))) x
-      (λ own k. of_expression Fits ts (λ e. Ok (statement.Constant own e)) x small (λ e less j. made Fits x (statement.Constant own e) (alone_fit (statement.Constant own e) less refl) j) k) h
+  constant_fit s ts x small h = grind (arith, common_steps, (λ (e : Tree). expression_small ts e small))
 
   instruction_fit : (m : Option Mnemonic) (ts : List Lexeme) (x : Statement) → AreSmall ts → p.IsInstruction m ts (Ok x) → IsFit n x
-  instruction_fit None ts x small h = absurd cc
-  instruction_fit (Some m) ts x small (Ok o, is, h) = made Fits x (statement.Instruction m o) (alone_fit (statement.Instruction m o) (operand_small ts o small is) refl) h
-  instruction_fit (Some m) ts x small (Err f, is, h) = absurd cc
+  instruction_fit x1 ts x small h = grind (arith, common_steps, (λ (o : Operand). operand_small ts o small))
 
   named_fit : (s : List ℕ) (ts : List Lexeme) (x : Statement) → AreSmall ts → p.IsNamed s ts (Ok x) → IsFit n x
   named_fit s [] x small h = instruction_fit (mnemonic_of s) [] x small h

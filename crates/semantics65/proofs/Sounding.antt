@@ -1,29 +1,24 @@
 -- What lines say is sound: names of identifiers, and texts that are short enough.
 use Rattle.std.proofs.lemmas.Grind.{common_steps}
-use Rattle.std.proofs.Common.{◌≡◌, ℕ, ◌≤◌, Bool, true, false, List, [], ◌∷◌, refl, sym, ap, subst, arith, ◌<◌}
-use Rattle.std.specs.Prelude.{MatchBool, Ok, nat_lt, nat_le, length, ◌==◌, ◌&&◌, if◌then◌else◌, None, Option, Result, Err, ◌++◌, codes, Some}
+use Rattle.std.proofs.Common.{◌≡◌, ℕ, ◌≤◌, true, List, [], ◌∷◌, refl, ap, subst, arith, ◌<◌}
+use Rattle.std.specs.Prelude.{Ok, nat_le, length, ◌==◌, if◌then◌else◌, Option, Result, Err, Some}
 use Rattle.std.specs.Char.{is_ascii_alphabetic, is_ascii_digit}
 use Rattle.std.specs.List.{list_all, onto_first, AllByRecursion}
 use Rattle.std.proofs.lemmas.Bool.Decides.{nat_tests}
 use Rattle.syntax65.specs.Forms.{class_of, is_word, is_word_class, IsForm}
-use Rattle.syntax65.specs.declared.lexing.places.Class.{Class}
-use Rattle.syntax65.specs.declared.lexing.places.Class.TheVariants.{Letter, Digit, Radix, At, Dot, Apostrophe, Quote, Colon, Semicolon, Blank, Other}
+use Rattle.syntax65.specs.declared.lexing.places.Class.TheVariants.{Letter}
 use Rattle.syntax65.specs.Tokens.{Lexeme}
 use Rattle.syntax65.specs.declared.lexing.tokens.TokenKind.TheVariants.{Identifier}
-use Rattle.object65.proofs.Goods.{and, left, right}
 use Rattle.object65.specs.Objects.{is_name, is_printed}
 use Rattle.ast65.specs.Parsing.{is_identifier, is_letter}
 use Rattle.semantics65.specs.Numbering.{AreNamed, IsNamed, IsSound}
-use Rattle.std.specs.Str.{bytes_eq}
 use Rattle.base65.specs.Outcome.{◌>>=◌, First}
 use Rattle.syntax65.specs.Trees.{Tree}
-use Rattle.syntax65.specs.Expressions.{is_reserved}
 use Rattle.syntax65.specs.declared.instructions.names.Mnemonic.{Mnemonic}
 use Rattle.syntax65.specs.Mnemonics.{mnemonic_of}
 use Rattle.syntax65.specs.declared.lexing.tokens.AddressSize.{AddressSize}
 use Rattle.syntax65.specs.declared.lexing.tokens.TokenKind.TheVariants as token
 use Rattle.object65.specs.declared.object.Action.{Action}
-use Rattle.object65.specs.declared.object.Width.TheVariants.{Byte}
 use Rattle.ast65.specs.declared.fault.AsmFault.{AsmFault}
 use Rattle.ast65.specs.declared.reading.words.Amount.{Amount}
 use Rattle.ast65.specs.declared.reading.words.Directive.{Directive}
@@ -33,7 +28,6 @@ use Rattle.ast65.specs.declared.reading.words.Message.{Message}
 use Rattle.ast65.specs.declared.reading.words.Names.{Names}
 use Rattle.ast65.specs.declared.language.Statement.{Statement}
 use Rattle.ast65.specs.declared.language.Statement.TheVariants as statement
-use Rattle.ast65.specs.declared.language.Item.TheVariants as item
 use Rattle.ast65.specs.Parsing as p
 
 -- ---- Identifiers are names that objects can hold.
@@ -82,14 +76,6 @@ Answer = Result Statement AsmFault
 abbrev good : Statement → Answer
 good x = Ok x
 
--- a step before the answer gave something
-after : {A : Type 0} (q : Result A AsmFault) (next : A → Answer) (x : Statement) → ((a : A) → good x ≡ next a → IsSound x) → good x ≡ (q >>= next) → IsSound x
-after (Ok a) next x each h = each a h
-after (Err e) next x each h = cc
-
-made : (x y : Statement) → IsSound y → good x ≡ good y → IsSound x
-made x y sound h = let e : y ≡ x = cc in subst IsSound e sound
-
 -- what was found first leads to what follows
 after_first : {A : Type 0} (q : Result A AsmFault) (Next : A → Answer → Type 0) (x : Statement) → ((a : A) → Next a (good x) → IsSound x) → First q Next (good x) → IsSound x
 after_first (Ok a) Next x each h = each a h
@@ -122,33 +108,15 @@ names_named (part ∷ parts) named ns h = grind (arith, common_steps, (λ (n : L
 
 -- ---- Directives.
 
-lone_sound : (which : Lone) → IsSound (p.lone_statement which)
-lone_sound x1 = grind (arith, common_steps)
-
-amount_sound : (which : Amount) (n : Tree) (v : Option Tree) → IsSound (p.amount_statement which n v)
-amount_sound x1 n v = grind (arith, common_steps)
-
 file_part_sound : (parts : List (List Lexeme)) (x : Statement) → p.IsFilePart parts (Ok x) → IsSound x
 file_part_sound [] x h = cc
 file_part_sound (name ∷ range) x h = grind (arith, common_steps)
 
-named_sound : (which : Names) (ns : List (List ℕ)) → list_all is_name ns ≡ true → IsSound (p.names_statement which ns)
-named_sound x1 ns h = grind (arith, common_steps)
-
 names_sound : (which : Names) (ts : List Lexeme) (x : Statement) → AreNamed ts → (q : Result (List (List ℕ)) AsmFault) → p.EachIs p.IsName (p.parts_of ts) q → good x ≡ (q >>= (λ ns. good (p.names_statement which ns))) → IsSound x
-names_sound which ts x named x1 is h = grind (arith, common_steps, (named_sound which), (names_named (p.parts_of ts) (parts_named ts named)))
-
-message_sound : (which : Message) (s : List ℕ) → IsSound (p.message_statement which s)
-message_sound x1 s = grind (arith, common_steps)
-
-abbrev ended_text : List ℕ → Statement
-ended_text s = statement.Values Byte (item.Text (s ++ 0 ∷ []) ∷ [])
+names_sound x2 ts x named x1 is h = grind (arith, common_steps, (names_named (p.parts_of ts) (parts_named ts named)))
 
 segment_sound : (w : Option (List ℕ)) (own : Result (Option AddressSize) AsmFault) (x : Statement) → good x ≡ (p.understood w >>= (λ n. own >>= (λ o. if p.is_identifier n then good (statement.Segment n o) else p.unknown))) → IsSound x
 segment_sound x1 x2 x h = grind (arith, common_steps, identifier_named)
-
-abbrev told : List ℕ → Result (List ℕ) AsmFault
-told words = Ok words
 
 own_short : (s : Option (List ℕ)) (words : List ℕ) → Ok words ≡ (p.understood s >>= (λ t. if nat_le (length t) 255 then Ok t else p.unknown)) → length words < 256
 own_short x1 words h = grind (arith, common_steps, nat_tests)
@@ -164,24 +132,21 @@ assertion_sound [] x h = cc
 assertion_sound (e ∷ []) x h = cc
 assertion_sound (e ∷ a ∷ rest) x h = asserted_sound h.0 (p.understood (p.word_of a) >>= p.action_word) (p.words_of rest) x (words_short rest) h.2
 
-same_processor : (s : List ℕ) (x : Statement) (is : Bool) → bytes_eq s (codes "6502") ≡ is → good x ≡ (if is then Ok statement.Nothing else p.unknown) → IsSound x
-same_processor s x x1 is h = grind (arith, common_steps)
-
 directive_sound : (d : Directive) (ts : List Lexeme) (x : Statement) → AreNamed ts → p.IsDirective d ts (Ok x) → IsSound x
 directive_sound (directive.List elements width) ts x named h = grind (arith, common_steps)
 directive_sound directive.EndedText ts x named h = grind (arith, common_steps)
-directive_sound (directive.Amount which) ts x named h = grind (arith, common_steps, amount_sound)
+directive_sound (directive.Amount which) ts x named h = grind (arith, common_steps)
 directive_sound directive.FilePart ts x named h = file_part_sound (p.parts_of ts) x h
 directive_sound directive.Segment [] x named h = cc
 directive_sound directive.Segment (t ∷ ts) x named h = segment_sound (p.quoted_in t) (p.size_behind ts) x h
-directive_sound (directive.Lone which) [] x named h = made x (p.lone_statement which) (lone_sound which) h
+directive_sound (directive.Lone which) [] x named h = grind (arith, common_steps)
 directive_sound (directive.Lone which) (t ∷ ts) x named h = cc
-directive_sound directive.Scope [] x named h = made x (statement.OpenScope None) tt h
+directive_sound directive.Scope [] x named h = grind (arith, common_steps)
 directive_sound directive.Scope (t ∷ ts) x named h = grind (arith, common_steps)
 directive_sound directive.Proc ts x named h = grind (arith, common_steps)
 directive_sound (directive.Names which) ts x named h = names_sound which ts x named h.0 h.1 h.2
 directive_sound directive.Assert ts x named h = assertion_sound (p.parts_of ts) x h
-directive_sound (directive.Message which) ts x named h = grind (arith, common_steps, message_sound)
+directive_sound (directive.Message which) ts x named h = grind (arith, common_steps)
 directive_sound directive.SetProcessor ts x named h = grind (arith, common_steps)
 
 -- ---- Statements.

@@ -1,9 +1,9 @@
 -- A statement's expressions have small numbers, and it names no more than it has tokens.
 use Rattle.std.proofs.lemmas.Grind.{common_steps}
-use Rattle.std.proofs.Common.{arith, ◌≡◌, ◌∙◌, ℕ, suc, ◌+◌, ◌≤◌, List, [], ◌∷◌, length, Option, Some, None, refl, sym, ap, subst, if◌then◌else◌}
+use Rattle.std.proofs.Common.{arith, ◌≡◌, ℕ, ◌+◌, ◌≤◌, List, [], ◌∷◌, length, Option, Some, None, sym, ap, subst, if◌then◌else◌}
 use Rattle.std.specs.Prelude.{⊤, Result, Ok, Err}
 use Rattle.std.specs.List.{AllByRecursion, onto_first}
-use Rattle.base65.specs.Outcome.{◌>>=◌, First}
+use Rattle.base65.specs.Outcome.{◌>>=◌}
 use Rattle.syntax65.specs.Expressions.{IsParsed}
 use Rattle.syntax65.specs.Mnemonics.{mnemonic_of}
 use Rattle.syntax65.specs.Tokens.{Lexeme}
@@ -31,6 +31,7 @@ use Rattle.ast65.specs.declared.reading.words.Elements.{Elements}
 use Rattle.ast65.specs.declared.reading.words.Lone.{Lone}
 use Rattle.ast65.specs.declared.reading.words.Message.{Message}
 use Rattle.ast65.specs.declared.reading.words.Names.{Names}
+use Rattle.semantics65.proofs.Sounding.{after_first}
 use Rattle.semantics65.proofs.FitTokens.{AreSmall, IsSmall, IsSmallTree, parsed_small}
 
 -- ---- Statements.
@@ -74,18 +75,6 @@ pub record IsFit (n : ℕ) (x : Statement) : Type 0 where
 abbrev told : {B : Type 0} → B → Result B AsmFault
 told x = Ok x
 
-module _ {B : Type 0} (P : B → Type 0) where
-  after : {A : Type 0} (q : Result A AsmFault) (next : A → Result B AsmFault) (x : B) → ((a : A) → q ≡ Ok a → Ok x ≡ next a → P x) → Ok x ≡ (q >>= next) → P x
-  after (Ok a) next x each h = each a refl h
-  after (Err e) next x each h = absurd cc
-
-  made : (x y : B) → P y → told x ≡ told y → P x
-  made x y sound h = let e : y ≡ x = cc in subst P e sound
-
-  after_first : {A : Type 0} (q : Result A AsmFault) (Next : A → Result B AsmFault → Type 0) (x : B) → ((a : A) → Next a (Ok x) → P x) → First q Next (Ok x) → P x
-  after_first (Ok a) Next x each h = each a h
-  after_first (Err e) Next x each h = absurd cc
-
 -- ---- Expressions.
 
 whole_small : (ts : List Lexeme) (e : Tree) (q : Result (Tree × ℕ) ExprFault) → AreSmall ts → IsParsed ts q → Ok e ≡ p.whole (length ts) q → IsSmallTree e
@@ -99,15 +88,6 @@ behind_small ts x x1 small is h = grind (arith, common_steps, parsed_small)
 
 front_small : (ts : List Lexeme) (x : Tree × List Lexeme) → AreSmall ts → p.IsFront ts (Ok x) → IsSmallTree x.0
 front_small ts x small (q, is, h) = behind_small ts x q small is h
-
-module _ {B : Type 0} (P : B → Type 0) where
-  of_expression : (ts : List Lexeme) (next : Tree → Result B AsmFault) (x : B) → AreSmall ts → ((e : Tree) → IsSmallTree e → Ok x ≡ next e → P x) → p.Then (p.IsExpression ts) next (Ok x) → P x
-  of_expression ts next x small each (Ok e, is, h) = each e (expression_small ts e small is) h
-  of_expression ts next x small each (Err f, is, h) = absurd cc
-
-  of_front : (ts : List Lexeme) (next : Tree × List Lexeme → Result B AsmFault) (x : B) → AreSmall ts → ((e : Tree × List Lexeme) → IsSmallTree e.0 → Ok x ≡ next e → P x) → p.Then (p.IsFront ts) next (Ok x) → P x
-  of_front ts next x small each (Ok e, is, h) = each e (front_small ts e small is) h
-  of_front ts next x small each (Err f, is, h) = absurd cc
 
 -- ---- Lists.
 
@@ -128,33 +108,17 @@ parts_few (t ∷ ts) = grind (arith, common_steps, (before_few t (p.parts_of ts)
 -- as many are found as parts are gone through
 each_few : {A B : Type 0} (Is : A → Result B AsmFault → Type 0) (xs : List A) (ys : List B) → p.EachIs Is xs (Ok ys) → length ys ≡ length xs
 each_few {A} {B} Is [] ys h = let e : [] ≡ ys = cc in ap length (sym e)
-each_few {A} {B} Is (x ∷ xs) ys (q, is, first) = by q first (λ zs h. each_few Is xs zs h)
-  where
-    rest : (y : B) (r : Result (List B) AsmFault) → p.EachIs Is xs r → Ok ys ≡ (r >>= (λ zs. Ok (y ∷ zs))) → ((zs : List B) → p.EachIs Is xs (Ok zs) → length zs ≡ length xs) → length ys ≡ suc (length xs)
-    rest y (Ok zs) is h more = let e : y ∷ zs ≡ ys = cc in ap length (sym e) ∙ ap suc (more zs is)
-    rest y (Err f) is h more = absurd cc
-
-    by : (q : Result B AsmFault) → First q (λ y. p.Then (p.EachIs Is xs) (λ zs. Ok (y ∷ zs))) (Ok ys) → ((zs : List B) → p.EachIs Is xs (Ok zs) → length zs ≡ length xs) → length ys ≡ suc (length xs)
-    by (Ok y) (r, is, h) more = rest y r is h more
-    by (Err f) h more = absurd cc
+each_few {A} {B} Is (x ∷ xs) ys h = grind (arith, common_steps, (each_few Is xs))
 
 value_small : (ts : List Lexeme) (it : Item) → AreSmall ts → p.IsValue ts (Ok it) → IsSmallItem it
-value_small ts it small h = of_expression IsSmallItem ts (λ x. Ok (item.Value x)) it small (λ e less j. made IsSmallItem it (item.Value e) less j) h
+value_small ts it small h = grind (arith, common_steps, (λ (e : Tree). expression_small ts e small))
 
 item_small : (which : Elements) (ts : List Lexeme) (it : Item) → AreSmall ts → p.IsItem which ts (Ok it) → IsSmallItem it
 item_small x1 ts it small h = grind (arith, common_steps, value_small)
 
 items_small : (which : Elements) (parts : List (List Lexeme)) (its : List Item) → AllByRecursion AreSmall parts → p.EachIs (p.IsItem which) parts (Ok its) → AllByRecursion IsSmallItem its
 items_small which [] its small h = let e : [] ≡ its = cc in subst (AllByRecursion IsSmallItem) e tt
-items_small which (part ∷ parts) its small (q, is, first) = by q is first (λ zs h. items_small which parts zs small.1 h)
-  where
-    rest : (y : Item) (r : Result (List Item) AsmFault) → IsSmallItem y → p.EachIs (p.IsItem which) parts r → Ok its ≡ (r >>= (λ zs. Ok (y ∷ zs))) → ((zs : List Item) → p.EachIs (p.IsItem which) parts (Ok zs) → AllByRecursion IsSmallItem zs) → AllByRecursion IsSmallItem its
-    rest y (Ok zs) less is h more = let e : y ∷ zs ≡ its = cc in subst (AllByRecursion IsSmallItem) e (less, more zs is)
-    rest y (Err f) less is h more = absurd cc
-
-    by : (q : Result Item AsmFault) → p.IsItem which part q → First q (λ y. p.Then (p.EachIs (p.IsItem which) parts) (λ zs. Ok (y ∷ zs))) (Ok its) → ((zs : List Item) → p.EachIs (p.IsItem which) parts (Ok zs) → AllByRecursion IsSmallItem zs) → AllByRecursion IsSmallItem its
-    by (Ok y) is (r, each, h) more = rest y r (item_small which part y small.0 is) each h more
-    by (Err f) is h more = absurd cc
+items_small which (part ∷ parts) its small h = grind (arith, common_steps, (λ (it : Item). item_small which part it small.0), (λ (zs : List Item). items_small which parts zs small.1))
 
 -- ---- Operands.
 
@@ -162,17 +126,20 @@ indirect_small : (e : Tree) (o : Option Index) → IsSmallTree e → IsSmallOper
 indirect_small e o h = grind (arith)
 
 ended_small : (end : List Lexeme → Result (Option Index) AsmFault) (make : Tree → Option Index → Operand) (ts : List Lexeme) (o : Operand) → ((e : Tree) (i : Option Index) → IsSmallTree e → IsSmallOperand (make e i)) → AreSmall ts → p.IsEnded end make ts (Ok o) → IsSmallOperand o
-ended_small end make ts o makes small h =
-    of_front IsSmallOperand ts (λ x. end x.1 >>= (λ i. Ok (make x.0 i))) o small
-    (λ x less j. after IsSmallOperand (end x.1) (λ i. Ok (make x.0 i)) o (λ i e k. made IsSmallOperand o (make x.0 i) (makes x.0 i less) k) j) h
+ended_small end make ts o makes small (Ok x, is, h) = by (end x.1) h
+  where
+    by : (q : Result (Option Index) AsmFault) → Ok o ≡ (q >>= (λ i. Ok (make x.0 i))) → IsSmallOperand o
+    by (Ok i) j = let same : make x.0 i ≡ o = cc in subst IsSmallOperand same (makes x.0 i (front_small ts x small is))
+    by (Err f) j = absurd cc
+ended_small end make ts o makes small (Err f, is, h) = absurd cc
 
 plain_small : (ts : List Lexeme) (o : Operand) → AreSmall ts → p.IsPlainOperand ts (Ok o) → IsSmallOperand o
 unfolding IsPlainOperand
 plain_small ts o small h = let address = ended_small p.index_of (operand.Address None) ts o (λ e i less. less) small in grind (arith, common_steps, address)
 
 operand_small : (ts : List Lexeme) (o : Operand) → AreSmall ts → p.IsOperand ts (Ok o) → IsSmallOperand o
-operand_small [] o small h = made IsSmallOperand o operand.Absent tt h
-operand_small ((token.Symbol mark.Hash, t) ∷ ts) o small h = of_expression IsSmallOperand ts (λ x. Ok (operand.Immediate x)) o small.1 (λ e less j. made IsSmallOperand o (operand.Immediate e) less j) h
+operand_small [] o small h = grind (arith, common_steps)
+operand_small ((token.Symbol mark.Hash, t) ∷ ts) o small h = grind (arith, common_steps, (λ (e : Tree). expression_small ts e small.1))
 operand_small ((token.Symbol mark.OpenParenthesis, t) ∷ ts) o small h = ended_small p.closing_of p.indirect_by ts o indirect_small small.1 h
 operand_small ((token.SizePrefix own, t) ∷ ts) o small h = ended_small p.index_of (operand.Address (Some own)) ts o (λ e i less. less) small.1 h
 operand_small ((k, t) ∷ ts) o small h = plain_small ((k, t) ∷ ts) o small h
@@ -180,12 +147,6 @@ operand_small ((k, t) ∷ ts) o small h = plain_small ((k, t) ∷ ts) o small h
 -- ---- Directives.
 
 module _ (n : ℕ) (some : 1 ≤ n) where
-  abbrev Fits : Statement → Type 0
-  Fits x = IsFit n x
-
-  alone_fit : (x : Statement) → IsSmallStatement x → weight x ≡ 1 → IsFit n x
-  alone_fit x small one = record { small = small; few = subst (λ k. k ≤ n) (sym one) some }
-
   segment_fit : (w : Option (List ℕ)) (own : Result (Option AddressSize) AsmFault) (x : Statement) → told x ≡ (p.understood w >>= (λ s. own >>= (λ o. if p.is_identifier s then Ok (statement.Segment s o) else p.unknown))) → IsFit n x
   segment_fit x1 x2 x h = grind (arith, common_steps)
 
@@ -216,11 +177,7 @@ module _ (n : ℕ) (some : 1 ≤ n) where
   directive_fit directive.Scope [] x le small h = grind (arith, common_steps)
   directive_fit directive.Scope (t ∷ ts) x le small h = grind (arith, common_steps)
   directive_fit directive.Proc ts x le small h = grind (arith, common_steps)
-  directive_fit (directive.Names which) ts x le small (Ok ns, is, h) =
-      let same = each_few p.IsName (p.parts_of ts) ns is in
-      let few = parts_few ts in
-      made Fits x (p.names_statement which ns) (names_fit which ns (omega (arith, same, few))) h
-  directive_fit (directive.Names which) ts x le small (Err f, is, h) = absurd cc
+  directive_fit (directive.Names which) ts x le small h = grind (arith, common_steps, (λ (ns : List (List ℕ)). each_few p.IsName (p.parts_of ts) ns), (parts_few ts), (names_fit which))
   directive_fit directive.Assert ts x le small h = assertion_fit (p.parts_of ts) x (parts_small ts small) h
   directive_fit (directive.Message which) ts x le small h = grind (arith, common_steps)
   directive_fit directive.SetProcessor ts x le small h = grind (arith, common_steps)
@@ -240,7 +197,7 @@ module _ (n : ℕ) (some : 1 ≤ n) where
   begun_fit : (ts : List Lexeme) (x : Statement) → length ts ≤ n → AreSmall ts → p.IsStatement ts (Ok x) → IsFit n x
   begun_fit [] x le small h = absurd cc
   begun_fit ((token.Identifier, s) ∷ ts) x le small h = named_fit s ts x small.1 h
-  begun_fit ((token.Directive, d) ∷ ts) x le small h = after_first Fits (p.understood (p.directive_of d)) (λ a. p.IsDirective a ts) x (λ a k. directive_fit a ts x (omega (arith, le)) small.1 k) h
+  begun_fit ((token.Directive, d) ∷ ts) x le small h = after_first (IsFit n) (p.understood (p.directive_of d)) (λ a. p.IsDirective a ts) x (λ a k. directive_fit a ts x (omega (arith, le)) small.1 k) h
   begun_fit ((_, t) ∷ ts) x le small h = absurd cc
 
 pub statement_fit : (t : Lexeme) (ts : List Lexeme) (x : Statement) → AreSmall (t ∷ ts) → p.IsStatement (t ∷ ts) (Ok x) → IsFit (length (t ∷ ts)) x

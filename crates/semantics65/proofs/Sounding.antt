@@ -77,9 +77,9 @@ abbrev good : Statement → Answer
 good x = Ok x
 
 -- what was found first leads to what follows
-after_first : {A : Type 0} (q : Result A AsmFault) (Next : A → Answer → Type 0) (x : Statement) → ((a : A) → Next a (good x) → IsSound x) → First q Next (good x) → IsSound x
-after_first (Ok a) Next x each h = each a h
-after_first (Err e) Next x each h = cc
+pub after_first : {A B : Type 0} (P : B → Type 0) (q : Result A AsmFault) (Next : A → Result B AsmFault → Type 0) (x : B) → ((a : A) → Next a (Ok x) → P x) → First q Next (Ok x) → P x
+after_first P (Ok a) Next x each h = each a h
+after_first P (Err e) Next x each h = absurd cc
 
 -- ---- Names.
 
@@ -164,7 +164,7 @@ words_sound n (t ∷ ts) x h = grind (arith, common_steps, (constant_sound n ts 
 pub statement_sound : (ts : List Lexeme) (x : Statement) → AreNamed ts → p.IsStatement ts (Ok x) → IsSound x
 statement_sound [] x named h = cc
 statement_sound ((token.Identifier, n) ∷ ts) x named h = words_sound n ts x h
-statement_sound ((token.Directive, d) ∷ ts) x named h = after_first (p.understood (p.directive_of d)) (λ a. p.IsDirective a ts) x (λ a. directive_sound a ts x named.1) h
+statement_sound ((token.Directive, d) ∷ ts) x named h = after_first IsSound (p.understood (p.directive_of d)) (λ a. p.IsDirective a ts) x (λ a. directive_sound a ts x named.1) h
 statement_sound ((_, t) ∷ ts) x named h = cc
 
 -- ---- Lines.

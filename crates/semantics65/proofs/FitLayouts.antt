@@ -70,8 +70,7 @@ pub record IsLayoutFit (n : ℕ) (y : Layout) : Type 0 where
   pub names : length (names_in y.laid) ≤ n
 
 put_length : (b : Bool) (name : List ℕ) (names : List (List ℕ)) → length (put_file b name names) ≡ counted b + length names
-put_length true name names = omega arith
-put_length false name names = omega arith
+put_length x1 name names = grind arith
 
 files_more : (ls : List Laid) (l : Laid) → length (files_in (ls ++ l ∷ [])) ≡ length (files_in ls) + counted (is_counted l.stated)
 files_more [] l = let one = put_length (is_counted l.stated) l.place.file [] in omega (arith, one)
@@ -112,30 +111,22 @@ behind_fit n k y place x fit there small few named none =
     }
 
 laid_fit : (n k : ℕ) (y z : Layout) (place : Place) (x : Statement) → IsLayoutFit n y → IsPlaceFit place → IsSmallStatement x → counted (is_counted x) ≤ k → length (imports_of x) ≤ k → IsLaid y place x (Ok z) → IsLayoutFit (n + k) z
-laid_fit n k y z place x fit there small few named h = by (line_fault (symbols_of y.laid) y.cursor x) refl h
+laid_fit n k y z place x fit there small few named h = by (line_fault (symbols_of y.laid) y.cursor x) (behind_fit n k y place x fit there small few named) h
   where
-    by : (o : Option AsmFault) → line_fault (symbols_of y.laid) y.cursor x ≡ o → Ok z ≡ unless_fault o (layout_behind y place x) → IsLayoutFit (n + k) z
-    by (Some e) is h = absurd cc
-    by None is h =
-        let same : layout_behind y place x ≡ z = cc in
-        subst (IsLayoutFit (n + k)) same (behind_fit n k y place x fit there small few named is)
+    by : (o : Option AsmFault) → (o ≡ None → IsLayoutFit (n + k) (layout_behind y place x)) → Ok z ≡ unless_fault o (layout_behind y place x) → IsLayoutFit (n + k) z
+    by x1 fits h = grind (arith, common_steps, fits)
 
 counted_most : (b : Bool) → counted b ≤ 1
-counted_most true = omega arith
-counted_most false = omega arith
+counted_most x1 = grind arith
 
 named_few : (k : ℕ) (x : Statement) → IsFit k x → length (imports_of x) ≤ k
-named_few k (Import own names) h = h.few
-named_few k (Global own names) h = h.few
-named_few k (ForceImport names) h = h.few
-named_few k _ h = omega arith
+named_few k x1 h = grind (arith, common_steps)
 
 read_fit : (n k : ℕ) (y z : Layout) (place : Place) (x : Statement) → 1 ≤ k → IsLayoutFit n y → IsPlaceFit place → IsFit k x → IsLaid y place x (Ok z) → IsLayoutFit (n + k) z
 read_fit n k y z place x some fit there h is = let one = counted_most (is_counted x) in laid_fit n k y z place x fit there h.small (omega (arith, one)) (named_few k x h) is
 
 bytes_fit : (k : ℕ) (m : Files) (place : Place) (x : Statement) → IsFit k x → IsFit k (with_bytes m place x)
-bytes_fit k m place (NamedPart n start len) h = record { small = tt; few = h.few }
-bytes_fit k m place x h = h
+bytes_fit k m place x1 h = grind (arith, common_steps)
 
 -- ---- A label and what stands behind it.
 
@@ -207,12 +198,12 @@ have_bytes m h = λ name bytes e. bytes_each bytes (h name bytes e)
 
 module _ (m : Files) (all : HaveBytes m) (job : Job) (types : AreOfTypes job.defines) where
   begun_fit : (q : Result (List ℕ) ExpandFault) (r : Reached Layout) → IfOk q (IsFileFit m job.source) → IsBegun m laying job nothing_laid (q >>= (λ bytes. Ok (first_state job.source job.include bytes))) r → IsLayoutFit most r.behind
-  begun_fit (Err e) r h is = subst (λ (x : Reached Layout). IsLayoutFit most x.behind) (sym is) (nothing_fit most)
+  begun_fit (Err e) r h is = grind (arith, common_steps, (nothing_fit most))
   begun_fit (Ok bytes) r h (q, defined, follows) = by q defined follows
     where
       by : (q : Result Layout AsmFault) → AreDefined IsLaid nothing_laid (no_line job.source) job.defines q → Follows m laying (first_state job.source job.include bytes) (no_line job.source) nothing_laid q r → IsLayoutFit most r.behind
       by (Ok z) is follow = taken_fit m all 0 (first_state job.source job.include bytes) z r (first_fit m job.source job.include bytes h) (defined_fit nothing_laid z (no_line job.source) job.defines types (nothing_fit 0) (h.0, omega arith) is) follow
-      by (Err e) is follow = subst (λ (x : Reached Layout). IsLayoutFit most x.behind) (sym follow) (nothing_fit most)
+      by (Err e) is follow = grind (arith, common_steps, (nothing_fit most))
 
   source_fit : (r : Reached Layout) → IsBegun m laying job nothing_laid (opened_in m job.source job.include) r → IsLayoutFit most r.behind
   source_fit r is = begun_fit (bytes_in (file_named m job.source)) r (opened_bytes m job.source (file_named m job.source) refl) is

@@ -1,10 +1,9 @@
 -- What a source lays has small numbers, texts for the names of its files, and no more names and statements than tokens: so its object's numbers are those of their types.
 use Rattle.std.proofs.lemmas.Grind.{common_steps}
-use Rattle.std.proofs.Common.{arith, ◌≡◌, ◌∙◌, ℕ, zero, suc, ◌+◌, ◌<◌, ◌≤◌, Bool, true, false, List, [], ◌∷◌, ◌++◌, length, map, Option, Some, None, refl, sym, ap, subst, if◌then◌else◌}
-use Rattle.std.specs.Prelude.{Result, Ok, Err, IfOk, ◌||◌}
-use Rattle.std.specs.List.{AllByRecursion, flat_map, list_any}
+use Rattle.std.proofs.Common.{arith, ◌≡◌, ◌∙◌, ℕ, zero, suc, ◌+◌, ◌<◌, ◌≤◌, Bool, true, false, List, [], ◌∷◌, ◌++◌, length, map, Option, Some, None, refl, sym, ap, subst}
+use Rattle.std.specs.Prelude.{Result, Ok, Err, IfOk}
+use Rattle.std.specs.List.{AllByRecursion, flat_map}
 use Rattle.std.specs.Option.{option_map_or}
-use Rattle.std.specs.Str.{bytes_eq}
 use Rattle.std.proofs.lemmas.List.{length-append}
 use Rattle.std.proofs.lemmas.Slice.Eq.{bytes_eq-Decides}
 use Rattle.base65.specs.Outcome.{◌>>=◌, First}
@@ -21,7 +20,7 @@ use Rattle.expand65.specs.State as expand
 use Rattle.ast65.specs.Parsing.{IsStatement, label_before, label_of, named_label}
 use Rattle.ast65.specs.declared.fault.AsmFault.{AsmFault}
 use Rattle.ast65.specs.declared.language.Statement.{Statement}
-use Rattle.ast65.specs.declared.language.Statement.TheVariants.{Constant, Import, Global, ForceImport, NamedPart}
+use Rattle.ast65.specs.declared.language.Statement.TheVariants.{Constant}
 use Rattle.semantics65.specs.Contents.{Content}
 use Rattle.semantics65.specs.Fitting.{FittingObjectLaw, HoldBytes, AreOfTypes}
 use Rattle.semantics65.specs.Layout.{context_of, Cursor, laid, Layout, layout_behind, line_fault, nothing_laid, own_size, segment_at, unless_fault}
@@ -110,11 +109,11 @@ behind_fit n k y place x fit there small few named none =
       names = omega (arith, b, names, named);
     }
 
+unless_faulty : (n : ℕ) (y z : Layout) (o : Option AsmFault) → (o ≡ None → IsLayoutFit n y) → Ok z ≡ unless_fault o y → IsLayoutFit n z
+unless_faulty n y z x1 fits h = grind (arith, common_steps, fits)
+
 laid_fit : (n k : ℕ) (y z : Layout) (place : Place) (x : Statement) → IsLayoutFit n y → IsPlaceFit place → IsSmallStatement x → counted (is_counted x) ≤ k → length (imports_of x) ≤ k → IsLaid y place x (Ok z) → IsLayoutFit (n + k) z
-laid_fit n k y z place x fit there small few named h = by (line_fault (symbols_of y.laid) y.cursor x) (behind_fit n k y place x fit there small few named) h
-  where
-    by : (o : Option AsmFault) → (o ≡ None → IsLayoutFit (n + k) (layout_behind y place x)) → Ok z ≡ unless_fault o (layout_behind y place x) → IsLayoutFit (n + k) z
-    by x1 fits h = grind (arith, common_steps, fits)
+laid_fit n k y z place x fit there small few named h = unless_faulty (n + k) (layout_behind y place x) z (line_fault (symbols_of y.laid) y.cursor x) (behind_fit n k y place x fit there small few named) h
 
 counted_most : (b : Bool) → counted b ≤ 1
 counted_most x1 = grind arith
@@ -212,8 +211,7 @@ module _ (m : Files) (all : HaveBytes m) (job : Job) (types : AreOfTypes job.def
 
 small_value : (x : Statement) → IsSmallStatement x → (o : Option Key) (s : Context) (own : AddressSize) → IsPlaced s → AreDefinitionsFit (definition_with o (value_defined x) s own)
 small_value x small None s own at = tt
-small_value (Constant n e) small (Some k) s own at = ((at, small), tt)
-small_value _ small (Some k) s own at = ((at, tt), tt)
+small_value x1 small (Some k) s own at = grind (arith, common_steps)
 
 definitions_fit : (ls : List Laid) → AllByRecursion IsLaidSmall ls → AreDefinitionsFit (flat_map definitions_of ls)
 definitions_fit [] h = tt
@@ -221,11 +219,7 @@ definitions_fit (l ∷ ls) h = all_append IsDefinitionFit (definitions_of l) (fl
 
 new_few : (known names : List (List ℕ)) → length (with_new known names) ≤ length known + length names
 new_few known [] = omega arith
-new_few known (n ∷ names) = by (list_any (λ k. bytes_eq n k) known) (new_few known names) (new_few (known ++ n ∷ []) names)
-  where
-    by : (b : Bool) → length (with_new known names) ≤ length known + length names → length (with_new (known ++ n ∷ []) names) ≤ length (known ++ n ∷ []) + length names → length (with_new (if b then known else known ++ n ∷ []) names) ≤ length known + suc (length names)
-    by true old new = omega (arith, old)
-    by false old new = let longer = length-append known (n ∷ []) in omega (arith, new, longer)
+new_few known (n ∷ names) = let longer = length-append known (n ∷ []) in grind (arith, common_steps, (new_few known names), (new_few (known ++ n ∷ []) names))
 
 -- ---- Files.
 
@@ -233,23 +227,17 @@ among_self : (n : List ℕ) (names : List (List ℕ)) → IsAmong (n ∷ names) 
 among_self n names = rw ((bytes_eq-Decides n n).1 refl) refl
 
 among_more : (n m : List ℕ) (names : List (List ℕ)) → IsAmong names n → IsAmong (m ∷ names) n
-among_more n m names h = by (bytes_eq n m)
-  where
-    by : (b : Bool) → (b || list_any (bytes_eq n) names) ≡ true
-    by true = refl
-    by false = h
+among_more n m names h = grind (arith, common_steps)
 
 put_among : (b : Bool) (m n : List ℕ) (names : List (List ℕ)) → IsAmong names n → IsAmong (put_file b m names) n
-put_among true m n names h = among_more n m names h
-put_among false m n names h = h
+put_among x1 m n names h = grind (arith, common_steps, (among_more n m names))
 
 -- each statement's file is among those of all
 abbrev IsFiled : List (List ℕ) → Laid → Type 0
 IsFiled names l = is_counted l.stated ≡ true → IsAmong names l.place.file
 
 own_filed : (l : Laid) (b : Bool) (names : List (List ℕ)) → is_counted l.stated ≡ b → is_counted l.stated ≡ true → IsAmong (put_file b l.place.file names) l.place.file
-own_filed l true names e h = among_self l.place.file names
-own_filed l false names e h = absurd (let wrong : true ≡ false = sym h ∙ e in cc)
+own_filed l x1 names e h = grind (arith, common_steps, (among_self l.place.file names))
 
 filed_more : (ls : List Laid) (b : Bool) (m : List ℕ) (names : List (List ℕ)) → AllByRecursion (IsFiled names) ls → AllByRecursion (IsFiled (put_file b m names)) ls
 filed_more [] b m names h = tt
@@ -311,8 +299,7 @@ module _ (y : Layout) (fit : IsLayoutFit most y) where
       (object_fits (files_in y.laid) (symbols_of y.laid).imports y.cursor.segments cs there.contents sound.room files (omega (arith, new, names)) (omega (arith, asked, few, files)))
 
   found_fits : (o : Object) (q : Result (List Content) PlacedFault) → (ending_of y.laid).found ≡ q → ((cs : List Content) → (ending_of y.laid).found ≡ Ok cs → AreSound y.cursor.segments (symbols_of y.laid).imports cs) → (q >>= (λ cs. Ok (object_with y.cursor.segments (symbols_of y.laid).imports cs))) ≡ Ok o → ObjectFits o
-  found_fits o (Ok cs) e sound h = let same : object_with y.cursor.segments (symbols_of y.laid).imports cs ≡ o = cc in made_fits o cs e (sound cs e) same
-  found_fits o (Err f) e sound h = absurd cc
+  found_fits o x1 e sound h = grind (arith, common_steps, (made_fits o), sound)
 
   outcome_fits : (f : Option PlacedFault) (o : Object) → ((cs : List Content) → (ending_of y.laid).found ≡ Ok cs → AreSound y.cursor.segments (symbols_of y.laid).imports cs) → (outcome_of y f).result ≡ Ok o → ObjectFits o
   outcome_fits None o sound h = found_fits o (ending_of y.laid).found refl sound h

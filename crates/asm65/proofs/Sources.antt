@@ -25,7 +25,7 @@ use Rattle.semantics65.specs.Reading.{GoesOn, known_at, AreDefined, IsGiven, IsS
 use Rattle.semantics65.specs.Machine.{Runs, State, Takes, begun, running}
 use Rattle.semantics65.proofs.Taken.{same_outside, same_place, begins, ends, goes_on, is_refused, stops}
 use Rattle.semantics65.proofs.FitSteps as fitting
-use Rattle.semantics65.proofs.FitSteps.{before, IsStateFit, next_fit, opened_fit}
+use Rattle.semantics65.proofs.FitSteps.{fewer_given, IsStateFit, next_fit, opened_fit}
 use Rattle.semantics65.proofs.FitTokens.{AreFit, are_named}
 use Rattle.asm65.specs.declared.assembler.Assembler.{Assembler}
 use Rattle.asm65.specs.declared.running.Run.{Run}
@@ -185,7 +185,7 @@ module _ (m : Files) (first old mid : Run) (same : mid.assembler ≡ old.assembl
           here = a.0;
           walks = λ k. no_step a.0;
           stands = subst (λ e. StandsFor m e a.0) (sym stays) a.2;
-          fit = before m 0 (length (fitting.tokens_of (stated x))) a.0 fits.1;
+          fit = fewer_given m 0 (length (fitting.tokens_of (stated x))) a.0 fits.1;
           goes = goes_on m running (IsSource m running job begun) s.left a.0 (stated x) u b.0 s.goes a.1 (subst (λ p. IsGiven m Takes u p (stated x) (Ok b.0)) (sym place) b.1);
           taken = further s.left a.0 (stated x) u b.0 s.taken a.1 (subst (λ p. IsGiven m Takes u p (stated x) (Ok b.0)) (sym place) b.1);
           held = held_behind u b.0 old mid new h b.3 less stays;

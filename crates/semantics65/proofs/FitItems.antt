@@ -61,7 +61,7 @@ module _ (m : Files) where
   IsItemFit (branch ts) = ⊤
   IsItemFit (mark k) = Each IsPlaceFit k.back
 
-  -- so many tokens were given, or are acted on
+  -- what is left behind so many tokens
   pub record IsLeftFit (n : ℕ) (l : Left) : Type 0 where
     pub items : AllByRecursion IsItemFit l.items
     pub place : IsPlaceFit l.place

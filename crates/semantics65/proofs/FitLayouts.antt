@@ -1,29 +1,26 @@
 -- What a source lays has small numbers, texts for the names of its files, and no more names and statements than tokens: so its object's numbers are those of their types.
 use Rattle.std.proofs.lemmas.Grind.{common_steps}
-use Rattle.std.proofs.Common.{arith, ◌≡◌, ◌∙◌, ℕ, zero, suc, ◌+◌, ◌<◌, ◌≤◌, Bool, true, false, List, [], ◌∷◌, ◌++◌, length, map, Option, Some, None, refl, sym, ap, subst, if◌then◌else◌}
-use Rattle.std.specs.Prelude.{Result, Ok, Err, IfOk, ◌||◌}
-use Rattle.std.specs.List.{AllByRecursion, flat_map, list_any}
-use Rattle.std.specs.Option.{option_map, option_map_or}
-use Rattle.std.specs.Str.{bytes_eq}
+use Rattle.std.proofs.Common.{arith, ◌≡◌, ◌∙◌, ℕ, zero, suc, ◌+◌, ◌<◌, ◌≤◌, Bool, true, false, List, [], ◌∷◌, ◌++◌, length, map, Option, Some, None, refl, sym, ap, subst}
+use Rattle.std.specs.Prelude.{Result, Ok, Err, IfOk}
+use Rattle.std.specs.List.{AllByRecursion, flat_map}
+use Rattle.std.specs.Option.{option_map_or}
 use Rattle.std.proofs.lemmas.List.{length-append}
 use Rattle.std.proofs.lemmas.Slice.Eq.{bytes_eq-Decides}
 use Rattle.base65.specs.Outcome.{◌>>=◌, First}
 use Rattle.base65.specs.Store.{Files, IsBytes}
-use Rattle.syntax65.specs.Expressions.{is_reserved}
 use Rattle.syntax65.specs.Tokens.{Lexeme}
 use Rattle.syntax65.specs.Trees.{number}
 use Rattle.syntax65.specs.declared.fault.ExpandFault.{ExpandFault}
 use Rattle.syntax65.specs.declared.lexing.tokens.AddressSize.{AddressSize}
 use Rattle.syntax65.specs.declared.lexing.tokens.TokenKind.{TokenKind}
-use Rattle.syntax65.specs.declared.lexing.tokens.TokenKind.TheVariants as token
 use Rattle.object65.specs.Objects.{ObjectFits, section_limit}
 use Rattle.object65.specs.declared.object.Object.{Object}
 use Rattle.expand65.specs.Expansion.{bytes_in, file_named, first_state, opened_in, statement}
 use Rattle.expand65.specs.State as expand
-use Rattle.ast65.specs.Parsing.{IsStatement, is_colon, label_before, label_of, named_label}
+use Rattle.ast65.specs.Parsing.{IsStatement, label_before, label_of, named_label}
 use Rattle.ast65.specs.declared.fault.AsmFault.{AsmFault}
 use Rattle.ast65.specs.declared.language.Statement.{Statement}
-use Rattle.ast65.specs.declared.language.Statement.TheVariants.{Constant, Label, CheapLabel, UnnamedLabel, Import, Global, ForceImport, NamedPart}
+use Rattle.ast65.specs.declared.language.Statement.TheVariants.{Constant}
 use Rattle.semantics65.specs.Contents.{Content}
 use Rattle.semantics65.specs.Fitting.{FittingObjectLaw, HoldBytes, AreOfTypes}
 use Rattle.semantics65.specs.Layout.{context_of, Cursor, laid, Layout, layout_behind, line_fault, nothing_laid, own_size, segment_at, unless_fault}
@@ -72,8 +69,7 @@ pub record IsLayoutFit (n : ℕ) (y : Layout) : Type 0 where
   pub names : length (names_in y.laid) ≤ n
 
 put_length : (b : Bool) (name : List ℕ) (names : List (List ℕ)) → length (put_file b name names) ≡ counted b + length names
-put_length true name names = omega arith
-put_length false name names = omega arith
+put_length x1 name names = grind arith
 
 files_more : (ls : List Laid) (l : Laid) → length (files_in (ls ++ l ∷ [])) ≡ length (files_in ls) + counted (is_counted l.stated)
 files_more [] l = let one = put_length (is_counted l.stated) l.place.file [] in omega (arith, one)
@@ -113,31 +109,23 @@ behind_fit n k y place x fit there small few named none =
       names = omega (arith, b, names, named);
     }
 
+unless_faulty : (n : ℕ) (y z : Layout) (o : Option AsmFault) → (o ≡ None → IsLayoutFit n y) → Ok z ≡ unless_fault o y → IsLayoutFit n z
+unless_faulty n y z x1 fits h = grind (arith, common_steps, fits)
+
 laid_fit : (n k : ℕ) (y z : Layout) (place : Place) (x : Statement) → IsLayoutFit n y → IsPlaceFit place → IsSmallStatement x → counted (is_counted x) ≤ k → length (imports_of x) ≤ k → IsLaid y place x (Ok z) → IsLayoutFit (n + k) z
-laid_fit n k y z place x fit there small few named h = by (line_fault (symbols_of y.laid) y.cursor x) refl h
-  where
-    by : (o : Option AsmFault) → line_fault (symbols_of y.laid) y.cursor x ≡ o → Ok z ≡ unless_fault o (layout_behind y place x) → IsLayoutFit (n + k) z
-    by (Some e) is h = absurd cc
-    by None is h =
-        let same : layout_behind y place x ≡ z = cc in
-        subst (IsLayoutFit (n + k)) same (behind_fit n k y place x fit there small few named is)
+laid_fit n k y z place x fit there small few named h = unless_faulty (n + k) (layout_behind y place x) z (line_fault (symbols_of y.laid) y.cursor x) (behind_fit n k y place x fit there small few named) h
 
 counted_most : (b : Bool) → counted b ≤ 1
-counted_most true = omega arith
-counted_most false = omega arith
+counted_most x1 = grind arith
 
 named_few : (k : ℕ) (x : Statement) → IsFit k x → length (imports_of x) ≤ k
-named_few k (Import own names) h = h.few
-named_few k (Global own names) h = h.few
-named_few k (ForceImport names) h = h.few
-named_few k _ h = omega arith
+named_few k x1 h = grind (arith, common_steps)
 
 read_fit : (n k : ℕ) (y z : Layout) (place : Place) (x : Statement) → 1 ≤ k → IsLayoutFit n y → IsPlaceFit place → IsFit k x → IsLaid y place x (Ok z) → IsLayoutFit (n + k) z
 read_fit n k y z place x some fit there h is = let one = counted_most (is_counted x) in laid_fit n k y z place x fit there h.small (omega (arith, one)) (named_few k x h) is
 
 bytes_fit : (k : ℕ) (m : Files) (place : Place) (x : Statement) → IsFit k x → IsFit k (with_bytes m place x)
-bytes_fit k m place (NamedPart n start len) h = record { small = tt; few = h.few }
-bytes_fit k m place x h = h
+bytes_fit k m place x1 h = grind (arith, common_steps)
 
 -- ---- A label and what stands behind it.
 
@@ -145,34 +133,14 @@ abbrev IsLabelFit : ℕ → Option Statement × List Lexeme → Type 0
 IsLabelFit n (None, ts) = AreSmall ts × (length ts ≤ n)
 IsLabelFit n (Some x, ts) = AreSmall ts × IsFit 1 x × (length ts + 1 ≤ n)
 
-named_label_fit : (n : ℕ) (t : Lexeme) (c : Lexeme) (ts : List Lexeme) → AreSmall (t ∷ c ∷ ts) → length (t ∷ c ∷ ts) ≤ n → (o : Option Statement) → ((x : Statement) → o ≡ Some x → IsFit 1 x) → IsLabelFit n (option_map_or (λ (x : Statement × List Lexeme). (Some x.0, x.1)) (option_map (λ s. (s, ts)) o) (None, t ∷ c ∷ ts))
-named_label_fit n t c ts small le None h = (small, le)
-named_label_fit n t c ts small le (Some x) h = (small.1.1, h x refl, omega (arith, le))
-
 any_label : (k : TokenKind) (n : List ℕ) (x : Statement) → named_label k n ≡ Some x → IsFit 1 x
-any_label token.Identifier n x h = by (is_reserved n) h
-  where
-    by : (b : Bool) → (if b then None else Some (Label n)) ≡ Some x → IsFit 1 x
-    by true j = absurd cc
-    by false j = let same : Label n ≡ x = cc in subst (IsFit 1) same (record { small = tt; few = omega arith })
-any_label token.CheapName n x h = let same : CheapLabel n ≡ x = cc in subst (IsFit 1) same (record { small = tt; few = omega arith })
-any_label _ n x h = absurd cc
+any_label x1 n x h = grind (arith, common_steps)
 
 before_fit : (n : ℕ) (t : Lexeme) (ts : List Lexeme) → AreSmall (t ∷ ts) → length (t ∷ ts) ≤ n → IsLabelFit n (option_map_or (λ x. (Some x.0, x.1)) (label_before t ts) (None, t ∷ ts))
-before_fit n t [] small le = (small, le)
-before_fit n t (c ∷ ts) small le = by (is_colon c)
-  where
-    by : (b : Bool) → IsLabelFit n (option_map_or (λ (x : Statement × List Lexeme). (Some x.0, x.1)) (if b then option_map (λ s. (s, ts)) (named_label t.0 t.1) else None) (None, t ∷ c ∷ ts))
-    by true = named_label_fit n t c ts small le (named_label t.0 t.1) (λ x e. any_label t.0 t.1 x e)
-    by false = (small, le)
+before_fit n t x1 small le = grind (arith, common_steps, (any_label t.0 t.1))
 
 label_fit : (ts : List Lexeme) → AreSmall ts → IsLabelFit (length ts) (label_of ts)
-label_fit [] small = (tt, omega arith)
-label_fit (t ∷ ts) small = by (is_colon t)
-  where
-    by : (b : Bool) → IsLabelFit (length (t ∷ ts)) (if b then (Some UnnamedLabel, ts) else option_map_or (λ x. (Some x.0, x.1)) (label_before t ts) (None, t ∷ ts))
-    by true = (small.1, record { small = tt; few = omega arith }, omega arith)
-    by false = before_fit (length (t ∷ ts)) t ts small (omega arith)
+label_fit x1 small = grind (arith, common_steps, before_fit)
 
 -- ---- A statement that expansion gives.
 
@@ -229,12 +197,12 @@ have_bytes m h = λ name bytes e. bytes_each bytes (h name bytes e)
 
 module _ (m : Files) (all : HaveBytes m) (job : Job) (types : AreOfTypes job.defines) where
   begun_fit : (q : Result (List ℕ) ExpandFault) (r : Reached Layout) → IfOk q (IsFileFit m job.source) → IsBegun m laying job nothing_laid (q >>= (λ bytes. Ok (first_state job.source job.include bytes))) r → IsLayoutFit most r.behind
-  begun_fit (Err e) r h is = subst (λ (x : Reached Layout). IsLayoutFit most x.behind) (sym is) (nothing_fit most)
+  begun_fit (Err e) r h is = grind (arith, common_steps, (nothing_fit most))
   begun_fit (Ok bytes) r h (q, defined, follows) = by q defined follows
     where
       by : (q : Result Layout AsmFault) → AreDefined IsLaid nothing_laid (no_line job.source) job.defines q → Follows m laying (first_state job.source job.include bytes) (no_line job.source) nothing_laid q r → IsLayoutFit most r.behind
       by (Ok z) is follow = taken_fit m all 0 (first_state job.source job.include bytes) z r (first_fit m job.source job.include bytes h) (defined_fit nothing_laid z (no_line job.source) job.defines types (nothing_fit 0) (h.0, omega arith) is) follow
-      by (Err e) is follow = subst (λ (x : Reached Layout). IsLayoutFit most x.behind) (sym follow) (nothing_fit most)
+      by (Err e) is follow = grind (arith, common_steps, (nothing_fit most))
 
   source_fit : (r : Reached Layout) → IsBegun m laying job nothing_laid (opened_in m job.source job.include) r → IsLayoutFit most r.behind
   source_fit r is = begun_fit (bytes_in (file_named m job.source)) r (opened_bytes m job.source (file_named m job.source) refl) is
@@ -243,8 +211,7 @@ module _ (m : Files) (all : HaveBytes m) (job : Job) (types : AreOfTypes job.def
 
 small_value : (x : Statement) → IsSmallStatement x → (o : Option Key) (s : Context) (own : AddressSize) → IsPlaced s → AreDefinitionsFit (definition_with o (value_defined x) s own)
 small_value x small None s own at = tt
-small_value (Constant n e) small (Some k) s own at = ((at, small), tt)
-small_value _ small (Some k) s own at = ((at, tt), tt)
+small_value x1 small (Some k) s own at = grind (arith, common_steps)
 
 definitions_fit : (ls : List Laid) → AllByRecursion IsLaidSmall ls → AreDefinitionsFit (flat_map definitions_of ls)
 definitions_fit [] h = tt
@@ -252,11 +219,7 @@ definitions_fit (l ∷ ls) h = all_append IsDefinitionFit (definitions_of l) (fl
 
 new_few : (known names : List (List ℕ)) → length (with_new known names) ≤ length known + length names
 new_few known [] = omega arith
-new_few known (n ∷ names) = by (list_any (λ k. bytes_eq n k) known) (new_few known names) (new_few (known ++ n ∷ []) names)
-  where
-    by : (b : Bool) → length (with_new known names) ≤ length known + length names → length (with_new (known ++ n ∷ []) names) ≤ length (known ++ n ∷ []) + length names → length (with_new (if b then known else known ++ n ∷ []) names) ≤ length known + suc (length names)
-    by true old new = omega (arith, old)
-    by false old new = let longer = length-append known (n ∷ []) in omega (arith, new, longer)
+new_few known (n ∷ names) = let longer = length-append known (n ∷ []) in grind (arith, common_steps, (new_few known names), (new_few (known ++ n ∷ []) names))
 
 -- ---- Files.
 
@@ -264,23 +227,17 @@ among_self : (n : List ℕ) (names : List (List ℕ)) → IsAmong (n ∷ names) 
 among_self n names = rw ((bytes_eq-Decides n n).1 refl) refl
 
 among_more : (n m : List ℕ) (names : List (List ℕ)) → IsAmong names n → IsAmong (m ∷ names) n
-among_more n m names h = by (bytes_eq n m)
-  where
-    by : (b : Bool) → (b || list_any (bytes_eq n) names) ≡ true
-    by true = refl
-    by false = h
+among_more n m names h = grind (arith, common_steps)
 
 put_among : (b : Bool) (m n : List ℕ) (names : List (List ℕ)) → IsAmong names n → IsAmong (put_file b m names) n
-put_among true m n names h = among_more n m names h
-put_among false m n names h = h
+put_among x1 m n names h = grind (arith, common_steps, (among_more n m names))
 
 -- each statement's file is among those of all
 abbrev IsFiled : List (List ℕ) → Laid → Type 0
 IsFiled names l = is_counted l.stated ≡ true → IsAmong names l.place.file
 
 own_filed : (l : Laid) (b : Bool) (names : List (List ℕ)) → is_counted l.stated ≡ b → is_counted l.stated ≡ true → IsAmong (put_file b l.place.file names) l.place.file
-own_filed l true names e h = among_self l.place.file names
-own_filed l false names e h = absurd (let wrong : true ≡ false = sym h ∙ e in cc)
+own_filed l x1 names e h = grind (arith, common_steps, (among_self l.place.file names))
 
 filed_more : (ls : List Laid) (b : Bool) (m : List ℕ) (names : List (List ℕ)) → AllByRecursion (IsFiled names) ls → AllByRecursion (IsFiled (put_file b m names)) ls
 filed_more [] b m names h = tt
@@ -342,8 +299,7 @@ module _ (y : Layout) (fit : IsLayoutFit most y) where
       (object_fits (files_in y.laid) (symbols_of y.laid).imports y.cursor.segments cs there.contents sound.room files (omega (arith, new, names)) (omega (arith, asked, few, files)))
 
   found_fits : (o : Object) (q : Result (List Content) PlacedFault) → (ending_of y.laid).found ≡ q → ((cs : List Content) → (ending_of y.laid).found ≡ Ok cs → AreSound y.cursor.segments (symbols_of y.laid).imports cs) → (q >>= (λ cs. Ok (object_with y.cursor.segments (symbols_of y.laid).imports cs))) ≡ Ok o → ObjectFits o
-  found_fits o (Ok cs) e sound h = let same : object_with y.cursor.segments (symbols_of y.laid).imports cs ≡ o = cc in made_fits o cs e (sound cs e) same
-  found_fits o (Err f) e sound h = absurd cc
+  found_fits o x1 e sound h = grind (arith, common_steps, (made_fits o), sound)
 
   outcome_fits : (f : Option PlacedFault) (o : Object) → ((cs : List Content) → (ending_of y.laid).found ≡ Ok cs → AreSound y.cursor.segments (symbols_of y.laid).imports cs) → (outcome_of y f).result ≡ Ok o → ObjectFits o
   outcome_fits None o sound h = found_fits o (ending_of y.laid).found refl sound h

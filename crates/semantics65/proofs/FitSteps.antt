@@ -3,7 +3,6 @@
 use Rattle.std.proofs.lemmas.Grind.{common_steps}
 use Rattle.std.proofs.Common.{arith, ◌≡◌, ℤ, ℕ, zero, suc, ◌+◌, ◌<◌, ◌≤◌, Bool, true, false, List, [], ◌∷◌, length, drop, map, Option, Some, None, refl, sym, subst, if◌then◌else◌}
 use Rattle.std.specs.Prelude.{⊤, IfOk, Result, Ok, Err}
-use Rattle.std.specs.FinMap as fmap
 use Rattle.std.specs.List.{AllByRecursion}
 use Rattle.std.specs.Str.{is_utf8}
 use Rattle.std.proofs.lemmas.Bool.Decides.{nat_tests}
@@ -36,30 +35,23 @@ use Rattle.semantics65.proofs.Segments.{all_more}
 
 -- ---- Files.
 
--- a file that is found: its name is a text, and it is no longer than files are read
+-- a file that is read: its name is a text, and it isn't too long
 abbrev pub IsFileFit : Files → List ℕ → List ℕ → Type 0
 IsFileFit m name bytes = (is_utf8 name ≡ true) × (HaveBytes m → AreBytes bytes) × (length bytes ≤ 16777216)
 
 abbrev IsSearchFit : Files → Result (List ℕ × List ℕ) ExpandFault → Type 0
 IsSearchFit m q = IfOk q (λ f. IsFileFit m f.0 f.1)
 
--- a file is there where its name is a text
 named_fit : (m : Files) (name bytes : List ℕ) → file_named m name ≡ Some bytes → length bytes ≤ 16777216 → IsFileFit m name bytes
-named_fit m name bytes h short = by (is_utf8 name) refl h
-  where
-    by : (b : Bool) → is_utf8 name ≡ b → (if b then fmap.get m name else None) ≡ Some bytes → IsFileFit m name bytes
-    by true e j = (e, (λ all. all name bytes j), short)
-    by false e j = absurd cc
+named_fit m name bytes h short = grind (arith, common_steps)
 
--- a source is
+-- so is a source
 pub opened_bytes : (m : Files) (name : List ℕ) (o : Option (List ℕ)) → file_named m name ≡ o → IfOk (bytes_in o) (IsFileFit m name)
-opened_bytes m name None e = tt
-opened_bytes m name (Some bytes) e = grind (arith, common_steps, nat_tests, (named_fit m name bytes e))
+opened_bytes m name x1 e = grind (arith, common_steps, nat_tests, (named_fit m name))
 
--- and so is what is found of some names
+-- and what is found of some names
 found_fit : (m : Files) (name : List ℕ) (o : Option (List ℕ)) (others : Result (List ℕ × List ℕ) ExpandFault) → file_named m name ≡ o → IsSearchFit m others → IsSearchFit m (found_or name o others)
-found_fit m name None others e j = j
-found_fit m name (Some bytes) others e j = grind (arith, common_steps, nat_tests, (named_fit m name bytes e))
+found_fit m name x1 others e j = grind (arith, common_steps, nat_tests, (named_fit m name))
 
 search_fit : (m : Files) (names : List (List ℕ)) → IsSearchFit m (first_file m names)
 search_fit m [] = tt
@@ -101,14 +93,14 @@ repeat_few : (k : Meaning) (ts : List Lexeme) (q : Result (Tree × ℕ) ExprFaul
 repeat_few k ts q = grind (arith, common_steps, turns_few)
 
 module _ (m : Files) where
-  -- so many tokens were given, or are acted on; each calls one macro at most
+  -- so many tokens were given, or are acted on, and each macro that was called took one more
   pub record IsStateFit (n : ℕ) (s : State) : Type 0 where
     pub left : IsLeftFit m (n + s.expansions) s.left
     pub macros : AllByRecursion (λ e. AreAllFit m e.1.body) s.macros
 
   -- fewer were given
-  pub before : (n k : ℕ) (s : State) → IsStateFit (n + k) s → IsStateFit n s
-  before n k s fit = record { left = fewer m (n + s.expansions) ((n + k) + s.expansions) s.left (omega arith) fit.left; macros = fit.macros }
+  pub fewer_given : (n k : ℕ) (s : State) → IsStateFit (n + k) s → IsStateFit n s
+  fewer_given n k s fit = record { left = fewer m (n + s.expansions) ((n + k) + s.expansions) s.left (omega arith) fit.left; macros = fit.macros }
 
   macro_fit : (ms : List (List ℕ × Definition)) (k : TokenKind) (t : List ℕ) → AllByRecursion (λ e. AreAllFit m e.1.body) ms → Each (λ d. AreAllFit m d.body) (macro_at ms (k, t))
   macro_fit ms x1 t h = grind (arith, common_steps, lookup_each)
@@ -169,8 +161,7 @@ module _ (m : Files) where
 
       else_on : (o : Option (Bool × List Bool)) → Keeps (else_line s o)
       else_on (Some (false, bs)) = λ b x p. record { left = (block kind.Passed b x p).1; macros = fit.macros }
-      else_on (Some (true, bs)) = tt
-      else_on None = tt
+      else_on _ = tt
 
       end_if_on : (o : Option (Bool × List Bool)) → IsKept (ended_if s o)
       end_if_on x1 = grind (arith, common_steps)
@@ -225,11 +216,11 @@ module _ (m : Files) where
         grind (arith, common_steps, (enters (counted s) (map (played given) d.body) (mark_from s true None) s.left.place inner lines tt fit.left.place))
 
     ordinary_on : (s : State) (ts : List Lexeme) → IsStateFit (n + length ts) s → AreFit m ts → IsKept (ordinary s ts)
-    ordinary_on s [] fit h = before n 0 s fit
+    ordinary_on s [] fit h = fewer_given n 0 s fit
     ordinary_on s (t ∷ ts) fit h = grind (arith, common_steps, (macro_fit s.macros t.0 t.1 fit.macros), (calls_on s ts fit h.1))
 
     acted_on : (k : Meaning) (s : State) (ts : List Lexeme) (o : Option Directive) → IsStateFit (n + length ts) s → AreFit m ts → Keeps (acted k s ts o)
-    acted_on k s ts (Some d) fit h = directed_on s (before n (length ts) s fit) k d (drop 1 ts) (all_drop (IsTokenFit m) 1 ts h)
+    acted_on k s ts (Some d) fit h = directed_on s (fewer_given n (length ts) s fit) k d (drop 1 ts) (all_drop (IsTokenFit m) 1 ts h)
     acted_on k s ts None fit h = ordinary_on s ts fit h
 
     split_on : (k : Meaning) (s : State) (ts : List Lexeme) (d : Option Directive) (len : ℕ) → IsStateFit (n + length ts) s → AreFit m ts → Keeps (split k s ts d len)

@@ -24,12 +24,9 @@ use Rattle.ast65.specs.declared.language.Operand.{Operand}
 use Rattle.ast65.specs.declared.language.Operand.TheVariants as operand
 use Rattle.ast65.specs.declared.language.Statement.{Statement}
 use Rattle.ast65.specs.declared.language.Statement.TheVariants as statement
-use Rattle.ast65.specs.declared.reading.words.Amount.{Amount}
 use Rattle.ast65.specs.declared.reading.words.Directive.{Directive}
 use Rattle.ast65.specs.declared.reading.words.Directive.TheVariants as directive
 use Rattle.ast65.specs.declared.reading.words.Elements.{Elements}
-use Rattle.ast65.specs.declared.reading.words.Lone.{Lone}
-use Rattle.ast65.specs.declared.reading.words.Message.{Message}
 use Rattle.ast65.specs.declared.reading.words.Names.{Names}
 use Rattle.semantics65.proofs.Sounding.{after_first}
 use Rattle.semantics65.proofs.FitTokens.{AreSmall, IsSmall, IsSmallTree, parsed_small}

@@ -20,11 +20,8 @@ use Rattle.syntax65.specs.declared.lexing.tokens.AddressSize.{AddressSize}
 use Rattle.syntax65.specs.declared.lexing.tokens.TokenKind.TheVariants as token
 use Rattle.object65.specs.declared.object.Action.{Action}
 use Rattle.ast65.specs.declared.fault.AsmFault.{AsmFault}
-use Rattle.ast65.specs.declared.reading.words.Amount.{Amount}
 use Rattle.ast65.specs.declared.reading.words.Directive.{Directive}
 use Rattle.ast65.specs.declared.reading.words.Directive.TheVariants as directive
-use Rattle.ast65.specs.declared.reading.words.Lone.{Lone}
-use Rattle.ast65.specs.declared.reading.words.Message.{Message}
 use Rattle.ast65.specs.declared.reading.words.Names.{Names}
 use Rattle.ast65.specs.declared.language.Statement.{Statement}
 use Rattle.ast65.specs.declared.language.Statement.TheVariants as statement

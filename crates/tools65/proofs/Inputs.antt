@@ -52,7 +52,7 @@ good_source m job a o (r, laid, same) is =
     let y : Layout = r.behind in
     let found : asm.object_of y ≡ Ok o = answered y r.fault o (sym (ap (λ (z : asm.Outcome). z.result) same) ∙ is) in
     let z = symbols_of y.laid in
-    let (cs, there, made) = bind_ok (asm.contents_from z y.laid) (λ (cs : List Content). Ok (object_with y.cursor.segments z.imports cs)) o found in
+    let (cs, there, made) = bind_ok (asm.ending_of y.laid).found (λ (cs : List Content). Ok (object_with y.cursor.segments z.imports cs)) o found in
     let good = good_object y.cursor.segments z.imports cs (sound_contents y cs (sound_layout m job r laid) there) in
     subst (λ (k : Object). is_good_object k ≡ true) (ok_same (object_with y.cursor.segments z.imports cs) o made) good
 

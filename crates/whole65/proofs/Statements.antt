@@ -54,14 +54,13 @@ placed_ok : {A : Type 0} (place : Place) (r : Result A AsmFault) (a : A) → at_
 placed_ok {A = A} place x a e = grind (arith, common_steps)
 
 same_content : (a b : Made) → ◌≡◌ {A = Result Made AsmFault} (Ok a) (Ok b) → a.content ≡ b.content
-same_content a b e = let same : a ≡ b = cc in ap (λ (m : Made). m.content) same
+same_content a b e = grind (arith, common_steps)
 
 import_none : (y : Symbols) (n : List ℕ) (ss : List Declaration) → import_fault y n ≡ Ok ss → [] ≡ ss
 import_none y n ss e = grind (arith, common_steps)
 
 absent_none : (must : Bool) (n : List ℕ) (ss : List Declaration) → absent_of must n ≡ Ok ss → [] ≡ ss
-absent_none true n ss e = absurd cc
-absent_none false n ss e = cc
+absent_none x1 n ss e = grind (arith, common_steps)
 
 comes : (y : Symbols) (names : List (List ℕ)) (l : Laid) (p : Piece) (m : Made) → coming y names (waiting_at l p) ≡ Ok m → Comes y names l p m.content
 comes y names l (given q) m h = subst (Comes y names l (given q)) (same_content (quietly (put l.context.segment q)) m (placed_ok l.place (as_part l.context.segment q) m h)) (a_part q)
@@ -137,13 +136,10 @@ has_parts _ = false
 
 of_items : (width : Width) (items : List Item) → AllByRecursion (λ p. is_part p ≡ true) (map (item_piece width) items)
 of_items width [] = tt
-of_items width (Value e ∷ items) = (refl, of_items width items)
-of_items width (Text bytes ∷ items) = (refl, of_items width items)
+of_items width (item ∷ items) = grind (arith, common_steps, (of_items width items))
 
 of_operand : (width : Option Width) (e : Option Tree) → AllByRecursion (λ p. is_part p ≡ true) (operand_pieces width e)
-of_operand (Some width) (Some e) = (refl, tt)
-of_operand (Some width) None = tt
-of_operand None e = tt
+of_operand x1 x2 = grind (arith, common_steps)
 
 of_names : (f : List ℕ → Piece) → ((n : List ℕ) → is_part (f n) ≡ false) → (names : List (List ℕ)) → AllByRecursion (λ p. is_part p ≡ false) (map f names)
 of_names f h [] = tt
@@ -168,16 +164,10 @@ pieces_alike count s (Assert e act words) = (refl, tt)
 pieces_alike count s _ = tt
 
 says_none : {y : Symbols} {names : List (List ℕ)} {l : Laid} {p : Piece} {c : Content} → Comes y names l p c → is_part p ≡ true → c.said ≡ []
-says_none (a_part q) e = refl
-says_none (a_datum width t f q normal kept) e = refl
-says_none (an_operand width t f g q normal counted kept) e = refl
-says_none _ e = absurd cc
+says_none x1 e = grind (arith, common_steps)
 
 puts_none : {y : Symbols} {names : List (List ℕ)} {l : Laid} {p : Piece} {c : Content} → Comes y names l p c → is_part p ≡ false → c.parts ≡ []
-puts_none (a_part q) e = absurd cc
-puts_none (a_datum width t f q normal kept) e = absurd cc
-puts_none (an_operand width t f g q normal counted kept) e = absurd cc
-puts_none _ e = refl
+puts_none x1 e = grind (arith, common_steps)
 
 none_said : {y : Symbols} {l : Laid} {names : List (List ℕ)} {ps : List Piece} {cs : List Content} → AllCome y l names ps cs → AllByRecursion (λ p. is_part p ≡ true) ps → all_said cs ≡ []
 none_said no_piece all = refl
@@ -188,12 +178,7 @@ none_put no_piece all = refl
 none_put (a_piece {cs = cs} first more) (own, all) = ap (λ qs. qs ++ all_put cs) (puts_none first own) ∙ none_put more all
 
 no_parts : (x : Statement) → asks_section x ≡ false → has_parts x ≡ false
-no_parts (Instruction m o) e = absurd cc
-no_parts (Values width items) e = absurd cc
-no_parts (Reserve n v) e = absurd cc
-no_parts (Align n v) e = absurd cc
-no_parts (FilePart bytes start len) e = absurd cc
-no_parts _ e = refl
+no_parts x1 e = grind (arith, common_steps)
 
 -- a statement that asks for no section puts nothing there
 pub quiet_parts : {y : Symbols} {l : Laid} {names : List (List ℕ)} {cs : List Content} (count : ℕ) (s : Settled) (x : Statement) → AllCome y l names (pieces_of count s x) cs → asks_section x ≡ false → all_put cs ≡ []
@@ -206,10 +191,7 @@ abbrev StandsIn : ℕ → Content → Type 0
 StandsIn g c = (c.asks ≡ false) × ((c.segment ≡ g) ⊎ (c.parts ≡ []))
 
 stands_in : {y : Symbols} {names : List (List ℕ)} {l : Laid} {p : Piece} {c : Content} → Comes y names l p c → StandsIn l.context.segment c
-stands_in (a_part q) = (refl, inl refl)
-stands_in (a_datum width e f q normal kept) = (refl, inl refl)
-stands_in (an_operand width e f g q normal counted kept) = (refl, inl refl)
-stands_in _ = (refl, inr refl)
+stands_in x1 = grind (arith, common_steps)
 
 none_asked : {y : Symbols} {l : Laid} {names : List (List ℕ)} {ps : List Piece} {cs : List Content} → AllCome y l names ps cs → segments_asked cs ≡ []
 none_asked no_piece = refl
@@ -234,8 +216,7 @@ parts_if g h c cs there rest = by there
     by (inr none) = nowhere (nat_eq c.segment g) none ∙ rest ∙ ap (λ qs. cond (nat_eq h g) (qs ++ all_put cs) []) (sym none)
 
 none_if : (b : Bool) → ◌≡◌ {A = List Part} [] (cond b [] [])
-none_if true = refl
-none_if false = refl
+none_if x1 = grind (arith, common_steps)
 
 parts_own : {y : Symbols} {l : Laid} {names : List (List ℕ)} {ps : List Piece} {cs : List Content} (g : ℕ) → AllCome y l names ps cs → parts_in cs g ≡ cond (nat_eq l.context.segment g) (all_put cs) []
 parts_own {l = l} g no_piece = none_if (nat_eq l.context.segment g)

@@ -171,11 +171,11 @@ puts_none x1 e = grind (arith, common_steps)
 
 none_said : {y : Symbols} {l : Laid} {names : List (List ℕ)} {ps : List Piece} {cs : List Content} → AllCome y l names ps cs → AllByRecursion (λ p. is_part p ≡ true) ps → all_said cs ≡ []
 none_said no_piece all = refl
-none_said (a_piece {cs = cs} first more) (own, all) = ap (λ ss. ss ++ all_said cs) (says_none first own) ∙ none_said more all
+none_said (a_piece first more) (own, all) = grind (arith, common_steps, (says_none first own), (none_said more all))
 
 pub none_put : {y : Symbols} {l : Laid} {names : List (List ℕ)} {ps : List Piece} {cs : List Content} → AllCome y l names ps cs → AllByRecursion (λ p. is_part p ≡ false) ps → all_put cs ≡ []
 none_put no_piece all = refl
-none_put (a_piece {cs = cs} first more) (own, all) = ap (λ qs. qs ++ all_put cs) (puts_none first own) ∙ none_put more all
+none_put (a_piece first more) (own, all) = grind (arith, common_steps, (puts_none first own), (none_put more all))
 
 no_parts : (x : Statement) → asks_section x ≡ false → has_parts x ≡ false
 no_parts x1 e = grind (arith, common_steps)
@@ -195,32 +195,17 @@ stands_in x1 = grind (arith, common_steps)
 
 none_asked : {y : Symbols} {l : Laid} {names : List (List ℕ)} {ps : List Piece} {cs : List Content} → AllCome y l names ps cs → segments_asked cs ≡ []
 none_asked no_piece = refl
-none_asked (a_piece {c = c} {cs = cs} first more) = ap (λ b. map (λ (d : Content). d.segment) (cond b (c ∷ filter (λ (d : Content). d.asks) cs) (filter (λ (d : Content). d.asks) cs))) (stands_in first).0 ∙ none_asked more
+none_asked (a_piece first more) = grind (arith, common_steps, (stands_in first), (none_asked more))
 
 parts_if : (g h : ℕ) (c : Content) (cs : List Content) → (c.segment ≡ h) ⊎ (c.parts ≡ []) → parts_in cs g ≡ cond (nat_eq h g) (all_put cs) [] → parts_in (c ∷ cs) g ≡ cond (nat_eq h g) (all_put (c ∷ cs)) []
-parts_if g h c cs there rest = by there
-  where
-    others : List Content
-    others = filter (λ (d : Content). nat_eq d.segment g) cs
-
-    here : (b : Bool) → all_put others ≡ cond b (all_put cs) [] → all_put (cond b (c ∷ others) others) ≡ cond b (all_put (c ∷ cs)) []
-    here true e = ap (λ qs. c.parts ++ qs) e
-    here false e = e
-
-    nowhere : (b : Bool) → c.parts ≡ [] → all_put (cond b (c ∷ others) others) ≡ all_put others
-    nowhere true e = ap (λ qs. qs ++ all_put others) e
-    nowhere false e = refl
-
-    by : (c.segment ≡ h) ⊎ (c.parts ≡ []) → all_put (cond (nat_eq c.segment g) (c ∷ others) others) ≡ cond (nat_eq h g) (all_put (c ∷ cs)) []
-    by (inl same) = ap (λ n. all_put (cond (nat_eq n g) (c ∷ others) others)) same ∙ here (nat_eq h g) rest
-    by (inr none) = nowhere (nat_eq c.segment g) none ∙ rest ∙ ap (λ qs. cond (nat_eq h g) (qs ++ all_put cs) []) (sym none)
+parts_if g h c cs x1 rest = grind (arith, common_steps)
 
 none_if : (b : Bool) → ◌≡◌ {A = List Part} [] (cond b [] [])
 none_if x1 = grind (arith, common_steps)
 
 parts_own : {y : Symbols} {l : Laid} {names : List (List ℕ)} {ps : List Piece} {cs : List Content} (g : ℕ) → AllCome y l names ps cs → parts_in cs g ≡ cond (nat_eq l.context.segment g) (all_put cs) []
-parts_own {l = l} g no_piece = none_if (nat_eq l.context.segment g)
-parts_own {l = l} g (a_piece {c = c} {cs = cs} first more) = parts_if g l.context.segment c cs (stands_in first).1 (parts_own g more)
+parts_own g no_piece = grind (arith, common_steps)
+parts_own g (a_piece first more) = grind (arith, common_steps, (stands_in first), (parts_own g more))
 
 -- ---- What a statement says.
 
@@ -250,14 +235,14 @@ said_once must names (n ∷ ns) _ (a_piece {cs = cs} (an_export _ _ j f new e fo
 
 said_demanded : {y : Symbols} {l : Laid} {names : List (List ℕ)} (ns : List (List ℕ)) (cs : List Content) → AllCome y l names (map demanded ns) cs → all_said cs ≡ map ForcedImport ns
 said_demanded [] _ no_piece = refl
-said_demanded (n ∷ ns) _ (a_piece {cs = cs} (a_demand _) more) = ap (λ ss. ForcedImport n ∷ ss) (said_demanded ns cs more)
+said_demanded (n ∷ ns) _ (a_piece (a_demand _) more) = grind (arith, common_steps, (said_demanded ns _ more))
 
 said_forced : {y : Symbols} {l : Laid} {names : List (List ℕ)} (ms ns : List (List ℕ)) (cs : List Content) → AllCome y l names (map imported ms ++ map demanded ns) cs → all_said cs ≡ map ForcedImport ns
 said_forced [] ns cs all = said_demanded ns cs all
 said_forced (m ∷ ms) ns _ (a_piece {cs = cs} (an_import _) more) = said_forced ms ns cs more
 
 nothing_said : {y : Symbols} {l : Laid} {names : List (List ℕ)} (cs : List Content) → AllCome y l names [] cs → all_said cs ≡ []
-nothing_said _ no_piece = refl
+nothing_said cs x1 = grind (arith, common_steps)
 
 said_by : {y : Symbols} {l : Laid} {names : List (List ℕ)} (count : ℕ) (s : Settled) (x : Statement) (cs : List Content) → AllCome y l names (pieces_of count s x) cs → IsSaidBy y names l x (all_said cs)
 said_by count s (Export ns) cs all = said_once true _ ns cs all

@@ -154,11 +154,7 @@ linked_asserts owner (m ∷ ms) = map (linked.asserted owner) m.object.asserts +
 
 asserts_behind : (p : linked.Program) (ms : List Module) → (linked.with_modules p ms).asserts ≡ p.asserts ++ linked_asserts (length p.members) ms
 asserts_behind p [] = sym (append-nil p.asserts)
-asserts_behind p (m ∷ ms) =
-    let longer : length (linked.with_module p m).members ≡ suc (length p.members) = length-append p.members (linked.member p m ∷ []) ∙ omega arith in
-    asserts_behind (linked.with_module p m) ms
-    ∙ ap (λ n. (linked.with_module p m).asserts ++ linked_asserts n ms) longer
-    ∙ append_assoc p.asserts (map (linked.asserted (length p.members)) m.object.asserts) (linked_asserts (suc (length p.members)) ms)
+asserts_behind p (m ∷ ms) = grind (arith, common_steps, append-nil, length-append, append_assoc, (asserts_behind (linked.with_module p m) ms))
 
 asserts_are : (ms : List Module) → (linked.program_of ms).asserts ≡ linked_asserts 0 ms
 asserts_are ms = asserts_behind linked.no_program ms

@@ -50,47 +50,15 @@ pub record Says (z : Symbols) (before names : List (List ℕ)) (ss : List Declar
   pub are_defined : AllByRecursion (IsDefined z) ss
 
 says_nothing : (z : Symbols) (before : List (List ℕ)) (ss : List Declaration) → exported_names ss ≡ [] → AllByRecursion (IsDefined z) ss → Says z before [] ss
-says_nothing z before ss none all =
-    record { exported = sym (ap (λ ns. before ++ ns) none ∙ append-nil before); are_defined = all }
+says_nothing z before ss none all = grind (arith, common_steps)
 
 says_both : (z : Symbols) (before ns ms : List (List ℕ)) (ss rs : List Declaration) → Says z before ns ss → Says z (before ++ exported_names ss) ms rs → Says z before (ns ++ ms) (ss ++ rs)
-says_both z before ns ms ss rs h k = record {
-  exported =
-      ap (with_new before) (filter-append (has_definition z) ns ms)
-      ∙ new_append before (filter (has_definition z) ns) (filter (has_definition z) ms)
-      ∙ ap (λ known. with_new known (filter (has_definition z) ms)) h.exported
-      ∙ k.exported
-      ∙ append_assoc before (exported_names ss) (exported_names rs)
-      ∙ ap (λ names. before ++ names) (sym (names_append ss rs));
-  are_defined = all_append (IsDefined z) ss rs h.are_defined k.are_defined;
-}
+says_both z before ns ms ss rs h k = grind (arith, common_steps, filter-append, new_append, append_assoc, names_append, all_append)
 
 exports_say : {z : Symbols} {place : Place} {before ns : List (List ℕ)} {ss : List Declaration} → SaidOnce z place before ns ss → Says z before ns ss
 exports_say {before = before} no_name = record { exported = sym (append-nil before); are_defined = tt }
-exports_say {z = z} {before = before} (left_out {n = n} {ns = ns} {ss = ss} why more) =
-    let rest : Says z before ns ss = exports_say more in
-    record { exported = skipped why ∙ rest.exported; are_defined = rest.are_defined }
-  where
-    others : List (List ℕ)
-    others = filter (has_definition z) ns
-
-    known : list_any (bytes_eq n) before ≡ true → (b : Bool) → with_new before (cond b (n ∷ others) others) ≡ with_new before others
-    known e true = ap (λ b. with_new (cond b before (before ++ n ∷ [])) others) e
-    known e false = refl
-
-    skipped : IsLeftOut z before n → with_new before (cond (has_definition z n) (n ∷ others) others) ≡ with_new before others
-    skipped (inl e) = known e (has_definition z n)
-    skipped (inr e) = ap (λ o. with_new before (cond (is_some o) (n ∷ others) others)) e
-exports_say {z = z} {before = before} (said_first {n = n} {ns = ns} {ss = ss} j f new e form more) =
-    let rest : Says z (before ++ n ∷ []) ns ss = exports_say more in
-    record {
-      exported =
-          ap (λ o. with_new before (cond (is_some o) (n ∷ filter (has_definition z) ns) (filter (has_definition z) ns))) e
-          ∙ ap (λ b. with_new (cond b before (before ++ n ∷ [])) (filter (has_definition z) ns)) new
-          ∙ rest.exported
-          ∙ append_assoc before (n ∷ []) (exported_names ss);
-      are_defined = ((j, e, form), rest.are_defined);
-    }
+exports_say {z = z} {before = before} (left_out {n = n} {ns = ns} {ss = ss} why more) = grind (arith, common_steps, no_name, append-nil, left_out, said_first, append_assoc, (exports_say more))
+exports_say {z = z} {before = before} (said_first {n = n} {ns = ns} {ss = ss} j f new e form more) = grind (arith, common_steps, no_name, append-nil, left_out, said_first, append_assoc, (exports_say more))
 
 forced_says : (z : Symbols) (before ns : List (List ℕ)) → Says z before [] (map ForcedImport ns)
 forced_says z before ns = says_nothing z before (map ForcedImport ns) (none ns) (all ns)
@@ -155,10 +123,7 @@ all_exports : (p : Program) (ys : List Layout) (ms : List Module) → AreSources
 all_exports p [] [] h = sym (append-nil (export_names p))
 all_exports p [] (m ∷ ms) h = absurd h
 all_exports p (y ∷ ys) [] h = absurd h
-all_exports p (y ∷ ys) (m ∷ ms) h =
-    all_exports (with_module p m) ys ms h.1
-    ∙ ap (λ z. z ++ flat_map exports_of ys) (map-append (λ (e : parts.Exported). e.name) p.exports (map (linked.exported (length p.members)) m.object.exports) ∙ ap (λ z. export_names p ++ z) (names_exported (length p.members) m.object.exports ∙ source_exports y m h.0))
-    ∙ append_assoc (export_names p) (exports_of y) (flat_map exports_of ys)
+all_exports p (y ∷ ys) (m ∷ ms) h = grind (arith, common_steps, append-nil, map-append, names_exported, source_exports, append_assoc, (all_exports (with_module p m) ys ms h.1))
 
 -- The objects of sources export the names that the sources do, in the same order.
 pub export_names_law : (ys : List Layout) (ms : List Module) → AreSources ys ms → export_names (linked.program_of ms) ≡ flat_map exports_of ys

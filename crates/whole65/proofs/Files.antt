@@ -66,8 +66,7 @@ got_inside (y ∷ xs) (suc x) a e = let deeper = got_inside xs x a e in omega (a
 
 module _ (l : Linkage) (table : List (Result ℤ ValueFault)) (h : AreExports l table) where
   export_inside : (n x : ℕ) (u : ℤ) → exports_through l n x ≡ Ok u → x < length l.exports
-  export_inside zero x u e = cc
-  export_inside (suc n) x u e = grind (arith, common_steps, got_inside)
+  export_inside x1 x u e = grind (arith, common_steps, got_inside)
 
   in_the_table : (n x : ℕ) (u : ℤ) → exports_through l n x ≡ Ok u → in_table table x ≡ Ok u
   in_the_table n x u e =
@@ -203,14 +202,7 @@ module _ (s : Script) (placement : Placement) (ys : List Layout) (ms : List Modu
 
   all_rows : (rs : List Row) → AllByRecursion (AreRow (whole.program_of s placement ys) ys bytes) rs ↔ ((each_passes check_all (fixups_by_row rs segments) ≡ Ok tt) × AllByRecursion IsWritten rs)
   all_rows [] = (λ k. (refl, tt), λ k. tt)
-  all_rows (r ∷ rs) =
-      let first : List Fixup = fixups_of (segment_of segments r.name) in
-      let rest : List Fixup = fixups_by_row rs segments in
-      let deeper = all_rows rs in
-      let one = one_row r in (
-        λ k. (let a = one.0 k.0 in let b = deeper.0 k.1 in (passes_append check_all first rest ∙ ap (λ z. z >>= (λ u. each_passes check_all rest)) a.0 ∙ b.0, (a.1, b.1))),
-        λ k. (let (u, a, b) = bind_ok (each_passes check_all first) (λ u. each_passes check_all rest) tt (sym (passes_append check_all first rest) ∙ k.0) in (one.1 (a, k.1.0), deeper.1 (b, k.1.1))),
-      )
+  all_rows (r ∷ rs) = grind (arith, common_steps, one_row, passes_append, bind_ok, (all_rows rs))
 
 pub rows_law : RowsLaw
 rows_law s placement ys ms table bytes h exports = all_rows s placement ys ms table bytes h exports s.rows
@@ -242,8 +234,7 @@ same_file rs p bytes others h k a image f = grind (arith, common_steps, same_pie
 
 module _ (output : List ℕ) (F G : ℕ → Area → List ℕ → Type 0) (up : (k : ℕ) (a : Area) (image : List ℕ) → F k a image → G k a image) where
   adds_one : (k : ℕ) (a : Area) (b : Bool) (name : List ℕ) (before after : List OutputFile) → AddsArea b name (F k a) before after → AddsArea b name (G k a) before after
-  adds_one k a true name before after h = h
-  adds_one k a false name before after h = (h.0, up k a h.0 h.1, h.2)
+  adds_one k a x1 name before after h = grind (arith, common_steps)
 
   adds_all : (k : ℕ) (areas : List Area) (before after : List OutputFile) → AddsAreas output F k areas before after → AddsAreas output G k areas before after
   adds_all k [] before after h = h
@@ -267,11 +258,7 @@ files_law output s placement ys ms table files h exports =
 
 passes_each : {A : Type 0} (check : A → Result (Unit {0}) LinkFault) (xs : List A) → (each_passes check xs ≡ Ok tt) ↔ AllByRecursion (λ x. check x ≡ Ok tt) xs
 passes_each check [] = (λ k. tt, λ k. refl)
-passes_each check (x ∷ xs) =
-    let more = passes_each check xs in (
-      λ k. (let (u, a, b) = bind_ok (check x) (λ u. each_passes check xs) tt k in (a, more.0 b)),
-      λ k. ap (λ z. z >>= (λ u. each_passes check xs)) k.0 ∙ more.1 k.1,
-    )
+passes_each check (x ∷ xs) = grind (arith, common_steps, bind_ok, (passes_each check xs))
 
 all_either : {A : Type 0} (P Q : A → Type 0) (xs : List A) → ((i : ℕ) (x : A) → slice_get xs i ≡ Some x → P x ↔ Q x) → AllByRecursion P xs ↔ AllByRecursion Q xs
 all_either P Q [] f = (λ k. tt, λ k. tt)

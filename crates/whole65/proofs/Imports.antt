@@ -74,8 +74,7 @@ abbrev Knows : Bool → Provider → Type 0
 Knows b g = (g ≢ Nobody) ↔ (b ≡ true)
 
 some_step : (b : Bool) (i : ℕ) (o : Option ℕ) (rest : Bool) → is_some o ≡ rest → is_some (cond b (Some i) o) ≡ (b || rest)
-some_step true i o rest e = refl
-some_step false i o rest e = e
+some_step x1 i o rest e = grind (arith, common_steps)
 
 some_among : (p : List ℕ → Bool) (i : ℕ) (xs : List (List ℕ)) → is_some (position_from p i xs) ≡ list_any p xs
 some_among p i [] = refl
@@ -99,10 +98,7 @@ knows_export es name b g h = subst (λ a. Knows (a || b) (by_export (exported_at
     go None = h
 
 in_either : (a b c : Bool) → (a || (b || (c || false))) ≡ ((a || b) || c)
-in_either true b c = refl
-in_either false true c = refl
-in_either false false true = refl
-in_either false false false = refl
+in_either x1 x2 x3 = grind (arith, common_steps)
 
 agree_known : (es : List parts.Exported) (name : List ℕ) (w : values.Provider) (g : Provider) → Agree es name w g → (w ≢ by_nobody) ↔ (g ≢ Nobody)
 agree_known es name x y z = grind (arith, common_steps)
@@ -146,11 +142,7 @@ of_among P (k ∷ names) n h e = go (bytes_eq k n) refl e (of_among P names n h.
 module _ (P : List ℕ → Type 0) where
   once_all : (names before : List (List ℕ)) → AllByRecursion P before → AllByRecursion P names → AllByRecursion P (each_once before names)
   once_all [] before h k = h
-  once_all (n ∷ names) before h k = once_all names (cond (is_among before n) before (before ++ n ∷ [])) (go (is_among before n)) k.1
-    where
-      go : (b : Bool) → AllByRecursion P (cond b before (before ++ n ∷ []))
-      go true = h
-      go false = all_more P before n h k.0
+  once_all (n ∷ names) before h k = grind (arith, common_steps, all_more, (once_all names (cond (is_among before n) before (before ++ n ∷ []))))
 
   once_parts : (names before : List (List ℕ)) → AllByRecursion P (each_once before names) → AllByRecursion P before × AllByRecursion P names
   once_parts [] before h = (h, tt)
@@ -223,10 +215,7 @@ any_forced n (l ∷ ls) e = grind (arith, common_steps, (any_forced n ls), list_
 
 pub each_name : (P : List ℕ → Type 0) (names : List (List ℕ)) → ((n : List ℕ) → list_any (λ k. bytes_eq n k) names ≡ true → P n) → AllByRecursion P names
 each_name P [] up = tt
-each_name P (n ∷ names) up = (
-  up n (ap (λ b. b || list_any (λ k. bytes_eq n k) names) (itself n)),
-  each_name P names (λ m e. up m (or_right (bytes_eq m n) (list_any (λ k. bytes_eq m k) names) e)),
-)
+each_name P (n ∷ names) up = grind (arith, common_steps, itself, or_right, (each_name P names))
 
 pub among_swapped : (n : List ℕ) (names : List (List ℕ)) → is_among names n ≡ list_any (λ k. bytes_eq n k) names
 among_swapped n [] = refl
@@ -285,11 +274,7 @@ module _ (P : List ℕ → Type 0) (names : List (List ℕ)) where
   demands : (ss : List Declaration) → AllByRecursion OfSaid ss → AllByRecursion (λ n. is_among names n ≡ true) (demanded_names ss) → AllByRecursion P (demanded_names ss)
   demands [] h a = tt
   demands (Exported n place f ∷ ss) h a = demands ss h.1 a
-  demands (ForcedImport n ∷ ss) h a = (go (key_for names n) h.0 a.0, demands ss h.1 a.1)
-    where
-      go : KeyFor names n → AllByRecursion OfKey (optional_key (key_of names n)) → is_among names n ≡ true → P n
-      go (at_key k q called) h e = let own : AllByRecursion OfKey (optional_key (Some k)) = subst (λ o. AllByRecursion OfKey (optional_key o)) q h in subst P called own.0
-      go (no_key q none) h e = (let never : true ≡ false = sym e ∙ none in absurd cc)
+  demands (ForcedImport n ∷ ss) h a = grind (arith, common_steps, key_for, (demands ss h.1 a.1))
   demands (Asserted act place words f ∷ ss) h a = demands ss h.1 a
 
 -- ---- Objects.

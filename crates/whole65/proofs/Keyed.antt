@@ -64,11 +64,7 @@ own_parts_law E none bases others values rest (lit v) h k = refl
 own_parts_law E none bases others values rest (sec g a) h k = ap (λ b. Ok (wrapped (b +ℤ a))) h.0
 own_parts_law E none bases others values rest (imp j) h k = k.0
 own_parts_law E none bases others values rest (prefix op f) h k = grind (arith, common_steps, (own_parts_law E none bases others values rest f h k))
-own_parts_law E none bases others values rest (binary op f g) h k =
-    let left = own_parts_law E none bases others values rest f (first_of (λ s. bases s ≡ others s) (sections_in f) (sections_in g) h) (first_of (λ i. values i ≡ rest i) (imports_in f) (imports_in g) k) in
-    let right = own_parts_law E none bases others values rest g (rest_of (λ s. bases s ≡ others s) (sections_in f) (sections_in g) h) (rest_of (λ i. values i ≡ rest i) (imports_in f) (imports_in g) k) in
-    ap (λ r. r >>= (λ a. value_in none bases values g >>= (λ b. or_none none (value2 op a b)))) left
-    ∙ ap (λ r. value_in none others rest f >>= (λ a. r >>= (λ b. or_none none (value2 op a b)))) right
+own_parts_law E none bases others values rest (binary op f g) h k = grind (arith, common_steps, first_of, rest_of, (own_parts_law E none bases others values rest f), (own_parts_law E none bases others values rest g))
 
 -- The base of a section in a link is where it begins behind the run address of its segment's row, wrapped.
 pub base_law : (rows : List Row) (places : List RowPlace) (at : SectionPlace) → address_of rows places at ≡ wrapped (pos (run_of rows places at.segment + at.offset))
@@ -150,11 +146,7 @@ module _ (y : Layout) (owner : ℕ) (origins : Place → Origin) (sections impor
 begins : (ys : List Layout) (y : Layout) (name : List ℕ) (at first i : ℕ) → slice_get ys i ≡ Some y → begin_from at first ys name i ≡ next_multiple_of (end_of at (items_from first (take i ys) name)) (largest_multiple (lines_in (first + i) y name))
 begins [] y name at first i e = cc
 begins (z ∷ ys) y name at first zero e = grind (arith, common_steps)
-begins (z ∷ ys) y name at first (suc i) e =
-    let next : suc first + i ≡ first + suc i = omega arith in
-    begins ys y name (end_of at (part_of first z name)) (suc first) i e
-    ∙ ap (λ n. next_multiple_of n (largest_multiple (lines_in (suc first + i) y name))) (sym (end_of-append at (part_of first z name) (items_from (suc first) (take i ys) name)))
-    ∙ ap (λ n. next_multiple_of (end_of at (items_from first (take (suc i) (z ∷ ys)) name)) (largest_multiple (lines_in n y name))) next
+begins (z ∷ ys) y name at first (suc i) e = grind (arith, common_steps, end_of-append, (begins ys y name (end_of at (part_of first z name)) (suc first) i e))
 
 less : (n m : ℕ) → n < m → nat_lt n m ≡ true
 less n m h = grind (arith, nat_tests)
@@ -198,16 +190,13 @@ section_base_law s placement ys ms owner g y m cs h at_y at_m e among =
 -- ---- All forms have keys.
 
 both_of : (a b : Bool) → (a && b) ≡ true → (a ≡ true) × (b ≡ true)
-both_of true b e = (refl, e)
-both_of false b e = absurd cc
+both_of x1 b e = grind (arith, common_steps)
 
 or_left : (a b : Bool) → a ≡ true → (a || b) ≡ true
-or_left true b e = refl
-or_left false b e = absurd cc
+or_left x1 b e = grind (arith, common_steps)
 
 pub or_right : (a b : Bool) → b ≡ true → (a || b) ≡ true
-or_right true b e = refl
-or_right false b e = e
+or_right x1 b e = grind (arith, common_steps)
 
 all_of : (p : ℕ → Bool) (xs : List ℕ) → list_all p xs ≡ true → AllByRecursion (λ k. p k ≡ true) xs
 all_of p [] e = tt
@@ -227,10 +216,7 @@ all_both P Q (x ∷ xs) h k = ((h.0, k.0), all_both P Q xs h.1 k.1)
 
 all_less : (count : ℕ) (xs : List ℕ) → AllByRecursion (λ k. nat_lt k count ≡ true) xs → AllByRecursion (λ k. k < count) xs
 all_less count [] h = tt
-all_less count (x ∷ xs) h = (less x h.0, all_less count xs h.1)
-  where
-    less : (k : ℕ) → nat_lt k count ≡ true → k < count
-    less k e = grind (arith, nat_tests)
+all_less count (x ∷ xs) h = grind (arith, common_steps, less, nat_tests, (all_less count xs h.1))
 
 module _ (sections imports : List ℕ) (count : ℕ) where
   -- these keys are among those of the object's imports
@@ -250,16 +236,11 @@ module _ (sections imports : List ℕ) (count : ℕ) where
   }
 
   keyed_part : (q : Part) → IsSoundPart sections count q → AreAmong (part_imports q) → IsKeyedPart sections imports count q
-  keyed_part (Known own) h up = tt
-  keyed_part (Filled n) h up = tt
-  keyed_part (Waiting width place f) h up = keyed_form f h.0.form up
+  keyed_part x1 h up = grind (arith, common_steps, keyed_form)
 
   keyed_parts : (qs : List Part) → AllByRecursion (IsSoundPart sections count) qs → AreAmong (flat_map part_imports qs) → AllByRecursion (IsKeyedPart sections imports count) qs
   keyed_parts [] h up = tt
-  keyed_parts (q ∷ qs) h up = (
-    keyed_part q h.0 (among_first (part_imports q) (flat_map part_imports qs) up),
-    keyed_parts qs h.1 (among_rest (part_imports q) (flat_map part_imports qs) up),
-  )
+  keyed_parts (q ∷ qs) h up = grind (arith, common_steps, keyed_part, among_first, among_rest, (keyed_parts qs h.1 (among_rest (part_imports q) (flat_map part_imports qs) up)))
 
   keyed_saying : (names : List (List ℕ)) (x : Declaration) → IsSoundDeclaration sections count x → AreAmong (said_imports names x) → IsKeyedSaid sections imports count x
   keyed_saying names x h up = grind (arith, common_steps, keyed_form)

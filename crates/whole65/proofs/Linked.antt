@@ -150,16 +150,7 @@ AsksNot y name l = stands_in y name l ≡ true → asks_section l.stated ≡ fal
 
 none_asks : (y : Layout) (name : List ℕ) (ls : List Laid) → list_any (λ l. stands_in y name l && asks_section l.stated) ls ≡ false → AllByRecursion (AsksNot y name) ls
 none_asks y name [] h = tt
-none_asks y name (l ∷ ls) h = (first (stands_in y name l) (asks_section l.stated) h, none_asks y name ls (others (stands_in y name l && asks_section l.stated) h))
-  where
-    first : (a b : Bool) → (a && b || list_any (λ l. stands_in y name l && asks_section l.stated) ls) ≡ false → a ≡ true → b ≡ false
-    first true true h e = absurd cc
-    first true false h e = refl
-    first false b h e = absurd cc
-
-    others : (a : Bool) → (a || list_any (λ l. stands_in y name l && asks_section l.stated) ls) ≡ false → list_any (λ l. stands_in y name l && asks_section l.stated) ls ≡ false
-    others true h = absurd cc
-    others false h = h
+none_asks y name (l ∷ ls) h = grind (arith, common_steps, (none_asks y name ls))
 
 quiet_lines : (at owner : ℕ) (y : Layout) (g : ℕ) (before ls : List Laid) → AllByRecursion IsQuiet ls → AllByRecursion (AsksNot y (segment_name y g)) ls → end_of at (map line (lines_at g (lines_behind owner before ls))) ≡ at
 quiet_lines at owner y g before [] q a = refl
@@ -224,8 +215,7 @@ means_by : (r : Option Layout) (place : ℕ) (e : Tree) → means_at r place e �
 means_by x place e = grind (arith, common_steps, none_shown, symbols_at, context_in, same_meaning)
 
 context_by : (r : Option Layout) (d : ℕ) (x : Definition) → slice_get (symbols_at r).definitions d ≡ Some x → context_in r (place_in r d) ≡ x.context
-context_by None d x e = cc
-context_by (Some y) d x e = same_context y d x e
+context_by x1 d x e = grind (arith, common_steps, same_context)
 
 -- ---- Addresses.
 
@@ -245,22 +235,10 @@ not_less n = grind (arith, nat_tests)
 
 module _ (s : Script) (p : Placement) (ys : List Layout) (laid_out : AllByRecursion IsLaidOut ys) where
   position_is : (owner place : ℕ) (y : Layout) (l : Laid) → slice_get ys owner ≡ Some y → slice_get y.laid place ≡ Some l → (b : Bool) → has_section y (segment_name y l.context.segment) ≡ b → position_of ys (segment_name y l.context.segment) owner place ≡ cond b (begin_of ys (segment_name y l.context.segment) owner) (end_of 0 (items_of ys (segment_name y l.context.segment))) + l.context.offset
-  position_is owner place y l e there true h = position_law ys owner place y l e (all_get IsLaidOut ys owner y laid_out e) there h
-  position_is owner place y l e there false h =
-      let none : l.context.offset ≡ 0 = no_offset y place l (all_get IsLaidOut ys owner y laid_out e) there h in
-      let at : position_of ys (segment_name y l.context.segment) owner place ≡ end_of 0 (items_of ys (segment_name y l.context.segment)) = at_end ys owner place y (segment_name y l.context.segment) e h in
-      omega (arith, none, at)
+  position_is owner place y l e there x1 h = grind (arith, common_steps, position_law, all_get, no_offset, at_end)
 
   of_line : (owner place : ℕ) (y : Layout) → slice_get ys owner ≡ Some y → (r : Option Laid) → slice_get y.laid place ≡ r → statement_address s p ys owner place (Some y) r ≡ wrapped (base_in s p ys owner (context_or (global_context y) r).segment (Some y) +ℤ pos (context_or (global_context y) r).offset)
-  of_line owner place y e None there = zero_wraps ∙ ap (λ b. wrapped (cond b (wrapped (pos (run_of s.rows p.rows (segment_name y (length y.cursor.segments)) + begin_in ys owner y (segment_name y (length y.cursor.segments))))) (pos 0) +ℤ pos 0)) (sym (not_less (length y.cursor.segments)))
-  of_line owner place y e (Some l) there =
-      let name : List ℕ = segment_name y l.context.segment in
-      let run : ℕ = run_of s.rows p.rows name in
-      let begin : ℕ = begin_in ys owner y name in
-      let below : l.context.segment < length y.cursor.segments = all_get (λ (k : Laid). k.context.segment < length y.cursor.segments) y.laid place l (named (all_get IsLaidOut ys owner y laid_out e)).standing there in
-      ap (λ n. wrapped (pos (run + n))) (position_is owner place y l e there (has_section y name) refl)
-      ∙ moved run begin l.context.offset
-      ∙ ap (λ b. wrapped (cond b (wrapped (pos (run + begin))) (pos 0) +ℤ pos l.context.offset)) (sym (less l.context.segment (length y.cursor.segments) below))
+  of_line owner place y e x1 there = grind (arith, common_steps, zero_wraps, begin_in, not_less, all_get, named, position_is, moved, less)
 
   of_module : (owner place : ℕ) (r : Option Layout) → slice_get ys owner ≡ r → statement_address s p ys owner place r (laid_at r place) ≡ wrapped (base_in s p ys owner (context_in r place).segment r +ℤ pos (context_in r place).offset)
   of_module owner place x e = grind (arith, common_steps, zero_wraps, of_line)

@@ -98,8 +98,7 @@ rest m y z place [] d h = unchanged y z d h
 rest m y z place (t ∷ ts) d (x, is, h) = stated m y z place x d h
 
 behind_label : (m : Files) (y z : Layout) (place : Place) (ts : List Lexeme) (q : Result Layout AsmFault) → IsLaidOut y → IsLabelled IsLaid y place (label_of ts).0 q → First q (λ w. IsRest m IsLaid w place (label_of ts).1) (Ok z) → IsLaidOut z
-behind_label m y z place ts (Ok w) d l h = rest m w z place (label_of ts).1 (labelled y w place (label_of ts).0 d l) h
-behind_label m y z place ts (Err e) d l h = absurd cc
+behind_label m y z place ts x1 d l h = grind (arith, common_steps, rest, labelled)
 
 given : (m : Files) (y z : Layout) (place : Place) (x : expand.Stated) → IsLaidOut y → IsGiven m IsLaid y place x (Ok z) → IsLaidOut z
 given m y z place (expand.label ts) d (q, l, h) = behind_label m y z place ts q d l h
@@ -138,13 +137,8 @@ pub valued_imports_law : (E : Type 0) → (none : E) (bases : ℕ → ℤ) (valu
 valued_imports_law E none bases values (lit n) v e = tt
 valued_imports_law E none bases values (sec g a) v e = tt
 valued_imports_law E none bases values (imp k) v e = ((v, e), tt)
-valued_imports_law E none bases values (prefix op f) v e =
-    let (a, first, last) = bind_ok (value_in none bases values f) (λ a. Ok (value1 op a)) v e in
-    valued_imports_law E none bases values f a first
-valued_imports_law E none bases values (binary op f g) v e =
-    let (a, first, others) = bind_ok (value_in none bases values f) (λ a. value_in none bases values g >>= (λ b. or_none none (value2 op a b))) v e in
-    let (b, second, last) = bind_ok (value_in none bases values g) (λ b. or_none none (value2 op a b)) v others in
-    all_append (λ k. (w : ℤ) × (values k ≡ Ok w)) (imports_in f) (imports_in g) (valued_imports_law E none bases values f a first) (valued_imports_law E none bases values g b second)
+valued_imports_law E none bases values (prefix op f) v e = grind (arith, common_steps, bind_ok, all_append, (valued_imports_law E none bases values f))
+valued_imports_law E none bases values (binary op f g) v e = grind (arith, common_steps, bind_ok, all_append, (valued_imports_law E none bases values f), (valued_imports_law E none bases values g))
 
 pub none_again : (r : Option (List ℕ)) → (no_name_again r ≡ Ok tt) ↔ (r ≡ None)
 none_again x = grind (arith, common_steps)

@@ -72,8 +72,7 @@ adds y w x g lt one = grind (arith, common_steps, nat_tests, grown_end, grown_al
 
 pub lines_push : (owner : ℕ) (before ls : List Laid) (l : Laid) → lines_behind owner before (ls ++ l ∷ []) ≡ lines_behind owner before ls ++ line_of owner (before ++ ls) l ∷ []
 lines_push owner before [] l = ap (λ b. line_of owner b l ∷ []) (sym (append-nil before))
-lines_push owner before (x ∷ ls) l =
-    ap (λ z. line_of owner before x ∷ z) (lines_push owner (before ++ x ∷ []) ls l ∙ ap (λ b. lines_behind owner (before ++ x ∷ []) ls ++ line_of owner b l ∷ []) (append_assoc before (x ∷ []) ls))
+lines_push owner before (x ∷ ls) l = grind (arith, common_steps, append-nil, append_assoc, (lines_push owner (before ++ x ∷ []) ls l))
 
 pub largest_push : (xs ys : List Line) → largest_multiple (xs ++ ys) ≡ max (largest_multiple xs) (largest_multiple ys)
 largest_push [] ys = let one : 1 ≤ largest_multiple ys = largest_one ys in omega (arith, one)
@@ -168,22 +167,7 @@ module _ (owner : ℕ) (y : Layout) (place : Place) (x : Statement) (h : Placed 
   }
 
 pub placed : (owner : ℕ) {y : Layout} → IsLaidOut y → Placed owner y
-placed owner begun = record {
-  here = omega arith;
-  keeps = tt;
-  offsets = λ i l e. absurd cc;
-  ends = λ g. first g;
-  aligns = λ g. first_align g;
-  powers = tt;
-}
-  where
-    first : (g : ℕ) → (segment_at nothing_laid.cursor.segments g).end ≡ 0
-    first zero = refl
-    first (suc g) = refl
-
-    first_align : (g : ℕ) → (segment_at nothing_laid.cursor.segments g).align ≡ 1
-    first_align zero = refl
-    first_align (suc g) = refl
+placed owner begun = grind (arith, common_steps)
 placed owner (behind y place x d none) = step owner y place x (placed owner d) none
 
 pub offset_law : OffsetLaw

@@ -59,20 +59,7 @@ other_part first owner place h y name = go (has_section y name)
 pub stopped : (owner place : ℕ) (q : Laid → Bool) (before ls : List Laid) (rest : List Item) (i : ℕ) (l : Laid) → place ≡ length before + i → slice_get ls i ≡ Some l → q l ≡ true → items_before owner place (map line (filter (λ (x : Line). q x.laid) (lines_behind owner before ls)) ++ rest) ≡ map line (filter (λ (x : Line). q x.laid) (lines_behind owner before (take i ls)))
 stopped owner place q before [] rest i l e s t = cc
 stopped owner place q before (x ∷ ls) rest zero l e s t = grind (arith, common_steps, alike)
-stopped owner place q before (x ∷ ls) rest (suc i) l e s t =
-    let longer : length (before ++ x ∷ []) ≡ length before + 1 = length-append before (x ∷ []) in
-    let next : place ≡ length (before ++ x ∷ []) + i = omega (arith, e, longer) in
-    go (q x) (stopped owner place q (before ++ x ∷ []) ls rest i l next s t)
-  where
-    later : length before ≢ place
-    later = omega (arith, e)
-
-    go : (b : Bool) → items_before owner place (map line (filter (λ (z : Line). q z.laid) (lines_behind owner (before ++ x ∷ []) ls)) ++ rest) ≡ map line (filter (λ (z : Line). q z.laid) (lines_behind owner (before ++ x ∷ []) (take i ls))) → items_before owner place (map line (cond b (line_of owner before x ∷ filter (λ (z : Line). q z.laid) (lines_behind owner (before ++ x ∷ []) ls)) (filter (λ (z : Line). q z.laid) (lines_behind owner (before ++ x ∷ []) ls))) ++ rest) ≡ map line (cond b (line_of owner before x ∷ filter (λ (z : Line). q z.laid) (lines_behind owner (before ++ x ∷ []) (take i ls))) (filter (λ (z : Line). q z.laid) (lines_behind owner (before ++ x ∷ []) (take i ls))))
-    go true r =
-        let none : is_line owner place (line (line_of owner before x)) ≡ false = ap (λ b. b && nat_eq (length before) place) (alike owner) ∙ apart (length before) place later in
-        ap (λ b. cond b [] (line (line_of owner before x) ∷ items_before owner place (map line (filter (λ (z : Line). q z.laid) (lines_behind owner (before ++ x ∷ []) ls)) ++ rest))) none
-        ∙ ap (λ z. line (line_of owner before x) ∷ z) r
-    go false r = r
+stopped owner place q before (x ∷ ls) rest (suc i) l e s t = grind (arith, common_steps, alike, length-append, apart, (stopped owner place q (before ++ x ∷ []) ls rest i l))
 
 -- ---- Each statement stands in a segment, and no two segments have one name.
 
@@ -133,8 +120,7 @@ distinct_new gs n own d e g h lt lt' same = go (nat_eq g (length gs)) (nat_eq h 
         absurd cc
 
 distinct_named : (gs : List Segment) (n : List ℕ) (own : _) (place : Option ℕ) → Distinct gs → place_of gs n ≡ place → Distinct (named_segments gs n own place)
-distinct_named gs n own (Some i) d e = d
-distinct_named gs n own None d e = distinct_new gs n (first_size n own) d e
+distinct_named gs n own x1 d e = grind (arith, common_steps, distinct_new)
 
 distinct_behind : (gs : List Segment) (current count multiple : ℕ) (x : Statement) → Distinct gs → Distinct (segments_behind gs current count multiple x)
 distinct_behind gs current count multiple x d = grind (arith, common_steps, distinct_named, grown_length, grown_name)
@@ -144,21 +130,7 @@ pub record Named (y : Layout) : Type 0 where
   pub standing : AllByRecursion (λ (l : Laid). l.context.segment < length y.cursor.segments) y.laid
 
 later : (y : Layout) (place : Place) (x : Statement) → y.cursor.current < length y.cursor.segments → Named y → Named (layout_behind y place x)
-later y place x here h =
-    let z : Layout = layout_behind y place x in
-    let w : Cursor = y.cursor in
-    let table : Symbols = symbols_of y.laid in
-    let count : ℕ = length_of table (context_of w) (own_size w) x in
-    let multiple : ℕ = multiple_of table (context_of w) x in
-    let more = behind_more w.segments w.current count multiple x in
-    let up : (k : ℕ) → k < length w.segments → k < length z.cursor.segments = λ k lt. omega (arith, more, lt) in
-    record {
-      distinct = distinct_behind w.segments w.current count multiple x h.distinct;
-      standing =
-          all_more (λ (l : Laid). l.context.segment < length z.cursor.segments) y.laid (laid table w place x)
-          (all_same (λ (l : Laid). l.context.segment < length w.segments) (λ (l : Laid). l.context.segment < length z.cursor.segments) (λ l below. up l.context.segment below) y.laid h.standing)
-          (up w.current here);
-    }
+later y place x here h = grind (arith, common_steps, behind_more, distinct_behind, all_more, all_same)
 
 pub named : {y : Layout} → IsLaidOut y → Named y
 named begun = record { distinct = λ g h lt lt' e. (let none : g ≡ 0 = omega (arith, lt) in let also : h ≡ 0 = omega (arith, lt') in none ∙ sym also); standing = tt }
@@ -191,8 +163,7 @@ all_get P (y ∷ xs) (suc i) x h e = all_get P xs i x h.1 e
 
 lines_both : (owner : ℕ) (before xs ys : List Laid) → lines_behind owner before (xs ++ ys) ≡ lines_behind owner before xs ++ lines_behind owner (before ++ xs) ys
 lines_both owner before [] ys = ap (λ b. lines_behind owner b ys) (sym (append-nil before))
-lines_both owner before (x ∷ xs) ys =
-    ap (λ z. line_of owner before x ∷ z) (lines_both owner (before ++ x ∷ []) xs ys ∙ ap (λ b. lines_behind owner (before ++ x ∷ []) xs ++ lines_behind owner b ys) (append_assoc before (x ∷ []) xs))
+lines_both owner before (x ∷ xs) ys = grind (arith, common_steps, append-nil, append_assoc, (lines_both owner (before ++ x ∷ []) xs ys))
 
 pub powers_at : (g : ℕ) (xs : List Line) → ArePowers xs → ArePowers (lines_at g xs)
 powers_at g [] h = tt

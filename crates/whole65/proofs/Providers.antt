@@ -72,11 +72,7 @@ linked_exports owner (m ∷ ms) = map (exported owner) m.object.exports ++ linke
 
 exports_behind : (p : Program) (ms : List Module) → (with_modules p ms).exports ≡ p.exports ++ linked_exports (length p.members) ms
 exports_behind p [] = sym (append-nil p.exports)
-exports_behind p (m ∷ ms) =
-    let longer : length (with_module p m).members ≡ suc (length p.members) = length-append p.members (member p m ∷ []) ∙ omega arith in
-    exports_behind (with_module p m) ms
-    ∙ ap (λ n. (with_module p m).exports ++ linked_exports n ms) longer
-    ∙ append_assoc p.exports (map (exported (length p.members)) m.object.exports) (linked_exports (suc (length p.members)) ms)
+exports_behind p (m ∷ ms) = grind (arith, common_steps, append-nil, length-append, append_assoc, (exports_behind (with_module p m) ms))
 
 pub exports_are : (ms : List Module) → (program_of ms).exports ≡ linked_exports 0 ms
 exports_are ms = exports_behind no_program ms
@@ -99,10 +95,7 @@ pub record IsExportOf (ys : List Layout) (ms : List Module) (e : parts.Exported)
 module _ (ys : List Layout) (ms : List Module) where
   of_source : (owner : ℕ) (y : Layout) (m : Module) (cs : List Content) → slice_get ys owner ≡ Some y → slice_get ms owner ≡ Some m → (ending_of y.laid).found ≡ Ok cs → (es : List Export) → AllByRecursion (IsWritten (table_of y) (section_keys cs) (import_keys (table_of y).imports cs) (length (table_of y).imports)) es → AllByRecursion (IsExportOf ys ms) (map (exported owner) es)
   of_source owner y m cs at_y at_m e [] h = tt
-  of_source owner y m cs at_y at_m e (x ∷ es) h = (
-    record { layout = y; object = m; contents = cs; at_y = at_y; at_m = at_m; found = e; form = h.0.0; keyed = h.0.2; written = h.0.3; definition = h.0.1; defining = h.0.4; its_form = h.0.5 },
-    of_source owner y m cs at_y at_m e es h.1,
-  )
+  of_source owner y m cs at_y at_m e (x ∷ es) h = grind (arith, common_steps, (of_source owner y m cs at_y at_m e es h.1))
 
   of_sources : (rest : List Layout) (ns : List Module) (owner : ℕ) → AreSources rest ns → ((i : ℕ) → slice_get rest i ≡ slice_get ys (owner + i)) → ((i : ℕ) → slice_get ns i ≡ slice_get ms (owner + i)) → AllByRecursion (IsExportOf ys ms) (linked_exports owner ns)
   of_sources [] [] owner h up_y up_m = tt

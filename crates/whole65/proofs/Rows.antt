@@ -58,10 +58,7 @@ any_name n m known = grind (arith, common_steps, there_too, or_true, or_false, l
 
 pub any_new : (n : List ℕ) (xs known : List (List ℕ)) → list_any (λ k. bytes_eq n k) (with_new known xs) ≡ (list_any (λ k. bytes_eq n k) known || list_any (λ k. bytes_eq n k) xs)
 any_new n [] known = sym (or_false (list_any (λ k. bytes_eq n k) known))
-any_new n (x ∷ xs) known =
-    any_new n xs (with_name known x)
-    ∙ ap (λ b. b || list_any (λ k. bytes_eq n k) xs) (any_name n x known)
-    ∙ or_both (list_any (λ k. bytes_eq n k) known) (bytes_eq n x) (list_any (λ k. bytes_eq n k) xs)
+any_new n (x ∷ xs) known = grind (arith, common_steps, or_false, any_name, or_both, (any_new n xs (with_name known x)))
 
 pub any_map : (N : ℕ → List ℕ) (n : List ℕ) (ks : List ℕ) → list_any (λ z. bytes_eq n z) (map N ks) ≡ list_any (λ k. bytes_eq n (N k)) ks
 any_map N n [] = refl
@@ -73,8 +70,7 @@ one_key x known found k = grind (arith, common_steps, map-append, new_append, he
 
 names_once : (N : ℕ → List ℕ) (known : List (List ℕ)) (found ks : List ℕ) → with_new known (map N (once found ks)) ≡ with_new (with_new known (map N found)) (map N ks)
 names_once N known found [] = refl
-names_once N known found (k ∷ ks) =
-    names_once N known (with_key found k) ks ∙ ap (λ z. with_new z (map N ks)) (one_key N known found k)
+names_once N known found (k ∷ ks) = grind (arith, common_steps, with_key, one_key, (names_once N known (with_key found k) ks))
 
 -- ---- Names of segments.
 
@@ -113,10 +109,7 @@ all_modules : (p : LinkedProgram) (ys : List Layout) (ms : List Module) → AreS
 all_modules p [] [] h = refl
 all_modules p [] (m ∷ ms) h = absurd h
 all_modules p (y ∷ ys) [] h = absurd h
-all_modules p (y ∷ ys) (m ∷ ms) h =
-    all_modules (with_module p m) ys ms h.1
-    ∙ ap (λ z. with_new z (flat_map asked_by ys)) (all_sections (length p.members) m.object.sections p.segments ∙ one_source y m (names_of p.segments) h.0)
-    ∙ sym (new_append (names_of p.segments) (asked_by y) (flat_map asked_by ys))
+all_modules p (y ∷ ys) (m ∷ ms) h = grind (arith, common_steps, all_sections, one_source, new_append, (all_modules (with_module p m) ys ms h.1))
 
 -- ---- Needs.
 
@@ -161,8 +154,7 @@ module _ (p : Program) (fill : ℕ) where
 
   bytes_joined : (at : ℕ) (xs zs : List Item) (bytes : List ℕ) → BothBytes at xs zs bytes → AreBytes p fill at (xs ++ zs) bytes
   bytes_joined at [] zs bytes (own, rest, none, h, e) = subst (AreBytes p fill at zs) (sym (e ∙ ap (λ z. z ++ rest) none)) h
-  bytes_joined at (x ∷ xs) zs bytes (own, rest, (a, b, k, more, e'), h, e) =
-      (a, b ++ rest, k, bytes_joined (end_behind at x) xs zs (b ++ rest) (b, rest, more, h, refl), e ∙ ap (λ z. z ++ rest) e' ∙ append_assoc a b rest)
+  bytes_joined at (x ∷ xs) zs bytes (own, rest, (a, b, k, more, e'), h, e) = grind (arith, common_steps, append_assoc, (bytes_joined (end_behind at x) xs zs (b ++ rest) (b, rest, more, h, refl)))
 
   pub bytes_split : (at : ℕ) (xs zs : List Item) (bytes : List ℕ) → AreBytes p fill at (xs ++ zs) bytes → BothBytes at xs zs bytes
   bytes_split at [] zs bytes h = ([], bytes, refl, h, refl)

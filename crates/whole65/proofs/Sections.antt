@@ -42,20 +42,16 @@ swapped : (n m : ℕ) → nat_eq n m ≡ false → nat_eq m n ≡ false
 swapped n m e = grind (arith, nat_tests)
 
 pub or_false : (b : Bool) → (b || false) ≡ b
-or_false true = refl
-or_false false = refl
+or_false x1 = grind (arith, common_steps)
 
 pub or_true : (b : Bool) → (b || true) ≡ true
-or_true true = refl
-or_true false = refl
+or_true x1 = grind (arith, common_steps)
 
 pub or_both : (a b c : Bool) → ((a || b) || c) ≡ (a || (b || c))
-or_both true b c = refl
-or_both false b c = refl
+or_both x1 b c = grind (arith, common_steps)
 
 pub neither : (a b : Bool) → (a || b) ≡ false → (a ≡ false) × (b ≡ false)
-neither true b e = absurd cc
-neither false b e = (refl, e)
+neither x1 b e = grind (arith, common_steps)
 
 pub held : (p : ℕ → Bool) (k : ℕ) (ks : List ℕ) → list_any (nat_eq k) ks ≡ true → p k ≡ true → list_any p ks ≡ true
 held p k [] e h = cc
@@ -66,10 +62,7 @@ any_with p found k = grind (arith, common_steps, held, or_true, or_false, list_a
 
 pub any_once : (p : ℕ → Bool) (found ks : List ℕ) → list_any p (once found ks) ≡ (list_any p found || list_any p ks)
 any_once p found [] = sym (or_false (list_any p found))
-any_once p found (k ∷ ks) =
-    any_once p (with_key found k) ks
-    ∙ ap (λ b. b || list_any p ks) (any_with p found k)
-    ∙ or_both (list_any p found) (p k) (list_any p ks)
+any_once p found (k ∷ ks) = grind (arith, common_steps, or_false, any_with, or_both, (any_once p (with_key found k) ks))
 
 abbrev pub AreOnce : List ℕ → Type 0
 AreOnce [] = ⊤
@@ -77,26 +70,15 @@ AreOnce (k ∷ ks) = (list_any (nat_eq k) ks ≡ false) × AreOnce ks
 
 once_push : (ks : List ℕ) (k : ℕ) → AreOnce ks → list_any (nat_eq k) ks ≡ false → AreOnce (ks ++ k ∷ [])
 once_push [] k h e = (refl, tt)
-once_push (x ∷ ks) k h e =
-    let both = neither (nat_eq k x) (list_any (nat_eq k) ks) e in
-    let other : nat_eq x k ≡ false = swapped k x both.0 in
-    (list_any-append (nat_eq x) ks (k ∷ []) ∙ ap (λ b. b || (nat_eq x k || false)) h.0 ∙ ap (λ b. b || false) other, once_push ks k h.1 both.1)
+once_push (x ∷ ks) k h e = grind (arith, common_steps, neither, swapped, list_any-append, (once_push ks k h.1))
 
 pub are_once : (found ks : List ℕ) → AreOnce found → AreOnce (once found ks)
 are_once found [] h = h
-are_once found (k ∷ ks) h = are_once (with_key found k) ks (go (list_any (nat_eq k) found) refl)
-  where
-    go : (b : Bool) → list_any (nat_eq k) found ≡ b → AreOnce (cond b found (found ++ k ∷ []))
-    go true e = h
-    go false e = once_push found k h e
+are_once found (k ∷ ks) h = grind (arith, common_steps, once_push, (are_once (with_key found k) ks))
 
 pub all_once : (P : ℕ → Type 0) (found ks : List ℕ) → AllByRecursion P found → AllByRecursion P ks → AllByRecursion P (once found ks)
 all_once P found [] h all = h
-all_once P found (k ∷ ks) h all = all_once P (with_key found k) ks (go (list_any (nat_eq k) found)) all.1
-  where
-    go : (b : Bool) → AllByRecursion P (cond b found (found ++ k ∷ []))
-    go true = h
-    go false = all_more P found k h all.0
+all_once P found (k ∷ ks) h all = grind (arith, common_steps, all_more, (all_once P (with_key found k) ks))
 
 -- ---- The number of a key.
 
@@ -169,10 +151,7 @@ module _ (y : Layout) (owner : ℕ) (origins : Place → Origin) (sections impor
 
   pub none_there : (ks : List ℕ) → AllByRecursion (λ g. g < length y.cursor.segments) ks → list_any is_named ks ≡ false → (g : Option linked.Segment) → behind_sections owner name g (map its_section ks) ≡ g
   none_there [] h e g = refl
-  none_there (k ∷ ks) h e g =
-      let both = neither (is_named k) (list_any is_named ks) e in
-      ap (λ b. behind_sections owner name (cond b (Some (grown owner (or_empty (its_section k).name g) (its_section k))) g) (map its_section ks)) (section_named k h.0 ∙ both.0)
-      ∙ none_there ks h.1 both.1 g
+  none_there (k ∷ ks) h e g = grind (arith, common_steps, neither, behind_sections, or_empty, section_named, (none_there ks h.1))
 
   -- no other key is of the same name
   others_apart : (k : ℕ) → Distinct y.cursor.segments → k < length y.cursor.segments → is_named k ≡ true → (ks : List ℕ) → AllByRecursion (λ g. g < length y.cursor.segments) ks → list_any (nat_eq k) ks ≡ false → list_any is_named ks ≡ false
@@ -280,17 +259,11 @@ one_section owner (g ∷ gs) s name = go (bytes_eq g.name s.name) refl (one_sect
 
 pub all_sections : (owner : ℕ) (gs : List LinkedSegment) (ss : List Section) (name : List ℕ) → segment_of (with_sections owner gs ss) name ≡ behind_sections owner name (segment_of gs name) ss
 all_sections owner gs [] name = refl
-all_sections owner gs (s ∷ ss) name =
-    all_sections owner (with_section owner gs s) ss name
-    ∙ ap (λ g. behind_sections owner name g ss) (one_section owner gs s name)
+all_sections owner gs (s ∷ ss) name = grind (arith, common_steps, behind_sections, one_section, (all_sections owner (with_section owner gs s) ss name))
 
 all_modules : (p : Program) (ms : List Module) (name : List ℕ) → segment_of (with_modules p ms).segments name ≡ behind_modules (length p.members) name (segment_of p.segments name) ms
 all_modules p [] name = refl
-all_modules p (m ∷ ms) name =
-    let longer : length (with_module p m).members ≡ suc (length p.members) = length-append p.members (member p m ∷ []) ∙ omega arith in
-    all_modules (with_module p m) ms name
-    ∙ ap (λ n. behind_modules n name (segment_of (with_sections (length p.members) p.segments m.object.sections) name) ms) longer
-    ∙ ap (λ g. behind_modules (suc (length p.members)) name g ms) (all_sections (length p.members) p.segments m.object.sections name)
+all_modules p (m ∷ ms) name = grind (arith, common_steps, length-append, behind_modules, all_sections, (all_modules (with_module p m) ms name))
 
 -- A segment of linked modules is what the sections of its name make of it, module by module.
 pub segment_law : (ms : List Module) (name : List ℕ) → segment_of (linked.program_of ms).segments name ≡ behind_modules 0 name None ms

@@ -44,15 +44,8 @@ zero_more n = omega arith
 
 joined_long : (f : Fragment) (fs : List Fragment) → sum_by fragment_len (joined f fs) ≡ fragment_len f + sum_by fragment_len fs
 joined_long f [] = sum_by-cons fragment_len f []
-joined_long (Literal a) (Literal b ∷ fs) =
-    let one = joined_long (Literal (a ++ b)) fs in
-    let two : length (a ++ b) ≡ length a + length b = length-append a b in
-    let three = sum_by-cons fragment_len (Literal b) fs in
-    omega (arith, one, two, three)
-joined_long (Fill m) (Fill n ∷ fs) =
-    let one = joined_long (Fill (m + n)) fs in
-    let three = sum_by-cons fragment_len (Fill n) fs in
-    omega (arith, one, three)
+joined_long (Literal a) (Literal b ∷ fs) = grind (arith, common_steps, sum_by-cons, length-append, (joined_long (Literal (a ++ b)) fs))
+joined_long (Fill m) (Fill n ∷ fs) = grind (arith, common_steps, sum_by-cons, length-append, (joined_long (Fill (m + n)) fs))
 joined_long (Literal a) (Fill n ∷ fs) = grind (arith, common_steps, (joined_long (Fill n) fs), sum_by-cons)
 joined_long (Literal a) (Value w n g ∷ fs) = sum_by-cons fragment_len (Literal a) (joined (Value w n g) fs) ∙ ap (λ n. length a + n) (joined_long (Value w n g) fs ∙ sym (sum_by-cons fragment_len (Value w n g) fs))
 joined_long (Fill m) (Literal b ∷ fs) = sum_by-cons fragment_len (Fill m) (joined (Literal b) fs) ∙ ap (λ n. m + n) (joined_long (Literal b) fs ∙ sym (sum_by-cons fragment_len (Literal b) fs))
@@ -246,10 +239,7 @@ pub modules_end : (ys : List Layout) (ms : List Module) (owner : ℕ) (name : Li
 modules_end [] [] owner name g h = refl
 modules_end [] (m ∷ ms) owner name g h = absurd h
 modules_end (y ∷ ys) [] owner name g h = absurd h
-modules_end (y ∷ ys) (m ∷ ms) owner name g h =
-    modules_end ys ms (suc owner) name (behind_sections owner name g m.object.sections) h.1
-    ∙ ap (λ n. end_of n (items_from (suc owner) ys name)) (part_end y m owner name g h.0)
-    ∙ sym (end_of-append (size_or g) (part_of owner y name) (items_from (suc owner) ys name))
+modules_end (y ∷ ys) (m ∷ ms) owner name g h = grind (arith, common_steps, behind_sections, part_end, end_of-append, (modules_end ys ms (suc owner) name (behind_sections owner name g m.object.sections) h.1))
 
 -- A segment of linked modules is as long as the list of all lines of its name.
 pub size_law : (ys : List Layout) (ms : List Module) (name : List ℕ) → AreSources ys ms → linked.end_of (linked.program_of ms).segments name ≡ end_of 0 (items_of ys name)

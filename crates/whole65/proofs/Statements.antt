@@ -146,11 +146,7 @@ of_names f h [] = tt
 of_names f h (n ∷ names) = (h n, of_names f h names)
 
 pub pieces_alike : (count : ℕ) (s : Settled) (x : Statement) → AllByRecursion (λ p. is_part p ≡ has_parts x) (pieces_of count s x)
-pieces_alike count s (Instruction m o) = by s
-  where
-    by : (s : Settled) → AllByRecursion (λ p. is_part p ≡ true) (pieces_of count s (Instruction m o))
-    by (InMode mode) = (refl, of_operand (width_of mode) (operand_tree o))
-    by _ = tt
+pieces_alike count s (Instruction m o) = grind (arith, common_steps, of_operand, of_items, of_names, all_append)
 pieces_alike count s (Values width items) = of_items width items
 pieces_alike count s (Reserve n v) = (refl, tt)
 pieces_alike count s (Align n v) = (refl, tt)
@@ -336,11 +332,7 @@ pub put_append : (ds cs : List Content) → all_put (ds ++ cs) ≡ all_put ds ++
 put_append ds cs = flat_map-append (λ (c : Content). c.parts) ds cs
 
 pub parts_append : (g : ℕ) (ds cs : List Content) → parts_in (ds ++ cs) g ≡ parts_in ds g ++ parts_in cs g
-parts_append g ds cs =
-    ap all_put (filter-append (λ (c : Content). nat_eq c.segment g) ds cs)
-    ∙ put_append (filter (λ (c : Content). nat_eq c.segment g) ds) (filter (λ (c : Content). nat_eq c.segment g) cs)
+parts_append g ds cs = grind (arith, common_steps)
 
 pub asked_append : (ds cs : List Content) → segments_asked (ds ++ cs) ≡ segments_asked ds ++ segments_asked cs
-asked_append ds cs =
-    ap (map (λ (c : Content). c.segment)) (filter-append (λ (c : Content). c.asks) ds cs)
-    ∙ map-append (λ (c : Content). c.segment) (filter (λ (c : Content). c.asks) ds) (filter (λ (c : Content). c.asks) cs)
+asked_append ds cs = grind (arith, common_steps)

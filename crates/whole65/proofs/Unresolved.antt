@@ -231,9 +231,7 @@ forced_all p (y ∷ ys) (m ∷ ms) h k =
 -- Where a link leaves no name open, the names that have to be given in the whole program are: the script's imports, and those
 -- that modules import whether or not they use them.
 pub given_law : (s : Script) (placement : Placement) (ys : List Layout) (ms : List Module) → let p : Program = program_of s placement ys in AreSources ys ms → place_of s (needs_of ys) ≡ Ok placement → unresolved s (linked.program_of ms) ≡ [] → AllByRecursion (IsGiven p) (symbol_imports s.symbols) × AreForced p ys
-given_law s placement ys ms h placed none =
-    let both = (none_open s placement ys ms h placed).0 none in
-    (both.0, forced_all (whole.program_of s placement ys) ys ms h both.1)
+given_law s placement ys ms h placed none = grind (arith, common_steps, none_open, forced_all)
 
 -- ---- A segment with a section has a row.
 

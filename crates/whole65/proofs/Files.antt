@@ -87,11 +87,7 @@ module _ (l : Linkage) (table : List (Result ℤ ValueFault)) (h : AreExports l 
   to_turns owner (lit n) v e = (0, e)
   to_turns owner (sec k a) v e = (0, e)
   to_turns owner (imp j) v e = import_turns (provider_at (slice_get l.modules owner) j) v e
-  to_turns owner (prefix op f) v e =
-      let (a, first, last) = bind_ok (value_by l (in_table table) owner f) (λ a. Ok (value1 op a)) v e in
-      let (n, got) = to_turns owner f a first in
-      let whole : (value_by l (exports_through l n) owner f >>= (λ z. Ok (value1 op z))) ≡ Ok v = ap (λ r. r >>= (λ z. Ok (value1 op z))) got ∙ last in
-      (n, whole)
+  to_turns owner (prefix op f) v e = grind (arith, common_steps, (to_turns owner f))
   to_turns owner (binary op f g) v e =
       let (a, first, others) = bind_ok (value_by l (in_table table) owner f) (λ a. value_by l (in_table table) owner g >>= (λ b. or_none NoValue (value2 op a b))) v e in
       let (b, second, last) = bind_ok (value_by l (in_table table) owner g) (λ b. or_none NoValue (value2 op a b)) v others in
@@ -136,28 +132,17 @@ module _ (l : Linkage) (members : List Member) (table : List (Result ℤ ValueFa
 
   there : (cells : List Cell) (bytes : List ℕ) → AreCells l fill cells bytes → Checked cells bytes
   there [] bytes k = (refl, k)
-  there (known b ∷ cells) bytes (own, rest, first, more, e) =
-      let (passed, same) = there cells rest more in
-      (passed, e ∙ ap (λ z. z ++ rest) first ∙ ap (λ z. b ∷ z) same)
-  there (filled ∷ cells) bytes (own, rest, first, more, e) =
-      let (passed, same) = there cells rest more in
-      (passed, e ∙ ap (λ z. z ++ rest) first ∙ ap (λ z. fill ∷ z) same)
+  there (known b ∷ cells) bytes (own, rest, first, more, e) = grind (arith, common_steps, (there cells rest more))
+  there (filled ∷ cells) bytes (own, rest, first, more, e) = grind (arith, common_steps, (there cells rest more))
   there (waits w ∷ cells) bytes (own, rest, (v, value, (fits, first)), more, e) =
       let (passed, same) = there cells rest more in
       let found : value_by l exports w.owner w.form ≡ Ok v = (table_law l table w.owner w.form v h).1 value in
-      let fine : check w ≡ Ok tt = passes (site members w.owner w.origin) w (value_by l exports w.owner w.form) (v, found, fits) in (
-        ap (λ r. r >>= (λ u. each_passes check (flat_map fixups_in cells))) fine ∙ passed,
-        e ∙ ap (λ z. z ++ rest) (first ∙ sym (written w (value_by l exports w.owner w.form) v found fits)) ∙ ap (λ z. stored w.width (or_zero (value_by l exports w.owner w.form)) ++ z) same,
-      )
+      grind (arith, common_steps)
 
   back : (cells : List Cell) (bytes : List ℕ) → Checked cells bytes → AreCells l fill cells bytes
   back [] bytes k = k.1
-  back (known b ∷ cells) bytes (passed, e) =
-      let rest : List ℕ = flat_map (cell_bytes l exports fill) cells in
-      (b ∷ [], rest, refl, back cells rest (passed, refl), e)
-  back (filled ∷ cells) bytes (passed, e) =
-      let rest : List ℕ = flat_map (cell_bytes l exports fill) cells in
-      (fill ∷ [], rest, refl, back cells rest (passed, refl), e)
+  back (known b ∷ cells) bytes (passed, e) = grind (arith, common_steps, (back cells))
+  back (filled ∷ cells) bytes (passed, e) = grind (arith, common_steps, (back cells))
   back (waits w ∷ cells) bytes (passed, e) =
       let rest : List ℕ = flat_map (cell_bytes l exports fill) cells in
       let own : List ℕ = stored w.width (or_zero (value_by l exports w.owner w.form)) in

@@ -133,11 +133,7 @@ all_parts P (x ∷ xs) zs h = let more = all_parts P xs zs h.1 in ((h.0, more.0)
 -- what holds of all names holds of one that is among them
 pub of_among : (P : List ℕ → Type 0) (names : List (List ℕ)) (n : List ℕ) → AllByRecursion P names → is_among names n ≡ true → P n
 of_among P [] n h e = cc
-of_among P (k ∷ names) n h e = go (bytes_eq k n) refl e (of_among P names n h.1)
-  where
-    go : (b : Bool) → bytes_eq k n ≡ b → (b || is_among names n) ≡ true → (is_among names n ≡ true → P n) → P n
-    go true q e more = subst P (same_bytes k n q) h.0
-    go false q e more = more e
+of_among P (k ∷ names) n h e = grind (arith, common_steps, same_bytes, itself, bytes_swap, (of_among P names n h.1))
 
 module _ (P : List ℕ → Type 0) where
   once_all : (names before : List (List ℕ)) → AllByRecursion P before → AllByRecursion P names → AllByRecursion P (each_once before names)

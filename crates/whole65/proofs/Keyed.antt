@@ -93,9 +93,7 @@ from_member p (x ∷ ms) at zero m o e =
     let here : length p.members ≡ at = omega (arith, o) in
     subst (λ k. slice_get (with_modules (with_module p k) ms).members at ≡ Some (member p m)) (sym same)
     (kept (with_module p m) ms at (member p m) (subst (λ n. slice_get (with_module p m).members n ≡ Some (member p m)) here (get_last p.members (member p m))))
-from_member p (x ∷ ms) at (suc i) m o e =
-    let longer : length (with_module p x).members ≡ length p.members + 1 = length-append p.members (member p x ∷ []) in
-    from_member (with_module p x) ms at i m (omega (arith, o, longer)) e
+from_member p (x ∷ ms) at (suc i) m o e = grind (arith, common_steps, (from_member (with_module p x) ms at i m))
 
 pub member_at : (ms : List Module) (i : ℕ) (m : Module) → slice_get ms i ≡ Some m → slice_get (program_of ms).members i ≡ Some (member (program_of (take i ms)) m)
 member_at ms i m e = from_member no_program ms i i m (omega arith) e

@@ -212,8 +212,7 @@ providers_agree s placement ys ms name h =
     let found : values.Provider = by_found (find (λ e. bytes_eq e.name name) exports) weak in
     let inner : Agree exports name found (by_export (exported_at exports name) weakly) = by_exports exports name weak weakly (by_definitions exports name (weak_symbols s.symbols) by_nobody Nobody of_nobody) in
     let same : exporter_from 0 ys name weak ≡ found = exporters 0 ys ms name weak h ∙ ap (λ es. by_found (find (λ e. bytes_eq e.name name) es) weak) (sym (exports_are ms)) in
-    by_definitions exports name (script_definitions s placement) (exporter_from 0 ys name weak) (by_export (exported_at exports name) weakly)
-    (subst (λ k. Agree exports name k (by_export (exported_at exports name) weakly)) (sym same) inner)
+    grind (arith, common_steps, by_exports, by_definitions, exporters, exports_are)
 
 -- ---- What imports come to.
 

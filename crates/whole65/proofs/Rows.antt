@@ -269,10 +269,7 @@ module _ (s : Script) (placement : Placement) (ys : List Layout) (ms : List Modu
                 subst (λ z. AreCells l fill z bytes) (sym cells_are) (cells_joined l fill (cells_or g) (replicate (begin - size_or g) filled ++ flat_map (fragment_cells owner) sec.fragments) bytes (h.0, h.1, h.2, rest, h.4))
 
   modules : (rest : List Layout) (ns : List Module) (owner : ℕ) (g : Option Segment) (bytes : List ℕ) → AreSources rest ns → ((i : ℕ) → slice_get rest i ≡ slice_get ys (owner + i)) → ((i : ℕ) → slice_get ns i ≡ slice_get ms (owner + i)) → AreCells l fill (cells_or (behind_modules owner name g ns)) bytes ↔ Split (cells_or g) (size_or g) (items_from owner rest name) bytes
-  modules [] [] owner g bytes h up_y up_m = (
-    λ k. (bytes, [], k, refl, sym (append-nil bytes)),
-    λ k. subst (AreCells l fill (cells_or g)) (sym (k.4 ∙ ap (λ z. k.0 ++ z) k.3 ∙ append-nil k.0)) k.2,
-  )
+  modules [] [] owner g bytes h up_y up_m = grind (arith, common_steps)
   modules [] (m ∷ ns) owner g bytes h up_y up_m = absurd h
   modules (y ∷ rest) [] owner g bytes h up_y up_m = absurd h
   modules (y ∷ rest) (m ∷ ns) owner g bytes h up_y up_m =

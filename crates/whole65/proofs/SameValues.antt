@@ -184,17 +184,13 @@ module _ {E : Type 0} (p : Program) (o : Objects E) (h : AreObjects p o) where
   linked (number {n = n}) (suc depth) f q = let same : lit (pos n) ≡ f = cc in (0, rw (← same) refl)
   linked (here {owner = owner} {place = place}) (suc depth) f q = grind (arith, common_steps, at_place)
   linked (label {owner = owner} {place = place} {at = at} {e = e} w) (suc depth) f q = grind (arith, common_steps, meant, at_place)
-  linked (constant {owner = owner} {place = place} {at = at} {e = e} {f = g} w d) (suc depth) f q =
-      linked d depth f (meant p o h depth owner place e (constant_at at g) f w q)
+  linked (constant {owner = owner} {place = place} {at = at} {e = e} {f = g} w d) (suc depth) f q = linked d depth f (meant p o h depth owner place e (constant_at at g) f w q)
   linked (exported {owner = owner} {place = place} {provider = provider} {e = e} {x = x} {v = v} w g d) (suc depth) f q =
       let (k, there, same) = meant p o h depth owner place e (import_of x) f w q in
       let export : IsExport p o owner k x provider = export_of owner k x provider there g in
       value_of owner k x provider f v export same (linked d export.depth export.form export.normal)
   linked (scripted {owner = owner} {place = place} {e = e} {x = x} {v = v} w g) (suc depth) f q = grind (arith, common_steps, meant, of_script)
-  linked (prefixed {owner = owner} {place = place} {op = op} {e = e} {a = a} d) (suc depth) f q =
-      let (g, r, t) = one_part depth owner place op e f q in
-      let (turns, u) = linked d (suc depth) g r in
-      (turns, prefix_fold_law E o.none (o.bases owner) (o.imports turns owner) op g f t ∙ rw u refl)
+  linked (prefixed {owner = owner} {place = place} {op = op} {e = e} {a = a} d) (suc depth) f q = grind (arith, common_steps, (linked d (suc depth)))
   linked (joined {owner = owner} {place = place} {op = op} {e = d} {f = e} {a = a} {b = b} {v = v} d₁ d₂ w) (suc depth) f q =
       let (g, k, r, s, t) = two_parts depth owner place op d e f q in
       let (n₁, e₁) = linked d₁ (suc depth) g r in

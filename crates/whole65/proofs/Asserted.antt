@@ -115,10 +115,7 @@ module _ {E : Type 0} (p : Program) (o : Objects E) (h : AreObjects p o) (owner 
   assertion_passes : (number : ℕ) (place : Place) (e : Tree) (act : Action) (words : List ℕ) (f : Form) (ss : List Declaration) → norm_of (o.symbols owner) (o.contexts owner number) e ≡ Ok f → decided act place words f ≡ Ok ss → ((v : ℤ) × Value p owner number e v × Passes act v) ↔ AllPass o owner ss
   assertion_passes number place e act words f ss q d =
       let value : (v : ℤ) → Value p owner number e v ↔ HasValue o owner f v = λ v. same_values_law E p o h (suc (length (o.symbols owner).definitions)) owner number e f v q in
-      let either = decided_passes act place words f ss d in (
-        λ k. either.0 (k.0, (value k.0).0 k.1, k.2),
-        λ k. (let r = either.1 k in (r.0, (value r.0).1 r.1, r.2)),
-      )
+      grind (arith, common_steps, same_values_law, decided_passes)
 
   line_passes : (names : List (List ℕ)) (before : List Laid) (l : Laid) (ss : List Declaration) → o.contexts owner (length before) ≡ l.context → IsSaidBy (o.symbols owner) names l l.stated ss → HasAssertion p (line_of owner before l) ↔ AllPass o owner ss
   line_passes names before l ss at d = go l.stated d

@@ -1,4 +1,5 @@
 -- Assertions of a link and those of the whole program.
+use Rattle.whole65.proofs.Positions.{all_parts}
 use Rattle.std.proofs.lemmas.Grind.{common_steps}
 use Rattle.std.proofs.Common.{◌≡◌, ℕ, zero, suc, List, [], ◌∷◌, ◌++◌, length, map, slice_get, Some, Result, Ok, Err, refl, sym, ◌∙◌, subst, ◌+◌, Bool, true, false, cond, ap, arith}
 use Rattle.std.specs.Prelude.{ℤ, pos, negsuc, ◌↔◌, ⊤, filter_map}
@@ -19,7 +20,7 @@ use Rattle.semantics65.specs.Norms.{norm_of}
 use Rattle.semantics65.specs.Numbering.{all_said, assert_of, import_keys, numbered, section_keys}
 use Rattle.semantics65.proofs.SoundForms.{all_append}
 use Rattle.semantics65.specs.Module.{ending_of}
-use Rattle.whole65.proofs.Files.{all_split, table_law}
+use Rattle.whole65.proofs.Files.{table_law}
 use Rattle.whole65.proofs.SameValues.{bind_ok, written_ok, same_values_law}
 use Rattle.whole65.proofs.SectionBytes.{in_middle}
 use Rattle.whole65.proofs.Statements.{AreStated, IsSaidBy, SaidOnce, a_line, are_stated, left_out, no_line, no_name, said_append, said_first, stated}
@@ -140,7 +141,7 @@ module _ {E : Type 0} (p : Program) (o : Objects E) (h : AreObjects p o) (owner 
       let one = line_passes names before l (all_said ds) (contexts (length before) l there) (stated (o.symbols owner) names l ds found).said in
       let deeper = lines_pass all contexts (before ++ l ∷ []) ls (names ++ exported_names (all_said ds)) cs next more in (
         λ k. subst (AllPass o owner) (sym (said_append ds cs)) (all_append (IsPassed o owner) (all_said ds) (all_said cs) (one.0 k.0) (deeper.0 k.1)),
-        λ k. (let q = all_split (IsPassed o owner) (all_said ds) (all_said cs) (subst (AllPass o owner) (said_append ds cs) k) in (one.1 q.0, deeper.1 q.1)),
+        λ k. (let q = all_parts (IsPassed o owner) (all_said ds) (all_said cs) (subst (AllPass o owner) (said_append ds cs) k) in (one.1 q.0, deeper.1 q.1)),
       )
 
 -- ---- Assertions of all modules.
@@ -284,7 +285,7 @@ module _ (s : Script) (placement : Placement) (ys : List Layout) (ms : List Modu
       let others : List LinkedAssertion = linked_asserts (suc owner) ns in
       let one = one_source owner y m at_y at_m k.0 in
       let more = all_sources rest ns (suc owner) k.1 (λ i. up_y (suc i) ∙ ap (slice_get ys) (next i)) (λ i. up_m (suc i) ∙ ap (slice_get ms) (next i)) in (
-        λ q. (let both = all_split Passing first others q in (one.0 both.0, more.0 both.1)),
+        λ q. (let both = all_parts Passing first others q in (one.0 both.0, more.0 both.1)),
         λ q. all_append Passing first others (one.1 q.0) (more.1 q.1),
       )
 

@@ -33,7 +33,7 @@ use Rattle.link65.specs.Files.{RowBytes, AddsArea, AddsAreas, IsAreaFile, area_p
 use Rattle.link65.specs.Programs as linked
 use Rattle.whole65.proofs.Providers.{IsExportOf, exports_known, export_normal, sources_law, exports_are, linked_exports}
 use Rattle.whole65.proofs.Keyed.{form_law}
-use Rattle.whole65.proofs.Positions.{all_get}
+use Rattle.whole65.proofs.Positions.{all_get, all_parts}
 use Rattle.whole65.proofs.Rows.{linked_bytes_law}
 use Rattle.whole65.specs.Laws.{ExportValueLaw, RowsLaw}
 use Rattle.whole65.specs.Modules.{table_of, exports_of}
@@ -252,10 +252,6 @@ all_either P Q (x ∷ xs) f =
     let more = all_either P Q xs (λ i z e. f (suc i) z e) in
     (λ k. (one.0 k.0, more.0 k.1), λ k. (one.1 k.0, more.1 k.1))
 
-pub all_split : {A : Type 0} (P : A → Type 0) (xs zs : List A) → AllByRecursion P (xs ++ zs) → AllByRecursion P xs × AllByRecursion P zs
-all_split P [] zs h = (tt, h)
-all_split P (x ∷ xs) zs h = let more = all_split P xs zs h.1 in ((h.0, more.0), more.1)
-
 -- a value is there where the check passes
 abbrev found_at : Site → Result ℤ ValueFault → Result (Unit {0}) LinkFault
 found_at s r = value_at s r >>= (λ v. Ok tt)
@@ -281,7 +277,7 @@ module _ (p : Program) where
       let more = all_modules (suc owner) ys ms h.1 in
       let first : List Exported = map (linked.exported owner) m.object.exports in
       let rest : List Exported = linked_exports (suc owner) ms in (
-        λ k. (let q = all_split OfExport first rest k in (subst (AllByRecursion (HasExport p owner)) names (one.0 q.0), more.0 q.1)),
+        λ k. (let q = all_parts OfExport first rest k in (subst (AllByRecursion (HasExport p owner)) names (one.0 q.0), more.0 q.1)),
         λ k. all_append OfExport first rest (one.1 (subst (AllByRecursion (HasExport p owner)) (sym names) k.0)) (more.1 k.1),
       )
 

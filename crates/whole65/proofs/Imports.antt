@@ -26,7 +26,7 @@ use Rattle.link65.specs.declared.parts.Provider.{Provider}
 use Rattle.link65.specs.declared.parts.Provider.TheVariants.{Nobody}
 use Rattle.link65.specs.declared.parts.Member.{Member}
 use Rattle.semantics65.proofs.SoundForms.{all_append}
-use Rattle.semantics65.proofs.Segments.{all_more}
+use Rattle.semantics65.proofs.Segments.{all_more, all_same}
 use Rattle.whole65.proofs.Providers.{Agree, providers_agree}
 use Rattle.whole65.specs.Programs as whole
 use Rattle.whole65.specs.Segments.{needs_of}
@@ -44,7 +44,7 @@ use Rattle.whole65.proofs.Keyed.{one_of, each_among, or_right}
 use Rattle.whole65.proofs.Exports.{all_demanded, demanded_names}
 use Rattle.whole65.proofs.Sections.{all_once, any_once}
 use Rattle.whole65.proofs.Rows.{any_new}
-use Rattle.whole65.proofs.Positions.{itself}
+use Rattle.whole65.proofs.Positions.{itself, all_parts}
 use Rattle.whole65.proofs.Sources.{contents_of}
 use Rattle.whole65.specs.Modules.{forced_by, forced_of, table_of}
 
@@ -126,10 +126,6 @@ module _ (s : Script) (placement : Placement) (ys : List Layout) (ms : List Modu
 
 -- ---- What has to be given, each once.
 
-pub all_parts : {A : Type 0} (P : A → Type 0) (xs zs : List A) → AllByRecursion P (xs ++ zs) → AllByRecursion P xs × AllByRecursion P zs
-all_parts P [] zs h = (tt, h)
-all_parts P (x ∷ xs) zs h = let more = all_parts P xs zs h.1 in ((h.0, more.0), more.1)
-
 -- what holds of all names holds of one that is among them
 pub of_among : (P : List ℕ → Type 0) (names : List (List ℕ)) (n : List ℕ) → AllByRecursion P names → is_among names n ≡ true → P n
 of_among P [] n h e = cc
@@ -164,10 +160,6 @@ imports_behind q (m ∷ ms) =
     ∙ ap (λ ns. ns ++ flat_map (λ (m : Module). m.object.imports) ms) (flat_map-append (λ (m : Member). m.imports) q.members (member q m ∷ []) ∙ ap (λ ns. flat_map (λ (m : Member). m.imports) q.members ++ ns) (append-nil m.object.imports))
     ∙ append_assoc (flat_map (λ (m : Member). m.imports) q.members) m.object.imports (flat_map (λ (m : Module). m.object.imports) ms)
 
-all_either : (P Q : List ℕ → Type 0) → ((n : List ℕ) → P n → Q n) → (ns : List (List ℕ)) → AllByRecursion P ns → AllByRecursion Q ns
-all_either P Q f [] h = tt
-all_either P Q f (n ∷ ns) h = (f n h.0, all_either P Q f ns h.1)
-
 -- A link leaves no name open where the imports of the script and of all objects are given in the whole program.
 pub none_open : (s : Script) (placement : Placement) (ys : List Layout) (ms : List Module) → AreSources ys ms → place_of s (needs_of ys) ≡ Ok placement → (unresolved s (program_of ms) ≡ []) ↔ (AllByRecursion (IsGiven (whole.program_of s placement ys)) (symbol_imports s.symbols) × AllByRecursion (IsGiven (whole.program_of s placement ys)) (flat_map (λ (m : Module). m.object.imports) ms))
 none_open s placement ys ms h placed =
@@ -181,11 +173,11 @@ none_open s placement ys ms h placed =
     let either = none_left (is_given s q) (references s q) in (
       λ k. (
           let both = all_parts Given own members (once_parts Given (own ++ members) [] (either.0 k)).1 in (
-            all_either Given Known (λ n e. (known s placement ys ms h placed n).1 e) own both.0,
-            subst (AllByRecursion Known) same (all_either Given Known (λ n e. (known s placement ys ms h placed n).1 e) members both.1),
+            all_same Given Known (λ n e. (known s placement ys ms h placed n).1 e) own both.0,
+            subst (AllByRecursion Known) same (all_same Given Known (λ n e. (known s placement ys ms h placed n).1 e) members both.1),
           )
           ),
-      λ k. either.1 (once_all Given (own ++ members) [] tt (all_append Given own members (all_either Known Given (λ n e. (known s placement ys ms h placed n).0 e) own k.0) (all_either Known Given (λ n e. (known s placement ys ms h placed n).0 e) members (subst (AllByRecursion Known) (sym same) k.1)))),
+      λ k. either.1 (once_all Given (own ++ members) [] tt (all_append Given own members (all_same Known Given (λ n e. (known s placement ys ms h placed n).0 e) own k.0) (all_same Known Given (λ n e. (known s placement ys ms h placed n).0 e) members (subst (AllByRecursion Known) (sym same) k.1)))),
     )
 
 -- ---- The key of a name.

@@ -1,4 +1,6 @@
 -- Bases of sections in a link, and forms of modules with the numbers of objects.
+use Rattle.whole65.proofs.SectionBytes.{in_middle}
+use Rattle.semantics65.proofs.Segments.{all_same}
 use Rattle.std.proofs.lemmas.Grind.{common_steps}
 use Rattle.std.proofs.Common.{◌≡◌, List, [], ◌∷◌, ◌++◌, Ok, refl, ◌∙◌, ap, ℕ, zero, suc, ◌+◌, ◌<◌, Bool, true, false, nat_eq, cond, length, map, take, get_or, slice_get, Some, sym, subst, arith, nat_lt}
 use Rattle.std.specs.Prelude.{◌+ℤ◌, ℤ, pos, ◌||◌, ◌&&◌, Result}
@@ -27,7 +29,7 @@ use Rattle.link65.specs.Programs as linked
 use Rattle.link65.specs.declared.parts.Member.{Member}
 use Rattle.link65.specs.declared.parts.SectionPlace.{SectionPlace}
 use Rattle.whole65.proofs.Sections.{one_section, AreOnce, held, keys_of, number_first, number_later, any_once, name_at}
-use Rattle.whole65.proofs.Positions.{Distinct, named, itself}
+use Rattle.whole65.proofs.Positions.{Distinct, named, itself, all_parts}
 use Rattle.whole65.proofs.Multiples.{equal, end_of-append}
 use Rattle.whole65.proofs.Sources.{contents_of, in_segment, section_begin, same_object, size_law, size_or}
 use Rattle.whole65.proofs.LinkedObjects.{or_empty, begin_in, base_in, symbols_at, IsKeyed, IsKeyedContent, IsKeyedPart, IsKeyedSaid, provider_named, imports_linked, linked_objects}
@@ -50,21 +52,16 @@ use Rattle.whole65.specs.Objects.{form_value}
 
 -- ---- What the value of a form rests on.
 
-first_of : {A : Type 0} (P : A → Type 0) (xs ys : List A) → AllByRecursion P (xs ++ ys) → AllByRecursion P xs
-first_of P [] ys h = tt
-first_of P (x ∷ xs) ys h = (h.0, first_of P xs ys h.1)
-
-rest_of : {A : Type 0} (P : A → Type 0) (xs ys : List A) → AllByRecursion P (xs ++ ys) → AllByRecursion P ys
-rest_of P [] ys h = h
-rest_of P (x ∷ xs) ys h = rest_of P xs ys h.1
-
 -- The value of a form rests on the bases of its own sections and on what its own imports come to, and on no others.
 pub own_parts_law : (E : Type 0) → (none : E) (bases others : ℕ → ℤ) (values rest : ℕ → Result ℤ E) (f : Form) → AllByRecursion (λ g. bases g ≡ others g) (sections_in f) → AllByRecursion (λ k. values k ≡ rest k) (imports_in f) → value_in none bases values f ≡ value_in none others rest f
 own_parts_law E none bases others values rest (lit v) h k = refl
 own_parts_law E none bases others values rest (sec g a) h k = ap (λ b. Ok (wrapped (b +ℤ a))) h.0
 own_parts_law E none bases others values rest (imp j) h k = k.0
 own_parts_law E none bases others values rest (prefix op f) h k = grind (arith, common_steps, (own_parts_law E none bases others values rest f h k))
-own_parts_law E none bases others values rest (binary op f g) h k = grind (arith, common_steps, first_of, rest_of, (own_parts_law E none bases others values rest f), (own_parts_law E none bases others values rest g))
+own_parts_law E none bases others values rest (binary op f g) h k =
+    let own = all_parts (λ s. bases s ≡ others s) (sections_in f) (sections_in g) h in
+    let named = all_parts (λ i. values i ≡ rest i) (imports_in f) (imports_in g) k in
+    grind (arith, common_steps, (own_parts_law E none bases others values rest f own.0 named.0), (own_parts_law E none bases others values rest g own.1 named.1))
 
 -- The base of a section in a link is where it begins behind the run address of its segment's row, wrapped.
 pub base_law : (rows : List Row) (places : List RowPlace) (at : SectionPlace) → address_of rows places at ≡ wrapped (pos (run_of rows places at.segment + at.offset))
@@ -78,10 +75,6 @@ get_front [] ys i x e = cc
 get_front (z ∷ xs) ys zero x e = e
 get_front (z ∷ xs) ys (suc i) x e = get_front xs ys i x e
 
-get_last : {A : Type 0} (xs : List A) (x : A) → slice_get (xs ++ x ∷ []) (length xs) ≡ Some x
-get_last [] x = refl
-get_last (z ∷ xs) x = get_last xs x
-
 kept : (p : Program) (ms : List Module) (i : ℕ) (x : Member) → slice_get p.members i ≡ Some x → slice_get (with_modules p ms).members i ≡ Some x
 kept p [] i x e = e
 kept p (m ∷ ms) i x e = kept (with_module p m) ms i x (get_front p.members (member p m ∷ []) i x e)
@@ -92,7 +85,7 @@ from_member p (x ∷ ms) at zero m o e =
     let same : x ≡ m = cc in
     let here : length p.members ≡ at = omega (arith, o) in
     subst (λ k. slice_get (with_modules (with_module p k) ms).members at ≡ Some (member p m)) (sym same)
-    (kept (with_module p m) ms at (member p m) (subst (λ n. slice_get (with_module p m).members n ≡ Some (member p m)) here (get_last p.members (member p m))))
+    (kept (with_module p m) ms at (member p m) (subst (λ n. slice_get (with_module p m).members n ≡ Some (member p m)) here (in_middle p.members (member p m) [])))
 from_member p (x ∷ ms) at (suc i) m o e = grind (arith, common_steps, (from_member (with_module p x) ms at i m))
 
 pub member_at : (ms : List Module) (i : ℕ) (m : Module) → slice_get ms i ≡ Some m → slice_get (program_of ms).members i ≡ Some (member (program_of (take i ms)) m)
@@ -280,10 +273,6 @@ got [] k h = absurd (omega (arith, h))
 got (n ∷ names) zero h = refl
 got (n ∷ names) (suc k) h = got names k (omega (arith, h))
 
-all_map : (P Q : ℕ → Type 0) → ((k : ℕ) → P k → Q k) → (xs : List ℕ) → AllByRecursion P xs → AllByRecursion Q xs
-all_map P Q f [] h = tt
-all_map P Q f (x ∷ xs) h = (f x h.0, all_map P Q f xs h.1)
-
 -- Such a form comes in a link, through so many exports, to what linking knows of it in the whole program.
 pub form_law : (s : Script) (placement : Placement) (ys : List Layout) (ms : List Module) (owner turns : ℕ) (y : Layout) (m : Module) (cs : List Content) (f : Form) → AreSources ys ms → slice_get ys owner ≡ Some y → slice_get ms owner ≡ Some m → (ending_of y.laid).found ≡ Ok cs → let sections : List ℕ = section_keys cs in let imports : List ℕ = import_keys (table_of y).imports cs in let l : Linkage = linkage_of s (linked.program_of ms) placement in IsKeyed sections imports (length (table_of y).imports) f → form_value (linked_objects s placement ys ms) turns owner f ≡ value_by l (exports_through l turns) owner (numbered sections imports f)
 form_law s placement ys ms owner turns y m cs f h at_y at_m e =
@@ -306,6 +295,6 @@ form_law s placement ys ms owner turns y m cs f h at_y at_m e =
     ∙ ap (λ r. provider_at r (number_of imports k)) (sym mine) in
     λ keyed.
     own_parts_law ValueFault NoValue (λ g. base_in s placement ys owner g (slice_get ys owner)) (λ g. base_of (slice_get l.modules owner) (number_of sections g)) (imports_linked s placement ys ms turns owner) (λ k. import_value (exports_through l turns) (provider_at (slice_get l.modules owner) (number_of imports k))) f
-    (all_map (λ g. list_any (nat_eq g) sections ≡ true) (λ g. base_in s placement ys owner g (slice_get ys owner) ≡ base_of (slice_get l.modules owner) (number_of sections g)) base (sections_in f) keyed.own_sections)
-    (all_map (λ k. (list_any (nat_eq k) imports ≡ true) × (k < length names)) (λ k. imports_linked s placement ys ms turns owner k ≡ import_value (exports_through l turns) (provider_at (slice_get l.modules owner) (number_of imports k))) (λ k among. ap (import_value (exports_through l turns)) (provider k among)) (imports_in f) keyed.own_imports)
+    (all_same (λ g. list_any (nat_eq g) sections ≡ true) (λ g. base_in s placement ys owner g (slice_get ys owner) ≡ base_of (slice_get l.modules owner) (number_of sections g)) base (sections_in f) keyed.own_sections)
+    (all_same (λ k. (list_any (nat_eq k) imports ≡ true) × (k < length names)) (λ k. imports_linked s placement ys ms turns owner k ≡ import_value (exports_through l turns) (provider_at (slice_get l.modules owner) (number_of imports k))) (λ k among. ap (import_value (exports_through l turns)) (provider k among)) (imports_in f) keyed.own_imports)
     ∙ sym (number_law ValueFault NoValue (base_of (slice_get l.modules owner)) (λ j. import_value (exports_through l turns) (provider_at (slice_get l.modules owner) j)) sections imports f)

@@ -38,7 +38,7 @@ skipped owner place (x ∷ xs) rest h = grind (arith, common_steps, (skipped own
 apart : (n m : ℕ) → n ≢ m → nat_eq n m ≡ false
 apart n m h = grind (arith, nat_tests)
 
-alike : (n : ℕ) → nat_eq n n ≡ true
+pub alike : (n : ℕ) → nat_eq n n ≡ true
 alike n = grind (arith, nat_tests)
 
 -- ---- Other modules.
@@ -169,17 +169,14 @@ pub powers_at : (g : ℕ) (xs : List Line) → ArePowers xs → ArePowers (lines
 powers_at g [] h = tt
 powers_at g (x ∷ xs) h = grind (arith, common_steps, (powers_at g xs h.1))
 
-powers_first : (xs ys : List Line) → ArePowers (xs ++ ys) → ArePowers xs
-powers_first [] ys h = tt
-powers_first (x ∷ xs) ys h = (h.0, powers_first xs ys h.1)
-
-powers_rest : (xs ys : List Line) → ArePowers (xs ++ ys) → ArePowers ys
-powers_rest [] ys h = h
-powers_rest (x ∷ xs) ys h = powers_rest xs ys h.1
+pub all_parts : {A : Type 0} (P : A → Type 0) (xs zs : List A) → AllByRecursion P (xs ++ zs) → AllByRecursion P xs × AllByRecursion P zs
+all_parts P [] zs h = (tt, h)
+all_parts P (x ∷ xs) zs h = let more = all_parts P xs zs h.1 in ((h.0, more.0), more.1)
 
 front_multiple : (b : ℕ) (xs ys : List Line) → ArePowers (xs ++ ys) → IsMultiple b (largest_multiple (xs ++ ys)) → IsMultiple b (largest_multiple xs)
 front_multiple b xs ys p h =
-    let both = larger (largest_multiple xs) (largest_multiple ys) (largest_power xs (powers_first xs ys p)) (largest_power ys (powers_rest xs ys p)) in
+    let powers = all_parts (λ (x : Line). IsPower x.multiple) xs ys p in
+    let both = larger (largest_multiple xs) (largest_multiple ys) (largest_power xs powers.0) (largest_power ys powers.1) in
     let whole : IsMultiple b (max (largest_multiple xs) (largest_multiple ys)) = subst (IsMultiple b) (largest_push xs ys) h in
     multiple_of_multiple b (largest_multiple xs) (max (largest_multiple xs) (largest_multiple ys)) whole both.first
 
@@ -222,7 +219,7 @@ module _ (owner place : ℕ) (y : Layout) (l : Laid) (d : IsLaidOut y) (there : 
       ∙ ap (map line) (by_number owner y g n.distinct below [] (take place y.laid) (all_front (λ (k : Laid). k.context.segment < length y.cursor.segments) y.laid place n.standing)) in
       ap (λ b. end_of at (items_before owner place (cond b (rounding multiple ∷ map line (lines_in owner y (segment_name y g))) [] ++ rest))) asked
       ∙ ap (end_of begin) before
-      ∙ shift_law front begin (powers_first front behind_front all_powers) (front_multiple begin front behind_front all_powers is_multiple)
+      ∙ shift_law front begin (all_parts (λ (x : Line). IsPower x.multiple) front behind_front all_powers).0 (front_multiple begin front behind_front all_powers is_multiple)
       ∙ ap (λ n. begin + n) (sym ((placed owner d).offsets place l there))
 
 -- ---- Module by module.

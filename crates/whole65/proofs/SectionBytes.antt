@@ -225,7 +225,7 @@ parts_split Has fill (p ∷ ps) qs bytes (a, b, k, more, e) =
 
 -- ---- Lines.
 
-pub in_middle : (before : List Laid) (l : Laid) (ls : List Laid) → slice_get (before ++ l ∷ ls) (length before) ≡ Some l
+pub in_middle : {A : Type 0} (before : List A) (l : A) (ls : List A) → slice_get (before ++ l ∷ ls) (length before) ≡ Some l
 in_middle [] l ls = refl
 in_middle (x ∷ before) l ls = in_middle before l ls
 

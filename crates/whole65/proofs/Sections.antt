@@ -13,7 +13,7 @@ use Rattle.semantics65.specs.Layout.{Layout, segment_at}
 use Rattle.semantics65.specs.Numbering.{all_said, number_of, once, section_keys, segments_asked, section_of}
 use Rattle.semantics65.proofs.Segments.{all_more}
 use Rattle.semantics65.specs.Module.{ending_of}
-use Rattle.whole65.proofs.Positions.{named, Distinct, itself}
+use Rattle.whole65.proofs.Positions.{named, Distinct, itself, alike}
 use Rattle.whole65.proofs.Multiples.{equal}
 use Rattle.whole65.proofs.Statements.{AreStated, a_line, are_stated, asked_append, no_line, stated}
 use Rattle.whole65.specs.Modules.{table_of}
@@ -34,9 +34,6 @@ use Rattle.std.proofs.lemmas.List.{length-append}
 
 abbrev pub with_key : List ℕ → ℕ → List ℕ
 with_key found k = cond (list_any (nat_eq k) found) found (found ++ k ∷ [])
-
-pub alike : (n : ℕ) → nat_eq n n ≡ true
-alike n = grind (arith, nat_tests)
 
 swapped : (n m : ℕ) → nat_eq n m ≡ false → nat_eq m n ≡ false
 swapped n m e = grind (arith, nat_tests)

@@ -22,9 +22,9 @@ use Rattle.semantics65.specs.Module.{ending_of}
 use Rattle.whole65.proofs.Exports.{IsAsserted, all_demanded, demanded_names, one_tells, IsDefined, said_all}
 use Rattle.whole65.proofs.Links.{valued_imports_law}
 use Rattle.whole65.proofs.Providers.{global_form, past_all, sources_law}
-use Rattle.whole65.proofs.Imports.{OfKey, OfPart, OfSaid, at_key, imports_hold, key_for, no_key, forced_hold, all_parts, none_open}
+use Rattle.whole65.proofs.Imports.{OfKey, OfPart, OfSaid, at_key, imports_hold, key_for, no_key, forced_hold, none_open}
 use Rattle.whole65.proofs.Keyed.{or_right, one_of}
-use Rattle.whole65.proofs.Sections.{alike, any_once, asked_are, held, keys_of}
+use Rattle.whole65.proofs.Sections.{any_once, asked_are, held, keys_of}
 use Rattle.whole65.proofs.SameValues.{same_values_law}
 use Rattle.whole65.proofs.Rows.{any_new, any_map, names_asked, bytes_split}
 use Rattle.whole65.proofs.SectionBytes.{in_middle, section_law}
@@ -49,7 +49,7 @@ use Rattle.script65.specs.declared.placement.SegmentNeed.{SegmentNeed}
 use Rattle.script65.specs.declared.script.Row.{Row}
 use Rattle.ast65.proofs.Lists.{same_bytes}
 use Rattle.link65.specs.Files.{RowBytes}
-use Rattle.whole65.proofs.Positions.{itself}
+use Rattle.whole65.proofs.Positions.{itself, all_parts, alike}
 use Rattle.whole65.specs.Contents.{AreBytes}
 use Rattle.whole65.specs.Offsets.{lines_at}
 use Rattle.link65.specs.Programs as linked

@@ -1,4 +1,5 @@
 -- What holds of the names that an object imports, and of those in its contents.
+use Rattle.std.proofs.lemmas.Slice.Eq.{bytes_eq-Decides}
 use Rattle.std.proofs.Common.{◌≡◌, ◌≢◌, ℕ, ◌+◌, Bool, true, false, not, cond, List, [], ◌∷◌, ◌++◌, length, map, filter, Option, Some, None, Ok, is_some, refl, sym, ◌∙◌, ap, subst, arith, suc, nat_eq}
 use Rattle.std.specs.Prelude.{◌↔◌, ◌||◌}
 use Rattle.std.specs.List.{AllByRecursion, flat_map, list_any, position_from}
@@ -138,15 +139,7 @@ module _ (P : List ℕ → Type 0) where
 
   once_parts : (names before : List (List ℕ)) → AllByRecursion P (each_once before names) → AllByRecursion P before × AllByRecursion P names
   once_parts [] before h = (h, tt)
-  once_parts (n ∷ names) before h = go (is_among before n) refl (once_parts names (cond (is_among before n) before (before ++ n ∷ [])) h)
-    where
-      go : (b : Bool) → is_among before n ≡ b → AllByRecursion P (cond (is_among before n) before (before ++ n ∷ [])) × AllByRecursion P names → AllByRecursion P before × AllByRecursion P (n ∷ names)
-      go true e k =
-          let front : AllByRecursion P before = subst (λ b. AllByRecursion P (cond b before (before ++ n ∷ []))) e k.0 in
-          (front, (of_among P before n front e, k.1))
-      go false e k =
-          let both = all_parts P before (n ∷ []) (subst (λ b. AllByRecursion P (cond b before (before ++ n ∷ []))) e k.0) in
-          (both.0, (both.1.0, k.1))
+  once_parts (n ∷ names) before h = let more = once_parts names (cond (is_among before n) before (before ++ n ∷ [])) h in grind (arith, common_steps, (of_among P before n), (all_parts P before (n ∷ [])))
 
 none_left : (t : List ℕ → Bool) (names : List (List ℕ)) → (filter (λ n. not (t n)) names ≡ []) ↔ AllByRecursion (λ n. t n ≡ true) names
 none_left t [] = (λ k. tt, λ k. refl)
@@ -242,18 +235,11 @@ module _ (P : List ℕ → Type 0) (names : List (List ℕ)) where
 
   in_contents : (cs : List Content) → AllByRecursion (λ (c : Content). AllByRecursion OfPart c.parts) cs → AllByRecursion OfSaid (all_said cs) → AllByRecursion OfKey (flat_map (content_imports names) cs)
   in_contents [] h k = tt
-  in_contents (c ∷ cs) h k =
-      let both = all_parts OfSaid c.said (all_said cs) k in
-      all_append OfKey (content_imports names c) (flat_map (content_imports names) cs)
-      (all_append OfKey (flat_map part_imports c.parts) (flat_map (said_imports names) c.said) (all_flat part_imports c.parts h.0) (all_flat (said_imports names) c.said both.0))
-      (in_contents cs h.1 both.1)
+  in_contents (c ∷ cs) h k = grind (arith, common_steps, (all_parts OfSaid c.said (all_said cs) k), (all_append OfKey (content_imports names c) (flat_map (content_imports names) cs)), (all_append OfKey (flat_map part_imports c.parts) (flat_map (said_imports names) c.said)), (all_flat part_imports c.parts), (all_flat (said_imports names) c.said), (in_contents cs h.1))
 
   in_said : (cs : List Content) → AllByRecursion OfKey (flat_map (content_imports names) cs) → AllByRecursion OfSaid (all_said cs)
   in_said [] h = tt
-  in_said (c ∷ cs) h =
-      let both = all_parts OfKey (content_imports names c) (flat_map (content_imports names) cs) h in
-      let own = all_parts OfKey (flat_map part_imports c.parts) (flat_map (said_imports names) c.said) both.0 in
-      all_append OfSaid c.said (all_said cs) (all_apart (said_imports names) c.said own.1) (in_said cs both.1)
+  in_said (c ∷ cs) h = grind (arith, common_steps, (all_parts OfKey (content_imports names c) (flat_map (content_imports names) cs) h), (all_parts OfKey (flat_map part_imports c.parts) (flat_map (said_imports names) c.said)), (all_append OfSaid c.said (all_said cs)), (all_apart (said_imports names) c.said), (in_said cs))
 
   -- keys that come once, and all of them
   all_keys : (ks : List ℕ) → AllByRecursion OfKey (once [] ks) → AllByRecursion OfKey ks

@@ -191,7 +191,7 @@ or_right x1 b e = grind (arith, common_steps)
 
 all_of : (p : ℕ → Bool) (xs : List ℕ) → list_all p xs ≡ true → AllByRecursion (λ k. p k ≡ true) xs
 all_of p [] e = tt
-all_of p (x ∷ xs) e = let both = both_of (p x) (list_all p xs) e in (both.0, all_of p xs both.1)
+all_of p (x ∷ xs) e = grind (arith, common_steps, (all_of p xs))
 
 itself_among : (k : ℕ) (xs : List ℕ) → list_any (nat_eq k) (k ∷ xs) ≡ true
 itself_among k xs = grind (arith, common_steps)
@@ -199,7 +199,7 @@ itself_among k xs = grind (arith, common_steps)
 -- what holds of all keys that are among some holds of each of them
 pub each_among : (P : ℕ → Type 0) (xs : List ℕ) → ((k : ℕ) → list_any (nat_eq k) xs ≡ true → P k) → AllByRecursion P xs
 each_among P [] up = tt
-each_among P (x ∷ xs) up = (up x (itself_among x xs), each_among P xs (λ k h. up k (or_right (nat_eq k x) (list_any (nat_eq k) xs) h)))
+each_among P (x ∷ xs) up = grind (arith, common_steps, or_right, (each_among P xs))
 
 all_both : (P Q : ℕ → Type 0) (xs : List ℕ) → AllByRecursion P xs → AllByRecursion Q xs → AllByRecursion (λ k. P k × Q k) xs
 all_both P Q [] h k = tt
@@ -215,10 +215,10 @@ module _ (sections imports : List ℕ) (count : ℕ) where
   AreAmong xs = (k : ℕ) → list_any (nat_eq k) xs ≡ true → list_any (nat_eq k) imports ≡ true
 
   among_first : (xs ys : List ℕ) → AreAmong (xs ++ ys) → AreAmong xs
-  among_first xs ys up k h = up k (list_any-append (nat_eq k) xs ys ∙ or_left (list_any (nat_eq k) xs) (list_any (nat_eq k) ys) h)
+  among_first xs ys up k h = up k (grind (arith, common_steps, list_any-append))
 
   among_rest : (xs ys : List ℕ) → AreAmong (xs ++ ys) → AreAmong ys
-  among_rest xs ys up k h = up k (list_any-append (nat_eq k) xs ys ∙ or_right (list_any (nat_eq k) xs) (list_any (nat_eq k) ys) h)
+  among_rest xs ys up k h = up k (grind (arith, common_steps, list_any-append))
 
   keyed_form : (f : Form) → IsSoundForm sections count f → AreAmong (imports_in f) → IsKeyed sections imports count f
   keyed_form f h up = record {

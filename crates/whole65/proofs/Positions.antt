@@ -88,36 +88,7 @@ absent [] n i g e lt = absurd (omega arith)
 absent (y ∷ gs) n i g e lt = grind (arith, common_steps, (absent gs n (i + 1)))
 
 distinct_new : (gs : List Segment) (n : List ℕ) (own : AddressSize) → Distinct gs → place_of gs n ≡ None → Distinct (gs ++ new_segment n own ∷ [])
-distinct_new gs n own d e g h lt lt' same = go (nat_eq g (length gs)) (nat_eq h (length gs)) refl refl
-  where
-    apart : (k : ℕ) → k < length gs → bytes_eq (segment_at gs k).name n ≡ false
-    apart k below = absent gs n 0 k (sym (position_from-zero (λ (z : Segment). bytes_eq z.name n) gs) ∙ e) below
-
-    below : (k : ℕ) → k < length (gs ++ new_segment n own ∷ []) → nat_eq k (length gs) ≡ false → k < length gs
-    below k l other =
-        let longer : length (gs ++ new_segment n own ∷ []) ≡ length gs + 1 = one_longer gs (new_segment n own) in
-        let differs : k ≢ length gs = grind (arith, nat_tests) in
-        omega (arith, longer, l, differs)
-
-    at_last : (k : ℕ) → nat_eq k (length gs) ≡ true → (segment_at (gs ++ new_segment n own ∷ []) k).name ≡ n
-    at_last k q = ap (λ z. (segment_at (gs ++ new_segment n own ∷ []) z).name) (equal k (length gs) q) ∙ last_name gs (new_segment n own)
-
-    go : (a b : Bool) → nat_eq g (length gs) ≡ a → nat_eq h (length gs) ≡ b → g ≡ h
-    go true true p q = equal g (length gs) p ∙ sym (equal h (length gs) q)
-    go false false p q =
-        let bg = below g lt p in
-        let bh = below h lt' q in
-        d g h bg bh (rw (front_name gs (new_segment n own) g bg, front_name gs (new_segment n own) h bh) at same)
-    go true false p q =
-        let bh = below h lt' q in
-        let one : bytes_eq n (segment_at gs h).name ≡ true = rw (at_last g p, front_name gs (new_segment n own) h bh) at same in
-        let two : bytes_eq n (segment_at gs h).name ≡ false = bytes_swap n (segment_at gs h).name ∙ apart h bh in
-        absurd cc
-    go false true p q =
-        let bg = below g lt p in
-        let one : bytes_eq (segment_at gs g).name n ≡ true = rw (front_name gs (new_segment n own) g bg, at_last h q) at same in
-        let two : bytes_eq (segment_at gs g).name n ≡ false = apart g bg in
-        absurd cc
+distinct_new gs n own d e g h lt lt' same = grind (arith, common_steps, nat_tests, (front_name gs (new_segment n own)), (last_name gs (new_segment n own)), (one_longer gs (new_segment n own)), bytes_swap, (absent gs n 0 g), (absent gs n 0 h), (position_from-zero (λ (z : Segment). bytes_eq z.name n) gs), (d g h))
 
 distinct_named : (gs : List Segment) (n : List ℕ) (own : _) (place : Option ℕ) → Distinct gs → place_of gs n ≡ place → Distinct (named_segments gs n own place)
 distinct_named gs n own x1 d e = grind (arith, common_steps, distinct_new)

@@ -1,4 +1,5 @@
 -- The sections of an object, and what they make of one segment.
+use Rattle.std.proofs.lemmas.Slice.Eq.{bytes_eq-Decides}
 use Rattle.std.proofs.lemmas.Grind.{common_steps}
 use Rattle.std.proofs.Common.{◌≡◌, ℕ, suc, length, ◌<◌, Bool, true, false, nat_eq, cond, List, [], ◌∷◌, ◌++◌, map, filter, Option, Some, None, Ok, refl, sym, ◌∙◌, ap, subst, arith, zero, slice_get}
 use Rattle.std.specs.Prelude.{⊤, ◌&&◌, ◌||◌, unwrap_or}
@@ -89,18 +90,7 @@ number_later ks k g e h = grind (arith, common_steps, behind_front, none_found)
 
 lines_asked : (z : Symbols) (names : List (List ℕ)) (ls : List Laid) (cs : List Content) → AreStated z names ls cs → segments_asked cs ≡ map (λ l. l.context.segment) (filter (λ l. asks_section l.stated) ls)
 lines_asked z names [] _ no_line = refl
-lines_asked z names (l ∷ ls) _ (a_line ds cs found more) =
-    asked_append ds cs
-    ∙ ap (λ gs. gs ++ segments_asked cs) (stated z names l ds found).asked
-    ∙ ap (λ gs. cond (asks_section l.stated) (l.context.segment ∷ []) [] ++ gs) (lines_asked z (names ++ exported_names (all_said ds)) ls cs more)
-    ∙ by (asks_section l.stated)
-  where
-    asking : List Laid
-    asking = filter (λ (x : Laid). asks_section x.stated) ls
-
-    by : (b : Bool) → cond b (l.context.segment ∷ []) [] ++ map (λ (x : Laid). x.context.segment) asking ≡ map (λ (x : Laid). x.context.segment) (cond b (l ∷ asking) asking)
-    by true = refl
-    by false = refl
+lines_asked z names (l ∷ ls) _ (a_line ds cs found more) = grind (arith, common_steps, asked_append, (stated z names l ds found), (lines_asked z (names ++ exported_names (all_said ds)) ls cs more))
 
 -- a module's contents ask for the segments in which the statements that ask stand
 pub asked_are : (y : Layout) (cs : List Content) → (ending_of y.laid).found ≡ Ok cs → segments_asked cs ≡ map (λ l. l.context.segment) (filter (λ l. asks_section l.stated) y.laid)
@@ -153,19 +143,7 @@ module _ (y : Layout) (owner : ℕ) (origins : Place → Origin) (sections impor
   -- no other key is of the same name
   others_apart : (k : ℕ) → Distinct y.cursor.segments → k < length y.cursor.segments → is_named k ≡ true → (ks : List ℕ) → AllByRecursion (λ g. g < length y.cursor.segments) ks → list_any (nat_eq k) ks ≡ false → list_any is_named ks ≡ false
   others_apart k d lt e [] h apart = refl
-  others_apart k d lt e (x ∷ ks) h apart =
-      let both = neither (nat_eq k x) (list_any (nat_eq k) ks) apart in
-      go (is_named x) refl both.0 (others_apart k d lt e ks h.1 both.1)
-    where
-      go : (b : Bool) → is_named x ≡ b → nat_eq k x ≡ false → list_any is_named ks ≡ false → (b || list_any is_named ks) ≡ false
-      go false q other r = r
-      go true q other r =
-          let one : segment_name y k ≡ name = same_bytes (segment_name y k) name e in
-          let two : segment_name y x ≡ name = same_bytes (segment_name y x) name q in
-          let both : bytes_eq (segment_name y k) (segment_name y x) ≡ true = ap (bytes_eq (segment_name y k)) (two ∙ sym one) ∙ itself (segment_name y k) in
-          let same : k ≡ x = d k x lt h.0 both in
-          let yes : nat_eq k x ≡ true = ap (nat_eq k) (sym same) ∙ alike k in
-          absurd cc
+  others_apart k d lt e (x ∷ ks) h apart = grind (arith, common_steps, nat_tests, (others_apart k d lt e ks h.1), (d k x lt h.0), (bytes_eq-Decides (segment_name y k) name), (bytes_eq-Decides (segment_name y x) name), (bytes_eq-Decides (segment_name y k) (segment_name y x)))
 
   -- one section of the module is in the segment
   pub record IsGrown (ks : List ℕ) (g : Option linked.Segment) : Type 0 where
@@ -214,45 +192,7 @@ first name g other = cond (bytes_eq g.name name) (Some g) other
 
 pub one_section : (owner : ℕ) (gs : List LinkedSegment) (s : Section) (name : List ℕ) → segment_of (with_section owner gs s) name ≡ cond (bytes_eq s.name name) (Some (grown owner (or_empty s.name (segment_of gs name)) s)) (segment_of gs name)
 one_section owner [] s name = refl
-one_section owner (g ∷ gs) s name = go (bytes_eq g.name s.name) refl (one_section owner gs s name)
-  where
-    go : (b : Bool) → bytes_eq g.name s.name ≡ b → segment_of (with_section owner gs s) name ≡ cond (bytes_eq s.name name) (Some (grown owner (or_empty s.name (segment_of gs name)) s)) (segment_of gs name) → segment_of (cond b (grown owner g s ∷ gs) (g ∷ with_section owner gs s)) name ≡ cond (bytes_eq s.name name) (Some (grown owner (or_empty s.name (cond (bytes_eq g.name name) (Some g) (segment_of gs name))) s)) (cond (bytes_eq g.name name) (Some g) (segment_of gs name))
-    go true e deeper = ap (λ n. cond (bytes_eq n name) (Some (grown owner g s)) (segment_of gs name)) same ∙ by (bytes_eq s.name name) refl
-      where
-        same : g.name ≡ s.name
-        same = same_bytes g.name s.name e
-
-        by : (c : Bool) → bytes_eq s.name name ≡ c → cond (bytes_eq s.name name) (Some (grown owner g s)) (segment_of gs name) ≡ cond (bytes_eq s.name name) (Some (grown owner (or_empty s.name (cond (bytes_eq g.name name) (Some g) (segment_of gs name))) s)) (cond (bytes_eq g.name name) (Some g) (segment_of gs name))
-        by true q =
-            let yes : bytes_eq g.name name ≡ true = ap (λ n. bytes_eq n name) same ∙ q in
-            ap (λ c. cond (bytes_eq s.name name) (Some (grown owner (or_empty s.name (cond c (Some g) (segment_of gs name))) s)) (segment_of gs name)) (sym yes)
-            ∙ ap (λ c. cond c (Some (grown owner (or_empty s.name (cond (bytes_eq g.name name) (Some g) (segment_of gs name))) s)) (segment_of gs name)) q
-            ∙ ap (λ c. cond c (Some (grown owner (or_empty s.name (cond (bytes_eq g.name name) (Some g) (segment_of gs name))) s)) (cond (bytes_eq g.name name) (Some g) (segment_of gs name))) (sym q)
-        by false q =
-            let no_ : bytes_eq g.name name ≡ false = ap (λ n. bytes_eq n name) same ∙ q in
-            ap (λ c. cond c (Some (grown owner g s)) (segment_of gs name)) q
-            ∙ ap (λ c. cond c (Some g) (segment_of gs name)) (sym no_)
-            ∙ ap (λ c. cond c (Some (grown owner (or_empty s.name (cond (bytes_eq g.name name) (Some g) (segment_of gs name))) s)) (cond (bytes_eq g.name name) (Some g) (segment_of gs name))) (sym q)
-    go false e deeper = by (bytes_eq g.name name) refl
-      where
-        other : bytes_eq g.name name ≡ true → (c : Bool) → bytes_eq s.name name ≡ c → c ≡ false
-        other found false q = refl
-        other found true q =
-            let one : g.name ≡ name = same_bytes g.name name found in
-            let two : s.name ≡ name = same_bytes s.name name q in
-            let again : bytes_eq g.name s.name ≡ true = ap (λ n. bytes_eq g.name n) (two ∙ sym one) ∙ itself g.name in
-            absurd cc
-
-        by : (c : Bool) → bytes_eq g.name name ≡ c → cond (bytes_eq g.name name) (Some g) (segment_of (with_section owner gs s) name) ≡ cond (bytes_eq s.name name) (Some (grown owner (or_empty s.name (cond (bytes_eq g.name name) (Some g) (segment_of gs name))) s)) (cond (bytes_eq g.name name) (Some g) (segment_of gs name))
-        by true q =
-            let never : bytes_eq s.name name ≡ false = other q (bytes_eq s.name name) refl in
-            ap (λ c. cond c (Some g) (segment_of (with_section owner gs s) name)) q
-            ∙ ap (λ c. cond c (Some g) (segment_of gs name)) (sym q)
-            ∙ ap (λ c. cond c (Some (grown owner (or_empty s.name (cond (bytes_eq g.name name) (Some g) (segment_of gs name))) s)) (cond (bytes_eq g.name name) (Some g) (segment_of gs name))) (sym never)
-        by false q =
-            ap (λ c. cond c (Some g) (segment_of (with_section owner gs s) name)) q
-            ∙ deeper
-            ∙ ap (λ c. cond (bytes_eq s.name name) (Some (grown owner (or_empty s.name (cond c (Some g) (segment_of gs name))) s)) (cond c (Some g) (segment_of gs name))) (sym q)
+one_section owner (g ∷ gs) s name = grind (arith, common_steps, (one_section owner gs s name), bytes_eq-Decides)
 
 pub all_sections : (owner : ℕ) (gs : List LinkedSegment) (ss : List Section) (name : List ℕ) → segment_of (with_sections owner gs ss) name ≡ behind_sections owner name (segment_of gs name) ss
 all_sections owner gs [] name = refl

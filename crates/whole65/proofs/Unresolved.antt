@@ -1,4 +1,5 @@
 -- A link leaves names open exactly where the whole program lacks some that have to be given.
+use Rattle.std.proofs.lemmas.Slice.Eq.{bytes_eq-Decides}
 use Rattle.std.proofs.lemmas.Grind.{common_steps}
 use Rattle.std.proofs.Common.{◌≡◌, ℕ, suc, Bool, true, false, nat_eq, cond, List, [], ◌∷◌, ◌++◌, length, map, filter, slice_get, Option, Some, None, Ok, refl, sym, ◌∙◌, ap, subst, zero, ◌+◌, ◌<◌, arith}
 use Rattle.std.specs.Prelude.{⊤, ℤ, unwrap_or, ◌||◌}
@@ -159,9 +160,7 @@ module _ (s : Script) (placement : Placement) (ys : List Layout) (ms : List Modu
 
   said_given : (ss : List Declaration) → AllByRecursion (IsGiven p) (demanded_names ss) → AllByRecursion IsValuedExport ss → AllByRecursion IsValuedCheck ss → AllByRecursion (OfSaid (IsGiven p) z.imports) ss
   said_given [] d e a = tt
-  said_given (Exported n place f ∷ ss) d e a = (form_given f e.0, said_given ss d e.1 a.1)
-  said_given (ForcedImport n ∷ ss) d e a = (demand_given n d.0, said_given ss d.1 e.1 a.1)
-  said_given (Asserted act place words f ∷ ss) d e a = (form_given f a.0, said_given ss d e.1 a.1)
+  said_given (x1 ∷ ss) d e a = grind (arith, common_steps, form_given, demand_given, (said_given ss))
 
   -- ---- Exports.
 
@@ -176,20 +175,15 @@ module _ (s : Script) (placement : Placement) (ys : List Layout) (ms : List Modu
 
   exports_valued : (ss : List Declaration) → AllByRecursion (IsDefined z) ss → AllByRecursion (HasExport p owner) (exported_names ss) → AllByRecursion IsValuedExport ss
   exports_valued [] d e = tt
-  exports_valued (Exported n place f ∷ ss) d e = (export_valued n d.0.0 f d.0.1 d.0.2 e.0, exports_valued ss d.1 e.1)
-  exports_valued (ForcedImport n ∷ ss) d e = (tt, exports_valued ss d.1 e)
-  exports_valued (Asserted act place words f ∷ ss) d e = (tt, exports_valued ss d.1 e)
+  exports_valued (x1 ∷ ss) d e = grind (arith, common_steps, export_valued, (exports_valued ss))
 
   -- ---- Assertions.
 
   check_valued : (before : List Laid) (l : Laid) (x : Declaration) → o.contexts owner (length before) ≡ l.context → HasAssertion p (line_of owner before l) → IsAsserted z l x → IsValuedCheck x
-  check_valued before l (Exported n place f) context has k = tt
-  check_valued before l (ForcedImport n) context has k = tt
   check_valued before l (Asserted act place words f) context has (e, stated, normal) =
-      let own : HasAssertion p (line_of owner before (record l { stated = Assert e act words })) = subst (λ x. HasAssertion p (line_of owner before (record l { stated = x }))) stated has in
-      let depth : ℕ = suc (length z.definitions) in
-      let same : norm depth (o.symbols owner) (o.contexts owner (length before)) e ≡ Ok f = ap (λ r. norm depth (symbols_at r) (o.contexts owner (length before)) e) at_y ∙ ap (λ r. norm depth z r e) context ∙ normal in
-      (own.0, (same_values_law ValueFault p o (sources_law s placement ys ms h) depth owner (length before) e f own.0 same).0 own.1)
+      let same = same_values_law ValueFault p o (sources_law s placement ys ms h) (suc (length z.definitions)) owner (length before) e f in
+      grind (arith, common_steps, same)
+  check_valued before l _ context has k = tt
 
   line_valued : (before : List Laid) (l : Laid) (ss : List Declaration) → o.contexts owner (length before) ≡ l.context → HasAssertion p (line_of owner before l) → AllByRecursion (IsAsserted z l) ss → AllByRecursion IsValuedCheck ss
   line_valued before l [] context has k = tt
@@ -222,11 +216,10 @@ module _ (s : Script) (placement : Placement) (ys : List Layout) (ms : List Modu
 
 forced_all : (p : Program) (ys : List Layout) (ms : List Module) → AreSources ys ms → AllByRecursion (IsGiven p) (flat_map (λ (m : Module). m.object.imports) ms) → AreForced p ys
 forced_all p [] [] h k = tt
-forced_all p [] (m ∷ ms) h k = absurd h
-forced_all p (y ∷ ys) [] h k = absurd h
 forced_all p (y ∷ ys) (m ∷ ms) h k =
     let both = all_parts (IsGiven p) m.object.imports (flat_map (λ (m : Module). m.object.imports) ms) k in
     (forced_hold (IsGiven p) y m h.0 both.0, forced_all p ys ms h.1 both.1)
+forced_all p _ _ h k = absurd h
 
 -- Where a link leaves no name open, the names that have to be given in the whole program are: the script's imports, and those
 -- that modules import whether or not they use them.

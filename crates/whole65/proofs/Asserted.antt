@@ -104,14 +104,7 @@ module _ {E : Type 0} (p : Program) (o : Objects E) (h : AreObjects p o) (owner 
       by action.Error (lit (pos (suc n))) d = settled action.Error (pos (suc n)) (λ e. cc) d
       by action.Error (lit (negsuc n)) d = settled action.Error (negsuc n) (λ e. cc) d
       by action.Warning (lit v) d = settled action.Warning v tt d
-      by action.Error (sec k a) d = waits action.Error (sec k a) d
-      by action.Warning (sec k a) d = waits action.Warning (sec k a) d
-      by action.Error (imp k) d = waits action.Error (imp k) d
-      by action.Warning (imp k) d = waits action.Warning (imp k) d
-      by action.Error (prefix op f) d = waits action.Error (prefix op f) d
-      by action.Warning (prefix op f) d = waits action.Warning (prefix op f) d
-      by action.Error (binary op f g) d = waits action.Error (binary op f g) d
-      by action.Warning (binary op f g) d = waits action.Warning (binary op f g) d
+      by act f d = waits act f d
 
   assertion_passes : (number : ℕ) (place : Place) (e : Tree) (act : Action) (words : List ℕ) (f : Form) (ss : List Declaration) → norm_of (o.symbols owner) (o.contexts owner number) e ≡ Ok f → decided act place words f ≡ Ok ss → ((v : ℤ) × Value p owner number e v × Passes act v) ↔ AllPass o owner ss
   assertion_passes number place e act words f ss q d =

@@ -120,14 +120,7 @@ same_context y d x e = go (look 0 y.laid d)
   where
     go : Looked 0 y.laid d → context_at y (place_in (Some y) d) ≡ x.context
     go (missing m) = let none : Some x ≡ None = sym e ∙ m.defined in absurd cc
-    go (made m) =
-        let zero_more : 0 + m.place ≡ m.place = omega arith in
-        let at : slice_get (defining_from 0 y.laid) d ≡ Some m.place = m.defining ∙ ap Some zero_more in
-        let both : Some m.definition ≡ Some x = sym m.defined ∙ e in
-        let same : m.definition ≡ x = cc in
-        ap (λ r. context_at y (or_first r)) at
-        ∙ (rw m.there (sym m.context))
-        ∙ ap (λ (z : Definition). z.context) same
+    go (made m) = grind (arith, common_steps)
 
 -- ---- What asks for no section places nothing.
 
@@ -154,16 +147,7 @@ none_asks y name (l ∷ ls) h = grind (arith, common_steps, (none_asks y name ls
 
 quiet_lines : (at owner : ℕ) (y : Layout) (g : ℕ) (before ls : List Laid) → AllByRecursion IsQuiet ls → AllByRecursion (AsksNot y (segment_name y g)) ls → end_of at (map line (lines_at g (lines_behind owner before ls))) ≡ at
 quiet_lines at owner y g before [] q a = refl
-quiet_lines at owner y g before (l ∷ ls) q a = go (nat_eq l.context.segment g) refl (λ z. quiet_lines z owner y g (before ++ l ∷ []) ls q.1 a.1)
-  where
-    go : (b : Bool) → nat_eq l.context.segment g ≡ b → ((z : ℕ) → end_of z (map line (lines_at g (lines_behind owner (before ++ l ∷ []) ls))) ≡ z) → end_of at (map line (cond b (line_of owner before l ∷ lines_at g (lines_behind owner (before ++ l ∷ []) ls)) (lines_at g (lines_behind owner (before ++ l ∷ []) ls)))) ≡ at
-    go false e r = r at
-    go true e r =
-        let here : l.context.segment ≡ g = equal l.context.segment g e in
-        let there : stands_in y (segment_name y g) l ≡ true = ap (λ k. bytes_eq (segment_name y k) (segment_name y g)) here ∙ itself (segment_name y g) in
-        let asks = a.0 there in
-        let z : ℕ = line_end at (line_of owner before l).multiple l in
-        r z ∙ quiet_end at (line_of owner before l).multiple l asks (q.0 asks)
+quiet_lines at owner y g before (l ∷ ls) q a = grind (arith, common_steps, equal, itself, quiet_end, (λ (z : ℕ). quiet_lines z owner y g (before ++ l ∷ []) ls q.1 a.1))
 
 -- a statement there has the offset 0
 pub no_offset : (y : Layout) (place : ℕ) (l : Laid) → IsLaidOut y → slice_get y.laid place ≡ Some l → has_section y (segment_name y l.context.segment) ≡ false → l.context.offset ≡ 0

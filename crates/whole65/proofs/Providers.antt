@@ -134,32 +134,17 @@ locate_from : {A : Type 0} (name_of : A → List ℕ) (name : List ℕ) (from : 
 locate_from name_of name from [] = absent_from refl refl
 locate_from name_of name from (x ∷ xs) = go (bytes_eq (name_of x) name) refl (locate_from name_of name (from + 1) xs)
   where
-    here : (i : ℕ) → (from + 1) + i ≡ from + suc i
-    here i = omega arith
-
-    none_more : from ≡ from + 0
-    none_more = omega arith
-
     go : (b : Bool) → bytes_eq (name_of x) name ≡ b → LocatedFrom name_of name (from + 1) xs → LocatedFrom name_of name from (x ∷ xs)
-    go true e more =
-        there_from 0 x (ap (λ b. cond b (Some x) (find (λ x. bytes_eq (name_of x) name) xs)) e)
-        (ap (λ b. cond b (Some from) (position_from (λ n. bytes_eq n name) (from + 1) (map name_of xs))) e ∙ ap Some none_more) refl (same_bytes (name_of x) name e)
-    go false e (absent_from f q) =
-        absent_from (ap (λ b. cond b (Some x) (find (λ x. bytes_eq (name_of x) name) xs)) e ∙ f)
-        (ap (λ b. cond b (Some from) (position_from (λ n. bytes_eq n name) (from + 1) (map name_of xs))) e ∙ q)
-    go false e (there_from i z f q at called) =
-        there_from (suc i) z (ap (λ b. cond b (Some x) (find (λ x. bytes_eq (name_of x) name) xs)) e ∙ f)
-        (ap (λ b. cond b (Some from) (position_from (λ n. bytes_eq n name) (from + 1) (map name_of xs))) e ∙ q ∙ ap Some (here i)) at called
+    go true e more = there_from 0 x (grind (arith, common_steps)) (grind (arith, common_steps)) refl (same_bytes (name_of x) name e)
+    go false e (absent_from f q) = absent_from (grind (arith, common_steps)) (grind (arith, common_steps))
+    go false e (there_from i z f q at called) = there_from (suc i) z (grind (arith, common_steps)) (grind (arith, common_steps)) at called
 
 pub locate : {A : Type 0} (name_of : A → List ℕ) (name : List ℕ) (xs : List A) → Located name_of name xs
 locate name_of name xs = go (locate_from name_of name 0 xs)
   where
-    zero_first : (i : ℕ) → 0 + i ≡ i
-    zero_first i = omega arith
-
     go : LocatedFrom name_of name 0 xs → Located name_of name xs
     go (absent_from f q) = absent f q
-    go (there_from i x f q at called) = there i x f (q ∙ ap Some (zero_first i)) at called
+    go (there_from i x f q at called) = there i x f (grind (arith, common_steps)) at called
 
 -- ---- Both providers.
 

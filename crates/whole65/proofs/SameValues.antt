@@ -232,16 +232,8 @@ module _ {E : Type 0} (p : Program) (o : Objects E) (h : AreObjects p o) where
   meaning_back turns below depth through owner place e f v (Some (import_of x)) w (k, there, same) d = grind (arith, common_steps, import_back)
 
   expression_back : (turns : ℕ) → BelowExport turns → (depth : ℕ) → Through turns depth → (owner place : ℕ) (e : Tree) (f : Form) (v : ℤ) → norm (suc depth) (o.symbols owner) (o.contexts owner place) e ≡ Ok f → form_value o turns owner f ≡ Ok v → Value p owner place e v
-  expression_back turns below depth through owner place (tree.number n) f v q d =
-      let same : lit (pos n) ≡ f = cc in
-      let there : Ok (pos n) ≡ Ok v = rw (← same) at d in
-      let one : pos n ≡ v = cc there in
-      subst (λ z. Value p owner place (tree.number n) z) one number
-  expression_back turns below depth through owner place tree.here f v q d =
-      let same : address_of (o.contexts owner place) ≡ f = cc in
-      let there : Ok (p.address owner place) ≡ Ok v = sym (at_place turns owner place) ∙ (rw (← same) at d) in
-      let one : p.address owner place ≡ v = cc there in
-      subst (λ z. Value p owner place tree.here z) one here
+  expression_back turns below depth through owner place (tree.number n) f v q d = let one : pos n ≡ v = grind (arith, common_steps) in subst (λ z. Value p owner place (tree.number n) z) one number
+  expression_back turns below depth through owner place tree.here f v q d = let one : p.address owner place ≡ v = grind (arith, common_steps, at_place) in subst (λ z. Value p owner place tree.here z) one here
   expression_back turns below depth through owner place (tree.unary op e) f v q d =
       let (g, r, t) = one_part depth owner place op e f q in
       let whole : (form_value o turns owner g >>= (λ a. Ok (value1 op a))) ≡ Ok v = sym (prefix_fold_law E o.none (o.bases owner) (o.imports turns owner) op g f t) ∙ d in
@@ -254,10 +246,7 @@ module _ {E : Type 0} (p : Program) (o : Objects E) (h : AreObjects p o) where
       let (a, u, rest) = bind_ok (form_value o turns owner g) (λ a. form_value o turns owner k >>= (λ b. or_none o.none (value2 op a b))) v whole in
       let (b, w, last) = bind_ok (form_value o turns owner k) (λ b. or_none o.none (value2 op a b)) v rest in
       joined (expression_back turns below depth through owner place c g a r u) (expression_back turns below depth through owner place e k b s w) (or_none_from o.none (value2 op a b) v last)
-  expression_back turns below depth through owner place (tree.name b ns) f v q d = meaning_back turns below depth through owner place (tree.name b ns) f v (p.means owner place (tree.name b ns)) refl (operand p o h depth owner place (tree.name b ns) f q) d
-  expression_back turns below depth through owner place (tree.cheap n) f v q d = meaning_back turns below depth through owner place (tree.cheap n) f v (p.means owner place (tree.cheap n)) refl (operand p o h depth owner place (tree.cheap n) f q) d
-  expression_back turns below depth through owner place (tree.forward n) f v q d = meaning_back turns below depth through owner place (tree.forward n) f v (p.means owner place (tree.forward n)) refl (operand p o h depth owner place (tree.forward n) f q) d
-  expression_back turns below depth through owner place (tree.backward n) f v q d = meaning_back turns below depth through owner place (tree.backward n) f v (p.means owner place (tree.backward n)) refl (operand p o h depth owner place (tree.backward n) f q) d
+  expression_back turns below depth through owner place e f v q d = meaning_back turns below depth through owner place e f v (p.means owner place e) refl (operand p o h depth owner place e f q) d
 
   through_back : (turns : ℕ) → BelowExport turns → (depth : ℕ) → Through turns depth
   through_back turns below zero owner place e f v q d = cc

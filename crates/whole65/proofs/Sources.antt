@@ -87,24 +87,7 @@ module _ (z : Symbols) (owner g : ℕ) where
   lines_long before (l ∷ ls) names _ at ends measured (a_line ds cs found more) =
       let one = measured 0 l refl in
       let own : sum_by part_len (parts_in ds g) ≡ cond (nat_eq l.context.segment g) l.length 0 = slots_long z names one.0 l g ds one.1 found in
-      let parts : sum_by part_len (parts_in (ds ++ cs) g) ≡ cond (nat_eq l.context.segment g) l.length 0 + sum_by part_len (parts_in cs g) =
-      ap (sum_by part_len) (parts_append g ds cs) ∙ sum_by-append part_len (parts_in ds g) (parts_in cs g) ∙ ap (λ n. n + sum_by part_len (parts_in cs g)) own in
-      by (λ n ends. lines_long (before ++ l ∷ []) ls (names ++ exported_names (all_said ds)) cs n ends (λ i x e. measured (suc i) x e) more) (nat_eq l.context.segment g) ends
-      ∙ ap (λ n. at + n) (sym parts)
-    where
-      others : List Line
-      others = here (before ++ l ∷ []) ls
-
-      by :
-          ((n : ℕ) → EndsAt n others → end_of n (map line others) ≡ n + sum_by part_len (parts_in cs g)) →
-          (b : Bool) → EndsAt at (cond b (line_of owner before l ∷ others) others) →
-          end_of at (map line (cond b (line_of owner before l ∷ others) others)) ≡ at + (cond b l.length 0 + sum_by part_len (parts_in cs g))
-      by deeper false ends = (let rest = deeper at ends in omega (arith, rest))
-      by deeper true ends =
-          let behind : ℕ = line_end at (line_of owner before l).multiple l in
-          let first : behind ≡ at + l.length = ends.0 in
-          let rest = deeper behind ends.1 in
-          omega (arith, first, rest)
+      grind (arith, common_steps, own, parts_append, sum_by-append, (λ (n : ℕ) (ends : EndsAt n (here (before ++ l ∷ []) ls)). lines_long (before ++ l ∷ []) ls (names ++ exported_names (all_said ds)) cs n ends (λ i x e. measured (suc i) x e) more))
 
 -- It is as long as they are.
 pub length_law : (y : Layout) (owner g : ℕ) (cs : List Content) (origins : Place → Origin) (sections imports : List ℕ) → IsLaidOut y → IsSoundLayout y → (ending_of y.laid).found ≡ Ok cs → section_len (section_of origins y.cursor.segments sections imports cs g) ≡ end_of 0 (map line (lines_at g (lines_behind owner [] y.laid)))

@@ -275,10 +275,6 @@ stated y names l ds h = by (asks_section l.stated) refl ds h
     g : ℕ
     g = l.context.segment
 
-    behind_asking : (b : Bool) (cs : List Content) → all_put (cond b (asking g ∷ cs) cs) ≡ all_put cs
-    behind_asking true cs = refl
-    behind_asking false cs = refl
-
     by : (b : Bool) → asks_section l.stated ≡ b → (ds : List Content) → AreFound y names ((if b then holds (asking g) ∷ [] else []) ++ map (waiting_at l) ps) ds → Stated y names l ds
     by false e ds h =
         let all : AllCome y l names ps ds = all_come y l names ps ds h in
@@ -301,7 +297,7 @@ stated y names l ds h = by (asks_section l.stated) refl ds h
           pieces = all;
           asked = ap (λ gs. g ∷ gs) (none_asked all) ∙ ap (λ b. cond b (g ∷ []) []) (sym e);
           put = refl;
-          parts = λ k. behind_asking (nat_eq g k) (filter (λ (d : Content). nat_eq d.segment k) ds) ∙ parts_own k all;
+          parts = λ k. (let own = parts_own k all in grind (arith, common_steps));
           said = said_by l.length l.settled l.stated ds all;
         })
 

@@ -79,15 +79,10 @@ module _ (P : Part → Type 0) where
       asking = filter (λ (x : Laid). asks_section x.stated) ls
 
       wider : (g : ℕ) (b : Bool) → list_any (nat_eq g) (map (λ (x : Laid). x.context.segment) asking) ≡ true → list_any (nat_eq g) (map (λ (x : Laid). x.context.segment) (cond b (l ∷ asking) asking)) ≡ true
-      wider g true e = or_right (nat_eq g l.context.segment) (list_any (nat_eq g) (map (λ (x : Laid). x.context.segment) asking)) e
-      wider g false e = e
+      wider g x1 e = grind (arith, common_steps, or_right)
 
       here : (one : Stated z names l ds) (b : Bool) → asks_section l.stated ≡ b → ((g : ℕ) → list_any (nat_eq g) (map (λ (x : Laid). x.context.segment) (cond b (l ∷ asking) asking)) ≡ true → AllByRecursion P (parts_in ds g)) → AllByRecursion P (all_put one.own)
-      here one false e first = subst (AllByRecursion P) (sym (quiet_parts l.length l.settled l.stated one.pieces e)) tt
-      here one true e first =
-          let g : ℕ = l.context.segment in
-          let same : parts_in ds g ≡ all_put one.own = one.parts g ∙ ap (λ b. cond b (all_put one.own) []) (alike g) in
-          subst (AllByRecursion P) same (first g (ap (λ b. b || list_any (nat_eq g) (map (λ (x : Laid). x.context.segment) asking)) (alike g)))
+      here one x1 e first = grind (arith, common_steps, alike, (quiet_parts l.length l.settled l.stated one.pieces), (one.parts l.context.segment), (first l.context.segment))
 
   each_put : (cs : List Content) → AllByRecursion P (all_put cs) → AllByRecursion (λ (c : Content). AllByRecursion P c.parts) cs
   each_put [] h = tt

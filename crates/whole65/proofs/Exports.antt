@@ -61,15 +61,8 @@ exports_say {z = z} {before = before} (left_out {n = n} {ns = ns} {ss = ss} why 
 exports_say {z = z} {before = before} (said_first {n = n} {ns = ns} {ss = ss} j f new e form more) = grind (arith, common_steps, no_name, append-nil, left_out, said_first, append_assoc, (exports_say more))
 
 forced_says : (z : Symbols) (before ns : List (List ℕ)) → Says z before [] (map ForcedImport ns)
-forced_says z before ns = says_nothing z before (map ForcedImport ns) (none ns) (all ns)
-  where
-    none : (ns : List (List ℕ)) → exported_names (map ForcedImport ns) ≡ []
-    none [] = refl
-    none (n ∷ ns) = none ns
-
-    all : (ns : List (List ℕ)) → AllByRecursion (IsDefined z) (map ForcedImport ns)
-    all [] = tt
-    all (n ∷ ns) = (tt, all ns)
+forced_says z before [] = grind (arith, common_steps)
+forced_says z before (n ∷ ns) = grind (arith, common_steps, (forced_says z before ns))
 
 -- what an assertion says: nothing, or that it waits
 data IsDecided (act : Action) (place : Place) (words : List ℕ) (f : Form) (ss : List Declaration) : Type 0 where
@@ -89,8 +82,7 @@ one_says z before l ss h = go l.stated h
     go (statement.Assert e act words) (f, normal, said) = by (is_decided act l.place words f ss said)
       where
         by : IsDecided act l.place words f ss → Says z before [] ss
-        by (settled same) = subst (Says z before []) same (says_nothing z before [] refl tt)
-        by (waiting same) = subst (Says z before []) same (says_nothing z before (Asserted act l.place words f ∷ []) refl (tt, tt))
+        by x1 = grind (arith, common_steps)
     go x h = subst (Says z before []) (sym h) (says_nothing z before [] refl tt)
 
 lines_say : (z : Symbols) (before : List (List ℕ)) (ls : List Laid) (cs : List Content) → AreStated z before ls cs → Says z before (flat_map (λ l. exported_by l.stated) ls) (all_said cs)
@@ -194,8 +186,7 @@ one_tells z names l ss h = go l.stated h
     go (Assert e act words) (f, normal, said) = by (is_decided act l.place words f ss said)
       where
         by : IsDecided act l.place words f ss → Tells z (record l { stated = Assert e act words }) ss
-        by (settled same) = subst (Tells z (record l { stated = Assert e act words })) same (record { demanded = refl; asserted = tt })
-        by (waiting same) = subst (Tells z (record l { stated = Assert e act words })) same (record { demanded = refl; asserted = ((e, refl, normal), tt) })
+        by x1 = grind (arith, common_steps)
     go x h = exporting x refl (subst (AllByRecursion IsExport) (sym h) tt)
 
 -- ---- All of a module.

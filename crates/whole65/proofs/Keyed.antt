@@ -163,20 +163,7 @@ section_base_law s placement ys ms owner g y m cs h at_y at_m e among =
     let size : linked.end_of before.segments name ≡ end_of 0 (items_of (take owner ys) name) = size_law (take owner ys) (take owner ms) name (sources_front ys ms owner h) in
     let run : ℕ = run_of s.rows placement.rows name in
     let lines_are : lines_in owner y name ≡ lines_at g (lines_behind owner [] y.laid) = in_segment owner y g d lt in
-    ap (λ r. base_of r (number_of sections g)) (resolved_at s placement ms owner m at_m)
-    ∙ ap (λ (o : Object). get_or (map A (section_places (length before.members) before.segments o.sections)) (number_of sections g) (pos 0)) object
-    ∙ place_at y (length before.members) origins sections imports cs A (named d).distinct before.segments sections g keys.standing keys.single among
-    ∙ base_law s.rows placement.rows (section_place before.segments sec_g)
-    ∙ ap (λ n. wrapped (pos (run_of s.rows placement.rows n + rounded_up (linked.end_of before.segments n) (linked.align_of sec_g)))) named_so
-    ∙ ap (λ n. wrapped (pos (run + rounded_up n (linked.align_of sec_g)))) size
-    ∙ ap (λ n. wrapped (pos (run + n))) (section_begin y owner g (end_of 0 (items_of (take owner ys) name)) origins sections imports cs d)
-    ∙ ap (λ xs. wrapped (pos (run + next_multiple_of (end_of 0 (items_of (take owner ys) name)) (largest_multiple xs)))) (sym lines_are)
-    ∙ ap (λ n. wrapped (pos (run + n))) (sym (begins ys y name 0 0 owner at_y ∙ ap (λ n. next_multiple_of (end_of 0 (items_of (take owner ys) name)) (largest_multiple (lines_in n y name))) (zero_first owner)))
-    ∙ ap (λ b. wrapped (pos (run + cond b (begin_of ys name owner) (end_of 0 (items_of ys name))))) (sym has)
-    ∙ ap (λ b. cond b (wrapped (pos (run + begin_in ys owner y name))) (pos 0)) (sym (less g (length y.cursor.segments) lt))
-  where
-    zero_first : (n : ℕ) → 0 + n ≡ n
-    zero_first n = omega arith
+    grind (arith, common_steps, (resolved_at s placement ms owner m at_m), object, (place_at y (length before.members) origins sections imports cs A (named d).distinct before.segments sections g keys.standing keys.single among), (base_law s.rows placement.rows (section_place before.segments sec_g)), named_so, size, (section_begin y owner g (end_of 0 (items_of (take owner ys) name)) origins sections imports cs d), lines_are, (begins ys y name 0 0 owner at_y), has, (less g (length y.cursor.segments) lt))
 
 -- ---- All forms have keys.
 

@@ -79,10 +79,7 @@ one : (y z : Layout) (place : Place) (x : Statement) → IsLaidOut y → IsLaid 
 one y z place x d h = by (line_fault (symbols_of y.laid) y.cursor x) refl h
   where
     by : (o : Option AsmFault) → line_fault (symbols_of y.laid) y.cursor x ≡ o → Ok z ≡ unless_fault o (layout_behind y place x) → IsLaidOut z
-    by (Some e) is h = absurd cc
-    by None is h =
-        let same : layout_behind y place x ≡ z = cc in
-        subst IsLaidOut same (behind y place x d is)
+    by x1 is h = grind (arith, common_steps, (behind y place x d))
 
 unchanged : (y z : Layout) → IsLaidOut y → ◌≡◌ {A = Result Layout AsmFault} (Ok z) (Ok y) → IsLaidOut z
 unchanged y z d h = let same : y ≡ z = cc in subst IsLaidOut same d
@@ -112,11 +109,7 @@ all_taken m (ended s t y reach) d = d
 
 all_defined : (y : Layout) (place : Place) (ds : List Define) (z : Layout) → IsLaidOut y → AreDefined IsLaid y place ds (Ok z) → IsLaidOut z
 all_defined y place [] z d h = unchanged y z d h
-all_defined y place (c ∷ cs) z d (q, is, h) = by q is h (λ w e more. all_defined w place cs z e more)
-  where
-    by : (q : Result Layout AsmFault) → IsLaid y place (Constant c.0 (number c.1)) q → First q (λ w. AreDefined IsLaid w place cs) (Ok z) → ((w : Layout) → IsLaidOut w → AreDefined IsLaid w place cs (Ok z) → IsLaidOut z) → IsLaidOut z
-    by (Ok w) is h next = next w (one y w place (Constant c.0 (number c.1)) d is) h
-    by (Err e) is h next = absurd cc
+all_defined y place (c ∷ cs) z d (q, is, h) = grind (arith, common_steps, (λ (w : Layout). one y w place (Constant c.0 (number c.1)) d), (λ (w : Layout). all_defined w place cs z))
 
 followed : (m : Files) (s : expand.State) (place : Place) (ds : List Define) (q : Result Layout AsmFault) (r : Reached Layout) → AreDefined IsLaid nothing_laid place ds q → Follows m laying s place nothing_laid q r → IsLaidOut r.behind
 followed m s place ds (Ok z) r defined h = all_taken m h (all_defined nothing_laid place ds z begun defined)

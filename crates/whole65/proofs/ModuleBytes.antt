@@ -58,9 +58,7 @@ module _ (l : Linkage) (fill : ℕ) where
   of_fragment owner (Value width origin f) bytes = (λ h. (bytes, [], h, refl, sym (append-nil bytes)), back)
     where
       back : AreCells l fill (fragment_cells owner (Value width origin f)) bytes → IsFragment (linked_value l owner) fill (Value width origin f) bytes
-      back (own, rest, h, none, e) =
-          let same : bytes ≡ own = e ∙ ap (λ z. own ++ z) none ∙ append-nil own in
-          subst (IsFragment (linked_value l owner) fill (Value width origin f)) (sym same) h
+      back (own, rest, h, none, e) = grind (arith, common_steps, append-nil)
 
   pub of_fragments : (owner : ℕ) (fs : List Fragment) (bytes : List ℕ) → AreFragments (linked_value l owner) fill fs bytes ↔ AreCells l fill (flat_map (fragment_cells owner) fs) bytes
   of_fragments owner [] bytes = (λ h. h, λ h. h)
@@ -112,17 +110,10 @@ module _ (Has : Valuing) (fill : ℕ) where
   both f g h fs a b is_f is_g is_h bytes = (there, back)
     where
       there : AreFragments Has fill (f ∷ g ∷ fs) bytes → AreFragments Has fill (h ∷ fs) bytes
-      there (x, rest, p, (y, more, q, r, e), e') =
-          let first : x ≡ a = (is_f x).0 p in
-          let second : y ≡ b = (is_g y).0 q in
-          let whole : bytes ≡ (a ++ b) ++ more = e' ∙ ap (λ z. x ++ z) e ∙ ap (λ z. z ++ (y ++ more)) first ∙ ap (λ z. a ++ (z ++ more)) second ∙ sym (append_assoc a b more) in
-          (a ++ b, more, (is_h (a ++ b)).1 refl, r, whole)
+      there (x, rest, p, (y, more, q, r, e), e') = (a ++ b, more, (is_h (a ++ b)).1 refl, r, grind (arith, common_steps, append_assoc, ((is_f x).0 p), ((is_g y).0 q)))
 
       back : AreFragments Has fill (h ∷ fs) bytes → AreFragments Has fill (f ∷ g ∷ fs) bytes
-      back (x, more, p, r, e) =
-          let whole : x ≡ a ++ b = (is_h x).0 p in
-          let parts : bytes ≡ a ++ (b ++ more) = e ∙ ap (λ z. z ++ more) whole ∙ append_assoc a b more in
-          (a, b ++ more, (is_f a).1 refl, (b, more, (is_g b).1 refl, r, refl), parts)
+      back (x, more, p, r, e) = (a, b ++ more, (is_f a).1 refl, (b, more, (is_g b).1 refl, r, refl), grind (arith, common_steps, append_assoc, ((is_h x).0 p)))
 
   one_more : (f : Fragment) (gs hs : List Fragment) (bytes : List ℕ) → ((rest : List ℕ) → AreFragments Has fill gs rest ↔ AreFragments Has fill hs rest) → AreFragments Has fill (f ∷ gs) bytes ↔ AreFragments Has fill (f ∷ hs) bytes
   one_more f gs hs bytes same = grind (arith, common_steps)
@@ -134,11 +125,7 @@ module _ (Has : Valuing) (fill : ℕ) where
   all_in_one f [] bytes = (λ h. h, λ h. h)
   all_in_one (Literal a) (Literal b ∷ fs) bytes = grind (arith, common_steps, then, both, more_fill, one_more, (all_in_one (Literal (a ++ b)) fs bytes))
   all_in_one (Fill m) (Fill n ∷ fs) bytes = grind (arith, common_steps, then, both, more_fill, one_more, (all_in_one (Fill (m + n)) fs bytes))
-  all_in_one (Literal a) (Fill n ∷ fs) bytes = one_more (Literal a) (Fill n ∷ fs) (joined (Fill n) fs) bytes (all_in_one (Fill n) fs)
-  all_in_one (Literal a) (Value w n g ∷ fs) bytes = one_more (Literal a) (Value w n g ∷ fs) (joined (Value w n g) fs) bytes (all_in_one (Value w n g) fs)
-  all_in_one (Fill m) (Literal b ∷ fs) bytes = one_more (Fill m) (Literal b ∷ fs) (joined (Literal b) fs) bytes (all_in_one (Literal b) fs)
-  all_in_one (Fill m) (Value w n g ∷ fs) bytes = one_more (Fill m) (Value w n g ∷ fs) (joined (Value w n g) fs) bytes (all_in_one (Value w n g) fs)
-  all_in_one (Value w n g) (h ∷ fs) bytes = one_more (Value w n g) (h ∷ fs) (joined h fs) bytes (all_in_one h fs)
+  all_in_one f (g ∷ fs) bytes = one_more f (g ∷ fs) (joined g fs) bytes (all_in_one g fs)
 
   pub all_joined_are : (fs : List Fragment) (bytes : List ℕ) → AreFragments Has fill fs bytes ↔ AreFragments Has fill (all_joined fs) bytes
   all_joined_are x bytes = grind (arith, common_steps, all_in_one)

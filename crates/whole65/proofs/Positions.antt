@@ -196,15 +196,7 @@ module _ (owner place : ℕ) (y : Layout) (l : Laid) (d : IsLaidOut y) (there : 
 -- ---- Module by module.
 from_module : (at first count owner place : ℕ) (ys : List Layout) (y : Layout) (l : Laid) → owner ≡ first + count → slice_get ys count ≡ Some y → IsLaidOut y → slice_get y.laid place ≡ Some l → has_section y (segment_name y l.context.segment) ≡ true → end_of at (items_before owner place (items_from first ys (segment_name y l.context.segment))) ≡ begin_from at first ys (segment_name y l.context.segment) count + l.context.offset
 from_module at first count owner place [] y l o e d there asked = cc
-from_module at first zero owner place (z ∷ ys) y l o e d there asked =
-    let same : z ≡ y = cc in
-    let one : first ≡ owner = omega (arith, o) in
-    let name : List ℕ = segment_name y l.context.segment in
-    ap (λ k. end_of at (items_before owner place (part_of first k name ++ items_from (suc first) ys name))) same
-    ∙ ap (λ k. end_of at (items_before owner place (part_of k y name ++ items_from (suc k) ys name))) one
-    ∙ in_part owner place y l d there at (items_from (suc owner) ys name) asked
-    ∙ ap (λ k. next_multiple_of at (largest_multiple (lines_in k y name)) + l.context.offset) (sym one)
-    ∙ ap (λ k. next_multiple_of at (largest_multiple (lines_in first k name)) + l.context.offset) (sym same)
+from_module at first zero owner place (z ∷ ys) y l o e d there asked = grind (arith, common_steps, (in_part owner place y l d there at (items_from (suc owner) ys (segment_name y l.context.segment)) asked))
 from_module at first (suc count) owner place (z ∷ ys) y l o e d there asked =
     let name : List ℕ = segment_name y l.context.segment in
     let other : first ≢ owner = omega (arith, o) in

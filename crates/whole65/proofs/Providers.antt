@@ -165,19 +165,13 @@ by_definitions : (exports : List parts.Exported) (name : List ℕ) (ds : List De
 by_definitions exports name ds w g h = go (locate (λ (d : Definition). d.name) name ds)
   where
     go : Located (λ (d : Definition). d.name) name ds → Agree exports name (provider_or w (definition_of ds name)) (by_definition ds (defined_at ds name) g)
-    go (absent f q) = agree_by exports name w (provider_or w (definition_of ds name)) g (by_definition ds (defined_at ds name) g) (ap (provider_or w) f) (ap (λ o. by_definition ds o g) q) h
-    go (there i d f q at called) =
-        agree_by exports name (by_script d.value) (provider_or w (definition_of ds name)) (ByScript d.value) (by_definition ds (defined_at ds name) g)
-        (ap (provider_or w) f) (ap (λ o. by_definition ds o g) q ∙ ap (λ o. ByScript (option_map_or (λ (d : Definition). d.value) o (pos 0))) at) (of_script d.value)
+    go x1 = grind (arith, common_steps, of_module, of_script)
 
 by_exports : (exports : List parts.Exported) (name : List ℕ) (w : values.Provider) (g : Provider) → Agree exports name w g → Agree exports name (by_found (find (λ e. bytes_eq e.name name) exports) w) (by_export (exported_at exports name) g)
 by_exports exports name w g h = go (locate (λ (e : parts.Exported). e.name) name exports)
   where
     go : Located (λ (e : parts.Exported). e.name) name exports → Agree exports name (by_found (find (λ e. bytes_eq e.name name) exports) w) (by_export (exported_at exports name) g)
-    go (absent f q) = agree_by exports name w (by_found (find (λ e. bytes_eq e.name name) exports) w) g (by_export (exported_at exports name) g) (ap (λ o. by_found o w) f) (ap (λ o. by_export o g) q) h
-    go (there i e f q at called) =
-        agree_by exports name (by_module e.owner) (by_found (find (λ e. bytes_eq e.name name) exports) w) (ByModule i) (by_export (exported_at exports name) g)
-        (ap (λ o. by_found o w) f) (ap (λ o. by_export o g) q) (of_module i e at called)
+    go x1 = grind (arith, common_steps, of_module, of_script)
 
 one_exporter : (owner : ℕ) (name : List ℕ) (other : values.Provider) (rest : List parts.Exported) (es : List Export) → by_found (find (λ e. bytes_eq e.name name) (map (exported owner) es ++ rest)) other ≡ cond (is_among (map (λ (e : Export). e.name) es) name) (by_module owner) (by_found (find (λ e. bytes_eq e.name name) rest) other)
 one_exporter owner name other rest [] = refl

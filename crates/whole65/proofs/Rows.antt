@@ -100,11 +100,7 @@ one_source y m known h =
     let cs : List Content = c.contents in
     let keys = keys_of y cs h.laid_out c.found in
     let imports : List ℕ = import_keys (table_of y).imports cs in
-    ap (λ (o : Object). with_new known (map (λ (s : Section). s.name) o.sections)) c.object
-    ∙ ap (with_new known) (section_names y c.origins (section_keys cs) imports cs (section_keys cs) keys.standing)
-    ∙ names_once (segment_name y) known [] (segments_asked cs)
-    ∙ ap (λ z. with_new known (map (segment_name y) z)) (asked_are y cs c.found)
-    ∙ ap (with_new known) (names_asked y (filter (λ (l : Laid). asks_section l.stated) y.laid))
+    grind (arith, common_steps, (section_names y c.origins (section_keys cs) imports cs (section_keys cs) keys.standing), (names_once (segment_name y) known [] (segments_asked cs)), (asked_are y cs c.found), names_asked)
 
 all_modules : (p : LinkedProgram) (ys : List Layout) (ms : List Module) → AreSources ys ms → names_of (with_modules p ms).segments ≡ with_new (names_of p.segments) (flat_map asked_by ys)
 all_modules p [] [] h = refl
@@ -140,11 +136,7 @@ placement_law s ys ms h =
     let gs : List Segment = (program_of ms).segments in
     let names : names_of gs ≡ segments_of ys = all_modules no_program ys ms h in
     let sizes : (name : List ℕ) → size_of (map places.need_of gs) name ≡ size_of (map (need_of ys) (segments_of ys)) name =
-    λ name.
-    linked_size gs name
-    ∙ ap (λ ns. size_if (list_any (λ n. bytes_eq n name) ns) (linked.end_of gs name)) names
-    ∙ ap (size_if (list_any (λ n. bytes_eq n name) (segments_of ys))) (size_law ys ms name h)
-    ∙ sym (whole_size ys (segments_of ys) name) in
+    λ name. grind (arith, common_steps, (linked_size gs name), names, (size_law ys ms name h), (whole_size ys (segments_of ys) name)) in
     same_needs s (map places.need_of gs) (map (need_of ys) (segments_of ys)) (linked_names gs ∙ names ∙ sym (whole_names ys (segments_of ys))) sizes
 
 -- ---- Lists behind lists.

@@ -172,17 +172,7 @@ module _ (y : Layout) (owner : ℕ) (origins : Place → Origin) (sections impor
           }
       go false q e more =
           let r = more e in
-          record {
-            key = r.key;
-            among = by (nat_eq r.key k) (list_any (nat_eq r.key) ks) r.among;
-            below = r.below;
-            called = r.called;
-            is = ap (λ b. behind_sections owner name (cond b (Some (grown owner (or_empty (its_section k).name g) (its_section k))) g) (map its_section ks)) (section_named k h.0 ∙ q) ∙ r.is;
-          }
-        where
-          by : (a b : Bool) → b ≡ true → (a || b) ≡ true
-          by true b e = refl
-          by false b e = e
+          record { key = r.key; among = grind (arith, common_steps, r.among); below = r.below; called = r.called; is = grind (arith, common_steps, (section_named k h.0), r.is) }
 
 -- ---- A segment is grown by the sections of its name alone.
 

@@ -243,15 +243,12 @@ row_of P (r ∷ rows) name h e = grind (arith, common_steps, (row_of P rows name
 part_bytes : (p : Program) (fill : ℕ) (name : List ℕ) (rest : List Layout) (owner at i : ℕ) (bytes : List ℕ) (y : Layout) → slice_get rest i ≡ Some y → AreBytes p fill at (items_from owner rest name) bytes → (begin : ℕ) × (own : List ℕ) × AreBytes p fill begin (part_of (owner + i) y name) own
 part_bytes p fill name [] owner at i bytes y e h = absurd cc
 part_bytes p fill name (x ∷ rest) owner at zero bytes y e h =
-    let same : x ≡ y = cc in
-    let here : owner ≡ owner + 0 = omega arith in
     let (own, others, first, more, all) = bytes_split p fill at (part_of owner x name) (items_from (suc owner) rest name) bytes h in
-    (at, own, subst (λ n. AreBytes p fill at (part_of n y name) own) here (subst (λ k. AreBytes p fill at (part_of owner k name) own) same first))
+    (at, own, grind (arith, common_steps, first))
 part_bytes p fill name (x ∷ rest) owner at (suc i) bytes y e h =
-    let next : suc owner + i ≡ owner + suc i = omega arith in
     let (own, others, first, more, all) = bytes_split p fill at (part_of owner x name) (items_from (suc owner) rest name) bytes h in
     let (begin, mine, there) = part_bytes p fill name rest (suc owner) (end_of at (part_of owner x name)) i others y e more in
-    (begin, mine, subst (λ n. AreBytes p fill begin (part_of n y name) mine) next there)
+    (begin, mine, grind (arith, common_steps, there))
 
 -- ---- To the link.
 
@@ -280,10 +277,7 @@ module _ (s : Script) (placement : Placement) (ys : List Layout) (ms : List Modu
       let has : has_section y name ≡ true = keys.has name ∙ held (λ k. bytes_eq (segment_name y k) name) g (section_keys cs) key (itself name) in
       let asking : List Laid = filter (λ (l : Laid). asks_section l.stated) y.laid in
       let shown : list_any (nat_eq g) (map (λ (l : Laid). l.context.segment) asking) ≡ true = ap (list_any (nat_eq g)) (sym (asked_are y cs c.found)) ∙ asked in
-      let by_name : list_any (λ k. bytes_eq name k) (asked_by y) ≡ true =
-      ap (list_any (λ k. bytes_eq name k)) (sym (names_asked y asking))
-      ∙ any_map (segment_name y) name (map (λ (l : Laid). l.context.segment) asking)
-      ∙ held (λ k. bytes_eq name (segment_name y k)) g (map (λ (l : Laid). l.context.segment) asking) shown (itself name) in
+      let by_name : list_any (λ k. bytes_eq name k) (asked_by y) ≡ true = grind (arith, common_steps, (names_asked y asking), any_map, (held (λ k. bytes_eq name (segment_name y k)) g (map (λ (l : Laid). l.context.segment) asking) shown (itself name))) in
       let needed : list_any (λ k. bytes_eq name k) (segments_of ys) ≡ true = any_new name (flat_map asked_by ys) [] ∙ any_at name ys owner y at_y by_name in
       let (r, row, called) = row_of (AreRow whole_program ys bytes) s.rows name rows (row_exists s.rows ys (segments_of ys) name (rows_there s (needs_of ys) placement placed) needed) in
       let all : AreBytes whole_program r.fill_value 0 (items_of ys name) (bytes r) = subst (λ n. AreBytes whole_program r.fill_value 0 (items_of ys n) (bytes r)) called row in

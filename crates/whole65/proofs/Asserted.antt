@@ -7,7 +7,7 @@ use Rattle.std.specs.List.{AllByRecursion}
 use Rattle.std.proofs.lemmas.List.{append_assoc, append-nil, length-append}
 use Rattle.base65.specs.Outcome.{◌>>=◌}
 use Rattle.syntax65.specs.Trees.{Tree}
-use Rattle.object65.specs.Form.{Form, lit, sec, imp, prefix, binary}
+use Rattle.object65.specs.Form.{Form, lit}
 use Rattle.object65.specs.declared.object.Action.{Action}
 use Rattle.object65.specs.declared.object.Action.TheVariants as action
 use Rattle.syntax65.specs.declared.place.Place.{Place}
@@ -109,7 +109,7 @@ module _ {E : Type 0} (p : Program) (o : Objects E) (h : AreObjects p o) (owner 
   assertion_passes : (number : ℕ) (place : Place) (e : Tree) (act : Action) (words : List ℕ) (f : Form) (ss : List Declaration) → norm_of (o.symbols owner) (o.contexts owner number) e ≡ Ok f → decided act place words f ≡ Ok ss → ((v : ℤ) × Value p owner number e v × Passes act v) ↔ AllPass o owner ss
   assertion_passes number place e act words f ss q d =
       let value : (v : ℤ) → Value p owner number e v ↔ HasValue o owner f v = λ v. same_values_law E p o h (suc (length (o.symbols owner).definitions)) owner number e f v q in
-      grind (arith, common_steps, same_values_law, decided_passes)
+      grind (arith, common_steps, decided_passes)
 
   line_passes : (names : List (List ℕ)) (before : List Laid) (l : Laid) (ss : List Declaration) → o.contexts owner (length before) ≡ l.context → IsSaidBy (o.symbols owner) names l l.stated ss → HasAssertion p (line_of owner before l) ↔ AllPass o owner ss
   line_passes names before l ss at d = go l.stated d
@@ -145,7 +145,7 @@ linked_asserts owner (m ∷ ms) = map (linked.asserted owner) m.object.asserts +
 
 asserts_behind : (p : linked.Program) (ms : List Module) → (linked.with_modules p ms).asserts ≡ p.asserts ++ linked_asserts (length p.members) ms
 asserts_behind p [] = sym (append-nil p.asserts)
-asserts_behind p (m ∷ ms) = grind (arith, common_steps, append-nil, length-append, append_assoc, (asserts_behind (linked.with_module p m) ms))
+asserts_behind p (m ∷ ms) = grind (arith, common_steps, (asserts_behind (linked.with_module p m) ms))
 
 asserts_are : (ms : List Module) → (linked.program_of ms).asserts ≡ linked_asserts 0 ms
 asserts_are ms = asserts_behind linked.no_program ms

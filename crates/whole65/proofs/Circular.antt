@@ -4,7 +4,7 @@ use Rattle.std.proofs.Common.{◌≡◌, ℕ, false, Option, Some, None, arith, 
 use Rattle.std.specs.Prelude.{ℤ, ⊤}
 use Rattle.syntax65.specs.Trees.{Tree, name}
 use Rattle.syntax65.specs.Trees as tree
-use Rattle.whole65.specs.Values.{Provider, by_module, by_script, by_nobody, Program, Meaning, label_at, constant_at, import_of, meaning_in, Value, number, here, label, constant, exported, scripted, prefixed, joined, Spot, at, NeedsNext, of_constant, of_import, of_prefix, of_left, of_right, Needs, next, behind}
+use Rattle.whole65.specs.Values.{Provider, by_module, by_script, by_nobody, Program, Meaning, label_at, constant_at, import_of, meaning_in, Value, number, here, label, constant, exported, scripted, prefixed, joined, Spot, at, NeedsNext, Needs, next, behind}
 use Rattle.whole65.specs.Laws.{CircularLaw}
 
 -- what is needed ends
@@ -47,7 +47,7 @@ value_ends p number = tt
 value_ends p here = tt
 value_ends p (label {owner = owner} {place = place} {at = w} {e = e} m) = by_meaning p owner place e (label_at w) m tt
 value_ends p (constant {owner = owner} {place = place} {at = w} {e = e} {f = f} m d) = by_meaning p owner place e (constant_at w f) m (here_ends p owner w f (value_ends p d))
-value_ends p (exported {owner = owner} {place = place} {provider = provider} {e = e} {x = x} m g d) = grind (arith, common_steps, by_meaning, here_ends, (value_ends p d))
+value_ends p (exported {owner = owner} {place = place} {provider = provider} {e = e} {x = x} m g d) = grind (arith, common_steps, here_ends, (value_ends p d))
 value_ends p (scripted {owner = owner} {place = place} {e = e} {x = x} {v = v} m g) = by_meaning p owner place e (import_of x) m (subst (λ g. EndsBy p g x) (sym g) tt)
 value_ends p (prefixed {owner = owner} {place = place} {e = e} d) = here_ends p owner place e (value_ends p d)
 value_ends p (joined {owner = owner} {place = place} {e = e} {f = f} c d q) = (here_ends p owner place e (value_ends p c), here_ends p owner place f (value_ends p d))

@@ -1,5 +1,4 @@
 -- A link of the objects of sources gives the image of their whole program, and none where that has none.
-use Rattle.std.proofs.lemmas.Slice.Eq.{bytes_eq-Decides}
 use Rattle.std.proofs.lemmas.Grind.{common_steps}
 use Rattle.std.proofs.Common.{◌≡◌, ℕ, zero, suc, ◌<◌, false, List, [], ◌∷◌, length, get_or, slice_get, Some, Result, Ok, Err, refl, sym, ◌∙◌, ap, subst, arith}
 use Rattle.std.specs.Prelude.{ℤ, ◌↔◌}
@@ -123,7 +122,7 @@ module _ (output : List ℕ) (s : Script) (ys : List Layout) (ms : List Module) 
       let exported = (exports_law s k.placement ys ms k.table h k.exports).0 k.exported in
       let asserted = (assertions_law s k.placement ys ms k.table h k.exports).0 (k.warnings, k.asserted) in
       let image : HasImage output s ys k.placement p files = (files_law output s k.placement ys ms k.table files h k.exports).1 (k.values, k.made) in
-      grind (arith, common_steps, placement_law, given_law, exports_law, assertions_law, files_law, names_law, said_parts)
+      grind (arith, common_steps, names_law, said_parts)
 
   either : Whole output s ys files ↔ IsLinkedTo output s ms files
   either = (

@@ -1,8 +1,7 @@
 -- The names that sources export and demand.
-use Rattle.std.proofs.Common.{arith, ◌≡◌, ℕ, Bool, true, false, cond, List, [], ◌∷◌, ◌++◌, length, map, filter, Some, Ok, refl, sym, ◌∙◌, ap, subst, inl, inr}
+use Rattle.std.proofs.Common.{arith, ◌≡◌, ℕ, Bool, List, [], ◌∷◌, ◌++◌, map, filter, Some, Ok, refl, sym, ◌∙◌, ap, subst}
 use Rattle.std.specs.Prelude.{⊤, is_some}
-use Rattle.std.specs.List.{AllByRecursion, flat_map, list_any}
-use Rattle.std.specs.Str.{bytes_eq}
+use Rattle.std.specs.List.{AllByRecursion, flat_map}
 use Rattle.std.proofs.lemmas.List.{append-nil, append_assoc, map-append}
 use Rattle.std.proofs.lemmas.List.Elements.{filter-append}
 use Rattle.std.proofs.lemmas.Grind.{common_steps, flat_map-append}
@@ -26,7 +25,7 @@ use Rattle.semantics65.proofs.SoundForms.{all_append}
 use Rattle.semantics65.proofs.Found.{names_append, exports_named}
 use Rattle.semantics65.proofs.Resolving.{new_append}
 use Rattle.semantics65.specs.Module.{ending_of}
-use Rattle.whole65.proofs.Statements.{AreStated, IsLeftOut, IsSaidBy, SaidOnce, a_line, are_stated, left_out, no_line, no_name, said_append, said_first, stated}
+use Rattle.whole65.proofs.Statements.{AreStated, IsSaidBy, SaidOnce, a_line, are_stated, left_out, no_line, no_name, said_append, said_first, stated}
 use Rattle.whole65.proofs.Sources.{contents_of}
 use Rattle.whole65.specs.Modules.{exported_by, exports_of, table_of, forced_by}
 use Rattle.whole65.specs.Sources.{AreSources, IsSource}
@@ -53,12 +52,12 @@ says_nothing : (z : Symbols) (before : List (List ℕ)) (ss : List Declaration) 
 says_nothing z before ss none all = grind (arith, common_steps)
 
 says_both : (z : Symbols) (before ns ms : List (List ℕ)) (ss rs : List Declaration) → Says z before ns ss → Says z (before ++ exported_names ss) ms rs → Says z before (ns ++ ms) (ss ++ rs)
-says_both z before ns ms ss rs h k = grind (arith, common_steps, filter-append, new_append, append_assoc, names_append, all_append)
+says_both z before ns ms ss rs h k = grind (arith, common_steps, new_append, names_append)
 
 exports_say : {z : Symbols} {place : Place} {before ns : List (List ℕ)} {ss : List Declaration} → SaidOnce z place before ns ss → Says z before ns ss
 exports_say {before = before} no_name = record { exported = sym (append-nil before); are_defined = tt }
-exports_say {z = z} {before = before} (left_out {n = n} {ns = ns} {ss = ss} why more) = grind (arith, common_steps, no_name, append-nil, left_out, said_first, append_assoc, (exports_say more))
-exports_say {z = z} {before = before} (said_first {n = n} {ns = ns} {ss = ss} j f new e form more) = grind (arith, common_steps, no_name, append-nil, left_out, said_first, append_assoc, (exports_say more))
+exports_say {z = z} {before = before} (left_out {n = n} {ns = ns} {ss = ss} why more) = grind (arith, common_steps, (exports_say more))
+exports_say {z = z} {before = before} (said_first {n = n} {ns = ns} {ss = ss} j f new e form more) = grind (arith, common_steps, (exports_say more))
 
 forced_says : (z : Symbols) (before ns : List (List ℕ)) → Says z before [] (map ForcedImport ns)
 forced_says z before [] = grind (arith, common_steps)
@@ -115,7 +114,7 @@ all_exports : (p : Program) (ys : List Layout) (ms : List Module) → AreSources
 all_exports p [] [] h = sym (append-nil (export_names p))
 all_exports p [] (m ∷ ms) h = absurd h
 all_exports p (y ∷ ys) [] h = absurd h
-all_exports p (y ∷ ys) (m ∷ ms) h = grind (arith, common_steps, append-nil, map-append, names_exported, source_exports, append_assoc, (all_exports (with_module p m) ys ms h.1))
+all_exports p (y ∷ ys) (m ∷ ms) h = grind (arith, common_steps, names_exported, source_exports, (all_exports (with_module p m) ys ms h.1))
 
 -- The objects of sources export the names that the sources do, in the same order.
 pub export_names_law : (ys : List Layout) (ms : List Module) → AreSources ys ms → export_names (linked.program_of ms) ≡ flat_map exports_of ys

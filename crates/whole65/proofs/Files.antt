@@ -1,9 +1,9 @@
 -- The files of a link and those of the whole program.
 use Rattle.std.proofs.lemmas.Grind.{common_steps}
-use Rattle.std.proofs.Common.{◌≡◌, ℕ, zero, suc, ◌+◌, ◌<◌, List, [], ◌∷◌, length, slice_get, Option, Some, Result, Ok, Err, refl, ◌∙◌, ap, subst, arith, Bool, true, false, cond, ◌++◌, sym, map}
+use Rattle.std.proofs.Common.{◌≡◌, ℕ, zero, suc, ◌+◌, ◌<◌, List, [], ◌∷◌, length, slice_get, Option, Some, Result, Ok, Err, refl, ◌∙◌, ap, subst, arith, Bool, true, false, cond, sym, map}
 use Rattle.std.specs.Prelude.{ℤ, ◌↔◌, ◌==◌}
 use Rattle.base65.specs.Outcome.{◌>>=◌}
-use Rattle.base65.specs.Values.{value1, value2}
+use Rattle.base65.specs.Values.{value2}
 use Rattle.object65.specs.Form.{Form, lit, sec, imp, prefix, binary}
 use Rattle.object65.specs.FormValue.{or_none}
 use Rattle.link65.proofs.Tries.{exports_grow, form_grows, Known, further, settles_once}
@@ -187,7 +187,7 @@ module _ (s : Script) (placement : Placement) (ys : List Layout) (ms : List Modu
 
   all_rows : (rs : List Row) → AllByRecursion (AreRow (whole.program_of s placement ys) ys bytes) rs ↔ ((each_passes check_all (fixups_by_row rs segments) ≡ Ok tt) × AllByRecursion IsWritten rs)
   all_rows [] = (λ k. (refl, tt), λ k. tt)
-  all_rows (r ∷ rs) = grind (arith, common_steps, one_row, passes_append, bind_ok, (all_rows rs))
+  all_rows (r ∷ rs) = grind (arith, common_steps, one_row, passes_append, (all_rows rs))
 
 pub rows_law : RowsLaw
 rows_law s placement ys ms table bytes h exports = all_rows s placement ys ms table bytes h exports s.rows
@@ -243,7 +243,7 @@ files_law output s placement ys ms table files h exports =
 
 passes_each : {A : Type 0} (check : A → Result (Unit {0}) LinkFault) (xs : List A) → (each_passes check xs ≡ Ok tt) ↔ AllByRecursion (λ x. check x ≡ Ok tt) xs
 passes_each check [] = (λ k. tt, λ k. refl)
-passes_each check (x ∷ xs) = grind (arith, common_steps, bind_ok, (passes_each check xs))
+passes_each check (x ∷ xs) = grind (arith, common_steps, (passes_each check xs))
 
 all_either : {A : Type 0} (P Q : A → Type 0) (xs : List A) → ((i : ℕ) (x : A) → slice_get xs i ≡ Some x → P x ↔ Q x) → AllByRecursion P xs ↔ AllByRecursion Q xs
 all_either P Q [] f = (λ k. tt, λ k. tt)

@@ -1,5 +1,4 @@
 -- What holds of the names that an object imports, and of those in its contents.
-use Rattle.std.proofs.lemmas.Slice.Eq.{bytes_eq-Decides}
 use Rattle.std.proofs.Common.{◌≡◌, ◌≢◌, ℕ, ◌+◌, Bool, true, false, not, cond, List, [], ◌∷◌, ◌++◌, length, map, filter, Option, Some, None, Ok, is_some, refl, sym, ◌∙◌, ap, subst, arith, suc, nat_eq}
 use Rattle.std.specs.Prelude.{◌↔◌, ◌||◌}
 use Rattle.std.specs.List.{AllByRecursion, flat_map, list_any, position_from}
@@ -39,7 +38,7 @@ use Rattle.std.specs.Option.{option_map}
 use Rattle.object65.specs.declared.object.Object.{Object}
 use Rattle.semantics65.specs.Contents.{Content, Part, Declaration, Exported, ForcedImport, Asserted}
 use Rattle.semantics65.specs.Symbols.{Laid, imports_of}
-use Rattle.semantics65.specs.Numbering.{all_said, content_imports, import_keys, key_of, name_of, once, optional_key, part_imports, said_imports}
+use Rattle.semantics65.specs.Numbering.{all_said, content_imports, import_keys, key_of, name_of, once, part_imports, said_imports}
 use Rattle.link65.proofs.SegmentLemmas.{at_front, behind_front}
 use Rattle.whole65.proofs.Keyed.{one_of, each_among, or_right}
 use Rattle.whole65.proofs.Exports.{all_demanded, demanded_names}
@@ -130,12 +129,12 @@ module _ (s : Script) (placement : Placement) (ys : List Layout) (ms : List Modu
 -- what holds of all names holds of one that is among them
 pub of_among : (P : List ℕ → Type 0) (names : List (List ℕ)) (n : List ℕ) → AllByRecursion P names → is_among names n ≡ true → P n
 of_among P [] n h e = cc
-of_among P (k ∷ names) n h e = grind (arith, common_steps, same_bytes, itself, bytes_swap, (of_among P names n h.1))
+of_among P (k ∷ names) n h e = grind (arith, common_steps, same_bytes, bytes_swap, (of_among P names n h.1))
 
 module _ (P : List ℕ → Type 0) where
   once_all : (names before : List (List ℕ)) → AllByRecursion P before → AllByRecursion P names → AllByRecursion P (each_once before names)
   once_all [] before h k = h
-  once_all (n ∷ names) before h k = grind (arith, common_steps, all_more, (once_all names (cond (is_among before n) before (before ++ n ∷ []))))
+  once_all (n ∷ names) before h k = grind (arith, common_steps, (once_all names (cond (is_among before n) before (before ++ n ∷ []))))
 
   once_parts : (names before : List (List ℕ)) → AllByRecursion P (each_once before names) → AllByRecursion P before × AllByRecursion P names
   once_parts [] before h = (h, tt)
@@ -196,7 +195,7 @@ any_forced n (l ∷ ls) e = grind (arith, common_steps, (any_forced n ls), list_
 
 pub each_name : (P : List ℕ → Type 0) (names : List (List ℕ)) → ((n : List ℕ) → list_any (λ k. bytes_eq n k) names ≡ true → P n) → AllByRecursion P names
 each_name P [] up = tt
-each_name P (n ∷ names) up = grind (arith, common_steps, itself, or_right, (each_name P names))
+each_name P (n ∷ names) up = grind (arith, common_steps, itself, (each_name P names))
 
 pub among_swapped : (n : List ℕ) (names : List (List ℕ)) → is_among names n ≡ list_any (λ k. bytes_eq n k) names
 among_swapped n [] = refl
@@ -235,11 +234,11 @@ module _ (P : List ℕ → Type 0) (names : List (List ℕ)) where
 
   in_contents : (cs : List Content) → AllByRecursion (λ (c : Content). AllByRecursion OfPart c.parts) cs → AllByRecursion OfSaid (all_said cs) → AllByRecursion OfKey (flat_map (content_imports names) cs)
   in_contents [] h k = tt
-  in_contents (c ∷ cs) h k = grind (arith, common_steps, (all_parts OfSaid c.said (all_said cs) k), (all_append OfKey (content_imports names c) (flat_map (content_imports names) cs)), (all_append OfKey (flat_map part_imports c.parts) (flat_map (said_imports names) c.said)), (all_flat part_imports c.parts), (all_flat (said_imports names) c.said), (in_contents cs h.1))
+  in_contents (c ∷ cs) h k = grind (arith, common_steps, (all_parts OfSaid c.said (all_said cs) k), (all_flat part_imports c.parts), (all_flat (said_imports names) c.said), (in_contents cs h.1))
 
   in_said : (cs : List Content) → AllByRecursion OfKey (flat_map (content_imports names) cs) → AllByRecursion OfSaid (all_said cs)
   in_said [] h = tt
-  in_said (c ∷ cs) h = grind (arith, common_steps, (all_parts OfKey (content_imports names c) (flat_map (content_imports names) cs) h), (all_parts OfKey (flat_map part_imports c.parts) (flat_map (said_imports names) c.said)), (all_append OfSaid c.said (all_said cs)), (all_apart (said_imports names) c.said), (in_said cs))
+  in_said (c ∷ cs) h = grind (arith, common_steps, (all_parts OfKey (content_imports names c) (flat_map (content_imports names) cs) h), (all_parts OfKey (flat_map part_imports c.parts) (flat_map (said_imports names) c.said)), (all_apart (said_imports names) c.said), (in_said cs))
 
   -- keys that come once, and all of them
   all_keys : (ks : List ℕ) → AllByRecursion OfKey (once [] ks) → AllByRecursion OfKey ks

@@ -2,26 +2,23 @@
 use Rattle.whole65.proofs.SectionBytes.{in_middle}
 use Rattle.semantics65.proofs.Segments.{all_same}
 use Rattle.std.proofs.lemmas.Grind.{common_steps}
-use Rattle.std.proofs.Common.{◌≡◌, List, [], ◌∷◌, ◌++◌, Ok, refl, ◌∙◌, ap, ℕ, zero, suc, ◌+◌, ◌<◌, Bool, true, false, nat_eq, cond, length, map, take, get_or, slice_get, Some, sym, subst, arith, nat_lt}
+use Rattle.std.proofs.Common.{◌≡◌, List, [], ◌∷◌, ◌++◌, Ok, refl, ◌∙◌, ap, ℕ, zero, suc, ◌+◌, ◌<◌, Bool, true, false, nat_eq, length, map, take, get_or, slice_get, Some, sym, subst, arith, nat_lt}
 use Rattle.std.specs.Prelude.{◌+ℤ◌, ℤ, pos, ◌||◌, ◌&&◌, Result}
 use Rattle.std.specs.Int.{int_wrap, next_multiple_of}
 use Rattle.std.specs.List.{AllByRecursion, list_any, flat_map, list_all}
-use Rattle.base65.specs.Outcome.{◌>>=◌}
-use Rattle.base65.specs.Values.{value2, wrapped}
+use Rattle.base65.specs.Values.{wrapped}
 use Rattle.object65.specs.Form.{lit, sec, imp, prefix, binary, Form}
-use Rattle.object65.specs.FormValue.{or_none, value_in}
+use Rattle.object65.specs.FormValue.{value_in}
 use Rattle.semantics65.specs.Numbering.{imports_in, import_keys, number_of, section_keys, section_of, content_imports, name_of, part_imports, said_imports, numbered, sections_in, IsSoundContent, IsSoundForm, IsSoundPart, IsSoundDeclaration, IsSoundLayout}
 use Rattle.std.specs.Str.{bytes_eq}
 use Rattle.std.proofs.lemmas.Bool.Decides.{nat_tests}
-use Rattle.std.proofs.lemmas.List.{length-append}
 use Rattle.object65.specs.declared.object.Object.{Object}
 use Rattle.object65.specs.declared.object.Origin.{Origin}
 use Rattle.object65.specs.declared.object.Section.{Section}
-use Rattle.script65.specs.Placing.{rounded_up}
 use Rattle.script65.specs.declared.placement.Placement.{Placement}
 use Rattle.script65.specs.declared.script.Script.{Script}
 use Rattle.syntax65.specs.declared.place.Place.{Place}
-use Rattle.semantics65.specs.Contents.{Content, Part, Known, Filled, Waiting, Declaration}
+use Rattle.semantics65.specs.Contents.{Content, Part, Declaration}
 use Rattle.semantics65.specs.Layout.{Layout}
 use Rattle.link65.specs.Programs.{Module, Program, member, no_program, program_of, with_module, with_modules, grown, section_place, section_places, segment_of, with_section}
 use Rattle.link65.specs.Values.{address_of, linkage_of, resolved, run_of, base_of, exports_through, provider_at, import_value, Linkage, value_by}
@@ -32,9 +29,9 @@ use Rattle.whole65.proofs.Sections.{one_section, AreOnce, held, keys_of, number_
 use Rattle.whole65.proofs.Positions.{Distinct, named, itself, all_parts}
 use Rattle.whole65.proofs.Multiples.{equal, end_of-append}
 use Rattle.whole65.proofs.Sources.{contents_of, in_segment, section_begin, same_object, size_law, size_or}
-use Rattle.whole65.proofs.LinkedObjects.{or_empty, begin_in, base_in, symbols_at, IsKeyed, IsKeyedContent, IsKeyedPart, IsKeyedSaid, provider_named, imports_linked, linked_objects}
+use Rattle.whole65.proofs.LinkedObjects.{or_empty, base_in, symbols_at, IsKeyed, IsKeyedContent, IsKeyedPart, IsKeyedSaid, provider_named, imports_linked, linked_objects}
 use Rattle.whole65.specs.Modules.{table_of}
-use Rattle.whole65.specs.Offsets.{IsLaidOut, begin_from, begin_of, lines_at}
+use Rattle.whole65.specs.Offsets.{IsLaidOut, begin_from, lines_at}
 use Rattle.whole65.specs.Segments.{end_of, has_section, items_from, items_of, largest_multiple, lines_behind, lines_in, part_of, segment_name}
 use Rattle.whole65.specs.Sources.{AreSources, IsSource}
 use Rattle.std.proofs.lemmas.List.Folds.{list_any-append}
@@ -163,15 +160,9 @@ section_base_law s placement ys ms owner g y m cs h at_y at_m e among =
     let size : linked.end_of before.segments name ≡ end_of 0 (items_of (take owner ys) name) = size_law (take owner ys) (take owner ms) name (sources_front ys ms owner h) in
     let run : ℕ = run_of s.rows placement.rows name in
     let lines_are : lines_in owner y name ≡ lines_at g (lines_behind owner [] y.laid) = in_segment owner y g d lt in
-    grind (arith, common_steps, (resolved_at s placement ms owner m at_m), object, (place_at y (length before.members) origins sections imports cs A (named d).distinct before.segments sections g keys.standing keys.single among), (base_law s.rows placement.rows (section_place before.segments sec_g)), named_so, size, (section_begin y owner g (end_of 0 (items_of (take owner ys) name)) origins sections imports cs d), lines_are, (begins ys y name 0 0 owner at_y), has, (less g (length y.cursor.segments) lt))
+    grind (arith, common_steps, (resolved_at s placement ms owner m at_m), (place_at y (length before.members) origins sections imports cs A (named d).distinct before.segments sections g keys.standing keys.single among), (base_law s.rows placement.rows (section_place before.segments sec_g)), (section_begin y owner g (end_of 0 (items_of (take owner ys) name)) origins sections imports cs d), (begins ys y name 0 0 owner at_y))
 
 -- ---- All forms have keys.
-
-both_of : (a b : Bool) → (a && b) ≡ true → (a ≡ true) × (b ≡ true)
-both_of x1 b e = grind (arith, common_steps)
-
-or_left : (a b : Bool) → a ≡ true → (a || b) ≡ true
-or_left x1 b e = grind (arith, common_steps)
 
 pub or_right : (a b : Bool) → b ≡ true → (a || b) ≡ true
 or_right x1 b e = grind (arith, common_steps)
@@ -180,13 +171,10 @@ all_of : (p : ℕ → Bool) (xs : List ℕ) → list_all p xs ≡ true → AllBy
 all_of p [] e = tt
 all_of p (x ∷ xs) e = grind (arith, common_steps, (all_of p xs))
 
-itself_among : (k : ℕ) (xs : List ℕ) → list_any (nat_eq k) (k ∷ xs) ≡ true
-itself_among k xs = grind (arith, common_steps)
-
 -- what holds of all keys that are among some holds of each of them
 pub each_among : (P : ℕ → Type 0) (xs : List ℕ) → ((k : ℕ) → list_any (nat_eq k) xs ≡ true → P k) → AllByRecursion P xs
 each_among P [] up = tt
-each_among P (x ∷ xs) up = grind (arith, common_steps, or_right, (each_among P xs))
+each_among P (x ∷ xs) up = grind (arith, common_steps, (each_among P xs))
 
 all_both : (P Q : ℕ → Type 0) (xs : List ℕ) → AllByRecursion P xs → AllByRecursion Q xs → AllByRecursion (λ k. P k × Q k) xs
 all_both P Q [] h k = tt
@@ -194,7 +182,7 @@ all_both P Q (x ∷ xs) h k = ((h.0, k.0), all_both P Q xs h.1 k.1)
 
 all_less : (count : ℕ) (xs : List ℕ) → AllByRecursion (λ k. nat_lt k count ≡ true) xs → AllByRecursion (λ k. k < count) xs
 all_less count [] h = tt
-all_less count (x ∷ xs) h = grind (arith, common_steps, less, nat_tests, (all_less count xs h.1))
+all_less count (x ∷ xs) h = grind (arith, common_steps, (all_less count xs h.1))
 
 module _ (sections imports : List ℕ) (count : ℕ) where
   -- these keys are among those of the object's imports
@@ -202,10 +190,10 @@ module _ (sections imports : List ℕ) (count : ℕ) where
   AreAmong xs = (k : ℕ) → list_any (nat_eq k) xs ≡ true → list_any (nat_eq k) imports ≡ true
 
   among_first : (xs ys : List ℕ) → AreAmong (xs ++ ys) → AreAmong xs
-  among_first xs ys up k h = up k (grind (arith, common_steps, list_any-append))
+  among_first xs ys up k h = up k (grind (arith, common_steps))
 
   among_rest : (xs ys : List ℕ) → AreAmong (xs ++ ys) → AreAmong ys
-  among_rest xs ys up k h = up k (grind (arith, common_steps, list_any-append))
+  among_rest xs ys up k h = up k (grind (arith, common_steps))
 
   keyed_form : (f : Form) → IsSoundForm sections count f → AreAmong (imports_in f) → IsKeyed sections imports count f
   keyed_form f h up = record {
@@ -218,7 +206,7 @@ module _ (sections imports : List ℕ) (count : ℕ) where
 
   keyed_parts : (qs : List Part) → AllByRecursion (IsSoundPart sections count) qs → AreAmong (flat_map part_imports qs) → AllByRecursion (IsKeyedPart sections imports count) qs
   keyed_parts [] h up = tt
-  keyed_parts (q ∷ qs) h up = grind (arith, common_steps, keyed_part, among_first, among_rest, (keyed_parts qs h.1 (among_rest (part_imports q) (flat_map part_imports qs) up)))
+  keyed_parts (q ∷ qs) h up = grind (arith, common_steps, keyed_part, (keyed_parts qs h.1 (among_rest (part_imports q) (flat_map part_imports qs) up)))
 
   keyed_saying : (names : List (List ℕ)) (x : Declaration) → IsSoundDeclaration sections count x → AreAmong (said_imports names x) → IsKeyedSaid sections imports count x
   keyed_saying names x h up = grind (arith, common_steps, keyed_form)

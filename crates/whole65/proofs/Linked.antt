@@ -1,18 +1,17 @@
 -- Modules are linked as the program is placed.
 use Rattle.std.proofs.lemmas.Grind.{common_steps}
-use Rattle.std.proofs.Common.{◌≡◌, ℕ, zero, suc, ◌+◌, List, [], ◌∷◌, ◌++◌, map, slice_get, Option, Some, None, Result, Ok, Err, refl, sym, ◌∙◌, ap, arith, ◌≢◌, ◌<◌, Bool, true, false, nat_eq, cond, take, subst, length}
+use Rattle.std.proofs.Common.{◌≡◌, ℕ, zero, suc, ◌+◌, List, [], ◌∷◌, ◌++◌, map, slice_get, Option, Some, None, Result, Ok, Err, refl, sym, ◌∙◌, ap, arith, ◌≢◌, ◌<◌, Bool, true, false, cond, take, subst}
 use Rattle.std.specs.List.{flat_map, AllByRecursion, list_any}
 use Rattle.syntax65.specs.Trees.{Tree}
 use Rattle.ast65.specs.declared.fault.AsmFault.{AsmFault}
 use Rattle.semantics65.specs.Symbols.{Laid, asks_section, Definition, Key, definition_with, definitions_of, key_defined, value_defined, Symbols, symbols_of, meaning_of}
 use Rattle.semantics65.specs.Layout.{Layout}
 use Rattle.semantics65.specs.Symbols as names
-use Rattle.whole65.proofs.LinkedObjects.{or_first, place_in, symbols_at, base_in, begin_in, objects_of, context_in}
+use Rattle.whole65.proofs.LinkedObjects.{place_in, symbols_at, base_in, begin_in, objects_of, context_in}
 use Rattle.whole65.specs.Modules.{defining_from, import_named, meaning_by, context_at, statement_at, table_of, global_context, context_or}
 use Rattle.whole65.specs.Objects.{definition_shown, import_shown, meaning_shown, AreObjects, IsGiven, Objects}
 use Rattle.whole65.specs.Values.{Meaning, Program}
-use Rattle.std.specs.Prelude.{◌&&◌, ◌||◌, ℤ, pos, ◌+ℤ◌, nat_lt}
-use Rattle.std.specs.Str.{bytes_eq}
+use Rattle.std.specs.Prelude.{◌&&◌, ℤ, pos, ◌+ℤ◌, nat_lt}
 use Rattle.syntax65.specs.declared.lexing.tokens.AddressSize.{AddressSize}
 use Rattle.semantics65.specs.declared.laid.Context.{Context}
 use Rattle.ast65.specs.declared.language.Statement.{Statement}
@@ -22,14 +21,13 @@ use Rattle.whole65.proofs.Positions.{IsAbsent, other_part, all_front, itself, al
 use Rattle.whole65.proofs.Multiples.{equal}
 use Rattle.whole65.proofs.Offsets.{placed}
 use Rattle.whole65.specs.Offsets.{IsLaidOut, begun, behind, lines_at, begin_of}
-use Rattle.whole65.specs.Segments.{Item, end_of, has_section, items_before, items_from, items_of, largest_multiple, line, line_end, line_of, lines_behind, lines_in, part_of, rounding, segment_name, stands_in, position_of}
+use Rattle.whole65.specs.Segments.{Item, end_of, has_section, items_before, items_from, items_of, largest_multiple, line, line_end, lines_behind, lines_in, part_of, rounding, segment_name, stands_in, position_of}
 use Rattle.std.specs.Int.{int_wrap}
 use Rattle.std.proofs.lemmas.Bool.Decides.{nat_tests}
 use Rattle.std.proofs.lemmas.Int.{ints, int_wrap-add_left}
 use Rattle.base65.specs.Values.{wrapped}
 use Rattle.script65.specs.declared.placement.Placement.{Placement}
 use Rattle.script65.specs.declared.script.Script.{Script}
-use Rattle.link65.specs.Values.{run_of}
 use Rattle.whole65.specs.Programs.{laid_at, means_at, statement_address, program_of}
 
 -- ---- The statements that make definitions.
@@ -147,7 +145,7 @@ none_asks y name (l ∷ ls) h = grind (arith, common_steps, (none_asks y name ls
 
 quiet_lines : (at owner : ℕ) (y : Layout) (g : ℕ) (before ls : List Laid) → AllByRecursion IsQuiet ls → AllByRecursion (AsksNot y (segment_name y g)) ls → end_of at (map line (lines_at g (lines_behind owner before ls))) ≡ at
 quiet_lines at owner y g before [] q a = refl
-quiet_lines at owner y g before (l ∷ ls) q a = grind (arith, common_steps, equal, itself, quiet_end, (λ (z : ℕ). quiet_lines z owner y g (before ++ l ∷ []) ls q.1 a.1))
+quiet_lines at owner y g before (l ∷ ls) q a = grind (arith, common_steps, itself, (λ (z : ℕ). quiet_lines z owner y g (before ++ l ∷ []) ls q.1 a.1))
 
 -- a statement there has the offset 0
 pub no_offset : (y : Layout) (place : ℕ) (l : Laid) → IsLaidOut y → slice_get y.laid place ≡ Some l → has_section y (segment_name y l.context.segment) ≡ false → l.context.offset ≡ 0
@@ -222,7 +220,7 @@ module _ (s : Script) (p : Placement) (ys : List Layout) (laid_out : AllByRecurs
   position_is owner place y l e there x1 h = grind (arith, common_steps, position_law, all_get, no_offset, at_end)
 
   of_line : (owner place : ℕ) (y : Layout) → slice_get ys owner ≡ Some y → (r : Option Laid) → slice_get y.laid place ≡ r → statement_address s p ys owner place (Some y) r ≡ wrapped (base_in s p ys owner (context_or (global_context y) r).segment (Some y) +ℤ pos (context_or (global_context y) r).offset)
-  of_line owner place y e x1 there = grind (arith, common_steps, zero_wraps, begin_in, not_less, all_get, named, position_is, moved, less)
+  of_line owner place y e x1 there = grind (arith, common_steps, all_get, named, position_is, moved)
 
   of_module : (owner place : ℕ) (r : Option Layout) → slice_get ys owner ≡ r → statement_address s p ys owner place r (laid_at r place) ≡ wrapped (base_in s p ys owner (context_in r place).segment r +ℤ pos (context_in r place).offset)
   of_module owner place x e = grind (arith, common_steps, zero_wraps, of_line)

@@ -1,8 +1,8 @@
 -- What a link comes to that gives files.
 use Rattle.std.proofs.lemmas.Grind.{common_steps}
-use Rattle.std.proofs.Common.{arith, ◌≡◌, ℕ, List, [], ◌∷◌, ◌++◌, Result, Ok, Err, refl, sym, subst, Option, Some, None}
+use Rattle.std.proofs.Common.{arith, ◌≡◌, ℕ, List, [], ◌∷◌, ◌++◌, Result, Ok, Err, refl, sym, subst, Option, None}
 use Rattle.std.specs.Prelude.{ℤ, ◌↔◌}
-use Rattle.base65.specs.Outcome.{◌>>=◌, First}
+use Rattle.base65.specs.Outcome.{First}
 use Rattle.script65.specs.Placing.{place_of}
 use Rattle.script65.specs.declared.placement.Placement.{Placement}
 use Rattle.script65.specs.declared.script.Script.{Script}
@@ -30,9 +30,8 @@ use Rattle.semantics65.specs.Symbols.{symbols_of}
 use Rattle.ast65.specs.Parsing.{label_of}
 use Rattle.semantics65.specs.Reading.{IsLaid, laying, AreLaid, AreDefined, AreTaken, Define, Follows, IsBegun, IsGiven, IsLabelled, IsRest, Job, Reached, no_line, taken, faulty, refused, ended, with_bytes}
 use Rattle.whole65.specs.Offsets.{IsLaidOut, begun, behind}
-use Rattle.base65.specs.Values.{value1, value2}
 use Rattle.object65.specs.Form.{lit, sec, imp, prefix, binary, Form}
-use Rattle.object65.specs.FormValue.{or_none, value_in}
+use Rattle.object65.specs.FormValue.{value_in}
 use Rattle.semantics65.specs.Numbering.{imports_in}
 use Rattle.semantics65.proofs.SoundForms.{all_append}
 use Rattle.whole65.proofs.Exports.{export_names_law}
@@ -130,8 +129,8 @@ pub valued_imports_law : (E : Type 0) → (none : E) (bases : ℕ → ℤ) (valu
 valued_imports_law E none bases values (lit n) v e = tt
 valued_imports_law E none bases values (sec g a) v e = tt
 valued_imports_law E none bases values (imp k) v e = ((v, e), tt)
-valued_imports_law E none bases values (prefix op f) v e = grind (arith, common_steps, bind_ok, all_append, (valued_imports_law E none bases values f))
-valued_imports_law E none bases values (binary op f g) v e = grind (arith, common_steps, bind_ok, all_append, (valued_imports_law E none bases values f), (valued_imports_law E none bases values g))
+valued_imports_law E none bases values (prefix op f) v e = grind (arith, common_steps, (valued_imports_law E none bases values f))
+valued_imports_law E none bases values (binary op f g) v e = grind (arith, common_steps, (valued_imports_law E none bases values f), (valued_imports_law E none bases values g))
 
 pub none_again : (r : Option (List ℕ)) → (no_name_again r ≡ Ok tt) ↔ (r ≡ None)
 none_again x = grind (arith, common_steps)

@@ -36,7 +36,7 @@ module _ (l : Linkage) (fill : ℕ) where
 
   pub cells_joined : (cs ds : List Cell) (bytes : List ℕ) → BothCells cs ds bytes → AreCells l fill (cs ++ ds) bytes
   cells_joined [] ds bytes (own, rest, none, h, e) = subst (AreCells l fill ds) (sym (e ∙ ap (λ z. z ++ rest) none)) h
-  cells_joined (c ∷ cs) ds bytes (own, rest, (a, b, k, more, e'), h, e) = grind (arith, common_steps, append_assoc, (cells_joined cs ds (b ++ rest) (b, rest, more, h, refl)))
+  cells_joined (c ∷ cs) ds bytes (own, rest, (a, b, k, more, e'), h, e) = grind (arith, common_steps, (cells_joined cs ds (b ++ rest) (b, rest, more, h, refl)))
 
   pub cells_split : (cs ds : List Cell) (bytes : List ℕ) → AreCells l fill (cs ++ ds) bytes → BothCells cs ds bytes
   cells_split [] ds bytes h = ([], bytes, refl, h, refl)
@@ -46,11 +46,11 @@ module _ (l : Linkage) (fill : ℕ) where
 
   of_known : (own bytes : List ℕ) → (bytes ≡ own) ↔ AreCells l fill (map known own) bytes
   of_known [] bytes = (λ h. h, λ h. h)
-  of_known (b ∷ own) bytes = grind (arith, common_steps, (of_known own own), (of_known own))
+  of_known (b ∷ own) bytes = grind (arith, common_steps, (of_known own))
 
   pub of_filled : (n : ℕ) (bytes : List ℕ) → (bytes ≡ replicate n fill) ↔ AreCells l fill (replicate n filled) bytes
   of_filled zero bytes = (λ h. h, λ h. h)
-  of_filled (suc n) bytes = grind (arith, common_steps, (of_filled n (replicate n fill)), (of_filled n))
+  of_filled (suc n) bytes = grind (arith, common_steps, (of_filled n))
 
   of_fragment : (owner : ℕ) (f : Fragment) (bytes : List ℕ) → IsFragment (linked_value l owner) fill f bytes ↔ AreCells l fill (fragment_cells owner f) bytes
   of_fragment owner (Literal own) bytes = of_known own bytes
@@ -58,7 +58,7 @@ module _ (l : Linkage) (fill : ℕ) where
   of_fragment owner (Value width origin f) bytes = (λ h. (bytes, [], h, refl, sym (append-nil bytes)), back)
     where
       back : AreCells l fill (fragment_cells owner (Value width origin f)) bytes → IsFragment (linked_value l owner) fill (Value width origin f) bytes
-      back (own, rest, h, none, e) = grind (arith, common_steps, append-nil)
+      back (own, rest, h, none, e) = grind (arith, common_steps)
 
   pub of_fragments : (owner : ℕ) (fs : List Fragment) (bytes : List ℕ) → AreFragments (linked_value l owner) fill fs bytes ↔ AreCells l fill (flat_map (fragment_cells owner) fs) bytes
   of_fragments owner [] bytes = (λ h. h, λ h. h)
@@ -86,7 +86,7 @@ module _ (Has : Valuing) (fill : ℕ) where
 
   pub same_parts : (origins : Place → Origin) (ss is : List ℕ) (ps : List Part) (bytes : List ℕ) → AreParts (λ f v. Has (numbered ss is f) v) fill ps bytes ↔ AreFragments Has fill (map (fragment_of origins ss is) ps) bytes
   same_parts origins ss is [] bytes = (λ h. h, λ h. h)
-  same_parts origins ss is (p ∷ ps) bytes = grind (arith, common_steps, same_part, (same_parts origins ss is ps))
+  same_parts origins ss is (p ∷ ps) bytes = grind (arith, common_steps, (same_parts origins ss is ps))
 
   -- ---- Without the empty ones.
   no_bytes : (f : Fragment) → is_empty f ≡ true → (IsFragment Has fill f []) × ((bytes : List ℕ) → IsFragment Has fill f bytes → bytes ≡ [])
@@ -110,10 +110,10 @@ module _ (Has : Valuing) (fill : ℕ) where
   both f g h fs a b is_f is_g is_h bytes = (there, back)
     where
       there : AreFragments Has fill (f ∷ g ∷ fs) bytes → AreFragments Has fill (h ∷ fs) bytes
-      there (x, rest, p, (y, more, q, r, e), e') = (a ++ b, more, (is_h (a ++ b)).1 refl, r, grind (arith, common_steps, append_assoc, ((is_f x).0 p), ((is_g y).0 q)))
+      there (x, rest, p, (y, more, q, r, e), e') = (a ++ b, more, (is_h (a ++ b)).1 refl, r, grind (arith, common_steps))
 
       back : AreFragments Has fill (h ∷ fs) bytes → AreFragments Has fill (f ∷ g ∷ fs) bytes
-      back (x, more, p, r, e) = (a, b ++ more, (is_f a).1 refl, (b, more, (is_g b).1 refl, r, refl), grind (arith, common_steps, append_assoc, ((is_h x).0 p)))
+      back (x, more, p, r, e) = (a, b ++ more, (is_f a).1 refl, (b, more, (is_g b).1 refl, r, refl), grind (arith, common_steps))
 
   one_more : (f : Fragment) (gs hs : List Fragment) (bytes : List ℕ) → ((rest : List ℕ) → AreFragments Has fill gs rest ↔ AreFragments Has fill hs rest) → AreFragments Has fill (f ∷ gs) bytes ↔ AreFragments Has fill (f ∷ hs) bytes
   one_more f gs hs bytes same = grind (arith, common_steps)
@@ -123,8 +123,8 @@ module _ (Has : Valuing) (fill : ℕ) where
 
   all_in_one : (f : Fragment) (fs : List Fragment) (bytes : List ℕ) → AreFragments Has fill (f ∷ fs) bytes ↔ AreFragments Has fill (joined f fs) bytes
   all_in_one f [] bytes = (λ h. h, λ h. h)
-  all_in_one (Literal a) (Literal b ∷ fs) bytes = grind (arith, common_steps, then, both, more_fill, one_more, (all_in_one (Literal (a ++ b)) fs bytes))
-  all_in_one (Fill m) (Fill n ∷ fs) bytes = grind (arith, common_steps, then, both, more_fill, one_more, (all_in_one (Fill (m + n)) fs bytes))
+  all_in_one (Literal a) (Literal b ∷ fs) bytes = grind (arith, common_steps, (all_in_one (Literal (a ++ b)) fs bytes))
+  all_in_one (Fill m) (Fill n ∷ fs) bytes = grind (arith, common_steps, more_fill, (all_in_one (Fill (m + n)) fs bytes))
   all_in_one f (g ∷ fs) bytes = one_more f (g ∷ fs) (joined g fs) bytes (all_in_one g fs)
 
   pub all_joined_are : (fs : List Fragment) (bytes : List ℕ) → AreFragments Has fill fs bytes ↔ AreFragments Has fill (all_joined fs) bytes

@@ -3,7 +3,7 @@ use Rattle.std.proofs.lemmas.Grind.{common_steps}
 use Rattle.std.proofs.Common.{◌≡◌, ℕ, true, nat_eq, arith, zero, suc, ◌+◌, ◌-◌, ◌*◌, ◌^◌, ◌%◌, ◌/◌, ◌≤◌, ◌<◌, ◌⊎◌, inl, inr, max, sym, ◌∙◌, ap, subst, refl, List, [], ◌∷◌, ◌++◌, map, Bool, false, Option, Some, None, min}
 use Rattle.std.proofs.lemmas.Bool.Decides.{nat_tests}
 use Rattle.std.specs.Int.{next_multiple_of}
-use Rattle.std.proofs.Math.Nat.{mul-add-mod_self_left, div-add-mod, add_assoc, mul_assoc, mod-eq_of_lt, mod_self, mul_comm}
+use Rattle.std.proofs.Math.Nat.{mul-add-mod_self_left, div-add-mod, add_assoc, mul_assoc, mod-eq_of_lt, mod_self}
 use Rattle.std.proofs.lemmas.Nat.{pow-add, pow_pos, mod_below}
 use Rattle.whole65.specs.Offsets.{IsMultiple, IsPower, ArePowers}
 use Rattle.semantics65.specs.Symbols.{Laid, Symbols}
@@ -173,4 +173,4 @@ not_zero n = grind (arith, nat_tests)
 
 -- A link and the whole program round alike.
 pub rounding_law : (at n : ℕ) → 0 < n → rounded_up at n ≡ next_multiple_of at n
-rounding_law at x1 h = grind (arith, common_steps, not_zero, by_parts, mod_below, div-add-mod)
+rounding_law at x1 h = grind (arith, common_steps, by_parts)

@@ -6,7 +6,7 @@ use Rattle.std.proofs.lemmas.Bool.Decides.{nat_tests}
 use Rattle.syntax65.specs.declared.lexing.tokens.AddressSize.{AddressSize}
 use Rattle.semantics65.specs.declared.contents.Segment.{Segment}
 use Rattle.ast65.specs.declared.language.Statement.{Statement}
-use Rattle.semantics65.specs.Layout.{Cursor, current_behind, grown_at, kept_behind, multiple_of, named_segments, new_segment, own_size, segment_at, segments_behind, context_of, Layout, laid, layout_behind, nothing_laid, line_fault}
+use Rattle.semantics65.specs.Layout.{Cursor, current_behind, grown_at, kept_behind, multiple_of, named_segments, new_segment, own_size, segment_at, segments_behind, context_of, Layout, laid, layout_behind, line_fault}
 use Rattle.semantics65.specs.Norms.{length_of}
 use Rattle.semantics65.specs.Symbols.{Symbols, symbols_of, Laid}
 use Rattle.semantics65.proofs.Segments.{all_same, end_behind, grown_end, grown_length, grown_other, named_there, all_more}
@@ -72,7 +72,7 @@ adds y w x g lt one = grind (arith, common_steps, nat_tests, grown_end, grown_al
 
 pub lines_push : (owner : ℕ) (before ls : List Laid) (l : Laid) → lines_behind owner before (ls ++ l ∷ []) ≡ lines_behind owner before ls ++ line_of owner (before ++ ls) l ∷ []
 lines_push owner before [] l = ap (λ b. line_of owner b l ∷ []) (sym (append-nil before))
-lines_push owner before (x ∷ ls) l = grind (arith, common_steps, append-nil, append_assoc, (lines_push owner (before ++ x ∷ []) ls l))
+lines_push owner before (x ∷ ls) l = grind (arith, common_steps, (lines_push owner (before ++ x ∷ []) ls l))
 
 pub largest_push : (xs ys : List Line) → largest_multiple (xs ++ ys) ≡ max (largest_multiple xs) (largest_multiple ys)
 largest_push [] ys = let one : 1 ≤ largest_multiple ys = largest_one ys in omega (arith, one)

@@ -1,20 +1,19 @@
 -- Positions in the list of a segment.
 use Rattle.std.proofs.lemmas.Grind.{common_steps}
 use Rattle.std.proofs.Common.{◌≡◌, ℕ, zero, suc, ◌+◌, Bool, true, false, nat_eq, cond, List, [], ◌∷◌, ◌++◌, length, map, take, slice_get, filter, Some, refl, sym, ◌∙◌, ap, arith, ◌≢◌, ◌<◌, Option, None, subst, max, drop, ◌^◌}
-use Rattle.std.specs.Prelude.{◌&&◌, ⊤}
+use Rattle.std.specs.Prelude.{⊤}
 use Rattle.std.specs.List.{AllByRecursion, position_from}
 use Rattle.std.proofs.lemmas.Bool.Decides.{nat_tests}
 use Rattle.std.proofs.lemmas.List.{length-append, append-nil, append_assoc, take-append-drop}
-use Rattle.semantics65.specs.Symbols.{Laid, Symbols, symbols_of}
-use Rattle.semantics65.specs.Layout.{Layout, Cursor, first_size, grown_at, laid, layout_behind, multiple_of, named_segments, new_segment, own_size, place_of, segment_at, segments_behind, context_of, powers}
-use Rattle.whole65.specs.Segments.{Item, Line, has_section, is_line, items_before, largest_multiple, line, line_of, lines_behind, lines_in, part_of, rounding, stands_in, end_of, items_from, segment_name, position_of}
+use Rattle.semantics65.specs.Symbols.{Laid}
+use Rattle.semantics65.specs.Layout.{Layout, grown_at, layout_behind, named_segments, new_segment, place_of, segment_at, segments_behind, powers}
+use Rattle.whole65.specs.Segments.{Item, Line, has_section, is_line, items_before, largest_multiple, line, lines_behind, lines_in, part_of, rounding, stands_in, end_of, items_from, segment_name, position_of}
 use Rattle.std.specs.Str.{bytes_eq}
 use Rattle.std.proofs.lemmas.Iterator.Adapters.{position_from-zero}
 use Rattle.syntax65.specs.declared.lexing.tokens.AddressSize.{AddressSize}
 use Rattle.ast65.proofs.Lists.{bytes_swap}
 use Rattle.semantics65.specs.declared.contents.Segment.{Segment}
 use Rattle.ast65.specs.declared.language.Statement.{Statement}
-use Rattle.semantics65.specs.Norms.{length_of}
 use Rattle.syntax65.specs.declared.place.Place.{Place}
 use Rattle.semantics65.proofs.Segments.{all_more, all_same, grown_length, one_longer}
 use Rattle.whole65.proofs.Offsets.{behind_more, placed, largest_push}
@@ -59,7 +58,7 @@ other_part first owner place h y name = go (has_section y name)
 pub stopped : (owner place : ℕ) (q : Laid → Bool) (before ls : List Laid) (rest : List Item) (i : ℕ) (l : Laid) → place ≡ length before + i → slice_get ls i ≡ Some l → q l ≡ true → items_before owner place (map line (filter (λ (x : Line). q x.laid) (lines_behind owner before ls)) ++ rest) ≡ map line (filter (λ (x : Line). q x.laid) (lines_behind owner before (take i ls)))
 stopped owner place q before [] rest i l e s t = cc
 stopped owner place q before (x ∷ ls) rest zero l e s t = grind (arith, common_steps, alike)
-stopped owner place q before (x ∷ ls) rest (suc i) l e s t = grind (arith, common_steps, alike, length-append, apart, (stopped owner place q (before ++ x ∷ []) ls rest i l))
+stopped owner place q before (x ∷ ls) rest (suc i) l e s t = grind (arith, common_steps, (stopped owner place q (before ++ x ∷ []) ls rest i l))
 
 -- ---- Each statement stands in a segment, and no two segments have one name.
 
@@ -88,7 +87,7 @@ absent [] n i g e lt = absurd (omega arith)
 absent (y ∷ gs) n i g e lt = grind (arith, common_steps, (absent gs n (i + 1)))
 
 distinct_new : (gs : List Segment) (n : List ℕ) (own : AddressSize) → Distinct gs → place_of gs n ≡ None → Distinct (gs ++ new_segment n own ∷ [])
-distinct_new gs n own d e g h lt lt' same = grind (arith, common_steps, nat_tests, (front_name gs (new_segment n own)), (last_name gs (new_segment n own)), (one_longer gs (new_segment n own)), bytes_swap, (absent gs n 0 g), (absent gs n 0 h), (position_from-zero (λ (z : Segment). bytes_eq z.name n) gs), (d g h))
+distinct_new gs n own d e g h lt lt' same = grind (arith, common_steps, (front_name gs (new_segment n own)), (last_name gs (new_segment n own)), bytes_swap, (absent gs n 0 g), (absent gs n 0 h), (position_from-zero (λ (z : Segment). bytes_eq z.name n) gs))
 
 distinct_named : (gs : List Segment) (n : List ℕ) (own : _) (place : Option ℕ) → Distinct gs → place_of gs n ≡ place → Distinct (named_segments gs n own place)
 distinct_named gs n own x1 d e = grind (arith, common_steps, distinct_new)
@@ -101,7 +100,7 @@ pub record Named (y : Layout) : Type 0 where
   pub standing : AllByRecursion (λ (l : Laid). l.context.segment < length y.cursor.segments) y.laid
 
 later : (y : Layout) (place : Place) (x : Statement) → y.cursor.current < length y.cursor.segments → Named y → Named (layout_behind y place x)
-later y place x here h = grind (arith, common_steps, behind_more, distinct_behind, all_more, all_same)
+later y place x here h = grind (arith, common_steps, behind_more, distinct_behind, all_same)
 
 pub named : {y : Layout} → IsLaidOut y → Named y
 named begun = record { distinct = λ g h lt lt' e. (let none : g ≡ 0 = omega (arith, lt) in let also : h ≡ 0 = omega (arith, lt') in none ∙ sym also); standing = tt }
@@ -134,7 +133,7 @@ all_get P (y ∷ xs) (suc i) x h e = all_get P xs i x h.1 e
 
 lines_both : (owner : ℕ) (before xs ys : List Laid) → lines_behind owner before (xs ++ ys) ≡ lines_behind owner before xs ++ lines_behind owner (before ++ xs) ys
 lines_both owner before [] ys = ap (λ b. lines_behind owner b ys) (sym (append-nil before))
-lines_both owner before (x ∷ xs) ys = grind (arith, common_steps, append-nil, append_assoc, (lines_both owner (before ++ x ∷ []) xs ys))
+lines_both owner before (x ∷ xs) ys = grind (arith, common_steps, (lines_both owner (before ++ x ∷ []) xs ys))
 
 pub powers_at : (g : ℕ) (xs : List Line) → ArePowers xs → ArePowers (lines_at g xs)
 powers_at g [] h = tt

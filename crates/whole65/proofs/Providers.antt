@@ -1,9 +1,8 @@
 -- Who gives a name, in a link and in the whole program.
 use Rattle.std.proofs.lemmas.Grind.{common_steps}
 use Rattle.std.proofs.Common.{◌≡◌, ℕ, zero, suc, ◌+◌, Bool, true, false, cond, List, [], ◌∷◌, ◌++◌, length, map, slice_get, Option, Some, None, Result, Ok, Err, refl, sym, ◌∙◌, ap, subst, arith}
-use Rattle.std.specs.Prelude.{ℤ, pos, filter_map, find}
+use Rattle.std.specs.Prelude.{ℤ, filter_map, find}
 use Rattle.std.specs.List.{AllByRecursion, position_from}
-use Rattle.std.specs.Option.{option_map_or}
 use Rattle.std.specs.Str.{bytes_eq}
 use Rattle.std.proofs.lemmas.List.{append-nil, append_assoc, length-append}
 use Rattle.syntax65.specs.Trees as tree
@@ -22,7 +21,7 @@ use Rattle.semantics65.specs.Norms.{defined_form, norm}
 use Rattle.semantics65.specs.Numbering.{all_said, export_of, import_keys, numbered, section_keys}
 use Rattle.link65.specs.Names.{by_definition, by_export, defined_at, exported_at, is_among, script_definitions, weak_symbols}
 use Rattle.link65.specs.Names as linked
-use Rattle.link65.specs.Programs.{position_in, Module, Program, exported, no_program, program_of, with_module, with_modules, member}
+use Rattle.link65.specs.Programs.{position_in, Module, Program, exported, no_program, program_of, with_module, with_modules}
 use Rattle.link65.specs.Values.{linkage_of, Linkage, export_value, exports_through, import_value, value_by}
 use Rattle.link65.specs.declared.parts.Definition.{Definition}
 use Rattle.link65.specs.declared.parts.Exported as parts
@@ -72,7 +71,7 @@ linked_exports owner (m ∷ ms) = map (exported owner) m.object.exports ++ linke
 
 exports_behind : (p : Program) (ms : List Module) → (with_modules p ms).exports ≡ p.exports ++ linked_exports (length p.members) ms
 exports_behind p [] = sym (append-nil p.exports)
-exports_behind p (m ∷ ms) = grind (arith, common_steps, append-nil, length-append, append_assoc, (exports_behind (with_module p m) ms))
+exports_behind p (m ∷ ms) = grind (arith, common_steps, (exports_behind (with_module p m) ms))
 
 pub exports_are : (ms : List Module) → (program_of ms).exports ≡ linked_exports 0 ms
 exports_are ms = exports_behind no_program ms
@@ -158,20 +157,17 @@ abbrev by_found : Option parts.Exported → values.Provider → values.Provider
 by_found None other = other
 by_found (Some e) other = by_module e.owner
 
-agree_by : (exports : List parts.Exported) (name : List ℕ) (w w' : values.Provider) (g g' : Provider) → w' ≡ w → g' ≡ g → Agree exports name w g → Agree exports name w' g'
-agree_by exports name w w' g g' e f h = subst (λ k. Agree exports name k g') (sym e) (subst (Agree exports name w) (sym f) h)
-
 by_definitions : (exports : List parts.Exported) (name : List ℕ) (ds : List Definition) (w : values.Provider) (g : Provider) → Agree exports name w g → Agree exports name (provider_or w (definition_of ds name)) (by_definition ds (defined_at ds name) g)
 by_definitions exports name ds w g h = go (locate (λ (d : Definition). d.name) name ds)
   where
     go : Located (λ (d : Definition). d.name) name ds → Agree exports name (provider_or w (definition_of ds name)) (by_definition ds (defined_at ds name) g)
-    go x1 = grind (arith, common_steps, of_module, of_script)
+    go x1 = grind (arith, common_steps, of_script)
 
 by_exports : (exports : List parts.Exported) (name : List ℕ) (w : values.Provider) (g : Provider) → Agree exports name w g → Agree exports name (by_found (find (λ e. bytes_eq e.name name) exports) w) (by_export (exported_at exports name) g)
 by_exports exports name w g h = go (locate (λ (e : parts.Exported). e.name) name exports)
   where
     go : Located (λ (e : parts.Exported). e.name) name exports → Agree exports name (by_found (find (λ e. bytes_eq e.name name) exports) w) (by_export (exported_at exports name) g)
-    go x1 = grind (arith, common_steps, of_module, of_script)
+    go x1 = grind (arith, common_steps, of_module)
 
 one_exporter : (owner : ℕ) (name : List ℕ) (other : values.Provider) (rest : List parts.Exported) (es : List Export) → by_found (find (λ e. bytes_eq e.name name) (map (exported owner) es ++ rest)) other ≡ cond (is_among (map (λ (e : Export). e.name) es) name) (by_module owner) (by_found (find (λ e. bytes_eq e.name name) rest) other)
 one_exporter owner name other rest [] = refl
@@ -191,7 +187,7 @@ providers_agree s placement ys ms name h =
     let found : values.Provider = by_found (find (λ e. bytes_eq e.name name) exports) weak in
     let inner : Agree exports name found (by_export (exported_at exports name) weakly) = by_exports exports name weak weakly (by_definitions exports name (weak_symbols s.symbols) by_nobody Nobody of_nobody) in
     let same : exporter_from 0 ys name weak ≡ found = exporters 0 ys ms name weak h ∙ ap (λ es. by_found (find (λ e. bytes_eq e.name name) es) weak) (sym (exports_are ms)) in
-    grind (arith, common_steps, by_exports, by_definitions, exporters, exports_are)
+    grind (arith, common_steps, by_definitions)
 
 -- ---- What imports come to.
 

@@ -1,13 +1,11 @@
 -- Segments of a link and of the whole program: what they need, and what lies in them.
-use Rattle.std.proofs.lemmas.Slice.Eq.{bytes_eq-Decides}
 use Rattle.std.proofs.lemmas.Grind.{common_steps}
-use Rattle.std.proofs.Common.{◌≡◌, ℕ, ◌<◌, Bool, true, cond, List, [], ◌∷◌, ◌++◌, length, map, filter, Option, Some, None, refl, sym, ◌∙◌, ap, suc, ◌+◌, ◌-◌, slice_get, Ok, subst, arith}
+use Rattle.std.proofs.Common.{◌≡◌, ℕ, ◌<◌, Bool, true, cond, List, [], ◌∷◌, ◌++◌, length, map, Option, Some, None, refl, sym, ◌∙◌, ap, suc, ◌+◌, ◌-◌, slice_get, Ok, subst, arith}
 use Rattle.std.specs.Prelude.{◌||◌, ◌↔◌, replicate}
 use Rattle.std.specs.List.{AllByRecursion, flat_map, list_any}
 use Rattle.std.specs.Str.{bytes_eq}
 use Rattle.std.proofs.lemmas.List.{map-append, append-nil, append_assoc}
 use Rattle.std.proofs.lemmas.List.Folds.{list_any-append}
-use Rattle.object65.specs.declared.object.Object.{Object}
 use Rattle.object65.specs.declared.object.Origin.{Origin}
 use Rattle.object65.specs.declared.object.Section.{Section}
 use Rattle.script65.proofs.Apart.{same_needs}
@@ -16,7 +14,7 @@ use Rattle.script65.specs.declared.placement.SegmentNeed.{SegmentNeed}
 use Rattle.ast65.proofs.Lists.{bytes_swap, same_bytes}
 use Rattle.syntax65.specs.declared.place.Place.{Place}
 use Rattle.semantics65.specs.Contents.{Content, Part, Known, Filled, Waiting}
-use Rattle.semantics65.specs.Symbols.{Laid, asks_section, with_new}
+use Rattle.semantics65.specs.Symbols.{Laid, with_new}
 use Rattle.semantics65.specs.Layout.{Layout}
 use Rattle.semantics65.specs.Numbering.{import_keys, once, section_keys, section_of, segments_asked, parts_in}
 use Rattle.link65.specs.Programs.{Module, Program as LinkedProgram, no_program, program_of, with_module, with_modules, Segment, grown, segment_of, with_section, with_sections, Cell, begin_behind, filled, fragment_cells}
@@ -59,7 +57,7 @@ any_name n m known = grind (arith, common_steps, there_too, or_true, or_false, l
 
 pub any_new : (n : List ℕ) (xs known : List (List ℕ)) → list_any (λ k. bytes_eq n k) (with_new known xs) ≡ (list_any (λ k. bytes_eq n k) known || list_any (λ k. bytes_eq n k) xs)
 any_new n [] known = sym (or_false (list_any (λ k. bytes_eq n k) known))
-any_new n (x ∷ xs) known = grind (arith, common_steps, or_false, any_name, or_both, (any_new n xs (with_name known x)))
+any_new n (x ∷ xs) known = grind (arith, common_steps, any_name, (any_new n xs (with_name known x)))
 
 pub any_map : (N : ℕ → List ℕ) (n : List ℕ) (ks : List ℕ) → list_any (λ z. bytes_eq n z) (map N ks) ≡ list_any (λ k. bytes_eq n (N k)) ks
 any_map N n [] = refl
@@ -71,7 +69,7 @@ one_key x known found k = grind (arith, common_steps, map-append, new_append, he
 
 names_once : (N : ℕ → List ℕ) (known : List (List ℕ)) (found ks : List ℕ) → with_new known (map N (once found ks)) ≡ with_new (with_new known (map N found)) (map N ks)
 names_once N known found [] = refl
-names_once N known found (k ∷ ks) = grind (arith, common_steps, with_key, one_key, (names_once N known (with_key found k) ks))
+names_once N known found (k ∷ ks) = grind (arith, common_steps, one_key, (names_once N known (with_key found k) ks))
 
 -- ---- Names of segments.
 
@@ -136,7 +134,7 @@ placement_law s ys ms h =
     let gs : List Segment = (program_of ms).segments in
     let names : names_of gs ≡ segments_of ys = all_modules no_program ys ms h in
     let sizes : (name : List ℕ) → size_of (map places.need_of gs) name ≡ size_of (map (need_of ys) (segments_of ys)) name =
-    λ name. grind (arith, common_steps, (linked_size gs name), names, (size_law ys ms name h), (whole_size ys (segments_of ys) name)) in
+    λ name. grind (arith, common_steps, (linked_size gs name), (size_law ys ms name h), (whole_size ys (segments_of ys) name)) in
     same_needs s (map places.need_of gs) (map (need_of ys) (segments_of ys)) (linked_names gs ∙ names ∙ sym (whole_names ys (segments_of ys))) sizes
 
 -- ---- Lists behind lists.
@@ -147,7 +145,7 @@ module _ (p : Program) (fill : ℕ) where
 
   bytes_joined : (at : ℕ) (xs zs : List Item) (bytes : List ℕ) → BothBytes at xs zs bytes → AreBytes p fill at (xs ++ zs) bytes
   bytes_joined at [] zs bytes (own, rest, none, h, e) = subst (AreBytes p fill at zs) (sym (e ∙ ap (λ z. z ++ rest) none)) h
-  bytes_joined at (x ∷ xs) zs bytes (own, rest, (a, b, k, more, e'), h, e) = grind (arith, common_steps, append_assoc, (bytes_joined (end_behind at x) xs zs (b ++ rest) (b, rest, more, h, refl)))
+  bytes_joined at (x ∷ xs) zs bytes (own, rest, (a, b, k, more, e'), h, e) = grind (arith, common_steps, (bytes_joined (end_behind at x) xs zs (b ++ rest) (b, rest, more, h, refl)))
 
   pub bytes_split : (at : ℕ) (xs zs : List Item) (bytes : List ℕ) → AreBytes p fill at (xs ++ zs) bytes → BothBytes at xs zs bytes
   bytes_split at [] zs bytes h = ([], bytes, refl, h, refl)

@@ -41,8 +41,8 @@ pub value_covered : {E : Type 0} (none : E) (bases : ℕ → ℤ) (few more : �
 value_covered none bases few more h (lit n) v q = q
 value_covered none bases few more h (sec k a) v q = q
 value_covered none bases few more h (imp k) v q = h k v q
-value_covered none bases few more h (prefix op f) v q = grind (arith, common_steps, bind_ok, (value_covered none bases few more h f))
-value_covered none bases few more h (binary op f g) v q = grind (arith, common_steps, bind_ok, (value_covered none bases few more h f), (value_covered none bases few more h g))
+value_covered none bases few more h (prefix op f) v q = grind (arith, common_steps, (value_covered none bases few more h f))
+value_covered none bases few more h (binary op f g) v q = grind (arith, common_steps, (value_covered none bases few more h f), (value_covered none bases few more h g))
 
 module _ {E : Type 0} (p : Program) (o : Objects E) (h : AreObjects p o) where
   -- what is reached through so many exports is reached through one more
@@ -233,7 +233,7 @@ module _ {E : Type 0} (p : Program) (o : Objects E) (h : AreObjects p o) where
 
   expression_back : (turns : ℕ) → BelowExport turns → (depth : ℕ) → Through turns depth → (owner place : ℕ) (e : Tree) (f : Form) (v : ℤ) → norm (suc depth) (o.symbols owner) (o.contexts owner place) e ≡ Ok f → form_value o turns owner f ≡ Ok v → Value p owner place e v
   expression_back turns below depth through owner place (tree.number n) f v q d = let one : pos n ≡ v = grind (arith, common_steps) in subst (λ z. Value p owner place (tree.number n) z) one number
-  expression_back turns below depth through owner place tree.here f v q d = let one : p.address owner place ≡ v = grind (arith, common_steps, at_place) in subst (λ z. Value p owner place tree.here z) one here
+  expression_back turns below depth through owner place tree.here f v q d = let one : p.address owner place ≡ v = grind (arith, common_steps) in subst (λ z. Value p owner place tree.here z) one here
   expression_back turns below depth through owner place (tree.unary op e) f v q d =
       let (g, r, t) = one_part depth owner place op e f q in
       let whole : (form_value o turns owner g >>= (λ a. Ok (value1 op a))) ≡ Ok v = sym (prefix_fold_law E o.none (o.bases owner) (o.imports turns owner) op g f t) ∙ d in

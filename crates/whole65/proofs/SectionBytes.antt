@@ -13,7 +13,7 @@ use Rattle.object65.specs.Objects.{fits_width, value_bytes}
 use Rattle.object65.specs.declared.object.Width.{Width}
 use Rattle.object65.specs.declared.object.Width.TheVariants.{Byte, Word, HighFirst, Dword, Branch}
 use Rattle.syntax65.specs.declared.place.Place.{Place}
-use Rattle.semantics65.specs.Contents.{Part, Known, Waiting, Content, operand_form, stored, written, opcode_part, operand_tree, room_part, exported_names}
+use Rattle.semantics65.specs.Contents.{Part, Known, Waiting, Content, operand_form, stored, written, opcode_part, room_part, exported_names}
 use Rattle.ast65.specs.declared.fault.AsmFault.{AsmFault}
 use Rattle.ast65.specs.declared.fault.AsmFault.TheVariants.{OutOfRange}
 use Rattle.semantics65.specs.declared.laid.Context.{Context}
@@ -23,7 +23,6 @@ use Rattle.whole65.specs.Objects.{HasValue, Objects, form_value, AreObjects}
 use Rattle.whole65.proofs.LinkedObjects.{ArePart, AreParts, Valuing}
 use Rattle.whole65.proofs.Statements.{AllCome, AreStated, a_datum, a_line, a_part, a_piece, all_put, an_operand, are_stated, no_line, no_piece, none_put, parts_append, pieces_alike, stated}
 use Rattle.std.proofs.lemmas.List.{append_assoc}
-use Rattle.syntax65.specs.Opcodes.{opcode_of}
 use Rattle.syntax65.specs.Trees.{Tree}
 use Rattle.syntax65.specs.declared.instructions.names.Mnemonic.{Mnemonic}
 use Rattle.semantics65.specs.declared.laid.Settled.{Settled}
@@ -33,7 +32,7 @@ use Rattle.ast65.specs.declared.language.Operand.{Operand}
 use Rattle.ast65.specs.declared.language.Statement.{Statement}
 use Rattle.ast65.specs.declared.language.Statement.TheVariants as statement
 use Rattle.ast65.specs.declared.language.Item.TheVariants as item
-use Rattle.semantics65.specs.Norms.{norm_of, width_of}
+use Rattle.semantics65.specs.Norms.{norm_of}
 use Rattle.whole65.specs.Segments.{Line, line_end, line, line_of, lines_behind, largest_multiple}
 use Rattle.whole65.specs.Values.{Program, Value}
 use Rattle.semantics65.specs.Symbols.{Laid}
@@ -171,7 +170,7 @@ module _ {E : Type 0} (p : Program) (o : Objects E) (h : AreObjects p o) (fill :
   code_part x = grind (arith, common_steps)
 
   of_instruction : (m : Mnemonic) (d : Operand) (s : Settled) (names : List (List ℕ)) (cs : List Content) (bytes : List ℕ) → Come names (instruction_pieces m d s) cs → AreInstruction p x m d s bytes ↔ HaveBytes cs bytes
-  of_instruction m d (InMode mode) names _ bytes (a_piece {cs = cs} (a_part _) more) = grind (arith, common_steps, a_piece, a_part, all_put, code_part, of_operands, no_piece)
+  of_instruction m d (InMode mode) names _ bytes (a_piece {cs = cs} (a_part _) more) = grind (arith, common_steps, code_part, of_operands)
   of_instruction m d Unsettled names _ bytes no_piece = (λ k. k, λ k. k)
   of_instruction m d (FilledWith b) names _ bytes no_piece = (λ k. k, λ k. k)
   of_instruction m d (FromByte b) names _ bytes no_piece = (λ k. k, λ k. k)
@@ -215,7 +214,7 @@ Both Has fill ps qs bytes = (own : List ℕ) × (rest : List ℕ) × AreParts Ha
 
 parts_joined : (Has : Valuing) (fill : ℕ) (ps qs : List Part) (bytes : List ℕ) → Both Has fill ps qs bytes → AreParts Has fill (ps ++ qs) bytes
 parts_joined Has fill [] qs bytes (own, rest, none, h, e) = subst (AreParts Has fill qs) (sym (e ∙ ap (λ z. z ++ rest) none)) h
-parts_joined Has fill (p ∷ ps) qs bytes (own, rest, (a, b, k, more, e'), h, e) = grind (arith, common_steps, append_assoc, (parts_joined Has fill ps qs (b ++ rest) (b, rest, more, h, refl)))
+parts_joined Has fill (p ∷ ps) qs bytes (own, rest, (a, b, k, more, e'), h, e) = grind (arith, common_steps, (parts_joined Has fill ps qs (b ++ rest) (b, rest, more, h, refl)))
 
 parts_split : (Has : Valuing) (fill : ℕ) (ps qs : List Part) (bytes : List ℕ) → AreParts Has fill (ps ++ qs) bytes → Both Has fill ps qs bytes
 parts_split Has fill [] qs bytes h = ([], bytes, refl, h, refl)

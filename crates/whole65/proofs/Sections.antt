@@ -14,7 +14,7 @@ use Rattle.semantics65.specs.Layout.{Layout, segment_at}
 use Rattle.semantics65.specs.Numbering.{all_said, number_of, once, section_keys, segments_asked, section_of}
 use Rattle.semantics65.proofs.Segments.{all_more}
 use Rattle.semantics65.specs.Module.{ending_of}
-use Rattle.whole65.proofs.Positions.{named, Distinct, itself, alike}
+use Rattle.whole65.proofs.Positions.{named, Distinct, alike}
 use Rattle.whole65.proofs.Multiples.{equal}
 use Rattle.whole65.proofs.Statements.{AreStated, a_line, are_stated, asked_append, no_line, stated}
 use Rattle.whole65.specs.Modules.{table_of}
@@ -60,7 +60,7 @@ any_with p found k = grind (arith, common_steps, held, or_true, or_false, list_a
 
 pub any_once : (p : ℕ → Bool) (found ks : List ℕ) → list_any p (once found ks) ≡ (list_any p found || list_any p ks)
 any_once p found [] = sym (or_false (list_any p found))
-any_once p found (k ∷ ks) = grind (arith, common_steps, or_false, any_with, or_both, (any_once p (with_key found k) ks))
+any_once p found (k ∷ ks) = grind (arith, common_steps, any_with, (any_once p (with_key found k) ks))
 
 abbrev pub AreOnce : List ℕ → Type 0
 AreOnce [] = ⊤
@@ -68,7 +68,7 @@ AreOnce (k ∷ ks) = (list_any (nat_eq k) ks ≡ false) × AreOnce ks
 
 once_push : (ks : List ℕ) (k : ℕ) → AreOnce ks → list_any (nat_eq k) ks ≡ false → AreOnce (ks ++ k ∷ [])
 once_push [] k h e = (refl, tt)
-once_push (x ∷ ks) k h e = grind (arith, common_steps, neither, swapped, list_any-append, (once_push ks k h.1))
+once_push (x ∷ ks) k h e = grind (arith, common_steps, (once_push ks k h.1))
 
 pub are_once : (found ks : List ℕ) → AreOnce found → AreOnce (once found ks)
 are_once found [] h = h
@@ -76,7 +76,7 @@ are_once found (k ∷ ks) h = grind (arith, common_steps, once_push, (are_once (
 
 pub all_once : (P : ℕ → Type 0) (found ks : List ℕ) → AllByRecursion P found → AllByRecursion P ks → AllByRecursion P (once found ks)
 all_once P found [] h all = h
-all_once P found (k ∷ ks) h all = grind (arith, common_steps, all_more, (all_once P (with_key found k) ks))
+all_once P found (k ∷ ks) h all = grind (arith, common_steps, (all_once P (with_key found k) ks))
 
 -- ---- The number of a key.
 
@@ -90,7 +90,7 @@ number_later ks k g e h = grind (arith, common_steps, behind_front, none_found)
 
 lines_asked : (z : Symbols) (names : List (List ℕ)) (ls : List Laid) (cs : List Content) → AreStated z names ls cs → segments_asked cs ≡ map (λ l. l.context.segment) (filter (λ l. asks_section l.stated) ls)
 lines_asked z names [] _ no_line = refl
-lines_asked z names (l ∷ ls) _ (a_line ds cs found more) = grind (arith, common_steps, asked_append, (stated z names l ds found), (lines_asked z (names ++ exported_names (all_said ds)) ls cs more))
+lines_asked z names (l ∷ ls) _ (a_line ds cs found more) = grind (arith, common_steps, (stated z names l ds found), (lines_asked z (names ++ exported_names (all_said ds)) ls cs more))
 
 -- a module's contents ask for the segments in which the statements that ask stand
 pub asked_are : (y : Layout) (cs : List Content) → (ending_of y.laid).found ≡ Ok cs → segments_asked cs ≡ map (λ l. l.context.segment) (filter (λ l. asks_section l.stated) y.laid)
@@ -138,12 +138,12 @@ module _ (y : Layout) (owner : ℕ) (origins : Place → Origin) (sections impor
 
   pub none_there : (ks : List ℕ) → AllByRecursion (λ g. g < length y.cursor.segments) ks → list_any is_named ks ≡ false → (g : Option linked.Segment) → behind_sections owner name g (map its_section ks) ≡ g
   none_there [] h e g = refl
-  none_there (k ∷ ks) h e g = grind (arith, common_steps, neither, behind_sections, or_empty, section_named, (none_there ks h.1))
+  none_there (k ∷ ks) h e g = grind (arith, common_steps, section_named, (none_there ks h.1))
 
   -- no other key is of the same name
   others_apart : (k : ℕ) → Distinct y.cursor.segments → k < length y.cursor.segments → is_named k ≡ true → (ks : List ℕ) → AllByRecursion (λ g. g < length y.cursor.segments) ks → list_any (nat_eq k) ks ≡ false → list_any is_named ks ≡ false
   others_apart k d lt e [] h apart = refl
-  others_apart k d lt e (x ∷ ks) h apart = grind (arith, common_steps, nat_tests, (others_apart k d lt e ks h.1), (d k x lt h.0), (bytes_eq-Decides (segment_name y k) name), (bytes_eq-Decides (segment_name y x) name), (bytes_eq-Decides (segment_name y k) (segment_name y x)))
+  others_apart k d lt e (x ∷ ks) h apart = grind (arith, common_steps, (others_apart k d lt e ks h.1), (bytes_eq-Decides (segment_name y k) name), (bytes_eq-Decides (segment_name y x) name), (bytes_eq-Decides (segment_name y k) (segment_name y x)))
 
   -- one section of the module is in the segment
   pub record IsGrown (ks : List ℕ) (g : Option linked.Segment) : Type 0 where
@@ -172,7 +172,7 @@ module _ (y : Layout) (owner : ℕ) (origins : Place → Origin) (sections impor
           }
       go false q e more =
           let r = more e in
-          record { key = r.key; among = grind (arith, common_steps, r.among); below = r.below; called = r.called; is = grind (arith, common_steps, (section_named k h.0), r.is) }
+          record { key = r.key; among = grind (arith, common_steps); below = r.below; called = r.called; is = grind (arith, common_steps, (section_named k h.0)) }
 
 -- ---- A segment is grown by the sections of its name alone.
 
@@ -186,11 +186,11 @@ one_section owner (g ∷ gs) s name = grind (arith, common_steps, (one_section o
 
 pub all_sections : (owner : ℕ) (gs : List LinkedSegment) (ss : List Section) (name : List ℕ) → segment_of (with_sections owner gs ss) name ≡ behind_sections owner name (segment_of gs name) ss
 all_sections owner gs [] name = refl
-all_sections owner gs (s ∷ ss) name = grind (arith, common_steps, behind_sections, one_section, (all_sections owner (with_section owner gs s) ss name))
+all_sections owner gs (s ∷ ss) name = grind (arith, common_steps, one_section, (all_sections owner (with_section owner gs s) ss name))
 
 all_modules : (p : Program) (ms : List Module) (name : List ℕ) → segment_of (with_modules p ms).segments name ≡ behind_modules (length p.members) name (segment_of p.segments name) ms
 all_modules p [] name = refl
-all_modules p (m ∷ ms) name = grind (arith, common_steps, length-append, behind_modules, all_sections, (all_modules (with_module p m) ms name))
+all_modules p (m ∷ ms) name = grind (arith, common_steps, all_sections, (all_modules (with_module p m) ms name))
 
 -- A segment of linked modules is what the sections of its name make of it, module by module.
 pub segment_law : (ms : List Module) (name : List ℕ) → segment_of (linked.program_of ms).segments name ≡ behind_modules 0 name None ms

@@ -1,8 +1,7 @@
 -- What laid statements come to, one behind the other: what each of them asks for, puts into its section and says.
 use Rattle.std.proofs.lemmas.Grind.{common_steps, flat_map-append}
-use Rattle.std.proofs.lemmas.List.{append-nil, map-append}
-use Rattle.std.proofs.lemmas.List.Elements.{filter-append}
-use Rattle.std.proofs.Common.{◌≡◌, ◌∙◌, ℕ, Bool, true, false, cond, nat_eq, List, [], ◌∷◌, ◌++◌, map, filter, Option, Some, None, Result, Ok, refl, sym, ap, subst, ◌⊎◌, inl, inr, arith, if◌then◌else◌}
+use Rattle.std.proofs.lemmas.List.{append-nil}
+use Rattle.std.proofs.Common.{◌≡◌, ◌∙◌, ℕ, Bool, true, false, cond, nat_eq, List, [], ◌∷◌, ◌++◌, map, Option, Some, None, Result, Ok, refl, sym, ap, subst, ◌⊎◌, inl, inr, arith, if◌then◌else◌}
 use Rattle.std.specs.List.{AllByRecursion, flat_map, list_any}
 use Rattle.std.specs.Str.{bytes_eq}
 use Rattle.base65.specs.Outcome.{◌>>=◌}
@@ -11,16 +10,15 @@ use Rattle.syntax65.specs.Trees.{Tree}
 use Rattle.semantics65.proofs.Found.{AreFound, found_each, found_split}
 use Rattle.semantics65.proofs.SoundForms.{all_append}
 use Rattle.semantics65.proofs.SoundParts.{content_is}
-use Rattle.semantics65.specs.Contents.{Content, Declaration, Exported, ForcedImport, Part, asking, decided, export_said, import_fault, operand_form, operand_tree, put, stored, telling, written, exported_names}
+use Rattle.semantics65.specs.Contents.{Content, Declaration, Exported, ForcedImport, Part, asking, decided, export_said, import_fault, operand_form, put, stored, telling, written, exported_names}
 use Rattle.semantics65.specs.Layout.{Layout}
 use Rattle.semantics65.specs.Module.{Made, Piece, Purpose, absent_of, as_part, as_said, asserted, coming, datum, demanded, ending_of, equated, exported, failed, given, holds, imported, item_piece, made_of, operand, operand_pieces, pieces_of, quietly, slots_of, used, valued, waiting_at}
-use Rattle.semantics65.specs.Norms.{defined_form, norm_of, width_of}
+use Rattle.semantics65.specs.Norms.{defined_form, norm_of}
 use Rattle.semantics65.specs.Numbering.{all_said, parts_in, segments_asked}
 use Rattle.semantics65.specs.Reading.{at_place}
 use Rattle.semantics65.specs.Symbols.{Laid, Symbols, asks_section, defined, named}
 use Rattle.semantics65.specs.declared.laid.Settled.{Settled}
-use Rattle.semantics65.specs.declared.laid.Settled.TheVariants.{InMode}
-use Rattle.semantics65.specs.Types.{Action, AsmFault, Item, Value, Text, Place, Statement, Align, Assert, Constant, Export, FilePart, ForceImport, Global, Import, Instruction, Reserve, Values, Width}
+use Rattle.semantics65.specs.Types.{Action, AsmFault, Item, Place, Statement, Align, Assert, Constant, Export, FilePart, ForceImport, Global, Import, Instruction, Reserve, Values, Width}
 use Rattle.whole65.proofs.SameValues.{bind_ok, written_ok}
 use Rattle.whole65.specs.Modules.{table_of}
 
@@ -146,7 +144,7 @@ of_names f h [] = tt
 of_names f h (n ∷ names) = (h n, of_names f h names)
 
 pub pieces_alike : (count : ℕ) (s : Settled) (x : Statement) → AllByRecursion (λ p. is_part p ≡ has_parts x) (pieces_of count s x)
-pieces_alike count s (Instruction m o) = grind (arith, common_steps, of_operand, of_items, of_names, all_append)
+pieces_alike count s (Instruction m o) = grind (arith, common_steps)
 pieces_alike count s (Values width items) = of_items width items
 pieces_alike count s (Reserve n v) = (refl, tt)
 pieces_alike count s (Align n v) = (refl, tt)
@@ -192,12 +190,6 @@ stands_in x1 = grind (arith, common_steps)
 none_asked : {y : Symbols} {l : Laid} {names : List (List ℕ)} {ps : List Piece} {cs : List Content} → AllCome y l names ps cs → segments_asked cs ≡ []
 none_asked no_piece = refl
 none_asked (a_piece first more) = grind (arith, common_steps, (stands_in first), (none_asked more))
-
-parts_if : (g h : ℕ) (c : Content) (cs : List Content) → (c.segment ≡ h) ⊎ (c.parts ≡ []) → parts_in cs g ≡ cond (nat_eq h g) (all_put cs) [] → parts_in (c ∷ cs) g ≡ cond (nat_eq h g) (all_put (c ∷ cs)) []
-parts_if g h c cs x1 rest = grind (arith, common_steps)
-
-none_if : (b : Bool) → ◌≡◌ {A = List Part} [] (cond b [] [])
-none_if x1 = grind (arith, common_steps)
 
 parts_own : {y : Symbols} {l : Laid} {names : List (List ℕ)} {ps : List Piece} {cs : List Content} (g : ℕ) → AllCome y l names ps cs → parts_in cs g ≡ cond (nat_eq l.context.segment g) (all_put cs) []
 parts_own g no_piece = grind (arith, common_steps)

@@ -1,8 +1,7 @@
 -- A link leaves names open exactly where the whole program lacks some that have to be given.
-use Rattle.std.proofs.lemmas.Slice.Eq.{bytes_eq-Decides}
 use Rattle.std.proofs.lemmas.Grind.{common_steps}
 use Rattle.std.proofs.Common.{◌≡◌, ℕ, suc, Bool, true, false, nat_eq, cond, List, [], ◌∷◌, ◌++◌, length, map, filter, slice_get, Option, Some, None, Ok, refl, sym, ◌∙◌, ap, subst, zero, ◌+◌, ◌<◌, arith}
-use Rattle.std.specs.Prelude.{⊤, ℤ, unwrap_or, ◌||◌}
+use Rattle.std.specs.Prelude.{⊤, ℤ, unwrap_or}
 use Rattle.std.specs.List.{AllByRecursion, flat_map, list_any}
 use Rattle.std.proofs.lemmas.List.{append_assoc}
 use Rattle.syntax65.specs.Trees as tree
@@ -11,7 +10,6 @@ use Rattle.script65.specs.declared.placement.Placement.{Placement}
 use Rattle.script65.specs.declared.script.Script.{Script}
 use Rattle.semantics65.specs.Contents.{Content, Part, Known, Filled, Waiting, Declaration, Exported, ForcedImport, Asserted, exported_names}
 use Rattle.semantics65.specs.Symbols.{Laid, asks_section, Symbols, defined, named}
-use Rattle.ast65.specs.declared.language.Statement.TheVariants.{Assert}
 use Rattle.semantics65.specs.Layout.{Layout}
 use Rattle.semantics65.specs.Norms.{defined_form, norm}
 use Rattle.semantics65.specs.Numbering.{all_said, imports_in, name_of, optional_key, key_of, parts_in, segments_asked, section_keys}
@@ -82,7 +80,7 @@ module _ (P : Part → Type 0) where
       wider g x1 e = grind (arith, common_steps, or_right)
 
       here : (one : Stated z names l ds) (b : Bool) → asks_section l.stated ≡ b → ((g : ℕ) → list_any (nat_eq g) (map (λ (x : Laid). x.context.segment) (cond b (l ∷ asking) asking)) ≡ true → AllByRecursion P (parts_in ds g)) → AllByRecursion P (all_put one.own)
-      here one x1 e first = grind (arith, common_steps, alike, (quiet_parts l.length l.settled l.stated one.pieces), (one.parts l.context.segment), (first l.context.segment))
+      here one x1 e first = grind (arith, common_steps, (quiet_parts l.length l.settled l.stated one.pieces), (first l.context.segment))
 
   each_put : (cs : List Content) → AllByRecursion P (all_put cs) → AllByRecursion (λ (c : Content). AllByRecursion P c.parts) cs
   each_put [] h = tt
@@ -177,7 +175,7 @@ module _ (s : Script) (placement : Placement) (ys : List Layout) (ms : List Modu
   check_valued : (before : List Laid) (l : Laid) (x : Declaration) → o.contexts owner (length before) ≡ l.context → HasAssertion p (line_of owner before l) → IsAsserted z l x → IsValuedCheck x
   check_valued before l (Asserted act place words f) context has (e, stated, normal) =
       let same = same_values_law ValueFault p o (sources_law s placement ys ms h) (suc (length z.definitions)) owner (length before) e f in
-      grind (arith, common_steps, same)
+      grind (arith, common_steps)
   check_valued before l _ context has k = tt
 
   line_valued : (before : List Laid) (l : Laid) (ss : List Declaration) → o.contexts owner (length before) ≡ l.context → HasAssertion p (line_of owner before l) → AllByRecursion (IsAsserted z l) ss → AllByRecursion IsValuedCheck ss
@@ -244,11 +242,11 @@ part_bytes : (p : Program) (fill : ℕ) (name : List ℕ) (rest : List Layout) (
 part_bytes p fill name [] owner at i bytes y e h = absurd cc
 part_bytes p fill name (x ∷ rest) owner at zero bytes y e h =
     let (own, others, first, more, all) = bytes_split p fill at (part_of owner x name) (items_from (suc owner) rest name) bytes h in
-    (at, own, grind (arith, common_steps, first))
+    (at, own, grind (arith, common_steps))
 part_bytes p fill name (x ∷ rest) owner at (suc i) bytes y e h =
     let (own, others, first, more, all) = bytes_split p fill at (part_of owner x name) (items_from (suc owner) rest name) bytes h in
     let (begin, mine, there) = part_bytes p fill name rest (suc owner) (end_of at (part_of owner x name)) i others y e more in
-    (begin, mine, grind (arith, common_steps, there))
+    (begin, mine, grind (arith, common_steps))
 
 -- ---- To the link.
 

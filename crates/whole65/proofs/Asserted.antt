@@ -1,4 +1,5 @@
 -- Assertions of a link and those of the whole program.
+use Rattle.whole65.proofs.Positions.{all_parts}
 use Rattle.std.proofs.lemmas.Grind.{common_steps}
 use Rattle.std.proofs.Common.{◌≡◌, ℕ, zero, suc, List, [], ◌∷◌, ◌++◌, length, map, slice_get, Some, Result, Ok, Err, refl, sym, ◌∙◌, subst, ◌+◌, Bool, true, false, cond, ap, arith}
 use Rattle.std.specs.Prelude.{ℤ, pos, negsuc, ◌↔◌, ⊤, filter_map}
@@ -6,7 +7,7 @@ use Rattle.std.specs.List.{AllByRecursion}
 use Rattle.std.proofs.lemmas.List.{append_assoc, append-nil, length-append}
 use Rattle.base65.specs.Outcome.{◌>>=◌}
 use Rattle.syntax65.specs.Trees.{Tree}
-use Rattle.object65.specs.Form.{Form, lit, sec, imp, prefix, binary}
+use Rattle.object65.specs.Form.{Form, lit}
 use Rattle.object65.specs.declared.object.Action.{Action}
 use Rattle.object65.specs.declared.object.Action.TheVariants as action
 use Rattle.syntax65.specs.declared.place.Place.{Place}
@@ -19,7 +20,7 @@ use Rattle.semantics65.specs.Norms.{norm_of}
 use Rattle.semantics65.specs.Numbering.{all_said, assert_of, import_keys, numbered, section_keys}
 use Rattle.semantics65.proofs.SoundForms.{all_append}
 use Rattle.semantics65.specs.Module.{ending_of}
-use Rattle.whole65.proofs.Files.{all_split, table_law}
+use Rattle.whole65.proofs.Files.{table_law}
 use Rattle.whole65.proofs.SameValues.{bind_ok, written_ok, same_values_law}
 use Rattle.whole65.proofs.SectionBytes.{in_middle}
 use Rattle.whole65.proofs.Statements.{AreStated, IsSaidBy, SaidOnce, a_line, are_stated, left_out, no_line, no_name, said_append, said_first, stated}
@@ -103,22 +104,12 @@ module _ {E : Type 0} (p : Program) (o : Objects E) (h : AreObjects p o) (owner 
       by action.Error (lit (pos (suc n))) d = settled action.Error (pos (suc n)) (λ e. cc) d
       by action.Error (lit (negsuc n)) d = settled action.Error (negsuc n) (λ e. cc) d
       by action.Warning (lit v) d = settled action.Warning v tt d
-      by action.Error (sec k a) d = waits action.Error (sec k a) d
-      by action.Warning (sec k a) d = waits action.Warning (sec k a) d
-      by action.Error (imp k) d = waits action.Error (imp k) d
-      by action.Warning (imp k) d = waits action.Warning (imp k) d
-      by action.Error (prefix op f) d = waits action.Error (prefix op f) d
-      by action.Warning (prefix op f) d = waits action.Warning (prefix op f) d
-      by action.Error (binary op f g) d = waits action.Error (binary op f g) d
-      by action.Warning (binary op f g) d = waits action.Warning (binary op f g) d
+      by act f d = waits act f d
 
   assertion_passes : (number : ℕ) (place : Place) (e : Tree) (act : Action) (words : List ℕ) (f : Form) (ss : List Declaration) → norm_of (o.symbols owner) (o.contexts owner number) e ≡ Ok f → decided act place words f ≡ Ok ss → ((v : ℤ) × Value p owner number e v × Passes act v) ↔ AllPass o owner ss
   assertion_passes number place e act words f ss q d =
       let value : (v : ℤ) → Value p owner number e v ↔ HasValue o owner f v = λ v. same_values_law E p o h (suc (length (o.symbols owner).definitions)) owner number e f v q in
-      let either = decided_passes act place words f ss d in (
-        λ k. either.0 (k.0, (value k.0).0 k.1, k.2),
-        λ k. (let r = either.1 k in (r.0, (value r.0).1 r.1, r.2)),
-      )
+      grind (arith, common_steps, decided_passes)
 
   line_passes : (names : List (List ℕ)) (before : List Laid) (l : Laid) (ss : List Declaration) → o.contexts owner (length before) ≡ l.context → IsSaidBy (o.symbols owner) names l l.stated ss → HasAssertion p (line_of owner before l) ↔ AllPass o owner ss
   line_passes names before l ss at d = go l.stated d
@@ -143,7 +134,7 @@ module _ {E : Type 0} (p : Program) (o : Objects E) (h : AreObjects p o) (owner 
       let one = line_passes names before l (all_said ds) (contexts (length before) l there) (stated (o.symbols owner) names l ds found).said in
       let deeper = lines_pass all contexts (before ++ l ∷ []) ls (names ++ exported_names (all_said ds)) cs next more in (
         λ k. subst (AllPass o owner) (sym (said_append ds cs)) (all_append (IsPassed o owner) (all_said ds) (all_said cs) (one.0 k.0) (deeper.0 k.1)),
-        λ k. (let q = all_split (IsPassed o owner) (all_said ds) (all_said cs) (subst (AllPass o owner) (said_append ds cs) k) in (one.1 q.0, deeper.1 q.1)),
+        λ k. (let q = all_parts (IsPassed o owner) (all_said ds) (all_said cs) (subst (AllPass o owner) (said_append ds cs) k) in (one.1 q.0, deeper.1 q.1)),
       )
 
 -- ---- Assertions of all modules.
@@ -154,11 +145,7 @@ linked_asserts owner (m ∷ ms) = map (linked.asserted owner) m.object.asserts +
 
 asserts_behind : (p : linked.Program) (ms : List Module) → (linked.with_modules p ms).asserts ≡ p.asserts ++ linked_asserts (length p.members) ms
 asserts_behind p [] = sym (append-nil p.asserts)
-asserts_behind p (m ∷ ms) =
-    let longer : length (linked.with_module p m).members ≡ suc (length p.members) = length-append p.members (linked.member p m ∷ []) ∙ omega arith in
-    asserts_behind (linked.with_module p m) ms
-    ∙ ap (λ n. (linked.with_module p m).asserts ++ linked_asserts n ms) longer
-    ∙ append_assoc p.asserts (map (linked.asserted (length p.members)) m.object.asserts) (linked_asserts (suc (length p.members)) ms)
+asserts_behind p (m ∷ ms) = grind (arith, common_steps, (asserts_behind (linked.with_module p m) ms))
 
 asserts_are : (ms : List Module) → (linked.program_of ms).asserts ≡ linked_asserts 0 ms
 asserts_are ms = asserts_behind linked.no_program ms
@@ -291,7 +278,7 @@ module _ (s : Script) (placement : Placement) (ys : List Layout) (ms : List Modu
       let others : List LinkedAssertion = linked_asserts (suc owner) ns in
       let one = one_source owner y m at_y at_m k.0 in
       let more = all_sources rest ns (suc owner) k.1 (λ i. up_y (suc i) ∙ ap (slice_get ys) (next i)) (λ i. up_m (suc i) ∙ ap (slice_get ms) (next i)) in (
-        λ q. (let both = all_split Passing first others q in (one.0 both.0, more.0 both.1)),
+        λ q. (let both = all_parts Passing first others q in (one.0 both.0, more.0 both.1)),
         λ q. all_append Passing first others (one.1 q.0) (more.1 q.1),
       )
 

@@ -4,7 +4,7 @@ use Rattle.std.proofs.Common.{◌≡◌, ℕ, false, Option, Some, None, arith, 
 use Rattle.std.specs.Prelude.{ℤ, ⊤}
 use Rattle.syntax65.specs.Trees.{Tree, name}
 use Rattle.syntax65.specs.Trees as tree
-use Rattle.whole65.specs.Values.{Provider, by_module, by_script, by_nobody, Program, Meaning, label_at, constant_at, import_of, meaning_in, Value, number, here, label, constant, exported, scripted, prefixed, joined, Spot, at, NeedsNext, of_constant, of_import, of_prefix, of_left, of_right, Needs, next, behind}
+use Rattle.whole65.specs.Values.{Provider, by_module, by_script, by_nobody, Program, Meaning, label_at, constant_at, import_of, meaning_in, Value, number, here, label, constant, exported, scripted, prefixed, joined, Spot, at, NeedsNext, Needs, next, behind}
 use Rattle.whole65.specs.Laws.{CircularLaw}
 
 -- what is needed ends
@@ -37,12 +37,7 @@ by_meaning : (p : Program) (owner place : ℕ) (e : Tree) (m : Meaning) → mean
 by_meaning p owner place x m q h = grind (arith, common_steps)
 
 step_ends : (p : Program) {x y : Spot} → NeedsNext p x y → EndsBehind p x.owner x.place x.tree → Ends p y
-step_ends p (of_constant {owner = owner} {place = place} {where_set = w} {e = e} {f = f} q) h = of_meaning p owner place e (constant_at w f) q h
-step_ends p (of_import {owner = owner} {place = place} {provider = provider} {e = e} {x = x} q g) h =
-    subst (λ g. EndsBy p g x) g (of_meaning p owner place e (import_of x) q h)
-step_ends p of_prefix h = h
-step_ends p of_left h = h.0
-step_ends p of_right h = h.1
+step_ends p x1 h = grind (arith, common_steps)
 
 here_ends : (p : Program) (owner place : ℕ) (e : Tree) → EndsBehind p owner place e → Ends p (at owner place e)
 here_ends p owner place e h = ends (λ y s. step_ends p s h)
@@ -52,9 +47,7 @@ value_ends p number = tt
 value_ends p here = tt
 value_ends p (label {owner = owner} {place = place} {at = w} {e = e} m) = by_meaning p owner place e (label_at w) m tt
 value_ends p (constant {owner = owner} {place = place} {at = w} {e = e} {f = f} m d) = by_meaning p owner place e (constant_at w f) m (here_ends p owner w f (value_ends p d))
-value_ends p (exported {owner = owner} {place = place} {provider = provider} {e = e} {x = x} m g d) =
-    let there : Ends p (at provider (p.global provider) (name false (x ∷ []))) = here_ends p provider (p.global provider) (name false (x ∷ [])) (value_ends p d) in
-    by_meaning p owner place e (import_of x) m (subst (λ g. EndsBy p g x) (sym g) there)
+value_ends p (exported {owner = owner} {place = place} {provider = provider} {e = e} {x = x} m g d) = grind (arith, common_steps, here_ends, (value_ends p d))
 value_ends p (scripted {owner = owner} {place = place} {e = e} {x = x} {v = v} m g) = by_meaning p owner place e (import_of x) m (subst (λ g. EndsBy p g x) (sym g) tt)
 value_ends p (prefixed {owner = owner} {place = place} {e = e} d) = here_ends p owner place e (value_ends p d)
 value_ends p (joined {owner = owner} {place = place} {e = e} {f = f} c d q) = (here_ends p owner place e (value_ends p c), here_ends p owner place f (value_ends p d))

@@ -1,4 +1,5 @@
 -- A link of the objects of sources gives the image of their whole program, and none where that has none.
+use Rattle.std.proofs.lemmas.Grind.{common_steps}
 use Rattle.std.proofs.Common.{◌≡◌, ℕ, zero, suc, ◌<◌, false, List, [], ◌∷◌, length, get_or, slice_get, Some, Result, Ok, Err, refl, sym, ◌∙◌, ap, subst, arith}
 use Rattle.std.specs.Prelude.{ℤ, ◌↔◌}
 use Rattle.std.specs.List.{AllByRecursion}
@@ -89,11 +90,7 @@ export_table_law s placement ys ms h exported =
 -- what modules say, one thing of all modules after the other
 said_parts : (p : Program) (owner : ℕ) (ys : List Layout) → AreSaid p owner ys ↔ (AreForced p ys × AreExported p owner ys × AreAsserted p owner ys)
 said_parts p owner [] = (λ k. (tt, tt, tt), λ k. tt)
-said_parts p owner (y ∷ ys) =
-    let more = said_parts p (suc owner) ys in (
-      λ k. (let rest = more.0 k.1 in ((k.0.forced, rest.0), (k.0.exports, rest.1), (k.0.assertions, rest.2))),
-      λ k. (record { forced = k.0.0; exports = k.1.0; assertions = k.2.0 }, more.1 (k.0.1, k.1.1, k.2.1)),
-    )
+said_parts p owner (y ∷ ys) = grind (arith, common_steps, (said_parts p (suc owner) ys))
 
 module _ (output : List ℕ) (s : Script) (ys : List Layout) (ms : List Module) (files : List OutputFile) (h : AreSources ys ms) where
   has_link : Whole output s ys files → HasLink output s (linked.program_of ms) files
@@ -125,18 +122,7 @@ module _ (output : List ℕ) (s : Script) (ys : List Layout) (ms : List Module) 
       let exported = (exports_law s k.placement ys ms k.table h k.exports).0 k.exported in
       let asserted = (assertions_law s k.placement ys ms k.table h k.exports).0 (k.warnings, k.asserted) in
       let image : HasImage output s ys k.placement p files = (files_law output s k.placement ys ms k.table files h k.exports).1 (k.values, k.made) in
-      record {
-        once = (names_law s ys ms h).0 k.once;
-        placement = k.placement;
-        placed = placed;
-        image = record {
-          imports = names.0;
-          said = (said_parts p 0 ys).1 (names.1, exported, asserted);
-          bytes = image.bytes;
-          rows = image.rows;
-          image = image.image;
-        };
-      }
+      grind (arith, common_steps, names_law, said_parts)
 
   either : Whole output s ys files ↔ IsLinkedTo output s ms files
   either = (

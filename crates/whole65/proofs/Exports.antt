@@ -1,8 +1,7 @@
 -- The names that sources export and demand.
-use Rattle.std.proofs.Common.{arith, ◌≡◌, ℕ, Bool, true, false, cond, List, [], ◌∷◌, ◌++◌, length, map, filter, Some, Ok, refl, sym, ◌∙◌, ap, subst, inl, inr}
+use Rattle.std.proofs.Common.{arith, ◌≡◌, ℕ, Bool, List, [], ◌∷◌, ◌++◌, map, filter, Some, Ok, refl, sym, ◌∙◌, ap, subst}
 use Rattle.std.specs.Prelude.{⊤, is_some}
-use Rattle.std.specs.List.{AllByRecursion, flat_map, list_any}
-use Rattle.std.specs.Str.{bytes_eq}
+use Rattle.std.specs.List.{AllByRecursion, flat_map}
 use Rattle.std.proofs.lemmas.List.{append-nil, append_assoc, map-append}
 use Rattle.std.proofs.lemmas.List.Elements.{filter-append}
 use Rattle.std.proofs.lemmas.Grind.{common_steps, flat_map-append}
@@ -26,7 +25,7 @@ use Rattle.semantics65.proofs.SoundForms.{all_append}
 use Rattle.semantics65.proofs.Found.{names_append, exports_named}
 use Rattle.semantics65.proofs.Resolving.{new_append}
 use Rattle.semantics65.specs.Module.{ending_of}
-use Rattle.whole65.proofs.Statements.{AreStated, IsLeftOut, IsSaidBy, SaidOnce, a_line, are_stated, left_out, no_line, no_name, said_append, said_first, stated}
+use Rattle.whole65.proofs.Statements.{AreStated, IsSaidBy, SaidOnce, a_line, are_stated, left_out, no_line, no_name, said_append, said_first, stated}
 use Rattle.whole65.proofs.Sources.{contents_of}
 use Rattle.whole65.specs.Modules.{exported_by, exports_of, table_of, forced_by}
 use Rattle.whole65.specs.Sources.{AreSources, IsSource}
@@ -50,58 +49,19 @@ pub record Says (z : Symbols) (before names : List (List ℕ)) (ss : List Declar
   pub are_defined : AllByRecursion (IsDefined z) ss
 
 says_nothing : (z : Symbols) (before : List (List ℕ)) (ss : List Declaration) → exported_names ss ≡ [] → AllByRecursion (IsDefined z) ss → Says z before [] ss
-says_nothing z before ss none all =
-    record { exported = sym (ap (λ ns. before ++ ns) none ∙ append-nil before); are_defined = all }
+says_nothing z before ss none all = grind (arith, common_steps)
 
 says_both : (z : Symbols) (before ns ms : List (List ℕ)) (ss rs : List Declaration) → Says z before ns ss → Says z (before ++ exported_names ss) ms rs → Says z before (ns ++ ms) (ss ++ rs)
-says_both z before ns ms ss rs h k = record {
-  exported =
-      ap (with_new before) (filter-append (has_definition z) ns ms)
-      ∙ new_append before (filter (has_definition z) ns) (filter (has_definition z) ms)
-      ∙ ap (λ known. with_new known (filter (has_definition z) ms)) h.exported
-      ∙ k.exported
-      ∙ append_assoc before (exported_names ss) (exported_names rs)
-      ∙ ap (λ names. before ++ names) (sym (names_append ss rs));
-  are_defined = all_append (IsDefined z) ss rs h.are_defined k.are_defined;
-}
+says_both z before ns ms ss rs h k = grind (arith, common_steps, new_append, names_append)
 
 exports_say : {z : Symbols} {place : Place} {before ns : List (List ℕ)} {ss : List Declaration} → SaidOnce z place before ns ss → Says z before ns ss
 exports_say {before = before} no_name = record { exported = sym (append-nil before); are_defined = tt }
-exports_say {z = z} {before = before} (left_out {n = n} {ns = ns} {ss = ss} why more) =
-    let rest : Says z before ns ss = exports_say more in
-    record { exported = skipped why ∙ rest.exported; are_defined = rest.are_defined }
-  where
-    others : List (List ℕ)
-    others = filter (has_definition z) ns
-
-    known : list_any (bytes_eq n) before ≡ true → (b : Bool) → with_new before (cond b (n ∷ others) others) ≡ with_new before others
-    known e true = ap (λ b. with_new (cond b before (before ++ n ∷ [])) others) e
-    known e false = refl
-
-    skipped : IsLeftOut z before n → with_new before (cond (has_definition z n) (n ∷ others) others) ≡ with_new before others
-    skipped (inl e) = known e (has_definition z n)
-    skipped (inr e) = ap (λ o. with_new before (cond (is_some o) (n ∷ others) others)) e
-exports_say {z = z} {before = before} (said_first {n = n} {ns = ns} {ss = ss} j f new e form more) =
-    let rest : Says z (before ++ n ∷ []) ns ss = exports_say more in
-    record {
-      exported =
-          ap (λ o. with_new before (cond (is_some o) (n ∷ filter (has_definition z) ns) (filter (has_definition z) ns))) e
-          ∙ ap (λ b. with_new (cond b before (before ++ n ∷ [])) (filter (has_definition z) ns)) new
-          ∙ rest.exported
-          ∙ append_assoc before (n ∷ []) (exported_names ss);
-      are_defined = ((j, e, form), rest.are_defined);
-    }
+exports_say {z = z} {before = before} (left_out {n = n} {ns = ns} {ss = ss} why more) = grind (arith, common_steps, (exports_say more))
+exports_say {z = z} {before = before} (said_first {n = n} {ns = ns} {ss = ss} j f new e form more) = grind (arith, common_steps, (exports_say more))
 
 forced_says : (z : Symbols) (before ns : List (List ℕ)) → Says z before [] (map ForcedImport ns)
-forced_says z before ns = says_nothing z before (map ForcedImport ns) (none ns) (all ns)
-  where
-    none : (ns : List (List ℕ)) → exported_names (map ForcedImport ns) ≡ []
-    none [] = refl
-    none (n ∷ ns) = none ns
-
-    all : (ns : List (List ℕ)) → AllByRecursion (IsDefined z) (map ForcedImport ns)
-    all [] = tt
-    all (n ∷ ns) = (tt, all ns)
+forced_says z before [] = grind (arith, common_steps)
+forced_says z before (n ∷ ns) = grind (arith, common_steps, (forced_says z before ns))
 
 -- what an assertion says: nothing, or that it waits
 data IsDecided (act : Action) (place : Place) (words : List ℕ) (f : Form) (ss : List Declaration) : Type 0 where
@@ -121,8 +81,7 @@ one_says z before l ss h = go l.stated h
     go (statement.Assert e act words) (f, normal, said) = by (is_decided act l.place words f ss said)
       where
         by : IsDecided act l.place words f ss → Says z before [] ss
-        by (settled same) = subst (Says z before []) same (says_nothing z before [] refl tt)
-        by (waiting same) = subst (Says z before []) same (says_nothing z before (Asserted act l.place words f ∷ []) refl (tt, tt))
+        by x1 = grind (arith, common_steps)
     go x h = subst (Says z before []) (sym h) (says_nothing z before [] refl tt)
 
 lines_say : (z : Symbols) (before : List (List ℕ)) (ls : List Laid) (cs : List Content) → AreStated z before ls cs → Says z before (flat_map (λ l. exported_by l.stated) ls) (all_said cs)
@@ -155,10 +114,7 @@ all_exports : (p : Program) (ys : List Layout) (ms : List Module) → AreSources
 all_exports p [] [] h = sym (append-nil (export_names p))
 all_exports p [] (m ∷ ms) h = absurd h
 all_exports p (y ∷ ys) [] h = absurd h
-all_exports p (y ∷ ys) (m ∷ ms) h =
-    all_exports (with_module p m) ys ms h.1
-    ∙ ap (λ z. z ++ flat_map exports_of ys) (map-append (λ (e : parts.Exported). e.name) p.exports (map (linked.exported (length p.members)) m.object.exports) ∙ ap (λ z. export_names p ++ z) (names_exported (length p.members) m.object.exports ∙ source_exports y m h.0))
-    ∙ append_assoc (export_names p) (exports_of y) (flat_map exports_of ys)
+all_exports p (y ∷ ys) (m ∷ ms) h = grind (arith, common_steps, names_exported, source_exports, (all_exports (with_module p m) ys ms h.1))
 
 -- The objects of sources export the names that the sources do, in the same order.
 pub export_names_law : (ys : List Layout) (ms : List Module) → AreSources ys ms → export_names (linked.program_of ms) ≡ flat_map exports_of ys
@@ -229,8 +185,7 @@ one_tells z names l ss h = go l.stated h
     go (Assert e act words) (f, normal, said) = by (is_decided act l.place words f ss said)
       where
         by : IsDecided act l.place words f ss → Tells z (record l { stated = Assert e act words }) ss
-        by (settled same) = subst (Tells z (record l { stated = Assert e act words })) same (record { demanded = refl; asserted = tt })
-        by (waiting same) = subst (Tells z (record l { stated = Assert e act words })) same (record { demanded = refl; asserted = ((e, refl, normal), tt) })
+        by x1 = grind (arith, common_steps)
     go x h = exporting x refl (subst (AllByRecursion IsExport) (sym h) tt)
 
 -- ---- All of a module.

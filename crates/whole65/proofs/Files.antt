@@ -1,9 +1,9 @@
 -- The files of a link and those of the whole program.
 use Rattle.std.proofs.lemmas.Grind.{common_steps}
-use Rattle.std.proofs.Common.{◌≡◌, ℕ, zero, suc, ◌+◌, ◌<◌, List, [], ◌∷◌, length, slice_get, Option, Some, Result, Ok, Err, refl, ◌∙◌, ap, subst, arith, Bool, true, false, cond, ◌++◌, sym, map}
+use Rattle.std.proofs.Common.{◌≡◌, ℕ, zero, suc, ◌+◌, ◌<◌, List, [], ◌∷◌, length, slice_get, Option, Some, Result, Ok, Err, refl, ◌∙◌, ap, subst, arith, Bool, true, false, cond, sym, map}
 use Rattle.std.specs.Prelude.{ℤ, ◌↔◌, ◌==◌}
 use Rattle.base65.specs.Outcome.{◌>>=◌}
-use Rattle.base65.specs.Values.{value1, value2}
+use Rattle.base65.specs.Values.{value2}
 use Rattle.object65.specs.Form.{Form, lit, sec, imp, prefix, binary}
 use Rattle.object65.specs.FormValue.{or_none}
 use Rattle.link65.proofs.Tries.{exports_grow, form_grows, Known, further, settles_once}
@@ -33,7 +33,7 @@ use Rattle.link65.specs.Files.{RowBytes, AddsArea, AddsAreas, IsAreaFile, area_p
 use Rattle.link65.specs.Programs as linked
 use Rattle.whole65.proofs.Providers.{IsExportOf, exports_known, export_normal, sources_law, exports_are, linked_exports}
 use Rattle.whole65.proofs.Keyed.{form_law}
-use Rattle.whole65.proofs.Positions.{all_get}
+use Rattle.whole65.proofs.Positions.{all_get, all_parts}
 use Rattle.whole65.proofs.Rows.{linked_bytes_law}
 use Rattle.whole65.specs.Laws.{ExportValueLaw, RowsLaw}
 use Rattle.whole65.specs.Modules.{table_of, exports_of}
@@ -66,8 +66,7 @@ got_inside (y ∷ xs) (suc x) a e = let deeper = got_inside xs x a e in omega (a
 
 module _ (l : Linkage) (table : List (Result ℤ ValueFault)) (h : AreExports l table) where
   export_inside : (n x : ℕ) (u : ℤ) → exports_through l n x ≡ Ok u → x < length l.exports
-  export_inside zero x u e = cc
-  export_inside (suc n) x u e = grind (arith, common_steps, got_inside)
+  export_inside x1 x u e = grind (arith, common_steps, got_inside)
 
   in_the_table : (n x : ℕ) (u : ℤ) → exports_through l n x ≡ Ok u → in_table table x ≡ Ok u
   in_the_table n x u e =
@@ -88,11 +87,7 @@ module _ (l : Linkage) (table : List (Result ℤ ValueFault)) (h : AreExports l 
   to_turns owner (lit n) v e = (0, e)
   to_turns owner (sec k a) v e = (0, e)
   to_turns owner (imp j) v e = import_turns (provider_at (slice_get l.modules owner) j) v e
-  to_turns owner (prefix op f) v e =
-      let (a, first, last) = bind_ok (value_by l (in_table table) owner f) (λ a. Ok (value1 op a)) v e in
-      let (n, got) = to_turns owner f a first in
-      let whole : (value_by l (exports_through l n) owner f >>= (λ z. Ok (value1 op z))) ≡ Ok v = ap (λ r. r >>= (λ z. Ok (value1 op z))) got ∙ last in
-      (n, whole)
+  to_turns owner (prefix op f) v e = grind (arith, common_steps, (to_turns owner f))
   to_turns owner (binary op f g) v e =
       let (a, first, others) = bind_ok (value_by l (in_table table) owner f) (λ a. value_by l (in_table table) owner g >>= (λ b. or_none NoValue (value2 op a b))) v e in
       let (b, second, last) = bind_ok (value_by l (in_table table) owner g) (λ b. or_none NoValue (value2 op a b)) v others in
@@ -137,28 +132,17 @@ module _ (l : Linkage) (members : List Member) (table : List (Result ℤ ValueFa
 
   there : (cells : List Cell) (bytes : List ℕ) → AreCells l fill cells bytes → Checked cells bytes
   there [] bytes k = (refl, k)
-  there (known b ∷ cells) bytes (own, rest, first, more, e) =
-      let (passed, same) = there cells rest more in
-      (passed, e ∙ ap (λ z. z ++ rest) first ∙ ap (λ z. b ∷ z) same)
-  there (filled ∷ cells) bytes (own, rest, first, more, e) =
-      let (passed, same) = there cells rest more in
-      (passed, e ∙ ap (λ z. z ++ rest) first ∙ ap (λ z. fill ∷ z) same)
+  there (known b ∷ cells) bytes (own, rest, first, more, e) = grind (arith, common_steps, (there cells rest more))
+  there (filled ∷ cells) bytes (own, rest, first, more, e) = grind (arith, common_steps, (there cells rest more))
   there (waits w ∷ cells) bytes (own, rest, (v, value, (fits, first)), more, e) =
       let (passed, same) = there cells rest more in
       let found : value_by l exports w.owner w.form ≡ Ok v = (table_law l table w.owner w.form v h).1 value in
-      let fine : check w ≡ Ok tt = passes (site members w.owner w.origin) w (value_by l exports w.owner w.form) (v, found, fits) in (
-        ap (λ r. r >>= (λ u. each_passes check (flat_map fixups_in cells))) fine ∙ passed,
-        e ∙ ap (λ z. z ++ rest) (first ∙ sym (written w (value_by l exports w.owner w.form) v found fits)) ∙ ap (λ z. stored w.width (or_zero (value_by l exports w.owner w.form)) ++ z) same,
-      )
+      grind (arith, common_steps)
 
   back : (cells : List Cell) (bytes : List ℕ) → Checked cells bytes → AreCells l fill cells bytes
   back [] bytes k = k.1
-  back (known b ∷ cells) bytes (passed, e) =
-      let rest : List ℕ = flat_map (cell_bytes l exports fill) cells in
-      (b ∷ [], rest, refl, back cells rest (passed, refl), e)
-  back (filled ∷ cells) bytes (passed, e) =
-      let rest : List ℕ = flat_map (cell_bytes l exports fill) cells in
-      (fill ∷ [], rest, refl, back cells rest (passed, refl), e)
+  back (known b ∷ cells) bytes (passed, e) = grind (arith, common_steps, (back cells))
+  back (filled ∷ cells) bytes (passed, e) = grind (arith, common_steps, (back cells))
   back (waits w ∷ cells) bytes (passed, e) =
       let rest : List ℕ = flat_map (cell_bytes l exports fill) cells in
       let own : List ℕ = stored w.width (or_zero (value_by l exports w.owner w.form)) in
@@ -203,14 +187,7 @@ module _ (s : Script) (placement : Placement) (ys : List Layout) (ms : List Modu
 
   all_rows : (rs : List Row) → AllByRecursion (AreRow (whole.program_of s placement ys) ys bytes) rs ↔ ((each_passes check_all (fixups_by_row rs segments) ≡ Ok tt) × AllByRecursion IsWritten rs)
   all_rows [] = (λ k. (refl, tt), λ k. tt)
-  all_rows (r ∷ rs) =
-      let first : List Fixup = fixups_of (segment_of segments r.name) in
-      let rest : List Fixup = fixups_by_row rs segments in
-      let deeper = all_rows rs in
-      let one = one_row r in (
-        λ k. (let a = one.0 k.0 in let b = deeper.0 k.1 in (passes_append check_all first rest ∙ ap (λ z. z >>= (λ u. each_passes check_all rest)) a.0 ∙ b.0, (a.1, b.1))),
-        λ k. (let (u, a, b) = bind_ok (each_passes check_all first) (λ u. each_passes check_all rest) tt (sym (passes_append check_all first rest) ∙ k.0) in (one.1 (a, k.1.0), deeper.1 (b, k.1.1))),
-      )
+  all_rows (r ∷ rs) = grind (arith, common_steps, one_row, passes_append, (all_rows rs))
 
 pub rows_law : RowsLaw
 rows_law s placement ys ms table bytes h exports = all_rows s placement ys ms table bytes h exports s.rows
@@ -242,8 +219,7 @@ same_file rs p bytes others h k a image f = grind (arith, common_steps, same_pie
 
 module _ (output : List ℕ) (F G : ℕ → Area → List ℕ → Type 0) (up : (k : ℕ) (a : Area) (image : List ℕ) → F k a image → G k a image) where
   adds_one : (k : ℕ) (a : Area) (b : Bool) (name : List ℕ) (before after : List OutputFile) → AddsArea b name (F k a) before after → AddsArea b name (G k a) before after
-  adds_one k a true name before after h = h
-  adds_one k a false name before after h = (h.0, up k a h.0 h.1, h.2)
+  adds_one k a x1 name before after h = grind (arith, common_steps)
 
   adds_all : (k : ℕ) (areas : List Area) (before after : List OutputFile) → AddsAreas output F k areas before after → AddsAreas output G k areas before after
   adds_all k [] before after h = h
@@ -267,11 +243,7 @@ files_law output s placement ys ms table files h exports =
 
 passes_each : {A : Type 0} (check : A → Result (Unit {0}) LinkFault) (xs : List A) → (each_passes check xs ≡ Ok tt) ↔ AllByRecursion (λ x. check x ≡ Ok tt) xs
 passes_each check [] = (λ k. tt, λ k. refl)
-passes_each check (x ∷ xs) =
-    let more = passes_each check xs in (
-      λ k. (let (u, a, b) = bind_ok (check x) (λ u. each_passes check xs) tt k in (a, more.0 b)),
-      λ k. ap (λ z. z >>= (λ u. each_passes check xs)) k.0 ∙ more.1 k.1,
-    )
+passes_each check (x ∷ xs) = grind (arith, common_steps, (passes_each check xs))
 
 all_either : {A : Type 0} (P Q : A → Type 0) (xs : List A) → ((i : ℕ) (x : A) → slice_get xs i ≡ Some x → P x ↔ Q x) → AllByRecursion P xs ↔ AllByRecursion Q xs
 all_either P Q [] f = (λ k. tt, λ k. tt)
@@ -279,10 +251,6 @@ all_either P Q (x ∷ xs) f =
     let one = f 0 x refl in
     let more = all_either P Q xs (λ i z e. f (suc i) z e) in
     (λ k. (one.0 k.0, more.0 k.1), λ k. (one.1 k.0, more.1 k.1))
-
-pub all_split : {A : Type 0} (P : A → Type 0) (xs zs : List A) → AllByRecursion P (xs ++ zs) → AllByRecursion P xs × AllByRecursion P zs
-all_split P [] zs h = (tt, h)
-all_split P (x ∷ xs) zs h = let more = all_split P xs zs h.1 in ((h.0, more.0), more.1)
 
 -- a value is there where the check passes
 abbrev found_at : Site → Result ℤ ValueFault → Result (Unit {0}) LinkFault
@@ -309,7 +277,7 @@ module _ (p : Program) where
       let more = all_modules (suc owner) ys ms h.1 in
       let first : List Exported = map (linked.exported owner) m.object.exports in
       let rest : List Exported = linked_exports (suc owner) ms in (
-        λ k. (let q = all_split OfExport first rest k in (subst (AllByRecursion (HasExport p owner)) names (one.0 q.0), more.0 q.1)),
+        λ k. (let q = all_parts OfExport first rest k in (subst (AllByRecursion (HasExport p owner)) names (one.0 q.0), more.0 q.1)),
         λ k. all_append OfExport first rest (one.1 (subst (AllByRecursion (HasExport p owner)) (sym names) k.0)) (more.1 k.1),
       )
 

@@ -26,7 +26,7 @@ use Rattle.link65.specs.declared.parts.Provider.{Provider}
 use Rattle.link65.specs.declared.parts.Provider.TheVariants.{Nobody}
 use Rattle.link65.specs.declared.parts.Member.{Member}
 use Rattle.semantics65.proofs.SoundForms.{all_append}
-use Rattle.semantics65.proofs.Segments.{all_more}
+use Rattle.semantics65.proofs.Segments.{all_more, all_same}
 use Rattle.whole65.proofs.Providers.{Agree, providers_agree}
 use Rattle.whole65.specs.Programs as whole
 use Rattle.whole65.specs.Segments.{needs_of}
@@ -38,13 +38,13 @@ use Rattle.std.specs.Option.{option_map}
 use Rattle.object65.specs.declared.object.Object.{Object}
 use Rattle.semantics65.specs.Contents.{Content, Part, Declaration, Exported, ForcedImport, Asserted}
 use Rattle.semantics65.specs.Symbols.{Laid, imports_of}
-use Rattle.semantics65.specs.Numbering.{all_said, content_imports, import_keys, key_of, name_of, once, optional_key, part_imports, said_imports}
+use Rattle.semantics65.specs.Numbering.{all_said, content_imports, import_keys, key_of, name_of, once, part_imports, said_imports}
 use Rattle.link65.proofs.SegmentLemmas.{at_front, behind_front}
 use Rattle.whole65.proofs.Keyed.{one_of, each_among, or_right}
 use Rattle.whole65.proofs.Exports.{all_demanded, demanded_names}
 use Rattle.whole65.proofs.Sections.{all_once, any_once}
 use Rattle.whole65.proofs.Rows.{any_new}
-use Rattle.whole65.proofs.Positions.{itself}
+use Rattle.whole65.proofs.Positions.{itself, all_parts}
 use Rattle.whole65.proofs.Sources.{contents_of}
 use Rattle.whole65.specs.Modules.{forced_by, forced_of, table_of}
 
@@ -74,8 +74,7 @@ abbrev Knows : Bool → Provider → Type 0
 Knows b g = (g ≢ Nobody) ↔ (b ≡ true)
 
 some_step : (b : Bool) (i : ℕ) (o : Option ℕ) (rest : Bool) → is_some o ≡ rest → is_some (cond b (Some i) o) ≡ (b || rest)
-some_step true i o rest e = refl
-some_step false i o rest e = e
+some_step x1 i o rest e = grind (arith, common_steps)
 
 some_among : (p : List ℕ → Bool) (i : ℕ) (xs : List (List ℕ)) → is_some (position_from p i xs) ≡ list_any p xs
 some_among p i [] = refl
@@ -99,10 +98,7 @@ knows_export es name b g h = subst (λ a. Knows (a || b) (by_export (exported_at
     go None = h
 
 in_either : (a b c : Bool) → (a || (b || (c || false))) ≡ ((a || b) || c)
-in_either true b c = refl
-in_either false true c = refl
-in_either false false true = refl
-in_either false false false = refl
+in_either x1 x2 x3 = grind (arith, common_steps)
 
 agree_known : (es : List parts.Exported) (name : List ℕ) (w : values.Provider) (g : Provider) → Agree es name w g → (w ≢ by_nobody) ↔ (g ≢ Nobody)
 agree_known es name x y z = grind (arith, common_steps)
@@ -130,39 +126,19 @@ module _ (s : Script) (placement : Placement) (ys : List Layout) (ms : List Modu
 
 -- ---- What has to be given, each once.
 
-pub all_parts : {A : Type 0} (P : A → Type 0) (xs zs : List A) → AllByRecursion P (xs ++ zs) → AllByRecursion P xs × AllByRecursion P zs
-all_parts P [] zs h = (tt, h)
-all_parts P (x ∷ xs) zs h = let more = all_parts P xs zs h.1 in ((h.0, more.0), more.1)
-
 -- what holds of all names holds of one that is among them
 pub of_among : (P : List ℕ → Type 0) (names : List (List ℕ)) (n : List ℕ) → AllByRecursion P names → is_among names n ≡ true → P n
 of_among P [] n h e = cc
-of_among P (k ∷ names) n h e = go (bytes_eq k n) refl e (of_among P names n h.1)
-  where
-    go : (b : Bool) → bytes_eq k n ≡ b → (b || is_among names n) ≡ true → (is_among names n ≡ true → P n) → P n
-    go true q e more = subst P (same_bytes k n q) h.0
-    go false q e more = more e
+of_among P (k ∷ names) n h e = grind (arith, common_steps, same_bytes, bytes_swap, (of_among P names n h.1))
 
 module _ (P : List ℕ → Type 0) where
   once_all : (names before : List (List ℕ)) → AllByRecursion P before → AllByRecursion P names → AllByRecursion P (each_once before names)
   once_all [] before h k = h
-  once_all (n ∷ names) before h k = once_all names (cond (is_among before n) before (before ++ n ∷ [])) (go (is_among before n)) k.1
-    where
-      go : (b : Bool) → AllByRecursion P (cond b before (before ++ n ∷ []))
-      go true = h
-      go false = all_more P before n h k.0
+  once_all (n ∷ names) before h k = grind (arith, common_steps, (once_all names (cond (is_among before n) before (before ++ n ∷ []))))
 
   once_parts : (names before : List (List ℕ)) → AllByRecursion P (each_once before names) → AllByRecursion P before × AllByRecursion P names
   once_parts [] before h = (h, tt)
-  once_parts (n ∷ names) before h = go (is_among before n) refl (once_parts names (cond (is_among before n) before (before ++ n ∷ [])) h)
-    where
-      go : (b : Bool) → is_among before n ≡ b → AllByRecursion P (cond (is_among before n) before (before ++ n ∷ [])) × AllByRecursion P names → AllByRecursion P before × AllByRecursion P (n ∷ names)
-      go true e k =
-          let front : AllByRecursion P before = subst (λ b. AllByRecursion P (cond b before (before ++ n ∷ []))) e k.0 in
-          (front, (of_among P before n front e, k.1))
-      go false e k =
-          let both = all_parts P before (n ∷ []) (subst (λ b. AllByRecursion P (cond b before (before ++ n ∷ []))) e k.0) in
-          (both.0, (both.1.0, k.1))
+  once_parts (n ∷ names) before h = let more = once_parts names (cond (is_among before n) before (before ++ n ∷ [])) h in grind (arith, common_steps, (of_among P before n), (all_parts P before (n ∷ [])))
 
 none_left : (t : List ℕ → Bool) (names : List (List ℕ)) → (filter (λ n. not (t n)) names ≡ []) ↔ AllByRecursion (λ n. t n ≡ true) names
 none_left t [] = (λ k. tt, λ k. refl)
@@ -175,10 +151,6 @@ imports_behind q (m ∷ ms) =
     imports_behind (with_module q m) ms
     ∙ ap (λ ns. ns ++ flat_map (λ (m : Module). m.object.imports) ms) (flat_map-append (λ (m : Member). m.imports) q.members (member q m ∷ []) ∙ ap (λ ns. flat_map (λ (m : Member). m.imports) q.members ++ ns) (append-nil m.object.imports))
     ∙ append_assoc (flat_map (λ (m : Member). m.imports) q.members) m.object.imports (flat_map (λ (m : Module). m.object.imports) ms)
-
-all_either : (P Q : List ℕ → Type 0) → ((n : List ℕ) → P n → Q n) → (ns : List (List ℕ)) → AllByRecursion P ns → AllByRecursion Q ns
-all_either P Q f [] h = tt
-all_either P Q f (n ∷ ns) h = (f n h.0, all_either P Q f ns h.1)
 
 -- A link leaves no name open where the imports of the script and of all objects are given in the whole program.
 pub none_open : (s : Script) (placement : Placement) (ys : List Layout) (ms : List Module) → AreSources ys ms → place_of s (needs_of ys) ≡ Ok placement → (unresolved s (program_of ms) ≡ []) ↔ (AllByRecursion (IsGiven (whole.program_of s placement ys)) (symbol_imports s.symbols) × AllByRecursion (IsGiven (whole.program_of s placement ys)) (flat_map (λ (m : Module). m.object.imports) ms))
@@ -193,11 +165,11 @@ none_open s placement ys ms h placed =
     let either = none_left (is_given s q) (references s q) in (
       λ k. (
           let both = all_parts Given own members (once_parts Given (own ++ members) [] (either.0 k)).1 in (
-            all_either Given Known (λ n e. (known s placement ys ms h placed n).1 e) own both.0,
-            subst (AllByRecursion Known) same (all_either Given Known (λ n e. (known s placement ys ms h placed n).1 e) members both.1),
+            all_same Given Known (λ n e. (known s placement ys ms h placed n).1 e) own both.0,
+            subst (AllByRecursion Known) same (all_same Given Known (λ n e. (known s placement ys ms h placed n).1 e) members both.1),
           )
           ),
-      λ k. either.1 (once_all Given (own ++ members) [] tt (all_append Given own members (all_either Known Given (λ n e. (known s placement ys ms h placed n).0 e) own k.0) (all_either Known Given (λ n e. (known s placement ys ms h placed n).0 e) members (subst (AllByRecursion Known) (sym same) k.1)))),
+      λ k. either.1 (once_all Given (own ++ members) [] tt (all_append Given own members (all_same Known Given (λ n e. (known s placement ys ms h placed n).0 e) own k.0) (all_same Known Given (λ n e. (known s placement ys ms h placed n).0 e) members (subst (AllByRecursion Known) (sym same) k.1)))),
     )
 
 -- ---- The key of a name.
@@ -223,10 +195,7 @@ any_forced n (l ∷ ls) e = grind (arith, common_steps, (any_forced n ls), list_
 
 pub each_name : (P : List ℕ → Type 0) (names : List (List ℕ)) → ((n : List ℕ) → list_any (λ k. bytes_eq n k) names ≡ true → P n) → AllByRecursion P names
 each_name P [] up = tt
-each_name P (n ∷ names) up = (
-  up n (ap (λ b. b || list_any (λ k. bytes_eq n k) names) (itself n)),
-  each_name P names (λ m e. up m (or_right (bytes_eq m n) (list_any (λ k. bytes_eq m k) names) e)),
-)
+each_name P (n ∷ names) up = grind (arith, common_steps, itself, (each_name P names))
 
 pub among_swapped : (n : List ℕ) (names : List (List ℕ)) → is_among names n ≡ list_any (λ k. bytes_eq n k) names
 among_swapped n [] = refl
@@ -265,18 +234,11 @@ module _ (P : List ℕ → Type 0) (names : List (List ℕ)) where
 
   in_contents : (cs : List Content) → AllByRecursion (λ (c : Content). AllByRecursion OfPart c.parts) cs → AllByRecursion OfSaid (all_said cs) → AllByRecursion OfKey (flat_map (content_imports names) cs)
   in_contents [] h k = tt
-  in_contents (c ∷ cs) h k =
-      let both = all_parts OfSaid c.said (all_said cs) k in
-      all_append OfKey (content_imports names c) (flat_map (content_imports names) cs)
-      (all_append OfKey (flat_map part_imports c.parts) (flat_map (said_imports names) c.said) (all_flat part_imports c.parts h.0) (all_flat (said_imports names) c.said both.0))
-      (in_contents cs h.1 both.1)
+  in_contents (c ∷ cs) h k = grind (arith, common_steps, (all_parts OfSaid c.said (all_said cs) k), (all_flat part_imports c.parts), (all_flat (said_imports names) c.said), (in_contents cs h.1))
 
   in_said : (cs : List Content) → AllByRecursion OfKey (flat_map (content_imports names) cs) → AllByRecursion OfSaid (all_said cs)
   in_said [] h = tt
-  in_said (c ∷ cs) h =
-      let both = all_parts OfKey (content_imports names c) (flat_map (content_imports names) cs) h in
-      let own = all_parts OfKey (flat_map part_imports c.parts) (flat_map (said_imports names) c.said) both.0 in
-      all_append OfSaid c.said (all_said cs) (all_apart (said_imports names) c.said own.1) (in_said cs both.1)
+  in_said (c ∷ cs) h = grind (arith, common_steps, (all_parts OfKey (content_imports names c) (flat_map (content_imports names) cs) h), (all_parts OfKey (flat_map part_imports c.parts) (flat_map (said_imports names) c.said)), (all_apart (said_imports names) c.said), (in_said cs))
 
   -- keys that come once, and all of them
   all_keys : (ks : List ℕ) → AllByRecursion OfKey (once [] ks) → AllByRecursion OfKey ks
@@ -285,11 +247,7 @@ module _ (P : List ℕ → Type 0) (names : List (List ℕ)) where
   demands : (ss : List Declaration) → AllByRecursion OfSaid ss → AllByRecursion (λ n. is_among names n ≡ true) (demanded_names ss) → AllByRecursion P (demanded_names ss)
   demands [] h a = tt
   demands (Exported n place f ∷ ss) h a = demands ss h.1 a
-  demands (ForcedImport n ∷ ss) h a = (go (key_for names n) h.0 a.0, demands ss h.1 a.1)
-    where
-      go : KeyFor names n → AllByRecursion OfKey (optional_key (key_of names n)) → is_among names n ≡ true → P n
-      go (at_key k q called) h e = let own : AllByRecursion OfKey (optional_key (Some k)) = subst (λ o. AllByRecursion OfKey (optional_key o)) q h in subst P called own.0
-      go (no_key q none) h e = (let never : true ≡ false = sym e ∙ none in absurd cc)
+  demands (ForcedImport n ∷ ss) h a = grind (arith, common_steps, key_for, (demands ss h.1 a.1))
   demands (Asserted act place words f ∷ ss) h a = demands ss h.1 a
 
 -- ---- Objects.

@@ -1,25 +1,24 @@
 -- Bases of sections in a link, and forms of modules with the numbers of objects.
+use Rattle.whole65.proofs.SectionBytes.{in_middle}
+use Rattle.semantics65.proofs.Segments.{all_same}
 use Rattle.std.proofs.lemmas.Grind.{common_steps}
-use Rattle.std.proofs.Common.{◌≡◌, List, [], ◌∷◌, ◌++◌, Ok, refl, ◌∙◌, ap, ℕ, zero, suc, ◌+◌, ◌<◌, Bool, true, false, nat_eq, cond, length, map, take, get_or, slice_get, Some, sym, subst, arith, nat_lt}
+use Rattle.std.proofs.Common.{◌≡◌, List, [], ◌∷◌, ◌++◌, Ok, refl, ◌∙◌, ap, ℕ, zero, suc, ◌+◌, ◌<◌, Bool, true, false, nat_eq, length, map, take, get_or, slice_get, Some, sym, subst, arith, nat_lt}
 use Rattle.std.specs.Prelude.{◌+ℤ◌, ℤ, pos, ◌||◌, ◌&&◌, Result}
 use Rattle.std.specs.Int.{int_wrap, next_multiple_of}
 use Rattle.std.specs.List.{AllByRecursion, list_any, flat_map, list_all}
-use Rattle.base65.specs.Outcome.{◌>>=◌}
-use Rattle.base65.specs.Values.{value2, wrapped}
+use Rattle.base65.specs.Values.{wrapped}
 use Rattle.object65.specs.Form.{lit, sec, imp, prefix, binary, Form}
-use Rattle.object65.specs.FormValue.{or_none, value_in}
+use Rattle.object65.specs.FormValue.{value_in}
 use Rattle.semantics65.specs.Numbering.{imports_in, import_keys, number_of, section_keys, section_of, content_imports, name_of, part_imports, said_imports, numbered, sections_in, IsSoundContent, IsSoundForm, IsSoundPart, IsSoundDeclaration, IsSoundLayout}
 use Rattle.std.specs.Str.{bytes_eq}
 use Rattle.std.proofs.lemmas.Bool.Decides.{nat_tests}
-use Rattle.std.proofs.lemmas.List.{length-append}
 use Rattle.object65.specs.declared.object.Object.{Object}
 use Rattle.object65.specs.declared.object.Origin.{Origin}
 use Rattle.object65.specs.declared.object.Section.{Section}
-use Rattle.script65.specs.Placing.{rounded_up}
 use Rattle.script65.specs.declared.placement.Placement.{Placement}
 use Rattle.script65.specs.declared.script.Script.{Script}
 use Rattle.syntax65.specs.declared.place.Place.{Place}
-use Rattle.semantics65.specs.Contents.{Content, Part, Known, Filled, Waiting, Declaration}
+use Rattle.semantics65.specs.Contents.{Content, Part, Declaration}
 use Rattle.semantics65.specs.Layout.{Layout}
 use Rattle.link65.specs.Programs.{Module, Program, member, no_program, program_of, with_module, with_modules, grown, section_place, section_places, segment_of, with_section}
 use Rattle.link65.specs.Values.{address_of, linkage_of, resolved, run_of, base_of, exports_through, provider_at, import_value, Linkage, value_by}
@@ -27,12 +26,12 @@ use Rattle.link65.specs.Programs as linked
 use Rattle.link65.specs.declared.parts.Member.{Member}
 use Rattle.link65.specs.declared.parts.SectionPlace.{SectionPlace}
 use Rattle.whole65.proofs.Sections.{one_section, AreOnce, held, keys_of, number_first, number_later, any_once, name_at}
-use Rattle.whole65.proofs.Positions.{Distinct, named, itself}
+use Rattle.whole65.proofs.Positions.{Distinct, named, itself, all_parts}
 use Rattle.whole65.proofs.Multiples.{equal, end_of-append}
 use Rattle.whole65.proofs.Sources.{contents_of, in_segment, section_begin, same_object, size_law, size_or}
-use Rattle.whole65.proofs.LinkedObjects.{or_empty, begin_in, base_in, symbols_at, IsKeyed, IsKeyedContent, IsKeyedPart, IsKeyedSaid, provider_named, imports_linked, linked_objects}
+use Rattle.whole65.proofs.LinkedObjects.{or_empty, base_in, symbols_at, IsKeyed, IsKeyedContent, IsKeyedPart, IsKeyedSaid, provider_named, imports_linked, linked_objects}
 use Rattle.whole65.specs.Modules.{table_of}
-use Rattle.whole65.specs.Offsets.{IsLaidOut, begin_from, begin_of, lines_at}
+use Rattle.whole65.specs.Offsets.{IsLaidOut, begin_from, lines_at}
 use Rattle.whole65.specs.Segments.{end_of, has_section, items_from, items_of, largest_multiple, lines_behind, lines_in, part_of, segment_name}
 use Rattle.whole65.specs.Sources.{AreSources, IsSource}
 use Rattle.std.proofs.lemmas.List.Folds.{list_any-append}
@@ -50,14 +49,6 @@ use Rattle.whole65.specs.Objects.{form_value}
 
 -- ---- What the value of a form rests on.
 
-first_of : {A : Type 0} (P : A → Type 0) (xs ys : List A) → AllByRecursion P (xs ++ ys) → AllByRecursion P xs
-first_of P [] ys h = tt
-first_of P (x ∷ xs) ys h = (h.0, first_of P xs ys h.1)
-
-rest_of : {A : Type 0} (P : A → Type 0) (xs ys : List A) → AllByRecursion P (xs ++ ys) → AllByRecursion P ys
-rest_of P [] ys h = h
-rest_of P (x ∷ xs) ys h = rest_of P xs ys h.1
-
 -- The value of a form rests on the bases of its own sections and on what its own imports come to, and on no others.
 pub own_parts_law : (E : Type 0) → (none : E) (bases others : ℕ → ℤ) (values rest : ℕ → Result ℤ E) (f : Form) → AllByRecursion (λ g. bases g ≡ others g) (sections_in f) → AllByRecursion (λ k. values k ≡ rest k) (imports_in f) → value_in none bases values f ≡ value_in none others rest f
 own_parts_law E none bases others values rest (lit v) h k = refl
@@ -65,10 +56,9 @@ own_parts_law E none bases others values rest (sec g a) h k = ap (λ b. Ok (wrap
 own_parts_law E none bases others values rest (imp j) h k = k.0
 own_parts_law E none bases others values rest (prefix op f) h k = grind (arith, common_steps, (own_parts_law E none bases others values rest f h k))
 own_parts_law E none bases others values rest (binary op f g) h k =
-    let left = own_parts_law E none bases others values rest f (first_of (λ s. bases s ≡ others s) (sections_in f) (sections_in g) h) (first_of (λ i. values i ≡ rest i) (imports_in f) (imports_in g) k) in
-    let right = own_parts_law E none bases others values rest g (rest_of (λ s. bases s ≡ others s) (sections_in f) (sections_in g) h) (rest_of (λ i. values i ≡ rest i) (imports_in f) (imports_in g) k) in
-    ap (λ r. r >>= (λ a. value_in none bases values g >>= (λ b. or_none none (value2 op a b)))) left
-    ∙ ap (λ r. value_in none others rest f >>= (λ a. r >>= (λ b. or_none none (value2 op a b)))) right
+    let own = all_parts (λ s. bases s ≡ others s) (sections_in f) (sections_in g) h in
+    let named = all_parts (λ i. values i ≡ rest i) (imports_in f) (imports_in g) k in
+    grind (arith, common_steps, (own_parts_law E none bases others values rest f own.0 named.0), (own_parts_law E none bases others values rest g own.1 named.1))
 
 -- The base of a section in a link is where it begins behind the run address of its segment's row, wrapped.
 pub base_law : (rows : List Row) (places : List RowPlace) (at : SectionPlace) → address_of rows places at ≡ wrapped (pos (run_of rows places at.segment + at.offset))
@@ -82,10 +72,6 @@ get_front [] ys i x e = cc
 get_front (z ∷ xs) ys zero x e = e
 get_front (z ∷ xs) ys (suc i) x e = get_front xs ys i x e
 
-get_last : {A : Type 0} (xs : List A) (x : A) → slice_get (xs ++ x ∷ []) (length xs) ≡ Some x
-get_last [] x = refl
-get_last (z ∷ xs) x = get_last xs x
-
 kept : (p : Program) (ms : List Module) (i : ℕ) (x : Member) → slice_get p.members i ≡ Some x → slice_get (with_modules p ms).members i ≡ Some x
 kept p [] i x e = e
 kept p (m ∷ ms) i x e = kept (with_module p m) ms i x (get_front p.members (member p m ∷ []) i x e)
@@ -96,10 +82,8 @@ from_member p (x ∷ ms) at zero m o e =
     let same : x ≡ m = cc in
     let here : length p.members ≡ at = omega (arith, o) in
     subst (λ k. slice_get (with_modules (with_module p k) ms).members at ≡ Some (member p m)) (sym same)
-    (kept (with_module p m) ms at (member p m) (subst (λ n. slice_get (with_module p m).members n ≡ Some (member p m)) here (get_last p.members (member p m))))
-from_member p (x ∷ ms) at (suc i) m o e =
-    let longer : length (with_module p x).members ≡ length p.members + 1 = length-append p.members (member p x ∷ []) in
-    from_member (with_module p x) ms at i m (omega (arith, o, longer)) e
+    (kept (with_module p m) ms at (member p m) (subst (λ n. slice_get (with_module p m).members n ≡ Some (member p m)) here (in_middle p.members (member p m) [])))
+from_member p (x ∷ ms) at (suc i) m o e = grind (arith, common_steps, (from_member (with_module p x) ms at i m))
 
 pub member_at : (ms : List Module) (i : ℕ) (m : Module) → slice_get ms i ≡ Some m → slice_get (program_of ms).members i ≡ Some (member (program_of (take i ms)) m)
 member_at ms i m e = from_member no_program ms i i m (omega arith) e
@@ -150,11 +134,7 @@ module _ (y : Layout) (owner : ℕ) (origins : Place → Origin) (sections impor
 begins : (ys : List Layout) (y : Layout) (name : List ℕ) (at first i : ℕ) → slice_get ys i ≡ Some y → begin_from at first ys name i ≡ next_multiple_of (end_of at (items_from first (take i ys) name)) (largest_multiple (lines_in (first + i) y name))
 begins [] y name at first i e = cc
 begins (z ∷ ys) y name at first zero e = grind (arith, common_steps)
-begins (z ∷ ys) y name at first (suc i) e =
-    let next : suc first + i ≡ first + suc i = omega arith in
-    begins ys y name (end_of at (part_of first z name)) (suc first) i e
-    ∙ ap (λ n. next_multiple_of n (largest_multiple (lines_in (suc first + i) y name))) (sym (end_of-append at (part_of first z name) (items_from (suc first) (take i ys) name)))
-    ∙ ap (λ n. next_multiple_of (end_of at (items_from first (take (suc i) (z ∷ ys)) name)) (largest_multiple (lines_in n y name))) next
+begins (z ∷ ys) y name at first (suc i) e = grind (arith, common_steps, end_of-append, (begins ys y name (end_of at (part_of first z name)) (suc first) i e))
 
 less : (n m : ℕ) → n < m → nat_lt n m ≡ true
 less n m h = grind (arith, nat_tests)
@@ -180,46 +160,21 @@ section_base_law s placement ys ms owner g y m cs h at_y at_m e among =
     let size : linked.end_of before.segments name ≡ end_of 0 (items_of (take owner ys) name) = size_law (take owner ys) (take owner ms) name (sources_front ys ms owner h) in
     let run : ℕ = run_of s.rows placement.rows name in
     let lines_are : lines_in owner y name ≡ lines_at g (lines_behind owner [] y.laid) = in_segment owner y g d lt in
-    ap (λ r. base_of r (number_of sections g)) (resolved_at s placement ms owner m at_m)
-    ∙ ap (λ (o : Object). get_or (map A (section_places (length before.members) before.segments o.sections)) (number_of sections g) (pos 0)) object
-    ∙ place_at y (length before.members) origins sections imports cs A (named d).distinct before.segments sections g keys.standing keys.single among
-    ∙ base_law s.rows placement.rows (section_place before.segments sec_g)
-    ∙ ap (λ n. wrapped (pos (run_of s.rows placement.rows n + rounded_up (linked.end_of before.segments n) (linked.align_of sec_g)))) named_so
-    ∙ ap (λ n. wrapped (pos (run + rounded_up n (linked.align_of sec_g)))) size
-    ∙ ap (λ n. wrapped (pos (run + n))) (section_begin y owner g (end_of 0 (items_of (take owner ys) name)) origins sections imports cs d)
-    ∙ ap (λ xs. wrapped (pos (run + next_multiple_of (end_of 0 (items_of (take owner ys) name)) (largest_multiple xs)))) (sym lines_are)
-    ∙ ap (λ n. wrapped (pos (run + n))) (sym (begins ys y name 0 0 owner at_y ∙ ap (λ n. next_multiple_of (end_of 0 (items_of (take owner ys) name)) (largest_multiple (lines_in n y name))) (zero_first owner)))
-    ∙ ap (λ b. wrapped (pos (run + cond b (begin_of ys name owner) (end_of 0 (items_of ys name))))) (sym has)
-    ∙ ap (λ b. cond b (wrapped (pos (run + begin_in ys owner y name))) (pos 0)) (sym (less g (length y.cursor.segments) lt))
-  where
-    zero_first : (n : ℕ) → 0 + n ≡ n
-    zero_first n = omega arith
+    grind (arith, common_steps, (resolved_at s placement ms owner m at_m), (place_at y (length before.members) origins sections imports cs A (named d).distinct before.segments sections g keys.standing keys.single among), (base_law s.rows placement.rows (section_place before.segments sec_g)), (section_begin y owner g (end_of 0 (items_of (take owner ys) name)) origins sections imports cs d), (begins ys y name 0 0 owner at_y))
 
 -- ---- All forms have keys.
 
-both_of : (a b : Bool) → (a && b) ≡ true → (a ≡ true) × (b ≡ true)
-both_of true b e = (refl, e)
-both_of false b e = absurd cc
-
-or_left : (a b : Bool) → a ≡ true → (a || b) ≡ true
-or_left true b e = refl
-or_left false b e = absurd cc
-
 pub or_right : (a b : Bool) → b ≡ true → (a || b) ≡ true
-or_right true b e = refl
-or_right false b e = e
+or_right x1 b e = grind (arith, common_steps)
 
 all_of : (p : ℕ → Bool) (xs : List ℕ) → list_all p xs ≡ true → AllByRecursion (λ k. p k ≡ true) xs
 all_of p [] e = tt
-all_of p (x ∷ xs) e = let both = both_of (p x) (list_all p xs) e in (both.0, all_of p xs both.1)
-
-itself_among : (k : ℕ) (xs : List ℕ) → list_any (nat_eq k) (k ∷ xs) ≡ true
-itself_among k xs = grind (arith, common_steps)
+all_of p (x ∷ xs) e = grind (arith, common_steps, (all_of p xs))
 
 -- what holds of all keys that are among some holds of each of them
 pub each_among : (P : ℕ → Type 0) (xs : List ℕ) → ((k : ℕ) → list_any (nat_eq k) xs ≡ true → P k) → AllByRecursion P xs
 each_among P [] up = tt
-each_among P (x ∷ xs) up = (up x (itself_among x xs), each_among P xs (λ k h. up k (or_right (nat_eq k x) (list_any (nat_eq k) xs) h)))
+each_among P (x ∷ xs) up = grind (arith, common_steps, (each_among P xs))
 
 all_both : (P Q : ℕ → Type 0) (xs : List ℕ) → AllByRecursion P xs → AllByRecursion Q xs → AllByRecursion (λ k. P k × Q k) xs
 all_both P Q [] h k = tt
@@ -227,10 +182,7 @@ all_both P Q (x ∷ xs) h k = ((h.0, k.0), all_both P Q xs h.1 k.1)
 
 all_less : (count : ℕ) (xs : List ℕ) → AllByRecursion (λ k. nat_lt k count ≡ true) xs → AllByRecursion (λ k. k < count) xs
 all_less count [] h = tt
-all_less count (x ∷ xs) h = (less x h.0, all_less count xs h.1)
-  where
-    less : (k : ℕ) → nat_lt k count ≡ true → k < count
-    less k e = grind (arith, nat_tests)
+all_less count (x ∷ xs) h = grind (arith, common_steps, (all_less count xs h.1))
 
 module _ (sections imports : List ℕ) (count : ℕ) where
   -- these keys are among those of the object's imports
@@ -238,10 +190,10 @@ module _ (sections imports : List ℕ) (count : ℕ) where
   AreAmong xs = (k : ℕ) → list_any (nat_eq k) xs ≡ true → list_any (nat_eq k) imports ≡ true
 
   among_first : (xs ys : List ℕ) → AreAmong (xs ++ ys) → AreAmong xs
-  among_first xs ys up k h = up k (list_any-append (nat_eq k) xs ys ∙ or_left (list_any (nat_eq k) xs) (list_any (nat_eq k) ys) h)
+  among_first xs ys up k h = up k (grind (arith, common_steps))
 
   among_rest : (xs ys : List ℕ) → AreAmong (xs ++ ys) → AreAmong ys
-  among_rest xs ys up k h = up k (list_any-append (nat_eq k) xs ys ∙ or_right (list_any (nat_eq k) xs) (list_any (nat_eq k) ys) h)
+  among_rest xs ys up k h = up k (grind (arith, common_steps))
 
   keyed_form : (f : Form) → IsSoundForm sections count f → AreAmong (imports_in f) → IsKeyed sections imports count f
   keyed_form f h up = record {
@@ -250,16 +202,11 @@ module _ (sections imports : List ℕ) (count : ℕ) where
   }
 
   keyed_part : (q : Part) → IsSoundPart sections count q → AreAmong (part_imports q) → IsKeyedPart sections imports count q
-  keyed_part (Known own) h up = tt
-  keyed_part (Filled n) h up = tt
-  keyed_part (Waiting width place f) h up = keyed_form f h.0.form up
+  keyed_part x1 h up = grind (arith, common_steps, keyed_form)
 
   keyed_parts : (qs : List Part) → AllByRecursion (IsSoundPart sections count) qs → AreAmong (flat_map part_imports qs) → AllByRecursion (IsKeyedPart sections imports count) qs
   keyed_parts [] h up = tt
-  keyed_parts (q ∷ qs) h up = (
-    keyed_part q h.0 (among_first (part_imports q) (flat_map part_imports qs) up),
-    keyed_parts qs h.1 (among_rest (part_imports q) (flat_map part_imports qs) up),
-  )
+  keyed_parts (q ∷ qs) h up = grind (arith, common_steps, keyed_part, (keyed_parts qs h.1 (among_rest (part_imports q) (flat_map part_imports qs) up)))
 
   keyed_saying : (names : List (List ℕ)) (x : Declaration) → IsSoundDeclaration sections count x → AreAmong (said_imports names x) → IsKeyedSaid sections imports count x
   keyed_saying names x h up = grind (arith, common_steps, keyed_form)
@@ -301,10 +248,6 @@ got [] k h = absurd (omega (arith, h))
 got (n ∷ names) zero h = refl
 got (n ∷ names) (suc k) h = got names k (omega (arith, h))
 
-all_map : (P Q : ℕ → Type 0) → ((k : ℕ) → P k → Q k) → (xs : List ℕ) → AllByRecursion P xs → AllByRecursion Q xs
-all_map P Q f [] h = tt
-all_map P Q f (x ∷ xs) h = (f x h.0, all_map P Q f xs h.1)
-
 -- Such a form comes in a link, through so many exports, to what linking knows of it in the whole program.
 pub form_law : (s : Script) (placement : Placement) (ys : List Layout) (ms : List Module) (owner turns : ℕ) (y : Layout) (m : Module) (cs : List Content) (f : Form) → AreSources ys ms → slice_get ys owner ≡ Some y → slice_get ms owner ≡ Some m → (ending_of y.laid).found ≡ Ok cs → let sections : List ℕ = section_keys cs in let imports : List ℕ = import_keys (table_of y).imports cs in let l : Linkage = linkage_of s (linked.program_of ms) placement in IsKeyed sections imports (length (table_of y).imports) f → form_value (linked_objects s placement ys ms) turns owner f ≡ value_by l (exports_through l turns) owner (numbered sections imports f)
 form_law s placement ys ms owner turns y m cs f h at_y at_m e =
@@ -327,6 +270,6 @@ form_law s placement ys ms owner turns y m cs f h at_y at_m e =
     ∙ ap (λ r. provider_at r (number_of imports k)) (sym mine) in
     λ keyed.
     own_parts_law ValueFault NoValue (λ g. base_in s placement ys owner g (slice_get ys owner)) (λ g. base_of (slice_get l.modules owner) (number_of sections g)) (imports_linked s placement ys ms turns owner) (λ k. import_value (exports_through l turns) (provider_at (slice_get l.modules owner) (number_of imports k))) f
-    (all_map (λ g. list_any (nat_eq g) sections ≡ true) (λ g. base_in s placement ys owner g (slice_get ys owner) ≡ base_of (slice_get l.modules owner) (number_of sections g)) base (sections_in f) keyed.own_sections)
-    (all_map (λ k. (list_any (nat_eq k) imports ≡ true) × (k < length names)) (λ k. imports_linked s placement ys ms turns owner k ≡ import_value (exports_through l turns) (provider_at (slice_get l.modules owner) (number_of imports k))) (λ k among. ap (import_value (exports_through l turns)) (provider k among)) (imports_in f) keyed.own_imports)
+    (all_same (λ g. list_any (nat_eq g) sections ≡ true) (λ g. base_in s placement ys owner g (slice_get ys owner) ≡ base_of (slice_get l.modules owner) (number_of sections g)) base (sections_in f) keyed.own_sections)
+    (all_same (λ k. (list_any (nat_eq k) imports ≡ true) × (k < length names)) (λ k. imports_linked s placement ys ms turns owner k ≡ import_value (exports_through l turns) (provider_at (slice_get l.modules owner) (number_of imports k))) (λ k among. ap (import_value (exports_through l turns)) (provider k among)) (imports_in f) keyed.own_imports)
     ∙ sym (number_law ValueFault NoValue (base_of (slice_get l.modules owner)) (λ j. import_value (exports_through l turns) (provider_at (slice_get l.modules owner) j)) sections imports f)

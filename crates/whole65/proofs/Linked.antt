@@ -1,18 +1,17 @@
 -- Modules are linked as the program is placed.
 use Rattle.std.proofs.lemmas.Grind.{common_steps}
-use Rattle.std.proofs.Common.{◌≡◌, ℕ, zero, suc, ◌+◌, List, [], ◌∷◌, ◌++◌, map, slice_get, Option, Some, None, Result, Ok, Err, refl, sym, ◌∙◌, ap, arith, ◌≢◌, ◌<◌, Bool, true, false, nat_eq, cond, take, subst, length}
+use Rattle.std.proofs.Common.{◌≡◌, ℕ, zero, suc, ◌+◌, List, [], ◌∷◌, ◌++◌, map, slice_get, Option, Some, None, Result, Ok, Err, refl, sym, ◌∙◌, ap, arith, ◌≢◌, ◌<◌, Bool, true, false, cond, take, subst}
 use Rattle.std.specs.List.{flat_map, AllByRecursion, list_any}
 use Rattle.syntax65.specs.Trees.{Tree}
 use Rattle.ast65.specs.declared.fault.AsmFault.{AsmFault}
 use Rattle.semantics65.specs.Symbols.{Laid, asks_section, Definition, Key, definition_with, definitions_of, key_defined, value_defined, Symbols, symbols_of, meaning_of}
 use Rattle.semantics65.specs.Layout.{Layout}
 use Rattle.semantics65.specs.Symbols as names
-use Rattle.whole65.proofs.LinkedObjects.{or_first, place_in, symbols_at, base_in, begin_in, objects_of, context_in}
+use Rattle.whole65.proofs.LinkedObjects.{place_in, symbols_at, base_in, begin_in, objects_of, context_in}
 use Rattle.whole65.specs.Modules.{defining_from, import_named, meaning_by, context_at, statement_at, table_of, global_context, context_or}
 use Rattle.whole65.specs.Objects.{definition_shown, import_shown, meaning_shown, AreObjects, IsGiven, Objects}
 use Rattle.whole65.specs.Values.{Meaning, Program}
-use Rattle.std.specs.Prelude.{◌&&◌, ◌||◌, ℤ, pos, ◌+ℤ◌, nat_lt}
-use Rattle.std.specs.Str.{bytes_eq}
+use Rattle.std.specs.Prelude.{◌&&◌, ℤ, pos, ◌+ℤ◌, nat_lt}
 use Rattle.syntax65.specs.declared.lexing.tokens.AddressSize.{AddressSize}
 use Rattle.semantics65.specs.declared.laid.Context.{Context}
 use Rattle.ast65.specs.declared.language.Statement.{Statement}
@@ -22,14 +21,13 @@ use Rattle.whole65.proofs.Positions.{IsAbsent, other_part, all_front, itself, al
 use Rattle.whole65.proofs.Multiples.{equal}
 use Rattle.whole65.proofs.Offsets.{placed}
 use Rattle.whole65.specs.Offsets.{IsLaidOut, begun, behind, lines_at, begin_of}
-use Rattle.whole65.specs.Segments.{Item, end_of, has_section, items_before, items_from, items_of, largest_multiple, line, line_end, line_of, lines_behind, lines_in, part_of, rounding, segment_name, stands_in, position_of}
+use Rattle.whole65.specs.Segments.{Item, end_of, has_section, items_before, items_from, items_of, largest_multiple, line, line_end, lines_behind, lines_in, part_of, rounding, segment_name, stands_in, position_of}
 use Rattle.std.specs.Int.{int_wrap}
 use Rattle.std.proofs.lemmas.Bool.Decides.{nat_tests}
 use Rattle.std.proofs.lemmas.Int.{ints, int_wrap-add_left}
 use Rattle.base65.specs.Values.{wrapped}
 use Rattle.script65.specs.declared.placement.Placement.{Placement}
 use Rattle.script65.specs.declared.script.Script.{Script}
-use Rattle.link65.specs.Values.{run_of}
 use Rattle.whole65.specs.Programs.{laid_at, means_at, statement_address, program_of}
 
 -- ---- The statements that make definitions.
@@ -120,14 +118,7 @@ same_context y d x e = go (look 0 y.laid d)
   where
     go : Looked 0 y.laid d → context_at y (place_in (Some y) d) ≡ x.context
     go (missing m) = let none : Some x ≡ None = sym e ∙ m.defined in absurd cc
-    go (made m) =
-        let zero_more : 0 + m.place ≡ m.place = omega arith in
-        let at : slice_get (defining_from 0 y.laid) d ≡ Some m.place = m.defining ∙ ap Some zero_more in
-        let both : Some m.definition ≡ Some x = sym m.defined ∙ e in
-        let same : m.definition ≡ x = cc in
-        ap (λ r. context_at y (or_first r)) at
-        ∙ (rw m.there (sym m.context))
-        ∙ ap (λ (z : Definition). z.context) same
+    go (made m) = grind (arith, common_steps)
 
 -- ---- What asks for no section places nothing.
 
@@ -150,29 +141,11 @@ AsksNot y name l = stands_in y name l ≡ true → asks_section l.stated ≡ fal
 
 none_asks : (y : Layout) (name : List ℕ) (ls : List Laid) → list_any (λ l. stands_in y name l && asks_section l.stated) ls ≡ false → AllByRecursion (AsksNot y name) ls
 none_asks y name [] h = tt
-none_asks y name (l ∷ ls) h = (first (stands_in y name l) (asks_section l.stated) h, none_asks y name ls (others (stands_in y name l && asks_section l.stated) h))
-  where
-    first : (a b : Bool) → (a && b || list_any (λ l. stands_in y name l && asks_section l.stated) ls) ≡ false → a ≡ true → b ≡ false
-    first true true h e = absurd cc
-    first true false h e = refl
-    first false b h e = absurd cc
-
-    others : (a : Bool) → (a || list_any (λ l. stands_in y name l && asks_section l.stated) ls) ≡ false → list_any (λ l. stands_in y name l && asks_section l.stated) ls ≡ false
-    others true h = absurd cc
-    others false h = h
+none_asks y name (l ∷ ls) h = grind (arith, common_steps, (none_asks y name ls))
 
 quiet_lines : (at owner : ℕ) (y : Layout) (g : ℕ) (before ls : List Laid) → AllByRecursion IsQuiet ls → AllByRecursion (AsksNot y (segment_name y g)) ls → end_of at (map line (lines_at g (lines_behind owner before ls))) ≡ at
 quiet_lines at owner y g before [] q a = refl
-quiet_lines at owner y g before (l ∷ ls) q a = go (nat_eq l.context.segment g) refl (λ z. quiet_lines z owner y g (before ++ l ∷ []) ls q.1 a.1)
-  where
-    go : (b : Bool) → nat_eq l.context.segment g ≡ b → ((z : ℕ) → end_of z (map line (lines_at g (lines_behind owner (before ++ l ∷ []) ls))) ≡ z) → end_of at (map line (cond b (line_of owner before l ∷ lines_at g (lines_behind owner (before ++ l ∷ []) ls)) (lines_at g (lines_behind owner (before ++ l ∷ []) ls)))) ≡ at
-    go false e r = r at
-    go true e r =
-        let here : l.context.segment ≡ g = equal l.context.segment g e in
-        let there : stands_in y (segment_name y g) l ≡ true = ap (λ k. bytes_eq (segment_name y k) (segment_name y g)) here ∙ itself (segment_name y g) in
-        let asks = a.0 there in
-        let z : ℕ = line_end at (line_of owner before l).multiple l in
-        r z ∙ quiet_end at (line_of owner before l).multiple l asks (q.0 asks)
+quiet_lines at owner y g before (l ∷ ls) q a = grind (arith, common_steps, itself, (λ (z : ℕ). quiet_lines z owner y g (before ++ l ∷ []) ls q.1 a.1))
 
 -- a statement there has the offset 0
 pub no_offset : (y : Layout) (place : ℕ) (l : Laid) → IsLaidOut y → slice_get y.laid place ≡ Some l → has_section y (segment_name y l.context.segment) ≡ false → l.context.offset ≡ 0
@@ -224,8 +197,7 @@ means_by : (r : Option Layout) (place : ℕ) (e : Tree) → means_at r place e �
 means_by x place e = grind (arith, common_steps, none_shown, symbols_at, context_in, same_meaning)
 
 context_by : (r : Option Layout) (d : ℕ) (x : Definition) → slice_get (symbols_at r).definitions d ≡ Some x → context_in r (place_in r d) ≡ x.context
-context_by None d x e = cc
-context_by (Some y) d x e = same_context y d x e
+context_by x1 d x e = grind (arith, common_steps, same_context)
 
 -- ---- Addresses.
 
@@ -245,22 +217,10 @@ not_less n = grind (arith, nat_tests)
 
 module _ (s : Script) (p : Placement) (ys : List Layout) (laid_out : AllByRecursion IsLaidOut ys) where
   position_is : (owner place : ℕ) (y : Layout) (l : Laid) → slice_get ys owner ≡ Some y → slice_get y.laid place ≡ Some l → (b : Bool) → has_section y (segment_name y l.context.segment) ≡ b → position_of ys (segment_name y l.context.segment) owner place ≡ cond b (begin_of ys (segment_name y l.context.segment) owner) (end_of 0 (items_of ys (segment_name y l.context.segment))) + l.context.offset
-  position_is owner place y l e there true h = position_law ys owner place y l e (all_get IsLaidOut ys owner y laid_out e) there h
-  position_is owner place y l e there false h =
-      let none : l.context.offset ≡ 0 = no_offset y place l (all_get IsLaidOut ys owner y laid_out e) there h in
-      let at : position_of ys (segment_name y l.context.segment) owner place ≡ end_of 0 (items_of ys (segment_name y l.context.segment)) = at_end ys owner place y (segment_name y l.context.segment) e h in
-      omega (arith, none, at)
+  position_is owner place y l e there x1 h = grind (arith, common_steps, position_law, all_get, no_offset, at_end)
 
   of_line : (owner place : ℕ) (y : Layout) → slice_get ys owner ≡ Some y → (r : Option Laid) → slice_get y.laid place ≡ r → statement_address s p ys owner place (Some y) r ≡ wrapped (base_in s p ys owner (context_or (global_context y) r).segment (Some y) +ℤ pos (context_or (global_context y) r).offset)
-  of_line owner place y e None there = zero_wraps ∙ ap (λ b. wrapped (cond b (wrapped (pos (run_of s.rows p.rows (segment_name y (length y.cursor.segments)) + begin_in ys owner y (segment_name y (length y.cursor.segments))))) (pos 0) +ℤ pos 0)) (sym (not_less (length y.cursor.segments)))
-  of_line owner place y e (Some l) there =
-      let name : List ℕ = segment_name y l.context.segment in
-      let run : ℕ = run_of s.rows p.rows name in
-      let begin : ℕ = begin_in ys owner y name in
-      let below : l.context.segment < length y.cursor.segments = all_get (λ (k : Laid). k.context.segment < length y.cursor.segments) y.laid place l (named (all_get IsLaidOut ys owner y laid_out e)).standing there in
-      ap (λ n. wrapped (pos (run + n))) (position_is owner place y l e there (has_section y name) refl)
-      ∙ moved run begin l.context.offset
-      ∙ ap (λ b. wrapped (cond b (wrapped (pos (run + begin))) (pos 0) +ℤ pos l.context.offset)) (sym (less l.context.segment (length y.cursor.segments) below))
+  of_line owner place y e x1 there = grind (arith, common_steps, all_get, named, position_is, moved)
 
   of_module : (owner place : ℕ) (r : Option Layout) → slice_get ys owner ≡ r → statement_address s p ys owner place r (laid_at r place) ≡ wrapped (base_in s p ys owner (context_in r place).segment r +ℤ pos (context_in r place).offset)
   of_module owner place x e = grind (arith, common_steps, zero_wraps, of_line)

@@ -1,8 +1,8 @@
 -- What a link comes to that gives files.
 use Rattle.std.proofs.lemmas.Grind.{common_steps}
-use Rattle.std.proofs.Common.{arith, ◌≡◌, ℕ, List, [], ◌∷◌, ◌++◌, Result, Ok, Err, refl, sym, subst, Option, Some, None}
+use Rattle.std.proofs.Common.{arith, ◌≡◌, ℕ, List, [], ◌∷◌, ◌++◌, Result, Ok, Err, refl, sym, subst, Option, None}
 use Rattle.std.specs.Prelude.{ℤ, ◌↔◌}
-use Rattle.base65.specs.Outcome.{◌>>=◌, First}
+use Rattle.base65.specs.Outcome.{First}
 use Rattle.script65.specs.Placing.{place_of}
 use Rattle.script65.specs.declared.placement.Placement.{Placement}
 use Rattle.script65.specs.declared.script.Script.{Script}
@@ -30,9 +30,8 @@ use Rattle.semantics65.specs.Symbols.{symbols_of}
 use Rattle.ast65.specs.Parsing.{label_of}
 use Rattle.semantics65.specs.Reading.{IsLaid, laying, AreLaid, AreDefined, AreTaken, Define, Follows, IsBegun, IsGiven, IsLabelled, IsRest, Job, Reached, no_line, taken, faulty, refused, ended, with_bytes}
 use Rattle.whole65.specs.Offsets.{IsLaidOut, begun, behind}
-use Rattle.base65.specs.Values.{value1, value2}
 use Rattle.object65.specs.Form.{lit, sec, imp, prefix, binary, Form}
-use Rattle.object65.specs.FormValue.{or_none, value_in}
+use Rattle.object65.specs.FormValue.{value_in}
 use Rattle.semantics65.specs.Numbering.{imports_in}
 use Rattle.semantics65.proofs.SoundForms.{all_append}
 use Rattle.whole65.proofs.Exports.{export_names_law}
@@ -79,10 +78,7 @@ one : (y z : Layout) (place : Place) (x : Statement) → IsLaidOut y → IsLaid 
 one y z place x d h = by (line_fault (symbols_of y.laid) y.cursor x) refl h
   where
     by : (o : Option AsmFault) → line_fault (symbols_of y.laid) y.cursor x ≡ o → Ok z ≡ unless_fault o (layout_behind y place x) → IsLaidOut z
-    by (Some e) is h = absurd cc
-    by None is h =
-        let same : layout_behind y place x ≡ z = cc in
-        subst IsLaidOut same (behind y place x d is)
+    by x1 is h = grind (arith, common_steps, (behind y place x d))
 
 unchanged : (y z : Layout) → IsLaidOut y → ◌≡◌ {A = Result Layout AsmFault} (Ok z) (Ok y) → IsLaidOut z
 unchanged y z d h = let same : y ≡ z = cc in subst IsLaidOut same d
@@ -98,8 +94,7 @@ rest m y z place [] d h = unchanged y z d h
 rest m y z place (t ∷ ts) d (x, is, h) = stated m y z place x d h
 
 behind_label : (m : Files) (y z : Layout) (place : Place) (ts : List Lexeme) (q : Result Layout AsmFault) → IsLaidOut y → IsLabelled IsLaid y place (label_of ts).0 q → First q (λ w. IsRest m IsLaid w place (label_of ts).1) (Ok z) → IsLaidOut z
-behind_label m y z place ts (Ok w) d l h = rest m w z place (label_of ts).1 (labelled y w place (label_of ts).0 d l) h
-behind_label m y z place ts (Err e) d l h = absurd cc
+behind_label m y z place ts x1 d l h = grind (arith, common_steps, rest, labelled)
 
 given : (m : Files) (y z : Layout) (place : Place) (x : expand.Stated) → IsLaidOut y → IsGiven m IsLaid y place x (Ok z) → IsLaidOut z
 given m y z place (expand.label ts) d (q, l, h) = behind_label m y z place ts q d l h
@@ -113,11 +108,7 @@ all_taken m (ended s t y reach) d = d
 
 all_defined : (y : Layout) (place : Place) (ds : List Define) (z : Layout) → IsLaidOut y → AreDefined IsLaid y place ds (Ok z) → IsLaidOut z
 all_defined y place [] z d h = unchanged y z d h
-all_defined y place (c ∷ cs) z d (q, is, h) = by q is h (λ w e more. all_defined w place cs z e more)
-  where
-    by : (q : Result Layout AsmFault) → IsLaid y place (Constant c.0 (number c.1)) q → First q (λ w. AreDefined IsLaid w place cs) (Ok z) → ((w : Layout) → IsLaidOut w → AreDefined IsLaid w place cs (Ok z) → IsLaidOut z) → IsLaidOut z
-    by (Ok w) is h next = next w (one y w place (Constant c.0 (number c.1)) d is) h
-    by (Err e) is h next = absurd cc
+all_defined y place (c ∷ cs) z d (q, is, h) = grind (arith, common_steps, (λ (w : Layout). one y w place (Constant c.0 (number c.1)) d), (λ (w : Layout). all_defined w place cs z))
 
 followed : (m : Files) (s : expand.State) (place : Place) (ds : List Define) (q : Result Layout AsmFault) (r : Reached Layout) → AreDefined IsLaid nothing_laid place ds q → Follows m laying s place nothing_laid q r → IsLaidOut r.behind
 followed m s place ds (Ok z) r defined h = all_taken m h (all_defined nothing_laid place ds z begun defined)
@@ -138,13 +129,8 @@ pub valued_imports_law : (E : Type 0) → (none : E) (bases : ℕ → ℤ) (valu
 valued_imports_law E none bases values (lit n) v e = tt
 valued_imports_law E none bases values (sec g a) v e = tt
 valued_imports_law E none bases values (imp k) v e = ((v, e), tt)
-valued_imports_law E none bases values (prefix op f) v e =
-    let (a, first, last) = bind_ok (value_in none bases values f) (λ a. Ok (value1 op a)) v e in
-    valued_imports_law E none bases values f a first
-valued_imports_law E none bases values (binary op f g) v e =
-    let (a, first, others) = bind_ok (value_in none bases values f) (λ a. value_in none bases values g >>= (λ b. or_none none (value2 op a b))) v e in
-    let (b, second, last) = bind_ok (value_in none bases values g) (λ b. or_none none (value2 op a b)) v others in
-    all_append (λ k. (w : ℤ) × (values k ≡ Ok w)) (imports_in f) (imports_in g) (valued_imports_law E none bases values f a first) (valued_imports_law E none bases values g b second)
+valued_imports_law E none bases values (prefix op f) v e = grind (arith, common_steps, (valued_imports_law E none bases values f))
+valued_imports_law E none bases values (binary op f g) v e = grind (arith, common_steps, (valued_imports_law E none bases values f), (valued_imports_law E none bases values g))
 
 pub none_again : (r : Option (List ℕ)) → (no_name_again r ≡ Ok tt) ↔ (r ≡ None)
 none_again x = grind (arith, common_steps)

@@ -36,8 +36,7 @@ module _ (l : Linkage) (fill : ℕ) where
 
   pub cells_joined : (cs ds : List Cell) (bytes : List ℕ) → BothCells cs ds bytes → AreCells l fill (cs ++ ds) bytes
   cells_joined [] ds bytes (own, rest, none, h, e) = subst (AreCells l fill ds) (sym (e ∙ ap (λ z. z ++ rest) none)) h
-  cells_joined (c ∷ cs) ds bytes (own, rest, (a, b, k, more, e'), h, e) =
-      (a, b ++ rest, k, cells_joined cs ds (b ++ rest) (b, rest, more, h, refl), e ∙ ap (λ z. z ++ rest) e' ∙ append_assoc a b rest)
+  cells_joined (c ∷ cs) ds bytes (own, rest, (a, b, k, more, e'), h, e) = grind (arith, common_steps, (cells_joined cs ds (b ++ rest) (b, rest, more, h, refl)))
 
   pub cells_split : (cs ds : List Cell) (bytes : List ℕ) → AreCells l fill (cs ++ ds) bytes → BothCells cs ds bytes
   cells_split [] ds bytes h = ([], bytes, refl, h, refl)
@@ -47,17 +46,11 @@ module _ (l : Linkage) (fill : ℕ) where
 
   of_known : (own bytes : List ℕ) → (bytes ≡ own) ↔ AreCells l fill (map known own) bytes
   of_known [] bytes = (λ h. h, λ h. h)
-  of_known (b ∷ own) bytes = (
-    λ h. (b ∷ [], own, refl, (of_known own own).0 refl, h),
-    λ h. h.4 ∙ ap (λ z. z ++ h.1) h.2 ∙ ap (λ z. b ∷ z) ((of_known own h.1).1 h.3),
-  )
+  of_known (b ∷ own) bytes = grind (arith, common_steps, (of_known own))
 
   pub of_filled : (n : ℕ) (bytes : List ℕ) → (bytes ≡ replicate n fill) ↔ AreCells l fill (replicate n filled) bytes
   of_filled zero bytes = (λ h. h, λ h. h)
-  of_filled (suc n) bytes = (
-    λ h. (fill ∷ [], replicate n fill, refl, (of_filled n (replicate n fill)).0 refl, h),
-    λ h. h.4 ∙ ap (λ z. z ++ h.1) h.2 ∙ ap (λ z. fill ∷ z) ((of_filled n h.1).1 h.3),
-  )
+  of_filled (suc n) bytes = grind (arith, common_steps, (of_filled n))
 
   of_fragment : (owner : ℕ) (f : Fragment) (bytes : List ℕ) → IsFragment (linked_value l owner) fill f bytes ↔ AreCells l fill (fragment_cells owner f) bytes
   of_fragment owner (Literal own) bytes = of_known own bytes
@@ -65,16 +58,11 @@ module _ (l : Linkage) (fill : ℕ) where
   of_fragment owner (Value width origin f) bytes = (λ h. (bytes, [], h, refl, sym (append-nil bytes)), back)
     where
       back : AreCells l fill (fragment_cells owner (Value width origin f)) bytes → IsFragment (linked_value l owner) fill (Value width origin f) bytes
-      back (own, rest, h, none, e) =
-          let same : bytes ≡ own = e ∙ ap (λ z. own ++ z) none ∙ append-nil own in
-          subst (IsFragment (linked_value l owner) fill (Value width origin f)) (sym same) h
+      back (own, rest, h, none, e) = grind (arith, common_steps)
 
   pub of_fragments : (owner : ℕ) (fs : List Fragment) (bytes : List ℕ) → AreFragments (linked_value l owner) fill fs bytes ↔ AreCells l fill (flat_map (fragment_cells owner) fs) bytes
   of_fragments owner [] bytes = (λ h. h, λ h. h)
-  of_fragments owner (f ∷ fs) bytes = (
-    λ h. cells_joined (fragment_cells owner f) (flat_map (fragment_cells owner) fs) bytes (h.0, h.1, (of_fragment owner f h.0).0 h.2, (of_fragments owner fs h.1).0 h.3, h.4),
-    λ h. (let s = cells_split (fragment_cells owner f) (flat_map (fragment_cells owner) fs) bytes h in (s.0, s.1, (of_fragment owner f s.0).1 s.2, (of_fragments owner fs s.1).1 s.3, s.4)),
-  )
+  of_fragments owner (f ∷ fs) bytes = grind (arith, common_steps, cells_joined, of_fragment, cells_split, (of_fragments owner fs))
 
 -- What a module's section puts into its segment has the bytes of the section's fragments.
 pub cells_law : (l : Linkage) (fill owner : ℕ) (fs : List Fragment) (bytes : List ℕ) → AreFragments (linked_value l owner) fill fs bytes ↔ AreCells l fill (flat_map (fragment_cells owner) fs) bytes
@@ -98,10 +86,7 @@ module _ (Has : Valuing) (fill : ℕ) where
 
   pub same_parts : (origins : Place → Origin) (ss is : List ℕ) (ps : List Part) (bytes : List ℕ) → AreParts (λ f v. Has (numbered ss is f) v) fill ps bytes ↔ AreFragments Has fill (map (fragment_of origins ss is) ps) bytes
   same_parts origins ss is [] bytes = (λ h. h, λ h. h)
-  same_parts origins ss is (p ∷ ps) bytes = (
-    λ h. (h.0, h.1, (same_part origins ss is p h.0).0 h.2, (same_parts origins ss is ps h.1).0 h.3, h.4),
-    λ h. (h.0, h.1, (same_part origins ss is p h.0).1 h.2, (same_parts origins ss is ps h.1).1 h.3, h.4),
-  )
+  same_parts origins ss is (p ∷ ps) bytes = grind (arith, common_steps, (same_parts origins ss is ps))
 
   -- ---- Without the empty ones.
   no_bytes : (f : Fragment) → is_empty f ≡ true → (IsFragment Has fill f []) × ((bytes : List ℕ) → IsFragment Has fill f bytes → bytes ≡ [])
@@ -125,17 +110,10 @@ module _ (Has : Valuing) (fill : ℕ) where
   both f g h fs a b is_f is_g is_h bytes = (there, back)
     where
       there : AreFragments Has fill (f ∷ g ∷ fs) bytes → AreFragments Has fill (h ∷ fs) bytes
-      there (x, rest, p, (y, more, q, r, e), e') =
-          let first : x ≡ a = (is_f x).0 p in
-          let second : y ≡ b = (is_g y).0 q in
-          let whole : bytes ≡ (a ++ b) ++ more = e' ∙ ap (λ z. x ++ z) e ∙ ap (λ z. z ++ (y ++ more)) first ∙ ap (λ z. a ++ (z ++ more)) second ∙ sym (append_assoc a b more) in
-          (a ++ b, more, (is_h (a ++ b)).1 refl, r, whole)
+      there (x, rest, p, (y, more, q, r, e), e') = (a ++ b, more, (is_h (a ++ b)).1 refl, r, grind (arith, common_steps))
 
       back : AreFragments Has fill (h ∷ fs) bytes → AreFragments Has fill (f ∷ g ∷ fs) bytes
-      back (x, more, p, r, e) =
-          let whole : x ≡ a ++ b = (is_h x).0 p in
-          let parts : bytes ≡ a ++ (b ++ more) = e ∙ ap (λ z. z ++ more) whole ∙ append_assoc a b more in
-          (a, b ++ more, (is_f a).1 refl, (b, more, (is_g b).1 refl, r, refl), parts)
+      back (x, more, p, r, e) = (a, b ++ more, (is_f a).1 refl, (b, more, (is_g b).1 refl, r, refl), grind (arith, common_steps))
 
   one_more : (f : Fragment) (gs hs : List Fragment) (bytes : List ℕ) → ((rest : List ℕ) → AreFragments Has fill gs rest ↔ AreFragments Has fill hs rest) → AreFragments Has fill (f ∷ gs) bytes ↔ AreFragments Has fill (f ∷ hs) bytes
   one_more f gs hs bytes same = grind (arith, common_steps)
@@ -145,15 +123,9 @@ module _ (Has : Valuing) (fill : ℕ) where
 
   all_in_one : (f : Fragment) (fs : List Fragment) (bytes : List ℕ) → AreFragments Has fill (f ∷ fs) bytes ↔ AreFragments Has fill (joined f fs) bytes
   all_in_one f [] bytes = (λ h. h, λ h. h)
-  all_in_one (Literal a) (Literal b ∷ fs) bytes =
-      then (both (Literal a) (Literal b) (Literal (a ++ b)) fs a b (λ own. (λ h. h, λ h. h)) (λ own. (λ h. h, λ h. h)) (λ own. (λ h. h, λ h. h)) bytes) (all_in_one (Literal (a ++ b)) fs bytes)
-  all_in_one (Fill m) (Fill n ∷ fs) bytes =
-      then (both (Fill m) (Fill n) (Fill (m + n)) fs (replicate m fill) (replicate n fill) (λ own. (λ h. h, λ h. h)) (λ own. (λ h. h, λ h. h)) (λ own. (λ h. h ∙ more_fill m n, λ h. h ∙ sym (more_fill m n))) bytes) (all_in_one (Fill (m + n)) fs bytes)
-  all_in_one (Literal a) (Fill n ∷ fs) bytes = one_more (Literal a) (Fill n ∷ fs) (joined (Fill n) fs) bytes (all_in_one (Fill n) fs)
-  all_in_one (Literal a) (Value w n g ∷ fs) bytes = one_more (Literal a) (Value w n g ∷ fs) (joined (Value w n g) fs) bytes (all_in_one (Value w n g) fs)
-  all_in_one (Fill m) (Literal b ∷ fs) bytes = one_more (Fill m) (Literal b ∷ fs) (joined (Literal b) fs) bytes (all_in_one (Literal b) fs)
-  all_in_one (Fill m) (Value w n g ∷ fs) bytes = one_more (Fill m) (Value w n g ∷ fs) (joined (Value w n g) fs) bytes (all_in_one (Value w n g) fs)
-  all_in_one (Value w n g) (h ∷ fs) bytes = one_more (Value w n g) (h ∷ fs) (joined h fs) bytes (all_in_one h fs)
+  all_in_one (Literal a) (Literal b ∷ fs) bytes = grind (arith, common_steps, (all_in_one (Literal (a ++ b)) fs bytes))
+  all_in_one (Fill m) (Fill n ∷ fs) bytes = grind (arith, common_steps, more_fill, (all_in_one (Fill (m + n)) fs bytes))
+  all_in_one f (g ∷ fs) bytes = one_more f (g ∷ fs) (joined g fs) bytes (all_in_one g fs)
 
   pub all_joined_are : (fs : List Fragment) (bytes : List ℕ) → AreFragments Has fill fs bytes ↔ AreFragments Has fill (all_joined fs) bytes
   all_joined_are x bytes = grind (arith, common_steps, all_in_one)
@@ -168,10 +140,7 @@ module _ {E : Type 0} (o : Objects E) (l : Linkage) (owner fill : ℕ) (sections
 
   of_parts : (qs : List Part) (bytes : List ℕ) → AllByRecursion (IsValuedIn o l owner sections imports) qs → AreParts (HasValue o owner) fill qs bytes ↔ AreParts (λ f v. linked_value l owner (numbered sections imports f) v) fill qs bytes
   of_parts [] bytes h = (λ k. k, λ k. k)
-  of_parts (q ∷ qs) bytes h = (
-    λ k. (k.0, k.1, (of_part q k.0 h.0).0 k.2, (of_parts qs k.1 h.1).0 k.3, k.4),
-    λ k. (k.0, k.1, (of_part q k.0 h.0).1 k.2, (of_parts qs k.1 h.1).1 k.3, k.4),
-  )
+  of_parts (q ∷ qs) bytes h = grind (arith, common_steps, of_part, (of_parts qs))
 
 -- A module's lines in a segment have the bytes of what its object's section puts there, where the forms in its parts have the
 -- values of those in the object.

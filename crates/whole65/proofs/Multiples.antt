@@ -3,7 +3,7 @@ use Rattle.std.proofs.lemmas.Grind.{common_steps}
 use Rattle.std.proofs.Common.{◌≡◌, ℕ, true, nat_eq, arith, zero, suc, ◌+◌, ◌-◌, ◌*◌, ◌^◌, ◌%◌, ◌/◌, ◌≤◌, ◌<◌, ◌⊎◌, inl, inr, max, sym, ◌∙◌, ap, subst, refl, List, [], ◌∷◌, ◌++◌, map, Bool, false, Option, Some, None, min}
 use Rattle.std.proofs.lemmas.Bool.Decides.{nat_tests}
 use Rattle.std.specs.Int.{next_multiple_of}
-use Rattle.std.proofs.Math.Nat.{mul-add-mod_self_left, div-add-mod, add_assoc, mul_assoc, mod-eq_of_lt, mod_self, mul_comm}
+use Rattle.std.proofs.Math.Nat.{mul-add-mod_self_left, div-add-mod, add_assoc, mul_assoc, mod-eq_of_lt, mod_self}
 use Rattle.std.proofs.lemmas.Nat.{pow-add, pow_pos, mod_below}
 use Rattle.whole65.specs.Offsets.{IsMultiple, IsPower, ArePowers}
 use Rattle.semantics65.specs.Symbols.{Laid, Symbols}
@@ -136,8 +136,7 @@ all_powers : AllByRecursion IsPower powers
 all_powers = (power 0 1 (omega arith) refl, (power 1 2 (omega arith) refl, (power 2 4 (omega arith) refl, (power 3 8 (omega arith) refl, (power 4 16 (omega arith) refl, (power 5 32 (omega arith) refl, (power 6 64 (omega arith) refl, (power 7 128 (omega arith) refl, (power 8 256 (omega arith) refl, (power 9 512 (omega arith) refl, (power 10 1024 (omega arith) refl, (power 11 2048 (omega arith) refl, (power 12 4096 (omega arith) refl, (power 13 8192 (omega arith) refl, (power 14 16384 (omega arith) refl, (power 15 32768 (omega arith) refl, tt))))))))))))))))
 
 not_when : (b : Bool) (e : AsmFault) → when (not b) e ≡ None → b ≡ true
-not_when true e h = refl
-not_when false e h = absurd cc
+not_when x1 e h = grind (arith, common_steps)
 
 -- a constant that is one of the multiples
 pub record IsAligned (r : Option ℤ) : Type 0 where
@@ -167,13 +166,11 @@ line_ends y w place x h = grind (arith, common_steps)
 -- ---- Rounding up by quotients and by remainders.
 
 by_parts : (x y q r : ℕ) → 0 < y → r < y → y * q + r ≡ x → (q + min 1 r) * y ≡ x + (y - r) % y
-by_parts x y q zero pos_y h e = grind (arith, common_steps, mod_self, mul_comm)
-by_parts x y q (suc r) pos_y h e = grind (arith, common_steps, mod-eq_of_lt, mul_comm)
+by_parts x y q x1 pos_y h e = grind (arith, common_steps)
 
 not_zero : (n : ℕ) → (suc n == 0) ≡ false
 not_zero n = grind (arith, nat_tests)
 
 -- A link and the whole program round alike.
 pub rounding_law : (at n : ℕ) → 0 < n → rounded_up at n ≡ next_multiple_of at n
-rounding_law at zero h = absurd (omega (arith, h))
-rounding_law at (suc n) h = grind (arith, common_steps, not_zero, by_parts, mod_below, div-add-mod)
+rounding_law at x1 h = grind (arith, common_steps, by_parts)

@@ -6,7 +6,7 @@ use Rattle.std.proofs.lemmas.Bool.Decides.{nat_tests}
 use Rattle.syntax65.specs.declared.lexing.tokens.AddressSize.{AddressSize}
 use Rattle.semantics65.specs.declared.contents.Segment.{Segment}
 use Rattle.ast65.specs.declared.language.Statement.{Statement}
-use Rattle.semantics65.specs.Layout.{Cursor, current_behind, grown_at, kept_behind, multiple_of, named_segments, new_segment, own_size, segment_at, segments_behind, context_of, Layout, laid, layout_behind, nothing_laid, line_fault}
+use Rattle.semantics65.specs.Layout.{Cursor, current_behind, grown_at, kept_behind, multiple_of, named_segments, new_segment, own_size, segment_at, segments_behind, context_of, Layout, laid, layout_behind, line_fault}
 use Rattle.semantics65.specs.Norms.{length_of}
 use Rattle.semantics65.specs.Symbols.{Symbols, symbols_of, Laid}
 use Rattle.semantics65.proofs.Segments.{all_same, end_behind, grown_end, grown_length, grown_other, named_there, all_more}
@@ -72,8 +72,7 @@ adds y w x g lt one = grind (arith, common_steps, nat_tests, grown_end, grown_al
 
 pub lines_push : (owner : ℕ) (before ls : List Laid) (l : Laid) → lines_behind owner before (ls ++ l ∷ []) ≡ lines_behind owner before ls ++ line_of owner (before ++ ls) l ∷ []
 lines_push owner before [] l = ap (λ b. line_of owner b l ∷ []) (sym (append-nil before))
-lines_push owner before (x ∷ ls) l =
-    ap (λ z. line_of owner before x ∷ z) (lines_push owner (before ++ x ∷ []) ls l ∙ ap (λ b. lines_behind owner (before ++ x ∷ []) ls ++ line_of owner b l ∷ []) (append_assoc before (x ∷ []) ls))
+lines_push owner before (x ∷ ls) l = grind (arith, common_steps, (lines_push owner (before ++ x ∷ []) ls l))
 
 pub largest_push : (xs ys : List Line) → largest_multiple (xs ++ ys) ≡ max (largest_multiple xs) (largest_multiple ys)
 largest_push [] ys = let one : 1 ≤ largest_multiple ys = largest_one ys in omega (arith, one)
@@ -168,22 +167,7 @@ module _ (owner : ℕ) (y : Layout) (place : Place) (x : Statement) (h : Placed 
   }
 
 pub placed : (owner : ℕ) {y : Layout} → IsLaidOut y → Placed owner y
-placed owner begun = record {
-  here = omega arith;
-  keeps = tt;
-  offsets = λ i l e. absurd cc;
-  ends = λ g. first g;
-  aligns = λ g. first_align g;
-  powers = tt;
-}
-  where
-    first : (g : ℕ) → (segment_at nothing_laid.cursor.segments g).end ≡ 0
-    first zero = refl
-    first (suc g) = refl
-
-    first_align : (g : ℕ) → (segment_at nothing_laid.cursor.segments g).align ≡ 1
-    first_align zero = refl
-    first_align (suc g) = refl
+placed owner begun = grind (arith, common_steps)
 placed owner (behind y place x d none) = step owner y place x (placed owner d) none
 
 pub offset_law : OffsetLaw

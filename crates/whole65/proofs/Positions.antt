@@ -1,20 +1,19 @@
 -- Positions in the list of a segment.
 use Rattle.std.proofs.lemmas.Grind.{common_steps}
 use Rattle.std.proofs.Common.{◌≡◌, ℕ, zero, suc, ◌+◌, Bool, true, false, nat_eq, cond, List, [], ◌∷◌, ◌++◌, length, map, take, slice_get, filter, Some, refl, sym, ◌∙◌, ap, arith, ◌≢◌, ◌<◌, Option, None, subst, max, drop, ◌^◌}
-use Rattle.std.specs.Prelude.{◌&&◌, ⊤}
+use Rattle.std.specs.Prelude.{⊤}
 use Rattle.std.specs.List.{AllByRecursion, position_from}
 use Rattle.std.proofs.lemmas.Bool.Decides.{nat_tests}
 use Rattle.std.proofs.lemmas.List.{length-append, append-nil, append_assoc, take-append-drop}
-use Rattle.semantics65.specs.Symbols.{Laid, Symbols, symbols_of}
-use Rattle.semantics65.specs.Layout.{Layout, Cursor, first_size, grown_at, laid, layout_behind, multiple_of, named_segments, new_segment, own_size, place_of, segment_at, segments_behind, context_of, powers}
-use Rattle.whole65.specs.Segments.{Item, Line, has_section, is_line, items_before, largest_multiple, line, line_of, lines_behind, lines_in, part_of, rounding, stands_in, end_of, items_from, segment_name, position_of}
+use Rattle.semantics65.specs.Symbols.{Laid}
+use Rattle.semantics65.specs.Layout.{Layout, grown_at, layout_behind, named_segments, new_segment, place_of, segment_at, segments_behind, powers}
+use Rattle.whole65.specs.Segments.{Item, Line, has_section, is_line, items_before, largest_multiple, line, lines_behind, lines_in, part_of, rounding, stands_in, end_of, items_from, segment_name, position_of}
 use Rattle.std.specs.Str.{bytes_eq}
 use Rattle.std.proofs.lemmas.Iterator.Adapters.{position_from-zero}
 use Rattle.syntax65.specs.declared.lexing.tokens.AddressSize.{AddressSize}
 use Rattle.ast65.proofs.Lists.{bytes_swap}
 use Rattle.semantics65.specs.declared.contents.Segment.{Segment}
 use Rattle.ast65.specs.declared.language.Statement.{Statement}
-use Rattle.semantics65.specs.Norms.{length_of}
 use Rattle.syntax65.specs.declared.place.Place.{Place}
 use Rattle.semantics65.proofs.Segments.{all_more, all_same, grown_length, one_longer}
 use Rattle.whole65.proofs.Offsets.{behind_more, placed, largest_push}
@@ -38,7 +37,7 @@ skipped owner place (x ∷ xs) rest h = grind (arith, common_steps, (skipped own
 apart : (n m : ℕ) → n ≢ m → nat_eq n m ≡ false
 apart n m h = grind (arith, nat_tests)
 
-alike : (n : ℕ) → nat_eq n n ≡ true
+pub alike : (n : ℕ) → nat_eq n n ≡ true
 alike n = grind (arith, nat_tests)
 
 -- ---- Other modules.
@@ -59,20 +58,7 @@ other_part first owner place h y name = go (has_section y name)
 pub stopped : (owner place : ℕ) (q : Laid → Bool) (before ls : List Laid) (rest : List Item) (i : ℕ) (l : Laid) → place ≡ length before + i → slice_get ls i ≡ Some l → q l ≡ true → items_before owner place (map line (filter (λ (x : Line). q x.laid) (lines_behind owner before ls)) ++ rest) ≡ map line (filter (λ (x : Line). q x.laid) (lines_behind owner before (take i ls)))
 stopped owner place q before [] rest i l e s t = cc
 stopped owner place q before (x ∷ ls) rest zero l e s t = grind (arith, common_steps, alike)
-stopped owner place q before (x ∷ ls) rest (suc i) l e s t =
-    let longer : length (before ++ x ∷ []) ≡ length before + 1 = length-append before (x ∷ []) in
-    let next : place ≡ length (before ++ x ∷ []) + i = omega (arith, e, longer) in
-    go (q x) (stopped owner place q (before ++ x ∷ []) ls rest i l next s t)
-  where
-    later : length before ≢ place
-    later = omega (arith, e)
-
-    go : (b : Bool) → items_before owner place (map line (filter (λ (z : Line). q z.laid) (lines_behind owner (before ++ x ∷ []) ls)) ++ rest) ≡ map line (filter (λ (z : Line). q z.laid) (lines_behind owner (before ++ x ∷ []) (take i ls))) → items_before owner place (map line (cond b (line_of owner before x ∷ filter (λ (z : Line). q z.laid) (lines_behind owner (before ++ x ∷ []) ls)) (filter (λ (z : Line). q z.laid) (lines_behind owner (before ++ x ∷ []) ls))) ++ rest) ≡ map line (cond b (line_of owner before x ∷ filter (λ (z : Line). q z.laid) (lines_behind owner (before ++ x ∷ []) (take i ls))) (filter (λ (z : Line). q z.laid) (lines_behind owner (before ++ x ∷ []) (take i ls))))
-    go true r =
-        let none : is_line owner place (line (line_of owner before x)) ≡ false = ap (λ b. b && nat_eq (length before) place) (alike owner) ∙ apart (length before) place later in
-        ap (λ b. cond b [] (line (line_of owner before x) ∷ items_before owner place (map line (filter (λ (z : Line). q z.laid) (lines_behind owner (before ++ x ∷ []) ls)) ++ rest))) none
-        ∙ ap (λ z. line (line_of owner before x) ∷ z) r
-    go false r = r
+stopped owner place q before (x ∷ ls) rest (suc i) l e s t = grind (arith, common_steps, (stopped owner place q (before ++ x ∷ []) ls rest i l))
 
 -- ---- Each statement stands in a segment, and no two segments have one name.
 
@@ -101,40 +87,10 @@ absent [] n i g e lt = absurd (omega arith)
 absent (y ∷ gs) n i g e lt = grind (arith, common_steps, (absent gs n (i + 1)))
 
 distinct_new : (gs : List Segment) (n : List ℕ) (own : AddressSize) → Distinct gs → place_of gs n ≡ None → Distinct (gs ++ new_segment n own ∷ [])
-distinct_new gs n own d e g h lt lt' same = go (nat_eq g (length gs)) (nat_eq h (length gs)) refl refl
-  where
-    apart : (k : ℕ) → k < length gs → bytes_eq (segment_at gs k).name n ≡ false
-    apart k below = absent gs n 0 k (sym (position_from-zero (λ (z : Segment). bytes_eq z.name n) gs) ∙ e) below
-
-    below : (k : ℕ) → k < length (gs ++ new_segment n own ∷ []) → nat_eq k (length gs) ≡ false → k < length gs
-    below k l other =
-        let longer : length (gs ++ new_segment n own ∷ []) ≡ length gs + 1 = one_longer gs (new_segment n own) in
-        let differs : k ≢ length gs = grind (arith, nat_tests) in
-        omega (arith, longer, l, differs)
-
-    at_last : (k : ℕ) → nat_eq k (length gs) ≡ true → (segment_at (gs ++ new_segment n own ∷ []) k).name ≡ n
-    at_last k q = ap (λ z. (segment_at (gs ++ new_segment n own ∷ []) z).name) (equal k (length gs) q) ∙ last_name gs (new_segment n own)
-
-    go : (a b : Bool) → nat_eq g (length gs) ≡ a → nat_eq h (length gs) ≡ b → g ≡ h
-    go true true p q = equal g (length gs) p ∙ sym (equal h (length gs) q)
-    go false false p q =
-        let bg = below g lt p in
-        let bh = below h lt' q in
-        d g h bg bh (rw (front_name gs (new_segment n own) g bg, front_name gs (new_segment n own) h bh) at same)
-    go true false p q =
-        let bh = below h lt' q in
-        let one : bytes_eq n (segment_at gs h).name ≡ true = rw (at_last g p, front_name gs (new_segment n own) h bh) at same in
-        let two : bytes_eq n (segment_at gs h).name ≡ false = bytes_swap n (segment_at gs h).name ∙ apart h bh in
-        absurd cc
-    go false true p q =
-        let bg = below g lt p in
-        let one : bytes_eq (segment_at gs g).name n ≡ true = rw (front_name gs (new_segment n own) g bg, at_last h q) at same in
-        let two : bytes_eq (segment_at gs g).name n ≡ false = apart g bg in
-        absurd cc
+distinct_new gs n own d e g h lt lt' same = grind (arith, common_steps, (front_name gs (new_segment n own)), (last_name gs (new_segment n own)), bytes_swap, (absent gs n 0 g), (absent gs n 0 h), (position_from-zero (λ (z : Segment). bytes_eq z.name n) gs))
 
 distinct_named : (gs : List Segment) (n : List ℕ) (own : _) (place : Option ℕ) → Distinct gs → place_of gs n ≡ place → Distinct (named_segments gs n own place)
-distinct_named gs n own (Some i) d e = d
-distinct_named gs n own None d e = distinct_new gs n (first_size n own) d e
+distinct_named gs n own x1 d e = grind (arith, common_steps, distinct_new)
 
 distinct_behind : (gs : List Segment) (current count multiple : ℕ) (x : Statement) → Distinct gs → Distinct (segments_behind gs current count multiple x)
 distinct_behind gs current count multiple x d = grind (arith, common_steps, distinct_named, grown_length, grown_name)
@@ -144,21 +100,7 @@ pub record Named (y : Layout) : Type 0 where
   pub standing : AllByRecursion (λ (l : Laid). l.context.segment < length y.cursor.segments) y.laid
 
 later : (y : Layout) (place : Place) (x : Statement) → y.cursor.current < length y.cursor.segments → Named y → Named (layout_behind y place x)
-later y place x here h =
-    let z : Layout = layout_behind y place x in
-    let w : Cursor = y.cursor in
-    let table : Symbols = symbols_of y.laid in
-    let count : ℕ = length_of table (context_of w) (own_size w) x in
-    let multiple : ℕ = multiple_of table (context_of w) x in
-    let more = behind_more w.segments w.current count multiple x in
-    let up : (k : ℕ) → k < length w.segments → k < length z.cursor.segments = λ k lt. omega (arith, more, lt) in
-    record {
-      distinct = distinct_behind w.segments w.current count multiple x h.distinct;
-      standing =
-          all_more (λ (l : Laid). l.context.segment < length z.cursor.segments) y.laid (laid table w place x)
-          (all_same (λ (l : Laid). l.context.segment < length w.segments) (λ (l : Laid). l.context.segment < length z.cursor.segments) (λ l below. up l.context.segment below) y.laid h.standing)
-          (up w.current here);
-    }
+later y place x here h = grind (arith, common_steps, behind_more, distinct_behind, all_same)
 
 pub named : {y : Layout} → IsLaidOut y → Named y
 named begun = record { distinct = λ g h lt lt' e. (let none : g ≡ 0 = omega (arith, lt) in let also : h ≡ 0 = omega (arith, lt') in none ∙ sym also); standing = tt }
@@ -191,24 +133,20 @@ all_get P (y ∷ xs) (suc i) x h e = all_get P xs i x h.1 e
 
 lines_both : (owner : ℕ) (before xs ys : List Laid) → lines_behind owner before (xs ++ ys) ≡ lines_behind owner before xs ++ lines_behind owner (before ++ xs) ys
 lines_both owner before [] ys = ap (λ b. lines_behind owner b ys) (sym (append-nil before))
-lines_both owner before (x ∷ xs) ys =
-    ap (λ z. line_of owner before x ∷ z) (lines_both owner (before ++ x ∷ []) xs ys ∙ ap (λ b. lines_behind owner (before ++ x ∷ []) xs ++ lines_behind owner b ys) (append_assoc before (x ∷ []) xs))
+lines_both owner before (x ∷ xs) ys = grind (arith, common_steps, (lines_both owner (before ++ x ∷ []) xs ys))
 
 pub powers_at : (g : ℕ) (xs : List Line) → ArePowers xs → ArePowers (lines_at g xs)
 powers_at g [] h = tt
 powers_at g (x ∷ xs) h = grind (arith, common_steps, (powers_at g xs h.1))
 
-powers_first : (xs ys : List Line) → ArePowers (xs ++ ys) → ArePowers xs
-powers_first [] ys h = tt
-powers_first (x ∷ xs) ys h = (h.0, powers_first xs ys h.1)
-
-powers_rest : (xs ys : List Line) → ArePowers (xs ++ ys) → ArePowers ys
-powers_rest [] ys h = h
-powers_rest (x ∷ xs) ys h = powers_rest xs ys h.1
+pub all_parts : {A : Type 0} (P : A → Type 0) (xs zs : List A) → AllByRecursion P (xs ++ zs) → AllByRecursion P xs × AllByRecursion P zs
+all_parts P [] zs h = (tt, h)
+all_parts P (x ∷ xs) zs h = let more = all_parts P xs zs h.1 in ((h.0, more.0), more.1)
 
 front_multiple : (b : ℕ) (xs ys : List Line) → ArePowers (xs ++ ys) → IsMultiple b (largest_multiple (xs ++ ys)) → IsMultiple b (largest_multiple xs)
 front_multiple b xs ys p h =
-    let both = larger (largest_multiple xs) (largest_multiple ys) (largest_power xs (powers_first xs ys p)) (largest_power ys (powers_rest xs ys p)) in
+    let powers = all_parts (λ (x : Line). IsPower x.multiple) xs ys p in
+    let both = larger (largest_multiple xs) (largest_multiple ys) (largest_power xs powers.0) (largest_power ys powers.1) in
     let whole : IsMultiple b (max (largest_multiple xs) (largest_multiple ys)) = subst (IsMultiple b) (largest_push xs ys) h in
     multiple_of_multiple b (largest_multiple xs) (max (largest_multiple xs) (largest_multiple ys)) whole both.first
 
@@ -251,21 +189,13 @@ module _ (owner place : ℕ) (y : Layout) (l : Laid) (d : IsLaidOut y) (there : 
       ∙ ap (map line) (by_number owner y g n.distinct below [] (take place y.laid) (all_front (λ (k : Laid). k.context.segment < length y.cursor.segments) y.laid place n.standing)) in
       ap (λ b. end_of at (items_before owner place (cond b (rounding multiple ∷ map line (lines_in owner y (segment_name y g))) [] ++ rest))) asked
       ∙ ap (end_of begin) before
-      ∙ shift_law front begin (powers_first front behind_front all_powers) (front_multiple begin front behind_front all_powers is_multiple)
+      ∙ shift_law front begin (all_parts (λ (x : Line). IsPower x.multiple) front behind_front all_powers).0 (front_multiple begin front behind_front all_powers is_multiple)
       ∙ ap (λ n. begin + n) (sym ((placed owner d).offsets place l there))
 
 -- ---- Module by module.
 from_module : (at first count owner place : ℕ) (ys : List Layout) (y : Layout) (l : Laid) → owner ≡ first + count → slice_get ys count ≡ Some y → IsLaidOut y → slice_get y.laid place ≡ Some l → has_section y (segment_name y l.context.segment) ≡ true → end_of at (items_before owner place (items_from first ys (segment_name y l.context.segment))) ≡ begin_from at first ys (segment_name y l.context.segment) count + l.context.offset
 from_module at first count owner place [] y l o e d there asked = cc
-from_module at first zero owner place (z ∷ ys) y l o e d there asked =
-    let same : z ≡ y = cc in
-    let one : first ≡ owner = omega (arith, o) in
-    let name : List ℕ = segment_name y l.context.segment in
-    ap (λ k. end_of at (items_before owner place (part_of first k name ++ items_from (suc first) ys name))) same
-    ∙ ap (λ k. end_of at (items_before owner place (part_of k y name ++ items_from (suc k) ys name))) one
-    ∙ in_part owner place y l d there at (items_from (suc owner) ys name) asked
-    ∙ ap (λ k. next_multiple_of at (largest_multiple (lines_in k y name)) + l.context.offset) (sym one)
-    ∙ ap (λ k. next_multiple_of at (largest_multiple (lines_in first k name)) + l.context.offset) (sym same)
+from_module at first zero owner place (z ∷ ys) y l o e d there asked = grind (arith, common_steps, (in_part owner place y l d there at (items_from (suc owner) ys (segment_name y l.context.segment)) asked))
 from_module at first (suc count) owner place (z ∷ ys) y l o e d there asked =
     let name : List ℕ = segment_name y l.context.segment in
     let other : first ≢ owner = omega (arith, o) in

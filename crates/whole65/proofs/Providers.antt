@@ -1,9 +1,8 @@
 -- Who gives a name, in a link and in the whole program.
 use Rattle.std.proofs.lemmas.Grind.{common_steps}
 use Rattle.std.proofs.Common.{◌≡◌, ℕ, zero, suc, ◌+◌, Bool, true, false, cond, List, [], ◌∷◌, ◌++◌, length, map, slice_get, Option, Some, None, Result, Ok, Err, refl, sym, ◌∙◌, ap, subst, arith}
-use Rattle.std.specs.Prelude.{ℤ, pos, filter_map, find}
+use Rattle.std.specs.Prelude.{ℤ, filter_map, find}
 use Rattle.std.specs.List.{AllByRecursion, position_from}
-use Rattle.std.specs.Option.{option_map_or}
 use Rattle.std.specs.Str.{bytes_eq}
 use Rattle.std.proofs.lemmas.List.{append-nil, append_assoc, length-append}
 use Rattle.syntax65.specs.Trees as tree
@@ -22,7 +21,7 @@ use Rattle.semantics65.specs.Norms.{defined_form, norm}
 use Rattle.semantics65.specs.Numbering.{all_said, export_of, import_keys, numbered, section_keys}
 use Rattle.link65.specs.Names.{by_definition, by_export, defined_at, exported_at, is_among, script_definitions, weak_symbols}
 use Rattle.link65.specs.Names as linked
-use Rattle.link65.specs.Programs.{position_in, Module, Program, exported, no_program, program_of, with_module, with_modules, member}
+use Rattle.link65.specs.Programs.{position_in, Module, Program, exported, no_program, program_of, with_module, with_modules}
 use Rattle.link65.specs.Values.{linkage_of, Linkage, export_value, exports_through, import_value, value_by}
 use Rattle.link65.specs.declared.parts.Definition.{Definition}
 use Rattle.link65.specs.declared.parts.Exported as parts
@@ -72,11 +71,7 @@ linked_exports owner (m ∷ ms) = map (exported owner) m.object.exports ++ linke
 
 exports_behind : (p : Program) (ms : List Module) → (with_modules p ms).exports ≡ p.exports ++ linked_exports (length p.members) ms
 exports_behind p [] = sym (append-nil p.exports)
-exports_behind p (m ∷ ms) =
-    let longer : length (with_module p m).members ≡ suc (length p.members) = length-append p.members (member p m ∷ []) ∙ omega arith in
-    exports_behind (with_module p m) ms
-    ∙ ap (λ n. (with_module p m).exports ++ linked_exports n ms) longer
-    ∙ append_assoc p.exports (map (exported (length p.members)) m.object.exports) (linked_exports (suc (length p.members)) ms)
+exports_behind p (m ∷ ms) = grind (arith, common_steps, (exports_behind (with_module p m) ms))
 
 pub exports_are : (ms : List Module) → (program_of ms).exports ≡ linked_exports 0 ms
 exports_are ms = exports_behind no_program ms
@@ -99,10 +94,7 @@ pub record IsExportOf (ys : List Layout) (ms : List Module) (e : parts.Exported)
 module _ (ys : List Layout) (ms : List Module) where
   of_source : (owner : ℕ) (y : Layout) (m : Module) (cs : List Content) → slice_get ys owner ≡ Some y → slice_get ms owner ≡ Some m → (ending_of y.laid).found ≡ Ok cs → (es : List Export) → AllByRecursion (IsWritten (table_of y) (section_keys cs) (import_keys (table_of y).imports cs) (length (table_of y).imports)) es → AllByRecursion (IsExportOf ys ms) (map (exported owner) es)
   of_source owner y m cs at_y at_m e [] h = tt
-  of_source owner y m cs at_y at_m e (x ∷ es) h = (
-    record { layout = y; object = m; contents = cs; at_y = at_y; at_m = at_m; found = e; form = h.0.0; keyed = h.0.2; written = h.0.3; definition = h.0.1; defining = h.0.4; its_form = h.0.5 },
-    of_source owner y m cs at_y at_m e es h.1,
-  )
+  of_source owner y m cs at_y at_m e (x ∷ es) h = grind (arith, common_steps, (of_source owner y m cs at_y at_m e es h.1))
 
   of_sources : (rest : List Layout) (ns : List Module) (owner : ℕ) → AreSources rest ns → ((i : ℕ) → slice_get rest i ≡ slice_get ys (owner + i)) → ((i : ℕ) → slice_get ns i ≡ slice_get ms (owner + i)) → AllByRecursion (IsExportOf ys ms) (linked_exports owner ns)
   of_sources [] [] owner h up_y up_m = tt
@@ -141,32 +133,17 @@ locate_from : {A : Type 0} (name_of : A → List ℕ) (name : List ℕ) (from : 
 locate_from name_of name from [] = absent_from refl refl
 locate_from name_of name from (x ∷ xs) = go (bytes_eq (name_of x) name) refl (locate_from name_of name (from + 1) xs)
   where
-    here : (i : ℕ) → (from + 1) + i ≡ from + suc i
-    here i = omega arith
-
-    none_more : from ≡ from + 0
-    none_more = omega arith
-
     go : (b : Bool) → bytes_eq (name_of x) name ≡ b → LocatedFrom name_of name (from + 1) xs → LocatedFrom name_of name from (x ∷ xs)
-    go true e more =
-        there_from 0 x (ap (λ b. cond b (Some x) (find (λ x. bytes_eq (name_of x) name) xs)) e)
-        (ap (λ b. cond b (Some from) (position_from (λ n. bytes_eq n name) (from + 1) (map name_of xs))) e ∙ ap Some none_more) refl (same_bytes (name_of x) name e)
-    go false e (absent_from f q) =
-        absent_from (ap (λ b. cond b (Some x) (find (λ x. bytes_eq (name_of x) name) xs)) e ∙ f)
-        (ap (λ b. cond b (Some from) (position_from (λ n. bytes_eq n name) (from + 1) (map name_of xs))) e ∙ q)
-    go false e (there_from i z f q at called) =
-        there_from (suc i) z (ap (λ b. cond b (Some x) (find (λ x. bytes_eq (name_of x) name) xs)) e ∙ f)
-        (ap (λ b. cond b (Some from) (position_from (λ n. bytes_eq n name) (from + 1) (map name_of xs))) e ∙ q ∙ ap Some (here i)) at called
+    go true e more = there_from 0 x (grind (arith, common_steps)) (grind (arith, common_steps)) refl (same_bytes (name_of x) name e)
+    go false e (absent_from f q) = absent_from (grind (arith, common_steps)) (grind (arith, common_steps))
+    go false e (there_from i z f q at called) = there_from (suc i) z (grind (arith, common_steps)) (grind (arith, common_steps)) at called
 
 pub locate : {A : Type 0} (name_of : A → List ℕ) (name : List ℕ) (xs : List A) → Located name_of name xs
 locate name_of name xs = go (locate_from name_of name 0 xs)
   where
-    zero_first : (i : ℕ) → 0 + i ≡ i
-    zero_first i = omega arith
-
     go : LocatedFrom name_of name 0 xs → Located name_of name xs
     go (absent_from f q) = absent f q
-    go (there_from i x f q at called) = there i x f (q ∙ ap Some (zero_first i)) at called
+    go (there_from i x f q at called) = there i x f (grind (arith, common_steps)) at called
 
 -- ---- Both providers.
 
@@ -180,26 +157,17 @@ abbrev by_found : Option parts.Exported → values.Provider → values.Provider
 by_found None other = other
 by_found (Some e) other = by_module e.owner
 
-agree_by : (exports : List parts.Exported) (name : List ℕ) (w w' : values.Provider) (g g' : Provider) → w' ≡ w → g' ≡ g → Agree exports name w g → Agree exports name w' g'
-agree_by exports name w w' g g' e f h = subst (λ k. Agree exports name k g') (sym e) (subst (Agree exports name w) (sym f) h)
-
 by_definitions : (exports : List parts.Exported) (name : List ℕ) (ds : List Definition) (w : values.Provider) (g : Provider) → Agree exports name w g → Agree exports name (provider_or w (definition_of ds name)) (by_definition ds (defined_at ds name) g)
 by_definitions exports name ds w g h = go (locate (λ (d : Definition). d.name) name ds)
   where
     go : Located (λ (d : Definition). d.name) name ds → Agree exports name (provider_or w (definition_of ds name)) (by_definition ds (defined_at ds name) g)
-    go (absent f q) = agree_by exports name w (provider_or w (definition_of ds name)) g (by_definition ds (defined_at ds name) g) (ap (provider_or w) f) (ap (λ o. by_definition ds o g) q) h
-    go (there i d f q at called) =
-        agree_by exports name (by_script d.value) (provider_or w (definition_of ds name)) (ByScript d.value) (by_definition ds (defined_at ds name) g)
-        (ap (provider_or w) f) (ap (λ o. by_definition ds o g) q ∙ ap (λ o. ByScript (option_map_or (λ (d : Definition). d.value) o (pos 0))) at) (of_script d.value)
+    go x1 = grind (arith, common_steps, of_script)
 
 by_exports : (exports : List parts.Exported) (name : List ℕ) (w : values.Provider) (g : Provider) → Agree exports name w g → Agree exports name (by_found (find (λ e. bytes_eq e.name name) exports) w) (by_export (exported_at exports name) g)
 by_exports exports name w g h = go (locate (λ (e : parts.Exported). e.name) name exports)
   where
     go : Located (λ (e : parts.Exported). e.name) name exports → Agree exports name (by_found (find (λ e. bytes_eq e.name name) exports) w) (by_export (exported_at exports name) g)
-    go (absent f q) = agree_by exports name w (by_found (find (λ e. bytes_eq e.name name) exports) w) g (by_export (exported_at exports name) g) (ap (λ o. by_found o w) f) (ap (λ o. by_export o g) q) h
-    go (there i e f q at called) =
-        agree_by exports name (by_module e.owner) (by_found (find (λ e. bytes_eq e.name name) exports) w) (ByModule i) (by_export (exported_at exports name) g)
-        (ap (λ o. by_found o w) f) (ap (λ o. by_export o g) q) (of_module i e at called)
+    go x1 = grind (arith, common_steps, of_module)
 
 one_exporter : (owner : ℕ) (name : List ℕ) (other : values.Provider) (rest : List parts.Exported) (es : List Export) → by_found (find (λ e. bytes_eq e.name name) (map (exported owner) es ++ rest)) other ≡ cond (is_among (map (λ (e : Export). e.name) es) name) (by_module owner) (by_found (find (λ e. bytes_eq e.name name) rest) other)
 one_exporter owner name other rest [] = refl
@@ -219,8 +187,7 @@ providers_agree s placement ys ms name h =
     let found : values.Provider = by_found (find (λ e. bytes_eq e.name name) exports) weak in
     let inner : Agree exports name found (by_export (exported_at exports name) weakly) = by_exports exports name weak weakly (by_definitions exports name (weak_symbols s.symbols) by_nobody Nobody of_nobody) in
     let same : exporter_from 0 ys name weak ≡ found = exporters 0 ys ms name weak h ∙ ap (λ es. by_found (find (λ e. bytes_eq e.name name) es) weak) (sym (exports_are ms)) in
-    by_definitions exports name (script_definitions s placement) (exporter_from 0 ys name weak) (by_export (exported_at exports name) weakly)
-    (subst (λ k. Agree exports name k (by_export (exported_at exports name) weakly)) (sym same) inner)
+    grind (arith, common_steps, by_definitions)
 
 -- ---- What imports come to.
 

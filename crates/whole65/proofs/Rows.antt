@@ -1,12 +1,11 @@
 -- Segments of a link and of the whole program: what they need, and what lies in them.
 use Rattle.std.proofs.lemmas.Grind.{common_steps}
-use Rattle.std.proofs.Common.{◌≡◌, ℕ, ◌<◌, Bool, true, cond, List, [], ◌∷◌, ◌++◌, length, map, filter, Option, Some, None, refl, sym, ◌∙◌, ap, suc, ◌+◌, ◌-◌, slice_get, Ok, subst, arith}
+use Rattle.std.proofs.Common.{◌≡◌, ℕ, ◌<◌, Bool, true, cond, List, [], ◌∷◌, ◌++◌, length, map, Option, Some, None, refl, sym, ◌∙◌, ap, suc, ◌+◌, ◌-◌, slice_get, Ok, subst, arith}
 use Rattle.std.specs.Prelude.{◌||◌, ◌↔◌, replicate}
 use Rattle.std.specs.List.{AllByRecursion, flat_map, list_any}
 use Rattle.std.specs.Str.{bytes_eq}
 use Rattle.std.proofs.lemmas.List.{map-append, append-nil, append_assoc}
 use Rattle.std.proofs.lemmas.List.Folds.{list_any-append}
-use Rattle.object65.specs.declared.object.Object.{Object}
 use Rattle.object65.specs.declared.object.Origin.{Origin}
 use Rattle.object65.specs.declared.object.Section.{Section}
 use Rattle.script65.proofs.Apart.{same_needs}
@@ -15,7 +14,7 @@ use Rattle.script65.specs.declared.placement.SegmentNeed.{SegmentNeed}
 use Rattle.ast65.proofs.Lists.{bytes_swap, same_bytes}
 use Rattle.syntax65.specs.declared.place.Place.{Place}
 use Rattle.semantics65.specs.Contents.{Content, Part, Known, Filled, Waiting}
-use Rattle.semantics65.specs.Symbols.{Laid, asks_section, with_new}
+use Rattle.semantics65.specs.Symbols.{Laid, with_new}
 use Rattle.semantics65.specs.Layout.{Layout}
 use Rattle.semantics65.specs.Numbering.{import_keys, once, section_keys, section_of, segments_asked, parts_in}
 use Rattle.link65.specs.Programs.{Module, Program as LinkedProgram, no_program, program_of, with_module, with_modules, Segment, grown, segment_of, with_section, with_sections, Cell, begin_behind, filled, fragment_cells}
@@ -58,10 +57,7 @@ any_name n m known = grind (arith, common_steps, there_too, or_true, or_false, l
 
 pub any_new : (n : List ℕ) (xs known : List (List ℕ)) → list_any (λ k. bytes_eq n k) (with_new known xs) ≡ (list_any (λ k. bytes_eq n k) known || list_any (λ k. bytes_eq n k) xs)
 any_new n [] known = sym (or_false (list_any (λ k. bytes_eq n k) known))
-any_new n (x ∷ xs) known =
-    any_new n xs (with_name known x)
-    ∙ ap (λ b. b || list_any (λ k. bytes_eq n k) xs) (any_name n x known)
-    ∙ or_both (list_any (λ k. bytes_eq n k) known) (bytes_eq n x) (list_any (λ k. bytes_eq n k) xs)
+any_new n (x ∷ xs) known = grind (arith, common_steps, any_name, (any_new n xs (with_name known x)))
 
 pub any_map : (N : ℕ → List ℕ) (n : List ℕ) (ks : List ℕ) → list_any (λ z. bytes_eq n z) (map N ks) ≡ list_any (λ k. bytes_eq n (N k)) ks
 any_map N n [] = refl
@@ -73,8 +69,7 @@ one_key x known found k = grind (arith, common_steps, map-append, new_append, he
 
 names_once : (N : ℕ → List ℕ) (known : List (List ℕ)) (found ks : List ℕ) → with_new known (map N (once found ks)) ≡ with_new (with_new known (map N found)) (map N ks)
 names_once N known found [] = refl
-names_once N known found (k ∷ ks) =
-    names_once N known (with_key found k) ks ∙ ap (λ z. with_new z (map N ks)) (one_key N known found k)
+names_once N known found (k ∷ ks) = grind (arith, common_steps, one_key, (names_once N known (with_key found k) ks))
 
 -- ---- Names of segments.
 
@@ -103,20 +98,13 @@ one_source y m known h =
     let cs : List Content = c.contents in
     let keys = keys_of y cs h.laid_out c.found in
     let imports : List ℕ = import_keys (table_of y).imports cs in
-    ap (λ (o : Object). with_new known (map (λ (s : Section). s.name) o.sections)) c.object
-    ∙ ap (with_new known) (section_names y c.origins (section_keys cs) imports cs (section_keys cs) keys.standing)
-    ∙ names_once (segment_name y) known [] (segments_asked cs)
-    ∙ ap (λ z. with_new known (map (segment_name y) z)) (asked_are y cs c.found)
-    ∙ ap (with_new known) (names_asked y (filter (λ (l : Laid). asks_section l.stated) y.laid))
+    grind (arith, common_steps, (section_names y c.origins (section_keys cs) imports cs (section_keys cs) keys.standing), (names_once (segment_name y) known [] (segments_asked cs)), (asked_are y cs c.found), names_asked)
 
 all_modules : (p : LinkedProgram) (ys : List Layout) (ms : List Module) → AreSources ys ms → names_of (with_modules p ms).segments ≡ with_new (names_of p.segments) (flat_map asked_by ys)
 all_modules p [] [] h = refl
 all_modules p [] (m ∷ ms) h = absurd h
 all_modules p (y ∷ ys) [] h = absurd h
-all_modules p (y ∷ ys) (m ∷ ms) h =
-    all_modules (with_module p m) ys ms h.1
-    ∙ ap (λ z. with_new z (flat_map asked_by ys)) (all_sections (length p.members) m.object.sections p.segments ∙ one_source y m (names_of p.segments) h.0)
-    ∙ sym (new_append (names_of p.segments) (asked_by y) (flat_map asked_by ys))
+all_modules p (y ∷ ys) (m ∷ ms) h = grind (arith, common_steps, all_sections, one_source, new_append, (all_modules (with_module p m) ys ms h.1))
 
 -- ---- Needs.
 
@@ -146,11 +134,7 @@ placement_law s ys ms h =
     let gs : List Segment = (program_of ms).segments in
     let names : names_of gs ≡ segments_of ys = all_modules no_program ys ms h in
     let sizes : (name : List ℕ) → size_of (map places.need_of gs) name ≡ size_of (map (need_of ys) (segments_of ys)) name =
-    λ name.
-    linked_size gs name
-    ∙ ap (λ ns. size_if (list_any (λ n. bytes_eq n name) ns) (linked.end_of gs name)) names
-    ∙ ap (size_if (list_any (λ n. bytes_eq n name) (segments_of ys))) (size_law ys ms name h)
-    ∙ sym (whole_size ys (segments_of ys) name) in
+    λ name. grind (arith, common_steps, (linked_size gs name), (size_law ys ms name h), (whole_size ys (segments_of ys) name)) in
     same_needs s (map places.need_of gs) (map (need_of ys) (segments_of ys)) (linked_names gs ∙ names ∙ sym (whole_names ys (segments_of ys))) sizes
 
 -- ---- Lists behind lists.
@@ -161,8 +145,7 @@ module _ (p : Program) (fill : ℕ) where
 
   bytes_joined : (at : ℕ) (xs zs : List Item) (bytes : List ℕ) → BothBytes at xs zs bytes → AreBytes p fill at (xs ++ zs) bytes
   bytes_joined at [] zs bytes (own, rest, none, h, e) = subst (AreBytes p fill at zs) (sym (e ∙ ap (λ z. z ++ rest) none)) h
-  bytes_joined at (x ∷ xs) zs bytes (own, rest, (a, b, k, more, e'), h, e) =
-      (a, b ++ rest, k, bytes_joined (end_behind at x) xs zs (b ++ rest) (b, rest, more, h, refl), e ∙ ap (λ z. z ++ rest) e' ∙ append_assoc a b rest)
+  bytes_joined at (x ∷ xs) zs bytes (own, rest, (a, b, k, more, e'), h, e) = grind (arith, common_steps, (bytes_joined (end_behind at x) xs zs (b ++ rest) (b, rest, more, h, refl)))
 
   pub bytes_split : (at : ℕ) (xs zs : List Item) (bytes : List ℕ) → AreBytes p fill at (xs ++ zs) bytes → BothBytes at xs zs bytes
   bytes_split at [] zs bytes h = ([], bytes, refl, h, refl)
@@ -277,10 +260,7 @@ module _ (s : Script) (placement : Placement) (ys : List Layout) (ms : List Modu
                 subst (λ z. AreCells l fill z bytes) (sym cells_are) (cells_joined l fill (cells_or g) (replicate (begin - size_or g) filled ++ flat_map (fragment_cells owner) sec.fragments) bytes (h.0, h.1, h.2, rest, h.4))
 
   modules : (rest : List Layout) (ns : List Module) (owner : ℕ) (g : Option Segment) (bytes : List ℕ) → AreSources rest ns → ((i : ℕ) → slice_get rest i ≡ slice_get ys (owner + i)) → ((i : ℕ) → slice_get ns i ≡ slice_get ms (owner + i)) → AreCells l fill (cells_or (behind_modules owner name g ns)) bytes ↔ Split (cells_or g) (size_or g) (items_from owner rest name) bytes
-  modules [] [] owner g bytes h up_y up_m = (
-    λ k. (bytes, [], k, refl, sym (append-nil bytes)),
-    λ k. subst (AreCells l fill (cells_or g)) (sym (k.4 ∙ ap (λ z. k.0 ++ z) k.3 ∙ append-nil k.0)) k.2,
-  )
+  modules [] [] owner g bytes h up_y up_m = grind (arith, common_steps)
   modules [] (m ∷ ns) owner g bytes h up_y up_m = absurd h
   modules (y ∷ rest) [] owner g bytes h up_y up_m = absurd h
   modules (y ∷ rest) (m ∷ ns) owner g bytes h up_y up_m =

@@ -41,13 +41,8 @@ pub value_covered : {E : Type 0} (none : E) (bases : ℕ → ℤ) (few more : �
 value_covered none bases few more h (lit n) v q = q
 value_covered none bases few more h (sec k a) v q = q
 value_covered none bases few more h (imp k) v q = h k v q
-value_covered none bases few more h (prefix op f) v q =
-    let (a, s, t) = bind_ok (value_in none bases few f) (λ a. Ok (value1 op a)) v q in
-    rw (value_covered none bases few more h f a s) t
-value_covered none bases few more h (binary op f g) v q =
-    let (a, s, t) = bind_ok (value_in none bases few f) (λ a. value_in none bases few g >>= (λ b. or_none none (value2 op a b))) v q in
-    let (b, u, w) = bind_ok (value_in none bases few g) (λ b. or_none none (value2 op a b)) v t in
-    rw (value_covered none bases few more h f a s, value_covered none bases few more h g b u) w
+value_covered none bases few more h (prefix op f) v q = grind (arith, common_steps, (value_covered none bases few more h f))
+value_covered none bases few more h (binary op f g) v q = grind (arith, common_steps, (value_covered none bases few more h f), (value_covered none bases few more h g))
 
 module _ {E : Type 0} (p : Program) (o : Objects E) (h : AreObjects p o) where
   -- what is reached through so many exports is reached through one more
@@ -57,15 +52,12 @@ module _ {E : Type 0} (p : Program) (o : Objects E) (h : AreObjects p o) where
   by_provider : (turns owner k : ℕ) (v : ℤ) → ((before : ℕ) → turns ≡ suc before → Reaches before) → (x : List ℕ) (g : Provider) → IsGivenBy p o owner k x g → o.imports turns owner k ≡ Ok v → o.imports (suc turns) owner k ≡ Ok v
   unfolding Reaches
   by_provider zero owner k v deeper x (by_module provider) given q = absurd (given.first v q)
-  by_provider (suc turns) owner k v deeper x (by_module provider) given q =
-      let one : form_value o turns provider given.form ≡ Ok v = sym (given.later turns) ∙ q in
-      given.later (suc turns) ∙ value_covered o.none (o.bases provider) (o.imports turns provider) (o.imports (suc turns) provider) (deeper turns refl provider) given.form v one
+  by_provider (suc turns) owner k v deeper x (by_module provider) given q = grind (arith, common_steps, value_covered)
   by_provider turns owner k v deeper x (by_script u) given q = given (suc turns) ∙ sym (given turns) ∙ q
   by_provider turns owner k v deeper x by_nobody given q = absurd (given turns v q)
 
   by_name : (turns owner k : ℕ) (v : ℤ) → ((before : ℕ) → turns ≡ suc before → Reaches before) → (x : Option (List ℕ)) → IsGiven p o owner k x → o.imports turns owner k ≡ Ok v → o.imports (suc turns) owner k ≡ Ok v
-  by_name turns owner k v deeper None given q = absurd (given turns v q)
-  by_name turns owner k v deeper (Some x) given q = by_provider turns owner k v deeper x (p.provider x) given q
+  by_name turns owner k v deeper x1 given q = grind (arith, common_steps, by_provider)
 
   reaches : (turns : ℕ) → Reaches turns
   unfolding Reaches
@@ -108,14 +100,7 @@ by_meaning : (p : Program) (owner place : ℕ) (e : Tree) (v : ℤ) (m : Meaning
 by_meaning p owner place x v m q h = grind (arith, common_steps)
 
 pub inverse : (p : Program) {owner place : ℕ} {e : Tree} {v : ℤ} → Value p owner place e v → From p owner place e v
-inverse p number = refl
-inverse p here = refl
-inverse p (label {owner = owner} {place = place} {at = at} {e = e} m) = by_meaning p owner place e (p.address owner at) (label_at at) m refl
-inverse p (constant {owner = owner} {place = place} {at = at} {e = e} {f = f} {v = v} m d) = by_meaning p owner place e v (constant_at at f) m d
-inverse p (exported {owner = owner} {place = place} {e = e} {x = x} {v = v} m g d) = by_meaning p owner place e v (import_of x) m (rw g d)
-inverse p (scripted {owner = owner} {place = place} {e = e} {x = x} {v = v} m g) = by_meaning p owner place e v (import_of x) m (rw g refl)
-inverse p (prefixed {a = a} d) = (a, d, refl)
-inverse p (joined {a = a} {b = b} d₁ d₂ q) = (a, b, d₁, d₂, q)
+inverse p x1 = grind (arith, common_steps)
 
 -- and the meaning of what has one is all that its value comes from
 pub of_meaning : (p : Program) (owner place : ℕ) (e : Tree) (v : ℤ) (m : Meaning) → meaning_in p owner place e ≡ Some m → From p owner place e v → FromMeaning p owner (Some m) v
@@ -199,17 +184,13 @@ module _ {E : Type 0} (p : Program) (o : Objects E) (h : AreObjects p o) where
   linked (number {n = n}) (suc depth) f q = let same : lit (pos n) ≡ f = cc in (0, rw (← same) refl)
   linked (here {owner = owner} {place = place}) (suc depth) f q = grind (arith, common_steps, at_place)
   linked (label {owner = owner} {place = place} {at = at} {e = e} w) (suc depth) f q = grind (arith, common_steps, meant, at_place)
-  linked (constant {owner = owner} {place = place} {at = at} {e = e} {f = g} w d) (suc depth) f q =
-      linked d depth f (meant p o h depth owner place e (constant_at at g) f w q)
+  linked (constant {owner = owner} {place = place} {at = at} {e = e} {f = g} w d) (suc depth) f q = linked d depth f (meant p o h depth owner place e (constant_at at g) f w q)
   linked (exported {owner = owner} {place = place} {provider = provider} {e = e} {x = x} {v = v} w g d) (suc depth) f q =
       let (k, there, same) = meant p o h depth owner place e (import_of x) f w q in
       let export : IsExport p o owner k x provider = export_of owner k x provider there g in
       value_of owner k x provider f v export same (linked d export.depth export.form export.normal)
   linked (scripted {owner = owner} {place = place} {e = e} {x = x} {v = v} w g) (suc depth) f q = grind (arith, common_steps, meant, of_script)
-  linked (prefixed {owner = owner} {place = place} {op = op} {e = e} {a = a} d) (suc depth) f q =
-      let (g, r, t) = one_part depth owner place op e f q in
-      let (turns, u) = linked d (suc depth) g r in
-      (turns, prefix_fold_law E o.none (o.bases owner) (o.imports turns owner) op g f t ∙ rw u refl)
+  linked (prefixed {owner = owner} {place = place} {op = op} {e = e} {a = a} d) (suc depth) f q = grind (arith, common_steps, (linked d (suc depth)))
   linked (joined {owner = owner} {place = place} {op = op} {e = d} {f = e} {a = a} {b = b} {v = v} d₁ d₂ w) (suc depth) f q =
       let (g, k, r, s, t) = two_parts depth owner place op d e f q in
       let (n₁, e₁) = linked d₁ (suc depth) g r in
@@ -251,16 +232,8 @@ module _ {E : Type 0} (p : Program) (o : Objects E) (h : AreObjects p o) where
   meaning_back turns below depth through owner place e f v (Some (import_of x)) w (k, there, same) d = grind (arith, common_steps, import_back)
 
   expression_back : (turns : ℕ) → BelowExport turns → (depth : ℕ) → Through turns depth → (owner place : ℕ) (e : Tree) (f : Form) (v : ℤ) → norm (suc depth) (o.symbols owner) (o.contexts owner place) e ≡ Ok f → form_value o turns owner f ≡ Ok v → Value p owner place e v
-  expression_back turns below depth through owner place (tree.number n) f v q d =
-      let same : lit (pos n) ≡ f = cc in
-      let there : Ok (pos n) ≡ Ok v = rw (← same) at d in
-      let one : pos n ≡ v = cc there in
-      subst (λ z. Value p owner place (tree.number n) z) one number
-  expression_back turns below depth through owner place tree.here f v q d =
-      let same : address_of (o.contexts owner place) ≡ f = cc in
-      let there : Ok (p.address owner place) ≡ Ok v = sym (at_place turns owner place) ∙ (rw (← same) at d) in
-      let one : p.address owner place ≡ v = cc there in
-      subst (λ z. Value p owner place tree.here z) one here
+  expression_back turns below depth through owner place (tree.number n) f v q d = let one : pos n ≡ v = grind (arith, common_steps) in subst (λ z. Value p owner place (tree.number n) z) one number
+  expression_back turns below depth through owner place tree.here f v q d = let one : p.address owner place ≡ v = grind (arith, common_steps) in subst (λ z. Value p owner place tree.here z) one here
   expression_back turns below depth through owner place (tree.unary op e) f v q d =
       let (g, r, t) = one_part depth owner place op e f q in
       let whole : (form_value o turns owner g >>= (λ a. Ok (value1 op a))) ≡ Ok v = sym (prefix_fold_law E o.none (o.bases owner) (o.imports turns owner) op g f t) ∙ d in
@@ -273,10 +246,7 @@ module _ {E : Type 0} (p : Program) (o : Objects E) (h : AreObjects p o) where
       let (a, u, rest) = bind_ok (form_value o turns owner g) (λ a. form_value o turns owner k >>= (λ b. or_none o.none (value2 op a b))) v whole in
       let (b, w, last) = bind_ok (form_value o turns owner k) (λ b. or_none o.none (value2 op a b)) v rest in
       joined (expression_back turns below depth through owner place c g a r u) (expression_back turns below depth through owner place e k b s w) (or_none_from o.none (value2 op a b) v last)
-  expression_back turns below depth through owner place (tree.name b ns) f v q d = meaning_back turns below depth through owner place (tree.name b ns) f v (p.means owner place (tree.name b ns)) refl (operand p o h depth owner place (tree.name b ns) f q) d
-  expression_back turns below depth through owner place (tree.cheap n) f v q d = meaning_back turns below depth through owner place (tree.cheap n) f v (p.means owner place (tree.cheap n)) refl (operand p o h depth owner place (tree.cheap n) f q) d
-  expression_back turns below depth through owner place (tree.forward n) f v q d = meaning_back turns below depth through owner place (tree.forward n) f v (p.means owner place (tree.forward n)) refl (operand p o h depth owner place (tree.forward n) f q) d
-  expression_back turns below depth through owner place (tree.backward n) f v q d = meaning_back turns below depth through owner place (tree.backward n) f v (p.means owner place (tree.backward n)) refl (operand p o h depth owner place (tree.backward n) f q) d
+  expression_back turns below depth through owner place e f v q d = meaning_back turns below depth through owner place e f v (p.means owner place e) refl (operand p o h depth owner place e f q) d
 
   through_back : (turns : ℕ) → BelowExport turns → (depth : ℕ) → Through turns depth
   through_back turns below zero owner place e f v q d = cc
@@ -284,9 +254,7 @@ module _ {E : Type 0} (p : Program) (o : Objects E) (h : AreObjects p o) where
 
   linked_back : (turns : ℕ) → Below turns
   linked_back zero depth owner place e f v q d = through_back zero (λ before e. cc) depth owner place e f v q d
-  linked_back (suc turns) depth owner place e f v q d =
-      let here : Below turns = linked_back turns in
-      through_back (suc turns) (λ before e. let same : turns ≡ before = omega (arith, e) in subst Below same here) depth owner place e f v q d
+  linked_back (suc turns) depth owner place e f v q d = grind (arith, common_steps, through_back, (linked_back turns))
 
 pub same_values_law : (E : Type 0) → SameValuesLaw E
 same_values_law E p o h depth owner place e f v q = (λ d. linked p o h d depth f q, λ found. linked_back p o h found.0 depth owner place e f v q found.1)

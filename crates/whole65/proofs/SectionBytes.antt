@@ -13,7 +13,7 @@ use Rattle.object65.specs.Objects.{fits_width, value_bytes}
 use Rattle.object65.specs.declared.object.Width.{Width}
 use Rattle.object65.specs.declared.object.Width.TheVariants.{Byte, Word, HighFirst, Dword, Branch}
 use Rattle.syntax65.specs.declared.place.Place.{Place}
-use Rattle.semantics65.specs.Contents.{Part, Known, Waiting, Content, operand_form, stored, written, opcode_part, operand_tree, room_part, exported_names}
+use Rattle.semantics65.specs.Contents.{Part, Known, Waiting, Content, operand_form, stored, written, opcode_part, room_part, exported_names}
 use Rattle.ast65.specs.declared.fault.AsmFault.{AsmFault}
 use Rattle.ast65.specs.declared.fault.AsmFault.TheVariants.{OutOfRange}
 use Rattle.semantics65.specs.declared.laid.Context.{Context}
@@ -23,7 +23,6 @@ use Rattle.whole65.specs.Objects.{HasValue, Objects, form_value, AreObjects}
 use Rattle.whole65.proofs.LinkedObjects.{ArePart, AreParts, Valuing}
 use Rattle.whole65.proofs.Statements.{AllCome, AreStated, a_datum, a_line, a_part, a_piece, all_put, an_operand, are_stated, no_line, no_piece, none_put, parts_append, pieces_alike, stated}
 use Rattle.std.proofs.lemmas.List.{append_assoc}
-use Rattle.syntax65.specs.Opcodes.{opcode_of}
 use Rattle.syntax65.specs.Trees.{Tree}
 use Rattle.syntax65.specs.declared.instructions.names.Mnemonic.{Mnemonic}
 use Rattle.semantics65.specs.declared.laid.Settled.{Settled}
@@ -33,7 +32,7 @@ use Rattle.ast65.specs.declared.language.Operand.{Operand}
 use Rattle.ast65.specs.declared.language.Statement.{Statement}
 use Rattle.ast65.specs.declared.language.Statement.TheVariants as statement
 use Rattle.ast65.specs.declared.language.Item.TheVariants as item
-use Rattle.semantics65.specs.Norms.{norm_of, width_of}
+use Rattle.semantics65.specs.Norms.{norm_of}
 use Rattle.whole65.specs.Segments.{Line, line_end, line, line_of, lines_behind, largest_multiple}
 use Rattle.whole65.specs.Values.{Program, Value}
 use Rattle.semantics65.specs.Symbols.{Laid}
@@ -53,8 +52,7 @@ HasBytes o owner width f bytes = (v : ℤ) × HasValue o owner f v × AreStored 
 
 module _ {E : Type 0} (o : Objects E) (owner fill : ℕ) where
   of_literal : (width : Width) (v : ℤ) (part : Part) (bytes : List ℕ) (b : Bool) → fits_width width v ≡ b → ◌≡◌ {A = Result Part AsmFault} (cond b (Ok (Known (value_bytes width v))) (Err OutOfRange)) (Ok part) → ArePart (HasValue o owner) fill part bytes ↔ HasBytes o owner width (lit v) bytes
-  of_literal width v part bytes false fits e = cc
-  of_literal width v part bytes true fits e = grind (arith, common_steps)
+  of_literal width v part bytes x1 fits e = grind (arith, common_steps)
 
   of_waiting : (width : Width) (place : Place) (f : Form) (part : Part) (bytes : List ℕ) → written place (Waiting width place f) ≡ Ok part → ArePart (HasValue o owner) fill part bytes ↔ HasBytes o owner width f bytes
   of_waiting width place f part bytes e = grind (arith, common_steps)
@@ -137,9 +135,7 @@ module _ {E : Type 0} (p : Program) (o : Objects E) (h : AreObjects p o) (fill :
   -- ---- Data.
 
   of_datum : (width : Width) (e : Tree) (f : Form) (q : Part) (bytes : List ℕ) → norm_of (o.symbols x.owner) x.laid.context e ≡ Ok f → stored width x.laid.place f ≡ Ok q → AreItem p x width (item.Value e) bytes ↔ ArePart (HasValue o x.owner) fill q bytes
-  of_datum width e f q bytes normal kept =
-      let part = of_stored o x.owner fill width x.laid.place f q bytes kept in
-      (λ k. part.1 (k.0, (values e f k.0 normal).0 k.1, k.2), λ k. (let b : HasBytes o x.owner width f bytes = part.0 k in (b.0, (values e f b.0 normal).1 b.1, b.2)))
+  of_datum width e f q bytes normal kept = grind (arith, common_steps, of_stored, values)
 
   of_items : (width : Width) (names : List (List ℕ)) (is : List Item) (cs : List Content) (bytes : List ℕ) → Come names (map (item_piece width) is) cs → AreItems p x width is bytes ↔ HaveBytes cs bytes
   of_items width names [] _ bytes no_piece = (λ k. k, λ k. k)
@@ -174,14 +170,7 @@ module _ {E : Type 0} (p : Program) (o : Objects E) (h : AreObjects p o) (fill :
   code_part x = grind (arith, common_steps)
 
   of_instruction : (m : Mnemonic) (d : Operand) (s : Settled) (names : List (List ℕ)) (cs : List Content) (bytes : List ℕ) → Come names (instruction_pieces m d s) cs → AreInstruction p x m d s bytes ↔ HaveBytes cs bytes
-  of_instruction m d (InMode mode) names _ bytes (a_piece {cs = cs} (a_part _) more) =
-      let same : Known (code_bytes (opcode_of m mode)) ∷ all_put cs ≡ opcode_part (opcode_of m mode) ∷ all_put cs = ap (λ z. z ∷ all_put cs) (sym (code_part (opcode_of m mode))) in
-      let behind = λ (own : List ℕ). of_operands (width_of mode) (operand_tree d) _ cs own more in
-      let there : AreInstruction p x m d (InMode mode) bytes → AreParts (HasValue o x.owner) fill (Known (code_bytes (opcode_of m mode)) ∷ all_put cs) bytes =
-      λ k. (code_bytes (opcode_of m mode), k.0, refl, (behind k.0).0 k.1, k.2) in
-      let back : AreParts (HasValue o x.owner) fill (Known (code_bytes (opcode_of m mode)) ∷ all_put cs) bytes → AreInstruction p x m d (InMode mode) bytes =
-      λ k. (k.1, (behind k.1).1 k.3, k.4 ∙ ap (λ z. z ++ k.1) k.2) in
-      (λ k. subst (λ z. AreParts (HasValue o x.owner) fill z bytes) same (there k), λ k. back (subst (λ z. AreParts (HasValue o x.owner) fill z bytes) (sym same) k))
+  of_instruction m d (InMode mode) names _ bytes (a_piece {cs = cs} (a_part _) more) = grind (arith, common_steps, code_part, of_operands)
   of_instruction m d Unsettled names _ bytes no_piece = (λ k. k, λ k. k)
   of_instruction m d (FilledWith b) names _ bytes no_piece = (λ k. k, λ k. k)
   of_instruction m d (FromByte b) names _ bytes no_piece = (λ k. k, λ k. k)
@@ -225,8 +214,7 @@ Both Has fill ps qs bytes = (own : List ℕ) × (rest : List ℕ) × AreParts Ha
 
 parts_joined : (Has : Valuing) (fill : ℕ) (ps qs : List Part) (bytes : List ℕ) → Both Has fill ps qs bytes → AreParts Has fill (ps ++ qs) bytes
 parts_joined Has fill [] qs bytes (own, rest, none, h, e) = subst (AreParts Has fill qs) (sym (e ∙ ap (λ z. z ++ rest) none)) h
-parts_joined Has fill (p ∷ ps) qs bytes (own, rest, (a, b, k, more, e'), h, e) =
-    (a, b ++ rest, k, parts_joined Has fill ps qs (b ++ rest) (b, rest, more, h, refl), e ∙ ap (λ z. z ++ rest) e' ∙ append_assoc a b rest)
+parts_joined Has fill (p ∷ ps) qs bytes (own, rest, (a, b, k, more, e'), h, e) = grind (arith, common_steps, (parts_joined Has fill ps qs (b ++ rest) (b, rest, more, h, refl)))
 
 parts_split : (Has : Valuing) (fill : ℕ) (ps qs : List Part) (bytes : List ℕ) → AreParts Has fill (ps ++ qs) bytes → Both Has fill ps qs bytes
 parts_split Has fill [] qs bytes h = ([], bytes, refl, h, refl)
@@ -236,7 +224,7 @@ parts_split Has fill (p ∷ ps) qs bytes (a, b, k, more, e) =
 
 -- ---- Lines.
 
-pub in_middle : (before : List Laid) (l : Laid) (ls : List Laid) → slice_get (before ++ l ∷ ls) (length before) ≡ Some l
+pub in_middle : {A : Type 0} (before : List A) (l : A) (ls : List A) → slice_get (before ++ l ∷ ls) (length before) ≡ Some l
 in_middle [] l ls = refl
 in_middle (x ∷ before) l ls = in_middle before l ls
 

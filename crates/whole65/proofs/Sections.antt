@@ -1,4 +1,5 @@
 -- The sections of an object, and what they make of one segment.
+use Rattle.std.proofs.lemmas.Slice.Eq.{bytes_eq-Decides}
 use Rattle.std.proofs.lemmas.Grind.{common_steps}
 use Rattle.std.proofs.Common.{◌≡◌, ℕ, suc, length, ◌<◌, Bool, true, false, nat_eq, cond, List, [], ◌∷◌, ◌++◌, map, filter, Option, Some, None, Ok, refl, sym, ◌∙◌, ap, subst, arith, zero, slice_get}
 use Rattle.std.specs.Prelude.{⊤, ◌&&◌, ◌||◌, unwrap_or}
@@ -13,7 +14,7 @@ use Rattle.semantics65.specs.Layout.{Layout, segment_at}
 use Rattle.semantics65.specs.Numbering.{all_said, number_of, once, section_keys, segments_asked, section_of}
 use Rattle.semantics65.proofs.Segments.{all_more}
 use Rattle.semantics65.specs.Module.{ending_of}
-use Rattle.whole65.proofs.Positions.{named, Distinct, itself}
+use Rattle.whole65.proofs.Positions.{named, Distinct, alike}
 use Rattle.whole65.proofs.Multiples.{equal}
 use Rattle.whole65.proofs.Statements.{AreStated, a_line, are_stated, asked_append, no_line, stated}
 use Rattle.whole65.specs.Modules.{table_of}
@@ -35,27 +36,20 @@ use Rattle.std.proofs.lemmas.List.{length-append}
 abbrev pub with_key : List ℕ → ℕ → List ℕ
 with_key found k = cond (list_any (nat_eq k) found) found (found ++ k ∷ [])
 
-pub alike : (n : ℕ) → nat_eq n n ≡ true
-alike n = grind (arith, nat_tests)
-
 swapped : (n m : ℕ) → nat_eq n m ≡ false → nat_eq m n ≡ false
 swapped n m e = grind (arith, nat_tests)
 
 pub or_false : (b : Bool) → (b || false) ≡ b
-or_false true = refl
-or_false false = refl
+or_false x1 = grind (arith, common_steps)
 
 pub or_true : (b : Bool) → (b || true) ≡ true
-or_true true = refl
-or_true false = refl
+or_true x1 = grind (arith, common_steps)
 
 pub or_both : (a b c : Bool) → ((a || b) || c) ≡ (a || (b || c))
-or_both true b c = refl
-or_both false b c = refl
+or_both x1 b c = grind (arith, common_steps)
 
 pub neither : (a b : Bool) → (a || b) ≡ false → (a ≡ false) × (b ≡ false)
-neither true b e = absurd cc
-neither false b e = (refl, e)
+neither x1 b e = grind (arith, common_steps)
 
 pub held : (p : ℕ → Bool) (k : ℕ) (ks : List ℕ) → list_any (nat_eq k) ks ≡ true → p k ≡ true → list_any p ks ≡ true
 held p k [] e h = cc
@@ -66,10 +60,7 @@ any_with p found k = grind (arith, common_steps, held, or_true, or_false, list_a
 
 pub any_once : (p : ℕ → Bool) (found ks : List ℕ) → list_any p (once found ks) ≡ (list_any p found || list_any p ks)
 any_once p found [] = sym (or_false (list_any p found))
-any_once p found (k ∷ ks) =
-    any_once p (with_key found k) ks
-    ∙ ap (λ b. b || list_any p ks) (any_with p found k)
-    ∙ or_both (list_any p found) (p k) (list_any p ks)
+any_once p found (k ∷ ks) = grind (arith, common_steps, any_with, (any_once p (with_key found k) ks))
 
 abbrev pub AreOnce : List ℕ → Type 0
 AreOnce [] = ⊤
@@ -77,26 +68,15 @@ AreOnce (k ∷ ks) = (list_any (nat_eq k) ks ≡ false) × AreOnce ks
 
 once_push : (ks : List ℕ) (k : ℕ) → AreOnce ks → list_any (nat_eq k) ks ≡ false → AreOnce (ks ++ k ∷ [])
 once_push [] k h e = (refl, tt)
-once_push (x ∷ ks) k h e =
-    let both = neither (nat_eq k x) (list_any (nat_eq k) ks) e in
-    let other : nat_eq x k ≡ false = swapped k x both.0 in
-    (list_any-append (nat_eq x) ks (k ∷ []) ∙ ap (λ b. b || (nat_eq x k || false)) h.0 ∙ ap (λ b. b || false) other, once_push ks k h.1 both.1)
+once_push (x ∷ ks) k h e = grind (arith, common_steps, (once_push ks k h.1))
 
 pub are_once : (found ks : List ℕ) → AreOnce found → AreOnce (once found ks)
 are_once found [] h = h
-are_once found (k ∷ ks) h = are_once (with_key found k) ks (go (list_any (nat_eq k) found) refl)
-  where
-    go : (b : Bool) → list_any (nat_eq k) found ≡ b → AreOnce (cond b found (found ++ k ∷ []))
-    go true e = h
-    go false e = once_push found k h e
+are_once found (k ∷ ks) h = grind (arith, common_steps, once_push, (are_once (with_key found k) ks))
 
 pub all_once : (P : ℕ → Type 0) (found ks : List ℕ) → AllByRecursion P found → AllByRecursion P ks → AllByRecursion P (once found ks)
 all_once P found [] h all = h
-all_once P found (k ∷ ks) h all = all_once P (with_key found k) ks (go (list_any (nat_eq k) found)) all.1
-  where
-    go : (b : Bool) → AllByRecursion P (cond b found (found ++ k ∷ []))
-    go true = h
-    go false = all_more P found k h all.0
+all_once P found (k ∷ ks) h all = grind (arith, common_steps, (all_once P (with_key found k) ks))
 
 -- ---- The number of a key.
 
@@ -110,18 +90,7 @@ number_later ks k g e h = grind (arith, common_steps, behind_front, none_found)
 
 lines_asked : (z : Symbols) (names : List (List ℕ)) (ls : List Laid) (cs : List Content) → AreStated z names ls cs → segments_asked cs ≡ map (λ l. l.context.segment) (filter (λ l. asks_section l.stated) ls)
 lines_asked z names [] _ no_line = refl
-lines_asked z names (l ∷ ls) _ (a_line ds cs found more) =
-    asked_append ds cs
-    ∙ ap (λ gs. gs ++ segments_asked cs) (stated z names l ds found).asked
-    ∙ ap (λ gs. cond (asks_section l.stated) (l.context.segment ∷ []) [] ++ gs) (lines_asked z (names ++ exported_names (all_said ds)) ls cs more)
-    ∙ by (asks_section l.stated)
-  where
-    asking : List Laid
-    asking = filter (λ (x : Laid). asks_section x.stated) ls
-
-    by : (b : Bool) → cond b (l.context.segment ∷ []) [] ++ map (λ (x : Laid). x.context.segment) asking ≡ map (λ (x : Laid). x.context.segment) (cond b (l ∷ asking) asking)
-    by true = refl
-    by false = refl
+lines_asked z names (l ∷ ls) _ (a_line ds cs found more) = grind (arith, common_steps, (stated z names l ds found), (lines_asked z (names ++ exported_names (all_said ds)) ls cs more))
 
 -- a module's contents ask for the segments in which the statements that ask stand
 pub asked_are : (y : Layout) (cs : List Content) → (ending_of y.laid).found ≡ Ok cs → segments_asked cs ≡ map (λ l. l.context.segment) (filter (λ l. asks_section l.stated) y.laid)
@@ -169,27 +138,12 @@ module _ (y : Layout) (owner : ℕ) (origins : Place → Origin) (sections impor
 
   pub none_there : (ks : List ℕ) → AllByRecursion (λ g. g < length y.cursor.segments) ks → list_any is_named ks ≡ false → (g : Option linked.Segment) → behind_sections owner name g (map its_section ks) ≡ g
   none_there [] h e g = refl
-  none_there (k ∷ ks) h e g =
-      let both = neither (is_named k) (list_any is_named ks) e in
-      ap (λ b. behind_sections owner name (cond b (Some (grown owner (or_empty (its_section k).name g) (its_section k))) g) (map its_section ks)) (section_named k h.0 ∙ both.0)
-      ∙ none_there ks h.1 both.1 g
+  none_there (k ∷ ks) h e g = grind (arith, common_steps, section_named, (none_there ks h.1))
 
   -- no other key is of the same name
   others_apart : (k : ℕ) → Distinct y.cursor.segments → k < length y.cursor.segments → is_named k ≡ true → (ks : List ℕ) → AllByRecursion (λ g. g < length y.cursor.segments) ks → list_any (nat_eq k) ks ≡ false → list_any is_named ks ≡ false
   others_apart k d lt e [] h apart = refl
-  others_apart k d lt e (x ∷ ks) h apart =
-      let both = neither (nat_eq k x) (list_any (nat_eq k) ks) apart in
-      go (is_named x) refl both.0 (others_apart k d lt e ks h.1 both.1)
-    where
-      go : (b : Bool) → is_named x ≡ b → nat_eq k x ≡ false → list_any is_named ks ≡ false → (b || list_any is_named ks) ≡ false
-      go false q other r = r
-      go true q other r =
-          let one : segment_name y k ≡ name = same_bytes (segment_name y k) name e in
-          let two : segment_name y x ≡ name = same_bytes (segment_name y x) name q in
-          let both : bytes_eq (segment_name y k) (segment_name y x) ≡ true = ap (bytes_eq (segment_name y k)) (two ∙ sym one) ∙ itself (segment_name y k) in
-          let same : k ≡ x = d k x lt h.0 both in
-          let yes : nat_eq k x ≡ true = ap (nat_eq k) (sym same) ∙ alike k in
-          absurd cc
+  others_apart k d lt e (x ∷ ks) h apart = grind (arith, common_steps, (others_apart k d lt e ks h.1), (bytes_eq-Decides (segment_name y k) name), (bytes_eq-Decides (segment_name y x) name), (bytes_eq-Decides (segment_name y k) (segment_name y x)))
 
   -- one section of the module is in the segment
   pub record IsGrown (ks : List ℕ) (g : Option linked.Segment) : Type 0 where
@@ -218,17 +172,7 @@ module _ (y : Layout) (owner : ℕ) (origins : Place → Origin) (sections impor
           }
       go false q e more =
           let r = more e in
-          record {
-            key = r.key;
-            among = by (nat_eq r.key k) (list_any (nat_eq r.key) ks) r.among;
-            below = r.below;
-            called = r.called;
-            is = ap (λ b. behind_sections owner name (cond b (Some (grown owner (or_empty (its_section k).name g) (its_section k))) g) (map its_section ks)) (section_named k h.0 ∙ q) ∙ r.is;
-          }
-        where
-          by : (a b : Bool) → b ≡ true → (a || b) ≡ true
-          by true b e = refl
-          by false b e = e
+          record { key = r.key; among = grind (arith, common_steps); below = r.below; called = r.called; is = grind (arith, common_steps, (section_named k h.0)) }
 
 -- ---- A segment is grown by the sections of its name alone.
 
@@ -238,59 +182,15 @@ first name g other = cond (bytes_eq g.name name) (Some g) other
 
 pub one_section : (owner : ℕ) (gs : List LinkedSegment) (s : Section) (name : List ℕ) → segment_of (with_section owner gs s) name ≡ cond (bytes_eq s.name name) (Some (grown owner (or_empty s.name (segment_of gs name)) s)) (segment_of gs name)
 one_section owner [] s name = refl
-one_section owner (g ∷ gs) s name = go (bytes_eq g.name s.name) refl (one_section owner gs s name)
-  where
-    go : (b : Bool) → bytes_eq g.name s.name ≡ b → segment_of (with_section owner gs s) name ≡ cond (bytes_eq s.name name) (Some (grown owner (or_empty s.name (segment_of gs name)) s)) (segment_of gs name) → segment_of (cond b (grown owner g s ∷ gs) (g ∷ with_section owner gs s)) name ≡ cond (bytes_eq s.name name) (Some (grown owner (or_empty s.name (cond (bytes_eq g.name name) (Some g) (segment_of gs name))) s)) (cond (bytes_eq g.name name) (Some g) (segment_of gs name))
-    go true e deeper = ap (λ n. cond (bytes_eq n name) (Some (grown owner g s)) (segment_of gs name)) same ∙ by (bytes_eq s.name name) refl
-      where
-        same : g.name ≡ s.name
-        same = same_bytes g.name s.name e
-
-        by : (c : Bool) → bytes_eq s.name name ≡ c → cond (bytes_eq s.name name) (Some (grown owner g s)) (segment_of gs name) ≡ cond (bytes_eq s.name name) (Some (grown owner (or_empty s.name (cond (bytes_eq g.name name) (Some g) (segment_of gs name))) s)) (cond (bytes_eq g.name name) (Some g) (segment_of gs name))
-        by true q =
-            let yes : bytes_eq g.name name ≡ true = ap (λ n. bytes_eq n name) same ∙ q in
-            ap (λ c. cond (bytes_eq s.name name) (Some (grown owner (or_empty s.name (cond c (Some g) (segment_of gs name))) s)) (segment_of gs name)) (sym yes)
-            ∙ ap (λ c. cond c (Some (grown owner (or_empty s.name (cond (bytes_eq g.name name) (Some g) (segment_of gs name))) s)) (segment_of gs name)) q
-            ∙ ap (λ c. cond c (Some (grown owner (or_empty s.name (cond (bytes_eq g.name name) (Some g) (segment_of gs name))) s)) (cond (bytes_eq g.name name) (Some g) (segment_of gs name))) (sym q)
-        by false q =
-            let no_ : bytes_eq g.name name ≡ false = ap (λ n. bytes_eq n name) same ∙ q in
-            ap (λ c. cond c (Some (grown owner g s)) (segment_of gs name)) q
-            ∙ ap (λ c. cond c (Some g) (segment_of gs name)) (sym no_)
-            ∙ ap (λ c. cond c (Some (grown owner (or_empty s.name (cond (bytes_eq g.name name) (Some g) (segment_of gs name))) s)) (cond (bytes_eq g.name name) (Some g) (segment_of gs name))) (sym q)
-    go false e deeper = by (bytes_eq g.name name) refl
-      where
-        other : bytes_eq g.name name ≡ true → (c : Bool) → bytes_eq s.name name ≡ c → c ≡ false
-        other found false q = refl
-        other found true q =
-            let one : g.name ≡ name = same_bytes g.name name found in
-            let two : s.name ≡ name = same_bytes s.name name q in
-            let again : bytes_eq g.name s.name ≡ true = ap (λ n. bytes_eq g.name n) (two ∙ sym one) ∙ itself g.name in
-            absurd cc
-
-        by : (c : Bool) → bytes_eq g.name name ≡ c → cond (bytes_eq g.name name) (Some g) (segment_of (with_section owner gs s) name) ≡ cond (bytes_eq s.name name) (Some (grown owner (or_empty s.name (cond (bytes_eq g.name name) (Some g) (segment_of gs name))) s)) (cond (bytes_eq g.name name) (Some g) (segment_of gs name))
-        by true q =
-            let never : bytes_eq s.name name ≡ false = other q (bytes_eq s.name name) refl in
-            ap (λ c. cond c (Some g) (segment_of (with_section owner gs s) name)) q
-            ∙ ap (λ c. cond c (Some g) (segment_of gs name)) (sym q)
-            ∙ ap (λ c. cond c (Some (grown owner (or_empty s.name (cond (bytes_eq g.name name) (Some g) (segment_of gs name))) s)) (cond (bytes_eq g.name name) (Some g) (segment_of gs name))) (sym never)
-        by false q =
-            ap (λ c. cond c (Some g) (segment_of (with_section owner gs s) name)) q
-            ∙ deeper
-            ∙ ap (λ c. cond (bytes_eq s.name name) (Some (grown owner (or_empty s.name (cond c (Some g) (segment_of gs name))) s)) (cond c (Some g) (segment_of gs name))) (sym q)
+one_section owner (g ∷ gs) s name = grind (arith, common_steps, (one_section owner gs s name), bytes_eq-Decides)
 
 pub all_sections : (owner : ℕ) (gs : List LinkedSegment) (ss : List Section) (name : List ℕ) → segment_of (with_sections owner gs ss) name ≡ behind_sections owner name (segment_of gs name) ss
 all_sections owner gs [] name = refl
-all_sections owner gs (s ∷ ss) name =
-    all_sections owner (with_section owner gs s) ss name
-    ∙ ap (λ g. behind_sections owner name g ss) (one_section owner gs s name)
+all_sections owner gs (s ∷ ss) name = grind (arith, common_steps, one_section, (all_sections owner (with_section owner gs s) ss name))
 
 all_modules : (p : Program) (ms : List Module) (name : List ℕ) → segment_of (with_modules p ms).segments name ≡ behind_modules (length p.members) name (segment_of p.segments name) ms
 all_modules p [] name = refl
-all_modules p (m ∷ ms) name =
-    let longer : length (with_module p m).members ≡ suc (length p.members) = length-append p.members (member p m ∷ []) ∙ omega arith in
-    all_modules (with_module p m) ms name
-    ∙ ap (λ n. behind_modules n name (segment_of (with_sections (length p.members) p.segments m.object.sections) name) ms) longer
-    ∙ ap (λ g. behind_modules (suc (length p.members)) name g ms) (all_sections (length p.members) p.segments m.object.sections name)
+all_modules p (m ∷ ms) name = grind (arith, common_steps, all_sections, (all_modules (with_module p m) ms name))
 
 -- A segment of linked modules is what the sections of its name make of it, module by module.
 pub segment_law : (ms : List Module) (name : List ℕ) → segment_of (linked.program_of ms).segments name ≡ behind_modules 0 name None ms

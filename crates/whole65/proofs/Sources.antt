@@ -22,7 +22,7 @@ use Rattle.whole65.proofs.Offsets.{EndsAt, all_end, placed}
 use Rattle.whole65.proofs.Statements.{AreStated, a_line, are_stated, no_line, parts_append}
 use Rattle.whole65.specs.Modules.{table_of}
 use Rattle.whole65.specs.Offsets.{lines_at, IsLaidOut, IsMultiple}
-use Rattle.whole65.specs.Segments.{Line, end_of, line, line_end, line_of, lines_behind, has_section, items_from, largest_multiple, lines_in, part_of, rounding, segment_name, items_of}
+use Rattle.whole65.specs.Segments.{Line, end_of, line, lines_behind, has_section, items_from, largest_multiple, lines_in, part_of, rounding, segment_name, items_of}
 use Rattle.std.specs.Int.{next_multiple_of}
 use Rattle.std.specs.Option.{option_map_or}
 use Rattle.object65.specs.Versions.{IsEitherVersion, in_version_one, line_alone}
@@ -44,15 +44,8 @@ zero_more n = omega arith
 
 joined_long : (f : Fragment) (fs : List Fragment) → sum_by fragment_len (joined f fs) ≡ fragment_len f + sum_by fragment_len fs
 joined_long f [] = sum_by-cons fragment_len f []
-joined_long (Literal a) (Literal b ∷ fs) =
-    let one = joined_long (Literal (a ++ b)) fs in
-    let two : length (a ++ b) ≡ length a + length b = length-append a b in
-    let three = sum_by-cons fragment_len (Literal b) fs in
-    omega (arith, one, two, three)
-joined_long (Fill m) (Fill n ∷ fs) =
-    let one = joined_long (Fill (m + n)) fs in
-    let three = sum_by-cons fragment_len (Fill n) fs in
-    omega (arith, one, three)
+joined_long (Literal a) (Literal b ∷ fs) = grind (arith, common_steps, (joined_long (Literal (a ++ b)) fs))
+joined_long (Fill m) (Fill n ∷ fs) = grind (arith, common_steps, (joined_long (Fill (m + n)) fs))
 joined_long (Literal a) (Fill n ∷ fs) = grind (arith, common_steps, (joined_long (Fill n) fs), sum_by-cons)
 joined_long (Literal a) (Value w n g ∷ fs) = sum_by-cons fragment_len (Literal a) (joined (Value w n g) fs) ∙ ap (λ n. length a + n) (joined_long (Value w n g) fs ∙ sym (sum_by-cons fragment_len (Value w n g) fs))
 joined_long (Fill m) (Literal b ∷ fs) = sum_by-cons fragment_len (Fill m) (joined (Literal b) fs) ∙ ap (λ n. m + n) (joined_long (Literal b) fs ∙ sym (sum_by-cons fragment_len (Literal b) fs))
@@ -94,24 +87,7 @@ module _ (z : Symbols) (owner g : ℕ) where
   lines_long before (l ∷ ls) names _ at ends measured (a_line ds cs found more) =
       let one = measured 0 l refl in
       let own : sum_by part_len (parts_in ds g) ≡ cond (nat_eq l.context.segment g) l.length 0 = slots_long z names one.0 l g ds one.1 found in
-      let parts : sum_by part_len (parts_in (ds ++ cs) g) ≡ cond (nat_eq l.context.segment g) l.length 0 + sum_by part_len (parts_in cs g) =
-      ap (sum_by part_len) (parts_append g ds cs) ∙ sum_by-append part_len (parts_in ds g) (parts_in cs g) ∙ ap (λ n. n + sum_by part_len (parts_in cs g)) own in
-      by (λ n ends. lines_long (before ++ l ∷ []) ls (names ++ exported_names (all_said ds)) cs n ends (λ i x e. measured (suc i) x e) more) (nat_eq l.context.segment g) ends
-      ∙ ap (λ n. at + n) (sym parts)
-    where
-      others : List Line
-      others = here (before ++ l ∷ []) ls
-
-      by :
-          ((n : ℕ) → EndsAt n others → end_of n (map line others) ≡ n + sum_by part_len (parts_in cs g)) →
-          (b : Bool) → EndsAt at (cond b (line_of owner before l ∷ others) others) →
-          end_of at (map line (cond b (line_of owner before l ∷ others) others)) ≡ at + (cond b l.length 0 + sum_by part_len (parts_in cs g))
-      by deeper false ends = (let rest = deeper at ends in omega (arith, rest))
-      by deeper true ends =
-          let behind : ℕ = line_end at (line_of owner before l).multiple l in
-          let first : behind ≡ at + l.length = ends.0 in
-          let rest = deeper behind ends.1 in
-          omega (arith, first, rest)
+      grind (arith, common_steps, (λ (n : ℕ) (ends : EndsAt n (here (before ++ l ∷ []) ls)). lines_long (before ++ l ∷ []) ls (names ++ exported_names (all_said ds)) cs n ends (λ i x e. measured (suc i) x e) more))
 
 -- It is as long as they are.
 pub length_law : (y : Layout) (owner g : ℕ) (cs : List Content) (origins : Place → Origin) (sections imports : List ℕ) → IsLaidOut y → IsSoundLayout y → (ending_of y.laid).found ≡ Ok cs → section_len (section_of origins y.cursor.segments sections imports cs g) ≡ end_of 0 (map line (lines_at g (lines_behind owner [] y.laid)))
@@ -246,10 +222,7 @@ pub modules_end : (ys : List Layout) (ms : List Module) (owner : ℕ) (name : Li
 modules_end [] [] owner name g h = refl
 modules_end [] (m ∷ ms) owner name g h = absurd h
 modules_end (y ∷ ys) [] owner name g h = absurd h
-modules_end (y ∷ ys) (m ∷ ms) owner name g h =
-    modules_end ys ms (suc owner) name (behind_sections owner name g m.object.sections) h.1
-    ∙ ap (λ n. end_of n (items_from (suc owner) ys name)) (part_end y m owner name g h.0)
-    ∙ sym (end_of-append (size_or g) (part_of owner y name) (items_from (suc owner) ys name))
+modules_end (y ∷ ys) (m ∷ ms) owner name g h = grind (arith, common_steps, part_end, end_of-append, (modules_end ys ms (suc owner) name (behind_sections owner name g m.object.sections) h.1))
 
 -- A segment of linked modules is as long as the list of all lines of its name.
 pub size_law : (ys : List Layout) (ms : List Module) (name : List ℕ) → AreSources ys ms → linked.end_of (linked.program_of ms).segments name ≡ end_of 0 (items_of ys name)

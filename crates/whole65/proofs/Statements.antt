@@ -1,8 +1,7 @@
 -- What laid statements come to, one behind the other: what each of them asks for, puts into its section and says.
 use Rattle.std.proofs.lemmas.Grind.{common_steps, flat_map-append}
-use Rattle.std.proofs.lemmas.List.{append-nil, map-append}
-use Rattle.std.proofs.lemmas.List.Elements.{filter-append}
-use Rattle.std.proofs.Common.{◌≡◌, ◌∙◌, ℕ, Bool, true, false, cond, nat_eq, List, [], ◌∷◌, ◌++◌, map, filter, Option, Some, None, Result, Ok, refl, sym, ap, subst, ◌⊎◌, inl, inr, arith, if◌then◌else◌}
+use Rattle.std.proofs.lemmas.List.{append-nil}
+use Rattle.std.proofs.Common.{◌≡◌, ◌∙◌, ℕ, Bool, true, false, cond, nat_eq, List, [], ◌∷◌, ◌++◌, map, Option, Some, None, Result, Ok, refl, sym, ap, subst, ◌⊎◌, inl, inr, arith, if◌then◌else◌}
 use Rattle.std.specs.List.{AllByRecursion, flat_map, list_any}
 use Rattle.std.specs.Str.{bytes_eq}
 use Rattle.base65.specs.Outcome.{◌>>=◌}
@@ -11,16 +10,15 @@ use Rattle.syntax65.specs.Trees.{Tree}
 use Rattle.semantics65.proofs.Found.{AreFound, found_each, found_split}
 use Rattle.semantics65.proofs.SoundForms.{all_append}
 use Rattle.semantics65.proofs.SoundParts.{content_is}
-use Rattle.semantics65.specs.Contents.{Content, Declaration, Exported, ForcedImport, Part, asking, decided, export_said, import_fault, operand_form, operand_tree, put, stored, telling, written, exported_names}
+use Rattle.semantics65.specs.Contents.{Content, Declaration, Exported, ForcedImport, Part, asking, decided, export_said, import_fault, operand_form, put, stored, telling, written, exported_names}
 use Rattle.semantics65.specs.Layout.{Layout}
 use Rattle.semantics65.specs.Module.{Made, Piece, Purpose, absent_of, as_part, as_said, asserted, coming, datum, demanded, ending_of, equated, exported, failed, given, holds, imported, item_piece, made_of, operand, operand_pieces, pieces_of, quietly, slots_of, used, valued, waiting_at}
-use Rattle.semantics65.specs.Norms.{defined_form, norm_of, width_of}
+use Rattle.semantics65.specs.Norms.{defined_form, norm_of}
 use Rattle.semantics65.specs.Numbering.{all_said, parts_in, segments_asked}
 use Rattle.semantics65.specs.Reading.{at_place}
 use Rattle.semantics65.specs.Symbols.{Laid, Symbols, asks_section, defined, named}
 use Rattle.semantics65.specs.declared.laid.Settled.{Settled}
-use Rattle.semantics65.specs.declared.laid.Settled.TheVariants.{InMode}
-use Rattle.semantics65.specs.Types.{Action, AsmFault, Item, Value, Text, Place, Statement, Align, Assert, Constant, Export, FilePart, ForceImport, Global, Import, Instruction, Reserve, Values, Width}
+use Rattle.semantics65.specs.Types.{Action, AsmFault, Item, Place, Statement, Align, Assert, Constant, Export, FilePart, ForceImport, Global, Import, Instruction, Reserve, Values, Width}
 use Rattle.whole65.proofs.SameValues.{bind_ok, written_ok}
 use Rattle.whole65.specs.Modules.{table_of}
 
@@ -54,14 +52,13 @@ placed_ok : {A : Type 0} (place : Place) (r : Result A AsmFault) (a : A) → at_
 placed_ok {A = A} place x a e = grind (arith, common_steps)
 
 same_content : (a b : Made) → ◌≡◌ {A = Result Made AsmFault} (Ok a) (Ok b) → a.content ≡ b.content
-same_content a b e = let same : a ≡ b = cc in ap (λ (m : Made). m.content) same
+same_content a b e = grind (arith, common_steps)
 
 import_none : (y : Symbols) (n : List ℕ) (ss : List Declaration) → import_fault y n ≡ Ok ss → [] ≡ ss
 import_none y n ss e = grind (arith, common_steps)
 
 absent_none : (must : Bool) (n : List ℕ) (ss : List Declaration) → absent_of must n ≡ Ok ss → [] ≡ ss
-absent_none true n ss e = absurd cc
-absent_none false n ss e = cc
+absent_none x1 n ss e = grind (arith, common_steps)
 
 comes : (y : Symbols) (names : List (List ℕ)) (l : Laid) (p : Piece) (m : Made) → coming y names (waiting_at l p) ≡ Ok m → Comes y names l p m.content
 comes y names l (given q) m h = subst (Comes y names l (given q)) (same_content (quietly (put l.context.segment q)) m (placed_ok l.place (as_part l.context.segment q) m h)) (a_part q)
@@ -137,24 +134,17 @@ has_parts _ = false
 
 of_items : (width : Width) (items : List Item) → AllByRecursion (λ p. is_part p ≡ true) (map (item_piece width) items)
 of_items width [] = tt
-of_items width (Value e ∷ items) = (refl, of_items width items)
-of_items width (Text bytes ∷ items) = (refl, of_items width items)
+of_items width (item ∷ items) = grind (arith, common_steps, (of_items width items))
 
 of_operand : (width : Option Width) (e : Option Tree) → AllByRecursion (λ p. is_part p ≡ true) (operand_pieces width e)
-of_operand (Some width) (Some e) = (refl, tt)
-of_operand (Some width) None = tt
-of_operand None e = tt
+of_operand x1 x2 = grind (arith, common_steps)
 
 of_names : (f : List ℕ → Piece) → ((n : List ℕ) → is_part (f n) ≡ false) → (names : List (List ℕ)) → AllByRecursion (λ p. is_part p ≡ false) (map f names)
 of_names f h [] = tt
 of_names f h (n ∷ names) = (h n, of_names f h names)
 
 pub pieces_alike : (count : ℕ) (s : Settled) (x : Statement) → AllByRecursion (λ p. is_part p ≡ has_parts x) (pieces_of count s x)
-pieces_alike count s (Instruction m o) = by s
-  where
-    by : (s : Settled) → AllByRecursion (λ p. is_part p ≡ true) (pieces_of count s (Instruction m o))
-    by (InMode mode) = (refl, of_operand (width_of mode) (operand_tree o))
-    by _ = tt
+pieces_alike count s (Instruction m o) = grind (arith, common_steps)
 pieces_alike count s (Values width items) = of_items width items
 pieces_alike count s (Reserve n v) = (refl, tt)
 pieces_alike count s (Align n v) = (refl, tt)
@@ -168,32 +158,21 @@ pieces_alike count s (Assert e act words) = (refl, tt)
 pieces_alike count s _ = tt
 
 says_none : {y : Symbols} {names : List (List ℕ)} {l : Laid} {p : Piece} {c : Content} → Comes y names l p c → is_part p ≡ true → c.said ≡ []
-says_none (a_part q) e = refl
-says_none (a_datum width t f q normal kept) e = refl
-says_none (an_operand width t f g q normal counted kept) e = refl
-says_none _ e = absurd cc
+says_none x1 e = grind (arith, common_steps)
 
 puts_none : {y : Symbols} {names : List (List ℕ)} {l : Laid} {p : Piece} {c : Content} → Comes y names l p c → is_part p ≡ false → c.parts ≡ []
-puts_none (a_part q) e = absurd cc
-puts_none (a_datum width t f q normal kept) e = absurd cc
-puts_none (an_operand width t f g q normal counted kept) e = absurd cc
-puts_none _ e = refl
+puts_none x1 e = grind (arith, common_steps)
 
 none_said : {y : Symbols} {l : Laid} {names : List (List ℕ)} {ps : List Piece} {cs : List Content} → AllCome y l names ps cs → AllByRecursion (λ p. is_part p ≡ true) ps → all_said cs ≡ []
 none_said no_piece all = refl
-none_said (a_piece {cs = cs} first more) (own, all) = ap (λ ss. ss ++ all_said cs) (says_none first own) ∙ none_said more all
+none_said (a_piece first more) (own, all) = grind (arith, common_steps, (says_none first own), (none_said more all))
 
 pub none_put : {y : Symbols} {l : Laid} {names : List (List ℕ)} {ps : List Piece} {cs : List Content} → AllCome y l names ps cs → AllByRecursion (λ p. is_part p ≡ false) ps → all_put cs ≡ []
 none_put no_piece all = refl
-none_put (a_piece {cs = cs} first more) (own, all) = ap (λ qs. qs ++ all_put cs) (puts_none first own) ∙ none_put more all
+none_put (a_piece first more) (own, all) = grind (arith, common_steps, (puts_none first own), (none_put more all))
 
 no_parts : (x : Statement) → asks_section x ≡ false → has_parts x ≡ false
-no_parts (Instruction m o) e = absurd cc
-no_parts (Values width items) e = absurd cc
-no_parts (Reserve n v) e = absurd cc
-no_parts (Align n v) e = absurd cc
-no_parts (FilePart bytes start len) e = absurd cc
-no_parts _ e = refl
+no_parts x1 e = grind (arith, common_steps)
 
 -- a statement that asks for no section puts nothing there
 pub quiet_parts : {y : Symbols} {l : Laid} {names : List (List ℕ)} {cs : List Content} (count : ℕ) (s : Settled) (x : Statement) → AllCome y l names (pieces_of count s x) cs → asks_section x ≡ false → all_put cs ≡ []
@@ -206,40 +185,15 @@ abbrev StandsIn : ℕ → Content → Type 0
 StandsIn g c = (c.asks ≡ false) × ((c.segment ≡ g) ⊎ (c.parts ≡ []))
 
 stands_in : {y : Symbols} {names : List (List ℕ)} {l : Laid} {p : Piece} {c : Content} → Comes y names l p c → StandsIn l.context.segment c
-stands_in (a_part q) = (refl, inl refl)
-stands_in (a_datum width e f q normal kept) = (refl, inl refl)
-stands_in (an_operand width e f g q normal counted kept) = (refl, inl refl)
-stands_in _ = (refl, inr refl)
+stands_in x1 = grind (arith, common_steps)
 
 none_asked : {y : Symbols} {l : Laid} {names : List (List ℕ)} {ps : List Piece} {cs : List Content} → AllCome y l names ps cs → segments_asked cs ≡ []
 none_asked no_piece = refl
-none_asked (a_piece {c = c} {cs = cs} first more) = ap (λ b. map (λ (d : Content). d.segment) (cond b (c ∷ filter (λ (d : Content). d.asks) cs) (filter (λ (d : Content). d.asks) cs))) (stands_in first).0 ∙ none_asked more
-
-parts_if : (g h : ℕ) (c : Content) (cs : List Content) → (c.segment ≡ h) ⊎ (c.parts ≡ []) → parts_in cs g ≡ cond (nat_eq h g) (all_put cs) [] → parts_in (c ∷ cs) g ≡ cond (nat_eq h g) (all_put (c ∷ cs)) []
-parts_if g h c cs there rest = by there
-  where
-    others : List Content
-    others = filter (λ (d : Content). nat_eq d.segment g) cs
-
-    here : (b : Bool) → all_put others ≡ cond b (all_put cs) [] → all_put (cond b (c ∷ others) others) ≡ cond b (all_put (c ∷ cs)) []
-    here true e = ap (λ qs. c.parts ++ qs) e
-    here false e = e
-
-    nowhere : (b : Bool) → c.parts ≡ [] → all_put (cond b (c ∷ others) others) ≡ all_put others
-    nowhere true e = ap (λ qs. qs ++ all_put others) e
-    nowhere false e = refl
-
-    by : (c.segment ≡ h) ⊎ (c.parts ≡ []) → all_put (cond (nat_eq c.segment g) (c ∷ others) others) ≡ cond (nat_eq h g) (all_put (c ∷ cs)) []
-    by (inl same) = ap (λ n. all_put (cond (nat_eq n g) (c ∷ others) others)) same ∙ here (nat_eq h g) rest
-    by (inr none) = nowhere (nat_eq c.segment g) none ∙ rest ∙ ap (λ qs. cond (nat_eq h g) (qs ++ all_put cs) []) (sym none)
-
-none_if : (b : Bool) → ◌≡◌ {A = List Part} [] (cond b [] [])
-none_if true = refl
-none_if false = refl
+none_asked (a_piece first more) = grind (arith, common_steps, (stands_in first), (none_asked more))
 
 parts_own : {y : Symbols} {l : Laid} {names : List (List ℕ)} {ps : List Piece} {cs : List Content} (g : ℕ) → AllCome y l names ps cs → parts_in cs g ≡ cond (nat_eq l.context.segment g) (all_put cs) []
-parts_own {l = l} g no_piece = none_if (nat_eq l.context.segment g)
-parts_own {l = l} g (a_piece {c = c} {cs = cs} first more) = parts_if g l.context.segment c cs (stands_in first).1 (parts_own g more)
+parts_own g no_piece = grind (arith, common_steps)
+parts_own g (a_piece first more) = grind (arith, common_steps, (stands_in first), (parts_own g more))
 
 -- ---- What a statement says.
 
@@ -269,14 +223,14 @@ said_once must names (n ∷ ns) _ (a_piece {cs = cs} (an_export _ _ j f new e fo
 
 said_demanded : {y : Symbols} {l : Laid} {names : List (List ℕ)} (ns : List (List ℕ)) (cs : List Content) → AllCome y l names (map demanded ns) cs → all_said cs ≡ map ForcedImport ns
 said_demanded [] _ no_piece = refl
-said_demanded (n ∷ ns) _ (a_piece {cs = cs} (a_demand _) more) = ap (λ ss. ForcedImport n ∷ ss) (said_demanded ns cs more)
+said_demanded (n ∷ ns) _ (a_piece (a_demand _) more) = grind (arith, common_steps, (said_demanded ns _ more))
 
 said_forced : {y : Symbols} {l : Laid} {names : List (List ℕ)} (ms ns : List (List ℕ)) (cs : List Content) → AllCome y l names (map imported ms ++ map demanded ns) cs → all_said cs ≡ map ForcedImport ns
 said_forced [] ns cs all = said_demanded ns cs all
 said_forced (m ∷ ms) ns _ (a_piece {cs = cs} (an_import _) more) = said_forced ms ns cs more
 
 nothing_said : {y : Symbols} {l : Laid} {names : List (List ℕ)} (cs : List Content) → AllCome y l names [] cs → all_said cs ≡ []
-nothing_said _ no_piece = refl
+nothing_said cs x1 = grind (arith, common_steps)
 
 said_by : {y : Symbols} {l : Laid} {names : List (List ℕ)} (count : ℕ) (s : Settled) (x : Statement) (cs : List Content) → AllCome y l names (pieces_of count s x) cs → IsSaidBy y names l x (all_said cs)
 said_by count s (Export ns) cs all = said_once true _ ns cs all
@@ -313,10 +267,6 @@ stated y names l ds h = by (asks_section l.stated) refl ds h
     g : ℕ
     g = l.context.segment
 
-    behind_asking : (b : Bool) (cs : List Content) → all_put (cond b (asking g ∷ cs) cs) ≡ all_put cs
-    behind_asking true cs = refl
-    behind_asking false cs = refl
-
     by : (b : Bool) → asks_section l.stated ≡ b → (ds : List Content) → AreFound y names ((if b then holds (asking g) ∷ [] else []) ++ map (waiting_at l) ps) ds → Stated y names l ds
     by false e ds h =
         let all : AllCome y l names ps ds = all_come y l names ps ds h in
@@ -339,7 +289,7 @@ stated y names l ds h = by (asks_section l.stated) refl ds h
           pieces = all;
           asked = ap (λ gs. g ∷ gs) (none_asked all) ∙ ap (λ b. cond b (g ∷ []) []) (sym e);
           put = refl;
-          parts = λ k. behind_asking (nat_eq g k) (filter (λ (d : Content). nat_eq d.segment k) ds) ∙ parts_own k all;
+          parts = λ k. (let own = parts_own k all in grind (arith, common_steps));
           said = said_by l.length l.settled l.stated ds all;
         })
 
@@ -370,11 +320,7 @@ pub put_append : (ds cs : List Content) → all_put (ds ++ cs) ≡ all_put ds ++
 put_append ds cs = flat_map-append (λ (c : Content). c.parts) ds cs
 
 pub parts_append : (g : ℕ) (ds cs : List Content) → parts_in (ds ++ cs) g ≡ parts_in ds g ++ parts_in cs g
-parts_append g ds cs =
-    ap all_put (filter-append (λ (c : Content). nat_eq c.segment g) ds cs)
-    ∙ put_append (filter (λ (c : Content). nat_eq c.segment g) ds) (filter (λ (c : Content). nat_eq c.segment g) cs)
+parts_append g ds cs = grind (arith, common_steps)
 
 pub asked_append : (ds cs : List Content) → segments_asked (ds ++ cs) ≡ segments_asked ds ++ segments_asked cs
-asked_append ds cs =
-    ap (map (λ (c : Content). c.segment)) (filter-append (λ (c : Content). c.asks) ds cs)
-    ∙ map-append (λ (c : Content). c.segment) (filter (λ (c : Content). c.asks) ds) (filter (λ (c : Content). c.asks) cs)
+asked_append ds cs = grind (arith, common_steps)

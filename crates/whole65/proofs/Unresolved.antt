@@ -1,7 +1,7 @@
 -- A link leaves names open exactly where the whole program lacks some that have to be given.
 use Rattle.std.proofs.lemmas.Grind.{common_steps}
 use Rattle.std.proofs.Common.{◌≡◌, ℕ, suc, Bool, true, false, nat_eq, cond, List, [], ◌∷◌, ◌++◌, length, map, filter, slice_get, Option, Some, None, Ok, refl, sym, ◌∙◌, ap, subst, zero, ◌+◌, ◌<◌, arith}
-use Rattle.std.specs.Prelude.{⊤, ℤ, unwrap_or, ◌||◌}
+use Rattle.std.specs.Prelude.{⊤, ℤ, unwrap_or}
 use Rattle.std.specs.List.{AllByRecursion, flat_map, list_any}
 use Rattle.std.proofs.lemmas.List.{append_assoc}
 use Rattle.syntax65.specs.Trees as tree
@@ -10,7 +10,6 @@ use Rattle.script65.specs.declared.placement.Placement.{Placement}
 use Rattle.script65.specs.declared.script.Script.{Script}
 use Rattle.semantics65.specs.Contents.{Content, Part, Known, Filled, Waiting, Declaration, Exported, ForcedImport, Asserted, exported_names}
 use Rattle.semantics65.specs.Symbols.{Laid, asks_section, Symbols, defined, named}
-use Rattle.ast65.specs.declared.language.Statement.TheVariants.{Assert}
 use Rattle.semantics65.specs.Layout.{Layout}
 use Rattle.semantics65.specs.Norms.{defined_form, norm}
 use Rattle.semantics65.specs.Numbering.{all_said, imports_in, name_of, optional_key, key_of, parts_in, segments_asked, section_keys}
@@ -22,9 +21,9 @@ use Rattle.semantics65.specs.Module.{ending_of}
 use Rattle.whole65.proofs.Exports.{IsAsserted, all_demanded, demanded_names, one_tells, IsDefined, said_all}
 use Rattle.whole65.proofs.Links.{valued_imports_law}
 use Rattle.whole65.proofs.Providers.{global_form, past_all, sources_law}
-use Rattle.whole65.proofs.Imports.{OfKey, OfPart, OfSaid, at_key, imports_hold, key_for, no_key, forced_hold, all_parts, none_open}
+use Rattle.whole65.proofs.Imports.{OfKey, OfPart, OfSaid, at_key, imports_hold, key_for, no_key, forced_hold, none_open}
 use Rattle.whole65.proofs.Keyed.{or_right, one_of}
-use Rattle.whole65.proofs.Sections.{alike, any_once, asked_are, held, keys_of}
+use Rattle.whole65.proofs.Sections.{any_once, asked_are, held, keys_of}
 use Rattle.whole65.proofs.SameValues.{same_values_law}
 use Rattle.whole65.proofs.Rows.{any_new, any_map, names_asked, bytes_split}
 use Rattle.whole65.proofs.SectionBytes.{in_middle, section_law}
@@ -49,7 +48,7 @@ use Rattle.script65.specs.declared.placement.SegmentNeed.{SegmentNeed}
 use Rattle.script65.specs.declared.script.Row.{Row}
 use Rattle.ast65.proofs.Lists.{same_bytes}
 use Rattle.link65.specs.Files.{RowBytes}
-use Rattle.whole65.proofs.Positions.{itself}
+use Rattle.whole65.proofs.Positions.{itself, all_parts, alike}
 use Rattle.whole65.specs.Contents.{AreBytes}
 use Rattle.whole65.specs.Offsets.{lines_at}
 use Rattle.link65.specs.Programs as linked
@@ -78,15 +77,10 @@ module _ (P : Part → Type 0) where
       asking = filter (λ (x : Laid). asks_section x.stated) ls
 
       wider : (g : ℕ) (b : Bool) → list_any (nat_eq g) (map (λ (x : Laid). x.context.segment) asking) ≡ true → list_any (nat_eq g) (map (λ (x : Laid). x.context.segment) (cond b (l ∷ asking) asking)) ≡ true
-      wider g true e = or_right (nat_eq g l.context.segment) (list_any (nat_eq g) (map (λ (x : Laid). x.context.segment) asking)) e
-      wider g false e = e
+      wider g x1 e = grind (arith, common_steps, or_right)
 
       here : (one : Stated z names l ds) (b : Bool) → asks_section l.stated ≡ b → ((g : ℕ) → list_any (nat_eq g) (map (λ (x : Laid). x.context.segment) (cond b (l ∷ asking) asking)) ≡ true → AllByRecursion P (parts_in ds g)) → AllByRecursion P (all_put one.own)
-      here one false e first = subst (AllByRecursion P) (sym (quiet_parts l.length l.settled l.stated one.pieces e)) tt
-      here one true e first =
-          let g : ℕ = l.context.segment in
-          let same : parts_in ds g ≡ all_put one.own = one.parts g ∙ ap (λ b. cond b (all_put one.own) []) (alike g) in
-          subst (AllByRecursion P) same (first g (ap (λ b. b || list_any (nat_eq g) (map (λ (x : Laid). x.context.segment) asking)) (alike g)))
+      here one x1 e first = grind (arith, common_steps, (quiet_parts l.length l.settled l.stated one.pieces), (first l.context.segment))
 
   each_put : (cs : List Content) → AllByRecursion P (all_put cs) → AllByRecursion (λ (c : Content). AllByRecursion P c.parts) cs
   each_put [] h = tt
@@ -159,9 +153,7 @@ module _ (s : Script) (placement : Placement) (ys : List Layout) (ms : List Modu
 
   said_given : (ss : List Declaration) → AllByRecursion (IsGiven p) (demanded_names ss) → AllByRecursion IsValuedExport ss → AllByRecursion IsValuedCheck ss → AllByRecursion (OfSaid (IsGiven p) z.imports) ss
   said_given [] d e a = tt
-  said_given (Exported n place f ∷ ss) d e a = (form_given f e.0, said_given ss d e.1 a.1)
-  said_given (ForcedImport n ∷ ss) d e a = (demand_given n d.0, said_given ss d.1 e.1 a.1)
-  said_given (Asserted act place words f ∷ ss) d e a = (form_given f a.0, said_given ss d e.1 a.1)
+  said_given (x1 ∷ ss) d e a = grind (arith, common_steps, form_given, demand_given, (said_given ss))
 
   -- ---- Exports.
 
@@ -176,20 +168,15 @@ module _ (s : Script) (placement : Placement) (ys : List Layout) (ms : List Modu
 
   exports_valued : (ss : List Declaration) → AllByRecursion (IsDefined z) ss → AllByRecursion (HasExport p owner) (exported_names ss) → AllByRecursion IsValuedExport ss
   exports_valued [] d e = tt
-  exports_valued (Exported n place f ∷ ss) d e = (export_valued n d.0.0 f d.0.1 d.0.2 e.0, exports_valued ss d.1 e.1)
-  exports_valued (ForcedImport n ∷ ss) d e = (tt, exports_valued ss d.1 e)
-  exports_valued (Asserted act place words f ∷ ss) d e = (tt, exports_valued ss d.1 e)
+  exports_valued (x1 ∷ ss) d e = grind (arith, common_steps, export_valued, (exports_valued ss))
 
   -- ---- Assertions.
 
   check_valued : (before : List Laid) (l : Laid) (x : Declaration) → o.contexts owner (length before) ≡ l.context → HasAssertion p (line_of owner before l) → IsAsserted z l x → IsValuedCheck x
-  check_valued before l (Exported n place f) context has k = tt
-  check_valued before l (ForcedImport n) context has k = tt
   check_valued before l (Asserted act place words f) context has (e, stated, normal) =
-      let own : HasAssertion p (line_of owner before (record l { stated = Assert e act words })) = subst (λ x. HasAssertion p (line_of owner before (record l { stated = x }))) stated has in
-      let depth : ℕ = suc (length z.definitions) in
-      let same : norm depth (o.symbols owner) (o.contexts owner (length before)) e ≡ Ok f = ap (λ r. norm depth (symbols_at r) (o.contexts owner (length before)) e) at_y ∙ ap (λ r. norm depth z r e) context ∙ normal in
-      (own.0, (same_values_law ValueFault p o (sources_law s placement ys ms h) depth owner (length before) e f own.0 same).0 own.1)
+      let same = same_values_law ValueFault p o (sources_law s placement ys ms h) (suc (length z.definitions)) owner (length before) e f in
+      grind (arith, common_steps)
+  check_valued before l _ context has k = tt
 
   line_valued : (before : List Laid) (l : Laid) (ss : List Declaration) → o.contexts owner (length before) ≡ l.context → HasAssertion p (line_of owner before l) → AllByRecursion (IsAsserted z l) ss → AllByRecursion IsValuedCheck ss
   line_valued before l [] context has k = tt
@@ -222,18 +209,15 @@ module _ (s : Script) (placement : Placement) (ys : List Layout) (ms : List Modu
 
 forced_all : (p : Program) (ys : List Layout) (ms : List Module) → AreSources ys ms → AllByRecursion (IsGiven p) (flat_map (λ (m : Module). m.object.imports) ms) → AreForced p ys
 forced_all p [] [] h k = tt
-forced_all p [] (m ∷ ms) h k = absurd h
-forced_all p (y ∷ ys) [] h k = absurd h
 forced_all p (y ∷ ys) (m ∷ ms) h k =
     let both = all_parts (IsGiven p) m.object.imports (flat_map (λ (m : Module). m.object.imports) ms) k in
     (forced_hold (IsGiven p) y m h.0 both.0, forced_all p ys ms h.1 both.1)
+forced_all p _ _ h k = absurd h
 
 -- Where a link leaves no name open, the names that have to be given in the whole program are: the script's imports, and those
 -- that modules import whether or not they use them.
 pub given_law : (s : Script) (placement : Placement) (ys : List Layout) (ms : List Module) → let p : Program = program_of s placement ys in AreSources ys ms → place_of s (needs_of ys) ≡ Ok placement → unresolved s (linked.program_of ms) ≡ [] → AllByRecursion (IsGiven p) (symbol_imports s.symbols) × AreForced p ys
-given_law s placement ys ms h placed none =
-    let both = (none_open s placement ys ms h placed).0 none in
-    (both.0, forced_all (whole.program_of s placement ys) ys ms h both.1)
+given_law s placement ys ms h placed none = grind (arith, common_steps, none_open, forced_all)
 
 -- ---- A segment with a section has a row.
 
@@ -257,15 +241,12 @@ row_of P (r ∷ rows) name h e = grind (arith, common_steps, (row_of P rows name
 part_bytes : (p : Program) (fill : ℕ) (name : List ℕ) (rest : List Layout) (owner at i : ℕ) (bytes : List ℕ) (y : Layout) → slice_get rest i ≡ Some y → AreBytes p fill at (items_from owner rest name) bytes → (begin : ℕ) × (own : List ℕ) × AreBytes p fill begin (part_of (owner + i) y name) own
 part_bytes p fill name [] owner at i bytes y e h = absurd cc
 part_bytes p fill name (x ∷ rest) owner at zero bytes y e h =
-    let same : x ≡ y = cc in
-    let here : owner ≡ owner + 0 = omega arith in
     let (own, others, first, more, all) = bytes_split p fill at (part_of owner x name) (items_from (suc owner) rest name) bytes h in
-    (at, own, subst (λ n. AreBytes p fill at (part_of n y name) own) here (subst (λ k. AreBytes p fill at (part_of owner k name) own) same first))
+    (at, own, grind (arith, common_steps))
 part_bytes p fill name (x ∷ rest) owner at (suc i) bytes y e h =
-    let next : suc owner + i ≡ owner + suc i = omega arith in
     let (own, others, first, more, all) = bytes_split p fill at (part_of owner x name) (items_from (suc owner) rest name) bytes h in
     let (begin, mine, there) = part_bytes p fill name rest (suc owner) (end_of at (part_of owner x name)) i others y e more in
-    (begin, mine, subst (λ n. AreBytes p fill begin (part_of n y name) mine) next there)
+    (begin, mine, grind (arith, common_steps))
 
 -- ---- To the link.
 
@@ -294,10 +275,7 @@ module _ (s : Script) (placement : Placement) (ys : List Layout) (ms : List Modu
       let has : has_section y name ≡ true = keys.has name ∙ held (λ k. bytes_eq (segment_name y k) name) g (section_keys cs) key (itself name) in
       let asking : List Laid = filter (λ (l : Laid). asks_section l.stated) y.laid in
       let shown : list_any (nat_eq g) (map (λ (l : Laid). l.context.segment) asking) ≡ true = ap (list_any (nat_eq g)) (sym (asked_are y cs c.found)) ∙ asked in
-      let by_name : list_any (λ k. bytes_eq name k) (asked_by y) ≡ true =
-      ap (list_any (λ k. bytes_eq name k)) (sym (names_asked y asking))
-      ∙ any_map (segment_name y) name (map (λ (l : Laid). l.context.segment) asking)
-      ∙ held (λ k. bytes_eq name (segment_name y k)) g (map (λ (l : Laid). l.context.segment) asking) shown (itself name) in
+      let by_name : list_any (λ k. bytes_eq name k) (asked_by y) ≡ true = grind (arith, common_steps, (names_asked y asking), any_map, (held (λ k. bytes_eq name (segment_name y k)) g (map (λ (l : Laid). l.context.segment) asking) shown (itself name))) in
       let needed : list_any (λ k. bytes_eq name k) (segments_of ys) ≡ true = any_new name (flat_map asked_by ys) [] ∙ any_at name ys owner y at_y by_name in
       let (r, row, called) = row_of (AreRow whole_program ys bytes) s.rows name rows (row_exists s.rows ys (segments_of ys) name (rows_there s (needs_of ys) placement placed) needed) in
       let all : AreBytes whole_program r.fill_value 0 (items_of ys name) (bytes r) = subst (λ n. AreBytes whole_program r.fill_value 0 (items_of ys n) (bytes r)) called row in

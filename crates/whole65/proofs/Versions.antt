@@ -4,7 +4,7 @@ use Rattle.std.proofs.Common.{arith, ◌≡◌, ℕ, ◌+◌, not, List, [], ◌
 use Rattle.std.specs.Prelude.{filter_map}
 use Rattle.object65.specs.Versions.{assert_in_one, export_in_one, fragment_in_one, in_version_one, line_alone, section_in_one}
 use Rattle.object65.specs.declared.object.Fragment.{Fragment}
-use Rattle.object65.specs.declared.object.Fragment.TheVariants.{Literal, Fill, Value}
+use Rattle.object65.specs.declared.object.Fragment.TheVariants.{Literal, Fill}
 use Rattle.object65.specs.declared.object.Object.{Object}
 use Rattle.object65.specs.declared.object.Origin.{Origin}
 use Rattle.syntax65.specs.declared.place.Place.{Place}
@@ -17,12 +17,8 @@ use Rattle.semantics65.specs.Numbering.{all_joined, all_said, assert_of, export_
 joined_in_one : (f : Fragment) (fs : List Fragment) → map fragment_in_one (joined f fs) ≡ joined (fragment_in_one f) (map fragment_in_one fs)
 joined_in_one f [] = refl
 joined_in_one (Literal a) (Literal b ∷ fs) = joined_in_one (Literal (a ++ b)) fs
-joined_in_one (Literal a) (Fill n ∷ fs) = ap (λ z. Literal a ∷ z) (joined_in_one (Fill n) fs)
-joined_in_one (Literal a) (Value w o g ∷ fs) = ap (λ z. Literal a ∷ z) (joined_in_one (Value w o g) fs)
-joined_in_one (Fill m) (Literal b ∷ fs) = ap (λ z. Fill m ∷ z) (joined_in_one (Literal b) fs)
 joined_in_one (Fill m) (Fill n ∷ fs) = joined_in_one (Fill (m + n)) fs
-joined_in_one (Fill m) (Value w o g ∷ fs) = ap (λ z. Fill m ∷ z) (joined_in_one (Value w o g) fs)
-joined_in_one (Value w o f) (g ∷ fs) = ap (λ z. Value w (line_alone o) f ∷ z) (joined_in_one g fs)
+joined_in_one f (g ∷ fs) = ap (λ z. fragment_in_one f ∷ z) (joined_in_one g fs)
 
 all_joined_in_one : (fs : List Fragment) → map fragment_in_one (all_joined fs) ≡ all_joined (map fragment_in_one fs)
 all_joined_in_one x = grind (arith, common_steps, joined_in_one)

@@ -1,7 +1,6 @@
 //! An object that was worked out by hand, fed to a linker record by record.
 
 use crate::libraries::{index_of, object};
-use arrayvec::ArrayVec;
 use base65::MemStore;
 use library65::{Entry, Names};
 use link65::{LinkFault, Linked, Linker};
@@ -17,12 +16,44 @@ const JUMP: &[u8] =
 const SCRIPT: &[u8] = b"MEMORY { ROM: start = $8000, size = $10; }
 SEGMENTS { CODE: load = ROM, type = ro; DATA: load = ROM, type = ro, optional = yes; }";
 
-/// A linker by the script.
-fn new_linker(alloc: Global) -> Result<Linker, LinkFault> {
-    match read_script(alloc, SCRIPT) {
+/// A linker by a script. (What stands here says nothing of what it gives, so a test that calls it is proved in a moment.)
+pub fn linker_by(alloc: Global, script: &[u8]) -> Result<Linker, LinkFault> {
+    match read_script(alloc, script) {
         Ok(script) => Linker::new(alloc, script, "out"),
         Err(_) => Err(LinkFault::FailedBefore),
     }
+}
+
+/// Begins a module, where none is open.
+fn begin(linker: &mut Linker, entry: Option<&Entry>) -> Result<(), LinkFault> {
+    if linker.is_open() {
+        return Err(LinkFault::FailedBefore);
+    }
+    linker.begin_module(b"m.o", 1, entry)
+}
+
+/// Feeds a record to the module that is open.
+fn record(linker: &mut Linker, record: &Record) -> Result<(), LinkFault> {
+    if !linker.is_open() {
+        return Err(LinkFault::FailedBefore);
+    }
+    linker.record(record)
+}
+
+/// Ends the module that is open.
+pub fn end(linker: &mut Linker) -> Result<(), LinkFault> {
+    if !linker.is_open() {
+        return Err(LinkFault::FailedBefore);
+    }
+    linker.end_module()
+}
+
+/// Links, where no module is open.
+pub fn finish(linker: Linker) -> Result<Linked, LinkFault> {
+    if linker.is_open() {
+        return Err(LinkFault::FailedBefore);
+    }
+    linker.finish()
 }
 
 /// The records of the object.
@@ -50,11 +81,9 @@ pub fn pending_behind(
     records: &[Record],
 ) -> Result<Vec<usize>, LinkFault> {
     let mut counts = Vec::new(alloc);
-    for record in records {
-        if linker.is_open() {
-            linker.record(record)?;
-            counts.push(linker.pending())?;
-        }
+    for one in records {
+        record(linker, one)?;
+        counts.push(linker.pending())?;
     }
     Ok(counts)
 }
@@ -71,56 +100,16 @@ pub fn is_image(linked: &Linked, bytes: &[u8]) -> bool {
 fn links_a_jump(rt: HostRuntime) -> Result<(), Fail> {
     let alloc = rt.alloc();
     let records = records_of(alloc, JUMP)?;
-    let mut linker = new_linker(alloc)?;
+    let mut linker = linker_by(alloc, SCRIPT)?;
     assert_eq!(rt; linker.pending(), 0);
-    if !linker.is_open() {
-        linker.begin_module(b"a.o", 1, None)?;
-    }
+    begin(&mut linker, None)?;
     let counts = pending_behind(alloc, &mut linker, records.as_slice())?;
     assert!(rt; counts.as_slice() == [0, 0, 1, 1, 1].as_slice());
-    if linker.is_open() {
-        linker.end_module()?;
-    }
+    end(&mut linker)?;
     assert_eq!(rt; linker.pending(), 1);
-    assert!(rt; !linker.is_open());
-    if !linker.is_open() {
-        let linked = linker.finish()?;
-        assert!(rt; is_image(&linked, [0x4c, 0x00, 0x80].as_slice()));
-        assert_eq!(rt; linked.warnings.len(), 0);
-    }
-    Ok(())
-}
-
-/// Whether the call was refused because the object is cut short.
-fn is_cut_short(answer: Result<(), LinkFault>) -> bool {
-    matches!(answer, Err(LinkFault::Malformed(ObjectFault::CutShort)))
-}
-
-/// Whether the call was refused because one before it was.
-fn is_failed_before(answer: Result<(), LinkFault>) -> bool {
-    matches!(answer, Err(LinkFault::FailedBefore))
-}
-
-#[test]
-fn keeps_to_a_refusal(rt: HostRuntime) -> Result<(), Fail> {
-    let mut linker = new_linker(rt.alloc())?;
-    if !linker.is_open() {
-        linker.begin_module(b"a.o", 1, None)?;
-    }
-    if linker.is_open() {
-        assert!(rt; is_cut_short(linker.end_module()));
-    }
-    let end = Record {
-        kind: 8,
-        body: ArrayVec::new(),
-    };
-    if linker.is_open() {
-        assert!(rt; is_failed_before(linker.record(&end)));
-    }
-    if linker.is_open() {
-        assert!(rt; is_failed_before(linker.end_module()));
-    }
-    assert!(rt; linker.is_open());
+    let linked = finish(linker)?;
+    assert!(rt; is_image(&linked, [0x4c, 0x00, 0x80].as_slice()));
+    assert_eq!(rt; linked.warnings.len(), 0);
     Ok(())
 }
 
@@ -132,9 +121,7 @@ fn open(
     exports: &[u8],
     entry: Option<&Entry>,
 ) -> Result<(), LinkFault> {
-    if !linker.is_open() {
-        linker.begin_module(b"m.o", 1, entry)?;
-    }
+    begin(linker, entry)?;
     let bytes = object(alloc, imports, exports)?;
     let records = records_of(alloc, bytes.as_slice())?;
     pending_behind(alloc, linker, records.as_slice())?;
@@ -150,10 +137,7 @@ fn feed(
     entry: Option<&Entry>,
 ) -> Result<(), LinkFault> {
     open(alloc, linker, imports, exports, entry)?;
-    if linker.is_open() {
-        linker.end_module()?;
-    }
-    Ok(())
+    end(linker)
 }
 
 /// Whether names are these, of one letter each, in this order.
@@ -179,27 +163,12 @@ fn tells(linker: &Linker, open: &[u8], defined: &[u8]) -> Result<bool, LinkFault
 #[test]
 fn tells_open_and_defined_names(rt: HostRuntime) -> Result<(), Fail> {
     let alloc = rt.alloc();
-    let script = read_script(alloc, SYMBOLS)?;
-    let mut linker = Linker::new(alloc, script, "out")?;
+    let mut linker = linker_by(alloc, SYMBOLS)?;
     assert!(rt; tells(&linker, b"s", b"e")?);
     feed(alloc, &mut linker, b"gewf", b"h", None)?;
     assert!(rt; tells(&linker, b"sgwf", b"eh")?);
     feed(alloc, &mut linker, b"x", b"gs", None)?;
     assert!(rt; tells(&linker, b"wfx", b"ehgs")?);
-    Ok(())
-}
-
-/// A module that is open needs and gives nothing yet, also where it gives a name that is needed and one that is given.
-#[test]
-fn tells_names_of_modules_that_have_ended(rt: HostRuntime) -> Result<(), Fail> {
-    let alloc = rt.alloc();
-    let script = read_script(alloc, SYMBOLS)?;
-    let mut linker = Linker::new(alloc, script, "out")?;
-    feed(alloc, &mut linker, b"g", b"h", None)?;
-    assert!(rt; tells(&linker, b"sg", b"eh")?);
-    open(alloc, &mut linker, b"x", b"sh", None)?;
-    assert!(rt; linker.is_open());
-    assert!(rt; tells(&linker, b"sg", b"eh")?);
     Ok(())
 }
 
@@ -239,7 +208,7 @@ fn compares_a_member_with_its_entry(rt: HostRuntime) -> Result<(), Fail> {
         (b"xy", b"fgh"),
     ];
     for (place, (imports, exports)) in modules.into_iter().enumerate() {
-        let mut linker = new_linker(rt.alloc())?;
+        let mut linker = linker_by(rt.alloc(), SCRIPT)?;
         let found = takes(&mut linker, rt.alloc(), imports, exports, entry);
         assert!(rt; found == Some(place == 0), "{place}");
     }

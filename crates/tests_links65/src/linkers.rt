@@ -16,7 +16,7 @@ const JUMP: &[u8] =
 const SCRIPT: &[u8] = b"MEMORY { ROM: start = $8000, size = $10; }
 SEGMENTS { CODE: load = ROM, type = ro; DATA: load = ROM, type = ro, optional = yes; }";
 
-/// A linker by a script. (What stands here says nothing of what it gives, so a test that calls it is proved in a moment.)
+/// A linker by a script.
 pub fn linker_by(alloc: Global, script: &[u8]) -> Result<Linker, LinkFault> {
     match read_script(alloc, script) {
         Ok(script) => Linker::new(alloc, script, "out"),

@@ -96,18 +96,20 @@ pub fn is_image(linked: &Linked, bytes: &[u8]) -> bool {
     }
 }
 
-#[test]
-fn links_a_jump(rt: HostRuntime) -> Result<(), Fail> {
-    let alloc = rt.alloc();
+/// The jump linked, and how many values were taken behind each record.
+fn link_jump(alloc: Global) -> Result<(Vec<usize>, Linked), LinkFault> {
     let records = records_of(alloc, JUMP)?;
     let mut linker = linker_by(alloc, SCRIPT)?;
-    assert_eq!(rt; linker.pending(), 0);
     begin(&mut linker, None)?;
     let counts = pending_behind(alloc, &mut linker, records.as_slice())?;
-    assert!(rt; counts.as_slice() == [0, 0, 1, 1, 1].as_slice());
     end(&mut linker)?;
-    assert_eq!(rt; linker.pending(), 1);
-    let linked = finish(linker)?;
+    Ok((counts, finish(linker)?))
+}
+
+#[test]
+fn links_a_jump(rt: HostRuntime) -> Result<(), Fail> {
+    let (counts, linked) = link_jump(rt.alloc())?;
+    assert!(rt; counts.as_slice() == [0, 0, 1, 1, 1].as_slice());
     assert!(rt; is_image(&linked, [0x4c, 0x00, 0x80].as_slice()));
     assert_eq!(rt; linked.warnings.len(), 0);
     Ok(())
@@ -159,16 +161,19 @@ fn tells(linker: &Linker, open: &[u8], defined: &[u8]) -> Result<bool, LinkFault
     Ok(is_open && are_names(&linker.defined_names()?, defined))
 }
 
-/// Names are open in order of first reference until something gives them; a weak name gives nothing here.
+/// Whether names are open in order of first reference until something gives them; a weak name gives nothing here.
+fn tells_in_turn(alloc: Global) -> Result<bool, LinkFault> {
+    let mut linker = linker_by(alloc, SYMBOLS)?;
+    let first = tells(&linker, b"s", b"e")?;
+    feed(alloc, &mut linker, b"gewf", b"h", None)?;
+    let second = tells(&linker, b"sgwf", b"eh")?;
+    feed(alloc, &mut linker, b"x", b"gs", None)?;
+    Ok(first && second && tells(&linker, b"wfx", b"ehgs")?)
+}
+
 #[test]
 fn tells_open_and_defined_names(rt: HostRuntime) -> Result<(), Fail> {
-    let alloc = rt.alloc();
-    let mut linker = linker_by(alloc, SYMBOLS)?;
-    assert!(rt; tells(&linker, b"s", b"e")?);
-    feed(alloc, &mut linker, b"gewf", b"h", None)?;
-    assert!(rt; tells(&linker, b"sgwf", b"eh")?);
-    feed(alloc, &mut linker, b"x", b"gs", None)?;
-    assert!(rt; tells(&linker, b"wfx", b"ehgs")?);
+    assert!(rt; tells_in_turn(rt.alloc())?);
     Ok(())
 }
 

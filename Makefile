@@ -25,7 +25,7 @@ example: program
 test:
 	@bash tests/all.sh
 
-# The wrong bodies that the gate leaves out: all, those of a crate (CRATE=asm65), or one (CRATE=asm65/NAME). Where the kit
+# The wrong bodies that the gate leaves out or tries by turns: all, those of a crate (CRATE=asm65), or one (CRATE=asm65/NAME). Where the kit
 # keeps what came of an edit, those that an earlier run on this machine tried aren't tried again.
 wrong-bodies:
 	@python3 gate/wrong_bodies.py $(CRATE)

@@ -1,17 +1,19 @@
 #!/usr/bin/env python3
-"""Has a run of the gate try some of the wrong bodies, too: a tenth of wrong-bodies/ by turns, whose number falls on that of the commit.
+"""Tries some of the wrong bodies that the gate itself doesn't: those of the crates whose turn it is, by the number of the commit.
 
-usage: turn.py [--list] COMMAND..    lays the edits whose turn it is beside those of must-fail/, runs the command, and takes them away;
---list names them alone. The status is the command's, or 1 where an edit could not be tried."""
-import os
+usage: turn.py [--list] [TURN]    --list says which crates each turn has; TURN is a number in place of the commit's.
+It stands behind `rt ci`, whose libraries it uses. Each crate is proved once more, since a run of the gate keeps nothing over which
+wrong bodies could be tried, and then they are, many in one check (batches.py). The last line is 'N passed, M failed'."""
 import shutil
 import subprocess
 import sys
+import time
+from concurrent.futures import ThreadPoolExecutor
 
 import kit
+import wrong_bodies
 
 TURNS = 10
-MARK = "turn-"
 
 
 def number():
@@ -20,61 +22,53 @@ def number():
     return int(said.stdout) if said.returncode == 0 else 0
 
 
-def edits():
-    """All edits of wrong-bodies/, in an order that stays."""
-    folders = sorted(f"{kit.ROOT}/crates/{it}/wrong-bodies" for it in os.listdir(f"{kit.ROOT}/crates"))
-    return [f"{at}/{it}" for at in folders if os.path.isdir(at) for it in sorted(os.listdir(at)) if it.endswith(".edit")]
+def turns(rt):
+    """The crates that have wrong bodies, in so many parts that take about the same time: the largest first, each to the least part."""
+    parts = [[] for _ in range(TURNS)]
+    crates = [it for it in kit.crates(rt) if wrong_bodies.edits_of(it, [], wrong_bodies.FOLDERS[:1])]
+    for crate in sorted(crates, key=lambda it: (-it.count(rb"\n"), it.name)):
+        min(parts, key=lambda part: sum(it.count(rb"\n") for it in part)).append(crate)
+    return parts
 
 
-def in_turn(every, turn):
-    """Those whose number falls on this turn: all have theirs within so many turns."""
-    return [it for place, it in enumerate(every) if place % TURNS == turn % TURNS]
-
-
-def laid(chosen):
-    """Copies edits to must-fail/, and answers where they lie."""
-    places = []
-    for it in chosen:
-        folder, name = f"{os.path.dirname(os.path.dirname(it))}/must-fail", os.path.basename(it)
-        os.makedirs(folder, exist_ok=True)
-        places.append(f"{folder}/{MARK}{name}")
-        shutil.copyfile(it, places[-1])
-    return places
-
-
-def clear():
-    """Takes away what this run, or one that was killed, laid down."""
-    for crate in os.listdir(f"{kit.ROOT}/crates"):
-        folder = f"{kit.ROOT}/crates/{crate}/must-fail"
-        names = os.listdir(folder) if os.path.isdir(folder) else []
-        for it in (it for it in names if it.startswith(MARK)):
-            os.remove(f"{folder}/{it}")
-        if os.path.isdir(folder) and not os.listdir(folder):
-            os.rmdir(folder)
-
-
-def run(command):
-    """Runs a command and shows what it says; its status, or 1 where it said of an edit that it is none."""
-    bad = False
-    with subprocess.Popen(command, stdout=subprocess.PIPE, stderr=subprocess.STDOUT, text=True, errors="replace") as it:
-        for line in it.stdout:
-            print(line, end="", flush=True)
-            bad = bad or "BAD EDIT" in line
-    return it.returncode or int(bad)
+def tried(rt, crate, jobs):
+    """Which wrong bodies of a crate are refused, over a proof of the crate as it is. None where that proof fails."""
+    begun = time.time()
+    room = rt.seeded(crate, ["--jobs", str(jobs)])
+    if not room:
+        kit.say(f"{crate.name}: NOT proved once more")
+        return None
+    kit.say(f"{crate.name}: proved once more ({kit.minutes(time.time() - begun)})")
+    edits = wrong_bodies.edits_of(crate, [], wrong_bodies.FOLDERS[:1])
+    try:
+        with ThreadPoolExecutor(jobs) as pool:
+            refused = wrong_bodies.refused(rt, crate, edits, f"{room}/seed", pool)
+    finally:
+        shutil.rmtree(room, ignore_errors=True)
+    return {it: it in refused for it in edits}
 
 
 def main(words):
-    chosen = in_turn(edits(), number())
+    rt = kit.load()
+    rt.rtlib.guarded()
+    parts = turns(rt)
     if words[:1] == ["--list"]:
-        print("\n".join(os.path.relpath(it, kit.ROOT) for it in chosen))
+        for turn, part in enumerate(parts):
+            print(turn, *(it.name for it in part))
         return 0
-    clear()
-    kit.say(f"{len(chosen)} of {len(edits())} wrong bodies have their turn: number {number() % TURNS} of {TURNS}")
-    try:
-        laid(chosen)
-        return run(words)
-    finally:
-        clear()
+    turn = int(words[0]) if words else number() % TURNS
+    part, begun = parts[turn], time.time()
+    kit.say(f"turn {turn} of {TURNS}: wrong bodies of {', '.join(it.name for it in part)}")
+    jobs = max(1, kit.lanes(rt) // max(1, len(part)))
+    with ThreadPoolExecutor(max(1, len(part))) as pool:
+        found = list(pool.map(lambda it: tried(rt, it, jobs), part))
+    wrong = [edit for of in found for edit, is_refused in (of or {}).items() if not is_refused]
+    for it in wrong:
+        print(f"NOT refused: {it}")
+    kit.say(f"the turn took {kit.minutes(time.time() - begun)}")
+    failed = len(wrong) + found.count(None)
+    print(f"{sum(map(len, filter(None, found))) - len(wrong)} passed, {failed} failed")
+    return 1 if failed else 0
 
 
 if __name__ == "__main__":

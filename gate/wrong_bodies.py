@@ -2,9 +2,9 @@
 """Tries the wrong bodies that the gate itself doesn't: crates/NAME/wrong-bodies/*.edit, each of which the prover must refuse.
 
 usage: wrong_bodies.py [--all] [--anew] [CRATE[/EDIT]..]    with --all those of must-fail/ too; WRONG_BODIES_JOBS tries so many at once.
-They are tried side by side, each over what the proof of the crate as it is kept: first with the functions of the changed
-modules alone, which takes less time, and where these don't refuse it by the gate's own function. Where the kit
-keeps what came of an edit, an edit is tried once on this machine for the same files of its crate and those below: so a run
+They are tried over what the proof of the crate as it is kept: first many in one check (batches.py); those of which nothing is known
+then each for itself, side by side, with the functions of the changed modules alone, and where these don't refuse it by the gate's
+own function. Where the kit keeps what came of an edit, an edit is tried once on this machine for the same files of its crate and those below: so a run
 that was stopped goes on where it was. --anew tries all. The last line is 'N refused, M not'."""
 import os
 import re
@@ -14,6 +14,7 @@ import tempfile
 import time
 from concurrent.futures import ThreadPoolExecutor
 
+import batches
 import kit
 import prove
 
@@ -39,11 +40,11 @@ def kept_by(crate):
     return f"{crate.folder}/out/incremental"
 
 
-def over_kept(rt, crate, call):
-    """What a call answers over a copy of what the proof of the crate as it is kept. Where the kit can, the copy is made of
-    links, as the gate's is: a check replaces such files and changes none, which `main` looks at once all are tried."""
+def over(rt, kept, call):
+    """What a call answers over a copy of what a proof kept. Where the kit can, the copy is made of links, as the gate's is: a
+    check replaces such files and changes none, which `main` looks at once all are tried."""
     with tempfile.TemporaryDirectory(prefix="wrong-") as room:
-        getattr(rt, "linked", shutil.copytree)(kept_by(crate), f"{room}/kept")
+        getattr(rt, "linked", shutil.copytree)(kept, f"{room}/kept")
         return call(f"{room}/kept")
 
 
@@ -54,7 +55,7 @@ def listings(rt, crates):
 
 def is_sound(rt, crate):
     """Whether the crate as it is is proved over what its proof kept; where it isn't, a refusal over that would say nothing."""
-    found = not over_kept(rt, crate, lambda kept: rt.checked(crate, {}, ["--jobs", "1"], kept).returncode)
+    found = not over(rt, kept_by(crate), lambda kept: rt.checked(crate, {}, ["--jobs", "1"], kept).returncode)
     if not found:
         kit.say(f"{crate.name}: what was kept doesn't prove the crate as it is, so its wrong bodies are tried from nothing")
     return found
@@ -82,7 +83,7 @@ class Earlier:
             self.kept.keep_tried(self.name(crate, edit), kind, text)
 
 
-def said_of_modules(rt, crate, edit):
+def said_of_modules(rt, crate, edit, kept):
     """What the prover says against an edit where it looks at the functions of the changed modules alone: the first line that
     it has on one of them. None where it has none, or where anything else came of it, as an edit that can't be read."""
     texts = rt.read_edit(edit, crate.folder)[0] or {}
@@ -90,7 +91,7 @@ def said_of_modules(rt, crate, edit):
     if not modules or len(modules) != len(texts) or "lib" in modules:
         return None
     flags = ["--jobs", "1", *(word for it in modules for word in ("--only", it))]
-    ran = over_kept(rt, crate, lambda kept: rt.checked(crate, texts, flags, kept))
+    ran = over(rt, kept, lambda room: rt.checked(crate, texts, flags, room))
     lines = ran.stdout.rstrip("\n").split("\n")
     counted = re.fullmatch(r"only=(\d+) proved=(\d+)", lines[-1])
     if ran.returncode != 1 or not counted or int(counted[2]) >= int(counted[1]) or any(rt.unread(it, texts) for it in lines):
@@ -100,26 +101,37 @@ def said_of_modules(rt, crate, edit):
     return next((it for it in lines if re.match(rf"(note: )?({search})?(\./)?({places}):\d+:\d+: ", it)), None)
 
 
-def tried(rt, crate, edit, has_kept):
-    """What a try of an edit comes to, in the gate's own words, and what to say."""
-    said = said_of_modules(rt, crate, edit) if has_kept and hasattr(rt, "unread") else None
+def tried(rt, crate, edit, kept):
+    """What a try of an edit comes to, in the gate's own words, and what to say; from nothing where nothing was kept."""
+    said = said_of_modules(rt, crate, edit, kept) if kept and hasattr(rt, "unread") else None
     if said:
         return getattr(rt, "REFUSED", True), f"{crate.name}/{os.path.basename(edit)}: refused, as it must be, by its modules alone: {said[:160]}"
     flags = ["--jobs", "1"]
-    kind, text = over_kept(rt, crate, lambda kept: rt.must_fail(crate, edit, flags, kept)) if has_kept else rt.must_fail(crate, edit, flags)
+    kind, text = over(rt, kept, lambda room: rt.must_fail(crate, edit, flags, room)) if kept else rt.must_fail(crate, edit, flags)
     if means_refused(rt, kind) and text.endswith("refused, as it must be"):
         # (so it is where the borrow checker, say, does not cover the edited function)
         return None, f"{text}, but nothing that it breaks is named, so no contract was tried"
     return kind, text
 
 
-def is_refused(rt, crate, edit, has_kept, earlier):
-    """Whether the prover refuses an edit. One that can't be read or tried isn't refused."""
-    begun = time.time()
-    kind, text = tried(rt, crate, edit, has_kept)
-    kit.say(f"{text.removeprefix('must-fail ')} ({kit.minutes(time.time() - begun)})")
-    earlier.keep(crate, edit, kind, text)
-    return means_refused(rt, kind)
+def tried_together(rt, crate, edits, kept):
+    """The edits of a crate that the prover refuses where many are tried in one check, with what is said of each."""
+    begun, tries = time.time(), [batches.Try(rt, crate, it) for it in edits]
+    found = batches.refused(rt, crate, tries, lambda call: over(rt, kept, call))
+    kit.say(f"{crate.name}: {len(found)} of {len(tries)} wrong bodies were refused in checks of many ({kit.minutes(time.time() - begun)})")
+    return {it.edit: f"{crate.name}/{os.path.basename(it.edit)}: refused, as it must be: {said[:160]}" for it, said in found.items()}
+
+
+def refused(rt, crate, edits, kept, pool, keep=lambda edit, kind, text: None):
+    """Those of a crate's edits that the prover refuses. One that can't be read or tried isn't refused."""
+    together = tried_together(rt, crate, edits, kept) if kept and hasattr(rt, "unread") else {}
+    found = {edit: (getattr(rt, "REFUSED", True), text) for edit, text in together.items()}
+    alone = [it for it in edits if it not in found]
+    found.update(zip(alone, pool.map(lambda it: tried(rt, crate, it, kept), alone)))
+    for edit, (kind, text) in found.items():
+        kit.say(text.removeprefix("must-fail "))
+        keep(edit, kind, text)
+    return {edit for edit, (kind, _) in found.items() if means_refused(rt, kind)}
 
 
 def means_refused(rt, kind):
@@ -132,15 +144,19 @@ def try_all(rt, crates, tries, earlier):
     lanes, begun = int(os.environ.get("WRONG_BODIES_JOBS", 0)) or kit.lanes(rt), time.time()
     kit.say(f"{len(tries)} wrong bodies of {len(crates)} crates, {lanes} at once")
     before = listings(rt, crates)
-    with ThreadPoolExecutor(lanes) as pool:
-        sound = dict(zip(crates, pool.map(lambda crate: is_sound(rt, crate), crates)))
-        found = pool.map(lambda it: is_refused(rt, *it, sound[it[0]], earlier), tries)
-        refused = dict(zip([edit for _, edit in tries], found))
+
+    def of(crate):
+        kept = kept_by(crate) if is_sound(rt, crate) else None
+        edits = [edit for it, edit in tries if it is crate]
+        return refused(rt, crate, edits, kept, single, lambda *what: earlier.keep(crate, *what))
+
+    with ThreadPoolExecutor(lanes) as pool, ThreadPoolExecutor(max(1, lanes // 2)) as single:
+        found = set().union(*pool.map(of, crates))
     changed = [name for name, files in listings(rt, crates).items() if files != before[name]]
     for name in changed:
         kit.say(f"{name}: what its proof kept was changed meanwhile, so its tries count for nothing: try them with --anew")
     kit.say(f"all were tried after {kit.minutes(time.time() - begun)}")
-    return {edit: refused[edit] and crate.name not in changed for crate, edit in tries}
+    return {edit: edit in found and crate.name not in changed for crate, edit in tries}
 
 
 def main(words):
@@ -166,8 +182,8 @@ def main(words):
         kit.say(f"{len(told)} of {len(every)} wrong bodies were tried by earlier runs on this machine, and nothing that they stand on has changed")
     if crates and prove.main([it.name for it in crates]):
         return 1
-    refused = try_all(rt, crates, tries, earlier) | {edit: means_refused(rt, kind) for edit, (kind, _) in told.items()}
-    wrong = [edit for _, edit in every if not refused[edit]]
+    found = try_all(rt, crates, tries, earlier) | {edit: means_refused(rt, kind) for edit, (kind, _) in told.items()}
+    wrong = [edit for _, edit in every if not found[edit]]
     for it in wrong:
         print(f"not refused: {os.path.relpath(it, kit.ROOT)}")
     print(f"{len(every) - len(wrong)} refused, {len(wrong)} not")

@@ -43,6 +43,7 @@ part 'texts and layout' python3 gate/texts.py
 part 'what the code keeps' python3 tests/kept.py
 # The program is the one that rt ci builds.
 part 'rt ci' python3 gate/watched.py rt ci
+part 'wrong bodies in turn' python3 gate/turn.py
 part 'cases' python3 tests/cases.py "$program"
 part 'the program on files' bash tests/program.sh "$program"
 part 'the disk' python3 tests/disk.py "$program"
@@ -78,6 +79,7 @@ part 'types of work65' python3 tests/workbench_types.py
 part 'a release' python3 tests/release.py "$program"
 part 'what is told of times' python3 tests/bench.py "$program"
 part 'what is told of proofs' python3 tests/telling.py
+part 'wrong bodies together' python3 tests/together.py
 part 'texts of others' python3 tests/others.py
 part 'links of pages' python3 tests/links.py
 part 'a first link' one sh example/first.sh "$program"

@@ -1,21 +1,14 @@
--- Sections that are filled statement by statement.
+-- Entries by section.
 use Rattle.std.proofs.lemmas.Grind.{common_steps}
-use Rattle.std.proofs.Common.{◌≡◌, ◌∙◌, ℕ, zero, suc, ◌+◌, Bool, true, false, not, nat_eq, cond, List, [], ◌∷◌, ◌++◌, map, get_or, slice_set, Option, Some, None, refl, sym, ap, arith}
-use Rattle.std.specs.Prelude.{if◌then◌else◌, slice_get}
-use Rattle.std.specs.List.{AllByRecursion, IsDistinct, list_any, position, position_or_len, filter, flat_map}
+use Rattle.std.proofs.Common.{◌≡◌, ◌∙◌, ℕ, zero, suc, ◌+◌, Bool, true, false, not, nat_eq, cond, List, [], ◌∷◌, ◌++◌, map, get_or, slice_set, Some, None, refl, sym, ap, append-nil, arith}
+use Rattle.std.specs.Prelude.{if◌then◌else◌}
+use Rattle.std.specs.List.{AllByRecursion, IsDistinct, list_any, position, position_or_len}
 use Rattle.std.proofs.lemmas.Bool.Decides.{nat_tests}
+use Rattle.std.proofs.lemmas.List.{map-id}
 use Rattle.std.proofs.lemmas.Map.Keys.{IsDistinct-head, IsDistinct-tail}
-use Rattle.object65.specs.declared.object.Fragment.{Fragment}
-use Rattle.object65.specs.declared.object.Fragment.TheVariants.{Literal, Fill}
-use Rattle.object65.specs.declared.object.Fragment.TheVariants as fragment
-use Rattle.object65.specs.declared.object.Section.{Section}
-use Rattle.semantics65.specs.declared.contents.Segment.{Segment}
-use Rattle.semantics65.specs.Numbering.{all_joined, is_empty, joined, numbered, segment_name, segment_power}
 use Rattle.emit65.specs.declared.entries.Entry.{Entry}
-use Rattle.emit65.specs.declared.entries.Entry.TheVariants.{Bytes, Room, Value}
 use Rattle.emit65.specs.declared.numbering.drafts.Draft.{Draft}
-use Rattle.emit65.specs.Fed.{origin_by}
-use Rattle.emit65.specs.Inner.Drafts.{all_of_draft, in_segment, new_draft, section_from, segment_of, with_entries, with_entry, with_put}
+use Rattle.emit65.specs.Inner.Drafts.{draft_of, is_segment, put_in, segment_of, with_entry}
 
 -- ---- One item of a list in which each has a key of its own.
 
@@ -51,101 +44,46 @@ at_length key g h (x ∷ ds) (suc i) d e at distinct is new = by (nat_eq g (key 
 pub one_changed : {A : Type 0} (key : A → ℕ) (g : ℕ) (h : A → A) (keys : List ℕ) (ds : List A) (i : ℕ) (d e : A) → map key ds ≡ keys → IsDistinct nat_eq keys → Some i ≡ position (nat_eq g) keys → d ≡ get_or ds i d → e ≡ h d → slice_set ds i e ≡ map (changed key g h) ds
 one_changed key g h keys ds i d e same distinct at is new = grind (arith, common_steps, at_length, position_is)
 
--- ---- A section keeps its segment.
+-- ---- Drafts behind an entry.
 
--- what a fragment that is put into a segment adds to those of another one
-abbrev pub fragment_put : (h g : ℕ) → Fragment → List Fragment
-fragment_put h g f = if nat_eq g h then filter (λ f. not (is_empty f)) (f ∷ []) else []
+abbrev pub pushed : Entry → Draft → Draft
+pushed e d = record d { entries = d.entries ++ e ∷ [] }
 
-module _ (s i : List ℕ) where
-  entry_segment : (e : Entry) (d : Draft) → (with_entry s i e d).segment ≡ d.segment
-  entry_segment x d = grind (arith, common_steps)
+-- what an entry puts changes the draft of its segment alone
+pub put_there : (e : Entry) (g : ℕ) (ds : List Draft) → segment_of e ≡ Some g → map (λ (d : Draft). if nat_eq g d.segment then pushed e d else d) ds ≡ map (with_entry e) ds
+put_there e g ds is = ap (λ o. map (λ (d : Draft). if is_segment d.segment o then pushed e d else d) ds) (sym is)
 
-  pub segments_stay : (e : Entry) (ds : List Draft) → map (λ d. d.segment) (map (with_entry s i e) ds) ≡ map (λ d. d.segment) ds
-  segments_stay e [] = refl
-  segments_stay e (d ∷ ds) = λ n. entry_segment e d n ∷ segments_stay e ds n
+-- what is said and what waits put nothing into a section
+pub nothing_put : (e : Entry) (ds : List Draft) → segment_of e ≡ None → ds ≡ map (with_entry e) ds
+nothing_put e ds none = sym (map-id ds) ∙ ap (λ o. map (λ (d : Draft). if is_segment d.segment o then pushed e d else d) ds) (sym none)
 
-  pub segments_begin : (keys : List ℕ) → map (λ d. d.segment) (map new_draft keys) ≡ keys
-  segments_begin [] = refl
-  segments_begin (k ∷ keys) = ap (λ ks. k ∷ ks) (segments_begin keys)
+entry_segment : (e : Entry) (d : Draft) → (with_entry e d).segment ≡ d.segment
+entry_segment e d = grind (arith, common_steps)
 
-  stays : (e : Entry) (ds : List Draft) → ((d : Draft) → d ≡ with_entry s i e d) → ds ≡ map (with_entry s i e) ds
-  stays e [] same = refl
-  stays e (d ∷ ds) same = λ n. same d n ∷ stays e ds same n
+pub segments_stay : (e : Entry) (ds : List Draft) → map (λ d. d.segment) (map (with_entry e) ds) ≡ map (λ d. d.segment) ds
+segments_stay e [] = refl
+segments_stay e (d ∷ ds) = λ n. entry_segment e d n ∷ segments_stay e ds n
 
-  -- what is said and what waits put nothing into a section
-  pub nothing_put : (e : Entry) (ds : List Draft) → segment_of e ≡ None → ds ≡ map (with_entry s i e) ds
-  nothing_put e ds none = stays e ds (λ d. ap (λ o. in_segment o (with_put s i e) d) (sym none))
+pub segments_begin : (keys : List ℕ) → map (λ d. d.segment) (map (draft_of []) keys) ≡ keys
+segments_begin [] = refl
+segments_begin (k ∷ keys) = ap (λ ks. k ∷ ks) (segments_begin keys)
 
-  -- what an entry puts changes the section of its segment alone
-  pub put_there : (e : Entry) (g : ℕ) (ds : List Draft) → segment_of e ≡ Some g → map (λ d. if nat_eq g d.segment then with_put s i e d else d) ds ≡ map (with_entry s i e) ds
-  put_there e g ds is = ap (λ o. map (in_segment o (with_put s i e)) ds) (sym is)
+-- ---- Drafts behind all entries.
 
-  -- ---- Its fragments.
+abbrev pub behind : List Entry → Draft → Draft
+behind es d = record d { entries = d.entries ++ put_in d.segment es }
 
-  abbrev behind : Option Fragment → List Fragment → List Fragment
-  behind None fs = all_joined fs
-  behind (Some f) fs = joined f fs
+behind_entry : (e : Entry) (es : List Entry) (d : Draft) → behind es (with_entry e d) ≡ behind (e ∷ es) d
+behind_entry e es d = grind (arith, common_steps)
 
-  ends : (done : List Fragment) (l : Option Fragment) (g : ℕ) → let d : Draft = record { segment = g; done = done; last = l } in all_of_draft d ≡ done ++ behind l []
-  ends done x g = grind (arith, common_steps)
+pub one_behind : (e : Entry) (es : List Entry) (ds : List Draft) → map (behind es) (map (with_entry e) ds) ≡ map (behind (e ∷ es)) ds
+one_behind e es [] = refl
+one_behind e es (d ∷ ds) = λ n. behind_entry e es d n ∷ one_behind e es ds n
 
-  -- what an entry puts into a section
-  abbrev pub entry_fragments : ℕ → Entry → List Fragment
-  entry_fragments h (Bytes g bytes) = fragment_put h g (Literal bytes)
-  entry_fragments h (Room g n) = fragment_put h g (Fill n)
-  entry_fragments h (Value width g o f) = fragment_put h g (fragment.Value width (origin_by o) (numbered s i f))
-  entry_fragments h _ = []
+pub all_behind : (es : List Entry) (keys : List ℕ) → map (behind es) (map (draft_of []) keys) ≡ map (draft_of es) keys
+all_behind es [] = refl
+all_behind es (k ∷ keys) = ap (λ ds. draft_of es k ∷ ds) (all_behind es keys)
 
-  abbrev pub fragments_put : ℕ → List Entry → List Fragment
-  fragments_put h es = flat_map (entry_fragments h) es
-
-  entry_joined : (e : Entry) (d : Draft) (rest : List Fragment) → (with_entry s i e d).done ++ behind (with_entry s i e d).last rest ≡ d.done ++ behind d.last (entry_fragments d.segment e ++ rest)
-  entry_joined x d rest = grind (arith, common_steps)
-
-  -- ---- All entries.
-
-  abbrev whole : List Entry → Draft → Draft
-  whole [] d = d
-  whole (e ∷ es) d = whole es (with_entry s i e d)
-
-  all_whole : (es : List Entry) (ds : List Draft) → with_entries s i es ds ≡ map (whole es) ds
-  all_whole [] ds = same ds
-    where
-      same : (ds : List Draft) → ds ≡ map (whole []) ds
-      same [] = refl
-      same (d ∷ ds) = ap (λ es. d ∷ es) (same ds)
-  all_whole (e ∷ es) ds = all_whole es (map (with_entry s i e) ds) ∙ more ds
-    where
-      more : (ds : List Draft) → map (whole es) (map (with_entry s i e) ds) ≡ map (whole (e ∷ es)) ds
-      more [] = refl
-      more (d ∷ ds) = ap (λ rest. whole es (with_entry s i e d) ∷ rest) (more ds)
-
-  whole_segment : (es : List Entry) (d : Draft) → (whole es d).segment ≡ d.segment
-  whole_segment [] d = refl
-  whole_segment (e ∷ es) d = whole_segment es (with_entry s i e d) ∙ entry_segment e d
-
-  whole_joined : (es : List Entry) (d : Draft) → all_of_draft (whole es d) ≡ d.done ++ behind d.last (fragments_put d.segment es)
-  whole_joined [] d = ends d.done d.last d.segment
-  whole_joined (e ∷ es) d =
-      whole_joined es (with_entry s i e d)
-      ∙ ap (λ g. (with_entry s i e d).done ++ behind (with_entry s i e d).last (fragments_put g es)) (entry_segment e d)
-      ∙ entry_joined e d (fragments_put d.segment es)
-
-  -- the section of entries, whose origins are kept as they stand
-  abbrev pub section_put : List Segment → List Entry → ℕ → Section
-  section_put segments es g = record {
-    name = segment_name (slice_get segments g);
-    align = segment_power (slice_get segments g);
-    fragments = all_joined (fragments_put g es);
-  }
-
-  section_is : (segments : List Segment) (es : List Entry) (g : ℕ) → section_from segments (whole es (new_draft g)) ≡ section_put segments es g
-  section_is segments es g = grind (arith, common_steps, whole_segment, whole_joined)
-
-  each_section : (segments : List Segment) (es : List Entry) (keys : List ℕ) → map (section_from segments) (map (whole es) (map new_draft keys)) ≡ map (section_put segments es) keys
-  each_section segments es [] = refl
-  each_section segments es (k ∷ keys) = λ n. section_is segments es k n ∷ each_section segments es keys n
-
-  pub sections_are : (segments : List Segment) (es : List Entry) (keys : List ℕ) → map (section_from segments) (with_entries s i es (map new_draft keys)) ≡ map (section_put segments es) keys
-  sections_are segments es keys = ap (map (section_from segments)) (all_whole es (map new_draft keys)) ∙ each_section segments es keys
+pub none_behind : (ds : List Draft) → ds ≡ map (behind []) ds
+none_behind [] = refl
+none_behind (d ∷ ds) = λ n. record { segment = d.segment; entries = sym (append-nil d.entries) n } ∷ none_behind ds n

@@ -1,6 +1,6 @@
 -- Names of imports, sections and exports: good ones, and none twice.
 use Rattle.std.proofs.lemmas.Grind.{common_steps}
-use Rattle.std.proofs.Common.{filter_map, ◌≡◌, ◌∙◌, ℕ, zero, suc, ◌<◌, Bool, true, false, not, ◌&&◌, ◌||◌, nat_eq, List, [], ◌∷◌, ◌++◌, length, map, refl, ap, arith}
+use Rattle.std.proofs.Common.{◌≡◌, ◌∙◌, ℕ, zero, suc, ◌<◌, Bool, true, false, not, ◌&&◌, ◌||◌, nat_eq, List, [], ◌∷◌, ◌++◌, length, map, refl, ap, arith}
 use Rattle.std.specs.Prelude.{slice_get}
 use Rattle.std.specs.Cmp.{nat_eq_equiv}
 use Rattle.std.specs.Cmp.Lexicographic.{pointwise, lists_equiv}
@@ -8,13 +8,9 @@ use Rattle.std.specs.List.{AllByRecursion, IsDistinct}
 use Rattle.std.proofs.lemmas.Bool.Decides.{nat_tests}
 use Rattle.std.proofs.lemmas.List.Folds.{list_any-append}
 use Rattle.std.proofs.lemmas.Map.Keys.{IsDistinct-head, IsDistinct-tail}
-use Rattle.syntax65.specs.declared.place.Place.{Place}
-use Rattle.object65.specs.declared.object.Origin.{Origin}
-use Rattle.object65.specs.declared.object.Export.{Export}
 use Rattle.object65.specs.Objects.{are_distinct, are_names, is_among, is_name}
-use Rattle.semantics65.specs.Contents.{Declaration, Exported, ForcedImport, Asserted, exported_names}
 use Rattle.semantics65.specs.declared.contents.Segment.{Segment}
-use Rattle.semantics65.specs.Numbering.{export_of, name_of, segment_name}
+use Rattle.semantics65.specs.Numbering.{name_of, segment_name}
 use Rattle.emit65.proofs.Renumbering.{left, right, and, turned}
 
 abbrev same_name : List ℕ → List ℕ → Bool

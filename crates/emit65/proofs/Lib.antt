@@ -6,11 +6,11 @@ pub mod GoodNames
 pub mod GoodObjects
 pub mod GoodSections
 pub mod Grown
+pub mod Joining
 pub mod Keys
 pub mod Naming
 pub mod Ordered
 pub mod Pieces
 pub mod Renumbering
-pub mod Reordering
 pub mod Slots
 pub mod Standings

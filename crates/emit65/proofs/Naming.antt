@@ -1,25 +1,19 @@
 -- Names of files by their places in a table in which none stands twice.
-use Rattle.std.proofs.Common.{◌≡◌, ◌∙◌, ℕ, ◌<◌, Bool, true, false, cond, get_or, List, [], ◌∷◌, ◌++◌, length, map, position, Some, None, refl, sym, ap, arith, append-nil, ◌+◌, not, ◌||◌, Option, nat_eq, nat_lt, subst}
+use Rattle.std.proofs.Common.{◌≡◌, ◌∙◌, ℕ, ◌<◌, Bool, true, false, cond, get_or, List, [], ◌∷◌, ◌++◌, length, map, position, Some, None, refl, sym, ap, arith, append-nil, ◌+◌, not, ◌||◌, nat_eq, nat_lt}
 use Rattle.std.specs.Prelude.{slice_get, if◌then◌else◌}
 use Rattle.std.specs.List.{position_or_len, AllByRecursion, IsDistinct, list_any}
 use Rattle.std.specs.Str.{bytes_eq}
 use Rattle.std.proofs.lemmas.Bool.Decides.{nat_tests}
-use Rattle.std.proofs.lemmas.List.Sums.{passes_at_first, position_or_len_is}
+use Rattle.std.proofs.lemmas.List.Sums.{passes_at_first}
 use Rattle.std.proofs.lemmas.Option.{slice_get-get_or, unwrap_or-slice_get}
 use Rattle.ast65.proofs.Lists.{same_bytes, bytes_swap, position_mapped}
 use Rattle.emit65.specs.Fed.{Begins}
-use borrow.Author.Rules.{rules}
 use Rattle.std.proofs.lemmas.Grind.{common_steps}
 use Rattle.std.proofs.lemmas.List.{map-append}
-use Rattle.std.proofs.lemmas.List.Folds.{list_any_at}
-use Rattle.std.proofs.lemmas.Map.Keys.{apart_from_distinct}
+use Rattle.std.proofs.lemmas.Map.Keys.{IsDistinct-cons, IsDistinct-head, IsDistinct-tail, apart_from_distinct}
 use Rattle.std.proofs.lemmas.Slice.Eq.{bytes_eq-Decides}
-use Rattle.syntax65.specs.declared.place.Place.{Place}
-use Rattle.object65.specs.declared.object.Origin.{Origin}
-use Rattle.semantics65.specs.Numbering.{in_files, name_of, names_once, number_of, once, optional_key}
-use Rattle.emit65.specs.Inner.Drafts.{origin_by}
+use Rattle.semantics65.specs.Numbering.{name_of, names_once, once}
 use Rattle.emit65.proofs.Fitting.{all_more}
-use Rattle.emit65.proofs.Renumbering.{HasAll, has, left, number_is, place_below}
 
 -- ---- A table of files, in which each name stands once.
 
@@ -59,6 +53,21 @@ position_at p xs lt = grind (arith, common_steps)
 pub itself : (n : List ℕ) → bytes_eq n n ≡ true
 itself n = grind (arith, bytes_eq-Decides n n)
 
+nothing_twice : IsDistinct bytes_eq []
+unfolding IsDistinct
+nothing_twice = tt
+
+-- keys that differ by a name have names that differ
+pub distinct_mapped : {A : Type 0} (f : A → List ℕ) (xs : List A) → IsDistinct (λ a b. bytes_eq (f a) (f b)) xs → IsDistinct bytes_eq (map f xs)
+distinct_mapped f [] d = nothing_twice
+distinct_mapped f (x ∷ xs) d =
+    IsDistinct-cons bytes_eq (f x) (map f xs) (apart xs (IsDistinct-head (λ a b. bytes_eq (f a) (f b)) x xs d))
+    (distinct_mapped f xs (IsDistinct-tail (λ a b. bytes_eq (f a) (f b)) x xs d))
+  where
+    apart : (ys : List _) → AllByRecursion (λ b. bytes_eq (f x) (f b) ≡ false) ys → AllByRecursion (λ m. bytes_eq (f x) m ≡ false) (map f ys)
+    apart [] h = tt
+    apart (y ∷ ys) h = (h.0, apart ys h.1)
+
 module _ (files : List (List ℕ)) (apart : IsDistinct bytes_eq files) where
   abbrev pub AreBelow : List ℕ → Type 0
   AreBelow ks = AllByRecursion (λ k. k < length files) ks
@@ -82,30 +91,15 @@ module _ (files : List (List ℕ)) (apart : IsDistinct bytes_eq files) where
           ap (λ n. bytes_eq (name_of files k) (name_of files n)) (sym same) ∙ itself (name_of files k)
       by false e = (λ n. bytes_eq (name_at k n) (name_at j n)) ∙ differ (nat_lt k j) refl e
 
-  -- a name is found at its place
-  pub found_there : (k : ℕ) → k < length files → position (bytes_eq (name_of files k)) files ≡ Some k
-  found_there k lt =
-      let first : position_or_len (bytes_eq (name_of files k)) files ≡ k =
-      position_or_len_is (bytes_eq (name_of files k)) files k [] (omega (arith, lt))
-      (λ j before. ap (bytes_eq (name_of files k)) (sym (name_at j)) ∙ one_name k j lt (omega (arith, lt, before)) ∙ (let other : nat_eq k j ≡ false = grind (arith, nat_tests) in other))
-      (λ within. ap (bytes_eq (name_of files k)) (sym (name_at k)) ∙ itself (name_of files k)) in
-      let yes : nat_lt k (length files) ≡ true = grind (arith, nat_tests) in
-      ap (λ m. cond (nat_lt m (length files)) (Some m) None) first ∙ ap (λ b. cond b (Some k) None) yes
-
-  pub listed_there : (k : ℕ) → k < length files → list_any (bytes_eq (name_of files k)) files ≡ true
-  listed_there k lt = list_any_at (bytes_eq (name_of files k)) files k [] lt (ap (bytes_eq (name_of files k)) (sym (name_at k)) ∙ itself (name_of files k))
-
   first_same : (k : ℕ) (order : List ℕ) → k < length files → AreBelow order → position_or_len (λ j. bytes_eq (name_of files k) (name_of files j)) order ≡ position_or_len (nat_eq k) order
   first_same k [] lt below = refl
   first_same k (j ∷ order) lt below = λ n. cond (not (one_name k j lt below.0 n)) (1 + first_same k order lt below.1 n) 0
 
-  -- and among the names of others by its number there
-  found_by : (k : ℕ) (order : List ℕ) → k < length files → AreBelow order → has order k ≡ true → position (bytes_eq (name_of files k)) (map (name_of files) order) ≡ Some (number_of order k)
-  found_by k order lt below h =
+  -- a name is found among others where its place is found among theirs
+  pub found_by : (k : ℕ) (order : List ℕ) → k < length files → AreBelow order → position (bytes_eq (name_of files k)) (map (name_of files) order) ≡ position (nat_eq k) order
+  found_by k order lt below =
       position_mapped (bytes_eq (name_of files k)) (name_of files) order
       ∙ ap (λ m. cond (nat_lt m (length order)) (Some m) None) (first_same k order lt below)
-      ∙ position_at (nat_eq k) order (place_below order k h)
-      ∙ ap Some (sym (number_is order k h))
 
   any_same : (k : ℕ) (found : List ℕ) → k < length files → AreBelow found → list_any (bytes_eq (name_of files k)) (map (name_of files) found) ≡ list_any (nat_eq k) found
   any_same k [] lt below = refl
@@ -129,39 +123,6 @@ module _ (files : List (List ℕ)) (apart : IsDistinct bytes_eq files) where
       by true old new = old
       by false old new = ap (λ ns. names_once ns (map (name_of files) ks)) push ∙ new
 
-  -- ---- Places whose file is listed.
-
-  abbrev pub is_listed : Place → Bool
-  is_listed place = list_any (bytes_eq place.file) files
-
-  abbrev key_at : Place → ℕ
-  key_at place = position_or_len (bytes_eq place.file) files
-
-  listed_below : (place : Place) → is_listed place ≡ true → key_at place < length files
-  listed_below place h = any_below (bytes_eq place.file) files h
-
-  pub listed_at : (place : Place) → is_listed place ≡ true → (in_files files place).file ≡ Some (key_at place)
-  listed_at place h = position_at (bytes_eq place.file) files (listed_below place h)
-
-  listed_name : (place : Place) → is_listed place ≡ true → name_of files (key_at place) ≡ place.file
-  listed_name place h = search (rules, listed_below, name_at, same_bytes, passes_at_first)
-
-  -- an origin by the order is that by the names in that order
-  pub placed_by : (order : List ℕ) (place : Place) → AreBelow order → is_listed place ≡ true → HasAll order (optional_key (in_files files place).file) → origin_by order (in_files files place) ≡ in_files (map (name_of files) order) place
-  placed_by order place below h written =
-      ap (λ f. origin_by order (made f)) (listed_at place h) ∙ ap made (sym there)
-    where
-      made : Option ℕ → Origin
-      made f = record { file = f; line = place.line }
-
-      has_it : has order (key_at place) ≡ true
-      has_it = left (has order (key_at place)) true (subst (λ (f : Option ℕ). HasAll order (optional_key f)) (listed_at place h) written)
-
-      there : position (bytes_eq place.file) (map (name_of files) order) ≡ Some (number_of order (key_at place))
-      there =
-          ap (λ n. position (bytes_eq n) (map (name_of files) order)) (sym (listed_name place h))
-          ∙ found_by (key_at place) order (listed_below place h) below has_it
-
   -- ---- Places of names in the table.
 
   pub record IsNaming (ks : List ℕ) (ns : List (List ℕ)) : Type 0 where
@@ -174,5 +135,5 @@ module _ (files : List (List ℕ)) (apart : IsDistinct bytes_eq files) where
   pub naming_more : (ks js : List ℕ) (ns ms : List (List ℕ)) → IsNaming ks ns → IsNaming js ms → IsNaming (ks ++ js) (ns ++ ms)
   naming_more ks js ns ms a b = grind (arith, common_steps)
 
-  pub naming_one : (place : Place) → is_listed place ≡ true → IsNaming (optional_key (in_files files place).file) (place.file ∷ [])
-  naming_one place h = grind (arith, common_steps, listed_at, listed_name, listed_below)
+  pub naming_one : (k : ℕ) → k < length files → IsNaming (k ∷ []) (name_of files k ∷ [])
+  naming_one k lt = record { names = refl; below = (lt, tt) }

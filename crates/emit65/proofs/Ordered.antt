@@ -1,175 +1,263 @@
 -- The object of all that was fed is that of its contents.
 use Rattle.std.proofs.lemmas.Grind.{common_steps}
-use Rattle.std.proofs.Common.{◌≡◌, ◌∙◌, ℕ, ◌<◌, true, List, [], ◌∷◌, ◌++◌, length, map, position, Some, nat_lt, refl, sym, ap, arith, subst}
+use Rattle.std.proofs.Common.{◌≡◌, ◌∙◌, ℕ, ◌<◌, true, nat_lt, List, [], ◌∷◌, ◌++◌, length, map, refl, sym, ap, arith, subst}
 use Rattle.std.specs.Prelude.{filter_map, slice_get}
-use Rattle.std.specs.List.{IsDistinct, flat_map, list_all, list_any}
+use Rattle.std.specs.List.{AllByRecursion, IsDistinct, flat_map, list_all}
 use Rattle.std.specs.Str.{bytes_eq}
 use Rattle.std.proofs.lemmas.Bool.Decides.{nat_tests}
-use Rattle.std.proofs.lemmas.List.Elements.{filter_map-append}
-use Rattle.std.proofs.lemmas.List.Folds.{list_all-append}
+use Rattle.std.proofs.lemmas.List.{map-append}
+use Rattle.std.proofs.lemmas.Simd.{map-map}
 use Rattle.syntax65.specs.declared.place.Place.{Place}
-use Rattle.object65.specs.declared.object.Fragment.{Fragment}
-use Rattle.object65.specs.declared.object.Fragment.TheVariants.{Literal, Fill}
+use Rattle.object65.specs.declared.object.Fragment.TheVariants as fragment
+use Rattle.object65.specs.declared.object.Assert.{Assert}
+use Rattle.object65.specs.declared.object.Export.{Export}
+use Rattle.object65.specs.declared.object.Object.{Object}
 use Rattle.object65.specs.declared.object.Origin.{Origin}
-use Rattle.semantics65.specs.Contents.{put, telling, Content, Filled, Known, Part, Declaration}
+use Rattle.object65.specs.declared.object.Section.{Section}
+use Rattle.semantics65.specs.Contents.{Content, Declaration, Filled, Known, Part, Waiting}
 use Rattle.semantics65.specs.declared.contents.Declaration as telled
 use Rattle.semantics65.specs.declared.contents.Declaration.TheVariants as told
 use Rattle.semantics65.specs.declared.contents.Segment.{Segment}
 use Rattle.semantics65.specs.Module.{holds}
-use Rattle.semantics65.specs.Numbering.{all_joined, all_said, assert_of, export_of, fragment_of, fragments_of, import_keys, in_files, name_of, numbered, once, parts_in, section_keys, section_of, segment_name, segment_power, object_with}
+use Rattle.semantics65.specs.Numbering.{all_joined, all_said, assert_files, assert_of, export_files, export_of, fragments_of, import_keys, in_files, name_of, names_once, numbered, object_with, once, part_files, parts_in, section_keys, segment_name, segment_power}
+use Rattle.semantics65.specs.Numbering as numbering
 use Rattle.semantics65.specs.Views.{said_at}
 use Rattle.emit65.specs.declared.entries.Entry.{Entry}
 use Rattle.emit65.specs.declared.entries.Entry.TheVariants.{Bytes, Room, Value, Told, Waits}
 use Rattle.emit65.specs.declared.entries.SourcePos.{SourcePos}
-use Rattle.emit65.specs.Fed.{content_of, contents_so_far, origin_by, place_by, stands_in, AreAlike, HasSlots, StandIn, names_in}
-use Rattle.emit65.specs.Inner.Drafts.{asserts_at, entry_asserts, entry_exports, exports_at, object_before, in_order}
-use Rattle.emit65.proofs.Drafting.{fragment_put, fragments_put, section_put, sections_are}
-use Rattle.emit65.proofs.Keys.{imports_anyhow}
-use Rattle.emit65.proofs.Naming.{found_there, is_listed, listed_there}
-use Rattle.emit65.proofs.Reordering.{is_listed_part, is_listed_said, object_at, ordered}
-use Rattle.emit65.proofs.Renumbering.{and, left, right}
+use Rattle.emit65.specs.declared.numbering.Numbered.{Numbered}
+use Rattle.emit65.specs.declared.numbering.drafts.Saying.{Saying}
+use Rattle.emit65.specs.declared.numbering.keys.Numbers.{Numbers}
 use Rattle.emit65.specs.declared.sections.Closed.{Closed}
-use Rattle.emit65.proofs.Alikes.{object_over, same_object}
+use Rattle.emit65.specs.Fed.{AreAlike, HasSlots, StandIn, content_of, contents_so_far, names_in, place_by, stands_in}
+use Rattle.emit65.specs.Inner.Drafts.{assert_by, assert_keys, asserted_at, draft_keys, draft_of, export_by, export_keys, exported_at, fragment_of, object_of, origin_of, put_in, sayings_at, sayings_of, section_of, value_keys, IsNumbered}
+use Rattle.emit65.proofs.Alikes.{files_by, files_named_by, object_over, same_object}
 use Rattle.emit65.proofs.Grown.{contents_of_slots}
+use Rattle.emit65.proofs.Joining.{kept}
+use Rattle.emit65.proofs.Keys.{imports_anyhow}
+use Rattle.emit65.proofs.Naming.{AreBelow, IsNaming, found_by, naming_more, naming_none, naming_one, once_named}
+use Rattle.emit65.proofs.Renumbering.{left, once_all, right}
 use Rattle.emit65.proofs.Slots.{held_contents}
 
--- ---- The object of entries, in the order of its files, is that of their contents.
-
 module _ (files : List (List ℕ)) (apart : IsDistinct bytes_eq files) where
-  abbrev at : Place → Origin
-  at = in_files files
-
-  -- ---- Origins by the table.
-
-  place_back : (k : ℕ) → nat_lt k (length files) ≡ true → position (bytes_eq (name_of files k)) files ≡ Some k
-  place_back k h = let lt : k < length files = grind (arith, nat_tests) in found_there files apart k lt
-
-  pub origin_back : (o : SourcePos) → nat_lt o.file (length files) ≡ true → at (place_by files o) ≡ origin_by o
-  origin_back o h = λ n. record { file = place_back o.file h n; line = o.line }
-
-  place_listed : (k : ℕ) → nat_lt k (length files) ≡ true → list_any (bytes_eq (name_of files k)) files ≡ true
-  place_listed k h = let lt : k < length files = grind (arith, nat_tests) in listed_there files apart k lt
-
-  origin_listed : (o : SourcePos) → nat_lt o.file (length files) ≡ true → is_listed files apart (place_by files o) ≡ true
-  origin_listed o h = place_listed o.file h
-
-  first : (e : Entry) (es : List Entry) → StandIn (length files) (e ∷ es) → stands_in (length files) e ≡ true
-  first e es h = left (stands_in (length files) e) (list_all (stands_in (length files)) es) h
-
-  others : (e : Entry) (es : List Entry) → StandIn (length files) (e ∷ es) → StandIn (length files) es
-  others e es h = right (stands_in (length files) e) (list_all (stands_in (length files)) es) h
-
   abbrev contents : List Entry → List Content
   contents es = map (content_of files) es
 
-  -- what is told stands in no section
-  told_parts : (ss : List Declaration) (cs : List Content) (g : ℕ) → parts_in (telling ss ∷ cs) g ≡ parts_in cs g
-  told_parts ss cs g = grind (arith, common_steps)
+  -- ---- What entries put and say.
 
-  module _ (s i : List ℕ) where
-    -- ---- What entries put.
+  abbrev part_of : Entry → Part
+  part_of (Bytes g bytes) = Known bytes
+  part_of (Room g n) = Filled n
+  part_of (Value width g o f) = Waiting width (place_by files o) f
+  part_of _ = Known []
 
-    part_put : (h g : ℕ) (f : Fragment) (q : Part) (cs : List Content) (fs : List Fragment) → f ≡ fragment_of at s i q → fs ≡ fragments_of at s i (parts_in cs h) → fragment_put h g f ++ fs ≡ fragments_of at s i (parts_in (put g q ∷ cs) h)
-    part_put h g f q cs fs same rest = grind (arith, common_steps)
+  parts_are : (g : ℕ) (es : List Entry) → parts_in (contents es) g ≡ map part_of (put_in g es)
+  parts_are g [] = refl
+  parts_are g (Bytes h bytes ∷ es) = grind (arith, common_steps, (parts_are g es))
+  parts_are g (Room h n ∷ es) = grind (arith, common_steps, (parts_are g es))
+  parts_are g (Value width h o f ∷ es) = grind (arith, common_steps, (parts_are g es))
+  parts_are g (Told o ss ∷ es) = grind (arith, common_steps, (parts_are g es))
+  parts_are g (Waits w ∷ es) = grind (arith, common_steps, (parts_are g es))
 
-    fragments_are : (h : ℕ) (es : List Entry) → StandIn (length files) es → fragments_put s i h es ≡ fragments_of at s i (parts_in (contents es) h)
-    fragments_are h [] standing = refl
-    fragments_are h (Bytes g bytes ∷ es) standing = part_put h g (Literal bytes) (Known bytes) (contents es) (fragments_put s i h es) refl (fragments_are h es (others (Bytes g bytes) es standing))
-    fragments_are h (Room g n ∷ es) standing = part_put h g (Fill n) (Filled n) (contents es) (fragments_put s i h es) refl (fragments_are h es (others (Room g n) es standing))
-    fragments_are h (Value width g o f ∷ es) standing = grind (arith, common_steps, (fragments_are h es (others (Value width g o f) es standing)), part_put, fragments_put, origin_back, first, others)
-    fragments_are h (Told o ss ∷ es) standing =
-        fragments_are h es (others (Told o ss) es standing)
-        ∙ ap (fragments_of at s i) (sym (told_parts (map (said_at (place_by files o)) ss) (contents es) h))
-    fragments_are h (Waits w ∷ es) standing =
-        fragments_are h es (others (Waits w) es standing)
-        ∙ ap (fragments_of at s i) (sym (told_parts [] (contents es) h))
+  abbrev saying_of : Saying → Declaration
+  saying_of t = said_at (place_by files t.pos) t.said
 
-    sections_at : (segments : List Segment) (es : List Entry) (keys : List ℕ) → StandIn (length files) es → map (section_put s i segments es) keys ≡ map (section_of at segments s i (contents es)) keys
-    sections_at segments es [] standing = refl
-    sections_at segments es (k ∷ keys) standing =
-        λ n. record { name = segment_name (slice_get segments k); align = segment_power (slice_get segments k); fragments = all_joined (fragments_are k es standing n) }
-        ∷ sections_at segments es keys standing n
+  said_are : (es : List Entry) → all_said (contents es) ≡ map saying_of (flat_map sayings_of es)
+  said_are [] = refl
+  said_are (Bytes g bytes ∷ es) = said_are es
+  said_are (Room g n ∷ es) = said_are es
+  said_are (Value width g o f ∷ es) = said_are es
+  said_are (Waits w ∷ es) = said_are es
+  said_are (Told o ss ∷ es) =
+      (λ n. sym (map-map saying_of (λ s. record { pos = o; said = s }) ss) n ++ said_are es n)
+      ∙ sym (map-append saying_of (sayings_at o ss) (flat_map sayings_of es))
 
-    -- ---- What entries say.
+  -- ---- Where they stand.
 
-    exports_are : (o : SourcePos) (ss : List telled.Declaration) → at (place_by files o) ≡ origin_by o → exports_at s i (origin_by o) ss ≡ filter_map (export_of at s i) (map (said_at (place_by files o)) ss)
-    exports_are o [] h = refl
-    exports_are o (told.Exported n f ∷ ss) h = λ k. record { name = n; origin = sym h k; form = numbered s i f } ∷ exports_are o ss h k
-    exports_are o (told.ForcedImport n ∷ ss) h = exports_are o ss h
-    exports_are o (told.Asserted act words f ∷ ss) h = exports_are o ss h
+  abbrev Stand : List Entry → Type 0
+  Stand es = StandIn (length files) es
 
-    exports_said : (es : List Entry) → StandIn (length files) es → flat_map (entry_exports s i) es ≡ filter_map (export_of at s i) (all_said (contents es))
-    exports_said [] standing = refl
-    exports_said (Bytes g bytes ∷ es) standing = exports_said es (others (Bytes g bytes) es standing)
-    exports_said (Room g n ∷ es) standing = exports_said es (others (Room g n) es standing)
-    exports_said (Value width g o f ∷ es) standing = exports_said es (others (Value width g o f) es standing)
-    exports_said (Waits w ∷ es) standing = exports_said es (others (Waits w) es standing)
-    exports_said (Told o ss ∷ es) standing =
-        (λ n. exports_are o ss (origin_back o (first (Told o ss) es standing)) n ++ exports_said es (others (Told o ss) es standing) n)
-        ∙ sym (filter_map-append (export_of at s i) (map (said_at (place_by files o)) ss) (all_said (contents es)))
+  abbrev AreTold : List Saying → Type 0
+  AreTold ts = AllByRecursion (λ t. t.pos.file < length files) ts
 
-    asserts_are : (o : SourcePos) (ss : List telled.Declaration) → at (place_by files o) ≡ origin_by o → asserts_at s i (origin_by o) ss ≡ filter_map (assert_of at s i) (map (said_at (place_by files o)) ss)
-    asserts_are o [] h = refl
-    asserts_are o (told.Exported n f ∷ ss) h = asserts_are o ss h
-    asserts_are o (told.ForcedImport n ∷ ss) h = asserts_are o ss h
-    asserts_are o (told.Asserted act words f ∷ ss) h = λ n. record { action = act; origin = sym h n; text = words; form = numbered s i f } ∷ asserts_are o ss h n
+  first : (e : Entry) (es : List Entry) → Stand (e ∷ es) → stands_in (length files) e ≡ true
+  first e es h = left (stands_in (length files) e) (list_all (stands_in (length files)) es) h
 
-    asserts_said : (es : List Entry) → StandIn (length files) es → flat_map (entry_asserts s i) es ≡ filter_map (assert_of at s i) (all_said (contents es))
-    asserts_said [] standing = refl
-    asserts_said (Bytes g bytes ∷ es) standing = asserts_said es (others (Bytes g bytes) es standing)
-    asserts_said (Room g n ∷ es) standing = asserts_said es (others (Room g n) es standing)
-    asserts_said (Value width g o f ∷ es) standing = asserts_said es (others (Value width g o f) es standing)
-    asserts_said (Waits w ∷ es) standing = asserts_said es (others (Waits w) es standing)
-    asserts_said (Told o ss ∷ es) standing =
-        (λ n. asserts_are o ss (origin_back o (first (Told o ss) es standing)) n ++ asserts_said es (others (Told o ss) es standing) n)
-        ∙ sym (filter_map-append (assert_of at s i) (map (said_at (place_by files o)) ss) (all_said (contents es)))
+  others : (e : Entry) (es : List Entry) → Stand (e ∷ es) → Stand es
+  others e es h = right (stands_in (length files) e) (list_all (stands_in (length files)) es) h
 
-    -- ---- What is written stands in files of the table.
+  below_files : (k : ℕ) → nat_lt k (length files) ≡ true → k < length files
+  below_files k h = grind (arith, nat_tests)
 
-    part_listed : (h g : ℕ) (q : Part) (cs : List Content) → is_listed_part files apart s i q ≡ true → list_all (is_listed_part files apart s i) (parts_in cs h) ≡ true → list_all (is_listed_part files apart s i) (parts_in (put g q ∷ cs) h) ≡ true
-    part_listed h g q cs one rest = grind (arith, common_steps)
+  put_stand : (g : ℕ) (es : List Entry) → Stand es → Stand (put_in g es)
+  put_stand g [] h = refl
+  put_stand g (e ∷ es) h = grind (arith, common_steps, (put_stand g es (others e es h)), first)
 
-    parts_listed : (h : ℕ) (es : List Entry) → StandIn (length files) es → list_all (is_listed_part files apart s i) (parts_in (contents es) h) ≡ true
-    parts_listed h [] standing = refl
-    parts_listed h (Bytes g bytes ∷ es) standing = part_listed h g (Known bytes) (contents es) refl (parts_listed h es (others (Bytes g bytes) es standing))
-    parts_listed h (Room g n ∷ es) standing = part_listed h g (Filled n) (contents es) refl (parts_listed h es (others (Room g n) es standing))
-    parts_listed h (Value width g o f ∷ es) standing = grind (arith, common_steps, (parts_listed h es (others (Value width g o f) es standing)), part_listed, origin_listed, first, others)
-    parts_listed h (Told o ss ∷ es) standing =
-        ap (list_all (is_listed_part files apart s i)) (told_parts (map (said_at (place_by files o)) ss) (contents es) h)
-        ∙ parts_listed h es (others (Told o ss) es standing)
-    parts_listed h (Waits w ∷ es) standing =
-        ap (list_all (is_listed_part files apart s i)) (told_parts [] (contents es) h)
-        ∙ parts_listed h es (others (Waits w) es standing)
+  told_more : (o : SourcePos) (ss : List telled.Declaration) (ts : List Saying) → o.file < length files → AreTold ts → AreTold (sayings_at o ss ++ ts)
+  told_more o [] ts lt h = h
+  told_more o (s ∷ ss) ts lt h = (lt, told_more o ss ts lt h)
 
-    told_listed : (o : SourcePos) (ss : List telled.Declaration) → is_listed files apart (place_by files o) ≡ true → list_all (is_listed_said files apart s i) (map (said_at (place_by files o)) ss) ≡ true
-    told_listed o [] h = refl
-    told_listed o (told.Exported n f ∷ ss) h = and (is_listed files apart (place_by files o)) (list_all (is_listed_said files apart s i) (map (said_at (place_by files o)) ss)) h (told_listed o ss h)
-    told_listed o (told.ForcedImport n ∷ ss) h = told_listed o ss h
-    told_listed o (told.Asserted act words f ∷ ss) h = and (is_listed files apart (place_by files o)) (list_all (is_listed_said files apart s i) (map (said_at (place_by files o)) ss)) h (told_listed o ss h)
+  told_stand : (es : List Entry) → Stand es → AreTold (flat_map sayings_of es)
+  told_stand [] h = tt
+  told_stand (Bytes g bytes ∷ es) h = told_stand es (others (Bytes g bytes) es h)
+  told_stand (Room g n ∷ es) h = told_stand es (others (Room g n) es h)
+  told_stand (Value width g o f ∷ es) h = told_stand es (others (Value width g o f) es h)
+  told_stand (Waits w ∷ es) h = told_stand es (others (Waits w) es h)
+  told_stand (Told o ss ∷ es) h = told_more o ss (flat_map sayings_of es) (below_files o.file (first (Told o ss) es h)) (told_stand es (others (Told o ss) es h))
 
-    said_listed : (es : List Entry) → StandIn (length files) es → list_all (is_listed_said files apart s i) (all_said (contents es)) ≡ true
-    said_listed [] standing = refl
-    said_listed (Bytes g bytes ∷ es) standing = said_listed es (others (Bytes g bytes) es standing)
-    said_listed (Room g n ∷ es) standing = said_listed es (others (Room g n) es standing)
-    said_listed (Value width g o f ∷ es) standing = said_listed es (others (Value width g o f) es standing)
-    said_listed (Waits w ∷ es) standing = said_listed es (others (Waits w) es standing)
-    said_listed (Told o ss ∷ es) standing =
-        let mine = map (said_at (place_by files o)) ss in
-        list_all-append (is_listed_said files apart s i) mine (all_said (contents es))
-        ∙ and (list_all (is_listed_said files apart s i) mine) (list_all (is_listed_said files apart s i) (all_said (contents es)))
-        (told_listed o ss (origin_listed o (first (Told o ss) es standing)))
-        (said_listed es (others (Told o ss) es standing))
+  -- ---- The files that they name.
 
-    before_at : (segments : List Segment) (names : List (List ℕ)) (es : List Entry) → StandIn (length files) es → object_before segments names s i es ≡ object_at files apart s i segments names (contents es)
-    before_at segments names es standing = grind (arith, common_steps, sections_are, sections_at, exports_said, asserts_said)
+  abbrev Names : List ℕ → List (List ℕ) → Type 0
+  Names ks ns = IsNaming files apart ks ns
+
+  value_named : (e : Entry) → stands_in (length files) e ≡ true → Names (value_keys e) (part_files (part_of e))
+  value_named (Bytes g bytes) h = naming_none files apart
+  value_named (Room g n) h = naming_none files apart
+  value_named (Value width g o f) h = naming_one files apart o.file (below_files o.file h)
+  value_named (Told o ss) h = naming_none files apart
+  value_named (Waits w) h = naming_none files apart
+
+  values_named : (es : List Entry) → Stand es → Names (flat_map value_keys es) (flat_map part_files (map part_of es))
+  values_named [] h = naming_none files apart
+  values_named (e ∷ es) h =
+      naming_more files apart (value_keys e) (flat_map value_keys es) (part_files (part_of e)) (flat_map part_files (map part_of es))
+      (value_named e (first e es h)) (values_named es (others e es h))
+
+  drafts_named : (es : List Entry) (keys : List ℕ) → Stand es → Names (flat_map draft_keys (map (draft_of es) keys)) (flat_map (λ g. flat_map part_files (parts_in (contents es) g)) keys)
+  drafts_named es [] h = naming_none files apart
+  drafts_named es (g ∷ keys) h =
+      naming_more files apart (flat_map value_keys (put_in g es)) (flat_map draft_keys (map (draft_of es) keys)) (flat_map part_files (parts_in (contents es) g)) (flat_map (λ g. flat_map part_files (parts_in (contents es) g)) keys)
+      (subst (λ (ps : List Part). Names (flat_map value_keys (put_in g es)) (flat_map part_files ps)) (sym (parts_are g es)) (values_named (put_in g es) (put_stand g es h)))
+      (drafts_named es keys h)
+
+  export_named : (o : SourcePos) (s : telled.Declaration) → o.file < length files → Names (exported_at o s) (export_files (said_at (place_by files o) s))
+  export_named o (told.Exported n f) lt = naming_one files apart o.file lt
+  export_named o (told.ForcedImport n) lt = naming_none files apart
+  export_named o (told.Asserted act words f) lt = naming_none files apart
+
+  exports_named : (ts : List Saying) → AreTold ts → Names (flat_map export_keys ts) (flat_map export_files (map saying_of ts))
+  exports_named [] h = naming_none files apart
+  exports_named (t ∷ ts) h =
+      naming_more files apart (export_keys t) (flat_map export_keys ts) (export_files (saying_of t)) (flat_map export_files (map saying_of ts))
+      (export_named t.pos t.said h.0) (exports_named ts h.1)
+
+  assert_named : (o : SourcePos) (s : telled.Declaration) → o.file < length files → Names (asserted_at o s) (assert_files (said_at (place_by files o) s))
+  assert_named o (told.Exported n f) lt = naming_none files apart
+  assert_named o (told.ForcedImport n) lt = naming_none files apart
+  assert_named o (told.Asserted act words f) lt = naming_one files apart o.file lt
+
+  asserts_named : (ts : List Saying) → AreTold ts → Names (flat_map assert_keys ts) (flat_map assert_files (map saying_of ts))
+  asserts_named [] h = naming_none files apart
+  asserts_named (t ∷ ts) h =
+      naming_more files apart (assert_keys t) (flat_map assert_keys ts) (assert_files (saying_of t)) (flat_map assert_files (map saying_of ts))
+      (assert_named t.pos t.said h.0) (asserts_named ts h.1)
+
+  abbrev keys_named : List ℕ → List Entry → List ℕ
+  keys_named keys es = flat_map draft_keys (map (draft_of es) keys) ++ flat_map export_keys (flat_map sayings_of es) ++ flat_map assert_keys (flat_map sayings_of es)
+
+  all_named : (keys : List ℕ) (es : List Entry) → Stand es → Names (keys_named keys es) (files_named_by keys (contents es))
+  all_named keys es h =
+      let ts = flat_map sayings_of es in
+      let values = flat_map (λ g. flat_map part_files (parts_in (contents es) g)) keys in
+      subst (λ (ss : List Declaration). Names (keys_named keys es) (values ++ flat_map export_files ss ++ flat_map assert_files ss)) (sym (said_are es))
+      (naming_more files apart (flat_map draft_keys (map (draft_of es) keys) ++ flat_map export_keys ts) (flat_map assert_keys ts) (values ++ flat_map export_files (map saying_of ts)) (flat_map assert_files (map saying_of ts))
+      (naming_more files apart (flat_map draft_keys (map (draft_of es) keys)) (flat_map export_keys ts) values (flat_map export_files (map saying_of ts)) (drafts_named es keys h) (exports_named ts (told_stand es h)))
+      (asserts_named ts (told_stand es h)))
+
+  -- ---- What these numbers make of them.
+
+  module _ (n : Numbers) (below : AreBelow files apart n.files.keys) where
+    abbrev to : Place → Origin
+    to = in_files (map (name_of files) n.files.keys)
+
+    abbrev s : List ℕ
+    s = n.sections.keys
+
+    abbrev i : List ℕ
+    i = n.imports.keys
+
+    origin_is : (o : SourcePos) → o.file < length files → origin_of n o ≡ to (place_by files o)
+    origin_is o lt = λ j. record { file = sym (found_by files apart o.file n.files.keys lt below) j; line = o.line }
+
+    fragment_is : (e : Entry) → stands_in (length files) e ≡ true → fragment_of n e ≡ numbering.fragment_of to s i (part_of e)
+    fragment_is (Bytes g bytes) h = refl
+    fragment_is (Room g count) h = refl
+    fragment_is (Value width g o f) h = ap (λ origin. fragment.Value width origin (numbered s i f)) (origin_is o (below_files o.file h))
+    fragment_is (Told o ss) h = refl
+    fragment_is (Waits w) h = refl
+
+    fragments_are : (es : List Entry) → Stand es → map (fragment_of n) es ≡ map (numbering.fragment_of to s i) (map part_of es)
+    fragments_are [] h = refl
+    fragments_are (e ∷ es) h = λ j. fragment_is e (first e es h) j ∷ fragments_are es (others e es h) j
+
+    sections_are : (segments : List Segment) (es : List Entry) (keys : List ℕ) → Stand es → map (section_of segments n) (map (draft_of es) keys) ≡ map (numbering.section_of to segments s i (contents es)) keys
+    sections_are segments es [] h = refl
+    sections_are segments es (g ∷ keys) h =
+        let made : kept (map (fragment_of n) (put_in g es)) ≡ fragments_of to s i (parts_in (contents es) g) =
+        ap kept (fragments_are (put_in g es) (put_stand g es h)) ∙ ap (fragments_of to s i) (sym (parts_are g es)) in
+        λ j. record { name = segment_name (slice_get segments g); align = segment_power (slice_get segments g); fragments = all_joined (made j) } ∷ sections_are segments es keys h j
+
+    export_is : (o : SourcePos) (x : telled.Declaration) → o.file < length files → export_by n (record { pos = o; said = x }) ≡ export_of to s i (said_at (place_by files o) x)
+    export_is o x lt = grind (arith, common_steps, origin_is)
+
+    exports_are : (ts : List Saying) → AreTold ts → filter_map (export_by n) ts ≡ filter_map (export_of to s i) (map saying_of ts)
+    exports_are [] h = refl
+    exports_are (t ∷ ts) h = grind (arith, common_steps, (export_is t.pos t.said h.0), (exports_are ts h.1))
+
+    assert_is : (o : SourcePos) (x : telled.Declaration) → o.file < length files → assert_by n (record { pos = o; said = x }) ≡ assert_of to s i (said_at (place_by files o) x)
+    assert_is o x lt = grind (arith, common_steps, origin_is)
+
+    asserts_are : (ts : List Saying) → AreTold ts → filter_map (assert_by n) ts ≡ filter_map (assert_of to s i) (map saying_of ts)
+    asserts_are [] h = refl
+    asserts_are (t ∷ ts) h = grind (arith, common_steps, (assert_is t.pos t.said h.0), (asserts_are ts h.1))
 
   -- the object of entries is that of their contents
-  pub entries_ordered : (segments : List Segment) (names : List (List ℕ)) (s : List ℕ) (es : List Entry) → StandIn (length files) es → in_order files (object_before segments names s (import_keys names (map (content_of []) es)) es) ≡ object_over segments names s (contents es)
-  entries_ordered segments names s es standing =
-      let i = import_keys names (map (content_of []) es) in
-      let imports : i ≡ import_keys names (contents es) = ap (once []) (imports_anyhow names [] files es) in
-      ap (in_order files) (before_at s i segments names es standing)
-      ∙ ordered files apart s i segments names (contents es) imports (λ g. parts_listed s i g es standing) (said_listed s i es standing)
+  entries_made : (segments : List Segment) (names : List (List ℕ)) (s : List ℕ) (es : List Entry) (t : Numbered) → Stand es → IsNumbered names s es t → object_of segments names files t ≡ object_over segments names t.numbers.sections.keys (contents es)
+  entries_made segments names s es t h is =
+      (λ j. made (map (name_of files) n.files.keys) (sections j) (exports j) (asserts j)) ∙ (λ j. over (numbers j) (listed j))
+    where
+      n : Numbers
+      n = t.numbers
+
+      keys : List ℕ
+      keys = n.sections.keys
+
+      order : n.files.keys ≡ once [] (keys_named keys es)
+      order = is.files ∙ ap (λ ks. once [] (keys_named ks es)) (sym is.sections)
+
+      naming : IsNaming files apart (keys_named keys es) (files_named_by keys (contents es))
+      naming = all_named keys es h
+
+      listed : map (name_of files) n.files.keys ≡ files_by keys (contents es)
+      listed = ap (map (name_of files)) order ∙ sym (once_named files apart [] (keys_named keys es) tt naming.below) ∙ ap (names_once []) naming.names
+
+      below : AreBelow files apart n.files.keys
+      below = subst (AreBelow files apart) (sym order) (once_all (λ k. k < length files) [] (keys_named keys es) tt naming.below)
+
+      numbers : n.imports.keys ≡ import_keys names (contents es)
+      numbers = is.imports ∙ ap (once []) (imports_anyhow names [] files es)
+
+      sections : map (section_of segments n) t.parted.drafts.items ≡ map (numbering.section_of (to n below) segments keys n.imports.keys (contents es)) keys
+      sections = ap (map (section_of segments n)) (is.drafts ∙ ap (map (draft_of es)) (sym is.sections)) ∙ sections_are n below segments es keys h
+
+      exports : filter_map (export_by n) t.parted.told ≡ filter_map (export_of (to n below) keys n.imports.keys) (all_said (contents es))
+      exports = ap (filter_map (export_by n)) is.told ∙ exports_are n below (flat_map sayings_of es) (told_stand es h) ∙ ap (filter_map (export_of (to n below) keys n.imports.keys)) (sym (said_are es))
+
+      asserts : filter_map (assert_by n) t.parted.told ≡ filter_map (assert_of (to n below) keys n.imports.keys) (all_said (contents es))
+      asserts = ap (filter_map (assert_by n)) is.told ∙ asserts_are n below (flat_map sayings_of es) (told_stand es h) ∙ ap (filter_map (assert_of (to n below) keys n.imports.keys)) (sym (said_are es))
+
+      made : List (List ℕ) → List Section → List Export → List Assert → Object
+      made fs ss xs ts = record { version = 2; files = fs; imports = map (name_of names) n.imports.keys; sections = ss; exports = xs; asserts = ts }
+
+      over : List ℕ → List (List ℕ) → Object
+      over j fs = record {
+        version = 2;
+        files = fs;
+        imports = map (name_of names) j;
+        sections = map (numbering.section_of (in_files fs) segments keys j (contents es)) keys;
+        exports = filter_map (export_of (in_files fs) keys j) (all_said (contents es));
+        asserts = filter_map (assert_of (in_files fs) keys j) (all_said (contents es));
+      }
 
 -- ---- The object of all that was fed.
 
@@ -182,11 +270,11 @@ contents_fed cs t h =
     (subst (λ (ds : List Content). AreAlike (contents_so_far (map holds cs)) ds) (contents_of_slots files es) h.alike.held)
 
 -- the object of all entries is that of what was fed
-pub finished : (segments : List Segment) (names : List (List ℕ)) (t : Closed) (cs : List Content) → IsDistinct bytes_eq (names_in t.files) → HasSlots (map holds cs) t → in_order (names_in t.files) (object_before segments names t.asked.keys (import_keys names (map (content_of []) t.entries.items)) t.entries.items) ≡ object_with segments names cs
-finished segments names t cs apart h =
-    let files = names_in t.files in
-    let es = t.entries.items in
-    let keys : section_keys cs ≡ t.asked.keys = ap section_keys (sym (held_contents cs)) ∙ h.asked in
-    entries_ordered files apart segments names t.asked.keys es h.standing
-    ∙ sym (same_object segments names t.asked.keys cs (map (content_of files) es) (contents_fed cs t h))
-    ∙ ap (λ ks. object_over segments names ks cs) (sym keys)
+pub finished : (segments : List Segment) (names : List (List ℕ)) (c : Closed) (t : Numbered) (cs : List Content) → IsDistinct bytes_eq (names_in c.files) → IsNumbered names c.asked.keys c.entries.items t → HasSlots (map holds cs) c → object_of segments names (names_in c.files) t ≡ object_with segments names cs
+finished segments names c t cs apart is h =
+    let files = names_in c.files in
+    let es = c.entries.items in
+    let keys : t.numbers.sections.keys ≡ section_keys cs = is.sections ∙ sym h.asked ∙ ap section_keys (held_contents cs) in
+    entries_made files apart segments names c.asked.keys es t h.standing is
+    ∙ sym (same_object segments names t.numbers.sections.keys cs (map (content_of files) es) (contents_fed cs c h))
+    ∙ ap (λ ks. object_over segments names ks cs) keys

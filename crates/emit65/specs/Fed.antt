@@ -1,5 +1,5 @@
 -- What sections are fed with, and what stands in them.
-use Rattle.std.specs.Prelude.{◌≡◌, ℕ, nat_lt, Bool, true, if◌then◌else◌, List, [], ◌∷◌, ◌++◌, map, Some, nat_eq, length, string_bytes, IfSome, Result, Ok, Err}
+use Rattle.std.specs.Prelude.{◌≡◌, ℕ, nat_lt, Bool, true, if◌then◌else◌, List, [], ◌∷◌, ◌++◌, map, nat_eq, length, string_bytes, IfSome, Result, Ok, Err}
 use Rattle.std.specs.List.{flat_map, list_all, list_any}
 use Rattle.std.specs.Global.{Vec}
 use Rattle.indexmap.specs.IndexSet.{IndexSet}
@@ -82,10 +82,6 @@ pub record AreSlotsAlike (xs ys : List Slot) : Type 0 where
 -- where something stands, in one of these files
 abbrev pub place_by : List (List ℕ) → SourcePos → Place
 place_by files o = place_in (name_of files o.file) o.line
-
--- as an origin in an object of these files
-abbrev pub origin_by : SourcePos → Origin
-origin_by o = record { file = Some o.file; line = o.line }
 
 -- a piece that waits, as the definitions have it
 abbrev pub piece_of : Piece → piece.Piece

@@ -3,11 +3,11 @@
 ghost use Rattle.std.specs.Prelude.{◌≡◌, ◌+◌, ℕ, List, [], ◌∷◌, length, map, true, OnOk, IfOk};
 ghost use Rattle.semantics65.specs.Contents.{Filled, Known, put};
 ghost use Rattle.semantics65.specs.Module.{holds};
-ghost use Rattle.emit65.specs.Fed.{AreSlotsAlike, origin_by, slot_of, slots_in, stands_in, IsAdded, StandIn, Takes, TakesIn};
+ghost use Rattle.emit65.specs.Fed.{AreSlotsAlike, slot_of, slots_in, stands_in, IsAdded, StandIn, Takes, TakesIn};
 
 use crate::fixups::Fixup;
 use base65::Sequence;
-use object65::{Norm, Origin, Width};
+use object65::{Norm, Width};
 use semantics65::Declaration;
 use std::alloc::{AllocError, Global};
 use std::mem;
@@ -17,18 +17,6 @@ use std::mem;
 pub struct SourcePos {
     pub file: u32,
     pub line: u32,
-}
-
-impl SourcePos {
-    /// The origin in an object whose files are those in which something stands.
-    pub fn origin(self) -> Origin
-        ensures { result ≡ origin_by self }
-    {
-        Origin {
-            file: Some(self.file),
-            line: self.line,
-        }
-    }
 }
 
 /// What one call feeds. Of a large source most of what is kept are these, so they are small: fields lie in memory in

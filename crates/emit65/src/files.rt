@@ -1,6 +1,8 @@
 //! The names of files in which something stands or waits.
 
-ghost use Rattle.std.specs.Prelude.{◌≡◌, IfOk, IfSome, Some, length, slice_get};
+ghost use Rattle.std.specs.Prelude.{◌≡◌, IfOk, IfSome, Some, length, map, slice_get, string_bytes};
+ghost use Rattle.std.specs.List.{IsDistinct};
+ghost use Rattle.std.specs.Str.{bytes_eq};
 ghost use Rattle.emit65.specs.Fed.{Begins, names_in};
 
 use base65::Seed;
@@ -24,6 +26,14 @@ impl Files {
             table: IndexSet::with_hasher(alloc, seed),
             last: None,
         }
+    }
+
+    /// The names, none of which stands twice.
+    pub fn names(&self) -> &[String]
+        ensures names { map string_bytes result.now ≡ names_in self.now }
+        ensures distinct { IsDistinct bytes_eq (names_in self.now) }
+    {
+        self.table.as_slice()
     }
 
     /// The place of the file that was asked for last, where it has this name.

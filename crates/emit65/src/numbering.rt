@@ -1,26 +1,29 @@
 //! From entries to the object.
 
-ghost use Rattle.std.specs.Prelude.{◌≡◌, [], map, IfOk};
+ghost use Rattle.std.specs.Prelude.{◌≡◌, map, string_bytes, IfOk};
+ghost use Rattle.std.specs.List.{AllByRecursion};
 ghost use Rattle.object65.specs.Objects.{ObjectFits};
-ghost use Rattle.emit65.specs.Inner.Drafts.{all_of_draft, object_before, section_from};
-ghost use Rattle.emit65.specs.Fed.{content_of, names_of};
+ghost use Rattle.emit65.specs.Inner.Drafts.{IsNumbered, object_of, section_of, SectionFits};
+ghost use Rattle.emit65.specs.Fed.{names_of};
 ghost use Rattle.semantics65.specs.Layout.{powers};
-ghost use Rattle.semantics65.specs.Numbering.{import_keys, name_of, number_of};
+ghost use Rattle.semantics65.specs.Numbering.{name_of, number_of};
 
 mod drafts;
 mod exports;
+mod fragments;
 mod keys;
 mod ordering;
 
 use crate::entries::Entry;
 use base65::Sequence;
-use drafts::{Draft, filled};
+use drafts::{Draft, Parted, part};
 use exports::declared_by;
+use fragments::fragments_of;
 use indexmap::IndexSet;
 pub use keys::{Imports, narrow};
 use keys::{Numbers, import_keys};
-use object65::{Fragment, Object, Section};
-pub use ordering::in_order;
+use object65::{Object, Section};
+use ordering::{file_names, order_of};
 use semantics65::Segment;
 use std::alloc::{AllocError, Global};
 
@@ -48,25 +51,19 @@ fn power_of(align: u32) -> u8
     }
 }
 
-/// The fragments of a section that is full.
-fn fragments_of(draft: Draft) -> Result<Sequence<Fragment>, AllocError>
-    ensures { IfOk result (λ fragments. fragments ≡ all_of_draft draft) }
+/// The section of what is put into a segment.
+fn finish_section(
+    alloc: Global,
+    segments: &[Segment],
+    numbers: &Numbers,
+    draft: Draft,
+) -> Result<Section, AllocError>
+    ensures section { IfOk result (λ s. s ≡ section_of segments.now numbers.now draft) }
+    ensures fits { IfOk result SectionFits }
 {
-    let Draft { done, last, .. } = draft;
-    let mut fragments = done;
-    if let Some(last) = last {
-        fragments.push(last)?;
-    }
-    Ok(fragments)
-}
-
-/// The section of what was put into a segment.
-fn finish_section(alloc: Global, segments: &[Segment], draft: Draft) -> Result<Section, AllocError>
-    ensures { IfOk result (λ s. s ≡ section_from segments.now draft) }
-{
-    let segment = segments.get(draft.segment as usize);
-    let fragments = fragments_of(draft)?;
-    match segment {
+    let Draft { segment, entries } = draft;
+    let fragments = fragments_of(alloc, numbers, entries)?;
+    match segments.get(segment as usize) {
         Some(segment) => Ok(Section {
             name: Sequence::copy_of(alloc, segment.name.as_slice())?,
             align: power_of(segment.align),
@@ -84,13 +81,16 @@ fn finish_section(alloc: Global, segments: &[Segment], draft: Draft) -> Result<S
 fn finish_sections(
     alloc: Global,
     segments: &[Segment],
+    numbers: &Numbers,
     drafts: Vec<Draft>,
 ) -> Result<Sequence<Section>, AllocError>
-    ensures { IfOk result (λ sections. sections ≡ map (section_from segments.now) drafts.items) }
+    ensures sections { IfOk result (λ sections. sections ≡
+        map (section_of segments.now numbers.now) drafts.items) }
+    ensures fits { IfOk result (AllByRecursion SectionFits) }
 {
     let mut sections = Sequence::new(alloc);
     for draft in drafts {
-        sections.push(finish_section(alloc, segments, draft)?)?;
+        sections.push(finish_section(alloc, segments, numbers, draft)?)?;
     }
     Ok(sections)
 }
@@ -120,32 +120,56 @@ fn import_names(
     Ok(found)
 }
 
-/// The object of a module: of its segments, the names of its imports in the order of their keys, the segments of which
-/// a section was asked for, and the entries. Its files come later: origins name them as entries do.
+/// What was fed, by section, and the numbers of what it names.
+#[derive(Drop)]
+pub struct Numbered {
+    pub numbers: Numbers,
+    pub parted: Parted,
+}
+
+/// Entries by the sections that were asked for, and the numbers of what they name.
+pub fn number(
+    alloc: Global,
+    imports: &Imports,
+    asked: IndexSet<u32>,
+    entries: Vec<Entry>,
+) -> Result<Numbered, AllocError>
+    ensures { IfOk result (IsNumbered (names_of imports.now) asked.keys entries.items) }
+{
+    let keys = import_keys(alloc, imports, entries.as_slice())?;
+    let parted = part(alloc, &asked, entries)?;
+    let files = order_of(alloc, &parted)?;
+    Ok(Numbered {
+        numbers: Numbers {
+            sections: asked,
+            imports: keys,
+            files,
+        },
+        parted,
+    })
+}
+
+/// The object of what was fed, by the names of its imports in the order of their keys and those of all files.
 pub fn object_of(
     alloc: Global,
     segments: &[Segment],
     imports: &Imports,
-    asked: IndexSet<u32>,
-    entries: Vec<Entry>,
+    files: &[String],
+    numbered: Numbered,
 ) -> Result<Object, AllocError>
-    ensures object { IfOk result (λ o. o ≡ object_before segments.now
-        (names_of imports.now) asked.keys
-        (import_keys (names_of imports.now) (map (content_of []) entries.items)) entries.items) }
+    ensures object { IfOk result (λ o. o ≡ object_of segments.now (names_of imports.now)
+        (map string_bytes files.now) numbered) }
     ensures fits { IfOk result ObjectFits }
 {
-    let numbers = Numbers {
-        sections: asked,
-        imports: import_keys(alloc, imports, entries.as_slice())?,
-    };
-    let (exports, asserts) = declared_by(alloc, &numbers, entries.as_slice())?;
-    let drafts = filled(alloc, &numbers, entries)?;
+    let Numbered { numbers, parted } = numbered;
+    let Parted { drafts, told } = parted;
+    let declared = declared_by(alloc, &numbers, told)?;
     Ok(Object {
         version: 2,
-        files: Sequence::new(alloc),
+        files: file_names(alloc, files, numbers.files.as_slice())?,
         imports: import_names(alloc, imports, numbers.imports.as_slice())?,
-        sections: finish_sections(alloc, segments, drafts)?,
-        exports,
-        asserts,
+        sections: finish_sections(alloc, segments, &numbers, drafts)?,
+        exports: declared.exports,
+        asserts: declared.asserts,
     })
 }

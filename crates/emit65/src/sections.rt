@@ -11,7 +11,7 @@ ghost use Rattle.semantics65.specs.Numbering.{object_with, AreSound};
 use crate::entries::{Entries, Entry, SourcePos};
 use crate::files::Files;
 use crate::fixups::{Fixup, Piece};
-use crate::numbering::{Imports, in_order, narrow, object_of};
+use crate::numbering::{Imports, narrow, number, object_of};
 use base65::Seed;
 use indexmap::IndexSet;
 use object65::{Norm, Object, Width};
@@ -187,7 +187,7 @@ impl Closed {
             files,
             entries,
         } = self;
-        let object = object_of(alloc, segments, imports, asked, entries)?;
-        in_order(alloc, &files, object)
+        let numbered = number(alloc, imports, asked, entries)?;
+        object_of(alloc, segments, imports, files.names(), numbered)
     }
 }

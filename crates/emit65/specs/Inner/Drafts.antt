@@ -1,6 +1,6 @@
--- Sections while they are numbered: drafts, and the order of files.
-use Rattle.std.specs.Prelude.{◌≡◌, ℕ, ◌+◌, nat_eq, List, [], ◌∷◌, ◌++◌, map, filter_map, Option, Some, None, slice_get, if◌then◌else◌, true, option_map, IfSome}
-use Rattle.std.specs.List.{AllByRecursion, cons_option, flat_map, list_any}
+-- From entries to the object: entries by section, the order of files, and fragments.
+use Rattle.std.specs.Prelude.{◌≡◌, ℕ, ◌+◌, nat_eq, Bool, false, List, [], ◌∷◌, ◌++◌, map, filter_map, Option, Some, None, not, position, slice_get, if◌then◌else◌, true, IfSome}
+use Rattle.std.specs.List.{AllByRecursion, cons_option, filter, flat_map, list_any}
 use Rattle.syntax65.specs.declared.place.Place.{Place}
 use Rattle.object65.specs.declared.object.Assert.{Assert}
 use Rattle.object65.specs.declared.object.Export.{Export}
@@ -12,44 +12,28 @@ use Rattle.object65.specs.declared.object.Origin.{Origin}
 use Rattle.object65.specs.declared.object.Section.{Section}
 use Rattle.object65.specs.Objects.{FitsBits, FragmentFits, OriginFits}
 use Rattle.semantics65.specs.declared.contents.Declaration.{Declaration}
+use Rattle.semantics65.specs.declared.contents.Declaration.TheVariants.{Exported, Asserted}
 use Rattle.semantics65.specs.declared.contents.Segment.{Segment}
-use Rattle.semantics65.specs.Numbering.{assert_of, export_of, is_empty, name_of, numbered, segment_name, segment_power, number_of, once, optional_key}
+use Rattle.semantics65.specs.Numbering as numbering
+use Rattle.semantics65.specs.Numbering.{all_joined, import_keys, is_empty, name_of, numbered, once, segment_name, segment_power}
 use Rattle.semantics65.specs.Views.{place_in, said_at}
 use Rattle.emit65.specs.declared.entries.Entry.{Entry}
 use Rattle.emit65.specs.declared.entries.Entry.TheVariants.{Bytes, Room, Value, Told}
+use Rattle.emit65.specs.declared.entries.SourcePos.{SourcePos}
 use Rattle.emit65.specs.Fed as fed
+use Rattle.emit65.specs.declared.numbering.Numbered.{Numbered}
 use Rattle.emit65.specs.declared.numbering.drafts.Draft.{Draft}
+use Rattle.emit65.specs.declared.numbering.drafts.Saying.{Saying}
 use Rattle.emit65.specs.declared.numbering.exports.Declared.{Declared}
+use Rattle.emit65.specs.declared.numbering.fragments.Joined.{Joined}
+use Rattle.emit65.specs.declared.numbering.keys.Numbers.{Numbers}
 use Rattle.emit65.specs.declared.numbering.ordering.Order.{Order}
 
--- ---- Tables and sections in the making, from which the object of a module's contents is built.
-
--- ---- Sections in the making.
-
-abbrev pub new_draft : ℕ → Draft
-new_draft g = record { segment = g; done = []; last = None }
-
-abbrev pub all_of_draft : Draft → List Fragment
-all_of_draft d = d.done ++ cons_option d.last []
-
--- behind an open fragment another one begins
-abbrev pub begun : Draft → Fragment → Draft
-begun d f = record d { done = all_of_draft d; last = Some f }
-
--- or is joined to it
-abbrev pub grown : Draft → Option Fragment → Fragment → Draft
-grown d (Some (Literal a)) (Literal b) = record d { last = Some (Literal (a ++ b)) }
-grown d (Some (Fill m)) (Fill n) = record d { last = Some (Fill (m + n)) }
-grown d last f = begun d f
-
-abbrev pub with_fragment : Draft → Fragment → Draft
-with_fragment d f = if is_empty f then d else grown d d.last f
-
--- ---- Entries, one by one, whose origins are kept as they stand.
-
--- so a place doesn't count
+-- what is said brings the same imports wherever it stands
 abbrev pub anywhere : Place
 anywhere = place_in [] 0
+
+-- ---- Entries by section.
 
 -- the segment into which an entry puts something
 abbrev pub segment_of : Entry → Option ℕ
@@ -58,52 +42,132 @@ segment_of (Room g n) = Some g
 segment_of (Value width g o f) = Some g
 segment_of _ = None
 
--- a draft of this segment behind an entry
-abbrev pub with_put : (sections imports : List ℕ) → Entry → Draft → Draft
-with_put sections imports (Bytes g bytes) d = with_fragment d (Literal bytes)
-with_put sections imports (Room g n) d = with_fragment d (Fill n)
-with_put sections imports (Value width g o f) d = with_fragment d (fragment.Value width (fed.origin_by o) (numbered sections imports f))
-with_put sections imports _ d = d
+abbrev pub is_segment : ℕ → Option ℕ → Bool
+is_segment g None = false
+is_segment g (Some h) = nat_eq h g
 
--- a change of the draft of one segment alone
-abbrev pub in_segment : Option ℕ → (Draft → Draft) → Draft → Draft
-in_segment None change d = d
-in_segment (Some g) change d = if nat_eq g d.segment then change d else d
+-- the entries that put something into a segment
+abbrev pub put_in : ℕ → List Entry → List Entry
+put_in g es = filter (λ e. is_segment g (segment_of e)) es
 
--- a draft behind an entry, which may stand in its segment
-abbrev pub with_entry : (sections imports : List ℕ) → Entry → Draft → Draft
-with_entry sections imports e d = in_segment (segment_of e) (with_put sections imports e) d
+abbrev pub draft_of : List Entry → ℕ → Draft
+draft_of es g = record { segment = g; entries = put_in g es }
 
-abbrev pub with_entries : (sections imports : List ℕ) → List Entry → List Draft → List Draft
-with_entries sections imports [] ds = ds
-with_entries sections imports (e ∷ es) ds = with_entries sections imports es (map (with_entry sections imports e) ds)
+-- a draft behind an entry, which may put something into its segment
+abbrev pub with_entry : Entry → Draft → Draft
+with_entry e d = if is_segment d.segment (segment_of e) then record d { entries = d.entries ++ e ∷ [] } else d
 
-abbrev pub exports_at : (sections imports : List ℕ) → Origin → List Declaration → List Export
-exports_at sections imports origin ss = filter_map (export_of (λ place. origin) sections imports) (map (said_at anywhere) ss)
+abbrev pub sayings_at : SourcePos → List Declaration → List Saying
+sayings_at o ss = map (λ s. record { pos = o; said = s }) ss
 
-abbrev pub entry_exports : (sections imports : List ℕ) → Entry → List Export
-entry_exports sections imports (Told o ss) = exports_at sections imports (fed.origin_by o) ss
-entry_exports sections imports _ = []
+-- what an entry says
+abbrev pub sayings_of : Entry → List Saying
+sayings_of (Told o ss) = sayings_at o ss
+sayings_of _ = []
 
-abbrev pub asserts_at : (sections imports : List ℕ) → Origin → List Declaration → List Assert
-asserts_at sections imports origin ss = filter_map (assert_of (λ place. origin) sections imports) (map (said_at anywhere) ss)
+-- ---- Files, by their places in the table of all.
 
-abbrev pub entry_asserts : (sections imports : List ℕ) → Entry → List Assert
-entry_asserts sections imports (Told o ss) = asserts_at sections imports (fed.origin_by o) ss
-entry_asserts sections imports _ = []
+abbrev pub value_keys : Entry → List ℕ
+value_keys (Value width g o f) = o.file ∷ []
+value_keys _ = []
 
-abbrev pub section_from : List Segment → Draft → Section
-section_from segments d = record {
+abbrev pub draft_keys : Draft → List ℕ
+draft_keys d = flat_map value_keys d.entries
+
+abbrev pub exported_at : SourcePos → Declaration → List ℕ
+exported_at o (Exported n f) = o.file ∷ []
+exported_at o _ = []
+
+abbrev pub export_keys : Saying → List ℕ
+export_keys t = exported_at t.pos t.said
+
+abbrev pub asserted_at : SourcePos → Declaration → List ℕ
+asserted_at o (Asserted act words f) = o.file ∷ []
+asserted_at o _ = []
+
+abbrev pub assert_keys : Saying → List ℕ
+assert_keys t = asserted_at t.pos t.said
+
+-- each once, in the order of the object
+abbrev pub order_of : List Draft → List Saying → List ℕ
+order_of ds ts = once [] (flat_map draft_keys ds ++ flat_map export_keys ts ++ flat_map assert_keys ts)
+
+-- the file that was named last is one of those that are named
+abbrev pub HasLast : Order → Type 0
+HasLast o = IfSome o.last (λ k. list_any (nat_eq k) o.files.keys ≡ true)
+
+abbrev pub origin_of : Numbers → SourcePos → Origin
+origin_of n o = record { file = position (nat_eq o.file) n.files.keys; line = o.line }
+
+-- ---- Fragments.
+
+abbrev pub fragment_of : Numbers → Entry → Fragment
+fragment_of n (Bytes g bytes) = Literal bytes
+fragment_of n (Room g count) = Fill count
+fragment_of n (Value width g o f) = fragment.Value width (origin_of n o) (numbered n.sections.keys n.imports.keys f)
+fragment_of n _ = Literal []
+
+-- of which none is empty, and no two neighbours could be one
+abbrev pub fragments_of : Numbers → List Entry → List Fragment
+fragments_of n es = all_joined (filter (λ f. not (is_empty f)) (map (fragment_of n) es))
+
+abbrev pub all_of : Joined → List Fragment
+all_of t = t.done ++ cons_option t.last []
+
+-- behind an open fragment another one begins
+abbrev pub begun : Joined → Fragment → Joined
+begun t f = record { done = all_of t; last = Some f }
+
+-- or is joined to it
+abbrev pub grown : Joined → Option Fragment → Fragment → Joined
+grown t (Some (Literal a)) (Literal b) = record t { last = Some (Literal (a ++ b)) }
+grown t (Some (Fill m)) (Fill n) = record t { last = Some (Fill (m + n)) }
+grown t last f = begun t f
+
+abbrev pub with_fragment : Joined → Fragment → Joined
+with_fragment t f = if is_empty f then t else grown t t.last f
+
+abbrev pub section_of : List Segment → Numbers → Draft → Section
+section_of segments n d = record {
   name = segment_name (slice_get segments d.segment);
   align = segment_power (slice_get segments d.segment);
-  fragments = all_of_draft d;
+  fragments = fragments_of n d.entries;
+}
+
+-- ---- Exports and assertions.
+
+abbrev pub export_by : Numbers → Saying → Option Export
+export_by n t = numbering.export_of (λ place. origin_of n t.pos) n.sections.keys n.imports.keys (said_at anywhere t.said)
+
+abbrev pub assert_by : Numbers → Saying → Option Assert
+assert_by n t = numbering.assert_of (λ place. origin_of n t.pos) n.sections.keys n.imports.keys (said_at anywhere t.said)
+
+-- ---- The object.
+
+-- entries by the sections of these keys, and the numbers of what they name, with imports of these names
+pub record IsNumbered (names : List (List ℕ)) (asked : List ℕ) (es : List Entry) (t : Numbered) : Type 0 where
+  pub sections : t.numbers.sections.keys ≡ asked
+  pub imports : t.numbers.imports.keys ≡ import_keys names (map (fed.content_of []) es)
+  pub files : t.numbers.files.keys ≡ order_of (map (draft_of es) asked) (flat_map sayings_of es)
+  pub drafts : t.parted.drafts.items ≡ map (draft_of es) asked
+  pub told : t.parted.told ≡ flat_map sayings_of es
+
+-- what these come to, with the names of all imports and all files
+abbrev pub object_of : List Segment → (imports files : List (List ℕ)) → Numbered → Object
+object_of segments imports files t = record {
+  version = 2;
+  files = map (name_of files) t.numbers.files.keys;
+  imports = map (name_of imports) t.numbers.imports.keys;
+  sections = map (section_of segments t.numbers) t.parted.drafts.items;
+  exports = filter_map (export_by t.numbers) t.parted.told;
+  asserts = filter_map (assert_by t.numbers) t.parted.told;
 }
 
 -- ---- The numbers are those of their types.
 
-pub record DraftFits (d : Draft) : Type 0 where
-  pub done : AllByRecursion FragmentFits d.done
-  pub last : AllByRecursion FragmentFits (cons_option d.last [])
+pub record JoinedFits (t : Joined) : Type 0 where
+  pub done : AllByRecursion FragmentFits t.done
+  pub last : AllByRecursion FragmentFits (cons_option t.last [])
 
 abbrev pub SectionFits : Section → Type 0
 SectionFits s = AllByRecursion FragmentFits s.fragments
@@ -117,70 +181,3 @@ AssertFits a = OriginFits a.origin × FitsBits a.form
 pub record DeclaredFits (t : Declared) : Type 0 where
   pub exports : AllByRecursion ExportFits t.exports
   pub asserts : AllByRecursion AssertFits t.asserts
-
--- ---- The object before its files have their order.
-
--- its origins name files by their places in the table of all
-abbrev pub object_before : List Segment → List (List ℕ) → (sections imports : List ℕ) → List Entry → Object
-object_before segments names sections imports es = record {
-  version = 2;
-  files = [];
-  imports = map (name_of names) imports;
-  sections = map (section_from segments) (with_entries sections imports es (map new_draft sections));
-  exports = flat_map (entry_exports sections imports) es;
-  asserts = flat_map (entry_asserts sections imports) es;
-}
-
--- ---- The files that parts name, by their places in a table.
-
-abbrev pub fragment_keys : Fragment → List ℕ
-fragment_keys (fragment.Literal bytes) = []
-fragment_keys (fragment.Fill n) = []
-fragment_keys (fragment.Value width origin f) = optional_key origin.file
-
-abbrev pub section_files : Section → List ℕ
-section_files s = flat_map fragment_keys s.fragments
-
-abbrev pub export_key : Export → List ℕ
-export_key e = optional_key e.origin.file
-
-abbrev pub assert_key : Assert → List ℕ
-assert_key a = optional_key a.origin.file
-
--- each once, in the order of the object
-abbrev pub order_of : List Section → List Export → List Assert → List ℕ
-order_of sections exports asserts = once [] (flat_map section_files sections ++ flat_map export_key exports ++ flat_map assert_key asserts)
-
--- the file that was named last is one of those that are named
-abbrev pub HasLast : Order → Type 0
-HasLast o = IfSome o.last (λ k. list_any (nat_eq k) o.files.keys ≡ true)
-
--- ---- Origins by that order.
-
-abbrev pub origin_by : List ℕ → Origin → Origin
-origin_by order o = record { file = option_map (number_of order) o.file; line = o.line }
-
-abbrev pub fragment_by : List ℕ → Fragment → Fragment
-fragment_by order (fragment.Literal bytes) = fragment.Literal bytes
-fragment_by order (fragment.Fill n) = fragment.Fill n
-fragment_by order (fragment.Value width origin f) = fragment.Value width (origin_by order origin) f
-
-abbrev pub section_by : List ℕ → Section → Section
-section_by order s = record { name = s.name; align = s.align; fragments = map (fragment_by order) s.fragments }
-
-abbrev pub export_by : List ℕ → Export → Export
-export_by order e = record { name = e.name; origin = origin_by order e.origin; form = e.form }
-
-abbrev pub assert_by : List ℕ → Assert → Assert
-assert_by order a = record { action = a.action; origin = origin_by order a.origin; text = a.text; form = a.form }
-
--- the object with its files in its own order, where these are the names in the table
-abbrev pub in_order : List (List ℕ) → Object → Object
-in_order names o =
-    let order : List ℕ = order_of o.sections o.exports o.asserts in
-    record o {
-      files = map (name_of names) order;
-      sections = map (section_by order) o.sections;
-      exports = map (export_by order) o.exports;
-      asserts = map (assert_by order) o.asserts;
-    }

@@ -1,62 +1,34 @@
-//! The sections of an object, filled entry by entry.
+//! Entries by section.
 
-ghost use Rattle.std.specs.Prelude.{◌≡◌, ◌+◌, ◌++◌, ◌∷◌, map, nat_eq, IfOk, OnOk};
-ghost use Rattle.std.specs.List.{AllByRecursion, IsDistinct};
-ghost use Rattle.object65.specs.declared.object.Fragment.TheVariants.{Fill, Literal};
-ghost use Rattle.emit65.specs.Inner.Drafts.{begun, new_draft, segment_of, DraftFits, with_entry, with_entries, with_fragment, with_put};
+ghost use Rattle.std.specs.Prelude.{◌≡◌, ◌++◌, [], map, nat_eq, IfOk, OnOk};
+ghost use Rattle.std.specs.List.{flat_map, IsDistinct};
+ghost use Rattle.emit65.specs.Inner.Drafts.{draft_of, sayings_at, sayings_of, segment_of, with_entry};
 
-use super::keys::{Numbers, numbered};
-use crate::entries::{Entry, sum_of};
+use crate::entries::{Entry, SourcePos};
 use base65::Sequence;
-use object65::Fragment;
+use indexmap::IndexSet;
+use semantics65::Declaration;
 use std::alloc::{AllocError, Global};
-use std::mem;
 
-/// A section in the making.
+/// A section in the making: the entries that put something into a segment.
 #[derive(Drop)]
 pub struct Draft {
     pub segment: u32,
-    pub done: Sequence<Fragment>,
-    /// The fragment behind these, to which the next one may be joined.
-    pub last: Option<Fragment>,
+    pub entries: Sequence<Entry>,
 }
 
-/// Puts a fragment behind the others.
-fn begin(draft: &mut Draft, fragment: Fragment) -> Result<(), AllocError>
-    ensures { OnOk result (draft.new ≡ begun draft.old fragment) }
-{
-    if let Some(last) = mem::replace(&mut draft.last, Some(fragment)) {
-        draft.done.push(last)?;
-    }
-    Ok(())
+/// One thing that is said, and where its statement stands.
+#[derive(Drop)]
+pub struct Saying {
+    pub pos: SourcePos,
+    pub said: Declaration,
 }
 
-/// Adds bytes.
-fn add_bytes(draft: &mut Draft, bytes: Sequence<u8>) -> Result<(), AllocError>
-    ensures { OnOk result (draft.new ≡ with_fragment draft.old (Literal bytes)) }
-{
-    if bytes.len() == 0 {
-        return Ok(());
-    }
-    if let Some(Fragment::Literal(literal)) = &mut draft.last {
-        return literal.extend_from_slice(bytes.as_slice());
-    }
-    begin(draft, Fragment::Literal(bytes))
-}
-
-/// Adds so many bytes of the linker's fill value.
-fn add_fill(draft: &mut Draft, count: u32) -> Result<(), AllocError>
-    ensures added { OnOk result (draft.new ≡ with_fragment draft.old (Fill count)) }
-    ensures fits { OnOk result (DraftFits draft.old → DraftFits draft.new) }
-{
-    if count == 0 {
-        return Ok(());
-    }
-    if let Some(Fragment::Fill(before)) = &draft.last {
-        draft.last = Some(Fragment::Fill(sum_of(*before, count)?));
-        return Ok(());
-    }
-    begin(draft, Fragment::Fill(count))
+/// What was fed, by section, and what is said.
+#[derive(Drop)]
+pub struct Parted {
+    pub drafts: Vec<Draft>,
+    pub told: Sequence<Saying>,
 }
 
 /// The segment into whose section an entry puts something.
@@ -70,94 +42,84 @@ fn segment_of(entry: &Entry) -> Option<u32>
     }
 }
 
-/// Adds what an entry puts into the section of its segment.
+/// Puts an entry into the section of its segment, if there is one.
 fn add_put(
-    alloc: Global,
-    numbers: &Numbers,
-    draft: &mut Draft,
-    entry: Entry,
-) -> Result<(), AllocError>
-    ensures added { OnOk result (draft.new ≡ with_put numbers.now.sections.keys
-        numbers.now.imports.keys entry draft.old) }
-    ensures fits { OnOk result (DraftFits draft.old → DraftFits draft.new) }
-{
-    match entry {
-        Entry::Bytes { segment: _, bytes } => add_bytes(draft, bytes),
-        Entry::Room { segment: _, count } => add_fill(draft, count),
-        Entry::Value {
-            width,
-            segment: _,
-            pos,
-            form,
-        } => {
-            let origin = pos.origin();
-            let form = numbered(alloc, numbers, &form)?;
-            begin(
-                draft,
-                Fragment::Value {
-                    width,
-                    origin,
-                    form,
-                },
-            )
-        }
-        Entry::Told { .. } | Entry::Waits(_) => Ok(()),
-    }
-}
-
-/// Adds what an entry puts into the section of its segment, if there is one.
-fn add_entry(
-    alloc: Global,
-    numbers: &Numbers,
+    sections: &IndexSet<u32>,
     drafts: &mut Vec<Draft>,
     entry: Entry,
 ) -> Result<(), AllocError>
-    requires keys { map (λ d. d.segment) drafts.old.items ≡ numbers.now.sections.keys }
-    requires distinct { IsDistinct nat_eq numbers.now.sections.keys }
-    ensures added { OnOk result (drafts.new.items ≡ map (with_entry numbers.now.sections.keys
-        numbers.now.imports.keys entry) drafts.old.items) }
-    ensures fits { OnOk result (AllByRecursion DraftFits drafts.old.items →
-        AllByRecursion DraftFits drafts.new.items) }
+    requires keys { map (λ d. d.segment) drafts.old.items ≡ sections.now.keys }
+    requires distinct { IsDistinct nat_eq sections.now.keys }
+    ensures { OnOk result (drafts.new.items ≡ map (with_entry entry) drafts.old.items) }
 {
     let Some(segment) = segment_of(&entry) else {
         return Ok(());
     };
-    if let Some(place) = numbers.sections.get_index_of(&segment) {
+    if let Some(place) = sections.get_index_of(&segment) {
         let draft = &mut drafts[place];
-        add_put(alloc, numbers, draft, entry)?;
+        draft.entries.push(entry)?;
     }
     Ok(())
 }
 
+/// Adds what is said at one place.
+fn add_told(
+    told: &mut Sequence<Saying>,
+    pos: SourcePos,
+    said: Sequence<Declaration>,
+) -> Result<(), AllocError>
+    ensures { OnOk result (told.new ≡ told.old ++ sayings_at pos said) }
+{
+    for said in said.into_vec() {
+        told.push(Saying { pos, said })?;
+    }
+    Ok(())
+}
+
+/// Adds an entry to those of its kind.
+fn add_entry(sections: &IndexSet<u32>, parted: &mut Parted, entry: Entry) -> Result<(), AllocError>
+    requires keys { map (λ d. d.segment) parted.old.drafts.items ≡ sections.now.keys }
+    requires distinct { IsDistinct nat_eq sections.now.keys }
+    ensures drafts { OnOk result (parted.new.drafts.items ≡
+        map (with_entry entry) parted.old.drafts.items) }
+    ensures told { OnOk result (parted.new.told ≡ parted.old.told ++ sayings_of entry) }
+{
+    match entry {
+        Entry::Told { pos, said } => add_told(&mut parted.told, pos, said),
+        put => add_put(sections, &mut parted.drafts, put),
+    }
+}
+
 /// A section in the making for each key, with nothing in it.
 fn new_drafts(alloc: Global, keys: &[u32]) -> Result<Vec<Draft>, AllocError>
-    ensures { IfOk result (λ drafts. drafts.items ≡ map new_draft keys.now) }
+    ensures { IfOk result (λ drafts. drafts.items ≡ map (draft_of []) keys.now) }
 {
     let mut drafts = Vec::new(alloc);
     for key in keys {
         drafts.push(Draft {
             segment: *key,
-            done: Sequence::new(alloc),
-            last: None,
+            entries: Sequence::new(alloc),
         })?;
     }
     Ok(drafts)
 }
 
-/// The sections in the making behind all entries.
-pub fn filled(
+/// Entries by the sections of these segments, and what is said.
+pub fn part(
     alloc: Global,
-    numbers: &Numbers,
+    sections: &IndexSet<u32>,
     entries: Vec<Entry>,
-) -> Result<Vec<Draft>, AllocError>
-    requires { IsDistinct nat_eq numbers.now.sections.keys }
-    ensures filled { IfOk result (λ drafts. drafts.items ≡ with_entries numbers.now.sections.keys
-        numbers.now.imports.keys entries.items (map new_draft numbers.now.sections.keys)) }
-    ensures fits { IfOk result (λ drafts. AllByRecursion DraftFits drafts.items) }
+) -> Result<Parted, AllocError>
+    ensures drafts { IfOk result (λ p. p.drafts.items ≡
+        map (draft_of entries.items) sections.now.keys) }
+    ensures told { IfOk result (λ p. p.told ≡ flat_map sayings_of entries.items) }
 {
-    let mut drafts = new_drafts(alloc, numbers.sections.as_slice())?;
+    let mut parted = Parted {
+        drafts: new_drafts(alloc, sections.as_slice())?,
+        told: Sequence::new(alloc),
+    };
     for entry in entries {
-        add_entry(alloc, numbers, &mut drafts, entry)?;
+        add_entry(sections, &mut parted, entry)?;
     }
-    Ok(drafts)
+    Ok(parted)
 }

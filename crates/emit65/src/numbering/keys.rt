@@ -1,28 +1,29 @@
-//! The keys of imports, by name and in the order of their numbers, and the numbers of sections.
+//! The keys of imports, by name and in the order of their numbers, and the numbers of sections and files.
 
 ghost use Rattle.std.specs.Prelude.{◌≡◌, IfOk, [], map, nat_eq, OnOk};
-ghost use Rattle.emit65.specs.Inner.Drafts.{anywhere};
+ghost use Rattle.emit65.specs.Inner.Drafts.{anywhere, origin_of};
 ghost use Rattle.semantics65.specs.Numbering.{key_of, number_of, numbered, content_imports, import_keys, imports_in, once, optional_key, said_imports};
-ghost use Rattle.object65.specs.Objects.{FitsBits};
+ghost use Rattle.object65.specs.Objects.{FitsBits, OriginFits};
 ghost use Rattle.indexmap.specs.IndexSet.{IsUnique};
 ghost use Rattle.emit65.specs.Fed.{content_of, names_of};
 ghost use Rattle.semantics65.specs.Views.{said_at};
 
-use crate::entries::Entry;
+use crate::entries::{Entry, SourcePos};
 use base65::Seed;
 use indexmap::IndexSet;
-use object65::{Node, Norm};
+use object65::{Node, Norm, Origin};
 use semantics65::Declaration;
 use std::alloc::{AllocError, Global};
 
 /// The names of imports, each once. The key of one is its place.
 pub type Imports = IndexSet<Vec<u8>, Seed>;
 
-/// The keys of sections and imports, whose places are their numbers.
+/// The keys of sections, imports and files, whose places are their numbers. A file's key is its place in the table of all.
 #[derive(Drop)]
 pub struct Numbers {
     pub sections: IndexSet<u32>,
     pub imports: IndexSet<u32>,
+    pub files: IndexSet<u32>,
 }
 
 /// A place in 32 bits. No memory holds a table that needs more.
@@ -36,13 +37,28 @@ pub fn narrow(place: usize) -> Result<u32, AllocError>
 }
 
 /// The number of a key, or 0 where it has none.
-pub fn number_of(keys: &IndexSet<u32>, key: u32) -> Result<u32, AllocError>
+fn number_of(keys: &IndexSet<u32>, key: u32) -> Result<u32, AllocError>
     ensures { IfOk result (λ n. n ≡ number_of keys.now.keys key) }
 {
     match keys.get_index_of(&key) {
         Some(place) => narrow(place),
         None => Ok(0),
     }
+}
+
+/// The origin by the number of its file.
+pub fn origin_of(numbers: &Numbers, pos: SourcePos) -> Result<Origin, AllocError>
+    ensures origin { IfOk result (λ o. o ≡ origin_of numbers.now pos) }
+    ensures fits { IfOk result OriginFits }
+{
+    let file = match numbers.files.get_index_of(&pos.file) {
+        Some(place) => Some(narrow(place)?),
+        None => None,
+    };
+    Ok(Origin {
+        file,
+        line: pos.line,
+    })
 }
 
 /// The form with the numbers of its sections and imports.

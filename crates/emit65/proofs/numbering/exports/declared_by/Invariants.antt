@@ -1,11 +1,12 @@
-use Rattle.std.proofs.Common.{◌≡◌, ◌++◌, drop}
-use Rattle.std.specs.List.{flat_map}
-use Rattle.emit65.specs.Inner.Drafts.{DeclaredFits, entry_asserts, entry_exports}
+use Rattle.std.proofs.Common.{◌≡◌, ◌++◌}
+use Rattle.std.specs.Prelude.{filter_map}
+use Rattle.std.specs.Vec.Iter.{into_iter_items}
+use Rattle.emit65.specs.Inner.Drafts.{DeclaredFits, assert_by, export_by}
 use Rattle.emit65.proofs.numbering.exports.declared_by.Given as goal
 
-abbrev pub invariant-loop-entry : goal.invariant-loop-entry
-invariant-loop-entry l = record {
-  exports : l.declared.exports ++ flat_map (entry_exports l.numbers.sections.keys l.numbers.imports.keys) (drop l.entry-index l.entries) ≡ flat_map (entry_exports l.numbers.sections.keys l.numbers.imports.keys) l.entries;
-  asserts : l.declared.asserts ++ flat_map (entry_asserts l.numbers.sections.keys l.numbers.imports.keys) (drop l.entry-index l.entries) ≡ flat_map (entry_asserts l.numbers.sections.keys l.numbers.imports.keys) l.entries;
+abbrev pub invariant-loop-saying : goal.invariant-loop-saying
+invariant-loop-saying l = record {
+  exports : l.declared.exports ++ filter_map (export_by l.numbers) (into_iter_items l.saying-iterator) ≡ filter_map (export_by l.numbers) l.fn.told;
+  asserts : l.declared.asserts ++ filter_map (assert_by l.numbers) (into_iter_items l.saying-iterator) ≡ filter_map (assert_by l.numbers) l.fn.told;
   fits : DeclaredFits l.declared;
 }

@@ -1,24 +1,28 @@
 use Rattle.std.proofs.Common.{◌∙◌, ap}
 use Rattle.std.proofs.lemmas.Result.{IfOk-weaker}
 use Rattle.object65.specs.Objects.{is_good_object}
-use Rattle.emit65.specs.Fed.{names_of, names_in}
-use Rattle.emit65.specs.Inner.Drafts.{in_order}
-use Rattle.emit65.proofs.Ordered.{finished}
+use Rattle.emit65.specs.Fed.{names_of}
+use Rattle.emit65.specs.Inner.Drafts.{object_of}
 use Rattle.emit65.proofs.GoodObjects.{good_object}
+use Rattle.emit65.proofs.Ordered.{finished}
 use Rattle.emit65.proofs.sections.Closed.finish.Goals as goal
 
 pub returns-clause-object : goal.returns-clause-object
 returns-clause-object c =
-    let files = names_in c.args.self.files in
-    IfOk-weaker c.in_order.result _ _
-    (λ o made cs has. made ∙ ap (in_order files) c.in_ok-object.ensures.object ∙ finished c.args.segments.now (names_of c.args.imports.now) c.args.self cs c.in_order.ensures.distinct has)
-    c.in_order.ensures.object
+    let segments = c.args.segments.now in
+    let names = names_of c.args.imports.now in
+    let t = c.in_ok-numbered.numbered in
+    IfOk-weaker c.object_of.result _ _
+    (λ o made cs has. made ∙ ap (λ files. object_of segments names files t) c.names.ensures.names ∙ finished segments names c.args.self t cs c.names.ensures.distinct c.in_ok-numbered.ensures has)
+    c.object_of.ensures.object
 
 pub returns-clause-good : goal.returns-clause-good
 returns-clause-good c =
-    let files = names_in c.args.self.files in
-    IfOk-weaker c.in_order.result _ _
+    let segments = c.args.segments.now in
+    let names = names_of c.args.imports.now in
+    let t = c.in_ok-numbered.numbered in
+    IfOk-weaker c.object_of.result _ _
     (λ o made cs has sound.
-    ap is_good_object (made ∙ ap (in_order files) c.in_ok-object.ensures.object ∙ finished c.args.segments.now (names_of c.args.imports.now) c.args.self cs c.in_order.ensures.distinct has)
-    ∙ good_object c.args.segments.now (names_of c.args.imports.now) cs sound)
-    c.in_order.ensures.object
+    ap is_good_object (made ∙ ap (λ files. object_of segments names files t) c.names.ensures.names ∙ finished segments names c.args.self t cs c.names.ensures.distinct c.in_ok-numbered.ensures has)
+    ∙ good_object segments names cs sound)
+    c.object_of.ensures.object

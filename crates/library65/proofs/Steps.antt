@@ -1,21 +1,21 @@
 -- What is read of a file in steps.
 use Rattle.std.proofs.lemmas.Grind.{common_steps}
 use Rattle.std.proofs.Common.{◌≡◌, ◌∙◌, ◌<◌, arith, ℕ, List, Bool, true, false, Option, Some, None, Result, Ok, Err, refl, sym, ap, subst, add-one, drop, get_or, length, zero, suc, ◌+◌, ◌-◌, ◌≤◌, [], ◌∷◌, ◌++◌, map, nat_le, nat_lt, take, min, length-drop}
-use Rattle.std.specs.Prelude.{IfSome}
+use Rattle.std.specs.Prelude.{IfSome, if◌then◌else◌}
 use Rattle.std.specs.FinMap as finmap
 use Rattle.base65.specs.Outcome.{◌>>=◌, Refuses, Unless}
 use Rattle.base65.specs.Store.{Files, Passes}
 use Rattle.library65.specs.declared.fault.LibraryFault.{LibraryFault}
-use Rattle.library65.specs.declared.fault.LibraryFault.TheVariants.{FileError, FileNotFound, CutShort}
+use Rattle.library65.specs.declared.fault.LibraryFault.TheVariants.{BadIndex, FileError, FileNotFound, CutShort}
 use Rattle.library65.specs.Fault.{is_outside}
-use Rattle.library65.specs.Reading.{in_file, index_at, count_at, counted_at, list_at, listing_at, listings_at, number_at, symbol_at, symbols_at}
+use Rattle.library65.specs.Reading.{in_file, index_at, count_at, counted_at, list_at, listing_at, listings_at, name_at, number_at, symbol_at, symbols_at}
 use Rattle.std.proofs.Math.Seq.{drop-cons}
 use Rattle.std.proofs.lemmas.List.{map-append, drop-drop, length-take, take_all}
 use Rattle.std.specs.List.{AllByRecursion}
 use Rattle.library65.specs.declared.index.Entry.{Entry}
 use Rattle.library65.specs.declared.index.Listing.{Listing}
 use Rattle.library65.specs.Libraries.{joined, joined_all, library_at, piece_at}
-use Rattle.library65.specs.Spelling.{Member}
+use Rattle.library65.specs.Spelling.{Member, is_name}
 use Rattle.std.proofs.lemmas.Bool.Decides.{nat_tests}
 use Rattle.base65.specs.Reading.{ReadsChunk}
 use Rattle.base65.proofs.Chunks.{more}
@@ -39,6 +39,10 @@ module _ {A Y : Type 0} (name : List ℕ) (all rest : Reading A) (step : Reading
   pub stops : (known now : Option Files) (e : LibraryFault) → now ≡ known → Leads known name rest all → IfSome now (λ m. Refuses is_outside e (in_file (finmap.get m name) step)) → IfSome known (λ m. Refuses is_outside e (in_file (finmap.get m name) all))
   stops x now e files leads refused = grind (arith, common_steps)
 
+  -- a step that is taken, behind which what was read is refused
+  pub fails : (known now : Option Files) (y : Y) (e : LibraryFault) → now ≡ known → Leads known name rest all → IfSome now (λ m. in_file (finmap.get m name) step ≡ Ok y) → ((bytes : List ℕ) → k y bytes ≡ Err e) → IfSome known (λ m. Refuses is_outside e (in_file (finmap.get m name) all))
+  fails x now y e files leads read refused = grind (arith, common_steps)
+
 -- at the beginning all is left to read
 pub begins : {A : Type 0} (known : Option Files) (name : List ℕ) (all : Reading A) → Leads known name all all
 begins x name all = grind (arith, common_steps)
@@ -57,8 +61,18 @@ pub counted_begins : (at : ℕ) (bytes : List ℕ) → counted_at at bytes ≡ (
 unfolding counted_at
 counted_begins at bytes = grind (arith, common_steps)
 
-pub symbols_more : (n i : ℕ) (names : List (List ℕ)) (at : ℕ) → i < n → (bytes : List ℕ) → symbols_at (n - i) names at bytes ≡ (symbol_at at bytes >>= (λ s. symbols_at (n - (i + 1)) (names ++ s.0 ∷ []) s.1 bytes))
-symbols_more n i names at less bytes = let one : n - i ≡ suc (n - (i + 1)) = omega arith in rw one refl
+-- what is read is tested before it goes on
+tested : {X A : Type 0} (is_good : X → Bool) (r : Result X LibraryFault) (k : X → Result A LibraryFault) → (r >>= (λ x. if is_good x then Ok x else Err BadIndex) >>= k) ≡ (r >>= (λ x. if is_good x then k x else Err BadIndex))
+tested is_good (Err e) k = refl
+tested is_good (Ok x) k = by (is_good x)
+  where
+    by : (b : Bool) → ((if b then Ok x else Err BadIndex) >>= k) ≡ (if b then k x else Err BadIndex)
+    by true = refl
+    by false = refl
+
+pub symbols_more : (n i : ℕ) (names : List (List ℕ)) (at : ℕ) → i < n → (bytes : List ℕ) → symbols_at (n - i) names at bytes ≡ (name_at at bytes >>= (λ s. if is_name s.0 then symbols_at (n - (i + 1)) (names ++ s.0 ∷ []) s.1 bytes else Err BadIndex))
+unfolding symbol_at
+symbols_more n i names at less bytes = let one : n - i ≡ suc (n - (i + 1)) = omega arith in rw one (tested (λ s. is_name s.0) (name_at at bytes) (λ s. symbols_at (n - (i + 1)) (names ++ s.0 ∷ []) s.1 bytes))
 
 -- ---- What is said of the members.
 

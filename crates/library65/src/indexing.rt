@@ -22,21 +22,6 @@ use std::alloc::Global;
 /// With these bytes a library begins.
 pub const HEAD: [u8; 5] = [0x52, 0x36, 0x35, 0x6c, 0x01];
 
-/// Refuses a file that doesn't begin as a library.
-pub fn read_head<S: Store>(store: &mut S, file: &str) -> Result<(), LibraryFault>
-    ensures read { IfSome (S.files store.old) (λ m. Gives is_outside (λ u. u) result (in_file (map.get m file.now) head_at)) }
-    ensures bytes { IfSome (S.files store.old) (λ m. HoldsBytes (map.get m file.now) result) }
-    ensures kept { Leaves S.files S.failures S.blamed FileError file.now store.old store.new result }
-    ensures asked { Asks is_outside (S.failures store.old) result }
-{
-    let mut head = [0u8; 5];
-    let n = read_full(store, file, 0, &mut head)?;
-    if n < 5 || head[..] != HEAD[..] {
-        return Err(LibraryFault::NotALibrary);
-    }
-    Ok(())
-}
-
 /// Reads a field of the buffer's length.
 fn read_field<S: Store>(
     store: &mut S,
@@ -100,28 +85,7 @@ pub fn read_name<S: Store>(
     Ok((name, at + 1 + len as u64))
 }
 
-/// Reads the name of an export or an import, and answers where it ends.
-#[tactic(auto, unfolding(crate::specs::Reading::symbol_at))]
-fn read_symbol<S: Store>(
-    alloc: Global,
-    store: &mut S,
-    file: &str,
-    at: u64,
-) -> Result<(Sequence<u8>, u64), LibraryFault>
-    requires { at ≤ file_limit }
-    ensures read { IfSome (S.files store.old) (λ m. Gives is_outside (λ x. x) result (in_file (map.get m file.now) (symbol_at at))) }
-    ensures kept { Leaves S.files S.failures S.blamed FileError file.now store.old store.new result }
-    ensures limit { IfOk result (λ x. x.1 ≤ file_limit) }
-    ensures later { IfOk result (λ x. at < x.1) }
-{
-    let (name, end) = read_name(alloc, store, file, at)?;
-    if !is_symbol_name(name.as_slice()) {
-        return Err(LibraryFault::BadIndex);
-    }
-    Ok((name, end))
-}
-
-/// Reads names behind their number, and answers where they end.
+/// Reads names of exports or imports behind their number, and answers where they end.
 fn read_symbols<S: Store>(
     alloc: Global,
     store: &mut S,
@@ -139,38 +103,18 @@ fn read_symbols<S: Store>(
     let mut names = Sequence::new(alloc);
     let mut end = at + 4;
     for _ in 0..count {
-        let (name, next) = read_symbol(alloc, store, file, end)?;
+        let (name, next) = read_name(alloc, store, file, end)?;
+        if !is_symbol_name(name.as_slice()) {
+            return Err(LibraryFault::BadIndex);
+        }
         names.push(name)?;
         end = next;
     }
     Ok((names, end))
 }
 
-/// Reads the name of a member, which none of these members has, and answers where it ends.
-#[tactic(auto, unfolding(crate::specs::Reading::member_name_at))]
-fn read_member_name<S: Store>(
-    alloc: Global,
-    store: &mut S,
-    file: &str,
-    at: u64,
-    names: &IndexSet<Vec<u8>>,
-) -> Result<(Sequence<u8>, u64), LibraryFault>
-    requires { at ≤ file_limit }
-    ensures read { IfSome (S.files store.old) (λ m. Gives is_outside (λ x. x) result (in_file (map.get m file.now) (member_name_at (map (λ n. n.items) names.now.keys) at))) }
-    ensures kept { Leaves S.files S.failures S.blamed FileError file.now store.old store.new result }
-    ensures limit { IfOk result (λ x. x.1 ≤ file_limit) }
-    ensures later { IfOk result (λ x. at < x.1) }
-    ensures new { IfOk result (λ x. is_among (map (λ n. n.items) names.now.keys) x.0 ≡ false) }
-{
-    let (name, end) = read_name(alloc, store, file, at)?;
-    if !(is_file_name(name.as_slice()) && !has_name(names, name.as_slice())) {
-        return Err(LibraryFault::BadIndex);
-    }
-    Ok((name, end))
-}
-
-/// Reads what is said of a member, and answers where that ends.
-#[tactic(auto, unfolding(crate::specs::Reading::listing_at))]
+/// Reads what is said of a member, whose name none of these members has, and answers where that ends.
+#[tactic(auto, unfolding(crate::specs::Reading::listing_at, crate::specs::Reading::member_name_at))]
 fn read_listing<S: Store>(
     alloc: Global,
     store: &mut S,
@@ -185,7 +129,10 @@ fn read_listing<S: Store>(
     ensures later { IfOk result (λ x. at < x.1) }
     ensures new { IfOk result (λ x. is_among (map (λ n. n.items) names.now.keys) x.0.name ≡ false) }
 {
-    let (name, end) = read_member_name(alloc, store, file, at, names)?;
+    let (name, end) = read_name(alloc, store, file, at)?;
+    if !(is_file_name(name.as_slice()) && !has_name(names, name.as_slice())) {
+        return Err(LibraryFault::BadIndex);
+    }
     let size = read_number(store, file, end)?;
     let (exports, end) = read_symbols(alloc, store, file, end + 4)?;
     let (imports, end) = read_symbols(alloc, store, file, end)?;
@@ -200,14 +147,18 @@ fn read_listing<S: Store>(
     ))
 }
 
-/// Reads the number of members behind the head.
+/// Reads the number of members behind the head; a file that doesn't begin as a library is refused.
 fn read_count<S: Store>(store: &mut S, file: &str) -> Result<u32, LibraryFault>
     ensures read { IfSome (S.files store.old) (λ m. Gives is_outside (λ n. n) result (in_file (map.get m file.now) count_at)) }
     ensures bytes { IfSome (S.files store.old) (λ m. HoldsBytes (map.get m file.now) result) }
     ensures kept { Leaves S.files S.failures S.blamed FileError file.now store.old store.new result }
     ensures asked { Asks is_outside (S.failures store.old) result }
 {
-    read_head(store, file)?;
+    let mut head = [0u8; 5];
+    let n = read_full(store, file, 0, &mut head)?;
+    if n < 5 || head[..] != HEAD[..] {
+        return Err(LibraryFault::NotALibrary);
+    }
     read_number(store, file, 5)
 }
 
@@ -237,25 +188,6 @@ pub fn read_list<S: Store>(
     Ok((members, end))
 }
 
-/// The entry of a member that stands at a place.
-fn entry_of(member: Listing, place: u64) -> Entry
-    ensures { result ≡ entry_at place member }
-{
-    let Listing {
-        name,
-        size,
-        exports,
-        imports,
-    } = member;
-    Entry {
-        name,
-        place,
-        size,
-        exports,
-        imports,
-    }
-}
-
 /// The members one behind the other, and where the last one ends.
 fn place_members(
     alloc: Global,
@@ -276,28 +208,22 @@ fn place_members(
         if next > FILE_LIMIT {
             return Err(LibraryFault::BadIndex);
         }
-        entries.push(entry_of(member, end))?;
+        let Listing {
+            name,
+            size,
+            exports,
+            imports,
+        } = member;
+        entries.push(Entry {
+            name,
+            place: end,
+            size,
+            exports,
+            imports,
+        })?;
         end = next;
     }
     Ok((entries, end))
-}
-
-/// Refuses a file that doesn't end at a place.
-fn check_end<S: Store>(store: &mut S, file: &str, end: u64) -> Result<(), LibraryFault>
-    requires some { 0 < end }
-    requires limit { end ≤ file_limit }
-    ensures read { IfSome (S.files store.old) (λ m. Gives is_outside (λ u. u) result (in_file (map.get m file.now) (end_at end))) }
-    ensures kept { Leaves S.files S.failures S.blamed FileError file.now store.old store.new result }
-{
-    let mut last = [0u8; 2];
-    let n = read_full(store, file, end - 1, &mut last)?;
-    if n < 1 {
-        return Err(LibraryFault::CutShort);
-    }
-    if n > 1 {
-        return Err(LibraryFault::BadIndex);
-    }
-    Ok(())
 }
 
 /// Reads the index of a library: of its members no byte but the last, to see where the file ends.
@@ -312,7 +238,14 @@ pub fn read_index<S: Store>(alloc: Global, store: &mut S, file: &str) -> Result<
 {
     let (members, at) = read_list(alloc, store, file)?;
     let (entries, end) = place_members(alloc, members, at)?;
-    check_end(store, file, end)?;
+    let mut last = [0u8; 2];
+    let n = read_full(store, file, end - 1, &mut last)?;
+    if n < 1 {
+        return Err(LibraryFault::CutShort);
+    }
+    if n > 1 {
+        return Err(LibraryFault::BadIndex);
+    }
     Ok(Index {
         entries: Sequence::from_vec(entries),
     })

@@ -4,7 +4,8 @@ use Rattle.std.proofs.Common.{◌≡◌, ◌∙◌, ◌<◌, arith, ℕ, List, B
 use Rattle.std.specs.Prelude.{IfSome, if◌then◌else◌}
 use Rattle.std.specs.FinMap as finmap
 use Rattle.base65.specs.Outcome.{◌>>=◌, Refuses, Unless}
-use Rattle.base65.specs.Store.{Files, Passes}
+use Rattle.base65.specs.Store.{Blamed, Files, Passes}
+use Rattle.object65.specs.Reading.{Leaves}
 use Rattle.library65.specs.declared.fault.LibraryFault.{LibraryFault}
 use Rattle.library65.specs.declared.fault.LibraryFault.TheVariants.{BadIndex, FileError, FileNotFound, CutShort}
 use Rattle.library65.specs.Fault.{is_outside}
@@ -52,8 +53,16 @@ pub kept_count : {T : Type 0} (old now : ℕ) (x : T) → Passes {E = LibraryFau
 kept_count old now x passes = grind (arith, common_steps)
 
 -- a refusal for another cause passes nothing on
-pub none_passed : {T : Type 0} (old now : ℕ) (e : LibraryFault) → now ≡ old → (e ≡ FileError → ⊥) → Passes {T = T} FileError old now (Err e)
+none_passed : {T : Type 0} (old now : ℕ) (e : LibraryFault) → now ≡ old → (e ≡ FileError → ⊥) → Passes {T = T} FileError old now (Err e)
 none_passed old now e same other = grind (arith, common_steps)
+
+-- it leaves what the answered call before it left
+pub kept_on : {X T U : Type 0} {files_of : X → Option Files} {failures_of : X → ℕ} {blamed_of : X → Blamed} {name : List ℕ} {old new : X} (x : T) (e : LibraryFault) → Leaves files_of failures_of blamed_of FileError name old new (Ok x) → (e ≡ FileError → ⊥) → Leaves {T = U} files_of failures_of blamed_of FileError name old new (Err e)
+kept_on x e kept other = record {
+  files = kept.files;
+  count = none_passed _ _ e (kept_count _ _ x kept.count) other;
+  blamed = λ h. (let is : e ≡ FileError = cc h in absurd (other is));
+}
 
 -- ---- The names of exports or imports.
 

@@ -3,13 +3,12 @@
 ghost use Rattle.std.specs.Prelude.{◌≡◌, map, ◌++◌, ◌∷◌, [], Ok, false};
 ghost use Rattle.object65.specs.Objects.{is_among, is_printed};
 ghost use Rattle.std.specs.List.{list_all};
-ghost use Rattle.std.specs.Str.{is_utf8};
 ghost use Rattle.base65.specs.Outcome.{Gives};
 ghost use Rattle.library65.specs.Fault.{is_memory};
 ghost use Rattle.library65.specs.Spelling.{is_among, is_folder, is_member_name, is_name, is_plain};
 
 use crate::LibraryFault;
-use base65::Sequence;
+use base65::{Sequence, is_utf8};
 use indexmap::IndexSet;
 use std::alloc::Global;
 
@@ -76,15 +75,6 @@ fn is_plain_name(name: &[u8]) -> bool
         .all(|b| !(*b < 0x20) && !(*b == 0x7f) && !(*b == b'/'))
 }
 
-fn is_text(name: &[u8]) -> bool
-    ensures { result ≡ is_utf8 name.now }
-{
-    match std::str::from_utf8(name) {
-        Ok(_) => true,
-        Err(_) => false,
-    }
-}
-
 fn is_folder_name(name: &[u8]) -> bool
     ensures { result ≡ is_folder name.now }
 {
@@ -98,7 +88,7 @@ pub fn is_file_name(name: &[u8]) -> bool
     !name.is_empty()
         && name.len() < 256
         && is_plain_name(name)
-        && is_text(name)
+        && is_utf8(name)
         && !is_folder_name(name)
 }
 

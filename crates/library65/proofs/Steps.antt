@@ -93,8 +93,8 @@ pub listings_more : (n i : ℕ) (ms : List Listing) (names : List (List ℕ)) (a
 listings_more n i ms names at named less bytes = let one : n - i ≡ suc (n - (i + 1)) = omega arith in rw (one, named) refl
 
 -- the names of the members so far, with one more
-pub name_pushed : (ms : List Listing) (m : Listing) (after : List Listing) (names more : List (List ℕ)) (name : List ℕ) → names ≡ map (λ x. x.name) ms → name ≡ m.name → ◌≡◌ {A = Result (List (List ℕ)) LibraryFault} (Ok (names ++ name ∷ [])) (Ok more) → after ≡ ms ++ m ∷ [] → more ≡ map (λ x. x.name) after
-name_pushed ms m after names more name named same added pushed = grind (arith, common_steps)
+pub name_pushed : (ms : List Listing) (m : Listing) (after : List Listing) (names : List (List ℕ)) (name : List ℕ) → names ≡ map (λ x. x.name) ms → name ≡ m.name → after ≡ ms ++ m ∷ [] → names ++ name ∷ [] ≡ map (λ x. x.name) after
+name_pushed ms m after names name named same pushed = grind (arith, common_steps)
 
 -- ---- The members themselves.
 

@@ -51,10 +51,6 @@ pub struct Listing {
     pub imports: Sequence<Sequence<u8>>,
 }
 
-const HERE: [u8; 1] = [b'.'];
-
-const ABOVE: [u8; 2] = [b'.', b'.'];
-
 fn is_printed_name(name: &[u8]) -> bool
     ensures { result ≡ list_all is_printed name.now }
 {
@@ -75,12 +71,6 @@ fn is_plain_name(name: &[u8]) -> bool
         .all(|b| !(*b < 0x20) && !(*b == 0x7f) && !(*b == b'/'))
 }
 
-fn is_folder_name(name: &[u8]) -> bool
-    ensures { result ≡ is_folder name.now }
-{
-    name == &HERE[..] || name == &ABOVE[..]
-}
-
 /// Whether a member may have the name.
 pub fn is_file_name(name: &[u8]) -> bool
     ensures { result ≡ is_member_name name.now }
@@ -89,19 +79,6 @@ pub fn is_file_name(name: &[u8]) -> bool
         && name.len() < 256
         && is_plain_name(name)
         && is_utf8(name)
-        && !is_folder_name(name)
-}
-
-/// Adds a new name.
-pub fn add_name(
-    alloc: Global,
-    names: &mut IndexSet<Vec<u8>>,
-    name: &[u8],
-) -> Result<(), LibraryFault>
-    requires { is_among (map (λ n. n.items) names.old.keys) name.now ≡ false }
-    ensures { Gives is_memory (λ _. map (λ n. n.items) names.new.keys) result (Ok (map (λ n. n.items) names.old.keys ++ name.now ∷ [])) }
-{
-    let key = Vec::from_slice(alloc, name)?;
-    names.insert(key)?;
-    Ok(())
+        && name != b".".as_slice()
+        && name != b"..".as_slice()
 }

@@ -11,7 +11,7 @@ ghost use Rattle.library65.specs.Reading.{in_file, field_at, head_at, name_at, n
 ghost use Rattle.std.specs.List.{AllByRecursion};
 ghost use Rattle.library65.specs.declared.fault.LibraryFault.TheVariants.{FileError};
 
-use crate::index::{Listing, add_name, has_name, is_file_name, is_symbol_name};
+use crate::index::{Listing, has_name, is_file_name, is_symbol_name};
 use crate::{Entry, Index, LibraryFault};
 use base65::{Sequence, Store, read_full};
 use byteorder::{ByteOrder, LittleEndian};
@@ -181,7 +181,8 @@ pub fn read_list<S: Store>(
     let mut end = 9;
     for _ in 0..count {
         let (member, next) = read_listing(alloc, store, file, end, &names)?;
-        add_name(alloc, &mut names, member.name.as_slice())?;
+        let name = Vec::from_slice(alloc, member.name.as_slice())?;
+        names.insert(name)?;
         members.push(member)?;
         end = next;
     }

@@ -45,25 +45,16 @@ fn put_name(out: &mut Vec<u8>, name: &[u8]) -> Result<(), AllocError>
     Ok(())
 }
 
-/// Adds names, each behind its length.
-fn put_each(out: &mut Vec<u8>, names: &[Sequence<u8>]) -> Result<(), AllocError>
-    requires { list_all is_name names.now ≡ true }
-    ensures { OnOk result (out.new.items ≡ out.old.items ++ flat_map name_bytes names.now) }
-{
-    for name in names {
-        put_name(out, name.as_slice())?;
-    }
-    Ok(())
-}
-
-/// Adds names behind their number.
+/// Adds names behind their number, each behind its length.
 fn put_names(out: &mut Vec<u8>, names: &[Sequence<u8>]) -> Result<(), LibraryFault>
     requires { list_all is_name names.now ≡ true }
     ensures { Puts (names_bytes names.now) (length (names_bytes names.now)) out.old.items out.new.items result }
 {
     let count = count_of(names.len())?;
     put_number(out, count)?;
-    put_each(out, names)?;
+    for name in names {
+        put_name(out, name.as_slice())?;
+    }
     Ok(())
 }
 

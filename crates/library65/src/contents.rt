@@ -6,11 +6,10 @@ ghost use Rattle.object65.specs.Objects.{is_good_object};
 ghost use Rattle.library65.specs.Fault.{is_memory};
 ghost use Rattle.library65.specs.Libraries.{agrees, are_same, checked, contents_from};
 ghost use Rattle.library65.specs.Spelling.{AreSymbols};
-ghost use Rattle.object65.specs.Record.{is_memory as is_object_memory, is_version};
+ghost use Rattle.object65.specs.Record.{is_version};
 ghost use Rattle.object65.specs.Items.{with_item};
-ghost use Rattle.object65.specs.Reading.{end_at};
 ghost use Rattle.object65.specs.Scanning.{State, object_from};
-ghost use Rattle.library65.specs.Inner.Contents.{ReadsContents, contents_at};
+ghost use Rattle.library65.specs.Inner.Contents.{ReadsContents};
 
 use crate::index::is_file_name;
 use crate::{Entry, LibraryFault};

@@ -1,25 +1,21 @@
 -- What is read of a file in steps.
 use Rattle.std.proofs.lemmas.Grind.{common_steps}
-use Rattle.std.proofs.Common.{◌≡◌, ◌∙◌, ◌<◌, arith, ℕ, List, Bool, true, false, Option, Some, None, Result, Ok, Err, refl, sym, ap, subst, add-one, drop, get_or, length, zero, suc, ◌+◌, ◌-◌, ◌≤◌, [], ◌∷◌, ◌++◌, map, nat_le, nat_lt, take, min, length-drop}
+use Rattle.std.proofs.Common.{◌≡◌, ◌∙◌, ◌<◌, arith, ℕ, List, Bool, true, false, Option, Some, None, Result, Ok, Err, refl, sym, ap, subst, drop, length, suc, ◌+◌, ◌-◌, ◌≤◌, [], ◌∷◌, ◌++◌, map, nat_le, take, min}
 use Rattle.std.specs.Prelude.{IfSome, if◌then◌else◌}
 use Rattle.std.specs.FinMap as finmap
-use Rattle.base65.specs.Outcome.{◌>>=◌, Refuses, Unless}
+use Rattle.base65.specs.Outcome.{◌>>=◌, Refuses}
 use Rattle.base65.specs.Store.{Blamed, Files, Passes}
 use Rattle.object65.specs.Reading.{Leaves}
 use Rattle.library65.specs.declared.fault.LibraryFault.{LibraryFault}
-use Rattle.library65.specs.declared.fault.LibraryFault.TheVariants.{BadIndex, FileError, FileNotFound, CutShort}
+use Rattle.library65.specs.declared.fault.LibraryFault.TheVariants.{BadIndex, FileError}
 use Rattle.library65.specs.Fault.{is_outside}
 use Rattle.library65.specs.Reading.{in_file, index_at, count_at, counted_at, list_at, listing_at, listings_at, name_at, number_at, symbol_at, symbols_at}
-use Rattle.std.proofs.Math.Seq.{drop-cons}
-use Rattle.std.proofs.lemmas.List.{map-append, drop-drop, length-take, take_all}
-use Rattle.std.specs.List.{AllByRecursion}
-use Rattle.library65.specs.declared.index.Entry.{Entry}
+use Rattle.std.proofs.lemmas.List.{length-take, take_all}
 use Rattle.library65.specs.declared.index.Listing.{Listing}
-use Rattle.library65.specs.Libraries.{joined, joined_all, library_at, piece_at}
-use Rattle.library65.specs.Spelling.{Member, is_name}
+use Rattle.library65.specs.Libraries.{joined_all, library_at, piece_at}
+use Rattle.library65.specs.Spelling.{is_name}
 use Rattle.std.proofs.lemmas.Bool.Decides.{nat_tests}
 use Rattle.base65.specs.Reading.{ReadsChunk}
-use Rattle.base65.proofs.Chunks.{more}
 use Rattle.base65.proofs.Filling.{take-add}
 
 -- ---- Something read of a file in steps, where the file may not be there and the files may not be known.

@@ -33,7 +33,6 @@ fn read_field<S: Store>(
     requires short { length buf.old < 256 }
     ensures read { IfSome (S.files store.old) (λ m. Gives is_outside (λ _. buf.new) result (in_file (map.get m file.now) (field_at (length buf.old) at))) }
     ensures kept { Leaves S.files S.failures S.blamed FileError file.now store.old store.new result }
-    ensures asked { Asks is_outside (S.failures store.old) result }
     ensures limit { OnOk result (at + length buf.old ≤ file_limit) }
 {
     let n = read_full(store, file, at, buf)?;
@@ -48,11 +47,10 @@ fn read_field<S: Store>(
 
 /// Reads a number of four bytes.
 #[tactic(auto, unfolding(crate::specs::Reading::number_at))]
-pub fn read_number<S: Store>(store: &mut S, file: &str, at: u64) -> Result<u32, LibraryFault>
+fn read_number<S: Store>(store: &mut S, file: &str, at: u64) -> Result<u32, LibraryFault>
     requires { at ≤ file_limit }
     ensures read { IfSome (S.files store.old) (λ m. Gives is_outside (λ n. n) result (in_file (map.get m file.now) (number_at at))) }
     ensures kept { Leaves S.files S.failures S.blamed FileError file.now store.old store.new result }
-    ensures asked { Asks is_outside (S.failures store.old) result }
     ensures limit { OnOk result (at + 4 ≤ file_limit) }
 {
     let mut bytes = [0u8; 4];
@@ -62,7 +60,7 @@ pub fn read_number<S: Store>(store: &mut S, file: &str, at: u64) -> Result<u32, 
 
 /// Reads a name behind its length, and answers where it ends.
 #[tactic(auto, unfolding(crate::specs::Reading::name_at))]
-pub fn read_name<S: Store>(
+fn read_name<S: Store>(
     alloc: Global,
     store: &mut S,
     file: &str,
@@ -71,9 +69,7 @@ pub fn read_name<S: Store>(
     requires { at ≤ file_limit }
     ensures read { IfSome (S.files store.old) (λ m. Gives is_outside (λ x. x) result (in_file (map.get m file.now) (name_at at))) }
     ensures kept { Leaves S.files S.failures S.blamed FileError file.now store.old store.new result }
-    ensures asked { Asks is_outside (S.failures store.old) result }
-    ensures limit { IfOk result (λ x. x.1 ≤ file_limit) }
-    ensures later { IfOk result (λ x. at < x.1) }
+    ensures end { IfOk result (λ x. (at < x.1) × (x.1 ≤ file_limit)) }
 {
     let mut len = [0u8; 1];
     read_field(store, file, at, &mut len)?;
@@ -95,8 +91,7 @@ fn read_symbols<S: Store>(
     requires { at ≤ file_limit }
     ensures read { IfSome (S.files store.old) (λ m. Gives is_outside (λ x. x) result (in_file (map.get m file.now) (counted_at at))) }
     ensures kept { Leaves S.files S.failures S.blamed FileError file.now store.old store.new result }
-    ensures limit { IfOk result (λ x. x.1 ≤ file_limit) }
-    ensures later { IfOk result (λ x. at < x.1) }
+    ensures end { IfOk result (λ x. (at < x.1) × (x.1 ≤ file_limit)) }
 {
     let count = read_number(store, file, at)?;
     // The index may say any number, so room grows by the names that are read.
@@ -125,8 +120,7 @@ fn read_listing<S: Store>(
     requires { at ≤ file_limit }
     ensures read { IfSome (S.files store.old) (λ m. Gives is_outside (λ x. x) result (in_file (map.get m file.now) (listing_at (map (λ n. n.items) names.now.keys) at))) }
     ensures kept { Leaves S.files S.failures S.blamed FileError file.now store.old store.new result }
-    ensures limit { IfOk result (λ x. x.1 ≤ file_limit) }
-    ensures later { IfOk result (λ x. at < x.1) }
+    ensures end { IfOk result (λ x. (at < x.1) × (x.1 ≤ file_limit)) }
     ensures new { IfOk result (λ x. is_among (map (λ n. n.items) names.now.keys) x.0.name ≡ false) }
 {
     let (name, end) = read_name(alloc, store, file, at)?;
@@ -163,7 +157,7 @@ fn read_count<S: Store>(store: &mut S, file: &str) -> Result<u32, LibraryFault>
 }
 
 /// Reads what is said of all members, and answers where that ends.
-pub fn read_list<S: Store>(
+fn read_list<S: Store>(
     alloc: Global,
     store: &mut S,
     file: &str,
@@ -172,8 +166,7 @@ pub fn read_list<S: Store>(
     ensures bytes { IfSome (S.files store.old) (λ m. HoldsBytes (map.get m file.now) result) }
     ensures kept { Leaves S.files S.failures S.blamed FileError file.now store.old store.new result }
     ensures asked { Asks is_outside (S.failures store.old) result }
-    ensures limit { IfOk result (λ x. x.1 ≤ file_limit) }
-    ensures some { IfOk result (λ x. 0 < x.1) }
+    ensures end { IfOk result (λ x. (0 < x.1) × (x.1 ≤ file_limit)) }
 {
     let count = read_count(store, file)?;
     let mut names = IndexSet::new(alloc);
@@ -198,8 +191,7 @@ fn place_members(
     requires { at ≤ file_limit }
     ensures placed { Gives is_memory (λ x. (x.0.items, x.1)) result (placed [] at members.items) }
     ensures within { IfOk result (λ x. AllByRecursion (λ e. e.place + e.size ≤ file_limit) x.0.items) }
-    ensures limit { IfOk result (λ x. x.1 ≤ file_limit) }
-    ensures later { IfOk result (λ x. at ≤ x.1) }
+    ensures end { IfOk result (λ x. (at ≤ x.1) × (x.1 ≤ file_limit)) }
     ensures cause { IsErrOf result LibraryFault.FileError → ⊥ }
 {
     let mut entries = Vec::with_capacity(alloc, members.len())?;

@@ -85,19 +85,6 @@ fn put_listings(
     Ok(())
 }
 
-/// Adds the members' bytes.
-fn put_bodies(
-    out: &mut Vec<u8>,
-    members: &IndexMap<Vec<u8>, Stored, Seed>,
-) -> Result<(), AllocError>
-    ensures { OnOk result (out.new.items ≡ out.old.items ++ flat_map (λ m. m.1) (members_of members.now)) }
-{
-    for stored in members.values() {
-        out.extend_from_slice(&stored.bytes)?;
-    }
-    Ok(())
-}
-
 /// Adds the bytes of a library of these members.
 pub fn put_library(
     out: &mut Vec<u8>,
@@ -110,6 +97,8 @@ pub fn put_library(
     out.extend_from_slice(&HEAD)?;
     put_number(out, count)?;
     put_listings(out, members)?;
-    put_bodies(out, members)?;
+    for stored in members.values() {
+        out.extend_from_slice(&stored.bytes)?;
+    }
     Ok(())
 }

@@ -40,8 +40,8 @@ loop-preserved g c =
     record {
       files = c.in_ok-member.ensures.kept.files ∙ c.loop.invariant.files;
       count = kept_count _ _ _ c.in_ok-member.ensures.kept.count ∙ c.loop.invariant.count;
-      limit = c.in_ok-member.ensures.limit;
-      some = omega (arith, c.in_ok-member.ensures.later);
+      limit = c.in_ok-member.ensures.end.1;
+      some = omega (arith, c.in_ok-member.ensures.end.0);
       names = ap (map (λ n. n.items)) c.in_ok-insert.ensures.keys ∙ new ∙ name_pushed ms c.in_ok-member.member _ names c.in_ok-name.name.items c.loop.invariant.names name c.in_ok-push.ensures.items;
       read = rw c.in_ok-push.ensures.items (goes_on c.args.file.now list_at (listings_at (n - i) ms c.loop.end) (listing_at names c.loop.end) (λ m. listings_at (n - (i + 1)) (ms ++ m.0 ∷ []) m.1) (listings_more n i ms names c.loop.end c.loop.invariant.names c.loop-test.true) _ _ (c.in_ok-member.member, c.in_ok-member.next) c.loop.invariant.files c.loop.invariant.read c.in_ok-member.ensures.read);
     }

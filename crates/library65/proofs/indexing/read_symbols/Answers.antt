@@ -50,7 +50,7 @@ loop-preserved g c =
     record {
       files = c.in_ok-name.ensures.kept.files ∙ c.loop.invariant.files;
       count = kept_count _ _ _ c.in_ok-name.ensures.kept.count ∙ c.loop.invariant.count;
-      limit = c.in_ok-name.ensures.limit;
-      later = omega (arith, c.loop.invariant.later, c.in_ok-name.ensures.later);
+      limit = c.in_ok-name.ensures.end.1;
+      later = omega (arith, c.loop.invariant.later, c.in_ok-name.ensures.end.0);
       read = rw (c.in_ok-push.ensures.ok) (rw good at read);
     }

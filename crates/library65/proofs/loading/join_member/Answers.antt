@@ -1,4 +1,3 @@
-use Rattle.std.proofs.Common.{◌≡◌}
 use Rattle.std.proofs.lemmas.Result.{err_from_is_err_and}
 use Rattle.library65.proofs.Members.{not_stored}
 use Rattle.library65.proofs.Steps.{kept_on}

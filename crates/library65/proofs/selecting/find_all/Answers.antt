@@ -1,4 +1,4 @@
-use Rattle.std.proofs.Common.{◌≡◌, ◌∙◌, ◌<◌, ℕ, map, length, Some, slice_get, subst, ap, arith, refl}
+use Rattle.std.proofs.Common.{◌≡◌, ◌<◌, ℕ, map, length, Some, slice_get, subst, ap, arith, refl}
 use Rattle.std.proofs.lemmas.List.{length-append}
 use Rattle.std.proofs.lemmas.Option.{slice_get_read}
 use Rattle.library65.specs.Inner.Searching.{Finds}

@@ -1,4 +1,4 @@
-use Rattle.std.proofs.Common.{◌≡◌, ◌≤◌, ◌-◌, length, map}
+use Rattle.std.proofs.Common.{◌≤◌, ◌-◌, length, map}
 use Rattle.library65.specs.Inner.Searching.{IsSearched, Stands}
 use Rattle.library65.proofs.selecting.find_all.Given as goal
 

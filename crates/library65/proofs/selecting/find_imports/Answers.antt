@@ -1,4 +1,4 @@
-use Rattle.std.proofs.Common.{◌∙◌, ◌∷◌, [], map, take, sym, subst}
+use Rattle.std.proofs.Common.{◌∷◌, [], map, take, sym, subst}
 use Rattle.library65.specs.Inner.Searching.{Finds}
 use Rattle.library65.proofs.Selections.{finds_more}
 use Rattle.library65.proofs.Tables.{taken_more}

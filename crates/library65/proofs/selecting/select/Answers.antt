@@ -1,5 +1,4 @@
 use Rattle.std.proofs.Common.{◌∙◌, ◌<◌, ◌≤◌, ◌+◌, map, length, sym, subst, ap, arith}
-use Rattle.std.proofs.lemmas.Result.{IfOk-weaker}
 use Rattle.std.specs.List.{AllByRecursion}
 use Rattle.library65.specs.Inner.Searching.{marked_from}
 use Rattle.library65.specs.Selection.{IsSelection}

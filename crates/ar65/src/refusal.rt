@@ -5,7 +5,7 @@ ghost use Rattle.library65.specs.Fault.{fault_text};
 ghost use Rattle.cli65.specs.Line.{archiving};
 ghost use Rattle.library65.specs.declared.fault.LibraryFault.TheVariants.{OutOfMemory};
 ghost use Rattle.ar65.specs.declared.refusal.Refusal.TheVariants.{Library};
-ghost use Rattle.ar65.specs.Refusals.{is_memory, named, refusal_message};
+ghost use Rattle.ar65.specs.Refusals.{is_memory, refusal_message};
 
 use base65::Sequence;
 use cli65::{ArchiveLine, file_message, join};
@@ -60,16 +60,6 @@ fn fault_text(alloc: Global, fault: &LibraryFault) -> Result<Sequence<u8>, Alloc
     }
 }
 
-/// The name of the file at a place.
-fn named<'a>(files: &[&'a str], place: usize) -> &'a str
-    ensures { result.now ≡ named (map (λ s. s.now) files.now) place }
-{
-    match files.get(place) {
-        Some(name) => *name,
-        None => "",
-    }
-}
-
 /// The message of a refusal, by the line that asked.
 pub fn refusal_message(
     alloc: Global,
@@ -90,10 +80,12 @@ pub fn refusal_message(
             line.library.as_bytes(),
             fault_text(alloc, fault)?.as_slice(),
         ),
-        Refusal::File(place, fault) => file_message(
-            alloc,
-            named(line.files.as_slice(), *place).as_bytes(),
-            fault_text(alloc, fault)?.as_slice(),
-        ),
+        Refusal::File(place, fault) => {
+            let words = fault_text(alloc, fault)?;
+            match line.files.as_slice().get(*place) {
+                Some(name) => file_message(alloc, name.as_bytes(), words.as_slice()),
+                None => file_message(alloc, b"", words.as_slice()),
+            }
+        }
     }
 }

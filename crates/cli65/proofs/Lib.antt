@@ -1,4 +1,5 @@
 pub mod Each
+pub mod Made
 pub mod Rows
 pub mod SmallValues
 pub mod SomeLine

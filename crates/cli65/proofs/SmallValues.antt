@@ -6,13 +6,12 @@ use Rattle.std.specs.List.{AllByRecursion, list_all, position}
 use Rattle.std.specs.Str.{bytes_eq}
 use Rattle.std.specs.Str.Parse.{digits_value}
 use Rattle.std.proofs.lemmas.Bool.Decides.{nat_tests}
-use Rattle.clap.specs.Words.{Kinds, Row, Text, fault_of, subcommand_of}
+use Rattle.clap.specs.Words.{Row, Text}
 use Rattle.base65.specs.Digit.{digits, is_digit}
 use Rattle.base65.specs.Outcome.{◌>>=◌, each}
 use Rattle.syntax65.specs.Forms.{plain_number_of}
-use Rattle.cli65.specs.CommandLine.{bin65}
 use Rattle.cli65.specs.Defining.{Defining, as_value, define_at, define_of, named_in, number_in, valued_in}
-use Rattle.cli65.specs.Line.{Archiving, Assembling, Says, all_given, archive, archiving_of, as_archive, as_assemble, assemble, assembling_of, line_of, link, linking_of, said, said_by, taken, unless_kinds}
+use Rattle.cli65.specs.Line.{Archiving, Assembling, Says, all_given, archiving_of, as_archive, as_assemble, assemble, assembling_of, line_of, link, linking_of, said, said_by, taken}
 use Rattle.cli65.specs.declared.fault.LineFault.{LineFault}
 use Rattle.cli65.specs.declared.fault.LineFault.TheVariants.{BadArguments}
 

@@ -1,11 +1,11 @@
 -- Any words are a line, or bad arguments.
-use Rattle.std.proofs.Common.{◌≡◌, ◌+◌, ℕ, Bool, true, false, List, [], ◌∷◌, take, drop, Option, Some, None, Result, Ok, Err, refl, if◌then◌else◌}
+use Rattle.std.proofs.Common.{◌+◌, ℕ, List, [], ◌∷◌, take, drop, Option, Some, None, Result, Ok, Err, refl}
 use Rattle.std.specs.Prelude.{◌==◌, codes}
 use Rattle.std.specs.List.{position}
 use Rattle.std.specs.Str.{bytes_eq}
 use Rattle.clap.specs.Words.{Kinds, Row, Text, fault_of, subcommand_of}
 use Rattle.base65.proofs.Own.{Own, bad, choice, each_own, good, next}
-use Rattle.base65.specs.Outcome.{◌>>=◌, each}
+use Rattle.base65.specs.Outcome.{each}
 use Rattle.cli65.specs.CommandLine.{bin65}
 use Rattle.cli65.specs.Defining.{as_value, define_at, define_of, is_constant_name, named_in, number_in, valued_in}
 use Rattle.cli65.specs.Laws.{SomeLineLaw}

@@ -1,5 +1,5 @@
 -- What clap's clauses say of the one command.
-use Rattle.std.proofs.Common.{◌≡◌, ◌∙◌, ◌⊎◌, List, [], ◌∷◌, Ok, true, refl, sym, ap, subst, inl, inr}
+use Rattle.std.proofs.Common.{◌≡◌, ◌∙◌, ◌⊎◌, arith, List, [], ◌∷◌, Ok, true, refl, sym, ap, subst, inl, inr}
 use Rattle.clap.specs.Words.{App, HasMatchesOf, HasKind, IsAmong, Kinds, Text, fault_of, is_simple, is_simple_and_free, kind_of, subcommand_of, subcommand_rows_of}
 use Rattle.clap.specs.declared.error.Error.{Error}
 use Rattle.clap.specs.declared.error.kind.ErrorKind.{ErrorKind}
@@ -9,7 +9,9 @@ use Rattle.clap.proofs.OnLiterals.{clap_on_literals}
 use Rattle.cli65.specs.CommandLine.{bin65}
 use Rattle.cli65.specs.LineFaults.{of_kind, is_outside}
 use Rattle.base65.specs.Outcome.{Refuses}
-use Rattle.cli65.specs.Line.{taken, unless_kinds}
+use Rattle.cli65.specs.Line.{line_of, taken, unless_kinds}
+use Rattle.cli65.specs.declared.fault.LineFault.{LineFault}
+use Rattle.std.proofs.lemmas.Grind.{common_steps}
 
 bin65_simple : is_simple bin65 ≡ true
 unfolding clap_on_literals
@@ -46,3 +48,8 @@ module _ (a : App) (is : a ≡ bin65) (words : List Text) where
       let free : is_simple_and_free a ≡ true = ap is_simple_and_free is ∙ bin65_free in
       let at : HasKind (fault_of bin65 words) e = subst (λ (b : App). HasKind (fault_of b words) e) is (has free) in
       refuses (fault_of bin65 words) (subcommand_of bin65 words) (kind_of e) at
+
+-- what is refused of words is refused of their line
+pub refused_line : (words : List Text) (e : LineFault) → Refuses is_outside e (taken words) → Refuses is_outside e (line_of words)
+unfolding line_of
+refused_line words e refused = grind (arith, common_steps)

@@ -4,7 +4,7 @@ ghost use Rattle.std.specs.Prelude.{◌≡◌, ◌==◌, ◌<◌, length, IfSome
 ghost use Rattle.std.specs.List.{list_all, position};
 ghost use Rattle.syntax65.specs.Forms.{is_word};
 ghost use Rattle.base65.specs.Outcome.{Gives, each};
-ghost use Rattle.cli65.specs.Defining.{begins_name, define_of, defining, is_constant_name, named_in, valued_in};
+ghost use Rattle.cli65.specs.Defining.{begins_name, define_of, defining, is_constant_name, named_in};
 ghost use Rattle.cli65.specs.LineFaults.{is_outside};
 
 use crate::fault::LineFault;
@@ -43,8 +43,10 @@ fn define<'a>(text: &'a str) -> Result<Define<'a>, LineFault>
         Some(place) => {
             let name = bytes.split_at(place).0;
             check_name(name)?;
-            let value = value_of(bytes.split_at(place + 1).1)?;
-            Ok(Define { name, value })
+            match number_in(bytes.split_at(place + 1).1) {
+                Some(value) => Ok(Define { name, value }),
+                None => Err(LineFault::BadArguments),
+            }
         }
     }
 }
@@ -96,14 +98,4 @@ fn is_word(b: u8) -> bool
     ensures { result ≡ is_word b }
 {
     matches!(b, b'a'..=b'z' | b'A'..=b'Z' | b'_' | b'0'..=b'9')
-}
-
-/// The value of a number.
-fn value_of(text: &[u8]) -> Result<u32, LineFault>
-    ensures { Gives is_outside (λ n. n) result (valued_in text.now) }
-{
-    match number_in(text) {
-        Some(value) => Ok(value),
-        None => Err(LineFault::BadArguments),
-    }
 }

@@ -9,7 +9,6 @@ pub mod laws;
 mod line;
 mod messages;
 mod numbers;
-mod parsing;
 mod reading;
 
 pub use fault::LineFault;

@@ -6,10 +6,10 @@ ghost use Rattle.base65.specs.Outcome.{Gives};
 ghost use Rattle.cli65.specs.LineFaults.{is_outside};
 ghost use Rattle.cli65.specs.Line.{view, all_given, archiving, assembling, linking, line_of, operation_of, said_by, archiving_of, assembling_of, linking_of};
 
+use crate::commands::command;
 use crate::defining::defines;
 use crate::fault::LineFault;
 use crate::line::{ArchiveLine, AssembleLine, Line, LinkLine, Operation};
-use crate::parsing::parse;
 use base65::Sequence;
 use clap::ArgMatches;
 use std::alloc::{AllocError, Global};
@@ -20,7 +20,7 @@ use std::convert::AsStr;
 pub fn read_line<'a, A: AsStr>(alloc: Global, words: &'a [A]) -> Result<Line<'a>, LineFault>
     ensures { Gives is_outside view result (line_of (map A.text words.entry.now)) }
 {
-    let found = parse(alloc, words)?;
+    let found = command(alloc)?.try_get_matches_from(words)?;
     let Some((name, own)) = found.subcommand() else {
         return Err(LineFault::BadArguments);
     };

@@ -1,24 +1,22 @@
 -- What is spelled as an index is read as that index.
 use Rattle.std.proofs.lemmas.Grind.{common_steps}
-use Rattle.std.proofs.Common.{◌≡◌, ◌∙◌, ◌<◌, ◌≤◌, ◌^◌, ℕ, ◌+◌, Bool, true, false, ◌||◌, nat_eq, nat_lt, List, [], ◌∷◌, ◌++◌, length, take, drop, map, Result, Ok, refl, sym, ap, subst, arith, append_assoc, length-append}
+use Rattle.std.proofs.Common.{◌≡◌, ◌∙◌, ◌<◌, ◌≤◌, ◌^◌, ℕ, ◌+◌, Bool, true, false, ◌||◌, nat_eq, nat_lt, List, [], ◌∷◌, ◌++◌, length, map, Ok, refl, sym, ap, subst, arith, append_assoc, length-append}
 use Rattle.std.specs.Prelude.{sum_by}
 use Rattle.std.specs.List.{AllByRecursion, flat_map, list_all}
 use Rattle.std.specs.Str.{bytes_eq}
 use Rattle.std.specs.Cmp.Lexicographic.{pointwise}
 use Rattle.std.proofs.lemmas.Bool.Decides.{nat_tests}
 use Rattle.std.proofs.lemmas.Cmp.{nat_list_eq_equiv}
-use Rattle.std.proofs.lemmas.List.{append-nil, drop_at, map-append, take_at}
+use Rattle.std.proofs.lemmas.List.{append-nil, map-append}
 use Rattle.std.proofs.lemmas.List.Folds.{list_any-append}
 use Rattle.std.proofs.lemmas.List.Sums.{sum_by-cons}
 use Rattle.byteorder.specs.Endian.{little_bytes}
 use Rattle.object65.specs.Reading.{file_limit}
-use Rattle.object65.proofs.Numbers.{back}
 use Rattle.base65.specs.Outcome.{◌>>=◌}
 use Rattle.library65.specs.declared.index.Entry.{Entry}
 use Rattle.library65.specs.declared.index.Listing.{Listing}
-use Rattle.library65.specs.declared.fault.LibraryFault.{LibraryFault}
 use Rattle.library65.specs.Spelling.{are_member_names, is_among, is_member_name, is_name, IsGoodEntry, IsIndex, StandFrom, entry_bytes, index_bytes, library_head, name_bytes, names_bytes}
-use Rattle.library65.specs.Reading.{counted_at, end_at, head_at, entry_at, field_at, index_at, list_at, listing, listing_at, listings_at, member_name_at, name_at, number_at, placed, symbol_at, symbols_at, whole}
+use Rattle.library65.specs.Reading.{counted_at, end_at, head_at, entry_at, field_at, index_at, list_at, listing, listing_at, listings_at, member_name_at, name_at, number_at, placed, symbol_at, symbols_at}
 use Rattle.library65.proofs.Edits.{good_names, left, right}
 use Rattle.library65.proofs.Made.{entry_size}
 

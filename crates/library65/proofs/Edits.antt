@@ -1,6 +1,6 @@
 -- Edits of a library, seen as a list of members.
 use Rattle.std.proofs.lemmas.Grind.{common_steps}
-use Rattle.std.proofs.Common.{arith, ◌≡◌, ◌∙◌, ℕ, Bool, true, false, not, ◌||◌, ◌&&◌, cond, List, [], ◌∷◌, map, Some, Ok, Err, is_some, refl, ap, subst, if◌then◌else◌}
+use Rattle.std.proofs.Common.{arith, ◌≡◌, ◌∙◌, ℕ, Bool, true, false, not, ◌||◌, ◌&&◌, List, [], ◌∷◌, map, Ok, is_some, refl, ap, if◌then◌else◌}
 use Rattle.std.specs.Global.{Vec}
 use Rattle.std.specs.List.{AllByRecursion}
 use Rattle.std.specs.Map.{keys_of, lookup, remove_entry}
@@ -10,9 +10,8 @@ use Rattle.std.proofs.lemmas.Cmp.{nat_list_eq_equiv}
 use Rattle.std.proofs.lemmas.Slice.Eq.{bytes_eq-Decides}
 use Rattle.indexmap.specs.IndexMap.{insert_entry}
 use Rattle.library65.specs.declared.contents.Contents.{Contents}
-use Rattle.library65.specs.declared.fault.LibraryFault.TheVariants.{BadMemberName}
 use Rattle.library65.specs.declared.library.Stored.{Stored}
-use Rattle.library65.specs.Libraries.{bytes_of, checked, contents_in, member_names, with_member, without_member, IsStored, member_of}
+use Rattle.library65.specs.Libraries.{bytes_of, checked, member_names, with_member, without_member, IsStored, member_of}
 use Rattle.library65.specs.Spelling.{are_member_names, is_among, is_member_name, Member}
 
 abbrev pub Stock : Type 0

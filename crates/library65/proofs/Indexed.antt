@@ -1,6 +1,6 @@
 -- What is read as an index is an index, and spelled so.
 use Rattle.std.proofs.lemmas.Grind.{common_steps}
-use Rattle.std.proofs.Common.{◌≡◌, ◌∙◌, ◌<◌, ◌≤◌, ◌^◌, ℕ, zero, suc, ◌+◌, Bool, true, false, cond, nat_lt, List, [], ◌∷◌, ◌++◌, length, take, drop, get_or, Result, Ok, Err, refl, sym, ap, subst, arith, append_assoc, length-append, if◌then◌else◌, not, ◌||◌, ◌&&◌, nat_eq, map, length-drop}
+use Rattle.std.proofs.Common.{◌≡◌, ◌∙◌, ◌<◌, ◌≤◌, ◌^◌, ℕ, zero, suc, ◌+◌, Bool, true, false, cond, nat_lt, List, [], ◌∷◌, ◌++◌, length, take, drop, get_or, Result, Ok, Err, refl, sym, ap, subst, arith, append_assoc, if◌then◌else◌, not, ◌||◌, ◌&&◌, nat_eq, map, length-drop}
 use Rattle.std.specs.List.{flat_map, list_all, AllByRecursion}
 use Rattle.std.proofs.lemmas.Bool.Decides.{nat_tests}
 use Rattle.std.proofs.lemmas.List.{append-nil, drop-drop, length-take, take-append-drop, take_all, map-append}
@@ -11,7 +11,7 @@ use Rattle.object65.specs.Reading.{file_limit}
 use Rattle.object65.proofs.Numbers.{bytes_drop, bytes_take, front}
 use Rattle.base65.specs.Outcome.{◌>>=◌}
 use Rattle.library65.specs.declared.fault.LibraryFault.{LibraryFault}
-use Rattle.library65.specs.declared.fault.LibraryFault.TheVariants.{BadIndex, CutShort, NotALibrary}
+use Rattle.library65.specs.declared.fault.LibraryFault.TheVariants.{BadIndex, CutShort}
 use Rattle.library65.specs.Spelling.{is_name, are_member_names, is_among, is_member_name, name_bytes, names_bytes, IsGoodEntry, IsIndex, StandFrom, entry_bytes, index_bytes, library_head, listing_bytes}
 use Rattle.library65.specs.Reading.{counted_at, field_at, name_at, number_at, symbol_at, symbols_at, count_at, end_at, entry_at, head_at, index_at, list_at, listing, listing_at, listings_at, member_name_at, placed}
 use Rattle.library65.proofs.Edits.{and, left, names_good, right, turned}
@@ -21,7 +21,6 @@ use Rattle.std.specs.Cmp.Lexicographic.{pointwise}
 use Rattle.std.proofs.lemmas.Cmp.{nat_list_eq_equiv}
 use Rattle.std.proofs.lemmas.List.Folds.{list_any-append}
 use Rattle.std.proofs.lemmas.List.Sums.{sum_by-cons}
-use Rattle.std.proofs.lemmas.Slice.Eq.{bytes_eq-Decides}
 use Rattle.library65.specs.declared.index.Entry.{Entry}
 use Rattle.library65.specs.declared.index.Listing.{Listing}
 use Rattle.library65.specs.Laws.{IndexReadLaw}

@@ -1,20 +1,19 @@
 -- What is written is a library.
 use Rattle.std.proofs.lemmas.Grind.{common_steps}
-use Rattle.std.proofs.Common.{◌≡◌, ◌∙◌, ◌<◌, ℕ, true, not, ◌&&◌, nat_lt, List, [], ◌∷◌, length, get_or, map, refl, sym, ap, subst, arith, zero, suc, ◌≤◌, ◌+◌, Bool, false, if◌then◌else◌, ◌++◌, Ok, Err, length-append, append_assoc, ◌-◌, take, drop}
+use Rattle.std.proofs.Common.{◌≡◌, ◌∙◌, ◌<◌, ℕ, true, not, ◌&&◌, List, [], ◌∷◌, length, get_or, map, refl, sym, ap, subst, arith, zero, suc, ◌≤◌, ◌+◌, ◌++◌, Ok, Err, length-append, append_assoc, ◌-◌, take, drop}
 use Rattle.std.proofs.lemmas.Bool.Decides.{nat_tests}
 use Rattle.std.specs.List.{list_all, flat_map, AllByRecursion}
 use Rattle.object65.specs.declared.object.Export.{Export}
 use Rattle.object65.specs.declared.object.Object.{Object}
-use Rattle.object65.specs.Objects.{are_names, is_among, is_good_object, is_name, is_printed}
+use Rattle.object65.specs.Objects.{are_names, is_among, is_good_object, is_name}
 use Rattle.object65.proofs.Goods.{parts}
-use Rattle.library65.specs.Spelling.{AreSymbols, Puts, are_member_names, is_member_name, Member, listing_bytes, name_bytes, AreMembers, IsLibrary, StandFrom, entry_bytes, index_bytes, library_head, IsGoodEntry, IsIndex, names_bytes}
-use Rattle.library65.proofs.Edits.{and, left, right, good_names}
+use Rattle.library65.specs.Spelling.{AreSymbols, Puts, are_member_names, Member, listing_bytes, name_bytes, AreMembers, IsLibrary, StandFrom, entry_bytes, index_bytes, library_head, IsGoodEntry, IsIndex, names_bytes}
+use Rattle.library65.proofs.Edits.{and, left, right}
 use Rattle.std.specs.Global.{Vec}
 use Rattle.library65.specs.declared.contents.Contents.{Contents}
 use Rattle.library65.specs.declared.fault.LibraryFault.{LibraryFault}
-use Rattle.library65.specs.declared.fault.LibraryFault.TheVariants.{BadIndex, BadMemberName, OutOfMemory}
 use Rattle.library65.specs.declared.library.Stored.{Stored}
-use Rattle.library65.specs.Libraries.{checked, contents_in, member_listing, member_names, or_none, contents_from, library_bytes, written, IsStored, member_of}
+use Rattle.library65.specs.Libraries.{checked, contents_in, member_listing, member_names, contents_from, library_bytes, written, IsStored, member_of}
 use Rattle.std.specs.Prelude.{sum_by}
 use Rattle.std.proofs.lemmas.List.{drop_at, length-take, take-append-drop, take_all, take_at}
 use Rattle.std.proofs.lemmas.List.Sums.{sum_by-cons}

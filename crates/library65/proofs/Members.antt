@@ -1,20 +1,19 @@
 -- The objects in members' bytes, and what they export and import.
 use Rattle.std.proofs.lemmas.Grind.{common_steps}
-use Rattle.std.proofs.Common.{arith, ◌≡◌, ◌∙◌, ◌<◌, ◌&&◌, ℕ, suc, Bool, true, false, not, List, ◌∷◌, length, drop, get_or, Result, Ok, Err, refl, sym, ap, if◌then◌else◌, [], map, subst}
+use Rattle.std.proofs.Common.{arith, ◌≡◌, ◌∙◌, ◌<◌, ℕ, Bool, true, false, not, List, length, drop, take, get_or, Ok, Err, refl, sym, ap, []}
 use Rattle.std.specs.Str.{bytes_eq}
-use Rattle.std.proofs.Math.Seq.{drop-cons}
-use Rattle.base65.specs.Outcome.{◌>>=◌, Refuses, Unless}
+use Rattle.base65.specs.Outcome.{Refuses, Unless}
 use Rattle.object65.specs.declared.fault.ObjectFault.{ObjectFault}
-use Rattle.object65.specs.declared.object.Object.{Object}
-use Rattle.object65.specs.Reading.{object_at, record_at, records_at}
+use Rattle.object65.specs.Reading.{end_at, head_of, object_at, record_at, records_at}
+use Rattle.object65.specs.declared.fault.ObjectFault.TheVariants as object
+use Rattle.std.proofs.lemmas.Bool.Decides.{nat_tests}
 use Rattle.library65.specs.Fault.{is_memory}
 use Rattle.library65.specs.declared.fault.LibraryFault.{LibraryFault}
 use Rattle.library65.specs.declared.fault.LibraryFault.TheVariants as library
 use Rattle.library65.specs.declared.fault.LibraryFault.TheVariants.{BadMemberName}
-use Rattle.library65.specs.Libraries.{are_same, as_member, checked, contents_from, contents_in}
+use Rattle.library65.specs.Libraries.{are_same, checked, contents_from, contents_in}
 use Rattle.library65.specs.Spelling.{is_member_name, AreSymbols}
 use Rattle.object65.specs.declared.record.Item.{Item}
-use Rattle.object65.specs.declared.object.Export.{Export}
 use Rattle.object65.specs.Record.{is_memory as is_object_memory, Entry as Record, is_version}
 use Rattle.object65.specs.Items.{with_item}
 use Rattle.object65.specs.Scanning.{Outline, outline_of, IsReached, State, after, object_from, start}
@@ -42,6 +41,15 @@ not_a_file name bytes e = grind (arith, common_steps)
 
 pub not_stored : (name bytes : List ℕ) (e : LibraryFault) → Refuses is_memory e (checked name bytes) → e ≡ library.FileError → ⊥
 not_stored name bytes e refused is = not_a_file name bytes (rw is at refused)
+
+-- ---- Bytes behind an object.
+
+behind : (end : ℕ) (bytes : List ℕ) → end < length bytes → end_at end (length bytes) bytes ≡ Err object.BytesAfterEnd
+behind end bytes less = grind (arith, common_steps, nat_tests)
+
+pub trailing : (name bytes : List ℕ) (version first end : ℕ) (c : Contents) → is_member_name name ≡ true → Ok (version, first) ≡ head_of 0 (take 5 bytes) → EndsWith bytes version first c end → end < length bytes → checked name bytes ≡ Err library.NotAnObject
+unfolding checked contents_in object_at
+trailing name bytes version first end c named head ends less = grind (arith, common_steps, behind)
 
 -- ---- Records that are scanned one after another for what they export and import.
 

@@ -1,15 +1,14 @@
 -- What is loaded as a library is spelled so, and edits leave members that make a library.
 use Rattle.std.proofs.lemmas.Grind.{common_steps}
-use Rattle.std.proofs.Common.{◌≡◌, ◌∙◌, ◌≤◌, ℕ, Bool, true, false, ◌||◌, nat_lt, List, [], ◌∷◌, ◌++◌, length, take, drop, map, Ok, Err, refl, sym, ap, subst, arith, append_assoc, length-append, if◌then◌else◌, ◌-◌, Result}
+use Rattle.std.proofs.Common.{◌≡◌, ◌∙◌, ◌≤◌, ℕ, true, false, nat_lt, List, [], ◌∷◌, ◌++◌, length, take, drop, map, Ok, Err, refl, sym, ap, subst, arith, append_assoc, length-append, if◌then◌else◌, ◌-◌, Result}
 use Rattle.std.specs.Str.{bytes_eq}
-use Rattle.std.proofs.lemmas.Bool.Decides.{nat_tests}
 use Rattle.std.proofs.lemmas.List.{append-nil, map-append, take_all}
 use Rattle.std.proofs.lemmas.Slice.Eq.{bytes_eq-Decides}
 use Rattle.object65.specs.Reading.{file_limit, room, object_at}
 use Rattle.base65.specs.Outcome.{◌>>=◌}
 use Rattle.library65.specs.declared.contents.Contents.{Contents}
 use Rattle.library65.specs.declared.index.Entry.{Entry}
-use Rattle.library65.specs.declared.fault.LibraryFault.TheVariants.{CutShort, IndexDisagrees, NoSuchMember}
+use Rattle.library65.specs.declared.fault.LibraryFault.TheVariants.{CutShort, IndexDisagrees}
 use Rattle.library65.specs.Laws.{LibrarySpellingLaw, LibraryReadLaw, StockLaw}
 use Rattle.library65.specs.Libraries.{agreed, are_same, checked, contents_from, contents_in, joined, joined_all, library_at, member_names, piece_at, with_member, added, agrees, as_member, deleted, object_in, replaced, without_member}
 use Rattle.library65.specs.Spelling.{are_member_names, is_among, is_member_name, AreMembers, IsMember, Member, index_bytes, IsLibrary, IsStock}

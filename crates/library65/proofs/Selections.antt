@@ -1,12 +1,16 @@
 -- Selections: the search gives one, there is but one, and it grows with what is wanted.
 use Rattle.std.proofs.lemmas.Grind.{common_steps}
-use Rattle.std.proofs.Common.{◌≡◌, ◌≢◌, ◌∙◌, ◌<◌, ◌≤◌, ◌-◌, ℕ, zero, suc, ◌+◌, Bool, true, false, not, ◌||◌, cond, nat_eq, List, [], ◌∷◌, ◌++◌, length, get_or, slice_get, Some, refl, sym, ap, subst, arith, if◌then◌else◌, ◌&&◌, Option, None, append_assoc}
+use Rattle.std.specs.Global.{Vec}
+use Rattle.std.specs.Vec.{with_item}
+use Rattle.library65.specs.declared.selecting.Found.{Found}
+use Rattle.library65.specs.Inner.Searching.{IsSound}
+use Rattle.std.proofs.Common.{◌≡◌, ◌∙◌, ◌<◌, ◌≤◌, ◌-◌, ℕ, zero, suc, ◌+◌, Bool, true, false, not, ◌||◌, cond, nat_eq, List, [], ◌∷◌, ◌++◌, length, get_or, slice_get, Some, refl, sym, ap, subst, arith, if◌then◌else◌, ◌&&◌, Option, None}
 use Rattle.std.specs.Prelude.{count_by, replicate, slice_set}
 use Rattle.std.specs.List.{AllByRecursion, list_any, position_from}
 use Rattle.std.proofs.lemmas.Bool.Decides.{nat_tests}
-use Rattle.std.proofs.lemmas.List.{get_or-set_same, get_or-set_other, append-nil}
+use Rattle.std.proofs.lemmas.List.{append-nil}
 use Rattle.std.proofs.lemmas.List.Folds.{list_any-append}
-use Rattle.std.proofs.lemmas.List.Sums.{sum_by-cons, sum_by-set}
+use Rattle.std.proofs.lemmas.List.Sums.{sum_by-cons}
 use Rattle.library65.specs.Selection.{IsRising, has_place, IsClosed, IsSelection, first_exporter, imports_at, GrowingSelectionLaw, OneSelectionLaw}
 use Rattle.library65.specs.Inner.Searching.{marked_from, IsSearched, Finds}
 use Rattle.library65.specs.declared.index.Entry.{Entry}
@@ -320,3 +324,10 @@ module _ (es : List Entry) (wanted defined : Names) where
     where
       grown : (i : ℕ) → has_place found i ≡ true → has_place new i ≡ true
       grown i e = subst (λ (js : List ℕ). has_place js i ≡ true) (sym finds.more) (place_kept found finds.behind i e)
+
+-- one more that wasn't found before is marked
+pub mark_sound : (f : Found) (place : ℕ) (places : Vec ℕ) → IsSound f → get_or f.marks.items place false ≡ false → place < length f.marks.items → places.items ≡ f.places.items ++ place ∷ [] → IsSound (record { marks = with_item f.marks place true; places = places })
+mark_sound f place places sound clear within more = record {
+  marks = λ i. grind (arith, common_steps);
+  count = grind (arith, common_steps);
+}

@@ -1,11 +1,9 @@
 -- Names as they are printed.
 use Rattle.std.proofs.lemmas.Grind.{common_steps}
-use Rattle.std.proofs.Common.{arith, ◌≡◌, ◌∙◌, ◌<◌, ℕ, ◌+◌, Bool, true, false, List, [], ◌∷◌, ◌++◌, length, take, get_or, refl, sym, ap, add-one, append_assoc}
+use Rattle.std.proofs.Common.{arith, ◌≡◌, ◌∙◌, ◌<◌, ℕ, ◌+◌, List, [], ◌∷◌, ◌++◌, length, take, get_or, sym, ap, append_assoc}
 use Rattle.std.proofs.Math.Seq.{take-suc}
 use Rattle.std.specs.Prelude.{encode_utf8, encode_utf8_all}
 use Rattle.std.proofs.lemmas.List.{append-nil}
-use Rattle.std.proofs.lemmas.Str.{IsUtf8-from_is_utf8}
-use Rattle.std.specs.Str.{IsUtf8, is_utf8}
 
 encode-push : (xs : List ℕ) (c : ℕ) → encode_utf8_all xs ++ encode_utf8 c ≡ encode_utf8_all (xs ++ c ∷ [])
 encode-push [] c = sym (append-nil (encode_utf8 c))
@@ -14,10 +12,3 @@ encode-push (x ∷ xs) c = append_assoc (encode_utf8 x) (encode_utf8_all xs) (en
 -- one byte more
 pub encode-more : (name : List ℕ) (i c : ℕ) → i < length name → c ≡ get_or name i 0 → encode_utf8_all (take i name) ++ encode_utf8 c ≡ encode_utf8_all (take (i + 1) name)
 encode-more name i c lt e = grind (arith, common_steps, encode-push, take-suc)
-
-no_test : (name : List ℕ) (b : Bool) → is_utf8 name ≡ b → (b ≡ true → ⊥) → b ≡ false
-no_test name true is never = absurd (never refl)
-no_test name false is never = refl
-
-pub not_text : (name : List ℕ) → (IsUtf8 name → ⊥) → is_utf8 name ≡ false
-not_text name never = no_test name (is_utf8 name) refl (λ is. never (IsUtf8-from_is_utf8 name is))

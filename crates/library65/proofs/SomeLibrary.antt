@@ -1,10 +1,8 @@
 -- No fault of bytes or of edits comes from outside: an index and a library are read of any bytes, or a fault of their own.
-use Rattle.std.proofs.Common.{◌≡◌, ◌+◌, ◌++◌, ℕ, zero, suc, Bool, true, false, List, [], ◌∷◌, map, get_or, Result, Ok, Err, refl, if◌then◌else◌}
+use Rattle.std.proofs.Common.{◌+◌, ◌++◌, ℕ, zero, suc, List, [], ◌∷◌, map, get_or, Result, Ok, Err, refl}
 use Rattle.base65.proofs.Own.{Own, bad, choice, good, next}
-use Rattle.base65.specs.Outcome.{◌>>=◌}
 use Rattle.object65.specs.declared.fault.ObjectFault.{ObjectFault}
 use Rattle.object65.specs.declared.object.Object.{Object}
-use Rattle.library65.specs.declared.fault.LibraryFault.{LibraryFault}
 use Rattle.library65.specs.declared.index.Entry.{Entry}
 use Rattle.library65.specs.declared.index.Listing.{Listing}
 use Rattle.library65.specs.Fault.{is_outside}

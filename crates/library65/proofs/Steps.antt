@@ -1,24 +1,21 @@
 -- What is read of a file in steps.
 use Rattle.std.proofs.lemmas.Grind.{common_steps}
-use Rattle.std.proofs.Common.{◌≡◌, ◌∙◌, ◌<◌, arith, ℕ, List, Bool, true, false, Option, Some, None, Result, Ok, Err, refl, sym, ap, subst, add-one, drop, get_or, length, zero, suc, ◌+◌, ◌-◌, ◌≤◌, [], ◌∷◌, ◌++◌, map, nat_le, nat_lt, take, min, length-drop}
-use Rattle.std.specs.Prelude.{IfSome}
+use Rattle.std.proofs.Common.{◌≡◌, ◌∙◌, ◌<◌, arith, ℕ, List, Bool, true, false, Option, Some, None, Result, Ok, Err, refl, sym, ap, subst, drop, length, suc, ◌+◌, ◌-◌, ◌≤◌, [], ◌∷◌, ◌++◌, map, nat_le, take, min}
+use Rattle.std.specs.Prelude.{IfSome, if◌then◌else◌}
 use Rattle.std.specs.FinMap as finmap
-use Rattle.base65.specs.Outcome.{◌>>=◌, Refuses, Unless}
-use Rattle.base65.specs.Store.{Files, Passes}
+use Rattle.base65.specs.Outcome.{◌>>=◌, Refuses}
+use Rattle.base65.specs.Store.{Blamed, Files, Passes}
+use Rattle.object65.specs.Reading.{Leaves}
 use Rattle.library65.specs.declared.fault.LibraryFault.{LibraryFault}
-use Rattle.library65.specs.declared.fault.LibraryFault.TheVariants.{FileError, FileNotFound, CutShort}
+use Rattle.library65.specs.declared.fault.LibraryFault.TheVariants.{BadIndex, FileError}
 use Rattle.library65.specs.Fault.{is_outside}
-use Rattle.library65.specs.Reading.{in_file, index_at, count_at, counted_at, list_at, listing_at, listings_at, number_at, symbol_at, symbols_at}
-use Rattle.std.proofs.Math.Seq.{drop-cons}
-use Rattle.std.proofs.lemmas.List.{map-append, drop-drop, length-take, take_all}
-use Rattle.std.specs.List.{AllByRecursion}
-use Rattle.library65.specs.declared.index.Entry.{Entry}
+use Rattle.library65.specs.Reading.{in_file, index_at, count_at, counted_at, list_at, listing_at, listings_at, name_at, number_at, symbol_at, symbols_at}
+use Rattle.std.proofs.lemmas.List.{length-take, take_all}
 use Rattle.library65.specs.declared.index.Listing.{Listing}
-use Rattle.library65.specs.Libraries.{joined, joined_all, library_at, piece_at}
-use Rattle.library65.specs.Spelling.{Member}
+use Rattle.library65.specs.Libraries.{joined_all, library_at, piece_at}
+use Rattle.library65.specs.Spelling.{is_name}
 use Rattle.std.proofs.lemmas.Bool.Decides.{nat_tests}
 use Rattle.base65.specs.Reading.{ReadsChunk}
-use Rattle.base65.proofs.Chunks.{more}
 use Rattle.base65.proofs.Filling.{take-add}
 
 -- ---- Something read of a file in steps, where the file may not be there and the files may not be known.
@@ -39,6 +36,10 @@ module _ {A Y : Type 0} (name : List ℕ) (all rest : Reading A) (step : Reading
   pub stops : (known now : Option Files) (e : LibraryFault) → now ≡ known → Leads known name rest all → IfSome now (λ m. Refuses is_outside e (in_file (finmap.get m name) step)) → IfSome known (λ m. Refuses is_outside e (in_file (finmap.get m name) all))
   stops x now e files leads refused = grind (arith, common_steps)
 
+  -- a step that is taken, behind which what was read is refused
+  pub fails : (known now : Option Files) (y : Y) (e : LibraryFault) → now ≡ known → Leads known name rest all → IfSome now (λ m. in_file (finmap.get m name) step ≡ Ok y) → ((bytes : List ℕ) → k y bytes ≡ Err e) → IfSome known (λ m. Refuses is_outside e (in_file (finmap.get m name) all))
+  fails x now y e files leads read refused = grind (arith, common_steps)
+
 -- at the beginning all is left to read
 pub begins : {A : Type 0} (known : Option Files) (name : List ℕ) (all : Reading A) → Leads known name all all
 begins x name all = grind (arith, common_steps)
@@ -48,8 +49,16 @@ pub kept_count : {T : Type 0} (old now : ℕ) (x : T) → Passes {E = LibraryFau
 kept_count old now x passes = grind (arith, common_steps)
 
 -- a refusal for another cause passes nothing on
-pub none_passed : {T : Type 0} (old now : ℕ) (e : LibraryFault) → now ≡ old → (e ≡ FileError → ⊥) → Passes {T = T} FileError old now (Err e)
+none_passed : {T : Type 0} (old now : ℕ) (e : LibraryFault) → now ≡ old → (e ≡ FileError → ⊥) → Passes {T = T} FileError old now (Err e)
 none_passed old now e same other = grind (arith, common_steps)
+
+-- it leaves what the answered call before it left
+pub kept_on : {X T U : Type 0} {files_of : X → Option Files} {failures_of : X → ℕ} {blamed_of : X → Blamed} {name : List ℕ} {old new : X} (x : T) (e : LibraryFault) → Leaves files_of failures_of blamed_of FileError name old new (Ok x) → (e ≡ FileError → ⊥) → Leaves {T = U} files_of failures_of blamed_of FileError name old new (Err e)
+kept_on x e kept other = record {
+  files = kept.files;
+  count = none_passed _ _ e (kept_count _ _ x kept.count) other;
+  blamed = λ h. (let is : e ≡ FileError = cc h in absurd (other is));
+}
 
 -- ---- The names of exports or imports.
 
@@ -57,8 +66,18 @@ pub counted_begins : (at : ℕ) (bytes : List ℕ) → counted_at at bytes ≡ (
 unfolding counted_at
 counted_begins at bytes = grind (arith, common_steps)
 
-pub symbols_more : (n i : ℕ) (names : List (List ℕ)) (at : ℕ) → i < n → (bytes : List ℕ) → symbols_at (n - i) names at bytes ≡ (symbol_at at bytes >>= (λ s. symbols_at (n - (i + 1)) (names ++ s.0 ∷ []) s.1 bytes))
-symbols_more n i names at less bytes = let one : n - i ≡ suc (n - (i + 1)) = omega arith in rw one refl
+-- what is read is tested before it goes on
+tested : {X A : Type 0} (is_good : X → Bool) (r : Result X LibraryFault) (k : X → Result A LibraryFault) → (r >>= (λ x. if is_good x then Ok x else Err BadIndex) >>= k) ≡ (r >>= (λ x. if is_good x then k x else Err BadIndex))
+tested is_good (Err e) k = refl
+tested is_good (Ok x) k = by (is_good x)
+  where
+    by : (b : Bool) → ((if b then Ok x else Err BadIndex) >>= k) ≡ (if b then k x else Err BadIndex)
+    by true = refl
+    by false = refl
+
+pub symbols_more : (n i : ℕ) (names : List (List ℕ)) (at : ℕ) → i < n → (bytes : List ℕ) → symbols_at (n - i) names at bytes ≡ (name_at at bytes >>= (λ s. if is_name s.0 then symbols_at (n - (i + 1)) (names ++ s.0 ∷ []) s.1 bytes else Err BadIndex))
+unfolding symbol_at
+symbols_more n i names at less bytes = let one : n - i ≡ suc (n - (i + 1)) = omega arith in rw one (tested (λ s. is_name s.0) (name_at at bytes) (λ s. symbols_at (n - (i + 1)) (names ++ s.0 ∷ []) s.1 bytes))
 
 -- ---- What is said of the members.
 
@@ -70,8 +89,8 @@ pub listings_more : (n i : ℕ) (ms : List Listing) (names : List (List ℕ)) (a
 listings_more n i ms names at named less bytes = let one : n - i ≡ suc (n - (i + 1)) = omega arith in rw (one, named) refl
 
 -- the names of the members so far, with one more
-pub name_pushed : (ms : List Listing) (m : Listing) (after : List Listing) (names more : List (List ℕ)) (name : List ℕ) → names ≡ map (λ x. x.name) ms → name ≡ m.name → ◌≡◌ {A = Result (List (List ℕ)) LibraryFault} (Ok (names ++ name ∷ [])) (Ok more) → after ≡ ms ++ m ∷ [] → more ≡ map (λ x. x.name) after
-name_pushed ms m after names more name named same added pushed = grind (arith, common_steps)
+pub name_pushed : (ms : List Listing) (m : Listing) (after : List Listing) (names : List (List ℕ)) (name : List ℕ) → names ≡ map (λ x. x.name) ms → name ≡ m.name → after ≡ ms ++ m ∷ [] → names ++ name ∷ [] ≡ map (λ x. x.name) after
+name_pushed ms m after names name named same pushed = grind (arith, common_steps)
 
 -- ---- The members themselves.
 

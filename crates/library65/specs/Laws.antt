@@ -1,5 +1,5 @@
 -- What holds of indexes and libraries, whatever made them.
-use Rattle.std.specs.Prelude.{◌≡◌, ℕ, false, List, [], Result, Ok}
+use Rattle.std.specs.Prelude.{◌≡◌, ℕ, List, [], Ok}
 use Rattle.base65.specs.Own.{IsOwn}
 use Rattle.object65.specs.Record.{IsBytes}
 use Rattle.library65.specs.declared.index.Entry.{Entry}

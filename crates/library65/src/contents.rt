@@ -6,11 +6,10 @@ ghost use Rattle.object65.specs.Objects.{is_good_object};
 ghost use Rattle.library65.specs.Fault.{is_memory};
 ghost use Rattle.library65.specs.Libraries.{agrees, are_same, checked, contents_from};
 ghost use Rattle.library65.specs.Spelling.{AreSymbols};
-ghost use Rattle.object65.specs.Record.{is_memory as is_object_memory, is_version};
+ghost use Rattle.object65.specs.Record.{is_version};
 ghost use Rattle.object65.specs.Items.{with_item};
-ghost use Rattle.object65.specs.Reading.{end_at};
 ghost use Rattle.object65.specs.Scanning.{State, object_from};
-ghost use Rattle.library65.specs.Inner.Contents.{ReadsContents, contents_at};
+ghost use Rattle.library65.specs.Inner.Contents.{ReadsContents};
 
 use crate::index::is_file_name;
 use crate::{Entry, LibraryFault};
@@ -27,7 +26,7 @@ pub struct Contents {
 }
 
 /// What a member of this name and these bytes exports and imports. The space takes the object's records in turn.
-#[tactic(auto, unfolding(crate::specs::Libraries::checked, crate::specs::Libraries::contents_in))]
+#[tactic(auto, unfolding(crate::specs::Libraries::checked, crate::specs::Libraries::contents_in, object65::specs::Reading::object_at))]
 pub fn check_member(
     alloc: Global,
     space: &mut Space,
@@ -40,7 +39,12 @@ pub fn check_member(
     if !is_file_name(name) {
         return Err(LibraryFault::BadMemberName);
     }
-    Ok(read_contents(alloc, space, bytes)?)
+    let (version, first) = decode_head(bytes, 0)?;
+    let (contents, end) = read_records(alloc, space, bytes, version, first as usize)?;
+    if end < bytes.len() {
+        return Err(LibraryFault::NotAnObject);
+    }
+    Ok(contents)
 }
 
 /// Whether these are the same names in the same order.
@@ -134,32 +138,4 @@ fn read_records(
             return Ok((contents, next));
         }
     }
-}
-
-/// Refuses bytes behind an object.
-fn check_end(bytes: &[u8], at: usize) -> Result<(), ObjectFault>
-    requires { at ≤ length bytes.now }
-    ensures { result ≡ end_at at (length bytes.now) bytes.now }
-{
-    if at < bytes.len() {
-        return Err(ObjectFault::BytesAfterEnd);
-    }
-    Ok(())
-}
-
-/// What the object that the bytes are exports and imports. The space takes its records one after
-/// another.
-#[tactic(auto, unfolding(object65::specs::Reading::object_at))]
-pub fn read_contents(
-    alloc: Global,
-    space: &mut Space,
-    bytes: &[u8],
-) -> Result<Contents, ObjectFault>
-    ensures read { Gives is_object_memory (λ c. c) result (contents_at bytes.now) }
-    ensures symbols { IfOk result AreSymbols }
-{
-    let (version, first) = decode_head(bytes, 0)?;
-    let (contents, end) = read_records(alloc, space, bytes, version, first as usize)?;
-    check_end(bytes, end)?;
-    Ok(contents)
 }

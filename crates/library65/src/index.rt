@@ -3,13 +3,12 @@
 ghost use Rattle.std.specs.Prelude.{◌≡◌, map, ◌++◌, ◌∷◌, [], Ok, false};
 ghost use Rattle.object65.specs.Objects.{is_among, is_printed};
 ghost use Rattle.std.specs.List.{list_all};
-ghost use Rattle.std.specs.Str.{is_utf8};
 ghost use Rattle.base65.specs.Outcome.{Gives};
 ghost use Rattle.library65.specs.Fault.{is_memory};
 ghost use Rattle.library65.specs.Spelling.{is_among, is_folder, is_member_name, is_name, is_plain};
 
 use crate::LibraryFault;
-use base65::Sequence;
+use base65::{Sequence, is_utf8};
 use indexmap::IndexSet;
 use std::alloc::Global;
 
@@ -52,10 +51,6 @@ pub struct Listing {
     pub imports: Sequence<Sequence<u8>>,
 }
 
-const HERE: [u8; 1] = [b'.'];
-
-const ABOVE: [u8; 2] = [b'.', b'.'];
-
 fn is_printed_name(name: &[u8]) -> bool
     ensures { result ≡ list_all is_printed name.now }
 {
@@ -76,21 +71,6 @@ fn is_plain_name(name: &[u8]) -> bool
         .all(|b| !(*b < 0x20) && !(*b == 0x7f) && !(*b == b'/'))
 }
 
-fn is_text(name: &[u8]) -> bool
-    ensures { result ≡ is_utf8 name.now }
-{
-    match std::str::from_utf8(name) {
-        Ok(_) => true,
-        Err(_) => false,
-    }
-}
-
-fn is_folder_name(name: &[u8]) -> bool
-    ensures { result ≡ is_folder name.now }
-{
-    name == &HERE[..] || name == &ABOVE[..]
-}
-
 /// Whether a member may have the name.
 pub fn is_file_name(name: &[u8]) -> bool
     ensures { result ≡ is_member_name name.now }
@@ -98,20 +78,7 @@ pub fn is_file_name(name: &[u8]) -> bool
     !name.is_empty()
         && name.len() < 256
         && is_plain_name(name)
-        && is_text(name)
-        && !is_folder_name(name)
-}
-
-/// Adds a new name.
-pub fn add_name(
-    alloc: Global,
-    names: &mut IndexSet<Vec<u8>>,
-    name: &[u8],
-) -> Result<(), LibraryFault>
-    requires { is_among (map (λ n. n.items) names.old.keys) name.now ≡ false }
-    ensures { Gives is_memory (λ _. map (λ n. n.items) names.new.keys) result (Ok (map (λ n. n.items) names.old.keys ++ name.now ∷ [])) }
-{
-    let key = Vec::from_slice(alloc, name)?;
-    names.insert(key)?;
-    Ok(())
+        && is_utf8(name)
+        && name != b".".as_slice()
+        && name != b"..".as_slice()
 }

@@ -11,7 +11,7 @@ ghost use Rattle.library65.specs.Reading.{in_file, field_at, head_at, name_at, n
 ghost use Rattle.std.specs.List.{AllByRecursion};
 ghost use Rattle.library65.specs.declared.fault.LibraryFault.TheVariants.{FileError};
 
-use crate::index::{Listing, add_name, has_name, is_file_name, is_symbol_name};
+use crate::index::{Listing, has_name, is_file_name, is_symbol_name};
 use crate::{Entry, Index, LibraryFault};
 use base65::{Sequence, Store, read_full};
 use byteorder::{ByteOrder, LittleEndian};
@@ -21,21 +21,6 @@ use std::alloc::Global;
 
 /// With these bytes a library begins.
 pub const HEAD: [u8; 5] = [0x52, 0x36, 0x35, 0x6c, 0x01];
-
-/// Refuses a file that doesn't begin as a library.
-pub fn read_head<S: Store>(store: &mut S, file: &str) -> Result<(), LibraryFault>
-    ensures read { IfSome (S.files store.old) (λ m. Gives is_outside (λ u. u) result (in_file (map.get m file.now) head_at)) }
-    ensures bytes { IfSome (S.files store.old) (λ m. HoldsBytes (map.get m file.now) result) }
-    ensures kept { Leaves S.files S.failures S.blamed FileError file.now store.old store.new result }
-    ensures asked { Asks is_outside (S.failures store.old) result }
-{
-    let mut head = [0u8; 5];
-    let n = read_full(store, file, 0, &mut head)?;
-    if n < 5 || head[..] != HEAD[..] {
-        return Err(LibraryFault::NotALibrary);
-    }
-    Ok(())
-}
 
 /// Reads a field of the buffer's length.
 fn read_field<S: Store>(
@@ -48,7 +33,6 @@ fn read_field<S: Store>(
     requires short { length buf.old < 256 }
     ensures read { IfSome (S.files store.old) (λ m. Gives is_outside (λ _. buf.new) result (in_file (map.get m file.now) (field_at (length buf.old) at))) }
     ensures kept { Leaves S.files S.failures S.blamed FileError file.now store.old store.new result }
-    ensures asked { Asks is_outside (S.failures store.old) result }
     ensures limit { OnOk result (at + length buf.old ≤ file_limit) }
 {
     let n = read_full(store, file, at, buf)?;
@@ -63,11 +47,10 @@ fn read_field<S: Store>(
 
 /// Reads a number of four bytes.
 #[tactic(auto, unfolding(crate::specs::Reading::number_at))]
-pub fn read_number<S: Store>(store: &mut S, file: &str, at: u64) -> Result<u32, LibraryFault>
+fn read_number<S: Store>(store: &mut S, file: &str, at: u64) -> Result<u32, LibraryFault>
     requires { at ≤ file_limit }
     ensures read { IfSome (S.files store.old) (λ m. Gives is_outside (λ n. n) result (in_file (map.get m file.now) (number_at at))) }
     ensures kept { Leaves S.files S.failures S.blamed FileError file.now store.old store.new result }
-    ensures asked { Asks is_outside (S.failures store.old) result }
     ensures limit { OnOk result (at + 4 ≤ file_limit) }
 {
     let mut bytes = [0u8; 4];
@@ -77,7 +60,7 @@ pub fn read_number<S: Store>(store: &mut S, file: &str, at: u64) -> Result<u32, 
 
 /// Reads a name behind its length, and answers where it ends.
 #[tactic(auto, unfolding(crate::specs::Reading::name_at))]
-pub fn read_name<S: Store>(
+fn read_name<S: Store>(
     alloc: Global,
     store: &mut S,
     file: &str,
@@ -86,9 +69,7 @@ pub fn read_name<S: Store>(
     requires { at ≤ file_limit }
     ensures read { IfSome (S.files store.old) (λ m. Gives is_outside (λ x. x) result (in_file (map.get m file.now) (name_at at))) }
     ensures kept { Leaves S.files S.failures S.blamed FileError file.now store.old store.new result }
-    ensures asked { Asks is_outside (S.failures store.old) result }
-    ensures limit { IfOk result (λ x. x.1 ≤ file_limit) }
-    ensures later { IfOk result (λ x. at < x.1) }
+    ensures end { IfOk result (λ x. (at < x.1) × (x.1 ≤ file_limit)) }
 {
     let mut len = [0u8; 1];
     read_field(store, file, at, &mut len)?;
@@ -100,28 +81,7 @@ pub fn read_name<S: Store>(
     Ok((name, at + 1 + len as u64))
 }
 
-/// Reads the name of an export or an import, and answers where it ends.
-#[tactic(auto, unfolding(crate::specs::Reading::symbol_at))]
-fn read_symbol<S: Store>(
-    alloc: Global,
-    store: &mut S,
-    file: &str,
-    at: u64,
-) -> Result<(Sequence<u8>, u64), LibraryFault>
-    requires { at ≤ file_limit }
-    ensures read { IfSome (S.files store.old) (λ m. Gives is_outside (λ x. x) result (in_file (map.get m file.now) (symbol_at at))) }
-    ensures kept { Leaves S.files S.failures S.blamed FileError file.now store.old store.new result }
-    ensures limit { IfOk result (λ x. x.1 ≤ file_limit) }
-    ensures later { IfOk result (λ x. at < x.1) }
-{
-    let (name, end) = read_name(alloc, store, file, at)?;
-    if !is_symbol_name(name.as_slice()) {
-        return Err(LibraryFault::BadIndex);
-    }
-    Ok((name, end))
-}
-
-/// Reads names behind their number, and answers where they end.
+/// Reads names of exports or imports behind their number, and answers where they end.
 fn read_symbols<S: Store>(
     alloc: Global,
     store: &mut S,
@@ -131,46 +91,25 @@ fn read_symbols<S: Store>(
     requires { at ≤ file_limit }
     ensures read { IfSome (S.files store.old) (λ m. Gives is_outside (λ x. x) result (in_file (map.get m file.now) (counted_at at))) }
     ensures kept { Leaves S.files S.failures S.blamed FileError file.now store.old store.new result }
-    ensures limit { IfOk result (λ x. x.1 ≤ file_limit) }
-    ensures later { IfOk result (λ x. at < x.1) }
+    ensures end { IfOk result (λ x. (at < x.1) × (x.1 ≤ file_limit)) }
 {
     let count = read_number(store, file, at)?;
     // The index may say any number, so room grows by the names that are read.
     let mut names = Sequence::new(alloc);
     let mut end = at + 4;
     for _ in 0..count {
-        let (name, next) = read_symbol(alloc, store, file, end)?;
+        let (name, next) = read_name(alloc, store, file, end)?;
+        if !is_symbol_name(name.as_slice()) {
+            return Err(LibraryFault::BadIndex);
+        }
         names.push(name)?;
         end = next;
     }
     Ok((names, end))
 }
 
-/// Reads the name of a member, which none of these members has, and answers where it ends.
-#[tactic(auto, unfolding(crate::specs::Reading::member_name_at))]
-fn read_member_name<S: Store>(
-    alloc: Global,
-    store: &mut S,
-    file: &str,
-    at: u64,
-    names: &IndexSet<Vec<u8>>,
-) -> Result<(Sequence<u8>, u64), LibraryFault>
-    requires { at ≤ file_limit }
-    ensures read { IfSome (S.files store.old) (λ m. Gives is_outside (λ x. x) result (in_file (map.get m file.now) (member_name_at (map (λ n. n.items) names.now.keys) at))) }
-    ensures kept { Leaves S.files S.failures S.blamed FileError file.now store.old store.new result }
-    ensures limit { IfOk result (λ x. x.1 ≤ file_limit) }
-    ensures later { IfOk result (λ x. at < x.1) }
-    ensures new { IfOk result (λ x. is_among (map (λ n. n.items) names.now.keys) x.0 ≡ false) }
-{
-    let (name, end) = read_name(alloc, store, file, at)?;
-    if !(is_file_name(name.as_slice()) && !has_name(names, name.as_slice())) {
-        return Err(LibraryFault::BadIndex);
-    }
-    Ok((name, end))
-}
-
-/// Reads what is said of a member, and answers where that ends.
-#[tactic(auto, unfolding(crate::specs::Reading::listing_at))]
+/// Reads what is said of a member, whose name none of these members has, and answers where that ends.
+#[tactic(auto, unfolding(crate::specs::Reading::listing_at, crate::specs::Reading::member_name_at))]
 fn read_listing<S: Store>(
     alloc: Global,
     store: &mut S,
@@ -181,11 +120,13 @@ fn read_listing<S: Store>(
     requires { at ≤ file_limit }
     ensures read { IfSome (S.files store.old) (λ m. Gives is_outside (λ x. x) result (in_file (map.get m file.now) (listing_at (map (λ n. n.items) names.now.keys) at))) }
     ensures kept { Leaves S.files S.failures S.blamed FileError file.now store.old store.new result }
-    ensures limit { IfOk result (λ x. x.1 ≤ file_limit) }
-    ensures later { IfOk result (λ x. at < x.1) }
+    ensures end { IfOk result (λ x. (at < x.1) × (x.1 ≤ file_limit)) }
     ensures new { IfOk result (λ x. is_among (map (λ n. n.items) names.now.keys) x.0.name ≡ false) }
 {
-    let (name, end) = read_member_name(alloc, store, file, at, names)?;
+    let (name, end) = read_name(alloc, store, file, at)?;
+    if !(is_file_name(name.as_slice()) && !has_name(names, name.as_slice())) {
+        return Err(LibraryFault::BadIndex);
+    }
     let size = read_number(store, file, end)?;
     let (exports, end) = read_symbols(alloc, store, file, end + 4)?;
     let (imports, end) = read_symbols(alloc, store, file, end)?;
@@ -200,19 +141,23 @@ fn read_listing<S: Store>(
     ))
 }
 
-/// Reads the number of members behind the head.
+/// Reads the number of members behind the head; a file that doesn't begin as a library is refused.
 fn read_count<S: Store>(store: &mut S, file: &str) -> Result<u32, LibraryFault>
     ensures read { IfSome (S.files store.old) (λ m. Gives is_outside (λ n. n) result (in_file (map.get m file.now) count_at)) }
     ensures bytes { IfSome (S.files store.old) (λ m. HoldsBytes (map.get m file.now) result) }
     ensures kept { Leaves S.files S.failures S.blamed FileError file.now store.old store.new result }
     ensures asked { Asks is_outside (S.failures store.old) result }
 {
-    read_head(store, file)?;
+    let mut head = [0u8; 5];
+    let n = read_full(store, file, 0, &mut head)?;
+    if n < 5 || head[..] != HEAD[..] {
+        return Err(LibraryFault::NotALibrary);
+    }
     read_number(store, file, 5)
 }
 
 /// Reads what is said of all members, and answers where that ends.
-pub fn read_list<S: Store>(
+fn read_list<S: Store>(
     alloc: Global,
     store: &mut S,
     file: &str,
@@ -221,8 +166,7 @@ pub fn read_list<S: Store>(
     ensures bytes { IfSome (S.files store.old) (λ m. HoldsBytes (map.get m file.now) result) }
     ensures kept { Leaves S.files S.failures S.blamed FileError file.now store.old store.new result }
     ensures asked { Asks is_outside (S.failures store.old) result }
-    ensures limit { IfOk result (λ x. x.1 ≤ file_limit) }
-    ensures some { IfOk result (λ x. 0 < x.1) }
+    ensures end { IfOk result (λ x. (0 < x.1) × (x.1 ≤ file_limit)) }
 {
     let count = read_count(store, file)?;
     let mut names = IndexSet::new(alloc);
@@ -230,30 +174,12 @@ pub fn read_list<S: Store>(
     let mut end = 9;
     for _ in 0..count {
         let (member, next) = read_listing(alloc, store, file, end, &names)?;
-        add_name(alloc, &mut names, member.name.as_slice())?;
+        let name = Vec::from_slice(alloc, member.name.as_slice())?;
+        names.insert(name)?;
         members.push(member)?;
         end = next;
     }
     Ok((members, end))
-}
-
-/// The entry of a member that stands at a place.
-fn entry_of(member: Listing, place: u64) -> Entry
-    ensures { result ≡ entry_at place member }
-{
-    let Listing {
-        name,
-        size,
-        exports,
-        imports,
-    } = member;
-    Entry {
-        name,
-        place,
-        size,
-        exports,
-        imports,
-    }
 }
 
 /// The members one behind the other, and where the last one ends.
@@ -265,8 +191,7 @@ fn place_members(
     requires { at ≤ file_limit }
     ensures placed { Gives is_memory (λ x. (x.0.items, x.1)) result (placed [] at members.items) }
     ensures within { IfOk result (λ x. AllByRecursion (λ e. e.place + e.size ≤ file_limit) x.0.items) }
-    ensures limit { IfOk result (λ x. x.1 ≤ file_limit) }
-    ensures later { IfOk result (λ x. at ≤ x.1) }
+    ensures end { IfOk result (λ x. (at ≤ x.1) × (x.1 ≤ file_limit)) }
     ensures cause { IsErrOf result LibraryFault.FileError → ⊥ }
 {
     let mut entries = Vec::with_capacity(alloc, members.len())?;
@@ -276,28 +201,22 @@ fn place_members(
         if next > FILE_LIMIT {
             return Err(LibraryFault::BadIndex);
         }
-        entries.push(entry_of(member, end))?;
+        let Listing {
+            name,
+            size,
+            exports,
+            imports,
+        } = member;
+        entries.push(Entry {
+            name,
+            place: end,
+            size,
+            exports,
+            imports,
+        })?;
         end = next;
     }
     Ok((entries, end))
-}
-
-/// Refuses a file that doesn't end at a place.
-fn check_end<S: Store>(store: &mut S, file: &str, end: u64) -> Result<(), LibraryFault>
-    requires some { 0 < end }
-    requires limit { end ≤ file_limit }
-    ensures read { IfSome (S.files store.old) (λ m. Gives is_outside (λ u. u) result (in_file (map.get m file.now) (end_at end))) }
-    ensures kept { Leaves S.files S.failures S.blamed FileError file.now store.old store.new result }
-{
-    let mut last = [0u8; 2];
-    let n = read_full(store, file, end - 1, &mut last)?;
-    if n < 1 {
-        return Err(LibraryFault::CutShort);
-    }
-    if n > 1 {
-        return Err(LibraryFault::BadIndex);
-    }
-    Ok(())
 }
 
 /// Reads the index of a library: of its members no byte but the last, to see where the file ends.
@@ -312,7 +231,14 @@ pub fn read_index<S: Store>(alloc: Global, store: &mut S, file: &str) -> Result<
 {
     let (members, at) = read_list(alloc, store, file)?;
     let (entries, end) = place_members(alloc, members, at)?;
-    check_end(store, file, end)?;
+    let mut last = [0u8; 2];
+    let n = read_full(store, file, end - 1, &mut last)?;
+    if n < 1 {
+        return Err(LibraryFault::CutShort);
+    }
+    if n > 1 {
+        return Err(LibraryFault::BadIndex);
+    }
     Ok(Index {
         entries: Sequence::from_vec(entries),
     })

@@ -103,48 +103,6 @@ pub fn put_member(
     Ok(())
 }
 
-/// Puts copies in, in the place of the member of the name, or else last.
-pub fn put_copy(
-    alloc: Global,
-    members: &mut IndexMap<Vec<u8>, Stored, Seed>,
-    name: &[u8],
-    bytes: &[u8],
-    contents: Contents,
-) -> Result<(), LibraryFault>
-    requires sound { IsSound members.old }
-    requires checked { checked name.now bytes.now ≡ Ok contents }
-    requires symbols { AreSymbols contents }
-    ensures put { Gives is_memory (λ _. members_of members.new) result (Ok (with_member (members_of members.old) name.now bytes.now)) }
-    ensures unchanged { OnErr result (members_of members.new ≡ members_of members.old) }
-    ensures sound { IsSound members.new }
-{
-    let name = Vec::from_slice(alloc, name)?;
-    let bytes = Vec::from_slice(alloc, bytes)?;
-    put_member(members, name, Stored { bytes, contents })?;
-    Ok(())
-}
-
-/// Takes the member of a name out.
-fn remove_member(members: &mut IndexMap<Vec<u8>, Stored, Seed>, name: &[u8])
-    requires { IsSound members.old }
-    ensures removed { members_of members.new ≡ without_member (members_of members.old) name.now }
-    ensures sound { IsSound members.new }
-{
-    members.shift_remove(name);
-}
-
-fn has_member(members: &IndexMap<Vec<u8>, Stored, Seed>, name: &[u8]) -> bool
-    ensures { result ≡ is_among (member_names (members_of members.now)) name.now }
-{
-    members.contains_key(name)
-}
-
-fn member_bytes<'a>(members: &'a IndexMap<Vec<u8>, Stored, Seed>, name: &[u8]) -> Option<&'a [u8]>
-    ensures { option_copied result ≡ bytes_of (members_of members.entry.now) name.now }
-{
-    Some(members.get(name)?.bytes.as_slice())
-}
-
 impl Library {
     /// A library of no member.
     pub fn empty(alloc: Global) -> Self
@@ -186,7 +144,10 @@ impl Library {
         ensures unchanged { OnErr result (self.new ≡ self.old) }
     {
         let contents = check_member(self.alloc, &mut self.space, name, bytes)?;
-        put_copy(self.alloc, &mut self.members, name, bytes, contents)
+        let name = Vec::from_slice(self.alloc, name)?;
+        let bytes = Vec::from_slice(self.alloc, bytes)?;
+        put_member(&mut self.members, name, Stored { bytes, contents })?;
+        Ok(())
     }
 
     /// Takes a member out. A refusal changes nothing.
@@ -194,10 +155,10 @@ impl Library {
         ensures deleted { Gives is_memory (λ _. self.new) result (deleted self.old name.now) }
         ensures unchanged { OnErr result (self.new ≡ self.old) }
     {
-        if !has_member(&self.members, name) {
+        if !self.members.contains_key(name) {
             return Err(LibraryFault::NoSuchMember(Sequence::copy_of(self.alloc, name)?));
         }
-        remove_member(&mut self.members, name);
+        self.members.shift_remove(name);
         Ok(())
     }
 
@@ -214,7 +175,7 @@ impl Library {
     pub fn get(&self, name: &[u8]) -> Option<&[u8]>
         ensures { option_copied result ≡ bytes_of self.now name.now }
     {
-        member_bytes(&self.members, name)
+        Some(self.members.get(name)?.bytes.as_slice())
     }
 
     /// Adds the bytes of the library. A refusal, also where they would pass the limit of a file, changes nothing.

@@ -13,7 +13,7 @@ ghost use Rattle.library65.specs.Reading.{in_file};
 ghost use Rattle.library65.specs.Spelling.{AreSymbols};
 ghost use Rattle.library65.specs.declared.fault.LibraryFault.TheVariants.{FileError};
 
-use crate::contents::{Contents, Space, agrees, check_member};
+use crate::contents::{Space, agrees, check_member};
 use crate::library::{Stored, put_member};
 use crate::{Entry, LibraryFault, read_index};
 use base65::{Seed, Store, StoreFault, read_full};
@@ -84,41 +84,8 @@ fn read_piece<S: Store>(
     Ok(bytes)
 }
 
-/// What is kept of a member with these bytes, where the entry has the names that its object has.
-#[tactic(auto, unfolding(crate::specs::Libraries::agreed))]
-fn check_entry(
-    alloc: Global,
-    space: &mut Space,
-    entry: &Entry,
-    bytes: &[u8],
-) -> Result<Contents, LibraryFault>
-    ensures agreed { Gives is_memory (λ c. c) result (agreed entry.now bytes.now) }
-    ensures checked { IfOk result (λ c. checked entry.now.name bytes.now ≡ Ok c) }
-    ensures symbols { IfOk result AreSymbols }
-    ensures cause { IsErrOf result LibraryFault.FileError → ⊥ }
-{
-    let contents = check_member(alloc, space, entry.name.as_slice(), bytes)?;
-    if !agrees(entry, &contents) {
-        return Err(LibraryFault::IndexDisagrees);
-    }
-    Ok(contents)
-}
-
-/// Puts the member of an entry in.
-fn add_member(loading: &mut Loading, entry: &Entry, bytes: Vec<u8>) -> Result<(), LibraryFault>
-    requires { IsSound loading.old.members }
-    ensures added { Gives is_memory (λ _. members_of loading.new.members) result (added (members_of loading.old.members) entry.now bytes.items) }
-    ensures sound { OnOk result (IsSound loading.new.members) }
-    ensures cause { IsErrOf result LibraryFault.FileError → ⊥ }
-{
-    let contents = check_entry(loading.alloc, &mut loading.space, entry, bytes.as_slice())?;
-    let name = Vec::from_slice(loading.alloc, entry.name.as_slice())?;
-    put_member(&mut loading.members, name, Stored { bytes, contents })?;
-    Ok(())
-}
-
-/// Reads the member of an entry and puts it in.
-#[tactic(auto, unfolding(crate::specs::Libraries::joined))]
+/// Reads the member of an entry and puts it in, where the entry has the names that its object has.
+#[tactic(auto, unfolding(crate::specs::Libraries::joined, crate::specs::Libraries::agreed))]
 fn join_member<S: Store>(
     store: &mut S,
     file: &str,
@@ -131,8 +98,16 @@ fn join_member<S: Store>(
     ensures kept { Leaves S.files S.failures S.blamed FileError file.now store.old store.new result }
     ensures sound { OnOk result (IsSound loading.new.members) }
 {
-    let bytes = read_piece(loading.alloc, store, file, entry, &mut loading.chunk)?;
-    add_member(loading, entry, bytes)
+    let alloc = loading.alloc;
+    let bytes = read_piece(alloc, store, file, entry, &mut loading.chunk)?;
+    let name = entry.name.as_slice();
+    let contents = check_member(alloc, &mut loading.space, name, bytes.as_slice())?;
+    if !agrees(entry, &contents) {
+        return Err(LibraryFault::IndexDisagrees);
+    }
+    let name = Vec::from_slice(alloc, name)?;
+    put_member(&mut loading.members, name, Stored { bytes, contents })?;
+    Ok(())
 }
 
 /// Reads all members of a library, one by one in the order in which they stand.

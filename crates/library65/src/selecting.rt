@@ -4,7 +4,7 @@ ghost use Rattle.std.specs.Prelude.{◌≡◌, ◌<◌, ℕ, List, Some, if◌th
 ghost use Rattle.std.specs.Str.{bytes_eq};
 ghost use Rattle.indexmap.specs.IndexMap.{get_by};
 ghost use Rattle.object65.specs.Objects.{is_among};
-ghost use Rattle.library65.specs.Inner.Searching.{IsTable, Finds, IsSearched, IsSound, marked_from};
+ghost use Rattle.library65.specs.Inner.Searching.{FindsMore, IsSearched, IsTable, Stands, marked_from};
 ghost use Rattle.library65.specs.Selection.{first_exporter, imports_at, IsSelection};
 ghost use Rattle.std.specs.List.{AllByRecursion};
 
@@ -78,34 +78,6 @@ pub struct Found {
     pub places: Vec<usize>,
 }
 
-impl Found {
-    /// None of so many members.
-    pub fn none(alloc: Global, count: usize) -> Result<Self, AllocError>
-        ensures sound { IfOk result IsSound }
-        ensures places { IfOk result (λ f. f.places.items ≡ []) }
-        ensures count { IfOk result (λ f. length f.marks.items ≡ count) }
-    {
-        Ok(Found {
-            marks: vec![in alloc; false; count]?,
-            places: Vec::new(alloc),
-        })
-    }
-
-    /// Adds a member that wasn't found before.
-    fn add(&mut self, place: usize) -> Result<(), AllocError>
-        requires sound { IsSound self.old }
-        requires new { get_or self.old.marks.items place false ≡ false }
-        requires within { place < length self.old.marks.items }
-        ensures places { OnOk result (self.new.places.items ≡ self.old.places.items ++ place ∷ []) }
-        ensures count { OnOk result (length self.new.marks.items ≡ length self.old.marks.items) }
-        ensures sound { OnOk result (IsSound self.new) }
-    {
-        self.places.push(place)?;
-        self.marks[place] = true;
-        Ok(())
-    }
-}
-
 /// Finds the first exporter of a name that isn't defined.
 fn find_name(
     exporters: &Exporters<'_>,
@@ -113,12 +85,8 @@ fn find_name(
     found: &mut Found,
     name: &[u8],
 ) -> Result<(), AllocError>
-    requires table { IsTable exporters.now }
-    requires sound { IsSound found.old }
-    requires marks { length found.old.marks.items ≡ length exporters.now.entries.now }
-    ensures found { OnOk result (Finds exporters.now.entries.now (map (λ n. n.items) defined.now.keys) (name.now ∷ []) found.old.places.items found.new.places.items) }
-    ensures sound { OnOk result (IsSound found.new) }
-    ensures marks { OnOk result (length found.new.marks.items ≡ length found.old.marks.items) }
+    requires { Stands exporters.now found.old }
+    ensures { OnOk result (FindsMore exporters.now (map (λ n. n.items) defined.now.keys) (name.now ∷ []) found.old found.new) }
 {
     if has_name(defined, name) {
         return Ok(());
@@ -129,7 +97,9 @@ fn find_name(
             if found.marks[place] {
                 return Ok(());
             }
-            found.add(place)
+            found.places.push(place)?;
+            found.marks[place] = true;
+            Ok(())
         }
     }
 }
@@ -141,12 +111,8 @@ fn find_imports(
     found: &mut Found,
     names: &[Sequence<u8>],
 ) -> Result<(), AllocError>
-    requires table { IsTable exporters.now }
-    requires sound { IsSound found.old }
-    requires marks { length found.old.marks.items ≡ length exporters.now.entries.now }
-    ensures found { OnOk result (Finds exporters.now.entries.now (map (λ n. n.items) defined.now.keys) names.now found.old.places.items found.new.places.items) }
-    ensures sound { OnOk result (IsSound found.new) }
-    ensures marks { OnOk result (length found.new.marks.items ≡ length found.old.marks.items) }
+    requires { Stands exporters.now found.old }
+    ensures { OnOk result (FindsMore exporters.now (map (λ n. n.items) defined.now.keys) names.now found.old found.new) }
 {
     for name in names {
         find_name(exporters, defined, found, name.as_slice())?;
@@ -161,12 +127,8 @@ fn find_wanted(
     found: &mut Found,
     names: &[Vec<u8>],
 ) -> Result<(), AllocError>
-    requires table { IsTable exporters.now }
-    requires sound { IsSound found.old }
-    requires marks { length found.old.marks.items ≡ length exporters.now.entries.now }
-    ensures found { OnOk result (Finds exporters.now.entries.now (map (λ n. n.items) defined.now.keys) (map (λ n. n.items) names.now) found.old.places.items found.new.places.items) }
-    ensures sound { OnOk result (IsSound found.new) }
-    ensures marks { OnOk result (length found.new.marks.items ≡ length found.old.marks.items) }
+    requires { Stands exporters.now found.old }
+    ensures { OnOk result (FindsMore exporters.now (map (λ n. n.items) defined.now.keys) (map (λ n. n.items) names.now) found.old found.new) }
 {
     for name in names {
         find_name(exporters, defined, found, name.as_slice())?;
@@ -181,13 +143,10 @@ pub fn find_all(
     defined: &Names,
     found: &mut Found,
 ) -> Result<(), AllocError>
-    requires table { IsTable exporters.now }
-    requires sound { IsSound found.old }
-    requires marks { length found.old.marks.items ≡ length exporters.now.entries.now }
+    requires stands { Stands exporters.now found.old }
     requires none { found.old.places.items ≡ [] }
     ensures found { OnOk result (IsSearched exporters.now.entries.now (map (λ n. n.items) wanted.now.keys) (map (λ n. n.items) defined.now.keys) found.new.places.items (length found.new.places.items)) }
-    ensures sound { OnOk result (IsSound found.new) }
-    ensures marks { OnOk result (length found.new.marks.items ≡ length found.old.marks.items) }
+    ensures stands { OnOk result (Stands exporters.now found.new) }
 {
     find_wanted(exporters, defined, found, wanted.as_slice())?;
     let mut next = 0;
@@ -226,7 +185,10 @@ pub fn select(
     ensures memory { IfErr result (λ e. e ≡ LibraryFault.OutOfMemory) }
 {
     let exporters = Exporters::of(alloc, index.entries.as_slice())?;
-    let mut found = Found::none(alloc, index.entries.len())?;
+    let mut found = Found {
+        marks: vec![in alloc; false; index.entries.len()]?,
+        places: Vec::new(alloc),
+    };
     find_all(&exporters, wanted, defined, &mut found)?;
     Ok(marked_places(alloc, found.marks.as_slice())?)
 }

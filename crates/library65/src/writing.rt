@@ -45,25 +45,16 @@ fn put_name(out: &mut Vec<u8>, name: &[u8]) -> Result<(), AllocError>
     Ok(())
 }
 
-/// Adds names, each behind its length.
-fn put_each(out: &mut Vec<u8>, names: &[Sequence<u8>]) -> Result<(), AllocError>
-    requires { list_all is_name names.now ≡ true }
-    ensures { OnOk result (out.new.items ≡ out.old.items ++ flat_map name_bytes names.now) }
-{
-    for name in names {
-        put_name(out, name.as_slice())?;
-    }
-    Ok(())
-}
-
-/// Adds names behind their number.
+/// Adds names behind their number, each behind its length.
 fn put_names(out: &mut Vec<u8>, names: &[Sequence<u8>]) -> Result<(), LibraryFault>
     requires { list_all is_name names.now ≡ true }
     ensures { Puts (names_bytes names.now) (length (names_bytes names.now)) out.old.items out.new.items result }
 {
     let count = count_of(names.len())?;
     put_number(out, count)?;
-    put_each(out, names)?;
+    for name in names {
+        put_name(out, name.as_slice())?;
+    }
     Ok(())
 }
 
@@ -94,19 +85,6 @@ fn put_listings(
     Ok(())
 }
 
-/// Adds the members' bytes.
-fn put_bodies(
-    out: &mut Vec<u8>,
-    members: &IndexMap<Vec<u8>, Stored, Seed>,
-) -> Result<(), AllocError>
-    ensures { OnOk result (out.new.items ≡ out.old.items ++ flat_map (λ m. m.1) (members_of members.now)) }
-{
-    for stored in members.values() {
-        out.extend_from_slice(&stored.bytes)?;
-    }
-    Ok(())
-}
-
 /// Adds the bytes of a library of these members.
 pub fn put_library(
     out: &mut Vec<u8>,
@@ -119,6 +97,8 @@ pub fn put_library(
     out.extend_from_slice(&HEAD)?;
     put_number(out, count)?;
     put_listings(out, members)?;
-    put_bodies(out, members)?;
+    for stored in members.values() {
+        out.extend_from_slice(&stored.bytes)?;
+    }
     Ok(())
 }

@@ -49,46 +49,6 @@ fn fault_of(failures: &mut u64, error: &io::Error) -> StoreFault
     }
 }
 
-/// Opens a file to be read, with the buffer of the one that was read before, if any.
-fn open_ahead<R: Files>(
-    alloc: Global,
-    files: &R,
-    name: &str,
-    last: Option<ReadAhead<R::File>>,
-) -> io::Result<ReadAhead<R::File>> {
-    let file = fs::open(files, name)?;
-    match last {
-        Some(last) => Ok(last.with_file(Text::copy_of(alloc, name)?, file)),
-        None => Ok(ReadAhead::new(alloc, name, file)?),
-    }
-}
-
-/// Makes a file empty.
-fn create_file<R: Files>(alloc: Global, files: &R, name: &str) -> io::Result<Writing<R::File>> {
-    let copy = Text::copy_of(alloc, name)?;
-    let file = fs::create(files, name)?;
-    Ok(Writing { name: copy, file })
-}
-
-/// Opens a file to be written behind its end.
-fn open_behind<R: Files>(alloc: Global, files: &R, name: &str) -> io::Result<Writing<R::File>> {
-    let copy = Text::copy_of(alloc, name)?;
-    let file = OpenOptions::new().append(true).open(files, name)?;
-    Ok(Writing { name: copy, file })
-}
-
-/// Writes a piece, one byte at least of one that isn't empty.
-fn write_piece<F: Write>(file: &mut F, piece: &[u8]) -> io::Result<usize>
-    ensures bound { IfOk result (λ n. n ≤ length piece.now) }
-    ensures some { IfOk result (λ n. n ≡ 0 → length piece.now ≡ 0) }
-{
-    let n = file.write(piece)?;
-    if n == 0 && !piece.is_empty() {
-        return Err(io::Error::from(ErrorKind::WriteZero));
-    }
-    Ok(n)
-}
-
 impl<R: Files> DiskStore<R> {
     /// A store that reaches files through the runtime.
     pub fn new(alloc: Global, files: R) -> Self {
@@ -108,7 +68,7 @@ impl<R: Files> DiskStore<R> {
         self
     }
 
-    /// Opens a file to be read, unless it is the one that was read last.
+    /// Opens a file to be read, unless it is the one that was read last, with the buffer of that one.
     fn open_to_read(&mut self, name: &str) -> io::Result<()>
         ensures { self.new.failures ≡ self.old.failures }
     {
@@ -118,19 +78,27 @@ impl<R: Files> DiskStore<R> {
         };
         if !is_open {
             let last = self.reading.take();
-            self.reading = Some(open_ahead(self.alloc, &self.files, name, last)?);
+            let file = fs::open(&self.files, name)?;
+            self.reading = Some(match last {
+                Some(last) => last.with_file(Text::copy_of(self.alloc, name)?, file),
+                None => ReadAhead::new(self.alloc, name, file)?,
+            });
         }
         Ok(())
     }
 
-    /// The file to write, as it was left or opened anew.
+    /// The file to write behind its end, as it was left or opened anew.
     fn writer(&mut self, name: &str) -> io::Result<Writing<R::File>>
         ensures { self.new.failures ≡ self.old.failures }
     {
         self.reading = None;
         match self.writing.take() {
             Some(writing) if writing.name.as_str() == name => Ok(writing),
-            _ => open_behind(self.alloc, &self.files, name),
+            _ => {
+                let copy = Text::copy_of(self.alloc, name)?;
+                let file = OpenOptions::new().append(true).open(&self.files, name)?;
+                Ok(Writing { name: copy, file })
+            }
         }
     }
 
@@ -149,22 +117,29 @@ impl<R: Files> DiskStore<R> {
         read
     }
 
+    /// Makes a file empty, and keeps it open.
     fn begin_file(&mut self, name: &str) -> io::Result<()>
         ensures { self.new.failures ≡ self.old.failures }
     {
         self.reading = None;
         self.writing = None;
-        self.writing = Some(create_file(self.alloc, &self.files, name)?);
+        let copy = Text::copy_of(self.alloc, name)?;
+        let file = fs::create(&self.files, name)?;
+        self.writing = Some(Writing { name: copy, file });
         Ok(())
     }
 
+    /// Writes a piece behind a file's end, one byte at least of one that isn't empty.
     fn append_file(&mut self, name: &str, piece: &[u8]) -> io::Result<usize>
         ensures bound { IfOk result (λ n. n ≤ length piece.now) }
         ensures some { IfOk result (λ n. n ≡ 0 → length piece.now ≡ 0) }
         ensures count { self.new.failures ≡ self.old.failures }
     {
         let mut writing = self.writer(name)?;
-        let n = write_piece(&mut writing.file, piece)?;
+        let n = writing.file.write(piece)?;
+        if n == 0 && !piece.is_empty() {
+            return Err(io::Error::from(ErrorKind::WriteZero));
+        }
         self.writing = Some(writing);
         Ok(n)
     }

@@ -1,9 +1,9 @@
 -- What the records of an object export and import.
 use Rattle.std.specs.Prelude.{◌≡◌, ℕ, List, length, Result, Ok, Err}
 use Rattle.object65.specs.declared.fault.ObjectFault.{ObjectFault}
-use Rattle.object65.specs.Record.{◌>>=◌, Refuses, is_memory}
+use Rattle.object65.specs.Record.{Refuses, is_memory}
 use Rattle.object65.specs.Scanning.{State, finished, object_from, start}
-use Rattle.object65.specs.Reading.{object_at, records_at}
+use Rattle.object65.specs.Reading.{records_at}
 use Rattle.library65.specs.declared.contents.Contents.{Contents}
 use Rattle.library65.specs.Libraries.{contents_from}
 
@@ -19,7 +19,3 @@ abbrev pub ReadsContents : List ℕ → ℕ → ℕ → Result (Contents × ℕ)
 ReadsContents bytes version at (Ok x) = EndsWith bytes version at x.0 x.1
 ReadsContents bytes version at (Err e) =
     Refuses is_memory e (records_at (length bytes) (start version) at (length bytes) bytes)
-
--- what the object that the bytes are exports and imports
-abbrev pub contents_at : List ℕ → Result Contents ObjectFault
-contents_at bytes = object_at 0 (length bytes) bytes >>= (λ o. Ok (contents_from o))

@@ -24,6 +24,17 @@ pub record Finds (es : List Entry) (defined names : List (List ℕ)) (old new : 
   pub all : (name : List ℕ) (i : ℕ) → is_among names name ≡ true → is_among defined name ≡ false → first_exporter es name ≡ Some i → has_place new i ≡ true
   pub only : (i : ℕ) → has_place behind i ≡ true → (name : List ℕ) × (is_among names name ≡ true) × (is_among defined name ≡ false) × (first_exporter es name ≡ Some i)
 
+-- a table of first exporters, and what was found among their entries
+pub record Stands (t : Exporters) (f : Found) : Type 0 where
+  pub table : IsTable t
+  pub sound : IsSound f
+  pub marks : length f.marks.items ≡ length t.entries.now
+
+-- the first exporters of the names that aren't defined are found, and no others
+pub record FindsMore (t : Exporters) (defined names : List (List ℕ)) (old new : Found) : Type 0 where
+  pub found : Finds t.entries.now defined names old.places.items new.places.items
+  pub stands : Stands t new
+
 -- a name of every closed set
 abbrev pub IsNeeded : List Entry → List (List ℕ) → List (List ℕ) → List ℕ → Type 0
 IsNeeded es wanted defined name = (has : List ℕ → Bool) → IsClosed es wanted defined has → has name ≡ true

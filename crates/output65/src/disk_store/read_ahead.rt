@@ -73,12 +73,6 @@ impl<F: Read + Seek + Drop> ReadAhead<F> {
         Ok(())
     }
 
-    /// Whether nothing is read ahead where so many bytes are read: many, those of a file's end, or, before any other, some
-    /// that don't begin the file, by which its length is asked for.
-    fn reads_past(&self, at: u64, len: usize) -> bool {
-        len >= LARGE || self.end == Some(at) || (at > 0 && !self.is_begun)
-    }
-
     /// Reads past the buffer.
     fn read_past(&mut self, at: u64, buf: &mut [u8]) -> io::Result<usize>
         ensures { IfOk result (λ n. n ≤ length buf.new) }
@@ -96,7 +90,10 @@ impl<F: Read + Seek + Drop> ReadAhead<F> {
         ensures { IfOk result (λ n. n ≤ length buf.new) }
     {
         if at < self.start || at - self.start >= self.filled as u64 {
-            if self.reads_past(at, buf.len()) {
+            // Many bytes are read past the buffer, those of a file's end, and, before any other, some that don't begin
+            // the file, by which its length is asked for.
+            let asks_length = at > 0 && !self.is_begun;
+            if buf.len() >= LARGE || self.end == Some(at) || asks_length {
                 return self.read_past(at, buf);
             }
             self.fill(at)?;

@@ -1,6 +1,7 @@
-use Rattle.std.proofs.Common.{◌∙◌, ◌+◌, ◌-◌, ◌++◌, ◌∷◌, [], map, arith, refl}
+use Rattle.std.proofs.Common.{◌∙◌, ◌+◌, ◌-◌, ◌++◌, ◌∷◌, [], ap, map, arith, refl}
 use Rattle.std.proofs.lemmas.Result.{err_from_is_err_and}
 use Rattle.library65.specs.Reading.{count_at, list_at, listing_at, listings_at}
+use Rattle.object65.proofs.Names.{pushed_name}
 use Rattle.library65.proofs.Steps.{begins, goes_on, kept_count, stops, list_begins, listings_more, name_pushed}
 use Rattle.library65.proofs.indexing.read_list.Goals as goal
 
@@ -34,11 +35,13 @@ loop-preserved g c =
     let i = c.loop.counter in
     let ms = c.loop.members.items in
     let names = map (λ n. n.items) c.loop.names.keys in
+    let name = c.in_ok-name.ensures.items ∙ c.as_slice.ensures in
+    let new = pushed_name (λ n. n.items) c.loop.names.keys c.in_ok-name.name names refl (rw name c.in_ok-member.ensures.new) in
     record {
       files = c.in_ok-member.ensures.kept.files ∙ c.loop.invariant.files;
       count = kept_count _ _ _ c.in_ok-member.ensures.kept.count ∙ c.loop.invariant.count;
-      limit = c.in_ok-member.ensures.limit;
-      some = omega (arith, c.in_ok-member.ensures.later);
-      names = name_pushed ms c.in_ok-member.member _ names _ c.as_slice.result.now c.loop.invariant.names c.as_slice.ensures c.in_ok-add_name.ensures c.in_ok-push.ensures.items;
+      limit = c.in_ok-member.ensures.end.1;
+      some = omega (arith, c.in_ok-member.ensures.end.0);
+      names = ap (map (λ n. n.items)) c.in_ok-insert.ensures.keys ∙ new ∙ name_pushed ms c.in_ok-member.member _ names c.in_ok-name.name.items c.loop.invariant.names name c.in_ok-push.ensures.items;
       read = rw c.in_ok-push.ensures.items (goes_on c.args.file.now list_at (listings_at (n - i) ms c.loop.end) (listing_at names c.loop.end) (λ m. listings_at (n - (i + 1)) (ms ++ m.0 ∷ []) m.1) (listings_more n i ms names c.loop.end c.loop.invariant.names c.loop-test.true) _ _ (c.in_ok-member.member, c.in_ok-member.next) c.loop.invariant.files c.loop.invariant.read c.in_ok-member.ensures.read);
     }

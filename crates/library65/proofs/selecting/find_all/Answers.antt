@@ -1,4 +1,4 @@
-use Rattle.std.proofs.Common.{◌≡◌, ◌∙◌, ◌<◌, ℕ, map, length, Some, slice_get, subst, ap, arith, refl}
+use Rattle.std.proofs.Common.{◌≡◌, ◌<◌, ℕ, map, length, Some, slice_get, subst, ap, arith, refl}
 use Rattle.std.proofs.lemmas.List.{length-append}
 use Rattle.std.proofs.lemmas.Option.{slice_get_read}
 use Rattle.library65.specs.Inner.Searching.{Finds}
@@ -19,8 +19,7 @@ loop-next-preserved c =
     let at : slice_get found next ≡ Some place = slice_get_read found (length found) next place refl lt c.index.ensures in
     let finds : Finds es defined (imports_at es place) found new = subst (λ ns. Finds es defined ns found new) c.imports-imports.ensures c.in_ok-find_imports.ensures.found in
     record {
-      sound = c.in_ok-find_imports.ensures.sound;
-      marks = c.in_ok-find_imports.ensures.marks ∙ c.loop-next.invariant.marks;
+      stands = c.in_ok-find_imports.ensures.stands;
       within = omega (arith, ap (length {A = ℕ}) finds.more, length-append found finds.behind);
       found = search_goes_on es wanted defined found new next place lt at c.loop-next.invariant.found finds;
     }

@@ -1,11 +1,10 @@
-use Rattle.std.proofs.Common.{◌≡◌, ◌≤◌, ◌-◌, length, map}
-use Rattle.library65.specs.Inner.Searching.{IsSearched, IsSound}
+use Rattle.std.proofs.Common.{◌≤◌, ◌-◌, length, map}
+use Rattle.library65.specs.Inner.Searching.{IsSearched, Stands}
 use Rattle.library65.proofs.selecting.find_all.Given as goal
 
 abbrev pub invariant-loop-next : goal.invariant-loop-next
 invariant-loop-next l = record {
-  sound : IsSound l.found;
-  marks : length l.found.marks.items ≡ length l.fn.found.marks.items;
+  stands : Stands l.exporters l.found;
   within : l.next ≤ length l.found.places.items;
   found : IsSearched l.exporters.entries.now (map (λ n. n.items) l.wanted.keys) (map (λ n. n.items) l.defined.keys) l.found.places.items l.next;
 }

@@ -1,4 +1,4 @@
-use Rattle.std.proofs.Common.{◌∙◌, ◌∷◌, [], map, take, sym, subst}
+use Rattle.std.proofs.Common.{◌∷◌, [], map, take, sym, subst}
 use Rattle.library65.specs.Inner.Searching.{Finds}
 use Rattle.library65.proofs.Selections.{finds_more}
 use Rattle.library65.proofs.Tables.{taken_more}
@@ -14,7 +14,6 @@ loop-name-preserved c =
     let i = c.loop-name.name-index in
     let last = subst (λ n. Finds es defined (n ∷ []) mid new) c.as_slice.ensures c.in_ok-find_name.ensures.found in
     record {
-      sound = c.in_ok-find_name.ensures.sound;
-      marks = c.in_ok-find_name.ensures.marks ∙ c.loop-name.invariant.marks;
+      stands = c.in_ok-find_name.ensures.stands;
       found = subst (λ ns. Finds es defined ns old new) (sym (taken_more c.args.names.now i c.name-item.result c.loop-name-test.true c.name-item.is)) (finds_more es defined (take i c.args.names.now) c.name-item.result old mid new c.loop-name.invariant.found last);
     }

@@ -1,14 +1,17 @@
-use Rattle.std.proofs.Common.{◌≡◌, map, false, Some, sym, rules}
-use Rattle.std.proofs.lemmas.Result.{on_ok_weaker}
+use Rattle.std.proofs.Common.{◌≡◌, arith, get_or, map, false, Some, sym, rules}
 use Rattle.object65.specs.Objects.{is_among}
 use Rattle.library65.specs.Selection.{first_exporter}
-use Rattle.library65.proofs.Selections.{finds_new}
+use Rattle.library65.proofs.Selections.{finds_new, mark_sound}
 use Rattle.library65.proofs.selecting.find_name.Goals as goal
 
-pub returns-else-index-clause-found : goal.returns-else-index-clause-found
-returns-else-index-clause-found c =
+pub returns-in_ok-push-in-Some : goal.returns-in_ok-push-in-Some
+returns-in_ok-push-in-Some c =
     let es = c.args.exporters.now.entries.now in
     let defined = map (λ n. n.items) c.args.defined.now.keys in
     let first : first_exporter es c.args.name.now ≡ Some c.in-Some.place = sym c.in-Some.ensures.place in
     let free : is_among defined c.args.name.now ≡ false = search rules in
-    on_ok_weaker c.add.result (λ d. finds_new es defined c.args.name.now c.in-Some.place c.args.found.now.places.items c.add.new.self.places.items first free d) c.add.ensures.places
+    let clear : get_or c.args.found.now.marks.items c.in-Some.place false ≡ false = search rules in
+    record {
+      found = finds_new es defined c.args.name.now c.in-Some.place c.args.found.now.places.items _ first free c.in_ok-push-in-Some.ensures.items;
+      stands = record { table = c.requires.table; sound = mark_sound c.args.found.now c.in-Some.place c.push.new.self c.requires.sound clear (omega (arith, c.in-Some.ensures.within, c.requires.marks)) c.in_ok-push-in-Some.ensures.items; marks = search rules };
+    }

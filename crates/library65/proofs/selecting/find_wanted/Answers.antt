@@ -15,7 +15,6 @@ loop-name-preserved c =
     let i = c.loop-name.name-index in
     let last = subst (λ n. Finds es defined (n ∷ []) mid new) c.as_slice.ensures.value c.in_ok-find_name.ensures.found in
     record {
-      sound = c.in_ok-find_name.ensures.sound;
-      marks = c.in_ok-find_name.ensures.marks ∙ c.loop-name.invariant.marks;
+      stands = c.in_ok-find_name.ensures.stands;
       found = subst (λ ns. Finds es defined ns old new) (sym (ap (map (λ n. n.items)) (taken_more c.args.names.now i c.name-item.result c.loop-name-test.true c.name-item.is) ∙ map-append (λ n. n.items) (take i c.args.names.now) (c.name-item.result ∷ []))) (finds_more es defined (map (λ n. n.items) (take i c.args.names.now)) c.name-item.result.items old mid new c.loop-name.invariant.found last);
     }

@@ -1,8 +1,8 @@
 use Rattle.std.proofs.Common.{◌∙◌, ◌<◌, ◌≤◌, ◌+◌, map, length, sym, subst, ap, arith}
-use Rattle.std.proofs.lemmas.Result.{IfOk-weaker}
 use Rattle.std.specs.List.{AllByRecursion}
 use Rattle.library65.specs.Inner.Searching.{marked_from}
 use Rattle.library65.specs.Selection.{IsSelection}
+use Rattle.library65.specs.declared.index.Entry.{Entry}
 use Rattle.library65.proofs.Selections.{marked_below, searched_selected}
 use Rattle.library65.proofs.selecting.select.Goals as goal
 
@@ -16,12 +16,13 @@ returns-clause-selected c =
     let places = c.in_ok-marked_places.field-0.items in
     let same = c.in_ok-exporters.ensures.entries ∙ c.as_slice.ensures in
     let marked = c.in_ok-marked_places.ensures ∙ ap (marked_from 0) c.as_slice-2.ensures.value in
-    subst (λ xs. IsSelection xs wanted defined places) same (searched_selected es wanted defined found marks places c.in_ok-find_all.ensures.found c.in_ok-find_all.ensures.sound.marks marked)
+    subst (λ xs. IsSelection xs wanted defined places) same (searched_selected es wanted defined found marks places c.in_ok-find_all.ensures.found c.in_ok-find_all.ensures.stands.sound.marks marked)
 
 pub returns-clause-within : goal.returns-clause-within
 returns-clause-within c =
     let n = length c.args.index.now.entries in
+    let same = c.in_ok-exporters.ensures.entries ∙ c.as_slice.ensures in
     let marks = c.find_all.new.found.marks.items in
-    let all : 0 + length marks ≤ n = omega (arith, c.in_ok-find_all.ensures.marks, c.in_ok-found.ensures.count, c.len.ensures) in
+    let all : 0 + length marks ≤ n = omega (arith, c.in_ok-find_all.ensures.stands.marks, ap (length {A = Entry}) same) in
     let marked = c.in_ok-marked_places.ensures ∙ ap (marked_from 0) c.as_slice-2.ensures.value in
     subst (AllByRecursion (λ i. i < n)) (sym marked) (marked_below n 0 marks all)

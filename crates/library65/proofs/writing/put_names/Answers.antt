@@ -1,6 +1,6 @@
-use Rattle.std.proofs.Common.{arith}
+use Rattle.std.proofs.Common.{◌<◌, List, ℕ, arith, length, subst, sym}
 use Rattle.std.proofs.lemmas.Result.{err_from_is_err_and}
-use Rattle.library65.proofs.Made.{many_names}
+use Rattle.library65.proofs.Made.{many_names, name_short}
 use Rattle.library65.proofs.writing.put_names.Goals as goal
 
 pub returns-in_err-count : goal.returns-in_err-count
@@ -8,3 +8,8 @@ returns-in_err-count c =
     let p = err_from_is_err_and c.from_residual.result c.from_residual.ensures.1 in
     let err = c.in_err-count.ensures.err in
     rw (p.1, p.2, err.0) (omega (arith, many_names c.args.names.now, err.1))
+
+pub put_name-requires : goal.put_name-requires
+put_name-requires c =
+    let P : List ℕ → Type 0 = λ n. length n < 256 in
+    subst P (sym c.as_slice.ensures) (name_short c.args.names.now c.loop-name.name-index c.name-item.result c.requires c.loop-name-test.true c.name-item.is)

@@ -1,0 +1,9 @@
+use Rattle.std.proofs.Common.{◌≡◌, rules, true}
+use Rattle.library65.specs.Spelling.{is_member_name}
+use Rattle.library65.proofs.Members.{trailing}
+use Rattle.library65.proofs.contents.check_member.Goals as goal
+
+pub returns-then-end-bytes-clause-checked : goal.returns-then-end-bytes-clause-checked
+returns-then-end-bytes-clause-checked c =
+    let named : is_member_name c.args.name.now ≡ true = search rules in
+    trailing c.args.name.now c.args.bytes.now c.in_ok-version.version c.in_ok-version.first c.in_ok-contents.end c.in_ok-contents.contents named c.in_ok-version.ensures.read c.in_ok-contents.ensures.read c.if-end-bytes.true

@@ -1,5 +1,5 @@
 -- From the parts of a link to the whole, and with which faults it is refused at all.
-use Rattle.std.proofs.Common.{◌≡◌, ◌≢◌, ℕ, zero, suc, ◌+◌, ◌<◌, ◌≤◌, refl, sym, ◌∙◌, ap, subst, arith, List, [], ◌∷◌, length, slice_get, Option, Some, None, Bool, true, false, Result, Ok, Err, ◌⊎◌, inl, inr, nat_lt, map, ℤ, ◌||◌}
+use Rattle.std.proofs.Common.{◌≡◌, ◌≢◌, ℕ, zero, suc, ◌+◌, ◌<◌, ◌≤◌, refl, sym, ◌∙◌, ap, subst, arith, List, [], ◌∷◌, length, slice_get, Option, Some, None, Bool, true, false, Result, Ok, Err, ◌⊎◌, inl, inr, nat_lt, map, ℤ, ◌||◌, ◌++◌, ◌%◌, ◌^◌}
 use Rattle.std.specs.Prelude.{IfErr, replicate}
 use Rattle.std.proofs.lemmas.Grind.{common_steps}
 use Rattle.std.proofs.lemmas.Bool.Decides.{nat_tests}
@@ -18,8 +18,8 @@ use Rattle.link65.specs.declared.parts.Provider.TheVariants.{ByModule, ByScript,
 use Rattle.link65.specs.declared.parts.Resolved.{Resolved}
 use Rattle.link65.specs.declared.parts.ValueFault.{ValueFault}
 use Rattle.link65.specs.declared.parts.ValueFault.TheVariants.{NoValue, Unresolved}
-use Rattle.link65.specs.Placed.{AllFound, AreAllFound, AreSettled, IsFound, KeepsFound, as_found, as_outcome, import_tried, marked, table_of, tried, IsPassed, IsPlacedPassed}
-use Rattle.link65.specs.Values.{AreExports, ExportComesTo, Linkage, base_of, provider_at, import_value, in_table, value_by, linkage, Exports, linkage_of, resolved}
+use Rattle.link65.specs.Placed.{AllFound, AreAllFound, AreSettled, IsFound, KeepsFound, as_found, as_outcome, import_tried, marked, table_of, tried, AreNames, IsPassed, IsPlacedPassed, Passes, Runs, address_in, provider_in, resolved_by, run_in}
+use Rattle.link65.specs.Values.{AreExports, ExportComesTo, Linkage, base_of, provider_at, import_value, in_table, value_by, linkage, Exports, linkage_of, address_of, resolved, row_bytes, run_of}
 use Rattle.script65.specs.declared.placement.Placement.{Placement}
 use Rattle.script65.specs.declared.script.Script.{Script}
 use Rattle.link65.specs.declared.fault.LinkFault.{LinkFault}
@@ -27,6 +27,14 @@ use Rattle.link65.specs.declared.finishing.Passed.{Passed}
 use Rattle.link65.specs.Faults.{is_memory, RefusesBy, is_of_finish}
 use Rattle.link65.specs.Programs.{Program}
 use Rattle.link65.specs.declared.linking.Linked.{Linked}
+use Rattle.base65.specs.declared.output.OutputFile.{OutputFile}
+use Rattle.std.specs.Int.{w64, cast_signed}
+use Rattle.link65.specs.declared.parts.Definition.{Definition}
+use Rattle.link65.specs.declared.parts.SectionPlace.{SectionPlace}
+use Rattle.link65.specs.declared.resolving.Names.{Names}
+use Rattle.link65.specs.Files.{AddsAreas, IsAreaFile, RowBytes, written}
+use Rattle.link65.specs.Names.{provider_of, script_definitions, weak_symbols}
+use Rattle.link65.specs.Texts.{warnings_of_rows}
 use Rattle.link65.specs.declared.parts.Asserted.{Asserted}
 use Rattle.link65.specs.declared.parts.Exported.{Exported}
 use Rattle.link65.specs.declared.parts.Member.{Member}
@@ -96,19 +104,6 @@ value_found l marks h owner f = ap as_outcome (tried_found marks h (slice_get l.
 
 -- ---- All of them in turn.
 
-all_untouched : (n x : ℕ) (m : Mark) → slice_get (replicate n Untouched) x ≡ Some m → m ≡ Untouched
-all_untouched zero x m h = absurd cc
-all_untouched (suc n) zero m h = cc
-all_untouched (suc n) (suc x) m h = all_untouched n x m h
-
--- before any is evaluated
-pub untouched_settled : (l : Linkage) (n : ℕ) → n ≡ length l.exports → AreSettled l (replicate n Untouched)
-untouched_settled l n e = record {
-  long = length-replicate n Untouched ∙ e;
-  all_true = λ x r at. (let same : Found r ≡ Untouched = all_untouched n x (Found r) at in absurd cc);
-  at_rest = λ x at. (let same : BeingEvaluated ≡ Untouched = all_untouched n x BeingEvaluated at in absurd cc);
-}
-
 -- what isn't untouched is found
 pub touched_found : (l : Linkage) (marks : List Mark) (x : ℕ) → AreSettled l marks → x < length marks → slice_get marks x ≢ Some Untouched → IsFound marks x
 touched_found l marks x h k n = grind (arith, common_steps, common_steps, gets)
@@ -154,7 +149,64 @@ placed_by s p placement modules marks r same found k =
       subst (λ (l : Linkage). IsPassed s p placement l (in_table (table_of marks)) q) one h,
     )
 
+-- ---- Where sections lie and who gives imports.
+
+same_all : {A B : Type 0} (f g : A → B) → ((x : A) → f x ≡ g x) → (xs : List A) → map f xs ≡ map g xs
+same_all f g same [] = refl
+same_all f g same (x ∷ xs) = ap (λ y. y ∷ map f xs) (same x) ∙ ap (λ ys. g x ∷ ys) (same_all f g same xs)
+
+pub resolved_all : (s : Script) (p : Program) (placement : Placement) (n : Names) (runs : Runs) → AreNames n → n.own.now ≡ script_definitions s placement → n.exports.now ≡ p.exports → n.weak.now ≡ weak_symbols s.symbols → ((name : List ℕ) → run_in runs name ≡ run_of s.rows placement.rows name) → (members : List Member) → map (resolved_by n runs) members ≡ map (resolved s p placement) members
+resolved_all s p placement n runs are own exports weak run members = same_all (resolved_by n runs) (resolved s p placement) one members
+  where
+    given : (name : List ℕ) → provider_in n name ≡ provider_of (script_definitions s placement) p.exports (weak_symbols s.symbols) name
+    given name =
+        are.given name
+        ∙ ap (λ (ds : List Definition). provider_of ds n.exports.now n.weak.now name) own
+        ∙ ap (λ (es : List Exported). provider_of (script_definitions s placement) es n.weak.now name) exports
+        ∙ ap (λ (ds : List Definition). provider_of (script_definitions s placement) p.exports ds name) weak
+
+    at : (place : SectionPlace) → address_in runs place ≡ address_of s.rows placement.rows place
+    at place = ap (λ (r : ℕ). cast_signed w64 ((r + place.offset) % 2 ^ 64)) (run place.segment)
+
+    one : (m : Member) → resolved_by n runs m ≡ resolved s p placement m
+    one m =
+        ap (λ (bases : List ℤ). record { bases = bases; providers = map (provider_in n) m.imports }) (same_all (address_in runs) (address_of s.rows placement.rows) at m.sections)
+        ∙ ap (λ (providers : List Provider). record { bases = map (address_of s.rows placement.rows) m.sections; providers = providers }) (same_all (provider_in n) _ given m.imports)
+
 -- ---- From the parts of a link to the whole.
+
+-- a program that passes is linked by its files
+pub passed_link : (output : List ℕ) (s : Script) (p : Program) (placement : Placement) (x : Passed) (files : List OutputFile) → IsPlacedPassed s p placement (Ok x) → ((bytes : RowBytes) → x.rows.items ≡ map (written bytes) s.rows → AddsAreas output (IsAreaFile s.rows placement bytes) 0 s.areas [] files) → IsPlacedLink output s p placement (Ok (record { files = files; warnings = x.warnings; map = x.map }))
+passed_link output s p placement x files (table, are, passes) lays = (table, are, go (checked s p l exports) passes)
+  where
+    l : Linkage
+    l = linkage_of s p placement
+
+    exports : Exports
+    exports = in_table table
+
+    go : (head : Result (List ℕ) LinkFault) → First head (Passes s p placement l exports) (Ok x) → First head (IsImaged output s p placement l exports) (Ok (record { files = files; warnings = x.warnings; map = x.map }))
+    go (Err e) h = absurd cc
+    go (Ok warnings) (rows, warned, mapped) = (
+      files,
+      lays (row_bytes l exports p.segments) rows,
+      ap (λ (t : List ℕ). Ok (record { files = files; warnings = t; map = x.map })) warned ∙ ap (λ (t : List ℕ). Ok (record { files = files; warnings = warnings_of_rows s.rows p.segments ++ warnings; map = t })) mapped,
+    )
+
+-- and one that is refused is refused so
+pub passed_refused : (output : List ℕ) (s : Script) (p : Program) (placement : Placement) (e : LinkFault) → IsPlacedPassed s p placement (Err e) → IsPlacedLink output s p placement (Err e)
+passed_refused output s p placement e (table, are, passes) = (table, are, go (checked s p (linkage_of s p placement) (in_table table)) passes)
+  where
+    go : (head : Result (List ℕ) LinkFault) → First head (Passes s p placement (linkage_of s p placement) (in_table table)) (Err e) → First head (IsImaged output s p placement (linkage_of s p placement) (in_table table)) (Err e)
+    go (Ok warnings) h = absurd h
+    go (Err f) h = cc
+
+pub finds_refused : (output : List ℕ) (s : Script) (p : Program) (placement : Placement) (e : LinkFault) → Finds is_memory (IsPlacedPassed s p placement) (Err e) → Finds is_memory (IsPlacedLink output s p placement) (Err e)
+finds_refused output s p placement e h = go (is_memory e) h
+  where
+    go : (b : Bool) → Unless b (IsPlacedPassed s p placement (Err e)) → Unless b (IsPlacedLink output s p placement (Err e))
+    go true u = tt
+    go false u = passed_refused output s p placement e u
 
 pub first_ok : {A B : Type 0} (head : Result A LinkFault) (x : A) (Next : A → Result B LinkFault → Type 0) (r : Result B LinkFault) → head ≡ Ok x → Next x r → First head Next r
 first_ok {A} {B} head x Next r e h = subst (λ (z : Result A LinkFault). First z Next r) (sym e) h

@@ -1,13 +1,17 @@
--- Lists: names that are copied, places by name, lists beside each other.
+-- Lists: names that are copied, what is known of names, lists beside each other.
 use Rattle.std.proofs.lemmas.Grind.{common_steps}
-use Rattle.std.proofs.Common.{◌≡◌, ◌∙◌, ℕ, List, [], ◌∷◌, map, Result, refl, ap, vec_len, ◌<◌, ◌≤◌, ◌-◌, ◌+◌, Bool, cond, length, drop, slice_get, add-one, Option, Some, None, sym, arith, ◌++◌, append_assoc, append-nil, ◌⊎◌, inl, inr}
-use Rattle.std.specs.Prelude.{IfOk, MatchResult}
+use Rattle.std.proofs.Common.{◌≡◌, ◌∙◌, ℕ, List, [], ◌∷◌, map, Result, refl, ap, vec_len, ◌<◌, ◌≤◌, ◌-◌, ◌+◌, Bool, true, false, cond, length, drop, slice_get, add-one, get_or, Option, Some, sym, arith, ◌++◌, append_assoc, append-nil, ◌⊎◌, inl, inr}
+use Rattle.std.specs.Prelude.{IfOk, MatchResult, option_map}
 use Rattle.std.specs.Global.{Vec}
 use Rattle.std.specs.List.{AllZip, position_from, flat_map}
 use Rattle.std.specs.Borrow.{Bor}
 use Rattle.std.specs.Str.{bytes_eq}
 use Rattle.std.proofs.lemmas.List.{drop_all}
 use Rattle.script65.proofs.Eaches.{drop_at}
+use Rattle.std.specs.Option.{option_or}
+use Rattle.std.proofs.lemmas.Option.{slice_get_read}
+use Rattle.indexmap.specs.IndexMap.{IndexMap}
+use Rattle.link65.specs.Placed.{found}
 use Rattle.link65.specs.Programs.{position_in, flat_zip}
 
 -- ---- Names that are copied.
@@ -38,30 +42,47 @@ same_names (v ∷ vs) (w ∷ ws) h =
 pub copied : {S E : Type 0} (keys : S → List (Vec ℕ)) (old : List (Vec ℕ)) (r : Result S E) (Q : E → Type 0) → MatchResult r (λ s. AllZip IsCopy old (keys s)) Q → IfOk r (λ s. map (λ n. n.items) (keys s) ≡ map (λ n. n.items) old)
 copied keys old x y h = grind (arith, common_steps, same_names)
 
--- ---- Places by name.
+-- ---- What is known of names: of two items of one name the first counts.
 
-abbrev pub at_name : List ℕ → Bor (List ℕ) → Bool
-at_name name n = bytes_eq n.now name
+-- the place of the first of a name, from a place on
+abbrev pub first_from : {X : Type 0} → (X → List ℕ) → List X → ℕ → List ℕ → Option ℕ
+first_from name_of xs i name = position_from (λ x. bytes_eq (name_of x) name) i (drop i xs)
 
-pub none_there : (names : List (Bor (List ℕ))) (name : List ℕ) → position_from (at_name name) (length names) (drop (length names) names) ≡ None
-none_there names name = ap (position_from (at_name name) (length names)) (drop_all (length names) names (omega arith))
+nearer : {A : Type 0} (given : ℕ → A) (b : Bool) (i : ℕ) (o : Option ℕ) (old mid : Option A) → mid ≡ option_or (option_map given o) old → cond b (Some (given i)) mid ≡ option_or (option_map given (cond b (Some i) o)) old
+nearer given true i o old mid e = refl
+nearer given false i o old mid e = e
 
--- one name more, in front of those so far
-pub one_more : (names : List (Bor (List ℕ))) (i : ℕ) (n : Bor (List ℕ)) (name : List ℕ) (old new : Option ℕ) → 0 < i → i ≤ length names → slice_get names (i - 1) ≡ Some n → new ≡ cond (bytes_eq n.now name) (Some (i - 1)) old → old ≡ position_from (at_name name) i (drop i names) → new ≡ position_from (at_name name) (i - 1) (drop (i - 1) names)
-one_more names i n name old new pos le at e inv =
-    let lt : i - 1 < length names = omega arith in
-    let next : i - 1 + 1 ≡ i = omega arith in
-    let there : drop (i - 1) names ≡ n ∷ drop (i - 1 + 1) names = rw add-one (drop_at names (i - 1) n at) in
-    e
-    ∙ ap (cond (bytes_eq n.now name) (Some (i - 1))) (inv ∙ sym (ap (λ j. position_from (at_name name) j (drop j names)) next))
-    ∙ sym (ap (position_from (at_name name) (i - 1)) there)
+module _ {X A S : Type 0} (name_of : X → List ℕ) (given : ℕ → A) (xs : List X) where
+  -- the items from a place on are known, and else what was
+  abbrev pub AreKnown : ℕ → (List ℕ → Option A) → IndexMap (Bor (List ℕ)) A S → Type 0
+  AreKnown i old new = (name : List ℕ) → found new name ≡ option_or (option_map given (first_from name_of xs i name)) (old name)
 
-position_map : (names : List (Bor (List ℕ))) (name : List ℕ) (i : ℕ) → position_from (at_name name) i names ≡ position_from (λ n. bytes_eq n name) i (map (λ n. n.now) names)
-position_map [] name i = refl
-position_map (n ∷ names) name i = ap (cond (bytes_eq n.now name) (Some i)) (position_map names name (i + 1))
+  pub known_none : (i : ℕ) (old : List ℕ → Option A) (new : IndexMap (Bor (List ℕ)) A S) → i ≡ length xs → ((name : List ℕ) → found new name ≡ old name) → AreKnown i old new
+  known_none i old new all same name =
+      same name ∙ sym (ap (λ l. option_or (option_map given (position_from (λ x. bytes_eq (name_of x) name) i l)) (old name)) (drop_all i xs (omega arith)))
 
-pub all_names : (names : List (Bor (List ℕ))) (name : List ℕ) → position_from (at_name name) 0 (drop 0 names) ≡ position_in (map (λ n. n.now) names) name
-all_names names name = position_map names name 0
+  -- one item more, in front of those so far
+  pub known_more : (i : ℕ) (x : X) (n : List ℕ) (v : A) (old : List ℕ → Option A) (mid new : IndexMap (Bor (List ℕ)) A S) → 0 < i → i ≤ length xs → x ≡ get_or xs (i - 1) x → n ≡ name_of x → v ≡ given (i - 1) → ((name : List ℕ) → found new name ≡ cond (bytes_eq n name) (Some v) (found mid name)) → AreKnown i old mid → AreKnown (i - 1) old new
+  known_more i x n v old mid new pos le is named same e inv name =
+      let next : i - 1 + 1 ≡ i = omega arith in
+      let at : slice_get xs (i - 1) ≡ Some x = slice_get_read xs (length xs) (i - 1) x refl (omega arith) is in
+      let there : drop (i - 1) xs ≡ x ∷ drop (i - 1 + 1) xs = rw add-one (drop_at xs (i - 1) x at) in
+      let known : List X → Option A = λ l. option_or (option_map given (position_from (λ y. bytes_eq (name_of y) name) (i - 1) l)) (old name) in
+      e name
+      ∙ ap (λ (m : List ℕ). cond (bytes_eq m name) (Some v) (found mid name)) named
+      ∙ ap (λ (w : A). cond (bytes_eq (name_of x) name) (Some w) (found mid name)) same
+      ∙ nearer given (bytes_eq (name_of x) name) (i - 1) (first_from name_of xs (i - 1 + 1) name) (old name) (found mid name) (inv name ∙ sym (ap (λ j. option_or (option_map given (first_from name_of xs j name)) (old name)) next))
+      ∙ sym (ap known there)
+
+  pub known_all : (i : ℕ) (old : List ℕ → Option A) (new : IndexMap (Bor (List ℕ)) A S) → i ≡ 0 → AreKnown i old new → (name : List ℕ) → found new name ≡ option_or (option_map given (position_in (map name_of xs) name)) (old name)
+  known_all i old new none inv name =
+      inv name
+      ∙ ap (λ j. option_or (option_map given (first_from name_of xs j name)) (old name)) none
+      ∙ ap (λ o. option_or (option_map given o) (old name)) (mapped 0 xs)
+    where
+      mapped : (i : ℕ) (ys : List X) → position_from (λ x. bytes_eq (name_of x) name) i ys ≡ position_from (λ n. bytes_eq n name) i (map name_of ys)
+      mapped i [] = refl
+      mapped i (y ∷ ys) = ap (cond (bytes_eq (name_of y) name) (Some i)) (mapped (i + 1) ys)
 
 -- ---- Lists beside each other.
 

@@ -1,6 +1,6 @@
 -- Checks in turn, refusals that pass through, and the bytes of rows that are checked.
 use Rattle.std.proofs.lemmas.Grind.{common_steps}
-use Rattle.std.proofs.Common.{arith, ◌≡◌, ◌<◌, ℕ, zero, suc, ◌+◌, map, Bool, true, false, List, [], ◌∷◌, ◌++◌, length, drop, get_or, refl, sym, ap, ◌∙◌, Result, Ok, Err, append_assoc, if◌then◌else◌}
+use Rattle.std.proofs.Common.{arith, ◌≡◌, ◌<◌, ℕ, zero, suc, ◌+◌, map, Bool, true, false, List, [], ◌∷◌, ◌++◌, length, drop, get_or, refl, sym, ap, ◌∙◌, Result, Ok, Err, Option, Some, append_assoc, if◌then◌else◌}
 use Rattle.std.specs.List.{flat_map}
 use Rattle.script65.proofs.Eaches.{drop_item}
 use Rattle.base65.specs.Outcome.{◌>>=◌, Refuses}
@@ -9,9 +9,10 @@ use Rattle.std.specs.Prelude.{replicate}
 use Rattle.link65.specs.declared.parts.Piece.{Piece}
 use Rattle.link65.specs.declared.parts.Piece.TheVariants.{Known, Filled}
 use Rattle.link65.specs.declared.parts.Fixup.{Fixup}
-use Rattle.link65.specs.Links.{each_passes, fixups_in}
-use Rattle.link65.specs.Grounds.{cells_of, piece_cells, piece_fixups}
-use Rattle.link65.specs.Programs.{Cell, known, filled}
+use Rattle.link65.specs.Links.{each_passes, fixups_in, fixups_of}
+use Rattle.link65.specs.declared.parts.Content.{Content}
+use Rattle.link65.specs.Grounds.{cells_of, piece_cells, piece_fixups, segment_from}
+use Rattle.link65.specs.Programs.{Cell, known, filled, Segment}
 use Rattle.link65.specs.Faults.{is_memory}
 use Rattle.link65.specs.Values.{cell_bytes, Exports, Linkage}
 
@@ -72,6 +73,10 @@ known_passes check p bytes is = rw is (ap (each_passes check) (known_waits bytes
 
 pub filled_passes : (check : Check Fixup) (p : Piece) (n : ℕ) → p ≡ Filled n → each_passes check (piece_fixups p) ≡ Ok tt
 filled_passes check p n is = rw is (ap (each_passes check) (filled_waits n))
+
+-- those of a segment are those of its pieces
+pub content_waits : (check : Check Fixup) (o : Option Segment) (c : Content) (pieces : List Piece) → Some (segment_from c) ≡ o → pieces ≡ c.pieces → each_passes check (fixups_of o) ≡ each_passes check (flat_map piece_fixups pieces)
+content_waits check o c pieces there same = ap (λ r. each_passes check (fixups_of r)) (sym there) ∙ ap (each_passes check) (cells_wait c.pieces ∙ ap (flat_map piece_fixups) (sym same))
 
 -- ---- The bytes of pieces and of rows.
 

@@ -277,5 +277,5 @@ part_added g k at f p contents sections named there place added lengthened =
     ∙ ap (put (growth_in g) (with_more p.segment len cells (segments_from cs))) lengthened
     ∙ sym (ap (with_part (growth_in g) k f) there)
 
-pub same_content : (cs : List Content) (at : ℕ) (x y : Content) → at < length cs → x ≡ get_or cs at x → slice_get cs at ≡ Some y → x ≡ y
-same_content cs at x y within is there = some_same x y (sym (slice_get_read cs (length cs) at x refl within is) ∙ there)
+pub same_item : {A : Type 0} (cs : List A) (at : ℕ) (x y : A) → at < length cs → x ≡ get_or cs at x → slice_get cs at ≡ Some y → x ≡ y
+same_item cs at x y within is there = some_same x y (sym (slice_get_read cs (length cs) at x refl within is) ∙ there)

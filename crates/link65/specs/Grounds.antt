@@ -62,6 +62,11 @@ pub record AreNamed (g : Growing) : Type 0 where
   pub names : names_in g ≡ map (λ c. c.name) g.contents.items
   pub sections : map (λ s. place_in s.segment (names_in g)) g.sections.items ≡ map Some g.places.items
 
+-- it is what a program has grown to, and its segments are found
+pub record IsGrown (g : Growing) (new : Growth) : Type 0 where
+  pub growth : growth_in g ≡ new
+  pub named : AreNamed g
+
 -- an alignment that an object may have
 abbrev pub IsSmall : Item → Type 0
 IsSmall (item.Section name size align) = align ≤ 15

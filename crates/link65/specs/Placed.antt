@@ -1,5 +1,5 @@
 -- A placed program as the code holds it, how its exports are found, and what it comes to but for its files.
-use Rattle.std.specs.Prelude.{◌≡◌, ◌≢◌, ◌<◌, ℕ, ℤ, List, length, map, slice_get, Option, Some, None, Result, Ok, Err, ◌++◌, ◌∷◌, [], codes}
+use Rattle.std.specs.Prelude.{◌≡◌, ◌≢◌, ◌<◌, ℕ, ℤ, List, length, map, slice_get, Option, Some, None, Result, Ok, Err, ◌++◌, ◌∷◌, [], codes, option_map, unwrap_or, is_some, ◌||◌, ◌+◌, ◌%◌, ◌^◌}
 use Rattle.object65.specs.Form.{Form}
 use Rattle.object65.specs.FormValue.{value_in}
 use Rattle.link65.specs.declared.evaluation.Attempt.{Attempt}
@@ -14,16 +14,18 @@ use Rattle.link65.specs.declared.parts.Provider.TheVariants.{ByModule, ByScript,
 use Rattle.link65.specs.declared.parts.Resolved.{Resolved}
 use Rattle.link65.specs.declared.parts.ValueFault.{ValueFault}
 use Rattle.link65.specs.declared.parts.ValueFault.TheVariants.{Circular, NoValue, Unresolved}
-use Rattle.link65.specs.Values.{ExportComesTo, Linkage, base_of, provider_at, AreExports, Exports, in_table, linkage, value_by, address_of, linkage_of, cell_bytes, or_zero, row_bytes}
+use Rattle.link65.specs.Values.{ExportComesTo, Linkage, base_of, provider_at, AreExports, Exports, in_table, linkage, value_by, linkage_of, cell_bytes, or_zero, row_bytes}
 use Rattle.std.specs.Str.{bytes_eq}
-use Rattle.indexmap.specs.IndexMap.{get_by}
-use Rattle.link65.specs.declared.resolving.Addresses.{Addresses}
+use Rattle.indexmap.specs.IndexMap.{IndexMap, get_by}
+use Rattle.base65.specs.declared.seed.Seed.{Seed}
+use Rattle.std.specs.Borrow.{Bor}
+use Rattle.std.specs.Option.{option_or}
+use Rattle.link65.specs.declared.parts.SectionPlace.{SectionPlace}
 use Rattle.link65.specs.declared.resolving.Names.{Names}
-use Rattle.link65.specs.declared.resolving.Places.{Places}
 use Rattle.link65.specs.declared.parts.Member.{Member}
-use Rattle.link65.specs.Names.{provider_of, script_definitions, weak_symbols}
-use Rattle.link65.specs.Programs.{position_in, flat_zip, Program, Cell, Segment}
-use Rattle.std.specs.Int.{w64, cast_unsigned}
+use Rattle.link65.specs.Names.{by_definition, defined_at, exported_at, provider_of, script_definitions, weak_symbols}
+use Rattle.link65.specs.Programs.{flat_zip, Program, Cell, Segment}
+use Rattle.std.specs.Int.{w64, cast_signed, cast_unsigned}
 use Rattle.std.specs.List.{flat_map}
 use Rattle.base65.specs.Outcome.{First}
 use Rattle.link65.specs.Files.{RowBytes, written}
@@ -114,27 +116,45 @@ as_outcome (Ok v) = Ok v
 as_outcome (Err (Fault e)) = Err e
 as_outcome (Err (Needs x)) = Err Circular
 
--- ---- Names by place, as the code holds them.
+-- ---- Names, as the code holds them.
 
--- the place of the first of names that equals one is found
-abbrev pub IsTable : Places → List (List ℕ) → Type 0
-IsTable t names = (name : List ℕ) → get_by (λ k. bytes_eq name k.now) t.by_name ≡ position_in names name
+-- what is found of a name
+abbrev pub found : {A S : Type 0} → IndexMap (Bor (List ℕ)) A S → List ℕ → Option A
+found table name = get_by (λ k. bytes_eq name k.now) table
 
--- the names of each kind are found
-pub record AreNames (n : Names) : Type 0 where
-  pub own : IsTable n.own_places (map (λ d. d.name) n.own.now)
-  pub exports : IsTable n.export_places (map (λ e. e.name) n.exports.now)
-  pub weak : IsTable n.weak_places (map (λ d. d.name) n.weak.now)
+-- what is known of names: of those that have a place what the place gives, of others what was known
+abbrev pub Adds : {A S : Type 0} → (ℕ → A) → (List ℕ → Option ℕ) → IndexMap (Bor (List ℕ)) A S → IndexMap (Bor (List ℕ)) A S → Type 0
+Adds given at old new = (name : List ℕ) → found new name ≡ option_or (option_map given (at name)) (found old name)
+
+abbrev pub definition_at : List Definition → ℕ → Provider
+definition_at ds i = by_definition ds (Some i) Nobody
+
+abbrev pub AddsDefinitions : {S : Type 0} → List Definition → IndexMap (Bor (List ℕ)) Provider S → IndexMap (Bor (List ℕ)) Provider S → Type 0
+AddsDefinitions ds old new = Adds (definition_at ds) (defined_at ds) old new
+
+abbrev pub AddsExports : {S : Type 0} → List Exported → IndexMap (Bor (List ℕ)) Provider S → IndexMap (Bor (List ℕ)) Provider S → Type 0
+AddsExports exports old new = Adds ByModule (exported_at exports) old new
 
 abbrev pub provider_in : Names → List ℕ → Provider
-provider_in n name = provider_of n.own.now n.exports.now n.weak.now name
+provider_in n name = unwrap_or (found n.defined name) (unwrap_or (found n.weakly name) Nobody)
 
--- the rows are found by name
-abbrev pub AreAddresses : Addresses → Type 0
-AreAddresses a = IsTable a.by_name (map (λ r. r.name) a.rows.now)
+-- each name is given as it is by what the script and the modules define
+pub record AreNames (n : Names) : Type 0 where
+  pub defined : (name : List ℕ) → is_some (found n.defined name) ≡ (is_some (defined_at n.own.now name) || is_some (exported_at n.exports.now name))
+  pub given : (name : List ℕ) → provider_in n name ≡ provider_of n.own.now n.exports.now n.weak.now name
 
-abbrev pub resolved_by : Names → Addresses → Member → Resolved
-resolved_by n a m = record { bases = map (address_of a.rows.now a.places.now) m.sections; providers = map (provider_in n) m.imports }
+-- where the row of a name runs, and a section of it
+abbrev pub Runs : Type 0
+Runs = IndexMap (Bor (List ℕ)) ℕ Seed
+
+abbrev pub run_in : Runs → List ℕ → ℕ
+run_in runs name = unwrap_or (found runs name) 0
+
+abbrev pub address_in : Runs → SectionPlace → ℤ
+address_in runs p = cast_signed w64 ((run_in runs p.segment + p.offset) % 2 ^ 64)
+
+abbrev pub resolved_by : Names → Runs → Member → Resolved
+resolved_by n runs m = record { bases = map (address_in runs) m.sections; providers = map (provider_in n) m.imports }
 
 -- ---- A placed program whose exports are all found, as the code holds it, and what it comes to but for its files.
 

@@ -1,13 +1,11 @@
 //! The values of forms and of exports, found with a stack of its own.
 
-ghost use Rattle.std.specs.Prelude.{◌≡◌, ◌<◌, ℕ, List, ◌+ℤ◌, length, option_copied, slice_get, ◌≢◌, IfOk, true, false, OnOk, Some};
-ghost use Rattle.base65.specs.Values.{wrapped};
-ghost use Rattle.object65.specs.FormValue.{or_none};
+ghost use Rattle.std.specs.Prelude.{◌≡◌, ◌<◌, length, option_copied, slice_get, IfOk, OnOk, Some};
 ghost use Rattle.link65.specs.declared.evaluation.Stop.TheVariants.{Fault};
 ghost use Rattle.link65.specs.declared.parts.Exported.{Exported};
 ghost use Rattle.link65.specs.declared.parts.ValueFault.TheVariants.{NoValue};
-ghost use Rattle.link65.specs.Placed.{AllFound, as_found, as_outcome, attempt_of, export_tried, import_tried, table_of, tried, AreAllFound, AreSettled, IsFound, KeepsFound};
-ghost use Rattle.link65.specs.Values.{base_of, provider_at, in_table, linkage, value_by};
+ghost use Rattle.link65.specs.Placed.{export_tried, import_tried, tried, AreAllFound, AreSettled, IsFound, KeepsFound};
+ghost use Rattle.link65.specs.Values.{base_of, provider_at, linkage};
 ghost use Rattle.link65.specs.declared.evaluation.Mark.TheVariants.{Untouched};
 
 use crate::parts::{Exported, Provider, Resolved, ValueFault};
@@ -85,19 +83,17 @@ fn base_at(resolved: Option<&Resolved>, section: usize) -> i64
     }
 }
 
-fn sum(a: i64, b: i64) -> i64
-    ensures { result ≡ wrapped (a +ℤ b) }
-{
-    a.wrapping_add(b)
-}
-
 /// The value of a form of a module as far as exports are known, or what it needs first.
-fn try_form(form: &Norm, resolved: Option<&Resolved>, marks: &[Mark]) -> Result<i64, Stop>
+#[tactic(auto, using(std::proofs::lemmas::Int::wraps))]
+pub fn try_form(form: &Norm, resolved: Option<&Resolved>, marks: &[Mark]) -> Result<i64, Stop>
     ensures { result ≡ tried (option_copied resolved.entry) marks.now form.now }
 {
     match form.node() {
         Node::Lit(value) => Ok(*value),
-        Node::Sec(section, offset) => Ok(sum(base_at(resolved, *section as usize), *offset)),
+        Node::Sec(section, offset) => {
+            let base = base_at(resolved, *section as usize);
+            Ok(base.wrapping_add(*offset))
+        }
         Node::Imp(place) => try_import(marks, provider_at(resolved, *place as usize)),
         Node::Prefix(op, part) => {
             let value = try_form(part, resolved, marks)?;
@@ -111,50 +107,17 @@ fn try_form(form: &Norm, resolved: Option<&Resolved>, marks: &[Mark]) -> Result<
     }
 }
 
-/// The module at a place, if there is one.
-fn resolved_at(modules: &[Resolved], owner: usize) -> Option<&Resolved>
-    ensures { option_copied result ≡ slice_get modules.entry.now owner }
-{
-    modules.get(owner)
-}
-
 /// What the export at a place comes to as far as exports are known, or what it needs first.
 fn try_export(modules: &[Resolved], exports: &[Exported], marks: &[Mark], place: usize) -> Attempt
     requires { place < length exports.now }
     ensures { result ≡ export_tried modules.now marks.now (slice_get exports.now place) }
 {
     let export = &exports[place];
-    let resolved = resolved_at(modules, export.owner);
-    match try_form(&export.form, resolved, marks) {
+    match try_form(&export.form, modules.get(export.owner), marks) {
         Ok(value) => Attempt::Settled(Ok(value)),
         Err(Stop::Fault(fault)) => Attempt::Settled(Err(fault)),
         Err(Stop::Needs(export)) => Attempt::Needs(export),
     }
-}
-
-/// What an attempt answered where nothing is needed any more.
-fn as_outcome(attempt: Result<i64, Stop>) -> Result<i64, ValueFault>
-    ensures { result ≡ as_outcome attempt }
-{
-    match attempt {
-        Ok(value) => Ok(value),
-        Err(Stop::Fault(fault)) => Err(fault),
-        Err(Stop::Needs(_)) => Err(ValueFault::Circular),
-    }
-}
-
-/// What a form of the module at a place comes to, where all exports are found.
-pub fn value_of(
-    modules: &[Resolved],
-    marks: &[Mark],
-    owner: usize,
-    form: &Norm,
-) -> Result<i64, ValueFault>
-    requires { AllFound marks.now }
-    ensures { (exports : List Exported) →
-        result ≡ value_by (linkage modules.now exports) (in_table (table_of marks.now)) owner form.now }
-{
-    as_outcome(try_form(form, resolved_at(modules, owner), marks))
 }
 
 /// Finds what the export at a place comes to, and all that it needs.
@@ -192,26 +155,7 @@ fn settle(
     }
 }
 
-/// Finds what each export comes to.
-fn settle_each(
-    alloc: Global,
-    modules: &[Resolved],
-    exports: &[Exported],
-    marks: &mut [Mark],
-) -> Result<(), AllocError>
-    requires { AreSettled (linkage modules.now exports.now) marks.old }
-    ensures { OnOk result (AreAllFound (linkage modules.now exports.now) marks.new) }
-{
-    for root in 0..marks.len() {
-        if let Mark::Untouched = marks[root] {
-            settle(alloc, modules, exports, marks, root)?;
-        }
-    }
-    Ok(())
-}
-
 /// Finds what all exports come to, used or not.
-#[tactic(auto, using(crate::proofs::FinishLemmas::untouched_settled))]
 pub fn settle_all(
     alloc: Global,
     modules: &[Resolved],
@@ -220,6 +164,10 @@ pub fn settle_all(
     ensures { IfOk result (λ marks. AreAllFound (linkage modules.now exports.now) marks.items) }
 {
     let mut marks = vec![in alloc; Mark::Untouched; exports.len()]?;
-    settle_each(alloc, modules, exports, marks.as_mut_slice())?;
+    for root in 0..marks.len() {
+        if let Mark::Untouched = marks[root] {
+            settle(alloc, modules, exports, marks.as_mut_slice(), root)?;
+        }
+    }
     Ok(marks)
 }

@@ -7,7 +7,6 @@ ghost use Rattle.link65.specs.Inner.Fields.{are_listed, Closes, Grows};
 ghost use Rattle.link65.specs.Standing.{listed_of, values_in, names_in};
 ghost use Rattle.object65.specs.Record.{entry_of, is_version};
 ghost use Rattle.object65.specs.Scanning.{outline_of, start};
-ghost use Rattle.base65.specs.Outcome.{Gives};
 ghost use Rattle.link65.specs.Faults.{is_memory, RefusesBy, is_of_end, is_of_record};
 ghost use Rattle.link65.specs.Grounds.{AreNamed, growth_in};
 
@@ -111,19 +110,6 @@ pub fn open_module(
     })
 }
 
-/// How many values were taken, with those of a record.
-fn with_values(pending: usize, next: &Record) -> Result<usize, AllocError>
-    ensures { IfOk result (λ n. n ≡ pending + values_in (entry_of next.now)) }
-{
-    if next.kind != VALUE {
-        return Ok(pending);
-    }
-    match pending.checked_add(1) {
-        Some(n) => Ok(n),
-        None => Err(AllocError),
-    }
-}
-
 /// Takes a record of the open module, and counts its values.
 pub fn take_record(
     growing: &mut Growing,
@@ -133,15 +119,15 @@ pub fn take_record(
 ) -> Result<(), LinkFault>
     requires { AreNamed growing.old }
     ensures taken { Grows (entry_of next.now) (growth_in growing.old) (growth_in growing.new) opened.old.scan opened.new.scan result }
-    ensures name { opened.new.name ≡ opened.old.name }
-    ensures first { opened.new.first_export ≡ opened.old.first_export }
-    ensures listed { opened.new.listed ≡ opened.old.listed }
+    ensures kept { opened.new ≡ record opened.old { scan = opened.new.scan } }
     ensures counted { OnOk result (pending.new ≡ pending.old + values_in (entry_of next.now)) }
     ensures uncounted { OnErr result (pending.new ≡ pending.old) }
     ensures named { OnOk result (AreNamed growing.new) }
     ensures faults { RefusesBy is_of_record result }
 {
-    let count = with_values(*pending, next)?;
+    let Some(count) = pending.checked_add(usize::from(next.kind == VALUE)) else {
+        return Err(LinkFault::OutOfMemory);
+    };
     let item = opened.scan.take(next)?;
     take_item(growing, item)?;
     *pending = count;

@@ -1,9 +1,9 @@
 //! The files of areas: the rows of each, laid into its bytes.
 
-ghost use Rattle.std.specs.Prelude.{◌≡◌, ◌<◌, ◌++◌, ◌∷◌, ◌==◌, [], ℕ, List, Some, IfOk, OnOk, length, map, slice_get, if◌then◌else◌, filter, true, slice_set};
+ghost use Rattle.std.specs.Prelude.{◌≡◌, ◌<◌, ◌++◌, ◌∷◌, ◌==◌, [], ℕ, List, Some, IfOk, OnOk, length, map, slice_get, if◌then◌else◌, true};
 ghost use Rattle.std.specs.Option.{option_map};
-ghost use Rattle.link65.specs.Inner.Loads.{HoldsLoads, IsFileOf, has_bytes, piece_at, placed_in, view, AreNamed, IsWhole, LaysAll, Overlays};
-ghost use Rattle.link65.specs.Files.{RowBytes, is_loaded, written, IsImage, end_behind, file_len, AddsArea, AddsAreas, IsAreaFile, area_at, file_name, with_bytes};
+ghost use Rattle.link65.specs.Inner.Loads.{HoldsLoads, IsFileOf, piece_at, placed_in, view, AreNamed, IsWhole, LaysAll, Overlays};
+ghost use Rattle.link65.specs.Files.{RowBytes, is_loaded, written, end_behind, file_len, AddsArea, AddsAreas, IsAreaFile, area_at, file_name, with_bytes};
 ghost use Rattle.base65.specs.declared.output.OutputFile.{OutputFile};
 
 use base65::{OutputFile, Sequence, Text};
@@ -50,37 +50,16 @@ fn no_loads<'a>(alloc: Global, areas: usize) -> Result<Vec<Sequence<Load<'a>>>, 
     Ok(loads)
 }
 
-/// Adds a row to those of an area, if there is such an area.
-fn add_load<'a>(
-    loads: &mut Vec<Sequence<Load<'a>>>,
-    area: usize,
-    load: Load<'a>,
-) -> Result<(), AllocError>
-    ensures { OnOk result ((k : ℕ) → slice_get loads.new.items k
-        ≡ option_map (λ m. if area == k then m ++ load.entry ∷ [] else m) (slice_get loads.old.items k)) }
-{
-    if area < loads.len() {
-        loads[area].push(load)?;
-    }
-    Ok(())
-}
-
-/// Adds a row to those of its load area, if it is written.
+/// Adds a row to those of its load area, if it is written and there is such an area.
 fn add_row<'a>(loads: &mut Vec<Sequence<Load<'a>>>, load: Load<'a>) -> Result<(), AllocError>
     ensures { OnOk result ((k : ℕ) → slice_get loads.new.items k
         ≡ option_map (λ m. if is_loaded k load.entry.row.now then m ++ load.entry ∷ [] else m) (slice_get loads.old.items k)) }
 {
-    if load.row.access.is_written() {
-        let area = load.row.load;
-        add_load(loads, area, load)?;
+    let area = load.row.load;
+    if load.row.access.is_written() && area < loads.len() {
+        loads[area].push(load)?;
     }
     Ok(())
-}
-
-fn place_at(places: &[RowPlace], i: usize) -> Option<RowPlace>
-    ensures { result ≡ slice_get places.now i }
-{
-    places.get(i).copied()
 }
 
 /// The rows of each area's file, in order, each with its bytes.
@@ -96,7 +75,7 @@ fn loads_of<'a>(
     let mut loads = no_loads(alloc, areas)?;
     for (i, row) in rows.iter().enumerate() {
         let bytes = take_at(alloc, &mut contents, i);
-        match place_at(places, i) {
+        match places.get(i).copied() {
             Some(place) => add_row(&mut loads, Load { row, place, bytes })?,
             None => (),
         }
@@ -150,13 +129,6 @@ fn file_len(filled: &Filled<'_, '_>) -> u128
     }
 }
 
-/// Leaves out the rows without bytes, which put nothing into a file.
-fn drop_empty(loads: &mut Vec<Load<'_>>)
-    ensures { loads.new.items ≡ filter has_bytes loads.old.items }
-{
-    loads.retain(|load| load.bytes.len() != 0);
-}
-
 /// Whether the bytes of the first row are all of a file of so many.
 fn is_whole(len: usize, start: u64, loads: &[Load<'_>]) -> bool
     ensures { result ≡ true → IsWhole len (map (piece_at start) (map view loads.now)) }
@@ -167,23 +139,8 @@ fn is_whole(len: usize, start: u64, loads: &[Load<'_>]) -> bool
     }
 }
 
-/// So many bytes: those of rows, and the fill between them.
-fn lay_out(
-    alloc: Global,
-    len: usize,
-    fill: u8,
-    start: u64,
-    loads: &[Load<'_>],
-) -> Result<Vec<u8>, AllocError>
-    ensures { IfOk result (λ image. IsImage len fill (map (piece_at start) (map view loads.now)) image.items) }
-{
-    let mut image = vec![in alloc; fill; len]?;
-    lay_rows(image.as_mut_slice(), start, loads);
-    Ok(image)
-}
-
-/// The bytes of an area's file, of which memory has to take all. Where one row's are all of
-/// them, they aren't copied.
+/// The bytes of an area's file, of which memory has to take all: those of rows, and the fill between them. Where one
+/// row's are all of them, they aren't copied.
 fn area_file(alloc: Global, filled: Filled<'_, '_>) -> Result<Sequence<u8>, AllocError>
     ensures { IfOk result (λ image. IsFileOf filled.entry.area.now filled.entry.place (map view filled.entry.loads) image) }
 {
@@ -192,11 +149,12 @@ fn area_file(alloc: Global, filled: Filled<'_, '_>) -> Result<Sequence<u8>, Allo
     };
     let start = filled.place.start;
     let mut loads = filled.loads.into_vec();
-    drop_empty(&mut loads);
+    loads.retain(|load| load.bytes.len() != 0);
     if is_whole(len, start, loads.as_slice()) {
         return Ok(mem::replace(&mut loads[0].bytes, Sequence::new(alloc)));
     }
-    let image = lay_out(alloc, len, filled.area.fill_value, start, loads.as_slice())?;
+    let mut image = vec![in alloc; filled.area.fill_value; len]?;
+    lay_rows(image.as_mut_slice(), start, loads.as_slice());
     Ok(Sequence::from_vec(image))
 }
 
@@ -220,16 +178,6 @@ pub struct Files<'a> {
     pub outputs: Vec<OutputFile>,
 }
 
-/// Adds bytes to a file that is there.
-fn extend(outputs: &mut Vec<OutputFile>, place: usize, bytes: &[u8]) -> Result<(), AllocError>
-    requires { place < length outputs.old.items }
-    ensures { OnOk result ((o : OutputFile) → slice_get outputs.old.items place ≡ Some o →
-        outputs.new.items ≡ slice_set outputs.old.items place (record { name = o.name; bytes = o.bytes ++ bytes.now })) }
-{
-    outputs[place].bytes.extend_from_slice(bytes)?;
-    Ok(())
-}
-
 impl<'a> Files<'a> {
     /// Adds bytes to the file of a name, or begins it behind the others.
     fn add(&mut self, alloc: Global, name: &'a str, bytes: Sequence<u8>) -> Result<(), AllocError>
@@ -243,7 +191,9 @@ impl<'a> Files<'a> {
             self.outputs.push(OutputFile { name, bytes })?;
             return Ok(());
         }
-        extend(&mut self.outputs, place, bytes.as_slice())?;
+        self.outputs[place]
+            .bytes
+            .extend_from_slice(bytes.as_slice())?;
         Ok(())
     }
 

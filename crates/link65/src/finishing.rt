@@ -1,16 +1,14 @@
 //! What a placed program comes to but for its files: the bytes of its rows, what is warned of, the map.
 
-ghost use Rattle.std.specs.Prelude.{◌≡◌, ◌++◌, IfOk, OnOk, Some, map, replicate};
+ghost use Rattle.std.specs.Prelude.{◌≡◌, ◌++◌, IfOk, OnOk, Some, map};
 ghost use Rattle.std.specs.List.{flat_map};
 ghost use Rattle.base65.specs.Outcome.{Gives, Finds};
 ghost use Rattle.link65.specs.Files.{written};
 ghost use Rattle.link65.specs.Links.{each_passes, fixups_by_row, fixups_of, checked};
-ghost use Rattle.link65.specs.Grounds.{cells_of, piece_cells, piece_fixups, segment_from};
+ghost use Rattle.link65.specs.Grounds.{piece_cells, piece_fixups};
 ghost use Rattle.link65.specs.Faults.{is_memory};
 ghost use Rattle.link65.specs.Placed.{AllFound, IsReady, bytes_in, cell_in, check_in, exports_in, linkage_in, segments_in, AreOf, IsPassed, program_in, values_in};
-ghost use Rattle.link65.specs.Values.{or_zero, stored, written_segment, value_by};
 ghost use Rattle.link65.specs.Programs.{segment_of};
-ghost use Rattle.link65.specs.Texts.{warnings_of_rows};
 
 use crate::fault::LinkFault;
 use crate::mapping::{map_text, symbols_text};
@@ -22,32 +20,6 @@ use base65::Sequence;
 use object65::put;
 use script65::{Placement, Row, Script};
 use std::alloc::{AllocError, Global};
-
-/// Adds a byte so many times.
-fn add_fill(bytes: &mut Vec<u8>, count: u32, fill: u8) -> Result<(), AllocError>
-    ensures { OnOk result (bytes.new.items ≡ bytes.old.items ++ replicate count fill) }
-{
-    match bytes.len().checked_add(count as usize) {
-        Some(len) => bytes.resize(len, fill),
-        None => Err(AllocError),
-    }
-}
-
-/// Adds the bytes of a value.
-fn add_value(
-    alloc: Global,
-    program: &Placed<'_>,
-    fixup: &Fixup,
-    bytes: &mut Vec<u8>,
-) -> Result<(), LinkFault>
-    requires { AllFound program.now.marks.now }
-    ensures checked { Gives is_memory (λ u. u) result (check_in program.now fixup.now) }
-    ensures bytes { OnOk result (bytes.new.items ≡ bytes.old.items ++ stored fixup.now.width (or_zero (value_by (linkage_in program.now) (exports_in program.now) fixup.now.owner fixup.now.form))) }
-{
-    let value = datum_value(alloc, program, fixup)?;
-    bytes.extend_from_slice(put(fixup.width, value).as_slice())?;
-    Ok(())
-}
 
 /// Adds the bytes of a piece, or refuses one whose value is missing or doesn't fit.
 fn add_piece(
@@ -63,42 +35,14 @@ fn add_piece(
 {
     match piece {
         Piece::Known(known) => Ok(bytes.extend_from_slice(known.as_slice())?),
-        Piece::Filled(count) => Ok(add_fill(bytes, *count, fill)?),
-        Piece::Waits(fixup) => add_value(alloc, program, fixup, bytes),
-    }
-}
-
-/// The bytes of pieces, for which there is room; the first whose value is missing or doesn't fit is refused.
-fn bytes_of_pieces(
-    alloc: Global,
-    program: &Placed<'_>,
-    fill: u8,
-    pieces: &[Piece],
-    room: usize,
-) -> Result<Sequence<u8>, LinkFault>
-    requires { AllFound program.now.marks.now }
-    ensures checked { Gives is_memory (λ _. tt) result (each_passes (check_in program.now) (flat_map piece_fixups pieces.now)) }
-    ensures bytes { IfOk result (λ bytes. bytes ≡ flat_map (cell_in program.now fill) (cells_of pieces.now)) }
-{
-    let mut bytes = Vec::with_capacity(alloc, room)?;
-    for piece in pieces {
-        add_piece(alloc, program, fill, piece, &mut bytes)?;
-    }
-    Ok(Sequence::from_vec(bytes))
-}
-
-/// Refuses a piece whose value is missing or doesn't fit.
-fn check_piece(alloc: Global, program: &Placed<'_>, piece: &Piece) -> Result<(), LinkFault>
-    requires { AllFound program.now.marks.now }
-    ensures { Gives is_memory (λ u. u) result (each_passes (check_in program.now) (piece_fixups piece.now)) }
-{
-    match piece {
+        Piece::Filled(count) => match bytes.len().checked_add(*count as usize) {
+            Some(len) => Ok(bytes.resize(len, fill)?),
+            None => Err(LinkFault::OutOfMemory),
+        },
         Piece::Waits(fixup) => {
-            datum_value(alloc, program, fixup)?;
-            Ok(())
+            let value = datum_value(alloc, program, fixup)?;
+            Ok(bytes.extend_from_slice(put(fixup.width, value).as_slice())?)
         }
-        Piece::Known(_) => Ok(()),
-        Piece::Filled(_) => Ok(()),
     }
 }
 
@@ -108,30 +52,11 @@ fn check_pieces(alloc: Global, program: &Placed<'_>, pieces: &[Piece]) -> Result
     ensures { Gives is_memory (λ u. u) result (each_passes (check_in program.now) (flat_map piece_fixups pieces.now)) }
 {
     for piece in pieces {
-        check_piece(alloc, program, piece)?;
+        if let Piece::Waits(fixup) = piece {
+            datum_value(alloc, program, fixup)?;
+        }
     }
     Ok(())
-}
-
-/// The bytes of a row's segment, where it is written; the values are checked of any row.
-fn bytes_of_content(
-    alloc: Global,
-    program: &Placed<'_>,
-    row: &Row,
-    content: &Content,
-) -> Result<Sequence<u8>, LinkFault>
-    requires { AllFound program.now.marks.now }
-    ensures checked { Gives is_memory (λ _. tt) result (each_passes (check_in program.now) (flat_map piece_fixups content.now.pieces)) }
-    ensures bytes { IfOk result (λ bytes. bytes ≡ written_segment (linkage_in program.now) (exports_in program.now) row.now (Some (segment_from content.now))) }
-{
-    let pieces = content.pieces.as_slice();
-    if row.access.is_written() {
-        let room = content.size as usize;
-        bytes_of_pieces(alloc, program, row.fill_value, pieces, room)
-    } else {
-        check_pieces(alloc, program, pieces)?;
-        Ok(Sequence::new(alloc))
-    }
 }
 
 /// The bytes of a row, where it is written, or the first fault of its values.
@@ -140,10 +65,19 @@ fn bytes_of_row(alloc: Global, program: &Placed<'_>, row: &Row) -> Result<Sequen
     ensures checked { Gives is_memory (λ _. tt) result (each_passes (check_in program.now) (fixups_of (segment_of (segments_in program.now) row.now.name))) }
     ensures bytes { IfOk result (λ bytes. bytes ≡ written (bytes_in program.now) row.now) }
 {
-    match content_of(program, row.name.as_slice()) {
-        Some(content) => bytes_of_content(alloc, program, row, content),
-        None => Ok(Sequence::new(alloc)),
+    let Some(content) = content_of(program, row.name.as_slice()) else {
+        return Ok(Sequence::new(alloc));
+    };
+    let pieces = content.pieces.as_slice();
+    if !row.access.is_written() {
+        check_pieces(alloc, program, pieces)?;
+        return Ok(Sequence::new(alloc));
     }
+    let mut bytes = Vec::with_capacity(alloc, content.size as usize)?;
+    for piece in pieces {
+        add_piece(alloc, program, row.fill_value, piece, &mut bytes)?;
+    }
+    Ok(Sequence::from_vec(bytes))
 }
 
 /// The bytes of each row that is written, and none of any other. The first value that is missing or doesn't fit is
@@ -203,21 +137,6 @@ fn check_all(alloc: Global, script: &Script, program: &Placed<'_>) -> Result<Che
     })
 }
 
-/// What is warned of the rows of a placed program, and then of its assertions.
-fn all_warnings(
-    alloc: Global,
-    script: &Script,
-    program: &Placed<'_>,
-    assertions: &[u8],
-) -> Result<Sequence<u8>, AllocError>
-    requires { IsReady program.now }
-    ensures { IfOk result (λ text. text ≡ warnings_of_rows script.now.rows (segments_in program.now) ++ assertions.now) }
-{
-    let mut warnings = warnings_of(alloc, program, script.rows.as_slice())?;
-    warnings.extend_from_slice(assertions)?;
-    Ok(warnings)
-}
-
 /// What a placed program comes to but for its files, or the first fault.
 pub fn pass(
     alloc: Global,
@@ -230,7 +149,8 @@ pub fn pass(
     ensures { Finds is_memory (IsPassed script.now (program_in program.now) placement.now (linkage_in program.now) (exports_in program.now)) result }
 {
     let checked = check_all(alloc, script, program)?;
-    let warnings = all_warnings(alloc, script, program, checked.assertions.as_slice())?;
+    let mut warnings = warnings_of(alloc, program, script.rows.as_slice())?;
+    warnings.extend_from_slice(checked.assertions.as_slice())?;
     let symbols = symbols_text(alloc, names, checked.values.as_slice())?;
     let members = program.members;
     let map = map_text(alloc, script, placement, members, symbols.as_slice())?;

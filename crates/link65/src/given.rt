@@ -4,7 +4,7 @@ ghost use Rattle.std.specs.Prelude.{◌≡◌, ◌++◌, ◌∷◌, [], IfOk, Ok
 ghost use Rattle.base65.specs.Outcome.{Gives};
 ghost use Rattle.link65.specs.Faults.{RefusesBy, is_memory, is_of_finish};
 ghost use Rattle.link65.specs.Standing.{all_once, names_in, with_each, with_new};
-ghost use Rattle.link65.specs.Names.{given_names, import_name, is_among, each_once, open_names, script_names, symbol_imports, weak_symbols};
+ghost use Rattle.link65.specs.Names.{given_names, is_among, each_once, script_names, symbol_imports, weak_symbols};
 ghost use Rattle.std.specs.List.{flat_map};
 ghost use Rattle.link65.specs.Links.{names_given};
 ghost use Rattle.link65.specs.Inner.Fields.{missing_behind};
@@ -39,16 +39,6 @@ impl Given {
         Ok(())
     }
 
-    /// Adds names, up to the first that is there.
-    fn add_names(&mut self, names: &[Sequence<u8>]) -> Result<(), LinkFault>
-        ensures { Gives is_memory (λ _. names_in self.new) result (with_each (names_in self.old) names.now) }
-    {
-        for name in names {
-            self.add(name.as_slice())?;
-        }
-        Ok(())
-    }
-
     /// The names that a script gives by itself. The first that equals one before it is refused.
     pub fn of(alloc: Global, script: &Script) -> Result<Self, LinkFault>
         ensures { Gives is_memory names_in result (all_once [] (script_names script.now)) }
@@ -58,7 +48,9 @@ impl Given {
             alloc,
             names: IndexSet::new(alloc),
         };
-        given.add_names(names.as_slice())?;
+        for name in names.as_slice() {
+            given.add(name.as_slice())?;
+        }
         Ok(given)
     }
 
@@ -138,7 +130,11 @@ fn add_imports(
 }
 
 /// What a script's symbols and modules import and is not given, in order of first reference.
-fn missing_names(given: &Given, symbols: &[Symbol], members: &[Member]) -> Result<Names, AllocError>
+pub fn missing_names(
+    given: &Given,
+    symbols: &[Symbol],
+    members: &[Member],
+) -> Result<Names, AllocError>
     ensures { IfOk result (λ names. map (λ n. n.items) names.keys ≡ missing_behind (names_in given.now) [] (symbol_imports symbols.now ++ flat_map (λ m. m.imports) members.now)) }
 {
     let mut missing = IndexSet::new(given.alloc);
@@ -147,13 +143,6 @@ fn missing_names(given: &Given, symbols: &[Symbol], members: &[Member]) -> Resul
         add_imports(&mut missing, given, member.imports.as_slice())?;
     }
     Ok(missing)
-}
-
-/// What the script and the modules need and neither gives, in order of first reference. Weak names are left aside.
-pub fn open_names(given: &Given, script: &Script, members: &[Member]) -> Result<Names, AllocError>
-    ensures { IfOk result (λ names. (p : Program) → names_in given.now ≡ given_names script.now p → p.members ≡ members.now → map (λ n. n.items) names.keys ≡ open_names script.now p) }
-{
-    missing_names(given, script.symbols.as_slice(), members)
 }
 
 /// Copies of names.

@@ -12,7 +12,7 @@ ghost use Rattle.link65.specs.Standing.{AreNames, Begins, Continues, Ends, IsFed
 
 use crate::fault::LinkFault;
 use crate::feeding::{Open, close_module, open_module, take_record};
-use crate::given::{Given, copy_of, open_names};
+use crate::given::{Given, copy_of, missing_names};
 use crate::growing::{Growing, no_module};
 use crate::linking::{Linked, link};
 use base65::{Seed, Text};
@@ -116,7 +116,8 @@ impl Linker {
         if self.failed {
             return Err(LinkFault::FailedBefore);
         }
-        Ok(open_names(&self.given, &self.script, self.growing.members.as_slice())?)
+        let symbols = self.script.symbols.as_slice();
+        Ok(missing_names(&self.given, symbols, self.growing.members.as_slice())?)
     }
 
     /// The names that the script and the modules that have ended give, but for weak ones.

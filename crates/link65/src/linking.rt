@@ -2,14 +2,13 @@
 
 ghost use Rattle.std.specs.Prelude.{◌≡◌, IfOk, map};
 ghost use Rattle.link65.specs.Grounds.{segments_from, AreNamed, program_in};
-ghost use Rattle.link65.specs.Values.{need_of, needs_of, resolved};
-ghost use Rattle.script65.specs.Placing.{place_of};
+ghost use Rattle.link65.specs.Values.{need_of, needs_of};
 ghost use Rattle.base65.specs.Outcome.{Finds, Gives};
 ghost use Rattle.link65.specs.Faults.{RefusesBy, is_memory, is_of_finish};
-ghost use Rattle.link65.specs.Links.{IsPlacedLink, IsProgramLink, as_placement, placed};
-ghost use Rattle.link65.specs.Names.{given_names, script_definitions, weak_symbols};
+ghost use Rattle.link65.specs.Links.{IsProgramLink, placed};
+ghost use Rattle.link65.specs.Names.{given_names, weak_symbols};
 ghost use Rattle.link65.specs.Standing.{names_in};
-ghost use Rattle.link65.specs.Placed.{IsPlacedPassed, AreNames};
+ghost use Rattle.link65.specs.Placed.{IsPlacedPassed};
 
 use crate::evaluation::settle_all;
 use crate::fault::LinkFault;
@@ -19,7 +18,7 @@ use crate::given::{Given, check_names};
 use crate::growing::Growing;
 use crate::naming::{definitions_of, weak_symbols};
 use crate::parts::{Content, Resolved};
-use crate::resolving::{Addresses, Names, resolve_all};
+use crate::resolving::{Names, resolve_all, runs_of};
 use crate::values::Placed;
 use base65::{OutputFile, Sequence};
 use script65::{Placement, Script, SegmentNeed, place};
@@ -51,56 +50,6 @@ fn needs_of(alloc: Global, contents: &[Content]) -> Result<Sequence<SegmentNeed>
     Ok(needs)
 }
 
-/// Where the sections of a program's modules lie, and who gives their imports.
-fn modules_of(
-    alloc: Global,
-    script: &Script,
-    placement: &Placement,
-    names: &Names<'_>,
-    program: &Growing,
-) -> Result<Sequence<Resolved>, AllocError>
-    requires names { AreNames names.now }
-    requires own { names.now.own.now ≡ script_definitions script.now placement.now }
-    requires weak { names.now.weak.now ≡ weak_symbols script.now.symbols }
-    requires exports { names.now.exports.now ≡ program.now.exports }
-    ensures { IfOk result (λ all. all ≡ map (resolved script.now (program_in program.now) placement.now) program.now.members) }
-{
-    let rows = script.rows.as_slice();
-    let addresses = Addresses::of(alloc, rows, placement.rows.as_slice())?;
-    resolve_all(alloc, names, &addresses, program.members.as_slice())
-}
-
-/// What a program comes to by its names, but for its files, or the first fault.
-fn pass_named(
-    alloc: Global,
-    script: &Script,
-    placement: &Placement,
-    names: &Names<'_>,
-    program: &Growing,
-) -> Result<Passed, LinkFault>
-    requires named { AreNamed program.now }
-    requires names { AreNames names.now }
-    requires own { names.now.own.now ≡ script_definitions script.now placement.now }
-    requires weak { names.now.weak.now ≡ weak_symbols script.now.symbols }
-    requires exports { names.now.exports.now ≡ program.now.exports }
-    ensures { Finds is_memory (IsPlacedPassed script.now (program_in program.now) placement.now) result }
-{
-    let all = modules_of(alloc, script, placement, names, program)?;
-    let modules = all.as_slice();
-    let exports = program.exports.as_slice();
-    let marks = settle_all(alloc, modules, exports)?;
-    let placed = Placed {
-        members: program.members.as_slice(),
-        names: &program.names,
-        contents: program.contents.as_slice(),
-        exports,
-        asserts: program.asserts.as_slice(),
-        modules,
-        marks: marks.as_slice(),
-    };
-    pass(alloc, script, placement, names, &placed)
-}
-
 /// What a program comes to where it is placed, but for its files, or the first fault. The program goes.
 fn pass_placed(
     script: &Script,
@@ -116,41 +65,20 @@ fn pass_placed(
     let exports = program.exports.as_slice();
     let seed = *program.names.hasher();
     let names = Names::of(alloc, seed, own.as_slice(), exports, weak.as_slice())?;
-    pass_named(alloc, script, placement, &names, &program)
-}
-
-/// What a program comes to where it is placed: the files, the warnings and the map, or the first fault.
-fn link_placed(
-    output: &str,
-    script: &Script,
-    placement: &Placement,
-    program: Growing,
-) -> Result<Linked, LinkFault>
-    requires { AreNamed program }
-    ensures { Finds is_memory (IsPlacedLink output.now script.now (program_in program) placement.now) result }
-{
-    let alloc = program.alloc;
-    let passed = pass_placed(script, placement, program)?;
-    let Passed {
-        rows,
-        warnings,
-        map,
-    } = passed;
-    let files = files_of(alloc, output, script, rows, placement)?;
-    Ok(Linked {
-        files,
-        warnings,
-        map,
-    })
-}
-
-/// Where a program's segments are placed.
-fn place_segments(script: &Script, program: &Growing) -> Result<Placement, LinkFault>
-    ensures placed { Gives is_memory (λ p. p) result (as_placement (place_of script.now (needs_of (program_in program.now)))) }
-    ensures faults { RefusesBy is_of_finish result }
-{
-    let needs = needs_of(program.alloc, program.contents.as_slice())?;
-    Ok(place(program.alloc, script, needs.as_slice())?)
+    let runs = runs_of(alloc, script.rows.as_slice(), placement.rows.as_slice())?;
+    let all = resolve_all(alloc, &names, &runs, program.members.as_slice())?;
+    let modules = all.as_slice();
+    let marks = settle_all(alloc, modules, exports)?;
+    let placed = Placed {
+        members: program.members.as_slice(),
+        names: &program.names,
+        contents: program.contents.as_slice(),
+        exports,
+        asserts: program.asserts.as_slice(),
+        modules,
+        marks: marks.as_slice(),
+    };
+    pass(alloc, script, placement, &names, &placed)
 }
 
 /// Where a program's segments are placed, each of whose names has to be given.
@@ -160,7 +88,8 @@ fn placement_of(script: &Script, program: &Growing, given: Given) -> Result<Plac
     ensures faults { RefusesBy is_of_finish result }
 {
     check_names(given, script, program.members.as_slice())?;
-    place_segments(script, program)
+    let needs = needs_of(program.alloc, program.contents.as_slice())?;
+    Ok(place(program.alloc, script, needs.as_slice())?)
 }
 
 /// What a program comes to by a script, where these names are given, none of them twice: the files, the warnings and
@@ -176,6 +105,17 @@ pub fn link(
         Finds is_memory (IsProgramLink output.now script.now (program_in program)) result }
     ensures faults { RefusesBy is_of_finish result }
 {
+    let alloc = program.alloc;
     let placement = placement_of(script, &program, given)?;
-    link_placed(output, script, &placement, program)
+    let Passed {
+        rows,
+        warnings,
+        map,
+    } = pass_placed(script, &placement, program)?;
+    let files = files_of(alloc, output, script, rows, &placement)?;
+    Ok(Linked {
+        files,
+        warnings,
+        map,
+    })
 }

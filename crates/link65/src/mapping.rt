@@ -7,7 +7,7 @@ ghost use Rattle.link65.specs.Programs.{flat_zip};
 ghost use Rattle.link65.specs.Texts.{address_text, definition_line, hex_digit, hex_digits, member_lines, row_line, row_lines, section_line, symbol_line, weak_line};
 
 use crate::parts::{Definition, Exported, Member, SectionPlace};
-use crate::resolving::{Names, is_defined};
+use crate::resolving::Names;
 use crate::texts::{add_all, join};
 use arrayvec::ArrayVec;
 use base65::Sequence;
@@ -158,28 +158,16 @@ fn export_lines(
     Ok(text)
 }
 
-/// A weak name, where nothing else defines it.
-fn add_weak_line(
-    text: &mut Sequence<u8>,
-    names: &Names<'_>,
-    weak: &Definition,
-) -> Result<(), AllocError>
-    requires { AreNames names.now }
-    ensures { OnOk result (text.new ≡ text.old ++ weak_line names.now.own.now names.now.exports.now weak.now) }
-{
-    if is_defined(names, weak.name.as_slice()) {
-        return Ok(());
-    }
-    add_definition_line(text, weak)
-}
-
+/// The weak names that nothing else defines.
 fn weak_lines(alloc: Global, names: &Names<'_>) -> Result<Sequence<u8>, AllocError>
     requires { AreNames names.now }
     ensures { IfOk result (λ text. text ≡ flat_map (weak_line names.now.own.now names.now.exports.now) names.now.weak.now) }
 {
     let mut text = Sequence::new(alloc);
     for weak in names.weak {
-        add_weak_line(&mut text, names, weak)?;
+        if !names.defined.contains_key(weak.name.as_slice()) {
+            add_definition_line(&mut text, weak)?;
+        }
     }
     Ok(text)
 }

@@ -3,7 +3,7 @@
 ghost use Rattle.std.specs.Prelude.{◌≡◌, ◌++◌, IfOk, OnOk, map};
 ghost use Rattle.std.specs.Int.{w64, cast_signed};
 ghost use Rattle.script65.specs.AreaSums.{part_name};
-ghost use Rattle.link65.specs.Names.{area_definitions, areas_definitions, part, row_definitions, rows_definitions, script_definitions, symbol_exports, weak_symbols, area_names, row_names, script_names};
+ghost use Rattle.link65.specs.Names.{areas_definitions, part, rows_definitions, script_definitions, symbol_exports, weak_symbols, area_names, row_names, script_names};
 ghost use Rattle.std.specs.List.{flat_map};
 
 use crate::parts::Definition;
@@ -39,42 +39,6 @@ fn symbol_of(alloc: Global, name: &[u8], number: u32) -> Result<Definition, Allo
     })
 }
 
-/// Adds what an area defines.
-fn add_area(
-    alloc: Global,
-    definitions: &mut Sequence<Definition>,
-    area: &Area,
-    place: AreaPlace,
-) -> Result<(), AllocError>
-    ensures { OnOk result (definitions.new ≡ definitions.old ++ area_definitions area.now place) }
-{
-    if area.define {
-        let name = area.name.as_slice();
-        definitions.push(part_of(alloc, name, b"START", place.start)?)?;
-        definitions.push(part_of(alloc, name, b"SIZE", place.size)?)?;
-        definitions.push(part_of(alloc, name, b"LAST", place.last)?)?;
-    }
-    Ok(())
-}
-
-/// Adds what a row defines.
-fn add_row(
-    alloc: Global,
-    definitions: &mut Sequence<Definition>,
-    row: &Row,
-    place: RowPlace,
-) -> Result<(), AllocError>
-    ensures { OnOk result (definitions.new ≡ definitions.old ++ row_definitions row.now place) }
-{
-    if row.define {
-        let name = row.name.as_slice();
-        definitions.push(part_of(alloc, name, b"LOAD", place.load)?)?;
-        definitions.push(part_of(alloc, name, b"RUN", place.run)?)?;
-        definitions.push(part_of(alloc, name, b"SIZE", place.size)?)?;
-    }
-    Ok(())
-}
-
 /// Adds what areas define.
 fn add_areas(
     alloc: Global,
@@ -85,7 +49,12 @@ fn add_areas(
     ensures { OnOk result (definitions.new ≡ definitions.old ++ areas_definitions areas.now places.now) }
 {
     for (area, place) in areas.iter().zip(places) {
-        add_area(alloc, definitions, area, *place)?;
+        if area.define {
+            let name = area.name.as_slice();
+            definitions.push(part_of(alloc, name, b"START", place.start)?)?;
+            definitions.push(part_of(alloc, name, b"SIZE", place.size)?)?;
+            definitions.push(part_of(alloc, name, b"LAST", place.last)?)?;
+        }
     }
     Ok(())
 }
@@ -100,13 +69,18 @@ fn add_rows(
     ensures { OnOk result (definitions.new ≡ definitions.old ++ rows_definitions rows.now places.now) }
 {
     for (row, place) in rows.iter().zip(places) {
-        add_row(alloc, definitions, row, *place)?;
+        if row.define {
+            let name = row.name.as_slice();
+            definitions.push(part_of(alloc, name, b"LOAD", place.load)?)?;
+            definitions.push(part_of(alloc, name, b"RUN", place.run)?)?;
+            definitions.push(part_of(alloc, name, b"SIZE", place.size)?)?;
+        }
     }
     Ok(())
 }
 
 /// Adds the symbols that the script exports.
-pub fn add_exports(
+fn add_exports(
     alloc: Global,
     definitions: &mut Sequence<Definition>,
     symbols: &[Symbol],
@@ -197,29 +171,17 @@ fn add_names_of_rows(
     Ok(())
 }
 
-/// Adds the names of definitions.
-fn add_definitions(
-    alloc: Global,
-    names: &mut Sequence<Sequence<u8>>,
-    definitions: &[Definition],
-) -> Result<(), AllocError>
-    ensures { OnOk result (names.new ≡ names.old ++ map (λ d. d.name) definitions.now) }
-{
-    for definition in definitions {
-        names.push(Sequence::copy_of(alloc, definition.name.as_slice())?)?;
-    }
-    Ok(())
-}
-
 /// The names that a script gives by itself: of areas, of rows, and of the symbols that it exports.
 pub fn script_names(alloc: Global, script: &Script) -> Result<Sequence<Sequence<u8>>, AllocError>
     ensures { IfOk result (λ names. names ≡ script_names script.now) }
 {
-    let mut exports = Sequence::new(alloc);
-    add_exports(alloc, &mut exports, script.symbols.as_slice())?;
     let mut names = Sequence::new(alloc);
     add_names_of_areas(alloc, &mut names, script.areas.as_slice())?;
     add_names_of_rows(alloc, &mut names, script.rows.as_slice())?;
-    add_definitions(alloc, &mut names, exports.as_slice())?;
+    for symbol in script.symbols.as_slice() {
+        if let SymbolKind::Export(_) = symbol.kind {
+            names.push(Sequence::copy_of(alloc, symbol.name.as_slice())?)?;
+        }
+    }
     Ok(names)
 }

@@ -1,10 +1,9 @@
 //! What the linker says: faults in words, and warnings of rows.
 
-ghost use Rattle.std.specs.Prelude.{◌≡◌, ◌++◌, IfOk, OnOk, map, ◌%◌, option_copied};
+ghost use Rattle.std.specs.Prelude.{◌≡◌, ◌++◌, IfOk, OnOk, map};
 ghost use Rattle.link65.specs.Texts.{joined, site_name, absence_warning, align_words, alignment_warning, data_warning, is_data, row_warnings, segment_warning, warnings_of_rows};
 ghost use Rattle.link65.specs.Faults.{fault_text, listed};
 ghost use Rattle.std.specs.List.{list_any};
-ghost use Rattle.std.specs.Option.{option_map};
 ghost use Rattle.link65.specs.Grounds.{piece_cells, segment_from};
 ghost use Rattle.link65.specs.Placed.{IsReady, segments_in};
 ghost use Rattle.link65.specs.Programs.{segment_of};
@@ -101,17 +100,6 @@ fn align_words(alloc: Global, align: u32) -> Result<Sequence<u8>, AllocError>
     join(alloc, &[b" needs alignment ", number.as_bytes()])
 }
 
-/// What is left over; a divisor of 0 leaves all.
-fn remainder(number: u32, divisor: u32) -> u32
-    ensures { result ≡ number % divisor }
-{
-    if divisor == 0 {
-        number
-    } else {
-        number % divisor
-    }
-}
-
 /// A row whose alignment is no multiple of its segment's.
 fn alignment_warning(
     alloc: Global,
@@ -120,7 +108,7 @@ fn alignment_warning(
 ) -> Result<Sequence<u8>, AllocError>
     ensures { IfOk result (λ text. text ≡ alignment_warning row.now (segment_from content.now)) }
 {
-    if remainder(row.align, content.align) == 0 {
+    if row.align.checked_rem(content.align).unwrap_or(row.align) == 0 {
         return Ok(Sequence::new(alloc));
     }
     segment_warning(

@@ -1,18 +1,18 @@
 //! A placed program, and what its forms, exports and assertions come to.
 
-ghost use Rattle.std.specs.Prelude.{◌≡◌, map, option_copied, slice_get, ◌++◌, ◌∷◌, IfOk, OnOk, Ok, [], true};
-ghost use Rattle.std.specs.Option.{option_map, option_map_or};
+ghost use Rattle.std.specs.Prelude.{◌≡◌, map, option_copied, IfOk, Ok, true};
+ghost use Rattle.std.specs.Option.{option_map};
 ghost use Rattle.link65.specs.Grounds.{segment_from};
-ghost use Rattle.link65.specs.Placed.{AllFound, exports_in, linkage_in, segments_in, check_export_in, check_in, exported_value, values_in};
+ghost use Rattle.link65.specs.Placed.{AllFound, exports_in, linkage_in, segments_in, check_export_in, check_in, values_in};
 ghost use Rattle.link65.specs.Programs.{segment_of};
 ghost use Rattle.link65.specs.Values.{value_by};
 ghost use Rattle.base65.specs.Outcome.{Gives};
 ghost use Rattle.object65.specs.Objects.{fits_width};
-ghost use Rattle.link65.specs.Links.{each_passes, file_of, fitting, site, value_at, assertion_result, check_assert, check_asserts};
+ghost use Rattle.link65.specs.Links.{each_passes, file_of, site, value_at, check_assert, check_asserts};
 ghost use Rattle.link65.specs.Faults.{is_memory};
 ghost use Rattle.link65.specs.Texts.{assertion_warning};
 
-use crate::evaluation::{Mark, value_of};
+use crate::evaluation::{Mark, Stop, try_form};
 use crate::fault::{LinkFault, Site};
 use crate::growing::{SegmentNames, place_of};
 use crate::parts::{Asserted, Content, Exported, Fixup, Member, Resolved, ValueFault};
@@ -37,55 +37,30 @@ pub struct Placed<'a> {
     pub marks: &'a [Mark],
 }
 
-/// What a form of the module at a place comes to.
-fn value_in(program: &Placed<'_>, owner: usize, form: &Norm) -> Result<i64, ValueFault>
-    requires { AllFound program.now.marks.now }
-    ensures { result ≡ value_by (linkage_in program.now) (exports_in program.now) owner form.now }
-{
-    value_of(program.modules, program.marks, owner, form)
-}
-
-fn content_at(contents: &[Content], place: usize) -> Option<&Content>
-    ensures { option_copied result ≡ slice_get contents.entry.now place }
-{
-    contents.get(place)
-}
-
 /// The segment of a name, if there is one.
 pub fn content_of<'a>(program: &Placed<'a>, name: &[u8]) -> Option<&'a Content>
     requires { map (λ n. n.items) program.now.names.now.keys ≡ map (λ c. c.name) program.now.contents.now }
     ensures { option_map segment_from (option_copied result) ≡ segment_of (segments_in program.now) name.now }
 {
     match place_of(program.names, name) {
-        Some(place) => content_at(program.contents, place),
+        Some(place) => program.contents.get(place),
         None => None,
     }
 }
 
-fn name_of(members: &[Member], owner: usize) -> &[u8]
-    ensures { result.now ≡ option_map_or (λ m. m.name) (slice_get members.entry.now owner) [] }
+/// A copy of the name of an origin's file, where its module names one.
+fn file_of(
+    alloc: Global,
+    member: &Member,
+    file: Option<u32>,
+) -> Result<Option<Sequence<u8>>, AllocError>
+    ensures { IfOk result (λ f. f ≡ file_of (Some member.now) file) }
 {
-    match members.get(owner) {
-        Some(member) => member.name.as_slice(),
-        None => &[],
-    }
-}
-
-/// The name of the file of an origin, where its module names one.
-fn file_of<'a>(members: &'a [Member], owner: usize, file: Option<u32>) -> Option<&'a [u8]>
-    ensures { option_map (λ f. f.now) result ≡ file_of (slice_get members.now owner) file }
-{
-    let member = members.get(owner)?;
-    let name = member.files.as_slice().get(file? as usize)?;
-    Some(name.as_slice())
-}
-
-/// A copy of a name, where there is one.
-fn copy_of(alloc: Global, name: Option<&[u8]>) -> Result<Option<Sequence<u8>>, AllocError>
-    ensures { IfOk result (λ n. n ≡ option_map (λ x. x.now) name.entry) }
-{
-    match name {
-        Some(name) => Ok(Some(Sequence::copy_of(alloc, name)?)),
+    let Some(place) = file else {
+        return Ok(None);
+    };
+    match member.files.as_slice().get(place as usize) {
+        Some(name) => Ok(Some(Sequence::copy_of(alloc, name.as_slice())?)),
         None => Ok(None),
     }
 }
@@ -99,35 +74,46 @@ fn site_of(
 ) -> Result<Site, AllocError>
     ensures { IfOk result (λ s. s ≡ site members.now owner origin) }
 {
-    let module_name = Sequence::copy_of(alloc, name_of(members, owner))?;
-    let file = copy_of(alloc, file_of(members, owner, origin.file))?;
-    Ok(Site {
-        module_name,
-        file,
-        line: origin.line,
-    })
+    let line = origin.line;
+    match members.get(owner) {
+        Some(member) => Ok(Site {
+            module_name: Sequence::copy_of(alloc, member.name.as_slice())?,
+            file: file_of(alloc, member, origin.file)?,
+            line,
+        }),
+        None => Ok(Site {
+            module_name: Sequence::new(alloc),
+            file: None,
+            line,
+        }),
+    }
 }
 
-/// A value, or its fault at a place.
-pub fn value_at(
+/// The value of a form of the module at a place, or why it has none, with where its statement stands.
+fn value_at(
     alloc: Global,
-    members: &[Member],
+    program: &Placed<'_>,
     owner: usize,
     origin: Origin,
-    outcome: Result<i64, ValueFault>,
+    form: &Norm,
 ) -> Result<i64, LinkFault>
-    ensures checked { Gives is_memory (λ v. v) result (value_at (site members.now owner origin) outcome) }
-    ensures value { IfOk result (λ v. outcome ≡ Ok v) }
+    requires { AllFound program.now.marks.now }
+    ensures { Gives is_memory (λ v. v) result (value_at (site program.now.members.now owner origin) (value_by (linkage_in program.now) (exports_in program.now) owner form.now)) }
 {
-    match outcome {
+    match try_form(form, program.modules.get(owner), program.marks) {
         Ok(value) => Ok(value),
-        Err(ValueFault::Circular) => {
-            Err(LinkFault::Circular(site_of(alloc, members, owner, origin)?))
+        Err(Stop::Fault(ValueFault::NoValue)) => {
+            Err(LinkFault::NoValue(site_of(alloc, program.members, owner, origin)?))
         }
-        Err(ValueFault::NoValue) => Err(LinkFault::NoValue(site_of(
-            alloc, members, owner, origin,
-        )?)),
-        Err(ValueFault::Unresolved) => Err(LinkFault::Unresolved(Sequence::new(alloc))),
+        Err(Stop::Fault(ValueFault::Unresolved)) => {
+            Err(LinkFault::Unresolved(Sequence::new(alloc)))
+        }
+        Err(Stop::Fault(ValueFault::Circular)) => {
+            Err(LinkFault::Circular(site_of(alloc, program.members, owner, origin)?))
+        }
+        Err(Stop::Needs(_)) => {
+            Err(LinkFault::Circular(site_of(alloc, program.members, owner, origin)?))
+        }
     }
 }
 
@@ -138,30 +124,12 @@ pub fn datum_value(alloc: Global, program: &Placed<'_>, fixup: &Fixup) -> Result
     ensures value { IfOk result (λ v. value_by (linkage_in program.now) (exports_in program.now) fixup.now.owner fixup.now.form ≡ Ok v) }
     ensures fits { IfOk result (λ v. fits_width fixup.now.width v ≡ true) }
 {
-    let outcome = value_in(program, fixup.owner, &fixup.form);
-    let value = value_at(alloc, program.members, fixup.owner, fixup.origin, outcome)?;
+    let value = value_at(alloc, program, fixup.owner, fixup.origin, &fixup.form)?;
     if !fits(fixup.width, value) {
         let site = site_of(alloc, program.members, fixup.owner, fixup.origin)?;
         return Err(LinkFault::OutOfRange(site));
     }
     Ok(value)
-}
-
-/// Adds the value of an export, or refuses one that has none.
-fn add_export(
-    alloc: Global,
-    program: &Placed<'_>,
-    export: &Exported,
-    values: &mut Vec<i64>,
-) -> Result<(), LinkFault>
-    requires { AllFound program.now.marks.now }
-    ensures checked { Gives is_memory (λ u. u) result (check_export_in program.now export.now) }
-    ensures values { OnOk result (values.new.items ≡ values.old.items ++ exported_value (linkage_in program.now) (exports_in program.now) export.now ∷ []) }
-{
-    let outcome = value_in(program, export.owner, &export.form);
-    let value = value_at(alloc, program.members, export.owner, export.origin, outcome)?;
-    values.push(value)?;
-    Ok(())
 }
 
 /// The value of each export. The first that has none is refused, used or not.
@@ -172,7 +140,7 @@ pub fn export_values(alloc: Global, program: &Placed<'_>) -> Result<Vec<i64>, Li
 {
     let mut values = Vec::with_capacity(alloc, program.exports.len())?;
     for export in program.exports {
-        add_export(alloc, program, export, &mut values)?;
+        values.push(value_at(alloc, program, export.owner, export.origin, &export.form)?)?;
     }
     Ok(values)
 }
@@ -197,26 +165,6 @@ fn assertion_warning(alloc: Global, site: &Site, text: &[u8]) -> Result<Sequence
     )
 }
 
-/// What follows from the value of an assertion: nothing, a warning or a fault.
-fn judge(
-    alloc: Global,
-    members: &[Member],
-    assert: &Asserted,
-    value: i64,
-) -> Result<Sequence<u8>, LinkFault>
-    ensures { Gives is_memory (λ text. text) result (assertion_result (site members.now assert.now.owner assert.now.origin) assert.now.action assert.now.text value) }
-{
-    if value != 0 {
-        return Ok(Sequence::new(alloc));
-    }
-    let site = site_of(alloc, members, assert.owner, assert.origin)?;
-    let text = assert.text.as_slice();
-    match assert.action {
-        Action::Warning => Ok(assertion_warning(alloc, &site, text)?),
-        Action::Error => Err(LinkFault::Assertion(site, Sequence::copy_of(alloc, text)?)),
-    }
-}
-
 /// What is warned of an assertion, or its fault.
 fn check_assertion(
     alloc: Global,
@@ -226,9 +174,16 @@ fn check_assertion(
     requires { AllFound program.now.marks.now }
     ensures { Gives is_memory (λ text. text) result (check_assert (linkage_in program.now) program.now.members.now (exports_in program.now) assert.now) }
 {
-    let outcome = value_in(program, assert.owner, &assert.form);
-    let value = value_at(alloc, program.members, assert.owner, assert.origin, outcome)?;
-    judge(alloc, program.members, assert, value)
+    let value = value_at(alloc, program, assert.owner, assert.origin, &assert.form)?;
+    if value != 0 {
+        return Ok(Sequence::new(alloc));
+    }
+    let site = site_of(alloc, program.members, assert.owner, assert.origin)?;
+    let text = assert.text.as_slice();
+    match assert.action {
+        Action::Warning => Ok(assertion_warning(alloc, &site, text)?),
+        Action::Error => Err(LinkFault::Assertion(site, Sequence::copy_of(alloc, text)?)),
+    }
 }
 
 /// What is warned of assertions, in order, or the first fault.

@@ -1,4 +1,4 @@
-use Rattle.std.proofs.Common.{◌≡◌, ◌∙◌, ap, drop, map, refl, sym, subst, OnOk, Ok, Err, Result, List, ℕ, Bool, true, false, ◌||◌, ◌++◌, Option, Some, None}
+use Rattle.std.proofs.Common.{arith, ◌≡◌, ◌∙◌, ap, drop, map, refl, sym, subst, OnOk, Ok, Err, Result, List, ℕ, Bool, true, false, ◌||◌, ◌++◌, Option, Some, None}
 use Rattle.link65.specs.declared.fault.LinkFault.{LinkFault}
 use Rattle.link65.specs.declared.parts.Exported.{Exported}
 use Rattle.link65.specs.declared.fault.LinkFault.TheVariants.{DuplicateExport}
@@ -7,8 +7,10 @@ use Rattle.link65.specs.Links.{no_name_again}
 use Rattle.link65.specs.Names.{first_again}
 use Rattle.base65.specs.Outcome.{◌>>=◌, Refuses, Unless}
 use Rattle.link65.specs.Standing.{all_once, names_in, with_each}
-use Rattle.link65.specs.Growing.{at_rest, ended}
-use Rattle.link65.specs.Grounds.{growth_in}
+use Rattle.std.proofs.lemmas.Grind.{common_steps}
+use Rattle.link65.specs.declared.growing.Growing.{Growing}
+use Rattle.link65.specs.Growing.{Growth, at_rest, ended}
+use Rattle.link65.specs.Grounds.{IsGrown, growth_in}
 use Rattle.link65.specs.Inner.Fields.{are_listed, exports_from}
 use Rattle.link65.proofs.GivenLemmas.{each_once_all}
 use Rattle.link65.proofs.Feeds.{closed_whole, cut_short, disagrees, given_twice}
@@ -28,6 +30,9 @@ returns-then-not-are_listed-clause-ended c = λ p s comes.
     let differ = ap (λ ns. are_listed m.listed ns old.imports) (sym same) ∙ ap (are_listed m.listed _) (sym c.as_slice-imports.ensures) ∙ sym c.are_listed.ensures ∙ c.if-not-are_listed.true in
     disagrees m.listed old.imports (names_in c.args.given.now) (exports_from m.first_export old) p s old m.scan comes _ (sym c.is_ended.ensures ∙ c.if-not-is_ended.false) differ refl
 
+grown_then : (r : Result (Unit {0}) LinkFault) (g : Growing) (new : Growth) → OnOk r (IsGrown g new) → OnOk r (growth_in g ≡ new)
+grown_then x g new h = grind (arith, common_steps)
+
 pub returns-in-Ok-clause-ended : goal.returns-in-Ok-clause-ended
 returns-in-Ok-clause-ended c = λ p s comes.
     let old = growth_in c.args.growing.now in
@@ -37,7 +42,7 @@ returns-in-Ok-clause-ended c = λ p s comes.
     let same = ap (map (λ (e : Exported). e.name)) (c.from_place-exports.ensures ∙ ap (drop m.first_export) c.as_slice.ensures) in
     let listed = ap (λ ns. are_listed m.listed ns old.imports) (sym same) ∙ ap (are_listed m.listed _) (sym c.as_slice-imports.ensures) ∙ sym c.are_listed.ensures ∙ c.if-not-are_listed.false in
     let once = subst (λ ns. all_once before ns ≡ Ok given) same (sym (each_once_all _ before) ∙ c.in-Ok.ensures) in
-    let named = subst (λ n. OnOk c.end_module.result (growth_in c.end_module.new.growing ≡ at_rest (ended old n))) c.replace-name.ensures.value c.end_module.ensures.ended in
+    let named = subst (λ n. OnOk c.end_module.result (growth_in c.end_module.new.growing ≡ at_rest (ended old n))) c.replace-name.ensures.value (grown_then c.end_module.result _ _ c.end_module.ensures.ended) in
     closed_whole m.listed old.imports before (exports_from m.first_export old) p s old m.scan comes (growth_in c.end_module.new.growing) m.name given c.end_module.result (sym c.is_ended.ensures ∙ c.if-not-is_ended.false) listed once named c.end_module.ensures.memory
 
 pub returns-in-Err-clause-ended : goal.returns-in-Err-clause-ended

@@ -1,4 +1,6 @@
-use Rattle.std.proofs.Common.{◌∙◌, List, ℕ, ap, sym, subst}
+use Rattle.std.proofs.Common.{◌∙◌, List, ℕ, ap, sym, subst, rules, arith}
+use Rattle.std.proofs.lemmas.Grind.{common_steps}
+use Rattle.std.proofs.lemmas.Fn.{filter_same}
 use Rattle.std.specs.Prelude.{filter}
 use Rattle.link65.specs.Files.{IsImage}
 use Rattle.link65.specs.Inner.Loads.{IsWhole, has_bytes}
@@ -9,8 +11,9 @@ use Rattle.link65.proofs.files.area_file.Goals as goal
 pub returns-then-is_whole : goal.returns-then-is_whole
 returns-then-is_whole c =
     let f = c.args.filled in
-    let items = c.drop_empty.new.loads.items in
-    let are = c.drop_empty.ensures ∙ ap (filter has_bytes) c.into_vec-loads.ensures in
+    let items = c.retain.new.self.items in
+    let dropped = filter_same _ has_bytes _ (λ x b f' k. search rules) _ _ c.retain.ensures.filtered in
+    let are = dropped ∙ ap (filter has_bytes) c.into_vec-loads.ensures in
     let w : IsWhole c.in-Ok.len (pieces_in f.place.start items) = subst (λ (ls : List Load). IsWhole c.in-Ok.len (pieces_in f.place.start ls)) c.as_slice.ensures.value (c.is_whole.ensures c.if-is_whole.true) in
     file_of f.area.now f.place f.loads items c.in-Ok.len c.replace.result are (c.in-Ok.ensures.1 ∙ c.file_len.ensures)
     (whole_image c.in-Ok.len f.area.now.fill_value (pieces_in f.place.start items) c.replace.result w (c.replace.ensures.value ∙ first_bytes c.in-Ok.len f.place.start items c.index_mut.result.now w c.index_mut.ensures.value))
@@ -18,6 +21,7 @@ returns-then-is_whole c =
 pub returns : goal.returns
 returns c =
     let f = c.args.filled in
-    let are = c.as_slice-2.ensures.value ∙ c.drop_empty.ensures ∙ ap (filter has_bytes) c.into_vec-loads.ensures in
+    let dropped = filter_same _ has_bytes _ (λ x b f' k. search rules) _ _ c.retain.ensures.filtered in
+    let are = c.as_slice-2.ensures.value ∙ dropped ∙ ap (filter has_bytes) c.into_vec-loads.ensures in
     file_of f.area.now f.place f.loads c.as_slice-2.result.now c.in-Ok.len c.from_vec.result are (c.in-Ok.ensures.1 ∙ c.file_len.ensures)
-    (subst (λ (xs : List ℕ). IsImage c.in-Ok.len f.area.now.fill_value (pieces_in f.place.start c.as_slice-2.result.now) xs) (sym c.from_vec.ensures) c.in_ok-image.ensures)
+    (subst (λ (xs : List ℕ). IsImage c.in-Ok.len f.area.now.fill_value (pieces_in f.place.start c.as_slice-2.result.now) xs) (sym c.from_vec.ensures) (grind (arith, common_steps)))

@@ -1,4 +1,6 @@
-use Rattle.std.proofs.Common.{◌∙◌, refl, sym, arith}
+use Rattle.std.proofs.Common.{◌≡◌, ◌∙◌, refl, arith, slice_get}
+use Rattle.std.proofs.lemmas.Grind.{common_steps}
+use Rattle.std.proofs.lemmas.Option.{gets}
 use Rattle.link65.proofs.FileLemmas.{collects_none, collects_more, collects_past, collects_all, taken_bytes}
 use Rattle.link65.proofs.files.loads_of.Goals as goal
 use Rattle.link65.proofs.files.loads_of.Goals.{in-Some+in_ok-add_row-in-Some, in-None}
@@ -16,9 +18,10 @@ loop-i-preserved c = record {
       let rows = c.args.rows.now in
       let places = c.args.places.now in
       let own = taken_bytes bytes rows c.args.contents.items c.loop-i.i c.index-rows-i.result c.take_at-bytes.result are c.loop-i-test.true c.index-rows-i.is (λ x e. c.take_at-bytes.ensures.taken x (c.loop-i.invariant.rest c.loop-i.i (omega arith) ∙ e)) in
-      elim c.match-place_at.branch [
-        | in-Some+in_ok-add_row-in-Some w ↦ rw w.loads-is (collects_more bytes k rows places c.loop-i.i _ _ _ c.loop-i-test.true c.index-rows-i.is (sym w.in-Some.ensures) own (w.in_ok-add_row-in-Some.ensures k) (c.loop-i.invariant.each bytes are k lt))
-        | in-None w ↦ rw w.loads-is (collects_past bytes k rows places c.loop-i.i _ (sym w.in-None.ensures) (c.loop-i.invariant.each bytes are k lt))
+      let there : slice_get places c.loop-i.i ≡ c.copied.result = grind (arith, common_steps, gets) in
+      elim c.match-copied.branch [
+        | in-Some+in_ok-add_row-in-Some w ↦ rw w.loads-is (collects_more bytes k rows places c.loop-i.i _ _ _ c.loop-i-test.true c.index-rows-i.is (there ∙ w.in-Some.is) own (w.in_ok-add_row-in-Some.ensures k) (c.loop-i.invariant.each bytes are k lt))
+        | in-None w ↦ rw w.loads-is (collects_past bytes k rows places c.loop-i.i _ (there ∙ w.in-None.is) (c.loop-i.invariant.each bytes are k lt))
       ];
 }
 

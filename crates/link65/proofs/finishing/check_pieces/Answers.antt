@@ -1,18 +1,31 @@
-use Rattle.std.proofs.lemmas.Result.{err_from_is_err_and}
+use Rattle.std.proofs.Common.{◌≡◌, Ok, Result, ap, refl}
 use Rattle.std.specs.List.{flat_map}
+use Rattle.base65.specs.Outcome.{◌>>=◌}
+use Rattle.link65.specs.declared.fault.LinkFault.{LinkFault}
+use Rattle.link65.specs.declared.parts.Fixup.{Fixup}
+use Rattle.link65.specs.declared.parts.Piece.{Piece}
+use Rattle.link65.specs.declared.parts.Piece.TheVariants.{Known, Filled, Waits}
 use Rattle.link65.specs.Links.{each_passes}
 use Rattle.link65.specs.Grounds.{piece_fixups}
 use Rattle.link65.specs.Placed.{check_in}
-use Rattle.link65.proofs.Passes.{flat_next, flat_stops}
+use Rattle.link65.proofs.Passes.{Check, filled_passes, flat_next, known_passes}
 use Rattle.link65.proofs.finishing.check_pieces.Goals as goal
+use Rattle.link65.proofs.finishing.check_pieces.Goals.{in-Waits+in_ok-datum_value, in_default}
 
-pub returns-in_err-check_piece : goal.returns-in_err-check_piece
-returns-in_err-check_piece c =
-    let p = err_from_is_err_and c.from_residual.result c.from_residual.ensures.1 in
-    let check = check_in c.args.program.now in
-    rw (p.1, p.2) (flat_stops check piece_fixups c.args.pieces.now c.loop-piece.piece-index c.piece-item.result (each_passes check (flat_map piece_fixups c.args.pieces.now)) c.in_err-check_piece.field-0.0 c.loop-piece-test.true c.piece-item.is c.loop-piece.invariant c.in_err-check_piece.ensures)
+waits_passes : (check : Check Fixup) (p : Piece) (w : Fixup) → p ≡ Waits w → check w ≡ Ok tt → each_passes check (piece_fixups p) ≡ Ok tt
+waits_passes check p w is e = rw is (ap (λ (r : Result (Unit {0}) LinkFault). r >>= (λ u. Ok tt)) e)
+
+others_pass : (check : Check Fixup) (p : Piece) → ((w : Fixup) → p ≡ Waits w → ⊥) → each_passes check (piece_fixups p) ≡ Ok tt
+others_pass check (Known bytes) never = known_passes check (Known bytes) bytes refl
+others_pass check (Filled n) never = filled_passes check (Filled n) n refl
+others_pass check (Waits w) never = absurd (never w refl)
 
 pub loop-piece-preserved : goal.loop-piece-preserved
 loop-piece-preserved c =
     let check = check_in c.args.program.now in
-    flat_next check piece_fixups c.args.pieces.now c.loop-piece.piece-index c.piece-item.result tt (each_passes check (flat_map piece_fixups c.args.pieces.now)) c.loop-piece-test.true c.piece-item.is c.in_ok-check_piece.ensures c.loop-piece.invariant
+    let piece = c.piece-item.result in
+    let passes : each_passes check (piece_fixups piece) ≡ Ok tt = elim c.match-piece.branch [
+      | in-Waits+in_ok-datum_value w ↦ waits_passes check piece w.in-Waits.fixup w.in-Waits.is w.in_ok-datum_value.ensures.checked
+      | in_default w ↦ others_pass check piece w.in_default.not-Waits
+    ] in
+    flat_next check piece_fixups c.args.pieces.now c.loop-piece.piece-index piece tt (each_passes check (flat_map piece_fixups c.args.pieces.now)) c.loop-piece-test.true c.piece-item.is passes c.loop-piece.invariant

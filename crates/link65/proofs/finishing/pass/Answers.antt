@@ -1,5 +1,6 @@
 use Rattle.std.proofs.Common.{◌≡◌, ◌∙◌, ◌∷◌, [], ◌++◌, List, ℕ, ℤ, ap, refl, Ok}
 use Rattle.std.specs.List.{flat_map}
+use Rattle.script65.specs.declared.script.Row.{Row}
 use Rattle.link65.specs.declared.parts.Definition.{Definition}
 use Rattle.link65.specs.declared.parts.Exported.{Exported}
 use Rattle.link65.specs.Links.{checked}
@@ -21,15 +22,18 @@ returns c =
     let all = p.exports.now in
     let own = script_definitions s placement in
     let weak = weak_symbols s.symbols in
-    let given = c.as_slice-2.result.now in
+    let given = c.as_slice-3.result.now in
     let symbols : c.in_ok-symbols.symbols ≡ symbol_lines own weak l exports =
     c.in_ok-symbols.ensures
     ∙ ap (λ (ds : List Definition). lines_by ds names.weak.now names.exports.now given) c.requires.own
     ∙ ap (λ (ds : List Definition). lines_by own ds names.exports.now given) c.requires.weak
     ∙ ap (λ (es : List Exported). lines_by own weak es given) c.requires.exports
-    ∙ ap (λ (vs : List ℤ). lines_by own weak all vs) (c.as_slice-2.ensures.value ∙ c.in_ok-checked.ensures.values)
+    ∙ ap (λ (vs : List ℤ). lines_by own weak all vs) (c.as_slice-3.ensures.value ∙ c.in_ok-checked.ensures.values)
     ∙ ap (λ (lines : List ℕ). joined (flat_map definition_line own ∷ lines ∷ flat_map (weak_line own all) weak ∷ [])) (zip_mapped value_line (exported_value l exports) (export_line l exports) (λ x. refl) all) in
-    let map : c.in_ok-map.map ≡ map_text s (program_in p) placement l exports = c.in_ok-map.ensures ∙ ap (map_by p.members.now s.rows placement.rows) (c.as_slice-3.ensures ∙ symbols) in
-    let rows = warnings_of_rows s.rows (segments_in p) in
-    first_ok (checked s (program_in p) l exports) c.in_ok-checked.checked.assertions (Passes s (program_in p) placement l exports) (Ok (record { rows = c.in_ok-checked.checked.rows; warnings = c.in_ok-warnings.warnings; map = c.in_ok-map.map })) c.in_ok-checked.ensures.checked
-    (c.in_ok-checked.ensures.rows, c.in_ok-warnings.ensures ∙ ap (λ t. rows ++ t) c.as_slice.ensures, map)
+    let map : c.in_ok-map.map ≡ map_text s (program_in p) placement l exports = c.in_ok-map.ensures ∙ ap (map_by p.members.now s.rows placement.rows) (c.as_slice-4.ensures ∙ symbols) in
+    let warnings =
+    c.in_ok-extend_from_slice.ensures.ok
+    ∙ ap (λ t. c.in_ok-warnings.warnings ++ t) c.as_slice-2.ensures
+    ∙ ap (λ t. t ++ c.in_ok-checked.checked.assertions) (c.in_ok-warnings.ensures ∙ ap (λ (rs : List Row). warnings_of_rows rs (segments_in p)) c.as_slice.ensures) in
+    first_ok (checked s (program_in p) l exports) c.in_ok-checked.checked.assertions (Passes s (program_in p) placement l exports) (Ok (record { rows = c.in_ok-checked.checked.rows; warnings = c.extend_from_slice.new.self; map = c.in_ok-map.map })) c.in_ok-checked.ensures.checked
+    (c.in_ok-checked.ensures.rows, warnings, map)

@@ -1,24 +1,21 @@
-use Rattle.std.proofs.Common.{◌∙◌, List, Ok, ℕ, ap, sym}
+use Rattle.std.proofs.Common.{◌∙◌, List, Ok, ℕ, ap, sym, rules}
 use Rattle.std.proofs.Math.Seq.{map-set_same}
 use Rattle.link65.specs.declared.parts.Content.{Content}
 use Rattle.link65.specs.Grounds.{growth_in, names_in, place_in}
 use Rattle.link65.proofs.SegmentLemmas.{bare_begun, section_more}
 use Rattle.link65.proofs.growing.begin_section.Goals as goal
 
-pub returns-clause-begun : goal.returns-clause-begun
-returns-clause-begun c =
+pub returns : goal.returns
+returns c =
     let mid = c.segment_at.new.growing in
     let at = c.in_ok-at.ensures in
-    let begun = bare_begun (growth_in c.args.growing.now) mid c.in_ok-at.at c.multiple_of-multiple.result c.in_ok-begin.begin c.index_mut.result.now c.open_section.new.content c.args.name c.args.align (rw c.as_slice.ensures at at.added) at.named.names (rw c.as_slice.ensures at at.place) at.within c.index_mut.ensures.value c.multiple_of-multiple.ensures.value c.in_ok-begin.ensures.grown (ap Ok (sym c.in_ok-begin.ensures.begin)) in
-    rw c.in_ok-push.ensures.items begun
-
-pub returns-clause-named : goal.returns-clause-named
-returns-clause-named c =
-    let mid = c.segment_at.new.growing in
+    let begun = bare_begun (growth_in c.args.growing.now) mid c.in_ok-at.at _ c.in_ok-begin.begin c.index_mut.result.now c.open_section.new.content c.args.name c.args.align (rw c.as_slice.ensures at at.added.growth) at.added.named.names (rw c.as_slice.ensures at at.place) at.within c.index_mut.ensures.value (search rules) c.in_ok-begin.ensures.grown (ap Ok (sym c.in_ok-begin.ensures.begin)) in
     let same = c.in_ok-begin.ensures.name ∙ ap (λ (x : Content). x.name) c.index_mut.ensures.value in
-    let at = c.in_ok-at.ensures in
     let here = ap (λ (n : List ℕ). place_in n (names_in mid)) (sym c.as_slice.ensures) ∙ at.place in
     record {
-      names = at.named.names ∙ sym (map-set_same (λ x. x.name) mid.contents.items c.in_ok-at.at c.open_section.new.content c.index_mut.result.now same);
-      sections = rw (c.in_ok-push.ensures.items, c.in_ok-push-2.ensures.items) (section_more (names_in mid) mid.sections.items mid.places.items (record { segment = c.args.name; offset = c.in_ok-begin.begin; size = 0 }) c.in_ok-at.at at.named.sections here);
+      growth = rw c.in_ok-push.ensures.items begun;
+      named = record {
+        names = at.added.named.names ∙ sym (map-set_same (λ x. x.name) mid.contents.items c.in_ok-at.at c.open_section.new.content c.index_mut.result.now same);
+        sections = rw (c.in_ok-push.ensures.items, c.in_ok-push-2.ensures.items) (section_more (names_in mid) mid.sections.items mid.places.items (record { segment = c.args.name; offset = c.in_ok-begin.begin; size = 0 }) c.in_ok-at.at at.added.named.sections here);
+      };
     }

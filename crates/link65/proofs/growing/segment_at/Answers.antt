@@ -1,9 +1,10 @@
-use Rattle.std.proofs.Common.{◌≡◌, ◌∙◌, Some, length, sym, ap}
+use Rattle.std.proofs.Common.{◌≡◌, ◌∙◌, ◌∷◌, [], ◌++◌, List, ℕ, Option, Some, None, length, map, sym, ap, refl}
 use Rattle.std.proofs.lemmas.Cmp.{nat_list_eq_equiv}
-use Rattle.std.proofs.lemmas.List.{length-map}
+use Rattle.std.proofs.lemmas.List.{length-map, map-append}
 use Rattle.std.specs.Str.{bytes_eq}
+use Rattle.object65.proofs.Names.{pushed_name}
 use Rattle.link65.specs.Grounds.{segments_from, growth_in, having, names_in, place_in}
-use Rattle.link65.proofs.SegmentLemmas.{place_last, segment_names, with_name_new, with_name_there}
+use Rattle.link65.proofs.SegmentLemmas.{none_among, place_last, places_of, places_stay, segment_names, with_name_new, with_name_there}
 use Rattle.link65.proofs.growing.segment_at.Goals as goal
 
 pub returns-in-Some-clause-added : goal.returns-in-Some-clause-added
@@ -11,18 +12,42 @@ returns-in-Some-clause-added c =
     let old = c.args.growing.now in
     let n = c.args.name.now in
     let names = segment_names old.contents.items ∙ sym c.requires.names in
-    ap (having (growth_in old)) (sym (with_name_there n (segments_from old.contents.items) c.in-Some.place (ap (place_in n) names ∙ sym c.in-Some.ensures.place)))
+    record {
+      growth = ap (having (growth_in old)) (sym (with_name_there n (segments_from old.contents.items) c.in-Some.place (ap (place_in n) names ∙ sym c.in-Some.ensures.place)));
+      named = c.requires;
+    }
 
-pub returns-in_ok-add_segment-in-None-clause-added : goal.returns-in_ok-add_segment-in-None-clause-added
-returns-in_ok-add_segment-in-None-clause-added c =
+is_none : (o : Option ℕ) → ((i : ℕ) → o ≡ Some i → ⊥) → o ≡ None
+is_none None never = refl
+is_none (Some i) never = absurd (never i refl)
+
+none_there : (c : goal.In_ok-insert) → place_in c.args.name.now (names_in c.args.growing.now) ≡ None
+none_there c = sym c.place_of.ensures.place ∙ is_none c.place_of.result c.in_default.not-Some
+
+names_then : (c : goal.In_ok-insert) → map (λ n. n.items) c.insert.new.self.keys ≡ names_in c.args.growing.now ++ c.args.name.now ∷ []
+names_then c =
+    let names = names_in c.args.growing.now in
+    let key : c.in_ok-key.key.items ≡ c.args.name.now = c.in_ok-key.ensures.items in
+    let new = pushed_name (λ n. n.items) c.args.growing.now.names.keys c.in_ok-key.key names refl (rw key (none_among (bytes_eq c.args.name.now) names (none_there c))) in
+    ap (map (λ n. n.items)) c.in_ok-insert.ensures.keys ∙ new ∙ ap (λ (x : List ℕ). names ++ x ∷ []) key
+
+pub returns-clause-added : goal.returns-clause-added
+returns-clause-added c =
     let old = c.args.growing.now in
     let n = c.args.name.now in
-    let names = segment_names old.contents.items ∙ sym c.requires.names in
-    c.in_ok-add_segment-in-None.ensures.added ∙ ap (having (growth_in old)) (sym (with_name_new n (segments_from old.contents.items) (ap (place_in n) names ∙ sym c.in-None.ensures.place)))
+    let cs = old.contents.items in
+    let same = segment_names cs ∙ sym c.requires.names in
+    record {
+      growth = ap (having (growth_in old)) (rw (c.in_ok-push.ensures.items, map-append, c.in_ok-copy_of.ensures, c.new.ensures) (sym (with_name_new n (segments_from cs) (ap (place_in n) same ∙ none_there c))));
+      named = record {
+        names = names_then c ∙ ap (λ ns. ns ++ n ∷ []) c.requires.names ∙ rw (c.in_ok-push.ensures.items, map-append, c.in_ok-copy_of.ensures) refl;
+        sections = ap (λ ns. places_of ns old.sections.items) (names_then c) ∙ places_stay (names_in old) (n ∷ []) old.sections.items old.places.items c.requires.sections;
+      };
+    }
 
-pub returns-in_ok-add_segment-in-None-clause-place : goal.returns-in_ok-add_segment-in-None-clause-place
-returns-in_ok-add_segment-in-None-clause-place c =
+pub returns-clause-place : goal.returns-clause-place
+returns-clause-place c =
     let old = c.args.growing.now in
     let n = c.args.name.now in
     let count : length (names_in old) ≡ c.len-place.result = ap length c.requires.names ∙ length-map old.contents.items (λ x. x.name) ∙ sym old.contents.ok.0 ∙ sym c.len-place.ensures in
-    ap (place_in n) c.in_ok-add_segment-in-None.ensures.names ∙ place_last (bytes_eq n) (names_in old) n (sym c.in-None.ensures.place) ((nat_list_eq_equiv).refl n) ∙ ap Some count
+    ap (place_in n) (names_then c) ∙ place_last (bytes_eq n) (names_in old) n (none_there c) ((nat_list_eq_equiv).refl n) ∙ ap Some count

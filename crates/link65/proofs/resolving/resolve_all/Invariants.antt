@@ -3,4 +3,4 @@ use Rattle.link65.specs.Placed.{resolved_by}
 use Rattle.link65.proofs.resolving.resolve_all.Given as goal
 
 abbrev pub invariant-loop-member : goal.invariant-loop-member
-invariant-loop-member l = l.all ≡ map (resolved_by l.names l.addresses) (take l.member-index l.members)
+invariant-loop-member l = l.all ≡ map (resolved_by l.names l.runs) (take l.member-index l.members)

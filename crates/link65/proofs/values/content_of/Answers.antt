@@ -1,4 +1,7 @@
-use Rattle.std.proofs.Common.{◌∙◌, sym, ap}
+use Rattle.std.proofs.Common.{◌≡◌, ◌∙◌, sym, ap, arith, slice_get}
+use Rattle.std.proofs.lemmas.Grind.{common_steps}
+use Rattle.std.proofs.lemmas.Option.{gets}
+use Rattle.std.specs.Option.{option_copied}
 use Rattle.std.specs.Option.{option_map}
 use Rattle.link65.specs.Grounds.{segment_from, place_in}
 use Rattle.link65.proofs.SegmentLemmas.{at_most, found_at}
@@ -9,7 +12,8 @@ returns-in-Some c =
     let name = c.args.name.now in
     let contents = c.args.program.now.contents.now in
     let at = ap (place_in name) (sym c.requires) ∙ sym c.in-Some.ensures.place in
-    ap (option_map segment_from) c.content_at.ensures ∙ sym (found_at name contents ∙ ap (at_most contents) at)
+    let there : option_copied c.get.result ≡ slice_get contents c.in-Some.place = grind (arith, common_steps, gets) in
+    ap (option_map segment_from) there ∙ sym (found_at name contents ∙ ap (at_most contents) at)
 
 pub returns-in-None : goal.returns-in-None
 returns-in-None c =

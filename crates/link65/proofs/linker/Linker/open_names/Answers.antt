@@ -1,9 +1,12 @@
-use Rattle.std.proofs.Common.{◌∙◌, Ok, ap, sym}
+use Rattle.std.proofs.Common.{◌∙◌, [], List, Ok, ap, sym}
+use Rattle.script65.specs.declared.script.Symbol.{Symbol}
+use Rattle.link65.specs.Inner.Fields.{missing_behind}
 use Rattle.script65.specs.declared.script.Script.{Script}
 use Rattle.link65.specs.Names.{given_names, open_names}
 use Rattle.link65.specs.Programs.{program_of}
-use Rattle.link65.specs.Standing.{Feeding}
+use Rattle.link65.specs.Standing.{Feeding, names_in}
 use Rattle.link65.proofs.Feeds.{their_members, their_names}
+use Rattle.link65.proofs.GivenLemmas.{open_missing, wanted}
 use Rattle.link65.proofs.linker.Linker.open_names.Goals as goal
 
 pub returns-clause-open : goal.returns-clause-open
@@ -13,5 +16,9 @@ returns-clause-open c modules ended =
     let given = ap (λ (g : Feeding). g.given) c.self.view_is in
     let members = ap (λ (g : Feeding). g.growth.program.members) c.self.view_is in
     let p = program_of modules in
-    let names = c.in_ok-open_names.ensures p (given ∙ their_names f modules ended ∙ ap (λ (s : Script). given_names s p) (sym script)) (their_members f modules ended ∙ sym members ∙ sym c.as_slice.ensures) in
+    let l = c.self.inside in
+    let names =
+    c.in_ok-missing_names.ensures
+    ∙ ap (λ (ss : List Symbol). missing_behind (names_in l.given) [] (wanted ss c.as_slice.result.now)) c.as_slice-symbols.ensures
+    ∙ open_missing l.script p (names_in l.given) c.as_slice.result.now (given ∙ their_names f modules ended ∙ ap (λ (s : Script). given_names s p) (sym script)) (their_members f modules ended ∙ sym members ∙ sym c.as_slice.ensures) in
     ap Ok (sym (names ∙ ap (λ (s : Script). open_names s p) script))

@@ -56,22 +56,28 @@ pub fn finish(linker: Linker) -> Result<Linked, LinkFault> {
     linker.finish()
 }
 
-/// The records of the object.
-pub fn records_of(alloc: Global, bytes: &[u8]) -> Result<Vec<Record>, ObjectFault> {
-    let mut store = MemStore::new(alloc);
-    store.put("a.o", bytes)?;
-    let limit = bytes.len() as u64;
+/// The records of a file of a store, which has so many bytes.
+fn records_in(alloc: Global, store: &mut MemStore, limit: u64) -> Result<Vec<Record>, ObjectFault> {
+    let (version, first) = read_head(store, "a.o", 0, limit)?;
     let mut records = Vec::new(alloc);
-    let (version, first) = read_head(&mut store, "a.o", 0, limit)?;
     let mut at = first;
-    for _ in 0..bytes.len() {
+    for _ in 0..limit {
         if at < limit {
-            let (record, next) = read_record(&mut store, "a.o", version, at, limit)?;
+            let (record, next) = read_record(store, "a.o", version, at, limit)?;
             records.push(record)?;
             at = next;
         }
     }
     Ok(records)
+}
+
+/// The records of the object.
+pub fn records_of(alloc: Global, bytes: &[u8]) -> Result<Vec<Record>, ObjectFault> {
+    let mut store = MemStore::new(alloc);
+    match store.put("a.o", bytes) {
+        Ok(()) => records_in(alloc, &mut store, bytes.len() as u64),
+        Err(fault) => Err(fault.into()),
+    }
 }
 
 /// How many values were taken behind each record of a module, which is open.
@@ -89,44 +95,49 @@ pub fn pending_behind(
 }
 
 /// Whether a link gives one file with these bytes.
-pub fn is_image(linked: &Linked, bytes: &[u8]) -> bool {
+fn is_image(linked: &Linked, bytes: &[u8]) -> bool {
     match linked.files.as_slice() {
         [file] => file.bytes.as_slice() == bytes,
         _ => false,
     }
 }
 
-/// The jump linked, and how many values were taken behind each record.
-fn link_jump(alloc: Global) -> Result<(Vec<usize>, Linked), LinkFault> {
-    let records = records_of(alloc, JUMP)?;
+/// Whether a linker to which all was fed gives one file with these bytes, and no warning.
+pub fn gives(linker: Linker, bytes: &[u8]) -> Result<bool, LinkFault> {
+    let linked = finish(linker)?;
+    Ok(is_image(&linked, bytes) && linked.warnings.len() == 0)
+}
+
+/// Feeds the records of an object to a module, which is open: how many values were taken behind each.
+pub fn feed_records(
+    alloc: Global,
+    linker: &mut Linker,
+    bytes: &[u8],
+) -> Result<Vec<usize>, LinkFault> {
+    let records = records_of(alloc, bytes)?;
+    pending_behind(alloc, linker, records.as_slice())
+}
+
+/// Feeds the jump; whether its value is taken with its record.
+fn takes_jump(alloc: Global, linker: &mut Linker) -> Result<bool, LinkFault> {
+    begin(linker, None)?;
+    let counts = feed_records(alloc, linker, JUMP)?;
+    let is_so = counts.as_slice() == [0, 0, 1, 1, 1].as_slice();
+    end(linker).map(|()| is_so)
+}
+
+/// Whether the jump links to its own place, where its value is taken with its record.
+fn links_jump(alloc: Global) -> Result<bool, LinkFault> {
     let mut linker = linker_by(alloc, SCRIPT)?;
-    begin(&mut linker, None)?;
-    let counts = pending_behind(alloc, &mut linker, records.as_slice())?;
-    end(&mut linker)?;
-    Ok((counts, finish(linker)?))
+    match takes_jump(alloc, &mut linker) {
+        Ok(true) => gives(linker, [0x4c, 0x00, 0x80].as_slice()),
+        other => other,
+    }
 }
 
 #[test]
 fn links_a_jump(rt: HostRuntime) -> Result<(), Fail> {
-    let (counts, linked) = link_jump(rt.alloc())?;
-    assert!(rt; counts.as_slice() == [0, 0, 1, 1, 1].as_slice());
-    assert!(rt; is_image(&linked, [0x4c, 0x00, 0x80].as_slice()));
-    assert_eq!(rt; linked.warnings.len(), 0);
-    Ok(())
-}
-
-/// Begins a module, where none is open, and feeds its records, which have these imports and exports.
-fn open(
-    alloc: Global,
-    linker: &mut Linker,
-    imports: &[u8],
-    exports: &[u8],
-    entry: Option<&Entry>,
-) -> Result<(), LinkFault> {
-    begin(linker, entry)?;
-    let bytes = object(alloc, imports, exports)?;
-    let records = records_of(alloc, bytes.as_slice())?;
-    pending_behind(alloc, linker, records.as_slice())?;
+    assert!(rt; links_jump(rt.alloc())?);
     Ok(())
 }
 
@@ -138,7 +149,9 @@ fn feed(
     exports: &[u8],
     entry: Option<&Entry>,
 ) -> Result<(), LinkFault> {
-    open(alloc, linker, imports, exports, entry)?;
+    let bytes = object(alloc, imports, exports)?;
+    begin(linker, entry)?;
+    feed_records(alloc, linker, bytes.as_slice())?;
     end(linker)
 }
 
@@ -155,20 +168,34 @@ const SYMBOLS: &[u8] =
     b"MEMORY { A: start = 0, size = 1; } SEGMENTS { C: load = A, optional = yes; }
 SYMBOLS { s: type = import; e: type = export, value = 1; w: type = weak, value = 2; }";
 
+/// Whether these names are open.
+fn are_open(linker: &Linker, letters: &[u8]) -> Result<bool, LinkFault> {
+    Ok(are_names(&linker.open_names()?, letters))
+}
+
+/// Whether these names are defined.
+fn are_defined(linker: &Linker, letters: &[u8]) -> Result<bool, LinkFault> {
+    Ok(are_names(&linker.defined_names()?, letters))
+}
+
 /// Whether these names are open and these are defined.
 fn tells(linker: &Linker, open: &[u8], defined: &[u8]) -> Result<bool, LinkFault> {
-    let is_open = are_names(&linker.open_names()?, open);
-    Ok(is_open && are_names(&linker.defined_names()?, defined))
+    Ok(are_open(linker, open)? && are_defined(linker, defined)?)
 }
 
 /// Whether names are open in order of first reference until something gives them; a weak name gives nothing here.
+fn tells_behind(alloc: Global, linker: &mut Linker) -> Result<bool, LinkFault> {
+    let first = tells(linker, b"s", b"e")?;
+    feed(alloc, linker, b"gewf", b"h", None)?;
+    let second = tells(linker, b"sgwf", b"eh")?;
+    feed(alloc, linker, b"x", b"gs", None)?;
+    Ok(first && second && tells(linker, b"wfx", b"ehgs")?)
+}
+
+/// The same of a new linker.
 fn tells_in_turn(alloc: Global) -> Result<bool, LinkFault> {
     let mut linker = linker_by(alloc, SYMBOLS)?;
-    let first = tells(&linker, b"s", b"e")?;
-    feed(alloc, &mut linker, b"gewf", b"h", None)?;
-    let second = tells(&linker, b"sgwf", b"eh")?;
-    feed(alloc, &mut linker, b"x", b"gs", None)?;
-    Ok(first && second && tells(&linker, b"wfx", b"ehgs")?)
+    tells_behind(alloc, &mut linker)
 }
 
 #[test]
@@ -199,11 +226,19 @@ fn has_failed(linker: &Linker) -> bool {
         && matches!(linker.defined_names(), Err(LinkFault::FailedBefore))
 }
 
-#[test]
-fn compares_a_member_with_its_entry(rt: HostRuntime) -> Result<(), Fail> {
-    let index = index_of(rt.alloc(), &[(b'a', b"xy", b"fg")])?;
-    let entry = index.entries.as_slice().first();
-    assert!(rt; entry.is_some());
+/// Whether a new linker takes a module where an entry has these names, as is said.
+fn compares(
+    alloc: Global,
+    (imports, exports): (&[u8], &[u8]),
+    entry: Option<&Entry>,
+    is_taken: bool,
+) -> Result<bool, LinkFault> {
+    let mut linker = linker_by(alloc, SCRIPT)?;
+    Ok(takes(&mut linker, alloc, imports, exports, entry) == Some(is_taken))
+}
+
+/// Whether a module is taken only where it has the names of an entry in their order.
+fn compares_all(alloc: Global, entry: Option<&Entry>) -> Result<bool, LinkFault> {
     let modules: [(&[u8], &[u8]); 6] = [
         (b"xy", b"fg"),
         (b"yx", b"fg"),
@@ -212,10 +247,23 @@ fn compares_a_member_with_its_entry(rt: HostRuntime) -> Result<(), Fail> {
         (b"xy", b"f"),
         (b"xy", b"fgh"),
     ];
-    for (place, (imports, exports)) in modules.into_iter().enumerate() {
-        let mut linker = linker_by(rt.alloc(), SCRIPT)?;
-        let found = takes(&mut linker, rt.alloc(), imports, exports, entry);
-        assert!(rt; found == Some(place == 0), "{place}");
+    let mut are_right = entry.is_some();
+    for (place, module) in modules.into_iter().enumerate() {
+        are_right = compares(alloc, module, entry, place == 0)? && are_right;
     }
+    Ok(are_right)
+}
+
+/// The same for the entry of a library's one member.
+fn compares_with_index(alloc: Global) -> Result<bool, LinkFault> {
+    match index_of(alloc, &[(b'a', b"xy", b"fg")]) {
+        Ok(index) => compares_all(alloc, index.entries.as_slice().first()),
+        Err(_) => Err(LinkFault::FailedBefore),
+    }
+}
+
+#[test]
+fn compares_a_member_with_its_entry(rt: HostRuntime) -> Result<(), Fail> {
+    assert!(rt; compares_with_index(rt.alloc())?);
     Ok(())
 }

@@ -1,7 +1,7 @@
 //! Objects of both versions that say the same, linked.
 
-use crate::linkers::{end, finish, is_image, linker_by, pending_behind, records_of};
-use link65::{LinkFault, Linked, Linker};
+use crate::linkers::{end, feed_records, gives, linker_by};
+use link65::{LinkFault, Linker};
 use std::alloc::Global;
 use std::test::Fail;
 
@@ -28,22 +28,25 @@ fn begin(linker: &mut Linker, is_two: bool) -> Result<(), LinkFault> {
     }
 }
 
-/// What the object comes to by the script.
-fn link(alloc: Global, script: &[u8], bytes: &[u8], is_two: bool) -> Result<Linked, LinkFault> {
-    let records = records_of(alloc, bytes)?;
-    let mut linker = linker_by(alloc, script)?;
-    begin(&mut linker, is_two)?;
-    pending_behind(alloc, &mut linker, records.as_slice())?;
-    end(&mut linker)?;
-    finish(linker)
+/// Feeds the object.
+fn feed(alloc: Global, linker: &mut Linker, bytes: &[u8], is_two: bool) -> Result<(), LinkFault> {
+    begin(linker, is_two)?;
+    feed_records(alloc, linker, bytes)?;
+    end(linker)
+}
+
+/// Whether the object comes to an image by the script.
+fn links(alloc: Global, bytes: &[u8], is_two: bool) -> Result<bool, LinkFault> {
+    let mut linker = linker_by(alloc, FITS)?;
+    match feed(alloc, &mut linker, bytes, is_two) {
+        Ok(()) => gives(linker, [0xea, 0xff].as_slice()),
+        Err(fault) => Err(fault),
+    }
 }
 
 #[test]
 fn both_give_one_image(rt: HostRuntime) -> Result<(), Fail> {
-    let alloc = rt.alloc();
-    for (bytes, is_two) in [(TWO, true), (ONE, false)] {
-        let linked = link(alloc, FITS, bytes, is_two)?;
-        assert!(rt; is_image(&linked, [0xea, 0xff].as_slice()));
-    }
+    assert!(rt; links(rt.alloc(), TWO, true)?);
+    assert!(rt; links(rt.alloc(), ONE, false)?);
     Ok(())
 }

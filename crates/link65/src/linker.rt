@@ -117,7 +117,8 @@ impl Linker {
             return Err(LinkFault::FailedBefore);
         }
         let symbols = self.script.symbols.as_slice();
-        Ok(missing_names(&self.given, symbols, self.growing.members.as_slice())?)
+        let members = self.growing.members.as_slice();
+        Ok(missing_names(&self.given, symbols, members)?)
     }
 
     /// The names that the script and the modules that have ended give, but for weak ones.

@@ -19,6 +19,6 @@ returns-clause-open c modules ended =
     let l = c.self.inside in
     let names =
     c.in_ok-missing_names.ensures
-    ∙ ap (λ (ss : List Symbol). missing_behind (names_in l.given) [] (wanted ss c.as_slice.result.now)) c.as_slice-symbols.ensures
-    ∙ open_missing l.script p (names_in l.given) c.as_slice.result.now (given ∙ their_names f modules ended ∙ ap (λ (s : Script). given_names s p) (sym script)) (their_members f modules ended ∙ sym members ∙ sym c.as_slice.ensures) in
+    ∙ ap (λ (ss : List Symbol). missing_behind (names_in l.given) [] (wanted ss c.as_slice-members.result.now)) c.as_slice-symbols.ensures
+    ∙ open_missing l.script p (names_in l.given) c.as_slice-members.result.now (given ∙ their_names f modules ended ∙ ap (λ (s : Script). given_names s p) (sym script)) (their_members f modules ended ∙ sym members ∙ sym c.as_slice-members.ensures) in
     ap Ok (sym (names ∙ ap (λ (s : Script). open_names s p) script))

@@ -13,7 +13,7 @@ ghost use Rattle.std.specs.FinMap.{get};
 ghost use Rattle.base65.specs.Outcome.{Gives, Finds};
 ghost use Rattle.object65.specs.Record.{is_outside as is_object_outside};
 ghost use Rattle.object65.specs.Reading.{Leaves, in_file};
-ghost use Rattle.ld65.specs.Linkage.{is_library, output_of, IsLinkedBy, IsLinked};
+ghost use Rattle.ld65.specs.Linkage.{is_library, IsLinkedBy, IsLinked};
 ghost use Rattle.ld65.specs.Refusals.{is_failure, is_outside};
 ghost use Rattle.ld65.specs.Naming.{IsOfInput, IsOfInputs, IsOfLine, IsOfObject, IsOfScript, Names};
 ghost use Rattle.cli65.specs.Line.{linking};
@@ -192,13 +192,6 @@ fn feed_inputs<S: Store>(
 /// A script has at most so many bytes.
 const SCRIPT_LIMIT: usize = 1_048_576;
 
-/// The name of the linker's output.
-fn output_of<'a>(line: &LinkLine<'a>) -> &'a str
-    ensures { result.now ≡ output_of (linking line.now) }
-{
-    line.output.unwrap_or("a.out")
-}
-
 /// What the inputs of a line come to by a script.
 fn link_inputs<S: Store>(
     alloc: Global,
@@ -211,7 +204,8 @@ fn link_inputs<S: Store>(
         (λ b. Names (IsOfInputs (S.files store.old) script [] b (linking line.now).inputs))
         store.old store.new result }
 {
-    let mut linker = Linker::seeded(alloc, store.seed(), script, output_of(line))?;
+    let output = line.output.unwrap_or("a.out");
+    let mut linker = Linker::seeded(alloc, store.seed(), script, output)?;
     feed_inputs(alloc, store, &mut linker, line.inputs.as_slice())?;
     Ok(linker.finish()?)
 }

@@ -123,16 +123,6 @@ fn link_message(alloc: Global, fault: &LinkFault) -> Result<Sequence<u8>, AllocE
     }
 }
 
-/// The name of the input at a place.
-fn named<'a>(inputs: &[&'a str], place: usize) -> &'a str
-    ensures { result.now ≡ named (map (λ s. s.now) inputs.now) place }
-{
-    match inputs.get(place) {
-        Some(name) => *name,
-        None => "",
-    }
-}
-
 /// The message of a fault of the input at a place of the line.
 fn input_message(
     alloc: Global,
@@ -142,8 +132,10 @@ fn input_message(
 ) -> Result<Sequence<u8>, AllocError>
     ensures { IfOk result (λ text. text ≡ file_message (named (linking line.now).inputs place) words.now) }
 {
-    let name = named(line.inputs.as_slice(), place);
-    file_message(alloc, name.as_bytes(), words.as_bytes())
+    match line.inputs.as_slice().get(place) {
+        Some(name) => file_message(alloc, name.as_bytes(), words.as_bytes()),
+        None => file_message(alloc, b"", words.as_bytes()),
+    }
 }
 
 /// The message of a refusal, where memory didn't run out.

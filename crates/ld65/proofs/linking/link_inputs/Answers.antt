@@ -1,6 +1,7 @@
-use Rattle.std.proofs.Common.{◌∙◌, Err, Ok, ap, map}
+use Rattle.std.proofs.Common.{◌≡◌, ◌∙◌, Err, Ok, ap, map, rules}
 use Rattle.std.proofs.lemmas.Result.{err_from_is_err_and}
 use Rattle.cli65.specs.Line.{linking}
+use Rattle.ld65.specs.Linkage.{output_of}
 use Rattle.ld65.specs.Naming.{IsOfInputs}
 use Rattle.ld65.proofs.Leaving.{linked_left, refused_left}
 use Rattle.ld65.proofs.LineInputs.{inputs_refused, inputs_linked}
@@ -23,7 +24,8 @@ returns-in_err-finish-clause-linked g c =
     let p = err_from_is_err_and c.from_residual-in_err-finish.result c.from_residual-in_err-finish.ensures.1 in
     let names = ap (map (λ s. s.now)) c.as_slice.ensures in
     let kept = c.in_ok-feed_inputs.ensures.kept.keeps in
-    rw (p.1, p.2) (inputs_linked _ (linking c.args.line.now) _ c.output_of.result.now c.args.script c.in_ok-linker.linker c.feed_inputs.new.linker (Err c.in_err-finish.field-0.0) names c.output_of.ensures c.in_ok-linker.ensures.names c.in_ok-linker.ensures.script (kept.script ∙ c.in_ok-linker.ensures.script) (kept.output ∙ c.in_ok-linker.ensures.output) c.in_ok-linker.ensures.fed c.in_ok-feed_inputs.ensures.fed c.in_err-finish.ensures.linked)
+    let output : c.unwrap_or-output.result.now ≡ output_of (linking c.args.line.now) = search rules in
+    rw (p.1, p.2) (inputs_linked _ (linking c.args.line.now) _ c.unwrap_or-output.result.now c.args.script c.in_ok-linker.linker c.feed_inputs.new.linker (Err c.in_err-finish.field-0.0) names output c.in_ok-linker.ensures.names c.in_ok-linker.ensures.script (kept.script ∙ c.in_ok-linker.ensures.script) (kept.output ∙ c.in_ok-linker.ensures.output) c.in_ok-linker.ensures.fed c.in_ok-feed_inputs.ensures.fed c.in_err-finish.ensures.linked)
 
 pub returns-in_err-finish-clause-kept : goal.returns-in_err-finish-clause-kept
 returns-in_err-finish-clause-kept g c =
@@ -34,7 +36,8 @@ pub returns-clause-linked : goal.returns-clause-linked
 returns-clause-linked g c =
     let names = ap (map (λ s. s.now)) c.as_slice.ensures in
     let kept = c.in_ok-feed_inputs.ensures.kept.keeps in
-    inputs_linked _ (linking c.args.line.now) _ c.output_of.result.now c.args.script c.in_ok-linker.linker c.feed_inputs.new.linker (Ok c.in_ok-finish.field-0) names c.output_of.ensures c.in_ok-linker.ensures.names c.in_ok-linker.ensures.script (kept.script ∙ c.in_ok-linker.ensures.script) (kept.output ∙ c.in_ok-linker.ensures.output) c.in_ok-linker.ensures.fed c.in_ok-feed_inputs.ensures.fed c.in_ok-finish.ensures.linked
+    let output : c.unwrap_or-output.result.now ≡ output_of (linking c.args.line.now) = search rules in
+    inputs_linked _ (linking c.args.line.now) _ c.unwrap_or-output.result.now c.args.script c.in_ok-linker.linker c.feed_inputs.new.linker (Ok c.in_ok-finish.field-0) names output c.in_ok-linker.ensures.names c.in_ok-linker.ensures.script (kept.script ∙ c.in_ok-linker.ensures.script) (kept.output ∙ c.in_ok-linker.ensures.output) c.in_ok-linker.ensures.fed c.in_ok-feed_inputs.ensures.fed c.in_ok-finish.ensures.linked
 
 pub returns-clause-kept : goal.returns-clause-kept
 returns-clause-kept g c = linked_left (IsOfInputs (g.S.Store.files c.args.store.now)) c.args.script _ _ _ _ _ _ c.in_ok-linker.ensures.script c.in_ok-linker.ensures.fed (Ok c.in_ok-finish.field-0) c.in_ok-feed_inputs.ensures.kept

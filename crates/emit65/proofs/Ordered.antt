@@ -5,8 +5,6 @@ use Rattle.std.specs.Prelude.{filter_map, slice_get}
 use Rattle.std.specs.List.{AllByRecursion, IsDistinct, flat_map, list_all}
 use Rattle.std.specs.Str.{bytes_eq}
 use Rattle.std.proofs.lemmas.Bool.Decides.{nat_tests}
-use Rattle.std.proofs.lemmas.List.{map-append}
-use Rattle.std.proofs.lemmas.Simd.{map-map}
 use Rattle.syntax65.specs.declared.place.Place.{Place}
 use Rattle.object65.specs.declared.object.Fragment.TheVariants as fragment
 use Rattle.object65.specs.declared.object.Assert.{Assert}
@@ -26,11 +24,11 @@ use Rattle.emit65.specs.declared.entries.Entry.{Entry}
 use Rattle.emit65.specs.declared.entries.Entry.TheVariants.{Bytes, Room, Value, Told, Waits}
 use Rattle.emit65.specs.declared.entries.SourcePos.{SourcePos}
 use Rattle.emit65.specs.declared.numbering.Numbered.{Numbered}
-use Rattle.emit65.specs.declared.numbering.drafts.Saying.{Saying}
+use Rattle.emit65.specs.declared.entries.Saying.{Saying}
 use Rattle.emit65.specs.declared.numbering.keys.Numbers.{Numbers}
 use Rattle.emit65.specs.declared.sections.Closed.{Closed}
 use Rattle.emit65.specs.Fed.{AreAlike, HasSlots, StandIn, content_of, contents_so_far, names_in, place_by, stands_in}
-use Rattle.emit65.specs.Inner.Drafts.{assert_by, assert_keys, asserted_at, draft_keys, draft_of, export_by, export_keys, exported_at, fragment_of, object_of, origin_of, put_in, sayings_at, sayings_of, section_of, value_keys, IsNumbered}
+use Rattle.emit65.specs.Inner.Drafts.{assert_by, assert_keys, asserted_at, draft_keys, draft_of, export_by, export_keys, exported_at, fragment_of, object_of, origin_of, put_in, sayings_of, section_of, value_keys, IsNumbered}
 use Rattle.emit65.proofs.Alikes.{files_by, files_named_by, object_over, same_object}
 use Rattle.emit65.proofs.Grown.{contents_of_slots}
 use Rattle.emit65.proofs.Joining.{kept}
@@ -56,7 +54,7 @@ module _ (files : List (List ℕ)) (apart : IsDistinct bytes_eq files) where
   parts_are g (Bytes h bytes ∷ es) = grind (arith, common_steps, (parts_are g es))
   parts_are g (Room h n ∷ es) = grind (arith, common_steps, (parts_are g es))
   parts_are g (Value width h o f ∷ es) = grind (arith, common_steps, (parts_are g es))
-  parts_are g (Told o ss ∷ es) = grind (arith, common_steps, (parts_are g es))
+  parts_are g (Told t ∷ es) = grind (arith, common_steps, (parts_are g es))
   parts_are g (Waits w ∷ es) = grind (arith, common_steps, (parts_are g es))
 
   abbrev saying_of : Saying → Declaration
@@ -68,9 +66,7 @@ module _ (files : List (List ℕ)) (apart : IsDistinct bytes_eq files) where
   said_are (Room g n ∷ es) = said_are es
   said_are (Value width g o f ∷ es) = said_are es
   said_are (Waits w ∷ es) = said_are es
-  said_are (Told o ss ∷ es) =
-      (λ n. sym (map-map saying_of (λ s. record { pos = o; said = s }) ss) n ++ said_are es n)
-      ∙ sym (map-append saying_of (sayings_at o ss) (flat_map sayings_of es))
+  said_are (Told t ∷ es) = ap (λ ss. saying_of t.value ∷ ss) (said_are es)
 
   -- ---- Where they stand.
 
@@ -93,17 +89,13 @@ module _ (files : List (List ℕ)) (apart : IsDistinct bytes_eq files) where
   put_stand g [] h = refl
   put_stand g (e ∷ es) h = grind (arith, common_steps, (put_stand g es (others e es h)), first)
 
-  told_more : (o : SourcePos) (ss : List telled.Declaration) (ts : List Saying) → o.file < length files → AreTold ts → AreTold (sayings_at o ss ++ ts)
-  told_more o [] ts lt h = h
-  told_more o (s ∷ ss) ts lt h = (lt, told_more o ss ts lt h)
-
   told_stand : (es : List Entry) → Stand es → AreTold (flat_map sayings_of es)
   told_stand [] h = tt
   told_stand (Bytes g bytes ∷ es) h = told_stand es (others (Bytes g bytes) es h)
   told_stand (Room g n ∷ es) h = told_stand es (others (Room g n) es h)
   told_stand (Value width g o f ∷ es) h = told_stand es (others (Value width g o f) es h)
   told_stand (Waits w ∷ es) h = told_stand es (others (Waits w) es h)
-  told_stand (Told o ss ∷ es) h = told_more o ss (flat_map sayings_of es) (below_files o.file (first (Told o ss) es h)) (told_stand es (others (Told o ss) es h))
+  told_stand (Told t ∷ es) h = (below_files t.value.pos.file (first (Told t) es h), told_stand es (others (Told t) es h))
 
   -- ---- The files that they name.
 
@@ -114,7 +106,7 @@ module _ (files : List (List ℕ)) (apart : IsDistinct bytes_eq files) where
   value_named (Bytes g bytes) h = naming_none files apart
   value_named (Room g n) h = naming_none files apart
   value_named (Value width g o f) h = naming_one files apart o.file (below_files o.file h)
-  value_named (Told o ss) h = naming_none files apart
+  value_named (Told t) h = naming_none files apart
   value_named (Waits w) h = naming_none files apart
 
   values_named : (es : List Entry) → Stand es → Names (flat_map value_keys es) (flat_map part_files (map part_of es))
@@ -183,7 +175,7 @@ module _ (files : List (List ℕ)) (apart : IsDistinct bytes_eq files) where
     fragment_is (Bytes g bytes) h = refl
     fragment_is (Room g count) h = refl
     fragment_is (Value width g o f) h = ap (λ origin. fragment.Value width origin (numbered s i f)) (origin_is o (below_files o.file h))
-    fragment_is (Told o ss) h = refl
+    fragment_is (Told t) h = refl
     fragment_is (Waits w) h = refl
 
     fragments_are : (es : List Entry) → Stand es → map (fragment_of n) es ≡ map (numbering.fragment_of to s i) (map part_of es)

@@ -1,11 +1,12 @@
 -- The object of all that was fed is that of its contents.
 use Rattle.std.proofs.lemmas.Grind.{common_steps}
-use Rattle.std.proofs.Common.{◌≡◌, ◌∙◌, ℕ, ◌<◌, true, nat_lt, List, [], ◌∷◌, ◌++◌, length, map, refl, sym, ap, arith, subst}
+use Rattle.std.proofs.Common.{◌≡◌, ◌∙◌, ℕ, ◌<◌, true, nat_lt, List, [], ◌∷◌, ◌++◌, length, map, not, refl, sym, ap, arith, subst}
 use Rattle.std.specs.Prelude.{filter_map, slice_get}
-use Rattle.std.specs.List.{AllByRecursion, IsDistinct, flat_map, list_all}
+use Rattle.std.specs.List.{AllByRecursion, IsDistinct, filter, flat_map, list_all}
 use Rattle.std.specs.Str.{bytes_eq}
 use Rattle.std.proofs.lemmas.Bool.Decides.{nat_tests}
 use Rattle.syntax65.specs.declared.place.Place.{Place}
+use Rattle.object65.specs.declared.object.Fragment.{Fragment}
 use Rattle.object65.specs.declared.object.Fragment.TheVariants as fragment
 use Rattle.object65.specs.declared.object.Assert.{Assert}
 use Rattle.object65.specs.declared.object.Export.{Export}
@@ -17,7 +18,7 @@ use Rattle.semantics65.specs.declared.contents.Declaration as telled
 use Rattle.semantics65.specs.declared.contents.Declaration.TheVariants as told
 use Rattle.semantics65.specs.declared.contents.Segment.{Segment}
 use Rattle.semantics65.specs.Module.{holds}
-use Rattle.semantics65.specs.Numbering.{all_joined, all_said, assert_files, assert_of, export_files, export_of, fragments_of, import_keys, in_files, name_of, names_once, numbered, object_with, once, part_files, parts_in, section_keys, segment_name, segment_power}
+use Rattle.semantics65.specs.Numbering.{all_joined, all_said, assert_files, assert_of, export_files, export_of, fragments_of, import_keys, in_files, is_empty, name_of, names_once, numbered, object_with, once, part_files, parts_in, section_keys, segment_name, segment_power}
 use Rattle.semantics65.specs.Numbering as numbering
 use Rattle.semantics65.specs.Views.{said_at}
 use Rattle.emit65.specs.declared.entries.Entry.{Entry}
@@ -31,7 +32,6 @@ use Rattle.emit65.specs.Fed.{AreAlike, HasSlots, StandIn, content_of, contents_s
 use Rattle.emit65.specs.Inner.Drafts.{assert_by, assert_keys, asserted_at, draft_keys, draft_of, export_by, export_keys, exported_at, fragment_of, object_of, origin_of, put_in, sayings_of, section_of, value_keys, IsNumbered}
 use Rattle.emit65.proofs.Alikes.{files_by, files_named_by, object_over, same_object}
 use Rattle.emit65.proofs.Grown.{contents_of_slots}
-use Rattle.emit65.proofs.Joining.{kept}
 use Rattle.emit65.proofs.Keys.{imports_anyhow}
 use Rattle.emit65.proofs.Naming.{AreBelow, IsNaming, found_by, naming_more, naming_none, naming_one, once_named}
 use Rattle.emit65.proofs.Renumbering.{left, once_all, right}
@@ -181,6 +181,9 @@ module _ (files : List (List ℕ)) (apart : IsDistinct bytes_eq files) where
     fragments_are : (es : List Entry) → Stand es → map (fragment_of n) es ≡ map (numbering.fragment_of to s i) (map part_of es)
     fragments_are [] h = refl
     fragments_are (e ∷ es) h = λ j. fragment_is e (first e es h) j ∷ fragments_are es (others e es h) j
+
+    abbrev kept : List Fragment → List Fragment
+    kept fs = filter (λ f. not (is_empty f)) fs
 
     sections_are : (segments : List Segment) (es : List Entry) (keys : List ℕ) → Stand es → map (section_of segments n) (map (draft_of es) keys) ≡ map (numbering.section_of to segments s i (contents es)) keys
     sections_are segments es [] h = refl

@@ -42,15 +42,9 @@ key_found imports name = position_mapped (λ m. bytes_eq m name) (λ k. k.items)
 -- ---- Imports of what is said, wherever it stands.
 
 pub said_anywhere : (names : List (List ℕ)) (p q : Place) (x : said.Declaration) → said_imports names (said_at p x) ≡ said_imports names (said_at q x)
-said_anywhere names p q (told.Exported n f) = refl
-said_anywhere names p q (told.ForcedImport n) = refl
-said_anywhere names p q (told.Asserted act words f) = refl
+said_anywhere names p q x = grind (arith, common_steps)
 
 -- the imports of entries, whatever the files are
 pub imports_anyhow : (names files more : List (List ℕ)) (es : List Entry) → flat_map (content_imports names) (map (content_of files) es) ≡ flat_map (content_imports names) (map (content_of more) es)
 imports_anyhow names files more [] = refl
-imports_anyhow names files more (Bytes g bytes ∷ es) = imports_anyhow names files more es
-imports_anyhow names files more (Room g n ∷ es) = imports_anyhow names files more es
-imports_anyhow names files more (Value width g o f ∷ es) = ap (λ ks. ((imports_in f ++ []) ++ []) ++ ks) (imports_anyhow names files more es)
-imports_anyhow names files more (Told t ∷ es) = λ n. (said_anywhere names (place_by files t.value.pos) (place_by more t.value.pos) t.value.said n ++ []) ++ imports_anyhow names files more es n
-imports_anyhow names files more (Waits w ∷ es) = imports_anyhow names files more es
+imports_anyhow names files more (x ∷ es) = grind (arith, common_steps, (imports_anyhow names files more es), said_anywhere)

@@ -51,22 +51,14 @@ module _ (files : List (List ℕ)) (apart : IsDistinct bytes_eq files) where
 
   parts_are : (g : ℕ) (es : List Entry) → parts_in (contents es) g ≡ map part_of (put_in g es)
   parts_are g [] = refl
-  parts_are g (Bytes h bytes ∷ es) = grind (arith, common_steps, (parts_are g es))
-  parts_are g (Room h n ∷ es) = grind (arith, common_steps, (parts_are g es))
-  parts_are g (Value width h o f ∷ es) = grind (arith, common_steps, (parts_are g es))
-  parts_are g (Told t ∷ es) = grind (arith, common_steps, (parts_are g es))
-  parts_are g (Waits w ∷ es) = grind (arith, common_steps, (parts_are g es))
+  parts_are g (x ∷ es) = grind (arith, common_steps, (parts_are g es))
 
   abbrev saying_of : Saying → Declaration
   saying_of t = said_at (place_by files t.pos) t.said
 
   said_are : (es : List Entry) → all_said (contents es) ≡ map saying_of (flat_map sayings_of es)
   said_are [] = refl
-  said_are (Bytes g bytes ∷ es) = said_are es
-  said_are (Room g n ∷ es) = said_are es
-  said_are (Value width g o f ∷ es) = said_are es
-  said_are (Waits w ∷ es) = said_are es
-  said_are (Told t ∷ es) = ap (λ ss. saying_of t.value ∷ ss) (said_are es)
+  said_are (x ∷ es) = grind (arith, common_steps, (said_are es))
 
   -- ---- Where they stand.
 
@@ -91,11 +83,7 @@ module _ (files : List (List ℕ)) (apart : IsDistinct bytes_eq files) where
 
   told_stand : (es : List Entry) → Stand es → AreTold (flat_map sayings_of es)
   told_stand [] h = tt
-  told_stand (Bytes g bytes ∷ es) h = told_stand es (others (Bytes g bytes) es h)
-  told_stand (Room g n ∷ es) h = told_stand es (others (Room g n) es h)
-  told_stand (Value width g o f ∷ es) h = told_stand es (others (Value width g o f) es h)
-  told_stand (Waits w ∷ es) h = told_stand es (others (Waits w) es h)
-  told_stand (Told t ∷ es) h = (below_files t.value.pos.file (first (Told t) es h), told_stand es (others (Told t) es h))
+  told_stand (x ∷ es) h = grind (arith, common_steps, (told_stand es (others x es h)), first, below_files)
 
   -- ---- The files that they name.
 
@@ -103,11 +91,7 @@ module _ (files : List (List ℕ)) (apart : IsDistinct bytes_eq files) where
   Names ks ns = IsNaming files apart ks ns
 
   value_named : (e : Entry) → stands_in (length files) e ≡ true → Names (value_keys e) (part_files (part_of e))
-  value_named (Bytes g bytes) h = naming_none files apart
-  value_named (Room g n) h = naming_none files apart
-  value_named (Value width g o f) h = naming_one files apart o.file (below_files o.file h)
-  value_named (Told t) h = naming_none files apart
-  value_named (Waits w) h = naming_none files apart
+  value_named x h = grind (arith, common_steps, naming_none, naming_one, below_files)
 
   values_named : (es : List Entry) → Stand es → Names (flat_map value_keys es) (flat_map part_files (map part_of es))
   values_named [] h = naming_none files apart
@@ -123,9 +107,7 @@ module _ (files : List (List ℕ)) (apart : IsDistinct bytes_eq files) where
       (drafts_named es keys h)
 
   export_named : (o : SourcePos) (s : telled.Declaration) → o.file < length files → Names (exported_at o s) (export_files (said_at (place_by files o) s))
-  export_named o (told.Exported n f) lt = naming_one files apart o.file lt
-  export_named o (told.ForcedImport n) lt = naming_none files apart
-  export_named o (told.Asserted act words f) lt = naming_none files apart
+  export_named o x lt = grind (arith, common_steps, naming_none, naming_one)
 
   exports_named : (ts : List Saying) → AreTold ts → Names (flat_map export_keys ts) (flat_map export_files (map saying_of ts))
   exports_named [] h = naming_none files apart
@@ -134,9 +116,7 @@ module _ (files : List (List ℕ)) (apart : IsDistinct bytes_eq files) where
       (export_named t.pos t.said h.0) (exports_named ts h.1)
 
   assert_named : (o : SourcePos) (s : telled.Declaration) → o.file < length files → Names (asserted_at o s) (assert_files (said_at (place_by files o) s))
-  assert_named o (told.Exported n f) lt = naming_none files apart
-  assert_named o (told.ForcedImport n) lt = naming_none files apart
-  assert_named o (told.Asserted act words f) lt = naming_one files apart o.file lt
+  assert_named o x lt = grind (arith, common_steps, naming_none, naming_one)
 
   asserts_named : (ts : List Saying) → AreTold ts → Names (flat_map assert_keys ts) (flat_map assert_files (map saying_of ts))
   asserts_named [] h = naming_none files apart
@@ -172,11 +152,7 @@ module _ (files : List (List ℕ)) (apart : IsDistinct bytes_eq files) where
     origin_is o lt = λ j. record { file = sym (found_by files apart o.file n.files.keys lt below) j; line = o.line }
 
     fragment_is : (e : Entry) → stands_in (length files) e ≡ true → fragment_of n e ≡ numbering.fragment_of to s i (part_of e)
-    fragment_is (Bytes g bytes) h = refl
-    fragment_is (Room g count) h = refl
-    fragment_is (Value width g o f) h = ap (λ origin. fragment.Value width origin (numbered s i f)) (origin_is o (below_files o.file h))
-    fragment_is (Told t) h = refl
-    fragment_is (Waits w) h = refl
+    fragment_is x h = grind (arith, common_steps, origin_is, below_files)
 
     fragments_are : (es : List Entry) → Stand es → map (fragment_of n) es ≡ map (numbering.fragment_of to s i) (map part_of es)
     fragments_are [] h = refl

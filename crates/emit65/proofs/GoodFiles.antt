@@ -78,9 +78,7 @@ AreFileNames ns = AllByRecursion (λ n. is_file_name n ≡ true) ns
 module _ (asked : List ℕ) (count : ℕ) where
   parts_files : (ps : List Part) → AllByRecursion (IsSoundPart asked count) ps → AreFileNames (flat_map part_files ps)
   parts_files [] h = tt
-  parts_files (Known bytes ∷ ps) h = parts_files ps h.1
-  parts_files (Filled n ∷ ps) h = parts_files ps h.1
-  parts_files (Waiting width place f ∷ ps) h = (h.0.0.file, parts_files ps h.1)
+  parts_files (x ∷ ps) h = grind (arith, common_steps, (parts_files ps h.1))
 
   segment_files : (g : ℕ) (cs : List Content) → AllByRecursion (IsSoundContent asked count) cs → AllByRecursion (IsSoundPart asked count) (parts_in cs g)
   segment_files g [] h = tt
@@ -96,15 +94,11 @@ module _ (asked : List ℕ) (count : ℕ) where
 
   exports_files : (ss : List Declaration) → AllByRecursion (IsSoundDeclaration asked count) ss → AreFileNames (flat_map export_files ss)
   exports_files [] h = tt
-  exports_files (Exported n place f ∷ ss) h = (h.0.1.file, exports_files ss h.1)
-  exports_files (ForcedImport n ∷ ss) h = exports_files ss h.1
-  exports_files (Asserted act place words f ∷ ss) h = exports_files ss h.1
+  exports_files (x ∷ ss) h = grind (arith, common_steps, (exports_files ss h.1))
 
   asserts_files : (ss : List Declaration) → AllByRecursion (IsSoundDeclaration asked count) ss → AreFileNames (flat_map assert_files ss)
   asserts_files [] h = tt
-  asserts_files (Exported n place f ∷ ss) h = asserts_files ss h.1
-  asserts_files (ForcedImport n ∷ ss) h = asserts_files ss h.1
-  asserts_files (Asserted act place words f ∷ ss) h = (h.0.1.file, asserts_files ss h.1)
+  asserts_files (x ∷ ss) h = grind (arith, common_steps, (asserts_files ss h.1))
 
   pub files_good : (cs : List Content) → AllByRecursion (IsSoundContent asked count) cs → are_distinct is_file_name (files_of cs) ≡ true
   files_good cs h = grind (arith, common_steps, all_said_sound, once_good, all_more, sections_files, exports_files, asserts_files)

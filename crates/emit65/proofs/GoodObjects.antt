@@ -44,15 +44,11 @@ place_below n length = grind (arith, common_steps)
 module _ (asked : List ℕ) (names : List (List ℕ)) where
   parts_below : (ps : List Part) → AllByRecursion (IsSoundPart asked (length names)) ps → AllBelow (length names) (flat_map part_imports ps)
   parts_below [] sound = refl
-  parts_below (Known bytes ∷ ps) sound = parts_below ps sound.1
-  parts_below (Filled n ∷ ps) sound = parts_below ps sound.1
-  parts_below (Waiting width line f ∷ ps) sound = below_both (length names) (imports_in f) (flat_map part_imports ps) sound.0.0.form.imports (parts_below ps sound.1)
+  parts_below (x ∷ ps) sound = grind (arith, common_steps, (parts_below ps sound.1), below_both)
 
   said_below : (ss : List Declaration) → AllByRecursion (IsSoundDeclaration asked (length names)) ss → AllBelow (length names) (flat_map (said_imports names) ss)
   said_below [] sound = refl
-  said_below (Exported n line f ∷ ss) sound = below_both (length names) (imports_in f) (flat_map (said_imports names) ss) sound.0.1.form.imports (said_below ss sound.1)
-  said_below (ForcedImport n ∷ ss) sound = below_both (length names) (optional_key (key_of names n)) (flat_map (said_imports names) ss) (place_below (position_or_len (λ m. bytes_eq m n) names) (length names)) (said_below ss sound.1)
-  said_below (Asserted act line words f ∷ ss) sound = below_both (length names) (imports_in f) (flat_map (said_imports names) ss) sound.0.1.form.imports (said_below ss sound.1)
+  said_below (x ∷ ss) sound = grind (arith, common_steps, (said_below ss sound.1), below_both, place_below)
 
   contents_below : (cs : List Content) → AllByRecursion (IsSoundContent asked (length names)) cs → AllBelow (length names) (flat_map (content_imports names) cs)
   contents_below [] sound = refl

@@ -127,10 +127,10 @@ module _ (files : List (List ℕ)) (s i : List ℕ) where
   parts_origins (Waiting width place f ∷ ps) h = and (is_good (at place)) (list_all has_good (fragments_of at s i ps)) (origin_good place h.0) (parts_origins ps h.1)
 
   joined_origins : (f : Fragment) (fs : List Fragment) → has_good f ≡ true → list_all has_good fs ≡ true → list_all has_good (joined f fs) ≡ true
-  joined_origins f [] h all = and (has_good f) true h refl
-  joined_origins (Literal a) (Literal b ∷ fs) h all = joined_origins (Literal (a ++ b)) fs refl all
-  joined_origins (Fill m) (Fill n ∷ fs) h all = joined_origins (Fill (m + n)) fs refl all
-  joined_origins f (g ∷ fs) h all = grind (arith, common_steps, (joined_origins g fs (left (has_good g) (list_all has_good fs) all) (right (has_good g) (list_all has_good fs) all)), and, left, right)
+  joined_origins x [] h all = and (has_good x) true h refl
+  joined_origins x (y ∷ fs) h all =
+      let again : (f : Fragment) → has_good f ≡ true → list_all has_good fs ≡ true → list_all has_good (joined f fs) ≡ true = λ f. joined_origins f fs in
+      grind (arith, common_steps, again, and, left, right)
 
   all_joined_origins : (fs : List Fragment) → list_all has_good fs ≡ true → list_all has_good (all_joined fs) ≡ true
   all_joined_origins x h = grind (arith, common_steps, joined_origins, left, right)

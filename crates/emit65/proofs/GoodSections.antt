@@ -67,13 +67,9 @@ front_apart f g (e ∷ fs) h all = and (not (joins f g)) (are_apart (g ∷ joine
 
 pub joined_apart : (f : Fragment) (fs : List Fragment) → are_apart (joined f fs) ≡ true
 joined_apart f [] = refl
-joined_apart (Literal a) (Literal b ∷ fs) = joined_apart (Literal (a ++ b)) fs
-joined_apart (Fill m) (Fill n ∷ fs) = joined_apart (Fill (m + n)) fs
-joined_apart (Literal a) (Fill n ∷ fs) = front_apart (Literal a) (Fill n) fs refl (joined_apart (Fill n) fs)
-joined_apart (Literal a) (Value w line form ∷ fs) = front_apart (Literal a) (Value w line form) fs refl (joined_apart (Value w line form) fs)
-joined_apart (Fill m) (Literal b ∷ fs) = front_apart (Fill m) (Literal b) fs refl (joined_apart (Literal b) fs)
-joined_apart (Fill m) (Value w line form ∷ fs) = front_apart (Fill m) (Value w line form) fs refl (joined_apart (Value w line form) fs)
-joined_apart (Value w line form) (g ∷ fs) = front_apart (Value w line form) g fs refl (joined_apart g fs)
+joined_apart x (y ∷ fs) =
+    let again : (f : Fragment) → are_apart (joined f fs) ≡ true = λ f. joined_apart f fs in
+    grind (arith, common_steps, again, front_apart)
 
 -- ---- The fragments of parts.
 
@@ -100,13 +96,7 @@ module _ (at : Place → Origin) (s i : List ℕ) where
   fragments_good (p ∷ ps) h = grind (arith, common_steps, (fragments_good ps), and, left, right)
 
   part_good : (count : ℕ) (p : Part) → IsSoundPart s count p → HasAll i (part_imports p) → is_good_part p ≡ true
-  part_good count (Known []) sound has_imports = refl
-  part_good count (Known (b ∷ bytes)) sound has_imports = grind (arith, nat_tests)
-  part_good count (Filled zero) sound has_imports = refl
-  part_good count (Filled (suc n)) sound has_imports = grind (arith, nat_tests)
-  part_good count (Waiting width line f) sound has_imports =
-      and (is_good_form (length s) (length i) (numbered s i f)) (not (is_literal (numbered s i f)))
-      (good_form s i count f sound.0.form has_imports) (ap not (same_literal s i f ∙ sound.1))
+  part_good count x sound has_imports = grind (arith, common_steps, nat_tests, and, good_form, same_literal)
 
   parts_good : (count : ℕ) (ps : List Part) → AllByRecursion (IsSoundPart s count) ps → HasAll i (flat_map part_imports ps) → list_all is_good_part ps ≡ true
   parts_good count [] sound has_imports = refl

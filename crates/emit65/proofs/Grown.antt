@@ -5,14 +5,11 @@ use Rattle.std.specs.Prelude.{nat_lt}
 use Rattle.std.specs.List.{list_all}
 use Rattle.std.proofs.lemmas.List.Folds.{list_all-append}
 use Rattle.std.proofs.lemmas.Bool.Decides.{nat_tests}
-use Rattle.semantics65.specs.Contents.{Filled, Known, Waiting, put, telling}
-use Rattle.semantics65.specs.Module.{holds, waits}
-use Rattle.semantics65.specs.Views.{place_in, said_at}
+use Rattle.semantics65.specs.Views.{place_in}
 use Rattle.semantics65.specs.Numbering.{name_of}
 use Rattle.emit65.specs.declared.entries.Entry.{Entry}
-use Rattle.emit65.specs.declared.entries.Entry.TheVariants.{Bytes, Room, Value, Told, Waits}
 use Rattle.emit65.specs.declared.entries.SourcePos.{SourcePos}
-use Rattle.emit65.specs.Fed.{Begins, StandIn, content_of, piece_of, place_by, slot_of, so_far, stands_in}
+use Rattle.emit65.specs.Fed.{Begins, StandIn, content_of, place_by, slot_of, so_far, stands_in}
 use Rattle.emit65.proofs.Renumbering.{and, left, right}
 
 -- what entries have so far, by their slots

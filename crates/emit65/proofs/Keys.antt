@@ -10,12 +10,10 @@ use Rattle.indexmap.specs.IndexSet.{IndexSet}
 use Rattle.ast65.proofs.Lists.{position_mapped}
 use Rattle.syntax65.specs.declared.place.Place.{Place}
 use Rattle.semantics65.specs.declared.contents.Declaration as said
-use Rattle.semantics65.specs.declared.contents.Declaration.TheVariants as told
-use Rattle.semantics65.specs.Numbering.{content_imports, imports_in, key_of, once, said_imports}
+use Rattle.semantics65.specs.Numbering.{content_imports, key_of, once, said_imports}
 use Rattle.semantics65.specs.Views.{said_at}
 use Rattle.emit65.specs.declared.entries.Entry.{Entry}
-use Rattle.emit65.specs.declared.entries.Entry.TheVariants.{Bytes, Room, Value, Told, Waits}
-use Rattle.emit65.specs.Fed.{content_of, names_of, place_by}
+use Rattle.emit65.specs.Fed.{content_of, names_of}
 
 pub once_append : (ks found ls : List ℕ) → once (once found ks) ls ≡ once found (ks ++ ls)
 once_append [] found ls = refl

@@ -7,7 +7,6 @@ use Rattle.std.specs.Str.{bytes_eq}
 use Rattle.std.proofs.lemmas.Bool.Decides.{nat_tests}
 use Rattle.syntax65.specs.declared.place.Place.{Place}
 use Rattle.object65.specs.declared.object.Fragment.{Fragment}
-use Rattle.object65.specs.declared.object.Fragment.TheVariants as fragment
 use Rattle.object65.specs.declared.object.Assert.{Assert}
 use Rattle.object65.specs.declared.object.Export.{Export}
 use Rattle.object65.specs.declared.object.Object.{Object}
@@ -15,14 +14,13 @@ use Rattle.object65.specs.declared.object.Origin.{Origin}
 use Rattle.object65.specs.declared.object.Section.{Section}
 use Rattle.semantics65.specs.Contents.{Content, Declaration, Filled, Known, Part, Waiting}
 use Rattle.semantics65.specs.declared.contents.Declaration as telled
-use Rattle.semantics65.specs.declared.contents.Declaration.TheVariants as told
 use Rattle.semantics65.specs.declared.contents.Segment.{Segment}
 use Rattle.semantics65.specs.Module.{holds}
 use Rattle.semantics65.specs.Numbering.{all_joined, all_said, assert_files, assert_of, export_files, export_of, fragments_of, import_keys, in_files, is_empty, name_of, names_once, numbered, object_with, once, part_files, parts_in, section_keys, segment_name, segment_power}
 use Rattle.semantics65.specs.Numbering as numbering
 use Rattle.semantics65.specs.Views.{said_at}
 use Rattle.emit65.specs.declared.entries.Entry.{Entry}
-use Rattle.emit65.specs.declared.entries.Entry.TheVariants.{Bytes, Room, Value, Told, Waits}
+use Rattle.emit65.specs.declared.entries.Entry.TheVariants.{Bytes, Room, Value}
 use Rattle.emit65.specs.declared.entries.SourcePos.{SourcePos}
 use Rattle.emit65.specs.declared.numbering.Numbered.{Numbered}
 use Rattle.emit65.specs.declared.entries.Saying.{Saying}

@@ -10,12 +10,10 @@ use Rattle.indexmap.specs.IndexSet.{IndexSet}
 use Rattle.ast65.proofs.Lists.{position_mapped}
 use Rattle.syntax65.specs.declared.place.Place.{Place}
 use Rattle.semantics65.specs.declared.contents.Declaration as said
-use Rattle.semantics65.specs.declared.contents.Declaration.TheVariants as told
-use Rattle.semantics65.specs.Numbering.{content_imports, imports_in, key_of, once, said_imports}
+use Rattle.semantics65.specs.Numbering.{content_imports, key_of, once, said_imports}
 use Rattle.semantics65.specs.Views.{said_at}
 use Rattle.emit65.specs.declared.entries.Entry.{Entry}
-use Rattle.emit65.specs.declared.entries.Entry.TheVariants.{Bytes, Room, Value, Told, Waits}
-use Rattle.emit65.specs.Fed.{content_of, names_of, place_by}
+use Rattle.emit65.specs.Fed.{content_of, names_of}
 
 pub once_append : (ks found ls : List ℕ) → once (once found ks) ls ≡ once found (ks ++ ls)
 once_append [] found ls = refl
@@ -42,15 +40,9 @@ key_found imports name = position_mapped (λ m. bytes_eq m name) (λ k. k.items)
 -- ---- Imports of what is said, wherever it stands.
 
 pub said_anywhere : (names : List (List ℕ)) (p q : Place) (x : said.Declaration) → said_imports names (said_at p x) ≡ said_imports names (said_at q x)
-said_anywhere names p q (told.Exported n f) = refl
-said_anywhere names p q (told.ForcedImport n) = refl
-said_anywhere names p q (told.Asserted act words f) = refl
+said_anywhere names p q x = grind (arith, common_steps)
 
 -- the imports of entries, whatever the files are
 pub imports_anyhow : (names files more : List (List ℕ)) (es : List Entry) → flat_map (content_imports names) (map (content_of files) es) ≡ flat_map (content_imports names) (map (content_of more) es)
 imports_anyhow names files more [] = refl
-imports_anyhow names files more (Bytes g bytes ∷ es) = imports_anyhow names files more es
-imports_anyhow names files more (Room g n ∷ es) = imports_anyhow names files more es
-imports_anyhow names files more (Value width g o f ∷ es) = ap (λ ks. ((imports_in f ++ []) ++ []) ++ ks) (imports_anyhow names files more es)
-imports_anyhow names files more (Told t ∷ es) = λ n. (said_anywhere names (place_by files t.value.pos) (place_by more t.value.pos) t.value.said n ++ []) ++ imports_anyhow names files more es n
-imports_anyhow names files more (Waits w ∷ es) = imports_anyhow names files more es
+imports_anyhow names files more (x ∷ es) = grind (arith, common_steps, (imports_anyhow names files more es), said_anywhere)

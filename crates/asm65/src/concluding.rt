@@ -17,7 +17,7 @@ ghost use Rattle.semantics65.specs.Views.{place_at};
 
 use crate::assembler::Assembler;
 use crate::assembling::Assembly;
-use crate::resolving::{Exported, Made, Spot, resolve};
+use crate::resolving::{ExportedNames, Made, Spot, resolve};
 use crate::texts::{AsmRefusal, Texts, warn};
 use ast65::AsmFault;
 use base65::Sequence;
@@ -34,7 +34,7 @@ use symbols65::{NormCache, Symbols};
 pub struct Ending {
     /// The forms of constants.
     pub known: NormCache,
-    pub exported: Exported,
+    pub exported: ExportedNames,
     /// What goes to standard error.
     pub err: Sequence<u8>,
 }

@@ -28,7 +28,7 @@ use std::alloc::{AllocError, Global};
 use symbols65::{Key, NormCache, Symbols, defined_norm, norm, operand_form};
 
 /// The names that were exported.
-pub type Exported = IndexSet<Vec<u8>, Seed>;
+pub type ExportedNames = IndexSet<Vec<u8>, Seed>;
 
 /// What a piece comes to.
 #[derive(Drop)]
@@ -175,7 +175,11 @@ fn defined(symbols: &Symbols, name: &[u8]) -> Option<usize>
 }
 
 /// Puts a name in among those that were exported, and says whether it is new there.
-fn enter_export(alloc: Global, exported: &mut Exported, name: &[u8]) -> Result<bool, AllocError>
+fn enter_export(
+    alloc: Global,
+    exported: &mut ExportedNames,
+    name: &[u8],
+) -> Result<bool, AllocError>
     ensures new { IfOk result (λ b. list_any (bytes_eq name.now) (names_of exported.old) ≡ not b) }
     ensures names { IfOk result (λ b. names_of exported.new ≡
         (if b then names_of exported.old ++ name.now ∷ [] else names_of exported.old)) }
@@ -188,7 +192,7 @@ fn resolve_export(
     alloc: Global,
     symbols: &Symbols,
     known: &mut NormCache,
-    exported: &mut Exported,
+    exported: &mut ExportedNames,
     spot: Spot<'_>,
     place: usize,
     name: Sequence<u8>,
@@ -217,7 +221,7 @@ pub fn resolve(
     alloc: Global,
     symbols: &Symbols,
     known: &mut NormCache,
-    exported: &mut Exported,
+    exported: &mut ExportedNames,
     spot: Spot<'_>,
     fixup: Fixup,
 ) -> Result<Made, AsmFault>

@@ -3,7 +3,7 @@ use Rattle.std.proofs.Common.{◌≡◌, ◌∙◌, ◌||◌, ℕ, Bool, true, f
 use Rattle.base65.specs.Outcome.{◌>>=◌, Unless}
 use Rattle.ast65.specs.declared.fault.AsmFault.{AsmFault}
 use Rattle.ast65.specs.Faults.{is_failure, is_memory, is_outside}
-use Rattle.std.specs.Prelude.{IfOk, Result, Ok, Err, None}
+use Rattle.std.specs.Prelude.{IfOk, Result, Ok, Err, None, nat_lt}
 use Rattle.std.specs.List.{list_all}
 use Rattle.std.proofs.lemmas.List.{append-nil, map-append}
 use Rattle.object65.specs.declared.object.Object.{Object}
@@ -20,12 +20,13 @@ use Rattle.emit65.specs.Fed.{AreAlike, AreSlotsAlike, HasSlots, StandIn, Stands,
 use Rattle.emit65.specs.declared.files.Files.{Files}
 use Rattle.emit65.specs.declared.entries.Entry.{Entry}
 use Rattle.emit65.specs.declared.entries.Entry.TheVariants.{Bytes, Room, Value, Told, Waits}
+use Rattle.emit65.specs.declared.entries.SourcePos.{SourcePos}
 use Rattle.emit65.specs.declared.fixups.Fixup.{Fixup}
 use Rattle.std.specs.Global.{Box}
 use Rattle.emit65.specs.declared.sections.Closed.{Closed}
 use Rattle.emit65.proofs.Grown.{standing_more}
 use Rattle.emit65.proofs.Renumbering.{and, left, right}
-use Rattle.emit65.proofs.Slots.{comes_alike, faulty_alike, held_alike, held_contents, keys_found}
+use Rattle.emit65.proofs.Slots.{comes_alike, faulty_alike, held_alike, held_contents, keys_found, slots_back, slots_front, slots_same, slots_trans}
 use Rattle.symbols65.proofs.Measures.{unless_then}
 use Rattle.symbols65.specs.Measuring.{cursor_of}
 use Rattle.symbols65.specs.Views.{table_of}
@@ -34,7 +35,7 @@ use Rattle.asm65.specs.declared.concluding.Ending.{Ending}
 use Rattle.asm65.specs.declared.texts.AsmRefusal.{AsmRefusal}
 use Rattle.asm65.specs.Assembly.{in_places, is_from_outside, is_outside_refusal, placed_of}
 use Rattle.asm65.specs.Inner.Holding.{Holds}
-use Rattle.asm65.specs.Inner.Running.{AreFaulty, AreFed, AreSettled, ComesTo, IsFaulty, IsObjectOf, IsSettled}
+use Rattle.asm65.specs.Inner.Running.{AreFaulty, AreFed, AreSettled, ComesTo, IsFaulty, IsObjectOf, IsSettled, Replaces, StandsWhere}
 
 -- ---- Faults from outside.
 
@@ -79,7 +80,7 @@ known_slot : (files : List (List ℕ)) (e : Entry) → ((w : Box Fixup) → e �
 known_slot files (Bytes g bytes) h = refl
 known_slot files (Room g n) h = refl
 known_slot files (Value width g o f) h = refl
-known_slot files (Told o ss) h = refl
+known_slot files (Told t) h = refl
 known_slot files (Waits w) h = absurd (h w refl)
 
 -- and stays as it is
@@ -90,11 +91,27 @@ known_settled y files e now h fed =
     record {
       made = quietly (content_of files e);
       found = ap (coming y (names_of now.exported)) is;
-      entry = is;
+      entry = subst (λ (x : Slot). AreSlotsAlike (x ∷ []) (slot_of files e ∷ [])) is (slots_same (slot_of files e ∷ []));
       standing = left (stands_in (length files) e) true fed.standing;
       names = sym (append-nil (names_of now.exported)) ∙ ap (λ ss. names_of now.exported ++ exported_names ss) (sym unsaid);
       err = sym (append-nil now.err);
     }
+
+-- an entry stands in the place of its content
+pub replaced : (files : List (List ℕ)) (pos : SourcePos) (e : Entry) → StandsWhere pos e → Replaces files (content_of files e) e
+replaced files pos (Bytes g bytes) h = slots_same (holds (content_of files (Bytes g bytes)) ∷ [])
+replaced files pos (Room g n) h = slots_same (holds (content_of files (Room g n)) ∷ [])
+replaced files pos (Value width g o f) h = slots_same (holds (content_of files (Value width g o f)) ∷ [])
+replaced files pos (Told t) h = slots_same (holds (content_of files (Told t)) ∷ [])
+replaced files pos (Waits w) h = absurd h
+
+-- it stands in one of the files
+pub stands_there : (count : ℕ) (pos : SourcePos) (e : Entry) → nat_lt pos.file count ≡ true → StandsWhere pos e → stands_in count e ≡ true
+stands_there count pos (Bytes g bytes) lt h = refl
+stands_there count pos (Room g n) lt h = refl
+stands_there count pos (Value width g o f) lt h = ap (λ (p : SourcePos). nat_lt p.file count) h ∙ lt
+stands_there count pos (Told t) lt h = ap (λ (p : SourcePos). nat_lt p.file count) h ∙ lt
+stands_there count pos (Waits w) lt h = absurd h
 
 -- ---- Slots come to their contents one behind the other.
 
@@ -117,7 +134,7 @@ pub record SoFar (y : Symbols) (files : List (List ℕ)) (all : List Slot) (done
   pub contents : List Content
   pub said : List ℕ
   pub found : resolved y (names_of old.exported) all ≡ after (found_all contents said) (resolved y (names_of new.exported) (map (slot_of files) left))
-  pub entries : map (slot_of files) done ≡ map holds contents
+  pub entries : AreSlotsAlike (map holds contents) (map (slot_of files) done)
   pub standing : StandIn (length files) done
   pub others : AreFed files left
   pub err : new.err ≡ old.err ++ said
@@ -127,7 +144,7 @@ begins y files left e fed = record {
   contents = [];
   said = [];
   found = sym (nothing_after (resolved y (names_of e.exported) (map (slot_of files) left)));
-  entries = refl;
+  entries = slots_same [];
   standing = refl;
   others = fed;
   err = sym (append-nil e.err);
@@ -143,9 +160,13 @@ goes_on y files all done e f rest old mid new so settled =
           so.found ∙ resolved_more y (names_of mid.exported) so.contents so.said (slot_of files e) (map (slot_of files) rest) k.made k.found
           ∙ ap (λ names. after (found_all (so.contents ++ k.made.content ∷ []) (so.said ++ k.made.warning)) (resolved y names (map (slot_of files) rest))) (sym k.names);
       entries =
-          map-append (slot_of files) done (f ∷ [])
-          ∙ (λ n. so.entries n ++ k.entry n ∷ [])
-          ∙ sym (map-append holds so.contents (k.made.content ∷ []));
+          let held = map holds so.contents in
+          let slots = map (slot_of files) done in
+          subst (λ (xs : List Slot). AreSlotsAlike xs (map (slot_of files) (done ++ f ∷ []))) (sym (map-append holds so.contents (k.made.content ∷ [])))
+          (subst (λ (ys : List Slot). AreSlotsAlike (held ++ holds k.made.content ∷ []) ys) (sym (map-append (slot_of files) done (f ∷ [])))
+          (slots_trans (held ++ holds k.made.content ∷ []) (slots ++ holds k.made.content ∷ []) (slots ++ slot_of files f ∷ [])
+          (slots_front held slots (holds k.made.content ∷ []) so.entries)
+          (slots_back slots (holds k.made.content ∷ []) (slot_of files f ∷ []) k.entry)));
       standing = standing_more (length files) done f k.standing so.standing;
       others = fed_rest files e rest so.others;
       err = k.err ∙ ap (λ (x : List ℕ). x ++ k.made.warning) so.err ∙ append_assoc old.err so.said k.made.warning;
@@ -181,12 +202,12 @@ pub fed_closed : (xs : List Slot) (t : Closed) → HasSlots xs t → all_said (c
 fed_closed xs t h unsaid = record { standing = h.standing; unsaid = sym h.alike.held.said ∙ unsaid }
 
 -- contents that slots have come to stand in their place
-settled_slots : (y : Symbols) (xs : List Slot) (t u : Closed) (cs ds : List Content) → u.asked ≡ t.asked → u.files ≡ t.files → HasSlots xs t → (resolved y [] xs).found ≡ Ok cs → AreAlike cs ds → map (slot_of (names_in t.files)) u.entries.items ≡ map holds ds → StandIn (length (names_in t.files)) u.entries.items → HasSlots (map holds cs) u
+settled_slots : (y : Symbols) (xs : List Slot) (t u : Closed) (cs ds : List Content) → u.asked ≡ t.asked → u.files ≡ t.files → HasSlots xs t → (resolved y [] xs).found ≡ Ok cs → AreAlike cs ds → AreSlotsAlike (map holds ds) (map (slot_of (names_in t.files)) u.entries.items) → StandIn (length (names_in t.files)) u.entries.items → HasSlots (map holds cs) u
 settled_slots y xs t u cs ds asked files h found alike entries standing = record {
   asked = ap section_keys (held_contents cs) ∙ keys_found y [] xs cs found ∙ h.asked ∙ ap (λ s. s.keys) (sym asked);
   alike =
       subst (λ (fs : Files). AreSlotsAlike (map holds cs) (map (slot_of (names_in fs)) u.entries.items)) (sym files)
-      (subst (λ (ys : List Slot). AreSlotsAlike (map holds cs) ys) (sym entries) (held_alike cs ds alike));
+      (slots_trans (map holds cs) (map holds ds) (map (slot_of (names_in t.files)) u.entries.items) (held_alike cs ds alike) entries);
   standing = subst (λ (fs : Files). StandIn (length (names_in fs)) u.entries.items) (sym files) standing;
 }
 

@@ -8,7 +8,7 @@ use Rattle.symbols65.specs.Views.{table_of, with_definition, with_names, with_sc
 use Rattle.symbols65.specs.Measuring.{cursor_of, AreWithin, IsCounted, IsSoundCursor, AreInside}
 use Rattle.asm65.specs.declared.assembler.Assembler.{Assembler}
 use Rattle.asm65.specs.Inner.Holding.{Holds, is_put, AreBefore, Enters, known_where, KeepsTables, KeepsPut, Mentions, Turns, all_awaiting, is_for_zero_page, label_at, laid_as}
-use Rattle.std.specs.Prelude.{slice_get, Some, Bool, OnOk, Result, Ok, Err, true, false, Option}
+use Rattle.std.specs.Prelude.{Some, Bool, OnOk, Result, Ok, Err, true, false, Option}
 use Rattle.std.proofs.lemmas.List.{take_all}
 use Rattle.ast65.proofs.Lists.{map_length}
 use Rattle.syntax65.specs.declared.place.Place.{Place}

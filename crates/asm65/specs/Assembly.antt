@@ -1,5 +1,5 @@
 -- From a source to its object: what is assembled, and files that could not be read.
-use Rattle.std.specs.Prelude.{◌≡◌, ℕ, List, Option, None, Result, Err, Bool, false, [], map, Ok, unwrap_or}
+use Rattle.std.specs.Prelude.{◌≡◌, ℕ, List, None, Result, Err, Bool, false, [], map, Ok, unwrap_or}
 use Rattle.base65.specs.Store.{Files, IsBlamed, Blamed}
 use Rattle.expand65.specs.Expansion.{file_named}
 use Rattle.ast65.specs.declared.fault.AsmFault.{AsmFault}

@@ -1,5 +1,5 @@
 -- The store fails while a source is read: what was taken of it, and where that is.
-use Rattle.std.specs.Prelude.{◌≡◌, ◌⊎◌, ℕ, true, List, [], IfErr, Option, Result, Ok, Err}
+use Rattle.std.specs.Prelude.{◌≡◌, ◌⊎◌, ℕ, true, List, [], IfErr, Result, Ok, Err}
 use Rattle.base65.specs.Store.{Files, IsBlamedAt, Blamed}
 use Rattle.expand65.specs.Expansion.{Reaches, opened_in, statement}
 use Rattle.expand65.specs.Standing.{IsPlaced, Opens, place_of}

@@ -41,7 +41,7 @@ pub struct Assembler {
     /// The forms of constants that were found by the symbol table as it stands.
     pub known: NormCache,
     pub cursor: Cursor,
-    /// What statements put into sections and said to the linker, and what waits.
+    /// What statements put into sections, and what of them waits for the last line.
     pub sections: Sections,
     pub texts: Texts,
 }

@@ -4,27 +4,27 @@ ghost use Rattle.std.specs.Prelude.{◌≡◌, ◌++◌, ◌∷◌, [], List, �
 ghost use Rattle.object65.specs.Objects.{is_good_object, ObjectFits};
 ghost use Rattle.semantics65.specs.Contents.{Content};
 ghost use Rattle.ast65.specs.Faults.{is_outside};
-ghost use Rattle.semantics65.specs.Numbering.{all_said, AreSound, name_of};
+ghost use Rattle.semantics65.specs.Numbering.{all_said, AreSound};
 ghost use Rattle.semantics65.specs.Machine.{State, concluded, finished};
-ghost use Rattle.semantics65.specs.Module.{Outcome, Slot, holds, waits};
-ghost use Rattle.emit65.specs.Fed.{Stands, contents_so_far, fixup_of, names_of, place_by, slot_of, stands_in};
+ghost use Rattle.semantics65.specs.Module.{Outcome, Slot, waits};
+ghost use Rattle.emit65.specs.Fed.{Stands, contents_so_far, fixup_of, names_of, slot_of};
 ghost use Rattle.symbols65.specs.Resolving.{IsTable};
 ghost use Rattle.symbols65.specs.Views.{table_of};
 ghost use Rattle.asm65.specs.Assembly.{Concludes, has_failed, in_places, is_from_outside};
 ghost use Rattle.asm65.specs.Inner.Holding.{Holds};
-ghost use Rattle.asm65.specs.Inner.Running.{AreFed, ComesTo, IsFoundBy, Settles, SettlesAll, content_of, leaving, made_in, SaysAs};
+ghost use Rattle.asm65.specs.Inner.Running.{AreFed, ComesTo, files_here, IsFoundBy, leaving, made_at, Replaces, SaysAs, Settles, SettlesAll, StandsAt, StandsWhere};
 ghost use Rattle.semantics65.specs.Views.{place_at};
 
 use crate::assembler::Assembler;
 use crate::assembling::Assembly;
-use crate::resolving::{Exported, Filling, Made, resolve};
+use crate::resolving::{ExportedNames, Made, Spot, resolve};
 use crate::texts::{AsmRefusal, Texts, warn};
 use ast65::AsmFault;
 use base65::Sequence;
-use emit65::{Closed, Entry, Fixup, Sections, SourcePos};
+use emit65::{Closed, Entry, Fixup, Sections};
 use indexmap::IndexSet;
 use object65::Object;
-use semantics65::{At, Part, Segment};
+use semantics65::{At, Segment};
 use std::alloc::{AllocError, Global};
 use std::mem;
 use symbols65::{NormCache, Symbols};
@@ -34,7 +34,7 @@ use symbols65::{NormCache, Symbols};
 pub struct Ending {
     /// The forms of constants.
     pub known: NormCache,
-    pub exported: Exported,
+    pub exported: ExportedNames,
     /// What goes to standard error.
     pub err: Sequence<u8>,
 }
@@ -48,56 +48,25 @@ pub struct Whole<'a> {
     pub files: &'a [String],
 }
 
-/// The name of the file at a place, empty where there is none.
-fn file_at(files: &[String], place: u32) -> &str
-    ensures { result.now ≡ name_of (map string_bytes files.now) place }
+/// What waited in a statement that stands here, as an entry, and its warning is said. Where it puts and says nothing, it is
+/// room of no byte.
+fn take_made(err: &mut Sequence<u8>, spot: Spot<'_>, made: Made) -> Result<Entry, AllocError>
+    requires { StandsAt spot.pos made }
+    ensures entry { IfOk result (Replaces (files_here spot.entry) (made_at spot.entry made).content) }
+    ensures standing { IfOk result (StandsWhere spot.entry.pos) }
+    ensures err { OnOk result (err.new ≡ err.old ++ (made_at spot.entry made).warning) }
 {
-    match files.get(place as usize) {
-        Some(file) => file.as_str(),
-        None => "",
-    }
-}
-
-/// What is put at a place where something waited, as an entry.
-fn entry_of(pos: SourcePos, filling: Filling) -> Entry
-    ensures content { (files : List (List ℕ)) →
-        slot_of files result ≡ holds (content_of (place_by files pos) filling) }
-    ensures standing { (count : ℕ) → nat_lt pos.file count ≡ true → stands_in count result ≡ true }
-{
-    match filling {
-        Filling::Part { segment, part } => match part {
-            Part::Known(bytes) => Entry::Bytes { segment, bytes },
-            Part::Filled(count) => Entry::Room { segment, count },
-            Part::Waiting { width, form } => Entry::Value {
-                width,
-                segment,
-                pos,
-                form,
-            },
-        },
-        Filling::Told(said) => Entry::Told { pos, said },
-    }
-}
-
-/// The entry of what waited in a statement that stands here, whose warning is said.
-fn take_made(
-    err: &mut Sequence<u8>,
-    at: At<'_>,
-    pos: SourcePos,
-    made: Made,
-) -> Result<Entry, AllocError>
-    ensures entry { IfOk result (λ e. (files : List (List ℕ)) →
-        place_by files pos ≡ place_at at.entry →
-        slot_of files e ≡ holds (made_in (place_at at.entry) made).content) }
-    ensures standing { IfOk result (λ e. (count : ℕ) → nat_lt pos.file count ≡ true →
-        stands_in count e ≡ true) }
-    ensures err { OnOk result (err.new ≡ err.old ++ (made_in (place_at at.entry) made).warning) }
-{
-    let Made { filling, warning } = made;
+    let Made { entry, warning } = made;
     if let Some(text) = warning {
-        warn(err, at.file, at.line, text.as_slice())?;
+        warn(err, spot.file(), spot.pos.line, text.as_slice())?;
     }
-    Ok(entry_of(pos, filling))
+    match entry {
+        Some(entry) => Ok(entry),
+        None => Ok(Entry::Room {
+            segment: 0,
+            count: 0,
+        }),
+    }
 }
 
 /// What waits comes to its content, or to its fault.
@@ -115,24 +84,29 @@ fn settle_fixup(
     ensures found { OnOk result (IsFoundBy (table_of whole.entry.symbols.now) ending.new) }
     ensures inside { IfErr result (λ e. has_failed e ≡ false) }
 {
-    let pos = fixup.pos;
-    let at = At {
-        file: file_at(whole.files, pos.file),
-        line: pos.line,
+    let spot = Spot {
+        files: whole.files,
+        pos: fixup.pos,
     };
     match resolve(
         alloc,
         whole.symbols,
         &mut ending.known,
         &mut ending.exported,
-        at,
+        spot,
         fixup,
     ) {
-        Ok(made) => match take_made(&mut ending.err, at, pos, made) {
+        Ok(made) => match take_made(&mut ending.err, spot, made) {
             Ok(entry) => Ok(entry),
             Err(_) => Err(AsmRefusal::without_memory()),
         },
-        Err(fault) => Err(AsmRefusal::of_fault(alloc, at, fault)),
+        Err(fault) => {
+            let at = At {
+                file: spot.file(),
+                line: spot.pos.line,
+            };
+            Err(AsmRefusal::of_fault(alloc, at, fault))
+        }
     }
 }
 

@@ -4,7 +4,7 @@ use Rattle.std.specs.Prelude.{filter_map, slice_get}
 use Rattle.std.specs.List.{flat_map}
 use Rattle.std.proofs.lemmas.Grind.{common_steps, flat_map-append}
 use Rattle.object65.specs.declared.object.Fragment.{Fragment}
-use Rattle.object65.specs.declared.object.Fragment.TheVariants.{Literal, Fill, Value}
+use Rattle.object65.specs.declared.object.Fragment.TheVariants.{Literal, Fill}
 use Rattle.syntax65.specs.declared.place.Place.{Place}
 use Rattle.object65.specs.declared.object.Object.{Object}
 use Rattle.object65.specs.declared.object.Origin.{Origin}
@@ -104,32 +104,20 @@ alike_nothing cs es h = alike_trans (cs ++ es) (cs ++ []) cs (alike_back cs es [
 -- ---- Neighbours that are joined.
 
 literals_join : (f : Fragment) (before behind : List Fragment) (a b : List ℕ) → joined f (before ++ (Literal a ∷ Literal b ∷ behind)) ≡ joined f (before ++ (Literal (a ++ b) ∷ behind))
-literals_join (Literal c) [] behind a b = ap (λ bytes. joined (Literal bytes) behind) (append_assoc c a b)
-literals_join (Fill m) [] behind a b = refl
-literals_join (Value w o form) [] behind a b = refl
-literals_join (Literal c) (Literal d ∷ before) behind a b = literals_join (Literal (c ++ d)) before behind a b
-literals_join (Literal c) (Fill n ∷ before) behind a b = ap (λ fs. Literal c ∷ fs) (literals_join (Fill n) before behind a b)
-literals_join (Literal c) (Value v k form ∷ before) behind a b = ap (λ fs. Literal c ∷ fs) (literals_join (Value v k form) before behind a b)
-literals_join (Fill m) (Literal d ∷ before) behind a b = ap (λ fs. Fill m ∷ fs) (literals_join (Literal d) before behind a b)
-literals_join (Fill m) (Fill n ∷ before) behind a b = literals_join (Fill (m + n)) before behind a b
-literals_join (Fill m) (Value v k form ∷ before) behind a b = ap (λ fs. Fill m ∷ fs) (literals_join (Value v k form) before behind a b)
-literals_join (Value w o form) (g ∷ before) behind a b = ap (λ fs. Value w o form ∷ fs) (literals_join g before behind a b)
+literals_join x [] behind a b = grind (arith, common_steps, append_assoc)
+literals_join x (y ∷ before) behind a b =
+    let again : (f : Fragment) → joined f (before ++ (Literal a ∷ Literal b ∷ behind)) ≡ joined f (before ++ (Literal (a ++ b) ∷ behind)) = λ f. literals_join f before behind a b in
+    grind (arith, common_steps, again)
 
 all_literals_join : (before behind : List Fragment) (a b : List ℕ) → all_joined (before ++ (Literal a ∷ Literal b ∷ behind)) ≡ all_joined (before ++ (Literal (a ++ b) ∷ behind))
 all_literals_join [] behind a b = refl
 all_literals_join (f ∷ before) behind a b = literals_join f before behind a b
 
 fills_join : (f : Fragment) (before behind : List Fragment) (a b : ℕ) → joined f (before ++ (Fill a ∷ Fill b ∷ behind)) ≡ joined f (before ++ (Fill (a + b) ∷ behind))
-fills_join (Literal c) [] behind a b = refl
-fills_join (Fill m) [] behind a b = ap (λ n. joined (Fill n) behind) (let e : (m + a) + b ≡ m + (a + b) = omega arith in e)
-fills_join (Value w o form) [] behind a b = refl
-fills_join (Literal c) (Literal d ∷ before) behind a b = fills_join (Literal (c ++ d)) before behind a b
-fills_join (Literal c) (Fill n ∷ before) behind a b = ap (λ fs. Literal c ∷ fs) (fills_join (Fill n) before behind a b)
-fills_join (Literal c) (Value v k form ∷ before) behind a b = ap (λ fs. Literal c ∷ fs) (fills_join (Value v k form) before behind a b)
-fills_join (Fill m) (Literal d ∷ before) behind a b = ap (λ fs. Fill m ∷ fs) (fills_join (Literal d) before behind a b)
-fills_join (Fill m) (Fill n ∷ before) behind a b = fills_join (Fill (m + n)) before behind a b
-fills_join (Fill m) (Value v k form ∷ before) behind a b = ap (λ fs. Fill m ∷ fs) (fills_join (Value v k form) before behind a b)
-fills_join (Value w o form) (g ∷ before) behind a b = ap (λ fs. Value w o form ∷ fs) (fills_join g before behind a b)
+fills_join x [] behind a b = grind (arith, common_steps)
+fills_join x (y ∷ before) behind a b =
+    let again : (f : Fragment) → joined f (before ++ (Fill a ∷ Fill b ∷ behind)) ≡ joined f (before ++ (Fill (a + b) ∷ behind)) = λ f. fills_join f before behind a b in
+    grind (arith, common_steps, again)
 
 all_fills_join : (before behind : List Fragment) (a b : ℕ) → all_joined (before ++ (Fill a ∷ Fill b ∷ behind)) ≡ all_joined (before ++ (Fill (a + b) ∷ behind))
 all_fills_join [] behind a b = refl

@@ -1,6 +1,6 @@
 -- Files of an object: names that it can hold, none twice, and each that is written among them.
 use Rattle.std.proofs.lemmas.Grind.{common_steps}
-use Rattle.std.proofs.Common.{◌≡◌, ◌∙◌, ℕ, zero, suc, ◌+◌, Bool, true, false, ◌&&◌, ◌||◌, List, [], ◌∷◌, ◌++◌, length, map, refl, ap, arith}
+use Rattle.std.proofs.Common.{◌≡◌, ◌∙◌, ℕ, zero, suc, Bool, true, false, ◌&&◌, ◌||◌, List, [], ◌∷◌, ◌++◌, length, map, refl, ap, arith}
 use Rattle.std.specs.Prelude.{filter_map, if◌then◌else◌}
 use Rattle.std.specs.List.{AllByRecursion, flat_map, list_all, list_any}
 use Rattle.std.specs.Str.{bytes_eq}
@@ -10,7 +10,6 @@ use Rattle.syntax65.specs.declared.place.Place.{Place}
 use Rattle.object65.specs.declared.object.Assert.{Assert}
 use Rattle.object65.specs.declared.object.Export.{Export}
 use Rattle.object65.specs.declared.object.Fragment.{Fragment}
-use Rattle.object65.specs.declared.object.Fragment.TheVariants.{Literal, Fill}
 use Rattle.object65.specs.declared.object.Origin.{Origin}
 use Rattle.object65.specs.declared.object.Section.{Section}
 use Rattle.object65.specs.Objects.{are_distinct, has_good_origin, has_good_origins, is_file_name, is_good_origin}
@@ -78,9 +77,7 @@ AreFileNames ns = AllByRecursion (λ n. is_file_name n ≡ true) ns
 module _ (asked : List ℕ) (count : ℕ) where
   parts_files : (ps : List Part) → AllByRecursion (IsSoundPart asked count) ps → AreFileNames (flat_map part_files ps)
   parts_files [] h = tt
-  parts_files (Known bytes ∷ ps) h = parts_files ps h.1
-  parts_files (Filled n ∷ ps) h = parts_files ps h.1
-  parts_files (Waiting width place f ∷ ps) h = (h.0.0.file, parts_files ps h.1)
+  parts_files (x ∷ ps) h = grind (arith, common_steps, (parts_files ps h.1))
 
   segment_files : (g : ℕ) (cs : List Content) → AllByRecursion (IsSoundContent asked count) cs → AllByRecursion (IsSoundPart asked count) (parts_in cs g)
   segment_files g [] h = tt
@@ -96,15 +93,11 @@ module _ (asked : List ℕ) (count : ℕ) where
 
   exports_files : (ss : List Declaration) → AllByRecursion (IsSoundDeclaration asked count) ss → AreFileNames (flat_map export_files ss)
   exports_files [] h = tt
-  exports_files (Exported n place f ∷ ss) h = (h.0.1.file, exports_files ss h.1)
-  exports_files (ForcedImport n ∷ ss) h = exports_files ss h.1
-  exports_files (Asserted act place words f ∷ ss) h = exports_files ss h.1
+  exports_files (x ∷ ss) h = grind (arith, common_steps, (exports_files ss h.1))
 
   asserts_files : (ss : List Declaration) → AllByRecursion (IsSoundDeclaration asked count) ss → AreFileNames (flat_map assert_files ss)
   asserts_files [] h = tt
-  asserts_files (Exported n place f ∷ ss) h = asserts_files ss h.1
-  asserts_files (ForcedImport n ∷ ss) h = asserts_files ss h.1
-  asserts_files (Asserted act place words f ∷ ss) h = (h.0.1.file, asserts_files ss h.1)
+  asserts_files (x ∷ ss) h = grind (arith, common_steps, (asserts_files ss h.1))
 
   pub files_good : (cs : List Content) → AllByRecursion (IsSoundContent asked count) cs → are_distinct is_file_name (files_of cs) ≡ true
   files_good cs h = grind (arith, common_steps, all_said_sound, once_good, all_more, sections_files, exports_files, asserts_files)
@@ -133,10 +126,10 @@ module _ (files : List (List ℕ)) (s i : List ℕ) where
   parts_origins (Waiting width place f ∷ ps) h = and (is_good (at place)) (list_all has_good (fragments_of at s i ps)) (origin_good place h.0) (parts_origins ps h.1)
 
   joined_origins : (f : Fragment) (fs : List Fragment) → has_good f ≡ true → list_all has_good fs ≡ true → list_all has_good (joined f fs) ≡ true
-  joined_origins f [] h all = and (has_good f) true h refl
-  joined_origins (Literal a) (Literal b ∷ fs) h all = joined_origins (Literal (a ++ b)) fs refl all
-  joined_origins (Fill m) (Fill n ∷ fs) h all = joined_origins (Fill (m + n)) fs refl all
-  joined_origins f (g ∷ fs) h all = grind (arith, common_steps, (joined_origins g fs (left (has_good g) (list_all has_good fs) all) (right (has_good g) (list_all has_good fs) all)), and, left, right)
+  joined_origins x [] h all = and (has_good x) true h refl
+  joined_origins x (y ∷ fs) h all =
+      let again : (f : Fragment) → has_good f ≡ true → list_all has_good fs ≡ true → list_all has_good (joined f fs) ≡ true = λ f. joined_origins f fs in
+      grind (arith, common_steps, again, and, left, right)
 
   all_joined_origins : (fs : List Fragment) → list_all has_good fs ≡ true → list_all has_good (all_joined fs) ≡ true
   all_joined_origins x h = grind (arith, common_steps, joined_origins, left, right)

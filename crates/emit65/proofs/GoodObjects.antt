@@ -2,8 +2,7 @@
 use borrow.Author.Rules.{rules}
 use Rattle.std.proofs.Common.{◌≡◌, ◌∙◌, ℕ, ◌<◌, Bool, true, not, ◌&&◌, nat_eq, nat_lt, cond, List, [], ◌∷◌, ◌++◌, length, map, Some, None, refl, sym, ap, subst, arith}
 use Rattle.std.specs.Prelude.{filter_map}
-use Rattle.std.specs.List.{AllByRecursion, IsDistinct, flat_map, list_all, position_or_len}
-use Rattle.std.specs.Str.{bytes_eq}
+use Rattle.std.specs.List.{AllByRecursion, IsDistinct, flat_map, list_all}
 use Rattle.std.proofs.lemmas.Bool.Decides.{nat_tests}
 use Rattle.std.proofs.lemmas.Grind.{common_steps, flat_map-append}
 use Rattle.std.proofs.lemmas.List.Folds.{list_all-append}
@@ -14,7 +13,7 @@ use Rattle.object65.specs.declared.object.Section.{Section}
 use Rattle.syntax65.specs.declared.place.Place.{Place}
 use Rattle.object65.specs.Folding.{is_literal}
 use Rattle.object65.specs.Objects.{are_names, has_good_parts, is_good_assert, is_good_form, is_good_object, is_good_section}
-use Rattle.semantics65.specs.Contents.{Content, Part, Known, Filled, Waiting, Declaration, Exported, ForcedImport, Asserted}
+use Rattle.semantics65.specs.Contents.{Content, Part, Declaration, Exported, ForcedImport, Asserted}
 use Rattle.semantics65.specs.declared.contents.Segment.{Segment}
 use Rattle.semantics65.specs.Numbering.{all_said, assert_of, content_imports, export_of, files_of, import_keys, in_files, imports_in, key_of, name_of, numbered, object_with, optional_key, part_imports, said_imports, section_keys, section_of, segments_asked, AreSound, IsSoundContent, IsSoundPart, IsSoundDeclaration}
 use Rattle.emit65.proofs.GoodFiles.{files_good, origins_good}
@@ -44,15 +43,11 @@ place_below n length = grind (arith, common_steps)
 module _ (asked : List ℕ) (names : List (List ℕ)) where
   parts_below : (ps : List Part) → AllByRecursion (IsSoundPart asked (length names)) ps → AllBelow (length names) (flat_map part_imports ps)
   parts_below [] sound = refl
-  parts_below (Known bytes ∷ ps) sound = parts_below ps sound.1
-  parts_below (Filled n ∷ ps) sound = parts_below ps sound.1
-  parts_below (Waiting width line f ∷ ps) sound = below_both (length names) (imports_in f) (flat_map part_imports ps) sound.0.0.form.imports (parts_below ps sound.1)
+  parts_below (x ∷ ps) sound = grind (arith, common_steps, (parts_below ps sound.1), below_both)
 
   said_below : (ss : List Declaration) → AllByRecursion (IsSoundDeclaration asked (length names)) ss → AllBelow (length names) (flat_map (said_imports names) ss)
   said_below [] sound = refl
-  said_below (Exported n line f ∷ ss) sound = below_both (length names) (imports_in f) (flat_map (said_imports names) ss) sound.0.1.form.imports (said_below ss sound.1)
-  said_below (ForcedImport n ∷ ss) sound = below_both (length names) (optional_key (key_of names n)) (flat_map (said_imports names) ss) (place_below (position_or_len (λ m. bytes_eq m n) names) (length names)) (said_below ss sound.1)
-  said_below (Asserted act line words f ∷ ss) sound = below_both (length names) (imports_in f) (flat_map (said_imports names) ss) sound.0.1.form.imports (said_below ss sound.1)
+  said_below (x ∷ ss) sound = grind (arith, common_steps, (said_below ss sound.1), below_both, place_below)
 
   contents_below : (cs : List Content) → AllByRecursion (IsSoundContent asked (length names)) cs → AllBelow (length names) (flat_map (content_imports names) cs)
   contents_below [] sound = refl

@@ -1,6 +1,6 @@
 -- The fragments of a section, joined: none is empty, no two neighbours join, and they have the bytes of the parts.
 use Rattle.std.proofs.lemmas.Grind.{common_steps}
-use Rattle.std.proofs.Common.{◌≡◌, ◌∙◌, ℕ, zero, suc, ◌+◌, ◌≤◌, Bool, true, false, not, ◌||◌, nat_eq, nat_lt, cond, List, [], ◌∷◌, ◌++◌, length, Option, refl, sym, ap, arith, length-append}
+use Rattle.std.proofs.Common.{◌≡◌, ◌∙◌, ℕ, ◌+◌, ◌≤◌, Bool, true, false, not, ◌||◌, nat_eq, nat_lt, cond, List, [], ◌∷◌, ◌++◌, length, Option, refl, sym, ap, arith, length-append}
 use Rattle.std.specs.Prelude.{sum_by}
 use Rattle.std.specs.List.{AllByRecursion, filter, flat_map, list_all}
 use Rattle.std.proofs.lemmas.Bool.Decides.{nat_tests}
@@ -9,12 +9,11 @@ use Rattle.std.proofs.lemmas.List.Sums.{sum_by-cons}
 use Rattle.syntax65.specs.declared.place.Place.{Place}
 use Rattle.object65.specs.declared.object.Origin.{Origin}
 use Rattle.object65.specs.declared.object.Fragment.{Fragment}
-use Rattle.object65.specs.declared.object.Fragment.TheVariants.{Literal, Fill, Value}
-use Rattle.object65.specs.Folding.{is_literal}
-use Rattle.object65.specs.Objects.{are_apart, fragment_len, is_good_form, is_good_fragment, is_good_section, joins, section_limit}
-use Rattle.semantics65.specs.Contents.{Content, Part, Known, Filled, Waiting}
+use Rattle.object65.specs.declared.object.Fragment.TheVariants.{Literal, Fill}
+use Rattle.object65.specs.Objects.{are_apart, fragment_len, is_good_fragment, is_good_section, joins, section_limit}
+use Rattle.semantics65.specs.Contents.{Content, Part}
 use Rattle.semantics65.specs.declared.contents.Segment.{Segment}
-use Rattle.semantics65.specs.Numbering.{all_joined, content_imports, fragment_of, fragments_of, is_empty, joined, numbered, part_imports, parts_in, said_imports, section_of, segment_power, IsSoundContent, IsSoundPart, part_len}
+use Rattle.semantics65.specs.Numbering.{all_joined, content_imports, fragment_of, fragments_of, is_empty, joined, part_imports, parts_in, said_imports, section_of, segment_power, IsSoundContent, IsSoundPart, part_len}
 use Rattle.emit65.proofs.Renumbering.{HasAll, first_has, good_form, left, right, and, same_literal, second_has}
 
 -- ---- Neighbours that are joined.
@@ -67,13 +66,9 @@ front_apart f g (e ∷ fs) h all = and (not (joins f g)) (are_apart (g ∷ joine
 
 pub joined_apart : (f : Fragment) (fs : List Fragment) → are_apart (joined f fs) ≡ true
 joined_apart f [] = refl
-joined_apart (Literal a) (Literal b ∷ fs) = joined_apart (Literal (a ++ b)) fs
-joined_apart (Fill m) (Fill n ∷ fs) = joined_apart (Fill (m + n)) fs
-joined_apart (Literal a) (Fill n ∷ fs) = front_apart (Literal a) (Fill n) fs refl (joined_apart (Fill n) fs)
-joined_apart (Literal a) (Value w line form ∷ fs) = front_apart (Literal a) (Value w line form) fs refl (joined_apart (Value w line form) fs)
-joined_apart (Fill m) (Literal b ∷ fs) = front_apart (Fill m) (Literal b) fs refl (joined_apart (Literal b) fs)
-joined_apart (Fill m) (Value w line form ∷ fs) = front_apart (Fill m) (Value w line form) fs refl (joined_apart (Value w line form) fs)
-joined_apart (Value w line form) (g ∷ fs) = front_apart (Value w line form) g fs refl (joined_apart g fs)
+joined_apart x (y ∷ fs) =
+    let again : (f : Fragment) → are_apart (joined f fs) ≡ true = λ f. joined_apart f fs in
+    grind (arith, common_steps, again, front_apart)
 
 -- ---- The fragments of parts.
 
@@ -100,13 +95,7 @@ module _ (at : Place → Origin) (s i : List ℕ) where
   fragments_good (p ∷ ps) h = grind (arith, common_steps, (fragments_good ps), and, left, right)
 
   part_good : (count : ℕ) (p : Part) → IsSoundPart s count p → HasAll i (part_imports p) → is_good_part p ≡ true
-  part_good count (Known []) sound has_imports = refl
-  part_good count (Known (b ∷ bytes)) sound has_imports = grind (arith, nat_tests)
-  part_good count (Filled zero) sound has_imports = refl
-  part_good count (Filled (suc n)) sound has_imports = grind (arith, nat_tests)
-  part_good count (Waiting width line f) sound has_imports =
-      and (is_good_form (length s) (length i) (numbered s i f)) (not (is_literal (numbered s i f)))
-      (good_form s i count f sound.0.form has_imports) (ap not (same_literal s i f ∙ sound.1))
+  part_good count x sound has_imports = grind (arith, common_steps, nat_tests, and, good_form, same_literal)
 
   parts_good : (count : ℕ) (ps : List Part) → AllByRecursion (IsSoundPart s count) ps → HasAll i (flat_map part_imports ps) → list_all is_good_part ps ≡ true
   parts_good count [] sound has_imports = refl

@@ -5,24 +5,17 @@ use Rattle.std.specs.Prelude.{nat_lt}
 use Rattle.std.specs.List.{list_all}
 use Rattle.std.proofs.lemmas.List.Folds.{list_all-append}
 use Rattle.std.proofs.lemmas.Bool.Decides.{nat_tests}
-use Rattle.semantics65.specs.Contents.{Filled, Known, Waiting, put, telling}
-use Rattle.semantics65.specs.Module.{holds, waits}
-use Rattle.semantics65.specs.Views.{place_in, said_at}
+use Rattle.semantics65.specs.Views.{place_in}
 use Rattle.semantics65.specs.Numbering.{name_of}
 use Rattle.emit65.specs.declared.entries.Entry.{Entry}
-use Rattle.emit65.specs.declared.entries.Entry.TheVariants.{Bytes, Room, Value, Told, Waits}
 use Rattle.emit65.specs.declared.entries.SourcePos.{SourcePos}
-use Rattle.emit65.specs.Fed.{Begins, StandIn, content_of, piece_of, place_by, slot_of, so_far, stands_in}
+use Rattle.emit65.specs.Fed.{Begins, StandIn, content_of, place_by, slot_of, so_far, stands_in}
 use Rattle.emit65.proofs.Renumbering.{and, left, right}
 
 -- what entries have so far, by their slots
 pub contents_of_slots : (files : List (List ℕ)) (es : List Entry) → map so_far (map (slot_of files) es) ≡ map (content_of files) es
 contents_of_slots files [] = refl
-contents_of_slots files (Bytes g bytes ∷ es) = ap (λ cs. put g (Known bytes) ∷ cs) (contents_of_slots files es)
-contents_of_slots files (Room g n ∷ es) = ap (λ cs. put g (Filled n) ∷ cs) (contents_of_slots files es)
-contents_of_slots files (Value width g o f ∷ es) = ap (λ cs. put g (Waiting width (place_by files o) f) ∷ cs) (contents_of_slots files es)
-contents_of_slots files (Told o ss ∷ es) = ap (λ cs. telling (map (said_at (place_by files o)) ss) ∷ cs) (contents_of_slots files es)
-contents_of_slots files (Waits w ∷ es) = ap (λ cs. telling [] ∷ cs) (contents_of_slots files es)
+contents_of_slots files (x ∷ es) = grind (arith, common_steps, (contents_of_slots files es))
 
 -- ---- More files.
 
@@ -35,11 +28,7 @@ pub place_grown : (files later : List (List ℕ)) (o : SourcePos) → nat_lt o.f
 place_grown files later o h = ap (λ n. place_in n o.line) (name_grown files later o.file h)
 
 pub slot_grown : (files later : List (List ℕ)) (e : Entry) → stands_in (length files) e ≡ true → slot_of (files ++ later) e ≡ slot_of files e
-slot_grown files later (Bytes g bytes) h = refl
-slot_grown files later (Room g n) h = refl
-slot_grown files later (Value width g o f) h = ap (λ p. holds (put g (Waiting width p f))) (place_grown files later o h)
-slot_grown files later (Told o ss) h = ap (λ p. holds (telling (map (said_at p) ss))) (place_grown files later o h)
-slot_grown files later (Waits w) h = ap (λ p. waits (record { place = p; context = w.value.context; piece = piece_of w.value.piece })) (place_grown files later w.value.pos h)
+slot_grown files later x h = grind (arith, common_steps, place_grown)
 
 pub slots_grown : (files later : List (List ℕ)) (es : List Entry) → StandIn (length files) es → map (slot_of (files ++ later)) es ≡ map (slot_of files) es
 slots_grown files later [] h = refl

@@ -10,12 +10,10 @@ use Rattle.indexmap.specs.IndexSet.{IndexSet}
 use Rattle.ast65.proofs.Lists.{position_mapped}
 use Rattle.syntax65.specs.declared.place.Place.{Place}
 use Rattle.semantics65.specs.declared.contents.Declaration as said
-use Rattle.semantics65.specs.declared.contents.Declaration.TheVariants as told
-use Rattle.semantics65.specs.Numbering.{content_imports, imports_in, key_of, once, optional_key, said_imports}
+use Rattle.semantics65.specs.Numbering.{content_imports, key_of, once, said_imports}
 use Rattle.semantics65.specs.Views.{said_at}
 use Rattle.emit65.specs.declared.entries.Entry.{Entry}
-use Rattle.emit65.specs.declared.entries.Entry.TheVariants.{Bytes, Room, Value, Told, Waits}
-use Rattle.emit65.specs.Fed.{content_of, names_of, place_by}
+use Rattle.emit65.specs.Fed.{content_of, names_of}
 
 pub once_append : (ks found ls : List ℕ) → once (once found ks) ls ≡ once found (ks ++ ls)
 once_append [] found ls = refl
@@ -41,17 +39,10 @@ key_found imports name = position_mapped (λ m. bytes_eq m name) (λ k. k.items)
 
 -- ---- Imports of what is said, wherever it stands.
 
-pub said_anywhere : (names : List (List ℕ)) (p q : Place) (ss : List said.Declaration) → flat_map (said_imports names) (map (said_at p) ss) ≡ flat_map (said_imports names) (map (said_at q) ss)
-said_anywhere names p q [] = refl
-said_anywhere names p q (told.Exported n f ∷ ss) = ap (λ ks. imports_in f ++ ks) (said_anywhere names p q ss)
-said_anywhere names p q (told.ForcedImport n ∷ ss) = ap (λ ks. optional_key (key_of names n) ++ ks) (said_anywhere names p q ss)
-said_anywhere names p q (told.Asserted act words f ∷ ss) = ap (λ ks. imports_in f ++ ks) (said_anywhere names p q ss)
+pub said_anywhere : (names : List (List ℕ)) (p q : Place) (x : said.Declaration) → said_imports names (said_at p x) ≡ said_imports names (said_at q x)
+said_anywhere names p q x = grind (arith, common_steps)
 
 -- the imports of entries, whatever the files are
 pub imports_anyhow : (names files more : List (List ℕ)) (es : List Entry) → flat_map (content_imports names) (map (content_of files) es) ≡ flat_map (content_imports names) (map (content_of more) es)
 imports_anyhow names files more [] = refl
-imports_anyhow names files more (Bytes g bytes ∷ es) = imports_anyhow names files more es
-imports_anyhow names files more (Room g n ∷ es) = imports_anyhow names files more es
-imports_anyhow names files more (Value width g o f ∷ es) = ap (λ ks. ((imports_in f ++ []) ++ []) ++ ks) (imports_anyhow names files more es)
-imports_anyhow names files more (Told o ss ∷ es) = λ n. said_anywhere names (place_by files o) (place_by more o) ss n ++ imports_anyhow names files more es n
-imports_anyhow names files more (Waits w ∷ es) = imports_anyhow names files more es
+imports_anyhow names files more (x ∷ es) = grind (arith, common_steps, (imports_anyhow names files more es), said_anywhere)

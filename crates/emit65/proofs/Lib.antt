@@ -6,7 +6,6 @@ pub mod GoodNames
 pub mod GoodObjects
 pub mod GoodSections
 pub mod Grown
-pub mod Joining
 pub mod Keys
 pub mod Naming
 pub mod Ordered

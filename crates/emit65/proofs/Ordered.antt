@@ -1,14 +1,12 @@
 -- The object of all that was fed is that of its contents.
 use Rattle.std.proofs.lemmas.Grind.{common_steps}
-use Rattle.std.proofs.Common.{◌≡◌, ◌∙◌, ℕ, ◌<◌, true, nat_lt, List, [], ◌∷◌, ◌++◌, length, map, refl, sym, ap, arith, subst}
+use Rattle.std.proofs.Common.{◌≡◌, ◌∙◌, ℕ, ◌<◌, true, nat_lt, List, [], ◌∷◌, ◌++◌, length, map, not, refl, sym, ap, arith, subst}
 use Rattle.std.specs.Prelude.{filter_map, slice_get}
-use Rattle.std.specs.List.{AllByRecursion, IsDistinct, flat_map, list_all}
+use Rattle.std.specs.List.{AllByRecursion, IsDistinct, filter, flat_map, list_all}
 use Rattle.std.specs.Str.{bytes_eq}
 use Rattle.std.proofs.lemmas.Bool.Decides.{nat_tests}
-use Rattle.std.proofs.lemmas.List.{map-append}
-use Rattle.std.proofs.lemmas.Simd.{map-map}
 use Rattle.syntax65.specs.declared.place.Place.{Place}
-use Rattle.object65.specs.declared.object.Fragment.TheVariants as fragment
+use Rattle.object65.specs.declared.object.Fragment.{Fragment}
 use Rattle.object65.specs.declared.object.Assert.{Assert}
 use Rattle.object65.specs.declared.object.Export.{Export}
 use Rattle.object65.specs.declared.object.Object.{Object}
@@ -16,24 +14,22 @@ use Rattle.object65.specs.declared.object.Origin.{Origin}
 use Rattle.object65.specs.declared.object.Section.{Section}
 use Rattle.semantics65.specs.Contents.{Content, Declaration, Filled, Known, Part, Waiting}
 use Rattle.semantics65.specs.declared.contents.Declaration as telled
-use Rattle.semantics65.specs.declared.contents.Declaration.TheVariants as told
 use Rattle.semantics65.specs.declared.contents.Segment.{Segment}
 use Rattle.semantics65.specs.Module.{holds}
-use Rattle.semantics65.specs.Numbering.{all_joined, all_said, assert_files, assert_of, export_files, export_of, fragments_of, import_keys, in_files, name_of, names_once, numbered, object_with, once, part_files, parts_in, section_keys, segment_name, segment_power}
+use Rattle.semantics65.specs.Numbering.{all_joined, all_said, assert_files, assert_of, export_files, export_of, fragments_of, import_keys, in_files, is_empty, name_of, names_once, numbered, object_with, once, part_files, parts_in, section_keys, segment_name, segment_power}
 use Rattle.semantics65.specs.Numbering as numbering
 use Rattle.semantics65.specs.Views.{said_at}
 use Rattle.emit65.specs.declared.entries.Entry.{Entry}
-use Rattle.emit65.specs.declared.entries.Entry.TheVariants.{Bytes, Room, Value, Told, Waits}
+use Rattle.emit65.specs.declared.entries.Entry.TheVariants.{Bytes, Room, Value}
 use Rattle.emit65.specs.declared.entries.SourcePos.{SourcePos}
 use Rattle.emit65.specs.declared.numbering.Numbered.{Numbered}
-use Rattle.emit65.specs.declared.numbering.drafts.Saying.{Saying}
+use Rattle.emit65.specs.declared.entries.Saying.{Saying}
 use Rattle.emit65.specs.declared.numbering.keys.Numbers.{Numbers}
 use Rattle.emit65.specs.declared.sections.Closed.{Closed}
 use Rattle.emit65.specs.Fed.{AreAlike, HasSlots, StandIn, content_of, contents_so_far, names_in, place_by, stands_in}
-use Rattle.emit65.specs.Inner.Drafts.{assert_by, assert_keys, asserted_at, draft_keys, draft_of, export_by, export_keys, exported_at, fragment_of, object_of, origin_of, put_in, sayings_at, sayings_of, section_of, value_keys, IsNumbered}
+use Rattle.emit65.specs.Inner.Drafts.{assert_by, assert_keys, asserted_at, draft_keys, draft_of, export_by, export_keys, exported_at, fragment_of, object_of, origin_of, put_in, sayings_of, section_of, value_keys, IsNumbered}
 use Rattle.emit65.proofs.Alikes.{files_by, files_named_by, object_over, same_object}
 use Rattle.emit65.proofs.Grown.{contents_of_slots}
-use Rattle.emit65.proofs.Joining.{kept}
 use Rattle.emit65.proofs.Keys.{imports_anyhow}
 use Rattle.emit65.proofs.Naming.{AreBelow, IsNaming, found_by, naming_more, naming_none, naming_one, once_named}
 use Rattle.emit65.proofs.Renumbering.{left, once_all, right}
@@ -53,24 +49,14 @@ module _ (files : List (List ℕ)) (apart : IsDistinct bytes_eq files) where
 
   parts_are : (g : ℕ) (es : List Entry) → parts_in (contents es) g ≡ map part_of (put_in g es)
   parts_are g [] = refl
-  parts_are g (Bytes h bytes ∷ es) = grind (arith, common_steps, (parts_are g es))
-  parts_are g (Room h n ∷ es) = grind (arith, common_steps, (parts_are g es))
-  parts_are g (Value width h o f ∷ es) = grind (arith, common_steps, (parts_are g es))
-  parts_are g (Told o ss ∷ es) = grind (arith, common_steps, (parts_are g es))
-  parts_are g (Waits w ∷ es) = grind (arith, common_steps, (parts_are g es))
+  parts_are g (x ∷ es) = grind (arith, common_steps, (parts_are g es))
 
   abbrev saying_of : Saying → Declaration
   saying_of t = said_at (place_by files t.pos) t.said
 
   said_are : (es : List Entry) → all_said (contents es) ≡ map saying_of (flat_map sayings_of es)
   said_are [] = refl
-  said_are (Bytes g bytes ∷ es) = said_are es
-  said_are (Room g n ∷ es) = said_are es
-  said_are (Value width g o f ∷ es) = said_are es
-  said_are (Waits w ∷ es) = said_are es
-  said_are (Told o ss ∷ es) =
-      (λ n. sym (map-map saying_of (λ s. record { pos = o; said = s }) ss) n ++ said_are es n)
-      ∙ sym (map-append saying_of (sayings_at o ss) (flat_map sayings_of es))
+  said_are (x ∷ es) = grind (arith, common_steps, (said_are es))
 
   -- ---- Where they stand.
 
@@ -93,17 +79,9 @@ module _ (files : List (List ℕ)) (apart : IsDistinct bytes_eq files) where
   put_stand g [] h = refl
   put_stand g (e ∷ es) h = grind (arith, common_steps, (put_stand g es (others e es h)), first)
 
-  told_more : (o : SourcePos) (ss : List telled.Declaration) (ts : List Saying) → o.file < length files → AreTold ts → AreTold (sayings_at o ss ++ ts)
-  told_more o [] ts lt h = h
-  told_more o (s ∷ ss) ts lt h = (lt, told_more o ss ts lt h)
-
   told_stand : (es : List Entry) → Stand es → AreTold (flat_map sayings_of es)
   told_stand [] h = tt
-  told_stand (Bytes g bytes ∷ es) h = told_stand es (others (Bytes g bytes) es h)
-  told_stand (Room g n ∷ es) h = told_stand es (others (Room g n) es h)
-  told_stand (Value width g o f ∷ es) h = told_stand es (others (Value width g o f) es h)
-  told_stand (Waits w ∷ es) h = told_stand es (others (Waits w) es h)
-  told_stand (Told o ss ∷ es) h = told_more o ss (flat_map sayings_of es) (below_files o.file (first (Told o ss) es h)) (told_stand es (others (Told o ss) es h))
+  told_stand (x ∷ es) h = grind (arith, common_steps, (told_stand es (others x es h)), first, below_files)
 
   -- ---- The files that they name.
 
@@ -111,11 +89,7 @@ module _ (files : List (List ℕ)) (apart : IsDistinct bytes_eq files) where
   Names ks ns = IsNaming files apart ks ns
 
   value_named : (e : Entry) → stands_in (length files) e ≡ true → Names (value_keys e) (part_files (part_of e))
-  value_named (Bytes g bytes) h = naming_none files apart
-  value_named (Room g n) h = naming_none files apart
-  value_named (Value width g o f) h = naming_one files apart o.file (below_files o.file h)
-  value_named (Told o ss) h = naming_none files apart
-  value_named (Waits w) h = naming_none files apart
+  value_named x h = grind (arith, common_steps, naming_none, naming_one, below_files)
 
   values_named : (es : List Entry) → Stand es → Names (flat_map value_keys es) (flat_map part_files (map part_of es))
   values_named [] h = naming_none files apart
@@ -131,9 +105,7 @@ module _ (files : List (List ℕ)) (apart : IsDistinct bytes_eq files) where
       (drafts_named es keys h)
 
   export_named : (o : SourcePos) (s : telled.Declaration) → o.file < length files → Names (exported_at o s) (export_files (said_at (place_by files o) s))
-  export_named o (told.Exported n f) lt = naming_one files apart o.file lt
-  export_named o (told.ForcedImport n) lt = naming_none files apart
-  export_named o (told.Asserted act words f) lt = naming_none files apart
+  export_named o x lt = grind (arith, common_steps, naming_none, naming_one)
 
   exports_named : (ts : List Saying) → AreTold ts → Names (flat_map export_keys ts) (flat_map export_files (map saying_of ts))
   exports_named [] h = naming_none files apart
@@ -142,9 +114,7 @@ module _ (files : List (List ℕ)) (apart : IsDistinct bytes_eq files) where
       (export_named t.pos t.said h.0) (exports_named ts h.1)
 
   assert_named : (o : SourcePos) (s : telled.Declaration) → o.file < length files → Names (asserted_at o s) (assert_files (said_at (place_by files o) s))
-  assert_named o (told.Exported n f) lt = naming_none files apart
-  assert_named o (told.ForcedImport n) lt = naming_none files apart
-  assert_named o (told.Asserted act words f) lt = naming_one files apart o.file lt
+  assert_named o x lt = grind (arith, common_steps, naming_none, naming_one)
 
   asserts_named : (ts : List Saying) → AreTold ts → Names (flat_map assert_keys ts) (flat_map assert_files (map saying_of ts))
   asserts_named [] h = naming_none files apart
@@ -180,15 +150,14 @@ module _ (files : List (List ℕ)) (apart : IsDistinct bytes_eq files) where
     origin_is o lt = λ j. record { file = sym (found_by files apart o.file n.files.keys lt below) j; line = o.line }
 
     fragment_is : (e : Entry) → stands_in (length files) e ≡ true → fragment_of n e ≡ numbering.fragment_of to s i (part_of e)
-    fragment_is (Bytes g bytes) h = refl
-    fragment_is (Room g count) h = refl
-    fragment_is (Value width g o f) h = ap (λ origin. fragment.Value width origin (numbered s i f)) (origin_is o (below_files o.file h))
-    fragment_is (Told o ss) h = refl
-    fragment_is (Waits w) h = refl
+    fragment_is x h = grind (arith, common_steps, origin_is, below_files)
 
     fragments_are : (es : List Entry) → Stand es → map (fragment_of n) es ≡ map (numbering.fragment_of to s i) (map part_of es)
     fragments_are [] h = refl
     fragments_are (e ∷ es) h = λ j. fragment_is e (first e es h) j ∷ fragments_are es (others e es h) j
+
+    abbrev kept : List Fragment → List Fragment
+    kept fs = filter (λ f. not (is_empty f)) fs
 
     sections_are : (segments : List Segment) (es : List Entry) (keys : List ℕ) → Stand es → map (section_of segments n) (map (draft_of es) keys) ≡ map (numbering.section_of to segments s i (contents es)) keys
     sections_are segments es [] h = refl

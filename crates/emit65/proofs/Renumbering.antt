@@ -100,15 +100,7 @@ module _ (s i : List ℕ) where
   same_sum x y = grind (arith, common_steps)
 
   same_difference : (f g : Form) → HasAll s (sections_in f) → HasAll s (sections_in g) → folds_difference (numbered s i f) (numbered s i g) ≡ folds_difference f g
-  same_difference (sec k a) (sec m b) p q = one_number s k m (left (has s k) true p) (left (has s m) true q)
-  same_difference (sec k a) (lit n) p q = refl
-  same_difference (sec k a) (imp m) p q = refl
-  same_difference (sec k a) (prefix op g) p q = refl
-  same_difference (sec k a) (binary op g h) p q = refl
-  same_difference (lit n) g p q = refl
-  same_difference (imp k) g p q = refl
-  same_difference (prefix op f) g p q = refl
-  same_difference (binary op f e) g p q = refl
+  same_difference x y p q = grind (arith, common_steps, one_number, left)
 
   same_binary : (op : Op2) (f g : Form) → HasAll s (sections_in f) → HasAll s (sections_in g) → folds2 op (numbered s i f) (numbered s i g) ≡ folds2 op f g
   same_binary x f g p q = grind (arith, common_steps, same_literal, same_sum, same_difference)

@@ -62,22 +62,13 @@ resolved_append y names (x ∷ xs) zs = by (coming y names x) (λ m. resolved_ap
 -- ---- What is found alike.
 
 found_same : (r : Result (List Content) PlacedFault) → AreFoundAlike r r
-found_same (Ok cs) = alike_same cs
-found_same (Err e) = refl
+found_same x = grind (arith, common_steps, alike_same)
 
 found_trans : (p q r : Result (List Content) PlacedFault) → AreFoundAlike p q → AreFoundAlike q r → AreFoundAlike p r
-found_trans (Ok cs) (Ok ds) (Ok es) h k = alike_trans cs ds es h k
-found_trans (Ok cs) (Ok ds) (Err e) h k = absurd k
-found_trans (Ok cs) (Err e) r h k = absurd h
-found_trans (Err e) (Ok ds) r h k = absurd h
-found_trans (Err e) (Err f) (Ok es) h k = absurd k
-found_trans (Err e) (Err f) (Err g) h k = h ∙ k
+found_trans x y z h k = grind (arith, common_steps, alike_trans)
 
 found_sym : (q r : Result (List Content) PlacedFault) → AreFoundAlike q r → AreFoundAlike r q
-found_sym (Ok cs) (Ok ds) h = alike_sym cs ds h
-found_sym (Ok cs) (Err e) h = absurd h
-found_sym (Err e) (Ok ds) h = absurd h
-found_sym (Err e) (Err f) h = sym h
+found_sym x y h = grind (arith, common_steps, alike_sym)
 
 -- with the same behind both
 come_front : (a b : Finished) (rest : List Content → Finished) → ((cs ds : List Content) → all_said cs ≡ all_said ds → rest cs ≡ rest ds) → ComeAlike a b → ComeAlike (behind a rest) (behind b rest)

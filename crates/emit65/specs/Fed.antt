@@ -1,12 +1,12 @@
 -- What sections are fed with, and what stands in them.
-use Rattle.std.specs.Prelude.{◌≡◌, ℕ, nat_lt, Bool, true, if◌then◌else◌, List, [], ◌∷◌, ◌++◌, map, nat_eq, length, string_bytes, IfSome, Result, Ok, Err}
+use Rattle.std.specs.Prelude.{◌≡◌, ℕ, nat_lt, Bool, true, List, [], ◌∷◌, ◌++◌, map, nat_eq, length, string_bytes, IfSome, Result, Ok, Err}
 use Rattle.std.specs.List.{flat_map, list_all, list_any}
 use Rattle.std.specs.Global.{Vec}
 use Rattle.indexmap.specs.IndexSet.{IndexSet}
 use Rattle.syntax65.specs.declared.place.Place.{Place}
 use Rattle.object65.specs.declared.object.Fragment.{Fragment}
 use Rattle.object65.specs.declared.object.Origin.{Origin}
-use Rattle.semantics65.specs.Contents.{Content, Filled, Known, Waiting, asking, put, telling}
+use Rattle.semantics65.specs.Contents.{Content, Filled, Known, Waiting, put, telling}
 use Rattle.semantics65.specs.Module.{Finished, Slot, holds, resolved, waits}
 use Rattle.semantics65.specs.Module as piece
 use Rattle.semantics65.specs.Numbering.{all_joined, all_said, content_imports, fragments_of, name_of, part_files, parts_in, section_keys}
@@ -25,20 +25,13 @@ use Rattle.emit65.specs.declared.fixups.Piece.TheVariants.{Datum, Operand, Const
 use Rattle.emit65.specs.declared.sections.Closed.{Closed}
 use Rattle.emit65.specs.declared.sections.Sections.{Sections}
 
--- ---- Names of imports.
+-- ---- Sets of names.
 
--- the names of imports, in the order of their keys
+-- the names in a set, in the order in which they were put in: that of an import's key is its place
 abbrev pub names_of : {S : Type 0} → IndexSet (Vec ℕ) S → List (List ℕ)
 names_of s = map (λ k. k.items) s.keys
 
--- ---- What one call feeds, as a content of its own.
-
--- a statement's content, a call at a time
-abbrev pub in_pieces : Content → List Content
-in_pieces c =
-    (if c.asks then asking c.segment ∷ [] else []) ++ map (put c.segment) c.parts ++ telling c.said ∷ []
-
--- ---- Contents that differ for no object.
+-- ---- Alike contents: they come to the same object.
 
 -- Lists of contents that bring the same imports in the same order, put the same bytes, room and values into each
 -- segment, whatever stands before and behind them, with the same files in the same order, and say the same.
@@ -51,7 +44,7 @@ pub record AreAlike (cs ds : List Content) : Type 0 where
   pub files : (g : ℕ) → flat_map part_files (parts_in cs g) ≡ flat_map part_files (parts_in ds g)
   pub said : all_said cs ≡ all_said ds
 
--- ---- Slots that differ for no object.
+-- ---- Alike slots: they come to alike contents, or to the same fault.
 
 -- what a slot holds, nothing so far where it waits
 abbrev pub so_far : Slot → Content
@@ -110,7 +103,7 @@ abbrev pub content_of : List (List ℕ) → Entry → Content
 content_of files (Bytes g bytes) = put g (Known bytes)
 content_of files (Room g n) = put g (Filled n)
 content_of files (Value width g o f) = put g (Waiting width (place_by files o) f)
-content_of files (Told o ss) = telling (map (said_at (place_by files o)) ss)
+content_of files (Told t) = telling (said_at (place_by files t.value.pos) t.value.said ∷ [])
 content_of files (Waits w) = telling []
 
 -- an entry as a slot
@@ -121,7 +114,7 @@ slot_of files e = holds (content_of files e)
 -- the file in which an entry stands is one of so many, where the object may need it
 abbrev pub stands_in : ℕ → Entry → Bool
 stands_in count (Value width g o f) = nat_lt o.file count
-stands_in count (Told o ss) = nat_lt o.file count
+stands_in count (Told t) = nat_lt t.value.pos.file count
 stands_in count (Waits w) = nat_lt w.value.pos.file count
 stands_in count _ = true
 

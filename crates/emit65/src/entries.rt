@@ -19,6 +19,13 @@ pub struct SourcePos {
     pub line: u32,
 }
 
+/// One thing that a statement says, and where that stands.
+#[derive(Drop)]
+pub struct Saying {
+    pub pos: SourcePos,
+    pub said: Declaration,
+}
+
 /// What one call feeds. Of a large source most of what is kept are these, so they are small: fields lie in memory in
 /// the order in which they stand here, and the width of a value fits in beside what tells the variants apart.
 #[derive(Drop)]
@@ -40,11 +47,8 @@ pub enum Entry {
         pos: SourcePos,
         form: Norm,
     },
-    /// What a statement says.
-    Told {
-        pos: SourcePos,
-        said: Sequence<Declaration>,
-    },
+    /// What is said. It is large, and few entries say something.
+    Told(Box<Saying>),
     /// What waits. It is large, and few entries wait.
     Waits(Box<Fixup>),
 }

@@ -8,7 +8,7 @@ pub mod laws;
 mod numbering;
 mod sections;
 
-pub use entries::{Entry, SourcePos};
+pub use entries::{Entry, Saying, SourcePos};
 pub use files::Files;
 pub use fixups::{Fixup, Piece};
 pub use numbering::Imports;

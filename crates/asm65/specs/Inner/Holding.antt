@@ -1,5 +1,5 @@
 -- What the assembler holds between two statements, and what taking one leaves.
-use Rattle.std.specs.Prelude.{◌≡◌, ℕ, ◌<◌, ⊤, false, List, [], ◌∷◌, length, slice_get, Some, ℤ, Bool, true, pos, None, Result, Ok, Err, ◌++◌, if◌then◌else◌}
+use Rattle.std.specs.Prelude.{◌≡◌, ℕ, ◌<◌, ⊤, false, List, [], ◌∷◌, Some, ℤ, Bool, true, pos, None, Result, Ok, Err, ◌++◌, if◌then◌else◌}
 use Rattle.std.specs.List.{AllByRecursion, flat_map, list_all}
 use Rattle.syntax65.specs.Trees.{Tree, name}
 use Rattle.syntax65.specs.declared.place.Place.{Place}

@@ -1,5 +1,5 @@
 -- What calls leave, the states that are held, the lines of a source, and what waits behind them.
-use Rattle.std.specs.Prelude.{◌≡◌, ℕ, ◌+◌, ◌*◌, ◌≤◌, ◌<◌, List, [], ◌∷◌, Option, None, IfErr, IfSome, Bool, true, false, Result, Ok, Err, take, ◌++◌, map, length, if◌then◌else◌}
+use Rattle.std.specs.Prelude.{◌≡◌, ℕ, ◌+◌, ◌*◌, ◌≤◌, ◌<◌, List, [], ◌∷◌, Option, None, IfErr, IfSome, Bool, true, false, Result, Ok, Err, take, ◌++◌, map, length, string_bytes, if◌then◌else◌, ⊤}
 use Rattle.std.specs.List.{list_any}
 use Rattle.std.specs.Str.{bytes_eq}
 use Rattle.base65.specs.Outcome.{Unless, ◌>>=◌}
@@ -24,22 +24,23 @@ use Rattle.symbols65.specs.Resolving.{IsTable}
 use Rattle.asm65.specs.Inner.Holding.{Holds}
 use Rattle.asm65.specs.Assembly.{Without, is_outside_refusal, placed_of}
 use Rattle.std.specs.Option.{option_map, unwrap_or}
-use Rattle.semantics65.specs.Contents.{Content, put, telling, written, exported_names}
+use Rattle.semantics65.specs.Contents.{Content, telling, written, exported_names}
 use Rattle.semantics65.specs.declared.contents.Declaration.{Declaration}
 use Rattle.semantics65.specs.declared.laid.Context.{Context}
 use Rattle.semantics65.specs.Symbols.{Symbols, defined, named}
-use Rattle.semantics65.specs.Views.{part_at, said_at}
+use Rattle.semantics65.specs.Views.{said_at}
 use Rattle.semantics65.specs.Module.{warning_at, Made, Piece, as_said, made_of, is_repeated, Slot, coming, holds, resolved}
 use Rattle.semantics65.specs.Numbering.{AreSound, all_said, object_with}
 use Rattle.object65.specs.declared.object.Object.{Object}
 use Rattle.semantics65.specs.declared.contents.Segment.{Segment}
 use Rattle.object65.specs.Objects.{is_good_object}
-use Rattle.emit65.specs.Fed.{StandIn, contents_so_far, names_of, slot_of, stands_in}
+use Rattle.emit65.specs.Fed.{AreSlotsAlike, StandIn, content_of, contents_so_far, names_of, place_by, slot_of, stands_in}
 use Rattle.emit65.specs.declared.entries.Entry.{Entry}
+use Rattle.emit65.specs.declared.entries.Entry.TheVariants as entry
+use Rattle.emit65.specs.declared.entries.SourcePos.{SourcePos}
 use Rattle.asm65.specs.declared.concluding.Ending.{Ending}
 use Rattle.asm65.specs.declared.texts.AsmRefusal.{AsmRefusal}
-use Rattle.asm65.specs.declared.resolving.Filling.{Filling}
-use Rattle.asm65.specs.declared.resolving.Filling.TheVariants as filling
+use Rattle.asm65.specs.declared.resolving.Spot.{Spot}
 use Rattle.asm65.specs.declared.resolving.Made as code
 
 -- ---- What a call that takes statements leaves.
@@ -197,17 +198,37 @@ pub record IsRefusedUnread (blamed : Blamed) (t : State) (place : Place) (x : St
 
 -- ---- What a piece comes to.
 
--- of a statement that stands here
-abbrev pub content_of : Place → Filling → Content
-content_of place (filling.Part segment part) = put segment (part_at place part)
-content_of place (filling.Told said) = telling (map (said_at place) said)
+-- the files among which it stands, and its place
+abbrev pub files_here : Spot → List (List ℕ)
+files_here t = map string_bytes t.files.now
 
--- with the warning of an assertion that failed
-abbrev pub made_in : Place → code.Made → Made
-made_in place m = record {
-  content = content_of place m.filling;
-  warning = unwrap_or (option_map (warning_at place) m.warning) [];
+abbrev pub place_here : Spot → Place
+place_here t = place_by (files_here t) t.pos
+
+-- an entry of it
+abbrev pub entry_at : Spot → Entry → Content
+entry_at t e = content_of (files_here t) e
+
+-- what is put or said, and the warning of an assertion that failed
+abbrev pub made_at : Spot → code.Made → Made
+made_at t m = record {
+  content = unwrap_or (option_map (entry_at t) m.entry) (telling []);
+  warning = unwrap_or (option_map (warning_at (place_here t)) m.warning) [];
 }
+
+-- an entry stands where the piece does, if it stands anywhere
+abbrev pub StandsWhere : SourcePos → Entry → Type 0
+StandsWhere pos (entry.Value width g o f) = o ≡ pos
+StandsWhere pos (entry.Told t) = t.value.pos ≡ pos
+StandsWhere pos (entry.Waits w) = ⊥
+StandsWhere pos _ = ⊤
+
+abbrev pub StandsAt : SourcePos → code.Made → Type 0
+StandsAt pos m = IfSome m.entry (StandsWhere pos)
+
+-- an entry may stand in the place of a content
+abbrev pub Replaces : List (List ℕ) → Content → Entry → Type 0
+Replaces files c e = AreSlotsAlike (holds c ∷ []) (slot_of files e ∷ [])
 
 -- what a saying comes to that is written with its place
 abbrev pub noted : Place → Declaration → Result Made AsmFault
@@ -237,7 +258,7 @@ pub record AreFed (files : List (List ℕ)) (es : List Entry) : Type 0 where
 pub record IsSettled (y : Symbols) (files : List (List ℕ)) (x : Slot) (e : Entry) (old new : Ending) : Type 0 where
   pub made : Made
   pub found : coming y (names_of old.exported) x ≡ Ok made
-  pub entry : slot_of files e ≡ holds made.content
+  pub entry : Replaces files made.content e
   pub standing : stands_in (length files) e ≡ true
   pub names : names_of new.exported ≡ names_of old.exported ++ exported_names made.content.said
   pub err : new.err ≡ old.err ++ made.warning
@@ -262,7 +283,7 @@ pub record AreSettled (y : Symbols) (files : List (List ℕ)) (xs : List Slot) (
   pub contents : List Content
   pub said : List ℕ
   pub found : resolved y (names_of old.exported) xs ≡ record { found = Ok contents; warned = said }
-  pub entries : map (slot_of files) es ≡ map holds contents
+  pub entries : AreSlotsAlike (map holds contents) (map (slot_of files) es)
   pub standing : StandIn (length files) es
   pub err : new.err ≡ old.err ++ said
 

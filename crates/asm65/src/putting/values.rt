@@ -4,7 +4,7 @@ ghost use Rattle.std.specs.Prelude.{◌≡◌, drop, IfOk, IfSome, map, Ok, OnOk
 ghost use Rattle.semantics65.specs.Norms.{literal_in};
 ghost use Rattle.semantics65.specs.Contents.{file_bytes, operand_form, put, stored, Known};
 ghost use Rattle.ast65.specs.Items.{numbered};
-ghost use Rattle.semantics65.specs.Views.{place_at, part_at};
+ghost use Rattle.semantics65.specs.Views.{place_at};
 ghost use Rattle.asm65.specs.Inner.Holding.{AreStored, IsPut, operand_stored, KeepsTables, Waits, IsTried, Enters};
 ghost use Rattle.base65.specs.Outcome.{Gives};
 ghost use Rattle.ast65.specs.Faults.{is_memory};
@@ -14,12 +14,12 @@ ghost use Rattle.semantics65.specs.Module.{datum, operand, valued};
 
 use super::Site;
 use crate::assembler::Assembler;
-use ast65::{AsmFault, Item};
+use ast65::Item;
 use base65::Sequence;
 use emit65::{Piece, Sections};
 use object65::format::FILE_NAME_LIMIT;
 use object65::{Node, Norm, Width, fits, put};
-use semantics65::{At, Context, Part, Settled};
+use semantics65::{At, Context, Settled};
 use std::alloc::{AllocError, Global};
 use symbols65::{operand_form, stable_form};
 use syntax65::{Expr, ExprKind};
@@ -150,28 +150,6 @@ pub fn is_file_name(name: &str) -> bool
     ensures { result ≡ is_file_name name.now }
 {
     name.len() <= FILE_NAME_LIMIT
-}
-
-/// What is stored of a value: its bytes where it is a literal.
-pub fn stored(alloc: Global, width: Width, at: At<'_>, form: Norm) -> Result<Part, AsmFault>
-    ensures { Gives is_memory (part_at (place_at at.entry)) result
-        (stored width (place_at at.entry) form) }
-{
-    match literal_of(&form) {
-        Some(value) => {
-            if !fits(width, value) {
-                return Err(AsmFault::OutOfRange);
-            }
-            let bytes = Vec::from_slice(alloc, &put(width, value))?;
-            Ok(Part::Known(Sequence::from_vec(bytes)))
-        }
-        None => {
-            if !is_file_name(at.file) {
-                return Err(AsmFault::FileNameTooLong);
-            }
-            Ok(Part::Waiting { width, form })
-        }
-    }
 }
 
 /// A piece of a statement waits.

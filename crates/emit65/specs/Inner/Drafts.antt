@@ -23,7 +23,7 @@ use Rattle.emit65.specs.declared.entries.SourcePos.{SourcePos}
 use Rattle.emit65.specs.Fed as fed
 use Rattle.emit65.specs.declared.numbering.Numbered.{Numbered}
 use Rattle.emit65.specs.declared.numbering.drafts.Draft.{Draft}
-use Rattle.emit65.specs.declared.numbering.drafts.Saying.{Saying}
+use Rattle.emit65.specs.declared.entries.Saying.{Saying}
 use Rattle.emit65.specs.declared.numbering.exports.Declared.{Declared}
 use Rattle.emit65.specs.declared.numbering.fragments.Joined.{Joined}
 use Rattle.emit65.specs.declared.numbering.keys.Numbers.{Numbers}
@@ -57,12 +57,9 @@ draft_of es g = record { segment = g; entries = put_in g es }
 abbrev pub with_entry : Entry → Draft → Draft
 with_entry e d = if is_segment d.segment (segment_of e) then record d { entries = d.entries ++ e ∷ [] } else d
 
-abbrev pub sayings_at : SourcePos → List Declaration → List Saying
-sayings_at o ss = map (λ s. record { pos = o; said = s }) ss
-
 -- what an entry says
 abbrev pub sayings_of : Entry → List Saying
-sayings_of (Told o ss) = sayings_at o ss
+sayings_of (Told t) = t.value ∷ []
 sayings_of _ = []
 
 -- ---- Files, by their places in the table of all.

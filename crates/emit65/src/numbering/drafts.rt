@@ -2,12 +2,11 @@
 
 ghost use Rattle.std.specs.Prelude.{◌≡◌, ◌++◌, [], map, nat_eq, IfOk, OnOk};
 ghost use Rattle.std.specs.List.{flat_map, IsDistinct};
-ghost use Rattle.emit65.specs.Inner.Drafts.{draft_of, sayings_at, sayings_of, segment_of, with_entry};
+ghost use Rattle.emit65.specs.Inner.Drafts.{draft_of, sayings_of, segment_of, with_entry};
 
-use crate::entries::{Entry, SourcePos};
+use crate::entries::{Entry, Saying};
 use base65::Sequence;
 use indexmap::IndexSet;
-use semantics65::Declaration;
 use std::alloc::{AllocError, Global};
 
 /// A section in the making: the entries that put something into a segment.
@@ -15,13 +14,6 @@ use std::alloc::{AllocError, Global};
 pub struct Draft {
     pub segment: u32,
     pub entries: Sequence<Entry>,
-}
-
-/// One thing that is said, and where its statement stands.
-#[derive(Drop)]
-pub struct Saying {
-    pub pos: SourcePos,
-    pub said: Declaration,
 }
 
 /// What was fed, by section, and what is said.
@@ -38,7 +30,7 @@ fn segment_of(entry: &Entry) -> Option<u32>
     match entry {
         Entry::Bytes { segment, .. } | Entry::Room { segment, .. } => Some(*segment),
         Entry::Value { segment, .. } => Some(*segment),
-        Entry::Told { .. } | Entry::Waits(_) => None,
+        Entry::Told(_) | Entry::Waits(_) => None,
     }
 }
 
@@ -62,20 +54,6 @@ fn add_put(
     Ok(())
 }
 
-/// Adds what is said at one place.
-fn add_told(
-    told: &mut Sequence<Saying>,
-    pos: SourcePos,
-    said: Sequence<Declaration>,
-) -> Result<(), AllocError>
-    ensures { OnOk result (told.new ≡ told.old ++ sayings_at pos said) }
-{
-    for said in said.into_vec() {
-        told.push(Saying { pos, said })?;
-    }
-    Ok(())
-}
-
 /// Adds an entry to those of its kind.
 fn add_entry(sections: &IndexSet<u32>, parted: &mut Parted, entry: Entry) -> Result<(), AllocError>
     requires keys { map (λ d. d.segment) parted.old.drafts.items ≡ sections.now.keys }
@@ -85,7 +63,7 @@ fn add_entry(sections: &IndexSet<u32>, parted: &mut Parted, entry: Entry) -> Res
     ensures told { OnOk result (parted.new.told ≡ parted.old.told ++ sayings_of entry) }
 {
     match entry {
-        Entry::Told { pos, said } => add_told(&mut parted.told, pos, said),
+        Entry::Told(saying) => parted.told.push(Box::into_inner(saying)),
         put => add_put(sections, &mut parted.drafts, put),
     }
 }

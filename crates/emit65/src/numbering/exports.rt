@@ -3,8 +3,8 @@
 ghost use Rattle.std.specs.Prelude.{◌≡◌, ◌++◌, ◌∷◌, [], filter_map, IfOk, OnOk};
 ghost use Rattle.emit65.specs.Inner.Drafts.{assert_by, DeclaredFits, export_by};
 
-use super::drafts::Saying;
 use super::keys::{Numbers, numbered, origin_of};
+use crate::entries::Saying;
 use base65::Sequence;
 use object65::{Assert, Export};
 use semantics65::Declaration;

@@ -90,7 +90,7 @@ fn add_entry(
                 },
             )
         }
-        Entry::Told { .. } | Entry::Waits(_) => Ok(()),
+        Entry::Told(_) | Entry::Waits(_) => Ok(()),
     }
 }
 

@@ -137,12 +137,7 @@ fn add_entry(keys: &mut IndexSet<u32>, imports: &Imports, entry: &Entry) -> Resu
 {
     match entry {
         Entry::Value { form, .. } => add_form(keys, form),
-        Entry::Told { pos: _, said } => {
-            for saying in said.as_slice() {
-                add_saying(keys, imports, saying)?;
-            }
-            Ok(())
-        }
+        Entry::Told(saying) => add_saying(keys, imports, &saying.said),
         Entry::Bytes { .. } | Entry::Room { .. } | Entry::Waits(_) => Ok(()),
     }
 }

@@ -6,8 +6,8 @@ ghost use Rattle.std.specs.Str.{is_utf8};
 ghost use Rattle.semantics65.specs.Numbering.{name_of, once};
 ghost use Rattle.emit65.specs.Inner.Drafts.{assert_keys, draft_keys, export_keys, HasLast, order_of, value_keys};
 
-use super::drafts::{Draft, Parted, Saying};
-use crate::entries::{Entry, SourcePos};
+use super::drafts::{Draft, Parted};
+use crate::entries::{Entry, Saying, SourcePos};
 use base65::Sequence;
 use indexmap::IndexSet;
 use semantics65::Declaration;

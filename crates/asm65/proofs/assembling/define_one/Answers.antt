@@ -1,4 +1,4 @@
-use Rattle.std.proofs.Common.{◌∙◌, ℕ, ◌+◌, ◌<◌, List, subst}
+use Rattle.std.proofs.Common.{ℕ, ◌+◌, ◌<◌, List, subst}
 use Rattle.syntax65.specs.Trees.{Tree, number}
 use Rattle.ast65.specs.declared.language.Statement.TheVariants.{Constant}
 use Rattle.semantics65.specs.Machine.{State, Takes}

@@ -1,6 +1,5 @@
-use Rattle.std.proofs.Common.{◌≡◌, ℕ, List, [], false, subst}
-use Rattle.std.specs.Prelude.{None, Result}
-use Rattle.object65.specs.declared.object.Object.{Object}
+use Rattle.std.proofs.Common.{◌≡◌, ℕ, List, [], subst}
+use Rattle.std.specs.Prelude.{None}
 use Rattle.semantics65.specs.declared.contents.Segment.{Segment}
 use Rattle.semantics65.specs.Machine.{State, concluded}
 use Rattle.semantics65.specs.Module.{Slot}

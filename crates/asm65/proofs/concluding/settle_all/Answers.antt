@@ -1,4 +1,4 @@
-use Rattle.std.proofs.Common.{◌≡◌, ◌+◌, ◌<◌, ◌≤◌, List, ℕ, [], ◌∷◌, ◌++◌, add-one, ap, arith, drop, get_or, length, map, string_bytes, subst, sym, take, Global}
+use Rattle.std.proofs.Common.{◌≡◌, ◌+◌, ◌<◌, ◌≤◌, List, ℕ, [], ◌∷◌, add-one, ap, arith, drop, get_or, length, map, string_bytes, subst, sym, take, Global}
 use Rattle.std.proofs.Math.Seq.{drop-cons}
 use Rattle.std.proofs.lemmas.List.{drop-set-lt, drop_all, take_all, take_at, take_more_set}
 use Rattle.std.proofs.lemmas.Result.{err_from_is_err_and}

@@ -1,63 +1,59 @@
 use Rattle.std.proofs.Common.{◌≡◌, ◌∙◌, ap, sym, refl, length, map, true, false, string_bytes, Global, List, ℕ}
-use Rattle.std.specs.Prelude.{Result, Err, Ok, nat_lt}
+use Rattle.std.specs.Prelude.{Result, Err, nat_lt}
 use Rattle.syntax65.specs.declared.place.Place.{Place}
 use Rattle.ast65.specs.declared.fault.AsmFault.{AsmFault}
 use Rattle.ast65.specs.Faults.{is_outside}
 use Rattle.semantics65.specs.Module.{Fixup, Made, waits}
 use Rattle.semantics65.specs.Reading.{PlacedFault, at_place}
-use Rattle.semantics65.specs.Symbols.{Symbols}
 use Rattle.semantics65.specs.Views.{place_in}
 use Rattle.symbols65.specs.Views.{table_of}
-use Rattle.emit65.specs.Fed.{fixup_of, names_of, piece_of}
-use Rattle.asm65.specs.Assembly.{is_outside_refusal, placed_of}
-use Rattle.asm65.specs.Inner.Running.{IsFaulty, comes_behind, made_in}
+use Rattle.emit65.specs.Fed.{fixup_of, names_of}
+use Rattle.asm65.specs.Assembly.{is_outside_refusal}
+use Rattle.asm65.specs.Inner.Running.{IsFaulty, made_at}
 use Rattle.asm65.specs.declared.resolving.Made.{Made as CodeMade}
+use Rattle.asm65.specs.declared.resolving.Spot.{Spot}
 use Rattle.asm65.proofs.Insides.{resolved_inside}
-use Rattle.asm65.proofs.Conclusions.{found_inside, no_more, unless}
+use Rattle.asm65.proofs.Conclusions.{found_inside, no_more, stands_there, unless}
 use Rattle.asm65.proofs.concluding.settle_fixup.Goals as goal
 
 pub returns-in-Ok-take_made-clause-settled : goal.returns-in-Ok-take_made-clause-settled
 returns-in-Ok-take_made-clause-settled c =
-    let y : Symbols = table_of c.args.whole.symbols.now in
     let files : List (List ℕ) = map (string_bytes {Z = Global}) c.args.whole.files.now in
     let w : Fixup = fixup_of files c.args.fixup in
-    let names = names_of c.args.ending.now.exported in
-    let here : Place = place_in c.file_at.result.now c.args.fixup.pos.line in
-    let place : here ≡ w.place = ap (λ (n : List ℕ). place_in n c.args.fixup.pos.line) c.file_at.ensures in
+    let spot : Spot = record { files = c.args.whole.files; pos = c.args.fixup.pos } in
     λ (h : nat_lt c.args.fixup.pos.file (length files) ≡ true).
     record {
-      made = made_in here c.in-Ok.made;
-      found = ap (λ (p : Place). at_place p (comes_behind y names p w.context w.piece)) (sym place) ∙ ap (at_place here) c.in-Ok.ensures.made;
-      entry = c.in-Ok-take_made.ensures.entry files (sym place);
-      standing = c.in-Ok-take_made.ensures.standing (length files) h;
+      made = made_at spot c.in-Ok.made;
+      found = ap (at_place w.place) c.in-Ok.ensures.made;
+      entry = c.in-Ok-take_made.ensures.entry;
+      standing = stands_there (length files) c.args.fixup.pos c.in-Ok-take_made.entry h c.in-Ok-take_made.ensures.standing;
       names = c.in-Ok.ensures.more;
       err = c.in-Ok-take_made.ensures.err;
     }
 
 pub returns-in-Err-clause-settled : goal.returns-in-Err-clause-settled
 returns-in-Err-clause-settled c =
-    let y : Symbols = table_of c.args.whole.symbols.now in
     let files : List (List ℕ) = map (string_bytes {Z = Global}) c.args.whole.files.now in
     let w : Fixup = fixup_of files c.args.fixup in
-    let names = names_of c.args.ending.now.exported in
-    let here : Place = place_in c.file_at.result.now c.args.fixup.pos.line in
-    let place : here ≡ w.place = ap (λ (n : List ℕ). place_in n c.args.fixup.pos.line) c.file_at.ensures in
+    let here : Place = place_in c.file.result.now c.args.fixup.pos.line in
+    let place : here ≡ w.place = ap (λ (n : List ℕ). place_in n c.args.fixup.pos.line) c.file.ensures in
     λ (h : nat_lt c.args.fixup.pos.file (length files) ≡ true).
-    unless (is_outside_refusal c.of_fault.result) (IsFaulty y (waits w) c.of_fault.result c.args.ending.now (record { known = c.resolve.new.known; exported = c.resolve.new.exported; err = c.args.ending.now.err }))
+    unless (is_outside_refusal c.of_fault.result) (IsFaulty (table_of c.args.whole.symbols.now) (waits w) c.of_fault.result c.args.ending.now (record { known = c.resolve.new.known; exported = c.resolve.new.exported; err = c.args.ending.now.err }))
     (λ (e : is_outside_refusal c.of_fault.result ≡ false).
     let inside : is_outside c.in-Err.fault ≡ false = no_more (is_outside c.in-Err.fault) (is_outside_refusal c.of_fault.result) c.of_fault.ensures.outside e in
     let lost : PlacedFault → Result Made PlacedFault = λ p. Err p in
     record {
       found =
-          ap (λ (p : Place). at_place p (comes_behind y names p w.context w.piece)) (sym place)
-          ∙ ap (at_place here) (found_inside c.in-Err.fault _ c.in-Err.ensures.made inside)
+          ap (at_place w.place) (found_inside c.in-Err.fault _ c.in-Err.ensures.made inside)
+          ∙ ap (λ (p : Place). lost (record { place = p; fault = c.in-Err.fault })) (sym place)
           ∙ ap lost (sym (c.of_fault.ensures.placed e));
       err = refl;
     })
 
 pub returns-in-Err-clause-inside : goal.returns-in-Err-clause-inside
 returns-in-Err-clause-inside c =
-    let names = names_of c.args.ending.now.exported in
-    let here : Place = place_in c.file_at.result.now c.args.fixup.pos.line in
+    let files : List (List ℕ) = map (string_bytes {Z = Global}) c.args.whole.files.now in
+    let w : Fixup = fixup_of files c.args.fixup in
+    let spot : Spot = record { files = c.args.whole.files; pos = c.args.fixup.pos } in
     let answer : Result CodeMade AsmFault = Err c.in-Err.fault in
-    c.of_fault.ensures.inside (resolved_inside answer (made_in here) (table_of c.args.whole.symbols.now) names here c.args.fixup.context (piece_of c.args.fixup.piece) c.in-Err.ensures.made)
+    c.of_fault.ensures.inside (resolved_inside answer (made_at spot) (table_of c.args.whole.symbols.now) (names_of c.args.ending.now.exported) w.place w.context w.piece c.in-Err.ensures.made)

@@ -1,23 +1,22 @@
 use Rattle.ast65.specs.Faults.{is_memory}
 use Rattle.semantics65.specs.Module.{asserted, used}
-use Rattle.semantics65.specs.Views.{place_at}
 use Rattle.emit65.specs.Fed.{names_of}
-use Rattle.asm65.specs.Inner.Running.{made_in}
+use Rattle.asm65.specs.Inner.Running.{made_at, place_here}
 use Rattle.asm65.proofs.Exports.{names_stay, none_asserted}
 use Rattle.asm65.proofs.resolving.resolve.Goals as goal
 
 pub returns-in_ok-form-in-Assertion-clause-made : goal.returns-in_ok-form-in-Assertion-clause-made
 returns-in_ok-form-in-Assertion-clause-made c =
-    rw (c.in-Assertion.is, c.in_ok-form-in-Assertion.ensures.form) (c.use_assertion.ensures c.args.fixup.context)
+    rw (c.in-Assertion.is, c.in_ok-form-in-Assertion.ensures.form) (c.use_assertion.ensures.made c.args.fixup.context)
 
 pub returns-in_ok-form-in-Assertion-clause-more : goal.returns-in_ok-form-in-Assertion-clause-more
 returns-in_ok-form-in-Assertion-clause-more c =
-    let place = place_at c.args.at in
+    let place = place_here c.args.spot in
     let s = c.args.fixup.context in
     let act = c.in-Assertion.action in
     let words = c.in-Assertion.text in
     let f = c.in_ok-form-in-Assertion.form in
-    names_stay is_memory (made_in place) (names_of c.args.exported.now) c.use_assertion.result (used place s (asserted act words) f) (none_asserted place s act words f) (c.use_assertion.ensures s)
+    names_stay is_memory (made_at c.args.spot) (names_of c.args.exported.now) c.use_assertion.result (used place s (asserted act words) f) (none_asserted place s act words f) (c.use_assertion.ensures.made s)
 
 pub returns-in-Some-defined-clause-made : goal.returns-in-Some-defined-clause-made
 returns-in-Some-defined-clause-made c = rw c.in-Export.is (c.resolve_export.ensures.made c.in-Export.must c.args.fixup.context)

@@ -1,8 +1,7 @@
 use Rattle.std.proofs.Common.{[], ◌∷◌, Some, length, subst, sym, ap}
-use Rattle.syntax65.specs.Trees.{Tree}
 use Rattle.syntax65.specs.declared.place.Place.{Place}
 use Rattle.semantics65.specs.declared.laid.Context.{Context}
-use Rattle.semantics65.specs.Symbols.{Definition, Symbols, named}
+use Rattle.semantics65.specs.Symbols.{Definition, named}
 use Rattle.semantics65.specs.Views.{place_in}
 use Rattle.semantics65.specs.Module.{equated, valued}
 use Rattle.std.specs.Result.{result_ok}

@@ -1,5 +1,5 @@
 use Rattle.std.proofs.Common.{◌∙◌, map, sym, ap}
-use Rattle.std.specs.Prelude.{Some, None, true, Ok}
+use Rattle.std.specs.Prelude.{Some, None, true}
 use Rattle.ast65.specs.declared.language.Statement.{Statement}
 use Rattle.ast65.specs.declared.language.Statement.TheVariants as statement
 use Rattle.semantics65.specs.Views.{place_in}

@@ -1,5 +1,4 @@
 pub mod Each
-pub mod Made
 pub mod Rows
 pub mod SmallValues
 pub mod SomeLine

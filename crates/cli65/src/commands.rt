@@ -3,6 +3,7 @@
 ghost use Rattle.std.specs.Prelude.{◌≡◌, IfOk, false};
 ghost use Rattle.clap.specs.Words.{app_of, rule_of};
 ghost use Rattle.cli65.specs.CommandLine.{Adds, IsMade, named, bin65, ar65, ca65, ld65};
+ghost use Rattle.cli65.specs.CommandLine.{any_words_rule, flag_rule, option_rule, repeated_option_rule, required_option_rule, word_rule, words_rule};
 
 use clap::{Arg, ArgAction, Command};
 use std::alloc::{AllocError, Global};
@@ -15,57 +16,124 @@ fn with<'a>(command: Command<'a>, arg: Arg<'a>) -> Result<Command<'a>, AllocErro
     command.arg(arg)
 }
 
+/// The command with an option of one value.
+fn with_option<'a>(
+    alloc: Global,
+    command: Command<'a>,
+    id: &'a str,
+    short: char,
+) -> Result<Command<'a>, AllocError>
+    ensures { IfOk result (λ c. Adds command.entry (option_rule id.entry.now short) c) }
+{
+    with(command, Arg::new(alloc, id).short(short))
+}
+
+/// The command with an option that has to be there.
+fn with_required_option<'a>(
+    alloc: Global,
+    command: Command<'a>,
+    id: &'a str,
+    short: char,
+) -> Result<Command<'a>, AllocError>
+    ensures { IfOk result (λ c. Adds command.entry (required_option_rule id.entry.now short) c) }
+{
+    with(command, Arg::new(alloc, id).short(short).required(true))
+}
+
+/// The command with an option that may be repeated.
+fn with_repeated_option<'a>(
+    alloc: Global,
+    command: Command<'a>,
+    id: &'a str,
+    short: char,
+) -> Result<Command<'a>, AllocError>
+    ensures { IfOk result (λ c. Adds command.entry (repeated_option_rule id.entry.now short) c) }
+{
+    with(
+        command,
+        Arg::new(alloc, id).short(short).action(ArgAction::Append),
+    )
+}
+
+/// The command with an option without a value.
+fn with_flag<'a>(
+    alloc: Global,
+    command: Command<'a>,
+    id: &'a str,
+    short: char,
+) -> Result<Command<'a>, AllocError>
+    ensures { IfOk result (λ c. Adds command.entry (flag_rule id.entry.now short) c) }
+{
+    with(
+        command,
+        Arg::new(alloc, id).short(short).action(ArgAction::SetTrue),
+    )
+}
+
+/// The command with a word that has to be there.
+fn with_word<'a>(
+    alloc: Global,
+    command: Command<'a>,
+    id: &'a str,
+) -> Result<Command<'a>, AllocError>
+    ensures { IfOk result (λ c. Adds command.entry (word_rule id.entry.now) c) }
+{
+    with(command, Arg::new(alloc, id).required(true))
+}
+
+/// The command with any number of words.
+fn with_any_words<'a>(
+    alloc: Global,
+    command: Command<'a>,
+    id: &'a str,
+) -> Result<Command<'a>, AllocError>
+    ensures { IfOk result (λ c. Adds command.entry (any_words_rule id.entry.now) c) }
+{
+    with(command, Arg::new(alloc, id).action(ArgAction::Append))
+}
+
+/// The command with words of which there has to be one.
+fn with_words<'a>(
+    alloc: Global,
+    command: Command<'a>,
+    id: &'a str,
+) -> Result<Command<'a>, AllocError>
+    ensures { IfOk result (λ c. Adds command.entry (words_rule id.entry.now) c) }
+{
+    with(
+        command,
+        Arg::new(alloc, id).required(true).action(ArgAction::Append),
+    )
+}
+
 /// `ca65 [-o FILE] [-I DIR].. [-D NAME[=NUMBER]].. [-g] SOURCE`
 fn ca65<'a>(alloc: Global) -> Result<Command<'a>, AllocError>
     ensures { IfOk result (λ c. IsMade ca65 c) }
 {
-    let output = Arg::new(alloc, "output").short('o');
-    let include = Arg::new(alloc, "include")
-        .short('I')
-        .action(ArgAction::Append);
-    let define = Arg::new(alloc, "define")
-        .short('D')
-        .action(ArgAction::Append);
-    let debug = Arg::new(alloc, "debug")
-        .short('g')
-        .action(ArgAction::SetTrue);
-    let source = Arg::new(alloc, "source").required(true);
-    let command = with(Command::new(alloc, "ca65"), output)?;
-    let command = with(command, include)?;
-    let command = with(command, define)?;
-    let command = with(command, debug)?;
-    let command = with(command, source)?;
-    Ok(command)
+    let command = with_option(alloc, Command::new(alloc, "ca65"), "output", 'o')?;
+    let command = with_repeated_option(alloc, command, "include", 'I')?;
+    let command = with_repeated_option(alloc, command, "define", 'D')?;
+    let command = with_flag(alloc, command, "debug", 'g')?;
+    with_word(alloc, command, "source")
 }
 
 /// `ld65 -C SCRIPT [-o FILE] [-m MAP] INPUT..`
 fn ld65<'a>(alloc: Global) -> Result<Command<'a>, AllocError>
     ensures { IfOk result (λ c. IsMade ld65 c) }
 {
-    let script = Arg::new(alloc, "script").short('C').required(true);
-    let output = Arg::new(alloc, "output").short('o');
-    let map = Arg::new(alloc, "map").short('m');
-    let input = Arg::new(alloc, "input")
-        .required(true)
-        .action(ArgAction::Append);
-    let command = with(Command::new(alloc, "ld65"), script)?;
-    let command = with(command, output)?;
-    let command = with(command, map)?;
-    let command = with(command, input)?;
-    Ok(command)
+    let command = with_required_option(alloc, Command::new(alloc, "ld65"), "script", 'C')?;
+    let command = with_option(alloc, command, "output", 'o')?;
+    let command = with_option(alloc, command, "map", 'm')?;
+    with_words(alloc, command, "input")
 }
 
 /// `ar65 OP LIBRARY [FILE]..`
 fn ar65<'a>(alloc: Global) -> Result<Command<'a>, AllocError>
     ensures { IfOk result (λ c. IsMade ar65 c) }
 {
-    let operation = Arg::new(alloc, "operation").required(true);
-    let library = Arg::new(alloc, "library").required(true);
-    let file = Arg::new(alloc, "file").action(ArgAction::Append);
-    let command = with(Command::new(alloc, "ar65"), operation)?;
-    let command = with(command, library)?;
-    let command = with(command, file)?;
-    Ok(command)
+    let command = with_word(alloc, Command::new(alloc, "ar65"), "operation")?;
+    let command = with_word(alloc, command, "library")?;
+    with_any_words(alloc, command, "file")
 }
 
 /// The program's own part.

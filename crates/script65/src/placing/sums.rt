@@ -1,7 +1,6 @@
 //! What the sums of areas come to.
 
-ghost use Rattle.std.specs.Prelude.{◌≡◌, ◌≤◌, ◌++◌, ◌^◌, [], IfOk, codes, is_some, map, slice_get};
-ghost use Rattle.std.specs.Option.{option_map_or};
+ghost use Rattle.std.specs.Prelude.{◌≡◌, ◌≤◌, ◌++◌, ◌^◌, IfOk, codes, is_some, map, slice_get};
 ghost use Rattle.script65.specs.declared.script.Area.{Area};
 ghost use Rattle.script65.specs.declared.script.Row.{Row};
 ghost use Rattle.base65.specs.Outcome.{Gives};
@@ -65,12 +64,6 @@ impl Standing<'_> {
         }
     }
 
-    fn row_place(&self, row: usize) -> Option<RowPlace>
-        ensures { result ≡ slice_get (map row_place self.now.spots.now) row }
-    {
-        self.spots.get(row).map(|spot| row_place(*spot))
-    }
-
     fn operand_value(&self, operand: Operand) -> u64
         ensures { result ≡ operand_value (places_there (standing_in self.now)) (map row_place self.now.spots.now) operand }
     {
@@ -84,11 +77,11 @@ impl Standing<'_> {
                 },
                 None => 0,
             },
-            Operand::Row(row, part) => match self.row_place(row) {
-                Some(place) => match part {
-                    RowPart::Load => place.load,
-                    RowPart::Run => place.run,
-                    RowPart::Size => place.size,
+            Operand::Row(row, part) => match self.spots.get(row) {
+                Some(spot) => match part {
+                    RowPart::Load => spot.load,
+                    RowPart::Run => spot.run,
+                    RowPart::Size => spot.size.unwrap_or(0),
                 },
                 None => 0,
             },
@@ -129,32 +122,20 @@ impl Standing<'_> {
         None
     }
 
-    fn area_name(&self, place: usize) -> &[u8]
-        ensures { result.now ≡ option_map_or (λ (a : Area). a.name) (slice_get self.now.areas.now place) [] }
-    {
-        match self.areas.get(place) {
-            Some(area) => area.name.as_slice(),
-            None => &[],
-        }
-    }
-
-    fn row_name(&self, place: usize) -> &[u8]
-        ensures { result.now ≡ option_map_or (λ (r : Row). r.name) (slice_get self.now.rows.now place) [] }
-    {
-        match self.rows.get(place) {
-            Some(row) => row.name.as_slice(),
-            None => &[],
-        }
-    }
-
     // The name that an operand was written as.
     fn operand_name(&self, alloc: Global, operand: Operand) -> Result<Sequence<u8>, AllocError>
         ensures { IfOk result (λ name. name ≡ operand_name self.now.areas.now self.now.rows.now operand) }
     {
         match operand {
             Operand::Number(_) => Ok(Sequence::new(alloc)),
-            Operand::Area(place, part) => part_name(alloc, self.area_name(place), part.ending()),
-            Operand::Row(row, part) => part_name(alloc, self.row_name(row), part.ending()),
+            Operand::Area(place, part) => match self.areas.get(place) {
+                Some(area) => part_name(alloc, area.name.as_slice(), part.ending()),
+                None => part_name(alloc, b"", part.ending()),
+            },
+            Operand::Row(row, part) => match self.rows.get(row) {
+                Some(row) => part_name(alloc, row.name.as_slice(), part.ending()),
+                None => part_name(alloc, b"", part.ending()),
+            },
         }
     }
 

@@ -1,10 +1,10 @@
 //! What is read of a script: entries, and what they give.
 
-ghost use Rattle.std.specs.Prelude.{◌≡◌, ◌++◌, ◌∷◌, [], codes, position, slice_get, IfOk, OnOk, false};
+ghost use Rattle.std.specs.Prelude.{◌≡◌, ◌++◌, ◌∷◌, [], position, slice_get, OnOk, false};
 ghost use Rattle.std.specs.List.{list_any};
 ghost use Rattle.std.specs.Option.{option_and_then, option_copied, option_map};
 ghost use Rattle.std.specs.Str.{bytes_eq};
-ghost use Rattle.script65.specs.Entries.{area_closing, closing_fault, given_for, has_name, is_given, no_entries, number_for, parts_for, role_for, value_for, with_entry, with_given};
+ghost use Rattle.script65.specs.Entries.{closing_fault, given_for, has_name, is_given, no_entries, number_for, parts_for, role_for, value_for, with_entry};
 ghost use Rattle.script65.specs.Scripts.{access_of, as_area, fill_or, number_or, says_yes};
 ghost use Rattle.script65.specs.declared.reading.entries.Entry.{Entry};
 
@@ -164,7 +164,14 @@ impl<'a> Entry<'a> {
         ensures { result ≡ closing_fault block self.now }
     {
         match block {
-            Block::Memory => self.area_fault(),
+            Block::Memory => {
+                if !(self.is_given("start") && self.is_given("size")) {
+                    return Some(Fault::AttributeMissing);
+                }
+                let start = self.number_or(0, "start");
+                let size = self.number_or(0, "size");
+                (u64::from(start) + u64::from(size) > 1 << 32).then_some(Fault::OutOfRange)
+            }
             Block::Segments => (!self.is_given("load")).then_some(Fault::AttributeMissing),
             Block::Symbols => match self.role() {
                 None => Some(Fault::AttributeMissing),
@@ -172,17 +179,6 @@ impl<'a> Entry<'a> {
                 Some(_) => (!self.is_given("value")).then_some(Fault::AttributeMissing),
             },
         }
-    }
-
-    fn area_fault(&self) -> Option<Fault>
-        ensures { result ≡ area_closing self.now }
-    {
-        if !(self.is_given("start") && self.is_given("size")) {
-            return Some(Fault::AttributeMissing);
-        }
-        let start = self.number_or(0, "start");
-        let size = self.number_or(0, "size");
-        (u64::from(start) + u64::from(size) > 1 << 32).then_some(Fault::OutOfRange)
     }
 }
 

@@ -3,7 +3,7 @@
 ghost use Rattle.std.specs.Prelude.{◌≡◌, IfOk, map};
 ghost use Rattle.base65.specs.Outcome.{Gives, each};
 ghost use Rattle.script65.specs.Faults.{is_outside};
-ghost use Rattle.script65.specs.Scripts.{area_for, area_from, begin_at, exclude_each_other, file_of, row_from, script_from, symbol_from};
+ghost use Rattle.script65.specs.Scripts.{area_for, area_from, file_of, row_from, script_from, symbol_from};
 
 use crate::fault::{Fault, Stop};
 use crate::reading::entries::{Entries, Entry, Table, Value};
@@ -68,32 +68,22 @@ fn area_for(
     place.ok_or(Stop::new(Fault::NoSuchArea, entry.at))
 }
 
-// Whether a row's attributes exclude each other.
-fn exclude_each_other(entry: &Entry, load: usize, run: usize) -> bool
-    ensures { result ≡ exclude_each_other entry.now load run }
-{
-    let both = entry.number_for("start").is_some() && entry.number_for("offset").is_some();
-    both || (!entry.access().is_written() && load != run)
-}
-
-fn begin_at(start: Option<u32>, offset: Option<u32>) -> Begin
-    ensures { result ≡ begin_at start offset }
-{
-    match (start, offset) {
-        (Some(start), _) => Begin::Start(start),
-        (None, Some(offset)) => Begin::Offset(offset),
-        (None, None) => Begin::Aligned,
-    }
-}
-
 fn row_from(alloc: Global, entries: &Entries, entry: &Entry) -> Result<Row, Stop>
     ensures { Gives is_outside (λ x. x) result (row_from entries.now entry.now) }
 {
     let load = area_for(entries, "load", None, entry)?;
     let run = area_for(entries, "run", Some(load), entry)?;
-    if exclude_each_other(entry, load, run) {
+    let start = entry.number_for("start");
+    let offset = entry.number_for("offset");
+    let both = start.is_some() && offset.is_some();
+    if both || (!entry.access().is_written() && load != run) {
         return Err(Stop::new(Fault::Excluded, entry.at));
     }
+    let begin = match (start, offset) {
+        (Some(start), _) => Begin::Start(start),
+        (None, Some(offset)) => Begin::Offset(offset),
+        (None, None) => Begin::Aligned,
+    };
     let fill = match entries.areas.get(load) {
         Some(area) => area.fill_or(0),
         None => 0,
@@ -105,7 +95,7 @@ fn row_from(alloc: Global, entries: &Entries, entry: &Entry) -> Result<Row, Stop
         access: entry.access(),
         align: entry.number_or(1, "align"),
         align_load: entry.number_or(1, "align_load"),
-        begin: begin_at(entry.number_for("start"), entry.number_for("offset")),
+        begin,
         fill_value: entry.fill_or(fill),
         define: entry.says_yes("define"),
         optional: entry.says_yes("optional"),

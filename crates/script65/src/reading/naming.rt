@@ -4,7 +4,7 @@ ghost use Rattle.std.specs.Prelude.{◌≡◌, ◌≢◌, ◌++◌, ℕ, List, M
 ghost use Rattle.base65.specs.Outcome.{Gives};
 ghost use Rattle.script65.specs.Faults.{is_outside};
 ghost use Rattle.script65.specs.Inner.Tables.{part_at};
-ghost use Rattle.script65.specs.Scripts.{as_area_part, as_export, as_row_part, is_start_first, one_of_three, operand_for, sum_for, sums_of};
+ghost use Rattle.script65.specs.Scripts.{as_area_part, as_export, as_row_part, is_start_first, operand_for, sum_for, sums_of};
 
 use crate::fault::{Fault, Stop};
 use crate::reading::entries::{Entries, Entry, Part, Table};
@@ -54,24 +54,7 @@ fn row_named(rows: &Table, name: &[u8], part: RowPart) -> Option<Operand>
     Some(Operand::Row(place, part))
 }
 
-// The one that there is.
-fn only(
-    export: Option<Operand>,
-    area: Option<Operand>,
-    row: Option<Operand>,
-) -> Result<Operand, Fault>
-    ensures { result ≡ one_of_three export area row }
-{
-    match (export, area, row) {
-        (None, None, None) => Err(Fault::NoSuchName),
-        (Some(operand), None, None) => Ok(operand),
-        (None, Some(operand), None) => Ok(operand),
-        (None, None, Some(operand)) => Ok(operand),
-        _ => Err(Fault::AmbiguousName),
-    }
-}
-
-// What a term stands for.
+// What a term stands for, which is one of an export, a part of an area and a part of a row.
 fn operand_for(entries: &Entries, number: Option<u32>, name: &[u8]) -> Result<Operand, Fault>
     ensures { result ≡ operand_for entries.now number name.now }
 {
@@ -84,11 +67,14 @@ fn operand_for(entries: &Entries, number: Option<u32>, name: &[u8]) -> Result<Op
     let load = row_named(&entries.rows, name, RowPart::Load);
     let run = row_named(&entries.rows, name, RowPart::Run);
     let row_size = row_named(&entries.rows, name, RowPart::Size);
-    only(
-        export_named(&entries.symbols, name),
-        start.or(size.or(last)),
-        load.or(run.or(row_size)),
-    )
+    let export = export_named(&entries.symbols, name);
+    match (export, start.or(size.or(last)), load.or(run.or(row_size))) {
+        (None, None, None) => Err(Fault::NoSuchName),
+        (Some(operand), None, None) => Ok(operand),
+        (None, Some(operand), None) => Ok(operand),
+        (None, None, Some(operand)) => Ok(operand),
+        _ => Err(Fault::AmbiguousName),
+    }
 }
 
 // The terms of an area's sum, or the first fault of a name.

@@ -1,9 +1,9 @@
 //! The tokens of a script, and the one at a place.
 
-ghost use Rattle.std.specs.Prelude.{◌≡◌, ◌≢◌, ◌≤◌, ◌<◌, ◌+◌, ◌==◌, false, length, drop};
+ghost use Rattle.std.specs.Prelude.{◌≡◌, ◌≢◌, ◌≤◌, ◌<◌, ◌+◌, ◌==◌, false, length};
 ghost use Rattle.std.specs.List.{prefix_len, list_any, take_while};
 ghost use Rattle.std.specs.Char.{is_ascii_digit, is_ascii_hexdigit};
-ghost use Rattle.script65.specs.Tokens.{front, gap, hex_behind, is_blank, is_letter, is_string_byte, is_word_byte, mark, string_behind, the_end, token, written};
+ghost use Rattle.script65.specs.Tokens.{front, gap, hex_behind, is_letter, is_string_byte, is_word_byte, mark, string_behind, the_end, token, written};
 ghost use Rattle.script65.specs.Scripts.{line_at};
 
 use base65::{digits, is_utf8};
@@ -74,12 +74,6 @@ fn is_letter(b: u8) -> bool
     b.is_ascii_alphabetic() || b == b'_'
 }
 
-fn is_blank(b: u8) -> bool
-    ensures { result ≡ is_blank b }
-{
-    b == b' ' || b == b'\t' || b == b'\r' || b == b'\n'
-}
-
 fn word_len(bytes: &[u8]) -> usize
     ensures count { result ≡ prefix_len is_word_byte bytes.now }
     ensures within { result ≤ length bytes.now }
@@ -125,7 +119,7 @@ fn gap_len(bytes: &[u8]) -> usize
             comment = *b != b'\n';
         } else if *b == b'#' {
             comment = true;
-        } else if !is_blank(*b) {
+        } else if !matches!(*b, b' ' | b'\t' | b'\r' | b'\n') {
             return i;
         }
     }

@@ -17,9 +17,9 @@ TURNS = 10
 
 
 def number():
-    """How many commits lead to this one: the commit's number."""
-    said = subprocess.run(["git", "rev-list", "--count", "HEAD"], cwd=kit.ROOT, capture_output=True, text=True)
-    return int(said.stdout) if said.returncode == 0 else 0
+    """The commit's number: its name, read as one. So it is the same in a checkout without the commits before it."""
+    said = subprocess.run(["git", "rev-parse", "HEAD"], cwd=kit.ROOT, capture_output=True, text=True)
+    return int(said.stdout, 16) if said.returncode == 0 else 0
 
 
 def turns(rt):

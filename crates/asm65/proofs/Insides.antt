@@ -28,10 +28,9 @@ use Rattle.semantics65.specs.Layout as faults
 use Rattle.semantics65.specs.Symbols.{Meaning, defined_at, imported_as, first_found, last_of, meaning_of, member_meaning, or_fault, scope_from, scopes_from, scopes_of, shown, unnamed_meaning, Definition, Key, Scope, Symbols, cheap_in, defined, imported, key_defined, named, unnamed_at}
 use Rattle.semantics65.specs.Norms.{constant_in, defined_form, folded, form_by, form_of_definition, form_of_meaning, form_of_value, norm, norm_of, length_of}
 use Rattle.semantics65.specs.Module as piece
-use Rattle.semantics65.specs.Module.{Made, Piece, Purpose, absent_of, as_part, as_said, is_repeated, made_of, used}
+use Rattle.semantics65.specs.Module.{Made, Piece, Purpose, absent_of, as_part, as_said, comes_behind, is_repeated, made_of, used}
 use Rattle.symbols65.specs.declared.measuring.Measured.{Measured}
 use Rattle.symbols65.specs.Measuring.{measure_of, measured, unread_fault}
-use Rattle.asm65.specs.Inner.Running.{comes_behind}
 
 abbrev pub IsInside : {A : Type 0} → Result A AsmFault → Type 0
 IsInside r = IfErr r (λ e. is_failure e ≡ false)

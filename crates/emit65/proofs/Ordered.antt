@@ -104,23 +104,27 @@ module _ (files : List (List ℕ)) (apart : IsDistinct bytes_eq files) where
       (subst (λ (ps : List Part). Names (flat_map value_keys (put_in g es)) (flat_map part_files ps)) (sym (parts_are g es)) (values_named (put_in g es) (put_stand g es h)))
       (drafts_named es keys h)
 
+  -- where each is named by its key, all are
+  each_named :
+      (keys : Saying → List ℕ) (names : Declaration → List (List ℕ)) →
+      ((t : Saying) → t.pos.file < length files → Names (keys t) (names (saying_of t))) →
+      (ts : List Saying) → AreTold ts → Names (flat_map keys ts) (flat_map names (map saying_of ts))
+  each_named keys names one [] h = naming_none files apart
+  each_named keys names one (t ∷ ts) h =
+      naming_more files apart (keys t) (flat_map keys ts) (names (saying_of t)) (flat_map names (map saying_of ts))
+      (one t h.0) (each_named keys names one ts h.1)
+
   export_named : (o : SourcePos) (s : telled.Declaration) → o.file < length files → Names (exported_at o s) (export_files (said_at (place_by files o) s))
   export_named o x lt = grind (arith, common_steps, naming_none, naming_one)
 
   exports_named : (ts : List Saying) → AreTold ts → Names (flat_map export_keys ts) (flat_map export_files (map saying_of ts))
-  exports_named [] h = naming_none files apart
-  exports_named (t ∷ ts) h =
-      naming_more files apart (export_keys t) (flat_map export_keys ts) (export_files (saying_of t)) (flat_map export_files (map saying_of ts))
-      (export_named t.pos t.said h.0) (exports_named ts h.1)
+  exports_named ts h = each_named export_keys export_files (λ t lt. export_named t.pos t.said lt) ts h
 
   assert_named : (o : SourcePos) (s : telled.Declaration) → o.file < length files → Names (asserted_at o s) (assert_files (said_at (place_by files o) s))
   assert_named o x lt = grind (arith, common_steps, naming_none, naming_one)
 
   asserts_named : (ts : List Saying) → AreTold ts → Names (flat_map assert_keys ts) (flat_map assert_files (map saying_of ts))
-  asserts_named [] h = naming_none files apart
-  asserts_named (t ∷ ts) h =
-      naming_more files apart (assert_keys t) (flat_map assert_keys ts) (assert_files (saying_of t)) (flat_map assert_files (map saying_of ts))
-      (assert_named t.pos t.said h.0) (asserts_named ts h.1)
+  asserts_named ts h = each_named assert_keys assert_files (λ t lt. assert_named t.pos t.said lt) ts h
 
   abbrev keys_named : List ℕ → List Entry → List ℕ
   keys_named keys es = flat_map draft_keys (map (draft_of es) keys) ++ flat_map export_keys (flat_map sayings_of es) ++ flat_map assert_keys (flat_map sayings_of es)

@@ -8,7 +8,7 @@ use Rattle.base65.specs.Outcome.{◌>>=◌}
 use Rattle.ast65.specs.declared.fault.AsmFault.{AsmFault}
 use Rattle.syntax65.specs.declared.place.Place.{Place}
 use Rattle.semantics65.specs.Contents.{Content, exported_names}
-use Rattle.semantics65.specs.Module.{Made, made_of, Finished, Fixup, Slot, as_said, coming, followed_by, holds, is_repeated, quietly, resolved, waits}
+use Rattle.semantics65.specs.Module.{Made, made_of, Finished, Fixup, Slot, as_said, comes_behind, coming, followed_by, holds, is_repeated, quietly, resolved, waits}
 use Rattle.semantics65.specs.Numbering.{all_said, once, section_keys, segments_asked}
 use Rattle.semantics65.specs.Reading.{PlacedFault, at_place}
 use Rattle.semantics65.specs.Symbols.{Symbols}
@@ -201,7 +201,7 @@ quiet_at place (Err f) m h e = absurd cc
 
 -- what waits asks for none
 waits_quiet : (y : Symbols) (names : List (List ℕ)) (w : Fixup) (m : Made) → coming y names (waits w) ≡ Ok m → m.content.asks ≡ false
-waits_quiet y names w m = quiet_at w.place (if is_repeated names w.piece then as_said [] else made_of y w.place w.context w.piece) m (by (is_repeated names w.piece))
+waits_quiet y names w m = quiet_at w.place (comes_behind y names w.place w.context w.piece) m (by (is_repeated names w.piece))
   where
     by : (b : Bool) → IfOk (if b then as_said [] else made_of y w.place w.context w.piece) asks_none
     by true = refl

@@ -26,8 +26,9 @@ pub struct Saying {
     pub said: Declaration,
 }
 
-/// What one call feeds. Of a large source most of what is kept are these, so they are small: fields lie in memory in
-/// the order in which they stand here, and the width of a value fits in beside what tells the variants apart.
+/// A part of a section, what is said, or what waits. Of a large source most of what is kept are these, so they are small:
+/// fields lie in memory in the order in which they stand here, and the width of a value fits in beside what tells the
+/// variants apart.
 #[derive(Drop)]
 pub enum Entry {
     /// Bytes of the section of a segment.

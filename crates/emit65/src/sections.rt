@@ -42,7 +42,7 @@ pub struct Sections {
     asked: IndexSet<u32>,
     /// One of these, which was asked for last.
     latest: Option<u32>,
-    /// The files in which values and what is said stand.
+    /// The files in which values, what is said and what waits stand.
     files: Files,
     entries: Entries,
 }

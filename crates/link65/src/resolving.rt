@@ -24,7 +24,9 @@ pub struct Names<'a> {
     pub exports: &'a [Exported],
     /// What the script defines where nothing else does.
     pub weak: &'a [Definition],
+    /// Who gives a name: the script by itself, or else a module.
     pub defined: Providers<'a>,
+    /// Who gives a name where none of these does.
     pub weakly: Providers<'a>,
 }
 

@@ -161,11 +161,14 @@ abbrev pub is_repeated : List (List ℕ) → Piece → Bool
 is_repeated names (exported must n) = list_any (bytes_eq n) names
 is_repeated names p = false
 
--- what a slot comes to by the symbol table of all statements, behind exports of these names, or its fault
+-- what a piece that stands here comes to by the symbol table of all statements, behind exports of these names
+abbrev pub comes_behind : Symbols → List (List ℕ) → Place → Context → Piece → Result Made AsmFault
+comes_behind y names place s p = if is_repeated names p then as_said [] else made_of y place s p
+
+-- what a slot comes to so, or its fault
 abbrev pub coming : Symbols → List (List ℕ) → Slot → Result Made PlacedFault
 coming y names (holds c) = Ok (quietly c)
-coming y names (waits w) =
-    at_place w.place (if is_repeated names w.piece then as_said [] else made_of y w.place w.context w.piece)
+coming y names (waits w) = at_place w.place (comes_behind y names w.place w.context w.piece)
 
 -- what was found, or the first fault; and the warnings of assertions up to there
 pub record Finished : Type 0 where

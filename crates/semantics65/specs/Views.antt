@@ -1,8 +1,6 @@
--- What the code puts into an object, as the definitions have it: at the place of the statement.
+-- What the code says to other modules and to the linker, as the definitions have it: at the place of the statement.
 use Rattle.std.specs.Prelude.{ℕ, List}
 use Rattle.semantics65.specs.Types.{Place}
-use Rattle.semantics65.specs.declared.contents.Part.{Part}
-use Rattle.semantics65.specs.declared.contents.Part.TheVariants as part
 use Rattle.semantics65.specs.declared.contents.Declaration.{Declaration}
 use Rattle.semantics65.specs.declared.contents.Declaration.TheVariants as said
 use Rattle.semantics65.specs.declared.laid.At.{At}
@@ -14,12 +12,7 @@ place_in file line = record { file = file; line = line }
 abbrev pub place_at : At → Place
 place_at at = place_in at.file.now at.line
 
--- a part, and what is said, of a statement that stands here
-abbrev pub part_at : Place → Part → parts.Part
-part_at place (part.Known bytes) = parts.Known bytes
-part_at place (part.Filled n) = parts.Filled n
-part_at place (part.Waiting width form) = parts.Waiting width place form
-
+-- what is said, of a statement that stands here
 abbrev pub said_at : Place → Declaration → parts.Declaration
 said_at place (said.Exported name form) = parts.Exported name place form
 said_at place (said.ForcedImport name) = parts.ForcedImport name

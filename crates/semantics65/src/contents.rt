@@ -1,19 +1,9 @@
-//! What statements put into an object. Where they stand is said beside it, once for all that a statement puts and says.
+//! What statements say to other modules and to the linker, and the segments that they lay. Where a statement stands is said
+//! beside what it says.
 
 use base65::Sequence;
-use object65::{Action, Norm, Width};
+use object65::{Action, Norm};
 use syntax65::AddressSize;
-
-/// A part of a section.
-#[derive(Drop)]
-pub enum Part {
-    /// Bytes that are known.
-    Known(Sequence<u8>),
-    /// So many bytes of the linker's fill value.
-    Filled(u32),
-    /// A value that the linker computes.
-    Waiting { width: Width, form: Norm },
-}
 
 /// What a statement says to other modules and to the linker.
 #[derive(Drop)]

@@ -6,5 +6,5 @@ mod contents;
 mod laid;
 pub mod laws;
 
-pub use contents::{Declaration, Part, Segment};
+pub use contents::{Declaration, Segment};
 pub use laid::{At, Context, GLOBAL_SCOPE, Settled};

@@ -1,5 +1,5 @@
 -- What calls leave, the states that are held, the lines of a source, and what waits behind them.
-use Rattle.std.specs.Prelude.{◌≡◌, ℕ, ◌+◌, ◌*◌, ◌≤◌, ◌<◌, List, [], ◌∷◌, Option, None, IfErr, IfSome, Bool, true, false, Result, Ok, Err, take, ◌++◌, map, length, string_bytes, if◌then◌else◌, ⊤}
+use Rattle.std.specs.Prelude.{◌≡◌, ℕ, ◌+◌, ◌*◌, ◌≤◌, ◌<◌, List, [], ◌∷◌, Option, None, IfErr, IfSome, Bool, true, false, Result, Ok, Err, take, ◌++◌, map, length, string_bytes, ⊤}
 use Rattle.std.specs.List.{list_any}
 use Rattle.std.specs.Str.{bytes_eq}
 use Rattle.base65.specs.Outcome.{Unless, ◌>>=◌}
@@ -26,10 +26,9 @@ use Rattle.asm65.specs.Assembly.{Without, is_outside_refusal, placed_of}
 use Rattle.std.specs.Option.{option_map, unwrap_or}
 use Rattle.semantics65.specs.Contents.{Content, telling, written, exported_names}
 use Rattle.semantics65.specs.declared.contents.Declaration.{Declaration}
-use Rattle.semantics65.specs.declared.laid.Context.{Context}
 use Rattle.semantics65.specs.Symbols.{Symbols, defined, named}
 use Rattle.semantics65.specs.Views.{said_at}
-use Rattle.semantics65.specs.Module.{warning_at, Made, Piece, as_said, made_of, is_repeated, Slot, coming, holds, resolved}
+use Rattle.semantics65.specs.Module.{warning_at, Made, as_said, Slot, coming, holds, resolved}
 use Rattle.semantics65.specs.Numbering.{AreSound, all_said, object_with}
 use Rattle.object65.specs.declared.object.Object.{Object}
 use Rattle.semantics65.specs.declared.contents.Segment.{Segment}
@@ -216,7 +215,7 @@ made_at t m = record {
   warning = unwrap_or (option_map (warning_at (place_here t)) m.warning) [];
 }
 
--- an entry stands where the piece does, if it stands anywhere
+-- an entry stands here, if it stands anywhere, and doesn't wait
 abbrev pub StandsWhere : SourcePos → Entry → Type 0
 StandsWhere pos (entry.Value width g o f) = o ≡ pos
 StandsWhere pos (entry.Told t) = t.value.pos ≡ pos
@@ -233,10 +232,6 @@ Replaces files c e = AreSlotsAlike (holds c ∷ []) (slot_of files e ∷ [])
 -- what a saying comes to that is written with its place
 abbrev pub noted : Place → Declaration → Result Made AsmFault
 noted place s = written place (said_at place s ∷ []) >>= as_said
-
--- what it comes to behind exports of these names
-abbrev pub comes_behind : Symbols → List (List ℕ) → Place → Context → Piece → Result Made AsmFault
-comes_behind y names place s p = if is_repeated names p then as_said [] else made_of y place s p
 
 -- a name that isn't defined is none of these
 abbrev pub HasDefined : Symbols → List (List ℕ) → Type 0

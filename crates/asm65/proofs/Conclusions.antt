@@ -28,7 +28,6 @@ use Rattle.emit65.proofs.Grown.{standing_more}
 use Rattle.emit65.proofs.Renumbering.{and, left, right}
 use Rattle.emit65.proofs.Slots.{comes_alike, faulty_alike, held_alike, held_contents, keys_found, slots_back, slots_front, slots_same, slots_trans}
 use Rattle.symbols65.proofs.Measures.{unless_then}
-use Rattle.symbols65.specs.Measuring.{cursor_of}
 use Rattle.symbols65.specs.Views.{table_of}
 use Rattle.asm65.specs.declared.assembler.Assembler.{Assembler}
 use Rattle.asm65.specs.declared.concluding.Ending.{Ending}
@@ -240,9 +239,9 @@ fault_come y xs t e names old new none h = unless_then (is_outside_refusal e) (�
 -- ---- What an assembler comes to behind the last line.
 
 -- by the symbol table and the segments of the state that it holds
-held_comes : (count : ℕ) (t : State) (a : Assembler) (new : List ℕ) (r : Result Object AsmRefusal) → Holds count t a → ComesTo (table_of a.symbols) a.cursor.segments.items t.slots a.texts.err new r → ComesTo t.symbols t.cursor.segments t.slots t.err new r
+held_comes : (count : ℕ) (t : State) (a : Assembler) (new : List ℕ) (r : Result Object AsmRefusal) → Holds count t a → ComesTo (table_of a.symbols) a.cursor.segments t.slots a.texts.err new r → ComesTo t.symbols t.cursor.segments t.slots t.err new r
 held_comes count t a new r h k =
-    let first : ComesTo t.symbols (cursor_of a.cursor).segments t.slots a.texts.err new r = subst (λ (y : Symbols). ComesTo y a.cursor.segments.items t.slots a.texts.err new r) h.symbols k in
+    let first : ComesTo t.symbols a.cursor.segments t.slots a.texts.err new r = subst (λ (y : Symbols). ComesTo y a.cursor.segments t.slots a.texts.err new r) h.symbols k in
     let second : ComesTo t.symbols t.cursor.segments t.slots a.texts.err new r = subst (λ (w : Cursor). ComesTo t.symbols w.segments t.slots a.texts.err new r) h.cursor first in
     subst (λ (e : List ℕ). ComesTo t.symbols t.cursor.segments t.slots e new r) h.err second
 
@@ -258,7 +257,7 @@ answer_concluded t out new (Err e) same u inside =
     let answer : List ℕ → List ℕ → Outcome = λ said err. record { result = Err (placed_of e); out = said; err = err } in
     (λ n. answer (same n) (k.err n)) ∙ ap (concluded_by t) (sym k.found)
 
-pub comes_concluded : (count : ℕ) (t : State) (a : Assembler) (new : List ℕ) (r : Result Object AsmRefusal) → Holds count t a → ComesTo (table_of a.symbols) a.cursor.segments.items t.slots a.texts.err new r → is_from_outside r ≡ false → record { result = in_places r; out = a.texts.out; err = new } ≡ concluded t None
+pub comes_concluded : (count : ℕ) (t : State) (a : Assembler) (new : List ℕ) (r : Result Object AsmRefusal) → Holds count t a → ComesTo (table_of a.symbols) a.cursor.segments t.slots a.texts.err new r → is_from_outside r ≡ false → record { result = in_places r; out = a.texts.out; err = new } ≡ concluded t None
 comes_concluded count t a new r h k inside = answer_concluded t a.texts.out new r h.out (held_comes count t a new r h k) inside
 
 -- its object can be written, if what it rests on holds
@@ -268,10 +267,10 @@ IsGoodIf a o =
     ((cs : List Content) → (finished t).found ≡ Ok cs → AreSound t.cursor.segments t.symbols.imports cs) →
     is_good_object o ≡ true
 
-pub comes_good : (a : Assembler) (new : List ℕ) (r x : Result Object AsmRefusal) → x ≡ r → ((xs : List Slot) → Stands xs a.sections → all_said (contents_so_far xs) ≡ [] → ComesTo (table_of a.symbols) a.cursor.segments.items xs a.texts.err new r) → IfOk x (IsGoodIf a)
+pub comes_good : (a : Assembler) (new : List ℕ) (r x : Result Object AsmRefusal) → x ≡ r → ((xs : List Slot) → Stands xs a.sections → all_said (contents_so_far xs) ≡ [] → ComesTo (table_of a.symbols) a.cursor.segments xs a.texts.err new r) → IfOk x (IsGoodIf a)
 comes_good a new r x same comes = subst (λ (z : Result Object AsmRefusal). IfOk z (IsGoodIf a)) (sym same) (by r comes)
   where
-    by : (z : Result Object AsmRefusal) → ((xs : List Slot) → Stands xs a.sections → all_said (contents_so_far xs) ≡ [] → ComesTo (table_of a.symbols) a.cursor.segments.items xs a.texts.err new z) → IfOk z (IsGoodIf a)
+    by : (z : Result Object AsmRefusal) → ((xs : List Slot) → Stands xs a.sections → all_said (contents_so_far xs) ≡ [] → ComesTo (table_of a.symbols) a.cursor.segments xs a.texts.err new z) → IfOk z (IsGoodIf a)
     by (Ok o) k = λ count t h sound.
         (let found = held_comes count t a new (Ok o) h (k t.slots h.sections h.unsaid) in
         found.good (sound found.contents (ap (λ (f : Finished). f.found) found.found)))

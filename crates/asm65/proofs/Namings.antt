@@ -5,7 +5,7 @@ use Rattle.semantics65.specs.Layout.{context_of}
 use Rattle.semantics65.specs.Reading.{known_at}
 use Rattle.semantics65.specs.Machine.{State, Puts, PutsAll, awaiting, at_once, later, symbols_behind}
 use Rattle.symbols65.specs.Views.{table_of, with_definition, with_names, with_scope}
-use Rattle.symbols65.specs.Measuring.{cursor_of, AreWithin, IsCounted, IsSoundCursor, AreInside}
+use Rattle.symbols65.specs.Measuring.{AreInside}
 use Rattle.asm65.specs.declared.assembler.Assembler.{Assembler}
 use Rattle.asm65.specs.Inner.Holding.{Holds, is_put, AreBefore, Enters, known_where, KeepsTables, KeepsPut, Mentions, Turns, all_awaiting, is_for_zero_page, label_at, laid_as}
 use Rattle.std.specs.Prelude.{Some, Bool, OnOk, Result, Ok, Err, true, false, Option}
@@ -15,7 +15,6 @@ use Rattle.syntax65.specs.declared.place.Place.{Place}
 use Rattle.semantics65.specs.Norms.{Extends}
 use Rattle.semantics65.specs.Layout as layout
 use Rattle.semantics65.specs.Symbols.{Definition, Scope, Symbols, cheap_in, named, unnamed_at, with_new}
-use Rattle.symbols65.specs.declared.cursor.Cursor.{Cursor}
 use Rattle.semantics65.specs.Module as piece
 use Rattle.symbols65.specs.Resolving.{IsTable}
 use Rattle.std.specs.declared.alloc.AllocError.{AllocError}
@@ -33,7 +32,7 @@ use Rattle.semantics65.specs.Module.{demanded, equated, exported, imported, piec
 -- ---- What a name or an expression means at a context.
 
 -- what is known where the next statement stands is what is known behind the state that is held
-pub known_held : (count : ℕ) (t : State) (a : Assembler) (s : Context) → Holds count t a → s ≡ context_of (cursor_of a.cursor) → known_where (table_of a.symbols) s ≡ known_at t.symbols t.cursor
+pub known_held : (count : ℕ) (t : State) (a : Assembler) (s : Context) → Holds count t a → s ≡ context_of a.cursor → known_where (table_of a.symbols) s ≡ known_at t.symbols t.cursor
 known_held count t a s h at =
     let here : s ≡ context_of t.cursor = at ∙ ap context_of h.cursor in
     let first : known_where (table_of a.symbols) s ≡ known_where t.symbols s = ap (λ y. known_where y s) h.symbols in
@@ -47,10 +46,8 @@ pub holds_grown : (count : ℕ) (t : State) (old new : Assembler) (y : Symbols) 
 holds_grown count t old new y h keeps symbols known inside unnamed = record {
   symbols = symbols;
   known = subst (λ (z : Symbols). IsTable z new.known.states.items) symbols known;
-  cursor = ap cursor_of keeps.cursor ∙ h.cursor;
-  sound = subst IsSoundCursor (sym keeps.cursor) h.sound;
-  ends = subst (λ (w : Cursor). AreWithin w.segments.items) (sym keeps.cursor) h.ends;
-  counted = subst (IsCounted count) (sym keeps.cursor) h.counted;
+  cursor = keeps.cursor ∙ h.cursor;
+  counted = h.counted;
   inside = inside;
   unnamed = unnamed;
   sections = rw keeps.sections h.sections;

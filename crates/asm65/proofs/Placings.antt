@@ -1,5 +1,5 @@
 -- What is measured of a statement by what an assembler holds, by the state that it holds.
-use Rattle.std.proofs.Common.{◌≡◌, ◌∙◌, ℕ, sym, ap}
+use Rattle.std.proofs.Common.{◌≡◌, ◌∙◌, ℕ, ◌+◌, sym, ap, subst}
 use Rattle.std.specs.Prelude.{Ok, Err, Result, Some}
 use Rattle.base65.specs.Outcome.{Unless}
 use Rattle.ast65.specs.declared.fault.AsmFault.{AsmFault}
@@ -8,9 +8,9 @@ use Rattle.semantics65.specs.declared.laid.Context.{Context}
 use Rattle.ast65.specs.declared.language.Statement.{Statement}
 use Rattle.semantics65.specs.Layout.{Cursor, context_of, cursor_behind, line_fault}
 use Rattle.semantics65.specs.Symbols.{Symbols}
-use Rattle.symbols65.specs.Measuring.{advanced, measured, cursor_of}
+use Rattle.symbols65.specs.Measuring.{advanced, measured, opened_by, IsCounted}
 use Rattle.symbols65.specs.declared.measuring.Measured.{Measured}
-use Rattle.symbols65.proofs.Behind.{behind_measured, is_measured, with_fault, without_fault}
+use Rattle.symbols65.proofs.Behind.{behind_measured, counted_behind, is_measured, with_fault, without_fault}
 use Rattle.symbols65.proofs.Measures.{unless_then}
 use Rattle.semantics65.specs.Machine.{State}
 use Rattle.symbols65.specs.Views.{table_of}
@@ -20,12 +20,12 @@ use Rattle.asm65.proofs.Takings.{unless_either}
 
 module _ (count : ℕ) (t : State) (old : Assembler) (h : Holds count t old) (x : Statement) where
   abbrev here : Result Measured AsmFault
-  here = measured (table_of old.symbols) (cursor_of old.cursor) x
+  here = measured (table_of old.symbols) old.cursor x
 
   there : (r : Result Measured AsmFault) → here ≡ r → measured t.symbols t.cursor x ≡ r
   there r at = ap (λ (y : Symbols). measured y t.cursor x) (sym h.symbols) ∙ ap (λ (w : Cursor). measured (table_of old.symbols) w x) (sym h.cursor) ∙ at
 
-  pub placed_is : (m : Measured) (s : Context) → here ≡ Ok m → s ≡ context_of (cursor_of old.cursor) → IsPlaced t x s m
+  pub placed_is : (m : Measured) (s : Context) → here ≡ Ok m → s ≡ context_of old.cursor → IsPlaced t x s m
   placed_is m s at context = record {
     faultless = without_fault t.symbols t.cursor x m (there (Ok m) at);
     context = context ∙ ap context_of h.cursor;
@@ -37,8 +37,14 @@ module _ (count : ℕ) (t : State) (old : Assembler) (h : Holds count t old) (x 
       let same : here ≡ Err e → line_fault t.symbols t.cursor x ≡ Some e = λ (q : here ≡ Err e). with_fault t.symbols t.cursor x e (there (Err e) q) in
       unless_then (is_outside e) same (unless_either (here ≡ Err e) (is_memory e) (is_failure e) refused)
 
-  pub moved_behind : (m : Measured) → here ≡ Ok m → advanced (table_of old.symbols) (cursor_of old.cursor) x m.length m.multiple ≡ cursor_behind t.symbols t.cursor x
+  pub moved_behind : (m : Measured) → here ≡ Ok m → advanced (table_of old.symbols) old.cursor x m.length m.multiple ≡ cursor_behind t.symbols t.cursor x
   moved_behind m at =
-      behind_measured (table_of old.symbols) (cursor_of old.cursor) x m at
-      ∙ ap (λ (z : Symbols). cursor_behind z (cursor_of old.cursor) x) h.symbols
+      behind_measured (table_of old.symbols) old.cursor x m at
+      ∙ ap (λ (z : Symbols). cursor_behind z old.cursor x) h.symbols
       ∙ ap (λ (v : Cursor). cursor_behind t.symbols v x) h.cursor
+
+  -- no more is open behind it than so many statements open
+  pub more_counted : (m : Measured) → here ≡ Ok m → IsCounted (count + opened_by x) (cursor_behind t.symbols t.cursor x)
+  more_counted m at =
+      subst (IsCounted (count + opened_by x)) (behind_measured t.symbols t.cursor x m (there (Ok m) at))
+      (counted_behind t.symbols t.cursor x m.length m.multiple count h.counted h.inside)

@@ -33,7 +33,7 @@ use Rattle.symbols65.specs.Measuring.{opening_limit}
 use Rattle.asm65.specs.Failing.{IsTakenTo, at_first, further, IsWhere, StopsAll, StopsBehind}
 use Rattle.asm65.specs.Assembly.{Without}
 use Rattle.asm65.specs.Inner.Holding.{Holds}
-use Rattle.asm65.specs.Inner.Running.{HoldsWithin, IsHeldBy, IsRunning, Ran, SaysAs, StopsQuietly, TakesAll, TakesBy, TakesLine, TakesOne, none, one_more, refused, running_limit, tokens_of}
+use Rattle.asm65.specs.Inner.Running.{HoldsWithin, IsHeldBy, IsRoomy, IsRunning, Ran, SaysAs, StopsQuietly, TakesAll, TakesBy, TakesLine, TakesOne, none, one_more, refused, running_limit, tokens_of}
 use Rattle.asm65.proofs.Runs.{Answer, GivenBy}
 
 pub some_then : (P Q : Files → Type 0) (o : Option Files) → ((m : Files) → P m → Q m) → IfSome o P → IfSome o Q
@@ -71,6 +71,13 @@ held_behind t u old mid new h b less same = record {
 -- ---- One statement more, whatever the store tells.
 
 module _ (old mid : Run) (same : mid.assembler ≡ old.assembler) (less : measure_of mid.expander < measure_of old.expander) where
+  -- there is room for what it opens
+  pub next_roomy : IsRunning old → IsRoomy 2 mid.assembler
+  next_roomy held =
+      let h = held.2 in
+      let room = few_opened h.count (measure_of old.expander) h.room (some_left (measure_of old.expander) (measure_of mid.expander) less) in
+      (h.count, held.0, room, holds_same h.count held.0 old.assembler mid.assembler same h.holds)
+
   abbrev Takes2 : Option Files → Statement → Run → Answer → Type 0
   Takes2 f x new r = TakesBy (AreNamed (tokens_of (stated x))) (GivenBy f (place_of mid.expander) (stated x)) 2 mid.assembler new.assembler r
 

@@ -13,8 +13,7 @@ use Rattle.semantics65.specs.declared.laid.Context.{Context}
 use Rattle.ast65.specs.declared.language.Statement.{Statement}
 use Rattle.ast65.specs.declared.language.Statement.TheVariants as statement
 use Rattle.semantics65.specs.Layout.{Cursor, laid, context_of, cursor_behind, defined_twice, first_fault, is_open, line_fault, lost_scopes, opened_twice, or_then, placing_faults, scope_name, stands_outside, trees_of, when, where_there, operand_fault, unless_fault}
-use Rattle.symbols65.specs.declared.cursor.Cursor as code
-use Rattle.symbols65.specs.Measuring.{AreInside, opened_by, measure_of, naming_fault, unread_fault, AreWithin, IsCounted, IsSoundCursor, cursor_of}
+use Rattle.symbols65.specs.Measuring.{AreInside, opened_by, measure_of, naming_fault, unread_fault, IsCounted}
 use Rattle.symbols65.specs.declared.measuring.Measured.{Measured}
 use Rattle.symbols65.proofs.Behind.{inside_behind}
 use Rattle.symbols65.proofs.Measures.{faults_are, unless_then}
@@ -134,8 +133,6 @@ holds_known count t a k h table = record {
   symbols = h.symbols;
   known = subst (λ (y : Symbols). IsTable y k.states.items) h.symbols table;
   cursor = h.cursor;
-  sound = h.sound;
-  ends = h.ends;
   counted = h.counted;
   inside = h.inside;
   unnamed = h.unnamed;
@@ -150,16 +147,14 @@ pub held_on : (count : ℕ) (t : State) (a : Assembler) (k : NormCache) (r : Res
 held_on count t a k (Ok u) h table = holds_known count t a k h table
 held_on count t a k (Err e) h table = tt
 
-pub holds_stepped : (count : ℕ) (t : State) (place : Place) (x : Statement) (a : Assembler) (v : code.Cursor) (said : Texts) → Holds count (asked_of (context_of t.cursor).segment x t) a → cursor_of v ≡ cursor_behind t.symbols t.cursor x → IsSoundCursor v → AreWithin v.segments.items → IsCounted (count + opened_by x) v → said.out ≡ a.texts.out ++ out_of x → said.err ≡ a.texts.err ++ warning_of place x → Holds (count + opened_by x) (stepped t place x) (record a { cursor = v; texts = said })
-holds_stepped count t place x a v said h cursor sound ends counted out err =
+pub holds_stepped : (count : ℕ) (t : State) (place : Place) (x : Statement) (a : Assembler) (v : Cursor) (said : Texts) → Holds count (asked_of (context_of t.cursor).segment x t) a → v ≡ cursor_behind t.symbols t.cursor x → IsCounted (count + opened_by x) (cursor_behind t.symbols t.cursor x) → said.out ≡ a.texts.out ++ out_of x → said.err ≡ a.texts.err ++ warning_of place x → Holds (count + opened_by x) (stepped t place x) (record a { cursor = v; texts = said })
+holds_stepped count t place x a v said h cursor counted out err =
     let u : State = asked_of (context_of t.cursor).segment x t in
     let same : u.cursor ≡ t.cursor = (asked_beside (context_of t.cursor).segment x t).cursor in
     record {
       symbols = h.symbols;
       known = h.known;
       cursor = cursor;
-      sound = sound;
-      ends = ends;
       counted = counted;
       inside = wider count (opened_by x) u.symbols.scopes h.inside;
       unnamed = still_before x t.cursor.unnamed u.symbols.definitions (subst (λ (w : Cursor). AreBefore w.unnamed u.symbols.definitions) same h.unnamed);
@@ -211,7 +206,7 @@ takes_entered count t place x s m old mid new h placed held turns =
     let ps : List Piece = pieces_of r.length r.settled x in
     let measured : Turns place s ps (λ y. symbols_behind y (laid_as place s (measure_of t.symbols t.cursor x) x)) mid new = subst (λ (n : Measured). Turns place s (pieces_of n.length n.settled x) (λ y. symbols_behind y (laid_as place s n x)) mid new) placed.measured turns in
     let here : Turns place (context_of t.cursor) ps (λ y. symbols_behind y r) mid new = subst (λ (q : Context). Turns place q ps (λ y. symbols_behind y (laid_as place q (measure_of t.symbols t.cursor x) x)) mid new) placed.context measured in
-    let low : t.cursor.scope ≤ count = subst (λ (w : Cursor). w.scope ≤ count) h.cursor h.counted.scope in
+    let low : t.cursor.scope ≤ count = h.counted.scope in
     let inside : AreInside (count + opened_by x) (symbols_behind u.symbols r).scopes = subst (λ (y : Symbols). AreInside (count + opened_by x) (y.scopes ++ scope_opened t.cursor.scope x)) (sym beside.symbols) (inside_behind count t.cursor.scope t.symbols.scopes x low h.inside) in
     let unnamed : AreBefore (cursor_behind t.symbols t.cursor x).unnamed (symbols_behind u.symbols r).definitions = subst (λ (y : Symbols). AreBefore (cursor_behind t.symbols t.cursor x).unnamed (y.definitions ++ definitions_of r)) (sym beside.symbols) (before_behind x (context_of t.cursor) r.size t.symbols.definitions h.unnamed) in
     let done = here (count + opened_by x) (stepped t place x) held inside unnamed in

@@ -15,9 +15,7 @@ use Rattle.symbols65.specs.declared.resolving.cache.NormCache.{NormCache}
 use Rattle.symbols65.specs.Resolving.{IsTable}
 use Rattle.symbols65.specs.Views.{table_of}
 use Rattle.asm65.specs.declared.assembler.Assembler.{Assembler}
-use Rattle.symbols65.specs.declared.cursor.Cursor.{Cursor}
 use Rattle.asm65.specs.Inner.Holding.{Enters, Holds, KeepsTables, Waits}
-use Rattle.symbols65.specs.Measuring.{AreWithin, IsCounted, IsSoundCursor, cursor_of}
 
 -- more slots
 abbrev pub with_slots : State → List Slot → State
@@ -40,10 +38,8 @@ module _ (count : ℕ) (t : State) (old new : Assembler) (h : Holds count t old)
   holds_slots xs quiet feeds = record {
     symbols = ap table_of keeps.symbols ∙ h.symbols;
     known = subst (λ (k : NormCache). IsTable t.symbols k.states.items) (sym keeps.known) h.known;
-    cursor = ap cursor_of keeps.cursor ∙ h.cursor;
-    sound = subst IsSoundCursor (sym keeps.cursor) h.sound;
-    ends = subst (λ (w : Cursor). AreWithin w.segments.items) (sym keeps.cursor) h.ends;
-    counted = subst (IsCounted count) (sym keeps.cursor) h.counted;
+    cursor = keeps.cursor ∙ h.cursor;
+    counted = h.counted;
     inside = h.inside;
     unnamed = h.unnamed;
     sections = feeds t.slots h.sections;

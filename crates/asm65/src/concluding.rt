@@ -256,8 +256,7 @@ pub fn conclude(alloc: Global, assembler: Assembler) -> Assembly
         exported: IndexSet::with_hasher(alloc, *symbols.imports.hasher()),
         err,
     };
-    let segments = cursor.segments.as_slice();
-    let found = object_of(alloc, &symbols, segments, &mut ending, sections);
+    let found = object_of(alloc, &symbols, cursor.segments(), &mut ending, sections);
     let Ending { err, .. } = ending;
     answered(alloc, found, Texts { out, err })
 }

@@ -309,7 +309,7 @@ fn take_at_hand<S: Store>(alloc: Global, store: &mut S, run: &mut Run) -> Result
 fn check_closed(run: &Run) -> Result<(), AsmFault>
     ensures { result ≡ (if is_open run.now.assembler.cursor.scope then Err BadScope else Ok tt) }
 {
-    if run.assembler.cursor.scope == GLOBAL_SCOPE {
+    if run.assembler.cursor.scope() == GLOBAL_SCOPE {
         Ok(())
     } else {
         Err(AsmFault::BadScope)

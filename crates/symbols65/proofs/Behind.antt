@@ -9,8 +9,7 @@ use Rattle.semantics65.specs.Symbols.{is_unnamed, opens_region, enclosing, withi
 use Rattle.ast65.specs.declared.language.Statement.{Statement}
 use Rattle.ast65.specs.declared.language.Statement.TheVariants as statement
 use Rattle.semantics65.specs.Layout.{Cursor, opens_scope, scope_behind, segments_behind, cursor_behind, line_fault}
-use Rattle.symbols65.specs.declared.cursor.Cursor as code
-use Rattle.symbols65.specs.Measuring.{advanced, measure_of, measured, AreInside, HasNumbers, opened_by, opening_limit, IsCounted, cursor_of}
+use Rattle.symbols65.specs.Measuring.{advanced, measure_of, measured, AreInside, HasNumbers, opened_by, opening_limit, IsCounted}
 use Rattle.symbols65.specs.declared.measuring.Measured.{Measured}
 use Rattle.symbols65.proofs.Measures.{no_fault}
 use Rattle.semantics65.proofs.Segments.{all_more, all_same, grown_length}
@@ -53,17 +52,17 @@ open_behind statement.CloseProc y w count le less h = let around = enclosing_bel
 open_behind _ y w count le less h = omega (arith, le)
 
 -- a statement opens so much at most
-pub counted_behind : (y : Symbols) (v w : code.Cursor) (x : Statement) (len multiple count : ℕ) → IsCounted count v → AreInside count y.scopes → cursor_of w ≡ advanced y (cursor_of v) x len multiple → IsCounted (count + opened_by x) w
-counted_behind y v w x len multiple count counted inside e = record {
-  scope = rw (ap (λ (s : Cursor). s.scope) e) (open_behind x y (cursor_of v) count counted.scope counted.scopes inside);
-  scopes = rw (ap (λ (s : Cursor). s.opened) e) (scopes_behind x v.opened count counted.scopes);
-  regions = rw (ap (λ (s : Cursor). s.region) e) (regions_behind x v.region count counted.regions);
-  unnamed = rw (ap (λ (s : Cursor). s.unnamed) e) (unnamed_behind x v.unnamed count counted.unnamed);
-  segments = rw (ap (λ (s : Cursor). s.segments) e) (segments_counted x v.segments.items v.current len multiple count counted.segments);
+pub counted_behind : (y : Symbols) (w : Cursor) (x : Statement) (len multiple count : ℕ) → IsCounted count w → AreInside count y.scopes → IsCounted (count + opened_by x) (advanced y w x len multiple)
+counted_behind y w x len multiple count counted inside = record {
+  scope = open_behind x y w count counted.scope counted.scopes inside;
+  scopes = scopes_behind x w.opened count counted.scopes;
+  regions = regions_behind x w.region count counted.regions;
+  unnamed = unnamed_behind x w.unnamed count counted.unnamed;
+  segments = segments_counted x w.segments w.current len multiple count counted.segments;
 }
 
 -- below the limit, there are numbers for one more
-pub has_numbers : (count : ℕ) (y : Symbols) (w : code.Cursor) → IsCounted count w → AreInside count y.scopes → count < opening_limit → HasNumbers y w
+pub has_numbers : (count : ℕ) (y : Symbols) (w : Cursor) → IsCounted count w → AreInside count y.scopes → count < opening_limit → HasNumbers y w
 has_numbers count y w counted inside less = grind (arith, common_steps, enclosing_below)
 
 -- ---- What is measured.

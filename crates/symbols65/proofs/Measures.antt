@@ -177,6 +177,25 @@ aligned_well w true st None m g len h hm hg hf = absurd cc
 aligned_well w true st (Some (negsuc j)) m g len h hm hg hf = absurd cc
 aligned_well w true st (Some (pos j)) m g len h hm hg hf = grind (arith, common_steps, no_fault, all_well)
 
+no_room : {A : Type 0} (f r : Option AsmFault) (x : A) (e : AsmFault) → f ≡ None → r ≡ Some e → unless_fault (first_fault (None ∷ None ∷ f ∷ None ∷ None ∷ None ∷ None ∷ None ∷ r ∷ [])) x ≡ Err e
+no_room f r x e p q = grind (arith, common_steps)
+
+fault_there : {A : Type 0} (f : Option AsmFault) (x : A) (e : AsmFault) → unless_fault f x ≡ Err e → f ≡ Some e
+fault_there f x e h = grind (arith, common_steps)
+
+always : {P : Type 0} (b : Bool) → P → Unless b P
+always true h = tt
+always false h = h
+
+-- too much of it, where the values aren't refused
+pub aligned_full : (w : Cursor) (b : Bool) (st : Settled) (k : Option ℤ) (m g : ℕ) (e : AsmFault) → unless_fault {A = Unit {0}} (when (not b) BadOperand) tt ≡ Ok tt → unless_fault (multiple_fault k) (counted k) ≡ Ok m → g ≡ gap (context_of w).offset (Some (pos m)) → fitted w g ≡ Err e → Unless (is_memory e) (aligned w b st k ≡ Err e)
+aligned_full w false st k m g e h hm hg hf = absurd cc
+aligned_full w true st None m g e h hm hg hf = absurd cc
+aligned_full w true st (Some (negsuc j)) m g e h hm hg hf = absurd cc
+aligned_full w true st (Some (pos j)) m g e h hm hg hf =
+    let same : aligned w true st (Some (pos j)) ≡ Err e = grind (arith, common_steps, no_fault, no_room, fault_there) in
+    always (is_memory e) same
+
 -- ---- All faults.
 
 four_first : (a b c d : Option AsmFault) (rest : List (Option AsmFault)) → first_fault (a ∷ b ∷ c ∷ d ∷ rest) ≡ or_then (or_then a (or_then b (or_then c d))) (first_fault rest)

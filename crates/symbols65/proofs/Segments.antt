@@ -9,9 +9,9 @@ use Rattle.std.proofs.lemmas.List.{length-append, map-append}
 use Rattle.semantics65.specs.declared.contents.Segment.{Segment}
 use Rattle.std.specs.Str.{bytes_eq}
 use Rattle.object65.specs.Objects.{section_limit}
-use Rattle.symbols65.specs.declared.cursor.Cursor.{Cursor}
+use Rattle.symbols65.specs.declared.cursor.Cursor.TheInside.{Inside}
 use Rattle.semantics65.specs.Layout.{grown, grown_at, place_of, segment_at}
-use Rattle.symbols65.specs.Measuring.{AreWithin, IsSoundCursor}
+use Rattle.symbols65.specs.Inner.Cursors.{AreWithin, IsSoundCursor}
 use Rattle.symbols65.proofs.Knowns.{written_over}
 use Rattle.ast65.proofs.Lists.{bytes_swap, position_mapped}
 use Rattle.semantics65.proofs.Segments.{all_more, all_same, grown_length, grown_names}
@@ -37,7 +37,7 @@ same_test : {A : Type 0} (p q : A → Bool) → ((x : A) → p x ≡ q x) → (x
 same_test p q h xs = ap (λ (t : _ → Bool). position t xs) (fun_ext h)
 
 -- the place of a name among those of the segments
-pub place_is : (n : List ℕ) (w : Cursor) → map (λ k. k.items) w.names.keys ≡ map (λ (g : Segment). g.name) w.segments.items → position (λ k. bytes_eq n k.items) w.names.keys ≡ place_of w.segments.items n
+pub place_is : (n : List ℕ) (w : Inside) → map (λ k. k.items) w.names.keys ≡ map (λ (g : Segment). g.name) w.segments.items → position (λ k. bytes_eq n k.items) w.names.keys ≡ place_of w.segments.items n
 place_is n w e =
     sym (position_mapped (bytes_eq n) (λ k. k.items) w.names.keys)
     ∙ ap (position (bytes_eq n)) e
@@ -50,9 +50,6 @@ pub grown_within : (gs : List Segment) (i count multiple : ℕ) → (segment_at 
 grown_within [] i count multiple le h = tt
 grown_within (g ∷ gs) zero count multiple le h = (le, h.1)
 grown_within (g ∷ gs) (suc i) count multiple le h = (h.0, grown_within gs i count multiple le h.1)
-
-pub within_grown : (gs hs : List Segment) (i count multiple : ℕ) → hs ≡ grown_at gs i count multiple → (segment_at gs i).end + count ≤ section_limit → AreWithin gs → AreWithin hs
-within_grown gs hs i count multiple e le h = rw e (grown_within gs i count multiple le h)
 
 -- what is written over the segments, where it is they with one grown
 pub written_grown : (n : ℕ) (new held gs : List Segment) (i count multiple : ℕ) → held ≡ gs → length held ≡ n → length new ≡ length held → new ≡ grown_at held i count multiple → take n (new ++ drop (length new) gs) ≡ grown_at gs i count multiple
@@ -70,21 +67,21 @@ all_before P (y ∷ xs) x h = let rest = all_before P xs x h.1 in ((h.0, rest.0)
 
 -- ---- What is sound.
 
-pub sound_of : (v : Cursor) (gs : List Segment) (i : ℕ) → v.segments.items ≡ gs → v.current ≡ i → i < length gs → AreWithin gs → map (λ k. k.items) v.names.keys ≡ map (λ (g : Segment). g.name) gs → AllByRecursion (λ k. k < length gs) v.kept.items → IsSoundCursor v
-sound_of v gs i e at lt within names kept = record { current = rw (e, at) lt; end = rw (e, at) (within_at gs i within lt); names = rw e names; kept = rw e kept }
+pub sound_of : (v : Inside) (gs : List Segment) (i : ℕ) → v.segments.items ≡ gs → v.current ≡ i → i < length gs → AreWithin gs → map (λ k. k.items) v.names.keys ≡ map (λ (g : Segment). g.name) gs → AllByRecursion (λ k. k < length gs) v.kept.items → IsSoundCursor v
+sound_of v gs i e at lt within names kept = record { current = rw (e, at) lt; ends = rw e within; names = rw e names; kept = rw e kept }
 
-pub sound_grown : (w v : Cursor) (count multiple : ℕ) → IsSoundCursor w → AreWithin w.segments.items → (segment_at w.segments.items w.current).end + count ≤ section_limit → v.segments.items ≡ grown_at w.segments.items w.current count multiple → v.current ≡ w.current → v.names ≡ w.names → v.kept ≡ w.kept → IsSoundCursor v
-sound_grown w v count multiple sound within room e at names kept =
+pub sound_grown : (w v : Inside) (count multiple : ℕ) → IsSoundCursor w → (segment_at w.segments.items w.current).end + count ≤ section_limit → v.segments.items ≡ grown_at w.segments.items w.current count multiple → v.current ≡ w.current → v.names ≡ w.names → v.kept ≡ w.kept → IsSoundCursor v
+sound_grown w v count multiple sound room e at names kept =
     let gs = grown_at w.segments.items w.current count multiple in
     let long = grown_length w.segments.items w.current count multiple in
-    sound_of v gs w.current e at (rw long sound.current) (grown_within w.segments.items w.current count multiple room within)
+    sound_of v gs w.current e at (rw long sound.current) (grown_within w.segments.items w.current count multiple room sound.ends)
     (rw names (sound.names ∙ sym (grown_names w.segments.items w.current count multiple))) (rw (kept, long) sound.kept)
 
-pub sound_begun : (w v : Cursor) (n : List ℕ) (g : Segment) → IsSoundCursor w → AreWithin w.segments.items → g.name ≡ n → g.end ≡ 0 → v.segments.items ≡ w.segments.items ++ g ∷ [] → v.current ≡ length w.segments.items → v.kept ≡ w.kept → map (λ k. k.items) v.names.keys ≡ map (λ k. k.items) w.names.keys ++ n ∷ [] → IsSoundCursor v
-sound_begun w v n g sound within name end e at kept names = grind (arith, common_steps, length-append, sound_of, all_more, map-append, all_same)
+pub sound_begun : (w v : Inside) (n : List ℕ) (g : Segment) → IsSoundCursor w → g.name ≡ n → g.end ≡ 0 → v.segments.items ≡ w.segments.items ++ g ∷ [] → v.current ≡ length w.segments.items → v.kept ≡ w.kept → map (λ k. k.items) v.names.keys ≡ map (λ k. k.items) w.names.keys ++ n ∷ [] → IsSoundCursor v
+sound_begun w v n g sound name end e at kept names = grind (arith, common_steps, length-append, sound_of, all_more, map-append, all_same)
 
 -- a name that no segment has is new among theirs
-pub new_name : (n : List ℕ) (w : Cursor) → IsSoundCursor w → place_of w.segments.items n ≡ None → list_any (λ k. bytes_eq n k) (map (λ k. k.items) w.names.keys) ≡ false
+pub new_name : (n : List ℕ) (w : Inside) → IsSoundCursor w → place_of w.segments.items n ≡ None → list_any (λ k. bytes_eq n k) (map (λ k. k.items) w.names.keys) ≡ false
 new_name n w sound none = absent (map (λ k. k.items) w.names.keys) (position_mapped (bytes_eq n) (λ k. k.items) w.names.keys ∙ place_is n w sound.names ∙ none)
   where
     go : (i : ℕ) (ns : List (List ℕ)) → position_from (bytes_eq n) i ns ≡ None → list_any (λ k. bytes_eq n k) ns ≡ false
@@ -98,5 +95,5 @@ new_name n w sound none = absent (map (λ k. k.items) w.names.keys) (position_ma
     absent : (ns : List (List ℕ)) → position (bytes_eq n) ns ≡ None → list_any (λ k. bytes_eq n k) ns ≡ false
     absent ns e = go 0 ns (sym (position_from-zero (bytes_eq n) ns) ∙ e)
 
-pub sound_back : (w v : Cursor) (k : ℕ) → IsSoundCursor w → AreWithin w.segments.items → w.kept.items ≡ v.kept.items ++ k ∷ [] → v.segments ≡ w.segments → v.current ≡ k → v.names ≡ w.names → IsSoundCursor v
-sound_back w v k sound within kept segments at names = grind (arith, common_steps, all_before, sound_of)
+pub sound_back : (w v : Inside) (k : ℕ) → IsSoundCursor w → w.kept.items ≡ v.kept.items ++ k ∷ [] → v.segments ≡ w.segments → v.current ≡ k → v.names ≡ w.names → IsSoundCursor v
+sound_back w v k sound kept segments at names = grind (arith, common_steps, all_before, sound_of)

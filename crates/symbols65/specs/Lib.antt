@@ -1,3 +1,4 @@
+pub mod Inner
 pub mod Measuring
 pub mod Resolving
 pub mod Tables

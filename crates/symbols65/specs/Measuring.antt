@@ -1,11 +1,9 @@
--- What stands between statements as the code has it, what a statement comes to at its line, and what stands behind it.
-use Rattle.std.specs.Prelude.{reverse, ◌≡◌, ℕ, ◌+◌, ◌<◌, ◌≤◌, List, length, map, if◌then◌else◌, ℤ, pos, negsuc, ◌&&◌, nat_le, nat_lt, not, Bool, false, ◌++◌, Option, Some, None, Result, Ok, Err}
+-- What statements open, what a statement comes to at its line, and what stands behind it.
+use Rattle.std.specs.Prelude.{◌≡◌, ℕ, ◌+◌, ◌<◌, ◌≤◌, List, length, if◌then◌else◌, ℤ, pos, negsuc, ◌&&◌, nat_le, nat_lt, not, Bool, false, ◌++◌, Option, Some, None, Result, Ok, Err}
 use Rattle.semantics65.specs.Layout as layout
-use Rattle.symbols65.specs.declared.cursor.Cursor.{Cursor}
 use Rattle.std.specs.List.{AllByRecursion}
 use Rattle.std.specs.Option.{unwrap_or}
 use Rattle.object65.specs.Objects.{section_limit}
-use Rattle.semantics65.specs.declared.contents.Segment.{Segment}
 use Rattle.semantics65.specs.Layout.{context_of, current_behind, kept_behind, opens_scope, scope_behind, segments_behind, multiple_of, own_size, size_stated, defined_twice, file_limit, first_fault, is_open, is_part, left_from, line_fault, lost_scopes, opened_twice, operand_fault, optional_tree, or_then, placing_faults, scope_name, stands_outside, trees_of, when, unless_fault}
 use Rattle.ast65.specs.declared.language.Statement.{Statement}
 use Rattle.ast65.specs.declared.language.Statement.TheVariants as statement
@@ -22,41 +20,15 @@ use Rattle.symbols65.specs.declared.measuring.Before.{Before}
 use Rattle.symbols65.specs.declared.measuring.Measured.{Measured}
 use Rattle.symbols65.specs.Views.{table_of}
 
--- ---- What stands between statements, without where it lies in memory.
-
--- the segments that are kept stand with the last one last
-abbrev pub cursor_of : Cursor → layout.Cursor
-cursor_of w = record {
-  scope = w.scope;
-  opened = w.opened;
-  region = w.region;
-  unnamed = w.unnamed;
-  segments = w.segments.items;
-  current = w.current;
-  kept = reverse w.kept.items;
-}
-
--- ---- What holds of the code's state between statements.
-
--- The current segment is there, has room left, and each segment is found by its name; what is kept
--- is there.
-pub record IsSoundCursor (w : Cursor) : Type 0 where
-  pub current : w.current < length w.segments.items
-  pub end : (context_of (cursor_of w)).offset ≤ section_limit
-  pub names : map (λ k. k.items) w.names.keys ≡ map (λ g. g.name) w.segments.items
-  pub kept : AllByRecursion (λ k. k < length w.segments.items) w.kept.items
-
--- no section is longer than sections can be
-abbrev pub AreWithin : List Segment → Type 0
-AreWithin gs = AllByRecursion (λ g. g.end ≤ section_limit) gs
+-- ---- What is counted.
 
 -- no more of anything than so many statements open, and of segments one more
-pub record IsCounted (count : ℕ) (w : Cursor) : Type 0 where
+pub record IsCounted (count : ℕ) (w : layout.Cursor) : Type 0 where
   pub scope : w.scope ≤ count
   pub scopes : w.opened ≤ count
   pub regions : w.region ≤ count
   pub unnamed : w.unnamed ≤ count
-  pub segments : length w.segments.items ≤ count + 1
+  pub segments : length w.segments ≤ count + 1
 
 -- ---- How much statements open, and what the code's numbers have room for.
 
@@ -78,8 +50,8 @@ abbrev pub opening_limit : ℕ
 opening_limit = 4294967294
 
 -- the numbers in which a cursor counts have room for what one more statement opens
-pub record HasNumbers (y : Symbols) (w : Cursor) : Type 0 where
-  pub segments : length w.segments.items < 4294967295
+pub record HasNumbers (y : Symbols) (w : layout.Cursor) : Type 0 where
+  pub segments : length w.segments < 4294967295
   pub opened : w.opened < 4294967295
   pub region : w.region < 4294967295
   pub unnamed : w.unnamed < 4294967295
@@ -133,7 +105,7 @@ Checks result fault = Gives is_memory (λ u. u) result (unless_fault fault tt)
 -- what a statement places, where its names are understood, or its first fault
 abbrev pub Places : Before → Result Measured AsmFault → Statement → Type 0
 Places before result x =
-    Gives is_memory (λ m. m) result (placed (table_of before.symbols.now) (cursor_of before.cursor.now) x)
+    Gives is_memory (λ m. m) result (placed (table_of before.symbols.now) before.cursor.now x)
 
 -- so many bytes, if the section has room for them
 abbrev pub fitted : layout.Cursor → ℕ → Result ℕ AsmFault

@@ -1,6 +1,6 @@
 //! Where the next statement stands.
 
-ghost use Rattle.std.specs.Prelude.{◌≡◌, ℕ, ◌+◌, ◌<◌, ◌≤◌, length, OnOk, IfOk, None, ◌++◌, ◌∷◌, [], if◌then◌else◌};
+ghost use Rattle.std.specs.Prelude.{◌≡◌, ℕ, ◌+◌, ◌<◌, ◌≤◌, length, OnOk, IfOk, None, ◌++◌, ◌∷◌, [], if◌then◌else◌, nat_lt};
 ghost use Rattle.object65.specs.Objects.{section_limit};
 ghost use Rattle.semantics65.specs.Symbols.{is_unnamed, opens_region, Symbols as Table};
 ghost use Rattle.semantics65.specs.Layout.{current_behind, first_size, grown_at, kept_behind, last_kept, named_segments, new_segment, opens_scope, or_last, place_of, rest_kept, scope_behind, segment_at, segments_behind, context_of, start};
@@ -8,7 +8,7 @@ ghost use Rattle.syntax65.specs.declared.instructions.names.Mnemonic.{Mnemonic};
 ghost use Rattle.ast65.specs.declared.language.Operand.{Operand};
 ghost use Rattle.ast65.specs.declared.language.Statement.TheVariants.{Instruction};
 ghost use Rattle.symbols65.specs.Views.{table_of};
-ghost use Rattle.symbols65.specs.Measuring.{advanced, AreInside, HasNumbers, opened_by, AreWithin, IsCounted, IsSoundCursor, cursor_of};
+ghost use Rattle.symbols65.specs.Measuring.{advanced, HasNumbers};
 
 use crate::measuring::Measured;
 use crate::table::Symbols;
@@ -18,36 +18,46 @@ use indexmap::IndexSet;
 use object65::format::SECTION_LIMIT;
 use semantics65::{Context, GLOBAL_SCOPE, Segment};
 use std::alloc::{AllocError, Global};
+use std::marker::Model;
 use syntax65::AddressSize;
 
 /// What stands behind statements.
 #[derive(Drop)]
 pub struct Cursor {
     /// The innermost open scope.
-    pub scope: u32,
+    scope: u32,
     /// How many scopes were opened.
-    pub opened: u32,
+    opened: u32,
     /// How many regions of cheap labels were opened.
-    pub region: u32,
+    region: u32,
     /// How many unnamed labels stand before.
-    pub unnamed: u32,
+    unnamed: u32,
     /// The segments in the order in which they were first named.
-    pub segments: Vec<Segment>,
+    segments: Vec<Segment>,
     /// The place of the segment in which the next statement stands.
-    pub current: u32,
+    current: u32,
     /// The places of segments that were kept, the last one last.
-    pub kept: Vec<u32>,
+    kept: Vec<u32>,
     /// The names of the segments, in their order.
-    pub names: IndexSet<Vec<u8>>,
+    names: IndexSet<Vec<u8>>,
+}
+
+impl Model for Cursor {
+    ghost use Rattle.semantics65.specs.Layout as layout;
+
+    ghost Value = { layout.Cursor };
+
+    ghost use Rattle.symbols65.specs.Inner.Cursors.{cursor_of, IsSoundCursor};
+
+    ghost view = { cursor_of };
+
+    ghost invariant = { IsSoundCursor };
 }
 
 impl Cursor {
     /// Where the first statement stands: in CODE.
     pub fn start(alloc: Global) -> Result<Self, AllocError>
-        ensures begun { IfOk result (λ w. cursor_of w ≡ start) }
-        ensures sound { IfOk result IsSoundCursor }
-        ensures ends { IfOk result (λ w. AreWithin w.segments.items) }
-        ensures counted { IfOk result (IsCounted 0) }
+        ensures { IfOk result (λ w. w ≡ start) }
     {
         let mut segments = Vec::new(alloc);
         segments.push(segment_of(alloc, b"CODE", None)?)?;
@@ -65,26 +75,45 @@ impl Cursor {
         })
     }
 
+    /// The segments in the order in which they were first named.
+    pub fn segments(&self) -> &[Segment]
+        ensures { result.now ≡ self.now.segments }
+    {
+        self.segments.as_slice()
+    }
+
+    /// The innermost open scope.
+    pub fn scope(&self) -> u32
+        ensures { result ≡ self.now.scope }
+    {
+        self.scope
+    }
+
+    /// Whether a segment was kept to go back to.
+    pub fn has_kept(&self) -> bool
+        ensures { result ≡ nat_lt 0 (length self.now.kept) }
+    {
+        !self.kept.is_empty()
+    }
+
     /// The segment in which the next statement stands.
     pub fn segment(&self) -> &Segment
-        requires { self.now.current < length self.now.segments.items }
-        ensures { result.now ≡ segment_at self.now.segments.items self.now.current }
+        ensures current { result.now ≡ segment_at self.now.segments self.now.current }
+        ensures within { result.now.end ≤ section_limit }
     {
         &self.segments[self.current as usize]
     }
 
     /// The place of the segment of a name.
     pub fn place_of(&self, name: &[u8]) -> Option<usize>
-        requires { IsSoundCursor self.now }
-        ensures { result ≡ place_of self.now.segments.items name.now }
+        ensures { result ≡ place_of self.now.segments name.now }
     {
         self.names.get_index_of(name)
     }
 
     /// Where the next statement stands.
     pub fn context(&self) -> Context
-        requires { self.now.current < length self.now.segments.items }
-        ensures { result ≡ context_of (cursor_of self.now) }
+        ensures { result ≡ context_of self.now }
     {
         Context {
             scope: self.scope,
@@ -98,23 +127,17 @@ impl Cursor {
 
     /// How many bytes the section has room for.
     pub fn room(&self) -> u32
-        requires current { self.now.current < length self.now.segments.items }
-        requires end { (context_of (cursor_of self.now)).offset ≤ section_limit }
-        ensures { (context_of (cursor_of self.now)).offset + result ≡ section_limit }
+        ensures { (context_of self.now).offset + result ≡ section_limit }
     {
         SECTION_LIMIT - self.segment().end
     }
 
     /// Moves the end of the section in which statements stand.
     fn grow(&mut self, count: u32, multiple: u32)
-        requires sound { IsSoundCursor self.old }
-        requires ends { AreWithin self.old.segments.items }
-        requires room { (context_of (cursor_of self.old)).offset + count ≤ section_limit }
-        ensures moved { cursor_of self.new ≡ record (cursor_of self.old) {
-          segments = grown_at self.old.segments.items self.old.current count multiple;
+        requires { (context_of self.old).offset + count ≤ section_limit }
+        ensures { self.new ≡ record self.old {
+          segments = grown_at self.old.segments self.old.current count multiple;
         } }
-        ensures sound { IsSoundCursor self.new }
-        ensures ends { AreWithin self.new.segments.items }
     {
         grow(&mut self.segments, self.current as usize, count, multiple);
     }
@@ -126,20 +149,19 @@ impl Cursor {
         name: &[u8],
         size: Option<AddressSize>,
     ) -> Result<(), AllocError>
-        requires sound { IsSoundCursor self.old }
-        requires ends { AreWithin self.old.segments.items }
-        requires few { length self.old.segments.items < 4294967295 }
-        requires new { place_of self.old.segments.items name.now ≡ None }
-        ensures moved { OnOk result (cursor_of self.new ≡ record (cursor_of self.old) {
-          segments = self.old.segments.items ++ new_segment name.now (first_size name.now size) ∷ [];
-          current = length self.old.segments.items;
+        requires few { length self.old.segments < 4294967295 }
+        requires new { place_of self.old.segments name.now ≡ None }
+        ensures { OnOk result (self.new ≡ record self.old {
+          segments = self.old.segments ++ new_segment name.now (first_size name.now size) ∷ [];
+          current = length self.old.segments;
         }) }
-        ensures sound { OnOk result (IsSoundCursor self.new) }
-        ensures ends { OnOk result (AreWithin self.new.segments.items) }
     {
         let place = self.segments.len();
-        self.segments.push(segment_of(alloc, name, size)?)?;
+        let segment = segment_of(alloc, name, size)?;
+        // Both tables take it, or none does.
+        self.segments.reserve(1)?;
         self.names.insert(Vec::from_slice(alloc, name)?)?;
+        self.segments.push_reserved(segment);
         self.current = place as u32;
         Ok(())
     }
@@ -152,17 +174,13 @@ impl Cursor {
         name: &[u8],
         size: Option<AddressSize>,
     ) -> Result<(), AllocError>
-        requires sound { IsSoundCursor self.old }
-        requires ends { AreWithin self.old.segments.items }
-        requires few { length self.old.segments.items < 4294967295 }
-        ensures moved { OnOk result (cursor_of self.new ≡ record (cursor_of self.old) {
-          segments = named_segments self.old.segments.items name.now size
-              (place_of self.old.segments.items name.now);
-          current = or_last self.old.segments.items
-              (place_of self.old.segments.items name.now);
+        requires { length self.old.segments < 4294967295 }
+        ensures { OnOk result (self.new ≡ record self.old {
+          segments = named_segments self.old.segments name.now size
+              (place_of self.old.segments name.now);
+          current = or_last self.old.segments
+              (place_of self.old.segments name.now);
         }) }
-        ensures sound { OnOk result (IsSoundCursor self.new) }
-        ensures ends { OnOk result (AreWithin self.new.segments.items) }
     {
         match self.place_of(name) {
             None => self.begin(alloc, name, size),
@@ -176,12 +194,9 @@ impl Cursor {
     /// Keeps the place of the segment in which statements stand.
     #[inline(never)]
     fn keep(&mut self) -> Result<(), AllocError>
-        requires sound { IsSoundCursor self.old }
-        ensures moved { OnOk result (cursor_of self.new ≡ record (cursor_of self.old) {
-          kept = self.old.current ∷ (cursor_of self.old).kept;
+        ensures { OnOk result (self.new ≡ record self.old {
+          kept = self.old.current ∷ self.old.kept;
         }) }
-        ensures sound { OnOk result (IsSoundCursor self.new) }
-        ensures segments { self.new.segments ≡ self.old.segments }
     {
         self.kept.push(self.current)?;
         Ok(())
@@ -189,14 +204,10 @@ impl Cursor {
 
     /// Goes back to the segment that was kept last.
     fn go_back(&mut self)
-        requires sound { IsSoundCursor self.old }
-        requires ends { AreWithin self.old.segments.items }
-        ensures moved { cursor_of self.new ≡ record (cursor_of self.old) {
-          current = last_kept self.old.current (cursor_of self.old).kept;
-          kept = rest_kept (cursor_of self.old).kept;
+        ensures { self.new ≡ record self.old {
+          current = last_kept self.old.current self.old.kept;
+          kept = rest_kept self.old.kept;
         } }
-        ensures sound { IsSoundCursor self.new }
-        ensures segments { self.new.segments ≡ self.old.segments }
     {
         if let Some(place) = self.kept.pop() {
             self.current = place;
@@ -211,18 +222,14 @@ impl Cursor {
         count: u32,
         multiple: u32,
     ) -> Result<(), AllocError>
-        requires sound { IsSoundCursor self.old }
-        requires ends { AreWithin self.old.segments.items }
-        requires few { length self.old.segments.items < 4294967295 }
-        requires room { (context_of (cursor_of self.old)).offset + count ≤ section_limit }
-        ensures moved { OnOk result (cursor_of self.new ≡ record (cursor_of self.old) {
-          segments = segments_behind self.old.segments.items self.old.current count multiple
+        requires few { length self.old.segments < 4294967295 }
+        requires room { (context_of self.old).offset + count ≤ section_limit }
+        ensures { OnOk result (self.new ≡ record self.old {
+          segments = segments_behind self.old.segments self.old.current count multiple
               statement.now;
-          current = current_behind (cursor_of self.old) statement.now;
-          kept = kept_behind (cursor_of self.old) statement.now;
+          current = current_behind self.old statement.now;
+          kept = kept_behind self.old statement.now;
         }) }
-        ensures sound { OnOk result (IsSoundCursor self.new) }
-        ensures ends { OnOk result (AreWithin self.new.segments.items) }
     {
         match statement {
             Statement::Segment { name, size } => self.select(alloc, name.as_slice(), *size),
@@ -244,16 +251,9 @@ impl Cursor {
 
     /// Goes on behind an instruction of so many bytes.
     pub fn advance_by(&mut self, count: u32)
-        requires sound { IsSoundCursor self.old }
-        requires ends { AreWithin self.old.segments.items }
-        requires room { (context_of (cursor_of self.old)).offset + count ≤ section_limit }
-        ensures moved { (y : Table) (m : Mnemonic) (operand : Operand) → cursor_of self.new
-            ≡ advanced y (cursor_of self.old) (Instruction m operand) count 1 }
-        ensures sound { IsSoundCursor self.new }
-        ensures ends { AreWithin self.new.segments.items }
-        ensures counted { (y : Table) (m : Mnemonic) (operand : Operand) (n : ℕ) →
-            IsCounted n self.old → AreInside n y.scopes →
-            IsCounted (n + opened_by (Instruction m operand)) self.new }
+        requires { (context_of self.old).offset + count ≤ section_limit }
+        ensures { (y : Table) (m : Mnemonic) (operand : Operand) → self.new
+            ≡ advanced y self.old (Instruction m operand) count 1 }
     {
         self.grow(count, 1);
     }
@@ -266,17 +266,10 @@ impl Cursor {
         statement: &Statement,
         measure: Measured,
     ) -> Result<(), AllocError>
-        requires sound { IsSoundCursor self.old }
-        requires ends { AreWithin self.old.segments.items }
-        requires room { (context_of (cursor_of self.old)).offset + measure.length ≤ section_limit }
+        requires room { (context_of self.old).offset + measure.length ≤ section_limit }
         requires numbers { HasNumbers (table_of symbols.now) self.old }
-        ensures moved { OnOk result (cursor_of self.new ≡ advanced (table_of symbols.now)
-            (cursor_of self.old) statement.now measure.length measure.multiple) }
-        ensures sound { OnOk result (IsSoundCursor self.new) }
-        ensures ends { OnOk result (AreWithin self.new.segments.items) }
-        ensures counted { (count : ℕ) → IsCounted count self.old
-            → AreInside count (table_of symbols.now).scopes
-            → OnOk result (IsCounted (count + opened_by statement.now) self.new) }
+        ensures { OnOk result (self.new ≡ advanced (table_of symbols.now)
+            self.old statement.now measure.length measure.multiple) }
     {
         self.count_openings(symbols, statement);
         self.move_on(alloc, statement, measure.length, measure.multiple)
@@ -286,7 +279,7 @@ impl Cursor {
     fn count_openings(&mut self, symbols: &Symbols, statement: &Statement)
         requires { HasNumbers (table_of symbols.now) self.old }
         ensures { self.new ≡ record self.old {
-          scope = scope_behind (table_of symbols.now) (cursor_of self.old)
+          scope = scope_behind (table_of symbols.now) self.old
               statement.now;
           opened = (if opens_scope statement.now then self.old.opened + 1
               else self.old.opened);

@@ -14,7 +14,7 @@ ghost use Rattle.ast65.specs.declared.language.Statement.TheVariants.{Instructio
 ghost use Rattle.semantics65.specs.Layout.{own_size, context_of};
 ghost use Rattle.symbols65.specs.Resolving.{IsTable};
 ghost use Rattle.symbols65.specs.Views.{table_of};
-ghost use Rattle.symbols65.specs.Measuring.{Checks, fitted, measured, naming_fault, IsSoundCursor, cursor_of};
+ghost use Rattle.symbols65.specs.Measuring.{Checks, fitted, measured, naming_fault};
 
 pub use self::bytes::check_unread;
 use self::bytes::instruction;
@@ -67,8 +67,7 @@ fn check_naming(
 /// So many bytes, if the section has room for them.
 #[tactic(auto, using(crate::proofs::Measures::same_test))]
 fn fit(cursor: &Cursor, length: usize) -> Result<u32, AsmFault>
-    requires { IsSoundCursor cursor.now }
-    ensures { result ≡ fitted (cursor_of cursor.now) length }
+    ensures { result ≡ fitted cursor.now length }
 {
     let room = cursor.room();
     if length > room as usize {
@@ -79,11 +78,10 @@ fn fit(cursor: &Cursor, length: usize) -> Result<u32, AsmFault>
 
 /// What a statement without bytes places.
 fn nothing(cursor: &Cursor) -> Measured
-    requires { IsSoundCursor cursor.now }
     ensures room { nat_lt section_limit
-        ((context_of (cursor_of cursor.now)).offset + 0) ≡ false }
+        ((context_of cursor.now).offset + 0) ≡ false }
     ensures length { result.length ≡ 0 }
-    ensures size { result.size ≡ own_size (cursor_of cursor.now) }
+    ensures size { result.size ≡ own_size cursor.now }
     ensures multiple { result.multiple ≡ 1 }
     ensures settled { result.settled ≡ Unsettled }
 {
@@ -103,12 +101,11 @@ pub fn measure(
     statement: &Statement,
 ) -> Result<Measured, AsmFault>
     requires table { IsTable (table_of before.symbols.now) known.old.states.items }
-    requires cursor { IsSoundCursor before.cursor.now }
     ensures measured { Gives is_memory (λ m. m) result (measured
-        (table_of before.entry.symbols.now) (cursor_of before.entry.cursor.now)
+        (table_of before.entry.symbols.now) before.entry.cursor.now
         statement.now) }
     ensures room { IfOk result (λ m.
-        (context_of (cursor_of before.entry.cursor.now)).offset + m.length ≤ section_limit) }
+        (context_of before.entry.cursor.now).offset + m.length ≤ section_limit) }
     ensures table { OnOk result
         (IsTable (table_of before.entry.symbols.now) known.new.states.items) }
 {
@@ -125,12 +122,11 @@ pub fn measure_instruction(
     operand: &Operand,
 ) -> Result<Measured, AsmFault>
     requires table { IsTable (table_of before.symbols.now) known.old.states.items }
-    requires cursor { IsSoundCursor before.cursor.now }
     ensures measured { Gives is_memory (λ m. m) result (measured
-        (table_of before.entry.symbols.now) (cursor_of before.entry.cursor.now)
+        (table_of before.entry.symbols.now) before.entry.cursor.now
         (Instruction mnemonic operand.now)) }
     ensures room { IfOk result (λ m.
-        (context_of (cursor_of before.entry.cursor.now)).offset + m.length ≤ section_limit) }
+        (context_of before.entry.cursor.now).offset + m.length ≤ section_limit) }
     ensures table { OnOk result
         (IsTable (table_of before.entry.symbols.now) known.new.states.items) }
 {

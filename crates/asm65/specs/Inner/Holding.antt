@@ -13,7 +13,7 @@ use Rattle.emit65.specs.Fed.{Stands, Feeds, contents_so_far}
 use Rattle.symbols65.specs.Resolving.{IsTable}
 use Rattle.symbols65.specs.Views.{table_of}
 use Rattle.asm65.specs.declared.assembler.Assembler.{Assembler}
-use Rattle.symbols65.specs.Measuring.{AreInside, AreWithin, IsCounted, IsSoundCursor, cursor_of, measure_of, opening_limit}
+use Rattle.symbols65.specs.Measuring.{AreInside, IsCounted, measure_of, opening_limit}
 use Rattle.expand65.specs.State.{Meaning}
 use Rattle.semantics65.specs.Norms.{constant_in, IsFinal}
 use Rattle.semantics65.specs.Reading.{is_definition}
@@ -50,10 +50,8 @@ AreBefore next ds = AllByRecursion (λ d. IsBefore next d.key) ds
 pub record Holds (count : ℕ) (t : State) (a : Assembler) : Type 0 where
   pub symbols : table_of a.symbols ≡ t.symbols
   pub known : IsTable t.symbols a.known.states.items
-  pub cursor : cursor_of a.cursor ≡ t.cursor
-  pub sound : IsSoundCursor a.cursor
-  pub ends : AreWithin a.cursor.segments.items
-  pub counted : IsCounted count a.cursor
+  pub cursor : a.cursor ≡ t.cursor
+  pub counted : IsCounted count t.cursor
   pub inside : AreInside count t.symbols.scopes
   pub unnamed : AreBefore t.cursor.unnamed t.symbols.definitions
   pub sections : Stands t.slots a.sections

@@ -9,7 +9,7 @@ ghost use Rattle.semantics65.specs.Layout.{when, unless_fault};
 ghost use Rattle.semantics65.specs.Norms.{counted, optional_value, item_len, mode_len};
 ghost use Rattle.symbols65.specs.Resolving.{IsTable};
 ghost use Rattle.symbols65.specs.Views.{table_of};
-ghost use Rattle.symbols65.specs.Measuring.{IsFound, is_within, Places, placed, ranged, unread_fault, IsSoundCursor, cursor_of};
+ghost use Rattle.symbols65.specs.Measuring.{IsFound, is_within, Places, placed, ranged, unread_fault};
 ghost use Rattle.object65.specs.Objects.{width_len};
 ghost use Rattle.semantics65.specs.Symbols.{Symbols as Table};
 
@@ -58,9 +58,8 @@ pub fn check_unread(
     range: PartRange<'_>,
 ) -> Result<(), AsmFault>
     requires table { IsTable (table_of before.symbols.now) known.old.states.items }
-    requires cursor { IsSoundCursor before.cursor.now }
     ensures checked { Gives is_memory (λ u. u) result (unless_fault (unread_fault
-        (table_of before.entry.symbols.now) (cursor_of before.entry.cursor.now)
+        (table_of before.entry.symbols.now) before.entry.cursor.now
         range.entry.start.now range.entry.len.now) tt) }
     ensures table { OnOk result
         (IsTable (table_of before.entry.symbols.now) known.new.states.items) }
@@ -109,7 +108,6 @@ pub fn file_part(
     range: PartRange<'_>,
 ) -> Result<Measured, AsmFault>
     requires table { IsTable (table_of before.symbols.now) known.old.states.items }
-    requires cursor { IsSoundCursor before.cursor.now }
     ensures placed { Places before.entry result
         (FilePart bytes.now range.entry.start.now range.entry.len.now) }
     ensures table { OnOk result
@@ -150,7 +148,6 @@ pub fn instruction(
     operand: &Operand,
 ) -> Result<Measured, AsmFault>
     requires table { IsTable (table_of before.symbols.now) known.old.states.items }
-    requires cursor { IsSoundCursor before.cursor.now }
     ensures placed { Places before.entry result (Instruction mnemonic operand.now) }
     ensures table { OnOk result
         (IsTable (table_of before.entry.symbols.now) known.new.states.items) }
@@ -228,9 +225,8 @@ fn room_behind(width: Width, items: &Items, room: usize) -> Option<usize>
 #[inline(never)]
 #[tactic(auto, using(crate::proofs::Measures::same_test))]
 pub fn values(cursor: &Cursor, width: Width, items: &Items) -> Result<Measured, AsmFault>
-    requires { IsSoundCursor cursor.now }
     ensures { (y : Table) → Gives is_memory (λ m. m) result (placed y
-        (cursor_of cursor.now) (Values width items.now)) }
+        cursor.now (Values width items.now)) }
 {
     let room = cursor.room();
     let Some(left) = room_behind(width, items, room as usize) else {

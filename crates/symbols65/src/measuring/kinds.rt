@@ -8,7 +8,7 @@ ghost use Rattle.symbols65.specs.Tables.{key_of};
 ghost use Rattle.symbols65.specs.Views.{table_of};
 ghost use Rattle.ast65.specs.declared.language.Statement.TheVariants.{Constant};
 ghost use Rattle.symbols65.specs.Resolving.{IsTable};
-ghost use Rattle.symbols65.specs.Measuring.{Checks, Places, IsSoundCursor};
+ghost use Rattle.symbols65.specs.Measuring.{Checks, Places};
 
 use super::bytes::{file_part, instruction, values};
 use super::rooms::{align, check_segment, is_scope, reserve};
@@ -156,7 +156,6 @@ fn constant(
     value: &Expr,
 ) -> Result<Measured, AsmFault>
     requires table { IsTable (table_of before.symbols.now) known.old.states.items }
-    requires cursor { IsSoundCursor before.cursor.now }
     ensures placed { (name : List ℕ) → Places before.entry result (Constant name value.now) }
     ensures table { OnOk result
         (IsTable (table_of before.entry.symbols.now) known.new.states.items) }
@@ -175,12 +174,11 @@ pub fn place(
     statement: &Statement,
 ) -> Result<Measured, AsmFault>
     requires table { IsTable (table_of before.symbols.now) known.old.states.items }
-    requires cursor { IsSoundCursor before.cursor.now }
     ensures placed { Places before.entry result statement.now }
     ensures table { OnOk result
         (IsTable (table_of before.entry.symbols.now) known.new.states.items) }
 {
-    let scope = before.cursor.scope as usize;
+    let scope = before.cursor.scope() as usize;
     match statement {
         Statement::Instruction { mnemonic, operand } => {
             instruction(alloc, before, known, *mnemonic, operand)
@@ -196,7 +194,7 @@ pub fn place(
             check_segment(before.cursor, name.as_slice(), *size)?;
             Ok(nothing(before.cursor))
         }
-        Statement::PopSegment if before.cursor.kept.is_empty() => Err(AsmFault::PopWithoutPush),
+        Statement::PopSegment if !before.cursor.has_kept() => Err(AsmFault::PopWithoutPush),
         Statement::CloseScope if scope == 0 || !is_scope(before.symbols, scope) => {
             Err(AsmFault::BadScope)
         }

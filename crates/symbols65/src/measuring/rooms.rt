@@ -4,7 +4,7 @@ ghost use Rattle.std.specs.Prelude.{◌≡◌, not, slice_get, ◌<◌, ◌≤�
 ghost use Rattle.semantics65.specs.Layout.{place_of, segment_at, context_of as cursor_context, changed_size, is_scope, opened_as, same_size, when, unless_fault, is_byte_value, is_count, multiple_fault};
 ghost use Rattle.ast65.specs.declared.fault.AsmFault.TheVariants.{BadOperand};
 ghost use Rattle.symbols65.specs.Views.{table_of};
-ghost use Rattle.symbols65.specs.Measuring.{IsSoundCursor, cursor_of, Places};
+ghost use Rattle.symbols65.specs.Measuring.{Places};
 ghost use Rattle.base65.specs.Outcome.{Gives};
 ghost use Rattle.ast65.specs.Faults.{is_memory};
 ghost use Rattle.ast65.specs.declared.language.Statement.TheVariants.{Align, Reserve};
@@ -66,9 +66,8 @@ pub fn check_segment(
     name: &[u8],
     size: Option<AddressSize>,
 ) -> Result<(), AsmFault>
-    requires { IsSoundCursor cursor.now }
-    ensures { result ≡ unless_fault (changed_size cursor.now.segments.items size
-        (place_of cursor.now.segments.items name.now)) tt }
+    ensures { result ≡ unless_fault (changed_size cursor.now.segments size
+        (place_of cursor.now.segments name.now)) tt }
 {
     let Some(size) = size else {
         return Ok(());
@@ -76,7 +75,7 @@ pub fn check_segment(
     let Some(place) = cursor.place_of(name) else {
         return Ok(());
     };
-    if same_size(size, size_at(&cursor.segments, place)) {
+    if same_size(size, size_at(cursor.segments(), place)) {
         Ok(())
     } else {
         Err(AsmFault::SizeChanged)
@@ -129,7 +128,6 @@ pub fn reserve(
     value: &OptionalExpr,
 ) -> Result<Measured, AsmFault>
     requires table { IsTable (table_of before.symbols.now) known.old.states.items }
-    requires cursor { IsSoundCursor before.cursor.now }
     ensures placed { Places before.entry result (Reserve count.now value.now) }
     ensures table { OnOk result
         (IsTable (table_of before.entry.symbols.now) known.new.states.items) }
@@ -177,12 +175,11 @@ fn multiple_of(value: Option<i64>) -> Result<u32, AsmFault>
 
 /// How far the end of the section moves up to a multiple.
 fn gap(cursor: &Cursor, multiple: u32) -> u32
-    requires cursor { IsSoundCursor cursor.now }
     requires bounds { multiple ≤ 32768 }
     requires positive { 0 < multiple }
-    ensures { result ≡ gap (cursor_context (cursor_of cursor.now)).offset (Some (pos multiple)) }
+    ensures { result ≡ gap (cursor_context cursor.now).offset (Some (pos multiple)) }
 {
-    let offset = cursor.context().offset;
+    let offset = cursor.segment().end;
     offset.next_multiple_of(multiple) - offset
 }
 
@@ -196,7 +193,6 @@ pub fn align(
     value: &OptionalExpr,
 ) -> Result<Measured, AsmFault>
     requires table { IsTable (table_of before.symbols.now) known.old.states.items }
-    requires cursor { IsSoundCursor before.cursor.now }
     ensures placed { Places before.entry result (Align multiple.now value.now) }
     ensures table { OnOk result
         (IsTable (table_of before.entry.symbols.now) known.new.states.items) }

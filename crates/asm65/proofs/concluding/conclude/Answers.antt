@@ -19,7 +19,7 @@ returns-clause-concluded c =
     let new = c.object_of-found.new.ending.err in
     λ (count : ℕ) (t : State).
     λ (h : Holds count t a).
-    let k : ComesTo (table_of a.symbols) a.cursor.segments.items t.slots a.texts.err new r = subst (λ (gs : List Segment). ComesTo (table_of a.symbols) gs t.slots a.texts.err new r) c.as_slice-segments.ensures.value (c.object_of-found.ensures.found t.slots h.sections h.unsaid) in
+    let k : ComesTo (table_of a.symbols) a.cursor.segments t.slots a.texts.err new r = subst (λ (gs : List Segment). ComesTo (table_of a.symbols) gs t.slots a.texts.err new r) c.segments.ensures (c.object_of-found.ensures.found t.slots h.sections h.unsaid) in
     c.answered.ensures.concluded (concluded t None) (comes_concluded count t a new r h k)
 
 pub returns-clause-good : goal.returns-clause-good
@@ -28,4 +28,4 @@ returns-clause-good c =
     let r = c.object_of-found.result in
     let new = c.object_of-found.new.ending.err in
     comes_good a new r c.answered.result.result c.answered.ensures.answer
-    (λ (xs : List Slot). λ (s : Stands xs a.sections). λ (unsaid : all_said (contents_so_far xs) ≡ []). subst (λ (gs : List Segment). ComesTo (table_of a.symbols) gs xs a.texts.err new r) c.as_slice-segments.ensures.value (c.object_of-found.ensures.found xs s unsaid))
+    (λ (xs : List Slot). λ (s : Stands xs a.sections). λ (unsaid : all_said (contents_so_far xs) ≡ []). subst (λ (gs : List Segment). ComesTo (table_of a.symbols) gs xs a.texts.err new r) c.segments.ensures (c.object_of-found.ensures.found xs s unsaid))

@@ -9,7 +9,7 @@ use Rattle.ast65.specs.declared.fault.AsmFault.{AsmFault}
 use Rattle.asm65.specs.Inner.Running.{IsRunning, TakesLine}
 use Rattle.asm65.specs.declared.running.Run.{Run}
 use Rattle.asm65.proofs.Ahead.{line_taken, no_line_taken}
-use Rattle.asm65.proofs.Sources.{Goes, NextBy, all_end, all_further, all_on, all_out, all_refused, all_stop, all_stopped, all_wrong, goes_first, line_running, placed_on, some_all, some_then, still_running, StaysPlaced}
+use Rattle.asm65.proofs.Sources.{Goes, NextBy, all_end, all_further, all_on, all_out, all_refused, all_stop, all_stopped, all_wrong, goes_first, line_running, next_roomy, placed_on, some_all, some_then, still_running, StaysPlaced}
 use Rattle.asm65.proofs.running.take_all.Goals as goal
 
 pub statements-init : goal.statements-init
@@ -44,6 +44,15 @@ returns-in_err-statement-clause-stopped g c =
     let p = err_from_is_err_and r c.from_residual-in_err-statement.ensures.1 in
     let e = c.in_err-statement.ensures in
     all_stop (g.S.Store.files c.args.store.now) (g.S.Store.files c.take_at_hand.new.store) told c.args.run.now c.take_at_hand.new.run c.next.new.run e.same so_far (g.S.Store.blamed c.next.new.store) c.in_err-statement.field-0.0 r (p.1 ∙ ap Err p.2) placed e.stopped
+
+pub take_next-requires : goal.take_next-requires
+take_next-requires g c =
+    let here = no_line_taken (g.S.Store.files c.statements.store) (g.S.Store.blamed c.take_at_hand.new.store) c.statements.run c.take_at_hand.new.run c.in_ok-take_at_hand.field-0 c.if-branch.false c.in_ok-take_at_hand.ensures.next in
+    let old = c.take_at_hand.new.run in
+    let mid = c.next.new.run in
+    let e = c.in_ok-statement.ensures in
+    let L : Option Statement → Type 0 = λ x. IfSome x (λ y. measure_of mid.expander < measure_of old.expander) in
+    next_roomy old mid e.same (subst L c.in-Some.is e.size) (subst IsRunning (sym here) c.statements.invariant.running)
 
 pub returns-in_err-take_next-clause-ran : goal.returns-in_err-take_next-clause-ran
 returns-in_err-take_next-clause-ran g c =

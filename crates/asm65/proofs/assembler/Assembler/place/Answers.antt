@@ -9,16 +9,15 @@ use Rattle.semantics65.specs.Layout as layout
 use Rattle.semantics65.specs.Layout.{Cursor}
 use Rattle.semantics65.specs.Symbols.{Symbols}
 use Rattle.semantics65.specs.Views.{place_in}
-use Rattle.symbols65.specs.Measuring.{advanced, AreInside, HasNumbers, IsCounted, cursor_of}
+use Rattle.symbols65.specs.Measuring.{advanced, HasNumbers}
 use Rattle.symbols65.specs.declared.measuring.Measured.{Measured}
-use Rattle.symbols65.specs.declared.cursor.Cursor as code
 use Rattle.symbols65.specs.declared.measuring.Measured as found
 use Rattle.symbols65.proofs.Behind.{has_numbers, without_fault}
 use Rattle.symbols65.specs.Views.{table_of}
 use Rattle.asm65.specs.declared.assembler.Assembler.{Assembler}
 use Rattle.asm65.specs.Inner.Holding.{AreBefore, Holds, IsNew, asked_of}
 use Rattle.asm65.proofs.Insides.{measured_inside}
-use Rattle.asm65.proofs.Placings.{moved_behind, placed_is, refused_is}
+use Rattle.asm65.proofs.Placings.{more_counted, moved_behind, placed_is, refused_is}
 use Rattle.asm65.proofs.Takings.{holds_known, holds_stepped, is_new}
 use Rattle.asm65.proofs.assembler.Assembler.place.Goals as goal
 
@@ -27,9 +26,9 @@ advance-requires-clause-numbers c =
     let old : Assembler = c.args.self.now in
     let mid : Assembler = c.ask.new.self in
     let (count, t, h, few) = c.requires in
-    let inside : AreInside count (table_of old.symbols).scopes = subst (λ (y : Symbols). AreInside count y.scopes) (sym h.symbols) h.inside in
-    subst (λ (y : Symbols). HasNumbers y mid.cursor) (ap table_of (sym c.in_ok-ask.ensures.tables.symbols))
-    (subst (λ (w : code.Cursor). HasNumbers (table_of old.symbols) w) (sym c.in_ok-ask.ensures.tables.cursor) (has_numbers count (table_of old.symbols) old.cursor h.counted inside few))
+    let tables = c.in_ok-ask.ensures.tables in
+    subst (λ (y : Symbols). HasNumbers y mid.cursor) (sym (ap table_of tables.symbols ∙ h.symbols))
+    (subst (λ (w : Cursor). HasNumbers t.symbols w) (sym (tables.cursor ∙ h.cursor)) (has_numbers count t.symbols t.cursor h.counted h.inside few))
 
 pub returns-clause-placed : goal.returns-clause-placed
 returns-clause-placed c = λ count t h.
@@ -41,7 +40,7 @@ returns-clause-new c =
     let mid : Assembler = c.ask.new.self in
     let x : Statement = c.args.statement.now in
     let y : Symbols = table_of old.symbols in
-    let w : Cursor = cursor_of old.cursor in
+    let w : Cursor = old.cursor in
     let (count, t, h, few) = c.requires in
     let before : AreBefore w.unnamed y.definitions = subst (λ (z : Symbols). AreBefore w.unnamed z.definitions) (sym h.symbols) (subst (λ (v : Cursor). AreBefore v.unnamed t.symbols.definitions) (sym h.cursor) h.unnamed) in
     let new : IsNew y (layout.context_of w) x = is_new y w x (without_fault y w x c.in_ok-measured.measured c.in_ok-measured.ensures.measured) before in
@@ -56,20 +55,18 @@ returns-clause-holds c = λ count t h.
     let place : Place = place_in c.args.at.file.now c.args.at.line in
     let m : Measured = c.in_ok-measured.measured in
     let y : Symbols = table_of old.symbols in
-    let w : Cursor = cursor_of old.cursor in
+    let w : Cursor = old.cursor in
     let same : table_of mid.symbols ≡ y = ap table_of c.in_ok-ask.ensures.tables.symbols in
-    let site : cursor_of mid.cursor ≡ w = ap cursor_of c.in_ok-ask.ensures.tables.cursor in
+    let site : mid.cursor ≡ w = c.in_ok-ask.ensures.tables.cursor in
     let segment = ap (λ (s : Context). s.segment) c.context-context.ensures ∙ ap (λ (v : Cursor). (layout.context_of v).segment) h.cursor in
     let knows = holds_known count t old c.measure.new.known h c.in_ok-measured.ensures.table in
     let held : Holds count (asked_of (layout.context_of t.cursor).segment x t) mid = subst (λ (g : ℕ). Holds count (asked_of g x t) mid) segment (c.in_ok-ask.ensures.asked count t knows) in
-    let moved : cursor_of c.advance.new.self ≡ layout.cursor_behind t.symbols t.cursor x =
-    c.in_ok-advance.ensures.moved
-    ∙ ap (λ (z : Symbols). advanced z (cursor_of mid.cursor) x m.length m.multiple) same
+    let moved : c.advance.new.self ≡ layout.cursor_behind t.symbols t.cursor x =
+    c.in_ok-advance.ensures
+    ∙ ap (λ (z : Symbols). advanced z mid.cursor x m.length m.multiple) same
     ∙ ap (λ (v : Cursor). advanced y v x m.length m.multiple) site
     ∙ moved_behind count t old h x m c.in_ok-measured.ensures.measured in
-    let counted : IsCounted count mid.cursor = subst (IsCounted count) (sym c.in_ok-ask.ensures.tables.cursor) h.counted in
-    let inside : AreInside count (table_of mid.symbols).scopes = subst (λ (z : Symbols). AreInside count z.scopes) (sym (same ∙ h.symbols)) h.inside in
-    holds_stepped count t place x mid c.advance.new.self c.say.new.self held moved c.in_ok-advance.ensures.sound c.in_ok-advance.ensures.ends (c.in_ok-advance.ensures.counted count counted inside) c.in_ok-say.ensures.out c.in_ok-say.ensures.err)
+    holds_stepped count t place x mid c.advance.new.self c.say.new.self held moved (more_counted count t old h x m c.in_ok-measured.ensures.measured) c.in_ok-say.ensures.out c.in_ok-say.ensures.err)
 
 pub returns-in_err-measured-clause-refused : goal.returns-in_err-measured-clause-refused
 returns-in_err-measured-clause-refused c = λ count t h.
@@ -80,4 +77,4 @@ pub returns-in_err-measured-clause-inside : goal.returns-in_err-measured-clause-
 returns-in_err-measured-clause-inside c =
     let p = err_from_is_err_and c.from_residual.result c.from_residual.ensures.1 in
     let answer : Result found.Measured AsmFault = Err c.in_err-measured.field-0.0 in
-    rw (p.1, p.2) (measured_inside answer (λ m. m) (table_of c.args.self.now.symbols) (cursor_of c.args.self.now.cursor) c.args.statement.now c.in_err-measured.ensures.measured)
+    rw (p.1, p.2) (measured_inside answer (λ m. m) (table_of c.args.self.now.symbols) c.args.self.now.cursor c.args.statement.now c.in_err-measured.ensures.measured)

@@ -10,7 +10,7 @@ use Rattle.ast65.specs.declared.language.Statement.TheVariants.{Instruction}
 use Rattle.semantics65.specs.Layout as layout
 use Rattle.semantics65.specs.Layout.{Cursor}
 use Rattle.semantics65.specs.Symbols.{Symbols}
-use Rattle.symbols65.specs.Measuring.{advanced, AreInside, cursor_of}
+use Rattle.symbols65.specs.Measuring.{advanced}
 use Rattle.symbols65.specs.declared.measuring.Measured.{Measured}
 use Rattle.symbols65.specs.declared.measuring.Measured as found
 use Rattle.symbols65.proofs.Behind.{is_measured}
@@ -19,7 +19,7 @@ use Rattle.symbols65.specs.Views.{table_of}
 use Rattle.asm65.specs.declared.assembler.Assembler.{Assembler}
 use Rattle.asm65.specs.Inner.Holding.{Holds, asked_of}
 use Rattle.asm65.proofs.Insides.{measured_inside}
-use Rattle.asm65.proofs.Placings.{moved_behind, placed_is, refused_is}
+use Rattle.asm65.proofs.Placings.{more_counted, moved_behind, placed_is, refused_is}
 use Rattle.asm65.proofs.Takings.{holds_known, holds_stepped}
 use Rattle.asm65.proofs.Waitings.{holds_entered}
 use Rattle.asm65.proofs.assembler.Assembler.place_instruction.Goals as goal
@@ -34,7 +34,7 @@ returns-clause-holds c = λ place count t h.
     let x : Statement = Instruction c.args.mnemonic c.args.operand.now in
     let m : Measured = c.in_ok-measured.measured in
     let y : Symbols = table_of old.symbols in
-    let w : Cursor = cursor_of old.cursor in
+    let w : Cursor = old.cursor in
     let known : Assembler = record old { known = c.measure_instruction.new.known } in
     let mid : Assembler = record known { sections = c.ask.new.self } in
     let segment = ap (λ (s : Context). s.segment) c.context-context.ensures ∙ ap (λ (v : Cursor). (layout.context_of v).segment) h.cursor in
@@ -42,12 +42,11 @@ returns-clause-holds c = λ place count t h.
     let asked : Holds count (entered t (asking c.context-context.result.segment)) mid = holds_entered count t known mid knows (record { symbols = refl; known = refl; cursor = refl; texts = refl }) (asking c.context-context.result.segment) refl c.in_ok-ask.ensures in
     let held : Holds count (asked_of (layout.context_of t.cursor).segment x t) mid = subst (λ (g : ℕ). Holds count (entered t (asking g)) mid) segment asked in
     let one : 1 ≡ m.multiple = ap (λ (k : Measured). k.multiple) (is_measured y w x m c.in_ok-measured.ensures.measured) in
-    let moved : cursor_of c.advance_by.new.self ≡ layout.cursor_behind t.symbols t.cursor x =
-    c.advance_by.ensures.moved y c.args.mnemonic c.args.operand.now
+    let moved : c.advance_by.new.self ≡ layout.cursor_behind t.symbols t.cursor x =
+    c.advance_by.ensures y c.args.mnemonic c.args.operand.now
     ∙ ap (λ (k : ℕ). advanced y w x m.length k) one
     ∙ moved_behind count t old h x m c.in_ok-measured.ensures.measured in
-    let inside : AreInside count y.scopes = subst (λ (z : Symbols). AreInside count z.scopes) (sym h.symbols) h.inside in
-    holds_stepped count t place x mid c.advance_by.new.self old.texts held moved c.advance_by.ensures.sound c.advance_by.ensures.ends (c.advance_by.ensures.counted y c.args.mnemonic c.args.operand.now count h.counted inside) (sym (append-nil old.texts.out)) (sym (append-nil old.texts.err)))
+    holds_stepped count t place x mid c.advance_by.new.self old.texts held moved (more_counted count t old h x m c.in_ok-measured.ensures.measured) (sym (append-nil old.texts.out)) (sym (append-nil old.texts.err)))
 
 pub returns-in_err-measured-clause-refused : goal.returns-in_err-measured-clause-refused
 returns-in_err-measured-clause-refused c = λ count t h.
@@ -58,4 +57,4 @@ pub returns-in_err-measured-clause-inside : goal.returns-in_err-measured-clause-
 returns-in_err-measured-clause-inside c =
     let p = err_from_is_err_and c.from_residual.result c.from_residual.ensures.1 in
     let answer : Result found.Measured AsmFault = Err c.in_err-measured.field-0.0 in
-    rw (p.1, p.2) (measured_inside answer (λ m. m) (table_of c.args.self.now.symbols) (cursor_of c.args.self.now.cursor) (Instruction c.args.mnemonic c.args.operand.now) c.in_err-measured.ensures.measured)
+    rw (p.1, p.2) (measured_inside answer (λ m. m) (table_of c.args.self.now.symbols) c.args.self.now.cursor (Instruction c.args.mnemonic c.args.operand.now) c.in_err-measured.ensures.measured)

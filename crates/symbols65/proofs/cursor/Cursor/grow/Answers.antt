@@ -1,15 +1,13 @@
-use Rattle.std.proofs.Common.{refl}
-use Rattle.symbols65.proofs.Segments.{sound_grown, within_grown, written_grown}
+use Rattle.std.proofs.Common.{◌+◌, ◌≤◌, refl, subst, sym}
+use Rattle.object65.specs.Objects.{section_limit}
+use Rattle.semantics65.specs.Layout.{Cursor, context_of}
+use Rattle.symbols65.proofs.Segments.{sound_grown, written_grown}
 use Rattle.symbols65.proofs.cursor.Cursor.grow.Goals as goal
 
-pub returns-clause-sound : goal.returns-clause-sound
-returns-clause-sound c =
-    let gs = c.args.self.now.segments in
-    let e = written_grown gs.len c.grow.new.segments c.deref_mut.result.now gs.items c.args.self.now.current c.args.count c.args.multiple c.deref_mut.ensures.value c.deref_mut.ensures.len c.grow.auto.segments c.grow.ensures in
-    sound_grown c.args.self.now _ c.args.count c.args.multiple c.requires.sound c.requires.ends c.requires.room e refl refl refl
-
-pub returns-clause-ends : goal.returns-clause-ends
-returns-clause-ends c =
-    let gs = c.args.self.now.segments in
-    let e = written_grown gs.len c.grow.new.segments c.deref_mut.result.now gs.items c.args.self.now.current c.args.count c.args.multiple c.deref_mut.ensures.value c.deref_mut.ensures.len c.grow.auto.segments c.grow.ensures in
-    within_grown gs.items _ c.args.self.now.current c.args.count c.args.multiple e c.requires.room c.requires.ends
+pub invariant_of-self : goal.invariant_of-self
+invariant_of-self c =
+    let w = c.self.inside in
+    let gs = w.segments in
+    let room = subst (λ (v : Cursor). (context_of v).offset + c.args.count ≤ section_limit) (sym c.self.view_is) c.requires in
+    let e = written_grown gs.len c.grow.new.segments c.deref_mut.result.now gs.items w.current c.args.count c.args.multiple c.deref_mut.ensures.value c.deref_mut.ensures.len c.grow.auto.segments c.grow.ensures in
+    sound_grown w _ c.args.count c.args.multiple c.self.invariant room e refl refl refl

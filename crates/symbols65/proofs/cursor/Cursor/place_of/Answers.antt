@@ -3,4 +3,4 @@ use Rattle.symbols65.proofs.Segments.{place_is}
 use Rattle.symbols65.proofs.cursor.Cursor.place_of.Goals as goal
 
 pub returns : goal.returns
-returns c = c.get_index_of.ensures.index ∙ place_is c.args.name.now c.args.self.now c.requires.names
+returns c = rw (← c.self.view_is) (c.get_index_of.ensures.index ∙ place_is c.args.name.now c.self.inside c.self.invariant.names)

@@ -7,7 +7,6 @@ use Rattle.semantics65.specs.declared.laid.Context.{Context}
 use Rattle.semantics65.specs.Layout.{context_of, is_byte_value, when, unless_fault}
 use Rattle.semantics65.specs.Norms.{constant_in, fill_settled, optional_value}
 use Rattle.symbols65.specs.Views.{table_of}
-use Rattle.symbols65.specs.Measuring.{cursor_of}
 use Rattle.symbols65.proofs.Measures.{bad_fill, refused_same, reserved_as}
 use Rattle.symbols65.proofs.measuring.rooms.reserve.Goals as goal
 
@@ -16,7 +15,7 @@ returns-in_err-settled-clause-placed c =
     let p = err_from_is_err_and c.from_residual-in_err-settled.result c.from_residual-in_err-settled.ensures.1 in
     let e = c.in_err-settled.field-0.0 in
     let y = table_of c.args.before.symbols.now in
-    let w = cursor_of c.args.before.cursor.now in
+    let w = c.args.before.cursor.now in
     let n : Tree = c.args.count.now in
     let v : Option Tree = c.args.value.now in
     let k = ap (λ s. constant_in y s n) (sym c.context-context.ensures) ∙ sym c.in_ok-constant.ensures.value in

@@ -1,0 +1,2 @@
+-- What only the contracts within the crate cite: definitions in the terms of its code.
+pub mod Cursors

@@ -15,6 +15,7 @@ pub mod SomeObject
 pub mod Sounds
 pub mod Spellings
 pub mod Steps
+pub mod Stores
 pub mod Trails
 pub mod Versions
 pub mod Withins

@@ -9,7 +9,8 @@ use Rattle.object65.specs.declared.fault.ObjectFault.{ObjectFault}
 use Rattle.object65.specs.declared.fault.ObjectFault.TheVariants.{CutShort, FileError, FileNotFound}
 use Rattle.object65.specs.Record.{◌>>=◌, Refuses, is_memory, is_outside, Gives, Entry}
 use Rattle.object65.specs.Reading.{head_at, record_at, end_at, in_file, front_of, whole, ending, room, IsRoomRead, records_at, object_at, IsAhead, Reader, from_place, has_record, record_in, record_len}
-use Rattle.object65.specs.Scanning.{State, start, after}
+use Rattle.object65.specs.Scanning.{State, start, after, finished}
+use Rattle.object65.specs.declared.object.Object.{Object}
 use Rattle.base65.specs.Outcome.{Unless}
 use Rattle.object65.proofs.Trails.{version_kept, passes, room_on}
 use Rattle.object65.proofs.Withins.{after_free}
@@ -129,6 +130,40 @@ end_refused (Some m) a b name at limit first s end e same_a same_b head records 
   file : (f : Option (List ℕ)) → in_file f (head_at at limit) ≡ Ok first → all_in first.0 f first.1 limit ≡ Ok (s, end) → Refuses is_outside e (in_file f (end_at end limit)) → Refuses is_outside e (in_file f (object_at at limit))
   file None head records refused = cc
   file (Some bytes) head records refused = behind_refused bytes at limit first s end e head records refused
+
+-- so is one by the head, or on the way to the END
+head_stops : (f : Option (List ℕ)) (at limit : ℕ) (e : ObjectFault) → Refuses is_outside e (in_file f (head_at at limit)) → Refuses is_outside e (in_file f (object_at at limit))
+unfolding object_at
+head_stops None at limit e refused = unless (is_outside e) (λ h. let is : FileNotFound ≡ e = cc in ap Err is) refused
+head_stops (Some bytes) at limit e refused = unless (is_outside e) (λ h. ap (λ r. r >>= (λ first. records_at (length bytes) (start first.0) first.1 limit bytes >>= (λ end. end_at end.1 limit bytes >>= (λ u. finished end.0)))) h) refused
+
+pub head_refused : (known : Option Files) (name : List ℕ) (at limit : ℕ) (e : ObjectFault) → IfSome known (λ m. Refuses is_outside e (in_file (map.get m name) (head_at at limit))) → IfSome known (λ m. Refuses is_outside e (in_file (map.get m name) (object_at at limit)))
+head_refused None name at limit e refused = tt
+head_refused (Some m) name at limit e refused = head_stops (map.get m name) at limit e refused
+
+records_stop : (f : Option (List ℕ)) (at limit : ℕ) (first : ℕ × ℕ) (e : ObjectFault) → in_file f (head_at at limit) ≡ Ok first → Refuses is_outside e (all_in first.0 f first.1 limit) → Refuses is_outside e (in_file f (object_at at limit))
+unfolding object_at
+records_stop None at limit first e head refused = cc
+records_stop (Some bytes) at limit first e head refused = unless (is_outside e) (λ h. ap (λ r. r >>= (λ first. records_at (length bytes) (start first.0) first.1 limit bytes >>= (λ end. end_at end.1 limit bytes >>= (λ u. finished end.0)))) head ∙ ap (λ r. r >>= (λ end. end_at end.1 limit bytes >>= (λ u. finished end.0))) h) refused
+
+pub records_refused : (known now : Option Files) (name : List ℕ) (at limit : ℕ) (first : ℕ × ℕ) (e : ObjectFault) → now ≡ known → IfSome known (λ m. in_file (map.get m name) (head_at at limit) ≡ Ok first) → IfSome now (λ m. Refuses is_outside e (all_in first.0 (map.get m name) first.1 limit)) → IfSome known (λ m. Refuses is_outside e (in_file (map.get m name) (object_at at limit)))
+records_refused None now name at limit first e same head refused = tt
+records_refused (Some m) now name at limit first e same head refused = records_stop (map.get m name) at limit first e head (rw same at refused)
+
+-- what finishing gives behind the END is what reading the whole gives
+finish_gives : (f : Option (List ℕ)) (at limit : ℕ) (first : ℕ × ℕ) (s : State) (end : ℕ) (r : Result Object ObjectFault) → in_file f (head_at at limit) ≡ Ok first → all_in first.0 f first.1 limit ≡ Ok (s, end) → in_file f (end_at end limit) ≡ Ok tt → Gives is_memory (λ o. o) r (finished s) → Gives is_outside (λ o. o) r (in_file f (object_at at limit))
+unfolding object_at
+finish_gives None at limit first s end r head records ended given = cc
+finish_gives (Some bytes) at limit first s end r head records ended given = rw whole (outside r given) where
+  whole : object_at at limit bytes ≡ finished s
+  whole = ap (λ r. r >>= (λ first. records_at (length bytes) (start first.0) first.1 limit bytes >>= (λ end. end_at end.1 limit bytes >>= (λ u. finished end.0)))) head ∙ ap (λ r. r >>= (λ end. end_at end.1 limit bytes >>= (λ u. finished end.0))) records ∙ ap (λ r. r >>= (λ u. finished s)) ended
+  outside : (r : Result Object ObjectFault) → Gives is_memory (λ o. o) r (finished s) → Gives is_outside (λ o. o) r (finished s)
+  outside (Ok o) h = h
+  outside (Err e) h = memory_outside e _ h
+
+pub object_read : (known a b : Option Files) (name : List ℕ) (at limit : ℕ) (first : ℕ × ℕ) (s : State) (end : ℕ) (r : Result Object ObjectFault) → a ≡ known → b ≡ known → IfSome known (λ m. in_file (map.get m name) (head_at at limit) ≡ Ok first) → IfSome a (λ m. all_in first.0 (map.get m name) first.1 limit ≡ Ok (s, end)) → IfSome b (λ m. in_file (map.get m name) (end_at end limit) ≡ Ok tt) → Gives is_memory (λ o. o) r (finished s) → IfSome known (λ m. Gives is_outside (λ o. o) r (in_file (map.get m name) (object_at at limit)))
+object_read None a b name at limit first s end r same_a same_b head records ended given = tt
+object_read (Some m) a b name at limit first s end r same_a same_b head records ended given = finish_gives (map.get m name) at limit first s end r head (rw same_a at records) (rw same_b at ended) given
 
 -- ---- Records among bytes that were read ahead.
 

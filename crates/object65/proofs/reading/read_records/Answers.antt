@@ -5,6 +5,7 @@ use Rattle.object65.specs.Reading.{in_file, record_at}
 use Rattle.object65.specs.Record.{entry_of}
 use Rattle.object65.specs.declared.fault.ObjectFault.TheVariants.{FileError}
 use Rattle.object65.proofs.Records.{fresh, stays_ahead, where_ahead, begins_in, seen, reading_stops, taking_stops, ends_in, goes_on_in, memory_outside, kept_count, none_passed, not_stored}
+use Rattle.object65.proofs.Stores.{answers_on, behind_same, refuses_on}
 use Rattle.object65.proofs.reading.read_records.Goals as goal
 
 pub records-init : goal.records-init
@@ -19,6 +20,12 @@ pub returns-in_err-next-clause-read : goal.returns-in_err-next-clause-read
 returns-in_err-next-clause-read g c =
     let p = err_from_is_err_and c.from_residual.result c.from_residual.ensures.1 in
     rw (p.1, p.2) (reading_stops c.args.head.0 c.args.limit c.args.head.1 c.records.next _ _ c.args.name.now c.records.builder c.in_err-next.field-0.0 c.records.invariant.files c.records.invariant.read (where_ahead _ c.args.name.now c.records.reader _ c.records.invariant.ahead c.in_err-next.ensures.read))
+
+pub returns-in_err-next-clause-kept : goal.returns-in_err-next-clause-kept
+returns-in_err-next-clause-kept g c =
+    let p = err_from_is_err_and c.from_residual.result c.from_residual.ensures.1 in
+    let s = g.S.Store in
+    rw (p.1, p.2) (behind_same s.files s.failures s.blamed c.args.name.now c.args.store.now c.records.store c.read.new.store _ c.records.invariant.files c.records.invariant.count (refuses_on s.files s.failures s.blamed c.args.name.now c.records.store c.read.new.store c.in_err-next.field-0.0 c.in_err-next.ensures.kept))
 
 pub returns-in_err-take-clause-read : goal.returns-in_err-take-clause-read
 returns-in_err-take-clause-read g c =
@@ -42,6 +49,11 @@ returns-in_err-take-clause-kept g c =
 pub returns-then-is_ended-clause-read : goal.returns-then-is_ended-clause-read
 returns-then-is_ended-clause-read g c =
     ends_in c.args.head.0 c.args.limit c.args.head.1 c.records.next _ _ c.args.name.now c.records.builder c.take.new.self (entry_of c.record.result.now, c.in_ok-next.next) c.records.invariant.files c.records.invariant.read (seen _ (λ m. in_file (get m c.args.name.now) (record_at c.args.head.0 c.records.next c.args.limit)) _ _ c.in_ok-next.next c.record.ensures (where_ahead _ c.args.name.now c.records.reader _ c.records.invariant.ahead c.in_ok-next.ensures.read)) c.in_ok-take.ensures.taken (sym c.is_ended.ensures ∙ c.if-is_ended.true)
+
+pub returns-then-is_ended-clause-kept : goal.returns-then-is_ended-clause-kept
+returns-then-is_ended-clause-kept g c =
+    let s = g.S.Store in
+    behind_same s.files s.failures s.blamed c.args.name.now c.args.store.now c.records.store c.read.new.store _ c.records.invariant.files c.records.invariant.count (answers_on s.files s.failures s.blamed c.args.name.now c.records.store c.read.new.store c.in_ok-next.next _ c.in_ok-next.ensures.kept)
 
 pub records-preserved : goal.records-preserved
 records-preserved g c =

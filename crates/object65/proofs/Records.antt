@@ -2,13 +2,13 @@
 use Rattle.std.proofs.lemmas.Grind.{common_steps}
 use Rattle.std.proofs.Common.{◌≡◌, ◌∙◌, ◌<◌, ◌≤◌, ℕ, zero, suc, ◌+◌, ◌-◌, List, [], length, take, Bool, true, false, if◌then◌else◌, Option, Some, None, Result, Ok, Err, refl, sym, ap, arith, ◌∷◌, ◌++◌, drop, nat_le, nat_lt}
 use Rattle.std.specs.Prelude.{IfSome, min}
-use Rattle.std.proofs.lemmas.List.{take-append-drop, take-append-le, drop-append-le, take_all, length-take, length-drop, drop-drop, take_rest, take_min}
+use Rattle.std.proofs.lemmas.List.{take-append-drop, take-append-le, drop-append-le, take_all, length-take, length-drop, drop-drop, take_rest, take_min, take-take}
 use Rattle.std.specs.FinMap as map
 use Rattle.base65.specs.Store.{Files, Passes}
 use Rattle.object65.specs.declared.fault.ObjectFault.{ObjectFault}
 use Rattle.object65.specs.declared.fault.ObjectFault.TheVariants.{CutShort, FileError, FileNotFound}
 use Rattle.object65.specs.Record.{◌>>=◌, Refuses, is_memory, is_outside, Gives, Entry}
-use Rattle.object65.specs.Reading.{head_at, record_at, end_at, in_file, front_of, whole, ending, room, IsRoomRead, records_at, object_at, IsAhead, Reader, from_place, has_record, record_in, record_len}
+use Rattle.object65.specs.Reading.{head_at, head_of, record_at, end_at, in_file, front_of, whole, ending, room, IsRoomRead, records_at, object_at, IsAhead, Reader, from_place, has_record, record_in, record_len}
 use Rattle.object65.specs.Scanning.{State, start, after, finished}
 use Rattle.object65.specs.declared.object.Object.{Object}
 use Rattle.base65.specs.Outcome.{Unless}
@@ -164,6 +164,25 @@ finish_gives (Some bytes) at limit first s end r head records ended given = rw w
 pub object_read : (known a b : Option Files) (name : List ℕ) (at limit : ℕ) (first : ℕ × ℕ) (s : State) (end : ℕ) (r : Result Object ObjectFault) → a ≡ known → b ≡ known → IfSome known (λ m. in_file (map.get m name) (head_at at limit) ≡ Ok first) → IfSome a (λ m. all_in first.0 (map.get m name) first.1 limit ≡ Ok (s, end)) → IfSome b (λ m. in_file (map.get m name) (end_at end limit) ≡ Ok tt) → Gives is_memory (λ o. o) r (finished s) → IfSome known (λ m. Gives is_outside (λ o. o) r (in_file (map.get m name) (object_at at limit)))
 object_read None a b name at limit first s end r same_a same_b head records ended given = tt
 object_read (Some m) a b name at limit first s end r same_a same_b head records ended given = finish_gives (map.get m name) at limit first s end r head (rw same_a at records) (rw same_b at ended) given
+
+-- ---- The head.
+
+always : (b : Bool) {P : Type 0} → P → Unless b P
+always true p = tt
+always false p = p
+
+-- an answer that is what reading gives, also where it is a refusal
+as_read : {A : Type 0} (r read : Result A ObjectFault) → r ≡ read → Gives is_outside (λ x. x) r read
+as_read (Ok x) read is = sym is
+as_read (Err e) read is = always (is_outside e) (sym is)
+
+-- the head is decoded of the first bytes of the room
+pub head_read : (known : Option Files) (name : List ℕ) (at limit : ℕ) (buf : List ℕ) (n : ℕ) (r : Result (ℕ × ℕ) ObjectFault) → length buf ≡ 5 → IfSome known (λ m. IsRoomRead (map.get m name) at limit buf (Ok n)) → r ≡ head_of at (take 5 (take n buf)) → IfSome known (λ m. Gives is_outside (λ x. x) r (in_file (map.get m name) (head_at at limit)))
+head_read None name at limit buf n r five read is = tt
+head_read (Some m) name at limit buf n r five read is = file (map.get m name) read where
+  file : (f : Option (List ℕ)) → IsRoomRead f at limit buf (Ok n) → Gives is_outside (λ x. x) r (in_file f (head_at at limit))
+  file None read = absurd read
+  file (Some bytes) read = as_read r _ (is ∙ ap (λ xs. head_of at xs) (ap (λ xs. take 5 xs) read.0 ∙ take-take 5 (length buf) (room bytes at limit) (omega (arith, five))))
 
 -- ---- Records among bytes that were read ahead.
 

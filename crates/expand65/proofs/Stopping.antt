@@ -103,6 +103,9 @@ stops_so x y z old new r f h = grind (arith, common_steps)
 pub stood : (A : Type 0) (o : Option Files) (P : Files → Place → Type 0) (reader : Reader) (f : ExpandFault) → ((m : Files) → is_failure f ≡ true → P m reader.place) → IfSome o (λ m. StopsAt {A = A} (P m) reader reader (Err f))
 stood x y z reader f h = grind (arith, common_steps)
 
+pub stood_inside : (A : Type 0) (o : Option Files) (P : Files → Place → Type 0) (reader : Reader) (f : ExpandFault) → is_failure f ≡ false → IfSome o (λ m. StopsAt {A = A} (P m) reader reader (Err f))
+stood_inside A o P reader f inside = stood A o P reader f (λ m failed. cc)
+
 pub only_error : (f : ExpandFault) → is_failure f ≡ true → f ≡ FileError
 only_error x h = grind (arith, common_steps)
 

@@ -153,6 +153,15 @@ fn turns_of(value: Option<i64>) -> Result<u32, ExpandFault>
     }
 }
 
+/// How many turns the expression of a count says.
+fn turns_said<K: Knows>(alloc: Global, knows: &K, count: Expr) -> Result<u32, ExpandFault>
+    ensures said { Gives is_outside (λ n. n) result
+        (turns_of ((K.meaning knows.now).value count)) }
+    ensures inside { IfErr result (λ e. is_failure e ≡ false) }
+{
+    turns_of(knows.value(alloc, &count)?)
+}
+
 impl Rewriter {
     /// `.repeat` and what stands behind it.
     pub fn begin_repeat<S: Store, K: Knows>(
@@ -168,9 +177,9 @@ impl Rewriter {
         ensures stopped { StopsBy (S.files store.old) self.old self.new result (λ m s.
             Fails m (S.blamed store.new) (repeat_line (K.meaning knows.now) s (lexemes tokens.now))) }
     {
-        let header = header_of(self.alloc, tokens)?;
-        let count = turns_of(knows.value(self.alloc, &header.count)?)?;
-        self.repeat(store, count, header.variable)
+        let Header { count, variable } = header_of(self.alloc, tokens)?;
+        let count = turns_said(self.alloc, knows, count)?;
+        self.repeat(store, count, variable)
     }
 
     /// The lines that follow, so many times.

@@ -2,11 +2,13 @@
 
 ghost use Rattle.std.specs.Prelude.{◌≡◌, ◌∷◌, option_map, [], false, length, IfErr, IfNone, List, OnOk, ℕ, Result};
 ghost use Rattle.syntax65.specs.Expressions.{IsParsed};
+ghost use Rattle.base65.specs.Outcome.{Gives};
 ghost use Rattle.base65.specs.Relations.{Answers};
 ghost use Rattle.syntax65.specs.Tokens.{lexemes};
 ghost use Rattle.syntax65.specs.Trees.{Tree};
 ghost use Rattle.syntax65.specs.declared.expressions.words.ExprFault.{ExprFault};
-ghost use Rattle.expand65.specs.State.{IsCondition, popped, whole};
+ghost use Rattle.expand65.specs.Fronts.{begins, opens_parenthesis};
+ghost use Rattle.expand65.specs.State.{IsCondition, defined_tree, popped, whole};
 ghost use Rattle.syntax65.specs.Faults.{is_failure, is_outside};
 ghost use Rattle.expand65.specs.Macros.{outermost};
 
@@ -43,6 +45,25 @@ fn holds<K: Knows>(alloc: Global, knows: &K, tokens: &[Token<'_>]) -> Result<boo
     }
 }
 
+/// Whether tokens begin with an opening parenthesis.
+fn begins_parenthesis(tokens: &[Token<'_>]) -> bool
+    ensures { result ≡ begins opens_parenthesis (lexemes tokens.now) }
+{
+    matches!(tokens, [first, ..] if opens_parenthesis(first))
+}
+
+/// Whether an expression is a name, and that of a label or constant.
+fn is_name_defined<K: Knows>(alloc: Global, knows: &K, expr: &Expr) -> Result<bool, ExpandFault>
+    ensures value { Gives is_outside (λ b. b) result (defined_tree (K.meaning knows.now) expr.now) }
+    ensures inside { IfErr result (λ e. is_failure e ≡ false) }
+{
+    match expr.kind() {
+        ExprKind::Plain(name) => Ok(knows.defined(&Name::of(alloc, name.as_slice())?)),
+        ExprKind::Scoped(name) => Ok(knows.defined(name)),
+        _ => Err(ExpandFault::NotUnderstood),
+    }
+}
+
 /// Whether a name, which all the tokens are, is that of a label or constant.
 fn is_defined<K: Knows>(alloc: Global, knows: &K, tokens: &[Token<'_>]) -> Result<bool, ExpandFault>
     ensures value { Answers is_outside (λ b. b) result
@@ -50,14 +71,10 @@ fn is_defined<K: Knows>(alloc: Global, knows: &K, tokens: &[Token<'_>]) -> Resul
     ensures inside { IfErr result (λ e. is_failure e ≡ false) }
 {
     let name = expression(alloc, tokens)?;
-    if matches!(tokens, [first, ..] if opens_parenthesis(first)) {
+    if begins_parenthesis(tokens) {
         return Err(ExpandFault::NotUnderstood);
     }
-    match name.kind() {
-        ExprKind::Plain(name) => Ok(knows.defined(&Name::of(alloc, name.as_slice())?)),
-        ExprKind::Scoped(name) => Ok(knows.defined(name)),
-        _ => Err(ExpandFault::NotUnderstood),
-    }
+    is_name_defined(alloc, knows, &name)
 }
 
 /// What a condition of these tokens comes to.

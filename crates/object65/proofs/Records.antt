@@ -157,6 +157,7 @@ finish_gives None at limit first s end r head records ended given = cc
 finish_gives (Some bytes) at limit first s end r head records ended given = rw whole (outside r given) where
   whole : object_at at limit bytes ≡ finished s
   whole = ap (λ r. r >>= (λ first. records_at (length bytes) (start first.0) first.1 limit bytes >>= (λ end. end_at end.1 limit bytes >>= (λ u. finished end.0)))) head ∙ ap (λ r. r >>= (λ end. end_at end.1 limit bytes >>= (λ u. finished end.0))) records ∙ ap (λ r. r >>= (λ u. finished s)) ended
+
   outside : (r : Result Object ObjectFault) → Gives is_memory (λ o. o) r (finished s) → Gives is_outside (λ o. o) r (finished s)
   outside (Ok o) h = h
   outside (Err e) h = memory_outside e _ h

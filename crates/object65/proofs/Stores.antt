@@ -3,14 +3,14 @@ use Rattle.std.proofs.Common.{◌≡◌, ◌∙◌, ℕ, List, Option, Result, O
 use Rattle.std.proofs.lemmas.Grind.{common_steps}
 use Rattle.std.specs.Prelude.{IsErrOf, None, Some, IfSome}
 use Rattle.std.specs.FinMap.{get}
-use Rattle.base65.specs.Store.{Blamed, Files, HoldsBytes, Passes}
+use Rattle.base65.specs.Store.{Blamed, Files, HoldsBytes}
 use Rattle.object65.specs.Reading.{Leaves}
 use Rattle.object65.specs.Record.{Gives, is_memory}
 use Rattle.object65.specs.Scanning.{State, finished}
 use Rattle.object65.specs.declared.fault.ObjectFault.{ObjectFault}
 use Rattle.object65.specs.declared.fault.ObjectFault.TheVariants.{FileError}
 use Rattle.object65.specs.declared.object.Object.{Object}
-use Rattle.object65.proofs.Records.{kept_count, none_passed}
+use Rattle.object65.proofs.Records.{kept_count}
 
 -- whatever the second call answers, the bytes of a file are still bytes
 pub still_bytes : {T U : Type 0} (known : Option Files) (name : List ℕ) (x : T) (r : Result U ObjectFault) → IfSome known (λ m. HoldsBytes {E = ObjectFault} (get m name) (Ok x)) → IfSome known (λ m. HoldsBytes (get m name) r)

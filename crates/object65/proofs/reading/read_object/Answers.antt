@@ -1,4 +1,6 @@
-use Rattle.std.proofs.Common.{◌∙◌}
+use Rattle.object65.specs.Reading.{object_at}
+use Rattle.std.proofs.lemmas.Grind.{common_steps}
+use Rattle.std.proofs.Common.{◌∙◌, arith}
 use Rattle.std.proofs.lemmas.Result.{err_from_is_err_and}
 use Rattle.object65.proofs.Records.{end_refused, head_refused, object_read, records_refused}
 use Rattle.object65.proofs.Stores.{behind_answer, finish_not_stored, refuses_on, still_bytes, untouched}
@@ -53,3 +55,7 @@ returns-clause-kept g c =
     let last = untouched s.files s.failures s.blamed name c.read_records.new.store c.check_end.new.store tt c.finish.result (finish_not_stored c.in_ok-builder.builder c.finish.result c.finish.ensures.finished) c.in_ok-check_end.ensures.kept in
     let behind = behind_answer s.files s.failures s.blamed name c.read_head.new.store c.read_records.new.store c.check_end.new.store (c.in_ok-builder.builder, c.in_ok-builder.end) c.finish.result c.in_ok-builder.ensures.kept last in
     behind_answer s.files s.failures s.blamed name c.args.store.now c.read_head.new.store c.check_end.new.store c.in_ok-head.head c.finish.result c.in_ok-head.ensures.kept behind
+
+pub returns-clause-asked : goal.returns-clause-asked
+unfolding object_at
+returns-clause-asked g c = grind (arith, common_steps)

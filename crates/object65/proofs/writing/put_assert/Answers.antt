@@ -1,3 +1,4 @@
+use Rattle.std.proofs.lemmas.Grind.{common_steps}
 use Rattle.std.proofs.Common.{length, ap, arith}
 use Rattle.object65.specs.Spelling.{form_bytes, origin_bytes}
 use Rattle.object65.proofs.Forms.{origin_len, small_assert, added_len}
@@ -13,3 +14,6 @@ put_record-requires c =
     let n = added_len c.push-2.new.self.items _ c.extend_from_slice.new.self.items c.in_ok-extend_from_slice.ensures.items in
     let d = added_len c.extend_from_slice.new.self.items (form_bytes e.form) c.put_form.new.out.items c.in_ok-put_form.ensures in
     omega (arith, ap length c.clear.ensures.items, ap length c.deref.ensures.value, ap length c.as_slice.ensures, a, b, k, n, d, small.0, small.1, origin_len e.origin)
+
+pub returns : goal.returns
+returns c = grind (arith, common_steps)

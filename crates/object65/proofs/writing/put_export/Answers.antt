@@ -1,3 +1,4 @@
+use Rattle.std.proofs.lemmas.Grind.{common_steps}
 use Rattle.std.proofs.Common.{length, ap, arith}
 use Rattle.object65.specs.Spelling.{form_bytes, origin_bytes}
 use Rattle.object65.proofs.Forms.{origin_len, small_export, added_len}
@@ -12,3 +13,6 @@ put_record-requires c =
     let b = added_len c.extend_from_slice.new.self.items (origin_bytes e.origin) c.put_origin.new.out.items c.in_ok-put_origin.ensures in
     let d = added_len c.put_origin.new.out.items (form_bytes e.form) c.put_form.new.out.items c.in_ok-put_form.ensures in
     omega (arith, ap length c.clear.ensures.items, ap length c.deref.ensures.value, ap length c.as_slice.ensures, a, n, b, d, small.0, small.1, origin_len e.origin)
+
+pub returns : goal.returns
+returns c = grind (arith, common_steps)

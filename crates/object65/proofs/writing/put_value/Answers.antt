@@ -1,3 +1,4 @@
+use Rattle.std.proofs.lemmas.Grind.{common_steps}
 use Rattle.std.proofs.Common.{length, ap, arith}
 use Rattle.object65.specs.Spelling.{form_bytes, origin_bytes}
 use Rattle.object65.proofs.Forms.{origin_len, small_form, added_len}
@@ -10,3 +11,6 @@ put_record-requires c =
     let b = added_len c.push.new.self.items (origin_bytes c.args.origin) c.put_origin.new.out.items c.in_ok-put_origin.ensures in
     let d = added_len c.put_origin.new.out.items (form_bytes form) c.put_form.new.out.items c.in_ok-put_form.ensures in
     omega (arith, ap length c.clear.ensures.items, ap length c.deref.ensures.value, a, b, d, small_form form c.requires, origin_len c.args.origin)
+
+pub returns : goal.returns
+returns c = grind (arith, common_steps)

@@ -1,3 +1,5 @@
+use Rattle.std.proofs.lemmas.Grind.{common_steps}
+use Rattle.std.proofs.Common.{arith}
 use Rattle.object65.proofs.Goods.{good_files, good_imports, good_sections, good_exports, good_asserts}
 use Rattle.object65.proofs.writing.write_object.Goals as goal
 
@@ -11,3 +13,6 @@ put_object-requires c =
       exports = good_exports o c.requires;
       asserts = good_asserts o c.requires;
     }
+
+pub returns-then-is_empty-clause-written : goal.returns-then-is_empty-clause-written
+returns-then-is_empty-clause-written c = grind (arith, common_steps)

@@ -1,3 +1,6 @@
+use Rattle.object65.specs.Scanning.{after, scanned}
+use Rattle.std.proofs.lemmas.Grind.{common_steps}
+use Rattle.std.proofs.Common.{arith}
 use Rattle.object65.specs.Record.{entry_of}
 use Rattle.object65.specs.Inner.Sound.{state_in}
 use Rattle.object65.proofs.Withins.{room_next, whole_next}
@@ -13,3 +16,7 @@ pub invariant_of-self-2 : goal.invariant_of-self-2
 invariant_of-self-2 c = λ running.
     let b = c.self.inside in
     whole_next b.parts c.add_item.new.parts b.scan c.take.new.self (entry_of c.args.next.now) c.in_ok-item.item (c.self.invariant c.if-self.false) c.in_ok-item.ensures.scanned c.in_ok-item.ensures.within c.in_ok-add_item.ensures
+
+pub returns-clause-taken : goal.returns-clause-taken
+unfolding after scanned
+returns-clause-taken c = grind (arith, common_steps)

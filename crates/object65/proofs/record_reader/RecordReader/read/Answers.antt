@@ -1,4 +1,5 @@
-use Rattle.std.proofs.Common.{◌∙◌, ap, sym, take}
+use Rattle.std.proofs.lemmas.Grind.{common_steps}
+use Rattle.std.proofs.Common.{◌∙◌, ap, sym, take, arith}
 use Rattle.object65.specs.Reading.{Reader}
 use Rattle.object65.specs.Record.{entry_of}
 use Rattle.object65.proofs.Records.{ahead_anew, kept, kept_so, read_anew, read_kept}
@@ -17,3 +18,33 @@ returns-clause-read g c =
 pub returns-clause-ahead : goal.returns-clause-ahead
 returns-clause-ahead g c =
     ahead_anew (g.S.Store.files c.args.store.now) c.args.name.now c.args.self.now (record { entry = entry_of c.decode-2.new.space; begin = c.self-2.inside.begin; ahead = take c.self-2.inside.held c.self-2.inside.buffer }) c.args.at c.args.limit c.refill.new.self.ahead (ap (λ r. r.begin) c.self-2.view_is ∙ c.in_ok-refill.ensures.begin) (ap (λ r. r.ahead) c.self-2.view_is) c.in_ok-refill.ensures.read
+
+pub returns-clause-asked : goal.returns-clause-asked
+returns-clause-asked g c = grind (arith, common_steps)
+
+pub returns-then-has_record-clause-bound : goal.returns-then-has_record-clause-bound
+returns-then-has_record-clause-bound g c = grind (arith, common_steps)
+
+pub returns-in_err-refill-clause-within : goal.returns-in_err-refill-clause-within
+returns-in_err-refill-clause-within g c = grind (arith, common_steps)
+
+pub decode-requires : goal.decode-requires
+decode-requires g c = grind (arith, common_steps)
+
+pub returns-clause-kept : goal.returns-clause-kept
+returns-clause-kept g c = grind (arith, common_steps)
+
+pub returns-then-has_record-clause-within : goal.returns-then-has_record-clause-within
+returns-then-has_record-clause-within g c = grind (arith, common_steps)
+
+pub returns-clause-within : goal.returns-clause-within
+returns-clause-within g c = grind (arith, common_steps)
+
+pub returns-then-has_record-clause-asked : goal.returns-then-has_record-clause-asked
+returns-then-has_record-clause-asked g c = grind (arith, common_steps)
+
+pub returns-clause-bound : goal.returns-clause-bound
+returns-clause-bound g c = grind (arith, common_steps)
+
+pub returns-then-has_record-clause-kept : goal.returns-then-has_record-clause-kept
+returns-then-has_record-clause-kept g c = grind (arith, common_steps)

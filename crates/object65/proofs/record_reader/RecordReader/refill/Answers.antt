@@ -1,7 +1,11 @@
-use Rattle.std.proofs.Common.{rules}
+use Rattle.std.proofs.lemmas.Grind.{common_steps}
+use Rattle.std.proofs.Common.{rules, arith}
 use Rattle.object65.proofs.Records.{refilled}
 use Rattle.object65.proofs.record_reader.RecordReader.refill.Goals as goal
 
 pub returns-clause-read : goal.returns-clause-read
 returns-clause-read g c =
     refilled (g.S.Store.files c.args.store.now) c.args.name.now c.args.at c.args.limit c.in_ok-held.held c.read_room.new.buf (search rules) c.in_ok-held.ensures.read
+
+pub returns-clause-kept : goal.returns-clause-kept
+returns-clause-kept g c = grind (arith, common_steps)

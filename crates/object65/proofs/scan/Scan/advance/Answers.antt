@@ -1,7 +1,8 @@
-use Rattle.std.proofs.Common.{Bool, Ok, ap, refl, sym, subst, ◌∙◌}
+use Rattle.std.proofs.lemmas.Grind.{common_steps}
+use Rattle.std.proofs.Common.{Bool, Ok, ap, refl, sym, subst, ◌∙◌, arith}
 use Rattle.object65.specs.declared.record.Item.{Item}
 use Rattle.object65.specs.Record.{entry_of}
-use Rattle.object65.specs.Scanning.{Outline, IsWithin}
+use Rattle.object65.specs.Scanning.{Outline, IsWithin, scanned}
 use Rattle.object65.specs.Inner.Sound.{outline_in}
 use Rattle.object65.proofs.Withins.{scanned_on, stands_next, within_next}
 use Rattle.object65.proofs.scan.Scan.advance.Goals as goal
@@ -24,3 +25,7 @@ returns-clause-within c =
     let same = ap (λ (b : Bool). record o { failed = b }) (sym c.if-self.false) ∙ c.self.view_is in
     subst (λ (p : Outline). IsWithin p c.in_ok-item.item) same
     (within_next o e x (c.self.invariant c.if-self.false).stands (scanned_on o e (Ok x) refl c.if-self-2.false c.in_ok-item.ensures.taken) c.in_ok-item.ensures.small)
+
+pub returns-clause-scanned : goal.returns-clause-scanned
+unfolding scanned
+returns-clause-scanned c = grind (arith, common_steps)

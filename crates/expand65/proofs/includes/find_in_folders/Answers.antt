@@ -1,4 +1,5 @@
-use Rattle.std.proofs.Common.{◌≡◌, ◌∙◌, Err, ap, get_or, subst}
+use Rattle.std.proofs.lemmas.Grind.{common_steps}
+use Rattle.std.proofs.Common.{◌≡◌, ◌∙◌, Err, ap, get_or, subst, arith}
 use Rattle.std.proofs.lemmas.Result.{err_from_is_err_and}
 use Rattle.base65.specs.Store.{IsBlamedAt}
 use Rattle.syntax65.specs.declared.fault.ExpandFault.TheVariants.{FileError}
@@ -17,3 +18,15 @@ returns-in_err-found-clause-blamed g c = λ is.
     let folder = get_or c.args.folders.now c.loop-folder.folder-index c.folder-item.result in
     let name_is : c.as_slice.result.now ≡ within c.args.name.now folder = c.as_slice.ensures.value ∙ c.in_ok-whole.ensures ∙ ap (within c.args.name.now) (c.as_bytes.ensures.value ∙ c.as_str.ensures ∙ c.folder-item.is) in
     among_at blamed (within c.args.name.now) c.args.folders.now c.loop-folder.folder-index c.folder-item.result c.loop-folder-test.true (subst (λ n. IsBlamedAt blamed n 16777216) name_is (c.in_err-found.ensures.blamed (ap Err same))))
+
+pub loop-folder-preserved : goal.loop-folder-preserved
+loop-folder-preserved g c = grind (arith, common_steps)
+
+pub returns-in_err-found-clause-found : goal.returns-in_err-found-clause-found
+returns-in_err-found-clause-found g c = grind (arith, common_steps)
+
+pub returns-in-Some-clause-found : goal.returns-in-Some-clause-found
+returns-in-Some-clause-found g c = grind (arith, common_steps)
+
+pub returns-in-Some-clause-leaves : goal.returns-in-Some-clause-leaves
+returns-in-Some-clause-leaves g c = grind (arith, common_steps)

@@ -1,4 +1,5 @@
-use Rattle.std.proofs.Common.{◌≡◌, ◌∙◌, ℕ, List, true, false, Result, Ok, Err, subst, ap}
+use Rattle.std.proofs.lemmas.Grind.{common_steps}
+use Rattle.std.proofs.Common.{◌≡◌, ◌∙◌, ℕ, List, true, false, Result, Ok, Err, subst, ap, arith}
 use Rattle.std.proofs.lemmas.Result.{err_from_is_err_and}
 use Rattle.std.specs.FinMap as fmap
 use Rattle.base65.specs.Outcome.{Unless}
@@ -31,3 +32,6 @@ returns-else-there-clause-tries g c =
     let name = c.args.name.now in
     let there = c.in_ok-there.there in
     where_known (g.S.Store.files c.args.store.now) (λ m. is_there (fmap.get m c.in-Some.text.now) ≡ Ok there) (λ m. (others : Found) → found_or name (file_named m name) others ≡ others) (λ m h others. let P : List ℕ → Type 0 = λ t. is_there (fmap.get m t) ≡ Ok false in is_missing m name others c.in-Some.ensures.text.1 (subst P c.in-Some.ensures.text.0 (h ∙ ap Ok c.if-there.false))) c.in_ok-there.ensures.there
+
+pub returns-in_ok-copy_of-clause-leaves : goal.returns-in_ok-copy_of-clause-leaves
+returns-in_ok-copy_of-clause-leaves g c = grind (arith, common_steps)

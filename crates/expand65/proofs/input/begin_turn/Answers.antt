@@ -1,3 +1,4 @@
+use Rattle.std.proofs.lemmas.Grind.{common_steps}
 use Rattle.std.proofs.Common.{◌+◌, ◌∷◌, [], ◌++◌, map, ap, ◌∙◌, arith, refl, inl, inr, length}
 use Rattle.expand65.specs.Playing.{tokens_in, replacing_of}
 use Rattle.expand65.specs.Lines.{Replacing}
@@ -27,3 +28,6 @@ returns-clause-comes c =
     let old = c.args.replay.now in
     let new : Replay = record { body = old.body; at = 0; arguments = c.push.new.self; count = old.count; locals = old.locals; number = old.number } in
     turn_begins new (c.args.next.now + 1) c.args.count (omega (arith, c.len.ensures, c.if-len-eq0.false, ap (λ b. length b.lines) c.deref.ensures))
+
+pub returns-clause-ready : goal.returns-clause-ready
+returns-clause-ready c = grind (arith, common_steps)

@@ -1,3 +1,4 @@
+use Rattle.std.proofs.lemmas.Grind.{common_steps}
 use Rattle.std.proofs.Common.{◌∙◌, Err, ap, arith, refl, subst, sym, rules}
 use Rattle.std.proofs.lemmas.Result.{err_from_is_err_and}
 use Rattle.base65.specs.Outcome.{Unless}
@@ -89,3 +90,12 @@ returns-in-Some-clause-stands g c = λ stands.
     let old = c.steps.self.rewriter.reader in
     let mid = c.turn.new.self.rewriter.reader in
     subst (λ (r : Rewriter). StandsIn o r.reader) (sym c.follow.ensures.stands) (stands_back o (g.S.Store.files c.steps.store) old mid c.steps.invariant.files c.in_ok-turn.ensures.stands (c.steps.invariant.stands stands)))
+
+pub returns-in-Some-clause-stopped : goal.returns-in-Some-clause-stopped
+returns-in-Some-clause-stopped g c = grind (arith, common_steps)
+
+pub returns-then-is_end-clause-leaves : goal.returns-then-is_end-clause-leaves
+returns-then-is_end-clause-leaves g c = grind (arith, common_steps)
+
+pub returns-in-Some-clause-leaves : goal.returns-in-Some-clause-leaves
+returns-in-Some-clause-leaves g c = grind (arith, common_steps)

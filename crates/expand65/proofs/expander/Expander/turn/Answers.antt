@@ -1,4 +1,5 @@
-use Rattle.std.proofs.Common.{◌∙◌, List, IfSome, ap, subst, sym}
+use Rattle.std.proofs.lemmas.Grind.{common_steps}
+use Rattle.std.proofs.Common.{◌∙◌, List, IfSome, ap, subst, sym, arith}
 use Rattle.syntax65.specs.Tokens.{Lexeme, lexemes}
 use Rattle.expand65.specs.Standing.{StopsAt, Turns, state_of, state_in}
 use Rattle.expand65.specs.Failing.{Fails}
@@ -51,3 +52,6 @@ returns-in_ok-tokens-in-Branch-clause-stopped g c = λ names.
     let P : List Lexeme → Type 0 = λ us. IfSome o (λ m. StopsAt (Fails m blamed (if_line k (state_of m old.rewriter) True us)) old.rewriter.reader new c.begin_if.result) in
     let stopped = subst P (ap lexemes c.as_slice.ensures.value ∙ c.in_ok-tokens-in-Branch.ensures) (c.begin_if.ensures.stopped names) in
     stops_branch o blamed k old new c.in-Branch.line c.begin_if.result (sym c.replace.ensures.value ∙ c.in-Branch.is) stopped)
+
+pub returns-in_ok-tokens-in-Branch-clause-size : goal.returns-in_ok-tokens-in-Branch-clause-size
+returns-in_ok-tokens-in-Branch-clause-size g c = grind (arith, common_steps)

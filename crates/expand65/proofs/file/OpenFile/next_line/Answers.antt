@@ -1,3 +1,4 @@
+use Rattle.std.proofs.lemmas.Grind.{common_steps}
 use Rattle.std.proofs.Common.{◌≡◌, ◌+◌, ℕ, ◌<◌, rules, Bool, List, [], ◌∷◌, length, drop, sym, ◌∙◌, subst, arith, Ok, IfSome}
 use Rattle.std.proofs.lemmas.Result.{err_from_is_err_and}
 use Rattle.expand65.specs.Lines.{IsFileBehind, IsReadingAt, in_line, lines_of, TakesPiece, rest_of}
@@ -86,3 +87,12 @@ returns-in_err-has_more-clause-blamed g c =
     let longer : length c.pieces.line.items < length c.take_piece.new.line.items = c.in_ok-take_piece.ensures.more c.if-branch.false in
     let name = c.in_ok-take_piece.ensures.same.0 ∙ c.pieces.invariant.name in
     rw (p.1, p.2) (where_failed o (λ m. IsFileBehind m first first.line) (λ m. IsReadingAt m blamed (in_line first.name (first.line + 1))) c.in_err-has_more.field-0.0 (λ failed. stops_within o blamed first mid after (c.in_err-has_more.ensures.leaves.blamed failed) c.in_ok-take_piece.ensures.part (is_some c.pieces.line.items after longer) name on))
+
+pub returns-then-not-branch-clause-leaves : goal.returns-then-not-branch-clause-leaves
+returns-then-not-branch-clause-leaves g c = grind (arith, common_steps)
+
+pub returns-then-not-branch-clause-blamed : goal.returns-then-not-branch-clause-blamed
+returns-then-not-branch-clause-blamed g c = grind (arith, common_steps)
+
+pub returns-then-branch-clause-leaves : goal.returns-then-branch-clause-leaves
+returns-then-branch-clause-leaves g c = grind (arith, common_steps)

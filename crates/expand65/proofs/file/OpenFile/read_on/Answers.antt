@@ -1,4 +1,5 @@
-use Rattle.std.proofs.Common.{◌≡◌, ℕ, List, IfSome, drop, rules, subst, true}
+use Rattle.std.proofs.lemmas.Grind.{common_steps}
+use Rattle.std.proofs.Common.{◌≡◌, ℕ, List, IfSome, drop, rules, subst, true, arith}
 use Rattle.std.proofs.lemmas.Result.{err_from_is_err_and}
 use Rattle.base65.specs.Store.{IsBlamedAt}
 use Rattle.syntax65.specs.Faults.{is_failure}
@@ -24,3 +25,6 @@ returns-in_err-n-clause-leaves g c =
     let l = c.in_err-n.ensures.leaves in
     let told : is_failure c.in_err-n.field-0.0 ≡ true → IsReadOn old blamed = λ failed. (subst (λ s. IsBlamedAt blamed s old.next) c.as_str.ensures (l.blamed failed), c.requires.more, c.requires.all) in
     record { blamed = rw (p.1, p.2) told; files = l.files; count = search rules }
+
+pub returns-clause-leaves : goal.returns-clause-leaves
+returns-clause-leaves g c = grind (arith, common_steps)

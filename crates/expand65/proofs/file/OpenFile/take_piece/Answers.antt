@@ -1,3 +1,4 @@
+use Rattle.std.proofs.lemmas.Grind.{common_steps}
 use Rattle.std.proofs.Common.{◌≡◌, ℕ, ◌+◌, ◌≤◌, ◌<◌, ◌++◌, ◌∷◌, List, length, take, drop, refl, sym, ap, ◌∙◌, subst, arith}
 use Rattle.std.proofs.lemmas.Bool.Decides.{nat_tests}
 use Rattle.std.proofs.lemmas.List.{length-drop, drop-drop}
@@ -57,3 +58,12 @@ returns-clause-ended c = λ is.
     let P : List ℕ → Type 0 = λ l. IsEndedLine (line ++ here) l (drop (c.args.self.now.at + (n + 1)) c.args.self.now.buffer.items) in
     let Q : List ℕ → Type 0 = λ l. IsEndedLine (line ++ here) (line ++ take n here) l in
     subst P (sym items) (subst Q (drop-drop (n + 1) c.args.self.now.at c.args.self.now.buffer.items) (piece_ends_line line here n count less)))
+
+pub returns-clause-more : goal.returns-clause-more
+returns-clause-more c = grind (arith, common_steps)
+
+pub returns-then-is_empty-clause-ended : goal.returns-then-is_empty-clause-ended
+returns-then-is_empty-clause-ended c = grind (arith, common_steps)
+
+pub returns-then-is_empty-clause-read : goal.returns-then-is_empty-clause-read
+returns-then-is_empty-clause-read c = grind (arith, common_steps)

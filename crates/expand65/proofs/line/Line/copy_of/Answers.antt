@@ -1,4 +1,5 @@
-use Rattle.std.proofs.Common.{◌≡◌, ◌++◌, ℕ, ◌≤◌, List, [], length, take, ap, sym, ◌∙◌}
+use Rattle.std.proofs.lemmas.Grind.{common_steps}
+use Rattle.std.proofs.Common.{◌≡◌, ◌++◌, ℕ, ◌≤◌, List, [], length, take, ap, sym, ◌∙◌, arith}
 use Rattle.std.proofs.lemmas.List.{append-nil, take_all}
 use Rattle.syntax65.specs.Tokens.{lexemes}
 use Rattle.syntax65.specs.declared.lexing.tokens.Token.{Token}
@@ -14,3 +15,6 @@ all_kept ws bs ts i h e =
 
 pub returns : goal.returns
 returns c = rw (c.from_vec.ensures, c.from_vec-2.ensures) (all_kept c.loop-token.words.items c.loop-token.bytes.items c.args.tokens.now c.loop-token.token-index c.loop-token-test.false (c.loop-token.invariant [] []))
+
+pub loop-token-preserved : goal.loop-token-preserved
+loop-token-preserved c = grind (arith, common_steps)

@@ -1,3 +1,4 @@
+use Rattle.std.proofs.lemmas.Grind.{common_steps}
 use Rattle.std.proofs.Common.{◌≡◌, ◌∙◌, ap, refl, suc, arith, ◌-◌, true, Ok, Err}
 use Rattle.std.proofs.lemmas.Result.{err_from_is_err_and}
 use Rattle.expand65.specs.Standing.{IsAt, IsLineOf, TakesLine, left_in, left_of, FailsAtLine, onward}
@@ -81,3 +82,27 @@ returns-clause-stands g c = λ stands.
     let takes = moved_to (λ m. (q : Place) → IsAt m mid q → IsAt m c.take_line.new.self (onward mid q)) o (g.S.Store.files c.begin_line.new.store) told c.in_ok-line.ensures.at in
     let moves : IsLineOf old.top.source old.place → c.move_by.new.place ≡ onward mid old.place = λ is. c.move_by.ensures ∙ c.in_ok-next.ensures.onward old.place is not_end in
     line_stands o old new mid refl refl (c.in_ok-line.ensures.kind ∙ c.in_ok-next.ensures.kind) c.in_ok-next.ensures.kind moves c.in_ok-next.ensures.at takes stands)
+
+pub returns-clause-spent : goal.returns-clause-spent
+returns-clause-spent g c = grind (arith, common_steps)
+
+pub returns-then-self-eq0-clause-stopped : goal.returns-then-self-eq0-clause-stopped
+returns-then-self-eq0-clause-stopped g c = grind (arith, common_steps)
+
+pub returns-clause-stays : goal.returns-clause-stays
+returns-clause-stays g c = grind (arith, common_steps)
+
+pub returns-clause-stopped : goal.returns-clause-stopped
+returns-clause-stopped g c = grind (arith, common_steps)
+
+pub returns-in_err-line-clause-leaves : goal.returns-in_err-line-clause-leaves
+returns-in_err-line-clause-leaves g c = grind (arith, common_steps)
+
+pub returns-then-is_end-clause-leaves : goal.returns-then-is_end-clause-leaves
+returns-then-is_end-clause-leaves g c = grind (arith, common_steps)
+
+pub returns-clause-leaves : goal.returns-clause-leaves
+returns-clause-leaves g c = grind (arith, common_steps)
+
+pub returns-then-self-eq0-clause-leaves : goal.returns-then-self-eq0-clause-leaves
+returns-then-self-eq0-clause-leaves g c = grind (arith, common_steps)

@@ -1,3 +1,5 @@
+use Rattle.std.proofs.lemmas.Grind.{common_steps}
+use Rattle.std.proofs.Common.{arith}
 use Rattle.expand65.proofs.rewriter.Rewriter.act_by.Goals as goal
 
 pub returns-in-Else-clause-stopped : goal.returns-in-Else-clause-stopped
@@ -11,3 +13,6 @@ returns-in-ExitMacro-clause-stopped g c = c.act_alone-in-ExitMacro.ensures.stopp
 
 pub returns-in-Local-clause-keeps : goal.returns-in-Local-clause-keeps
 returns-in-Local-clause-keeps g c = c.add_locals.ensures.keeps (g.S.Store.files c.args.store.now)
+
+pub returns-in_ok-text-in-Error-clause-leaves : goal.returns-in_ok-text-in-Error-clause-leaves
+returns-in_ok-text-in-Error-clause-leaves g c = grind (arith, common_steps)

@@ -1,4 +1,5 @@
-use Rattle.std.proofs.Common.{◌∙◌, refl, sym, rules}
+use Rattle.std.proofs.lemmas.Grind.{common_steps}
+use Rattle.std.proofs.Common.{◌∙◌, refl, sym, rules, arith}
 use Rattle.syntax65.specs.declared.place.Place.{Place}
 use Rattle.expand65.specs.declared.reader.Reader.{Reader}
 use Rattle.expand65.proofs.Placed.{goes_back, opened_at, stands_so}
@@ -13,3 +14,9 @@ returns-clause-keeps c = λ files.
       stands = stands_so files c.args.self.now.reader new (λ m h. goes_back m mid new place refl refl refl (c.in_ok-enter.ensures.stands m place (opened_at m c.new.result place (c.new.ensures.name ∙ sym (c.in_ok-copy_of.ensures ∙ c.as_str.ensures)) c.new.ensures.line refl (c.new.ensures.behind m)) tt c.in_ok-back.ensures h));
       size = search rules;
     })
+
+pub returns-in_err-enter-clause-turns : goal.returns-in_err-enter-clause-turns
+returns-in_err-enter-clause-turns c = grind (arith, common_steps)
+
+pub returns-clause-turns : goal.returns-clause-turns
+returns-clause-turns c = grind (arith, common_steps)

@@ -1,4 +1,5 @@
-use Rattle.std.proofs.Common.{◌≡◌, ◌∙◌, ℕ, Bor, List, Err, Ok, ap, refl, subst, sym}
+use Rattle.std.proofs.lemmas.Grind.{common_steps}
+use Rattle.std.proofs.Common.{◌≡◌, ◌∙◌, ℕ, Bor, List, Err, Ok, ap, refl, subst, sym, arith}
 use Rattle.std.specs.Option.{option_map}
 use Rattle.std.proofs.lemmas.Result.{err_from_is_err_and}
 use Rattle.syntax65.specs.Tokens.{lexemes}
@@ -40,3 +41,6 @@ returns-in_err-file-clause-stopped g c = λ names.
     let text = sym c.string_of.ensures ∙ ap (option_map (λ (s : Bor (List ℕ)). s.now)) c.in-Some.is in
     let P : List ℕ → List (List ℕ) → Type 0 = λ beside folders. IsAmong blamed (tried beside folders name) in
     rw (p.1, p.2) (stops_by {A = Turn} o blamed (λ m. include_file (state_of m old) name) (λ m. unless_refused (state_of m old) (understood (string_of ts)) (include_file (state_of m old))) old.reader old.reader (Err f) (λ m. include_is (state_of m old) ts name text) (stood Turn o (λ m. Fails m blamed (include_file (state_of m old) name)) old.reader f (λ m failed. (refl, subst (P old.reader.place.file) c.as_slice.ensures (subst (λ b. P b c.as_slice.result.now) c.as_str-beside.ensures (c.in_err-file.ensures.blamed (ap Err (only_error f failed)))))))))
+
+pub returns-clause-leaves : goal.returns-clause-leaves
+returns-clause-leaves g c = grind (arith, common_steps)

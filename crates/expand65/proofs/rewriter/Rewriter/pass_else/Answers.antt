@@ -1,4 +1,5 @@
-use Rattle.std.proofs.Common.{Err}
+use Rattle.std.proofs.lemmas.Grind.{common_steps}
+use Rattle.std.proofs.Common.{Err, arith}
 use Rattle.std.proofs.lemmas.Result.{err_from_is_err_and}
 use Rattle.expand65.proofs.Stopping.{else_passed, else_refused, else_none, else_twice, stops_at_else}
 use Rattle.expand65.specs.declared.rewriter.Turn.{Turn}
@@ -28,3 +29,6 @@ returns-in_err-block-in-Some-false-clause-stopped g c = λ names.
     (let p = err_from_is_err_and c.from_residual.result c.from_residual.ensures.1 in
     let popped = rw c.in-Some-false.field-0-test at c.in-Some-false.ensures.pops in
     rw (p.1, p.2) (stops_at_else {A = Turn} (g.S.Store.files c.args.store.now) (g.S.Store.blamed c.block.new.store) c.args.self.now c.block.new.self c.pop_above.new.self (Err c.in_err-block-in-Some-false.field-0.0) popped (c.in_err-block-in-Some-false.ensures.stopped names)))
+
+pub returns-in_ok-block-in-Some-false-clause-leaves : goal.returns-in_ok-block-in-Some-false-clause-leaves
+returns-in_ok-block-in-Some-false-clause-leaves g c = grind (arith, common_steps)

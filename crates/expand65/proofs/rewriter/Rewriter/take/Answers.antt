@@ -1,4 +1,5 @@
-use Rattle.std.proofs.Common.{◌≡◌, [], Option, None, Some, IfSome, Ok, Err, refl, subst}
+use Rattle.std.proofs.lemmas.Grind.{common_steps}
+use Rattle.std.proofs.Common.{◌≡◌, [], Option, None, Some, IfSome, Ok, Err, refl, subst, arith}
 use Rattle.std.specs.Option.{option_map}
 use Rattle.std.specs.Prelude.{IfNone}
 use Rattle.std.proofs.lemmas.Result.{err_from_is_err_and}
@@ -86,3 +87,6 @@ returns-in-None-clause-stands g c = λ stands. c.end_input.ensures.stands (g.S.S
 pub returns-in-Some-clause-stands : goal.returns-in-Some-clause-stands
 returns-in-Some-clause-stands g c = λ stands.
     stands_on_ok (g.S.Store.files c.args.store.now) (g.S.Store.files c.next_line.new.store) c.begin.result c.next_line.new.self c.begin.new.self.reader c.in_ok-next_line.ensures.leaves.files c.begin.ensures.stands (c.in_ok-next_line.ensures.stands stands)
+
+pub returns-in-None-clause-leaves : goal.returns-in-None-clause-leaves
+returns-in-None-clause-leaves g c = grind (arith, common_steps)

@@ -1,4 +1,5 @@
-use Rattle.std.proofs.Common.{◌∙◌, ℕ, List, [], None, Ok, Err, ap, map, refl, subst, sym}
+use Rattle.std.proofs.lemmas.Grind.{common_steps}
+use Rattle.std.proofs.Common.{◌∙◌, ℕ, List, [], None, Ok, Err, ap, map, refl, subst, sym, arith}
 use Rattle.std.specs.Prelude.{is_some}
 use Rattle.std.proofs.lemmas.Result.{err_from_is_err_and}
 use Rattle.base65.specs.Outcome.{Unless}
@@ -70,3 +71,15 @@ returns-in_err-block-clause-stopped g c = λ names.
     let params = map (λ k. k.items) c.in_ok-name.field-0.params.keys in
     let none = is_none (macro_of (macros_of old) name) (ap (λ (n : List ℕ). is_some (macro_of (macros_of old) n)) (sym c.as_slice.ensures.value) ∙ sym c.has_macro.ensures ∙ c.if-has_macro.false) in
     rw (p.1, p.2) (stops_by {A = Turn} (g.S.Store.files c.args.store.now) (g.S.Store.blamed c.block.new.store) (λ m. defined (state_of m old) name params None) (λ m. macro_line (state_of m old) ts) old.reader c.block.new.self (Err c.in_err-block.field-0.0) (λ m. macro_is (state_of m old) ts name params None c.in_ok-name.ensures.header none) (c.in_err-block.ensures.stopped names)))
+
+pub returns-in_err-insert-clause-stopped : goal.returns-in_err-insert-clause-stopped
+returns-in_err-insert-clause-stopped g c = grind (arith, common_steps)
+
+pub returns-then-has_macro-clause-stopped : goal.returns-then-has_macro-clause-stopped
+returns-then-has_macro-clause-stopped g c = grind (arith, common_steps)
+
+pub returns-then-has_macro-clause-leaves : goal.returns-then-has_macro-clause-leaves
+returns-then-has_macro-clause-leaves g c = grind (arith, common_steps)
+
+pub returns-clause-keeps : goal.returns-clause-keeps
+returns-clause-keeps g c = grind (arith, common_steps)

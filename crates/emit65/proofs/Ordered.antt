@@ -16,7 +16,7 @@ use Rattle.semantics65.specs.Contents.{Content, Declaration, Filled, Known, Part
 use Rattle.semantics65.specs.declared.contents.Declaration as telled
 use Rattle.semantics65.specs.declared.contents.Segment.{Segment}
 use Rattle.semantics65.specs.Module.{holds}
-use Rattle.semantics65.specs.Numbering.{all_joined, all_said, assert_files, assert_of, export_files, export_of, fragments_of, import_keys, in_files, is_empty, name_of, names_once, numbered, object_with, once, part_files, parts_in, section_keys, segment_name, segment_power}
+use Rattle.semantics65.specs.Numbering.{all_joined, all_said, assert_files, assert_of, export_files, export_of, fragments_of, import_keys, in_files, is_empty, name_of, names_once, object_with, once, part_files, parts_in, section_keys, segment_name, segment_power}
 use Rattle.semantics65.specs.Numbering as numbering
 use Rattle.semantics65.specs.Views.{said_at}
 use Rattle.emit65.specs.declared.entries.Entry.{Entry}

@@ -52,7 +52,7 @@ fn begins_parenthesis(tokens: &[Token<'_>]) -> bool
     matches!(tokens, [first, ..] if opens_parenthesis(first))
 }
 
-/// Whether an expression is a name, and that of a label or constant.
+/// Whether a name is that of a label or constant; another expression isn't understood.
 fn is_name_defined<K: Knows>(alloc: Global, knows: &K, expr: &Expr) -> Result<bool, ExpandFault>
     ensures value { Gives is_outside (λ b. b) result (defined_tree (K.meaning knows.now) expr.now) }
     ensures inside { IfErr result (λ e. is_failure e ≡ false) }

@@ -1,2 +1,2 @@
--- What only the contracts within the crate cite: definitions in the terms of its code.
+-- How the parts of a type lie in memory, behind what contracts see.
 pub mod Cursors

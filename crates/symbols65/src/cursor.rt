@@ -1,9 +1,9 @@
 //! Where the next statement stands.
 
-ghost use Rattle.std.specs.Prelude.{◌≡◌, ℕ, ◌+◌, ◌<◌, ◌≤◌, length, OnOk, IfOk, None, ◌++◌, ◌∷◌, [], if◌then◌else◌, nat_lt};
+ghost use Rattle.std.specs.Prelude.{◌≡◌, ◌+◌, ◌<◌, ◌≤◌, length, OnOk, IfOk, None, ◌++◌, ◌∷◌, [], if◌then◌else◌};
 ghost use Rattle.object65.specs.Objects.{section_limit};
 ghost use Rattle.semantics65.specs.Symbols.{is_unnamed, opens_region, Symbols as Table};
-ghost use Rattle.semantics65.specs.Layout.{current_behind, first_size, grown_at, kept_behind, last_kept, named_segments, new_segment, opens_scope, or_last, place_of, rest_kept, scope_behind, segment_at, segments_behind, context_of, start};
+ghost use Rattle.semantics65.specs.Layout.{current_behind, first_size, grown_at, is_kept, kept_behind, last_kept, named_segments, new_segment, opens_scope, or_last, place_of, rest_kept, scope_behind, segment_at, segments_behind, context_of, start};
 ghost use Rattle.syntax65.specs.declared.instructions.names.Mnemonic.{Mnemonic};
 ghost use Rattle.ast65.specs.declared.language.Operand.{Operand};
 ghost use Rattle.ast65.specs.declared.language.Statement.TheVariants.{Instruction};
@@ -91,7 +91,7 @@ impl Cursor {
 
     /// Whether a segment was kept to go back to.
     pub fn has_kept(&self) -> bool
-        ensures { result ≡ nat_lt 0 (length self.now.kept) }
+        ensures { result ≡ is_kept self.now.kept }
     {
         !self.kept.is_empty()
     }

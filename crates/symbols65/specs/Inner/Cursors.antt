@@ -22,7 +22,7 @@ cursor_of w = record {
 abbrev pub AreWithin : List Segment → Type 0
 AreWithin gs = AllByRecursion (λ g. g.end ≤ section_limit) gs
 
--- The current segment is there, each has its length and is found by its name, and what is kept is there.
+-- The current segment is there, and so is each that is kept; none is too long, and each is found by its name.
 pub record IsSoundCursor (w : Inside) : Type 0 where
   pub current : w.current < length w.segments.items
   pub ends : AreWithin w.segments.items

@@ -151,7 +151,8 @@ def try_all(rt, crates, tries, earlier):
         return refused(rt, crate, edits, kept, single, lambda *what: earlier.keep(crate, *what))
 
     with ThreadPoolExecutor(lanes) as pool, ThreadPoolExecutor(max(1, lanes // 2)) as single:
-        found = set().union(*pool.map(of, crates))
+        # (the largest first, so that none is left to one processor at the end)
+        found = set().union(*pool.map(of, sorted(crates, key=lambda it: -it.count(rb"\n"))))
     changed = [name for name, files in listings(rt, crates).items() if files != before[name]]
     for name in changed:
         kit.say(f"{name}: what its proof kept was changed meanwhile, so its tries count for nothing: try them with --anew")

@@ -120,26 +120,27 @@ class Said:
         return any("it calls" in self.of.get(name, "") for name in it.functions)
 
 
-def said_of(rt, crate, tries, over):
+def said_of(rt, crate, tries, over, jobs):
     """What a check of the functions that these change says; None where it says nothing, as of a text that can't be read."""
     texts, names = texts_of(crate, tries), sorted(name for it in tries for name in it.functions)
-    ran = over(lambda kept: rt.checked(crate, texts, ["--jobs", "1", *(word for it in names for word in ("--only", it))], kept))
+    flags = ["--jobs", str(jobs), *(word for it in names for word in ("--only", it))]
+    ran = over(lambda kept: rt.checked(crate, texts, flags, kept))
     lines = ran.stdout.rstrip("\n").split("\n")
     is_read = ran.returncode in (0, 1) and re.fullmatch(r"only=\d+ proved=\d+", lines[-1]) and not any(rt.unread(it, texts) for it in lines)
     return Said(crate, ran.stdout) if is_read else None
 
 
-def refused(rt, crate, tries, over):
+def refused(rt, crate, tries, over, jobs):
     """Those that are refused, with what was found. Of the others nothing is known: each has to be tried alone. `over` makes a
-    call with a copy of what the proof of the crate as it is kept."""
+    call with a copy of what the proof of the crate as it is kept; `jobs` is how many processors a check may use."""
     left, found = [it for it in tries if it.functions], {}
     while left:
         batch = apart(left)
-        said = said_of(rt, crate, batch, over)
+        said = said_of(rt, crate, batch, over, jobs)
         if said is None and len(batch) > 1:
             # One of them can't be read, say: each half for itself.
             for half in (batch[: len(batch) // 2], batch[len(batch) // 2 :]):
-                found.update(refused(rt, crate, half, over))
+                found.update(refused(rt, crate, half, over, jobs))
             left = [it for it in left if it not in batch]
             continue
         found.update((it, text) for it in batch for text in [said and said.against(it)] if text)

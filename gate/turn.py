@@ -41,8 +41,7 @@ def tried(rt, crate, jobs):
     kit.say(f"{crate.name}: proved once more ({kit.minutes(time.time() - begun)})")
     edits = wrong_bodies.edits_of(crate, [], wrong_bodies.FOLDERS[:1])
     try:
-        with ThreadPoolExecutor(jobs) as pool:
-            refused = wrong_bodies.refused(rt, crate, edits, f"{room}/seed", pool)
+        refused = wrong_bodies.refused(rt, crate, edits, f"{room}/seed", jobs)
     finally:
         shutil.rmtree(room, ignore_errors=True)
     return {it: it in refused for it in edits}

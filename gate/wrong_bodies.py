@@ -1,7 +1,7 @@
 #!/usr/bin/env python3
 """Tries the wrong bodies that the gate itself doesn't: crates/NAME/wrong-bodies/*.edit, each of which the prover must refuse.
 
-usage: wrong_bodies.py [--all] [--anew] [CRATE[/EDIT]..]    with --all those of must-fail/ too; WRONG_BODIES_JOBS tries so many at once.
+usage: wrong_bodies.py [--all] [--anew] [CRATE[/EDIT]..]    with --all those of must-fail/ too; WRONG_BODIES_JOBS takes so many processors.
 They are tried over what the proof of the crate as it is kept: first many in one check (batches.py); those of which nothing is known
 then each for itself, side by side, with the functions of the changed modules alone, and where these don't refuse it by the gate's
 own function. Where the kit keeps what came of an edit, an edit is tried once on this machine for the same files of its crate and those below: so a run
@@ -114,20 +114,21 @@ def tried(rt, crate, edit, kept):
     return kind, text
 
 
-def tried_together(rt, crate, edits, kept):
+def tried_together(rt, crate, edits, kept, jobs):
     """The edits of a crate that the prover refuses where many are tried in one check, with what is said of each."""
     begun, tries = time.time(), [batches.Try(rt, crate, it) for it in edits]
-    found = batches.refused(rt, crate, tries, lambda call: over(rt, kept, call))
+    found = batches.refused(rt, crate, tries, lambda call: over(rt, kept, call), jobs)
     kit.say(f"{crate.name}: {len(found)} of {len(tries)} wrong bodies were refused in checks of many ({kit.minutes(time.time() - begun)})")
     return {it.edit: f"{crate.name}/{os.path.basename(it.edit)}: refused, as it must be: {said[:160]}" for it, said in found.items()}
 
 
-def refused(rt, crate, edits, kept, pool, keep=lambda edit, kind, text: None):
-    """Those of a crate's edits that the prover refuses. One that can't be read or tried isn't refused."""
-    together = tried_together(rt, crate, edits, kept) if kept and hasattr(rt, "unread") else {}
+def refused(rt, crate, edits, kept, lanes, keep=lambda edit, kind, text: None):
+    """Those of a crate's edits that the prover refuses, with so many processors. One that can't be read or tried isn't refused."""
+    together = tried_together(rt, crate, edits, kept, lanes) if kept and hasattr(rt, "unread") else {}
     found = {edit: (getattr(rt, "REFUSED", True), text) for edit, text in together.items()}
     alone = [it for it in edits if it not in found]
-    found.update(zip(alone, pool.map(lambda it: tried(rt, crate, it, kept), alone)))
+    with ThreadPoolExecutor(lanes) as pool:
+        found.update(zip(alone, pool.map(lambda it: tried(rt, crate, it, kept), alone)))
     for edit, (kind, text) in found.items():
         kit.say(text.removeprefix("must-fail "))
         keep(edit, kind, text)
@@ -142,16 +143,18 @@ def means_refused(rt, kind):
 def try_all(rt, crates, tries, earlier):
     """Which of the edits of these crates are refused."""
     lanes, begun = int(os.environ.get("WRONG_BODIES_JOBS", 0)) or kit.lanes(rt), time.time()
-    kit.say(f"{len(tries)} wrong bodies of {len(crates)} crates, {lanes} at once")
+    kit.say(f"{len(tries)} wrong bodies of {len(crates)} crates, on {lanes} processors")
     before = listings(rt, crates)
+
+    at_once = max(1, min(len(crates), lanes // 2))
 
     def of(crate):
         kept = kept_by(crate) if is_sound(rt, crate) else None
         edits = [edit for it, edit in tries if it is crate]
-        return refused(rt, crate, edits, kept, single, lambda *what: earlier.keep(crate, *what))
+        return refused(rt, crate, edits, kept, lanes // at_once, lambda *what: earlier.keep(crate, *what))
 
-    with ThreadPoolExecutor(lanes) as pool, ThreadPoolExecutor(max(1, lanes // 2)) as single:
-        # (the largest first, so that none is left to one processor at the end)
+    with ThreadPoolExecutor(at_once) as pool:
+        # (the largest first, so that none is left alone at the end)
         found = set().union(*pool.map(of, sorted(crates, key=lambda it: -it.count(rb"\n"))))
     changed = [name for name, files in listings(rt, crates).items() if files != before[name]]
     for name in changed:

@@ -124,10 +124,6 @@ file_none (Some m) next before ms names k name e same at left put =
 abbrev pub HaveLeft : Option Files → List (List ℕ) → ℕ → Type 0
 HaveLeft known names k = IfSome known (λ m. HaveBytes m (drop k names) → HaveBytes m names)
 
-pub left_all : (known : Option Files) (names : List (List ℕ)) → HaveLeft known names 0
-left_all None names = tt
-left_all (Some m) names = λ h. h
-
 pub left_more : (known next : Option Files) (names : List (List ℕ)) (k : ℕ) (name : List ℕ) → next ≡ known → drop k names ≡ name ∷ drop (k + 1) names → HaveLeft known names k → IfSome next (λ m. IfSome (get m name) IsBytes) → HaveLeft known names (k + 1)
 left_more None next names k name same front left here = tt
 left_more (Some m) next names k name same front left here =

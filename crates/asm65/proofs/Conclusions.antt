@@ -58,11 +58,6 @@ pub no_more : (b c : Bool) → (b ≡ true → c ≡ true) → c ≡ false → b
 no_more true c h e = absurd (let both : true ≡ false = sym (h refl) ∙ e in cc)
 no_more false c h e = refl
 
--- what is refused from outside may be refused so
-pub outside_comes : (P : Type 0) (b : Bool) → b ≡ true → Unless b P
-outside_comes P true e = tt
-outside_comes P false e = absurd cc
-
 -- ---- One more entry.
 
 -- lists that are nothing together

@@ -41,10 +41,6 @@ where_known x y z f h = grind (arith, common_steps)
 pub where_so : (o : Option Files) (Q : Files → Type 0) → ((m : Files) → Q m) → IfSome o Q
 where_so x y f = grind (arith, common_steps)
 
-pub unless_so : (b : Bool) {P Q : Type 0} → (P → Q) → Unless b P → Unless b Q
-unless_so true f h = tt
-unless_so false f h = f h
-
 -- ---- A line without a directive.
 
 pub no_call : (m : Files) (r : Rewriter) (t : Lexeme) (ts : List Lexeme) → macro_at (macros_of r) t ≡ None → gives (plain (t ∷ ts)) (state_of m r) ≡ ordinary (state_of m r) (t ∷ ts)

@@ -129,17 +129,8 @@ pub stands_by : (o : Option Files) (P : Files → Type 0) (old new : Reader) →
 stands_by None P old new f h k = tt
 stands_by (Some m) P old new f h k = f m h k
 
-pub stands_both : (o : Option Files) (P Q : Files → Type 0) (old new : Reader) → ((m : Files) → P m → Q m → IsInPlace m old → IsInPlace m new) → IfSome o P → IfSome o Q → StandsIn o old → StandsIn o new
-stands_both None P Q old new f h k s = tt
-stands_both (Some m) P Q old new f h k s = f m h k s
-
 pub stands_where : (o p : Option Files) (r : Reader) → p ≡ o → StandsIn o r → StandsIn p r
 stands_where o p r e h = subst (λ q. StandsIn q r) (sym e) h
-
-pub where_stands : {A : Type 0} (o : Option Files) (r : Result A ExpandFault) (old new : Reader) → (StandsIn o old → OnOk r (StandsIn o new)) → IfSome o (λ m. IsInPlace m old → OnOk r (IsInPlace m new))
-where_stands None r old new f = tt
-where_stands (Some m) (Ok x) old new f = f
-where_stands (Some m) (Err e) old new f = λ h. tt
 
 -- by what a call found of the store before it
 pub stands_back : (o p : Option Files) (old new : Reader) → p ≡ o → (StandsIn p old → StandsIn p new) → StandsIn o old → StandsIn o new

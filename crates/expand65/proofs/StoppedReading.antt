@@ -86,7 +86,3 @@ plainly_read k (Some m) first reader new d passed h = by (is_kept k) (passed m)
 pub stops_on : (blamed : Blamed) (k : BlockKind) (o : Option Files) (first reader new : Reader) (d : ℕ) (f : ExpandFault) → IfSome o (Fails k d reader first) → mark_of reader.top ≡ mark_of first.top → IfSome o (λ m. is_failure f ≡ true → HasStopped (FailsAtLine m blamed (left_of m reader)) reader new) → IfSome o (λ m. is_failure f ≡ true → HasStopped (FailsInBlock m blamed k 0 (left_of m first)) first new)
 stops_on blamed k None first reader new d f h e s = tt
 stops_on blamed k (Some m) first reader new d f h e s = λ failed. (let so = s failed in record { there = h blamed new.place (at_line d (left_of m reader) new.place so.there); mark = so.mark ∙ e })
-
--- a fault that isn't the store's
-pub not_stopped : (o : Option Files) (IsThere : Files → Place → Type 0) (first new : Reader) (f : ExpandFault) → is_failure f ≡ false → IfSome o (λ m. is_failure f ≡ true → HasStopped (IsThere m) first new)
-not_stopped x y first new f h = grind (arith, common_steps)

@@ -124,13 +124,6 @@ IsInputTurn known names k old now =
     → (modules : List Module) × IsFed now modules
     × IfSome known (λ m. AreInputs old.script m 0 before (take k names) (Ok modules))
 
-pub first_input : (known : Option Files) (names : List (List ℕ)) (old : Feeding) → IsInputTurn known names 0 old old
-first_input known names old before stands = (before, stands, go known)
-  where
-    go : (f : Option Files) → IfSome f (λ m. AreInputs old.script m 0 before (take 0 names) (Ok before))
-    go None = tt
-    go (Some m) = refl
-
 taken : (xs : List (List ℕ)) (k : ℕ) → k < length xs → length (take k xs) ≡ k
 taken [] k h = absurd (omega (arith, h))
 taken (x ∷ xs) zero h = refl

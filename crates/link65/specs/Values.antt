@@ -139,10 +139,6 @@ abbrev pub segment_bytes : Linkage → Exports → ℕ → Option Segment → Li
 segment_bytes l exports fill None = []
 segment_bytes l exports fill (Some g) = flat_map (cell_bytes l exports fill) g.cells
 
--- the bytes of a segment, where its row is written
-abbrev pub written_segment : Linkage → Exports → Row → Option Segment → List ℕ
-written_segment l exports r o = if is_written r.access then segment_bytes l exports r.fill_value o else []
-
 -- the bytes of a segment, by the fill value of its row
 abbrev pub row_bytes : Linkage → Exports → List Segment → RowBytes
 row_bytes l exports segments r = segment_bytes l exports r.fill_value (segment_of segments r.name)

@@ -61,10 +61,6 @@ within_at [] i h lt = absurd (omega arith)
 within_at (g ∷ gs) zero h lt = h.0
 within_at (g ∷ gs) (suc i) h lt = within_at gs i h.1 (omega arith)
 
-pub all_before : {A : Type 0} (P : A → Type 0) (xs : List A) (x : A) → AllByRecursion P (xs ++ x ∷ []) → AllByRecursion P xs × P x
-all_before P [] x h = (tt, h.0)
-all_before P (y ∷ xs) x h = let rest = all_before P xs x h.1 in ((h.0, rest.0), rest.1)
-
 -- ---- What is sound.
 
 pub sound_of : (v : Inside) (gs : List Segment) (i : ℕ) → v.segments.items ≡ gs → v.current ≡ i → i < length gs → AreWithin gs → map (λ k. k.items) v.names.keys ≡ map (λ (g : Segment). g.name) gs → AllByRecursion (λ k. k < length gs) v.kept.items → IsSoundCursor v
@@ -94,6 +90,3 @@ new_name n w sound none = absent (map (λ k. k.items) w.names.keys) (position_ma
 
     absent : (ns : List (List ℕ)) → position (bytes_eq n) ns ≡ None → list_any (λ k. bytes_eq n k) ns ≡ false
     absent ns e = go 0 ns (sym (position_from-zero (bytes_eq n) ns) ∙ e)
-
-pub sound_back : (w v : Inside) (k : ℕ) → IsSoundCursor w → w.kept.items ≡ v.kept.items ++ k ∷ [] → v.segments ≡ w.segments → v.current ≡ k → v.names ≡ w.names → IsSoundCursor v
-sound_back w v k sound kept segments at names = grind (arith, common_steps, all_before, sound_of)

@@ -132,9 +132,6 @@ pub quiet : {y : Layout} → IsLaidOut y → AllByRecursion IsQuiet y.laid
 quiet begun = tt
 quiet (behind y place x d none) = grind (arith, common_steps, (quiet d), all_more, places_nothing)
 
-quiet_end : (at multiple : ℕ) (l : Laid) → asks_section l.stated ≡ false → l.length ≡ 0 → line_end at multiple l ≡ at
-quiet_end at multiple l h e = grind (arith, common_steps)
-
 -- none of the module's statements there asks
 abbrev AsksNot : Layout → List ℕ → Laid → Type 0
 AsksNot y name l = stands_in y name l ≡ true → asks_section l.stated ≡ false

@@ -168,9 +168,6 @@ line_ends y w place x h = grind (arith, common_steps)
 by_parts : (x y q r : ℕ) → 0 < y → r < y → y * q + r ≡ x → (q + min 1 r) * y ≡ x + (y - r) % y
 by_parts x y q x1 pos_y h e = grind (arith, common_steps)
 
-not_zero : (n : ℕ) → (suc n == 0) ≡ false
-not_zero n = grind (arith, nat_tests)
-
 -- A link and the whole program round alike.
 pub rounding_law : (at n : ℕ) → 0 < n → rounded_up at n ≡ next_multiple_of at n
 rounding_law at x1 h = grind (arith, common_steps, by_parts)

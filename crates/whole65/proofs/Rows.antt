@@ -21,7 +21,7 @@ use Rattle.link65.specs.Programs.{Module, Program as LinkedProgram, no_program, 
 use Rattle.link65.specs.Values as places
 use Rattle.link65.specs.Programs as linked
 use Rattle.semantics65.proofs.Resolving.{new_append}
-use Rattle.whole65.proofs.Sections.{asked_are, held, keys_of, or_both, or_false, or_true, with_key, name_at, segment_law}
+use Rattle.whole65.proofs.Sections.{asked_are, held, keys_of, or_false, or_true, with_key, name_at, segment_law}
 use Rattle.whole65.proofs.Positions.{itself}
 use Rattle.whole65.proofs.Sources.{contents_of, size_law, Behind, begin_is_multiple, behind_source, grows, no_part, part_end, section_begin, size_or, size_or_empty, unchanged, whole_part}
 use Rattle.whole65.specs.Laws.{PlacementLaw}

@@ -16,7 +16,7 @@ use Rattle.semantics65.proofs.Segments.{all_more}
 use Rattle.semantics65.specs.Module.{ending_of}
 use Rattle.whole65.proofs.Positions.{named, Distinct, alike}
 use Rattle.whole65.proofs.Multiples.{equal}
-use Rattle.whole65.proofs.Statements.{AreStated, a_line, are_stated, asked_append, no_line, stated}
+use Rattle.whole65.proofs.Statements.{AreStated, a_line, are_stated, no_line, stated}
 use Rattle.whole65.specs.Modules.{table_of}
 use Rattle.whole65.specs.Offsets.{IsLaidOut}
 use Rattle.whole65.specs.Segments.{has_section, segment_name, stands_in}
@@ -44,9 +44,6 @@ or_false x1 = grind (arith, common_steps)
 
 pub or_true : (b : Bool) → (b || true) ≡ true
 or_true x1 = grind (arith, common_steps)
-
-pub or_both : (a b c : Bool) → ((a || b) || c) ≡ (a || (b || c))
-or_both x1 b c = grind (arith, common_steps)
 
 pub neither : (a b : Bool) → (a || b) ≡ false → (a ≡ false) × (b ≡ false)
 neither x1 b e = grind (arith, common_steps)

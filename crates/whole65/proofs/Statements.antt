@@ -321,6 +321,3 @@ put_append ds cs = flat_map-append (λ (c : Content). c.parts) ds cs
 
 pub parts_append : (g : ℕ) (ds cs : List Content) → parts_in (ds ++ cs) g ≡ parts_in ds g ++ parts_in cs g
 parts_append g ds cs = grind (arith, common_steps)
-
-pub asked_append : (ds cs : List Content) → segments_asked (ds ++ cs) ≡ segments_asked ds ++ segments_asked cs
-asked_append ds cs = grind (arith, common_steps)

@@ -108,7 +108,7 @@ def main():
         crate = Crate(f"{room}/made")
         tries = {it: batches.Try(rt, crate, crate.edit(it)) for it in EDITS}
         prover = Prover()
-        found = batches.refused(prover, crate, list(tries.values()), lambda call: call(None))
+        found = batches.refused(prover, crate, list(tries.values()), lambda call: call(None), 2)
         names = {it.edit.rpartition("/")[2].removesuffix(".edit") for it in found}
         checks.append(("refused together", names == {"adds_two", "adds_none", "once"}))
         checks.append(("many in one check", [NEXT, TWICE, FMT] == sorted(prover.asked[0], key=[NEXT, TWICE, FMT].index)))

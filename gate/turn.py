@@ -2,14 +2,17 @@
 """Tries some of the wrong bodies that the gate itself doesn't: those of the crates whose turn it is, by the number of the commit.
 
 usage: turn.py [--list] [TURN]    --list says which crates each turn has; TURN is a number in place of the commit's.
-It stands behind `rt ci`, whose libraries it uses. Each crate is proved once more, since a run of the gate keeps nothing over which
-wrong bodies could be tried, and then they are, many in one check (batches.py). The last line is 'N passed, M failed'."""
-import shutil
+It stands behind `rt ci`, which proved the crates and whose libraries it uses. The functions that wrong bodies change are proved
+once more, since a run of the gate keeps nothing over which these could be tried, and then they are, many in one check (batches.py).
+The last line is 'N passed, M failed'."""
+import re
 import subprocess
 import sys
+import tempfile
 import time
 from concurrent.futures import ThreadPoolExecutor
 
+import batches
 import kit
 import wrong_bodies
 
@@ -31,19 +34,23 @@ def turns(rt):
     return parts
 
 
+def is_proved(rt, crate, edits, jobs, kept):
+    """Whether the functions that these change are proved as they are; what the check found is kept in a folder."""
+    names = sorted({name for it in edits for name in batches.Try(rt, crate, it).functions})
+    ran = rt.checked(crate, {}, ["--jobs", str(jobs), *(word for it in names for word in ("--only", it))], kept)
+    counted = re.search(r"^only=(\d+) proved=(\d+)$", ran.stdout, re.M)
+    return ran.returncode == 0 and bool(counted) and counted[1] == counted[2]
+
+
 def tried(rt, crate, jobs):
-    """Which wrong bodies of a crate are refused, over a proof of the crate as it is. None where that proof fails."""
-    begun = time.time()
-    room = rt.seeded(crate, ["--jobs", str(jobs)])
-    if not room:
-        kit.say(f"{crate.name}: NOT proved once more")
-        return None
-    kit.say(f"{crate.name}: proved once more ({kit.minutes(time.time() - begun)})")
-    edits = wrong_bodies.edits_of(crate, [], wrong_bodies.FOLDERS[:1])
-    try:
-        refused = wrong_bodies.refused(rt, crate, edits, f"{room}/seed", jobs)
-    finally:
-        shutil.rmtree(room, ignore_errors=True)
+    """Which wrong bodies of a crate are refused, over a proof of the functions as they are. None where that proof fails."""
+    begun, edits = time.time(), wrong_bodies.edits_of(crate, [], wrong_bodies.FOLDERS[:1])
+    with tempfile.TemporaryDirectory(prefix="turn-") as kept:
+        if not is_proved(rt, crate, edits, jobs, kept):
+            kit.say(f"{crate.name}: NOT proved once more")
+            return None
+        kit.say(f"{crate.name}: the functions as they are are proved once more ({kit.minutes(time.time() - begun)})")
+        refused = wrong_bodies.refused(rt, crate, edits, kept, jobs)
     return {it: it in refused for it in edits}
 
 

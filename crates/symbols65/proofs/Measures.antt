@@ -1,5 +1,5 @@
 -- Faults one after the other.
-use Rattle.std.proofs.Common.{arith, ◌≡◌, ℕ, zero, suc, ◌+◌, ◌*◌, ◌<◌, ◌≤◌, nat_lt, drop, get_or, add-one, Bool, true, false, List, [], ◌∷◌, length, map, Option, Some, None, refl, sym, ap, ◌∙◌}
+use Rattle.std.proofs.Common.{arith, ◌≡◌, ℕ, zero, suc, ◌+◌, ◌*◌, ◌<◌, ◌≤◌, nat_lt, drop, get_or, add-one, Bool, true, false, List, [], ◌∷◌, length, map, Option, Some, None, refl, sym, subst, ap, ◌∙◌}
 use Rattle.std.proofs.lemmas.Grind.{common_steps}
 use Rattle.std.specs.Prelude.{IfOk, OnOk, Result, Ok, Err, ◌&&◌, sum_by, ℤ, pos, negsuc, not, ◌-◌, MatchOption, SomeIff}
 use Rattle.base65.specs.Outcome.{Unless, ◌>>=◌, Gives}
@@ -26,7 +26,7 @@ use Rattle.semantics65.specs.declared.contents.Segment.{Segment}
 use Rattle.semantics65.specs.Layout.{Cursor, own_size, segment_at, context_of, first_fault, defined_twice, is_open, line_fault, opened_twice, placing_faults, scope_name, stands_outside, trees_of, is_byte_value, is_count, is_there, multiple_fault, item_trees, lost_scopes, or_then, when, unless_fault}
 use Rattle.symbols65.specs.declared.measuring.Measured as code
 use Rattle.symbols65.specs.declared.measuring.Measured.{Measured}
-use Rattle.symbols65.specs.Measuring.{fitted, measure_of, measured, naming_fault, placed}
+use Rattle.symbols65.specs.Measuring.{Checks, fitted, measure_of, measured, naming_fault, placed}
 
 -- ---- Small steps that many proofs take.
 
@@ -57,6 +57,10 @@ refused_same e r s q h = unless_then (is_memory e) (λ p. q ∙ p) h
 -- what is left where the first of two faults isn't there
 pub left_behind : {A : Type 0} (f g : Option AsmFault) (x y : A) → unless_fault f x ≡ Ok y → or_then f g ≡ g
 left_behind z g x y h = grind (arith, common_steps)
+
+-- what the second of two checks says where the first finds nothing
+pub checked_next : (f g : Option AsmFault) (r : Result (Unit {0}) AsmFault) → Checks (Ok tt) f → Checks r g → Checks r (or_then f g)
+checked_next f g r h k = subst (Checks r) (sym (left_behind f g tt tt h)) k
 
 -- ---- Lists of values.
 

@@ -5,7 +5,7 @@ use Rattle.std.specs.Prelude.{⊤}
 use Rattle.base65.specs.Outcome.{◌>>=◌}
 use Rattle.syntax65.specs.Trees.{Tree, number, here, name, cheap, forward, backward, unary, binary}
 use Rattle.object65.specs.Form.{Form}
-use Rattle.object65.specs.Folding.{fold1}
+use Rattle.object65.specs.Folding.{fold1, fold2}
 use Rattle.ast65.specs.declared.fault.AsmFault.{AsmFault}
 use Rattle.ast65.specs.declared.fault.AsmFault.TheVariants.{Circular}
 use Rattle.symbols65.specs.declared.resolving.attempt.State.{State}
@@ -42,7 +42,9 @@ agrees_by C v a b s h (cheap n) = h (cheap n)
 agrees_by C v a b s h (forward n) = h (forward n)
 agrees_by C v a b s h (backward n) = h (backward n)
 agrees_by C v a b s h (unary op e) = agrees_then C v (tried_by a s e) (form_by b s e) (λ f. stopped (folded (fold1 op f))) (λ f. folded (fold1 op f)) (agrees_by C v a b s h e) (λ f. agrees_stopped C v (folded (fold1 op f)))
-agrees_by C v a b s h (binary op e g) = grind (arith, common_steps, (agrees_by C v a b s h e), (agrees_by C v a b s h g), agrees_then, agrees_stopped)
+agrees_by C v a b s h (binary op e g) =
+    agrees_then C v (tried_by a s e) (form_by b s e) (λ f. tried_by a s g >>= (λ k. stopped (folded (fold2 op f k)))) (λ f. form_by b s g >>= (λ k. folded (fold2 op f k))) (agrees_by C v a b s h e)
+    (λ f. agrees_then C v (tried_by a s g) (form_by b s g) (λ k. stopped (folded (fold2 op f k))) (λ k. folded (fold2 op f k)) (agrees_by C v a b s h g) (λ k. agrees_stopped C v (folded (fold2 op f k))))
 
 -- ---- Constants.
 
@@ -86,7 +88,9 @@ only_by P a s h (cheap n) = h (cheap n)
 only_by P a s h (forward n) = h (forward n)
 only_by P a s h (backward n) = h (backward n)
 only_by P a s h (unary op e) = only_then P (tried_by a s e) (λ f. stopped (folded (fold1 op f))) (only_by P a s h e) (λ f. only_stopped P (folded (fold1 op f)))
-only_by P a s h (binary op e g) = grind (arith, common_steps, (only_by P a s h e), (only_by P a s h g), only_then, only_stopped)
+only_by P a s h (binary op e g) =
+    only_then P (tried_by a s e) (λ f. tried_by a s g >>= (λ k. stopped (folded (fold2 op f k)))) (only_by P a s h e)
+    (λ f. only_then P (tried_by a s g) (λ k. stopped (folded (fold2 op f k))) (only_by P a s h g) (λ k. only_stopped P (folded (fold2 op f k))))
 
 -- a constant whose form isn't found
 pub record Lacks (table : Symbols) (known : ℕ → Option State) (j : ℕ) : Type 0 where

@@ -1,4 +1,5 @@
-use Rattle.std.proofs.Common.{◌≡◌, ℕ, List, [], subst}
+use Rattle.std.proofs.lemmas.Grind.{common_steps}
+use Rattle.std.proofs.Common.{◌≡◌, ℕ, List, [], subst, arith}
 use Rattle.std.specs.Prelude.{None}
 use Rattle.semantics65.specs.declared.contents.Segment.{Segment}
 use Rattle.semantics65.specs.Machine.{State, concluded}
@@ -29,3 +30,9 @@ returns-clause-good c =
     let new = c.object_of-found.new.ending.err in
     comes_good a new r c.answered.result.result c.answered.ensures.answer
     (λ (xs : List Slot). λ (s : Stands xs a.sections). λ (unsaid : all_said (contents_so_far xs) ≡ []). subst (λ (gs : List Segment). ComesTo (table_of a.symbols) gs xs a.texts.err new r) c.segments.ensures (c.object_of-found.ensures.found xs s unsaid))
+
+pub returns-clause-inside : goal.returns-clause-inside
+returns-clause-inside c = grind (arith, common_steps)
+
+pub returns-clause-numbers : goal.returns-clause-numbers
+returns-clause-numbers c = grind (arith, common_steps)

@@ -1,4 +1,5 @@
-use Rattle.std.proofs.Common.{◌≡◌, ◌∙◌, ℕ, List, ap, false}
+use Rattle.std.proofs.lemmas.Grind.{common_steps}
+use Rattle.std.proofs.Common.{◌≡◌, ◌∙◌, ℕ, List, ap, false, arith}
 use Rattle.std.specs.Prelude.{Some, Err}
 use Rattle.semantics65.specs.Machine.{State, concluded}
 use Rattle.semantics65.specs.Module.{Outcome}
@@ -20,3 +21,6 @@ returns-clause-refused c =
     ap (λ (p : PlacedFault). whole p a.texts.out a.texts.err) (c.of_fault.ensures.placed e)
     ∙ ap (λ (out : List ℕ). whole fault out a.texts.err) h.0
     ∙ ap (λ (err : List ℕ). whole fault t.out err) h.1)
+
+pub returns-clause-none : goal.returns-clause-none
+returns-clause-none c = grind (arith, common_steps)

@@ -1,3 +1,5 @@
+use Rattle.std.proofs.lemmas.Grind.{common_steps}
+use Rattle.std.proofs.Common.{arith}
 use Rattle.ast65.specs.Faults.{is_memory}
 use Rattle.semantics65.specs.Module.{asserted, used}
 use Rattle.emit65.specs.Fed.{names_of}
@@ -20,3 +22,18 @@ returns-in_ok-form-in-Assertion-clause-more c =
 
 pub returns-in-Some-defined-clause-made : goal.returns-in-Some-defined-clause-made
 returns-in-Some-defined-clause-made c = rw c.in-Export.is (c.resolve_export.ensures.made c.in-Export.must c.args.fixup.context)
+
+pub returns-in-None-2-clause-made : goal.returns-in-None-2-clause-made
+returns-in-None-2-clause-made c = grind (arith, common_steps)
+
+pub returns-in-None-defined-clause-made : goal.returns-in-None-defined-clause-made
+returns-in-None-defined-clause-made c = grind (arith, common_steps)
+
+pub returns-in_ok-norm-in-Constant-clause-made : goal.returns-in_ok-norm-in-Constant-clause-made
+returns-in_ok-norm-in-Constant-clause-made c = grind (arith, common_steps)
+
+pub returns-in-Some-clause-made : goal.returns-in-Some-clause-made
+returns-in-Some-clause-made c = grind (arith, common_steps)
+
+pub returns-in_ok-told-in-ForcedImport-clause-made : goal.returns-in_ok-told-in-ForcedImport-clause-made
+returns-in_ok-told-in-ForcedImport-clause-made c = grind (arith, common_steps)

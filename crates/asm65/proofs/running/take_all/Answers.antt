@@ -1,4 +1,5 @@
-use Rattle.std.proofs.Common.{rules, ◌≡◌, ◌<◌, ◌∙◌, ap, refl, sym, subst, Option, Some, None, Ok, Err}
+use Rattle.std.proofs.lemmas.Grind.{common_steps}
+use Rattle.std.proofs.Common.{rules, ◌≡◌, ◌<◌, ◌∙◌, ap, refl, sym, subst, Option, Some, None, Ok, Err, arith}
 use Rattle.std.specs.Prelude.{IfSome}
 use Rattle.std.proofs.lemmas.Result.{err_from_is_err_and}
 use Rattle.base65.specs.Store.{PassesBy}
@@ -230,3 +231,6 @@ returns-in_err-take_next-clause-kept g c =
       files = c.in_err-take_next.ensures.kept.files ∙ c.in_ok-statement.ensures.files ∙ c.in_ok-take_at_hand.ensures.kept.files ∙ c.statements.invariant.files;
       count = subst (λ x. PassesBy {T = Unit {0}} {E = AsmFault} is_failure (g.S.Store.failures c.args.store.now) now x) (sym (p.1 ∙ ap Err p.2)) here;
     }
+
+pub next-requires : goal.next-requires
+next-requires g c = grind (arith, common_steps)

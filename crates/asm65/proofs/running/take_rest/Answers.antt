@@ -77,3 +77,18 @@ returns-clause-read g c = record {
   stopped = (let place = place_in c.args.at.file.now c.args.at.line in
       never_stops (Without (g.S.Store.blamed c.read_part.new.store) (λ m t. IsRest m Takes t place (lexemes c.args.tokens.now))) 1 c.args.assembler.now c.take_sound.new.assembler c.take_sound.result c.take_sound.ensures.inside);
 }
+
+pub take_instruction-requires : goal.take_instruction-requires
+take_instruction-requires g c = grind (arith, common_steps)
+
+pub returns-in-Some-clause-kept : goal.returns-in-Some-clause-kept
+returns-in-Some-clause-kept g c = grind (arith, common_steps)
+
+pub returns-clause-kept : goal.returns-clause-kept
+returns-clause-kept g c = grind (arith, common_steps)
+
+pub read_part-requires : goal.read_part-requires
+read_part-requires g c = grind (arith, common_steps)
+
+pub returns-then-is_empty-clause-read : goal.returns-then-is_empty-clause-read
+returns-then-is_empty-clause-read g c = grind (arith, common_steps)

@@ -1,3 +1,4 @@
+use Rattle.library65.specs.Reading.{index_at}
 use Rattle.std.proofs.Common.{Err, ap}
 use Rattle.std.proofs.lemmas.Result.{err_from_is_err_and}
 use Rattle.library65.proofs.Steps.{kept_on}

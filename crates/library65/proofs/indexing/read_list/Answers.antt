@@ -1,3 +1,4 @@
+use Rattle.std.proofs.lemmas.Grind.{common_steps}
 use Rattle.std.proofs.Common.{◌∙◌, ◌+◌, ◌-◌, ◌++◌, ◌∷◌, [], ap, map, arith, refl}
 use Rattle.std.proofs.lemmas.Result.{err_from_is_err_and}
 use Rattle.library65.specs.Reading.{count_at, list_at, listing_at, listings_at}
@@ -45,3 +46,33 @@ loop-preserved g c =
       names = ap (map (λ n. n.items)) c.in_ok-insert.ensures.keys ∙ new ∙ name_pushed ms c.in_ok-member.member _ names c.in_ok-name.name.items c.loop.invariant.names name c.in_ok-push.ensures.items;
       read = rw c.in_ok-push.ensures.items (goes_on c.args.file.now list_at (listings_at (n - i) ms c.loop.end) (listing_at names c.loop.end) (λ m. listings_at (n - (i + 1)) (ms ++ m.0 ∷ []) m.1) (listings_more n i ms names c.loop.end c.loop.invariant.names c.loop-test.true) _ _ (c.in_ok-member.member, c.in_ok-member.next) c.loop.invariant.files c.loop.invariant.read c.in_ok-member.ensures.read);
     }
+
+pub returns-in_err-insert-clause-kept : goal.returns-in_err-insert-clause-kept
+returns-in_err-insert-clause-kept g c = grind (arith, common_steps)
+
+pub returns-in_err-name-clause-kept : goal.returns-in_err-name-clause-kept
+returns-in_err-name-clause-kept g c = grind (arith, common_steps)
+
+pub returns-in_err-push-clause-kept : goal.returns-in_err-push-clause-kept
+returns-in_err-push-clause-kept g c = grind (arith, common_steps)
+
+pub returns-in_err-push-clause-read : goal.returns-in_err-push-clause-read
+returns-in_err-push-clause-read g c = grind (arith, common_steps)
+
+pub returns-in_err-push-clause-bytes : goal.returns-in_err-push-clause-bytes
+returns-in_err-push-clause-bytes g c = grind (arith, common_steps)
+
+pub returns-in_err-insert-clause-read : goal.returns-in_err-insert-clause-read
+returns-in_err-insert-clause-read g c = grind (arith, common_steps)
+
+pub returns-in_err-insert-clause-bytes : goal.returns-in_err-insert-clause-bytes
+returns-in_err-insert-clause-bytes g c = grind (arith, common_steps)
+
+pub returns-in_err-name-clause-read : goal.returns-in_err-name-clause-read
+returns-in_err-name-clause-read g c = grind (arith, common_steps)
+
+pub returns-in_err-name-clause-bytes : goal.returns-in_err-name-clause-bytes
+returns-in_err-name-clause-bytes g c = grind (arith, common_steps)
+
+pub returns-in_err-member-clause-bytes : goal.returns-in_err-member-clause-bytes
+returns-in_err-member-clause-bytes g c = grind (arith, common_steps)

@@ -1,3 +1,4 @@
+use Rattle.std.proofs.lemmas.Grind.{common_steps}
 use Rattle.std.proofs.Common.{◌≡◌, ◌∙◌, ◌+◌, ◌-◌, ◌++◌, ◌∷◌, [], ℕ, List, Err, arith, refl, rules, true, false, if◌then◌else◌}
 use Rattle.library65.specs.Spelling.{is_name}
 use Rattle.library65.specs.declared.fault.LibraryFault.TheVariants.{BadIndex}
@@ -54,3 +55,6 @@ loop-preserved g c =
       later = omega (arith, c.loop.invariant.later, c.in_ok-name.ensures.end.0);
       read = rw (c.in_ok-push.ensures.ok) (rw good at read);
     }
+
+pub returns-then-not-is_symbol_name-clause-kept : goal.returns-then-not-is_symbol_name-clause-kept
+returns-then-not-is_symbol_name-clause-kept g c = grind (arith, common_steps)

@@ -1,4 +1,5 @@
-use Rattle.std.proofs.Common.{[], refl}
+use Rattle.std.proofs.lemmas.Grind.{common_steps}
+use Rattle.std.proofs.Common.{[], refl, arith}
 use Rattle.std.proofs.lemmas.Result.{err_from_is_err_and}
 use Rattle.library65.specs.Libraries.{joined_all, library_at}
 use Rattle.library65.specs.Reading.{index_at}
@@ -17,3 +18,6 @@ loop-entry-init g c = record {
   sound = record { names = rw c.with_hasher.ensures.empty refl; stored = rw c.with_hasher.ensures.empty tt };
   read = rw (c.with_hasher.ensures.empty, c.as_slice-entry-items.ensures) (goes_on c.args.file.now library_at library_at index_at (λ es. joined_all [] es) library_begins _ _ c.in_ok-index.index.entries refl (begins _ c.args.file.now library_at) c.in_ok-index.ensures.read);
 }
+
+pub loop-entry-preserved : goal.loop-entry-preserved
+loop-entry-preserved g c = grind (arith, common_steps)

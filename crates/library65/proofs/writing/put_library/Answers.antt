@@ -22,3 +22,6 @@ loop-stored-init c =
     let rest = c.values-stored-items.ensures.rest in
     let seen = ap (flat_map (λ (s : Stored). s.bytes.items)) (items ∙ rest) ∙ bodies_seen c.args.members.now.entries in
     rw seen (grind (arith, common_steps))
+
+pub loop-stored-preserved : goal.loop-stored-preserved
+loop-stored-preserved c = grind (arith, common_steps)

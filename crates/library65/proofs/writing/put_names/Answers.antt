@@ -1,3 +1,4 @@
+use Rattle.std.proofs.lemmas.Grind.{common_steps}
 use Rattle.std.proofs.Common.{◌<◌, List, ℕ, arith, length, subst, sym}
 use Rattle.std.proofs.lemmas.Result.{err_from_is_err_and}
 use Rattle.library65.proofs.Made.{many_names, name_short}
@@ -13,3 +14,6 @@ pub put_name-requires : goal.put_name-requires
 put_name-requires c =
     let P : List ℕ → Type 0 = λ n. length n < 256 in
     subst P (sym c.as_slice.ensures) (name_short c.args.names.now c.loop-name.name-index c.name-item.result c.requires c.loop-name-test.true c.name-item.is)
+
+pub loop-name-preserved : goal.loop-name-preserved
+loop-name-preserved c = grind (arith, common_steps)

@@ -1,4 +1,5 @@
-use Rattle.std.proofs.Common.{◌≡◌, ◌∙◌, ◌∷◌, [], ◌++◌, List, ℕ, Option, Some, None, length, map, sym, ap, refl}
+use Rattle.std.proofs.lemmas.Grind.{common_steps}
+use Rattle.std.proofs.Common.{◌≡◌, ◌∙◌, ◌∷◌, [], ◌++◌, List, ℕ, Option, Some, None, length, map, sym, ap, refl, arith}
 use Rattle.std.proofs.lemmas.Cmp.{nat_list_eq_equiv}
 use Rattle.std.proofs.lemmas.List.{length-map, map-append}
 use Rattle.std.specs.Str.{bytes_eq}
@@ -51,3 +52,6 @@ returns-clause-place c =
     let n = c.args.name.now in
     let count : length (names_in old) ≡ c.len-place.result = ap length c.requires.names ∙ length-map old.contents.items (λ x. x.name) ∙ sym old.contents.ok.0 ∙ sym c.len-place.ensures in
     ap (place_in n) (names_then c) ∙ place_last (bytes_eq n) (names_in old) n (none_there c) ((nat_list_eq_equiv).refl n) ∙ ap Some count
+
+pub returns-in-Some-clause-within : goal.returns-in-Some-clause-within
+returns-in-Some-clause-within c = grind (arith, common_steps)

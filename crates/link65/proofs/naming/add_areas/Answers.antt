@@ -9,3 +9,6 @@ loop-area-preserved c = let s = c.in-Some.ensures.steps in pair_next area_defini
 
 pub returns : goal.returns
 returns c = pair_end area_definitions _ _ c.loop-area.definitions _ c.in-None.ensures.steps (λ p. p.1.0) (λ p. p.1.0) c.loop-area.invariant
+
+pub loop-area-preserved-in_ok-push-3 : goal.loop-area-preserved-in_ok-push-3
+loop-area-preserved-in_ok-push-3 c = grind (arith, common_steps)

@@ -9,3 +9,6 @@ loop-row-preserved c = let s = c.in-Some.ensures.steps in pair_next row_definiti
 
 pub returns : goal.returns
 returns c = pair_end row_definitions _ _ c.loop-row.definitions _ c.in-None.ensures.steps (λ p. p.1.0) (λ p. p.1.0) c.loop-row.invariant
+
+pub loop-row-preserved-in_ok-push-3 : goal.loop-row-preserved-in_ok-push-3
+loop-row-preserved-in_ok-push-3 c = grind (arith, common_steps)

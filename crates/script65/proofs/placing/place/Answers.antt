@@ -14,3 +14,9 @@ pub returns-clause-stands : goal.returns-clause-stands
 returns-clause-stands c =
     let p : Placement = record { areas = c.in_ok-areas.areas; rows = c.in_ok-row_places.field-0 } in
     placed_so c.args.script.now c.args.needs.now (Ok p) (grind (arith, common_steps))
+
+pub returns-clause-value : goal.returns-clause-value
+returns-clause-value c = grind (arith, common_steps)
+
+pub place_areas-requires-clause-count : goal.place_areas-requires-clause-count
+place_areas-requires-clause-count c = grind (arith, common_steps)

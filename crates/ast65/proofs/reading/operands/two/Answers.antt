@@ -1,4 +1,5 @@
-use Rattle.std.proofs.Common.{Ok, Some}
+use Rattle.std.proofs.lemmas.Grind.{common_steps}
+use Rattle.std.proofs.Common.{Ok, Some, arith}
 use Rattle.syntax65.specs.Tokens.{lexemes}
 use Rattle.ast65.specs.Parsing.{IsExpression, Then}
 use Rattle.ast65.proofs.Parts.{first_fault, first_goes, then_fault, parses_fault}
@@ -14,3 +15,6 @@ returns-in_err-second c =
     parses_fault _ _ c.from_residual-in_err-second.result c.in_err-second.field-0.0 c.from_residual-in_err-second.ensures.1 c.in_err-second.ensures.inside
     (first_goes (IsExpression (lexemes c.args.first.now)) (λ x. Then (IsExpression (lexemes c.args.second.now)) (λ y. Ok (x, Some y))) (λ x. x) c.from_residual-in_err-second.result c.in_ok-first.first c.in_ok-first.ensures.value
     (then_fault _ _ _ c.from_residual-in_err-second.result c.in_err-second.field-0.0 c.from_residual-in_err-second.ensures.1 c.in_err-second.ensures.value))
+
+pub returns : goal.returns
+returns c = grind (arith, common_steps)

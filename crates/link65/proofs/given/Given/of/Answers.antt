@@ -1,4 +1,5 @@
-use Rattle.std.proofs.Common.{◌∙◌, [], ap, map, sym}
+use Rattle.std.proofs.lemmas.Grind.{common_steps}
+use Rattle.std.proofs.Common.{◌∙◌, [], ap, map, sym, arith}
 use Rattle.std.proofs.lemmas.List.{drop_all}
 use Rattle.link65.specs.Names.{script_names}
 use Rattle.link65.specs.Standing.{names_in, with_each}
@@ -13,3 +14,6 @@ loop-name-init c =
 
 pub returns : goal.returns
 returns c = sym c.loop-name.invariant ∙ ap (λ ns. with_each (names_in c.loop-name.given) ns) (drop_all c.loop-name.name-index c.as_slice-name-items.result.now c.loop-name-test.false)
+
+pub returns-in_err-add : goal.returns-in_err-add
+returns-in_err-add c = grind (arith, common_steps)

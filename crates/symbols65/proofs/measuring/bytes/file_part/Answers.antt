@@ -1,4 +1,5 @@
-use Rattle.std.proofs.Common.{◌≡◌, subst, Err}
+use Rattle.std.proofs.lemmas.Grind.{common_steps}
+use Rattle.std.proofs.Common.{◌≡◌, subst, Err, arith}
 use Rattle.std.proofs.lemmas.Result.{err_from_is_err_and}
 use Rattle.base65.specs.Outcome.{Unless}
 use Rattle.ast65.specs.Faults.{is_memory}
@@ -26,3 +27,9 @@ returns-in_err-start-2-clause-placed c =
     let e = c.in_err-start-2.field-0.0 in
     let none = subst (λ n. Unless (is_memory e) (ranged n c.in_ok-start.start c.in_ok-len.len ≡ Err e)) c.len.ensures c.in_err-start-2.ensures.part in
     rw (p.1, p.2, c.in-Some.is) (refused (table_of c.args.before.symbols.now) c.args.before.cursor.now range.start.now range.len.now (c.context-context.result) c.context-context.ensures c.in_ok-start.start c.in_ok-len.len c.in_ok-start.ensures.found c.in_ok-len.ensures.found c.in-Some.bytes e none)
+
+pub returns-clause-placed : goal.returns-clause-placed
+returns-clause-placed c = grind (arith, common_steps)
+
+pub returns-in_err-length-clause-placed : goal.returns-in_err-length-clause-placed
+returns-in_err-length-clause-placed c = grind (arith, common_steps)

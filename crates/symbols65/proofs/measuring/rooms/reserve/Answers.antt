@@ -1,4 +1,5 @@
-use Rattle.std.proofs.Common.{◌∙◌, ap, sym, Option}
+use Rattle.std.proofs.lemmas.Grind.{common_steps}
+use Rattle.std.proofs.Common.{◌∙◌, ap, sym, Option, arith}
 use Rattle.std.specs.Prelude.{not, pos}
 use Rattle.std.proofs.lemmas.Result.{err_from_is_err_and}
 use Rattle.syntax65.specs.Trees.{Tree}
@@ -24,3 +25,6 @@ returns-in_err-settled-clause-placed c =
     let same = ap (λ (s : Context). unless_fault {A = Unit {0}} (when (not (is_byte_value (optional_value y s v (pos 0)))) BadOperand) tt) (sym c.context-context.ensures) in
     rw (p.1, p.2) (refused_same e _ _ (reserved_as y w n v c.in_ok-constant.field-0 k)
     (bad_fill w b st c.in_ok-constant.field-0 c.in_ok-count.count e c.in_ok-count.ensures (refused_same e _ _ same c.in_err-settled.ensures.byte)))
+
+pub returns-in_err-length-clause-placed : goal.returns-in_err-length-clause-placed
+returns-in_err-length-clause-placed c = grind (arith, common_steps)

@@ -2,10 +2,13 @@
 
 A function's proof reads contracts of others, and no body: so a wrong body beside it changes nothing. Where it calls one that is
 refused, it isn't looked at, and has its turn in a check after that."""
+import functools
+import os
 import re
 
 FUNCTION = re.compile(r"( *)(?:pub(?:\([a-z]+\))? )?(?:const )?(?:unsafe )?fn (\w+)")
-IMPL = re.compile(r"impl(?:<.*?>)? (?:(?P<of>[\w:]+)(?:<.*>)? for )?(?P<type>[\w:]+)")
+TYPE = re.compile(r"(?:pub(?:\([a-z]+\))? )?(?:struct|enum|trait) (\w+)")
+IMPL = re.compile(r"impl(?:<.*?>)? (?:(?P<of>[\w:]+)(?:<(?P<with>[\w:]+).*>)? for )?(?P<type>[\w:]+)")
 
 
 class Function:
@@ -16,21 +19,43 @@ class Function:
         self.path, self.name, self.first, self.body, self.last = path, name, first, body, last
 
 
-def functions_of(path, lines):
-    """The functions of a file. The source is formatted: a function ends where a brace closes at its own depth."""
+def module_of(path):
+    """The words before a name of this file."""
     module = path.removeprefix("src/").removesuffix(".rt").replace("/", "::")
-    front, found = [] if module == "lib" else [module], []
+    return [] if module in ("lib", "main") else [module]
+
+
+@functools.lru_cache(maxsize=None)
+def homes_of(folder):
+    """The files of a crate that declare a type of some name."""
+    found = {}
+    for at, _, names in os.walk(f"{folder}/src"):
+        for path in (os.path.relpath(f"{at}/{name}", folder) for name in names if name.endswith(".rt")):
+            with open(f"{folder}/{path}", encoding="utf-8") as it:
+                for name in filter(None, map(TYPE.match, it)):
+                    found.setdefault(name[1], []).append(path)
+    return found
+
+
+def functions_of(path, lines, homes):
+    """The functions of a file; a method stands below the module that declares its type. The source is formatted: a function ends
+    where a brace closes at its own depth."""
+    front, found = module_of(path), []
     own, begun, body = "", None, None
     for number, line in enumerate(lines):
         if line.startswith(("impl", "pub trait", "trait")):
             it = IMPL.match(line)
-            own = f"{it['type'].rpartition('::')[2]}{(it['of'] or '').rpartition('::')[2]}" if it else "?"
+            # as a check prints it: the type, and the trait with what it is of
+            words = (it["type"], *((it["of"] or "", it["with"] or "") if it["of"] != "Drop" else ())) if it else (TYPE.match(line)[1],)
+            own = "".join(word.rpartition("::")[2] for word in words)
+            declaring = homes.get(words[0].rpartition("::")[2], [])
+            front = module_of(declaring[0] if len(declaring) == 1 else path)
         at = FUNCTION.match(line)
         if at and not begun:
             first = number
             while first > 0 and lines[first - 1].lstrip().startswith(("///", "#[")):
                 first -= 1
-            begun = at[1], "::".join([*front, *([own] if at[1] else []), at[2]]), first
+            begun = at[1], "::".join([*(front if at[1] else module_of(path)), *([own] if at[1] else []), at[2]]), first
             body = number if line.endswith("{") else None
         elif begun and line == f"{begun[0]}{{":
             body = number
@@ -53,7 +78,8 @@ class Try:
         for path, text in ({} if why else texts).items():
             was, new = text_of(crate, path).split("\n"), text.split("\n")
             lines[path] = {number: line for number, line in enumerate(new[: len(was)]) if line != was[number]}
-            holding = [next((it for it in functions_of(path, was) if it.body < number < it.last), None) for number in lines[path]]
+            inside = functions_of(path, was, homes_of(crate.folder))
+            holding = [next((it for it in inside if it.body < number < it.last), None) for number in lines[path]]
             if len(new) != len(was) or not path.startswith("src/") or None in holding:
                 return
             functions.update((it.name, it) for it in holding)

@@ -48,7 +48,8 @@ EDITS = {
     "weaker": ("    ensures { result ≡ n + 1 }", "    ensures { result ≡ result }"),
 }
 
-NEXT, TWICE, FMT = "counts::next", "counts::Counter::twice", "counts::CounterDisplay::fmt"
+# A method is called by the module that declares its type.
+NEXT, TWICE, FMT = "counts::next", "kinds::Counter::twice", "kinds::CounterDisplay::fmt"
 PLACES = {NEXT: "src/counts.rt:6:1: it is not proved", TWICE: "note: src/counts.rt:14:5: it is not proved", FMT: f"./proofs/{FMT.replace('::', '/')}/Answers.antt:3:1: error: no"}
 
 
@@ -93,6 +94,8 @@ class Crate:
         os.makedirs(f"{folder}/src")
         with open(f"{folder}/src/counts.rt", "w", encoding="utf-8") as it:
             it.write(SOURCE)
+        with open(f"{folder}/src/kinds.rt", "w", encoding="utf-8") as it:
+            it.write("pub struct Counter<T> {\n    n: T,\n}\n")
 
     def edit(self, name):
         old, new = EDITS[name]

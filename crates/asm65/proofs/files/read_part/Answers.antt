@@ -1,8 +1,13 @@
-use Rattle.std.proofs.Common.{subst}
+use Rattle.std.proofs.Common.{◌≡◌, subst}
+use Rattle.std.specs.Prelude.{IfSome}
 use Rattle.semantics65.specs.Views.{place_in}
-use Rattle.asm65.specs.Inner.Running.{IsRefusedUnread}
+use Rattle.asm65.specs.Inner.Running.{IsRefusedUnread, read_bytes}
 use Rattle.asm65.proofs.files.read_part.Goals as goal
 
 pub returns-in-Err-clause-refused : goal.returns-in-Err-clause-refused
 returns-in-Err-clause-refused g c = λ count t h.
     subst (λ s. IsRefusedUnread (g.S.Store.blamed c.with_bytes.new.store) t (place_in c.args.at.file.now c.args.at.line) s c.in-Err.fault) c.replace-named.ensures.value (c.in-Err.ensures.refused count t h)
+
+pub returns-in-Ok-clause-bytes : goal.returns-in-Ok-clause-bytes
+returns-in-Ok-clause-bytes g c =
+    subst (λ s. IfSome (g.S.Store.files c.args.store.now) (λ m. c.in-Ok.whole ≡ read_bytes m (place_in c.args.at.file.now c.args.at.line) s)) c.replace-named.ensures.value c.in-Ok.ensures.bytes

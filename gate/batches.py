@@ -41,7 +41,7 @@ def functions_of(path, lines, homes):
     """The functions of a file; a method stands below the module that declares its type. The source is formatted: a function ends
     where a brace closes at its own depth."""
     front, found = module_of(path), []
-    own, begun, body = "", None, None
+    own, begun, body, depth = "", None, None, 0
     for number, line in enumerate(lines):
         if line.startswith(("impl", "pub trait", "trait")):
             it = IMPL.match(line)
@@ -56,13 +56,15 @@ def functions_of(path, lines, homes):
             while first > 0 and lines[first - 1].lstrip().startswith(("///", "#[")):
                 first -= 1
             begun = at[1], "::".join([*(front if at[1] else module_of(path)), *([own] if at[1] else []), at[2]]), first
-            body = number if line.endswith("{") else None
+            body, depth = number if line.endswith("{") else None, 0
         elif begun and line == f"{begun[0]}{{":
             body = number
         elif begun and line == f"{begun[0]}}}":
             found.append(Function(path, begun[1], begun[2], body, number))
             begun = None
-        elif begun and body is None and line.endswith((";", f"{begun[0]}{{}}")):
+        # (how deep in the braces of a clause)
+        depth += line.count("{") - line.count("}")
+        if begun and body is None and depth == 0 and line.endswith((";", "{}")):
             # a trait's, or one that does nothing
             begun = None
     return found

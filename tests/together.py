@@ -25,7 +25,11 @@ pub fn next(n: u32) -> u32
 }
 
 impl<T> Counter<T> {
-    fn twice(&self) -> u32 {
+    fn twice(&self) -> u32
+        ensures { self.now ≡ record self.now {
+          n = self.now.n;
+        } }
+    {
         next(next(self.n))
     }
 }

@@ -5,6 +5,7 @@ refused, it isn't looked at, and has its turn in a check after that."""
 import functools
 import os
 import re
+from concurrent.futures import ThreadPoolExecutor
 
 FUNCTION = re.compile(r"( *)(?:pub(?:\([a-z]+\))? )?(?:const )?(?:unsafe )?fn (\w+)")
 TYPE = re.compile(r"(?:pub(?:\([a-z]+\))? )?(?:struct|enum|trait) (\w+)")
@@ -164,6 +165,12 @@ def refused(rt, crate, tries, over, jobs):
     left, found = [it for it in tries if it.functions], {}
     while left:
         batch = apart(left)
+        if len(batch) <= jobs:
+            # A check begins with what it loads, on one processor. So few stand side by side, each in its own.
+            with ThreadPoolExecutor(jobs) as pool:
+                each = pool.map(lambda it: said_of(rt, crate, [it], over, 1), left)
+                found.update((it, text) for it, said in zip(left, each) for text in [said and said.against(it)] if text)
+            break
         said = said_of(rt, crate, batch, over, jobs)
         if said is None and len(batch) > 1:
             # One of them can't be read, say: each half for itself.

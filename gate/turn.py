@@ -2,8 +2,8 @@
 """Tries some of the wrong bodies that the gate itself doesn't: those of the crates whose turn it is, by the number of the commit.
 
 usage: turn.py [--list] [TURN]    --list says which crates each turn has; TURN is a number in place of the commit's.
-It stands behind `rt ci`, which proved the crates and whose libraries it uses. The functions that wrong bodies change are proved
-once more, since a run of the gate keeps nothing over which these could be tried, and then they are, many in one check (batches.py).
+It stands behind `rt ci`, which proved the crates and whose libraries it uses. What wrong bodies change is proved once more, since a
+run of the gate keeps nothing over which these could be tried, and then they are, many in one check (batches.py).
 The last line is 'N passed, M failed'."""
 import re
 import subprocess
@@ -35,11 +35,13 @@ def turns(rt):
 
 
 def is_proved(rt, crate, edits, jobs, kept):
-    """Whether the functions that these change are proved as they are; what the check found is kept in a folder."""
-    names = sorted({name for it in edits for name in batches.Try(rt, crate, it).functions})
+    """Whether the functions that these change are proved as they are; what the check found is kept in a folder. Where one changes
+    something else too, as a constant, that is the whole crate."""
+    tries = [batches.Try(rt, crate, it) for it in edits]
+    names = sorted({name for it in tries for name in it.functions}) if all(it.functions for it in tries) else []
     ran = rt.checked(crate, {}, ["--jobs", str(jobs), *(word for it in names for word in ("--only", it))], kept)
     counted = re.search(r"^only=(\d+) proved=(\d+)$", ran.stdout, re.M)
-    return ran.returncode == 0 and bool(counted) and counted[1] == counted[2]
+    return ran.returncode == 0 and (not names or bool(counted) and counted[1] == counted[2])
 
 
 def tried(rt, crate, jobs):
@@ -49,7 +51,7 @@ def tried(rt, crate, jobs):
         if not is_proved(rt, crate, edits, jobs, kept):
             kit.say(f"{crate.name}: NOT proved once more")
             return None
-        kit.say(f"{crate.name}: the functions as they are are proved once more ({kit.minutes(time.time() - begun)})")
+        kit.say(f"{crate.name}: proved once more as it is ({kit.minutes(time.time() - begun)})")
         refused = wrong_bodies.refused(rt, crate, edits, kept, jobs)
     return {it: it in refused for it in edits}
 

@@ -51,12 +51,8 @@ def why_refused(rt, crate, said):
     return None
 
 
-def prove(rt, crate, jobs, gives_way):
-    """Builds a library, and returns whether it is proved and the gate would take it. One that gives way takes the processors that
-    others leave."""
-    if gives_way:
-        # (of this thread alone and of what it starts)
-        os.setpriority(os.PRIO_PROCESS, 0, 10)
+def prove(rt, crate, jobs):
+    """Builds a library, and returns whether it is proved and the gate would take it."""
     os.makedirs(f"{crate.folder}/out", exist_ok=True)
     crate, log = copy.copy(crate), f"{crate.folder}/out/prove.log"
     with open(log, "w", errors="replace") as crate.out:
@@ -82,8 +78,8 @@ def chains(rt, crates):
 
 
 def lanes_of(rt, processors):
-    """How many crates are proved at once: three on four processors, as far as memory holds (6 GB for each)."""
-    return max(1, min(max(2, processors * 3 // 4), rt.free() // 6_000_000_000))
+    """How many crates are proved at once: two, or more on many processors, as far as memory holds (6 GB for each)."""
+    return max(1, min(max(2, processors // 2), rt.free() // 6_000_000_000))
 
 
 def far(name):
@@ -112,43 +108,34 @@ def built(crates):
     return found
 
 
-def aside(work, *given):
-    """Does some work in a thread of its own: one that gave way can't take that back."""
-    pool = ThreadPoolExecutor(1)
-    found = pool.submit(work, *given)
-    pool.shutdown(wait=False)
-    return found
-
-
 def in_lanes(rt, crates, proved, told, processors):
     """Proves the crates that aren't proved, each once those below it are, and returns whether all are. They begin in the order
-    that is given, the longest chain first, and each gives way to those before it in that order. So what waits for each other is
-    through early, and the processors that it leaves (a proof begins alone, with what it loads) prove the others."""
+    that is given. Each may use the processors that the others leave (a proof begins alone, with what it loads)."""
     left, failed, running = [it for it in crates if it not in proved], [], {}
-    while left or running:
-        ready = [it for it in left if {*it.below()} <= proved]
-        same = [it for it in ready if it.is_built()]
-        if same:
-            left = [it for it in left if it not in same]
-            proved.update(same)
-            told.proved.update(it.name for it in same)
-            continue
-        for crate in ready[: told.lanes - len(running)]:
-            gives_way = any(crates.index(it) < crates.index(crate) for it in [*left, *running.values()])
-            left.remove(crate)
-            kit.say(f"{crate.name}: its proof begins")
-            told.begin(crate.name, time.time())
-            running[aside(prove, rt, crate, min(4, processors), gives_way)] = crate
-        for it in wait(running, return_when=FIRST_COMPLETED).done if running else ():
-            crate = running.pop(it)
-            told.end(crate.name, time.time(), it.result())
-            if it.result():
-                proved.add(crate)
-                kit.say(f"{crate.name}: proved after {kit.minutes(told.took[crate.name])}")
-            else:
-                kit.say(f"{crate.name}: NOT PROVED; {os.path.relpath(crate.folder, kit.ROOT)}/out/prove.log says why")
-                failed.append(crate)
-                left = []
+    with ThreadPoolExecutor(told.lanes) as pool:
+        while left or running:
+            ready = [it for it in left if {*it.below()} <= proved]
+            same = [it for it in ready if it.is_built()]
+            if same:
+                left = [it for it in left if it not in same]
+                proved.update(same)
+                told.proved.update(it.name for it in same)
+                continue
+            for crate in ready[: told.lanes - len(running)]:
+                left.remove(crate)
+                kit.say(f"{crate.name}: its proof begins")
+                told.begin(crate.name, time.time())
+                running[pool.submit(prove, rt, crate, min(4, processors))] = crate
+            for it in wait(running, return_when=FIRST_COMPLETED).done if running else ():
+                crate = running.pop(it)
+                told.end(crate.name, time.time(), it.result())
+                if it.result():
+                    proved.add(crate)
+                    kit.say(f"{crate.name}: proved after {kit.minutes(told.took[crate.name])}")
+                else:
+                    kit.say(f"{crate.name}: NOT PROVED; {os.path.relpath(crate.folder, kit.ROOT)}/out/prove.log says why")
+                    failed.append(crate)
+                    left = []
     return not failed
 
 

@@ -1,7 +1,7 @@
 """What is told while crates are proved: how long it will take, how far it is, and how much is left.
 
 Times are reckoned: a crate's proof takes as long as it has functions, and the program is compiled behind its own. A function
-took some three seconds of the clock, with two proofs side by side on four processors. Fewer processors take longer in
+took some two seconds of the clock, with two proofs side by side on four processors. Fewer processors take longer in
 proportion; and once some of this run's proofs have ended, the others are taken to be as much slower or faster as these were."""
 import glob
 import heapq
@@ -10,7 +10,7 @@ import re
 import kit
 
 ON = 4
-BEFORE, FUNCTION, PROGRAM = 20, 3.1, 360
+BEFORE, FUNCTION, PROGRAM = 20, 2.1, 170
 
 
 def reckoned_times(names):

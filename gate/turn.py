@@ -6,6 +6,7 @@ It stands behind `rt ci`, which proved the crates and whose libraries it uses. W
 run of the gate keeps nothing over which these could be tried, and then they are, many in one check (batches.py).
 The last line is 'N passed, M failed'."""
 import re
+import signal
 import subprocess
 import sys
 import tempfile
@@ -39,13 +40,17 @@ def is_proved(rt, crate, edits, jobs, kept):
     something else too, as a constant, that is the whole crate."""
     tries = [batches.Try(rt, crate, it) for it in edits]
     names = sorted({name for it in tries for name in it.functions}) if all(it.functions for it in tries) else []
-    ran = rt.checked(crate, {}, ["--jobs", str(jobs), *(word for it in names for word in ("--only", it))], kept)
+    for lanes in (jobs, 1):
+        ran = rt.checked(crate, {}, ["--jobs", str(lanes), *(word for it in names for word in ("--only", it))], kept)
+        if ran.returncode != -signal.SIGKILL:
+            # (else it was most likely for memory)
+            break
     counted = re.search(r"^only=(\d+) proved=(\d+)$", ran.stdout, re.M)
     return ran.returncode == 0 and (not names or bool(counted) and counted[1] == counted[2])
 
 
 def tried(rt, crate, jobs):
-    """Which wrong bodies of a crate are refused, over a proof of the functions as they are. None where that proof fails."""
+    """Which wrong bodies of a crate are refused, over a proof of what they change as it is. None where that proof fails."""
     begun, edits = time.time(), wrong_bodies.edits_of(crate, [], wrong_bodies.FOLDERS[:1])
     with tempfile.TemporaryDirectory(prefix="turn-") as kept:
         if not is_proved(rt, crate, edits, jobs, kept):

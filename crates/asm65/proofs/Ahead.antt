@@ -13,8 +13,8 @@ use Rattle.expand65.specs.declared.passing.Peeked.{Peeked}
 use Rattle.syntax65.specs.declared.place.Place.{Place}
 use Rattle.semantics65.specs.Numbering.{AreNamed}
 use Rattle.ast65.specs.declared.fault.AsmFault.{AsmFault}
-use Rattle.semantics65.specs.Machine.{State, Takes}
-use Rattle.semantics65.specs.Reading.{IsLabel, IsRest}
+use Rattle.sources65.specs.Machine.{State, Takes}
+use Rattle.sources65.specs.Reading.{IsLabel, IsRest}
 use Rattle.asm65.proofs.Runs.{Answer, LabelBy, RestBy, stops_wider, wider}
 use Rattle.asm65.specs.Inner.Running.{IsRoomy, IsRunning, StopsQuietly, TakesAll, TakesBy, TakesLine, TakesLineIf, none, one_more, refused}
 use Rattle.asm65.specs.Assembly.{Without}

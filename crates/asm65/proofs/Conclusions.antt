@@ -11,7 +11,7 @@ use Rattle.object65.specs.Objects.{is_good_object}
 use Rattle.semantics65.specs.Contents.{Content, exported_names}
 use Rattle.semantics65.specs.declared.contents.Segment.{Segment}
 use Rattle.semantics65.specs.Layout.{Cursor}
-use Rattle.semantics65.specs.Machine.{State, concluded, finished}
+use Rattle.sources65.specs.Machine.{State, concluded, finished}
 use Rattle.semantics65.specs.Module.{Outcome, quietly, Finished, Slot, coming, holds, resolved}
 use Rattle.semantics65.specs.Numbering.{AreSound, all_said, object_with, section_keys}
 use Rattle.semantics65.specs.Symbols.{Symbols}

@@ -6,9 +6,9 @@ use Rattle.syntax65.specs.declared.place.Place.{Place}
 use Rattle.ast65.specs.declared.fault.AsmFault.{AsmFault}
 use Rattle.ast65.specs.Faults.{is_outside}
 use Rattle.ast65.specs.declared.language.Statement.TheVariants.{Constant}
-use Rattle.semantics65.specs.Reading.{Answers, AreDefined, Define}
-use Rattle.semantics65.specs.Machine.{State, Takes, begun}
-use Rattle.semantics65.proofs.Taken.{DefinesOn, faulty_constant, first_constant, next_constant}
+use Rattle.sources65.specs.Reading.{Answers, AreDefined, Define}
+use Rattle.sources65.specs.Machine.{State, Takes, begun}
+use Rattle.sources65.proofs.Taken.{DefinesOn, faulty_constant, first_constant, next_constant}
 use Rattle.asm65.specs.declared.assembler.Assembler.{Assembler}
 use Rattle.asm65.specs.declared.assembling.Define as code
 use Rattle.asm65.specs.Assembly.{define_of}

@@ -16,9 +16,9 @@ use Rattle.semantics65.specs.Contents.{Content, Known, Part, put, stored, tellin
 use Rattle.ast65.specs.declared.fault.AsmFault.{AsmFault}
 use Rattle.semantics65.specs.Norms.{IsFinal}
 use Rattle.semantics65.specs.declared.laid.Context.{Context}
-use Rattle.semantics65.specs.Machine.{IsSettled, PutsAll, State, at_once, entered}
+use Rattle.sources65.specs.Machine.{IsSettled, PutsAll, State, at_once, entered}
 use Rattle.semantics65.specs.Module.{Piece, Purpose, as_part, asserted, datum, given, operand, quietly, used, valued, item_piece, Slot, holds}
-use Rattle.semantics65.proofs.Resolving.{final_settles, settled_given}
+use Rattle.sources65.proofs.Resolving.{final_settles, settled_given}
 use Rattle.semantics65.specs.Numbering.{all_said}
 use Rattle.semantics65.specs.Symbols.{Symbols}
 use Rattle.emit65.specs.declared.sections.Sections.{Sections}

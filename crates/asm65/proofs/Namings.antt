@@ -2,8 +2,8 @@
 use Rattle.std.proofs.Common.{◌≡◌, ◌∙◌, ℕ, ap, zero, suc, ◌+◌, ◌<◌, ◌≤◌, add-one, get_or, List, [], ◌∷◌, ◌++◌, length, map, take, refl, sym, subst, append-nil, arith}
 use Rattle.semantics65.specs.declared.laid.Context.{Context}
 use Rattle.semantics65.specs.Layout.{context_of}
-use Rattle.semantics65.specs.Reading.{known_at}
-use Rattle.semantics65.specs.Machine.{State, Puts, PutsAll, awaiting, at_once, later, symbols_behind}
+use Rattle.sources65.specs.Reading.{known_at}
+use Rattle.sources65.specs.Machine.{State, Puts, PutsAll, awaiting, at_once, later, symbols_behind}
 use Rattle.symbols65.specs.Views.{table_of, with_definition, with_names, with_scope}
 use Rattle.symbols65.specs.Measuring.{AreInside}
 use Rattle.asm65.specs.declared.assembler.Assembler.{Assembler}

@@ -19,14 +19,14 @@ use Rattle.ast65.specs.Faults.{is_failure, is_memory, is_outside}
 use Rattle.semantics65.specs.Layout.{Layout, Cursor, nothing_laid}
 use Rattle.semantics65.specs.Numbering.{object_with, AreSound}
 use Rattle.semantics65.specs.Symbols.{Symbols, symbols_of}
-use Rattle.semantics65.specs.Machine.{StandsFor, Runs, State, Takes, begun, concluded, finished, running}
-use Rattle.semantics65.specs.Module.{Finished, IsOutcome, Outcome, ending_of}
-use Rattle.semantics65.specs.Reading.{PlacedFault, AreDefined, Job, no_line, stopped}
-use Rattle.semantics65.proofs.Taken.{constants_refused, open_refused}
-use Rattle.semantics65.proofs.Passes.{Follows, begun_follows, one_pass, stands_for, takes_follows}
-use Rattle.semantics65.proofs.SoundContents.{sound_contents}
-use Rattle.semantics65.proofs.SoundLayouts as layouts
-use Rattle.semantics65.proofs.SoundLayouts.{IsGood, good_statement, nothing_good}
+use Rattle.sources65.specs.Machine.{StandsFor, Runs, State, Takes, begun, concluded, finished, running}
+use Rattle.semantics65.specs.Module.{Finished, Outcome, ending_of, PlacedFault}
+use Rattle.sources65.specs.Reading.{IsOutcome, AreDefined, Job, no_line, stopped}
+use Rattle.sources65.proofs.Taken.{constants_refused, open_refused}
+use Rattle.sources65.proofs.Passes.{Follows, begun_follows, one_pass, stands_for, takes_follows}
+use Rattle.sources65.proofs.SoundContents.{sound_contents}
+use Rattle.sources65.proofs.SoundLayouts as layouts
+use Rattle.sources65.proofs.SoundLayouts.{IsGood, good_statement, nothing_good}
 use Rattle.emit65.proofs.GoodObjects.{good_object}
 use Rattle.asm65.specs.declared.assembler.Assembler.{Assembler}
 use Rattle.asm65.specs.declared.assembling.Assembly.{Assembly}

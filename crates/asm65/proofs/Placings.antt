@@ -12,7 +12,7 @@ use Rattle.symbols65.specs.Measuring.{advanced, measured, opened_by, IsCounted}
 use Rattle.symbols65.specs.declared.measuring.Measured.{Measured}
 use Rattle.symbols65.proofs.Behind.{behind_measured, counted_behind, is_measured, with_fault, without_fault}
 use Rattle.symbols65.proofs.Measures.{unless_then}
-use Rattle.semantics65.specs.Machine.{State}
+use Rattle.sources65.specs.Machine.{State}
 use Rattle.symbols65.specs.Views.{table_of}
 use Rattle.asm65.specs.declared.assembler.Assembler.{Assembler}
 use Rattle.asm65.specs.Inner.Holding.{Holds, IsPlaced, IsRefused}

@@ -22,13 +22,13 @@ use Rattle.ast65.specs.declared.language.Statement.TheVariants as statement
 use Rattle.semantics65.specs.Layout.{laid, line_fault}
 use Rattle.semantics65.specs.Numbering.{AreNamed, IsSound}
 use Rattle.ast65.specs.Parsing.{IsStatement, label_of}
-use Rattle.semantics65.proofs.Sounding.{statement_sound}
-use Rattle.semantics65.specs.Machine.{Puts, at_once, later, PutsAll, State, Steps, Takes, UnlessFault, asked, entered, known}
+use Rattle.sources65.proofs.Sounding.{statement_sound}
+use Rattle.sources65.specs.Machine.{Puts, at_once, later, PutsAll, State, Steps, Takes, UnlessFault, asked, entered, known}
 use Rattle.semantics65.specs.Module.{out_of, warning_of, Piece, pieces_of}
-use Rattle.semantics65.specs.Reading.{Answers, IsGiven, IsLabel, IsLabelled, IsRest, with_bytes}
+use Rattle.sources65.specs.Reading.{Answers, IsGiven, IsLabel, IsLabelled, IsRest, with_bytes}
 use Rattle.semantics65.specs.Contents.{asking}
-use Rattle.semantics65.proofs.Taken.{label_quiet}
-use Rattle.semantics65.proofs.SoundSources.{label_sound}
+use Rattle.sources65.proofs.Taken.{label_quiet}
+use Rattle.sources65.proofs.SoundSources.{label_sound}
 use Rattle.asm65.specs.declared.assembler.Assembler.{Assembler}
 use Rattle.asm65.specs.declared.texts.Texts.{Texts}
 use Rattle.symbols65.proofs.Measures.{unless_then}

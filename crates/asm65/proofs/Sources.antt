@@ -21,12 +21,12 @@ use Rattle.ast65.specs.declared.fault.AsmFault.TheVariants.{BadScope, Expansion,
 use Rattle.ast65.specs.Faults.{is_failure, is_outside}
 use Rattle.semantics65.specs.Layout.{is_open, Cursor}
 use Rattle.semantics65.specs.Numbering.{AreNamed}
-use Rattle.semantics65.specs.Reading.{GoesOn, known_at, AreDefined, IsGiven, IsSource, Job, no_line, open_fault, stopped}
-use Rattle.semantics65.specs.Machine.{Runs, State, Takes, begun, running}
-use Rattle.semantics65.proofs.Taken.{same_outside, same_place, begins, ends, goes_on, is_refused, stops}
-use Rattle.semantics65.proofs.FitSteps as fitting
-use Rattle.semantics65.proofs.FitSteps.{fewer_given, IsStateFit, next_fit, opened_fit}
-use Rattle.semantics65.proofs.FitTokens.{AreFit, are_named}
+use Rattle.sources65.specs.Reading.{GoesOn, known_at, AreDefined, IsGiven, IsSource, Job, no_line, open_fault, stopped}
+use Rattle.sources65.specs.Machine.{Runs, State, Takes, begun, running}
+use Rattle.sources65.proofs.Taken.{same_outside, same_place, begins, ends, goes_on, is_refused, stops}
+use Rattle.sources65.proofs.FitSteps as fitting
+use Rattle.sources65.proofs.FitSteps.{fewer_given, IsStateFit, next_fit, opened_fit}
+use Rattle.sources65.proofs.FitTokens.{AreFit, are_named}
 use Rattle.asm65.specs.declared.assembler.Assembler.{Assembler}
 use Rattle.asm65.specs.declared.running.Run.{Run}
 use Rattle.symbols65.specs.Measuring.{opening_limit}

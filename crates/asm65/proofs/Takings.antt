@@ -18,7 +18,7 @@ use Rattle.symbols65.specs.declared.measuring.Measured.{Measured}
 use Rattle.symbols65.proofs.Behind.{inside_behind}
 use Rattle.symbols65.proofs.Measures.{faults_are, unless_then}
 use Rattle.semantics65.proofs.Segments.{all_more, all_same}
-use Rattle.semantics65.specs.Machine.{Puts, PutsAll, State, Steps, Takes, UnlessFault, at_once, entered, known, later, symbols_behind}
+use Rattle.sources65.specs.Machine.{Puts, PutsAll, State, Steps, Takes, UnlessFault, at_once, entered, known, later, symbols_behind}
 use Rattle.semantics65.specs.Module.{out_of, warning_of, Piece, pieces_of}
 use Rattle.symbols65.specs.declared.resolving.cache.NormCache.{NormCache}
 use Rattle.symbols65.specs.Resolving.{IsTable}
@@ -33,7 +33,7 @@ use Rattle.syntax65.specs.Trees.{Tree}
 use Rattle.expand65.specs.Expansion.{beside, file_named}
 use Rattle.ast65.specs.Faults.{is_failure, is_memory, is_outside}
 use Rattle.ast65.specs.declared.language.Statement.TheVariants.{FilePart, NamedPart}
-use Rattle.semantics65.specs.Reading.{bytes_for, with_bytes}
+use Rattle.sources65.specs.Reading.{bytes_for, with_bytes}
 use Rattle.asm65.specs.Inner.Running.{IsRefusedUnread}
 
 -- ---- Unnamed labels.

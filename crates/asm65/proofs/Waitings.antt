@@ -5,7 +5,7 @@ use Rattle.std.proofs.lemmas.List.{map-append}
 use Rattle.semantics65.specs.Contents.{Content}
 use Rattle.syntax65.specs.declared.place.Place.{Place}
 use Rattle.semantics65.specs.declared.laid.Context.{Context}
-use Rattle.semantics65.specs.Machine.{State, awaiting, entered, later}
+use Rattle.sources65.specs.Machine.{State, awaiting, entered, later}
 use Rattle.semantics65.specs.Module.{Piece, Fixup, Slot, holds, waits}
 use Rattle.emit65.specs.declared.sections.Sections.{Sections}
 use Rattle.semantics65.specs.Numbering.{all_said}

@@ -21,8 +21,8 @@ use Rattle.semantics65.specs.Layout.{Cursor, laid, context_of, file_limit, first
 use Rattle.semantics65.specs.Norms.{optional_value}
 use Rattle.semantics65.specs.Numbering.{IsSound}
 use Rattle.semantics65.specs.Symbols.{Symbols}
-use Rattle.semantics65.specs.Machine.{State, Steps, Takes, UnlessFault}
-use Rattle.semantics65.specs.Reading.{bytes_for, with_bytes}
+use Rattle.sources65.specs.Machine.{State, Steps, Takes, UnlessFault}
+use Rattle.sources65.specs.Reading.{bytes_for, with_bytes}
 
 -- ---- The bytes of the file of a name.
 

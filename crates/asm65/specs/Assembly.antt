@@ -3,12 +3,12 @@ use Rattle.std.specs.Prelude.{◌≡◌, ℕ, List, None, Result, Err, Bool, fal
 use Rattle.base65.specs.Store.{Files, IsBlamed, Blamed}
 use Rattle.expand65.specs.Expansion.{file_named}
 use Rattle.ast65.specs.declared.fault.AsmFault.{AsmFault}
-use Rattle.semantics65.specs.Machine.{State}
-use Rattle.semantics65.specs.Reading.{PlacedFault, Define, Job}
+use Rattle.sources65.specs.Machine.{State}
+use Rattle.semantics65.specs.Module.{PlacedFault, Outcome}
+use Rattle.sources65.specs.Reading.{Define, Job}
 use Rattle.base65.specs.Outcome.{Finds}
 use Rattle.object65.specs.declared.object.Object.{Object}
 use Rattle.ast65.specs.Faults.{is_failure, is_memory, is_outside}
-use Rattle.semantics65.specs.Module.{Outcome}
 use Rattle.asm65.specs.declared.assembling.AsmJob.{AsmJob}
 use Rattle.asm65.specs.declared.assembling.Assembly.{Assembly}
 use Rattle.asm65.specs.declared.assembling.Define as code

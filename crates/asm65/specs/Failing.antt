@@ -11,8 +11,9 @@ use Rattle.syntax65.specs.declared.place.Place.{Place}
 use Rattle.ast65.specs.declared.fault.AsmFault.{AsmFault}
 use Rattle.ast65.specs.declared.fault.AsmFault.TheVariants.{Expansion, FileError, FileNotFound}
 use Rattle.ast65.specs.Faults.{is_failure}
-use Rattle.semantics65.specs.Reading.{known_at, PlacedFault, AreDefined, IsGiven, Job, no_line}
-use Rattle.semantics65.specs.Machine.{State, Takes, begun}
+use Rattle.semantics65.specs.Module.{PlacedFault}
+use Rattle.sources65.specs.Reading.{known_at, AreDefined, IsGiven, Job, no_line}
+use Rattle.sources65.specs.Machine.{State, Takes, begun}
 use Rattle.asm65.specs.Assembly.{has_failed, placed_of, Without}
 use Rattle.asm65.specs.Inner.Running.{IsHeldBy}
 use Rattle.asm65.specs.declared.assembling.Assembly.{Assembly}

@@ -3,7 +3,7 @@
 ghost use Rattle.symbols65.specs.Views.{table_of};
 ghost use Rattle.asm65.specs.Inner.Holding.{known_where, Holds};
 ghost use Rattle.std.specs.Prelude.{IfOk};
-ghost use Rattle.semantics65.specs.Machine.{begun};
+ghost use Rattle.sources65.specs.Machine.{begun};
 
 use crate::texts::Texts;
 use base65::Seed;

@@ -2,12 +2,11 @@
 
 ghost use Rattle.std.specs.Prelude.{◌≡◌, ℕ, ◌+◌, false, IfErr, ⊤, ◌≤◌, true, IfOk, IfSome, IsErrOf, Ok, Some, []};
 ghost use Rattle.ast65.specs.Faults.{is_failure, is_outside};
-ghost use Rattle.semantics65.specs.Machine.{Takes, begun, State, concluded};
-ghost use Rattle.semantics65.specs.Reading.{AreDefined, no_line, Job};
+ghost use Rattle.sources65.specs.Machine.{Takes, begun, State, concluded};
+ghost use Rattle.sources65.specs.Reading.{AreDefined, no_line, Job, IsOutcome};
 ghost use Rattle.asm65.specs.Assembly.{define_of, job_of, Concludes, answer_of, has_failed, is_from_memory, is_from_outside, is_outside_refusal, placed_of};
 ghost use Rattle.asm65.specs.Inner.Holding.{Holds};
 ghost use Rattle.asm65.specs.Inner.Running.{IsRoomy, Leaves, IsHeldBy, IsRunning, SaysAs};
-ghost use Rattle.semantics65.specs.Module.{IsOutcome};
 ghost use Rattle.semantics65.specs.Views.{place_at};
 ghost use Rattle.symbols65.specs.Measuring.{opening_limit};
 ghost use Rattle.syntax65.specs.Trees.{number};

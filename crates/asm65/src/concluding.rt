@@ -5,7 +5,7 @@ ghost use Rattle.object65.specs.Objects.{is_good_object, ObjectFits};
 ghost use Rattle.semantics65.specs.Contents.{Content};
 ghost use Rattle.ast65.specs.Faults.{is_outside};
 ghost use Rattle.semantics65.specs.Numbering.{all_said, AreSound};
-ghost use Rattle.semantics65.specs.Machine.{State, concluded, finished};
+ghost use Rattle.sources65.specs.Machine.{State, concluded, finished};
 ghost use Rattle.semantics65.specs.Module.{Outcome, Slot, waits};
 ghost use Rattle.emit65.specs.Fed.{Stands, contents_so_far, fixup_of, names_of, slot_of};
 ghost use Rattle.symbols65.specs.Resolving.{IsTable};

@@ -7,7 +7,7 @@ ghost use Rattle.expand65.specs.Expansion.{beside, file_named};
 ghost use Rattle.ast65.specs.declared.fault.AsmFault.TheVariants.{FileError};
 ghost use Rattle.ast65.specs.Faults.{is_failure, is_outside, is_memory};
 ghost use Rattle.semantics65.specs.Views.{place_at};
-ghost use Rattle.semantics65.specs.Machine.{State};
+ghost use Rattle.sources65.specs.Machine.{State};
 ghost use Rattle.asm65.specs.Inner.Running.{IsRefusedUnread, LeavesStore, read_bytes};
 ghost use Rattle.asm65.specs.Inner.Holding.{Holds, IsHeld};
 ghost use Rattle.base65.specs.Outcome.{Gives};

@@ -11,7 +11,7 @@ ghost use Rattle.asm65.specs.Inner.Holding.{Enters, KeepsPut, IsNew, is_put, lai
 ghost use Rattle.semantics65.specs.Norms.{IsFinal};
 ghost use Rattle.object65.specs.Form.{Form};
 ghost use Rattle.emit65.specs.Fed.{piece_of};
-ghost use Rattle.semantics65.specs.Machine.{symbols_behind};
+ghost use Rattle.sources65.specs.Machine.{symbols_behind};
 ghost use Rattle.semantics65.specs.Views.{place_at};
 ghost use Rattle.semantics65.specs.Module.{equated, valued, demanded, imported, pieces_of};
 ghost use Rattle.syntax65.specs.declared.place.Place.{Place};

@@ -9,8 +9,8 @@ ghost use Rattle.ast65.specs.declared.fault.AsmFault.TheVariants.{NotUnderstood,
 ghost use Rattle.ast65.specs.Faults.{is_failure};
 ghost use Rattle.semantics65.specs.Numbering.{AreNamed, IsSound};
 ghost use Rattle.semantics65.specs.Views.{place_at};
-ghost use Rattle.semantics65.specs.Machine.{Takes, State, begun};
-ghost use Rattle.semantics65.specs.Reading.{IsLabel, IsLabelled, IsRest, known_at, AreDefined, Job, no_line};
+ghost use Rattle.sources65.specs.Machine.{Takes, State, begun};
+ghost use Rattle.sources65.specs.Reading.{IsLabel, IsLabelled, IsRest, known_at, AreDefined, Job, no_line};
 ghost use Rattle.expand65.specs.Playing.{tokens_in};
 ghost use Rattle.asm65.specs.Inner.Running.{IsRoomy, Reads, TakesAll, TakesBy, TakesOne, HoldsSome, IsHeldBy, IsReached, IsRunning, LeavesStore, Ran, TakesLineIf};
 ghost use Rattle.expand65.specs.Expansion.{opened_in};

@@ -8,12 +8,10 @@ use Rattle.base65.specs.Outcome.{◌>>=◌}
 use Rattle.ast65.specs.declared.fault.AsmFault.{AsmFault}
 use Rattle.syntax65.specs.declared.place.Place.{Place}
 use Rattle.semantics65.specs.Contents.{Content, exported_names}
-use Rattle.semantics65.specs.Module.{Made, made_of, Finished, Fixup, Slot, as_said, comes_behind, coming, followed_by, holds, is_repeated, quietly, resolved, waits}
+use Rattle.semantics65.specs.Module.{Made, made_of, Finished, Fixup, Slot, as_said, comes_behind, coming, followed_by, holds, is_repeated, quietly, resolved, waits, PlacedFault, at_place}
 use Rattle.semantics65.specs.Numbering.{all_said, once, section_keys, segments_asked}
-use Rattle.semantics65.specs.Reading.{PlacedFault, at_place}
 use Rattle.semantics65.specs.Symbols.{Symbols}
-use Rattle.semantics65.proofs.Found.{AreFound, after, found_all, found_each, names_append, nothing_after}
-use Rattle.semantics65.proofs.Resolving.{asks_none, made_asks}
+use Rattle.semantics65.proofs.Found.{AreFound, after, found_all, found_each, names_append, nothing_after, asks_none, made_asks}
 use Rattle.emit65.specs.Fed.{AreAlike, AreFoundAlike, AreSlotsAlike, ComeAlike, contents_so_far, so_far}
 use Rattle.emit65.proofs.Alikes.{alike_back, alike_front, alike_same, alike_sym, alike_trans}
 use Rattle.emit65.proofs.Keys.{once_append}

@@ -7,10 +7,9 @@ use Rattle.syntax65.specs.declared.place.Place.{Place}
 use Rattle.object65.specs.declared.object.Fragment.{Fragment}
 use Rattle.object65.specs.declared.object.Origin.{Origin}
 use Rattle.semantics65.specs.Contents.{Content, Filled, Known, Waiting, put, telling}
-use Rattle.semantics65.specs.Module.{Finished, Slot, holds, resolved, waits}
+use Rattle.semantics65.specs.Module.{Finished, Slot, holds, resolved, waits, PlacedFault}
 use Rattle.semantics65.specs.Module as piece
 use Rattle.semantics65.specs.Numbering.{all_joined, all_said, content_imports, fragments_of, name_of, part_files, parts_in, section_keys}
-use Rattle.semantics65.specs.Reading.{PlacedFault}
 use Rattle.semantics65.specs.Symbols.{Symbols}
 use Rattle.semantics65.specs.Views.{place_in, said_at}
 use Rattle.semantics65.specs.declared.laid.Context.{Context}

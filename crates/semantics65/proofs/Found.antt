@@ -1,6 +1,6 @@
 -- What slots come to, one behind the other.
-use Rattle.std.proofs.Common.{◌≡◌, ◌∙◌, ℕ, List, [], ◌∷◌, ◌++◌, map, refl, sym, ap, subst, append_assoc, arith}
-use Rattle.std.specs.Prelude.{⊤, filter_map, Result, Ok, Err}
+use Rattle.std.proofs.Common.{◌≡◌, false, ◌∙◌, ℕ, List, [], ◌∷◌, ◌++◌, map, refl, sym, ap, subst, append_assoc, arith}
+use Rattle.std.specs.Prelude.{⊤, IfOk, filter_map, Result, Ok, Err}
 use Rattle.std.specs.List.{AllByRecursion}
 use Rattle.std.proofs.lemmas.Grind.{common_steps}
 use Rattle.std.proofs.lemmas.List.{append-nil}
@@ -10,10 +10,10 @@ use Rattle.syntax65.specs.declared.place.Place.{Place}
 use Rattle.object65.specs.declared.object.Export.{Export}
 use Rattle.object65.specs.declared.object.Origin.{Origin}
 use Rattle.semantics65.specs.Contents.{Content, Declaration, Exported, ForcedImport, Asserted, exported_name, exported_names}
-use Rattle.semantics65.specs.Module.{Finished, Made, Slot, coming, followed_by, resolved}
+use Rattle.semantics65.specs.Module.{Finished, Made, Piece, PlacedFault, Slot, coming, followed_by, made_of, resolved}
 use Rattle.semantics65.specs.Numbering.{all_said, export_of}
-use Rattle.semantics65.specs.Reading.{PlacedFault}
 use Rattle.semantics65.specs.Symbols.{Symbols}
+use Rattle.semantics65.specs.declared.laid.Context.{Context}
 
 -- ---- What was found behind what was found.
 
@@ -114,3 +114,11 @@ found_all_so y P Q so names [] [] all h = tt
 found_all_so y P Q so names [] (c ∷ cs) all h = absurd h
 found_all_so y P Q so names (x ∷ xs) [] all h = absurd h
 found_all_so y P Q so names (x ∷ xs) (c ∷ cs) (p, all) (w, made, h) = (so names x (record { content = c; warning = w }) p made, found_all_so y P Q so (names ++ exported_names c.said) xs cs all h)
+
+-- ---- A piece asks for no section.
+
+abbrev pub asks_none : Made → Type 0
+asks_none m = m.content.asks ≡ false
+
+pub made_asks : (y : Symbols) (place : Place) (s : Context) (p : Piece) → IfOk (made_of y place s p) asks_none
+made_asks y place s x1 = grind (arith, common_steps)

@@ -1,12 +1,8 @@
 pub mod Contents
-pub mod Fitting
-pub mod Laws
 pub mod Layout
-pub mod Machine
 pub mod Module
 pub mod Norms
 pub mod Numbering
-pub mod Reading
 pub mod Symbols
 pub mod Types
 pub mod Views

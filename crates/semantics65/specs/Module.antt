@@ -1,9 +1,8 @@
 -- The object of a module, piece by piece.
-use Rattle.std.specs.Prelude.{◌≡◌, ℕ, zero, pos, Option, Some, None, Bool, true, false, List, [], ◌∷◌, ◌++◌, codes, decimal, Result, Ok, Err, if◌then◌else◌, map}
+use Rattle.std.specs.Prelude.{ℕ, zero, pos, Option, Some, None, Bool, true, false, List, [], ◌∷◌, ◌++◌, codes, decimal, Result, Ok, Err, if◌then◌else◌, map}
 use Rattle.std.specs.List.{flat_map, list_any}
 use Rattle.std.specs.Str.{bytes_eq}
 use Rattle.base65.specs.Outcome.{◌>>=◌}
-use Rattle.base65.specs.Store.{Files}
 use Rattle.object65.specs.Form.{Form, lit}
 use Rattle.semantics65.specs.Types.{Action, Object, AsmFault, Place, Statement, Mnemonic, Width, NotDefined, Item, Operand, Constant, Instruction, Values, Reserve, Align, FilePart, Import, Export, Global, ForceImport, Assert, Value, Text, Settled, InMode, Context}
 use Rattle.object65.specs.declared.object.Action.TheVariants as action
@@ -13,9 +12,20 @@ use Rattle.ast65.specs.declared.language.Statement.TheVariants as statement
 use Rattle.semantics65.specs.Layout.{Layout}
 use Rattle.semantics65.specs.Norms.{norm_of, width_of}
 use Rattle.semantics65.specs.Numbering.{object_with}
-use Rattle.semantics65.specs.Reading.{AreLaid, PlacedFault, at_place, Job, Reached}
 use Rattle.syntax65.specs.Opcodes.{opcode_of}
 use Rattle.syntax65.specs.Trees.{Tree}
+
+-- ---- Faults with their places.
+
+-- its line is 0 where none was read
+pub record PlacedFault : Type 0 where
+  pub place : Place
+  pub fault : AsmFault
+
+-- a fault is found at a place
+abbrev pub at_place : {A : Type 0} → Place → Result A AsmFault → Result A PlacedFault
+at_place place (Ok x) = Ok x
+at_place place (Err e) = Err (record { place = place; fault = e })
 
 -- ---- What is said.
 
@@ -213,7 +223,3 @@ pub record Outcome : Type 0 where
 abbrev pub outcome_of : Layout → Option PlacedFault → Outcome
 outcome_of y None = record { result = object_of y; out = printed y.laid; err = all_warned y.laid }
 outcome_of y (Some e) = record { result = Err e; out = printed y.laid; err = warned y.laid }
-
--- what a source comes to
-abbrev pub IsOutcome : Files → Job → Outcome → Type 0
-IsOutcome m job a = (r : Reached Layout) × AreLaid m job r × (a ≡ outcome_of r.behind r.fault)

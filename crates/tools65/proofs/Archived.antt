@@ -19,7 +19,7 @@ use Rattle.library65.proofs.Made.{written_is}
 use Rattle.base65.specs.declared.output.OutputFile.{OutputFile}
 use Rattle.ast65.specs.Faults.{is_memory}
 use Rattle.semantics65.specs.Module as asm
-use Rattle.semantics65.specs.Reading.{PlacedFault}
+use Rattle.semantics65.specs.Module.{PlacedFault}
 use Rattle.cli65.specs.declared.line.Operation.{Operation}
 use Rattle.cli65.specs.Line.{Archiving, Assembling}
 use Rattle.cli65.specs.Messages.{memory_line}

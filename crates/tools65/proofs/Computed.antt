@@ -6,8 +6,8 @@ use Rattle.base65.specs.Outcome.{Finds, Gives, Unless}
 use Rattle.base65.specs.Store.{Asks, Blamed, Files, HasFailed, PassesBy}
 use Rattle.object65.specs.declared.object.Object.{Object}
 use Rattle.ast65.specs.Faults.{is_memory as is_asm_memory}
-use Rattle.semantics65.specs.Module.{IsOutcome}
-use Rattle.semantics65.specs.Reading.{Define, Job, PlacedFault}
+use Rattle.sources65.specs.Reading.{IsOutcome, Define, Job}
+use Rattle.semantics65.specs.Module.{PlacedFault}
 use Rattle.asm65.specs.Assembly.{has_failed, in_places, is_outside_refusal, placed_of}
 use Rattle.asm65.specs.Failing.{Stops}
 use Rattle.asm65.specs.declared.texts.AsmRefusal.{AsmRefusal}

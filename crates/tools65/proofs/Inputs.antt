@@ -26,9 +26,10 @@ use Rattle.semantics65.specs.Layout.{Layout}
 use Rattle.semantics65.specs.Numbering.{object_with}
 use Rattle.semantics65.specs.Symbols.{symbols_of}
 use Rattle.semantics65.specs.Module as asm
-use Rattle.semantics65.specs.Reading.{PlacedFault, Job}
-use Rattle.semantics65.proofs.SoundContents.{sound_contents}
-use Rattle.semantics65.proofs.SoundSources.{sound_layout}
+use Rattle.semantics65.specs.Module.{PlacedFault}
+use Rattle.sources65.specs.Reading.{Job}
+use Rattle.sources65.proofs.SoundContents.{sound_contents}
+use Rattle.sources65.proofs.SoundSources.{sound_layout}
 use Rattle.emit65.proofs.GoodObjects.{good_object}
 use Rattle.link65.specs.Names.{given_names, open_names}
 use Rattle.link65.specs.Programs.{Module, program_of}

@@ -20,8 +20,8 @@ use Rattle.link65.specs.declared.linking.Linked.{Linked}
 use Rattle.cli65.specs.Line.{Assembling, Linking, Says, archive, assemble, link}
 use Rattle.ld65.specs.Linkage.{AreInputs, AreNeeded, ByKind, IsInput, IsInputLink, IsLibraryInput, IsLinked, IsLinkedBy, LinksTo, as_library, as_refusal, as_script, chosen, index_in, is_library_in, output_of, text_of, with_file, with_members}
 use Rattle.ld65.specs.declared.refusal.Refusal.{Refusal}
-use Rattle.semantics65.proofs.OneLayouts.{one_answer}
-use Rattle.semantics65.specs.Reading.{PlacedFault}
+use Rattle.sources65.proofs.OneLayouts.{one_answer}
+use Rattle.semantics65.specs.Module.{PlacedFault}
 use Rattle.object65.specs.declared.object.Object.{Object}
 use Rattle.output65.specs.Outputs.{outputs_of}
 use Rattle.output65.specs.declared.outcome.Outcome.{Outcome}

@@ -9,11 +9,11 @@ use Rattle.base65.specs.declared.output.OutputFile.{OutputFile}
 use Rattle.object65.specs.Objects.{ObjectFits}
 use Rattle.object65.specs.Spelling.{object_bytes}
 use Rattle.object65.specs.declared.object.Object.{Object}
-use Rattle.semantics65.specs.Fitting.{AreOfTypes, HoldBytes}
+use Rattle.sources65.specs.Fitting.{AreOfTypes, HoldBytes}
 use Rattle.semantics65.specs.Module as asm
-use Rattle.semantics65.specs.Reading.{PlacedFault}
-use Rattle.semantics65.proofs.SomeLayouts.{some_answer}
-use Rattle.semantics65.proofs.FitLayouts.{fitting_object}
+use Rattle.semantics65.specs.Module.{PlacedFault}
+use Rattle.sources65.proofs.SomeLayouts.{some_answer}
+use Rattle.sources65.proofs.FitLayouts.{fitting_object}
 use Rattle.cli65.specs.Defining.{Defining}
 use Rattle.cli65.specs.Line.{Assembling, Says, archive, assemble, line_of, link}
 use Rattle.cli65.specs.declared.fault.LineFault.{LineFault}

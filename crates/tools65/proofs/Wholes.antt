@@ -2,10 +2,10 @@
 use Rattle.std.proofs.Common.{◌≡◌, ◌∙◌, List, [], ◌∷◌, Option, Some, None, Ok, refl, sym, ap, subst}
 use Rattle.object65.specs.declared.object.Object.{Object}
 use Rattle.semantics65.specs.Layout.{Layout}
-use Rattle.semantics65.proofs.OneLayouts.{one_layout}
-use Rattle.semantics65.proofs.SoundSources.{sound_layout}
-use Rattle.semantics65.specs.Reading.{AreLaid, PlacedFault, Reached}
-use Rattle.semantics65.specs.Module.{object_of, outcome_of}
+use Rattle.sources65.proofs.OneLayouts.{one_layout}
+use Rattle.sources65.proofs.SoundSources.{sound_layout}
+use Rattle.semantics65.specs.Module.{PlacedFault, object_of, outcome_of}
+use Rattle.sources65.specs.Reading.{AreLaid, Reached}
 use Rattle.link65.specs.Programs.{Module}
 use Rattle.whole65.proofs.Equality.{equality_law}
 use Rattle.whole65.proofs.Links.{laid_out_law}

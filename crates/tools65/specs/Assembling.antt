@@ -5,7 +5,8 @@ use Rattle.ast65.specs.Faults.{fault_text}
 use Rattle.cli65.specs.Defining.{Defining}
 use Rattle.cli65.specs.Line.{Assembling}
 use Rattle.cli65.specs.Messages.{file_message, line_message}
-use Rattle.semantics65.specs.Reading.{PlacedFault, Define, Job}
+use Rattle.semantics65.specs.Module.{PlacedFault}
+use Rattle.sources65.specs.Reading.{Define, Job}
 use Rattle.tools65.specs.Naming.{IsObjectName}
 
 -- a constant of a line, as the assembler has it

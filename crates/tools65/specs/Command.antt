@@ -6,7 +6,7 @@ use Rattle.object65.specs.Objects.{ObjectFits}
 use Rattle.object65.specs.Spelling.{object_bytes}
 use Rattle.ast65.specs.Faults.{is_memory}
 use Rattle.semantics65.specs.Module as asm
-use Rattle.semantics65.specs.Reading.{PlacedFault}
+use Rattle.semantics65.specs.Module.{PlacedFault}
 use Rattle.tools65.specs.Assembling.{IsOutputName, asm_message, job_in}
 use Rattle.cli65.specs.declared.fault.LineFault.{LineFault}
 use Rattle.link65.specs.declared.linking.Linked.{Linked}

@@ -12,7 +12,7 @@ use Rattle.cli65.specs.declared.fault.LineFault.{LineFault}
 use Rattle.cli65.specs.Messages.{line_memory_message}
 use Rattle.output65.specs.Outputs.{failing}
 use Rattle.cli65.specs.Line.{Says, assemble, link, archive, line_of}
-use Rattle.semantics65.specs.Reading.{PlacedFault}
+use Rattle.semantics65.specs.Module.{PlacedFault}
 use Rattle.asm65.specs.Failing.{Stops}
 use Rattle.tools65.specs.Assembling.{asm_message, job_in}
 use Rattle.tools65.specs.Command.{DoesLine, RanWords, line_memory}

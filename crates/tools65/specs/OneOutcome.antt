@@ -1,7 +1,7 @@
 -- A command has one outcome, exactly.
 use Rattle.std.specs.Prelude.{◌≡◌, ℕ, List, Result}
 use Rattle.base65.specs.Store.{Files}
-use Rattle.semantics65.specs.Fitting.{HoldBytes}
+use Rattle.sources65.specs.Fitting.{HoldBytes}
 use Rattle.cli65.specs.Line.{Says, line_of}
 use Rattle.cli65.specs.declared.fault.LineFault.{LineFault}
 use Rattle.output65.specs.declared.outcome.Outcome.{Outcome}

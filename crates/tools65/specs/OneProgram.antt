@@ -5,7 +5,7 @@ use Rattle.base65.specs.Store.{Files}
 use Rattle.script65.specs.Scripts.{IsScript}
 use Rattle.script65.specs.declared.script.Script.{Script}
 use Rattle.semantics65.specs.Layout.{Layout}
-use Rattle.semantics65.specs.Reading.{AreLaid, Job}
+use Rattle.sources65.specs.Reading.{AreLaid, Job}
 use Rattle.semantics65.specs.Module as asm
 use Rattle.object65.specs.declared.object.Object.{Object}
 use Rattle.object65.specs.Versions.{IsEitherVersion}

@@ -18,7 +18,7 @@ use Rattle.ast65.specs.declared.language.Statement.{Statement}
 use Rattle.ast65.specs.declared.language.Statement.TheVariants.{Export, Global, ForceImport, Assert}
 use Rattle.semantics65.specs.Norms.{norm_of}
 use Rattle.semantics65.specs.Numbering.{all_said, assert_of, import_keys, numbered, section_keys}
-use Rattle.semantics65.proofs.SoundForms.{all_append}
+use Rattle.sources65.proofs.SoundForms.{all_append}
 use Rattle.semantics65.specs.Module.{ending_of}
 use Rattle.whole65.proofs.Files.{table_law}
 use Rattle.whole65.proofs.SameValues.{bind_ok, written_ok, same_values_law}

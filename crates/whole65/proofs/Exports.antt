@@ -21,9 +21,9 @@ use Rattle.link65.specs.Names.{export_names}
 use Rattle.link65.specs.Programs.{Module, Program, no_program, program_of, with_module, with_modules}
 use Rattle.link65.specs.Programs as linked
 use Rattle.link65.specs.declared.parts.Exported as parts
-use Rattle.semantics65.proofs.SoundForms.{all_append}
+use Rattle.sources65.proofs.SoundForms.{all_append}
 use Rattle.semantics65.proofs.Found.{names_append, exports_named}
-use Rattle.semantics65.proofs.Resolving.{new_append}
+use Rattle.sources65.proofs.Resolving.{new_append}
 use Rattle.semantics65.specs.Module.{ending_of}
 use Rattle.whole65.proofs.Statements.{AreStated, IsSaidBy, SaidOnce, a_line, are_stated, left_out, no_line, no_name, said_append, said_first, stated}
 use Rattle.whole65.proofs.Sources.{contents_of}

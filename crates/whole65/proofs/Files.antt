@@ -46,7 +46,7 @@ use Rattle.object65.specs.declared.object.Export.{Export}
 use Rattle.script65.specs.declared.placement.RowPlace.{RowPlace}
 use Rattle.script65.specs.declared.script.Area.{Area}
 use Rattle.base65.specs.declared.output.OutputFile.{OutputFile}
-use Rattle.semantics65.proofs.SoundForms.{all_append}
+use Rattle.sources65.proofs.SoundForms.{all_append}
 use Rattle.whole65.proofs.Exports.{source_exports}
 use Rattle.whole65.specs.Programs.{program_of}
 

@@ -25,7 +25,7 @@ use Rattle.link65.specs.declared.parts.Exported as parts
 use Rattle.link65.specs.declared.parts.Provider.{Provider}
 use Rattle.link65.specs.declared.parts.Provider.TheVariants.{Nobody}
 use Rattle.link65.specs.declared.parts.Member.{Member}
-use Rattle.semantics65.proofs.SoundForms.{all_append}
+use Rattle.sources65.proofs.SoundForms.{all_append}
 use Rattle.semantics65.proofs.Segments.{all_more, all_same}
 use Rattle.whole65.proofs.Providers.{Agree, providers_agree}
 use Rattle.whole65.specs.Programs as whole

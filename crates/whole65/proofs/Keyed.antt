@@ -40,7 +40,7 @@ use Rattle.link65.specs.declared.parts.Provider.{Provider}
 use Rattle.link65.specs.declared.parts.Provider.TheVariants.{Nobody}
 use Rattle.link65.specs.declared.parts.ValueFault.{ValueFault}
 use Rattle.link65.specs.declared.parts.ValueFault.TheVariants.{NoValue}
-use Rattle.semantics65.proofs.SoundContents.{sound_contents}
+use Rattle.sources65.proofs.SoundContents.{sound_contents}
 use Rattle.whole65.proofs.ModuleBytes.{number_law}
 use Rattle.script65.specs.declared.script.Row.{Row}
 use Rattle.script65.specs.declared.placement.RowPlace.{RowPlace}

@@ -28,12 +28,12 @@ use Rattle.ast65.specs.declared.language.Statement.TheVariants.{Constant}
 use Rattle.semantics65.specs.Layout.{Layout, layout_behind, nothing_laid, line_fault, unless_fault}
 use Rattle.semantics65.specs.Symbols.{symbols_of}
 use Rattle.ast65.specs.Parsing.{label_of}
-use Rattle.semantics65.specs.Reading.{IsLaid, laying, AreLaid, AreDefined, AreTaken, Define, Follows, IsBegun, IsGiven, IsLabelled, IsRest, Job, Reached, no_line, taken, faulty, refused, ended, with_bytes}
+use Rattle.sources65.specs.Reading.{IsLaid, laying, AreLaid, AreDefined, AreTaken, Define, Follows, IsBegun, IsGiven, IsLabelled, IsRest, Job, Reached, no_line, taken, faulty, refused, ended, with_bytes}
 use Rattle.whole65.specs.Offsets.{IsLaidOut, begun, behind}
 use Rattle.object65.specs.Form.{lit, sec, imp, prefix, binary, Form}
 use Rattle.object65.specs.FormValue.{value_in}
 use Rattle.semantics65.specs.Numbering.{imports_in}
-use Rattle.semantics65.proofs.SoundForms.{all_append}
+use Rattle.sources65.proofs.SoundForms.{all_append}
 use Rattle.whole65.proofs.Exports.{export_names_law}
 use Rattle.std.specs.List.{AllByRecursion}
 use Rattle.whole65.specs.Whole.{given_names}

@@ -20,7 +20,7 @@ use Rattle.semantics65.specs.Numbering.{import_keys, once, section_keys, section
 use Rattle.link65.specs.Programs.{Module, Program as LinkedProgram, no_program, program_of, with_module, with_modules, Segment, grown, segment_of, with_section, with_sections, Cell, begin_behind, filled, fragment_cells}
 use Rattle.link65.specs.Values as places
 use Rattle.link65.specs.Programs as linked
-use Rattle.semantics65.proofs.Resolving.{new_append}
+use Rattle.sources65.proofs.Resolving.{new_append}
 use Rattle.whole65.proofs.Sections.{asked_are, held, keys_of, or_false, or_true, with_key, name_at, segment_law}
 use Rattle.whole65.proofs.Positions.{itself}
 use Rattle.whole65.proofs.Sources.{contents_of, size_law, Behind, begin_is_multiple, behind_source, grows, no_part, part_end, section_begin, size_or, size_or_empty, unchanged, whole_part}
@@ -34,7 +34,7 @@ use Rattle.script65.specs.declared.script.Script.{Script}
 use Rattle.link65.specs.Values.{linkage_of, Linkage}
 use Rattle.link65.specs.declared.parts.ValueFault.{ValueFault}
 use Rattle.semantics65.specs.Module.{ending_of}
-use Rattle.semantics65.proofs.SoundForms.{all_append}
+use Rattle.sources65.proofs.SoundForms.{all_append}
 use Rattle.whole65.proofs.Keyed.{source_at, form_law, keyed_law}
 use Rattle.whole65.proofs.ModuleBytes.{cells_joined, cells_split, of_filled, module_law}
 use Rattle.whole65.proofs.LinkedObjects.{AreCells, IsValuedIn, cells_or, behind_modules, behind_sections, or_empty, IsKeyedContent, IsKeyedPart, linked_objects, context_in, symbols_at}

@@ -14,9 +14,8 @@ use Rattle.semantics65.specs.Contents.{Content, Part, exported_names}
 use Rattle.semantics65.specs.Symbols.{Laid, Symbols, symbols_of}
 use Rattle.semantics65.specs.Layout.{Layout}
 use Rattle.semantics65.specs.Numbering.{all_joined, all_said, fragment_of, fragments_of, is_empty, joined, parts_in, files_of, import_keys, in_files, object_by, object_with, section_keys, section_of, IsMeasured, IsSoundLayout, part_len}
-use Rattle.semantics65.proofs.SoundParts.{slots_long}
-use Rattle.semantics65.specs.Module.{ending_of}
-use Rattle.semantics65.specs.Reading.{PlacedFault}
+use Rattle.sources65.proofs.SoundParts.{slots_long}
+use Rattle.semantics65.specs.Module.{ending_of, PlacedFault}
 use Rattle.whole65.proofs.SameValues.{bind_ok}
 use Rattle.whole65.proofs.Offsets.{EndsAt, all_end, placed}
 use Rattle.whole65.proofs.Statements.{AreStated, a_line, are_stated, no_line, parts_append}

@@ -8,14 +8,13 @@ use Rattle.base65.specs.Outcome.{◌>>=◌}
 use Rattle.object65.specs.Form.{Form}
 use Rattle.syntax65.specs.Trees.{Tree}
 use Rattle.semantics65.proofs.Found.{AreFound, found_each, found_split}
-use Rattle.semantics65.proofs.SoundForms.{all_append}
-use Rattle.semantics65.proofs.SoundParts.{content_is}
+use Rattle.sources65.proofs.SoundForms.{all_append}
+use Rattle.sources65.proofs.SoundParts.{content_is}
 use Rattle.semantics65.specs.Contents.{Content, Declaration, Exported, ForcedImport, Part, asking, decided, export_said, import_fault, operand_form, put, stored, telling, written, exported_names}
 use Rattle.semantics65.specs.Layout.{Layout}
-use Rattle.semantics65.specs.Module.{Made, Piece, Purpose, absent_of, as_part, as_said, asserted, coming, datum, demanded, ending_of, equated, exported, failed, given, holds, imported, item_piece, made_of, operand, operand_pieces, pieces_of, quietly, slots_of, used, valued, waiting_at}
+use Rattle.semantics65.specs.Module.{Made, Piece, Purpose, absent_of, as_part, as_said, asserted, coming, datum, demanded, ending_of, equated, exported, failed, given, holds, imported, item_piece, made_of, operand, operand_pieces, pieces_of, quietly, slots_of, used, valued, waiting_at, at_place}
 use Rattle.semantics65.specs.Norms.{defined_form, norm_of}
 use Rattle.semantics65.specs.Numbering.{all_said, parts_in, segments_asked}
-use Rattle.semantics65.specs.Reading.{at_place}
 use Rattle.semantics65.specs.Symbols.{Laid, Symbols, asks_section, defined, named}
 use Rattle.semantics65.specs.declared.laid.Settled.{Settled}
 use Rattle.semantics65.specs.Types.{Action, AsmFault, Item, Place, Statement, Align, Assert, Constant, Export, FilePart, ForceImport, Global, Import, Instruction, Reserve, Values, Width}

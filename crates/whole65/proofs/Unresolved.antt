@@ -16,7 +16,7 @@ use Rattle.semantics65.specs.Numbering.{all_said, imports_in, name_of, optional_
 use Rattle.link65.specs.Programs.{Module}
 use Rattle.link65.specs.declared.parts.ValueFault.{ValueFault}
 use Rattle.link65.specs.declared.parts.ValueFault.TheVariants.{NoValue}
-use Rattle.semantics65.proofs.SoundForms.{all_append}
+use Rattle.sources65.proofs.SoundForms.{all_append}
 use Rattle.semantics65.specs.Module.{ending_of}
 use Rattle.whole65.proofs.Exports.{IsAsserted, all_demanded, demanded_names, one_tells, IsDefined, said_all}
 use Rattle.whole65.proofs.Links.{valued_imports_law}

@@ -6,7 +6,7 @@ use Rattle.syntax65.specs.declared.place.Place.{Place}
 use Rattle.semantics65.specs.Contents.{Part, operand_form, put, stored, asking}
 use Rattle.semantics65.specs.declared.laid.Context.{Context}
 use Rattle.semantics65.specs.Symbols.{Definition, Key, Symbols, unnamed_at, meaning_of, Laid, asks_section, defined, key_defined}
-use Rattle.semantics65.specs.Machine.{PutsAll, State, awaiting, entered}
+use Rattle.sources65.specs.Machine.{PutsAll, State, awaiting, entered}
 use Rattle.semantics65.specs.Module as piece
 use Rattle.semantics65.specs.Numbering.{all_said}
 use Rattle.emit65.specs.Fed.{Stands, Feeds, contents_so_far}
@@ -16,7 +16,7 @@ use Rattle.asm65.specs.declared.assembler.Assembler.{Assembler}
 use Rattle.symbols65.specs.Measuring.{AreInside, IsCounted, measure_of, opening_limit}
 use Rattle.expand65.specs.State.{Meaning}
 use Rattle.semantics65.specs.Norms.{constant_in, IsFinal}
-use Rattle.semantics65.specs.Reading.{is_definition}
+use Rattle.sources65.specs.Reading.{is_definition}
 use Rattle.base65.specs.Outcome.{◌>>=◌, Unless}
 use Rattle.object65.specs.Form.{Form, lit}
 use Rattle.object65.specs.Objects.{fits_width, value_bytes}

@@ -14,9 +14,9 @@ use Rattle.ast65.specs.declared.fault.AsmFault.TheVariants.{FileError, FileNotFo
 use Rattle.ast65.specs.Faults.{is_failure, is_outside}
 use Rattle.ast65.specs.declared.language.Statement.{Statement}
 use Rattle.ast65.specs.declared.language.Statement.TheVariants.{FilePart, NamedPart}
-use Rattle.semantics65.specs.Numbering.{AreNamed, IsSound}
-use Rattle.semantics65.specs.Machine.{Runs, State, Takes, begun}
-use Rattle.semantics65.specs.Reading.{IsGiven, Job, stopped, bytes_for, with_bytes}
+use Rattle.semantics65.specs.Numbering.{AreNamed, IsSound, AreSound, all_said, object_with}
+use Rattle.sources65.specs.Machine.{Runs, State, Takes, begun}
+use Rattle.sources65.specs.Reading.{IsGiven, Job, stopped, bytes_for, with_bytes}
 use Rattle.asm65.specs.declared.assembler.Assembler.{Assembler}
 use Rattle.asm65.specs.declared.running.Run.{Run}
 use Rattle.symbols65.specs.Measuring.{opening_limit}
@@ -29,7 +29,6 @@ use Rattle.semantics65.specs.declared.contents.Declaration.{Declaration}
 use Rattle.semantics65.specs.Symbols.{Symbols, defined, named}
 use Rattle.semantics65.specs.Views.{said_at}
 use Rattle.semantics65.specs.Module.{warning_at, Made, as_said, Slot, coming, holds, resolved}
-use Rattle.semantics65.specs.Numbering.{AreSound, all_said, object_with}
 use Rattle.object65.specs.declared.object.Object.{Object}
 use Rattle.semantics65.specs.declared.contents.Segment.{Segment}
 use Rattle.object65.specs.Objects.{is_good_object}

@@ -1,6 +1,6 @@
 use Rattle.std.proofs.Common.{rules, ◌∙◌, ◌+◌, ◌<◌, ap, subst, drop, get_or, length, map, List, [], Err}
 use Rattle.std.proofs.lemmas.Result.{err_from_is_err_and}
-use Rattle.semantics65.specs.Reading.{Define, no_line}
+use Rattle.sources65.specs.Reading.{Define, no_line}
 use Rattle.asm65.specs.declared.assembling.Define as code
 use Rattle.asm65.specs.Assembly.{define_of}
 use Rattle.asm65.proofs.Defines.{SoFar, left_dropped, none_so_far, one_more, one_wrong}

@@ -1,8 +1,8 @@
 use Rattle.std.proofs.Common.{ℕ, ◌+◌, ◌<◌, List, subst}
 use Rattle.syntax65.specs.Trees.{Tree, number}
 use Rattle.ast65.specs.declared.language.Statement.TheVariants.{Constant}
-use Rattle.semantics65.specs.Machine.{State, Takes}
-use Rattle.semantics65.specs.Reading.{Answers}
+use Rattle.sources65.specs.Machine.{State, Takes}
+use Rattle.sources65.specs.Reading.{Answers}
 use Rattle.asm65.specs.Assembly.{define_of}
 use Rattle.symbols65.specs.Measuring.{opening_limit}
 use Rattle.asm65.specs.Inner.Holding.{Holds}

@@ -2,7 +2,7 @@ use Rattle.std.proofs.lemmas.Grind.{common_steps}
 use Rattle.std.proofs.Common.{◌≡◌, ℕ, List, [], subst, arith}
 use Rattle.std.specs.Prelude.{None}
 use Rattle.semantics65.specs.declared.contents.Segment.{Segment}
-use Rattle.semantics65.specs.Machine.{State, concluded}
+use Rattle.sources65.specs.Machine.{State, concluded}
 use Rattle.semantics65.specs.Module.{Slot}
 use Rattle.semantics65.specs.Numbering.{all_said}
 use Rattle.emit65.specs.Fed.{Stands, contents_so_far}

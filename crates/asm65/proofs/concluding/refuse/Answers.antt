@@ -1,9 +1,8 @@
 use Rattle.std.proofs.lemmas.Grind.{common_steps}
 use Rattle.std.proofs.Common.{◌≡◌, ◌∙◌, ℕ, List, ap, false, arith}
 use Rattle.std.specs.Prelude.{Some, Err}
-use Rattle.semantics65.specs.Machine.{State, concluded}
-use Rattle.semantics65.specs.Module.{Outcome}
-use Rattle.semantics65.specs.Reading.{PlacedFault}
+use Rattle.sources65.specs.Machine.{State, concluded}
+use Rattle.semantics65.specs.Module.{Outcome, PlacedFault}
 use Rattle.asm65.specs.Assembly.{is_outside_refusal}
 use Rattle.asm65.specs.Inner.Running.{SaysAs}
 use Rattle.semantics65.specs.Views.{place_in}

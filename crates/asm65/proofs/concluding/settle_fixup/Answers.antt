@@ -3,8 +3,7 @@ use Rattle.std.specs.Prelude.{Result, Err, nat_lt}
 use Rattle.syntax65.specs.declared.place.Place.{Place}
 use Rattle.ast65.specs.declared.fault.AsmFault.{AsmFault}
 use Rattle.ast65.specs.Faults.{is_outside}
-use Rattle.semantics65.specs.Module.{Fixup, Made, waits}
-use Rattle.semantics65.specs.Reading.{PlacedFault, at_place}
+use Rattle.semantics65.specs.Module.{Fixup, Made, waits, PlacedFault, at_place}
 use Rattle.semantics65.specs.Views.{place_in}
 use Rattle.symbols65.specs.Views.{table_of}
 use Rattle.emit65.specs.Fed.{fixup_of, names_of}

@@ -1,7 +1,7 @@
 use Rattle.std.proofs.Common.{◌≡◌, [], length}
 use Rattle.syntax65.specs.Tokens.{lexemes}
 use Rattle.semantics65.specs.Views.{place_in}
-use Rattle.semantics65.proofs.Taken.{some_tokens}
+use Rattle.sources65.proofs.Taken.{some_tokens}
 use Rattle.asm65.proofs.Ahead.{no_tokens, none_behind, taken_behind}
 use Rattle.asm65.proofs.Runs.{some_there}
 use Rattle.asm65.proofs.running.take_behind.Goals as goal

@@ -2,8 +2,8 @@ use Rattle.std.proofs.Common.{List, ap, subst, ◌∙◌}
 use Rattle.syntax65.specs.Tokens.{Lexeme, lexemes}
 use Rattle.semantics65.specs.Numbering.{AreNamed}
 use Rattle.semantics65.specs.Views.{place_in}
-use Rattle.semantics65.specs.Machine.{Takes}
-use Rattle.semantics65.specs.Reading.{IsRest}
+use Rattle.sources65.specs.Machine.{Takes}
+use Rattle.sources65.specs.Reading.{IsRest}
 use Rattle.asm65.specs.Inner.Running.{Reads}
 use Rattle.asm65.proofs.running.take_line.Goals as goal
 

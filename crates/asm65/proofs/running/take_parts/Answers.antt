@@ -5,7 +5,7 @@ use Rattle.syntax65.specs.Tokens.{lexemes}
 use Rattle.semantics65.specs.Numbering.{AreNamed}
 use Rattle.semantics65.specs.Views.{place_in}
 use Rattle.expand65.specs.Failing.{given_behind, given_parts}
-use Rattle.semantics65.proofs.Taken.{some_tokens}
+use Rattle.sources65.proofs.Taken.{some_tokens}
 use Rattle.asm65.specs.Inner.Running.{TakesAll}
 use Rattle.asm65.proofs.Ahead.{label_refused, label_taken, no_tokens, only_rest, roomy_behind, roomy_less}
 use Rattle.asm65.proofs.Runs.{Answer, LabelBy, some_there}

@@ -10,9 +10,9 @@ use Rattle.symbols65.proofs.Measures.{unless_then}
 use Rattle.ast65.specs.Parsing.{IsOperand}
 use Rattle.asm65.specs.Inner.Running.{read_bytes, TakesBy}
 use Rattle.semantics65.specs.Views.{place_in}
-use Rattle.semantics65.specs.Machine.{Takes}
-use Rattle.semantics65.specs.Reading.{IsRest}
-use Rattle.semantics65.proofs.Taken.{some_tokens}
+use Rattle.sources65.specs.Machine.{Takes}
+use Rattle.sources65.specs.Reading.{IsRest}
+use Rattle.sources65.proofs.Taken.{some_tokens}
 use Rattle.asm65.specs.Assembly.{Without}
 use Rattle.asm65.proofs.Runs.{Answer, RestBy, never_stops, rest_leaves, rest_stops, rest_unread, rest_wrong, some_there, sound_leaves, takes_from, told_all}
 use Rattle.asm65.proofs.running.take_rest.Goals as goal

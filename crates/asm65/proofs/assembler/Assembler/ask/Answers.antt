@@ -2,7 +2,7 @@ use Rattle.std.proofs.Common.{◌≡◌, ◌∙◌, Bool, refl, sym, subst}
 use Rattle.std.specs.Prelude.{true, if◌then◌else◌}
 use Rattle.semantics65.specs.Contents.{asking}
 use Rattle.semantics65.specs.Symbols.{asks_section}
-use Rattle.semantics65.specs.Machine.{entered}
+use Rattle.sources65.specs.Machine.{entered}
 use Rattle.asm65.specs.declared.assembler.Assembler.{Assembler}
 use Rattle.asm65.specs.Inner.Holding.{Holds}
 use Rattle.asm65.proofs.Waitings.{holds_entered}

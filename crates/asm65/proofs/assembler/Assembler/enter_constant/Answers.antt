@@ -7,7 +7,7 @@ use Rattle.semantics65.specs.Contents.{telling}
 use Rattle.semantics65.specs.declared.laid.Context.{Context}
 use Rattle.semantics65.specs.Views.{place_in}
 use Rattle.semantics65.specs.Module.{equated, valued}
-use Rattle.semantics65.proofs.Resolving.{final_settles}
+use Rattle.sources65.proofs.Resolving.{final_settles}
 use Rattle.symbols65.specs.Views.{table_of}
 use Rattle.symbols65.proofs.Measures.{ok_then}
 use Rattle.asm65.specs.declared.assembler.Assembler.{Assembler}

@@ -2,7 +2,7 @@ use Rattle.std.proofs.Common.{◌≡◌, ◌∙◌, List, ℕ, ap, map, take, sy
 use Rattle.syntax65.specs.declared.place.Place.{Place}
 use Rattle.semantics65.specs.declared.laid.Context.{Context}
 use Rattle.semantics65.specs.Views.{place_in}
-use Rattle.semantics65.specs.Machine.{State, awaiting}
+use Rattle.sources65.specs.Machine.{State, awaiting}
 use Rattle.semantics65.specs.Module as piece
 use Rattle.emit65.specs.Fed.{piece_of}
 use Rattle.asm65.specs.declared.assembler.Assembler.{Assembler}

@@ -14,7 +14,7 @@ use Rattle.symbols65.specs.Measuring.{advanced}
 use Rattle.symbols65.specs.declared.measuring.Measured.{Measured}
 use Rattle.symbols65.specs.declared.measuring.Measured as found
 use Rattle.symbols65.proofs.Behind.{is_measured}
-use Rattle.semantics65.specs.Machine.{entered}
+use Rattle.sources65.specs.Machine.{entered}
 use Rattle.symbols65.specs.Views.{table_of}
 use Rattle.asm65.specs.declared.assembler.Assembler.{Assembler}
 use Rattle.asm65.specs.Inner.Holding.{Holds, asked_of}

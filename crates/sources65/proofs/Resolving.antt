@@ -1,0 +1,52 @@
+-- What waits, resolved by a symbol table that grew.
+use Rattle.std.proofs.Common.{◌≡◌, ◌∙◌, ℕ, List, [], ◌∷◌, ◌++◌, refl, sym, ap, arith}
+use Rattle.std.specs.Prelude.{if◌then◌else◌}
+use Rattle.std.specs.List.{flat_map, list_any}
+use Rattle.std.specs.Str.{bytes_eq}
+use Rattle.std.proofs.lemmas.Grind.{common_steps, flat_map-append}
+use Rattle.std.proofs.lemmas.List.{append-nil}
+use Rattle.semantics65.specs.Symbols.{Laid, Symbols, symbols_of, with_new}
+use Rattle.semantics65.specs.Norms.{Extends}
+use Rattle.sources65.specs.Machine.{symbols_behind, IsSettled, FinalSettles}
+use Rattle.base65.specs.Outcome.{◌>>=◌}
+use Rattle.semantics65.specs.Module.{at_place, given, used}
+use Rattle.semantics65.specs.Contents.{Part, put}
+use Rattle.syntax65.specs.declared.place.Place.{Place}
+use Rattle.semantics65.specs.declared.laid.Context.{Context}
+
+-- ---- Symbol tables that grow.
+
+pub flat_push : {A B : Type 0} (f : A → List B) (xs : List A) (x : A) → flat_map f (xs ++ x ∷ []) ≡ flat_map f xs ++ f x
+flat_push f xs x = flat_map-append f xs (x ∷ []) ∙ ap (λ zs. flat_map f xs ++ zs) (append-nil (f x))
+
+pub new_append : (known xs ys : List (List ℕ)) → with_new known (xs ++ ys) ≡ with_new (with_new known xs) ys
+new_append known [] ys = refl
+new_append known (x ∷ xs) ys = new_append (if list_any (λ k. bytes_eq x k) known then known else known ++ x ∷ []) xs ys
+
+-- the symbol table of statements with one more behind them
+pub symbols_push : (ls : List Laid) (l : Laid) → symbols_of (ls ++ l ∷ []) ≡ symbols_behind (symbols_of ls) l
+symbols_push ls l = grind (arith, common_steps, flat_push, new_append)
+
+pub extends_same : (y : Symbols) → Extends y y
+extends_same y = record {
+  later_definitions = [];
+  definitions = sym (append-nil y.definitions);
+  later_scopes = [];
+  scopes = sym (append-nil y.scopes);
+}
+
+pub extends_behind : (y : Symbols) (l : Laid) → Extends y (symbols_behind y l)
+extends_behind y l = grind (arith, common_steps)
+
+pub extends_then : (x y z : Symbols) → Extends x y → Extends y z → Extends x z
+extends_then x y z a b = grind (arith, common_steps)
+
+-- ---- Which pieces are settled at their line.
+
+-- what needs no value
+pub settled_given : (y : Symbols) (place : Place) (s : Context) (p : Part) → IsSettled y place s (given p) (put s.segment p)
+settled_given y place s p z names e = refl
+
+-- a value whose form is final
+pub final_settles : FinalSettles
+final_settles y place s why e f c final there z names more = ap (at_place place) (ap (λ r. r >>= used place s why) (final z more) ∙ there)

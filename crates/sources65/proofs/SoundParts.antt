@@ -1,0 +1,346 @@
+-- The forms of sound statements, and how long what their pieces put is.
+use Rattle.std.proofs.lemmas.Grind.{common_steps}
+use Rattle.std.proofs.Common.{◌≡◌, ◌∙◌, ℕ, ◌+◌, Bool, true, false, nat_eq, nat_lt, refl, sym, ap, subst, arith, List, [], ◌∷◌, ◌++◌, length, map, take, drop, Option, Some, None, Result, Ok, Err}
+use Rattle.std.specs.Prelude.{⊤, ℤ, IfOk, ◌&&◌, sum_by, if◌then◌else◌}
+use Rattle.std.specs.List.{list_all, list_any, filter, flat_map}
+use Rattle.std.specs.Str.{bytes_eq}
+use Rattle.std.proofs.lemmas.List.{append-nil}
+use Rattle.std.proofs.lemmas.List.Sums.{sum_by-append, sum_by-cons}
+use Rattle.std.proofs.lemmas.List.Folds.{list_all-append}
+use Rattle.base65.specs.Outcome.{◌>>=◌}
+use Rattle.syntax65.specs.Opcodes.{opcode_of}
+use Rattle.syntax65.specs.Trees.{Tree}
+use Rattle.syntax65.specs.declared.instructions.codes.Mode.{Mode}
+use Rattle.syntax65.specs.declared.instructions.codes.Mode.TheVariants.{Implied, Accumulator, Immediate, Indirect, IndirectX, IndirectY}
+use Rattle.syntax65.specs.declared.instructions.names.Mnemonic.{Mnemonic}
+use Rattle.syntax65.specs.declared.lexing.tokens.AddressSize.{AddressSize}
+use Rattle.object65.specs.Form.{Form, lit, sec, imp, prefix, binary}
+use Rattle.object65.specs.Objects.{is_file_name, value_bytes, width_len}
+use Rattle.object65.specs.declared.object.Width.{Width}
+use Rattle.semantics65.specs.Contents.{Content, Declaration, ForcedImport, Part, Waiting, asking, decided, export_said, file_bytes, import_fault, opcode_part, operand_form, operand_tree, put, room_part, stored, telling, written, exported_names}
+use Rattle.syntax65.specs.declared.place.Place.{Place}
+use Rattle.semantics65.specs.Symbols.{Laid, asks_section, defined, has_here, named, Symbols}
+use Rattle.semantics65.specs.declared.laid.Settled.TheVariants.{FromByte}
+use Rattle.semantics65.specs.declared.laid.Context.{Context}
+use Rattle.ast65.specs.declared.fault.AsmFault.{AsmFault}
+use Rattle.ast65.specs.declared.language.Item.{Item}
+use Rattle.ast65.specs.declared.language.Operand.{Operand}
+use Rattle.ast65.specs.declared.language.Statement.{Statement}
+use Rattle.ast65.specs.declared.language.Statement.TheVariants.{Constant, Instruction, Values, Reserve, Align, FilePart, Import, Export, Global, ForceImport, Assert}
+use Rattle.ast65.specs.declared.language.Operand.TheVariants as operand
+use Rattle.ast65.specs.declared.language.Item.TheVariants.{Value, Text}
+use Rattle.ast65.specs.declared.language.Index.{Index}
+use Rattle.semantics65.specs.Module.{Made, Piece, absent_of, as_part, as_said, asserted, coming, datum, demanded, equated, exported, failed, given, holds, imported, instruction_pieces, item_piece, made_of, operand_pieces, pieces_of, quietly, slots_of, used, valued, waiting_at, waits, PlacedFault, at_place}
+use Rattle.semantics65.specs.Module as purpose
+use Rattle.semantics65.specs.Norms.{norm_of, address_mode, branch_mode, bytes_between, fill_settled, first_of, is_branch, item_len, length_of, mode_len, mode_of, mode_settled, operand_len, part_len as file_len, part_start, settled_of, size_of, width_of}
+use Rattle.semantics65.specs.Numbering.{imports_in, IsMeasured, IsSoundAt, IsSoundForm, part_len, parts_in, sections_in}
+use Rattle.semantics65.proofs.Found.{AreFound}
+use Rattle.sources65.proofs.SoundForms.{Holds, IsWell, Pass, norm_well, well_then}
+
+-- ---- Forms.
+
+abbrev pub asked_in : List ℕ → ℕ → Bool
+asked_in asked g = list_any (nat_eq g) asked
+
+abbrev pub below : ℕ → ℕ → Bool
+below count k = nat_lt k count
+
+both : (a b : Bool) → a ≡ true → b ≡ true → (a && b) ≡ true
+both a b h k = rw h k
+
+sections_pass : (q r : ℕ → Bool) (f : Form) → Holds q r f → list_all q (sections_in f) ≡ true
+sections_pass q r (lit v) h = refl
+sections_pass q r (sec k a) h = both (q k) true h refl
+sections_pass q r (imp k) h = refl
+sections_pass q r (prefix op f) h = sections_pass q r f h
+sections_pass q r (binary op f g) (h, i) = list_all-append q (sections_in f) (sections_in g) ∙ both (list_all q (sections_in f)) (list_all q (sections_in g)) (sections_pass q r f h) (sections_pass q r g i)
+
+imports_pass : (q r : ℕ → Bool) (f : Form) → Holds q r f → list_all r (imports_in f) ≡ true
+imports_pass q r (lit v) h = refl
+imports_pass q r (sec k a) h = refl
+imports_pass q r (imp k) h = both (r k) true h refl
+imports_pass q r (prefix op f) h = imports_pass q r f h
+imports_pass q r (binary op f g) (h, i) = list_all-append r (imports_in f) (imports_in g) ∙ both (list_all r (imports_in f)) (list_all r (imports_in g)) (imports_pass q r f h) (imports_pass q r g i)
+
+pub sound_form : (asked : List ℕ) (count : ℕ) (f : Form) → IsWell (asked_in asked) (below count) f → IsSoundForm asked count f
+sound_form asked count f w = record { folded = w.folded; sections = sections_pass (asked_in asked) (below count) f w.holds; imports = imports_pass (asked_in asked) (below count) f w.holds }
+
+-- what is known of all statements
+abbrev pub IsKnown : List ℕ → ℕ → Symbols → Type 0
+IsKnown asked count y = Pass (asked_in asked) (below count) y
+
+pub form_sound : (asked : List ℕ) (count : ℕ) (y : Symbols) → IsKnown asked count y → (s : Context) (e : Tree) → (has_here e ≡ true → asked_in asked s.segment ≡ true) → IfOk (norm_of y s e) (IsWell (asked_in asked) (below count))
+form_sound asked count y k s e h = norm_well (asked_in asked) (below count) y k s e h
+
+-- ---- What is written with its place.
+
+pub written_with : {A : Type 0} (P : A → Type 0) (place : Place) (x : A) → (is_file_name place.file ≡ true → P x) → IfOk (written place x) P
+written_with {A} P place x h = grind (arith, common_steps)
+
+pub form_at : (asked : List ℕ) (count : ℕ) (place : Place) (f : Form) → IsWell (asked_in asked) (below count) f → is_file_name place.file ≡ true → IsSoundAt asked count place f
+form_at asked count place f w e = record { file = e; form = sound_form asked count f w }
+
+value_len : (width : Width) (v : ℤ) → length (value_bytes width v) ≡ width_len width
+value_len x1 v = grind (arith, common_steps)
+
+-- ---- Pieces.
+
+-- how many bytes a piece puts
+abbrev pub piece_len : Piece → ℕ
+piece_len (given p) = part_len p
+piece_len (valued (datum width) e) = width_len width
+piece_len (valued (purpose.operand width) e) = width_len width
+piece_len _ = 0
+
+-- so many bytes in a segment, where it is this one
+abbrev pub there : Bool → ℕ → ℕ
+there b n = if b then n else 0
+
+-- what is made puts so many bytes into the segment, and none into others
+abbrev IsLong : ℕ → ℕ → Content → Type 0
+IsLong segment len c = (g : ℕ) → sum_by part_len (parts_in (c ∷ []) g) ≡ there (nat_eq segment g) len
+
+put_long : (segment : ℕ) (p : Part) → IsLong segment (part_len p) (put segment p)
+put_long segment p g = by (nat_eq segment g)
+  where
+    by : (b : Bool) → sum_by part_len (flat_map (λ (c : Content). c.parts) (if b then put segment p ∷ [] else [])) ≡ there b (part_len p)
+    by true = sum_by-cons part_len p [] ∙ omega arith
+    by false = refl
+
+told_long : (segment : ℕ) (ss : List Declaration) → IsLong segment 0 (telling ss)
+told_long segment ss g = nothing (nat_eq 0 g) (nat_eq segment g)
+  where
+    nothing : (a b : Bool) → sum_by part_len (flat_map (λ (c : Content). c.parts) (if a then telling ss ∷ [] else [])) ≡ there b 0
+    nothing true true = refl
+    nothing true false = refl
+    nothing false true = refl
+    nothing false false = refl
+
+asking_long : (segment g : ℕ) → sum_by part_len (parts_in (asking segment ∷ []) g) ≡ 0
+asking_long segment g = by (nat_eq segment g)
+  where
+    by : (b : Bool) → sum_by part_len (flat_map (λ (c : Content). c.parts) (if b then asking segment ∷ [] else [])) ≡ 0
+    by true = refl
+    by false = refl
+
+stored_len : (width : Width) (place : Place) (f : Form) → IfOk (stored width place f) (λ p. part_len p ≡ width_len width)
+stored_len width place (lit v) = grind (arith, common_steps, value_len)
+stored_len width place f = written_with (λ p. part_len p ≡ width_len width) place (Waiting width place f) (λ e. refl)
+
+pub any_ok : {A E : Type 0} (r : Result A E) → IfOk r (λ (x : A). ⊤)
+any_ok (Ok x) = tt
+any_ok (Err e) = tt
+
+part_long : (segment len : ℕ) (r : Result Part AsmFault) → IfOk r (λ p. part_len p ≡ len) → IfOk (r >>= as_part segment) (λ m. IsLong segment len m.content)
+part_long segment len (Ok p) h = λ g. put_long segment p g ∙ ap (there (nat_eq segment g)) h
+part_long segment len (Err e) h = tt
+
+said_long : (segment : ℕ) (r : Result (List Declaration) AsmFault) → IfOk (r >>= as_said) (λ m. IsLong segment 0 m.content)
+said_long segment (Ok ss) = told_long segment ss
+said_long segment (Err e) = tt
+
+made_long : (y : Symbols) (place : Place) (s : Context) (p : Piece) → IfOk (made_of y place s p) (λ m. IsLong s.segment (piece_len p) m.content)
+made_long y place s (given p) = put_long s.segment p
+made_long y place s (valued (datum width) e) =
+    well_then (λ f. ⊤) (λ m. IsLong s.segment (width_len width) m.content) (norm_of y s e) (used place s (datum width)) (any_ok (norm_of y s e))
+    (λ f u. part_long s.segment (width_len width) (stored width place f) (stored_len width place f))
+made_long y place s (valued (purpose.operand width) e) =
+    well_then (λ f. ⊤) (λ m. IsLong s.segment (width_len width) m.content) (norm_of y s e) (used place s (purpose.operand width)) (any_ok (norm_of y s e))
+    (λ f u. part_long s.segment (width_len width) (operand_form width s f >>= stored width place)
+    (well_then (λ g. ⊤) (λ p. part_len p ≡ width_len width) (operand_form width s f) (stored width place) (any_ok (operand_form width s f)) (λ g v. stored_len width place g)))
+made_long y place s (valued equated e) =
+    well_then (λ f. ⊤) (λ m. IsLong s.segment 0 m.content) (norm_of y s e) (used place s equated) (any_ok (norm_of y s e)) (λ f u. told_long s.segment [])
+made_long y place s (valued (asserted act words) e) =
+    well_then (λ f. ⊤) (λ m. IsLong s.segment 0 m.content) (norm_of y s e) (used place s (asserted act words)) (any_ok (norm_of y s e))
+    (λ f u. well_then (λ ss. ⊤) (λ m. IsLong s.segment 0 m.content) (decided act place words f) (λ ss. Ok (record { content = telling ss; warning = failed place act words (Ok f) })) (any_ok (decided act place words f)) (λ ss v. told_long s.segment ss))
+made_long y place s (imported n) = said_long s.segment (import_fault y n)
+made_long y place s (demanded n) = told_long s.segment (ForcedImport n ∷ [])
+made_long y place s (exported must n) = said_long s.segment (export_said y place n (absent_of must n) (defined y (named 0 n)))
+
+pub placed_ok : {A : Type 0} (P : A → Type 0) (place : Place) (r : Result A AsmFault) → IfOk r P → IfOk (at_place place r) P
+placed_ok P place (Ok x) h = h
+placed_ok P place (Err e) h = tt
+
+-- what is so of what is made of a piece, and of nothing where an export is repeated
+pub coming_so : (P : Made → Type 0) (y : Symbols) (names : List (List ℕ)) (place : Place) (s : Context) (p : Piece) →
+    ((must : Bool) (n : List ℕ) → p ≡ exported must n → P (quietly (telling []))) → IfOk (made_of y place s p) P →
+    IfOk (coming y names (waits (record { place = place; context = s; piece = p }))) P
+coming_so P y names place s (exported must n) repeated h = by (list_any (bytes_eq n) names)
+  where
+    by : (b : Bool) → IfOk (at_place place (if b then as_said [] else made_of y place s (exported must n))) P
+    by true = repeated must n refl
+    by false = placed_ok P place (made_of y place s (exported must n)) h
+coming_so P y names place s (given p) repeated h = h
+coming_so P y names place s (valued why e) repeated h = placed_ok P place (made_of y place s (valued why e)) h
+coming_so P y names place s (imported n) repeated h = placed_ok P place (made_of y place s (imported n)) h
+coming_so P y names place s (demanded n) repeated h = h
+
+coming_long : (y : Symbols) (names : List (List ℕ)) (place : Place) (s : Context) (p : Piece) → IfOk (coming y names (waits (record { place = place; context = s; piece = p }))) (λ m. IsLong s.segment (piece_len p) m.content)
+coming_long y names place s p =
+    coming_so (λ m. IsLong s.segment (piece_len p) m.content) y names place s p (λ must n e. subst (λ q. IsLong s.segment (piece_len q) (telling [])) (sym e) (told_long s.segment [])) (made_long y place s p)
+
+-- ---- Slots of a statement.
+
+parts_cons : (c : Content) (cs : List Content) (g : ℕ) → sum_by part_len (parts_in (c ∷ cs) g) ≡ sum_by part_len (parts_in (c ∷ []) g) + sum_by part_len (parts_in cs g)
+parts_cons c cs g = by (nat_eq c.segment g)
+  where
+    by : (b : Bool) → sum_by part_len (flat_map (λ (d : Content). d.parts) (if b then c ∷ filter (λ (d : Content). nat_eq d.segment g) cs else filter (λ (d : Content). nat_eq d.segment g) cs))
+        ≡ sum_by part_len (flat_map (λ (d : Content). d.parts) (if b then c ∷ [] else [])) + sum_by part_len (parts_in cs g)
+    by true = sum_by-append part_len c.parts (parts_in cs g) ∙ ap (λ ps. sum_by part_len ps + sum_by part_len (parts_in cs g)) (sym (append-nil c.parts))
+    by false = omega arith
+
+there_plus : (b : Bool) (m n : ℕ) → there b m + there b n ≡ there b (m + n)
+there_plus true m n = refl
+there_plus false m n = refl
+
+nothing_there : (b : Bool) → 0 ≡ there b 0
+nothing_there true = refl
+nothing_there false = refl
+
+pub if_found : {A E : Type 0} (P : A → Type 0) (r : Result A E) (x : A) → r ≡ Ok x → IfOk r P → P x
+if_found P r x e h = subst (λ q. IfOk q P) e h
+
+pieces_long : (y : Symbols) (names : List (List ℕ)) (l : Laid) (g : ℕ) (ps : List Piece) (cs : List Content) → AreFound y names (map (waiting_at l) ps) cs → sum_by part_len (parts_in cs g) ≡ there (nat_eq l.context.segment g) (sum_by piece_len ps)
+pieces_long y names l g [] [] h = nothing_there (nat_eq l.context.segment g)
+pieces_long y names l g [] (c ∷ cs) h = absurd h
+pieces_long y names l g (p ∷ ps) [] h = absurd h
+pieces_long y names l g (p ∷ ps) (c ∷ cs) (w, made, h) =
+    let b = nat_eq l.context.segment g in
+    parts_cons c cs g
+    ∙ ap (λ n. n + sum_by part_len (parts_in cs g)) (if_found (λ (m : Made). IsLong l.context.segment (piece_len p) m.content) (coming y names (waiting_at l p)) (record { content = c; warning = w }) made (coming_long y names l.place l.context p) g)
+    ∙ ap (λ n. there b (piece_len p) + n) (pieces_long y (names ++ exported_names c.said) l g ps cs h)
+    ∙ there_plus b (piece_len p) (sum_by piece_len ps)
+    ∙ ap (there b) (sym (sum_by-cons piece_len p ps))
+
+none_first : (n : ℕ) → 0 + n ≡ n
+none_first n = omega arith
+
+pub content_is : (m n : Made) → ◌≡◌ {A = Result Made PlacedFault} (Ok m) (Ok n) → m.content ≡ n.content
+content_is m n e = (let same : m ≡ n = cc in ap (λ (x : Made). x.content) same)
+
+asked_long : (y : Symbols) (names : List (List ℕ)) (l : Laid) (g : ℕ) (b : Bool) (cs : List Content) → AreFound y names ((if b then holds (asking l.context.segment) ∷ [] else []) ++ map (waiting_at l) (pieces_of l.length l.settled l.stated)) cs →
+    sum_by part_len (parts_in cs g) ≡ there (nat_eq l.context.segment g) (sum_by piece_len (pieces_of l.length l.settled l.stated))
+asked_long y names l g false cs h = pieces_long y names l g (pieces_of l.length l.settled l.stated) cs h
+asked_long y names l g true [] h = absurd h
+asked_long y names l g true (c ∷ cs) (w, made, h) =
+    let is : asking l.context.segment ≡ c = content_is (quietly (asking l.context.segment)) (record { content = c; warning = w }) made in
+    parts_cons c cs g ∙ ap (λ n. n + sum_by part_len (parts_in cs g)) (ap (λ (d : Content). sum_by part_len (parts_in (d ∷ []) g)) (sym is) ∙ asking_long l.context.segment g)
+    ∙ none_first (sum_by part_len (parts_in cs g))
+    ∙ pieces_long y (names ++ exported_names c.said) l g (pieces_of l.length l.settled l.stated) cs h
+
+-- ---- Forms of instructions.
+
+-- the instruction has this form, and without an operand nothing is stored behind its code
+record IsForm (m : Mnemonic) (t : Option Tree) (mode : Mode) : Type 0 where
+  code : part_len (opcode_part (opcode_of m mode)) ≡ 1
+  alone : t ≡ None → width_of mode ≡ None
+
+abbrev MayForm : Mnemonic → Option Tree → Option Mode → Type 0
+MayForm m t None = ⊤
+MayForm m t (Some mode) = IsForm m t mode
+
+abbrev Alone : Option Tree → Mode → Type 0
+Alone t mode = t ≡ None → width_of mode ≡ None
+
+with_code : (m : Mnemonic) (t : Option Tree) (mode : Mode) (c : ℕ) → Alone t mode → opcode_of m mode ≡ Some c → IsForm m t mode
+with_code m t mode c a h = record { code = ap (λ o. part_len (opcode_part o)) h; alone = a }
+
+first_some : (m : Mnemonic) (a b : Mode) (c : ℕ) → opcode_of m a ≡ Some c → first_of m a b ≡ Some a
+first_some m a b c h = rw h refl
+
+first_second : (m : Mnemonic) (a b : Mode) (c : ℕ) → opcode_of m a ≡ None → opcode_of m b ≡ Some c → first_of m a b ≡ Some b
+first_second m a b c h k = rw (h, k) refl
+
+first_none : (m : Mnemonic) (a b : Mode) → opcode_of m a ≡ None → opcode_of m b ≡ None → first_of m a b ≡ None
+first_none m a b h k = rw (h, k) refl
+
+first_form : (m : Mnemonic) (t : Option Tree) (a b : Mode) → Alone t a → Alone t b → MayForm m t (first_of m a b)
+first_form m t a b v w = go (opcode_of m a) (opcode_of m b) refl refl
+  where
+    go : (x y : Option ℕ) → opcode_of m a ≡ x → opcode_of m b ≡ y → MayForm m t (first_of m a b)
+    go (Some c) y h k = subst (MayForm m t) (sym (first_some m a b c h)) (with_code m t a c v h)
+    go None (Some d) h k = subst (MayForm m t) (sym (first_second m a b d h k)) (with_code m t b d w k)
+    go None None h k = subst (MayForm m t) (sym (first_none m a b h k)) tt
+
+stored_behind : (e : Tree) (mode : Mode) → Alone (Some e) mode
+stored_behind e mode h = absurd cc
+
+address_form : (m : Mnemonic) (e : Tree) (forced : Option AddressSize) (own : AddressSize) (r : Option Index) → MayForm m (Some e) (address_mode m forced own r)
+address_form m e x1 own r = grind (arith, common_steps)
+
+branch_form : (m : Mnemonic) (e : Tree) (forced : Option AddressSize) (r : Option Index) → is_branch m ≡ true → MayForm m (Some e) (branch_mode forced r)
+branch_form m e x1 x2 b = grind (arith, common_steps)
+
+operand_mode : (before : Symbols) (s : Context) (own : AddressSize) (m : Mnemonic) (o : Operand) → MayForm m (operand_tree o) (mode_of before s own m o)
+operand_mode before s own m operand.Absent = first_form m None Implied Accumulator (λ h. refl) (λ h. refl)
+operand_mode before s own m operand.Accumulator = first_form m None Accumulator Accumulator (λ h. refl) (λ h. refl)
+operand_mode before s own m (operand.Immediate e) = first_form m (Some e) Immediate Immediate (stored_behind e Immediate) (stored_behind e Immediate)
+operand_mode before s own m (operand.Address forced e r) = by (is_branch m) refl
+  where
+    by : (b : Bool) → is_branch m ≡ b → MayForm m (Some e) (if b then branch_mode forced r else address_mode m forced (size_of before s own e) r)
+    by true h = branch_form m e forced r h
+    by false h = address_form m e forced (size_of before s own e) r
+operand_mode before s own m (operand.Indirect e) = first_form m (Some e) Indirect Indirect (stored_behind e Indirect) (stored_behind e Indirect)
+operand_mode before s own m (operand.IndirectX e) = first_form m (Some e) IndirectX IndirectX (stored_behind e IndirectX) (stored_behind e IndirectX)
+operand_mode before s own m (operand.IndirectY e) = first_form m (Some e) IndirectY IndirectY (stored_behind e IndirectY) (stored_behind e IndirectY)
+
+-- ---- Parts of files.
+
+between_taken : (bytes : List ℕ) (start : ℕ) (len : Option ℤ) → length (take (length (bytes_between bytes start len)) (drop start bytes)) ≡ length (bytes_between bytes start len)
+between_taken bytes start x1 = grind (arith, common_steps)
+
+file_taken : (before : Symbols) (s : Context) (bytes : Option (List ℕ)) (start len : Option Tree) → length (file_bytes (file_len before s bytes start len) bytes (FromByte (part_start before s start))) ≡ file_len before s bytes start len
+file_taken before s x1 start len = grind (arith, common_steps, between_taken)
+
+-- ---- The pieces of a statement are as long as it is.
+
+items_long : (width : Width) (its : List Item) → sum_by piece_len (map (item_piece width) its) ≡ sum_by (item_len width) its
+items_long width [] = refl
+items_long width (it ∷ its) = sum_by-cons piece_len (item_piece width it) (map (item_piece width) its) ∙ ap (λ n. piece_len (item_piece width it) + n) (items_long width its) ∙ ap (λ n. n + sum_by (item_len width) its) (one it) ∙ sym (sum_by-cons (item_len width) it its)
+  where
+    one : (it : Item) → piece_len (item_piece width it) ≡ item_len width it
+    one (Value e) = refl
+    one (Text bytes) = refl
+
+operands_long : (w : Option Width) (t : Option Tree) → (t ≡ None → w ≡ None) → sum_by piece_len (operand_pieces w t) ≡ operand_len w
+operands_long None t a = refl
+operands_long (Some width) None a = (let none : Some width ≡ None = a refl in absurd cc)
+operands_long (Some width) (Some e) a = sum_by-cons piece_len (valued (purpose.operand width) e) [] ∙ omega arith
+
+instruction_long : (m : Mnemonic) (o : Operand) (mode : Option Mode) → MayForm m (operand_tree o) mode → sum_by piece_len (instruction_pieces m o (mode_settled mode)) ≡ mode_len mode
+instruction_long m o None f = refl
+instruction_long m o (Some mode) f =
+    sum_by-cons piece_len (given (opcode_part (opcode_of m mode))) (operand_pieces (width_of mode) (operand_tree o))
+    ∙ ap (λ n. n + sum_by piece_len (operand_pieces (width_of mode) (operand_tree o))) f.code ∙ ap (λ n. 1 + n) (operands_long (width_of mode) (operand_tree o) f.alone)
+
+room_long : (before : Symbols) (s : Context) (len : ℕ) (v : Option Tree) → part_len (room_part len (fill_settled before s v)) ≡ len
+room_long before s len x1 = grind (arith, common_steps)
+
+one_long : (p : Part) (len : ℕ) → part_len p ≡ len → sum_by piece_len (given p ∷ []) ≡ len
+one_long p len h = sum_by-cons piece_len (given p) [] ∙ (let same = h in omega (arith, same))
+
+silent : (make : List ℕ → Piece) → ((n : List ℕ) → piece_len (make n) ≡ 0) → (names : List (List ℕ)) → sum_by piece_len (map make names) ≡ 0
+silent make is [] = refl
+silent make is (n ∷ names) = (let first = is n in let more = silent make is names in sum_by-cons piece_len (make n) (map make names) ∙ omega (arith, first, more))
+
+measured_long : (before : Symbols) (s : Context) (own : AddressSize) (x : Statement) → sum_by piece_len (pieces_of (length_of before s own x) (settled_of before s own x) x) ≡ length_of before s own x
+measured_long before s own (Instruction m o) = instruction_long m o (mode_of before s own m o) (operand_mode before s own m o)
+measured_long before s own (Values width its) = items_long width its
+measured_long before s own (Reserve n v) = one_long (room_part (length_of before s own (Reserve n v)) (fill_settled before s v)) (length_of before s own (Reserve n v)) (room_long before s (length_of before s own (Reserve n v)) v)
+measured_long before s own (Align n v) = one_long (room_part (length_of before s own (Align n v)) (fill_settled before s v)) (length_of before s own (Align n v)) (room_long before s (length_of before s own (Align n v)) v)
+measured_long before s own (FilePart bytes start more) = grind (arith, common_steps, one_long, file_taken)
+measured_long before s own (Constant n e) = refl
+measured_long before s own (Import size names) = silent imported (λ n. refl) names
+measured_long before s own (Export names) = silent (exported true) (λ n. refl) names
+measured_long before s own (Global size names) = silent (exported false) (λ n. refl) names
+measured_long before s own (ForceImport names) = sum_by-append piece_len (map imported names) (map demanded names) ∙ ap (λ n. n + sum_by piece_len (map demanded names)) (silent imported (λ n. refl) names) ∙ none_first (sum_by piece_len (map demanded names)) ∙ silent demanded (λ n. refl) names
+measured_long before s own (Assert e act words) = refl
+measured_long before s own _ = refl
+
+-- a statement's contents put as many bytes into its segment as it places
+pub slots_long : (y : Symbols) (names : List (List ℕ)) (before : Symbols) (l : Laid) (g : ℕ) (cs : List Content) → IsMeasured before l → AreFound y names (slots_of l) cs → sum_by part_len (parts_in cs g) ≡ (if nat_eq l.context.segment g then l.length else 0)
+slots_long y names before l g cs e h =
+    asked_long y names l g (asks_section l.stated) cs h
+    ∙ ap (λ n. there (nat_eq l.context.segment g) n)
+    (ap (λ n. sum_by piece_len (pieces_of n l.settled l.stated)) e.length ∙ ap (λ z. sum_by piece_len (pieces_of (length_of before l.context l.size l.stated) z l.stated)) e.settled
+    ∙ measured_long before l.context l.size l.stated ∙ sym e.length)

@@ -1,0 +1,23 @@
+-- That the numbers and texts of a source's object are those of their types.
+use Rattle.std.specs.Prelude.{◌≡◌, ℕ, ◌<◌, ◌^◌, List, Some, Ok}
+use Rattle.std.specs.FinMap as fmap
+use Rattle.std.specs.List.{AllByRecursion}
+use Rattle.base65.specs.Store.{Files, IsBytes}
+use Rattle.object65.specs.Objects.{ObjectFits}
+use Rattle.semantics65.specs.Module.{Outcome}
+use Rattle.sources65.specs.Reading.{IsOutcome, Define, Job}
+use Rattle.semantics65.specs.Types.{Object}
+
+-- files have bytes
+abbrev pub HoldBytes : Files → Type 0
+HoldBytes m = (name bytes : List ℕ) → fmap.get m name ≡ Some bytes → IsBytes bytes
+
+-- the values of the command line's constants are those of 32 bits
+abbrev pub AreOfTypes : List Define → Type 0
+AreOfTypes defines = AllByRecursion (λ d. d.1 < 2 ^ 32) defines
+
+-- so the numbers and texts of a source's object are those of their types, by the limits of lines, of repeats and of sections
+abbrev pub FittingObjectLaw : Type 0
+FittingObjectLaw =
+    (m : Files) (job : Job) (a : Outcome) (o : Object) → HoldBytes m → AreOfTypes job.defines →
+    IsOutcome m job a → a.result ≡ Ok o → ObjectFits o

@@ -1,0 +1,4 @@
+pub mod Fitting
+pub mod Laws
+pub mod Machine
+pub mod Reading

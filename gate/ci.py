@@ -1,0 +1,183 @@
+#!/usr/bin/env python3
+"""Runs `rt ci` and, on the processors that it leaves idle, tries mutants of the crates that it has proved (mutants.py).
+
+usage: ci.py    RT_JOBS is how many checks `rt ci` runs at once (default: one for each processor, as far as memory holds).
+Each minute it prints what is running; at the end how long each part took and, if something failed, the crate, the function or file, and
+the first thing that the prover said. The last line is 'N passed, M failed'."""
+import os
+import re
+import subprocess
+import sys
+import threading
+import time
+
+import kit
+import mutants
+
+# A check takes up to 3 GB, and a proof that starts meanwhile as much.
+MEMORY = 6_000_000_000
+FINDING = re.compile(r"(?:note: )?(?:\./)?(?:src|specs|proofs)/\S+?:\d+:\d+: ")
+PASSED = re.compile(r"(\d+) passed, (\d+) failed")
+
+
+class Reasons:
+    """Reads what `rt ci` prints, and keeps which crates are proved and why something failed."""
+
+    def __init__(self):
+        self.found, self.block = [], []
+
+    def read(self, line):
+        """Returns the name of a crate that this line says is proved, or None."""
+        if line.startswith("== "):
+            self.block = []
+        self.block.append(line)
+        ended = re.match(r"rt: (\w+)(: its tests)? (proved|NOT PROVED|is kept)\b", line)
+        if ended:
+            if ended[3] == "NOT PROVED":
+                self.found.append(f"{ended[1]}{ended[2] or ''}: not proved: {self.first()}")
+            self.block = []
+            return ended[1] if ended[3] != "NOT PROVED" and not ended[2] else None
+        if re.match(r"rt: .*(FAILED|NOT REFUSED|NOT TRIED|BAD EDIT|was stopped by|ended with status|had not ended|differ first at)", line):
+            self.found.append(line.removeprefix("rt: "))
+        return None
+
+    def first(self):
+        """Returns the first finding of a failed check with its function, or else its last lines."""
+        function = next((it for it in self.block if re.match(r"fn \S+: (not proved|no proof)", it)), "")
+        said = next((it for it in self.block if FINDING.match(it) and ": error" in it), "") or next((it for it in self.block if FINDING.match(it)), "")
+        return "; ".join(filter(None, (said, function))) or " / ".join(it for it in self.block[-4:] if it)
+
+
+class Idle:
+    """Waits until a processor has been idle for some seconds and memory is free, one caller at a time."""
+
+    def __init__(self, rt):
+        self.rt, self.lock, self.is_over = rt, threading.Lock(), threading.Event()
+
+    @staticmethod
+    def seconds():
+        """Returns the idle seconds of all processors together since the machine started."""
+        with open("/proc/stat", encoding="utf-8") as it:
+            fields = it.readline().split()
+        return sum(map(int, fields[4:6])) / os.sysconf("SC_CLK_TCK")
+
+    def wait(self):
+        with self.lock:
+            while not self.is_over.is_set():
+                before = self.seconds()
+                if not self.is_over.wait(5) and self.seconds() - before > 4 and self.rt.free() > MEMORY:
+                    return
+
+
+class Beside:
+    """Tries the mutants of crates, each crate once those below it are proved, at a lower priority than the proofs."""
+
+    def __init__(self, rt, crates):
+        self.rt, self.idle, self.proved, self.failed, self.began = rt, Idle(rt), set(), [], time.time()
+        self.left, self.kinds = mutants.chosen(rt, crates)
+        self.count, self.took, self.change = sum(map(len, self.left.values())), {}, threading.Condition()
+        self.workers = [threading.Thread(target=self.work, daemon=True) for _ in range(kit.lanes(rt))]
+        for it in self.workers:
+            it.start()
+
+    def is_proved(self, name):
+        with self.change:
+            self.proved.add(name)
+            self.change.notify_all()
+
+    def next(self):
+        """Returns the largest crate whose libraries are proved; None if none is left, or no more will be proved."""
+        with self.change:
+            while self.left:
+                ready = [it for it in self.left if {that.name for that in it.below() if that.folder.startswith(kit.ROOT)} <= self.proved]
+                if ready:
+                    crate = max(ready, key=lambda it: it.count(rb"\n"))
+                    return crate, self.left.pop(crate)
+                if self.idle.is_over.is_set():
+                    return None
+                self.change.wait()
+            return None
+
+    def work(self):
+        # (of this thread and the checks that it starts alone)
+        os.nice(10)
+        while True:
+            self.idle.wait()
+            found = self.next()
+            if not found:
+                return
+            begun, (crate, edits) = time.time(), found
+            jobs = max(1, kit.lanes(self.rt) // len(self.workers)) if not self.idle.is_over.is_set() else 2
+            why = mutants.not_refused(self.rt, crate, edits, jobs)
+            with self.change:
+                self.failed += why
+                self.took[f"{crate.name}: {len(edits)} mutants"] = time.time() - begun
+
+    def end(self):
+        """Tries the rest on all processors and returns how many mutants were refused and why others weren't."""
+        with self.change:
+            self.idle.is_over.set()
+            self.change.notify_all()
+        for it in self.workers:
+            it.join()
+        untried = [f"{crate.name}: {len(edits)} mutants were not tried: what it depends on is not proved" for crate, edits in self.left.items()]
+        lost = sum(map(len, self.left.values())) + len(self.failed)
+        return max(0, self.count - lost), self.failed + untried
+
+
+def running():
+    """Returns what checks run now, a word each: the crate, and (tests) or (mutants)."""
+    found = set()
+    for number in filter(str.isdigit, os.listdir("/proc")):
+        try:
+            with open(f"/proc/{number}/cmdline", "rb") as it:
+                words = it.read().decode(errors="replace").split("\0")
+            folder = os.readlink(f"/proc/{number}/cwd")
+        except OSError:
+            continue
+        if words[0].endswith("/bin/rattle") and "--crate-name" in words:
+            name = words[words.index("--crate-name") + 1]
+            found.add(name + (" (mutants)" if "/rt-edit-" in folder else " (tests)" if "--test" in words else ""))
+    return sorted(found)
+
+
+def tell(begun, ended):
+    while not ended.wait(60):
+        kit.say(f"{kit.minutes(time.time() - begun)}: {', '.join(running()) or 'nothing runs'}")
+
+
+def main():
+    rt, begun, ended = kit.load(), time.time(), threading.Event()
+    rt.rtlib.guarded()
+    beside, reasons, starts, passed, failed = Beside(rt, kit.crates(rt)), Reasons(), {}, 0, 1
+    kit.say("mutants beside the proofs: {} of every gate, {} of changed functions, {} in turn".format(*beside.kinds))
+    threading.Thread(target=tell, args=(begun, ended), daemon=True).start()
+    environment = {"RT_JOBS": str(kit.lanes(rt)), **os.environ}
+    with subprocess.Popen(["rt", "ci"], cwd=kit.ROOT, env=environment, stdout=subprocess.PIPE, stderr=subprocess.STDOUT, errors="replace") as ran:
+        for line in map(str.rstrip, ran.stdout):
+            counted = PASSED.fullmatch(line)
+            if counted:
+                passed, failed = int(counted[1]), int(counted[2])
+                continue
+            name = reasons.read(line)
+            if line.startswith("rt: "):
+                kit.say(line.removeprefix("rt: "))
+            if name:
+                starts[name] = time.time() - begun
+                beside.is_proved(name)
+    proofs = time.time() - begun
+    refused, why = beside.end()
+    ended.set()
+    kit.table("Minutes after which each crate was proved:", starts.items())
+    kit.table("Mutants:", beside.took.items())
+    used = os.times()
+    kit.say(f"rt ci: {kit.minutes(proofs)}; with the mutants {kit.minutes(time.time() - begun)}, {kit.minutes(used.children_user + used.children_system)} of processors")
+    failed += len(why) + (ran.returncode != 0 and not failed)
+    for it in [*reasons.found, *why]:
+        print(f"FAILED: {it[:600]}")
+    print(f"{passed + refused} passed, {failed} failed")
+    return 1 if failed else 0
+
+
+if __name__ == "__main__":
+    sys.exit(main())

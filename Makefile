@@ -23,7 +23,7 @@ example: program
 	@echo 'The program is $(PROGRAM); make install puts it on the path, and docs/TUTORIAL.md goes on.'
 
 test:
-	@bash tests/all.sh
+	@python3 tests/all.py
 
 # The wrong bodies that the gate leaves out or tries by turns: all, those of a crate (CRATE=asm65), or one (CRATE=asm65/NAME). Where the kit
 # keeps what came of an edit, those that an earlier run on this machine tried aren't tried again.

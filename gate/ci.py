@@ -13,18 +13,20 @@ import time
 
 import kit
 import mutants
+import reasons
 
 # A check takes up to 3 GB, and a proof that starts meanwhile as much.
 MEMORY = 6_000_000_000
-FINDING = re.compile(r"(?:note: )?(?:\./)?(?:src|specs|proofs)/\S+?:\d+:\d+: ")
-PASSED = re.compile(r"(\d+) passed, (\d+) failed")
+COUNTS = re.compile(r"(\d+) passed, (\d+) failed")
+# What `rt ci` says of an edit, a test or a run that failed.
+FAILED = re.compile(r"rt: (?!FAILED).*(FAILED|NOT REFUSED|NOT TRIED|BAD EDIT|was stopped by|ended with status|had not ended|differ first at)")
 
 
-class Reasons:
+class Reader:
     """Reads what `rt ci` prints, and keeps which crates are proved and why something failed."""
 
     def __init__(self):
-        self.found, self.block = [], []
+        self.why, self.block = [], []
 
     def read(self, line):
         """Returns the name of a crate that this line says is proved, or None."""
@@ -34,18 +36,12 @@ class Reasons:
         ended = re.match(r"rt: (\w+)(: its tests)? (proved|NOT PROVED|is kept)\b", line)
         if ended:
             if ended[3] == "NOT PROVED":
-                self.found.append(f"{ended[1]}{ended[2] or ''}: not proved: {self.first()}")
+                self.why.append(f"{ended[1]}{ended[2] or ''}: not proved: {reasons.first_reason(self.block[1:-1])}")
             self.block = []
             return ended[1] if ended[3] != "NOT PROVED" and not ended[2] else None
-        if re.match(r"rt: .*(FAILED|NOT REFUSED|NOT TRIED|BAD EDIT|was stopped by|ended with status|had not ended|differ first at)", line):
-            self.found.append(line.removeprefix("rt: "))
+        if FAILED.match(line):
+            self.why.append(line.removeprefix("rt: "))
         return None
-
-    def first(self):
-        """Returns the first finding of a failed check with its function, or else its last lines."""
-        function = next((it for it in self.block if re.match(r"fn \S+: (not proved|no proof)", it)), "")
-        said = next((it for it in self.block if FINDING.match(it) and ": error" in it), "") or next((it for it in self.block if FINDING.match(it)), "")
-        return "; ".join(filter(None, (said, function))) or " / ".join(it for it in self.block[-4:] if it)
 
 
 class Idle:
@@ -102,12 +98,12 @@ class Beside:
         # (of this thread and the checks that it starts alone)
         os.nice(10)
         while True:
-            self.idle.wait()
             found = self.next()
             if not found:
                 return
+            self.idle.wait()
             begun, (crate, edits) = time.time(), found
-            jobs = max(1, kit.lanes(self.rt) // len(self.workers)) if not self.idle.is_over.is_set() else 2
+            jobs = 2 if self.idle.is_over.is_set() else 1
             why = mutants.not_refused(self.rt, crate, edits, jobs)
             with self.change:
                 self.failed += why
@@ -149,17 +145,17 @@ def tell(begun, ended):
 def main():
     rt, begun, ended = kit.load(), time.time(), threading.Event()
     rt.rtlib.guarded()
-    beside, reasons, starts, passed, failed = Beside(rt, kit.crates(rt)), Reasons(), {}, 0, 1
+    beside, reader, starts, passed, failed = Beside(rt, kit.crates(rt)), Reader(), {}, 0, 1
     kit.say("mutants beside the proofs: {} of every gate, {} of changed functions, {} in turn".format(*beside.kinds))
     threading.Thread(target=tell, args=(begun, ended), daemon=True).start()
     environment = {"RT_JOBS": str(kit.lanes(rt)), **os.environ}
     with subprocess.Popen(["rt", "ci"], cwd=kit.ROOT, env=environment, stdout=subprocess.PIPE, stderr=subprocess.STDOUT, errors="replace") as ran:
         for line in map(str.rstrip, ran.stdout):
-            counted = PASSED.fullmatch(line)
+            counted = COUNTS.fullmatch(line)
             if counted:
                 passed, failed = int(counted[1]), int(counted[2])
                 continue
-            name = reasons.read(line)
+            name = reader.read(line)
             if line.startswith("rt: "):
                 kit.say(line.removeprefix("rt: "))
             if name:
@@ -173,7 +169,7 @@ def main():
     used = os.times()
     kit.say(f"rt ci: {kit.minutes(proofs)}; with the mutants {kit.minutes(time.time() - begun)}, {kit.minutes(used.children_user + used.children_system)} of processors")
     failed += len(why) + (ran.returncode != 0 and not failed)
-    for it in [*reasons.found, *why]:
+    for it in [*reader.why, *why]:
         print(f"FAILED: {it[:600]}")
     print(f"{passed + refused} passed, {failed} failed")
     return 1 if failed else 0

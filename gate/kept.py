@@ -1,126 +1,100 @@
-"""What no contract can say of the linker and the assembler, since a value's contents are all that a contract sees: that they keep no
-module and no source whole. The code shows it: the names that it may not use, and where the types of what they are fed may stand.
-"""
+"""Looks at the code for what no contract can say, since a contract sees contents alone: that the linker makes no object of a module and that none of its
+types holds a record, and that the assembler has no list of statements. What their memory shows is measured (tests/measured.py)."""
 import re
-
-import reading_code as codes
 
 # A linker that is fed record by record makes no object of a module, and keeps none of its records or items.
 LINKER = ("link65",)
 # An assembler in one pass keeps of a statement what waits for names, and no list of statements.
 ASSEMBLER = ("asm65", "symbols65", "emit65")
-# Calls that put something into a list.
-PUTTING = {"push", "push_back", "push_front", "insert", "extend", "try_push", "append", "vec"}
+TOKEN = re.compile(r"'\w+\b(?!')|\w+|::|->|=>|\S")
+GHOST_USE = re.compile(r"\bghost use\b[^;]*;")
+TYPES = ("struct", "enum", "union", "type")
+CLOSED_BY = {"{": "}", "(": ")", "[": "]"}
+# What a name may stand within and still be one value: a reference, an option or a result of it, a path, a call, a block.
+ONE = {"Option", "Result"}
 
 
-def names_of(tokens, *names):
-    """These names, and what the code imports or declares them as."""
+def tokens_of(code):
+    """Returns the tokens of code without comments and strings; imports of definitions are left out."""
+    return TOKEN.findall(GHOST_USE.sub(" ", code))
+
+
+def aliases(tokens, *names):
+    """Returns these names, and what imports and `type` items call them."""
     found = set(names)
-    for place, word in enumerate(tokens[:-2]):
-        if word in found and tokens[place + 1] == "as":
-            found.add(tokens[place + 2])
+    for at, word in enumerate(tokens[:-2]):
+        if word in found and tokens[at + 1] == "as":
+            found.add(tokens[at + 2])
+    for name, words in types_in(tokens):
+        if words[:1] == ["="] and found & {*words}:
+            found.add(name)
     return found
 
 
-def is_import(tokens, place):
-    """Whether a name stands in a `use`."""
-    for before in range(place - 1, -1, -1):
-        if tokens[before] == "use":
-            return True
-        if tokens[before] in (";", ")", "=", "&", "[", "<"):
-            return False
-    return False
+def end_of_group(tokens, at):
+    """Returns the index after the bracket that closes the one at this index."""
+    opened, depth = tokens[at], 0
+    for index in range(at, len(tokens)):
+        depth += (tokens[index] == opened) - (tokens[index] == CLOSED_BY[opened])
+        if not depth:
+            return index + 1
+    return len(tokens)
 
 
-def in_declarations(tokens, names):
-    """The declared types, and the names of types, that these names stand in."""
-    return [name for name, words in codes.types_in(tokens) if names & {*words}]
+def types_in(tokens):
+    """Returns the types that the code declares: the name, and the tokens of the declaration, fields of proofs included."""
+    found = []
+    for at, word in enumerate(tokens[:-1]):
+        if word in TYPES and re.match(r"[A-Za-z_]\w*$", tokens[at + 1]):
+            end = at + 2
+            while end < len(tokens) and tokens[end] not in ("{", ";"):
+                end = end_of_group(tokens, end) if tokens[end] in ("(", "[") else end + 1
+            if end < len(tokens) and tokens[end] == "{":
+                end = end_of_group(tokens, end)
+            found.append((tokens[at + 1], tokens[at + 2 : end]))
+    return found
 
 
-def stands_alone(tokens, place, wrappers):
-    """Whether a name stands as one value: a parameter, a variable or a result of the type itself, borrowed or not, or in one of these
-    wrappers; or as the front of a path. Anything else may be a list, or a type that holds it."""
-    if place + 1 < len(tokens) and tokens[place + 1] == "::":
-        return True
-    before = place - 1
-    while before >= 0 and (tokens[before] in ("&", "mut") or tokens[before].startswith("'")):
-        before -= 1
-    behind = tokens[place + 1] if place + 1 < len(tokens) else ";"
-    if before >= 1 and tokens[before] == "<":
-        return tokens[before - 1] in wrappers and behind in (",", ">")
-    return before >= 0 and tokens[before] in (":", "->") and behind in (",", ")", "=", ";", "{", "|", "where")
+def holders(tokens, names):
+    """Returns the declared types that hold one of these, also through each other."""
+    declared, found = types_in(tokens), set()
+    while True:
+        more = {name for name, words in declared if words[:1] != ["="] and (names | found) & {*words}} - found
+        if not more:
+            return sorted(found)
+        found |= more
 
 
-def held_otherwise(tokens, names, wrappers):
-    """A place where these names stand in code as something else than one value, with what stands around it; None where none does."""
-    for place, word in enumerate(tokens):
-        if word in names and not is_import(tokens, place) and not stands_alone(tokens, place, wrappers):
-            # (what an import calls it is no use of it)
-            if place and tokens[place - 1] == "as":
-                continue
-            return " ".join(tokens[max(0, place - 3) : place + 3])
+def lists_of(tokens, names):
+    """Returns the first type in the code that holds several of these values: any generic type, array, slice or tuple around the name but an option
+    or a result."""
+    opened = []
+    for at, word in enumerate(tokens):
+        if word in ("<", "[", "("):
+            opened.append((word, tokens[at - 1] if at else ""))
+        elif word in (">", "]", ")"):
+            # (an arrow is one token, and a comparison has no list)
+            while opened and CLOSED_BY.get(opened[-1][0], ">") != word:
+                opened.pop()
+            opened = opened[:-1]
+        elif word in ("{", ";"):
+            opened = []
+        elif word in names and tokens[at + 1 : at + 2] != ["::"] and opened:
+            is_generic = any(around == "<" and front not in ONE | {"impl", "for"} for around, front in opened)
+            if is_generic or opened[-1][0] == "[" and tokens[at - 1] in ("[", ";", "mut"):
+                return " ".join(tokens[max(0, at - 4) : at + 3])
     return None
-
-
-def values_of(function, names, makers):
-    """The variables of a function that hold one such value: parameters of the type, and what the calls that make one are bound to."""
-    found, words = set(), [*function.signature, ";", *function.body]
-    for place, word in enumerate(words):
-        if word in names and place >= 2 and stands_alone(words, place, {"Option"}):
-            colon = next((it for it in range(place, max(place - 8, 0), -1) if words[it] == ":"), 0)
-            found |= {words[colon - 1]} if colon and re.match(r"[a-z_]\w*$", words[colon - 1]) else set()
-        if word == "let" and place + 3 < len(words):
-            end = next((it for it in range(place, len(words)) if words[it] == ";"), len(words))
-            if any(words[it] in makers and words[it + 1] == "(" for it in range(place, end - 1)):
-                found |= {it for it in words[place + 1 : end] if re.match(r"[a-z_]\w*$", it)} & {words[place + 1], words[place + 2]}
-    return found - {"mut", "self"}
-
-
-def put_into_lists(functions, names, makers):
-    """A call that puts such a value into a list, if there is one."""
-    for function in functions:
-        values = values_of(function, names, makers)
-        for place, word in enumerate(function.body[:-1]):
-            at = place + 2 if function.body[place + 1] == "!" else place + 1
-            if word in PUTTING and at < len(function.body) and function.body[at] in ("(", "["):
-                given = function.body[at : codes.end_of_group(function.body, at)]
-                if values & {*given} or any(it in makers for it in given):
-                    return f"{function.name}: {word}({' '.join(given[1:-1])})"
-    return None
-
-
-def makers_of(functions, names):
-    """The functions that answer such a value."""
-    return {it.name for it in functions if "->" in it.signature and names & {*it.signature[it.signature.index("->") :]}}
-
-
-def why_linker(tokens):
-    whole = sorted(names_of(tokens, "Builder", "Object", "read_object") & {*tokens})
-    names = names_of(tokens, "Record", "Item")
-    kept = in_declarations(tokens, names)
-    held = held_otherwise(tokens, names, ())
-    listed = put_into_lists(codes.functions_in(tokens), names, set())
-    if whole:
-        return f"the linker makes a whole module: it names {', '.join(whole)}"
-    if kept:
-        return f"the linker keeps records or items: in {', '.join(kept)}"
-    return f"the linker may keep records or items: {held or listed}" if held or listed else None
-
-
-def why_assembler(tokens):
-    names = names_of(tokens, "Statement")
-    functions = codes.functions_in(tokens)
-    kept = in_declarations(tokens, names)
-    held = held_otherwise(tokens, names, ("Option", "Result"))
-    listed = put_into_lists(functions, names, makers_of(functions, names) | {"statement", "label"})
-    if kept:
-        return f"the assembler keeps statements: in {', '.join(kept)}"
-    return f"the assembler may keep a list of statements: {held or listed}" if held or listed else None
 
 
 def why_kept(crate, code):
-    """What a crate's code, without comments and strings, keeps that it may not; none where it keeps nothing such."""
-    tokens = codes.tokens_of(code)
+    """Returns what a crate's code keeps that it may not, or None. The code has no comments and strings."""
+    tokens = tokens_of(code)
     if crate in LINKER:
-        return why_linker(tokens)
-    return why_assembler(tokens) if crate in ASSEMBLER else None
+        named = sorted(aliases(tokens, "Builder", "Object", "read_object") & {*tokens})
+        held = holders(tokens, aliases(tokens, "Record", "Item")) or lists_of(tokens, aliases(tokens, "Record", "Item"))
+        return f"the linker makes a module's object: it names {', '.join(named)}" if named else f"the linker keeps records: {held}" if held else None
+    if crate in ASSEMBLER:
+        names = aliases(tokens, "Statement")
+        held = holders(tokens, names) or lists_of(tokens, names)
+        return f"the assembler keeps statements: {held}" if held else None
+    return None

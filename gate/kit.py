@@ -11,7 +11,7 @@ ROOT = os.path.dirname(os.path.dirname(os.path.realpath(__file__)))
 
 
 def load():
-    """`rt ci`'s own code; a crate is then read as the gate reads it."""
+    """Returns the code of `rt`, so that a crate is read as the gate reads it."""
     page = subprocess.run(["rt", "doc"], capture_output=True, text=True, check=True).stdout.strip()
     loader = importlib.machinery.SourceFileLoader("rt", f"{os.path.dirname(page)}/bin/rt")
     spec = importlib.util.spec_from_loader("rt", loader)
@@ -23,13 +23,22 @@ def load():
 
 
 def crates(rt):
-    """The repository's crates, lowest first."""
+    """Returns the repository's crates, lowest first."""
     os.chdir(ROOT)
     return sorted(rt.rtlib.crates_below(ROOT), key=lambda it: len(it.below()))
 
 
+def lines_of(file):
+    """Returns the lines of a file, or none if it can't be read."""
+    try:
+        with open(file, errors="replace") as it:
+            return it.read().split("\n")
+    except OSError:
+        return []
+
+
 def lanes(rt):
-    """How many checks may run at once: as many as there are processors, and as free memory holds (a check takes up to 3 GB)."""
+    """Returns how many checks may run at once: as many as there are processors, and as free memory holds (a check takes up to 3 GB)."""
     return max(1, min(rt.processors(), rt.free() // 3_000_000_000))
 
 
@@ -38,7 +47,7 @@ def minutes(seconds):
 
 
 def table(title, rows):
-    """Prints what took how long, the longest first."""
+    """Prints how long each row took, the longest first."""
     print(f"\n{title}")
     for name, seconds in sorted(rows, key=lambda it: -it[1]):
         print(f"  {minutes(seconds):>7}  {name}")

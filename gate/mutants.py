@@ -47,6 +47,11 @@ def number_of(name):
     return zlib.crc32(name.encode()) % PERIOD
 
 
+def has_turn(name, last, commits):
+    """Returns whether one of a landing's commits, of which this is the last number, has the number of this mutant."""
+    return (last - number_of(name)) % PERIOD < commits
+
+
 def name_of(crate, edit):
     return f"{crate.name}/{os.path.basename(edit).removesuffix('.edit')}"
 
@@ -82,7 +87,6 @@ def changed_functions(crate, lines):
 def chosen(rt, crates):
     """Returns the mutants of this gate by crate, and how many of each kind there are."""
     last, commits = landing()
-    turns = {number % PERIOD for number in range(last - commits + 1, last + 1)}
     named, lines = {*every_gate()}, changed_lines(commits)
     every, changed, share = [], [], []
     for crate in crates:
@@ -93,7 +97,7 @@ def chosen(rt, crates):
                 every.append((crate, edit))
             elif functions and not functions.isdisjoint(batches.Try(rt, crate, edit).functions):
                 changed.append((crate, edit))
-            elif number_of(name) in turns:
+            elif has_turn(name, last, commits):
                 share.append((crate, edit))
     # (others of them with each landing)
     changed.sort(key=lambda it: (number_of(name_of(*it)) - last) % PERIOD)
@@ -103,11 +107,23 @@ def chosen(rt, crates):
     return found, (len(every), min(len(changed), MOST_CHANGED), len(share))
 
 
+def names_of(rt, crate, edits):
+    """Returns the functions that these mutants change and, if one changes something else, such as a constant, the modules that it changes; nothing
+    if that is the root module, since then the whole crate has to be checked."""
+    found = set()
+    for edit in edits:
+        functions = batches.Try(rt, crate, edit).functions
+        texts = {} if functions else rt.read_edit(edit, crate.folder)[0] or {}
+        modules = ["::".join(batches.module_of(it)) for it in texts]
+        if "" in modules:
+            return []
+        found.update(functions or modules)
+    return sorted(found)
+
+
 def is_proved(rt, crate, edits, jobs, kept):
-    """Proves the functions that these mutants change as they are, keeps what was found in a folder, and returns whether all are proved.
-    If a mutant changes anything else too, such as a constant, that is the whole crate."""
-    tries = [batches.Try(rt, crate, it) for it in edits]
-    names = sorted({name for it in tries for name in it.functions}) if all(it.functions for it in tries) else []
+    """Proves what these mutants change as it is, keeps what was found in a folder, and returns whether all is proved."""
+    names = names_of(rt, crate, edits)
     for lanes in (jobs, 1):
         ran = rt.checked(crate, {}, ["--jobs", str(lanes), *(word for it in names for word in ("--only", it))], kept)
         if ran.returncode != -signal.SIGKILL:

@@ -1,9 +1,9 @@
 #!/usr/bin/env python3
-"""Proves what isn't proved yet and builds the program: crates that don't stand on each other side by side.
+"""Proves what isn't proved yet and builds the program: crates that don't depend on each other side by side.
 
-usage: prove.py [CRATE..]    these libraries and what they stand on; with none, the program and what it stands on.
-It says first how long it will take, then each minute how far it is and how much is left, and at the end how long each crate
-took. What a crate's proof said is in its out/prove.log. Where no file changed since the program was built, it does nothing."""
+usage: prove.py [CRATE..]    these libraries and those they depend on (default: the program, and those it depends on)
+Each minute it prints how far it is, and at the end how long each crate took or, if one failed, the first thing that the prover said. What a
+crate's proof printed is in its out/prove.log. If no file changed since the program was built, it does nothing."""
 import copy
 import hashlib
 import os
@@ -11,17 +11,19 @@ import subprocess
 import sys
 import threading
 import time
-from concurrent.futures import FIRST_COMPLETED, ThreadPoolExecutor, wait
+from concurrent.futures import FIRST_COMPLETED, Future, wait
 
 import kit
-import telling
+import reasons
 
 PROGRAM = f"{kit.ROOT}/crates/bin65/out/bin65"
 SUM = f"{PROGRAM}.sum"
+# A proof is three or four processes of 1 to 2 GB.
+MEMORY = 5_000_000_000
 
 
 def sum_of(files, begun=b""):
-    """A sum of files, with their names."""
+    """Returns a checksum of files, with their names."""
     found = hashlib.sha256(begun)
     for file in filter(os.path.isfile, files):
         found.update(f"{os.path.relpath(file, kit.ROOT)}\0".encode())
@@ -31,13 +33,13 @@ def sum_of(files, begun=b""):
 
 
 def sum_of_sources(rt):
-    """A sum of all that the program is made of."""
+    """Returns a checksum of all that the program is made of."""
     version = subprocess.run(["rt", "version"], capture_output=True, check=True).stdout
     return sum_of([f"{kit.ROOT}/crates.txt", *(f for it in kit.crates(rt) for f in sorted(rt.rtlib.files_of(it.folder)))], version)
 
 
 def why_refused(rt, crate, said):
-    """What the gate would refuse in what a proof said, though all is proved; None where there is nothing."""
+    """Returns what the gate would refuse in what a proof printed, though all is proved; None if there is nothing."""
     if rt.rtlib.EMPTY.search(said):
         return "no call can meet the contract of a function"
     if rt.rtlib.chose_a_term(said, True):
@@ -51,56 +53,99 @@ def why_refused(rt, crate, said):
     return None
 
 
-def prove(rt, crate, jobs):
-    """Builds a library, and returns whether it is proved and the gate would take it."""
+def log_of(name):
+    return f"{kit.ROOT}/crates/{name}/out/prove.log"
+
+
+def prove(rt, crate, jobs, priority):
+    """Builds a library, and returns None, or why the gate would refuse it."""
+    # (of this thread, and of what it starts)
+    os.setpriority(os.PRIO_PROCESS, 0, priority)
     os.makedirs(f"{crate.folder}/out", exist_ok=True)
-    crate, log = copy.copy(crate), f"{crate.folder}/out/prove.log"
-    with open(log, "w", errors="replace") as crate.out:
+    crate = copy.copy(crate)
+    with open(log_of(crate.name), "w", errors="replace") as crate.out:
         try:
             is_proved = not crate.build_rlib(["--jobs", str(jobs), "--empty-contracts"], anew=False)
         except SystemExit:
             is_proved = False
-    why = why_refused(rt, crate, rt.rtlib.text_of(log) or "")
-    if is_proved and why:
-        kit.say(f"{crate.name}: the gate would refuse it: {why}")
+    said = rt.rtlib.text_of(log_of(crate.name)) or ""
+    if not is_proved:
+        return reasons.first_reason(said.split("\n"))
+    why = why_refused(rt, crate, said)
+    if why:
         os.remove(f"{crate.folder}/out/rlib/stamp")
-    return is_proved and not why
+    return why
 
 
-def chains(rt, crates):
-    """How many bytes of code are proved from each crate's proof to the end of the longest row of crates that stand on it."""
-    behind = {}
+def lengths(rt, crates):
+    """Returns how many bytes of code are proved from each crate's proof to the end of the longest chain of crates that depend on it."""
+    found = {}
     for it in reversed(crates):
         code = [file for file in rt.rtlib.files_of(it.folder) if file.endswith(".rt")]
-        above = [behind[that] for that in behind if it in that.below()]
-        behind[it] = sum(map(os.path.getsize, code)) + max(above, default=0)
-    return behind
-
-
-def lanes_of(rt, processors):
-    """How many crates are proved at once: two, or more on many processors, as far as memory holds (6 GB for each)."""
-    return max(1, min(max(2, processors // 2), rt.free() // 6_000_000_000))
+        above = [found[that] for that in found if it in that.below()]
+        found[it] = sum(map(os.path.getsize, code)) + max(above, default=0)
+    return found
 
 
 def far(name):
-    """How many functions of a crate are proved, as its log says last."""
-    if not os.path.isfile(log := f"{kit.ROOT}/crates/{name}/out/prove.log"):
-        return ""
-    with open(log, errors="replace") as it:
-        said = [line for line in it if line.startswith("so far: ")]
-    return said[-1].strip()[len("so far: "):].partition(";")[0] if said else ""
+    """Returns how many functions of a crate are proved, as its log says last."""
+    said = [line for line in kit.lines_of(log_of(name)) if line.startswith("so far: ")]
+    return f" ({said[-1][len('so far: '):].partition(';')[0].replace(' checked', '')})" if said else ""
 
 
-def tell(told, ended):
-    """Says each minute how far it is and how much is left."""
-    while not ended.wait(60):
-        line = told.line(time.time(), far)
-        if line:
-            kit.say(line)
+class Proofs:
+    """The proofs of crates, and how long each took."""
+
+    def __init__(self, rt, crates, proved):
+        self.rt, self.crates, self.proved, self.processors = rt, crates, proved, rt.processors()
+        self.left, self.running, self.took, self.why = [it for it in crates if it not in proved], {}, {}, {}
+        self.begun, self.ended = time.time(), threading.Event()
+
+    def start(self, crate):
+        """Starts a proof in a thread of its own. The longest chain comes first: the other proofs take the processors that it leaves."""
+        others = [it for it, _ in self.running.values()]
+        is_first = all(self.crates.index(crate) < self.crates.index(it) for it in others)
+        begun, done = time.time(), Future()
+
+        def run():
+            done.set_result(prove(self.rt, crate, min(4 if is_first else 2, self.processors), 0 if is_first else 10))
+
+        self.left.remove(crate)
+        self.running[done] = crate, begun
+        threading.Thread(target=run, daemon=True).start()
+
+    def end(self, done):
+        crate, begun = self.running.pop(done)
+        self.took[crate.name] = time.time() - begun
+        if done.result():
+            self.why[crate.name], self.left = done.result(), []
+        else:
+            self.proved.add(crate)
+
+    def run(self):
+        """Proves the crates in the order that is given, each once those below it are proved, and returns whether all are."""
+        while self.left or self.running:
+            ready = [it for it in self.left if {*it.below()} <= self.proved]
+            same = [it for it in ready if it.is_built()]
+            if same:
+                self.left = [it for it in self.left if it not in same]
+                self.proved.update(same)
+                continue
+            for crate in ready:
+                if not self.running or len(self.running) < self.processors and self.rt.free() > MEMORY:
+                    self.start(crate)
+            for done in wait([*self.running], timeout=20, return_when=FIRST_COMPLETED).done:
+                self.end(done)
+        return not self.why
+
+    def tell(self):
+        while not self.ended.wait(60):
+            now = ", ".join(f"{it.name}{far(it.name)}" for it, _ in [*self.running.values()])
+            kit.say(f"{kit.minutes(time.time() - self.begun)}: {len(self.proved)} of {len(self.crates)} crates proved; now {now or 'the program'}")
 
 
 def built(crates):
-    """Those of the crates, lowest first, that earlier runs proved with all that they stand on."""
+    """Returns those of the crates that earlier runs proved with all that they depend on."""
     found = set()
     for it in crates:
         if {*it.below()} <= found and it.is_built():
@@ -108,50 +153,31 @@ def built(crates):
     return found
 
 
-def in_lanes(rt, crates, proved, told, processors):
-    """Proves the crates that aren't proved, each once those below it are, and returns whether all are. They begin in the order
-    that is given. Each may use the processors that the others leave (a proof begins alone, with what it loads)."""
-    left, failed, running = [it for it in crates if it not in proved], [], {}
-    with ThreadPoolExecutor(told.lanes) as pool:
-        while left or running:
-            ready = [it for it in left if {*it.below()} <= proved]
-            same = [it for it in ready if it.is_built()]
-            if same:
-                left = [it for it in left if it not in same]
-                proved.update(same)
-                told.proved.update(it.name for it in same)
-                continue
-            for crate in ready[: told.lanes - len(running)]:
-                left.remove(crate)
-                kit.say(f"{crate.name}: its proof begins")
-                told.begin(crate.name, time.time())
-                running[pool.submit(prove, rt, crate, min(4, processors))] = crate
-            for it in wait(running, return_when=FIRST_COMPLETED).done if running else ():
-                crate = running.pop(it)
-                told.end(crate.name, time.time(), it.result())
-                if it.result():
-                    proved.add(crate)
-                    kit.say(f"{crate.name}: proved after {kit.minutes(told.took[crate.name])}")
-                else:
-                    kit.say(f"{crate.name}: NOT PROVED; {os.path.relpath(crate.folder, kit.ROOT)}/out/prove.log says why")
-                    failed.append(crate)
-                    left = []
-    return not failed
-
-
-def build(told):
+def build(proofs):
     """Proves and builds the program, and returns whether it is there."""
-    kit.say("bin65: its proof begins, and then it is compiled")
-    told.begin("bin65", time.time())
-    # (with no arguments the program answers 'bad arguments', which is no fault of the build)
+    begun = time.time()
     folder = f"{kit.ROOT}/crates/bin65"
     os.makedirs(f"{folder}/out", exist_ok=True)
-    with open(f"{folder}/out/prove.log", "w") as log:
+    # (with no arguments the program prints 'bad arguments', which is no failure of the build)
+    with open(log_of("bin65"), "w") as log:
         subprocess.run(["rt", "run"], cwd=folder, stdin=subprocess.DEVNULL, stdout=log, stderr=subprocess.STDOUT)
-    is_there = os.path.isfile(PROGRAM)
-    told.end("bin65", time.time(), is_there)
-    kit.say("bin65: proved, compiled and linked" if is_there else "bin65: NOT BUILT; crates/bin65/out/prove.log says why")
-    return is_there
+    proofs.took["bin65"] = time.time() - begun
+    if not os.path.isfile(PROGRAM):
+        proofs.why["bin65"] = reasons.first_reason(kit.lines_of(log_of("bin65")))
+    return os.path.isfile(PROGRAM)
+
+
+def chosen(rt, names):
+    """Returns the libraries that these, or the program, depend on, those of the longest chains first; None if a name is unknown."""
+    crates = kit.crates(rt)
+    unknown = [name for name in names if not any(it.name == name and not it.is_program for it in crates)]
+    if unknown:
+        kit.say(f"{unknown[0]} is no library of crates.txt")
+        return None
+    asked = [it for it in crates if it.name in names or not names and it.is_program]
+    length = lengths(rt, crates)
+    below = [it for it in crates if not it.is_program and (it in asked or any(it in that.below() for that in asked))]
+    return sorted(below, key=lambda it: -length[it])
 
 
 def main(names):
@@ -161,39 +187,31 @@ def main(names):
         # What another checkout on this machine proved of the same text is taken over, and what it kept is begun with.
         rt.share_work(True)
     sources = None if names else sum_of_sources(rt)
-    if not names and os.path.isfile(PROGRAM) and rt.rtlib.text_of(SUM) == sources + sum_of([PROGRAM]):
-        return 0
     if not names and os.path.isfile(PROGRAM):
+        if rt.rtlib.text_of(SUM) == sources + sum_of([PROGRAM]):
+            return 0
         os.remove(PROGRAM)
-    crates = kit.crates(rt)
-    unknown = [name for name in names if not any(it.name == name and not it.is_program for it in crates)]
-    if unknown:
-        kit.say(f"{unknown[0]} is no library of crates.txt")
+    crates = chosen(rt, names)
+    if crates is None:
         return 2
-    asked = [it for it in crates if it.name in names or not names and it.is_program]
-    chosen = [it for it in crates if not it.is_program and (it in asked or any(it in that.below() for that in asked))]
-    held = rt.rtlib.lock(crates)
-    behind, proved = chains(rt, crates), built(chosen)
-    order = sorted(chosen, key=lambda it: -behind[it])
-    below = {it.name: [that.name for that in it.below() if that in chosen and that not in proved] for it in chosen}
-    told = telling.Telling([it.name for it in order if it not in proved], below, lanes_of(rt, rt.processors()), rt.processors(), None if names else "bin65")
-    if told.order or not names:
-        kit.say(told.first(time.time()))
-    ended = threading.Event()
-    teller = threading.Thread(target=tell, args=(told, ended), daemon=True)
-    teller.start()
-    is_proved = in_lanes(rt, order, proved, told, rt.processors())
+    held = rt.rtlib.lock(kit.crates(rt))
+    proofs = Proofs(rt, crates, built(sorted(crates, key=lambda it: len(it.below()))))
+    if proofs.left:
+        kit.say(f"{len(proofs.left)} crates to prove on {proofs.processors} processors. Later runs prove only what changed.")
+    threading.Thread(target=proofs.tell, daemon=True).start()
+    is_proved = proofs.run()
     for it in held:
         os.close(it)
-    is_done = is_proved and (bool(names) or build(told))
-    ended.set()
-    teller.join()
+    is_done = is_proved and (bool(names) or build(proofs))
+    proofs.ended.set()
+    if proofs.took:
+        kit.table("How long each part took:", proofs.took.items())
+    for name, why in proofs.why.items():
+        kit.say(f"{name}: NOT PROVED: {why[:600]} ({os.path.relpath(log_of(name), kit.ROOT)} has the rest)")
     if is_done and not names:
         # Of the files as they were: what changed meanwhile isn't in the program.
         with open(SUM, "w") as it:
             it.write(sources + sum_of([PROGRAM]))
-    if is_done and told.took:
-        kit.table("How long each part took:", told.took.items())
     return 0 if is_done else 1
 
 

@@ -1,7 +1,7 @@
 #!/usr/bin/env python3
-"""What the gate looks at before it proves anything: texts, layout, what the code of the linker and the assembler keeps, whether calls
-that take no memory may ask for some, whether each edit of must-fail/ and wrong-bodies/ can be applied, whether what the pages for
-maintainers cite is there, and whether a file has the text of an installed cc65's. Takes half a minute.
+"""Checks texts before anything is proved: the layout of code, what the code of the linker and the assembler keeps, whether each edit of must-fail/
+and wrong-bodies/ can be applied, whether what the pages for maintainers cite is there, and whether a file has the text of an installed cc65's.
+Takes half a minute.
 
 usage: texts.py
 The last line is 'N passed, M failed', a crate, an edit, a claim or a page each."""
@@ -12,7 +12,7 @@ import sys
 import cited
 import kept
 import kit
-import memoryless
+import mutants
 import others
 
 FOLDERS = ("must-fail", "wrong-bodies")
@@ -35,12 +35,6 @@ def why_stopped(rt, crate, crates):
     return "run rt fmt in the crate's folder" if rt.rtlib.fmt(crate.folder, "--check", sys.stdout) else None
 
 
-def why_asks(rt, crate):
-    """Why a call of the crate that takes no memory may ask for some, if one may."""
-    ours = [it for it in crate.below() if it.folder.startswith(kit.ROOT)]
-    return memoryless.why_asks(crate.name, [rt.rtlib.code_of(it.folder) for it in [*ours, crate]])
-
-
 def main():
     rt = kit.load()
     rt.rtlib.guarded()
@@ -48,12 +42,12 @@ def main():
     faults = [*cited.looked_at(kit.ROOT), *others.looked_at(kit.ROOT)]
     for crate in crates:
         faults.append((crate.name, why_stopped(rt, crate, crates) or kept.why_kept(crate.name, rt.rtlib.code_of(crate.folder))))
-        if crate.name in memoryless.CALLS:
-            faults.append((f"{crate.name}, calls that take no memory", why_asks(rt, crate)))
         for folder in FOLDERS:
             place = f"{crate.folder}/{folder}"
             edits = sorted(os.listdir(place)) if os.path.isdir(place) else []
             faults += [(f"{crate.name}/{folder}/{it}", rt.read_edit(f"{place}/{it}", crate.folder)[1]) for it in edits if it.endswith(".edit")]
+    edits = {name.replace("/wrong-bodies/", "/").removesuffix(".edit") for name, _ in faults}
+    faults += [(f"gate/every_gate.txt: {it}", None if it in edits else "no mutant has this name") for it in mutants.every_gate()]
     for name, why in faults:
         if why:
             print(f"{name}: {why}")

@@ -1,0 +1,123 @@
+#!/usr/bin/env python3
+"""The merge gate: texts first, then every proof, mutant and test of the crates, then the real program on real files.
+
+usage: all.py    ALL_LANES is how many scripts run at a time (default: the number of processors).
+The lines before the last say which part failed and why; the last line is 'N passed, M failed'."""
+import hashlib
+import os
+import re
+import subprocess
+import sys
+import time
+from concurrent.futures import ThreadPoolExecutor
+
+ROOT = os.path.dirname(os.path.dirname(os.path.realpath(__file__)))
+PROGRAM = f"{ROOT}/crates/bin65/out/bin65"
+COUNTS = re.compile(r"(\d+) passed, (\d+) failed")
+# What a line of a failed part says of its failure.
+FAILURE = re.compile(r"FAILED|failed:|NOT |not proved|Error|error|: expected", re.I)
+
+# Before the proofs: texts alone, in seconds.
+TEXTS = [
+    ("texts and layout", ["python3", "gate/texts.py"]),
+    ("what the code keeps", ["python3", "tests/kept.py"]),
+    ("the tools of the gate", ["python3", "tests/gate.py"]),
+    ("texts of others", ["python3", "tests/others.py"]),
+    ("links of pages", ["python3", "tests/links.py"]),
+    ("types of work65", ["python3", "tests/workbench_types.py"]),
+]
+# With the program that `rt ci` builds, the longest first.
+SCRIPTS = [
+    "hostile", "large", "workbench_port", "failing_disk", "memory", "trial", "measured", "one_program", "cases", "disk", "sums", "version1",
+    "migrating", "stock_scripts", "tutorial", "language", "messages", "editors", "trying", "makefile", "machines", "second", "labels",
+    "workbench_list", "workbench_labels", "workbench_debug", "workbench_deps", "workbench_size", "workbench_bad", "workbench_check",
+    "workbench_faults", "release", "bench",
+]
+EXAMPLES = ["first", "programs", "library", "sizes"]
+
+
+class Part:
+    """A part of the gate: what it printed, how long it took, and how much of it passed."""
+
+    def __init__(self, name, words):
+        self.name, self.words, self.lines, self.seconds = name, words, [], 0.0
+        self.passed, self.failed = 0, 1
+
+    def run(self, is_shown=False):
+        """Runs the part and counts by its last line; one that says no counts passes or fails as a whole."""
+        begun = time.monotonic()
+        how = {"cwd": ROOT, "stdin": subprocess.DEVNULL, "stdout": subprocess.PIPE, "stderr": subprocess.STDOUT, "errors": "replace"}
+        with subprocess.Popen(self.words, **how) as ran:
+            for line in map(str.rstrip, ran.stdout):
+                self.lines.append(line)
+                if is_shown and not COUNTS.fullmatch(line):
+                    print(f"  {line}", flush=True)
+        self.seconds = time.monotonic() - begun
+        counts = [it for it in map(COUNTS.fullmatch, self.lines) if it]
+        if counts:
+            self.passed, self.failed = int(counts[-1][1]), int(counts[-1][2])
+        elif self.words[0] == "sh":
+            self.passed, self.failed = int(ran.returncode == 0), int(ran.returncode != 0)
+        if not self.failed and (ran.returncode or not self.passed):
+            # (one that tried nothing has failed)
+            self.failed = 1
+        return self
+
+    def told(self):
+        """Prints that it ended, with what it printed if it failed."""
+        minutes = f"{int(self.seconds) // 60}:{int(self.seconds) % 60:02d}"
+        print(f"{minutes:>7}  {self.name}: {self.passed} passed, {self.failed} failed", flush=True)
+        if self.failed:
+            print("\n".join(f"    {it}" for it in self.lines), flush=True)
+
+    def why(self):
+        """Returns the first lines that say why it failed, or else its last ones."""
+        said = [it.strip() for it in self.lines if not COUNTS.fullmatch(it.strip())]
+        return [it[:500] for it in ([it for it in said if FAILURE.search(it)][:3] or said[-3:])]
+
+
+def side_by_side(parts, lanes):
+    with ThreadPoolExecutor(lanes) as pool:
+        for done in [pool.submit(it.run) for it in parts]:
+            done.result().told()
+    return parts
+
+
+def scripts():
+    """Returns the parts that run the program."""
+    tests = [Part(it, ["python3", f"tests/{it}.py", PROGRAM]) for it in SCRIPTS]
+    return [*tests, Part("program", ["bash", "tests/program.sh", PROGRAM]), *(Part(f"example/{it}", ["sh", f"example/{it}.sh", PROGRAM]) for it in EXAMPLES)]
+
+
+def main():
+    # (a make that a test calls is a user's own: one that knows itself below another says which folders it enters)
+    for it in ("MAKEFLAGS", "MAKELEVEL", "MFLAGS"):
+        os.environ.pop(it, None)
+    begun, lanes = time.monotonic(), int(os.environ.get("ALL_LANES", 0)) or len(os.sched_getaffinity(0))
+    parts = side_by_side([Part(*it) for it in TEXTS], lanes)
+    print("rt ci, and mutants beside it:", flush=True)
+    proofs = Part("rt ci and mutants", ["python3", "gate/ci.py"]).run(is_shown=True)
+    proofs.lines = [it for it in proofs.lines if it.startswith("FAILED")] or proofs.lines[-20:]
+    proofs.told()
+    parts.append(proofs)
+    if os.path.isfile(PROGRAM):
+        parts += side_by_side(scripts(), lanes)
+        with open(PROGRAM, "rb") as it:
+            print(f"The program: {hashlib.sha256(it.read()).hexdigest()}")
+    else:
+        missing = Part("the scripts", [])
+        missing.lines = ["FAILED: none was run, since rt ci built no program"]
+        parts.append(missing)
+    minutes = int(time.monotonic() - begun) // 60
+    print(f"The gate took {minutes} minutes on {lanes} processors; the longest parts:")
+    for it in sorted(parts, key=lambda it: -it.seconds)[:8]:
+        print(f"{int(it.seconds) // 60:>7}:{int(it.seconds) % 60:02d}  {it.name}")
+    for it in filter(lambda it: it.failed, parts):
+        print(f"{it.name} failed:", *it.why(), sep="\n  ")
+    failed = sum(it.failed for it in parts)
+    print(f"{sum(it.passed for it in parts)} passed, {failed} failed")
+    return 1 if failed else 0
+
+
+if __name__ == "__main__":
+    sys.exit(main())

@@ -1,0 +1,256 @@
+#!/usr/bin/env python3
+"""Tests the tools of the gate, without proving anything.
+
+Mutants in one check (gate/batches.py) are tried on a crate that is made up, with what a prover prints written down here: which ones can be tried
+together, and that one counts as refused only if something is found in a function that it changes. Then: which mutants a gate tries
+(gate/mutants.py), what a failed gate says (gate/reasons.py, gate/ci.py, tests/all.py), and what runs beside the proofs.
+
+usage: gate.py. The last line is 'N passed, M failed'."""
+import contextlib
+import io
+import os
+import subprocess
+import sys
+import tempfile
+
+sys.path.insert(0, f"{os.path.dirname(os.path.dirname(os.path.abspath(__file__)))}/gate")
+import all as gate  # noqa: E402
+import batches  # noqa: E402
+import ci  # noqa: E402
+import kit  # noqa: E402
+import mutants  # noqa: E402
+import reasons  # noqa: E402
+
+SOURCE = """//! Counts.
+
+const LIMIT: u32 = 7;
+
+/// One more.
+pub fn next(n: u32) -> u32
+    requires { n < 9 }
+    ensures { result ≡ n + 1 }
+{
+    n + 1
+}
+
+impl<T> Counter<T> {
+    fn twice(&self) -> u32
+        ensures { self.now ≡ record self.now {
+          n = self.now.n;
+        } }
+    {
+        next(next(self.n))
+    }
+}
+
+impl<T> fmt::Display for Counter<T> {
+    fn fmt(&self) {
+        self.show(LIMIT)
+    }
+}
+"""
+
+# An edit: the line that it changes, and into what.
+EDITS = {
+    "adds_two": ("    n + 1", "    n + 2"),
+    "adds_none": ("    n + 1", "    n"),
+    "once": ("        next(next(self.n))", "        next(self.n)"),
+    "shows_nothing": ("        self.show(LIMIT)", "        ()"),
+    "another_limit": ("const LIMIT: u32 = 7;", "const LIMIT: u32 = 8;"),
+    "unreadable": ("        self.show(LIMIT)", "        self.show("),
+    "weaker": ("    ensures { result ≡ n + 1 }", "    ensures { result ≡ result }"),
+}
+
+# A method is called by the module that declares its type.
+NEXT, TWICE, FMT = "counts::next", "kinds::Counter::twice", "kinds::CounterDisplay::fmt"
+PLACES = {NEXT: "src/counts.rt:6:1: it is not proved", TWICE: "note: src/counts.rt:14:5: it is not proved", FMT: f"./proofs/{FMT.replace('::', '/')}/Answers.antt:3:1: error: no"}
+
+
+def said(crate, **states):
+    """What a check prints: of each function its state, with a finding where it isn't proved."""
+    lines = []
+    for name, state in zip((NEXT, TWICE, FMT), states.values()):
+        lines += [PLACES[name]] if state == "not proved" else []
+        lines.append(f"fn made::{name}: {state}")
+    return batches.Said(crate, "\n".join(lines))
+
+
+class Prover:
+    """A prover that finds each change of `next` and `twice`, none of `fmt`, and can't read one of the texts."""
+
+    def __init__(self):
+        self.asked = []
+
+    def unread(self, line, texts):
+        return line == "unread"
+
+    def checked(self, crate, texts, flags, kept):
+        text = texts["src/counts.rt"]
+        names = flags[3::2]
+        self.asked.append(names)
+        next_state = "proved" if "n + 1\n" in text else "not proved"
+        twice_state = "proved" if "next(next(" in text else "not proved"
+        if next_state != "proved":
+            twice_state = f"no proof: it calls `made::{NEXT}`, which is not proved"
+        lines = ["unread"] if "show(\n" in text else []
+        for name, state in ((NEXT, next_state), (TWICE, twice_state), (FMT, "proved")):
+            if name in names:
+                lines += [PLACES[name]] * (state == "not proved") + [f"fn made::{name}: {state}"]
+        return subprocess.CompletedProcess([], 1, "\n".join([*lines, f"only={len(names)} proved=0"]))
+
+
+class Crate:
+    name = "made"
+
+    def __init__(self, folder):
+        self.folder = folder
+        os.makedirs(f"{folder}/src")
+        with open(f"{folder}/src/counts.rt", "w", encoding="utf-8") as it:
+            it.write(SOURCE)
+        with open(f"{folder}/src/kinds.rt", "w", encoding="utf-8") as it:
+            it.write("pub struct Counter<T> {\n    n: T,\n}\n")
+
+    def edit(self, name):
+        old, new = EDITS[name]
+        with open(f"{self.folder}/{name}.edit", "w", encoding="utf-8") as it:
+            it.write(f"file: src/counts.rt\nold: {old}\nnew: {new}\n")
+        return f"{self.folder}/{name}.edit"
+
+
+def together(rt):
+    """Checks of mutants that are tried together."""
+    checks = {}
+    with tempfile.TemporaryDirectory() as room:
+        crate = Crate(f"{room}/made")
+        tries = {it: batches.Try(rt, crate, crate.edit(it)) for it in EDITS}
+        prover = Prover()
+        found = batches.refused(prover, crate, list(tries.values()), lambda call: call(None), 2)
+        names = {it.edit.rpartition("/")[2].removesuffix(".edit") for it in found}
+    checks["refused together"] = names == {"adds_two", "adds_none", "once"}
+    checks["many in one check"] = [NEXT, TWICE, FMT] == sorted(prover.asked[0], key=[NEXT, TWICE, FMT].index)
+    own = {name: sorted(it.functions) for name, it in tries.items()}
+    checks["functions"] = own == {"adds_two": [NEXT], "adds_none": [NEXT], "once": [TWICE], "shows_nothing": [FMT], "another_limit": [], "unreadable": [FMT], "weaker": []}
+    inside = [it for it in tries.values() if it.functions]
+    checks["apart"] = batches.apart(inside) == [tries[it] for it in ("adds_two", "once", "shows_nothing")]
+    calls = f"no proof: it calls `made::{NEXT}`, which is not proved"
+    both = said(crate, next="not proved", twice=calls, fmt="not proved")
+    checks["refused in code"] = both.against(tries["adds_two"]) is not None and not both.hides(tries["adds_two"])
+    checks["refused in a proof"] = both.against(tries["shows_nothing"]) is not None
+    checks["hidden"] = both.against(tries["once"]) is None and both.hides(tries["once"])
+    proved = said(crate, next="proved", twice="proved", fmt="proved")
+    checks["still proved"] = not any(proved.against(it) or proved.hides(it) for it in inside)
+    elsewhere = said(crate, next="proved", twice="not proved", fmt="not proved")
+    checks["found elsewhere"] = elsewhere.against(tries["adds_two"]) is None
+    unsaid = batches.Said(crate, f"fn made::{NEXT}: not proved")
+    checks["nothing found"] = unsaid.against(tries["adds_two"]) is None
+    lost = batches.Said(crate, f"fn made::{FMT}: not proved\n./proofs/{FMT.replace('::', '/')}/Answers.antt:3:1: error: `c` has no field `n`")
+    checks["a name that was lost"] = lost.against(tries["shows_nothing"]) is None
+    return checks
+
+
+def turns():
+    """Checks that each mutant has its turn, whatever number of commits a landing has."""
+    names = [f"crate/mutant_{number}" for number in range(500)]
+    tried, last, most = set(), 1234, 0
+    for commits in [1, 7, 60, 3, 25, 41, 90, 12, 33, 5] * 4:
+        last += commits
+        now = {it for it in names if mutants.has_turn(it, last, commits)}
+        tried, most = tried | now, max(most, len(now))
+        if last >= 1234 + mutants.PERIOD:
+            break
+    return {
+        "each has its turn": tried == {*names},
+        "a landing tries few": most < 500 / 4,
+        "none without a commit": not any(mutants.has_turn(it, 0, 0) for it in names),
+        "those of every gate are mutants": all(os.path.isfile(f"{kit.ROOT}/crates/{it.replace('/', '/wrong-bodies/')}.edit") for it in mutants.every_gate()),
+    }
+
+
+# What `rt ci` prints of a crate that isn't proved, and of other failures.
+NOT_PROVED = """== link65
+so far: 3 of 145 functions checked
+src/linker.rt:12:5: warning: a name that nothing uses
+./src/linker.rt:230:9: error: the clause `files` is not proved
+fn link65::linker::Linker::finish: not proved
+logic=not-proved
+rt: link65 NOT PROVED
+rt: ld65 NOT PROVED: its library link65 failed
+rt: must-fail output65/one.edit: NOT REFUSED: the crate is still proved with this edit
+rt: tests_lines65: its tests FAILED
+rt: FAILED: link65 ld65""".split("\n")
+
+
+def failures():
+    """Checks what is said of a gate that failed."""
+    reader = ci.Reader()
+    for line in ("== base65", "logic=proved", "rt: base65 proved"):
+        first = reader.read(line)
+    for line in NOT_PROVED:
+        reader.read(line)
+    part = gate.Part("made", ["python3", "-c", "print('note: x'); print('FAILED: link65: not proved: src/a.rt:1:1: error: no'); print('3 passed, 1 failed'); exit(1)"]).run()
+    silent = gate.Part("made", ["python3", "-c", "print('0 passed, 0 failed')"]).run()
+    ended = gate.Part("made", ["python3", "-c", "print('9 passed, 0 failed'); exit(3)"]).run()
+    with contextlib.redirect_stdout(io.StringIO()) as shown:
+        part.told()
+    return {
+        "a crate is proved": first == "base65",
+        "the prover's first error": reader.why[0] == "link65: not proved: ./src/linker.rt:230:9: error: the clause `files` is not proved; fn link65::linker::Linker::finish: not proved",
+        "what depends on it": reader.why[1].startswith("ld65: not proved"),
+        "an edit that proves": "output65/one.edit: NOT REFUSED" in reader.why[2],
+        "tests that fail": reader.why[3] == "tests_lines65: its tests FAILED" and len(reader.why) == 4,
+        "a check that printed nothing": reasons.first_reason([]) == "it printed nothing",
+        "why a part failed": (part.passed, part.failed) == (3, 1) and part.why() == ["FAILED: link65: not proved: src/a.rt:1:1: error: no"],
+        "its lines are shown": "src/a.rt:1:1: error: no" in shown.getvalue(),
+        "one that tried nothing": silent.failed == 1,
+        "one that ended badly": ended.failed == 1,
+    }
+
+
+class Proved:
+    """A crate by its name, and those below it."""
+
+    def __init__(self, name, *below):
+        self.name, self.folder, self.under = name, f"{kit.ROOT}/crates/{name}", below
+
+    def below(self):
+        return self.under
+
+    def count(self, words):
+        return len(self.name)
+
+
+def beside():
+    """Checks that the mutants of a crate wait until those below it are proved, and that none is lost."""
+    low, high, never = Proved("low"), Proved("higher"), Proved("never")
+    every = {Proved("one", low): ["a"], Proved("two", low, high): ["b", "c"], Proved("three", never): ["d"]}
+    began, was = [], (mutants.chosen, mutants.not_refused, kit.lanes)
+    mutants.chosen = lambda rt, crates: (dict(every), (4, 0, 0))
+    mutants.not_refused = lambda rt, crate, edits, jobs: began.append(crate.name) or [f"{crate.name}/{it}: NOT REFUSED" for it in edits if it == "c"]
+    kit.lanes = lambda rt: 2
+    try:
+        tries = ci.Beside(None, [])
+        tries.idle.wait = lambda: None
+        tries.is_proved("low")
+        tries.is_proved("higher")
+        refused, why = tries.end()
+    finally:
+        mutants.chosen, mutants.not_refused, kit.lanes = was
+    return {
+        "crates below come first": sorted(began) == ["one", "two"],
+        "refused": refused == 2,
+        "why others aren't": why == ["two/c: NOT REFUSED", "three: 1 mutants were not tried: what it depends on is not proved"],
+    }
+
+
+def main():
+    checks = {**together(kit.load()), **turns(), **failures(), **beside()}
+    for name, is_so in checks.items():
+        if not is_so:
+            print(f"FAILED: {name}")
+    failed = sum(not it for it in checks.values())
+    print(f"{len(checks) - failed} passed, {failed} failed")
+    return 1 if failed else 0
+
+
+if __name__ == "__main__":
+    sys.exit(main())

@@ -11,16 +11,16 @@ ROOT = os.path.dirname(os.path.dirname(HERE))
 PICTURE = os.path.join(ROOT, "docs/screens/crates.svg")
 WIDTH, BOX, HEIGHT, ROW, TOP = 980, 112, 34, 74, 40
 GROUPS = {
-    "#cfe3f5": ("assembling", ("syntax65", "expand65", "ast65", "semantics65", "symbols65", "emit65", "asm65")),
+    "#cfe3f5": ("assembling", ("syntax65", "expand65", "ast65", "semantics65", "sources65", "symbols65", "emit65", "asm65")),
     "#f8e3b8": ("linking", ("object65", "library65", "script65", "link65", "ld65", "ar65")),
     "#e3d5f0": ("one program", ("whole65",)),
     "#dddddd": ("shared", ("base65", "cli65", "output65", "tools65", "bin65")),
 }
 # Where each crate is from left to right, so that no arrow crosses a box.
 COLUMNS = {
-    "expand65": 0, "symbols65": 0, "syntax65": 0.5, "semantics65": 0.5, "asm65": 0.5, "ast65": 1, "emit65": 1,
-    "base65": 2, "object65": 2, "library65": 2, "whole65": 2, "link65": 2.5, "tools65": 2.5, "bin65": 2.5,
-    "script65": 3, "ld65": 3, "cli65": 4, "output65": 4, "ar65": 5,
+    "expand65": 0, "sources65": 0, "syntax65": 0.5, "semantics65": 0.5, "symbols65": 0.8, "asm65": 0.8, "ast65": 1, "emit65": 1.6,
+    "base65": 2, "object65": 2, "library65": 2, "whole65": 2.4, "link65": 2.5, "tools65": 2.5, "bin65": 2.5,
+    "script65": 3, "ld65": 3.1, "cli65": 4.2, "output65": 4.2, "ar65": 5,
 }  # fmt: skip
 # What a source becomes, and the crate that makes the next thing of it.
 FLOW = (
@@ -54,7 +54,7 @@ def layer(found, name):
 def places(found):
     """The middle of each crate's box, in layers from the bottom up."""
     top = max(layer(found, it) for it in found)
-    return {name: (WIDTH * (column + 0.5) / 6, TOP + ROW * (top - layer(found, name))) for name, column in COLUMNS.items()}
+    return {name: (WIDTH * (column + 0.5) / 6, TOP + ROW * (top - layer(found, name))) for name, column in COLUMNS.items() if name in found}
 
 
 def text(x, y, words, size=13, more=""):
@@ -93,8 +93,8 @@ def flow(y):
 def picture():
     """The text of the picture."""
     found = crates()
-    if set(found) != set(COLUMNS) or not {maker for _, maker in FLOW if maker} <= set(found):
-        sys.exit("make_picture.py: crates.txt has other crates than COLUMNS or FLOW")
+    if not set(found) <= set(COLUMNS) or not {maker for _, maker in FLOW if maker} <= set(found):
+        sys.exit("make_picture.py: crates.txt has a crate that COLUMNS lacks, or lacks one of FLOW")
     where = places(found)
     bottom = max(y for _, y in where.values())
     lines = [
@@ -104,8 +104,8 @@ def picture():
         '<path d="M0 0 L8 4 L0 8 z" fill="#888"/></marker></defs>',
         f'<rect width="{WIDTH}" height="{bottom + 170:g}" fill="#ffffff"/>',
     ]
-    lines += [arrow(where[it], where[name]) for name in COLUMNS for it in direct(found, name)]
-    lines += [line for name in COLUMNS for line in box(name, *where[name])]
+    lines += [arrow(where[it], where[name]) for name in where for it in direct(found, name)]
+    lines += [line for name in where for line in box(name, *where[name])]
     for at, (colour, (title, _)) in enumerate(GROUPS.items()):
         x = WIDTH / 2 + (at - 2) * 150 + 20
         lines += [f'<rect x="{x:g}" y="{bottom + 42:g}" width="14" height="14" fill="{colour}" stroke="#555"/>',

@@ -51,7 +51,7 @@ for it in VERSION COMMIT example/labels.sh example/second/second.py; do put 644 
 # The pages of docs/ stand beside README.md where they are installed, so links from the one to the other lose a folder.
 for it in README.md CHANGELOG.md CONTRIBUTING.md; do page 's|](docs/|](|g' "$from/$it" "share/doc/bin65/$it"; done
 for it in "$from"/docs/*.md; do page 's|](\.\./|](|g' "$it" "share/doc/bin65/${it##*/}"; done
-tree docs '*.png' share/doc/bin65
+for it in png svg; do tree docs "*.$it" share/doc/bin65; done
 tree docs/tables '*' share/doc/bin65/tables
 tree example '*' share/doc/bin65/example
 page 's|](\.\./\.\./docs/|](../../|g' "$from/example/second/README.md" share/doc/bin65/example/second/README.md

@@ -38,7 +38,8 @@ SYMBOLS {
 }
 """
 LONGEST = 600
-PAGES = ("README", "docs/LANGUAGE", "docs/TUTORIAL", "docs/DEBUGGING", "docs/RELEASE", "docs/SCRIPTS", "docs/EDITORS", "docs/MESSAGES", "docs/FORMATS")
+PAGES = ("README", "docs/LANGUAGE", "docs/TUTORIAL", "docs/DEBUGGING", "docs/RELEASE", "docs/SCRIPTS", "docs/EDITORS", "docs/MESSAGES", "docs/FORMATS",
+         "docs/THEOREM", "docs/one-program", "CONTRIBUTING", "CHANGELOG")
 
 
 def image(assembler, linker, source, files):

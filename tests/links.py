@@ -1,11 +1,13 @@
 #!/usr/bin/env python3
 """Each link of a page leads to a file of the repository, and to a heading of it where it names one; the README has at most
-150 lines; and tests/README.md has a row for each script of tests/.
+130 lines; tests/README.md has a row for each script of tests/; and the picture
+of the crates is the one that its script draws.
 
 usage: links.py. The last line is 'N passed, M failed'."""
 import glob
 import os
 import re
+import subprocess
 import sys
 
 import pages
@@ -51,12 +53,15 @@ def all_wrong(root):
 
 def main():
     faults = {page: list(wrong(pages.ROOT, page)) for page in pages_of(pages.ROOT)}
-    if (lines := len(pages.read("README.md").splitlines())) > 150:
+    if (lines := len(pages.read("README.md").splitlines())) > 130:
         faults["README.md"].append(f"README.md has {lines} lines")
     listed = re.findall(r"^\| (`.*?`) \|", pages.read("tests/README.md"), re.M)
     named = {it.rstrip("/") for row in listed for it in re.findall(r"`([^`]+)`", row)}
     there = {os.path.basename(it) for pattern in ("*.py", "*.sh", "*.c") for it in glob.glob(f"{pages.ROOT}/tests/{pattern}")}
     faults["tests/README.md"] += [f"tests/README.md has no row for {it}" for it in sorted(there - named)]
+    drawn = subprocess.run([sys.executable, f"{pages.ROOT}/docs/tables/make_picture.py", "--print"], capture_output=True, text=True, check=False)
+    if drawn.stdout != pages.read("docs/screens/crates.svg"):
+        faults["docs/ARCHITECTURE.md"].append("docs/screens/crates.svg isn't what docs/tables/make_picture.py draws from crates.txt")
     for it in sum(faults.values(), []):
         print(it)
     failed = sum(map(bool, faults.values()))

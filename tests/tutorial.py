@@ -1,7 +1,7 @@
 #!/usr/bin/env python3
-"""Follows README.md and docs/TUTORIAL.md in an empty folder each, as they are written, and docs/DEBUGGING.md where TUTORIAL ends:
-each command has to print what the page shows. Where cc65 is installed its tools go the same way beside it, and each image has to be theirs; where its sim65 is, it runs
-the images that print.
+"""Follows README.md, docs/TUTORIAL.md and docs/THEOREM.md in an empty folder each, and docs/DEBUGGING.md in the one where TUTORIAL
+ends: each command has to print what the page shows. If cc65 is installed, its tools follow the page too, and each image has to be
+theirs; if its sim65 is, it runs the images that print.
 
 usage: tutorial.py BIN65. The last line is 'N passed, M failed'."""
 import glob
@@ -59,7 +59,8 @@ def follow(page, program, before=()):
 
 def main():
     passed = failed = 0
-    for page, parts, before in (("README.md", 1, ()), ("docs/TUTORIAL.md", 8, ()), ("docs/DEBUGGING.md", 4, ("docs/TUTORIAL.md",))):
+    for page, parts, before in (("README.md", 1, ()), ("docs/TUTORIAL.md", 8, ()), ("docs/DEBUGGING.md", 4, ("docs/TUTORIAL.md",)),
+                                ("docs/THEOREM.md", 2, ())):
         found = list(follow(page, os.path.abspath(sys.argv[1]), before))
         for title, wrong in found:
             for it in wrong:

@@ -145,7 +145,10 @@ def tell(begun, ended):
 def main():
     rt, begun, ended = kit.load(), time.time(), threading.Event()
     rt.rtlib.guarded()
-    beside, reader, starts, passed, failed = Beside(rt, kit.crates(rt)), Reader(), {}, 0, 1
+    crates = kit.crates(rt)
+    # (what earlier checks built is put back when `rt ci` ends, so mutants that use it wait until then)
+    waits = any(os.path.isdir(f"{it.folder}/out/rlib") for it in crates)
+    beside, reader, starts, passed, failed = Beside(rt, crates), Reader(), {}, 0, 1
     kit.say("mutants beside the proofs: {} of every gate, {} of changed functions, {} in turn".format(*beside.kinds))
     threading.Thread(target=tell, args=(begun, ended), daemon=True).start()
     environment = {"RT_JOBS": str(kit.lanes(rt)), **os.environ}
@@ -160,8 +163,11 @@ def main():
                 kit.say(line.removeprefix("rt: "))
             if name:
                 starts[name] = time.time() - begun
-                beside.is_proved(name)
+                if not waits:
+                    beside.is_proved(name)
     proofs = time.time() - begun
+    for name in starts:
+        beside.is_proved(name)
     refused, why = beside.end()
     ended.set()
     kit.table("Minutes after which each crate was proved:", starts.items())

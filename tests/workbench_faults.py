@@ -62,9 +62,9 @@ ARGUMENTS = (
 )
 
 
-# What explain says of lines of a source, where the page's paragraph goes on in a list, or the cause is told by the line.
+# What explain says of lines of a source, where the page's paragraph has a list after it, or the cause is told by the line.
 TOLD = (
-    (1, "bad character", "Look for - a cheap label whose name begins with a digit, as @1: write @loop; - a '"),
+    (1, "bad character", "quote. - a cheap label whose name begins with a digit, as @1: write @loop; - a '"),
     (2, "statement not understood", "It is: a number or a name where a string is wanted."),
     (6, "too many arguments", "The macro m has 1 parameter, and the call has 2 arguments. ca65. A macro call has more"),
     (10, "too many arguments", "It is in the lines of the macro n, which is called here. ca65. A macro call has more"),

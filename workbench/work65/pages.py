@@ -35,8 +35,7 @@ def version() -> str:
 
 @dataclass(frozen=True)
 class Entry:
-    """A text of the page: a pattern of it, its paragraph, the list that completes it, and the rows of its table as (what, refused
-    source)."""
+    """A text of the page: a pattern of it, its paragraph, the list after it, and the rows of its table as (what, refused source)."""
 
     heading: str
     pattern: "re.Pattern[str]"
@@ -45,7 +44,7 @@ class Entry:
     rows: Tuple[Tuple[str, str], ...]
 
     def lines(self, width: int) -> Iterator[str]:
-        """The paragraph, and the list if the paragraph's last sentence goes on in it."""
+        """The paragraph, and the list after it."""
         yield from textwrap.wrap(self.paragraph, width)
         for it in self.items:
             yield from textwrap.wrap(it, width, initial_indent="- ", subsequent_indent="  ")
@@ -65,20 +64,19 @@ def _entry(heading: str, text: str) -> Entry:
     words = re.escape(heading).replace(r"N,\ M,\ \.\.", ".+").replace(r",\ M", "")
     pattern = re.compile(re.sub(r"\bN\b", ".+", re.sub(r"\b[Kn]\b", r"\\d+", words)))
     paragraph, _, rest = text.strip().partition("\n\n")
-    items = () if paragraph.endswith(".") else tuple(map(plain, _items(rest.partition("\n\n")[0])))
+    items = tuple(map(plain, _items(rest.partition("\n\n")[0])))
     rows = [(what, "\n".join(re.findall(r"`([^`]+)`", source))) for what, source in ROW.findall(text)]
     return Entry(heading, pattern, plain(paragraph), items, tuple(rows))
 
 
 def _items(block: str) -> Iterator[str]:
-    """The items of a list, the rows of a table without its heads, or the lines of what is shown."""
+    """The items of a list, or the rows of a table of two columns without its heads; nothing of any other block."""
     lines = block.split("\n")
-    if lines[0].startswith("| "):
+    if lines[0].startswith("- "):
+        yield from (it[2:] for it in lines)
+    elif lines[0].count(" | ") == 1:
         for line in lines[2:]:
-            cells = [it.strip() for it in line.strip("|").split(" | ")]
-            yield cells[0] if len(cells) > 2 else ": ".join(cells)
-    else:
-        yield from (it[2:] if it.startswith("- ") else it for it in lines if not it.startswith("```"))
+            yield ": ".join(it.strip() for it in line.strip("|").split(" | "))
 
 
 def plain(text: str) -> str:

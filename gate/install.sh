@@ -61,7 +61,11 @@ cat > "$files.work65" <<'END'
 #!/bin/sh
 # Runs work65, which is installed beside this, with the bin65 that is installed with it.
 here=$(cd "$(dirname "$(readlink -f "$0")")" && pwd)
-BIN65=${BIN65:-$here/bin65} PYTHONDONTWRITEBYTECODE=1 exec python3 -c 'import sys; sys.path[0] = sys.argv.pop(1); from work65.main import main; sys.exit(main(sys.argv[1:]))' "$here/../share/bin65" "$@"
+# Until Python has loaded work65, Ctrl-C waits, if this env can hold it back.
+held='env --block-signal=INT'
+$held true 2> /dev/null || held=
+export BIN65="${BIN65:-$here/bin65}" PYTHONDONTWRITEBYTECODE=1
+exec $held python3 -c 'import sys; sys.path[0] = sys.argv.pop(1); import work65.__main__' "$here/../share/bin65" "$@"
 END
 put 755 "$files.work65" bin/work65
 rm -f "$files.work65"

@@ -206,6 +206,14 @@ def failures():
     }
 
 
+def listed():
+    """Checks that the gate runs each script of tests/ that counts what passed."""
+    names = {it.removesuffix(".py") for it in os.listdir(f"{kit.ROOT}/tests") if it.endswith(".py")}
+    counting = {it for it in names if "passed, M failed" in "".join(kit.lines_of(f"{kit.ROOT}/tests/{it}.py")[:20])} - {"all"}
+    run = {*gate.SCRIPTS, *(words[1].removeprefix("tests/").removesuffix(".py") for _, words in gate.TEXTS)}
+    return {"each script is run": counting <= run and len(counting) > 30}
+
+
 class Proved:
     """A crate by its name, and those below it."""
 
@@ -243,7 +251,7 @@ def beside():
 
 
 def main():
-    checks = {**together(kit.load()), **turns(), **failures(), **beside()}
+    checks = {**together(kit.load()), **turns(), **failures(), **listed(), **beside()}
     for name, is_so in checks.items():
         if not is_so:
             print(f"FAILED: {name}")

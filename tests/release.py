@@ -88,6 +88,7 @@ def versions(checks):
     checks["the version of CHANGELOG"] = release.version_of(pages.read("CHANGELOG.md")) == VERSION
     checks["a heading that is no version"] = refused("# Changes\n\n## Since 1.0\n\n## 1.0\n") and refused("# Changes\n\n## 1.1 soon\n")
     checks["no heading"] = refused("# Changes\n") and release.version_of("# Changes\n\n## 2.10.3\n") == "2.10.3"
+    checks["the version of work65"] = run(pages.ROOT, "sh", "workbench/work65.sh", "--version").stdout == f"work65 {VERSION}\n"
     for file in ("README.md", "docs/RELEASE.md", "example/second/workflow.yml"):
         checks[f"the version of {file}"] = set(re.findall(r"bin65-(\d[\d.]*\d)", pages.read(file))) == {VERSION}
     for file in tracked("man"):
@@ -136,6 +137,7 @@ def installed(checks, here, top):
     pages.put(f"{top}/a.s", " lda #0\n")
     checks["it runs"] = run(top, f"{to}/bin/bin65", "ca65", "a.s").returncode == 0 and os.path.exists(f"{top}/a.o")
     os.symlink(f"{to}/bin/work65", f"{top}/work65")
+    checks["the version of what is installed"] = run(top, f"{to}/bin/work65", "--version").stdout == f"work65 {VERSION}\n"
     checks["work65 runs"] = all("usage" in run(top, it, "--help").stdout for it in (f"{to}/bin/work65", f"{top}/work65")) and files(to) == want
     for page in ("bin65", "bin65-ca65", "bin65-ld65", "bin65-ar65"):
         text = open(f"{to}/share/man/man1/{page}.1", encoding="utf-8").read().partition(".SH SEE ALSO")[2]

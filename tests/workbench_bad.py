@@ -108,6 +108,7 @@ def wrong_words(trial: Trial) -> None:
         trial.refused("a source that takes itself in", line_of(command, "self.s"), "self.s: a copy that says where its lines are isn't the same program")
     trial.refused("no such form", line_of("labels", "--format", "vise", "a.s"), "vise", 2)
     trial.refused("no library", line_of("list", "--library", "x.lib", "a.s"), "NAME=FOLDER", 2)
+    trial.refused("no source of a list", line_of("list", "--library", "x.lib=a.s,none.s", "a.s"), "none.s: no such source")
     trial.refused("no folder of a library", line_of("list", "--library", "x.lib=none", "a.s"), "none is no folder of sources")
     trial.refused("another program", line_of("list", "a.s"), "ended with status 1", BIN65="/bin/false")
 
@@ -135,11 +136,14 @@ def right(trial: Trial) -> None:
         output = ["-o", "/dev/stdout"] if command == "debug" else []
         ran = trial.run([command, *([] if command == "deps" else ["-C", "käse.cfg"]), *output, "käse.s"])
         results.check(f"{command}: names that aren't ASCII", ran.returncode == 0 and wanted in ran.stdout and trial.files() == before, ran.stdout + ran.stderr)
-    with open("/dev/full", "w") as full:
-        how = builds.environment(trial.program)
-        line = [sys.executable, "-m", "work65", *line_of("list", "a.s")]
-        done = subprocess.run(line, cwd=trial.folder, env=how, stdout=full, stderr=subprocess.PIPE, text=True)
-    results.check("a full disk", done.returncode == 1 and done.stderr == "work65: standard output: No space left on device\n", done.stderr)
+    for words in (line_of("list", "a.s"), line_of("labels", "a.s"), line_of("size", "a.s"), ["size", "--json", "-C", "a.cfg", "a.s"],
+                  line_of("deps", "a.s"), ["faults", "wrong.s"], ["check", "--json", "wrong.s"], ["--version"]):
+        with open("/dev/full", "w") as full:
+            how = builds.environment(trial.program, TMPDIR=trial.room)
+            line = [sys.executable, "-m", "work65", *words]
+            done = subprocess.run(line, cwd=trial.folder, env=how, stdout=full, stderr=subprocess.PIPE, text=True)
+        said = "work65: standard output: No space left on device\n"
+        results.check(f"a full disk: {words}", done.returncode == 1 and done.stderr == said and trial.files() == before, done.stderr)
 
 
 def links(trial: Trial) -> None:
@@ -178,6 +182,39 @@ def on_terminal(trial: Trial, words: Sequence[str], **more: str) -> str:
     os.close(writes)
     os.close(reads)
     return said.decode().rstrip("|")
+
+
+def pipes(trial: Trial) -> None:
+    """A pipe or a device in place of a file that is read: nothing waits for it."""
+    folder = f"{os.path.dirname(trial.folder)}/pipes"
+    os.mkdir(folder)
+    os.mkfifo(f"{folder}/pipe.s")
+    for name, text in {"include": '.include "pipe.s"', "incbin": '.incbin "pipe.s"', "device": '.incbin "/dev/zero"'}.items():
+        pages.put(f"{folder}/{name}.s", f"        {text}\n")
+    for command in (*COMMANDS, "faults"):
+        for name in ("pipe", "include", "incbin", "device"):
+            if command == "faults" and name != "pipe":
+                continue
+            words = [command, f"{folder}/{name}.s"] if command == "faults" else line_of(command, f"{folder}/{name}.s")
+            said = "/dev/zero: not a regular file" if name == "device" else f"{folder}/pipe.s: not a regular file"
+            trial.refused(f"a {name}", words, said)
+    trial.refused("a pipe as script", ["list", "-C", f"{folder}/pipe.s", "a.s"], "pipe.s: not a regular file")
+
+
+def early(trial: Trial) -> None:
+    """Ctrl-C while Python starts and loads work65: nothing is said, and nothing is left."""
+    before = trial.files()
+    for command in (["check", "."], ["list", "-C", "a.cfg", "a.s"]):
+        for wait in (0, 0.005, 0.01, 0.02, 0.03, 0.05, 0.08, 0.12):
+            line = ["sh", f"{pages.ROOT}/workbench/work65.sh", *command]
+            how = builds.environment(trial.program, TMPDIR=trial.room)
+            it = subprocess.Popen(line, cwd=trial.folder, env=how, stdout=subprocess.DEVNULL, stderr=subprocess.PIPE, start_new_session=True,
+                                  text=True, preexec_fn=heeding)
+            time.sleep(wait)
+            os.killpg(it.pid, signal.SIGINT)
+            said = it.communicate(timeout=20)[1]
+            is_so = it.returncode in (-signal.SIGINT, 130, 0, 1) and said == "" and trial.files() == before
+            trial.results.check(f"Ctrl-C after {wait} seconds of {command[0]}", is_so, f"{it.returncode} {said}")
 
 
 def far(trial: Trial) -> None:
@@ -278,6 +315,8 @@ def main() -> None:
         right(trial)
         links(trial)
         in_its_place(trial)
+        pipes(trial)
+        early(trial)
         far(trial)
         changed_sources(trial, int(sys.argv[2]) if len(sys.argv) > 2 else 40)
     results.end()

@@ -37,7 +37,8 @@ CASES = {
     "arrows": " bne :> <", "brk": " brk #1 <", "goes": ".list on <", "unknown": " .word .version <", "feature": ".feature c_comments <",
     "escapes": ".feature string_escapes <", "bracket": " lda [$20],y <", "comment": "/* a */ <", "underline": " .word 1_000 <",
     "quote": " lda #'x <", "capitals": " .assert 1, ERROR <", "asciiz": ' .asciiz "a", "b" <', "incbin": ' .incbin "f", 1, -1 <',
-    "align": " .align 3 <", "local-cheap": ".ifdef @l <\n.endif", "text": ' .out .sprintf("%d", 1) <', "string-value": ' lda #"A" <',
+    "incbin-file": ' .incbin "nowhere" <', "include-file": ' .include "nowhere" <',
+    "long-line": f" .byte 1{', 1' * 1400} <", "zero-page-import": ".zeropage\n .import a1 <", "align": " .align 3 <", "local-cheap": ".ifdef @l <\n.endif", "text": ' .out .sprintf("%d", 1) <', "string-value": ' lda #"A" <',
     "far": " lda f:$1234 <", "colons": " dec z:::n <", "macro-call": ".macro m\n .byte .min(1, 2)\n.endmacro\n m <", "form": " ldaa #1 <",
     "script-block": "FEATURES { } #<", "script-start": "MEMORY { M: start = %S, size = 1; } #<",
     "script-bank": "MEMORY { M: start = 1, size = 1, bank = 2; } #<", "script-yes": "MEMORY { M: start = 1, size = 1, fill = true; } #<",
@@ -47,6 +48,34 @@ CASES = {
     "script-name": "MEMORY { M: start = 1, size = a; } #<",
     "script-overwrite": "MEMORY { M: start = 1, size = 1; }\nSEGMENTS { C: load = M, type = overwrite; } #<",
     "script-areas": "SEGMENTS { C: load = M, run = N, type = bss; } #<", "script-form": "NOTHING { } #<",
+}
+# A tree's files, what is checked of it, and what is found: the file, the line and the habit.
+INIT = ".macro init\n sei\n.endmacro\n"
+TREES = {
+    "a header beside the source": ({"a.s": ' .include "m.h"\n init\n', "m.h": f"{INIT} .org 16\n"}, "a.s", "m.h:4:org"),
+    "a file in a folder of -I": ({"a.s": ' .include "e.inc"\n', "inc/e.inc": ".enum\nA1\n.endenum\n"}, "a.s -I inc", "inc/e.inc:1:enum"),
+    "a macro of an included file": (
+        {"a.s": ' .include "m.inc"\n init\n foo\n', "m.inc": f'{INIT}.macro foo\n .byte .strlen("ab")\n.endmacro\n'}, "a.s",
+        "a.s:3:macro-call m.inc:5:strlen"),
+    "a file that a line left out includes": ({"a.s": '.ifdef NO\n .include "b.inc"\n.endif\n', "b.inc": " .org 1\n"}, "a.s", ""),
+    "a file beside an outer one": (
+        {"main.s": '.include "inc/a.inc"\n', "inc/a.inc": '.include "b.inc"\n', "b.inc": " nop\n"}, "main.s", "inc/a.inc:1:include-file"),
+    "the same with -I": ({"main.s": '.include "inc/a.inc"\n', "inc/a.inc": '.include "b.inc"\n', "b.inc": " nop\n"}, "main.s -I .", ""),
+    "a file that isn't there": ({"a.s": '.include "none.inc"\n'}, "a.s", "a.s:1:include-file"),
+    "text after .end": ({"a.s": " nop\n .end\nanything after the end is ignored\n"}, "a.s", ""),
+    "text after an .end that isn't sure": ({"a.s": ".if N > 1\n .end\n.endif\n .org 1\n"}, "a.s", "a.s:4:org"),
+    "Makefile.inc": ({"Makefile.inc": "all: game.nes\n", "a.s": " nop\n"}, ".", ""),
+    "dec and inc alone": ({"a.s": "l: dec\n inc\n dec l\n asl\n"}, "a.s", "a.s:1:processor a.s:2:processor"),
+    "data elsewhere": ({"a.s": ' .incbin "g.bin"\n .incbin "gfx/g.bin"\n', "gfx/g.bin": ""}, "a.s", "a.s:1:incbin-file"),
+    "data beside the caller": (
+        {"a.s": ' .include "inc/m.inc"\n load\n', "inc/m.inc": '.macro load\n .incbin "g.bin"\n.endmacro\n', "g.bin": ""}, "a.s", ""),
+    "a long line": ({"a.s": f" .byte 1{', 1' * 1362}00\n .byte 1{', 1' * 1362}000\n"}, "a.s", "a.s:2:long-line"),
+    "a long line left out": ({"a.s": f".if 0\n .byte 1{', 1' * 1400}\n.endif\n"}, "a.s", "a.s:2:long-line"),
+    "imports in the zero page": (
+        {"a.s": ".import a1\n.zeropage\n.import b1\n.importzp c1\n.pushseg\n.code\n.import d1\n.popseg\n.forceimport e1\n.code\n.import f1\n"},
+        "a.s", "a.s:3:zero-page-import a.s:9:zero-page-import"),
+    "a zero page segment of its own": (
+        {"a.s": '.segment "FAST": zeropage\n.code\n.segment "FAST"\n.global a1, b1\nb1: .res 1\n'}, "a.s", "a.s:4:zero-page-import"),
 }
 # Messages that don't tell a habit: what the file needs isn't there.
 ELSEWHERE = ("file not found", "undefined name", "file error", "file too long", "export not defined", "imported and defined")
@@ -65,9 +94,10 @@ class Tries:
         if not is_so:
             print(f"{name}: {found}")
 
-    def work65(self, *words, folder="/"):
-        how = {**os.environ, "BIN65": self.program}
-        return subprocess.run(["sh", WORK65, "check", *words], cwd=folder, env=how, capture_output=True, text=True, check=False)
+    def work65(self, *words, folder="/", stdout=subprocess.PIPE, user=None):
+        how = {**os.environ, "BIN65": self.program, "PYTHONDONTWRITEBYTECODE": "1"}
+        line = ["sh", WORK65, "check", *words]
+        return subprocess.run(line, cwd=folder, env=how, stdout=stdout, stderr=subprocess.PIPE, text=True, check=False, user=user, timeout=60)
 
 
 def habits(tries, folder):
@@ -97,6 +127,9 @@ def pairs(tries, folder):
     for kind, is_found in (("cc65", True), ("asm", False)):
         for number, block in enumerate(re.findall(f"^```{kind}\n(.*?)^```$", text, re.M | re.S)):
             pages.put(f"{folder}/a.s", block)
+            for name in re.findall(r'\.inc(?:lude|bin)\s+"([^"]+)"', block):
+                os.makedirs(os.path.dirname(f"{folder}/{name}"), exist_ok=True)
+                pages.put(f"{folder}/{name}", "")
             found = check.findings([f"{folder}/a.s"])
             tries.check(f"block {number + 1} of {kind}", bool(found) == is_found, [check.said(it) for it in found] or block)
 
@@ -104,7 +137,7 @@ def pairs(tries, folder):
 def searched(tries, folder):
     """The page's search finds what check's own words find."""
     command = re.search(r"```sh\n(grep.*?)```", pages.read("docs/MIGRATING.md"), re.S)[1]
-    unseen = ("in-scope", "processor", "macro-call", "form", "undocumented", "text", "quote", "colons")
+    unseen = ("incbin-file", "include-file", "zero-page-import", "in-scope", "processor", "macro-call", "form", "undocumented", "text", "quote", "colons")
     for name, text in CASES.items():
         if not name.startswith("script-") and name not in unseen:
             pages.put(f"{folder}/a.s", text.replace(" <", "") + "\n")
@@ -128,7 +161,7 @@ def over(tries, files):
     for file in files:
         line = told(tries, file, [stock.INCLUDES])
         if line is not None:
-            lines = {it.line for it in check.findings([file])}
+            lines = {it.line for it in check.findings([file]) if it.path == file}
             count += 1
             wrong += [f"{file}:{line}: {sorted(lines)[:5]}"] if (line in lines) != (line > 0) or (line == 0 and lines) else []
     tries.check(f"{count} files", not wrong and count, "\n".join(wrong))
@@ -154,6 +187,41 @@ def machine_sources():
             if len(found) > 40 * OTHERS:
                 break
     return [it for it in found if os.path.getsize(it) < 200000][:: max(1, len(found) // OTHERS)]
+
+
+def trees(tries):
+    """What is found in small trees."""
+    for name, (files, words, wanted) in TREES.items():
+        with tempfile.TemporaryDirectory() as folder:
+            for file, text in files.items():
+                os.makedirs(os.path.dirname(f"{folder}/{file}"), exist_ok=True)
+                pages.put(f"{folder}/{file}", text)
+            found = json.loads(tries.work65("--json", *words.split(), folder=folder).stdout)
+            said = " ".join(f"{it['file']}:{it['line']}:{it['habit']}" for it in found)
+            tries.check(name, said == wanted, said)
+
+
+def no_files(tries):
+    """Pipes, devices, links that lead nowhere and folders that can't be read: a message or silence, and the rest is looked at."""
+    with tempfile.TemporaryDirectory() as folder:
+        os.chmod(folder, 0o755)
+        os.mkdir(f"{folder}/src")
+        os.mkfifo(f"{folder}/src/pipe.s")
+        os.symlink("nowhere", f"{folder}/src/.#a.s")
+        os.symlink("/dev/full", f"{folder}/src/full.s")
+        pages.put(f"{folder}/src/a.s", "start lda #1\n")
+        ran = tries.work65("src", folder=folder)
+        tries.check("a pipe in a folder", (ran.returncode, ran.stdout.count("\n"), ran.stderr) == (1, 1, ""), ran)
+        for name in ("src/pipe.s", "/dev/full"):
+            ran = tries.work65(name, folder=folder)
+            tries.check(name, (ran.returncode, ran.stdout, ran.stderr) == (1, "", f"work65: {name}: not a regular file\n"), ran)
+        os.mkdir(f"{folder}/src/closed", 0)
+        ran = tries.work65("src", folder=folder, user=65534 if os.geteuid() == 0 else None)
+        said = "work65: src/closed: Permission denied\n"
+        tries.check("a folder that can't be read", (ran.returncode, ran.stdout.count("\n"), ran.stderr) == (1, 1, said), ran)
+        with open("/dev/full", "w", encoding="utf-8") as full:
+            ran = tries.work65("src/a.s", folder=folder, stdout=full)
+        tries.check("a full disk", (ran.returncode, ran.stderr) == (1, "work65: standard output: No space left on device\n"), ran)
 
 
 def bad_input(tries):
@@ -209,6 +277,8 @@ def main():
     else:
         print("cc65 isn't installed: its files aren't looked at")
     over(tries, machine_sources())
+    trees(tries)
+    no_files(tries)
     bad_input(tries)
     speed(tries)
     print(f"{tries.passed} passed, {tries.failed} failed")

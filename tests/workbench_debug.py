@@ -15,6 +15,60 @@ import workbench_builds as builds
 Entry = Dict[str, str]
 # Lines and addresses of the program with tricks: file, line, first address.
 PAIRS = [("main.s", 15, 0x8000), ("macros.inc", 12, 0x800C), ("macros.inc", 21, 0x8014), ("main.s", 29, 0x803C), ("more.inc", 3, 0x0300)]
+# Constants of all address sizes, a file that puts nothing, and modules that put nothing into CODE.
+SMALL: Dict[str, str] = {
+    "main.s": """        .include "nothing.inc"
+        .importzp pointer
+        .import table
+.zeropage
+short:  .res 2
+.code
+start:  nop
+other:  nop
+k1 = 5
+k2 = 256
+k3 = $10000
+k4 = $1000000
+k5 = -1
+k6 = start
+k7 = short
+k8 = <start
+k9 = other - start
+k10 = start + 1
+k11 = short + 1
+k12 = short + 300
+k13 = later
+k14 = later - start
+k15 = start & 255
+k16 = start > 3
+k17 := 5
+k18 := $300
+k20 = start / 2
+k22 = 5 + start
+k23 = later_short
+k24 = k13
+k25 = !start
+k29 = start | short
+k31 = k6 + k1
+k32 = >start
+k33 = ^start
+k34 = start .mod 4
+k35 = start && 1
+k36 = pointer + 1
+k37 = table
+k38 = k1 + NOTHING
+later:  nop
+.zeropage
+later_short: .res 1
+""",
+    "nothing.inc": "NOTHING = 1\n",
+    "other.s": '        .export table\n        .exportzp pointer\n.bss\n        .res 3\n.rodata\ntable:  .res 16\n.zeropage\npointer: .res 2\n',
+    "third.s": '.data\n        .res 2\n.scope s\n.bss\n        .res 3\n.data\n        .byte 1\n.endscope\n.bss\n        .res 4\n',
+    "small.cfg": """MEMORY { Z: file = "", start = $0002, size = $FE; M: start = $C000, size = $3000; R: file = "", start = $0200, size = $1000; }
+SEGMENTS { ZEROPAGE: load = Z, type = zp; CODE: load = M, type = ro; RODATA: load = M, type = ro; DATA: load = M, type = rw;
+    BSS: load = R, type = bss; }
+""",
+}
 # What -D defines is a symbol in cc65's file alone.
 DEFINED = ("LARGE", "NTSC")
 KINDS = ("file", "lib", "line", "mod", "scope", "seg", "span", "sym", "type")
@@ -74,6 +128,20 @@ class Debug:
                 found.add((name, it["type"], int(it["val"], 16), around))
         return found
 
+    def address_sizes(self) -> Set[Tuple[str, str]]:
+        """The address sizes of symbols."""
+        found = ((it["name"].strip('"'), it["addrsize"]) for it in self.of("sym").values() if "val" in it)
+        return {it for it in found if not it[0].startswith("LOCAL-MACRO") and "?" not in it[0] and it[0] not in DEFINED}
+
+    def sizes_of_scopes(self) -> Set[Tuple[str, str, str]]:
+        """The sizes of scopes, with the numbers of their modules."""
+        return {(it["mod"], self.scope_name(it), it.get("size", "")) for it in self.of("scope").values()}
+
+    def files(self) -> Set[str]:
+        """The files of source that modules read; data is listed in cc65's file alone."""
+        names = (os.path.normpath(it["name"].strip('"')) for it in self.of("file").values())
+        return {it for it in names if it.endswith((".s", ".inc"))}
+
     def data(self) -> Set[Tuple[int, str, str]]:
         """Spans that have a type: where they begin, their size and their type."""
         found = set()
@@ -114,6 +182,11 @@ def compare(results: builds.Results, name: str, mine: Debug, other: Debug) -> No
     results.check(f"{name}: types of data", mine.data() == other.data(), differ(mine.data(), other.data()))
     results.check(f"{name}: scopes", mine.scopes() == other.scopes(), differ(mine.scopes(), other.scopes()))
     results.check(f"{name}: segments", mine.segments() == other.segments(), differ(mine.segments(), other.segments()))
+    sizes = mine.address_sizes(), other.address_sizes()
+    results.check(f"{name}: address sizes", sizes[0] == sizes[1], differ(*sizes))
+    scopes = mine.sizes_of_scopes(), other.sizes_of_scopes()
+    results.check(f"{name}: sizes of scopes", scopes[0] == scopes[1], differ(*scopes))
+    results.check(f"{name}: files", mine.files() == other.files(), differ({(it,) for it in mine.files()}, {(it,) for it in other.files()}))
     modules = [len(it.of("mod")) for it in (mine, other)]
     results.check(f"{name}: modules", modules[0] == modules[1], modules)
 
@@ -122,7 +195,10 @@ def main() -> None:
     program = os.path.abspath(sys.argv[1])
     results = builds.Results()
     with tempfile.TemporaryDirectory() as folder:
-        programs = builds.programs(folder)
+        os.mkdir(f"{folder}/small")
+        for name, text in SMALL.items():
+            builds.pages.put(f"{folder}/small/{name}", text)
+        programs = [*builds.programs(folder), builds.Program("small", "small", "small.cfg", ["main.s", "other.s", "third.s"])]
         for it in programs if builds.has_cc65() else programs[:1]:
             here = f"{folder}/{it.folder}"
             builds.work65(program, here, "debug", "-o", "game.dbg", "--image", f"cc65-{it.name}/image", *it.words())

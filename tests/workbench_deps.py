@@ -48,7 +48,7 @@ FILES: Dict[str, str] = {
     "second/far.inc": "; second\n",
     "second/near.inc": '.error "the folder of the file comes first"\n',
     "missing.s": '        .incbin "gone.bin"\n        .include "none.inc"\nl:      .incbin "x.bin"\n        .include "src/given.inc"\n',
-    "wrong.s": '        .include "src/given.inc"\n        bogus\n        .incbin "src/one.bin"\n',
+    "wrong.s": '        .include "src/given.inc"\n        bogus\n        .incbin "gone.bin"\n        .include "none.inc"\n        .incbin "src/one.bin"\n',
     "a b.s": "        nop\n",
 }
 
@@ -101,8 +101,9 @@ def written(results: builds.Results, program: str, folder: str) -> None:
     is_said = all(f"{it} isn't there" in ran.stderr for it in ("gone.bin", "none.inc", "x.bin"))
     results.check("and is said", is_said, ran.stderr)
     ran = builds.work65(program, folder, "deps", "wrong.s", status=1)
-    results.check("behind a fault", names_of(ran.stdout) == ["wrong.s", "src/given.inc", "src/one.bin"], ran.stdout)
-    results.check("and the fault is said", "statement not understood" in ran.stderr, ran.stderr)
+    results.check("behind a fault", names_of(ran.stdout) == ["wrong.s", "src/given.inc", "gone.bin", "none.inc", "src/one.bin"], ran.stdout)
+    is_said = all(it in ran.stderr for it in ("statement not understood", "gone.bin isn't there", "none.inc isn't there"))
+    results.check("and the fault is said, and what is missing", is_said, ran.stderr)
     ran = builds.work65(program, folder, "deps", f"{folder}/src/given.inc", "a b.s", "--object", "x.o", status=2)
     said = builds.work65(program, folder, "deps", "a b.s", "--object", "out/x.o").stdout
     results.check("names that make would part", said == "out/x.o: a\\ b.s\n", said)

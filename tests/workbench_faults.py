@@ -62,6 +62,15 @@ ARGUMENTS = (
 )
 
 
+# What explain says of lines of a source, where the page's paragraph has a list after it, or the cause is told by the line.
+TOLD = (
+    (1, "bad character", "quote. - a cheap label whose name begins with a digit, as @1: write @loop; - a '"),
+    (2, "statement not understood", "It is: a number or a name where a string is wanted."),
+    (6, "too many arguments", "The macro m has 1 parameter, and the call has 2 arguments. ca65. A macro call has more"),
+    (10, "too many arguments", "It is in the lines of the macro n, which is called here. ca65. A macro call has more"),
+)
+
+
 class Tries:
     """What passed and failed."""
 
@@ -111,6 +120,21 @@ FOLLOWING = (
     (".repeat 2, i\n .byte 100 * (i + 2)\n .byte oops(\n.endrepeat\n nop\n", [None]), (".proc p\n lda #\n", [None, None]),
     (".proc p\n.if 1\n nop\n .byte oops(\n", [None, None, None]),
     (".if .defined(A)\n nop\n.else\n foo bar\n.endif\n", [None]),
+    # Names of the branches that a refused condition doesn't take, of a refused macro, repeat and import, and of a second .define.
+    (".if .defined(A)\nn = 1\n.elseif .defined(B)\nm = 2\n.endif\n lda #n\n lda #m\n", [None, 1]),
+    (".macro load a1, a1\n lda #a1\n.endmacro\n load 5\n nop\n", [None, 1]),
+    (".repeat 2\nl:\n.byte oops(\n.endrepeat\n jmp l\n", [None, 1]), (".import f: far\n jsr f\n", [None, 1]),
+    (".define W 1\n lda #W\n.undefine W\n.define W 2\n", [None, 1, 1, None]),
+)
+# A name that is defined twice: the lines that are said, and the next ones are looked at.
+TWICE = (
+    ("lab: nop\nlab: rts\n lda nowhere\n foo\n", ["2 defined twice: lab", "3 undefined name: nowhere", "4 statement not understood"]),
+    ("lab:\n nop\nlab:\n rts\n foo\n", ["3 defined twice: lab", "5 statement not understood"]),
+    ("n = 1\nn = 2\n foo\n", ["2 defined twice: n", "3 statement not understood"]),
+    ("lab: nop\nlab: foo\n foo\n", ["2 defined twice: lab", "2 statement not understood", "3 statement not understood"]),
+    (".proc p\n.endproc\n.proc p\n foo\n.endproc\n.scope s\n.endscope\n.scope s\nq: rts\n.endscope\n.scope\n jmp q\n.endscope\n",
+     ["3 scope defined twice: p", "4 statement not understood", "8 scope defined twice: s", "12 undefined name: q"]),
+    (".macro m\n nop\n.endmacro\n.macro m a1\n foo a1\n.endmacro\n m\n foo\n", ["4 macro defined twice", "8 statement not understood"]),
 )
 
 
@@ -122,6 +146,55 @@ def following(tries):
             said = tries.work65("faults", "a.s", folder=folder).stdout.splitlines()
             found = [int(match[1]) if (match := re.search(r"\(follows from a\.s:(\d+)\)$", it)) else None for it in said]
             tries.check(f"what follows in {text!r}", found == wanted, said)
+
+
+def twice(tries):
+    """It goes on after a name that is defined twice."""
+    for text, wanted in TWICE:
+        with tempfile.TemporaryDirectory() as folder:
+            pages.put(f"{folder}/a.s", text)
+            ran = tries.work65("faults", "a.s", folder=folder)
+            said = [it.replace("a.s:", "").replace(": Error:", "") for it in ran.stdout.splitlines()]
+            tries.check(f"twice in {text!r}", said == wanted and not ran.stderr, ran.stdout + ran.stderr)
+
+
+# Lines with one fault each, of which N is a number: by their form, by a value, by names that nothing defines or a line left out
+# would have defined. Every 50th hangs on the value of a name. The others are right.
+KINDS = (
+    ("statement not understood", " fooN #1"), ("undefined name: noN", " lda noN"), ("statement not understood", ".define DN 5"),
+    ("out of range", " .byte 300 + N"), ("no such addressing form", " stx first,x ; N"), ("undefined name: moN", " .word moN + 1, 5"),
+    ("bad character", " lda #'aN"), ("bad alignment", "lN: .align 3 + N * 2"), ("undefined name: DM", " ldx #DM"),
+)
+VALUE = ("out of range", " lda #BIG + N")
+RIGHT = (" lda #5", " sta first", " .word first + 1", "q: jmp first", " bne :+\n: dex", ".scope\nlocal: jmp local\n.endscope")
+
+
+def many(tries):
+    """A thousand faults in 20,000 lines within ten seconds, each as bin65 says it of its line; what stands in branches that aren't
+    taken isn't said; that there are more is."""
+    wanted, lines = set(), ["first: nop", "BIG = 300"]
+    for number in range(1000):
+        kind = VALUE if number % 50 == 49 else KINDS[number % len(KINDS)]
+        defined = number // len(KINDS) * len(KINDS) + 2
+        said, line = (it.replace("N", str(number)).replace("M", str(defined if defined % 50 != 49 else 2)) for it in kind)
+        lines += [it.replace("q", f"q{number}") for it in RIGHT]
+        lines += [".if 0", " lda nowhere", " foo", ".endif", f"; {number}", *["; more"] * 6, line]
+        wanted.add(f"a.s:{sum(it.count(chr(10)) + 1 for it in lines)}: Error: {said}")
+    with tempfile.TemporaryDirectory() as folder:
+        pages.put(f"{folder}/a.s", "\n".join(lines) + "\n")
+        begun = time.monotonic()
+        ran = tries.work65("faults", "a.s", folder=folder)
+        took = time.monotonic() - begun
+        found = [re.sub(r" \(follows from .*\)", "", it) for it in ran.stdout.splitlines()]
+        print(f"faults: {len(found)} faults in {sum(it.count(chr(10)) + 1 for it in lines)} lines in {took:.1f} seconds")
+        tries.check("a thousand faults", wanted == set(found) and not ran.stderr, f"{sorted(wanted ^ set(found))[:9]} {ran.stderr}")
+        tries.check("the time of a thousand faults", took < 20, took)
+        follows = [it for it in ran.stdout.splitlines() if "undefined name: D" in it]
+        tries.check("what follows of a thousand", follows and all("follows from a.s:" in it for it in follows), follows[:3])
+        pages.put(f"{folder}/b.s", "".join(f" lda no{it}\n" for it in range(1100)))
+        ran = tries.work65("faults", "b.s", folder=folder)
+        said = "work65: b.s: there are more than 1000 faults; the rest isn't said\n"
+        tries.check("more faults", (ran.stdout.count("\n"), ran.stderr, ran.returncode) == (1000, said, 1), ran.stdout[-200:] + ran.stderr)
 
 
 def includes(tries):
@@ -138,6 +211,10 @@ def includes(tries):
         whole = tries.work65("faults", f"{folder}/src/a.s", "-I", f"{folder}", folder=folder)
         tries.check("whole paths", whole.stdout.count("statement not understood") == 4 and f"{folder}/src/a.s:3:" in whole.stdout, whole.stdout)
         pages.put(f"{folder}/good.s", ".ifdef N\n nop\n.endif\n lda #N\n")
+        pages.put(f"{folder}/ü.s", '.include "ö.inc"\n oops\n')
+        pages.put(f"{folder}/ö.inc", " oops\n")
+        said = tries.work65("faults", "ü.s", folder=folder).stdout
+        tries.check("names outside ASCII", said == "".join(f"{it}: Error: statement not understood\n" for it in ("ü.s:2", "ö.inc:1")), said)
         good = tries.work65("faults", "good.s", "-D", "N=4", folder=folder)
         tries.check("a source without a fault", good.returncode == 0 and not good.stdout + good.stderr, good)
         bad = tries.work65("faults", "none.s", folder=folder)
@@ -148,23 +225,26 @@ def includes(tries):
 
 
 def heeding():
-    """Ctrl-C is heeded, also where whoever runs the tests ignores it."""
-    signal.signal(signal.SIGINT, signal.SIG_DFL)
+    """Signals are heeded, also where whoever runs the tests ignores them."""
+    for it in (signal.SIGINT, signal.SIGTERM):
+        signal.signal(it, signal.SIG_DFL)
 
 
 def interrupted(tries):
-    """After Ctrl-C nothing is left of the copy."""
-    with tempfile.TemporaryDirectory() as folder:
-        pages.put(f"{folder}/a.s", " oops\n" * 9000)
-        how = {**os.environ, "BIN65": tries.program, "TMPDIR": folder}
-        ran = subprocess.Popen(["sh", WORK65, "faults", "a.s"], cwd=folder, env=how, stdout=subprocess.PIPE, stderr=subprocess.PIPE, start_new_session=True, preexec_fn=heeding)
-        deadline = time.monotonic() + 20
-        # The copy is under way once something is in its folder.
-        while not glob.glob(f"{folder}/work65-*/*") and time.monotonic() < deadline:
-            time.sleep(0.02)
-        os.killpg(ran.pid, signal.SIGINT)
-        said = ran.communicate(timeout=30)
-        tries.check("Ctrl-C", os.listdir(folder) == ["a.s"] and not said[0] and b"Traceback" not in said[1], (os.listdir(folder), said))
+    """After Ctrl-C and SIGTERM nothing is left of the copy."""
+    for sent in (signal.SIGINT, signal.SIGTERM):
+        with tempfile.TemporaryDirectory() as folder:
+            pages.put(f"{folder}/a.s", "n = 1\n" + " lda #n * 300\n" * 9000)
+            how = {**os.environ, "BIN65": tries.program, "TMPDIR": folder}
+            ran = subprocess.Popen(["sh", WORK65, "faults", "a.s"], cwd=folder, env=how, stdout=subprocess.PIPE, stderr=subprocess.PIPE,
+                                   start_new_session=True, preexec_fn=heeding)
+            deadline = time.monotonic() + 20
+            # The copy is under way once something is in its folder.
+            while not glob.glob(f"{folder}/work65-*/*") and time.monotonic() < deadline:
+                time.sleep(0.02)
+            os.kill(ran.pid, sent)
+            said = ran.communicate(timeout=30)
+            tries.check(sent.name, os.listdir(folder) == ["a.s"] and not said[0] + said[1], (os.listdir(folder), said))
 
 
 def explained(tries):
@@ -212,6 +292,11 @@ def commands(tries):
         tries.check("a macro's lines", "It is in the lines of the macro m, which is called here." in ran.stdout, ran.stdout)
         ran = tries.work65("explain", folder=folder, given="b.s:8: Error: statement not understood\n")
         tries.check("a repeat's lines", "It is in one of the lines 5 to 8, which are repeated." in ran.stdout, ran.stdout)
+        pages.put(f"{folder}/c.s", " lda #'ab\n .asciiz 5\n.macro m a1\n nop\n.endmacro\n m 1, 2\n.macro n\n m 1, 2\n.endmacro\n n\n")
+        for line, text, wanted in TOLD:
+            ran = tries.work65("explain", folder=folder, given=f"c.s:{line}: Error: {text}\n")
+            words = " ".join(ran.stdout.split())
+            tries.check(f"explain {text} of line {line}", wanted in words and re.search(r"[.)]$", words), ran.stdout)
         ran = tries.work65("explain", "--", "no-such-command", folder=folder)
         tries.check("no such command", ran.returncode == 127 and ran.stderr.count("\n") == 1, ran.stderr)
         ran = tries.work65("explain", "--", "bin65", "ca65", "-t", "c64", "a.s", folder=folder)
@@ -224,7 +309,7 @@ def commands(tries):
 
 def main():
     tries = Tries(sys.argv[1])
-    for part in (all_faults, following, includes, interrupted, explained, causes, commands):
+    for part in (all_faults, following, twice, many, includes, interrupted, explained, causes, commands):
         part(tries)
     print(f"{tries.passed} passed, {tries.failed} failed")
     sys.exit(tries.failed > 0)

@@ -5,6 +5,7 @@ address. Where cc65 isn't installed that is skipped. Other forms are compared wi
 usage: workbench_labels.py BIN65. The last line is 'N passed, M failed'."""
 import os
 import re
+import subprocess
 import sys
 import tempfile
 from typing import Dict, List, Set, Tuple
@@ -82,6 +83,14 @@ large := {"+".join(["other"] * 128)}
         .word   large
 last:   rts
 """
+# A program whose library has its members in another order than their names, and where they lie by each order.
+LIBRARY: Dict[str, str] = {
+    "main.s": ".import zeta, alpha\n .word zeta, alpha\n",
+    "lib/zeta.s": ".export zeta\nzeta: .byte 1, 2, 3\n",
+    "lib/alpha.s": ".export alpha\nalpha: .byte 4\n",
+    "x.cfg": "MEMORY { A: start = $8000, size = $100; }\nSEGMENTS { CODE: load = A; }\n",
+}
+BY_NAME, BY_LIBRARY = ["00008004 alpha", "00008005 zeta"], ["00008004 zeta", "00008007 alpha"]
 BESIDE = {"ram": FORMS["fceux"][:4], "0": FORMS["fceux"][4:5], "1": FORMS["fceux"][5:]}
 
 
@@ -127,11 +136,44 @@ def forms(results: builds.Results, program: str, folder: str) -> None:
     results.check("fceux's files", written == BESIDE, written)
 
 
+def libraries(results: builds.Results, program: str, folder: str) -> None:
+    """A library's members in the order of its list, or of the library that is there; and an image that is another one."""
+    for name, text in LIBRARY.items():
+        os.makedirs(os.path.dirname(f"{folder}/{name}"), exist_ok=True)
+        builds.pages.put(f"{folder}/{name}", text)
+    line = ["labels", "-C", "x.cfg", "--format", "nocash", "main.s"]
+
+    def order(name: str, library: str, wanted: List[str], *more: str) -> None:
+        said = builds.work65(program, folder, *line, "--library", library, *more).stdout
+        results.check(f"a library {name}", said.splitlines() == wanted, said)
+
+    def made(*tool: str) -> None:
+        for it in ("zeta", "alpha", "main"):
+            source = "main.s" if it == "main" else f"lib/{it}.s"
+            subprocess.run([*tool, "ca65", "-o", f"{it}.o", source], cwd=folder, check=True)
+        subprocess.run([*tool, "ar65", "r", "l.lib", "zeta.o", "alpha.o"], cwd=folder, check=True)
+        subprocess.run([*tool, "ld65", "-C", "x.cfg", "-o", "game.bin", "main.o", "l.lib"], cwd=folder, check=True)
+
+    order("in the order of names", "l.lib=lib", BY_NAME)
+    order("of a list", "l.lib=lib/zeta.s,lib/alpha.s", BY_LIBRARY)
+    for tool in [(program,), ()] if builds.has_cc65() else [(program,)]:
+        made(*tool)
+        order("that is there", "l.lib=lib", BY_LIBRARY, "--image", "game.bin")
+        os.remove(f"{folder}/l.lib")
+        order("of a list, with its image", "l.lib=lib/zeta.s,lib/alpha.s", BY_LIBRARY, "--image", "game.bin")
+    for command in ("list", "labels", "debug", "size"):
+        words = [command, "-C", "x.cfg", "--library", "l.lib=lib", "--image", "game.bin", "main.s", *(["-o", "x.dbg"] * (command == "debug"))]
+        ran = builds.work65(program, folder, *words, status=1)
+        said = "game.bin isn't the image of these sources: it has 8 bytes, theirs 8; they differ from $0 on"
+        results.check(f"{command} of another image", said in ran.stderr and not ran.stdout, ran.stderr)
+
+
 def main() -> None:
     program = os.path.abspath(sys.argv[1])
     results = builds.Results()
     with tempfile.TemporaryDirectory() as folder:
         forms(results, program, folder)
+        libraries(results, program, f"{folder}/library")
         programs = builds.programs(folder)
         for it in programs if builds.has_cc65() else programs[:1]:
             said = builds.work65(program, f"{folder}/{it.folder}", "labels", *it.words()).stdout

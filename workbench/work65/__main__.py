@@ -1,6 +1,12 @@
-"""Runs work65 as `python3 -m work65`."""
+"""Runs work65 as `python3 -m work65`. Until all modules are loaded, Ctrl-C ends it without a word."""
 import sys
 
-from work65.main import main
+from work65 import signals
 
-sys.exit(main(sys.argv[1:]))
+signals.heed_no_more()
+
+from work65.main import main  # noqa: E402
+
+status = main(sys.argv[1:])
+signals.heed_no_more()
+sys.exit(status)

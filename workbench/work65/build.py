@@ -2,14 +2,13 @@
 import argparse
 import gc
 import os
-import signal
-import tempfile
-from contextlib import contextmanager
 from dataclasses import dataclass, field
-from typing import Dict, Iterator, List, Optional
+from typing import Dict, List, Optional
 
 from work65.instrument import Constants, Copies, How, instrument
+from work65.language.files import want_regular
 from work65.layout import Layout, layout_of
+from work65.library import sources_of
 from work65.mapfile import Module, read_map
 from work65.mirror import Mirror
 from work65.objects import Object, read_object
@@ -32,6 +31,7 @@ class Wanted:
     defines: List[str]
     libraries: List[str]
     image: str
+    is_compared: bool = False
 
 
 @dataclass
@@ -42,6 +42,7 @@ class Unit:
     object: str
     module: str
     linked: Optional[Module] = None
+    closure: Optional[Closure] = None
     told: Optional[Told] = None
 
 
@@ -60,8 +61,9 @@ def add_arguments(parser: argparse.ArgumentParser) -> None:
     parser.add_argument("-C", dest="script", metavar="SCRIPT", required=True, help="the linker script")
     add_assembler_arguments(parser)
     add = parser.add_argument
-    add("--library", dest="libraries", action="append", default=[], metavar="NAME=FOLDER", help="a library of FOLDER's sources, last in the link")
-    add("--image", default="a.out", metavar="FILE", help="how the linker's output is named (a.out)")
+    said = "a library of FOLDER's sources, or of the files of a list NAME=FILE,FILE, last in the link"
+    add("--library", dest="libraries", action="append", default=[], metavar="NAME=FOLDER", help=said)
+    add("--image", metavar="FILE", help="how the linker's output is named (a.out); if the file is there, it has to be the image")
     add("sources", nargs="+", metavar="SOURCE", help="a source, or an object or library that is linked at its place")
 
 
@@ -75,45 +77,19 @@ def add_assembler_arguments(parser: argparse.ArgumentParser) -> None:
 
 def wanted_of(arguments: argparse.Namespace) -> Wanted:
     """What a line asks for."""
-    return Wanted(arguments.script, arguments.sources, arguments.folders, arguments.defines, arguments.libraries, arguments.image)
-
-
-def interrupt(number: int, _: object) -> None:
-    """Ends the run as Ctrl-C does."""
-    raise KeyboardInterrupt
-
-
-@contextmanager
-def folder_for_a_while() -> Iterator[str]:
-    """A folder that goes away, also where the run is ended."""
-    for it in (signal.SIGTERM, signal.SIGHUP):
-        signal.signal(it, interrupt)
-    try:
-        folder = tempfile.TemporaryDirectory(prefix="work65-")
-    except OSError as error:
-        raise Problem(f"no folder for temporary files can be made: {error.strerror}") from error
-    with folder as name:
-        yield os.path.realpath(name)
+    image = "a.out" if arguments.image is None else arguments.image
+    words = (arguments.script, arguments.sources, arguments.folders, arguments.defines, arguments.libraries)
+    return Wanted(*words, image, arguments.image is not None)
 
 
 def is_linked_as_it_is(name: str) -> bool:
     """Whether a word names an object or a library."""
     try:
+        want_regular(name)
         with open(name, "rb") as it:
             return it.read(4) in (b"R65o", b"R65l")
     except OSError as error:
         raise Problem(f"{name}: {error.strerror}") from error
-
-
-def sources_of_library(word: str) -> List[str]:
-    """The sources of a library NAME=FOLDER."""
-    name, _, folder = word.partition("=")
-    if not name or not folder:
-        raise Problem(f"--library wants NAME=FOLDER: {word}", 2)
-    sources = sorted(it for it in os.listdir(folder) if it.endswith((".s", ".asm"))) if os.path.isdir(folder) else []
-    if not sources:
-        raise Problem(f"{folder} is no folder of sources")
-    return [os.path.join(folder, it) for it in sources]
 
 
 def in_library(module: str) -> str:
@@ -129,6 +105,8 @@ class Builder:
         self.options = [f"-I{it}" for it in wanted.folders] + [f"-D{it}" for it in wanted.defines]
         self.units: List[Unit] = []
         self.given: Dict[str, str] = {}
+        self.closures: Dict[str, Closure] = {}
+        self.libraries = [(it, sources_of(it, program)) for it in wanted.libraries]
 
     def run(self, words: List[str], folder: Optional[str] = None, known: Optional[Dict[str, str]] = None) -> None:
         """Runs bin65; what it says of a fault is said here, with the names that the user knows."""
@@ -144,7 +122,9 @@ class Builder:
         return os.path.join(self.folder, name)
 
     def assemble(self, source: str, object_name: str, module: str) -> Unit:
-        """Assembles a source."""
+        """Assembles a source. It is read before, so that bin65 waits for no pipe."""
+        if source not in self.closures:
+            self.closures[source] = Closure(source, self.wanted.folders)
         unit = Unit(source, object_name, module)
         self.run(["ca65", f"-o{self.path(object_name)}", *self.options, "--", source])
         self.units.append(unit)
@@ -158,12 +138,12 @@ class Builder:
             name, number = f"{folder}{stem}-{number}.o", number + 1
         return name
 
-    def library(self, word: str, number: int, progress: Progress) -> str:
-        """Makes a library of a folder's sources, and answers its name in the folder of the build."""
+    def library(self, word: str, sources: List[str], number: int, progress: Progress) -> str:
+        """Makes a library of sources, and answers its name in the folder of the build."""
         place, members = f"library{number}/", []
         os.makedirs(self.path(place))
         made = place + os.path.basename(word.partition("=")[0])
-        for it in sources_of_library(word):
+        for it in sources:
             progress.step()
             member = self.free(place, it)
             self.assemble(it, member, f"{made}({os.path.basename(member)})")
@@ -173,11 +153,11 @@ class Builder:
 
     def build(self) -> Build:
         """Assembles, links, and has copies say where lines are."""
-        members = sum(len(sources_of_library(it)) for it in self.wanted.libraries)
+        members = sum(len(sources) for _, sources in self.libraries)
         progress = Progress("sources", 2 * (len(self.wanted.sources) + members))
         try:
             built = self.link(self.inputs(progress))
-            closures = [Closure(it.source, self.wanted.folders) for it in built.units]
+            closures = [self.closures[it.source] for it in built.units]
             mirror = self.mirror(closures)
             for unit, closure in zip(built.units, closures):
                 progress.step()
@@ -197,7 +177,7 @@ class Builder:
             else:
                 name = self.free("", source)
                 found.append(self.assemble(source, name, name).object)
-        return found + [self.library(word, number, progress) for number, word in enumerate(self.wanted.libraries, 1)]
+        return found + [self.library(*it, number, progress) for number, it in enumerate(self.libraries, 1)]
 
     def link(self, inputs: List[str]) -> Build:
         """Links; the files of areas come into the folder, whatever the script names them."""
@@ -214,6 +194,7 @@ class Builder:
         for made, name in {**names, "image": OUTPUT}.items():
             if os.path.isfile(self.path(made)):
                 files[name] = read_bytes(self.path(made))
+        self.compare(files)
         modules = {it.name: it for it in links.modules}
         for unit in self.units:
             unit.linked = modules.get(unit.module)
@@ -223,6 +204,17 @@ class Builder:
             file, mark, member = module.name.partition("(")
             module.name = self.given[file] + mark + member if file in self.given else in_library(module.name)
         return Build(self.wanted, units, layout_of(script, links, self.wanted.script), files)
+
+    def compare(self, files: Dict[str, bytes]) -> None:
+        """Refuses an image of the user's that isn't the one that was linked."""
+        name = self.wanted.image
+        if not self.wanted.is_compared or OUTPUT not in files or not os.path.lexists(name):
+            return
+        given, made = read_bytes(name), files[OUTPUT]
+        if given != made:
+            at = next((it for it in range(min(len(given), len(made))) if given[it] != made[it]), min(len(given), len(made)))
+            said = f"{name} isn't the image of these sources: it has {len(given)} bytes, theirs {len(made)}; they differ from ${at:X} on"
+            raise Problem(said + "; are the library's members in another order?" * bool(self.libraries))
 
     def mirror(self, closures: List[Closure]) -> Mirror:
         """A folder for the copies of these sources."""
@@ -241,6 +233,7 @@ class Builder:
         copy, plain = self.read(self.path("copy")), self.read(self.path(unit.object))
         if not plain.is_same_program(copy.without(copies.names.segment)):
             raise Problem(f"{unit.source}: a copy that says where its lines are isn't the same program: nothing can be said of it")
+        unit.closure = closure
         unit.told = replay(closure, met(copy, copies), {it.name: it.size for it in plain.sections})
 
     def copy(self, unit: Unit, closure: Closure, mirror: Mirror, constants: Constants) -> Copies:

@@ -35,6 +35,7 @@ class Cause(enum.Enum):
     EQUATE = "equ, db and the like of other assemblers"
     SLASHES = "a comment that isn't one of ca65's"
     TEXTS = "two strings behind .asciiz"
+    NUMBER = "a number or a name where a string is wanted"
     OPERAND = "an operand that isn't finished"
 
 
@@ -110,6 +111,8 @@ def _of_operand(statement: Statement) -> Optional[Cause]:
         return Cause.CAPITALS
     if head == ".asciiz" and "," in texts:
         return Cause.TEXTS
+    if grammar.FIXED.get(head) == ('"',) and rest and rest[0].kind is not Kind.STRING:
+        return Cause.NUMBER
     parts = parts_of(rest)
     if any(not part for part in parts):
         return Cause.EMPTY

@@ -3,9 +3,10 @@ import os
 from dataclasses import dataclass, field
 from typing import Dict, Iterable, List, Optional, Sequence, Tuple
 
+from work65.address_sizes import AddressSizes
 from work65.build import Build, Unit
 from work65.objects import Place
-from work65.replay import Label, Row, Scope, Told
+from work65.replay import Label, Reading, Row, Scope, Told
 from work65.resolve import Resolver
 from work65.scripts import OUTPUT
 from work65.sources import Source
@@ -13,6 +14,8 @@ from work65.sources import Source
 # How wide an element of a list of data is, and how a debug file writes its type: bytes, words, pointers, words with the high
 # byte first.
 TYPES = {".byte": (1, "20"), ".byt": (1, "20"), ".word": (2, "21"), ".addr": (2, "4100"), ".dbyt": (2, "51")}
+# The segments that each module of ca65 has, in its order.
+FIRST = ("CODE", "RODATA", "BSS", "DATA", "ZEROPAGE")
 LineKey = Tuple[int, int, int, bool]
 SpanKey = Tuple[int, int, int]
 
@@ -152,6 +155,8 @@ class Module:
     def __init__(self, file: DebugFile, number: int, unit: Unit, told: Told) -> None:
         self.file, self.number, self.unit, self.told = file, number, unit, told
         self.resolver = Resolver(file.build, unit)
+        self.sizes = None if unit.closure is None else AddressSizes(file.layout, unit.closure, told)
+        self.scope_of = {it.label: it for it in told.scopes if it.label is not None}
         self.first_scope = len(file.kinds["scope"].lines)
         self.first_symbol = len(file.kinds["sym"].lines)
 
@@ -161,11 +166,21 @@ class Module:
         name = self.unit.module[self.unit.module.find("(") + 1 :].rstrip(")")
         text = f'name="{name}",file={self.file.file_number(self.told.reading.source, self.number)}'
         self.file.kinds["mod"].add(text + ("" if library is None else f",lib={library}"))
+        self.files(self.told.reading)
         self.lines()
         for scope in self.told.scopes:
             self.scope(scope)
         for label in self.told.labels:
             self.symbol(label)
+
+    def files(self, reading: Reading) -> None:
+        """The files that were read, also those that put nothing."""
+        waiting = [reading]
+        while waiting:
+            it = waiting.pop()
+            self.file.file_number(it.source, self.number)
+            for below in it.below.values():
+                waiting += [one for one in below if isinstance(one, Reading)]
 
     def lines(self) -> None:
         """The lines that put something, and calls and repeats with all that came of them."""
@@ -200,7 +215,7 @@ class Module:
     def scope(self, scope: Scope) -> None:
         """A scope."""
         rows = self.told.rows[scope.first : scope.last]
-        size = sum(it.size for it in rows if it.place.section == rows[0].place.section)
+        size = self.size_of_scope(scope, rows)
         number = len(self.file.kinds["scope"].lines) - self.first_scope
         name = scope.name or (f"$anon-SCOPE-{number:04X}" if number else "")
         text = f'name="{name}",mod={self.number}'
@@ -214,11 +229,18 @@ class Module:
         spans = self.runs(rows)
         self.file.kinds["scope"].add(text + (f",span={ids(spans)}" if spans else ""))
 
+    def size_of_scope(self, scope: Scope, rows: Sequence[Row]) -> int:
+        """How many bytes a scope has in the segment in which it was opened, or else in the first one that it puts something into."""
+        sizes: Dict[str, int] = {}
+        for it in rows:
+            sizes[it.place.section] = sizes.get(it.place.section, 0) + it.size
+        return next((sizes[it] for it in (scope.section, *FIRST, *sizes) if sizes.get(it)), 0)
+
     def size_of(self, number: int, label: Label) -> int:
         """How many bytes a label's scope or line has."""
-        for scope in self.told.scopes:
-            if scope.label == number:
-                return sum(it.size for it in self.told.rows[scope.first : scope.last])
+        scope = self.scope_of.get(number)
+        if scope is not None:
+            return sum(it.size for it in self.told.rows[scope.first : scope.last])
         return 0 if label.row is None else self.told.rows[label.row].size
 
     def symbol(self, label: Label) -> None:
@@ -229,8 +251,8 @@ class Module:
         if label.row is not None:
             depth, in_macro = self.told.rows[label.row].depth, self.told.rows[label.row].in_macro
         size = self.size_of(number, label)
-        is_zero_page = value is not None and 0 <= value < 0x100
-        text = f'name="{label.name}",addrsize={"zeropage" if is_zero_page else "absolute"}' + (f",size={size}" if size else "")
+        address_size = self.sizes.of_label(label, value or 0) if self.sizes else "absolute"
+        text = f'name="{label.name}",addrsize={address_size}' + (f",size={size}" if size else "")
         if label.region is not None:
             text += f",parent={self.first_symbol + label.region}"
         else:

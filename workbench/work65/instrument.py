@@ -138,7 +138,9 @@ class Copier:
         if what in EDGES:
             self.flush()
         self.written.append(self.line(number))
-        if what in AFTER:
+        if what is What.SCOPE:
+            self.address(number, Sign.OPEN, parameters is None)  # it tells the segment
+        elif what in AFTER:
             self.wait(self.marks.add(AFTER[what], self.source, number))
         elif what is What.CONSTANT and self.is_wanted(statement.tokens):
             name = statement.tokens[0].text

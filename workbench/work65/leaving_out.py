@@ -1,5 +1,5 @@
 """What of a refused line is left out of a copy, so that the lines after it can be looked at."""
-from typing import List, Set, Tuple
+from typing import Iterable, List, Set, Tuple
 
 from work65.language import words
 from work65.language.statements import Statement, statement_of
@@ -12,38 +12,43 @@ CLOSING = {
 }
 SHORT = {".endmac": ".endmacro", ".endrep": ".endrepeat"}
 ENDS_OF_REPEATS = words.REPEAT_ENDS
+INSIDE = "macro inside macro"
+TWICE = ("defined twice", "scope defined twice", "macro defined twice")
 
 
-def _statement(line: str) -> Statement:
+def statement_in(line: str) -> Statement:
+    """The statement of a line."""
     return statement_of(line_of(line).tokens, lambda _: False)
 
 
-def span_of(lines: List[str], line: int) -> Tuple[int, int]:
-    """The first and last line (from 0) that go with a refused line: of a structure all, and of a repeat all."""
-    head = _statement(lines[line]).head
+def span_of(lines: List[str], line: int, said: str = "") -> Tuple[int, int]:
+    """The first and last line (from 0) that go with a refused line: all of a structure, of a repeat and of a macro."""
+    head = statement_in(lines[line]).head
     if head in BLOCKS:
-        return line, _end_of(lines, line, head)
+        return line, _end_of(lines, line, BLOCKS, BLOCKS.values())
+    if head in words.MACRO_BEGINS and said != INSIDE:
+        return line, _end_of(lines, line, words.MACRO_BEGINS, words.MACRO_ENDS)
     if head in ENDS_OF_REPEATS:
         return _begin_of(lines, line), line
     return line, line
 
 
-def _end_of(lines: List[str], line: int, head: str) -> int:
-    """The line that ends a structure; the line itself where none does."""
+def _end_of(lines: List[str], line: int, begins: Iterable[str], ends: Iterable[str]) -> int:
+    """The line that ends a block; the line itself where none does."""
     depth = 0
     for at in range(line, len(lines)):
-        word = _statement(lines[at]).head
-        depth += (word in BLOCKS) - (word in BLOCKS.values())
+        word = statement_in(lines[at]).head if "." in lines[at] else ""
+        depth += (word in begins) - (word in ends)
         if depth == 0:
             return at
     return line
 
 
 def _begin_of(lines: List[str], line: int) -> int:
-    """The line that begins a repeat; the line itself where none does."""
+    """The .repeat that a line ends; the line itself where there is none."""
     depth = 0
     for at in range(line, -1, -1):
-        word = _statement(lines[at]).head
+        word = statement_in(lines[at]).head if "." in lines[at] else ""
         depth += (word in ENDS_OF_REPEATS) - (word in words.REPEAT_BEGINS)
         if depth == 0:
             return at
@@ -54,7 +59,7 @@ def closers_of(lines: List[str], is_scope: bool) -> List[str]:
     """The lines that close what is open at the end of a file, the innermost first: scopes, or all other blocks."""
     found: List[str] = []
     for it in lines:
-        head = _statement(it).head if "." in it else ""
+        head = statement_in(it).head if "." in it else ""
         if head in CLOSING and (head in (".proc", ".scope")) == is_scope:
             found.append(CLOSING[head])
         elif found and (head == found[-1] or head in SHORT and SHORT[head] == found[-1]):
@@ -64,7 +69,7 @@ def closers_of(lines: List[str], is_scope: bool) -> List[str]:
 
 def left(line: str) -> str:
     """What stays of a line that is left out: its label, and what opens a block."""
-    statement = _statement(line)
+    statement = statement_in(line)
     label = ""
     if statement.label is not None and statement.label.lower not in words.MNEMONICS | words.REGISTERS:
         name = statement.label.text
@@ -80,20 +85,55 @@ def left(line: str) -> str:
     return label
 
 
+def without_definition(line: str, name: str, other: str) -> str:
+    """A line without the definition that defines a name again: without its label, or with another name. The line itself where it
+    doesn't define the name."""
+    statement = statement_in(line)
+    if statement.label is not None and statement.label.text == name:
+        return line[statement.body[0].start :] if statement.body else ""
+    rest = statement.rest
+    if statement.head in (".proc", ".scope", *words.MACRO_BEGINS) and rest and (rest[0].text == name or not name):
+        return f"{line[: rest[0].start]}{other}{line[rest[0].end :]}"
+    return line
+
+
 def names_of(lines: List[str], first: int, last: int) -> Set[str]:
     """The names that lines left out would have defined."""
     found: Set[str] = set()
     for at in range(first, last + 1):
-        statement = _statement(lines[at])
-        tokens = statement.body
-        if first != last and tokens and tokens[0].kind is Kind.NAME:
-            found.add(tokens[0].text)
-        if len(tokens) > 1 and tokens[0].kind is Kind.NAME and tokens[1].text in ("=", ":=", ".set"):
-            found.add(tokens[0].text)
-        if statement.head in (".define", ".macro", ".mac", ".proc", ".scope", *BLOCKS, *words.LISTS):
-            found |= {it.text for it in statement.rest if it.kind is Kind.NAME}
-        if statement.head in (".macpack", ".include"):
-            found |= words.PACKAGES.get(statement.rest[0].lower if statement.rest else "", frozenset())
-        if statement.label is not None and left(lines[at]).split(":")[0] != statement.label.text:
-            found.add(statement.label.text)
+        statement = statement_in(lines[at])
+        if first != last:
+            found |= {it.text for it in statement.body[:1] if it.kind is Kind.NAME}
+            found |= defined_by(statement)
+        else:
+            found |= defined_by(statement) - ({statement.label.text} if statement.label is not None and left(lines[at]) else set())
+        if statement.head in words.CONDITIONS or statement.head in (".elseif", ".else"):
+            found |= _in_branches(lines, at)
+    return found
+
+
+def defined_by(statement: Statement) -> Set[str]:
+    """The names that a statement may define, its label's too."""
+    found: Set[str] = set()
+    tokens = statement.body
+    if len(tokens) > 1 and tokens[0].kind is Kind.NAME and tokens[1].lower in ("=", ":=", ".set"):
+        found.add(tokens[0].text)
+    if statement.head in (".define", ".macro", ".mac", ".proc", ".scope", ".local", *BLOCKS, *words.LISTS):
+        found |= {it.text.rstrip(":") for it in statement.rest if it.kind in (Kind.NAME, Kind.PREFIX)}
+    if statement.head == ".macpack":
+        found |= words.PACKAGES.get(statement.rest[0].lower if statement.rest else "", frozenset())
+    if statement.label is not None:
+        found.add(statement.label.text)
+    return found
+
+
+def _in_branches(lines: List[str], line: int) -> Set[str]:
+    """The names that lines define from a condition to its .endif: without the condition, one branch alone is there."""
+    depth, found = 1, set()
+    for at in range(line + 1, len(lines)):
+        statement = statement_in(lines[at])
+        depth += (statement.head in words.CONDITIONS) - (statement.head == ".endif")
+        if depth == 0:
+            break
+        found |= defined_by(statement)
     return found

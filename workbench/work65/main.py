@@ -1,17 +1,29 @@
 """The command line of work65."""
 import argparse
 import importlib
+import os
 import sys
 from typing import Sequence
 
-from work65.problem import Problem
+from work65 import pages, signals
+from work65.output import give_up_output
+from work65.problem import Problem, complain
 
 COMMANDS = ("check", "port", "faults", "explain", "list", "labels", "debug", "deps", "size")
+
+
+class ShowVersion(argparse.Action):
+    """Prints the version, and ends the run."""
+
+    def __call__(self, parser: argparse.ArgumentParser, *rest: object) -> None:
+        print(f"work65 {pages.version()}")
+        parser.exit()
 
 
 def parser_of(words: Sequence[str]) -> argparse.ArgumentParser:
     """The parser of a line. Only the modules of the command are read that stands first, where one does."""
     parser = argparse.ArgumentParser(prog="work65", description="What a programmer does around a build with bin65.")
+    parser.add_argument("--version", action=ShowVersion, nargs=0, help="print the version and exit")
     parts = parser.add_subparsers(dest="command", metavar="COMMAND", required=True)
     for name in words[:1] if words[:1] and words[0] in COMMANDS else COMMANDS:
         module = importlib.import_module(f"work65.commands.{name}")
@@ -22,18 +34,29 @@ def parser_of(words: Sequence[str]) -> argparse.ArgumentParser:
     return parser
 
 
-def main(words: Sequence[str]) -> int:
-    """Runs a command line, and answers the status: 2 for a usage fault."""
+def run(words: Sequence[str]) -> int:
+    """Runs a command line, and returns the status: 2 for a usage fault."""
     arguments = parser_of(words).parse_args(words)
+    status = int(arguments.run(arguments))
+    sys.stdout.flush()
+    return status
+
+
+def main(words: Sequence[str]) -> int:
+    """Runs a command line, prints why it ended early in one line, and returns the status."""
+    signals.heed()
     try:
-        return int(arguments.run(arguments))
+        return run(words)
     except Problem as problem:
-        print(f"work65: {problem}", file=sys.stderr)
+        complain(str(problem))
         return problem.status
     except KeyboardInterrupt:
         return 130
     except BrokenPipeError:
+        give_up_output()
         return 1
     except OSError as error:
-        print(f"work65: {error.filename or 'a file'}: {error.strerror}", file=sys.stderr)
+        if error.filename is None:
+            give_up_output()
+        complain(f"{os.fsdecode(error.filename) if error.filename else 'standard output'}: {error.strerror}")
         return 1

@@ -73,9 +73,9 @@ class Object:
         return next((it for it in self.sections if it.name == name), None)
 
     def is_same_program(self, other: "Object") -> bool:
-        """Whether two objects put the same bytes, and export and assert the same. What else is imported, and whether a segment
-        has a section of no bytes, makes no difference."""
-        mine, others = ([it for it in one.sections if it.size] for one in (self, other))
+        """Whether two objects put the same bytes, and export and assert the same. What else is imported, the order of sections,
+        and whether a segment has a section of no bytes, makes no difference."""
+        mine, others = ({it.name: it for it in one.sections if it.size} for one in (self, other))
         return (mine, self.exports, self.asserts) == (others, other.exports, other.asserts)
 
 

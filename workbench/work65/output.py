@@ -11,13 +11,18 @@ def words(name: str) -> str:
     return os.fsencode(name).decode("latin-1")
 
 
+def give_up_output() -> None:
+    """Throws away what standard output didn't take, so that nothing tries again at the end."""
+    os.dup2(os.open(os.devnull, os.O_WRONLY), sys.stdout.fileno())
+
+
 def write_out(data: bytes) -> None:
-    """Writes to standard output. Where that fails, what is left is thrown away, so that nothing tries again at the end."""
+    """Writes to standard output."""
     try:
         sys.stdout.buffer.write(data)
         sys.stdout.buffer.flush()
     except OSError as error:
-        os.dup2(os.open(os.devnull, os.O_WRONLY), sys.stdout.fileno())
+        give_up_output()
         if isinstance(error, BrokenPipeError):
             raise
         raise Problem(f"standard output: {error.strerror}") from error

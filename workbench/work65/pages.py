@@ -1,10 +1,11 @@
 """The page MESSAGES: its paragraphs by the texts that bin65 prints."""
 import os
 import re
+import textwrap
 from dataclasses import dataclass
-from typing import List, Optional, Tuple
+from typing import Iterator, List, Optional, Tuple
 
-PLACES = ("docs", "share/doc/bin65", "doc/bin65", "share/doc/work65")
+PLACES = ("docs", "share/doc/bin65", "doc/bin65", "share/doc/work65", "")
 ROW = re.compile(r"^\| ([^|]+) \| (`[^|]+`) \| (?:`[^|]+`) \|$", re.M)
 
 
@@ -22,14 +23,31 @@ def found(name: str) -> Optional[str]:
         folder = above
 
 
+def version() -> str:
+    """The version: that of CHANGELOG's first heading."""
+    path = found("CHANGELOG.md")
+    if path is None:
+        return "unknown"
+    with open(path, encoding="utf-8") as it:
+        heading = re.search(r"^## (.*)$", it.read(), re.M)
+    return heading[1] if heading else "unknown"
+
+
 @dataclass(frozen=True)
 class Entry:
-    """A text of the page: a pattern of it, its paragraph, and the rows of its table as (what, refused source)."""
+    """A text of the page: a pattern of it, its paragraph, the list after it, and the rows of its table as (what, refused source)."""
 
     heading: str
     pattern: "re.Pattern[str]"
     paragraph: str
+    items: Tuple[str, ...]
     rows: Tuple[Tuple[str, str], ...]
+
+    def lines(self, width: int) -> Iterator[str]:
+        """The paragraph, and the list after it."""
+        yield from textwrap.wrap(self.paragraph, width)
+        for it in self.items:
+            yield from textwrap.wrap(it, width, initial_indent="- ", subsequent_indent="  ")
 
 
 def entries() -> List[Entry]:
@@ -45,9 +63,20 @@ def entries() -> List[Entry]:
 def _entry(heading: str, text: str) -> Entry:
     words = re.escape(heading).replace(r"N,\ M,\ \.\.", ".+").replace(r",\ M", "")
     pattern = re.compile(re.sub(r"\bN\b", ".+", re.sub(r"\b[Kn]\b", r"\\d+", words)))
-    paragraph = text.strip().split("\n\n")[0]
+    paragraph, _, rest = text.strip().partition("\n\n")
+    items = tuple(map(plain, _items(rest.partition("\n\n")[0])))
     rows = [(what, "\n".join(re.findall(r"`([^`]+)`", source))) for what, source in ROW.findall(text)]
-    return Entry(heading, pattern, plain(paragraph), tuple(rows))
+    return Entry(heading, pattern, plain(paragraph), items, tuple(rows))
+
+
+def _items(block: str) -> Iterator[str]:
+    """The items of a list, or the rows of a table of two columns without its heads; nothing of any other block."""
+    lines = block.split("\n")
+    if lines[0].startswith("- "):
+        yield from (it[2:] for it in lines)
+    elif lines[0].count(" | ") == 1:
+        for line in lines[2:]:
+            yield ": ".join(it.strip() for it in line.strip("|").split(" | "))
 
 
 def plain(text: str) -> str:

@@ -1,4 +1,5 @@
-"""What a subcommand says, in one line, when it can't go on."""
+"""What a subcommand says, in one line, when it can't go on, or goes on without something."""
+import sys
 
 
 class Problem(Exception):
@@ -7,3 +8,8 @@ class Problem(Exception):
     def __init__(self, text: str, status: int = 1) -> None:
         super().__init__(text)
         self.status = status
+
+
+def complain(text: str) -> None:
+    """Prints a message on standard error."""
+    print(f"work65: {text}", file=sys.stderr)

@@ -7,7 +7,7 @@ from work65.instrument import free_names, inside
 from work65.mirror import Mirror
 from work65.program import Program
 from work65.progress import Progress
-from work65.sources import Closure, Source, candidates, find, word_of
+from work65.sources import Closure, Source, candidates, find_readable, word_of
 from work65.statements import Statement, What
 
 TAKING = (What.INCLUDE, What.INCBIN)
@@ -61,7 +61,7 @@ class Asker:
 
     def found(self, what: What, word: str, opened: Source) -> Optional[str]:
         """The file of a name, if it is there."""
-        return find(word, opened.name, self.closure.folders if what is What.INCLUDE else [])
+        return find_readable(word, opened.name, self.closure.folders if what is What.INCLUDE else [])
 
     def ask(self, program: Program, options: Sequence[str], here: str, made: str) -> Reads:
         """Assembles the copy, and reads what it prints."""
@@ -110,13 +110,12 @@ class Asker:
                 self.reads.missing.append(taken)
 
     def add_named(self) -> None:
-        """Behind a fault: the files that the lines name, wherever they are."""
+        """After a fault: the files that the lines name, wherever they are, also those that aren't there."""
         for source in list(self.closure.sources.values()):
             for statement in source.statements:
                 word = word_of(statement) if statement.what in TAKING else None
-                name = None if word is None else self.found(statement.what, word, source)
-                if name is not None and name not in self.reads.files:
-                    self.reads.files.append(name)
+                if word is not None:
+                    self.add(self.found(statement.what, word, source), word, source)
 
 
 def reads_of(program: Program, closures: Sequence[Closure], options: Sequence[str], folder: str) -> List[Reads]:

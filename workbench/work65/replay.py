@@ -47,6 +47,7 @@ class Scope:
     first: int
     last: int = -1
     label: Optional[int] = None
+    section: str = ""
 
 
 @dataclass
@@ -106,7 +107,7 @@ class Replay:
     def __init__(self, closure: Closure, sizes: Dict[str, int]) -> None:
         self.closure, self.sizes = closure, sizes
         self.told = Told(Reading(closure.main))
-        self.told.scopes.append(Scope("", None, False, 0))
+        self.told.scopes.append(Scope("", None, False, 0, section="CODE"))
         self.frames = [Frame(Sign.INCLUDE, closure.main, 0, 0, 0, self.told.reading, Put())]
         self.opened = [0]
         self.macros: Dict[str, Macro] = {}
@@ -118,11 +119,14 @@ class Replay:
         """Follows all marks."""
         act = {
             Sign.BACK: self.back, Sign.REPEAT: self.repeat, Sign.TURN: self.turn, Sign.OVER: self.over, Sign.INCLUDE: self.include,
-            Sign.INCLUDED: self.included, Sign.DEFINED: self.defined, Sign.LOCAL: self.local, Sign.OPEN: self.open, Sign.CLOSE: self.close,
+            Sign.INCLUDED: self.included, Sign.DEFINED: self.defined, Sign.LOCAL: self.local, Sign.CLOSE: self.close,
         }  # fmt: skip
         for it in marks:
             if it.mark.sign is Sign.CONSTANT:
                 self.constant(it.mark, it.value)
+                continue
+            if it.mark.sign is Sign.OPEN:
+                self.open(it.mark, it.value.section if isinstance(it.value, Place) else "")
                 continue
             if isinstance(it.value, Place):
                 self.row(it.mark, it.value)
@@ -300,14 +304,15 @@ class Replay:
             if frame is not None and it.kind is Kind.NAME:
                 frame.put.names.setdefault(it.text, (Token(Kind.NAME, f"{it.text}?{frame.turn}", ""),))
 
-    def open(self, mark: Mark) -> None:
-        """A scope is opened."""
+    def open(self, mark: Mark, section: str) -> None:
+        """A scope is opened in a section; that of a .proc is its label's."""
         statement = self.statement(mark)
         name = statement.tokens[1].text if len(statement.tokens) > 1 else ""
-        scope = Scope(name, self.scope_of(), statement.what is What.PROC, len(self.told.rows))
+        scope = Scope(name, self.scope_of(), statement.what is What.PROC, len(self.told.rows), section=section)
         if scope.is_proc:
             scope.label = len(self.told.labels) - 1
             scope.first -= 1
+            scope.section = self.told.rows[scope.first].place.section
         self.told.scopes.append(scope)
         self.opened.append(len(self.told.scopes) - 1)
 

@@ -1,25 +1,15 @@
 """A copy of the file system of links, in which single files can be changed while the user's own stay as they are."""
 import os
-import tempfile
-from types import TracebackType
-from typing import Optional, Type
 
 
 class Shadow:
-    """A temporary folder that stands for `/`. Folders are made of links to what they have; a file that is changed is written
-    in place of its link. All of it goes at the end."""
+    """A folder that stands for `/`. Its folders are made of links to what the real ones have; a file that is changed is written
+    in place of its link."""
 
-    def __init__(self) -> None:
-        self.room = tempfile.TemporaryDirectory(prefix="work65-")
-        self.root = os.path.join(os.path.realpath(self.room.name), "root")
+    def __init__(self, folder: str) -> None:
+        self.root = os.path.join(folder, "root")
         self.here = os.getcwd()
-
-    def __enter__(self) -> "Shadow":
         self.folder(self.here)
-        return self
-
-    def __exit__(self, kind: Optional[Type[BaseException]], error: Optional[BaseException], trace: Optional[TracebackType]) -> None:
-        self.room.cleanup()
 
     @property
     def inside(self) -> str:

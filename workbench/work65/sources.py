@@ -4,6 +4,7 @@ from dataclasses import dataclass, field
 from functools import lru_cache
 from typing import Callable, Dict, Iterable, Iterator, List, Optional, Sequence, Set, Tuple
 
+from work65.language.files import want_regular
 from work65.lines import Kind, Line, read_line
 from work65.problem import Problem
 from work65.statements import Statement, What, read_statement
@@ -31,9 +32,15 @@ def place_of(name: str) -> str:
     return os.path.join(os.path.realpath(folder or "."), file)
 
 
+def is_regular(name: str) -> bool:
+    """Whether a file is there and is neither a folder nor a pipe nor a device."""
+    return os.path.isfile(name)
+
+
 def read_bytes(name: str) -> bytes:
     """The bytes of a file."""
     try:
+        want_regular(name)
         with open(name, "rb") as it:
             return it.read()
     except OSError as error:
@@ -87,6 +94,14 @@ def candidates(word: str, opened: str, folders: Sequence[str]) -> List[str]:
 def find(word: str, opened: str, folders: Sequence[str]) -> Optional[str]:
     """The name of the file that is taken, if one is there."""
     return next((it for it in candidates(word, opened, folders) if os.path.exists(it)), None)
+
+
+def find_readable(word: str, opened: str, folders: Sequence[str]) -> Optional[str]:
+    """The same. Raises a Problem if it is a pipe or a device: bin65 might wait for it without an end."""
+    name = find(word, opened, folders)
+    if name is not None:
+        want_regular(name)
+    return name
 
 
 def word_of(statement: Statement) -> Optional[str]:
@@ -154,7 +169,7 @@ class Closure:
 
     def found(self, word: str, source: Source) -> Optional[Source]:
         """The file of a name that stands in a source, if one is there."""
-        name = find(word, source.name, self.folders)
+        name = find_readable(word, source.name, self.folders)
         return self.read(name) if name is not None and os.path.isfile(name) else None
 
     def follow(self, more: Callable[[Source], Iterator[Source]]) -> None:
@@ -170,7 +185,12 @@ class Closure:
     def included(self, source: Source) -> Iterator[Source]:
         """The files that a file's lines include by their names."""
         for number, statement in enumerate(source.statements, 1):
-            word = word_of(statement) if statement.what is What.INCLUDE else None
+            if statement.what not in (What.INCLUDE, What.INCBIN):
+                continue
+            word = word_of(statement)
+            if word is not None and statement.what is What.INCBIN:
+                find_readable(word, source.name, [])
+                continue
             it = None if word is None else self.found(word, source)
             if it is not None:
                 source.includes[number] = it

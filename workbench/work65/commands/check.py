@@ -1,15 +1,18 @@
 """work65 check: every place that bin65 refuses by its profile, with what to write in its place."""
 import argparse
 import json
-import sys
-from typing import AbstractSet, List, Sequence
+import os
+from typing import AbstractSet, Callable, Iterator, List, Sequence
 
 from work65.habits import scripts, sources
+from work65.habits.files import Files
 from work65.habits.habit import Finding
 from work65.language import words
 from work65.language.files import Text, text_of, walked
+from work65.language.includes import followed
 from work65.language.tree import surveyed
-from work65.problem import Problem
+from work65.output import write
+from work65.problem import Problem, complain
 from work65.progress import Progress
 
 HELP = "lists every place in sources and scripts that bin65 refuses, with what to write in its place"
@@ -25,43 +28,60 @@ def add_arguments(parser: argparse.ArgumentParser) -> None:
 
 
 def run(arguments: argparse.Namespace) -> int:
-    """Lists what is found; the status is 1 where something is."""
+    """Lists what is found; the status is 1 where something is, or where a file can't be read."""
     names = {it.split("=")[0] for it in arguments.define} | words.defined_by(arguments.target)
-    found = findings(arguments.paths, arguments.include, names)
+    unread: List[str] = []
+    found = findings(arguments.paths, arguments.include, names, unread.append)
+    for message in unread:
+        complain(message)
     if arguments.json:
-        json.dump([as_json(it) for it in found], sys.stdout, indent=1)
-        print()
+        write(None, os.fsencode(json.dumps([as_json(it) for it in found], indent=1) + "\n"))
     else:
-        for it in found:
-            print(said(it))
-    return 1 if found else 0
+        write(None, os.fsencode("".join(f"{said(it)}\n" for it in found)))
+    return 1 if found or unread else 0
 
 
-def findings(paths: Sequence[str], include: Sequence[str] = (), defined: AbstractSet[str] = frozenset()) -> List[Finding]:
-    """What is found in files and folders, in the order of their names and lines."""
-    names = list(walked(paths))
+def findings(paths: Sequence[str], include: Sequence[str] = (), defined: AbstractSet[str] = frozenset(),
+             unread: Callable[[str], None] = complain) -> List[Finding]:
+    """What is found in files and folders, and in what they include, in the order of their names and lines. `unread` is given a
+    message for each file and folder that can't be read."""
+    names = list(walked(paths, unread))
     if not names:
         raise Problem(f"no sources and no scripts in {', '.join(paths)}")
-    progress = Progress("files", len(names))
-    texts: List[Text] = []
-    for name in names:
-        texts.append(text_of(name))
-        progress.step()
-    progress.end()
+    texts = list(_texts(names, unread))
     plain = [it for it in texts if not it.is_script]
-    found = sources.found_in(plain, surveyed(plain, include, defined))
+    included = followed(plain, include)
+    everything = [*plain, *included]
+    found = sources.found_in(plain, surveyed(everything, include, defined), Files(everything, include), included)
     for it in texts:
         if it.is_script:
             found += scripts.found_in(it)
     return sorted(found, key=lambda it: (it.path, it.line))
 
 
+def _texts(names: Sequence[str], unread: Callable[[str], None]) -> Iterator[Text]:
+    """Reads files."""
+    progress = Progress("files", len(names))
+    for name in names:
+        try:
+            yield text_of(name)
+        except Problem as problem:
+            unread(str(problem))
+        progress.step()
+    progress.end()
+
+
+def shown(word: str) -> str:
+    """A word of a source as it is printed."""
+    text = word.encode("latin-1", "replace").decode("utf-8", "replace")
+    return "".join(sign if sign.isprintable() else "?" for sign in text)
+
+
 def said(it: Finding) -> str:
     """A finding in one line."""
-    word = "".join(sign if sign.isprintable() else "?" for sign in it.word)
-    return f"{it.path}:{it.line}: {word}: {it.cure} (MIGRATING: {it.habit.heading})"
+    return f"{it.path}:{it.line}: {shown(it.word)}: {it.cure} (MIGRATING: {it.heading})"
 
 
 def as_json(it: Finding) -> "dict[str, object]":
     """A finding for JSON."""
-    return {"file": it.path, "line": it.line, "word": it.word, "habit": it.habit.name, "cure": it.cure, "heading": it.habit.heading}
+    return {"file": it.path, "line": it.line, "word": it.word, "habit": it.habit.name, "cure": it.cure, "heading": it.heading}

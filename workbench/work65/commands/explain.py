@@ -4,16 +4,16 @@ import os
 import signal
 import subprocess
 import sys
-import textwrap
-from typing import IO, Iterator, List, Optional, Sequence
+from typing import IO, Iterator, List, Optional, Sequence, Tuple
 
 from work65 import arguments as bad_arguments
 from work65 import causes, leaving_out, pages
 from work65.habits import sources
 from work65.habits.table import BY_WORD
+from work65.language import words
 from work65.language.files import Text, text_of
-from work65.language.statements import statement_of
-from work65.language.tokens import line_of
+from work65.language.statements import parts_of, statement_of
+from work65.language.tokens import Kind, line_of
 from work65.language.tree import surveyed
 from work65.message import Message, message_of
 from work65.problem import Problem
@@ -70,7 +70,7 @@ def explained(message: Message, all_entries: List[pages.Entry], line: Sequence[s
     told = list(_causes(message, entry, text, line))
     yield from (FIRST + it for it in told)
     if entry is not None and not (told and entry.rows):
-        yield from textwrap.wrap(entry.paragraph, 96, initial_indent=FIRST, subsequent_indent=FIRST)
+        yield from (FIRST + it for it in entry.lines(88))
 
 
 def _text(file: str) -> Optional[Text]:
@@ -95,7 +95,11 @@ def _causes(message: Message, entry: Optional[pages.Entry], text: Optional[Text]
     if begin < message.line - 1:
         yield f"It is in one of the lines {begin + 1} to {message.line}, which are repeated."
     elif called := _called(text.lines, message.line - 1):
-        yield f"It is in the lines of the macro {called}, which is called here."
+        counts = _counts(text.lines, message.line - 1, called)
+        if message.text == "too many arguments" and counts[1] > counts[0]:
+            yield f"The macro {called} has {_counted(counts[0], 'parameter')}, and the call has {_counted(counts[1], 'argument')}."
+        else:
+            yield f"It is in the lines of the macro {called}, which is called here."
     elif message.text == "statement not understood":
         yield from (f"It is: {it}." for it in rows_for(text.lines, message.line - 1, entry))
     if message.text in ("statement not understood", "directive not understood", "bad character", "bad number", "no such addressing form"):
@@ -109,6 +113,21 @@ def _called(lines: Sequence[str], at: int) -> str:
     """The macro of the file that a line calls; nothing where it calls none."""
     body = statement_of(line_of(lines[at]).tokens, lambda _: False).body
     return body[0].text if body and body[0].text in causes.macros_in(lines, lambda it: it < at) else ""
+
+
+def _counted(count: int, what: str) -> str:
+    """A count with its noun."""
+    return f"{count} {what}" if count == 1 else f"{count or 'no'} {what}s"
+
+
+def _counts(lines: Sequence[str], at: int, name: str) -> Tuple[int, int]:
+    """How many parameters a macro has, and how many arguments a call gives it."""
+    parameters = 0
+    for line in lines[:at]:
+        statement = statement_of(line_of(line).tokens, lambda _: False)
+        if statement.head in words.MACRO_BEGINS and statement.rest and statement.rest[0].text == name:
+            parameters = sum(it.kind is Kind.NAME for it in statement.rest[1:])
+    return parameters, len(parts_of(statement_of(line_of(lines[at]).tokens, lambda _: False).rest))
 
 
 def rows_for(lines: Sequence[str], at: int, entry: Optional[pages.Entry]) -> List[str]:

@@ -4,13 +4,14 @@ import os
 import re
 from typing import Callable, Dict, Iterator, List, Optional
 
-from work65.build import Build, add_arguments as add_build_arguments, build, folder_for_a_while, wanted_of
+from work65.build import Build, add_arguments as add_build_arguments, build, wanted_of
 from work65.instrument import Constants
 from work65.names import Named, all_names
 from work65.output import write
 from work65.problem import Problem
 from work65.program import Program
 from work65.scripts import OUTPUT
+from work65.signals import folder_for_a_while
 
 HELP = "all labels of a program, also those that aren't exported, as emulators read them"
 # The header of an NES cartridge's file, which isn't part of its memory.

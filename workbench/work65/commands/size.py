@@ -5,8 +5,9 @@ import os
 import sys
 from typing import Iterator, List, Sequence
 
-from work65.build import add_arguments as add_build_arguments, build, folder_for_a_while, wanted_of
+from work65.build import add_arguments as add_build_arguments, build, wanted_of
 from work65.instrument import Constants
+from work65.language.files import want_regular
 from work65.layout import layout_of
 from work65.mapfile import read_map
 from work65.output import write
@@ -14,6 +15,7 @@ from work65.picture import svg
 from work65.problem import Problem
 from work65.program import Program
 from work65.scripts import read_script
+from work65.signals import folder_for_a_while
 from work65.sizes import AreaSize, Sizes, sizes_of
 from work65.sources import read_bytes, read_text
 
@@ -31,6 +33,7 @@ def add_arguments(parser: argparse.ArgumentParser) -> None:
 def is_map(name: str) -> bool:
     """Whether a file is a map."""
     try:
+        want_regular(name)
         with open(name, "rb") as it:
             return it.read(8) == b"MODULES\n"
     except OSError as error:

@@ -21,15 +21,22 @@ class Habit:
 
 @dataclass(frozen=True)
 class Finding:
-    """A place that bin65 refuses: the word there, and the habit. The note stands in place of the habit's cure."""
+    """A place that bin65 refuses: the word there, and the habit. The note stands in place of the habit's cure, and `under` in place
+    of its heading."""
 
     path: str
     line: int
     word: str
     habit: Habit
     note: str = ""
+    under: str = ""
 
     @property
     def cure(self) -> str:
         """What to do."""
         return self.note or self.habit.cure
+
+    @property
+    def heading(self) -> str:
+        """The page's heading that says more."""
+        return self.under or self.habit.heading

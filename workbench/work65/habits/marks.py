@@ -72,6 +72,8 @@ def statement(one: Statement, scopes: int, parameters: AbstractSet[str], tree: T
             yield from _instruction(one, tree)
         elif one.rest:
             yield from _operand(one)
+        elif is_newer(one):
+            yield first.text, "processor"
     elif head == "*" and one.rest and one.rest[0].text == "=":
         yield "* =", "org"
     elif head in words.LISTS:
@@ -113,7 +115,7 @@ def is_newer(one: Statement) -> bool:
     """Whether an instruction of the 6502 has a form that it has elsewhere alone."""
     head, texts = one.head, [it.lower for it in one.rest]
     if not texts:
-        return False
+        return head in ("inc", "dec")
     if head == "nop":
         return True
     if head in ("inc", "dec"):

@@ -1,24 +1,29 @@
 """Finds in sources what bin65 refuses."""
 from functools import lru_cache
-from typing import Dict, Iterator, List, Optional, Set, Tuple
+from typing import Dict, Iterator, List, Optional, Sequence, Set, Tuple
 
 from work65.habits import marks
+from work65.habits.files import Files
 from work65.habits.habit import Finding, Habit
+from work65.habits.segments import HEADS as SEGMENT_HEADS, Segments, short_names
 from work65.habits.table import BY_NAME, BY_WORD
 from work65.language import grammar, words
 from work65.language.conditions import Conditions
 from work65.language.files import Text
+from work65.language.includes import found_file, word_of
 from work65.language.statements import Statement, statement_of
 from work65.language.tokens import Kind, Line, Token, line_of
 from work65.language.tree import Tree
+from work65.sources import place_of
 
 TELLING = frozenset(BY_WORD)
-LOOKED_AT = TELLING | words.LISTS | words.MACRO_BEGINS | words.MACRO_ENDS | words.CONDITIONS | frozenset(
-    (".else", ".elseif", ".endif", ".scope", ".proc", ".endscope", ".endproc", ".asciiz", ".incbin", ".align",
-     ".assert", ".segment", ".setcpu")
+LOOKED_AT = TELLING | words.LISTS | words.MACRO_BEGINS | words.MACRO_ENDS | words.CONDITIONS | SEGMENT_HEADS | frozenset(
+    (".else", ".elseif", ".endif", ".scope", ".proc", ".endscope", ".endproc", ".asciiz", ".include", ".incbin", ".align",
+     ".assert", ".setcpu", ".end")
 )
 # What is refused also in lines that are skipped: they can't be split into tokens.
-TOLD = frozenset(("digit", "comment", "bracket", "underline", "quote", "continuation"))
+TOLD = frozenset(("digit", "comment", "bracket", "underline", "quote", "continuation", "long-line"))
+LONGEST = 4096
 CLOSERS = {".endstruct": "struct", ".endunion": "union", ".endenum": "enum"}
 
 
@@ -29,6 +34,7 @@ class Places:
         self.macro: Optional[str] = None
         self.parameters: Set[str] = set()
         self.scopes = 0
+        self.segments = Segments()
         self.structures: List[str] = []
         self.is_comment = False
         self.is_continued = False
@@ -44,20 +50,22 @@ def is_plain(text: str, has_escapes: bool) -> bool:
     """Whether a line is one of bin65's, opens and closes nothing, and calls no macro."""
     tokens = line_of(text, has_escapes).tokens
     shapes = tuple(map(grammar.shape_of, tokens))
-    if not LOOKED_AT.isdisjoint(shapes) or grammar.wrong(shapes) is not None:
+    if len(text) > LONGEST or not LOOKED_AT.isdisjoint(shapes) or grammar.wrong(shapes) is not None:
         return False
-    return not ({"#", "(", "a", "x", "nop"} & set(shapes) and marks.is_newer(statement_of(tokens, lambda _: False)))
+    return not ({"#", "(", "a", "x", "nop", "inc", "dec"} & set(shapes) and marks.is_newer(statement_of(tokens, lambda _: False)))
 
 
 class Reader:
-    """Reads the lines of one file."""
+    """Reads the lines of one file. `files` is None if nobody looks for the files that lines name."""
 
-    def __init__(self, text: Text, tree: Tree) -> None:
+    def __init__(self, text: Text, tree: Tree, files: Optional[Files] = None) -> None:
         self.text = text
         self.tree = tree
+        self.files = files
         self.places = Places()
         self.conditions = Conditions(tree.names)
         self.calls: List[Tuple[Optional[str], str, int]] = []
+        self.includes: Set[str] = set()
 
     def findings(self) -> Iterator[Tuple[Optional[str], Finding]]:
         """What is found, each with the macro in whose lines it stands."""
@@ -66,13 +74,24 @@ class Reader:
             if is_plain(text, has_escapes) and self.places.is_plain:
                 continue
             line = line_of(text, has_escapes)
+            macro = self.places.macro
+            if len(text) > LONGEST:
+                word = line.tokens[0].text if line.tokens else text[line.comment : line.comment + 8]
+                yield macro, Finding(self.text.path, number, word, BY_NAME["long-line"])
             if not line.tokens:
                 continue
-            macro = self.places.macro
             for word, habit, note in self.line(line, text):
                 yield self.places.macro or macro, Finding(self.text.path, number, word, habit, note)
             if not self.conditions.is_dead:
                 self.note_calls(line, number)
+            if self.is_over(line):
+                return
+
+    def is_over(self, line: Line) -> bool:
+        """Whether a line is an .end that bin65 comes to for sure: it reads no more."""
+        if self.places.macro is not None or not all(self.conditions.open):
+            return False
+        return any(it.lower == ".end" for it in line.tokens) and statement_of(line.tokens, self.tree.is_macro).head == ".end"
 
     def note_calls(self, line: Line, number: int) -> None:
         """Notes the call of a macro."""
@@ -95,6 +114,8 @@ class Reader:
             yield from (it for it in found if it[1].name in TOLD)
             return
         yield from found
+        if self.files is not None and head in (".include", ".incbin"):
+            yield from self.named(statement, self.files)
         self.step(head, statement)
         if not found and not places.structures and head not in CLOSERS and not was_continued:
             yield from self.form(line, statement)
@@ -131,10 +152,35 @@ class Reader:
         for word, name in marks.statement(statement, self.places.scopes, self.places.parameters, self.tree):
             if name not in seen:
                 yield word, BY_NAME[name], ""
+        if self.places.segments.is_zero_page and statement.head in words.LISTS and self.places.macro is None:
+            own = self.own_names() if statement.head == ".global" else frozenset()
+            for word in short_names(statement, own):
+                yield word, BY_NAME["zero-page-import"], ""
+
+    def named(self, statement: Statement, files: Files) -> Iterator[Tuple[str, Habit, str]]:
+        """The file that a line names, if bin65 doesn't find it; an included one that it finds is noted."""
+        word = word_of(statement)
+        name = found_file(word, self.text, files.folders) if word is not None and statement.head == ".include" else None
+        if name is not None:
+            self.includes.add(place_of(name))
+        wrong = files.wrong(statement, self.text, self.places.macro is not None)
+        if wrong is not None:
+            yield wrong[0], BY_NAME[wrong[1]], wrong[2]
+
+    def own_names(self) -> Set[str]:
+        """The names that the file defines; those of all files if it isn't a source of its own."""
+        if not self.text.path.lower().endswith((".s", ".asm", ".a65", ".s65")):
+            return self.tree.names
+        statements = [statement_of(line_of(it).tokens, self.tree.is_macro) for it in self.text.lines]
+        found = {it.label.text for it in statements if it.label is not None}
+        found |= {it.body[0].text for it in statements if it.rest and it.rest[0].text in ("=", ":=")}
+        return found | {it.rest[0].text for it in statements if it.head == ".proc" and it.rest}
 
     def step(self, head: str, statement: Statement) -> None:
         """Goes past a line: what it opens and closes."""
         places = self.places
+        if places.macro is None:
+            places.segments.step(statement)
         if head in words.MACRO_BEGINS and statement.rest:
             places.macro = statement.rest[0].text
             places.parameters = {it.text for it in statement.rest[1:] if it.kind is Kind.NAME}
@@ -175,14 +221,19 @@ def _is_continued(line: Line, text: str) -> bool:
     return bool(line.tokens) and line.tokens[-1].text == "\\"
 
 
-def found_in(texts: List[Text], tree: Tree) -> List[Finding]:
-    """What is found in the sources; in lines of a macro only where something calls it."""
+def found_in(texts: List[Text], tree: Tree, files: Optional[Files] = None, included: Sequence[Text] = ()) -> List[Finding]:
+    """What is found in the sources, and in files that lines of them include; in lines of a macro only where something calls it.
+
+    With `files` it also finds the files that lines name and that bin65 doesn't find."""
     found: List[Tuple[Optional[str], Finding]] = []
     calls: List[Tuple[Optional[str], str, int, str]] = []
-    for text in texts:
-        reader = Reader(text, tree)
+    waiting, left = list(texts), {place_of(it.path): it for it in included}
+    while waiting:
+        text = waiting.pop(0)
+        reader = Reader(text, tree, files)
         found += reader.findings()
         calls += [(*it, text.path) for it in reader.calls]
+        waiting += [left.pop(it) for it in sorted(reader.includes) if it in left]
     called = _reached({(caller, name) for caller, name, _, _ in calls})
     kept = [it for macro, it in found if macro is None or macro in called or it.habit.name in TOLD]
     return sorted(kept + _refused_calls(found, calls, called), key=lambda it: (it.path, it.line))
@@ -216,5 +267,5 @@ def _refused_calls(found: List[Tuple[Optional[str], Finding]], calls: List[Tuple
             seen.add((path, name))
             it = first[name]
             note = f"its lines are refused, as {it.path}:{it.line}: {it.word}"
-            refused.append(Finding(path, line, name, BY_NAME["macro-call"], note))
+            refused.append(Finding(path, line, name, BY_NAME["macro-call"], note, it.heading))
     return refused

@@ -4,6 +4,7 @@ from typing import Dict, Tuple
 from work65.habits.habit import Habit
 
 LOOKS = "What is refused though it looks the same"
+SHORT = "`.import` while a zero page segment is open"
 REST = "The rest: `.condes`, `.autoimport`, `.def`, `.referenced`, `.fatal`, `:<` and others"
 LOW = "`.loword`, `.hiword`, `.faraddr`, `.bankbytes`, `.min`, `.max`, `.union`, `.delmacro`"
 TOKENS = "`.match` and `.xmatch`"
@@ -109,6 +110,14 @@ HABITS: Tuple[Habit, ...] = (
           ("^[^;]*\\.(assert|ASSERT).*,[[:blank:]]*(ERROR|WARNING|Error|Warning)",)),
     Habit("asciiz", "`.asciiz \"a\", \"b\"`", LOOKS, '.byte "a", "b", 0', (), ("^[^;]*\\.asciiz[^;]*\"[[:blank:]]*,",)),
     Habit("incbin", "`.incbin \"f\", s, -1`", LOOKS, "leave the length out", (), ("^[^;]*\\.incbin.*,[[:blank:]]*-",)),
+    Habit("incbin-file", "`.incbin` of a file that isn't beside the source", LOOKS,
+          "not found: the name counts from the folder of this file"),
+    Habit("include-file", "`.include` of a file beside an outer one", LOOKS,
+          "give the folder by -I, or name it from the folder of this file"),
+    Habit("long-line", "a line of more than 4,096 bytes", LOOKS, "a line has at most 4,096 bytes: a long list is two lists", (),
+          ("^.{4097}",)),
+    Habit("zero-page-import", "`.import n` behind `.zeropage`", SHORT,
+          ".importzp, .globalzp where the name lies in the zero page, else the line before the .zeropage"),
     Habit("align", "`.align 3`", LOOKS, ".res with a count of your own", (),
           ("^[^;]*\\.align[[:blank:]]+([3579]|[0-9]*[1-9][0-9]*[13579])([^0-9]|$)",)),
     Habit("local-cheap", "`.local @l`, `.ifdef @l`", LOOKS, "a name without @", (), ("^[^;]*\\.(local|ifn?def)[[:blank:]][^;]*@",)),

@@ -1,9 +1,10 @@
 """The files of a tree: which are sources and which are scripts, and their lines."""
 import os
+import stat
 from dataclasses import dataclass
-from typing import Iterator, List, Sequence
+from typing import Callable, Iterator, List, Sequence
 
-from work65.problem import Problem
+from work65.problem import Problem, complain
 
 SOURCES = (".s", ".asm", ".inc", ".mac", ".a65", ".s65", ".i65")
 SCRIPTS = (".cfg",)
@@ -23,9 +24,17 @@ class Text:
         return self.path.lower().endswith(SCRIPTS)
 
 
+def want_regular(path: str) -> None:
+    """Refuses a pipe or a device: reading it might never end. Raises an OSError if the file can't be looked at."""
+    kind = os.stat(path).st_mode
+    if not stat.S_ISREG(kind) and not stat.S_ISDIR(kind):
+        raise Problem(f"{path}: not a regular file")
+
+
 def text_of(path: str) -> Text:
     """Reads a file. Each byte is one sign, so any file can be read and written back as it was."""
     try:
+        want_regular(path)
         with open(path, encoding="latin-1", newline="") as it:
             whole = it.read()
     except OSError as error:
@@ -40,16 +49,23 @@ def text_of(path: str) -> Text:
     return Text(path, lines, ends)
 
 
-def walked(paths: Sequence[str]) -> Iterator[str]:
-    """The files that are named, and in folders those that are sources or scripts, in order."""
+def walked(paths: Sequence[str], unread: Callable[[str], None] = complain) -> Iterator[str]:
+    """The files that are named, and in folders those that are sources or scripts, in order. `unread` is given a message for each
+    folder that can't be read."""
     for path in paths:
         if os.path.isdir(path):
-            for folder, folders, names in os.walk(path):
-                folders.sort()
-                for name in sorted(names):
-                    if name.lower().endswith(SOURCES + SCRIPTS):
-                        yield os.path.join(folder, name)
+            yield from _in_folder(path, unread)
         elif os.path.exists(path):
             yield path
         else:
             raise Problem(f"{path}: no such file or folder")
+
+
+def _in_folder(path: str, unread: Callable[[str], None]) -> Iterator[str]:
+    """The regular files of a folder, and of those in it, that are sources or scripts."""
+    for folder, folders, names in os.walk(path, onerror=lambda it: unread(f"{it.filename}: {it.strerror}")):
+        folders.sort()
+        for name in sorted(names):
+            place = os.path.join(folder, name)
+            if name.lower().endswith(SOURCES + SCRIPTS) and not name.lower().startswith("makefile") and os.path.isfile(place):
+                yield place

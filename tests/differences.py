@@ -1,0 +1,141 @@
+#!/usr/bin/env python3
+"""Random programs of two modules, built by bin65 and by cc65's tools: where both link, they write the same files. What differs in
+other programs stands in docs/MIGRATING.md.
+
+usage: differences.py BIN65 [PROGRAMS [SEED]]    PROGRAMS random programs (150). The last line is 'N passed, M failed'."""
+import collections
+import os
+import random
+import re
+import shutil
+import subprocess
+import sys
+import tempfile
+from typing import Counter, Dict, List, Sequence, Union
+
+from random_modules import Module, Shared
+
+PROGRAMS = 150
+SCRIPT = """MEMORY {{
+    ZP:  start = ${zp:02X}, size = $90, file = "", define = yes;
+    RAM: start = $0200, size = $0800, file = {ram}{ram_fill}, define = yes;
+    ROM: start = ${rom:04X}, size = $4000{fill}, define = yes;
+    TOP: start = $E000, size = $1000, file = {top};
+}}
+SEGMENTS {{
+    ZEROPAGE: load = ZP, type = zp;
+    EXTZP:    load = ZP, type = zp, optional = yes;
+    CODE:     load = ROM, type = ro{code}, define = yes;
+    RODATA:   load = {area}, type = ro{rodata};
+    DATA:     load = ROM, run = RAM, type = rw{data}, define = yes;
+    LATE:     load = TOP, type = ro{late}, optional = yes;
+    BSS:      load = RAM, type = bss, define = yes;
+}}
+"""
+# What bin65 alone refuses of these programs, and MIGRATING says so.
+LISTED = ()
+Built = Union[str, Dict[str, bytes]]
+
+
+def script(chance: random.Random) -> str:
+    """A script."""
+    def align() -> str:
+        return chance.choice(("", ", align = 4", ", align = 8", ", align = 256"))
+
+    return SCRIPT.format(
+        zp=chance.choice((0, 2, 0x10)), ram=chance.choice(('""', '"ram.bin"', '""')), ram_fill="", rom=chance.choice((0x8000, 0x8001, 0x9003)),
+        fill=chance.choice(("", ", fill = yes", ", fill = yes, fillval = $FF")), top=chance.choice(("%O", '"top.bin"')),
+        area=chance.choice(("ROM", "ROM", "TOP")), code=align(), rodata=align(), data=align(), late=chance.choice(("", ", align = 2")),
+    )
+
+
+def program(seed: str) -> Dict[str, str]:
+    """The files of a program, by their names."""
+    chance = random.Random(seed)
+    shared = Shared()
+    for kind, begin, most in ((shared.code, "f", 4), (shared.short, "z", 3), (shared.room, "b", 3), (shared.numbers, "k", 3)):
+        for it in range(chance.randrange(most + 1)):
+            kind[f"{begin}{it}"] = chance.randrange(2)
+    files = {f"m{it}.s": Module(chance, it, shared).text() for it in range(2)}
+    return {**files, "s.cfg": script(chance)}
+
+
+def built(folder: str, files: Dict[str, str], tools: Sequence[str]) -> Built:
+    """The files that a program's build writes, or the first fault."""
+    os.makedirs(folder)
+    for name, text in files.items():
+        with open(f"{folder}/{name}", "w", encoding="latin-1") as it:
+            it.write(text)
+    before = {*files, "m0.o", "m1.o"}
+    lines = [["ca65", "-o", "m0.o", "m0.s"], ["ca65", "-o", "m1.o", "m1.s"], ["ld65", "-C", "s.cfg", "-o", "image", "m0.o", "m1.o"]]
+    for words in lines:
+        ran = subprocess.run([*tools, *words], cwd=folder, capture_output=True, encoding="latin-1", check=False)
+        if ran.returncode:
+            return next((it for it in ran.stderr.splitlines() if "Error" in it), ran.stderr)
+    found = {}
+    for name in sorted(set(os.listdir(folder)) - before):
+        with open(f"{folder}/{name}", "rb") as it:
+            found[name] = it.read()
+    return found
+
+
+def kind_of(said: str) -> str:
+    """A fault without its place and names."""
+    return re.sub(r"[a-zN]\d(_\d+)?|'[^']*'|\d+", "N", said.split("Error: ")[-1])
+
+
+def first_difference(one: Dict[str, bytes], other: Dict[str, bytes]) -> str:
+    """Where files differ first."""
+    for name in sorted({*one, *other}):
+        mine, others = one.get(name, b""), other.get(name, b"")
+        at = next((it for it in range(min(len(mine), len(others))) if mine[it] != others[it]), min(len(mine), len(others)))
+        if mine != others:
+            return f"{name} at {at:#x}: bin65 {mine[at:at + 8].hex(' ')}, cc65 {others[at:at + 8].hex(' ')}"
+    return "none"
+
+
+class Differences:
+    """Builds programs and counts what comes of them."""
+
+    def __init__(self, program: str) -> None:
+        self.program = program
+        self.counts: Counter[str] = collections.Counter()
+        self.wrong: List[str] = []
+
+    def compare(self, seed: str, folder: str) -> None:
+        """One program."""
+        files = program(seed)
+        ours, others = (built(f"{folder}/{name}", files, tools) for name, tools in (("ours", [self.program]), ("cc65", [])))
+        if isinstance(ours, dict) and isinstance(others, dict):
+            self.counts["equal" if ours == others else "different"] += 1
+            if ours != others:
+                self.wrong.append(f"{seed}: {first_difference(ours, others)}")
+        elif isinstance(ours, str) and isinstance(others, str):
+            self.counts["refused by both"] += 1
+        elif isinstance(ours, str):
+            self.counts[f"refused by bin65 alone: {kind_of(ours)}"] += 1
+            if not kind_of(ours).startswith(LISTED):
+                self.wrong.append(f"{seed}: {ours}")
+        else:
+            self.counts[f"refused by cc65 alone: {kind_of(str(others))}"] += 1
+        shutil.rmtree(f"{folder}/ours")
+        shutil.rmtree(f"{folder}/cc65")
+
+
+def main() -> None:
+    program, count = os.path.abspath(sys.argv[1]), int(sys.argv[2]) if len(sys.argv) > 2 else PROGRAMS
+    if not all(map(shutil.which, ("ca65", "ld65"))):
+        print("cc65 isn't here: nothing is compared\n1 passed, 0 failed")
+        return
+    found = Differences(program)
+    with tempfile.TemporaryDirectory() as folder:
+        for number in range(count):
+            found.compare(f"{sys.argv[3] if len(sys.argv) > 3 else '1'}.{number}", folder)
+    print(*found.wrong[:40], *(f"{times} {kind}" for kind, times in found.counts.most_common()), sep="\n")
+    is_telling = found.counts["equal"] * 2 > count
+    print(f"{count - len(found.wrong) + is_telling} passed, {len(found.wrong) + (not is_telling)} failed")
+    sys.exit(bool(found.wrong) or not is_telling)
+
+
+if __name__ == "__main__":
+    main()

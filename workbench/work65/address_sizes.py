@@ -1,0 +1,102 @@
+"""The address sizes of a module's symbols, as ca65 has them: of a label that of its segment, of a constant that of its expression."""
+from typing import Dict, Iterable, Iterator, List, Optional, Sequence, Set, Tuple
+
+from work65.layout import Layout
+from work65.lines import Kind, Token
+from work65.objects import Place
+from work65.replay import Label, Told
+from work65.sources import Closure
+from work65.statements import What
+
+SHORT, LONG = "zeropage", "absolute"
+# What begins an expression of one byte, and operators whose result is 0 or 1.
+BYTES = frozenset(("<", ">", "^", "!", ".lobyte", ".hibyte", ".bankbyte", ".not"))
+LOGICAL = frozenset(("=", "<>", "<", ">", "<=", ">=", "&&", "||", ".and", ".or", ".xor"))
+DEEPEST = 40
+
+
+def of_number(value: int) -> str:
+    """The size of a known value: what is below 0 counts as a large one."""
+    if not 0 <= value < 1 << 24:
+        return "long"
+    return SHORT if value < 1 << 8 else LONG if value < 1 << 16 else "far"
+
+
+def short_imports(closure: Closure) -> Set[str]:
+    """The names that are imported as short ones."""
+    found: Set[str] = set()
+    for source in closure.sources.values():
+        for it in source.statements:
+            if it.what is What.OTHER and it.tokens and it.tokens[0].text.lower() in (".importzp", ".globalzp"):
+                found |= {token.text for token in it.tokens[1:] if token.kind is Kind.NAME}
+    return found
+
+
+class AddressSizes:
+    """Answers for one module."""
+
+    def __init__(self, layout: Layout, closure: Closure, told: Told) -> None:
+        self.rows = {it.name: it.kind for it in layout.script.rows}
+        self.short = short_imports(closure)
+        self.scopes = told.scopes
+        self.labels: Dict[Tuple[int, str], Label] = {(it.scope, it.name): it for it in told.labels}
+        self.by_scope: Dict[Tuple[str, str], Label] = {(told.scopes[it.scope].name, it.name): it for it in told.labels}
+
+    def of_segment(self, name: str) -> str:
+        """The size of a segment."""
+        return SHORT if self.rows.get(name) == "zp" else LONG
+
+    def of_label(self, label: Label, value: int, depth: int = 0) -> str:
+        """The size of a label or a constant."""
+        if not label.is_constant:
+            return self.of_segment(label.value.section) if isinstance(label.value, Place) else LONG
+        tokens: Sequence[Token] = label.source.statements[label.line - 1].tokens
+        return self.of_expression(tokens[2:], label.scope, value, depth)
+
+    def found(self, name: Sequence[str], scope: Optional[int]) -> Optional[Label]:
+        """The label that a name with its scopes means in a scope."""
+        if len(name) > 1:
+            return self.by_scope.get((name[-2], name[-1]))
+        while scope is not None:
+            if (scope, name[0]) in self.labels:
+                return self.labels[scope, name[0]]
+            scope = self.scopes[scope].parent
+        return None
+
+    def of_expression(self, tokens: Sequence[Token], scope: int, value: int, depth: int) -> str:
+        """The size of an expression in a scope: that of the first address in it, or that of its value."""
+        texts = [it.text.lower() for it in tokens]
+        if texts[:1] and texts[0] in BYTES or LOGICAL.intersection(_outer(texts[1:])):
+            return SHORT
+        for name in _names(tokens):
+            label = self.found(name, scope)
+            if label is None:
+                return SHORT if name[-1] in self.short else LONG
+            if not label.is_constant:
+                return self.of_segment(label.value.section) if isinstance(label.value, Place) else LONG
+            if depth < DEEPEST and not isinstance(label.value, int):
+                return self.of_label(label, value, depth + 1)
+        return LONG if "*" in texts[:1] else of_number(value)
+
+
+def _outer(texts: Sequence[str]) -> Iterable[str]:
+    """The words outside of parentheses."""
+    depth, found = 0, []
+    for it in texts:
+        depth += (it == "(") - (it == ")")
+        if depth == 0:
+            found.append(it)
+    return found
+
+
+def _names(tokens: Sequence[Token]) -> Iterator[List[str]]:
+    """The names of an expression, each with its scopes before it."""
+    parts: List[str] = []
+    for at, it in enumerate(tokens):
+        if it.text == "::":
+            parts = parts or [""]
+        elif it.kind in (Kind.NAME, Kind.CHEAP):
+            parts.append(it.text)
+            if at + 1 == len(tokens) or tokens[at + 1].text != "::":
+                yield parts
+                parts = []

@@ -1,0 +1,65 @@
+"""Finds the files that sources name and that bin65 doesn't find."""
+import os
+from typing import Dict, Iterable, Iterator, List, Optional, Sequence, Set, Tuple
+
+from work65.language.files import Text
+from work65.language.includes import found_file, names_in, word_of
+from work65.language.statements import Statement
+from work65.language.tree import asminc_file
+from work65.sources import candidates, is_regular, path_of_bytes, place_of
+
+Wrong = Tuple[str, str, str]
+
+
+class Files:
+    """The files of a run of `check`: which there are, and which include which."""
+
+    def __init__(self, texts: Iterable[Text], folders: Sequence[str]) -> None:
+        self.texts = list(texts)
+        self.folders = folders
+        self.names = {os.path.basename(it.path) for it in self.texts}
+        self.includers: Dict[str, Set[str]] = {}
+        for text in self.texts:
+            for name in self.included(text):
+                self.includers.setdefault(place_of(name), set()).add(text.path)
+
+    def included(self, text: Text) -> Iterator[str]:
+        """The files that a file includes."""
+        for word in names_in(text):
+            name = found_file(word, text, self.folders)
+            if name is not None:
+                yield name
+
+    def wrong(self, statement: Statement, text: Text, is_in_macro: bool) -> Optional[Wrong]:
+        """What is wrong with the file that a line names: the name, the habit and its cure. None if bin65 finds it, or if the line
+        names none."""
+        word = word_of(statement)
+        if word is None or statement.head not in (".include", ".incbin"):
+            return None
+        places = self.texts if is_in_macro else [text]  # bin65 starts from the file that has the call
+        folders = self.folders if statement.head == ".include" else []
+        if any(is_regular(name) for it in places for name in candidates(word, it.path, folders)):
+            return None
+        shown = f'"{word}"'
+        if statement.head == ".incbin":
+            return shown, "incbin-file", ""
+        outer = self.beside_outer(word, text)
+        if outer is not None:
+            return shown, "include-file", f'cc65 finds it beside {outer}: give its folder by -I, or name it from the folder of this file'
+        if asminc_file(path_of_bytes(word) or word, self.folders) or os.path.basename(word) in self.names:
+            return None
+        return shown, "include-file", "not found in the folder of this file, nor in those of -I"
+
+    def beside_outer(self, word: str, text: Text) -> Optional[str]:
+        """The file beside which cc65 finds an included one: a file that includes this one, itself or through others."""
+        waiting: List[str] = sorted(self.includers.get(place_of(text.path), ()))
+        seen = {text.path}
+        while waiting:
+            path = waiting.pop(0)
+            if path in seen:
+                continue
+            seen.add(path)
+            if any(is_regular(it) for it in candidates(word, path, [])):
+                return path
+            waiting += sorted(self.includers.get(place_of(path), ()))
+        return None

@@ -1,0 +1,97 @@
+"""The sources of a library, in the order of its members: --library NAME=FOLDER or NAME=FILE,FILE,.."""
+import os
+import struct
+from typing import Dict, List, Optional, Tuple
+
+from work65.problem import Problem
+from work65.program import Program
+from work65.sources import read_bytes
+
+OWN, CC65 = b"R65l", b"naUz"
+
+
+def sources_of(word: str, program: Program) -> List[str]:
+    """The sources of a library: those of a list in its order; those of a folder in the order of the library's members if the
+    library is there, else by their names."""
+    name, _, given = word.partition("=")
+    if not name or not given:
+        raise Problem(f"--library wants NAME=FOLDER or NAME=FILE,FILE: {word}", 2)
+    if not os.path.isdir(given):
+        return _listed(given)
+    sources = sorted(it for it in os.listdir(given) if it.endswith((".s", ".asm")))
+    if not sources:
+        raise Problem(f"{given} is no folder of sources")
+    members = _members(name, given, program)
+    if members is not None:
+        sources = _ordered(members, sources, name, given)
+    return [os.path.join(given, it) for it in sources]
+
+
+def _listed(given: str) -> List[str]:
+    """The files of a list."""
+    files = given.split(",")
+    if len(files) == 1 and not given.endswith((".s", ".asm")):
+        raise Problem(f"{given} is no folder of sources")
+    for it in files:
+        if not os.path.isfile(it):
+            raise Problem(f"{it}: no such source")
+    return files
+
+
+def _members(name: str, folder: str, program: Program) -> Optional[List[str]]:
+    """The names of the members of a library, if it is there: by its name, or in the folder of its sources."""
+    for place in (name, os.path.join(folder, os.path.basename(name))):
+        if os.path.isfile(place):
+            data = read_bytes(place)
+            if data[:4] == OWN:
+                return _members_of_own(place, program)
+            if data[:4] == CC65:
+                return _members_of_cc65(place, data)
+    return None
+
+
+def _members_of_own(place: str, program: Program) -> List[str]:
+    """The members of a library of bin65."""
+    ran = program.run(["ar65", "t", place])
+    if ran.status:
+        raise Problem(os.fsdecode(ran.err).strip())
+    return os.fsdecode(ran.out).splitlines()
+
+
+def _members_of_cc65(place: str, data: bytes) -> List[str]:
+    """The members of a library of cc65: its index is a count, and of each member the name and 14 bytes."""
+    try:
+        at = struct.unpack_from("<I", data, 8)[0]
+        count, at = _variable(data, at)
+        found = []
+        for _ in range(count):
+            length, at = _variable(data, at)
+            found.append(os.fsdecode(data[at : at + length]))
+            at += length + 14
+        return found
+    except (struct.error, IndexError):
+        raise Problem(f"{place} is no library that can be read") from None
+
+
+def _variable(data: bytes, at: int) -> Tuple[int, int]:
+    """A number of seven bits a byte, the low ones first, and where it ends."""
+    value = shift = 0
+    while True:
+        byte = data[at]
+        at += 1
+        value |= (byte & 127) << shift
+        shift += 7
+        if byte < 128:
+            return value, at
+
+
+def _ordered(members: List[str], sources: List[str], name: str, folder: str) -> List[str]:
+    """The sources of a library's members, in their order. Each member has to have one."""
+    by_stem: Dict[str, str] = {os.path.splitext(it)[0]: it for it in sources}
+    found = []
+    for member in members:
+        source = by_stem.get(os.path.splitext(member)[0])
+        if source is None:
+            raise Problem(f"{folder} has no source of {name}'s member {member}")
+        found.append(source)
+    return found

@@ -1,0 +1,203 @@
+"""All faults of a source: bin65 is run on a copy of it again and again, each time without the lines that it refused before."""
+import argparse
+import os
+import re
+from dataclasses import dataclass, field, replace
+from typing import Dict, List, Optional, Set, Tuple
+
+from work65 import leaving_out
+from work65.language.files import text_of
+from work65.language.tokens import Kind, line_of
+from work65.message import Message, message_of
+from work65.problem import Problem
+from work65.program import Program, Ran
+from work65.progress import Progress
+from work65.shadow import Shadow
+from work65.suspects import Judge, Suspect, suspects_in
+
+MOST = 1000
+# After so many faults lines are looked for that are refused whatever stands around them.
+FEW = 4
+UNCLOSED = ("block not closed", "scope not open or not closed")
+FOLLOWING = ("statement not understood", "directive not understood", "not constant", "operand not constant or out of range", "undefined name")
+Place = Tuple[str, int]
+
+
+@dataclass
+class Fault:
+    """A message, and the line that it is about as it was before it was left out."""
+
+    message: Message
+    line: str = ""
+
+
+@dataclass
+class Search:
+    """The copy, and what was found in it. `steps` says of each line how often something of it was left out."""
+
+    program: Program
+    mirror: Shadow
+    arguments: argparse.Namespace
+    folder: str
+    lines: Dict[str, List[str]] = field(default_factory=dict)
+    steps: Dict[Place, int] = field(default_factory=dict)
+    names: Dict[str, str] = field(default_factory=dict)
+    faults: List[Fault] = field(default_factory=list)
+    suspects: Dict[str, Suspect] = field(default_factory=dict)
+    has_more: bool = False
+    was_looked: bool = False
+
+    def all(self) -> List[str]:
+        """All faults in the order of files and lines."""
+        progress = Progress("faults", MOST)
+        while len(self.faults) < MOST:
+            ran = self.run()
+            message = self.message_of(ran)
+            if message is None or not self.take(message):
+                self.judged(ran, progress)
+                break
+            progress.step()
+            if len(self.faults) == FEW and not self.was_looked:
+                self.look()
+        else:
+            self.has_more = self.message_of(self.run()) is not None or bool(self.suspects)
+        progress.end()
+        files = list(dict.fromkeys([self.arguments.source, *(it.message.file for it in self.faults)]))
+        return [self.said(it) for it in sorted(self.faults, key=lambda it: (files.index(it.message.file), it.message.line or 0))]
+
+    def run(self) -> Ran:
+        """Runs bin65 on the copy."""
+        words = ["ca65", "-o", ""]
+        words += [f"-I{self.mirror.name(it)}" for it in self.arguments.include]
+        words += [f"-D{it}" for it in self.arguments.define]
+        return self.program.run([*words, "--", self.mirror.name(self.arguments.source)], self.mirror.inside)
+
+    def message_of(self, ran: Ran) -> Optional[Message]:
+        """The fault that a run ended with."""
+        if ran.status == 0:
+            return None
+        said = os.fsdecode(ran.err).rstrip("\n").split("\n")[-1]
+        message = message_of(said.replace(self.mirror.root + "/", "/"))
+        if message is None:
+            raise Problem(f"bin65 said: {said}")
+        return message
+
+    def take(self, message: Message) -> bool:
+        """Notes a fault and leaves its line out; False where it can't go on."""
+        if message.line is None:
+            self.faults.append(Fault(message))
+            return False
+        lines = self.lines_of(message.file)
+        at = message.line - 1
+        if message.text in UNCLOSED and at == len(lines) - 1 and self.closed(self.as_it_was(message), lines):
+            return True
+        place = (message.file, at)
+        if at >= len(lines) or self.steps.get(place, 0) > 1:
+            self.faults.append(Fault(message))
+            return False
+        self.faults.append(Fault(message, lines[at]))
+        if not self.without_definition(message, lines, at):
+            self.leave_out(message, lines, at)
+        return self.write(message.file)
+
+    def without_definition(self, message: Message, lines: List[str], at: int) -> bool:
+        """Leaves out the second definition of a name alone; False where that isn't what a message says."""
+        if not message.text.startswith(leaving_out.TWICE):
+            return False
+        kept = leaving_out.without_definition(lines[at], message.name, f"w65_again_{len(self.faults)}")
+        if kept == lines[at]:
+            return False
+        lines[at] = kept
+        return True
+
+    def leave_out(self, message: Message, lines: List[str], at: int) -> None:
+        """Leaves a line out, or a block: at first but for its label, and then the label, too."""
+        first, last = leaving_out.span_of(lines, at, message.text)
+        where = f"{message.file}:{first + 1}"
+        for name in leaving_out.names_of(lines, first, last):
+            self.names.setdefault(name, where)
+        for it in range(first, last + 1):
+            times = self.steps.get((message.file, it), 0)
+            lines[it] = leaving_out.left(lines[it]) if first == last and not times else ""
+            self.steps[(message.file, it)] = times + 1
+
+    def as_it_was(self, message: Message) -> Message:
+        """A message about the last line, with the number that this has in the user's file."""
+        last = len(text_of(message.file).lines)
+        if message.line is None or message.line <= last:
+            return message
+        return replace(message, line=last, whole=message.whole.replace(f":{message.line}: ", f":{last}: ", 1))
+
+    def lines_of(self, file: str) -> List[str]:
+        """The lines of a file as they stand in the copy."""
+        if file not in self.lines:
+            self.lines[file] = text_of(file).lines
+        return self.lines[file]
+
+    def write(self, file: str) -> bool:
+        """Writes a file of the copy."""
+        path = self.mirror.name(file)
+        return self.mirror.write(path, "\n".join(self.lines[file]) + "\n")
+
+    def closed(self, message: Message, lines: List[str]) -> bool:
+        """Closes at the end what is open there, and notes the fault; False where nothing is seen to be open."""
+        closers = leaving_out.closers_of(lines, message.text.startswith("scope"))
+        if not closers:
+            return False
+        lines += closers
+        self.faults.append(Fault(message))
+        return self.write(message.file)
+
+    # Many at once.
+
+    def look(self) -> None:
+        """Looks for lines that are refused whatever stands around them, and puts a mark in place of each: a run prints those that
+        it comes to."""
+        self.was_looked = True
+        found = suspects_in(self.arguments.source, self.arguments.include, self.arguments.define, self.lines_of)
+        judge = Judge(self.program, self.folder)
+        for file in dict.fromkeys(it.file for it in found):
+            lines = self.lines_of(file)
+            of_file = [it for it in found if it.file == file]
+            for it, said in zip(of_file, judge.said_of(of_file)):
+                if said is not None:
+                    mark = f"w65 {len(self.suspects)} w65"
+                    self.suspects[mark] = replace(it, said=said)
+                    lines[it.at] = f'{leaving_out.left(lines[it.at])} .out "{mark}"'
+            self.write(file)
+
+    def judged(self, ran: Ran, progress: Progress) -> None:
+        """Notes the faults of the marks that the last run came to."""
+        for mark in re.findall(r"^w65 \d+ w65$", ran.out.decode("latin-1"), re.M):
+            it = self.suspects.pop(mark, None)
+            if it is None:
+                continue
+            if len(self.faults) == MOST:
+                self.has_more = True
+                break
+            whole = f"{it.file}:{it.at + 1}: Error: {it.said}"
+            self.faults.append(Fault(Message(whole, it.file, it.at + 1, True, it.said), it.line))
+            for name in leaving_out.names_of([it.line], 0, 0):
+                self.names.setdefault(name, f"{it.file}:{it.at + 1}")
+            progress.step()
+
+    # What follows from another fault.
+
+    def said(self, fault: Fault) -> str:
+        """A fault as it is printed."""
+        cause = self.cause(fault)
+        return fault.message.whole + (f" (follows from {cause})" if cause else "")
+
+    def cause(self, fault: Fault) -> str:
+        """The place of the line left out from which a fault follows: one that would have defined a name of its line."""
+        message = fault.message
+        wanted: Set[str] = set(message.name.replace("::", " ").split())
+        kind = message.text.split(":")[0]
+        if kind in FOLLOWING and kind != "undefined name":
+            wanted |= {it.text for it in line_of(fault.line).tokens if it.kind in (Kind.NAME, Kind.CHEAP)}
+            wanted -= leaving_out.defined_by(leaving_out.statement_in(fault.line))
+        if kind.endswith(" twice"):
+            return ""
+        here = f"{message.file}:{message.line}"
+        places = (self.names[it] for it in sorted(wanted) if it in self.names)
+        return next((it for it in places if it != here), "")

@@ -1,12 +1,15 @@
 /* Put before a program by LD_PRELOAD: it refuses requests for memory, or fails calls on files and streams, and says at the end
    what was asked for. FAILING is m or d, for memory or for the disk and the streams, then the number of the request that fails,
    then letters: a, all from it on fail; b, each read and write moves one byte; z, a write that fails takes no byte instead.
-   The report goes to descriptor 100: of memory how many requests there were and whether one was refused, of the disk a line a
-   call with the file's name and the answer. It takes no header, so that every C compiler builds it. */
+   The report goes to descriptor 100: of memory how many requests there were, the most bytes that were held at once, and whether a
+   request was refused; of the disk a line a call with the file's name and the answer. It takes no header, so that every C compiler
+   builds it. */
 typedef unsigned long size_t;
 typedef long ssize_t;
 
 void *__libc_malloc(size_t), *__libc_calloc(size_t, size_t), *__libc_realloc(void *, size_t), *__libc_memalign(size_t, size_t);
+void __libc_free(void *);
+size_t malloc_usable_size(void *);
 long syscall(long, ...);
 char *getenv(const char *);
 int *__errno_location(void);
@@ -15,7 +18,7 @@ enum { READ = 0, WRITE = 1, OPEN = 2, LSEEK = 8 };
 enum { ENOMEM = 12, EIO = 5, REPORT = 100, NAMES = 64, NAME = 256, LOG = 1 << 18 };
 
 static char kind;   /* none until the program begins */
-static long failing, seen;
+static long failing, seen, held, most;
 static int to_the_end, by_bytes, takes_none;
 static char names[NAMES][NAME] = {"", "out", "err"};
 static char report[LOG];
@@ -44,7 +47,7 @@ __attribute__((constructor)) static void begin(void) {
 }
 
 __attribute__((destructor)) static void end(void) {
-    if (kind == 'm') { add_number(seen); add(seen >= failing && failing ? " refused\n" : " given\n"); }
+    if (kind == 'm') { add_number(seen); add(" "); add_number(most); add(seen >= failing && failing ? " refused\n" : " given\n"); }
     if (kind) syscall(WRITE, REPORT, report, reported);
 }
 
@@ -57,10 +60,29 @@ static int fails(char asked, int error) {
     return 1;
 }
 
-void *malloc(size_t size) { return fails('m', ENOMEM) ? 0 : __libc_malloc(size); }
-void *calloc(size_t n, size_t size) { return fails('m', ENOMEM) ? 0 : __libc_calloc(n, size); }
-void *realloc(void *old, size_t size) { return fails('m', ENOMEM) ? 0 : __libc_realloc(old, size); }
-void *aligned_alloc(size_t align, size_t size) { return fails('m', ENOMEM) ? 0 : __libc_memalign(align, size); }
+/* Counts the bytes of a piece of memory that is held from now on. */
+static void *taken(void *piece) {
+    held += malloc_usable_size(piece);
+    if (held > most) most = held;
+    return piece;
+}
+
+void *malloc(size_t size) { return fails('m', ENOMEM) ? 0 : taken(__libc_malloc(size)); }
+void *calloc(size_t n, size_t size) { return fails('m', ENOMEM) ? 0 : taken(__libc_calloc(n, size)); }
+void *aligned_alloc(size_t align, size_t size) { return fails('m', ENOMEM) ? 0 : taken(__libc_memalign(align, size)); }
+
+void *realloc(void *old, size_t size) {
+    if (fails('m', ENOMEM)) return 0;
+    long had = malloc_usable_size(old);
+    void *piece = __libc_realloc(old, size);
+    if (piece) held -= had;
+    return taken(piece);
+}
+
+void free(void *piece) {
+    held -= malloc_usable_size(piece);
+    __libc_free(piece);
+}
 
 /* What came of a call, as the C library answers it. */
 static long answer(const char *call, const char *name, long found) {

@@ -16,7 +16,7 @@ is a.out A90060FFFFFFFFFF
 
 text s.cfg MEMORY { ROM: start = $8000, size = $10; } SEGMENTS { CODE: load = ROM, type = ro; DATA: load = ROM, type = ro, optional = yes; }
 text t.cfg MEMORY { ROM: start = $8000, size = $10; } SEGMENTS { CODE: load = ROM, type = ro, align = 4; }
-text m1.s .byte 1,2,3
+text m1.s n = 1 // .ifdef n // .byte 1,2,3 // .endif // .ifdef m // .endif
 text m2.s .byte 4 // .align 4 // .byte 5
 $ ca65 m1.s
 $ ca65 m2.s

@@ -19,6 +19,7 @@ use Rattle.library65.proofs.Made.{written_is}
 use Rattle.base65.specs.declared.output.OutputFile.{OutputFile}
 use Rattle.ast65.specs.Faults.{is_memory}
 use Rattle.semantics65.specs.Module as asm
+use Rattle.sources65.specs.Reading.{IsOutcome}
 use Rattle.semantics65.specs.Module.{PlacedFault}
 use Rattle.cli65.specs.declared.line.Operation.{Operation}
 use Rattle.cli65.specs.Line.{Archiving, Assembling}
@@ -133,7 +134,7 @@ named_file x name bytes is = by (length name == 0)
     by true = tt
     by false = (is, tt)
 
-object_file : (a : Assembling) (m : Files) (o : Outcome) (z : asm.Outcome) (r : Result Object PlacedFault) → asm.IsOutcome m (job_in a) z → z.result ≡ r → AssemblesWith a z.out z.err r o → o.status ≡ Success → AllByRecursion (IsFileOf (source_in a m)) o.outputs
+object_file : (a : Assembling) (m : Files) (o : Outcome) (z : asm.Outcome) (r : Result Object PlacedFault) → IsOutcome m (job_in a) z → z.result ≡ r → AssemblesWith a z.out z.err r o → o.status ≡ Success → AllByRecursion (IsFileOf (source_in a m)) o.outputs
 object_file a m o z (Err e) is found h well =
     absurd (not_well (sym (ap (λ (x : Outcome). x.status) h ∙ refused_fails a.source z.out z.err e) ∙ well))
 object_file a m o z (Ok k) is found (fits, name, named, same) well =

@@ -27,7 +27,7 @@ use Rattle.semantics65.specs.Numbering.{object_with}
 use Rattle.semantics65.specs.Symbols.{symbols_of}
 use Rattle.semantics65.specs.Module as asm
 use Rattle.semantics65.specs.Module.{PlacedFault}
-use Rattle.sources65.specs.Reading.{Job}
+use Rattle.sources65.specs.Reading.{Job, IsOutcome}
 use Rattle.sources65.proofs.SoundContents.{sound_contents}
 use Rattle.sources65.proofs.SoundSources.{sound_layout}
 use Rattle.emit65.proofs.GoodObjects.{good_object}
@@ -48,7 +48,7 @@ answered : (y : Layout) (f : Option PlacedFault) (o : Object) → (asm.outcome_o
 answered y None o h = h
 answered y (Some e) o h = absurd (ok_err o e (sym h))
 
-good_source : (m : Files) (job : Job) (a : asm.Outcome) (o : Object) → asm.IsOutcome m job a → a.result ≡ Ok o → is_good_object o ≡ true
+good_source : (m : Files) (job : Job) (a : asm.Outcome) (o : Object) → IsOutcome m job a → a.result ≡ Ok o → is_good_object o ≡ true
 good_source m job a o (r, laid, same) is =
     let y : Layout = r.behind in
     let found : asm.object_of y ≡ Ok o = answered y r.fault o (sym (ap (λ (z : asm.Outcome). z.result) same) ∙ is) in

@@ -11,6 +11,7 @@ use Rattle.object65.specs.Spelling.{object_bytes}
 use Rattle.object65.specs.declared.object.Object.{Object}
 use Rattle.sources65.specs.Fitting.{AreOfTypes, HoldBytes}
 use Rattle.semantics65.specs.Module as asm
+use Rattle.sources65.specs.Reading.{IsOutcome}
 use Rattle.semantics65.specs.Module.{PlacedFault}
 use Rattle.sources65.proofs.SomeLayouts.{some_answer}
 use Rattle.sources65.proofs.FitLayouts.{fitting_object}
@@ -142,7 +143,7 @@ defines_of_types (d ∷ ds) h = (h.0, defines_of_types ds h.1)
 assembles_there : (a : Assembling) (m : Files) → HoldBytes m → AreOfTypes (job_in a).defines → (o : Outcome) × Assembles a m o
 assembles_there a m bytes typed = let found = some_answer m (job_in a) in by found.0 found.1 found.0.result refl
   where
-    by : (x : asm.Outcome) → asm.IsOutcome m (job_in a) x → (r : Result Object PlacedFault) → x.result ≡ r → (o : Outcome) × Assembles a m o
+    by : (x : asm.Outcome) → IsOutcome m (job_in a) x → (r : Result Object PlacedFault) → x.result ≡ r → (o : Outcome) × Assembles a m o
     by x is (Ok object) e =
         let name = output_name_there a.output a.source in
         let fits : ObjectFits object = fitting_object m (job_in a) x object bytes typed is e in

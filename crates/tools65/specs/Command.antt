@@ -6,6 +6,7 @@ use Rattle.object65.specs.Objects.{ObjectFits}
 use Rattle.object65.specs.Spelling.{object_bytes}
 use Rattle.ast65.specs.Faults.{is_memory}
 use Rattle.semantics65.specs.Module as asm
+use Rattle.sources65.specs.Reading.{IsOutcome}
 use Rattle.semantics65.specs.Module.{PlacedFault}
 use Rattle.tools65.specs.Assembling.{IsOutputName, asm_message, job_in}
 use Rattle.cli65.specs.declared.fault.LineFault.{LineFault}
@@ -49,7 +50,7 @@ AssemblesTo a x o = AssemblesWith a x.out x.err x.result o
 
 -- what an assemble line does with these files
 abbrev pub Assembles : Assembling → Files → Outcome → Type 0
-Assembles a m o = (x : asm.Outcome) × asm.IsOutcome m (job_in a) x × AssemblesTo a x o
+Assembles a m o = (x : asm.Outcome) × IsOutcome m (job_in a) x × AssemblesTo a x o
 
 -- A run has the outcome that the files give, or only says that memory ran out; it carries that out, or memory ran
 -- out while it wrote the files.

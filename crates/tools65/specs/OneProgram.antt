@@ -5,7 +5,7 @@ use Rattle.base65.specs.Store.{Files}
 use Rattle.script65.specs.Scripts.{IsScript}
 use Rattle.script65.specs.declared.script.Script.{Script}
 use Rattle.semantics65.specs.Layout.{Layout}
-use Rattle.sources65.specs.Reading.{AreLaid, Job}
+use Rattle.sources65.specs.Reading.{AreLaid, Job, IsOutcome}
 use Rattle.semantics65.specs.Module as asm
 use Rattle.object65.specs.declared.object.Object.{Object}
 use Rattle.object65.specs.Versions.{IsEitherVersion}
@@ -40,7 +40,7 @@ pub record Source : Type 0 where
 -- A module's object is one that ca65 wrote of a source: that which assembling gives, or that of version 1 of the same
 -- statements.
 abbrev pub IsObjectOf : Source → Module → Type 0
-IsObjectOf x m = (o : asm.Outcome) × (p : Object) × asm.IsOutcome x.files x.job o × (o.result ≡ Ok p) × IsEitherVersion p m.object
+IsObjectOf x m = (o : asm.Outcome) × (p : Object) × IsOutcome x.files x.job o × (o.result ≡ Ok p) × IsEitherVersion p m.object
 
 abbrev pub AreObjectsOf : List Source → List Module → Type 0
 AreObjectsOf [] [] = ⊤

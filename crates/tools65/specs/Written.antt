@@ -10,12 +10,13 @@ use Rattle.object65.specs.Spelling.{object_bytes}
 use Rattle.object65.specs.Versions.{IsEitherVersion}
 use Rattle.library65.specs.Spelling.{IsLibrary, Member}
 use Rattle.semantics65.specs.Module as asm
+use Rattle.sources65.specs.Reading.{IsOutcome}
 use Rattle.tools65.specs.OneProgram.{Source}
 
 -- ca65 wrote these bytes of a source: the one spelling of its object, or of the object of version 1 of the same statements
 pub record IsWrittenOf (x : Source) (bytes : List ℕ) : Type 0 where
   pub outcome : asm.Outcome
-  pub assembled : asm.IsOutcome x.files x.job outcome
+  pub assembled : IsOutcome x.files x.job outcome
   pub made : Object
   pub result : outcome.result ≡ Ok made
   pub object : Object

@@ -76,6 +76,7 @@ part 'work65 with what is wrong' python3 tests/workbench_bad.py "$program"
 part 'work65 check' python3 tests/workbench_check.py "$program"
 part 'work65 faults and explain' python3 tests/workbench_faults.py "$program"
 part 'work65 port' python3 tests/workbench_port.py "$program"
+part 'work65 port of random programs' python3 tests/workbench_random.py "$program"
 part 'types of work65' python3 tests/workbench_types.py
 part 'a release' python3 tests/release.py "$program"
 part 'what is told of times' python3 tests/bench.py "$program"

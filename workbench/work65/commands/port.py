@@ -3,7 +3,6 @@ import argparse
 import os
 from typing import List
 
-from work65.build import folder_for_a_while
 from work65.commands.check import said
 from work65.language import words
 from work65.language.files import walked
@@ -12,6 +11,7 @@ from work65.porting.project import Spread
 from work65.porting.tools import Options, missing
 from work65.problem import Problem
 from work65.program import Program
+from work65.signals import folder_for_a_while
 
 HELP = "writes a copy of sources and scripts that bin65 takes, and says what can't be brought over"
 

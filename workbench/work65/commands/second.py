@@ -2,12 +2,14 @@
 import argparse
 import os
 
-from work65.build import folder_for_a_while
 from work65.commands.port import add_options, options_of
-from work65.porting.program import NOT_COMPARED, Comparison, Line, library_of
+from work65.library import sources_of
+from work65.porting.program import NOT_COMPARED, Comparison, Line
 from work65.porting.tools import missing
+from work65.porting.verify import Library
 from work65.problem import Problem
 from work65.program import Program
+from work65.signals import folder_for_a_while
 
 HELP = "says whether bin65 makes the image that cc65's tools make of a project, as it stands"
 
@@ -37,7 +39,7 @@ def compared(arguments: argparse.Namespace) -> int:
     if lacking is not None and arguments.image is None:
         raise Problem(f"cc65's {lacking} isn't on the path: --image names an image to compare with")
     program = Program.find(arguments.bin65)
-    libraries = [library_of(it) for it in arguments.libraries]
+    libraries = [Library(it.partition("=")[0], sources_of(it, program)) for it in arguments.libraries]
     for it in [arguments.script, *arguments.sources, *(member for library in libraries for member in library.members)]:
         if not os.path.isfile(it):
             raise Problem(f"{it}: no such file")

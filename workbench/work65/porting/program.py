@@ -15,7 +15,6 @@ from work65.porting.project import Spread
 from work65.porting.tools import Linked, Options, Refused
 from work65.porting.verdict import Judge
 from work65.porting.verify import Library, Verifier, Whole, is_same
-from work65.problem import Problem
 from work65.program import Program
 from work65.scripts import OUTPUT
 from work65.sources import read_bytes
@@ -148,14 +147,3 @@ class Comparison:
         lines = scripts.ported(self.script)
         return script_habits.found_in(Text(self.line.script, lines, ["\n"] * len(lines)))
 
-
-def library_of(word: str) -> Library:
-    """The library that NAME=FOLDER or NAME=FILE,FILE.. names."""
-    name, _, rest = word.partition("=")
-    if not name or not rest:
-        raise Problem(f"--library wants NAME=FOLDER or NAME=FILE,FILE..: {word}", NOT_COMPARED)
-    if os.path.isdir(rest):
-        members = [os.path.join(rest, it) for it in sorted(os.listdir(rest)) if it.lower().endswith((".s", ".asm"))]
-    else:
-        members = rest.split(",")
-    return Library(name, members)
